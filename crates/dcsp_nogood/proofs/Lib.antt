@@ -1,3 +1,4 @@
 pub mod Determined
 pub mod Merging
 pub mod PairsLemmas
+pub mod Searched

@@ -4,8 +4,9 @@
 //! Kuwabara, IEEE TKDE 10(5), 1998).
 #![tactic(auto)]
 
-ghost use Rattle.std.specs.Prelude.{◌≡◌, ◌≢◌, ℕ, ◌+◌, ◌-◌, ◌<◌, ◌≤◌, ◌↔◌, length, [], IfOk, OnOk, OnErr, IfErr, IsErrOf, ◌⊎◌, ◌∷◌, ◌++◌, ℤ, IsNone, IsSome, IfSome, Contains, slice_get, option_copied};
+ghost use Rattle.std.specs.Prelude.{◌≡◌, ℕ, ◌-◌, ◌<◌, ◌≤◌, length, [], IfOk, OnOk, OnErr, IfErr, IsErrOf, ◌⊎◌, ◌∷◌, ◌++◌, ℤ, IsNone, IsSome, IfSome, slice_get};
 ghost use Rattle.dcsp_nogood.specs.Pairs.{IsRising, IsFirstFall, value_at, var_at, no_pair, IsUnion, IsLeastClash, AgreeAt, ValuesDetermine};
+ghost use Rattle.dcsp_nogood.specs.Places.{IsPlaceOf};
 ghost use Rattle.dcsp_nogood.specs.Turns.{IsTurn};
 
 pub use dcsp_list::Memory;
@@ -96,16 +97,12 @@ impl Nogood {
         self.pairs.last().copied()
     }
 
-    /// The value that it gives a variable.
+    /// The value that it gives a variable, by a binary search.
     pub fn value_of(&self, var: u32) -> Option<i64>
         ensures { result ≡ value_at self.now var }
     {
-        for pair in &self.pairs {
-            if var == pair.var {
-                return Some(pair.value);
-            }
-        }
-        None
+        let place = place_of(&self.pairs, var)?;
+        Some(self.pairs[place].value)
     }
 
     /// Takes in the pairs of `other`, but for the one at `except`. After a refusal nothing has changed.
@@ -123,6 +120,15 @@ impl Nogood {
         self.pairs = merged(alloc, &self.pairs, &other.pairs, except)?;
         Ok(())
     }
+}
+
+/// The place of the variable's pair.
+fn place_of(pairs: &[Pair], var: u32) -> Option<usize>
+    requires { IsRising pairs.now }
+    ensures found { IfSome result (IsPlaceOf pairs.now var) }
+    ensures absent { IsNone result → value_at pairs.now var ≡ None }
+{
+    pairs.binary_search_by_key(&var, |pair| pair.var).ok()
 }
 
 /// What comes next in a merge of two rising lists.
@@ -217,3 +223,51 @@ fn push_pair(all: &mut Vec<Pair>, pair: Pair) -> Result<(), MergeError>
 pub fn values_determine()
     ensures { ValuesDetermine }
 {}
+
+#[cfg(test)]
+mod tests {
+    use super::*;
+    use std::test::Fail;
+
+    fn pair(var: u32, value: i64) -> Pair {
+        Pair { var, value }
+    }
+
+    #[test]
+    fn from_pairs_tells_the_first_fall(rt: HostRuntime) -> Result<(), Fail> {
+        let nogood = Nogood::from_pairs(rt.alloc(), &[pair(0, 5), pair(2, 7)])?;
+        let copy = nogood.copy(rt.alloc())?;
+        assert_eq!(rt; copy.pairs(), [pair(0, 5), pair(2, 7)].as_slice());
+        assert_eq!(rt; nogood.lowest(), Some(pair(2, 7)));
+        assert_eq!(rt; nogood.value_of(2), Some(7));
+        assert_eq!(rt; nogood.value_of(1), None);
+        let fall = Nogood::from_pairs(rt.alloc(), &[pair(2, 7), pair(0, 5)]);
+        assert!(rt; matches!(&fall, Err(NogoodError::Unordered { place: 1 })));
+        Ok(())
+    }
+
+    #[test]
+    fn merges_are_unions(rt: HostRuntime) -> Result<(), Fail> {
+        let mut nogood = Nogood::from_pairs(rt.alloc(), &[pair(0, 1), pair(2, 3)])?;
+        let other = Nogood::from_pairs(rt.alloc(), &[pair(1, 4), pair(2, 3)])?;
+        nogood.merge_without(rt.alloc(), &other, 1)?;
+        assert_eq!(rt; nogood.pairs(), [pair(0, 1), pair(2, 3)].as_slice());
+        nogood.merge_without(rt.alloc(), &other, 9)?;
+        assert_eq!(rt;
+            nogood.pairs(),
+            [pair(0, 1), pair(1, 4), pair(2, 3)].as_slice()
+        );
+        let eight = Nogood::from_pairs(rt.alloc(), &[pair(2, 8)])?;
+        assert_eq!(rt;
+            nogood.merge_without(rt.alloc(), &eight, 9),
+            Err(MergeError::Clash {
+                var: 2,
+                mine: 3,
+                theirs: 8
+            })
+        );
+        nogood.merge_without(rt.alloc(), &eight, 2)?;
+        assert_eq!(rt; nogood.pairs().len(), 3);
+        Ok(())
+    }
+}
