@@ -12,23 +12,11 @@ use Rattle.dcsp_defs.specs.declared.Step.{Step}
 use Rattle.dcsp_defs.specs.Words.{In, is_value}
 use Rattle.dcsp_defs.specs.Csp.{Csp, Nogood, Assignment, Known, IsCsp, IsSolution, Extends, filled, given_with, domain}
 use Rattle.dcsp_defs.specs.Derivation.{step_at, IsReason, IsRightAt, IsRightNowhere, IsRight, IsDerivation, NogoodsExclude, RefutationsRefute}
-use Rattle.dcsp_defs.proofs.Lists.{list_all-In, and_left, and_right}
+use Rattle.dcsp_defs.proofs.Lists.{list_all-In, and_left, and_right, get-In, get-take}
 
 -- no solution extends the nogood
 abbrev Excludes : Csp → Nogood → Type 0
 Excludes p pairs = (values : Assignment) → IsSolution p values → Extends values pairs → ⊥
-
-pub get-In : {X : Type 0} → (xs : List X) (n : ℕ) (x : X) → slice_get xs n ≡ Some x → In x xs
-get-In [] n x h = cc
-get-In (y ∷ ys) zero x h = let e : x ≡ y = cc in inl e
-get-In (y ∷ ys) (suc n) x h = inr (get-In ys n x h)
-
--- an item of the first k is an item, at a place below k
-pub get-take : {X : Type 0} → (xs : List X) (k n : ℕ) (x : X) → slice_get (take k xs) n ≡ Some x → (n < k) × (slice_get xs n ≡ Some x)
-get-take xs zero n x h = cc
-get-take [] (suc k) n x h = cc
-get-take (y ∷ ys) (suc k) zero x h = (omega arith, h)
-get-take (y ∷ ys) (suc k) (suc n) x h = let r = get-take ys k n x h in (omega (arith, r.0), r.1)
 
 module _ (values : Assignment) where
   -- what the pairs give, the assignment has

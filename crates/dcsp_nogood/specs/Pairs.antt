@@ -2,9 +2,13 @@
 use Rattle.std.specs.Prelude.{◌≡◌, ◌≢◌, ℕ, ◌+◌, ◌-◌, ◌<◌, ◌≤◌, ℤ, pos, List, [], ◌∷◌, length, Option, Some, None, ◌==◌, if◌then◌else◌, slice_index_or}
 use Rattle.dcsp_nogood.specs.declared.Pair.{Pair}
 
+-- the pair of a variable and a value
+abbrev pub pair_of : ℕ → ℤ → Pair
+pair_of var value = record { var = var; value = value }
+
 -- what stands past a list's end
 abbrev pub no_pair : Pair
-no_pair = record { var = 0; value = pos 0 }
+no_pair = pair_of 0 (pos 0)
 
 -- the variable of the pair at a place
 abbrev pub var_at : List Pair → ℕ → ℕ

@@ -1,0 +1,72 @@
+-- Whole runs, with their stops.
+use Rattle.std.specs.Prelude.{ℕ, ◌-◌, ◌%◌, ℤ, List, [], ◌∷◌, ◌++◌, length, slice_get, if◌then◌else◌, Option, Some, None, is_some, unwrap_or, ◌==◌}
+use Rattle.dcsp_defs.specs.Csp.{Csp}
+use Rattle.abt_defs.specs.Agents.{Message, Announce, Refuse, Add_link}
+use Rattle.abt_defs.specs.Network.{Network, ready, deliver, start, is_empty}
+
+-- what a trace shows of a message: a value, a step's number, or a link request
+pub data Cargo : Type 0 where
+  Value : (value : ℤ) → Cargo
+  Step_number : (step : ℕ) → Cargo
+  Link : Cargo
+
+abbrev pub cargo_of : Message → Cargo
+cargo_of (Announce s) = Value s.value
+cargo_of (Refuse step pairs) = Step_number step
+cargo_of Add_link = Link
+
+-- one delivery
+pub record Delivery : Type 0 where
+  pub sender : ℕ
+  pub receiver : ℕ
+  pub cargo : Cargo
+
+abbrev pub head_on : ℕ → ℕ → List Message → List Delivery
+head_on k i [] = []
+head_on k i (m ∷ rest) = record { sender = k; receiver = i; cargo = cargo_of m } ∷ []
+
+abbrev pub delivery_at : Option (ℕ × ℕ) → Network → List Delivery
+delivery_at None net = []
+delivery_at (Some x) net = head_on x.0 x.1 (net.links x.0 x.1)
+
+-- what the choice delivers
+abbrev pub delivery : Csp → ℕ → Network → List Delivery
+delivery p c net = delivery_at (slice_get (ready p net) (c % length (ready p net))) net
+
+-- why a run stopped: refuted; nothing in transit; the greatest number of deliveries made; the choices used up
+pub data End : Type 0 where
+  Refuted : End
+  Solved : End
+  Capped : End
+  Spent : End
+
+-- what a run gives: left are the choices that were not used, numbers says which of the nonempty lists each delivery was from
+pub record Run : Type 0 where
+  pub end : End
+  pub net : Network
+  pub left : List ℕ
+  pub numbers : List ℕ
+  pub trace : List Delivery
+
+-- the stops but the last, tried in this order
+abbrev pub stop : Csp → ℕ → Network → Option End
+stop p most net = if net.refuted then Some Refuted else (if is_empty (ready p net) then Some Solved else (if most == 0 then Some Capped else None))
+
+-- no delivery more
+abbrev pub stopped : Csp → ℕ → List ℕ → Network → Run
+stopped p most left net = record { end = unwrap_or (stop p most net) Spent; net = net; left = left; numbers = []; trace = [] }
+
+-- one delivery before the rest of the run
+abbrev pub with_delivery : ℕ → List Delivery → Run → Run
+with_delivery number d r = record r { numbers = number ∷ r.numbers; trace = d ++ r.trace }
+
+-- the run from a network, under the choices, with at most this many deliveries
+abbrev pub go : Csp → ℕ → List ℕ → Network → Run
+go p most [] net = stopped p most [] net
+go p most (c ∷ cs) net =
+    if is_some (stop p most net)
+    then stopped p most (c ∷ cs) net
+    else with_delivery (c % length (ready p net)) (delivery p c net) (go p (most - 1) cs (deliver p c net))
+
+abbrev pub whole : Csp → ℕ → List ℕ → Run
+whole p most choices = go p most choices (start p)

@@ -1,0 +1,12 @@
+pub mod Owners
+pub mod Sent
+pub mod Nogoods
+pub mod Facts
+pub mod Moves
+pub mod Settles
+pub mod Learns
+pub mod Receives
+pub mod Runs
+pub mod All
+pub mod Last
+pub mod Values

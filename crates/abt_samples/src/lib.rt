@@ -1,0 +1,54 @@
+//! Small runs, computed from the definitions of the agents alone. They are the tests of the definitions.
+#![tactic(auto)]
+
+ghost use Rattle.abt_samples.specs.Rows.{RefutedPair, LinkAskedFor, InOrder, StarvedLink, NogoodWhileWaiting, Triangle, FourQueens, OneAgentsReasons, ToldOnce, News};
+
+/// Two variables that are to differ and to agree.
+pub fn refuted_pair()
+    ensures { RefutedPair }
+{}
+
+/// A link that is asked for, and a waiting agent that takes its value anew.
+pub fn link_asked_for()
+    ensures { LinkAskedFor }
+{}
+
+/// Two rules over one variable, each link in turn.
+pub fn in_order()
+    ensures { InOrder }
+{}
+
+/// The same with the link from the first variable to the third starved.
+pub fn starved_link()
+    ensures { StarvedLink }
+{}
+
+/// A nogood that comes to an agent that waits.
+pub fn nogood_while_waiting()
+    ensures { NogoodWhileWaiting }
+{}
+
+/// Three variables with two values, all different.
+pub fn triangle()
+    ensures { Triangle }
+{}
+
+/// Four queens, one for each row.
+pub fn four_queens()
+    ensures { FourQueens }
+{}
+
+/// One agent: the reasons of its values, in order, and which values it has a nogood for.
+pub fn one_agents_reasons()
+    ensures { OneAgentsReasons }
+{}
+
+/// An agent that is told a value, and sends a nogood with its stamp.
+pub fn told_once()
+    ensures { ToldOnce }
+{}
+
+/// What is news to a view.
+pub fn news()
+    ensures { News }
+{}
