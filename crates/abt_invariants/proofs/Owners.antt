@@ -1,5 +1,5 @@
 -- The owner of a constraint is the greatest variable of its scope.
-use Rattle.std.proofs.Common.{◌≡◌, ℕ, zero, suc, ◌-◌, ◌<◌, ◌≤◌, true, inl, inr, List, [], ◌∷◌, length, slice_get, Option, Some, None, refl, ap, ◌∙◌, arith}
+use Rattle.std.proofs.Common.{◌≡◌, ℕ, suc, ◌-◌, ◌≤◌, true, inl, inr, List, [], ◌∷◌, length, slice_get, Option, Some, None, refl, ap, ◌∙◌, arith}
 use Rattle.std.proofs.lemmas.Bool.{eqb-true, eq-eqb}
 use Rattle.dcsp_defs.specs.Words.{In, IsRising, is_number}
 use Rattle.dcsp_defs.specs.Csp.{Csp, Constraint, IsCsp, owns, owner}

@@ -1,5 +1,5 @@
 -- What is kept holds after the start, and after each delivery.
-use Rattle.std.proofs.Common.{◌≡◌, ◌≢◌, ℕ, zero, suc, ◌+◌, ◌<◌, ◌≤◌, Bool, true, false, cond, not, ◌&&◌, ◌⊎◌, inl, inr, List, [], ◌∷◌, ◌++◌, map, filter, find, flat_map, ◌==◌, Option, Some, None, refl, sym, ap, ◌∙◌, subst, arith, append-nil, length, slice_get, ◌%◌}
+use Rattle.std.proofs.Common.{◌≡◌, ◌≢◌, ℕ, zero, suc, ◌+◌, ◌<◌, ◌≤◌, Bool, true, false, cond, not, ◌&&◌, ◌⊎◌, inl, inr, List, [], ◌∷◌, ◌++◌, map, find, flat_map, ◌==◌, Option, Some, None, refl, sym, ap, ◌∙◌, subst, arith, append-nil, length, slice_get, ◌%◌}
 use Rattle.std.specs.List.{list_any, enumerate_from}
 use Rattle.std.proofs.lemmas.Bool.Decides.{nat_tests, eqb_tells}
 use Rattle.dcsp_defs.specs.Words.{In, below}

@@ -1,19 +1,15 @@
 -- Small problems, and how a run of them is shown.
-use Rattle.std.specs.Prelude.{◌≡◌, ◌||◌, ◌+ℤ◌, zero, suc, None, ℕ, Bool, true, false, not, List, [], ◌∷◌, length, Some, ℤ, pos, refl, map}
+use Rattle.std.specs.Prelude.{◌||◌, ◌+ℤ◌, zero, suc, ℕ, Bool, not, List, [], ◌∷◌, length, Some, ℤ, pos, map}
 use Rattle.std.specs.Ordering.{int_eq}
 use Rattle.dcsp_defs.specs.Words.{below}
 use Rattle.dcsp_defs.specs.Csp.{Csp, Constraint, Nogood}
 use Rattle.dcsp_defs.specs.declared.Reason.{Reason}
-use Rattle.dcsp_defs.specs.declared.Reason.TheVariants.{Rule, Earlier}
 use Rattle.dcsp_defs.specs.declared.Step.{Step}
-use Rattle.abt_defs.specs.Agents.{Agent, Announce, Refuse, fresh}
-use Rattle.abt_defs.specs.Reasons.{Item, causes}
-use Rattle.abt_defs.specs.Steps.{Outcome, is_refused, is_newer, settle, receive}
+use Rattle.abt_defs.specs.Agents.{Agent, Announce, fresh}
+use Rattle.abt_defs.specs.Steps.{Outcome, settle, receive}
 use Rattle.abt_defs.specs.Network.{values}
-use Rattle.abt_defs.specs.Runs.{End, Refuted, Solved, Capped, Spent, Cargo, Value, Step_number, Link, Delivery, Run, whole}
-use Rattle.abt_defs.specs.Bound.{message_bound}
+use Rattle.abt_defs.specs.Runs.{End, Cargo, Delivery, Run, whole}
 use Rattle.dcsp_nogood.specs.Pairs.{pair_of}
-use Rattle.abt_defs.specs.Agents.{known}
 
 abbrev pub differ : ℕ → ℕ → Constraint
 differ i j = record { scope = i ∷ j ∷ []; test = λ f. not (int_eq (f i) (f j)) }

@@ -1,20 +1,16 @@
 -- Small runs: deliveries, ends, values, steps, traces and bounds that a reader works out by hand from the definitions.
-use Rattle.std.specs.Prelude.{◌≡◌, ◌||◌, ◌+ℤ◌, zero, suc, None, ℕ, Bool, true, false, not, List, [], ◌∷◌, length, Some, ℤ, pos, refl, map}
-use Rattle.std.specs.Ordering.{int_eq}
+use Rattle.std.specs.Prelude.{◌≡◌, None, true, false, [], ◌∷◌, Some, pos, map}
 use Rattle.dcsp_defs.specs.Words.{below}
-use Rattle.dcsp_defs.specs.Csp.{Csp, Constraint, Nogood}
-use Rattle.dcsp_defs.specs.declared.Reason.{Reason}
 use Rattle.dcsp_defs.specs.declared.Reason.TheVariants.{Rule, Earlier}
-use Rattle.dcsp_defs.specs.declared.Step.{Step}
-use Rattle.abt_defs.specs.Agents.{Agent, Announce, Refuse, fresh}
+use Rattle.abt_defs.specs.Agents.{Refuse}
 use Rattle.abt_defs.specs.Reasons.{Item, causes}
-use Rattle.abt_defs.specs.Steps.{Outcome, is_refused, is_newer, settle, receive}
+use Rattle.abt_defs.specs.Steps.{is_refused, is_newer}
 use Rattle.abt_defs.specs.Network.{values}
-use Rattle.abt_defs.specs.Runs.{End, Refuted, Solved, Capped, Spent, Cargo, Value, Step_number, Link, Delivery, Run, whole}
+use Rattle.abt_defs.specs.Runs.{Refuted, Solved, Capped, Spent, Value, Step_number, Link, whole}
 use Rattle.abt_defs.specs.Bound.{message_bound}
 use Rattle.dcsp_nogood.specs.Pairs.{pair_of}
 use Rattle.abt_defs.specs.Agents.{known}
-use Rattle.abt_samples.specs.Models.{differ, agree, bits, csp, Shown, shown, steps_of, step, from, clash, asked, nine, starved, waiting, triangle, eleven, attacks, apart, four, queens, zeros, queens_end, alone, two_recorded, told_once}
+use Rattle.abt_samples.specs.Models.{shown, steps_of, step, from, clash, asked, nine, starved, waiting, triangle, eleven, queens, queens_end, alone, two_recorded, told_once}
 
 -- two variables that are to differ and to agree
 pub record RefutedPair : Type 0 where

@@ -1,8 +1,7 @@
 -- No solution extends the nogood of a right derivation's step.
-use Rattle.std.proofs.Common.{◌≡◌, ℕ, zero, suc, ◌-◌, ◌<◌, true, false, not, ◌⊎◌, inl, inr, List, [], ◌∷◌, slice_get, take, length, Option, Some, None, ℤ, pos, is_some, unwrap_or, refl, sym, ap, ◌∙◌, subst, arith, MatchOption}
+use Rattle.std.proofs.Common.{◌≡◌, ℕ, zero, suc, ◌-◌, ◌<◌, true, false, not, inl, inr, List, [], ◌∷◌, slice_get, take, length, Option, Some, None, ℤ, pos, is_some, unwrap_or, refl, sym, ap, ◌∙◌, subst, arith, MatchOption}
 use Rattle.std.specs.Prelude.{IsSomeAnd}
 use Rattle.std.proofs.lemmas.Bool.Decides.{eqb_tells, Decides-int_eq}
-use native.Mathlib.Decide.{dec_lt}
 use Rattle.std.specs.List.{list_all, AllZip}
 use Rattle.dcsp_nogood.specs.declared.Pair.{Pair}
 use Rattle.dcsp_nogood.specs.Pairs.{value_at}
@@ -69,12 +68,12 @@ module _ (p : Csp) (ok : IsCsp p) (earlier : List Step) (before : (n : ℕ) (s :
       at : (o : Option ℕ) → MatchOption o (IsRightNowhere p s) (λ x. IsRightAt p earlier x s) → ⊥
       at (Some x) r = reasons_exclude s.nogood x (domain p x) s.reasons values r.reasons (solution.domains x r.variable) solution e
       at None r =
-          let c = r.constraint in
-          let here = get-In p.constraints r.number c r.there in
-          let same : c.test (λ k. pos 0) ≡ c.test values = (ok.constraints c here).local (λ k. pos 0) values (λ k u. absurd (subst (In k) r.scope u)) in
+          let f = r.alone in
+          let c = f.constraint in
+          let here = get-In p.constraints r.number c f.there in
+          let same : c.test (λ k. pos 0) ≡ c.test values = (ok.constraints c here).local (λ k. pos 0) values (λ k u. absurd (subst (In k) f.scope u)) in
           let t : c.test values ≡ true = solution.constraints c here in
-          let f : c.test (λ k. pos 0) ≡ false = r.violated in
-          let g : true ≡ false = sym t ∙ (sym same ∙ f) in cc
+          let g : true ≡ false = sym t ∙ (sym same ∙ f.violated) in cc
 
 module _ (p : Csp) (ok : IsCsp p) (steps : List Step) (right : IsDerivation p steps) where
   -- the steps before place k, where those below n exclude

@@ -7,17 +7,25 @@ use Rattle.dcsp_defs.specs.declared.Reason.{Reason}
 use Rattle.dcsp_defs.specs.declared.Reason.TheVariants.{Rule, Earlier}
 use Rattle.dcsp_defs.specs.declared.Step.{Step}
 use Rattle.dcsp_defs.specs.Words.{In}
-use Rattle.dcsp_defs.specs.Csp.{Csp, Constraint, Nogood, Assignment, IsCsp, IsSolution, HasNoSolution, Extends, is_violated, agrees, given_with, domain, count}
+use Rattle.dcsp_defs.specs.Csp.{Csp, Constraint, Nogood, Known, Assignment, IsCsp, IsSolution, HasNoSolution, Extends, is_violated, agrees, given_with, domain, count}
 
 -- the step with this number
 abbrev pub step_at : List Step → ℕ → Option Step
 step_at steps zero = None
 step_at steps (suc k) = slice_get steps k
 
+-- the constraint with this number is false under the values
+abbrev pub IsFalseRule : Csp → Known → ℕ → Type 0
+IsFalseRule p values number = (c : Constraint) × (slice_get p.constraints number ≡ Some c) × (is_violated values c ≡ true)
+
+-- the values have each pair of the nogood of the step with this number
+abbrev pub IsAgreeingStep : List Step → Known → ℕ → Type 0
+IsAgreeingStep steps values number = (s : Step) × (step_at steps number ≡ Some s) × (agrees values s.nogood ≡ true)
+
 -- why x has not the value v where the pairs hold: a constraint is false there, or an earlier nogood agrees
 abbrev pub IsReason : Csp → List Step → Nogood → ℕ → ℤ → Reason → Type 0
-IsReason p earlier pairs x v (Rule number) = (c : Constraint) × (slice_get p.constraints number ≡ Some c) × (is_violated (given_with x v pairs) c ≡ true)
-IsReason p earlier pairs x v (Earlier number) = (s : Step) × (step_at earlier number ≡ Some s) × (agrees (given_with x v pairs) s.nogood ≡ true)
+IsReason p earlier pairs x v (Rule number) = IsFalseRule p (given_with x v pairs) number
+IsReason p earlier pairs x v (Earlier number) = IsAgreeingStep earlier (given_with x v pairs) number
 
 -- the pair names a variable of the problem and a value of its domain
 pub record IsKnownPair (p : Csp) (y : Pair) : Type 0 where
@@ -32,15 +40,19 @@ pub record IsRightAt (p : Csp) (earlier : List Step) (x : ℕ) (step : Step) : T
   pub other : value_at step.nogood x ≡ None
   pub reasons : AllZip (IsReason p earlier step.nogood x) (domain p x) step.reasons
 
+-- the constraint with this number is one without variables that is false
+pub record IsFalseAlone (p : Csp) (number : ℕ) : Type 0 where
+  pub constraint : Constraint
+  pub there : slice_get p.constraints number ≡ Some constraint
+  pub scope : constraint.scope ≡ []
+  pub violated : constraint.test (λ k. pos 0) ≡ false
+
 -- a right step at no variable: its one reason is a constraint without variables that is false
 pub record IsRightNowhere (p : Csp) (step : Step) : Type 0 where
   pub nogood : step.nogood ≡ []
   pub number : ℕ
   pub reasons : step.reasons ≡ Rule number ∷ []
-  pub constraint : Constraint
-  pub there : slice_get p.constraints number ≡ Some constraint
-  pub scope : constraint.scope ≡ []
-  pub violated : constraint.test (λ k. pos 0) ≡ false
+  pub alone : IsFalseAlone p number
 
 -- a right step, after these earlier steps
 abbrev pub IsRight : Csp → List Step → Step → Type 0

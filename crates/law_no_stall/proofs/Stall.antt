@@ -1,8 +1,7 @@
 -- With nothing in transit, nobody waits and the values are a solution.
-use Rattle.std.proofs.Common.{◌≡◌, ◌≢◌, ℕ, zero, suc, ◌+◌, ◌<◌, ◌≤◌, Bool, true, false, cond, not, ◌&&◌, ◌||◌, ◌⊎◌, inl, inr, List, [], ◌∷◌, find, ◌==◌, nat_le, Option, Some, None, ℤ, pos, is_some, unwrap_or, refl, sym, ap, ◌∙◌, subst, arith}
-use Rattle.std.proofs.lemmas.Bool.Decides.{nat_tests, eqb_tells}
+use Rattle.std.proofs.Common.{◌≡◌, ◌≢◌, ℕ, zero, suc, ◌+◌, ◌<◌, ◌≤◌, Bool, true, false, cond, not, ◌||◌, ◌⊎◌, inl, inr, List, [], ◌∷◌, find, ◌==◌, Option, Some, None, ℤ, pos, is_some, unwrap_or, refl, sym, ap, ◌∙◌, subst, arith}
+use Rattle.std.proofs.lemmas.Bool.Decides.{eqb_tells}
 use Rattle.std.specs.List.{list_any, list_all, enumerate_from}
-use native.Mathlib.Decide.{dec_le}
 use Rattle.dcsp_defs.specs.Words.{In}
 use Rattle.dcsp_defs.specs.Csp.{Csp, Constraint, Known, filled, with_value, count, IsCsp, is_violated}
 use Rattle.abt_defs.specs.Agents.{Agent, Message, Refuse, Stamped, StampedNogood, lowest, known, value_in}

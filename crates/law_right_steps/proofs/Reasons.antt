@@ -1,6 +1,6 @@
 -- The step that an agent makes is right, where its view and its nogoods are.
 use Rattle.dcsp_nogood.specs.declared.Pair.{Pair}
-use Rattle.std.proofs.Common.{◌≡◌, ◌≢◌, ℕ, zero, suc, ◌+◌, ◌<◌, ◌≤◌, Bool, true, false, cond, not, inl, inr, List, [], ◌∷◌, ◌++◌, map, filter, find, filter_map, slice_get, ◌==◌, nat_le, Option, Some, None, ℤ, pos, is_some, unwrap_or, refl, sym, ap, ◌∙◌, subst, arith, append-nil, zero-add}
+use Rattle.std.proofs.Common.{◌≡◌, ◌≢◌, ℕ, zero, suc, ◌+◌, ◌<◌, ◌≤◌, Bool, true, false, cond, not, inl, inr, List, [], ◌∷◌, ◌++◌, map, filter, find, filter_map, slice_get, ◌==◌, Option, Some, None, ℤ, pos, is_some, unwrap_or, refl, sym, ap, ◌∙◌, subst, arith, append-nil, zero-add}
 use Rattle.std.proofs.lemmas.Bool.Decides.{nat_tests, eqb_tells}
 use Rattle.std.specs.List.{list_any, list_all, cons_option, enumerate_from, AllZip}
 use Rattle.dcsp_defs.specs.Words.{In, below, is_value}

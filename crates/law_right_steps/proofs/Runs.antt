@@ -248,13 +248,15 @@ right_start_by p ok (Some x) e =
     let q = enumerate-at 0 p.constraints x f.0 in
     record {
       right = right-more p [] (Some _) (no_steps p) (record {
-          nogood = refl;
-          number = x.0;
+        nogood = refl;
+        number = x.0;
+        reasons = refl;
+        alone = record {
           constraint = x.1;
-          reasons = refl;
           there = ap (slice_get p.constraints) (q.1 ∙ zero-add q.0) ∙ q.2;
           scope = empty x.1.scope (and_left _ _ f.1);
           violated = out (x.1.test (λ k. pos 0)) (and_right _ _ f.1);
+        };
       });
       kept = λ f. cc;
       rooted = λ f. cc;
