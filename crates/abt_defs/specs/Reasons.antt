@@ -4,21 +4,28 @@ use Rattle.std.specs.List.{list_any}
 use Rattle.dcsp_defs.specs.declared.Reason.{Reason}
 use Rattle.dcsp_defs.specs.declared.Reason.TheVariants.{Rule, Earlier}
 use Rattle.dcsp_defs.specs.declared.Step.{Step}
+use Rattle.std.specs.Option.{option_map}
+use Rattle.dcsp_nogood.specs.Pairs.{pair_of}
 use Rattle.dcsp_defs.specs.Words.{below}
-use Rattle.dcsp_defs.specs.Csp.{Csp, Constraint, Known, is_violated, agrees, with_value, names, domain, owned}
+use Rattle.dcsp_defs.specs.Csp.{Csp, Constraint, Known, Nogood, is_violated, agrees, with_value, names, domain, owned}
 use Rattle.abt_defs.specs.Agents.{Stamped, StampedNogood, plain, Record, View, values_in, is_among}
 
--- a constraint or a recorded nogood
+-- a constraint or a recorded nogood: its variables, when it is violated, and the pairs that it contributes to a nogood
 pub record Item : Type 0 where
   pub reason : Reason
   pub variables : List ℕ
   pub violated : Known → Bool
+  pub pairs : Known → Nogood
+
+-- the pairs of those variables that have a value
+abbrev pub known_pairs : Known → List ℕ → Nogood
+known_pairs known scope = filter_map (λ k. option_map (pair_of k) (known k)) scope
 
 abbrev pub constraint_item : ℕ × Constraint → Item
-constraint_item x = record { reason = Rule x.0; variables = x.1.scope; violated = λ values. is_violated values x.1 }
+constraint_item x = record { reason = Rule x.0; variables = x.1.scope; violated = λ values. is_violated values x.1; pairs = λ values. known_pairs values x.1.scope }
 
 abbrev pub record_item : Record → Item
-record_item x = record { reason = Earlier x.step; variables = names x.pairs; violated = λ values. agrees values x.pairs }
+record_item x = record { reason = Earlier x.step; variables = names x.pairs; violated = λ values. agrees values x.pairs; pairs = λ values. x.pairs }
 
 -- the constraints that i owns in order, then its recorded nogoods in order of arrival
 abbrev pub items : Csp → ℕ → List Record → List Item

@@ -1,5 +1,5 @@
 -- Whole runs, with their stops.
-use Rattle.std.specs.Prelude.{ℕ, ◌-◌, ◌%◌, ℤ, List, [], ◌∷◌, ◌++◌, length, slice_get, if◌then◌else◌, Option, Some, None, is_some, unwrap_or, ◌==◌}
+use Rattle.std.specs.Prelude.{ℕ, zero, suc, ◌-◌, ◌%◌, ℤ, not, ◌&&◌, List, [], ◌∷◌, ◌++◌, length, slice_get, position, if◌then◌else◌, Option, Some, None, is_some, unwrap_or, ◌==◌}
 use Rattle.dcsp_defs.specs.Csp.{Csp}
 use Rattle.abt_defs.specs.Agents.{Message, Announce, Refuse, Add_link}
 use Rattle.abt_defs.specs.Network.{Network, ready, deliver, start, is_empty}
@@ -70,3 +70,19 @@ go p most (c ∷ cs) net =
 
 abbrev pub whole : Csp → ℕ → List ℕ → Run
 whole p most choices = go p most choices (start p)
+
+-- ---- starved links
+
+-- the number of the first nonempty list that is not from a to b, or 0 where that is the only one
+abbrev pub starved_choice : Csp → ℕ → ℕ → Network → ℕ
+starved_choice p a b net = unwrap_or (position (λ (x : ℕ × ℕ). not (a == x.0 && b == x.1)) (ready p net)) 0
+
+-- the choices that starve the link from a to b, for at most this many deliveries
+abbrev pub starved_choices : Csp → ℕ → ℕ → ℕ → Network → List ℕ
+starved_choices p a b zero net = []
+starved_choices p a b (suc most) net =
+    if is_some (stop p (suc most) net) then [] else starved_choice p a b net ∷ starved_choices p a b most (deliver p (starved_choice p a b net) net)
+
+-- the run under them
+abbrev pub starved : Csp → ℕ → ℕ → ℕ → Run
+starved p a b most = whole p most (starved_choices p a b most (start p))

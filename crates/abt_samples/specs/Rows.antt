@@ -5,8 +5,8 @@ use Rattle.dcsp_defs.specs.declared.Reason.TheVariants.{Rule, Earlier}
 use Rattle.abt_defs.specs.Agents.{Refuse}
 use Rattle.abt_defs.specs.Reasons.{Item, causes}
 use Rattle.abt_defs.specs.Steps.{is_refused, is_newer}
-use Rattle.abt_defs.specs.Network.{values}
-use Rattle.abt_defs.specs.Runs.{Refuted, Solved, Capped, Spent, Value, Step_number, Link, whole}
+use Rattle.abt_defs.specs.Network.{values, start}
+use Rattle.abt_defs.specs.Runs.{Refuted, Solved, Capped, Spent, Value, Step_number, Link, whole, starved_choices}
 use Rattle.abt_defs.specs.Bound.{message_bound}
 use Rattle.dcsp_nogood.specs.Pairs.{pair_of}
 use Rattle.abt_defs.specs.Agents.{known}
@@ -42,6 +42,7 @@ pub record InOrder : Type 0 where
 pub record StarvedLink : Type 0 where
   pub run : shown starved (1 ∷ 1 ∷ 1 ∷ 0 ∷ 0 ∷ 0 ∷ []) ≡ (Solved, 6, pos 1 ∷ pos 1 ∷ pos 0 ∷ [], [])
   pub steps : steps_of starved (1 ∷ 1 ∷ 1 ∷ 0 ∷ 0 ∷ 0 ∷ []) ≡ step 2 (pair_of 1 (pos 0) ∷ []) (Rule 1 ∷ []) ∷ step 2 (pair_of 0 (pos 0) ∷ []) (Rule 0 ∷ []) ∷ []
+  pub chosen : starved_choices starved 0 2 100 (start starved) ≡ 1 ∷ 1 ∷ 1 ∷ 0 ∷ 0 ∷ 0 ∷ []
   pub bound : message_bound starved ≡ 21
 
 -- a nogood that comes to an agent that waits

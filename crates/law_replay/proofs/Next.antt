@@ -9,7 +9,8 @@ use Rattle.abt_defs.specs.Network.{Network, ready, deliver, deliver_at, deliver_
 use Rattle.law_message_bound.proofs.Runs.{goes_run, goes_start}
 use Rattle.law_right_steps.proofs.Runs.{steps_right}
 use Rattle.law_replay.specs.Replay.{Continues}
-use Rattle.law_replay.proofs.Whole.{delivers_one, below_bound}
+use Rattle.law_replay.proofs.Whole.{delivers_one}
+use Rattle.law_message_bound.proofs.Below.{below_bound}
 
 run_more : (p : Csp) (cs : List ℕ) (c : ℕ) (net : Network) → run p (cs ++ c ∷ []) net ≡ cond (run p cs net).refuted (run p cs net) (deliver p c (run p cs net))
 run_more p [] c net = refl

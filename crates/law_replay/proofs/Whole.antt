@@ -14,7 +14,7 @@ use Rattle.dcsp_defs.proofs.Sound.{refutations_refute}
 use Rattle.abt_invariants.proofs.Runs.{In-pairs}
 use Rattle.law_no_stall.proofs.Stall.{no_stall}
 use Rattle.law_message_bound.proofs.Runs.{Goes as Counts, goes_run, goes_start, no_deliveries}
-use Rattle.law_message_bound.proofs.Total.{within}
+use Rattle.law_message_bound.proofs.Below.{below_bound}
 use Rattle.law_right_steps.proofs.Runs.{steps_right}
 use Rattle.law_right_steps.proofs.Ends.{refuted_refutes}
 use Rattle.law_replay.specs.Replay.{Verdicts, AllVerdicts}
@@ -77,23 +77,6 @@ quiet_if_none p net h k i lk li = by_test (is_empty (net.links k i)) refl
     by_test : (b : Bool) → is_empty (net.links k i) ≡ b → net.links k i ≡ []
     by_test true e = empty-nil (net.links k i) e
     by_test false e = absurd (subst (In (k, i)) (empty-nil (ready p net) h) (In-filter (λ (x : ℕ × ℕ). not (is_empty (net.links x.0 x.1))) (k, i) (pairs (count p)) here (ap not e)))
-
--- where something is in transit, the bound is not reached
-pub below_bound : (p : Csp) (net : Network) → Counts p net → net.refuted ≡ false → is_empty (ready p net) ≡ false → net.deliveries < message_bound p
-below_bound p net c f t = by_list (ready p net) refl t
-  where
-    longer : {X : Type 0} → (xs : List X) → not (is_empty xs) ≡ true → 0 < length xs
-    longer [] h = cc
-    longer (x ∷ xs) h = omega arith
-
-    by_list : (xs : List (ℕ × ℕ)) → ready p net ≡ xs → is_empty xs ≡ false → net.deliveries < message_bound p
-    by_list [] e g = cc
-    by_list (x ∷ xs) e g =
-        let u : In x (ready p net) = subst (In x) (sym e) (inl refl) in
-        let a = In-pairs (count p) x (below (count p)) (filter-from (λ (x : ℕ × ℕ). not (is_empty (net.links x.0 x.1))) x (pairs (count p)) u).0 in
-        let b = longer (net.links x.0 x.1) (filter-from (λ (x : ℕ × ℕ). not (is_empty (net.links x.0 x.1))) x (pairs (count p)) u).1 in
-        let w = within p (count p) net (c.kept f) (c.counted f) x.0 x.1 (In-below (count p) x.0 a.1) (In-below (count p) x.1 a.0) in
-        omega arith
 
 -- ---- the number of deliveries
 

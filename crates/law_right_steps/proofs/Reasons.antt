@@ -55,7 +55,7 @@ given_map f own (suc n) k y l e = rw (filter_map-more f (below n) n) (last_one (
     ])
 
 -- a variable that a reason names is value_at by the derived nogood as the view has it
-derived_given : (p : Csp) (i : ℕ) (a : Agent) (k : ℕ) (v : Stamped) (x : Item) → k < i → In x (causes p i (known a) a.recorded) → In k x.variables → a.view k ≡ Some v → value_at (plain (derived p i a.view a.recorded)) k ≡ Some v.value
+pub derived_given : (p : Csp) (i : ℕ) (a : Agent) (k : ℕ) (v : Stamped) (x : Item) → k < i → In x (causes p i (known a) a.recorded) → In k x.variables → a.view k ≡ Some v → value_at (plain (derived p i a.view a.recorded)) k ≡ Some v.value
 derived_given p i a k v x l c n e = given_map (blamed p i a.view a.recorded) (λ j y h. (blamed-some p i a j y h).0) i k (k, v) l here
   where
     same : (m : ℕ) → (m == m) ≡ true
@@ -96,7 +96,7 @@ pub record Source (steps : List Step) (number : ℕ) (pairs : Nogood) : Type 0 w
   pub there : step_at steps number ≡ Some step
   pub same : step.nogood ≡ pairs
 
-seen_is : (o : Option Stamped) → is_some (value_in o) ≡ true → (v : Stamped) × (o ≡ Some v)
+pub seen_is : (o : Option Stamped) → is_some (value_in o) ≡ true → (v : Stamped) × (o ≡ Some v)
 seen_is None h = cc
 seen_is (Some v) h = (v, refl)
 
