@@ -1,6 +1,6 @@
 -- How changes of a folder or of a sink add up over several calls.
-use Rattle.std.proofs.Common.{◌≡◌, ◌≢◌, ℕ, ◌≤◌, List, ◌++◌, Option, Some, None, refl, sym, ap, subst, ◌∙◌, append_assoc, append-nil, [], arith}
-use Rattle.dcsp_outside.specs.Outside.{Rose, Told, ChangesName, IsPrefixOf, AddsPartOf}
+use Rattle.std.proofs.Common.{◌≡◌, ℕ, ◌≤◌, List, ◌++◌, Option, Some, None, refl, sym, ap, subst, ◌∙◌, append_assoc, arith}
+use Rattle.dcsp_outside.specs.Outside.{Rose, Told, ChangesName, AddsPartOf}
 
 -- what is told of two changes, one after the other
 pub Told-trans : {A : Type 0} (P Q R : A → A → Type 0) → ((x y z : A) → P x y → Q y z → R x z) → (a b c : Option A) → Told a b P → Told b c Q → Told a c R

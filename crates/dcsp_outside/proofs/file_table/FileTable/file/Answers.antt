@@ -1,6 +1,4 @@
-use Rattle.std.proofs.Common.{rules, sym, ap, ◌∙◌}
-use Rattle.std.specs.FinMap as map
-use Rattle.std.specs.FinMap.{get}
+use Rattle.std.proofs.Common.{rules}
 use Rattle.dcsp_outside.proofs.Tables.{get-files_of}
 use Rattle.dcsp_outside.proofs.file_table.FileTable.file.Goals as goal
 
