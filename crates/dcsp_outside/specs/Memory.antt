@@ -1,0 +1,72 @@
+-- What the folders and the sink in memory are seen as.
+use Rattle.std.specs.Prelude.{ℕ, ◌==◌, Bool, ◌||◌, List, map, is_none, if◌then◌else◌, refl}
+use Rattle.std.specs.List.{list_any}
+use Rattle.std.specs.Ordering.{nat_cmp}
+use Rattle.std.specs.Cmp.Lexicographic.{slice_cmp}
+use Rattle.std.specs.FinMap.{FinMap, get, from_entries, code}
+use Rattle.std.specs.BTreeMap.{BTreeMap}
+use Rattle.std.specs.String.{string_bytes}
+use Rattle.std.specs.declared.string.String.{String}
+use Rattle.std.specs.declared.vec.Vec.{Vec}
+use Rattle.std.specs.declared.alloc.Global.{Global}
+use Rattle.std.specs.Coded.{Coded, code_by, coded×, coded_ℕ, coded_list}
+use Rattle.dcsp_outside.specs.Outside.{one_more}
+
+-- the bytes of each name that is held
+abbrev pub Files : Type 0
+Files = FinMap (slice_cmp nat_cmp) (List ℕ)
+
+-- the files that a map from texts to vectors holds
+abbrev pub files_of : BTreeMap (String Global) (Vec ℕ Global) → Files
+files_of table = from_entries (map (λ e. (string_bytes e.0, e.1.items)) table.entries)
+
+-- what a folder in memory keeps: its files, and the names created in it, in order
+pub record Kept : Type 0 where
+  pub files : Files
+  pub created : List (List ℕ)
+
+-- files are stored as the list of their names and bytes
+abbrev pub files_code : Coded Files
+files_code = code (coded_list coded_ℕ) (coded_list coded_ℕ)
+
+-- what is kept is stored as the pair of its fields
+abbrev pub kept_code : Coded Kept
+kept_code =
+    code_by (Files × List (List ℕ)) (coded× files_code (coded_list (coded_list coded_ℕ))) (λ k. (k.files, k.created)) (λ p. record { files = p.0; created = p.1 }) (λ _. refl)
+
+-- the calls that were made, the numbers of those that are to fail, and the faults so far
+pub record Calls : Type 0 where
+  pub made : ℕ
+  pub failing : List ℕ
+  pub faults : ℕ
+
+-- a plan of calls is stored as the tuple of its fields
+abbrev pub calls_code : Coded Calls
+calls_code =
+    code_by (ℕ × (List ℕ × ℕ)) (coded× coded_ℕ (coded× (coded_list coded_ℕ) coded_ℕ)) (λ c. (c.made, (c.failing, c.faults))) (λ p. record { made = p.0; failing = p.1.0; faults = p.1.1 }) (λ _. refl)
+
+-- the call that comes next is to fail
+abbrev pub fails_next : Calls → Bool
+fails_next calls = list_any (λ call. call == one_more calls.made) calls.failing
+
+-- one more call was made, and one more fault was counted if it failed
+abbrev pub after_call : Calls → Bool → Calls
+after_call calls failed = record calls { made = one_more calls.made; faults = if failed then one_more calls.faults else calls.faults }
+
+-- a folder in memory whose calls can be made to fail
+pub record FolderState : Type 0 where
+  pub kept : Kept
+  pub calls : Calls
+
+-- a folder's state is stored as the pair of its fields
+abbrev pub folder_code : Coded FolderState
+folder_code = code_by (Kept × Calls) (coded× kept_code calls_code) (λ f. (f.kept, f.calls)) (λ p. record { kept = p.0; calls = p.1 }) (λ _. refl)
+
+-- a fetch fails if its call is to fail, or if the name is not held
+abbrev pub fails_fetch : FolderState → List ℕ → Bool
+fails_fetch folder name = fails_next folder.calls || is_none (get folder.kept.files name)
+
+-- a sink in memory whose calls can be made to fail
+pub record SinkState : Type 0 where
+  pub written : List ℕ
+  pub calls : Calls

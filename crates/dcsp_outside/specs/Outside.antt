@@ -1,0 +1,53 @@
+-- What the calls of a folder and of a sink do.
+use Rattle.std.specs.Prelude.{◌≡◌, ◌≢◌, ℕ, ◌+◌, ◌-◌, ◌^◌, ◌<◌, ◌≤◌, min, List, [], ◌++◌, length, Option, Some, None, unwrap_or, Result, Ok, Err, ⊤}
+use Rattle.dcsp_outside.specs.declared.folder.Fetched.{Fetched}
+use Rattle.dcsp_outside.specs.declared.folder.Fetched.TheVariants.{Whole, Long}
+use Rattle.dcsp_outside.specs.declared.folder.FolderError.{FolderError}
+
+-- one more, up to the last value of 64 bits, where a count stays
+abbrev pub one_more : ℕ → ℕ
+one_more count = min (count + 1) (2 ^ 64 - 1)
+
+-- a count rose; one that stands at its last value passes as risen
+abbrev pub Rose : ℕ → ℕ → Type 0
+Rose before now = one_more before ≤ now
+
+-- no name's count falls
+abbrev pub NoneFalls : (List ℕ → ℕ) → (List ℕ → ℕ) → Type 0
+NoneFalls before now = (name : List ℕ) → before name ≤ now name
+
+-- where the contents are told, the old and the new ones stand so
+abbrev pub Told : {A : Type 0} → Option A → Option A → (A → A → Type 0) → Type 0
+Told (Some old) (Some new) P = P old new
+Told None None P = ⊤
+Told (Some old) None P = ⊥
+Told None (Some new) P = ⊥
+
+-- the bytes of a name; one that is not held has none
+abbrev pub bytes_of : Option (List ℕ) → List ℕ
+bytes_of file = unwrap_or file []
+
+-- what is held under this name changes so, and nothing under any other name does
+pub record ChangesName (name : List ℕ) (P : Option (List ℕ) → Option (List ℕ) → Type 0) (old new : List ℕ → Option (List ℕ)) : Type 0 where
+  pub this : P (old name) (new name)
+  pub others : (other : List ℕ) → other ≢ name → new other ≡ old other
+
+-- the first list begins the second
+abbrev pub IsPrefixOf : List ℕ → List ℕ → Type 0
+IsPrefixOf part whole = (rest : List ℕ) × (part ++ rest ≡ whole)
+
+-- some first bytes of the piece went last
+abbrev pub AddsPartOf : List ℕ → List ℕ → List ℕ → Type 0
+AddsPartOf piece old new = (part : List ℕ) × IsPrefixOf part piece × (new ≡ old ++ part)
+
+-- a fetch of these bytes: all of them go last, or there are more than `most`, or it is refused
+abbrev pub Fetches : List ℕ → ℕ → List ℕ → List ℕ → Result Fetched FolderError → Type 0
+Fetches bytes most old new (Ok Whole) = (length bytes ≤ most) × (new ≡ old ++ bytes)
+Fetches bytes most old new (Ok Long) = (most < length bytes) × (new ≡ old)
+Fetches bytes most old new (Err e) = new ≡ old
+
+-- whatever a folder holds, a fetch adds at most so many bytes, and only where it says so
+abbrev pub AddsUpTo : ℕ → List ℕ → List ℕ → Result Fetched FolderError → Type 0
+AddsUpTo most old new (Ok Whole) = (bytes : List ℕ) × (length bytes ≤ most) × (new ≡ old ++ bytes)
+AddsUpTo most old new (Ok Long) = new ≡ old
+AddsUpTo most old new (Err e) = new ≡ old

@@ -1,0 +1,152 @@
+//! A folder in memory whose calls can be made to fail.
+
+ghost use Rattle.std.specs.Prelude.{◌≡◌, ℕ, ◌≤◌, ◌↔◌, [], ◌∷◌, ◌++◌, ◌||◌, OnOk, OnErr, IsErrOf, IsTrue};
+ghost use Rattle.std.specs.Option.{option_copied};
+ghost use Rattle.std.specs.FinMap as map;
+ghost use Rattle.dcsp_outside.specs.Outside.{ChangesName, Fetches, bytes_of};
+ghost use Rattle.dcsp_outside.specs.Memory.{fails_next, fails_fetch, after_call};
+
+use crate::call_plan::CallPlan;
+use crate::folder::{Fetched, Folder, FolderError};
+use crate::kept_files::{KeptFiles, fetch_bytes};
+use dcsp_list::Memory;
+use std::alloc::Global;
+use std::marker::Model;
+
+/// A folder in memory whose calls can be made to fail.
+///
+/// Calls of `fetch`, `create` and `append` are counted together, from 1 up to `2^64 - 1`, where
+/// the number stays. A call fails exactly where [`MemoryFolder::fail_at`] named its number, or
+/// where it fetches a name that is not held; a call that fails changes nothing but the counts.
+#[derive(Drop)]
+pub struct MemoryFolder {
+    kept: KeptFiles,
+    calls: CallPlan,
+}
+
+impl Model for MemoryFolder {
+    ghost use Rattle.dcsp_outside.specs.Memory.{FolderState, folder_code};
+
+    ghost Value = { FolderState };
+
+    ghost coded = { folder_code };
+
+    ghost view = { λ folder. record { kept = folder.kept; calls = folder.calls } };
+}
+
+impl MemoryFolder {
+    /// A folder that holds nothing and was not called.
+    pub fn new(alloc: Global) -> MemoryFolder
+        ensures kept { result.kept ≡ record { files = map.empty; created = [] } }
+        ensures calls { result.calls ≡ record { made = 0; failing = []; faults = 0 } }
+    {
+        MemoryFolder {
+            kept: KeptFiles::new(alloc),
+            calls: CallPlan::new(alloc),
+        }
+    }
+
+    /// Lets the name hold these bytes alone. It is no call of the trait, and is not counted.
+    pub fn place(&mut self, name: &str, bytes: &[u8]) -> Result<(), Memory>
+        ensures ok { OnOk result (ChangesName name.now (λ old new. new ≡ Some bytes.now)
+            (map.get self.old.kept.files) (map.get self.new.kept.files)) }
+        ensures err { OnErr result (self.new.kept ≡ self.old.kept) }
+        ensures created { self.new.kept.created ≡ self.old.kept.created }
+        ensures calls { self.new.calls ≡ self.old.calls }
+    {
+        self.kept.place(name, bytes)
+    }
+
+    /// The bytes of the name, `None` exactly if it is not held.
+    pub fn file(&self, name: &str) -> Option<&[u8]>
+        ensures { option_copied result ≡ map.get self.now.kept.files name.now }
+    {
+        self.kept.file(name)
+    }
+
+    /// Lets call number `call` fail, counted from 1.
+    pub fn fail_at(&mut self, call: u64) -> Result<(), Memory>
+        ensures ok { OnOk result (self.new.calls ≡ record self.old.calls {
+          failing = self.old.calls.failing ++ call ∷ [];
+        }) }
+        ensures err { OnErr result (self.new.calls ≡ self.old.calls) }
+        ensures kept { self.new.kept ≡ self.old.kept }
+    {
+        self.calls.fail_at(call)
+    }
+
+    /// How many calls have failed, up to `2^64 - 1`, where the number stays.
+    pub fn faults(&self) -> u64
+        ensures { result ≡ self.now.calls.faults }
+    {
+        self.calls.faults()
+    }
+}
+
+impl Folder for MemoryFolder {
+    ghost use Rattle.std.specs.Prelude.{Some};
+    ghost use Rattle.std.specs.FinMap as map;
+
+    ghost held = { λ folder. Some (λ name. map.get folder.kept.files name) };
+
+    ghost created = { λ folder. folder.kept.created };
+
+    ghost reads = { λ folder _. folder.calls.faults };
+
+    ghost writes = { λ folder _. folder.calls.faults };
+
+    fn fetch(&mut self, name: &str, most: u64, into: &mut Vec<u8>) -> Result<Fetched, FolderError>
+        ensures bytes { Fetches (bytes_of (map.get self.old.kept.files name.now)) most into.old.items into.new.items result }
+        ensures fails { IsErrOf result FolderError.Failed ↔ IsTrue (fails_fetch self.old name.now) }
+        ensures calls { self.new.calls ≡ after_call self.old.calls (fails_fetch self.old name.now) }
+        ensures never_falls { self.old.calls.faults ≤ self.new.calls.faults }
+        ensures kept { self.new.kept ≡ self.old.kept }
+    {
+        let is_named = self.calls.count_call();
+        let file = if is_named { None } else { self.kept.file(name) };
+        let Some(bytes) = file else {
+            self.calls.count_fault();
+            return Err(FolderError::Failed);
+        };
+        fetch_bytes(bytes, most, into)
+    }
+
+    fn create(&mut self, name: &str) -> Result<(), FolderError>
+        ensures fails { IsErrOf result FolderError.Failed ↔ IsTrue (fails_next self.old.calls) }
+        ensures calls { self.new.calls ≡ after_call self.old.calls (fails_next self.old.calls) }
+        ensures never_falls { self.old.calls.faults ≤ self.new.calls.faults }
+        ensures ok { OnOk result (ChangesName name.now (λ old new. new ≡ Some [])
+            (map.get self.old.kept.files) (map.get self.new.kept.files)) }
+        ensures created { OnOk result
+            (self.new.kept.created ≡ self.old.kept.created ++ name.now ∷ []) }
+        ensures err { OnErr result (self.new.kept ≡ self.old.kept) }
+    {
+        if self.calls.count_call() {
+            self.calls.count_fault();
+            return Err(FolderError::Failed);
+        }
+        match self.kept.create(name) {
+            Ok(()) => Ok(()),
+            Err(Memory) => Err(FolderError::Memory),
+        }
+    }
+
+    fn append(&mut self, name: &str, bytes: &[u8]) -> Result<(), FolderError>
+        ensures fails { IsErrOf result FolderError.Failed ↔ IsTrue (fails_next self.old.calls) }
+        ensures calls { self.new.calls ≡ after_call self.old.calls (fails_next self.old.calls) }
+        ensures never_falls { self.old.calls.faults ≤ self.new.calls.faults }
+        ensures ok { OnOk result (ChangesName name.now (λ old new. new ≡ Some (bytes_of old ++ bytes.now))
+            (map.get self.old.kept.files) (map.get self.new.kept.files)) }
+        ensures created { self.new.kept.created ≡ self.old.kept.created }
+        ensures err { OnErr result (self.new.kept ≡ self.old.kept) }
+    {
+        if self.calls.count_call() {
+            self.calls.count_fault();
+            return Err(FolderError::Failed);
+        }
+        match self.kept.append(name, bytes) {
+            Ok(()) => Ok(()),
+            Err(Memory) => Err(FolderError::Memory),
+        }
+    }
+}
