@@ -1,0 +1,2 @@
+pub mod StepText
+pub mod Logs
