@@ -1,1 +1,4 @@
 pub mod Each
+pub mod After
+pub mod Items
+pub mod Rising

@@ -8,6 +8,7 @@
 #![tactic(auto)]
 
 mod derivation;
+mod reader;
 mod writer;
 
 pub use dcsp_defs::{Reason, ReasonList, Step};
