@@ -6,3 +6,4 @@ pub mod Chosen
 pub mod Numbers
 pub mod Fields
 pub mod ItemLaws
+pub mod LineLaws
