@@ -7,3 +7,5 @@ pub mod Numbers
 pub mod Fields
 pub mod ItemLaws
 pub mod LineLaws
+pub mod LineFeeds
+pub mod LogLaws

@@ -10,7 +10,7 @@ use Rattle.dcsp_nogood.specs.Pairs.{IsRising}
 use Rattle.dcsp_defs.specs.declared.Reason.{Reason}
 use Rattle.dcsp_defs.specs.declared.Reason.TheVariants.{Rule, Earlier}
 use Rattle.dcsp_defs.specs.declared.Step.{Step}
-use Rattle.ngd_log.specs.StepText.{pairs_text, reasons_text, variable_text, step_line, IsVariable, IsStepNumber, IsReasonInRange, IsRuleAlone, IsInRange, IsWritable}
+use Rattle.ngd_log.specs.StepText.{pairs_text, reasons_text, variable_text, step_line, IsVariable, IsStepNumber, IsReasonInRange, IsRuleAlone, IsInRange, IsWritable, IsStepLine}
 use Rattle.ngd_log.specs.Reading.{◌>>=◌, after, begins_with_digit, counted_at, step_number_at, pairs_at, reasons_at, nogood_of, is_line_feed, variable_step, rule_step, form_at, step_of}
 use Rattle.ngd_log.proofs.Chosen.{chosen, passed, bind_then, some_is}
 use Rattle.ngd_log.proofs.After.{after_takes, after_again}
@@ -125,13 +125,7 @@ form_again None nogood reasons w =
         = ap (λ (t : List ℕ). form_at t (after (codes "- [] <- c") t)) (rule_text alone.rule) ∙ ap (form_at (codes "- [] <- c" ++ bytes)) (after_again (codes "- [] <- c") bytes) ∙ rule_again alone.rule within.0 in
     rw (alone.nogood, alone.reasons) one
 
--- what reading a line took
-pub record TookStep (number : ℕ) (line : List ℕ) (step : Step) : Type 0 where
-  pub line_is : line ≡ step_line number step
-  pub writable : IsWritable step
-  pub numbered : IsStepNumber number
-
-pub step_takes : (number : ℕ) (line : List ℕ) (step : Step) → step_of number line ≡ Some step → TookStep number line step
+pub step_takes : (number : ℕ) (line : List ℕ) (step : Step) → step_of number line ≡ Some step → IsStepLine number line step
 unfolding step_of
 step_takes number line step h =
     bind_then (step_number_at line) (λ n. after (codes " ") n.1 >>= λ a. cond (eqb n.0 number) (form_at a (after (codes "- [] <- c") a)) None) step h (λ n rn h1.
@@ -142,7 +136,7 @@ step_takes number line step h =
             let same : n.0 ≡ number = eqb-true _ _ e.0 in
             let u = form_takes a (after (codes "- [] <- c") a) step refl e.1 in
             let parts : line ≡ decimal n.0 ++ (codes " " ++ rest_text step.variable step.nogood step.reasons) = rw (t.parts, after_takes (codes " ") n.1 a ra, u.parts) (simp append-nil) in
-            record { line_is = parts ∙ ap (λ (k : ℕ). decimal k ++ (codes " " ++ rest_text step.variable step.nogood step.reasons)) same ∙ sym (step_line_is number step); writable = u.holds; numbered = subst IsStepNumber same t.holds }
+            record { same = parts ∙ ap (λ (k : ℕ). decimal k ++ (codes " " ++ rest_text step.variable step.nogood step.reasons)) same ∙ sym (step_line_is number step); writable = u.holds; numbered = subst IsStepNumber same t.holds }
         | inr e ↦ absurd (let g = e.1 in cc)
       ]))
 
@@ -152,3 +146,14 @@ step_again number step numbered w =
     let rest = rest_text step.variable step.nogood step.reasons in
     let e : eqb number number ≡ true = eq-eqb number number refl in
     ap (step_of number) (step_line_is number step) ∙ rw (step_number_again number (codes " " ++ rest) numbered refl, after_again (codes " ") rest, e) (form_again step.variable step.nogood step.reasons w)
+
+-- a line that gives no step is no step's
+pub step_none : (number : ℕ) (line : List ℕ) (step : Step) → step_of number line ≡ None → IsStepLine number line step → ⊥
+step_none number line step none is =
+    let again : step_of number line ≡ Some step = ap (step_of number) is.same ∙ step_again number step is.numbered is.writable in
+    cc
+
+-- one line is of one step
+pub one_step : (number : ℕ) (a b : Step) → IsStepNumber number → IsWritable a → IsWritable b → step_line number a ≡ step_line number b → a ≡ b
+one_step number a b numbered wa wb e =
+    some_is a b (sym (step_again number a numbered wa) ∙ ap (step_of number) e ∙ step_again number b numbered wb)

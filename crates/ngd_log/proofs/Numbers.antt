@@ -142,3 +142,7 @@ begins_decimal n rest small = digits_begin (decimal n) rest (digits_decimal own 
 -- another byte is not taken from digits
 pub after_no_digit : (c : ℕ) (text bytes : List ℕ) → is_ascii_digit c ≡ false → BeginsWithDigit bytes → after (c ∷ text) bytes ≡ None
 after_no_digit c text bytes n b = rw b.parts (after_other c b.first text b.others (λ e. absurd (false≢true (sym n ∙ ap is_ascii_digit (sym e) ∙ b.digit))))
+
+-- a number's text is of digits
+pub decimal_digits : (n : ℕ) → n < 2 ^ 64 → all_ascii_digits (decimal n) ≡ true
+decimal_digits n small = digits_decimal own n small

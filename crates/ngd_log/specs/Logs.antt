@@ -1,5 +1,5 @@
 -- Logs: the text of a derivation, and the first bad line of any other text.
-use Rattle.std.specs.Prelude.{◌≡◌, ℕ, ◌+◌, ◌-◌, ◌^◌, ◌<◌, ◌≤◌, ◌⊎◌, List, [], ◌∷◌, ◌++◌, length, take, codes, ◌==◌, if◌then◌else◌}
+use Rattle.std.specs.Prelude.{◌≡◌, ℕ, ◌+◌, ◌-◌, ◌^◌, ◌<◌, ◌≤◌, ◌⊎◌, Bool, false, List, [], ◌∷◌, ◌++◌, length, take, codes, ◌==◌, if◌then◌else◌}
 use Rattle.std.specs.List.{AllByRecursion, concat}
 use Rattle.dcsp_defs.specs.declared.Step.{Step}
 use Rattle.ngd_log.specs.StepText.{step_line, IsWritable}
@@ -72,3 +72,13 @@ pub record LogOrBadLine (text : List ℕ) : Type 0 where
 abbrev pub LogsDiffer : Type 0
 LogsDiffer = (a b : List Step) (more : List ℕ) → AreWritable a → AreWritable b
     → log_text a ++ more ≡ log_text b → (a ≡ b) × (more ≡ [])
+
+-- no line feed is among the bytes
+abbrev pub HasNoLineFeed : List ℕ → Type 0
+HasNoLineFeed bytes = AllByRecursion (λ b. (b == 10) ≡ false) bytes
+
+-- one line feed, at the end
+pub record IsLine (line : List ℕ) : Type 0 where
+  pub body : List ℕ
+  pub plain : HasNoLineFeed body
+  pub same : line ≡ body ++ codes "\n"

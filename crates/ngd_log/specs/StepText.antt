@@ -71,3 +71,9 @@ pub record IsWritable (step : Step) : Type 0 where
   pub in_range : IsInRange step
   pub rising : IsRising step.nogood
   pub values : AllByRecursion (λ (y : Pair). FitsSigned w64 y.value) step.nogood
+
+-- the line is that of this step, which has this number
+pub record IsStepLine (number : ℕ) (line : List ℕ) (step : Step) : Type 0 where
+  pub numbered : IsStepNumber number
+  pub writable : IsWritable step
+  pub same : line ≡ step_line number step
