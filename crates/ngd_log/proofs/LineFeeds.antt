@@ -1,5 +1,5 @@
 -- The lines of a text.
-use Rattle.std.proofs.Common.{◌≡◌, ℕ, zero, suc, ◌+◌, ◌<◌, ◌≤◌, ◌^◌, Bool, true, false, cond, eqb, List, [], ◌∷◌, ◌++◌, length, Option, Some, None, ℤ, pos, negsuc, FitsSigned, inl, inr, refl, sym, ap, subst, ◌∙◌, append_assoc, arith}
+use Rattle.std.proofs.Common.{◌≡◌, ℕ, zero, suc, ◌+◌, ◌<◌, ◌≤◌, ◌^◌, Bool, true, false, cond, eqb, List, [], ◌∷◌, ◌++◌, length, take, drop, get_or, Option, Some, None, ℤ, pos, negsuc, FitsSigned, inl, inr, refl, sym, ap, subst, ◌∙◌, append_assoc, arith}
 use Rattle.std.specs.Prelude.{codes, decimal, flat_map}
 use Rattle.std.specs.Int.{w64}
 use Rattle.std.specs.List.{AllByRecursion, concat}
@@ -7,7 +7,7 @@ use Rattle.std.specs.Str.{all_ascii_digits}
 use Rattle.std.specs.Char.{is_ascii_digit}
 use Rattle.std.specs.Fmt.{signed_decimal}
 use Rattle.std.proofs.lemmas.Bool.{false≢true, eqb-true, ne_eqb}
-use Rattle.std.proofs.lemmas.List.{append-nil}
+use Rattle.std.proofs.lemmas.List.{take_more, take-append-drop}
 use Rattle.dcsp_defs.proofs.Lists.{and_left, and_right}
 use Rattle.dcsp_nogood.specs.declared.Pair.{Pair}
 use Rattle.dcsp_defs.specs.declared.Reason.{Reason}
@@ -136,3 +136,9 @@ line_has_feed line is h = in_body is.body (subst HasNoLineFeed is.same h)
     in_body : (body : List ℕ) → HasNoLineFeed (body ++ codes "\n") → ⊥
     in_body [] k = let e : true ≡ false = k.0 in cc
     in_body (b ∷ body) k = in_body body k.1
+
+-- a text up to its first line feed, and what follows it
+pub lines_split : (text : List ℕ) (at : ℕ) → at < length text → get_or text at 0 ≡ 10 → HasNoLineFeed (take at text) → lines text ≡ take (at + 1) text ∷ lines (drop (at + 1) text)
+lines_split text at lt feed plain =
+    let front : take (at + 1) text ≡ take at text ++ codes "\n" = take_more text at 0 lt ∙ ap (λ (b : ℕ). take at text ++ b ∷ []) feed in
+    ap lines (sym (take-append-drop (at + 1) text)) ∙ lines_after (take (at + 1) text) (drop (at + 1) text) (record { body = take at text; plain = plain; same = front })

@@ -1,6 +1,6 @@
 -- A step that is read is the one whose line it is, and a step's line is read again.
-use Rattle.std.proofs.Common.{◌≡◌, ℕ, zero, suc, ◌+◌, ◌<◌, ◌≤◌, ◌^◌, Bool, true, false, cond, eqb, List, [], ◌∷◌, ◌++◌, length, Option, Some, None, FitsSigned, inl, inr, refl, sym, ap, subst, ◌∙◌, append_assoc, arith}
-use Rattle.std.specs.Prelude.{codes, decimal, IfSome, IfNone}
+use Rattle.std.proofs.Common.{◌≡◌, ℕ, zero, suc, ◌+◌, ◌<◌, ◌≤◌, ◌^◌, Bool, true, false, cond, eqb, List, [], ◌∷◌, ◌++◌, length, Option, Some, None, Result, Ok, Err, FitsSigned, inl, inr, refl, sym, ap, subst, ◌∙◌, append_assoc, arith}
+use Rattle.std.specs.Prelude.{codes, decimal, IfSome, IfNone, IfOk}
 use Rattle.std.specs.Int.{w64}
 use Rattle.std.specs.List.{AllByRecursion}
 use Rattle.std.proofs.lemmas.List.{append-nil}
@@ -11,7 +11,9 @@ use Rattle.dcsp_defs.specs.declared.Reason.{Reason}
 use Rattle.dcsp_defs.specs.declared.Reason.TheVariants.{Rule, Earlier}
 use Rattle.dcsp_defs.specs.declared.Step.{Step}
 use Rattle.ngd_log.specs.StepText.{pairs_text, reasons_text, variable_text, step_line, IsVariable, IsStepNumber, IsReasonInRange, IsRuleAlone, IsInRange, IsWritable, IsStepLine}
-use Rattle.ngd_log.specs.Reading.{◌>>=◌, after, begins_with_digit, counted_at, step_number_at, pairs_at, reasons_at, nogood_of, is_line_feed, variable_step, rule_step, form_at, step_of}
+use Rattle.ngd_log.specs.declared.reader.LineError.{LineError}
+use Rattle.ngd_log.specs.declared.reader.LineError.TheVariants.{Bad, Memory}
+use Rattle.ngd_log.specs.Reading.{◌>>=◌, Gives, after, begins_with_digit, counted_at, step_number_at, pairs_at, reasons_at, nogood_of, is_line_feed, variable_step, rule_step, form_at, step_of}
 use Rattle.ngd_log.proofs.Chosen.{chosen, passed, bind_then, some_is}
 use Rattle.ngd_log.proofs.After.{after_takes, after_again}
 use Rattle.ngd_log.proofs.Each.{each_gives, each_both}
@@ -157,3 +159,13 @@ step_none number line step none is =
 pub one_step : (number : ℕ) (a b : Step) → IsStepNumber number → IsWritable a → IsWritable b → step_line number a ≡ step_line number b → a ≡ b
 one_step number a b numbered wa wb e =
     some_is a b (sym (step_again number a numbered wa) ∙ ap (step_of number) e ∙ step_again number b numbered wb)
+
+-- what a reader of a line gives
+pub gives_step : (number : ℕ) (line : List ℕ) (r : Result Step LineError) → Gives (λ x. x) r (step_of number line) → IfOk r (λ step. IsStepLine number line step)
+gives_step number line (Ok s) h = step_takes number line s h
+gives_step number line (Err e) h = tt
+
+pub gives_none : (number : ℕ) (line : List ℕ) (r : Result Step LineError) → Gives (λ x. x) r (step_of number line) → r ≡ Err Bad → (step : Step) → IsStepLine number line step → ⊥
+gives_none number line (Ok s) h e = absurd cc
+gives_none number line (Err Bad) h e = λ step is. step_none number line step h is
+gives_none number line (Err Memory) h e = absurd cc

@@ -1,7 +1,9 @@
 -- Logs: the text of a derivation, and the first bad line of any other text.
-use Rattle.std.specs.Prelude.{◌≡◌, ℕ, ◌+◌, ◌-◌, ◌^◌, ◌<◌, ◌≤◌, ◌⊎◌, Bool, false, List, [], ◌∷◌, ◌++◌, length, take, codes, ◌==◌, if◌then◌else◌}
+use Rattle.std.specs.Prelude.{◌≡◌, ℕ, ◌+◌, ◌-◌, ◌^◌, ◌<◌, ◌≤◌, ◌⊎◌, Bool, false, List, [], ◌∷◌, ◌++◌, length, take, codes, ◌==◌, if◌then◌else◌, Result, Err}
 use Rattle.std.specs.List.{AllByRecursion, concat}
 use Rattle.dcsp_defs.specs.declared.Step.{Step}
+use Rattle.ngd_log.specs.declared.log.LogError.{LogError}
+use Rattle.ngd_log.specs.declared.log.LogError.TheVariants.{Line, Memory}
 use Rattle.ngd_log.specs.StepText.{step_line, IsWritable}
 
 -- the lines of the steps, the first of which has this number
@@ -82,3 +84,12 @@ pub record IsLine (line : List ℕ) : Type 0 where
   pub body : List ℕ
   pub plain : HasNoLineFeed body
   pub same : line ≡ body ++ codes "\n"
+
+-- a result that can only differ from this one by want of memory
+abbrev pub IsUnlessMemory : Result (List Step) LogError → Result (List Step) LogError → Type 0
+IsUnlessMemory wanted result = (result ≡ wanted) ⊎ (result ≡ Err Memory)
+
+-- why reading the text gave this error: its first bad line, or want of memory
+abbrev pub IsCause : List ℕ → LogError → Type 0
+IsCause text (Line number) = IsFirstBad text number
+IsCause text Memory = Unit {0}

@@ -8,10 +8,12 @@
 #![tactic(auto)]
 
 mod derivation;
+mod log;
 mod reader;
 mod writer;
 
 pub use dcsp_defs::{Reason, ReasonList, Step};
 pub use dcsp_list::Memory;
 pub use derivation::Derivation;
+pub use log::{LogError, log_or_bad_line, logs_differ, read_log};
 pub use writer::{HEAD, TAIL, write_step};

@@ -1,6 +1,8 @@
 //! Reading a line of a log.
-ghost use Rattle.std.specs.Prelude.{◌≡◌, ℕ, ◌+◌, ◌<◌, ◌≤◌, length, IfSome};
+ghost use Rattle.std.specs.Prelude.{◌≡◌, ℕ, ◌+◌, ◌<◌, ◌≤◌, length, IfSome, IfOk, IsErrOf};
 ghost use Rattle.ngd_log.specs.declared.reader.LineError.TheVariants.{Memory as OutOfMemory};
+ghost use Rattle.dcsp_defs.specs.declared.Step.{Step as DerivationStep};
+ghost use Rattle.ngd_log.specs.StepText.{IsStepLine};
 ghost use Rattle.ngd_log.specs.Reading.{Reads, Gives, after, digits_at, number_at, integer_at, counted_at, step_number_at, pair_at, reason_at, pairs_from, pairs_at, reasons_at, nogood_of, is_line_feed, variable_step, rule_step, step_of};
 
 use dcsp_defs::{Reason, ReasonList, Step};
@@ -273,6 +275,14 @@ fn rule_step(alloc: Global, bytes: &[u8]) -> Result<Step, LineError>
         nogood,
         reasons,
     })
+}
+
+/// The step of a whole line with its line feed, where it has this number.
+pub fn read_step(alloc: Global, number: u64, line: &[u8]) -> Result<Step, LineError>
+    ensures step { IfOk result (λ step. IsStepLine number line.now step) }
+    ensures bad { IsErrOf result LineError.Bad → (step : DerivationStep) → IsStepLine number line.now step → ⊥ }
+{
+    step_of(alloc, number, line)
 }
 
 /// The step of a whole line, which has this number.
