@@ -1,0 +1,15 @@
+use Rattle.std.proofs.Common.{◌≡◌, ◌+◌, ◌-◌, ◌≤◌, [], ◌∷◌, length}
+use Rattle.std.specs.Prelude.{codes}
+use Rattle.ngd_log.specs.Reading.{items_at, pair_at, pairs_from}
+use Rattle.ngd_log.proofs.Items.{with_front}
+use Rattle.ngd_log.proofs.reader.pairs_from.Given as goal
+
+-- the pairs so far and those of the rest are those of all the bytes
+abbrev pub invariant-loop-next : goal.invariant-loop-next
+invariant-loop-next l = record {
+  same : with_front l.pairs.items (items_at (codes ",") pair_at (length l.bytes + 1 - length l.pairs.items) l.rest) ≡ pairs_from l.fn.first l.bytes;
+  room : length l.pairs.items + length l.rest ≤ length l.bytes + 1;
+}
+
+abbrev pub decreases-loop-next : goal.decreases-loop-next
+decreases-loop-next l = length l.rest

@@ -1,0 +1,14 @@
+use Rattle.std.proofs.Common.{◌≡◌, ◌++◌, take, FitsSigned}
+use Rattle.std.specs.Prelude.{codes, flat_map}
+use Rattle.std.specs.Int.{w64}
+use Rattle.std.specs.List.{AllByRecursion}
+use Rattle.dcsp_nogood.specs.declared.Pair.{Pair}
+use Rattle.ngd_log.specs.StepText.{pair_text}
+use Rattle.ngd_log.proofs.writer.push_pairs.Given as goal
+
+-- the pairs so far are written, each after a comma
+abbrev pub invariant-loop-pair : goal.invariant-loop-pair
+invariant-loop-pair l = record {
+  text : l.line.items ≡ l.initial.line.items ++ flat_map (λ (z : Pair). codes "," ++ pair_text z) (take l.pair-index l.others);
+  values : AllByRecursion (λ (z : Pair). FitsSigned w64 z.value) (take l.pair-index l.others);
+}

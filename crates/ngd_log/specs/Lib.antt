@@ -1,0 +1,3 @@
+pub mod StepText
+pub mod Logs
+pub mod Reading

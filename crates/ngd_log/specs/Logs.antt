@@ -1,0 +1,95 @@
+-- Logs: the text of a derivation, and the first bad line of any other text.
+use Rattle.std.specs.Prelude.{◌≡◌, ℕ, ◌+◌, ◌-◌, ◌^◌, ◌<◌, ◌≤◌, ◌⊎◌, Bool, false, List, [], ◌∷◌, ◌++◌, length, take, codes, ◌==◌, if◌then◌else◌, Result, Err}
+use Rattle.std.specs.List.{AllByRecursion, concat}
+use Rattle.dcsp_defs.specs.declared.Step.{Step}
+use Rattle.ngd_log.specs.declared.log.LogError.{LogError}
+use Rattle.ngd_log.specs.declared.log.LogError.TheVariants.{Line, Memory}
+use Rattle.ngd_log.specs.StepText.{step_line, IsWritable}
+
+-- the lines of the steps, the first of which has this number
+abbrev pub step_lines : ℕ → List Step → List (List ℕ)
+step_lines number [] = []
+step_lines number (step ∷ steps) = step_line number step ∷ step_lines (number + 1) steps
+
+-- the lines of the derivation's log, each with its line feed
+abbrev pub log_lines : List Step → List (List ℕ)
+log_lines steps = codes "ngd 1\n" ∷ step_lines 1 steps ++ codes "end\n" ∷ []
+
+-- the text of the derivation's log
+abbrev pub log_text : List Step → List ℕ
+log_text steps = concat (log_lines steps)
+
+-- the derivation has a log: its steps and their numbers are in range
+pub record AreWritable (steps : List Step) : Type 0 where
+  pub count : length steps ≤ 2 ^ 62
+  pub each : AllByRecursion IsWritable steps
+
+-- the text is the log of the derivation
+pub record IsLogOf (text : List ℕ) (steps : List Step) : Type 0 where
+  pub writable : AreWritable steps
+  pub same : text ≡ log_text steps
+
+-- the byte before the first of the lines
+abbrev pub with_byte : ℕ → List (List ℕ) → List (List ℕ)
+with_byte b [] = (b ∷ []) ∷ []
+with_byte b (line ∷ others) = (b ∷ line) ∷ others
+
+-- the lines of a text, each with its line feed; what stands after the last line feed is a line where it is not empty
+abbrev pub lines : List ℕ → List (List ℕ)
+lines [] = []
+lines (b ∷ text) = if b == 10 then (b ∷ []) ∷ lines text else with_byte b (lines text)
+
+-- some derivation's log begins with these lines
+abbrev pub BeginLog : List (List ℕ) → Type 0
+BeginLog front = (steps : List Step) × AreWritable steps × (others : List (List ℕ)) × (log_lines steps ≡ front ++ others)
+
+-- the text is no derivation's log
+abbrev pub IsNoLog : List ℕ → Type 0
+IsNoLog text = (steps : List Step) → IsLogOf text steps → ⊥
+
+-- the line with this number, counted from 1, is there, and no log begins with the lines up to it
+pub record IsWrong (text : List ℕ) (number : ℕ) : Type 0 where
+  pub there : number ≤ length (lines text)
+  pub wrong : BeginLog (take number (lines text)) → ⊥
+
+-- the text stops before the line with this number, and is no log
+pub record IsMissing (text : List ℕ) (number : ℕ) : Type 0 where
+  pub after_last : number ≡ length (lines text) + 1
+  pub no_log : IsNoLog text
+
+-- the first bad line, counted from 1: a log begins with the lines before it, and it is wrong or missing
+pub record IsFirstBad (text : List ℕ) (number : ℕ) : Type 0 where
+  pub positive : 0 < number
+  pub before : BeginLog (take (number - 1) (lines text))
+  pub bad : IsWrong text number ⊎ IsMissing text number
+
+-- Each text is the log of one derivation, or has one first bad line.
+pub record LogOrBadLine (text : List ℕ) : Type 0 where
+  pub some : ((steps : List Step) × IsLogOf text steps) ⊎ ((number : ℕ) × IsFirstBad text number)
+  pub one_log : (a b : List Step) → IsLogOf text a → IsLogOf text b → a ≡ b
+  pub one_line : (m n : ℕ) → IsFirstBad text m → IsFirstBad text n → m ≡ n
+  pub not_both : (steps : List Step) (number : ℕ) → IsLogOf text steps → IsFirstBad text number → ⊥
+
+-- Different derivations have different logs, and no log begins another.
+abbrev pub LogsDiffer : Type 0
+LogsDiffer = (a b : List Step) (more : List ℕ) → AreWritable a → AreWritable b
+    → log_text a ++ more ≡ log_text b → (a ≡ b) × (more ≡ [])
+
+-- no line feed is among the bytes
+abbrev pub HasNoLineFeed : List ℕ → Type 0
+HasNoLineFeed bytes = AllByRecursion (λ b. (b == 10) ≡ false) bytes
+
+-- one line feed, at the end
+pub record IsLine (line : List ℕ) : Type 0 where
+  pub body : List ℕ
+  pub plain : HasNoLineFeed body
+  pub same : line ≡ body ++ codes "\n"
+
+-- a result that can only differ from this one by want of memory
+abbrev pub IsUnlessMemory : Result (List Step) LogError → Result (List Step) LogError → Type 0
+IsUnlessMemory wanted result = (result ≡ wanted) ⊎ (result ≡ Err Memory)
+
+-- why reading the text gave this error: its first bad line, or want of memory
+abbrev pub IsCause : List ℕ → LogError → Type 0
+IsCause text (Line number) = IsFirstBad text number
+IsCause text Memory = Unit {0}

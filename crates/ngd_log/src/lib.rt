@@ -1,0 +1,19 @@
+//! Derivations and their logs.
+//!
+//! A log is a text of lines, each ended by one line feed: `ngd 1`, a line for each step of a
+//! derivation in order, and `end`. Numbers are decimal, without leading zeros and without `-0`.
+//! A step's line is `K vX [vA=N,vB=N] <- R R`: its number from 1, its variable counted from 1, the
+//! pairs of its nogood, and its reasons, `cN` for the rule with number N from 1 and `nN` for an
+//! earlier step. A step without a variable has the line `K - [] <- cN`.
+#![tactic(auto)]
+
+mod derivation;
+mod log;
+mod reader;
+mod writer;
+
+pub use dcsp_defs::{Reason, ReasonList, Step};
+pub use dcsp_list::Memory;
+pub use derivation::Derivation;
+pub use log::{LogError, log_or_bad_line, logs_differ, read_log};
+pub use writer::{HEAD, TAIL, write_step};
