@@ -1,5 +1,8 @@
 //! The streams that the program answers on.
 
+ghost use Rattle.std.specs.Bool.{OnTrue};
+ghost use Rattle.std.specs.Io.KnownBytes.{Appends};
+
 use crate::transfer::write_whole;
 use dcsp_outside::{Sink, SinkError};
 use std::io::{Stderr, Stdout, Write};
@@ -51,7 +54,9 @@ impl Sink for RealSink {
 }
 
 /// Writes and flushes all bytes, and tells whether that went through.
-fn put_on<W: Write>(stream: &mut W, bytes: &[u8]) -> bool {
+fn put_on<W: Write>(stream: &mut W, bytes: &[u8]) -> bool
+    ensures { OnTrue result (Appends (W.contents stream.old) (W.contents stream.new) bytes.now) }
+{
     write_whole(stream, bytes) && stream.flush().is_ok()
 }
 
