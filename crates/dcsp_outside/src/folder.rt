@@ -50,7 +50,8 @@ pub trait Folder {
         ensures created { created self.new ≡ created self.old }
         ensures reads { NoneFalls (reads self.old) (reads self.new) }
         ensures writes { NoneFalls (writes self.old) (writes self.new) }
-        ensures cause { IsErrOf result FolderError.Failed → Rose (reads self.old name.now) (reads self.new name.now) };
+        ensures cause { IsErrOf result FolderError.Failed
+            → Rose (reads self.old name.now) (reads self.new name.now) };
 
     /// Makes the name held with no bytes, also where it was held before.
     ///
@@ -65,7 +66,8 @@ pub trait Folder {
             ≡ (if is_ok result then created self.old ++ name.now ∷ [] else created self.old) }
         ensures reads { NoneFalls (reads self.old) (reads self.new) }
         ensures writes { NoneFalls (writes self.old) (writes self.new) }
-        ensures cause { IsErrOf result FolderError.Failed → Rose (writes self.old name.now) (writes self.new name.now) };
+        ensures cause { IsErrOf result FolderError.Failed
+            → Rose (writes self.old name.now) (writes self.new name.now) };
 
     /// Adds the bytes at the end of the name, which was created before.
     ///
@@ -80,5 +82,6 @@ pub trait Folder {
         ensures created { created self.new ≡ created self.old }
         ensures reads { NoneFalls (reads self.old) (reads self.new) }
         ensures writes { NoneFalls (writes self.old) (writes self.new) }
-        ensures cause { IsErrOf result FolderError.Failed → Rose (writes self.old name.now) (writes self.new name.now) };
+        ensures cause { IsErrOf result FolderError.Failed
+            → Rose (writes self.old name.now) (writes self.new name.now) };
 }

@@ -96,7 +96,8 @@ impl Folder for MemoryFolder {
     ghost writes = { λ folder _. folder.calls.faults };
 
     fn fetch(&mut self, name: &str, most: u64, into: &mut Vec<u8>) -> Result<Fetched, FolderError>
-        ensures bytes { Fetches (bytes_of (map.get self.old.kept.files name.now)) most into.old.items into.new.items result }
+        ensures bytes { Fetches (bytes_of (map.get self.old.kept.files name.now)) most
+            into.old.items into.new.items result }
         ensures fails { IsErrOf result FolderError.Failed ↔ IsTrue (fails_fetch self.old name.now) }
         ensures calls { self.new.calls ≡ after_call self.old.calls (fails_fetch self.old name.now) }
         ensures never_falls { self.old.calls.faults ≤ self.new.calls.faults }

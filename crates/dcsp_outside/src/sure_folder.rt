@@ -68,7 +68,8 @@ impl Folder for SureFolder {
     ghost writes = { λ _ _. 0 };
 
     fn fetch(&mut self, name: &str, most: u64, into: &mut Vec<u8>) -> Result<Fetched, FolderError>
-        ensures bytes { Fetches (bytes_of (map.get self.old.files name.now)) most into.old.items into.new.items result }
+        ensures bytes { Fetches (bytes_of (map.get self.old.files name.now)) most
+            into.old.items into.new.items result }
         ensures never_fails { IsErrOf result FolderError.Failed → ⊥ }
         ensures kept { self.new ≡ self.old }
     {
