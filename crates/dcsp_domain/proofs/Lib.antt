@@ -1,0 +1,5 @@
+pub mod Rising
+pub mod SetLaws
+pub mod RangeLaws
+pub mod Searches
+pub mod Domains

@@ -1,0 +1,218 @@
+//! Domains: the finite sets of 64-bit numbers that variables range over.
+#![tactic(auto)]
+
+ghost use Rattle.std.specs.Prelude.{◌≡◌, ◌==◌, ◌<◌, ◌≤◌, ◌↔◌, ◌^◌, ℕ, ℤ, pos, ◌+ℤ◌, ◌<ℤ◌, ◌≤ℤ◌, List, length, true, OnOk, IfOk, IfErr, IfSome, Some, is_some, slice_get, slice_index_or};
+ghost use Rattle.dcsp_domain.specs.Sets.{IsRising, IsSetOf, set_of, has};
+ghost use Rattle.dcsp_domain.specs.Ranges.{count_between, numbers_from, numbers_between};
+ghost use Rattle.dcsp_domain.specs.Refusals.{IsRefusalAt};
+
+use dcsp_list::ItemList;
+pub use dcsp_list::Memory;
+use std::alloc::{AllocError, AllocFailed, Global};
+use std::marker::Model;
+
+/// Numbers in a given order, repeats allowed.
+pub type IntList = ItemList<i64>;
+
+/// Ranges of numbers, each as its lowest and its highest number.
+pub type RangeList = ItemList<(i64, i64)>;
+
+/// The most values that one domain may have.
+pub const MOST_VALUES: usize = 65_536;
+
+/// Why there is no domain.
+#[derive(Clone, Copy, Debug, PartialEq, Eq)]
+pub enum DomainError {
+    /// There would be `size` values, which is more than `MOST_VALUES`.
+    Large { size: u128 },
+    /// Memory ran out.
+    Memory,
+}
+
+impl From<AllocError> for DomainError {
+    ghost use Rattle.std.specs.Prelude.{◌≡◌};
+    ghost use Rattle.dcsp_domain.specs.declared.DomainError.TheVariants.{Memory};
+
+    ghost from_gives = { λ _ e. e ≡ Memory };
+
+    fn from(_: AllocError) -> DomainError {
+        DomainError::Memory
+    }
+}
+
+impl<T: Drop> From<AllocFailed<T>> for DomainError {
+    ghost use Rattle.std.specs.Prelude.{◌≡◌};
+    ghost use Rattle.dcsp_domain.specs.declared.DomainError.TheVariants.{Memory};
+
+    ghost from_gives = { λ _ e. e ≡ Memory };
+
+    fn from(_: AllocFailed<T>) -> DomainError {
+        DomainError::Memory
+    }
+}
+
+/// The values of a variable: at most `MOST_VALUES` different numbers, in rising order.
+#[derive(Debug, Drop)]
+pub struct Domain {
+    values: Vec<i64>,
+}
+
+impl Model for Domain {
+    ghost use Rattle.std.specs.Prelude.{List, ℤ};
+    ghost use Rattle.dcsp_domain.specs.Sets.{IsDomain};
+
+    ghost Value = { List ℤ };
+
+    ghost view = { λ d. d.values.items };
+
+    ghost invariant = { λ d. IsDomain d.values.items };
+}
+
+impl Domain {
+    /// The numbers from `low` to `high`; none where `low` is above `high`.
+    ///
+    /// `Large` comes exactly where there are more than `MOST_VALUES` of them, and then at once.
+    pub fn range(alloc: Global, low: i64, high: i64) -> Result<Domain, DomainError>
+        ensures ok { IfOk result (λ d. d ≡ numbers_between low high) }
+        ensures fits { OnOk result (count_between low high ≤ MOST_VALUES) }
+        ensures large { MOST_VALUES < count_between low high → result ≡ Err (DomainError.Large (count_between low high)) }
+        ensures err { IfErr result (IsRefusalAt (count_between low high)) }
+    {
+        let size = count_between(low, high);
+        if size > MOST_VALUES as u128 {
+            return Err(DomainError::Large { size });
+        }
+        let values = numbers_from(alloc, low, size as usize)?;
+        Ok(Domain { values })
+    }
+
+    /// The distinct values among these, in rising order.
+    ///
+    /// `Large` comes exactly where there are more than `MOST_VALUES` distinct ones.
+    pub fn listed(alloc: Global, values: &[i64]) -> Result<Domain, DomainError>
+        ensures ok { IfOk result (λ d. d ≡ set_of values.now) }
+        ensures fits { OnOk result (length (set_of values.now) ≤ MOST_VALUES) }
+        ensures err { IfErr result (IsRefusalAt (length (set_of values.now))) }
+    {
+        let values = sorted_set(alloc, values)?;
+        let size = values.len();
+        if size > MOST_VALUES {
+            return Err(DomainError::Large { size: size as u128 });
+        }
+        Ok(Domain { values })
+    }
+
+    /// The number of values.
+    pub fn len(&self) -> usize
+        ensures len { result ≡ length self.now }
+        ensures rising { IsRising self.now }
+        ensures small { length self.now ≤ MOST_VALUES }
+    {
+        self.values.len()
+    }
+
+    /// Whether there is no value.
+    pub fn is_empty(&self) -> bool
+        ensures { result ≡ (length self.now == 0) }
+    {
+        self.values.is_empty()
+    }
+
+    /// The value at a place, from the lowest on.
+    pub fn value(&self, place: usize) -> i64
+        requires { place < length self.now }
+        ensures { slice_get self.now place ≡ Some result }
+    {
+        self.values[place]
+    }
+
+    /// The place of a value; `None` exactly if the domain does not have it.
+    pub fn place_of(&self, value: i64) -> Option<usize>
+        ensures found { IfSome result (λ place. slice_get self.now place ≡ Some value) }
+        ensures has { is_some result ≡ has self.now value }
+    {
+        self.values.binary_search(&value).ok()
+    }
+}
+
+/// How many numbers there are from `low` to `high`.
+fn count_between(low: i64, high: i64) -> u128
+    ensures { result ≡ count_between low high }
+{
+    if low > high {
+        return 0;
+    }
+    u128::from(high.abs_diff(low)) + 1
+}
+
+/// The first `count` numbers from `low` on.
+fn numbers_from(alloc: Global, low: i64, count: usize) -> Result<Vec<i64>, AllocError>
+    requires few { count ≤ MOST_VALUES }
+    requires fit { (k : ℕ) → k < count → (low +ℤ pos k) <ℤ pos (2 ^ 63) }
+    ensures { IfOk result (λ v. v.items ≡ numbers_from low count) }
+{
+    let mut values = Vec::with_capacity(alloc, count)?;
+    for place in 0..count {
+        values.push(low + place as i64)?;
+    }
+    Ok(values)
+}
+
+/// The distinct values among these, in rising order.
+fn sorted_set(alloc: Global, values: &[i64]) -> Result<Vec<i64>, AllocError>
+    ensures { IfOk result (λ v. v.items ≡ set_of values.now) }
+{
+    let mut values = Vec::from_slice(alloc, values)?;
+    values.sort_unstable();
+    values.dedup();
+    Ok(values)
+}
+
+/// The set of some values rises and has just these values, and it is the only such list.
+pub fn sets_are_determined()
+    ensures is_set { (values : List ℤ) → IsSetOf values (set_of values) }
+    ensures only_one { (values xs ys : List ℤ) → IsSetOf values xs → IsSetOf values ys → xs ≡ ys }
+{}
+
+/// The numbers from `low` to `high` rise, are as many as is said, and are just those that are neither below
+/// `low` nor above `high`.
+pub fn ranges_are_sets()
+    ensures rising { (low high : ℤ) → IsRising (numbers_between low high) }
+    ensures length { (low high : ℤ) → length (numbers_between low high) ≡ count_between low high }
+    ensures members { (low high value : ℤ) → (has (numbers_between low high) value ≡ true) ↔ ((low ≤ℤ value) × (value ≤ℤ high)) }
+{}
+
+#[cfg(test)]
+mod tests {
+    use super::*;
+    use std::test::Fail;
+
+    #[test]
+    fn lists_a_set(rt: HostRuntime) -> Result<(), Fail> {
+        let domain = Domain::listed(rt.alloc(), &[5, 1, 3, 1])?;
+        assert_eq!(rt; domain.len(), 3);
+        assert_eq!(rt;
+            [domain.value(0), domain.value(1), domain.value(2)],
+            [1, 3, 5]
+        );
+        assert_eq!(rt; domain.place_of(3), Some(1));
+        assert_eq!(rt; domain.place_of(2), None);
+        assert!(rt; !domain.is_empty());
+        Ok(())
+    }
+
+    #[test]
+    fn makes_a_range(rt: HostRuntime) -> Result<(), Fail> {
+        let domain = Domain::range(rt.alloc(), -2, 0)?;
+        assert_eq!(rt; domain.len(), 3);
+        assert_eq!(rt;
+            [domain.value(0), domain.value(1), domain.value(2)],
+            [-2, -1, 0]
+        );
+        let Err(refusal) = Domain::range(rt.alloc(), 0, 65_536) else {
+            return Err(Fail::from("a domain of 65,537 values"));
+        };
+        assert_eq!(rt; refusal, DomainError::Large { size: 65_537 });
+        Ok(())
+    }
+}

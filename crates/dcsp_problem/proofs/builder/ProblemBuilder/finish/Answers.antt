@@ -1,0 +1,37 @@
+use Rattle.std.proofs.Common.{◌≡◌, ℕ, List, map, arith, ap, length, ◌∙◌, sym, subst}
+use Rattle.std.specs.Prelude.{All}
+use Rattle.dcsp_defs.specs.Words.{below}
+use Rattle.dcsp_problem.specs.declared.rule.Rule.{Rule}
+use Rattle.dcsp_problem.specs.Rules.{IsRuleOf, scope_of}
+use Rattle.dcsp_problem.specs.Problems.{Contents}
+use Rattle.dcsp_problem.specs.Owners.{owned_among}
+use Rattle.dcsp_problem.proofs.OwnerLists.{owned_lists_are}
+use Rattle.dcsp_problem.proofs.Reading.{scopes_few, scopes_inside}
+use Rattle.dcsp_problem.proofs.builder.ProblemBuilder.finish.Goals as goal
+
+-- the scopes that were made
+made_scopes : (variables : ℕ) (given rules : List Rule) (scopes : List (List ℕ)) → given ≡ rules → ((n : ℕ) → All (IsRuleOf n) given → scopes ≡ map (scope_of n) given) → All (IsRuleOf variables) rules → scopes ≡ map (scope_of variables) rules
+made_scopes variables given rules scopes same made all =
+    made variables (subst (λ (z : List Rule). All (IsRuleOf variables) z) (sym same) all) ∙ ap (λ (z : List Rule). map (scope_of variables) z) same
+
+pub owned_lists-requires-clause-few : goal.owned_lists-requires-clause-few
+owned_lists-requires-clause-few c =
+    let p : Contents = record { domains = c.self.inside.domains.items; rules = c.self.inside.rules.items } in
+    let is = made_scopes (length p.domains) c.deref.result.now p.rules c.in_ok-scopes.scopes.items c.deref.ensures.value c.in_ok-scopes.ensures c.self.invariant.problem.rules in
+    rw (c.deref-2.ensures.value, is) (scopes_few p c.self.invariant.problem)
+
+pub owned_lists-requires-clause-inside : goal.owned_lists-requires-clause-inside
+owned_lists-requires-clause-inside c =
+    let p : Contents = record { domains = c.self.inside.domains.items; rules = c.self.inside.rules.items } in
+    let is = made_scopes (length p.domains) c.deref.result.now p.rules c.in_ok-scopes.scopes.items c.deref.ensures.value c.in_ok-scopes.ensures c.self.invariant.problem.rules in
+    let many : c.len.result ≡ length p.domains = omega arith in
+    rw (c.deref-2.ensures.value, is, many) (scopes_inside (length p.domains) p.rules)
+
+pub from_parts-requires : goal.from_parts-requires
+from_parts-requires c =
+    let p : Contents = record { domains = c.self.inside.domains.items; rules = c.self.inside.rules.items } in
+    let is = made_scopes (length p.domains) c.deref.result.now p.rules c.in_ok-scopes.scopes.items c.deref.ensures.value c.in_ok-scopes.ensures c.self.invariant.problem.rules in
+    let many : c.len.result ≡ length p.domains = omega arith in
+    let made : c.in_ok-owned.owned.items ≡ map (owned_among c.in_ok-scopes.scopes.items) (below (length p.domains)) =
+    c.in_ok-owned.ensures ∙ ap (λ (z : List (List ℕ)). map (owned_among z) (below c.len.result)) c.deref-2.ensures.value ∙ ap (λ (z : ℕ). map (owned_among c.in_ok-scopes.scopes.items) (below z)) many in
+    record { problem = c.self.invariant.problem; each_scope = is; each_owned = owned_lists_are p c.in_ok-scopes.scopes.items c.in_ok-owned.owned.items is made }

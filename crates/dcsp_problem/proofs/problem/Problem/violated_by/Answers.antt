@@ -1,0 +1,30 @@
+use Rattle.std.proofs.Common.{◌≡◌, true, false, arith, rules, ap, length, sym, ◌∙◌}
+use Rattle.std.specs.Prelude.{not}
+use Rattle.dcsp_defs.specs.Csp.{filled}
+use Rattle.dcsp_problem.specs.Rules.{rule_truth}
+use Rattle.dcsp_problem.specs.Problems.{Contents, rule_at, csp_of, constraint_at}
+use Rattle.dcsp_problem.proofs.Reading.{rule_is}
+use Rattle.dcsp_problem.proofs.Violations.{violated_same, violated_by_known, violated_by_unknown}
+use Rattle.dcsp_problem.proofs.problem.Problem.violated_by.Goals as goal
+
+pub returns-then-not-knows_scope-clause-known : goal.returns-then-not-knows_scope-clause-known
+returns-then-not-knows_scope-clause-known g c = λ all.
+    let p = csp_of c.args.self.now in
+    let known = g.L.Lookup.values c.args.lookup.now in
+    let constraint = constraint_at c.args.self.now c.args.rule in
+    let none : c.knows_scope.result ≡ false = search rules in
+    sym (violated_by_unknown p known constraint (sym c.knows_scope.ensures.known ∙ none)) ∙ violated_same p known constraint c.knows_scope.ensures.constraint all
+
+pub returns-clause-in_domains : goal.returns-clause-in_domains
+returns-clause-in_domains g c =
+    let known = g.L.Lookup.values c.args.lookup.now in
+    let here : Contents = record { domains = c.self.inside.domains.items; rules = c.self.inside.rules.items } in
+    let same = ap (λ z. length z.rules) c.self.view_is in
+    let is = rule_is here c.args.rule c.index-rule.result.now (omega (arith, c.requires)) c.index-rule.ensures ∙ ap (λ z. rule_at z c.args.rule) c.self.view_is in
+    let every : c.knows_scope.result ≡ true = search rules in
+    ap not (c.is_true_under.ensures ∙ ap (λ z. rule_truth z (filled known)) is)
+    ∙ sym (violated_by_known (csp_of c.args.self.now) known (constraint_at c.args.self.now c.args.rule) c.knows_scope.ensures.constraint (sym c.knows_scope.ensures.known ∙ every))
+
+pub returns-clause-known : goal.returns-clause-known
+returns-clause-known g c = λ all.
+    returns-clause-in_domains g c ∙ violated_same (csp_of c.args.self.now) (g.L.Lookup.values c.args.lookup.now) (constraint_at c.args.self.now c.args.rule) c.knows_scope.ensures.constraint all

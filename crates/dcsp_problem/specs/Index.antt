@@ -1,0 +1,23 @@
+-- What is kept beside a problem's contents.
+use Rattle.std.specs.Prelude.{◌≡◌, ℕ, List, map, length}
+use Rattle.dcsp_defs.specs.Words.{below}
+use Rattle.dcsp_defs.specs.Csp.{Constraint, owned}
+use Rattle.dcsp_problem.specs.Rules.{scope_of}
+use Rattle.dcsp_problem.specs.Problems.{Contents, csp_of, value_count, term_count}
+use Rattle.dcsp_problem.specs.Limits.{IsProblem}
+
+-- the numbers of the rules that the variable owns, in order
+abbrev pub owned_rules : Contents → ℕ → List ℕ
+owned_rules p var = map (λ (x : ℕ × Constraint). x.0) (owned (csp_of p) var)
+
+-- beside a problem's contents stand the scope of each rule, and the rules that each variable owns
+pub record IsIndexed (p : Contents) (scopes by_owner : List (List ℕ)) : Type 0 where
+  pub problem : IsProblem p
+  pub each_scope : scopes ≡ map (scope_of (length p.domains)) p.rules
+  pub each_owned : by_owner ≡ map (owned_rules p) (below (length p.domains))
+
+-- beside the contents so far stand the numbers of all values and of all terms
+pub record IsTallied (p : Contents) (values terms : ℕ) : Type 0 where
+  pub problem : IsProblem p
+  pub all_values : values ≡ value_count p
+  pub all_terms : terms ≡ term_count p

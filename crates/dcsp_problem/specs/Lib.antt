@@ -1,0 +1,5 @@
+pub mod Rules
+pub mod Problems
+pub mod Limits
+pub mod Index
+pub mod Owners

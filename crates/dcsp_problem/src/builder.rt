@@ -1,0 +1,121 @@
+//! Problems as they are built.
+
+ghost use Rattle.std.specs.Prelude.{◌≡◌, ◌≤◌, ◌<◌, ◌+◌, ◌++◌, ◌∷◌, [], length, All, IsTrue, IfOk, OnOk, OnErr, MatchOption, Ok, Err};
+ghost use Rattle.dcsp_problem.specs.Rules.{IsTermOf, terms_of, size_of, has_shape};
+ghost use Rattle.dcsp_problem.specs.Limits.{first_past, variable_counts, list_counts, rule_counts, KeepsLimits};
+
+use crate::index::{owned_lists, scope_lists};
+use crate::limits::{BuildError, Which, within};
+use crate::problem::Problem;
+use crate::rule::Rule;
+use dcsp_domain::Domain;
+use dcsp_list::Memory;
+use std::alloc::Global;
+use std::marker::Model;
+
+/// A problem that variables and rules are still added to.
+#[derive(Debug, Drop)]
+pub struct ProblemBuilder {
+    alloc: Global,
+    domains: Vec<Domain>,
+    rules: Vec<Rule>,
+    /// The number of values over all domains.
+    values: usize,
+    /// The number of terms over all rules.
+    terms: usize,
+}
+
+impl Model for ProblemBuilder {
+    ghost use Rattle.dcsp_problem.specs.Problems.{Contents};
+    ghost use Rattle.dcsp_problem.specs.Index.{IsTallied};
+
+    ghost Value = { Contents };
+
+    ghost view = { λ b. record { domains = b.domains.items; rules = b.rules.items } };
+
+    ghost invariant = { λ b. IsTallied (record { domains = b.domains.items; rules = b.rules.items }) b.values b.terms };
+}
+
+impl ProblemBuilder {
+    /// A problem without variables and rules.
+    pub fn new(alloc: Global) -> ProblemBuilder
+        ensures domains { result.domains ≡ [] }
+        ensures rules { result.rules ≡ [] }
+    {
+        ProblemBuilder {
+            alloc,
+            domains: Vec::new(alloc),
+            rules: Vec::new(alloc),
+            values: 0,
+            terms: 0,
+        }
+    }
+
+    /// Adds a variable with this domain, and gives its number.
+    ///
+    /// `Limit` comes exactly where `Variables`, tried first, or `DomainValues` would pass its greatest number.
+    pub fn add_var(&mut self, domain: Domain) -> Result<u32, BuildError>
+        ensures number { IfOk result (λ number. number ≡ length self.old.domains) }
+        ensures added { OnOk result (self.new ≡ record self.old { domains = self.old.domains ++ domain ∷ [] }) }
+        ensures limits { KeepsLimits (first_past (variable_counts self.old domain)) result }
+        ensures err { OnErr result (self.new ≡ self.old) }
+    {
+        let number = self.domains.len();
+        within(Which::Variables, number + 1)?;
+        let values = self.values + domain.len();
+        within(Which::DomainValues, values)?;
+        self.domains.push(domain)?;
+        self.values = values;
+        Ok(number as u32)
+    }
+
+    /// Adds a rule over the variables that were added before, and gives its number.
+    ///
+    /// `Limit` comes exactly where `Elements` (of one list, the lists from left to right), `Rules` or `Terms`
+    /// would pass its greatest number, tried in this order.
+    pub fn add_rule(&mut self, rule: Rule) -> Result<u32, BuildError>
+        requires known { All (IsTermOf (length self.old.domains)) (terms_of rule) }
+        requires shape { IsTrue (has_shape rule) }
+        ensures number { IfOk result (λ number. number ≡ length self.old.rules) }
+        ensures added { OnOk result (self.new ≡ record self.old { rules = self.old.rules ++ rule ∷ [] }) }
+        ensures limits { KeepsLimits (first_past (rule_counts self.old rule)) result }
+        ensures err { OnErr result (self.new ≡ self.old) }
+    {
+        let number = self.rules.len();
+        let added = count_terms(&rule)?;
+        within(Which::Rules, number + 1)?;
+        let terms = self.terms + added;
+        within(Which::Terms, terms)?;
+        self.rules.push(rule)?;
+        self.terms = terms;
+        Ok(number as u32)
+    }
+
+    /// The problem. A refusal drops what was built.
+    pub fn finish(self) -> Result<Problem, Memory>
+        ensures { IfOk result (λ problem. problem ≡ self) }
+    {
+        let scopes = scope_lists(self.alloc, &self.rules)?;
+        let owned = owned_lists(self.alloc, &scopes, self.domains.len())?;
+        Ok(Problem::from_parts(self.domains, self.rules, scopes, owned))
+    }
+}
+
+/// The number of the rule's terms, unless one of its lists is too long.
+fn count_terms(rule: &Rule) -> Result<usize, BuildError>
+    ensures { MatchOption (first_past (list_counts rule.now)) (result ≡ Ok (size_of rule.now)) (λ past. result ≡ Err (BuildError.Limit past.0 past.1)) }
+{
+    match rule {
+        Rule::Plain {
+            scalars,
+            first,
+            second,
+            ..
+        } => {
+            within(Which::Elements, scalars.len())?;
+            within(Which::Elements, first.len())?;
+            within(Which::Elements, second.len())?;
+            Ok(scalars.len() + first.len() + second.len())
+        }
+    }
+}

@@ -1,0 +1,171 @@
+//! Problems as they stand once they are built.
+
+ghost use Rattle.std.specs.Prelude.{◌≡◌, ◌≤◌, ◌<◌, ℕ, ℤ, pos, List, length, All, Some, is_some, true, slice_get, slice_index_or};
+ghost use Rattle.std.specs.List.{list_all};
+ghost use Rattle.dcsp_domain.specs.Sets.{has};
+ghost use Rattle.dcsp_defs.specs.Csp.{domain, owner, is_violated, IsConstraint, IsCsp};
+ghost use Rattle.dcsp_problem.specs.Problems.{csp_of, constraint_at, within_domains, AreInDomains};
+ghost use Rattle.dcsp_problem.specs.Limits.{IsProblem};
+ghost use Rattle.dcsp_problem.specs.Index.{IsIndexed, owned_rules};
+
+use crate::ground::is_true_under;
+use crate::lookup::{Assigned, Lookup};
+use crate::rule::{NumberList, Rule};
+use dcsp_domain::Domain;
+use std::marker::Model;
+
+/// Variables with their domains, and rules over them.
+#[derive(Debug, Drop)]
+pub struct Problem {
+    domains: Vec<Domain>,
+    rules: Vec<Rule>,
+    /// The scope of each rule.
+    scopes: Vec<NumberList>,
+    /// The rules that each variable owns.
+    owned: Vec<NumberList>,
+}
+
+impl Model for Problem {
+    ghost use Rattle.dcsp_problem.specs.Problems.{Contents};
+    ghost use Rattle.dcsp_problem.specs.Index.{IsIndexed};
+
+    ghost Value = { Contents };
+
+    ghost view = { λ p. record { domains = p.domains.items; rules = p.rules.items } };
+
+    ghost invariant = { λ p. IsIndexed (record { domains = p.domains.items; rules = p.rules.items }) p.scopes.items p.owned.items };
+}
+
+impl Problem {
+    /// The problem of these domains and rules, with the scopes and the owned rules that belong to them.
+    pub(crate) fn from_parts(
+        domains: Vec<Domain>,
+        rules: Vec<Rule>,
+        scopes: Vec<NumberList>,
+        owned: Vec<NumberList>,
+    ) -> Problem
+        requires { IsIndexed (record { domains = domains.items; rules = rules.items }) scopes.items owned.items }
+        ensures domains { result.domains ≡ domains.items }
+        ensures rules { result.rules ≡ rules.items }
+    {
+        Problem {
+            domains,
+            rules,
+            scopes,
+            owned,
+        }
+    }
+
+    /// The number of variables.
+    ///
+    /// Every problem denotes a well-formed abstract problem, and keeps the limits.
+    pub fn vars(&self) -> u32
+        ensures vars { result ≡ length self.now.domains }
+        ensures csp { IsCsp (csp_of self.now) }
+        ensures problem { IsProblem self.now }
+    {
+        self.domains.len() as u32
+    }
+
+    /// The domain of a variable.
+    pub fn domain(&self, var: u32) -> &Domain
+        requires { var < length self.now.domains }
+        ensures { result.now ≡ domain (csp_of self.now) var }
+    {
+        &self.domains[var as usize]
+    }
+
+    /// The number of rules.
+    pub fn rules(&self) -> u32
+        ensures rules { result ≡ length self.now.rules }
+        ensures constraints { (number : ℕ) → number < length self.now.rules → slice_get (csp_of self.now).constraints number ≡ Some (constraint_at self.now number) }
+    {
+        self.rules.len() as u32
+    }
+
+    /// The rule with this number.
+    pub fn rule(&self, number: u32) -> &Rule
+        requires { number < length self.now.rules }
+        ensures { slice_get self.now.rules number ≡ Some result.now }
+    {
+        &self.rules[number as usize]
+    }
+
+    /// The variables among a rule's terms, strictly rising.
+    pub fn scope(&self, rule: u32) -> &[u32]
+        requires { rule < length self.now.rules }
+        ensures scope { result.now ≡ (constraint_at self.now rule).scope }
+        ensures inside { All (λ var. var < length self.now.domains) result.now }
+        ensures constraint { IsConstraint (csp_of self.now) (constraint_at self.now rule) }
+    {
+        self.scopes[rule as usize].items()
+    }
+
+    /// The last variable of a rule's scope; `None` exactly if the scope is empty.
+    pub fn owner(&self, rule: u32) -> Option<u32>
+        requires { rule < length self.now.rules }
+        ensures { result ≡ owner (constraint_at self.now rule) }
+    {
+        self.scope(rule).last().copied()
+    }
+
+    /// The rules that a variable owns, in order.
+    pub fn owned(&self, var: u32) -> &[u32]
+        requires { var < length self.now.domains }
+        ensures rules { result.now ≡ owned_rules self.now var }
+        ensures inside { All (λ rule. rule < length self.now.rules) (owned_rules self.now var) }
+    {
+        self.owned[var as usize].items()
+    }
+
+    /// Whether a rule holds where the variables have these values, in order.
+    pub fn rule_holds(&self, rule: u32, values: &[i64]) -> bool
+        requires in_range { rule < length self.now.rules }
+        requires as_many { length values.now ≡ length self.now.domains }
+        requires in_domains { (var : ℕ) → var < length self.now.domains → has (domain (csp_of self.now) var) (slice_index_or values.now var (pos 0)) ≡ true }
+        ensures { result ≡ (constraint_at self.now rule).test (λ var. slice_index_or values.now var (pos 0)) }
+    {
+        let rule = &self.rules[rule as usize];
+        is_true_under(rule, &Assigned { values })
+    }
+
+    /// Whether the look-up gives each variable of a rule's scope a value of that variable's domain, and the
+    /// rule is false under these values.
+    pub fn violated_by<L: Lookup>(&self, rule: u32, lookup: &L) -> bool
+        requires { rule < length self.now.rules }
+        ensures in_domains { result ≡ is_violated (within_domains (csp_of self.now) (L.values lookup.now)) (constraint_at self.now rule) }
+        ensures known { AreInDomains (csp_of self.now) (L.values lookup.now) → result ≡ is_violated (L.values lookup.now) (constraint_at self.now rule) }
+    {
+        if !self.knows_scope(rule, lookup) {
+            return false;
+        }
+        let rule = &self.rules[rule as usize];
+        !is_true_under(rule, lookup)
+    }
+
+    /// Whether the look-up gives each variable of a rule's scope a value of its domain.
+    fn knows_scope<L: Lookup>(&self, rule: u32, lookup: &L) -> bool
+        requires { rule < length self.now.rules }
+        ensures known { result ≡ list_all (λ var. is_some (within_domains (csp_of self.now) (L.values lookup.now) var)) (constraint_at self.now rule).scope }
+        ensures constraint { IsConstraint (csp_of self.now) (constraint_at self.now rule) }
+    {
+        let scope = self.scope(rule);
+        for var in scope {
+            if !self.knows(*var, lookup) {
+                return false;
+            }
+        }
+        true
+    }
+
+    /// Whether the look-up gives the variable a value of its domain.
+    fn knows<L: Lookup>(&self, var: u32, lookup: &L) -> bool
+        requires { var < length self.now.domains }
+        ensures { result ≡ is_some (within_domains (csp_of self.now) (L.values lookup.now) var) }
+    {
+        match lookup.value_of(var) {
+            None => false,
+            Some(value) => self.domain(var).place_of(value).is_some(),
+        }
+    }
+}
