@@ -42,7 +42,7 @@ no_feed_in_pair : (y : Pair) → IsPair y → HasNoLineFeed (pair_text y)
 no_feed_in_pair y i =
     let v = i.variable in
     both (codes "v" ++ decimal (y.var + 1) ++ codes "=") (signed_decimal y.value)
-      (both (codes "v" ++ decimal (y.var + 1)) (codes "=") (refl, no_feed_in_decimal (y.var + 1) (omega arith)) (refl, tt)) (no_feed_in_signed y.value i.value)
+    (both (codes "v" ++ decimal (y.var + 1)) (codes "=") (refl, no_feed_in_decimal (y.var + 1) (omega arith)) (refl, tt)) (no_feed_in_signed y.value i.value)
 
 no_feed_in_items : {X : Type 0} (c : ℕ) (text : X → List ℕ) (ok : X → Type 0) (xs : List X) → eqb c 10 ≡ false → ((x : X) → ok x → HasNoLineFeed (text x)) → AllByRecursion ok xs → HasNoLineFeed (flat_map (λ x. (c ∷ []) ++ text x) xs)
 no_feed_in_items c text ok [] e f h = tt
@@ -52,7 +52,7 @@ no_feed_in_pairs : (ys : List Pair) → AllByRecursion IsPair ys → HasNoLineFe
 no_feed_in_pairs [] h = (refl, (refl, tt))
 no_feed_in_pairs (y ∷ ys) h =
     both (codes "[" ++ pair_text y ++ flat_map (λ (z : Pair). codes "," ++ pair_text z) ys) (codes "]")
-      (both (codes "[" ++ pair_text y) (flat_map (λ (z : Pair). codes "," ++ pair_text z) ys) (refl, no_feed_in_pair y h.0) (no_feed_in_items 44 pair_text IsPair ys refl no_feed_in_pair h.1)) (refl, tt)
+    (both (codes "[" ++ pair_text y) (flat_map (λ (z : Pair). codes "," ++ pair_text z) ys) (refl, no_feed_in_pair y h.0) (no_feed_in_items 44 pair_text IsPair ys refl no_feed_in_pair h.1)) (refl, tt)
 
 no_feed_in_reason : (r : Reason) → IsReasonInRange r → HasNoLineFeed (reason_text r)
 no_feed_in_reason (Rule x) h = (refl, no_feed_in_decimal (x + 1) (omega arith))
@@ -75,12 +75,12 @@ step_line-IsLine number step numbered w =
     record {
       body = a ++ b ++ c ++ b ++ d ++ e ++ f;
       plain =
-        both (a ++ b ++ c ++ b ++ d ++ e) f
+          both (a ++ b ++ c ++ b ++ d ++ e) f
           (both (a ++ b ++ c ++ b ++ d) e
-            (both (a ++ b ++ c ++ b) d
-              (both (a ++ b ++ c) b (both (a ++ b) c (both a b (no_feed_in_decimal number (omega arith)) (refl, tt)) (no_feed_in_variable step.variable step.nogood step.reasons w)) (refl, tt))
-              (no_feed_in_pairs step.nogood pairs))
-            (refl, (refl, (refl, tt))))
+          (both (a ++ b ++ c ++ b) d
+          (both (a ++ b ++ c) b (both (a ++ b) c (both a b (no_feed_in_decimal number (omega arith)) (refl, tt)) (no_feed_in_variable step.variable step.nogood step.reasons w)) (refl, tt))
+          (no_feed_in_pairs step.nogood pairs))
+          (refl, (refl, (refl, tt))))
           (no_feed_in_items 32 reason_text IsReasonInRange step.reasons refl no_feed_in_reason w.in_range.reasons);
       same = refl;
     }

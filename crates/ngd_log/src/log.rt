@@ -12,9 +12,7 @@ use std::alloc::Global;
 #[derive(Clone, Copy, Debug, PartialEq, Eq)]
 pub enum LogError {
     /// The text is no log, and this is its first bad line, counted from 1.
-    Line {
-        number: u64,
-    },
+    Line { number: u64 },
     Memory,
 }
 
