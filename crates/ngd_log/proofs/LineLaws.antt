@@ -1,19 +1,18 @@
 -- A step that is read is the one whose line it is, and a step's line is read again.
-use Rattle.std.proofs.Common.{◌≡◌, ℕ, zero, suc, ◌+◌, ◌<◌, ◌≤◌, ◌^◌, Bool, true, false, cond, eqb, List, [], ◌∷◌, ◌++◌, length, Option, Some, None, Result, Ok, Err, FitsSigned, inl, inr, refl, sym, ap, subst, ◌∙◌, append_assoc, arith}
-use Rattle.std.specs.Prelude.{codes, decimal, IfSome, IfNone, IfOk}
+use Rattle.std.proofs.Common.{◌≡◌, ℕ, ◌+◌, ◌<◌, true, cond, eqb, List, [], ◌∷◌, ◌++◌, Option, Some, None, Result, Ok, Err, FitsSigned, inl, inr, refl, sym, ap, subst, ◌∙◌, append_assoc, arith}
+use Rattle.std.specs.Prelude.{codes, decimal, IfOk}
 use Rattle.std.specs.Int.{w64}
 use Rattle.std.specs.List.{AllByRecursion}
 use Rattle.std.proofs.lemmas.List.{append-nil}
 use Rattle.std.proofs.lemmas.Bool.{eqb-true, eq-eqb}
 use Rattle.dcsp_nogood.specs.declared.Pair.{Pair}
-use Rattle.dcsp_nogood.specs.Pairs.{IsRising}
 use Rattle.dcsp_defs.specs.declared.Reason.{Reason}
-use Rattle.dcsp_defs.specs.declared.Reason.TheVariants.{Rule, Earlier}
+use Rattle.dcsp_defs.specs.declared.Reason.TheVariants.{Rule}
 use Rattle.dcsp_defs.specs.declared.Step.{Step}
-use Rattle.ngd_log.specs.StepText.{pairs_text, reasons_text, variable_text, step_line, IsVariable, IsStepNumber, IsReasonInRange, IsRuleAlone, IsInRange, IsWritable, IsStepLine}
+use Rattle.ngd_log.specs.StepText.{pairs_text, reasons_text, variable_text, step_line, IsVariable, IsStepNumber, IsReasonInRange, IsWritable, IsStepLine}
 use Rattle.ngd_log.specs.declared.reader.LineError.{LineError}
 use Rattle.ngd_log.specs.declared.reader.LineError.TheVariants.{Bad, Memory}
-use Rattle.ngd_log.specs.Reading.{◌>>=◌, Gives, after, begins_with_digit, counted_at, step_number_at, pairs_at, reasons_at, nogood_of, is_line_feed, variable_step, rule_step, form_at, step_of}
+use Rattle.ngd_log.specs.Reading.{◌>>=◌, Gives, after, counted_at, step_number_at, pairs_at, reasons_at, nogood_of, is_line_feed, variable_step, rule_step, form_at, step_of}
 use Rattle.ngd_log.proofs.Chosen.{chosen, passed, bind_then, some_is}
 use Rattle.ngd_log.proofs.After.{after_takes, after_again}
 use Rattle.ngd_log.proofs.Each.{each_gives, each_both}

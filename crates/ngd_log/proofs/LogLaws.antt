@@ -1,21 +1,21 @@
 -- Logs and first bad lines: each text is a log or has one first bad line, and different logs differ.
-use Rattle.std.proofs.Common.{◌≡◌, ℕ, zero, suc, ◌+◌, ◌-◌, ◌<◌, ◌≤◌, ◌^◌, Bool, true, false, not, ◌⊎◌, List, [], ◌∷◌, ◌++◌, length, take, drop, get_or, Option, Some, None, Result, Ok, Err, is_err, inl, inr, refl, sym, ap, subst, ◌∙◌, append_assoc, arith}
+use Rattle.std.proofs.Common.{◌≡◌, ℕ, suc, ◌+◌, ◌-◌, ◌<◌, ◌≤◌, ◌^◌, true, false, not, ◌⊎◌, List, [], ◌∷◌, ◌++◌, length, take, drop, get_or, Some, None, Result, Ok, Err, is_err, inl, inr, refl, sym, ap, subst, ◌∙◌, append_assoc, arith}
 use Rattle.std.specs.Prelude.{codes, OnOk, IfOk, IfErr}
 use Rattle.std.specs.List.{AllByRecursion, concat}
 use Rattle.std.specs.Str.{bytes_eq}
 use Rattle.std.specs.Char.{is_ascii_digit}
 use Rattle.std.proofs.lemmas.Bool.{false≢true, cases_lt}
-use Rattle.std.proofs.lemmas.List.{append-nil, take_at, take-take, take_all, take-append-drop, length-append, length_push}
+use Rattle.std.proofs.lemmas.List.{append-nil, take_at, take-take, take-append-drop, length-append, length_push}
 use Rattle.std.proofs.lemmas.List.Folds.{concat-append}
 use Rattle.std.proofs.lemmas.Slice.Eq.{bytes_eq-Decides}
 use Rattle.dcsp_defs.specs.declared.Step.{Step}
 use Rattle.ngd_log.specs.declared.log.LogError.{LogError}
 use Rattle.ngd_log.specs.declared.log.LogError.TheVariants.{Line, Memory}
 use Rattle.ngd_log.specs.StepText.{step_line, IsStepNumber, IsWritable, IsStepLine}
-use Rattle.ngd_log.specs.Logs.{step_lines, log_lines, open_log, log_text, AreWritable, IsLogOf, lines, IsLine, HasNoLineFeed, BeginLog, IsNoLog, IsWrong, IsMissing, IsFirstBad, LogOrBadLine, LogsDiffer, IsCause, IsUnlessMemory}
+use Rattle.ngd_log.specs.Logs.{step_lines, log_lines, open_log, log_text, AreWritable, IsLogOf, lines, IsLine, HasNoLineFeed, BeginLog, IsWrong, IsMissing, IsFirstBad, LogOrBadLine, LogsDiffer, IsCause, IsUnlessMemory}
 use Rattle.ngd_log.specs.Reading.{step_of}
 use Rattle.ngd_log.proofs.Each.{each_push, each_append}
-use Rattle.ngd_log.proofs.Numbers.{begins_decimal, BeginsWithDigit}
+use Rattle.ngd_log.proofs.Numbers.{begins_decimal}
 use Rattle.ngd_log.proofs.LineLaws.{rest_text, step_line_is, step_takes, step_none, one_step}
 use Rattle.ngd_log.proofs.LineFeeds.{step_line-IsLine, lines-concat, lines_plain, line_has_feed, no_lines, concat-lines}
 

@@ -62,9 +62,8 @@ fn log_of(alloc: Global, text: &[u8]) -> Result<Derivation, LogError>
         }
         rest = others;
     }
-    Err(LogError::Line {
-        number: derivation.len() + 2,
-    })
+    let missing = derivation.len() + 2;
+    Err(LogError::Line { number: missing })
 }
 
 /// The first line, with its line feed, and what follows it.

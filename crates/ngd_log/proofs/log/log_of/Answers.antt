@@ -1,4 +1,4 @@
-use Rattle.std.proofs.Common.{◌≡◌, ◌+◌, ◌++◌, ◌∷◌, List, [], ℕ, Err, length, sym, ap, subst, ◌∙◌, rules, arith}
+use Rattle.std.proofs.Common.{◌≡◌, ◌+◌, ◌++◌, ◌∷◌, List, [], ℕ, Err, length, sym, ap, subst, ◌∙◌, arith}
 use Rattle.std.proofs.lemmas.List.{nil_from_length}
 use Rattle.std.proofs.lemmas.Bool.{eqb-true, eqb-false}
 use Rattle.ngd_log.specs.Logs.{lines, IsFirstBad}
@@ -55,6 +55,6 @@ loop-line-preserved c =
 
 pub returns-clause-cause : goal.returns-clause-cause
 returns-clause-cause c =
-    let number : length c.loop-line.derivation + 2 ≡ c.len.result + 2 = omega arith in
+    let number : length c.loop-line.derivation + 2 ≡ c.len-missing.result + 2 = omega arith in
     subst (λ (n : ℕ). IsFirstBad c.args.text.now n) number
     (bad_open c.args.text.now c.loop-line.derivation c.loop-line.rest.now c.loop-line.invariant c.in_default-split_line.ensures.none)

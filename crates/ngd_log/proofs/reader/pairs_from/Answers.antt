@@ -1,6 +1,6 @@
-use Rattle.std.proofs.Common.{◌≡◌, ◌+◌, ◌-◌, ◌≤◌, ◌++◌, ◌∷◌, [], suc, length, arith, codes}
+use Rattle.std.proofs.Common.{◌≡◌, ◌+◌, ◌-◌, ◌++◌, ◌∷◌, [], length, arith, codes}
 use Rattle.std.proofs.lemmas.List.{length_push}
-use Rattle.ngd_log.specs.Reading.{pair_at, pairs_from, items_at}
+use Rattle.ngd_log.specs.Reading.{pair_at, pairs_from}
 use Rattle.ngd_log.proofs.Items.{goes_on, fails_on, is_done}
 use Rattle.ngd_log.proofs.reader.pairs_from.Goals as goal
 

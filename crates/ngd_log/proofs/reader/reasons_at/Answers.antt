@@ -1,6 +1,6 @@
-use Rattle.std.proofs.Common.{◌≡◌, ◌+◌, ◌-◌, ◌≤◌, ◌++◌, ◌∷◌, [], suc, length, arith, codes}
+use Rattle.std.proofs.Common.{◌≡◌, ◌-◌, ◌++◌, ◌∷◌, [], length, arith, codes}
 use Rattle.std.proofs.lemmas.List.{length_push}
-use Rattle.ngd_log.specs.Reading.{reason_at, reasons_at, items_at}
+use Rattle.ngd_log.specs.Reading.{reason_at, reasons_at}
 use Rattle.ngd_log.proofs.Items.{goes_on, fails_on, is_done}
 use Rattle.ngd_log.proofs.reader.reasons_at.Goals as goal
 
