@@ -1,10 +1,10 @@
 -- A field that is read is the one that was written, and what was written is read again.
-use Rattle.std.proofs.Common.{◌≡◌, ℕ, zero, suc, ◌+◌, ◌-◌, ◌^◌, ◌<◌, ◌≤◌, Bool, true, false, cond, ◌&&◌, eqb, ltb, leb, List, [], ◌∷◌, ◌++◌, length, get_or, Option, Some, None, ℤ, pos, negsuc, neg_ℤ, FitsSigned, inl, inr, refl, sym, ap, subst, ◌∙◌, append_assoc, arith, rules}
+use Rattle.std.proofs.Common.{◌≡◌, ℕ, zero, suc, ◌+◌, ◌-◌, ◌^◌, ◌<◌, ◌≤◌, false, cond, ◌&&◌, eqb, ltb, leb, List, [], ◌∷◌, ◌++◌, Option, Some, None, ℤ, pos, negsuc, neg_ℤ, FitsSigned, inl, inr, refl, ap, subst, ◌∙◌, append_assoc, arith}
 use Rattle.std.specs.Prelude.{codes, decimal}
 use Rattle.std.specs.Int.{w64}
 use Rattle.std.specs.Fmt.{signed_decimal}
-use Rattle.std.proofs.lemmas.Bool.{eqb-true, eqb-false, ne_eqb, ltb-true, lt-ltb, leb-true, le-leb}
-use Rattle.dcsp_defs.proofs.Lists.{and_left, and_right, and_both}
+use Rattle.std.proofs.lemmas.Bool.{eqb-true, ltb-true, lt-ltb, leb-true, le-leb}
+use Rattle.dcsp_defs.proofs.Lists.{and_left, and_right}
 use Rattle.dcsp_nogood.specs.declared.Pair.{Pair}
 use Rattle.dcsp_defs.specs.declared.Reason.{Reason}
 use Rattle.dcsp_defs.specs.declared.Reason.TheVariants.{Rule, Earlier}
@@ -30,16 +30,16 @@ signed_takes : (bytes : List ℕ) (o : Option (List ℕ)) (v : ℤ) (rest : List
 unfolding negative plain
 signed_takes bytes (Some unsigned) v rest a h =
     bind_then (number_at unsigned) negative (v, rest) h (λ n r e.
-      let p = passed (ltb 0 n.0 && leb n.0 (2 ^ 63)) (neg_ℤ (pos n.0), n.1) (v, rest) e in
-      let t = number_takes unsigned n.0 n.1 r in
-      let last : n.1 ≡ rest = ap (λ (x : ℤ × List ℕ). x.1) p.1 in
-      let value : neg_ℤ (pos n.0) ≡ v = ap (λ (x : ℤ × List ℕ). x.0) p.1 in
-      rw (after_takes (codes "-") bytes unsigned a) (negative_is n.0 unsigned v rest (ltb-true _ _ (and_left _ _ p.0)) (leb-true _ _ (and_right _ _ p.0)) value (t.parts ∙ ap (λ (x : List ℕ). decimal n.0 ++ x) last)))
+    let p = passed (ltb 0 n.0 && leb n.0 (2 ^ 63)) (neg_ℤ (pos n.0), n.1) (v, rest) e in
+    let t = number_takes unsigned n.0 n.1 r in
+    let last : n.1 ≡ rest = ap (λ (x : ℤ × List ℕ). x.1) p.1 in
+    let value : neg_ℤ (pos n.0) ≡ v = ap (λ (x : ℤ × List ℕ). x.0) p.1 in
+    rw (after_takes (codes "-") bytes unsigned a) (negative_is n.0 unsigned v rest (ltb-true _ _ (and_left _ _ p.0)) (leb-true _ _ (and_right _ _ p.0)) value (t.parts ∙ ap (λ (x : List ℕ). decimal n.0 ++ x) last)))
 signed_takes bytes None v rest a h =
     bind_then (number_at bytes) plain (v, rest) h (λ n r e.
-      let p = passed (ltb n.0 (2 ^ 63)) (pos n.0, n.1) (v, rest) e in
-      let t = number_takes bytes n.0 n.1 r in
-      subst (λ (x : ℤ × List ℕ). Took bytes (signed_decimal x.0) x.1 (FitsSigned w64 x.0)) p.1 (record { parts = t.parts; holds = record { sfits = ltb-true _ _ p.0 } }))
+    let p = passed (ltb n.0 (2 ^ 63)) (pos n.0, n.1) (v, rest) e in
+    let t = number_takes bytes n.0 n.1 r in
+    subst (λ (x : ℤ × List ℕ). Took bytes (signed_decimal x.0) x.1 (FitsSigned w64 x.0)) p.1 (record { parts = t.parts; holds = record { sfits = ltb-true _ _ p.0 } }))
 
 pub integer_takes : (bytes : List ℕ) (v : ℤ) (rest : List ℕ) → integer_at bytes ≡ Some (v, rest) → Took bytes (signed_decimal v) rest (FitsSigned w64 v)
 unfolding integer_at
@@ -61,12 +61,12 @@ pub counted_takes : (most : ℕ) (bytes : List ℕ) (x : ℕ) (rest : List ℕ) 
 unfolding counted_at
 counted_takes most bytes x rest h =
     bind_then (number_at bytes) (λ n. cond (ltb 0 n.0 && leb n.0 most) (Some (n.0 - 1, n.1)) None) (x, rest) h (λ n r e.
-      let p = passed (ltb 0 n.0 && leb n.0 most) (n.0 - 1, n.1) (x, rest) e in
-      let t = number_takes bytes n.0 n.1 r in
-      let some : 0 < n.0 = ltb-true 0 n.0 (and_left (ltb 0 n.0) (leb n.0 most) p.0) in
-      let within : n.0 ≤ most = leb-true n.0 most (and_right (ltb 0 n.0) (leb n.0 most) p.0) in
-      let same : n.0 - 1 + 1 ≡ n.0 = omega arith in
-      subst (λ (y : ℕ × List ℕ). Took bytes (decimal (y.0 + 1)) y.1 (y.0 < most)) p.1 (record { parts = rw same t.parts; holds = omega arith }))
+    let p = passed (ltb 0 n.0 && leb n.0 most) (n.0 - 1, n.1) (x, rest) e in
+    let t = number_takes bytes n.0 n.1 r in
+    let some : 0 < n.0 = ltb-true 0 n.0 (and_left (ltb 0 n.0) (leb n.0 most) p.0) in
+    let within : n.0 ≤ most = leb-true n.0 most (and_right (ltb 0 n.0) (leb n.0 most) p.0) in
+    let same : n.0 - 1 + 1 ≡ n.0 = omega arith in
+    subst (λ (y : ℕ × List ℕ). Took bytes (decimal (y.0 + 1)) y.1 (y.0 < most)) p.1 (record { parts = rw same t.parts; holds = omega arith }))
 
 pub counted_again : (most x : ℕ) (rest : List ℕ) → x < most → most < 2 ^ 64 → begins_with_digit rest ≡ false → counted_at most (decimal (x + 1) ++ rest) ≡ Some (x, rest)
 unfolding counted_at
@@ -78,10 +78,10 @@ pub step_number_takes : (bytes : List ℕ) (k : ℕ) (rest : List ℕ) → step_
 unfolding step_number_at
 step_number_takes bytes k rest h =
     bind_then (number_at bytes) (λ n. cond (ltb 0 n.0 && leb n.0 (2 ^ 62)) (Some n) None) (k, rest) h (λ n r e.
-      let p = passed (ltb 0 n.0 && leb n.0 (2 ^ 62)) n (k, rest) e in
-      let t = number_takes bytes n.0 n.1 r in
-      subst (λ (y : ℕ × List ℕ). Took bytes (decimal y.0) y.1 (IsStepNumber y.0)) p.1
-        (record { parts = t.parts; holds = record { positive = ltb-true _ _ (and_left _ _ p.0); bounded = leb-true _ _ (and_right _ _ p.0) } }))
+    let p = passed (ltb 0 n.0 && leb n.0 (2 ^ 62)) n (k, rest) e in
+    let t = number_takes bytes n.0 n.1 r in
+    subst (λ (y : ℕ × List ℕ). Took bytes (decimal y.0) y.1 (IsStepNumber y.0)) p.1
+    (record { parts = t.parts; holds = record { positive = ltb-true _ _ (and_left _ _ p.0); bounded = leb-true _ _ (and_right _ _ p.0) } }))
 
 pub step_number_again : (k : ℕ) (rest : List ℕ) → IsStepNumber k → begins_with_digit rest ≡ false → step_number_at (decimal k ++ rest) ≡ Some (k, rest)
 unfolding step_number_at
@@ -103,18 +103,23 @@ pair_takes bytes y rest h =
     bind_then (counted_at 4096 a) (λ x. after (codes "=") x.1 >>= λ b. integer_at b >>= λ v. Some (record { var = x.0; value = v.0 }, v.1)) (y, rest) e (λ x rx f.
     bind_then (after (codes "=") x.1) (λ b. integer_at b >>= λ v. Some (record { var = x.0; value = v.0 }, v.1)) (y, rest) f (λ b rb g.
     bind_then (integer_at b) (λ v. Some (record { var = x.0; value = v.0 }, v.1)) (y, rest) g (λ v rv i.
-      let made : Pair × List ℕ = (record { var = x.0; value = v.0 }, v.1) in
-      let t = counted_takes 4096 a x.0 x.1 rx in
-      let u = integer_takes b v.0 v.1 rv in
-      let parts : bytes ≡ pair_text made.0 ++ made.1 = after_takes (codes "v") bytes a ra ∙ rw (t.parts, after_takes (codes "=") x.1 b rb, u.parts) (simp append_assoc) in
-      subst (λ (z : Pair × List ℕ). Took bytes (pair_text z.0) z.1 (IsPair z.0)) (some_is made (y, rest) i) (record { parts = parts; holds = record { variable = t.holds; value = u.holds } })))))
+    let made : Pair × List ℕ = (record { var = x.0; value = v.0 }, v.1) in
+    let t = counted_takes 4096 a x.0 x.1 rx in
+    let u = integer_takes b v.0 v.1 rv in
+    let parts : bytes ≡ pair_text made.0 ++ made.1 = after_takes (codes "v") bytes a ra ∙ rw (t.parts, after_takes (codes "=") x.1 b rb, u.parts) (simp append_assoc) in
+    subst (λ (z : Pair × List ℕ). Took bytes (pair_text z.0) z.1 (IsPair z.0)) (some_is made (y, rest) i) (record { parts = parts; holds = record { variable = t.holds; value = u.holds } })))))
 
 pub pair_again : (y : Pair) (rest : List ℕ) → IsPair y → begins_with_digit rest ≡ false → pair_at (pair_text y ++ rest) ≡ Some (y, rest)
 unfolding pair_at
 pair_again y rest fits stop =
     let regrouped : pair_text y ++ rest ≡ codes "v" ++ (decimal (y.var + 1) ++ (codes "=" ++ (signed_decimal y.value ++ rest))) = simp append_assoc in
-    rw (regrouped, after_again (codes "v") (decimal (y.var + 1) ++ (codes "=" ++ (signed_decimal y.value ++ rest))), counted_again 4096 y.var (codes "=" ++ (signed_decimal y.value ++ rest)) fits.variable (omega arith) refl,
-      after_again (codes "=") (signed_decimal y.value ++ rest), integer_again y.value rest fits.value stop) refl
+    rw (
+      regrouped,
+      after_again (codes "v") (decimal (y.var + 1) ++ (codes "=" ++ (signed_decimal y.value ++ rest))),
+      counted_again 4096 y.var (codes "=" ++ (signed_decimal y.value ++ rest)) fits.variable (omega arith) refl,
+      after_again (codes "=") (signed_decimal y.value ++ rest),
+      integer_again y.value rest fits.value stop,
+    ) refl
 
 -- ---- reasons
 
@@ -125,16 +130,16 @@ reason_takes (b ∷ bytes) r rest h =
     elim (chosen (eqb b 99) (counted_at 262144 bytes >>= (λ n. Some (Rule n.0, n.1))) (cond (eqb b 110) (step_number_at bytes >>= (λ n. Some (Earlier n.0, n.1))) None) (Some (r, rest)) h) [
       | inl e ↦
           bind_then (counted_at 262144 bytes) (λ n. Some (Rule n.0, n.1)) (r, rest) e.1 (λ n rn f.
-            let t = counted_takes 262144 bytes n.0 n.1 rn in
-            let letter : b ≡ 99 = eqb-true _ _ e.0 in
-            subst (λ (z : Reason × List ℕ). Took (b ∷ bytes) (reason_text z.0) z.1 (IsReasonInRange z.0)) (some_is (Rule n.0, n.1) (r, rest) f) (record { parts = rw letter (ap (λ (x : List ℕ). 99 ∷ x) t.parts); holds = t.holds }))
+          let t = counted_takes 262144 bytes n.0 n.1 rn in
+          let letter : b ≡ 99 = eqb-true _ _ e.0 in
+          subst (λ (z : Reason × List ℕ). Took (b ∷ bytes) (reason_text z.0) z.1 (IsReasonInRange z.0)) (some_is (Rule n.0, n.1) (r, rest) f) (record { parts = rw letter (ap (λ (x : List ℕ). 99 ∷ x) t.parts); holds = t.holds }))
       | inr e ↦
           elim (chosen (eqb b 110) (step_number_at bytes >>= (λ n. Some (Earlier n.0, n.1))) None (Some (r, rest)) e.1) [
             | inl f ↦
                 bind_then (step_number_at bytes) (λ n. Some (Earlier n.0, n.1)) (r, rest) f.1 (λ n rn g.
-                  let t = step_number_takes bytes n.0 n.1 rn in
-                  let letter : b ≡ 110 = eqb-true _ _ f.0 in
-                  subst (λ (z : Reason × List ℕ). Took (b ∷ bytes) (reason_text z.0) z.1 (IsReasonInRange z.0)) (some_is (Earlier n.0, n.1) (r, rest) g) (record { parts = rw letter (ap (λ (x : List ℕ). 110 ∷ x) t.parts); holds = t.holds }))
+                let t = step_number_takes bytes n.0 n.1 rn in
+                let letter : b ≡ 110 = eqb-true _ _ f.0 in
+                subst (λ (z : Reason × List ℕ). Took (b ∷ bytes) (reason_text z.0) z.1 (IsReasonInRange z.0)) (some_is (Earlier n.0, n.1) (r, rest) g) (record { parts = rw letter (ap (λ (x : List ℕ). 110 ∷ x) t.parts); holds = t.holds }))
             | inr f ↦ absurd (let g = f.1 in cc)
           ]
     ]

@@ -1,5 +1,5 @@
 -- Items that are read are those that were written, and those that were written are read again.
-use Rattle.std.proofs.Common.{◌≡◌, ℕ, zero, suc, ◌+◌, ◌<◌, ◌≤◌, Bool, true, false, List, [], ◌∷◌, ◌++◌, length, Option, Some, None, refl, sym, ap, subst, ◌∙◌, append_assoc, arith}
+use Rattle.std.proofs.Common.{◌≡◌, ℕ, zero, suc, ◌+◌, ◌≤◌, false, List, [], ◌∷◌, ◌++◌, length, Option, Some, None, refl, sym, ap, subst, ◌∙◌, append_assoc, arith}
 use Rattle.std.specs.Prelude.{codes, flat_map}
 use Rattle.std.specs.List.{AllByRecursion}
 use Rattle.std.specs.Char.{is_ascii_digit}
@@ -35,10 +35,10 @@ items_takes {X = X} c item text ok law (suc most) bytes xs rest h =
       | Some r ↦ λ a k.
           bind_then (item r) (λ x. items_at (c ∷ []) item most x.1 >>= (λ ys. Some (x.0 ∷ ys.0, ys.1))) (xs, rest) k (λ x rx e.
           bind_then (items_at (c ∷ []) item most x.1) (λ ys. Some (x.0 ∷ ys.0, ys.1)) (xs, rest) e (λ ys ry f.
-            let t = law r x.0 x.1 rx in
-            let u = items_takes c item text ok law most x.1 ys.0 ys.1 ry in
-            let parts : bytes ≡ items_text c text (x.0 ∷ ys.0) ++ ys.1 = after_takes (c ∷ []) bytes r a ∙ rw (t.parts, u.parts) (simp append_assoc) in
-            subst (λ (p : List X × List ℕ). Took bytes (items_text c text p.0) p.1 (AllByRecursion ok p.0)) (some_is (x.0 ∷ ys.0, ys.1) (xs, rest) f) (record { parts = parts; holds = (t.holds, u.holds) })))
+          let t = law r x.0 x.1 rx in
+          let u = items_takes c item text ok law most x.1 ys.0 ys.1 ry in
+          let parts : bytes ≡ items_text c text (x.0 ∷ ys.0) ++ ys.1 = after_takes (c ∷ []) bytes r a ∙ rw (t.parts, u.parts) (simp append_assoc) in
+          subst (λ (p : List X × List ℕ). Took bytes (items_text c text p.0) p.1 (AllByRecursion ok p.0)) (some_is (x.0 ∷ ys.0, ys.1) (xs, rest) f) (record { parts = parts; holds = (t.holds, u.holds) })))
     ]) refl h
 
 stops : {X : Type 0} (c : ℕ) (text : X → List ℕ) (xs : List X) (rest : List ℕ) → is_ascii_digit c ≡ false → begins_with_digit rest ≡ false → begins_with_digit (items_text c text xs ++ rest) ≡ false
@@ -54,8 +54,12 @@ items_again c item text ok law d (suc most) [] rest room h stop none = rw none r
 items_again c item text ok law d zero (x ∷ xs) rest room h stop none = absurd (omega arith)
 items_again c item text ok law d (suc most) (x ∷ xs) rest room h stop none =
     let regrouped : items_text c text (x ∷ xs) ++ rest ≡ (c ∷ []) ++ (text x ++ (items_text c text xs ++ rest)) = simp append_assoc in
-    rw (regrouped, after_again (c ∷ []) (text x ++ (items_text c text xs ++ rest)), law x (items_text c text xs ++ rest) h.0 (stops c text xs rest d stop),
-      items_again c item text ok law d most xs rest (omega arith) h.1 stop none) refl
+    rw (
+      regrouped,
+      after_again (c ∷ []) (text x ++ (items_text c text xs ++ rest)),
+      law x (items_text c text xs ++ rest) h.0 (stops c text xs rest d stop),
+      items_again c item text ok law d most xs rest (omega arith) h.1 stop none,
+    ) refl
 
 -- there are no more items than bytes
 fewer : {X : Type 0} (c : ℕ) (text : X → List ℕ) (xs : List X) (rest : List ℕ) → length xs ≤ length (items_text c text xs ++ rest)
@@ -85,24 +89,24 @@ pub pairs_takes : (bytes : List ℕ) (ys : List Pair) (rest : List ℕ) → pair
 unfolding pairs_at pairs_before
 pairs_takes bytes ys rest h =
     bind_then (after (codes "[") bytes) (λ a. pairs_before a (after (codes "]") a)) (ys, rest) h (λ a ra e.
-      (elim (after (codes "]") a) as (λ o. after (codes "]") a ≡ o → pairs_before a o ≡ Some (ys, rest) → Took bytes (pairs_text ys) rest (AllByRecursion IsPair ys)) [
-        | Some r ↦ λ b k.
-            let parts : bytes ≡ codes "[]" ++ r = after_takes (codes "[") bytes a ra ∙ ap (λ (x : List ℕ). codes "[" ++ x) (after_takes (codes "]") a r b) in
-            subst (λ (p : List Pair × List ℕ). Took bytes (pairs_text p.0) p.1 (AllByRecursion IsPair p.0)) (some_is ([], r) (ys, rest) k) (record { parts = parts; holds = tt })
-        | None ↦ λ b k.
-            bind_then (pair_at a) (λ y. pairs_from y.0 y.1 >>= λ zs. after (codes "]") zs.1 >>= λ r. Some (zs.0, r)) (ys, rest) k (λ y ry f.
-            bind_then (pairs_from y.0 y.1) (λ zs. after (codes "]") zs.1 >>= λ r. Some (zs.0, r)) (ys, rest) f (λ zs rz g.
-            bind_then (after (codes "]") zs.1) (λ r. Some (zs.0, r)) (ys, rest) g (λ r rr i.
-            bind_then (items_at (codes ",") pair_at (length y.1) y.1) (λ ws. Some (y.0 ∷ ws.0, ws.1)) zs rz (λ ws rows j.
-              let t = pair_takes a y.0 y.1 ry in
-              let u = items_takes 44 pair_at pair_text IsPair pair_takes (length y.1) y.1 ws.0 ws.1 rows in
-              let last : ws.1 ≡ codes "]" ++ r = ap (λ (p : List Pair × List ℕ). p.1) (some_is (y.0 ∷ ws.0, ws.1) zs j) ∙ after_takes (codes "]") zs.1 r rr in
-              let all : y.0 ∷ ws.0 ≡ zs.0 = ap (λ (p : List Pair × List ℕ). p.0) (some_is (y.0 ∷ ws.0, ws.1) zs j) in
-              let parts = joined bytes a y.0 y.1 ws.0 ws.1 r (after_takes (codes "[") bytes a ra) t.parts u.parts last in
-              let first : Took bytes (pairs_text (y.0 ∷ ws.0)) r (AllByRecursion IsPair (y.0 ∷ ws.0)) = record { parts = parts; holds = (t.holds, u.holds) } in
-              let second : Took bytes (pairs_text zs.0) r (AllByRecursion IsPair zs.0) = subst (λ (p : List Pair). Took bytes (pairs_text p) r (AllByRecursion IsPair p)) all first in
-              subst (λ (p : List Pair × List ℕ). Took bytes (pairs_text p.0) p.1 (AllByRecursion IsPair p.0)) (some_is (zs.0, r) (ys, rest) i) second))))
-      ]) refl e)
+    (elim (after (codes "]") a) as (λ o. after (codes "]") a ≡ o → pairs_before a o ≡ Some (ys, rest) → Took bytes (pairs_text ys) rest (AllByRecursion IsPair ys)) [
+      | Some r ↦ λ b k.
+          let parts : bytes ≡ codes "[]" ++ r = after_takes (codes "[") bytes a ra ∙ ap (λ (x : List ℕ). codes "[" ++ x) (after_takes (codes "]") a r b) in
+          subst (λ (p : List Pair × List ℕ). Took bytes (pairs_text p.0) p.1 (AllByRecursion IsPair p.0)) (some_is ([], r) (ys, rest) k) (record { parts = parts; holds = tt })
+      | None ↦ λ b k.
+          bind_then (pair_at a) (λ y. pairs_from y.0 y.1 >>= λ zs. after (codes "]") zs.1 >>= λ r. Some (zs.0, r)) (ys, rest) k (λ y ry f.
+          bind_then (pairs_from y.0 y.1) (λ zs. after (codes "]") zs.1 >>= λ r. Some (zs.0, r)) (ys, rest) f (λ zs rz g.
+          bind_then (after (codes "]") zs.1) (λ r. Some (zs.0, r)) (ys, rest) g (λ r rr i.
+          bind_then (items_at (codes ",") pair_at (length y.1) y.1) (λ ws. Some (y.0 ∷ ws.0, ws.1)) zs rz (λ ws rows j.
+          let t = pair_takes a y.0 y.1 ry in
+          let u = items_takes 44 pair_at pair_text IsPair pair_takes (length y.1) y.1 ws.0 ws.1 rows in
+          let last : ws.1 ≡ codes "]" ++ r = ap (λ (p : List Pair × List ℕ). p.1) (some_is (y.0 ∷ ws.0, ws.1) zs j) ∙ after_takes (codes "]") zs.1 r rr in
+          let all : y.0 ∷ ws.0 ≡ zs.0 = ap (λ (p : List Pair × List ℕ). p.0) (some_is (y.0 ∷ ws.0, ws.1) zs j) in
+          let parts = joined bytes a y.0 y.1 ws.0 ws.1 r (after_takes (codes "[") bytes a ra) t.parts u.parts last in
+          let first : Took bytes (pairs_text (y.0 ∷ ws.0)) r (AllByRecursion IsPair (y.0 ∷ ws.0)) = record { parts = parts; holds = (t.holds, u.holds) } in
+          let second : Took bytes (pairs_text zs.0) r (AllByRecursion IsPair zs.0) = subst (λ (p : List Pair). Took bytes (pairs_text p) r (AllByRecursion IsPair p)) all first in
+          subst (λ (p : List Pair × List ℕ). Took bytes (pairs_text p.0) p.1 (AllByRecursion IsPair p.0)) (some_is (zs.0, r) (ys, rest) i) second))))
+    ]) refl e)
 
 pub pairs_again : (ys : List Pair) (rest : List ℕ) → AllByRecursion IsPair ys → pairs_at (pairs_text ys ++ rest) ≡ Some (ys, rest)
 unfolding pairs_at pairs_before after
@@ -110,5 +114,7 @@ pairs_again [] rest h = refl
 pairs_again (y ∷ ys) rest h =
     let others = items_text 44 pair_text ys ++ (codes "]" ++ rest) in
     let regrouped : pairs_text (y ∷ ys) ++ rest ≡ codes "[" ++ (pair_text y ++ others) = regroup (codes "[") (pair_text y) (items_text 44 pair_text ys) (codes "]") rest in
-    ap pairs_at regrouped ∙ rw ( pair_again y others h.0 (stops 44 pair_text ys (codes "]" ++ rest) refl refl),
-      items_again 44 pair_at pair_text IsPair pair_again refl (length others) ys (codes "]" ++ rest) (fewer 44 pair_text ys (codes "]" ++ rest)) h.1 refl refl) refl
+    ap pairs_at regrouped ∙ rw (
+      pair_again y others h.0 (stops 44 pair_text ys (codes "]" ++ rest) refl refl),
+      items_again 44 pair_at pair_text IsPair pair_again refl (length others) ys (codes "]" ++ rest) (fewer 44 pair_text ys (codes "]" ++ rest)) h.1 refl refl,
+    ) refl

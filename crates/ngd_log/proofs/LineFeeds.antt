@@ -1,12 +1,12 @@
 -- The lines of a text.
-use Rattle.std.proofs.Common.{◌≡◌, ℕ, zero, suc, ◌+◌, ◌<◌, ◌≤◌, ◌^◌, Bool, true, false, cond, eqb, List, [], ◌∷◌, ◌++◌, length, take, drop, get_or, Option, Some, None, ℤ, pos, negsuc, FitsSigned, inl, inr, refl, sym, ap, subst, ◌∙◌, append_assoc, arith}
+use Rattle.std.proofs.Common.{◌≡◌, ℕ, suc, ◌+◌, ◌<◌, ◌^◌, true, false, cond, eqb, List, [], ◌∷◌, ◌++◌, length, take, drop, get_or, Option, Some, None, ℤ, pos, negsuc, FitsSigned, inl, inr, refl, sym, ap, subst, ◌∙◌, append_assoc, arith}
 use Rattle.std.specs.Prelude.{codes, decimal, flat_map}
 use Rattle.std.specs.Int.{w64}
 use Rattle.std.specs.List.{AllByRecursion, concat}
 use Rattle.std.specs.Str.{all_ascii_digits}
 use Rattle.std.specs.Char.{is_ascii_digit}
 use Rattle.std.specs.Fmt.{signed_decimal}
-use Rattle.std.proofs.lemmas.Bool.{false≢true, eqb-true, ne_eqb}
+use Rattle.std.proofs.lemmas.Bool.{false≢true, ne_eqb}
 use Rattle.std.proofs.lemmas.List.{take_more, take-append-drop}
 use Rattle.dcsp_defs.proofs.Lists.{and_left, and_right}
 use Rattle.dcsp_nogood.specs.declared.Pair.{Pair}
@@ -42,7 +42,7 @@ no_feed_in_pair : (y : Pair) → IsPair y → HasNoLineFeed (pair_text y)
 no_feed_in_pair y i =
     let v = i.variable in
     both (codes "v" ++ decimal (y.var + 1) ++ codes "=") (signed_decimal y.value)
-      (both (codes "v" ++ decimal (y.var + 1)) (codes "=") (refl, no_feed_in_decimal (y.var + 1) (omega arith)) (refl, tt)) (no_feed_in_signed y.value i.value)
+    (both (codes "v" ++ decimal (y.var + 1)) (codes "=") (refl, no_feed_in_decimal (y.var + 1) (omega arith)) (refl, tt)) (no_feed_in_signed y.value i.value)
 
 no_feed_in_items : {X : Type 0} (c : ℕ) (text : X → List ℕ) (ok : X → Type 0) (xs : List X) → eqb c 10 ≡ false → ((x : X) → ok x → HasNoLineFeed (text x)) → AllByRecursion ok xs → HasNoLineFeed (flat_map (λ x. (c ∷ []) ++ text x) xs)
 no_feed_in_items c text ok [] e f h = tt
@@ -52,7 +52,7 @@ no_feed_in_pairs : (ys : List Pair) → AllByRecursion IsPair ys → HasNoLineFe
 no_feed_in_pairs [] h = (refl, (refl, tt))
 no_feed_in_pairs (y ∷ ys) h =
     both (codes "[" ++ pair_text y ++ flat_map (λ (z : Pair). codes "," ++ pair_text z) ys) (codes "]")
-      (both (codes "[" ++ pair_text y) (flat_map (λ (z : Pair). codes "," ++ pair_text z) ys) (refl, no_feed_in_pair y h.0) (no_feed_in_items 44 pair_text IsPair ys refl no_feed_in_pair h.1)) (refl, tt)
+    (both (codes "[" ++ pair_text y) (flat_map (λ (z : Pair). codes "," ++ pair_text z) ys) (refl, no_feed_in_pair y h.0) (no_feed_in_items 44 pair_text IsPair ys refl no_feed_in_pair h.1)) (refl, tt)
 
 no_feed_in_reason : (r : Reason) → IsReasonInRange r → HasNoLineFeed (reason_text r)
 no_feed_in_reason (Rule x) h = (refl, no_feed_in_decimal (x + 1) (omega arith))
@@ -75,12 +75,12 @@ step_line-IsLine number step numbered w =
     record {
       body = a ++ b ++ c ++ b ++ d ++ e ++ f;
       plain =
-        both (a ++ b ++ c ++ b ++ d ++ e) f
+          both (a ++ b ++ c ++ b ++ d ++ e) f
           (both (a ++ b ++ c ++ b ++ d) e
-            (both (a ++ b ++ c ++ b) d
-              (both (a ++ b ++ c) b (both (a ++ b) c (both a b (no_feed_in_decimal number (omega arith)) (refl, tt)) (no_feed_in_variable step.variable step.nogood step.reasons w)) (refl, tt))
-              (no_feed_in_pairs step.nogood pairs))
-            (refl, (refl, (refl, tt))))
+          (both (a ++ b ++ c ++ b) d
+          (both (a ++ b ++ c) b (both (a ++ b) c (both a b (no_feed_in_decimal number (omega arith)) (refl, tt)) (no_feed_in_variable step.variable step.nogood step.reasons w)) (refl, tt))
+          (no_feed_in_pairs step.nogood pairs))
+          (refl, (refl, (refl, tt))))
           (no_feed_in_items 32 reason_text IsReasonInRange step.reasons refl no_feed_in_reason w.in_range.reasons);
       same = refl;
     }

@@ -1,19 +1,18 @@
 -- A step that is read is the one whose line it is, and a step's line is read again.
-use Rattle.std.proofs.Common.{◌≡◌, ℕ, zero, suc, ◌+◌, ◌<◌, ◌≤◌, ◌^◌, Bool, true, false, cond, eqb, List, [], ◌∷◌, ◌++◌, length, Option, Some, None, Result, Ok, Err, FitsSigned, inl, inr, refl, sym, ap, subst, ◌∙◌, append_assoc, arith}
-use Rattle.std.specs.Prelude.{codes, decimal, IfSome, IfNone, IfOk}
+use Rattle.std.proofs.Common.{◌≡◌, ℕ, ◌+◌, ◌<◌, true, cond, eqb, List, [], ◌∷◌, ◌++◌, Option, Some, None, Result, Ok, Err, FitsSigned, inl, inr, refl, sym, ap, subst, ◌∙◌, append_assoc, arith}
+use Rattle.std.specs.Prelude.{codes, decimal, IfOk}
 use Rattle.std.specs.Int.{w64}
 use Rattle.std.specs.List.{AllByRecursion}
 use Rattle.std.proofs.lemmas.List.{append-nil}
 use Rattle.std.proofs.lemmas.Bool.{eqb-true, eq-eqb}
 use Rattle.dcsp_nogood.specs.declared.Pair.{Pair}
-use Rattle.dcsp_nogood.specs.Pairs.{IsRising}
 use Rattle.dcsp_defs.specs.declared.Reason.{Reason}
-use Rattle.dcsp_defs.specs.declared.Reason.TheVariants.{Rule, Earlier}
+use Rattle.dcsp_defs.specs.declared.Reason.TheVariants.{Rule}
 use Rattle.dcsp_defs.specs.declared.Step.{Step}
-use Rattle.ngd_log.specs.StepText.{pairs_text, reasons_text, variable_text, step_line, IsVariable, IsStepNumber, IsReasonInRange, IsRuleAlone, IsInRange, IsWritable, IsStepLine}
+use Rattle.ngd_log.specs.StepText.{pairs_text, reasons_text, variable_text, step_line, IsVariable, IsStepNumber, IsReasonInRange, IsWritable, IsStepLine}
 use Rattle.ngd_log.specs.declared.reader.LineError.{LineError}
 use Rattle.ngd_log.specs.declared.reader.LineError.TheVariants.{Bad, Memory}
-use Rattle.ngd_log.specs.Reading.{◌>>=◌, Gives, after, begins_with_digit, counted_at, step_number_at, pairs_at, reasons_at, nogood_of, is_line_feed, variable_step, rule_step, form_at, step_of}
+use Rattle.ngd_log.specs.Reading.{◌>>=◌, Gives, after, counted_at, step_number_at, pairs_at, reasons_at, nogood_of, is_line_feed, variable_step, rule_step, form_at, step_of}
 use Rattle.ngd_log.proofs.Chosen.{chosen, passed, bind_then, some_is}
 use Rattle.ngd_log.proofs.After.{after_takes, after_again}
 use Rattle.ngd_log.proofs.Each.{each_gives, each_both}
@@ -56,22 +55,22 @@ variable_takes bytes step h =
     bind_then (after (codes " <-") ys.1) (λ c. reasons_at c >>= λ rs. nogood_of ys.0 >>= λ nogood. cond (is_line_feed rs.1) (Some (record { variable = Some x.0; nogood = nogood; reasons = rs.0 })) None) step h4 (λ c rc h5.
     bind_then (reasons_at c) (λ rs. nogood_of ys.0 >>= λ nogood. cond (is_line_feed rs.1) (Some (record { variable = Some x.0; nogood = nogood; reasons = rs.0 })) None) step h5 (λ rs rr h6.
     bind_then (nogood_of ys.0) (λ nogood. cond (is_line_feed rs.1) (Some (record { variable = Some x.0; nogood = nogood; reasons = rs.0 })) None) step h6 (λ nogood rn h7.
-      let made : Step = record { variable = Some x.0; nogood = nogood; reasons = rs.0 } in
-      let p = passed (is_line_feed rs.1) made step h7 in
-      let n = nogood_of-rises ys.0 nogood rn in
-      let t = counted_takes 4096 a x.0 x.1 rx in
-      let u = pairs_takes b ys.0 ys.1 ry in
-      let w = reasons_takes c rs.0 rs.1 rr in
-      let parts : bytes ≡ rest_text (Some x.0) ys.0 rs.0 ++ [] = joined bytes a x.0 x.1 b ys.0 ys.1 c rs.0 rs.1 (after_takes (codes "v") bytes a ra) t.parts (after_takes (codes " ") x.1 b rb) u.parts (after_takes (codes " <-") ys.1 c rc) w.parts (line_feed_is rs.1 p.0) in
-      let loose : Step = record { variable = Some x.0; nogood = ys.0; reasons = rs.0 } in
-      let fits : IsWritable loose = record {
-        in_range = record { variable = t.holds; nowhere = tt; pairs = each_gives IsPair (λ (y : Pair). IsVariable y.var) ys.0 (λ y i. i.variable) u.holds; reasons = w.holds };
-        rising = n.1;
-        values = each_gives IsPair (λ (y : Pair). FitsSigned w64 y.value) ys.0 (λ y i. i.value) u.holds;
-      } in
-      let first : TookRest bytes loose = record { parts = parts; holds = fits } in
-      let second : TookRest bytes made = subst (λ (zs : List Pair). TookRest bytes (record { variable = Some x.0; nogood = zs; reasons = rs.0 })) n.0 first in
-      subst (λ (s : Step). TookRest bytes s) p.1 second)))))))
+    let made : Step = record { variable = Some x.0; nogood = nogood; reasons = rs.0 } in
+    let p = passed (is_line_feed rs.1) made step h7 in
+    let n = nogood_of-rises ys.0 nogood rn in
+    let t = counted_takes 4096 a x.0 x.1 rx in
+    let u = pairs_takes b ys.0 ys.1 ry in
+    let w = reasons_takes c rs.0 rs.1 rr in
+    let parts : bytes ≡ rest_text (Some x.0) ys.0 rs.0 ++ [] = joined bytes a x.0 x.1 b ys.0 ys.1 c rs.0 rs.1 (after_takes (codes "v") bytes a ra) t.parts (after_takes (codes " ") x.1 b rb) u.parts (after_takes (codes " <-") ys.1 c rc) w.parts (line_feed_is rs.1 p.0) in
+    let loose : Step = record { variable = Some x.0; nogood = ys.0; reasons = rs.0 } in
+    let fits : IsWritable loose = record {
+      in_range = record { variable = t.holds; nowhere = tt; pairs = each_gives IsPair (λ (y : Pair). IsVariable y.var) ys.0 (λ y i. i.variable) u.holds; reasons = w.holds };
+      rising = n.1;
+      values = each_gives IsPair (λ (y : Pair). FitsSigned w64 y.value) ys.0 (λ y i. i.value) u.holds;
+    } in
+    let first : TookRest bytes loose = record { parts = parts; holds = fits } in
+    let second : TookRest bytes made = subst (λ (zs : List Pair). TookRest bytes (record { variable = Some x.0; nogood = zs; reasons = rs.0 })) n.0 first in
+    subst (λ (s : Step). TookRest bytes s) p.1 second)))))))
 
 variable_again : (x : ℕ) (nogood : List Pair) (reasons : List Reason) → IsWritable (record { variable = Some x; nogood = nogood; reasons = reasons })
     → variable_step (rest_text (Some x) nogood reasons) ≡ Some (record { variable = Some x; nogood = nogood; reasons = reasons })
@@ -92,17 +91,17 @@ rule_takes : (bytes : List ℕ) (step : Step) → rule_step bytes ≡ Some step 
 unfolding rule_step
 rule_takes bytes step h =
     bind_then (counted_at 262144 bytes) (λ n. cond (is_line_feed n.1) (Some (record { variable = None; nogood = []; reasons = Rule n.0 ∷ [] })) None) step h (λ n rn h1.
-      let made : Step = record { variable = None; nogood = []; reasons = Rule n.0 ∷ [] } in
-      let p = passed (is_line_feed n.1) made step h1 in
-      let t = counted_takes 262144 bytes n.0 n.1 rn in
-      let parts : codes "- [] <- c" ++ bytes ≡ rest_text None [] (Rule n.0 ∷ []) ++ [] = rw (t.parts, line_feed_is n.1 p.0) (sym (append-nil (rest_text None [] (Rule n.0 ∷ [])) ∙ rule_text n.0)) in
-      let fits : IsWritable made = record {
-        in_range = record { variable = tt; nowhere = record { nogood = refl; rule = n.0; reasons = refl }; pairs = tt; reasons = (t.holds, tt) };
-        rising = λ k lt. absurd (omega arith);
-        values = tt;
-      } in
-      let first : TookRest (codes "- [] <- c" ++ bytes) made = record { parts = parts; holds = fits } in
-      subst (λ (s : Step). TookRest (codes "- [] <- c" ++ bytes) s) p.1 first)
+    let made : Step = record { variable = None; nogood = []; reasons = Rule n.0 ∷ [] } in
+    let p = passed (is_line_feed n.1) made step h1 in
+    let t = counted_takes 262144 bytes n.0 n.1 rn in
+    let parts : codes "- [] <- c" ++ bytes ≡ rest_text None [] (Rule n.0 ∷ []) ++ [] = rw (t.parts, line_feed_is n.1 p.0) (sym (append-nil (rest_text None [] (Rule n.0 ∷ [])) ∙ rule_text n.0)) in
+    let fits : IsWritable made = record {
+      in_range = record { variable = tt; nowhere = record { nogood = refl; rule = n.0; reasons = refl }; pairs = tt; reasons = (t.holds, tt) };
+      rising = λ k lt. absurd (omega arith);
+      values = tt;
+    } in
+    let first : TookRest (codes "- [] <- c" ++ bytes) made = record { parts = parts; holds = fits } in
+    subst (λ (s : Step). TookRest (codes "- [] <- c" ++ bytes) s) p.1 first)
 
 rule_again : (rule : ℕ) → rule < 262144 → rule_step (decimal (rule + 1) ++ codes "\n") ≡ Some (record { variable = None; nogood = []; reasons = Rule rule ∷ [] })
 unfolding rule_step
@@ -124,7 +123,7 @@ form_again None nogood reasons w =
     let within : AllByRecursion IsReasonInRange (Rule alone.rule ∷ []) = rw alone.reasons at w.in_range.reasons in
     let bytes = decimal (alone.rule + 1) ++ codes "\n" in
     let one : form_at (rest_text None [] (Rule alone.rule ∷ [])) (after (codes "- [] <- c") (rest_text None [] (Rule alone.rule ∷ []))) ≡ Some (record { variable = None; nogood = []; reasons = Rule alone.rule ∷ [] })
-        = ap (λ (t : List ℕ). form_at t (after (codes "- [] <- c") t)) (rule_text alone.rule) ∙ ap (form_at (codes "- [] <- c" ++ bytes)) (after_again (codes "- [] <- c") bytes) ∙ rule_again alone.rule within.0 in
+    = ap (λ (t : List ℕ). form_at t (after (codes "- [] <- c") t)) (rule_text alone.rule) ∙ ap (form_at (codes "- [] <- c" ++ bytes)) (after_again (codes "- [] <- c") bytes) ∙ rule_again alone.rule within.0 in
     rw (alone.nogood, alone.reasons) one
 
 pub step_takes : (number : ℕ) (line : List ℕ) (step : Step) → step_of number line ≡ Some step → IsStepLine number line step
@@ -132,15 +131,15 @@ unfolding step_of
 step_takes number line step h =
     bind_then (step_number_at line) (λ n. after (codes " ") n.1 >>= λ a. cond (eqb n.0 number) (form_at a (after (codes "- [] <- c") a)) None) step h (λ n rn h1.
     bind_then (after (codes " ") n.1) (λ a. cond (eqb n.0 number) (form_at a (after (codes "- [] <- c") a)) None) step h1 (λ a ra h2.
-      elim (chosen (eqb n.0 number) (form_at a (after (codes "- [] <- c") a)) None (Some step) h2) [
-        | inl e ↦
-            let t = step_number_takes line n.0 n.1 rn in
-            let same : n.0 ≡ number = eqb-true _ _ e.0 in
-            let u = form_takes a (after (codes "- [] <- c") a) step refl e.1 in
-            let parts : line ≡ decimal n.0 ++ (codes " " ++ rest_text step.variable step.nogood step.reasons) = rw (t.parts, after_takes (codes " ") n.1 a ra, u.parts) (simp append-nil) in
-            record { same = parts ∙ ap (λ (k : ℕ). decimal k ++ (codes " " ++ rest_text step.variable step.nogood step.reasons)) same ∙ sym (step_line_is number step); writable = u.holds; numbered = subst IsStepNumber same t.holds }
-        | inr e ↦ absurd (let g = e.1 in cc)
-      ]))
+    elim (chosen (eqb n.0 number) (form_at a (after (codes "- [] <- c") a)) None (Some step) h2) [
+      | inl e ↦
+          let t = step_number_takes line n.0 n.1 rn in
+          let same : n.0 ≡ number = eqb-true _ _ e.0 in
+          let u = form_takes a (after (codes "- [] <- c") a) step refl e.1 in
+          let parts : line ≡ decimal n.0 ++ (codes " " ++ rest_text step.variable step.nogood step.reasons) = rw (t.parts, after_takes (codes " ") n.1 a ra, u.parts) (simp append-nil) in
+          record { same = parts ∙ ap (λ (k : ℕ). decimal k ++ (codes " " ++ rest_text step.variable step.nogood step.reasons)) same ∙ sym (step_line_is number step); writable = u.holds; numbered = subst IsStepNumber same t.holds }
+      | inr e ↦ absurd (let g = e.1 in cc)
+    ]))
 
 pub step_again : (number : ℕ) (step : Step) → IsStepNumber number → IsWritable step → step_of number (step_line number step) ≡ Some step
 unfolding step_of

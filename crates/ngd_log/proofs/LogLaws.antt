@@ -1,21 +1,21 @@
 -- Logs and first bad lines: each text is a log or has one first bad line, and different logs differ.
-use Rattle.std.proofs.Common.{◌≡◌, ℕ, zero, suc, ◌+◌, ◌-◌, ◌<◌, ◌≤◌, ◌^◌, Bool, true, false, not, ◌⊎◌, List, [], ◌∷◌, ◌++◌, length, take, drop, get_or, Option, Some, None, Result, Ok, Err, is_err, inl, inr, refl, sym, ap, subst, ◌∙◌, append_assoc, arith}
+use Rattle.std.proofs.Common.{◌≡◌, ℕ, suc, ◌+◌, ◌-◌, ◌<◌, ◌≤◌, ◌^◌, true, false, not, ◌⊎◌, List, [], ◌∷◌, ◌++◌, length, take, drop, get_or, Some, None, Result, Ok, Err, is_err, inl, inr, refl, sym, ap, subst, ◌∙◌, append_assoc, arith}
 use Rattle.std.specs.Prelude.{codes, OnOk, IfOk, IfErr}
 use Rattle.std.specs.List.{AllByRecursion, concat}
 use Rattle.std.specs.Str.{bytes_eq}
 use Rattle.std.specs.Char.{is_ascii_digit}
 use Rattle.std.proofs.lemmas.Bool.{false≢true, cases_lt}
-use Rattle.std.proofs.lemmas.List.{append-nil, take_at, take-take, take_all, take-append-drop, length-append, length_push}
+use Rattle.std.proofs.lemmas.List.{append-nil, take_at, take-take, take-append-drop, length-append, length_push}
 use Rattle.std.proofs.lemmas.List.Folds.{concat-append}
 use Rattle.std.proofs.lemmas.Slice.Eq.{bytes_eq-Decides}
 use Rattle.dcsp_defs.specs.declared.Step.{Step}
 use Rattle.ngd_log.specs.declared.log.LogError.{LogError}
 use Rattle.ngd_log.specs.declared.log.LogError.TheVariants.{Line, Memory}
 use Rattle.ngd_log.specs.StepText.{step_line, IsStepNumber, IsWritable, IsStepLine}
-use Rattle.ngd_log.specs.Logs.{step_lines, log_lines, log_text, AreWritable, IsLogOf, lines, IsLine, HasNoLineFeed, BeginLog, IsNoLog, IsWrong, IsMissing, IsFirstBad, LogOrBadLine, LogsDiffer, IsCause, IsUnlessMemory}
+use Rattle.ngd_log.specs.Logs.{step_lines, log_lines, open_log, log_text, AreWritable, IsLogOf, lines, IsLine, HasNoLineFeed, BeginLog, IsWrong, IsMissing, IsFirstBad, LogOrBadLine, LogsDiffer, IsCause, IsUnlessMemory}
 use Rattle.ngd_log.specs.Reading.{step_of}
 use Rattle.ngd_log.proofs.Each.{each_push, each_append}
-use Rattle.ngd_log.proofs.Numbers.{begins_decimal, BeginsWithDigit}
+use Rattle.ngd_log.proofs.Numbers.{begins_decimal}
 use Rattle.ngd_log.proofs.LineLaws.{rest_text, step_line_is, step_takes, step_none, one_step}
 use Rattle.ngd_log.proofs.LineFeeds.{step_line-IsLine, lines-concat, lines_plain, line_has_feed, no_lines, concat-lines}
 
@@ -65,6 +65,26 @@ not_tail number step small e =
 
 -- ---- the lines of logs
 
+-- the log is made up of its lines
+pub log_text_is : (steps : List Step) → log_text steps ≡ concat (log_lines steps)
+log_text_is steps = sym (concat-append (front_lines steps) (tail ∷ []) ∙ ap (λ (t : List ℕ). open_log steps ++ t) (append-nil tail))
+
+-- a log that goes on by one step
+pub open_log-push : (steps : List Step) (s : Step) → open_log (steps ++ s ∷ []) ≡ open_log steps ++ step_line (length steps + 1) s
+open_log-push steps s =
+    let k : 1 + length steps ≡ length steps + 1 = omega arith in
+    let more : step_lines 1 (steps ++ s ∷ []) ≡ step_lines 1 steps ++ step_line (length steps + 1) s ∷ [] = step_lines-push 1 steps s ∙ ap (λ (n : ℕ). step_lines 1 steps ++ step_line n s ∷ []) k in
+    ap (λ (ls : List (List ℕ)). head ++ concat ls) more
+    ∙ ap (λ (t : List ℕ). head ++ t) (concat-append (step_lines 1 steps) (step_line (length steps + 1) s ∷ []) ∙ ap (λ (t : List ℕ). concat (step_lines 1 steps) ++ t) (append-nil (step_line (length steps + 1) s)))
+    ∙ sym (append_assoc head (concat (step_lines 1 steps)) (step_line (length steps + 1) s))
+
+-- and is still one that can be written
+pub AreWritable-push : (steps : List Step) (s : Step) → AreWritable steps → IsStepNumber (length steps + 1) → IsWritable s → AreWritable (steps ++ s ∷ [])
+AreWritable-push steps s w n i =
+    let p = length_push steps s in
+    let most = n.bounded in
+    record { count = omega arith; each = each_push IsWritable steps s w.each i }
+
 -- the lines of a text that begins as a log does
 pub lines_of_front : (steps : List Step) (rest : List ℕ) → AreWritable steps → lines (concat (front_lines steps) ++ rest) ≡ front_lines steps ++ lines rest
 lines_of_front steps rest w =
@@ -74,7 +94,7 @@ lines_of_front steps rest w =
 pub lines_of_log : (steps : List Step) (rest : List ℕ) → AreWritable steps → lines (log_text steps ++ rest) ≡ log_lines steps ++ lines rest
 lines_of_log steps rest w =
     let c = w.count in
-    lines-concat (log_lines steps) rest (each_append IsLine (front_lines steps) (tail ∷ []) (head-IsLine, step_lines-IsLine 1 steps (omega arith, omega arith) w.each) (tail-IsLine, tt))
+    ap (λ (t : List ℕ). lines (t ++ rest)) (log_text_is steps) ∙ lines-concat (log_lines steps) rest (each_append IsLine (front_lines steps) (tail ∷ []) (head-IsLine, step_lines-IsLine 1 steps (omega arith, omega arith) w.each) (tail-IsLine, tt))
 
 lines_of_whole : (steps : List Step) (text : List ℕ) → IsLogOf text steps → lines text ≡ log_lines steps
 lines_of_whole steps text is = ap lines (is.same ∙ sym (append-nil (log_text steps))) ∙ lines_of_log steps [] is.writable ∙ append-nil (log_lines steps)
@@ -123,11 +143,11 @@ bad_head text n = record {
   bad = (elim (lines text) as (λ ls. lines text ≡ ls → IsWrong text 1 ⊎ IsMissing text 1) [
     | [] ↦ λ e. inr (record { after_last = rw e refl; no_log = λ steps is. let f : log_lines steps ≡ [] = sym (lines_of_whole steps text is) ∙ e in cc })
     | l ∷ ls ↦ λ e. inl (record {
-        there = rw e (omega arith);
-        wrong = λ b.
+      there = rw e (omega arith);
+      wrong = λ b.
           let f : head ∷ (step_lines 1 b.0 ++ tail ∷ []) ≡ l ∷ b.2 = b.3 ∙ ap (λ (x : List (List ℕ)). take 1 x ++ b.2) e in
-          n ls (e ∙ ap (λ (x : List ℕ). x ∷ ls) (sym (cons_head _ _ _ _ f)))
-      })
+          n ls (e ∙ ap (λ (x : List ℕ). x ∷ ls) (sym (cons_head _ _ _ _ f)));
+    })
   ]) refl;
 }
 
@@ -156,8 +176,11 @@ bad_stop text steps f =
     record {
       positive = omega arith;
       before = begins_front text steps [] (length steps + 2 - 1) f (omega arith);
-      bad = inr (record { after_last = omega arith; no_log = λ other is.
-        no_stop 1 other steps (from_one steps f.writable) (cons_tail _ _ _ _ (sym (lines_of_whole other text is) ∙ whole)) });
+      bad = inr (record {
+        after_last = omega arith;
+        no_log = λ other is.
+            no_stop 1 other steps (from_one steps f.writable) (cons_tail _ _ _ _ (sym (lines_of_whole other text is) ∙ whole));
+      });
     }
 
 -- the line after those of the steps is bad where it is neither the next step's nor `end`
@@ -168,12 +191,15 @@ bad_line text steps line others f no_step no_end =
     record {
       positive = omega arith;
       before = begins_front text steps (line ∷ others) (length steps + 2 - 1) f (omega arith);
-      bad = inl (record { there = omega arith; wrong = λ b.
-        let t : take (length steps + 2) (lines text) ≡ front_lines steps ++ line ∷ [] = take_front text steps (line ∷ []) others (length steps + 2) f.front (omega arith) in
-        let e : log_lines b.0 ≡ front_lines steps ++ (line ∷ b.2) = b.3 ∙ ap (λ (x : List (List ℕ)). x ++ b.2) t ∙ append_assoc (front_lines steps) (line ∷ []) b.2 in
-        let n = next_line 1 b.0 steps line b.2 (from_one b.0 b.1) (from_one steps f.writable) b.1.each (cons_tail _ _ _ _ e) in
-        let k : 1 + length steps ≡ length steps + 1 = omega arith in
-        elim n.kind [ inl s ↦ no_step s.0 (rw (← k) s.1) | inr t ↦ no_end t.0 ] });
+      bad = inl (record {
+        there = omega arith;
+        wrong = λ b.
+            let t : take (length steps + 2) (lines text) ≡ front_lines steps ++ line ∷ [] = take_front text steps (line ∷ []) others (length steps + 2) f.front (omega arith) in
+            let e : log_lines b.0 ≡ front_lines steps ++ (line ∷ b.2) = b.3 ∙ ap (λ (x : List (List ℕ)). x ++ b.2) t ∙ append_assoc (front_lines steps) (line ∷ []) b.2 in
+            let n = next_line 1 b.0 steps line b.2 (from_one b.0 b.1) (from_one steps f.writable) b.1.each (cons_tail _ _ _ _ e) in
+            let k : 1 + length steps ≡ length steps + 1 = omega arith in
+            elim n.kind [ inl s ↦ no_step s.0 (rw (← k) s.1) | inr t ↦ no_end t.0 ];
+      });
     }
 
 -- a line after `end` is bad
@@ -183,17 +209,20 @@ bad_rest text steps line others f =
     record {
       positive = omega arith;
       before =
-        let t : take (length steps + 3 - 1) (lines text) ≡ front_lines steps ++ tail ∷ [] = take_front text steps (tail ∷ []) (line ∷ others) (length steps + 3 - 1) f.front (omega arith) in
-        rw t (steps, f.writable, [], sym (append-nil (log_lines steps)));
-      bad = inl (record { there = omega arith; wrong = λ b.
-        let t : take (length steps + 3) (lines text) ≡ front_lines steps ++ tail ∷ line ∷ [] = take_front text steps (tail ∷ line ∷ []) others (length steps + 3) f.front (omega arith) in
-        let e : log_lines b.0 ≡ front_lines steps ++ (tail ∷ line ∷ b.2) = b.3 ∙ ap (λ (x : List (List ℕ)). x ++ b.2) t ∙ append_assoc (front_lines steps) (tail ∷ line ∷ []) b.2 in
-        let n = next_line 1 b.0 steps tail (line ∷ b.2) (from_one b.0 b.1) (from_one steps f.writable) b.1.each (cons_tail _ _ _ _ e) in
-        let c = f.writable.count in
-        elim n.kind [
-          | inl s ↦ not_tail (1 + length steps) s.0 (omega arith) (sym s.1.same)
-          | inr t ↦ let none = t.1 in cc
-        ] });
+          let t : take (length steps + 3 - 1) (lines text) ≡ front_lines steps ++ tail ∷ [] = take_front text steps (tail ∷ []) (line ∷ others) (length steps + 3 - 1) f.front (omega arith) in
+          rw t (steps, f.writable, [], sym (append-nil (log_lines steps)));
+      bad = inl (record {
+        there = omega arith;
+        wrong = λ b.
+            let t : take (length steps + 3) (lines text) ≡ front_lines steps ++ tail ∷ line ∷ [] = take_front text steps (tail ∷ line ∷ []) others (length steps + 3) f.front (omega arith) in
+            let e : log_lines b.0 ≡ front_lines steps ++ (tail ∷ line ∷ b.2) = b.3 ∙ ap (λ (x : List (List ℕ)). x ++ b.2) t ∙ append_assoc (front_lines steps) (tail ∷ line ∷ []) b.2 in
+            let n = next_line 1 b.0 steps tail (line ∷ b.2) (from_one b.0 b.1) (from_one steps f.writable) b.1.each (cons_tail _ _ _ _ e) in
+            let c = f.writable.count in
+            elim n.kind [
+              | inl s ↦ not_tail (1 + length steps) s.0 (omega arith) (sym s.1.same)
+              | inr t ↦ let none = t.1 in cc
+            ];
+      });
     }
 
 -- ---- each text is a log or has a first bad line
@@ -201,18 +230,16 @@ bad_rest text steps line others f =
 -- one step more
 pub front_more : (text : List ℕ) (steps : List Step) (line : List ℕ) (others : List (List ℕ)) (s : Step) → HasFront text steps (line ∷ others) → IsStepLine (length steps + 1) line s → HasFront text (steps ++ s ∷ []) others
 front_more text steps line others s f is =
-    let p = length_push steps s in
-    let most = is.numbered.bounded in
     let k : 1 + length steps ≡ length steps + 1 = omega arith in
     let more : front_lines (steps ++ s ∷ []) ≡ front_lines steps ++ line ∷ [] = ap (λ (x : List (List ℕ)). head ∷ x) (step_lines-push 1 steps s ∙ ap (λ (l : List ℕ). step_lines 1 steps ++ l ∷ []) (ap (λ (n : ℕ). step_line n s) k ∙ sym is.same)) in
     record {
-      writable = record { count = omega arith; each = each_push IsWritable steps s f.writable.each is.writable };
+      writable = AreWritable-push steps s f.writable is.numbered is.writable;
       front = f.front ∙ sym (append_assoc (front_lines steps) (line ∷ []) others) ∙ ap (λ (x : List (List ℕ)). x ++ others) (sym more);
     }
 
 -- the text is the log where `end` comes last
 pub log_of_front : (text : List ℕ) (steps : List Step) → HasFront text steps (tail ∷ []) → IsLogOf text steps
-log_of_front text steps f = record { writable = f.writable; same = sym (concat-lines text) ∙ ap concat f.front }
+log_of_front text steps f = record { writable = f.writable; same = sym (concat-lines text) ∙ ap concat f.front ∙ sym (log_text_is steps) }
 
 from_front : (text : List ℕ) (steps : List Step) (others : List (List ℕ)) → HasFront text steps others → ((other : List Step) × IsLogOf text other) ⊎ ((number : ℕ) × IsFirstBad text number)
 from_front text steps [] f = inr (length steps + 2, bad_stop text steps f)
@@ -320,8 +347,8 @@ bad_open text steps [] f plain = bad_stop text steps f
 bad_open text steps (b ∷ rest) f plain =
     let one : lines (b ∷ rest) ≡ (b ∷ rest) ∷ [] = lines_plain (b ∷ rest) plain (omega arith) in
     bad_line text steps (b ∷ rest) [] (subst (λ (ls : List (List ℕ)). HasFront text steps ls) one f)
-      (λ s is. line_has_feed (b ∷ rest) (rw is.same (step_line-IsLine (length steps + 1) s is.numbered is.writable)) plain)
-      (λ e. line_has_feed tail tail-IsLine (subst HasNoLineFeed e plain))
+    (λ s is. line_has_feed (b ∷ rest) (rw is.same (step_line-IsLine (length steps + 1) s is.numbered is.writable)) plain)
+    (λ e. line_has_feed tail tail-IsLine (subst HasNoLineFeed e plain))
 
 -- bytes after `end`
 pub bad_more : (text : List ℕ) (steps : List Step) (rest others : List ℕ) → HasFront text steps (lines rest) → lines rest ≡ tail ∷ lines others → (others ≡ [] → ⊥) → IsFirstBad text (length steps + 3)

@@ -1,9 +1,9 @@
 -- The test of a rising list of pairs.
-use Rattle.std.proofs.Common.{◌≡◌, ℕ, zero, suc, ◌+◌, ◌-◌, ◌<◌, ◌≤◌, Bool, true, false, ltb, List, [], ◌∷◌, Option, Some, None, length, cond, refl, sym, ap, subst, ◌∙◌, arith}
+use Rattle.std.proofs.Common.{◌≡◌, ℕ, zero, suc, ◌+◌, ◌-◌, ◌<◌, true, false, List, [], ◌∷◌, Some, None, cond, refl, arith}
 use Rattle.std.proofs.lemmas.Bool.{ltb-true, lt-ltb}
 use Rattle.dcsp_defs.proofs.Lists.{and_left, and_right, and_both}
 use Rattle.dcsp_nogood.specs.declared.Pair.{Pair}
-use Rattle.dcsp_nogood.specs.Pairs.{var_at, IsRising, IsFirstFall}
+use Rattle.dcsp_nogood.specs.Pairs.{IsRising, IsFirstFall}
 use Rattle.ngd_log.specs.Reading.{rises, nogood_of}
 
 pub rises-IsRising : (ys : List Pair) → rises ys ≡ true → IsRising ys

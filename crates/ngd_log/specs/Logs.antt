@@ -1,5 +1,5 @@
 -- Logs: the text of a derivation, and the first bad line of any other text.
-use Rattle.std.specs.Prelude.{◌≡◌, ℕ, ◌+◌, ◌-◌, ◌^◌, ◌<◌, ◌≤◌, ◌⊎◌, Bool, false, List, [], ◌∷◌, ◌++◌, length, take, codes, ◌==◌, if◌then◌else◌, Result, Err}
+use Rattle.std.specs.Prelude.{◌≡◌, ℕ, ◌+◌, ◌-◌, ◌^◌, ◌<◌, ◌≤◌, ◌⊎◌, false, List, [], ◌∷◌, ◌++◌, length, take, codes, ◌==◌, if◌then◌else◌, Result, Err}
 use Rattle.std.specs.List.{AllByRecursion, concat}
 use Rattle.dcsp_defs.specs.declared.Step.{Step}
 use Rattle.ngd_log.specs.declared.log.LogError.{LogError}
@@ -11,13 +11,17 @@ abbrev pub step_lines : ℕ → List Step → List (List ℕ)
 step_lines number [] = []
 step_lines number (step ∷ steps) = step_line number step ∷ step_lines (number + 1) steps
 
--- the lines of the derivation's log, each with its line feed
-abbrev pub log_lines : List Step → List (List ℕ)
-log_lines steps = codes "ngd 1\n" ∷ step_lines 1 steps ++ codes "end\n" ∷ []
+-- the derivation's log before its last line
+abbrev pub open_log : List Step → List ℕ
+open_log steps = codes "ngd 1\n" ++ concat (step_lines 1 steps)
 
 -- the text of the derivation's log
 abbrev pub log_text : List Step → List ℕ
-log_text steps = concat (log_lines steps)
+log_text steps = open_log steps ++ codes "end\n"
+
+-- the lines of the derivation's log, each with its line feed
+abbrev pub log_lines : List Step → List (List ℕ)
+log_lines steps = codes "ngd 1\n" ∷ step_lines 1 steps ++ codes "end\n" ∷ []
 
 -- the derivation has a log: its steps and their numbers are in range
 pub record AreWritable (steps : List Step) : Type 0 where

@@ -17,3 +17,6 @@ pub use dcsp_list::Memory;
 pub use derivation::Derivation;
 pub use log::{LogError, log_or_bad_line, logs_differ, read_log};
 pub use writer::{HEAD, TAIL, write_step};
+
+#[cfg(test)]
+mod tests;

@@ -12,9 +12,7 @@ use std::alloc::Global;
 #[derive(Clone, Copy, Debug, PartialEq, Eq)]
 pub enum LogError {
     /// The text is no log, and this is its first bad line, counted from 1.
-    Line {
-        number: u64,
-    },
+    Line { number: u64 },
     Memory,
 }
 
@@ -64,9 +62,8 @@ fn log_of(alloc: Global, text: &[u8]) -> Result<Derivation, LogError>
         }
         rest = others;
     }
-    Err(LogError::Line {
-        number: derivation.len() + 2,
-    })
+    let missing = derivation.len() + 2;
+    Err(LogError::Line { number: missing })
 }
 
 /// The first line, with its line feed, and what follows it.

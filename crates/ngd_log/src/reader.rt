@@ -62,9 +62,7 @@ fn digits_at(bytes: &[u8]) -> Option<(u64, &[u8])>
         if !byte.is_ascii_digit() {
             break;
         }
-        number = number
-            .checked_mul(10)?
-            .checked_add(u64::from(byte - b'0'))?;
+        number = number.checked_mul(10)?.checked_add(u64::from(byte - b'0'))?;
         rest = others;
     }
     Some((number, rest))
@@ -167,11 +165,7 @@ fn reason_at(bytes: &[u8]) -> Option<(Reason, &[u8])>
 }
 
 /// The pairs after this first one, each behind a comma.
-fn pairs_from(
-    alloc: Global,
-    first: Pair,
-    bytes: &[u8],
-) -> Result<(Vec<Pair>, &[u8]), LineError>
+fn pairs_from(alloc: Global, first: Pair, bytes: &[u8]) -> Result<(Vec<Pair>, &[u8]), LineError>
     ensures { Gives (λ x. (x.0.items, x.1.now)) result (pairs_from first bytes.now) }
 {
     let mut pairs = Vec::new(alloc);

@@ -1,4 +1,4 @@
-use Rattle.std.proofs.Common.{◌≡◌, ◌+◌, ◌++◌, ◌∷◌, List, [], ℕ, Err, length, sym, ap, subst, ◌∙◌, rules, arith}
+use Rattle.std.proofs.Common.{◌≡◌, ◌+◌, ◌++◌, ◌∷◌, List, [], ℕ, Err, length, sym, ap, subst, ◌∙◌, arith}
 use Rattle.std.proofs.lemmas.List.{nil_from_length}
 use Rattle.std.proofs.lemmas.Bool.{eqb-true, eqb-false}
 use Rattle.ngd_log.specs.Logs.{lines, IsFirstBad}
@@ -29,7 +29,7 @@ returns-then-eq-clause-cause c =
     let rest : lines c.loop-line.rest.now ≡ tail ∷ lines others = c.in-Some-split_line.ensures.first ∙ ap (λ (l : List ℕ). l ∷ lines others) last in
     let number : length c.loop-line.derivation + 3 ≡ c.len-number.result + 1 + 2 = omega arith in
     subst (λ (n : ℕ). IsFirstBad c.args.text.now n) number
-      (bad_more c.args.text.now c.loop-line.derivation c.loop-line.rest.now others c.loop-line.invariant rest (λ e. eqb-false _ _ (sym c.if-is_empty.ensures) (ap length e)))
+    (bad_more c.args.text.now c.loop-line.derivation c.loop-line.rest.now others c.loop-line.invariant rest (λ e. eqb-false _ _ (sym c.if-is_empty.ensures) (ap length e)))
 
 pub returns-in-Err-Bad-clause-cause : goal.returns-in-Err-Bad-clause-cause
 returns-in-Err-Bad-clause-cause c =
@@ -38,9 +38,9 @@ returns-in-Err-Bad-clause-cause c =
     let k : c.len-number.result + 1 ≡ length c.loop-line.derivation + 1 = omega arith in
     let number : length c.loop-line.derivation + 2 ≡ c.len-number.result + 1 + 1 = omega arith in
     subst (λ (n : ℕ). IsFirstBad c.args.text.now n) number
-      (bad_line c.args.text.now c.loop-line.derivation line (lines others)
-        (subst (λ (ls : List (List ℕ)). HasFront c.args.text.now c.loop-line.derivation ls) c.in-Some-split_line.ensures.first c.loop-line.invariant)
-        (λ s is. c.read_step.ensures.bad (c.in-Err-Bad.is ∙ ap Err c.in-Err-Bad.field-0-is) s (subst (λ (n : ℕ). IsStepLine n line s) (sym k) is)) (unequal_text line tail c.if-eq.ensures))
+    (bad_line c.args.text.now c.loop-line.derivation line (lines others)
+    (subst (λ (ls : List (List ℕ)). HasFront c.args.text.now c.loop-line.derivation ls) c.in-Some-split_line.ensures.first c.loop-line.invariant)
+    (λ s is. c.read_step.ensures.bad (c.in-Err-Bad.is ∙ ap Err c.in-Err-Bad.field-0-is) s (subst (λ (n : ℕ). IsStepLine n line s) (sym k) is)) (unequal_text line tail c.if-eq.ensures))
 
 pub loop-line-preserved : goal.loop-line-preserved
 loop-line-preserved c =
@@ -50,11 +50,11 @@ loop-line-preserved c =
     let k : c.len-number.result + 1 ≡ length c.loop-line.derivation + 1 = omega arith in
     let pushed : c.push.new.self ≡ c.loop-line.derivation ++ step ∷ [] = ok_holds c.push.result _ (sym c.is_err.ensures.value ∙ c.if-is_err.false) c.push.ensures.ok in
     rw pushed (front_more c.args.text.now c.loop-line.derivation line (lines others) step
-      (subst (λ (ls : List (List ℕ)). HasFront c.args.text.now c.loop-line.derivation ls) c.in-Some-split_line.ensures.first c.loop-line.invariant)
-      (subst (λ (n : ℕ). IsStepLine n line step) k c.in-Ok.ensures.step))
+    (subst (λ (ls : List (List ℕ)). HasFront c.args.text.now c.loop-line.derivation ls) c.in-Some-split_line.ensures.first c.loop-line.invariant)
+    (subst (λ (n : ℕ). IsStepLine n line step) k c.in-Ok.ensures.step))
 
 pub returns-clause-cause : goal.returns-clause-cause
 returns-clause-cause c =
-    let number : length c.loop-line.derivation + 2 ≡ c.len.result + 2 = omega arith in
+    let number : length c.loop-line.derivation + 2 ≡ c.len-missing.result + 2 = omega arith in
     subst (λ (n : ℕ). IsFirstBad c.args.text.now n) number
-      (bad_open c.args.text.now c.loop-line.derivation c.loop-line.rest.now c.loop-line.invariant c.in_default-split_line.ensures.none)
+    (bad_open c.args.text.now c.loop-line.derivation c.loop-line.rest.now c.loop-line.invariant c.in_default-split_line.ensures.none)

@@ -1,4 +1,4 @@
-use Rattle.std.proofs.Common.{arith, rules}
+use Rattle.std.proofs.Common.{arith}
 use Rattle.ngd_log.proofs.LineFeeds.{lines_split}
 use Rattle.ngd_log.proofs.log.split_line.Goals as goal
 

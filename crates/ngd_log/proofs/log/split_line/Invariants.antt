@@ -1,4 +1,4 @@
-use Rattle.std.proofs.Common.{take, length}
+use Rattle.std.proofs.Common.{take}
 use Rattle.ngd_log.specs.Logs.{HasNoLineFeed}
 use Rattle.ngd_log.proofs.log.split_line.Given as goal
 

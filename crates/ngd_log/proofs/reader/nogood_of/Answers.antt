@@ -1,5 +1,4 @@
-use Rattle.std.proofs.Common.{rules, ap, ◌∙◌, Err}
-use Rattle.ngd_log.specs.Reading.{nogood_of}
+use Rattle.std.proofs.Common.{ap, ◌∙◌, Err}
 use Rattle.ngd_log.proofs.Rising.{nogood_of-rising, nogood_of-fall}
 use Rattle.ngd_log.proofs.reader.nogood_of.Goals as goal
 

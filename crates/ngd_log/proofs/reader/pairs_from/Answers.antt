@@ -1,6 +1,6 @@
-use Rattle.std.proofs.Common.{◌≡◌, ◌+◌, ◌-◌, ◌≤◌, ◌++◌, ◌∷◌, [], suc, length, arith, codes}
+use Rattle.std.proofs.Common.{◌≡◌, ◌+◌, ◌-◌, ◌++◌, ◌∷◌, [], length, arith, codes}
 use Rattle.std.proofs.lemmas.List.{length_push}
-use Rattle.ngd_log.specs.Reading.{pair_at, pairs_from, items_at}
+use Rattle.ngd_log.specs.Reading.{pair_at, pairs_from}
 use Rattle.ngd_log.proofs.Items.{goes_on, fails_on, is_done}
 use Rattle.ngd_log.proofs.reader.pairs_from.Goals as goal
 
@@ -8,7 +8,7 @@ pub returns-in_default-pair_at : goal.returns-in_default-pair_at
 returns-in_default-pair_at c =
     let l = c.loop-next in
     fails_on (codes ",") pair_at l.pairs.items (length c.args.bytes.now + 1 - length l.pairs.items - 1) (length c.args.bytes.now + 1 - length l.pairs.items) l.rest.now c.in-Some.next.now (pairs_from c.args.first c.args.bytes.now)
-      (let s = c.in-Some.ensures.shorter in let r = l.invariant.room in omega arith) c.in-Some.ensures.reads c.in_default-pair_at.ensures.reads l.invariant.same
+    (let s = c.in-Some.ensures.shorter in let r = l.invariant.room in omega arith) c.in-Some.ensures.reads c.in_default-pair_at.ensures.reads l.invariant.same
 
 pub returns : goal.returns
 returns c =
@@ -27,6 +27,6 @@ loop-next-preserved c =
     let left : length c.args.bytes.now + 1 - length c.push-in-Some.new.self.items ≡ length c.args.bytes.now + 1 - length l.pairs.items - 1 = rw pushed (omega arith) in
     record {
       same = rw (left, pushed) (goes_on (codes ",") pair_at l.pairs.items (length c.args.bytes.now + 1 - length l.pairs.items - 1) (length c.args.bytes.now + 1 - length l.pairs.items) l.rest.now c.in-Some.next.now x c.in-Some-pair_at.others.now (pairs_from c.args.first c.args.bytes.now)
-        (omega arith) c.in-Some.ensures.reads c.in-Some-pair_at.ensures.reads l.invariant.same);
+          (omega arith) c.in-Some.ensures.reads c.in-Some-pair_at.ensures.reads l.invariant.same);
       room = rw pushed (omega arith);
     }

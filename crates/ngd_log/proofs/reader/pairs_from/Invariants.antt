@@ -1,4 +1,4 @@
-use Rattle.std.proofs.Common.{◌≡◌, ◌+◌, ◌-◌, ◌≤◌, [], ◌∷◌, length}
+use Rattle.std.proofs.Common.{◌≡◌, ◌+◌, ◌-◌, ◌≤◌, length}
 use Rattle.std.specs.Prelude.{codes}
 use Rattle.ngd_log.specs.Reading.{items_at, pair_at, pairs_from}
 use Rattle.ngd_log.proofs.Items.{with_front}

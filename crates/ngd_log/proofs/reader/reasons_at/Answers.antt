@@ -1,6 +1,6 @@
-use Rattle.std.proofs.Common.{◌≡◌, ◌+◌, ◌-◌, ◌≤◌, ◌++◌, ◌∷◌, [], suc, length, arith, codes}
+use Rattle.std.proofs.Common.{◌≡◌, ◌-◌, ◌++◌, ◌∷◌, [], length, arith, codes}
 use Rattle.std.proofs.lemmas.List.{length_push}
-use Rattle.ngd_log.specs.Reading.{reason_at, reasons_at, items_at}
+use Rattle.ngd_log.specs.Reading.{reason_at, reasons_at}
 use Rattle.ngd_log.proofs.Items.{goes_on, fails_on, is_done}
 use Rattle.ngd_log.proofs.reader.reasons_at.Goals as goal
 
@@ -8,7 +8,7 @@ pub returns-in_default-reason_at : goal.returns-in_default-reason_at
 returns-in_default-reason_at c =
     let l = c.loop-next in
     fails_on (codes " ") reason_at l.reasons (length c.args.bytes.now - length l.reasons - 1) (length c.args.bytes.now - length l.reasons) l.rest.now c.in-Some.next.now (reasons_at c.args.bytes.now)
-      (let s = c.in-Some.ensures.shorter in let r = l.invariant.room in omega arith) c.in-Some.ensures.reads c.in_default-reason_at.ensures.reads l.invariant.same
+    (let s = c.in-Some.ensures.shorter in let r = l.invariant.room in omega arith) c.in-Some.ensures.reads c.in_default-reason_at.ensures.reads l.invariant.same
 
 pub returns : goal.returns
 returns c =
@@ -27,6 +27,6 @@ loop-next-preserved c =
     let left : length c.args.bytes.now - length c.push.new.self ≡ length c.args.bytes.now - length l.reasons - 1 = rw pushed (omega arith) in
     record {
       same = rw (left, pushed) (goes_on (codes " ") reason_at l.reasons (length c.args.bytes.now - length l.reasons - 1) (length c.args.bytes.now - length l.reasons) l.rest.now c.in-Some.next.now x c.in-Some-reason_at.others.now (reasons_at c.args.bytes.now)
-        (omega arith) c.in-Some.ensures.reads c.in-Some-reason_at.ensures.reads l.invariant.same);
+          (omega arith) c.in-Some.ensures.reads c.in-Some-reason_at.ensures.reads l.invariant.same);
       room = rw pushed (omega arith);
     }
