@@ -6,8 +6,8 @@ use Rattle.dcsp_defs.specs.Csp.{Csp, Nogood, names, domain}
 use Rattle.dcsp_nogood.specs.Pairs.{value_at, pair_of}
 use Rattle.dcsp_defs.proofs.Lists.{get-In}
 use Rattle.abt_defs.specs.Agents.{Agent, Record}
-use Rattle.abt_invariants.proofs.Nogoods.{value_at-In}
-use Rattle.abt_invariants.proofs.Facts.{Sound, Distinct}
+use Rattle.law_invariants.proofs.Nogoods.{value_at-In}
+use Rattle.law_invariants.proofs.Facts.{Sound, Distinct}
 use Rattle.law_bounded_store.specs.Stores.{IsBoundedStore}
 
 -- the list without one item

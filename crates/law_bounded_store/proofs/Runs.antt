@@ -8,10 +8,10 @@ use Rattle.abt_defs.specs.Agents.{Message}
 use Rattle.abt_defs.specs.Steps.{Outcome, settle, receive}
 use Rattle.abt_defs.specs.Network.{Network, acted, left, next_number, deliver_head, deliver_at, deliver, ready, run, start, start_by, empty_network, settle_below, is_false, pairs}
 use Rattle.dcsp_defs.proofs.Lists.{In-below, get-In, filter-from}
-use Rattle.abt_invariants.proofs.Facts.{Sound, Kept}
-use Rattle.abt_invariants.proofs.Settles.{settles}
-use Rattle.abt_invariants.proofs.Receives.{received_sound}
-use Rattle.abt_invariants.proofs.Runs.{delivered, expected, settled_below, start_kept, In-pairs}
+use Rattle.law_invariants.proofs.Facts.{Sound, Kept}
+use Rattle.law_invariants.proofs.Settles.{settles}
+use Rattle.law_invariants.proofs.Receives.{received_sound}
+use Rattle.law_invariants.proofs.Runs.{delivered, expected, settled_below, start_kept, In-pairs}
 use Rattle.law_bounded_store.specs.Stores.{BoundedStores}
 use Rattle.law_bounded_store.proofs.Lengths.{bounded_store}
 

@@ -9,10 +9,10 @@ use Rattle.abt_defs.specs.Reasons.{ruled_out, derived, step_of}
 use Rattle.abt_defs.specs.Steps.{Outcome, stay, is_free, choice, take_value, refuse, take_or_refuse, settle}
 use Rattle.abt_defs.specs.Network.{sent_to, refutes, is_empty}
 use Rattle.dcsp_defs.proofs.Lists.{or_cases, or_left, or_right}
-use Rattle.abt_invariants.proofs.Sent.{sent_to-each}
-use Rattle.abt_invariants.proofs.Nogoods.{is_value-is}
-use Rattle.abt_invariants.proofs.Facts.{bit, Sound}
-use Rattle.abt_invariants.proofs.Settles.{derived_seen, choice_free}
+use Rattle.law_invariants.proofs.Sent.{sent_to-each}
+use Rattle.law_invariants.proofs.Nogoods.{is_value-is}
+use Rattle.law_invariants.proofs.Facts.{bit, Sound}
+use Rattle.law_invariants.proofs.Settles.{derived_seen, choice_free}
 use Rattle.law_message_bound.proofs.Sums.{how_many, how_many-more, how_many-one, sum-zero, sum-at_most}
 use Rattle.law_message_bound.proofs.Counts.{announces_in, nogoods_in, marked, RefusesOnce}
 

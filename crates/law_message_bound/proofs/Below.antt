@@ -6,7 +6,7 @@ use Rattle.dcsp_defs.specs.Csp.{Csp, count}
 use Rattle.dcsp_defs.proofs.Lists.{In-below, filter-from}
 use Rattle.abt_defs.specs.Network.{Network, ready, pairs, is_empty, run, start}
 use Rattle.abt_defs.specs.Bound.{message_bound}
-use Rattle.abt_invariants.proofs.Runs.{In-pairs}
+use Rattle.law_invariants.proofs.Runs.{In-pairs}
 use Rattle.law_message_bound.specs.Bounded.{UnfinishedBelow}
 use Rattle.law_message_bound.proofs.Total.{within}
 use Rattle.law_message_bound.proofs.Runs.{Goes, goes_run, goes_start}

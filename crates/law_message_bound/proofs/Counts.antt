@@ -5,8 +5,8 @@ use Rattle.dcsp_defs.specs.Csp.{Csp, domain, count}
 use Rattle.abt_defs.specs.Agents.{Agent, Message, Announce, Refuse, Add_link, Stamped, shares, known}
 use Rattle.abt_defs.specs.Reasons.{ruled_out}
 use Rattle.abt_defs.specs.Network.{Network}
-use Rattle.abt_invariants.proofs.Facts.{asks, bit, Sound}
-use Rattle.abt_invariants.proofs.Moves.{Moves}
+use Rattle.law_invariants.proofs.Facts.{asks, bit, Sound}
+use Rattle.law_invariants.proofs.Moves.{Moves}
 use Rattle.law_message_bound.proofs.Sums.{how_many, how_many-all, sum-add, sum-same}
 
 abbrev pub announces_in : List Message → ℕ

@@ -9,10 +9,10 @@ use Rattle.abt_defs.specs.Reasons.{Item, items, record_item, cause, ruled_out}
 use Rattle.abt_defs.specs.Steps.{Outcome, to_each, settle, stay, is_newer, learn, learn_all, is_news, unlinked, ask, fits, is_refused, keep, heed, first_sent, own_value, receive}
 use Rattle.abt_defs.specs.Network.{sent_to, refutes}
 use Rattle.dcsp_defs.proofs.Lists.{In-left, In-right, In-split, In-list_any, or_cases, or_left, or_right, and_left, and_right, find-found, find-some}
-use Rattle.abt_invariants.proofs.Sent.{sent_to-append}
-use Rattle.abt_invariants.proofs.Facts.{bit, AtLeast, Fine, Sound}
-use Rattle.abt_invariants.proofs.Learns.{learns_all}
-use Rattle.abt_invariants.proofs.Receives.{Takes, only, announced, heeded, unchanged, IsExpected}
+use Rattle.law_invariants.proofs.Sent.{sent_to-append}
+use Rattle.law_invariants.proofs.Facts.{bit, AtLeast, Fine, Sound}
+use Rattle.law_invariants.proofs.Learns.{learns_all}
+use Rattle.law_invariants.proofs.Receives.{Takes, only, announced, heeded, unchanged, IsExpected}
 use Rattle.law_message_bound.proofs.Sums.{how_many-le, sum-same, sum-zero, sum-le, sum-more}
 use Rattle.law_message_bound.proofs.Counts.{announces_in, nogoods_in, announces-append, nogoods-append, marked, stamp_in, stamps, Costs}
 use Rattle.law_message_bound.proofs.Acts.{SettleCosts, settle_costs}

@@ -9,9 +9,9 @@ use Rattle.abt_defs.specs.Steps.{Outcome, settle, receive}
 use Rattle.abt_defs.specs.Network.{Network, sent_to, acted, left, next_number, deliver_head, deliver_at, deliver, ready, run, start, empty_network, settle_below, is_false, start_by, pairs}
 use Rattle.abt_defs.specs.Bound.{message_bound}
 use Rattle.dcsp_defs.proofs.Lists.{In-below, get-In, filter-from}
-use Rattle.abt_invariants.proofs.Facts.{IsDated, Kept}
-use Rattle.abt_invariants.proofs.Receives.{Done, only, receives}
-use Rattle.abt_invariants.proofs.Runs.{moved, expected, delivered, settled, settled_below, In-pairs, split_at}
+use Rattle.law_invariants.proofs.Facts.{IsDated, Kept}
+use Rattle.law_invariants.proofs.Receives.{Done, only, receives}
+use Rattle.law_invariants.proofs.Runs.{moved, expected, delivered, settled, settled_below, In-pairs, split_at}
 use Rattle.law_message_bound.specs.Bounded.{Bounded}
 use Rattle.law_message_bound.proofs.Sums.{sum-zero, sum-at}
 use Rattle.law_message_bound.proofs.Counts.{Counted, Costs, counted_after, stamps, stamp_in}

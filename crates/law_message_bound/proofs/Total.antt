@@ -7,7 +7,7 @@ use Rattle.dcsp_defs.specs.Csp.{Csp, domain, count}
 use Rattle.abt_defs.specs.Agents.{Stamped, shares}
 use Rattle.abt_defs.specs.Network.{Network}
 use Rattle.abt_defs.specs.Bound.{product_below, message_bound}
-use Rattle.abt_invariants.proofs.Facts.{bit, asks, Kept}
+use Rattle.law_invariants.proofs.Facts.{bit, asks, Kept}
 use Rattle.law_message_bound.proofs.Sums.{how_many-all, sum-add, sum-same, sum-le, sum-cut}
 use Rattle.law_message_bound.proofs.Counts.{Counted, marked, stamp_in}
 

@@ -9,9 +9,9 @@ use Rattle.abt_defs.specs.Reasons.{Item, items, constraint_item, ruled_out}
 use Rattle.dcsp_defs.specs.Csp.{owns}
 use Rattle.abt_defs.specs.Network.{Network, IsQuiet, IsSolved, values, run, start, is_false, is_empty, deliver, start_by}
 use Rattle.dcsp_defs.proofs.Lists.{In-left, In-map, In-filter, In-list_all, list_any-In, find-some, and_both}
-use Rattle.abt_invariants.proofs.Facts.{asks, bit, Chosen, Kept}
-use Rattle.abt_invariants.proofs.Owners.{owner_in, has_owner}
-use Rattle.abt_invariants.proofs.Runs.{runs, started}
+use Rattle.law_invariants.proofs.Facts.{asks, bit, Chosen, Kept}
+use Rattle.law_invariants.proofs.Owners.{owner_in, has_owner}
+use Rattle.law_invariants.proofs.Runs.{runs, started}
 use Rattle.law_no_stall.specs.NoStall.{NoStall}
 
 In-enumerate : {X : Type 0} → (x : X) (n : ℕ) (xs : List X) → In x xs → (k : ℕ) × In (k, x) (enumerate_from n xs)

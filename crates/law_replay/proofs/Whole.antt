@@ -11,7 +11,7 @@ use Rattle.abt_defs.specs.Runs.{End, Refuted, Solved, Capped, Spent, Run, stop, 
 use Rattle.abt_defs.specs.Bound.{message_bound}
 use Rattle.dcsp_defs.proofs.Lists.{In-left, In-right, In-below, below-In, In-map, In-filter, get-In, filter-from}
 use Rattle.dcsp_defs.proofs.Sound.{refutations_refute}
-use Rattle.abt_invariants.proofs.Runs.{In-pairs}
+use Rattle.law_invariants.proofs.Runs.{In-pairs}
 use Rattle.law_no_stall.proofs.Stall.{no_stall}
 use Rattle.law_message_bound.proofs.Runs.{Goes as Counts, goes_run, goes_start, no_deliveries}
 use Rattle.law_message_bound.proofs.Below.{below_bound}

@@ -1,5 +1,5 @@
 -- The derived nogood is the union of what the reasons contribute.
-use Rattle.std.proofs.Common.{◌≡◌, ◌≢◌, ℕ, zero, suc, ◌<◌, ◌≤◌, Bool, true, false, cond, ◌⊎◌, inl, inr, List, [], ◌∷◌, map, filter, filter_map, ◌==◌, Option, Some, None, ℤ, is_some, refl, sym, ap, ◌∙◌, subst, arith}
+use Rattle.std.proofs.Common.{◌≡◌, ◌≢◌, ℕ, ◌<◌, Bool, true, false, cond, ◌⊎◌, inl, inr, List, [], ◌∷◌, map, filter, ◌==◌, Option, Some, None, ℤ, is_some, refl, sym, ap, ◌∙◌, subst, arith}
 use Rattle.std.proofs.lemmas.Bool.Decides.{eqb_tells}
 use Rattle.std.proofs.lemmas.Bool.{eqb-true}
 use Rattle.std.specs.List.{list_any, cons_option, enumerate_from}
@@ -11,12 +11,12 @@ use Rattle.dcsp_defs.specs.Csp.{Csp, IsCsp, Constraint, Known, Nogood, names, ow
 use Rattle.dcsp_defs.proofs.Lists.{In-map, In-split, In-below, In-filter_map, In-list_any, find-found, get-In, filter-from}
 use Rattle.abt_defs.specs.Agents.{Agent, Record, Stamped, plain, known, value_in}
 use Rattle.abt_defs.specs.Reasons.{Item, items, constraint_item, record_item, known_pairs, cause, causes, blamed, derived}
-use Rattle.abt_defs.specs.Network.{Network, run, start}
-use Rattle.abt_invariants.proofs.Nogoods.{In-map-from, In-plain, value_at-In, In-value_at}
-use Rattle.abt_invariants.proofs.Owners.{owner_greatest}
-use Rattle.abt_invariants.proofs.Facts.{Sound}
-use Rattle.abt_invariants.proofs.Settles.{blamed-some, pair_at-some}
-use Rattle.abt_invariants.proofs.Runs.{runs, started}
+use Rattle.abt_defs.specs.Network.{run, start}
+use Rattle.law_invariants.proofs.Nogoods.{In-map-from, In-plain, value_at-In}
+use Rattle.law_invariants.proofs.Owners.{owner_greatest}
+use Rattle.law_invariants.proofs.Facts.{Sound}
+use Rattle.law_invariants.proofs.Settles.{blamed-some}
+use Rattle.law_invariants.proofs.Runs.{runs, started}
 use Rattle.law_right_steps.specs.Merges.{IsUnionOfReasons, MergesAreUnions}
 use Rattle.law_right_steps.proofs.Reasons.{derived_given, enumerate-at, seen_is}
 

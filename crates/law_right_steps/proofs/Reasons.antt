@@ -12,10 +12,10 @@ use Rattle.abt_defs.specs.Agents.{Agent, Record, Stamped, StampedNogood, plain, 
 use Rattle.abt_defs.specs.Reasons.{Item, items, constraint_item, record_item, cause, causes, ruled_out, blamed, derived, step_of}
 use Rattle.dcsp_defs.specs.Csp.{owns}
 use Rattle.dcsp_defs.proofs.Lists.{In-map, In-split, In-below, In-filter_map, find-found, list_any-In, list_all-In, In-list_all, and_left, and_right, and_both, get-In, filter-from}
-use Rattle.abt_invariants.proofs.Nogoods.{In-map-from, In-plain, pairs_rise, unnamed_none}
-use Rattle.abt_invariants.proofs.Owners.{owner_greatest}
-use Rattle.abt_invariants.proofs.Facts.{Sound}
-use Rattle.abt_invariants.proofs.Settles.{blamed-some, derived_seen, derived_higher, derived_rises}
+use Rattle.law_invariants.proofs.Nogoods.{In-map-from, In-plain, pairs_rise, unnamed_none}
+use Rattle.law_invariants.proofs.Owners.{owner_greatest}
+use Rattle.law_invariants.proofs.Facts.{Sound}
+use Rattle.law_invariants.proofs.Settles.{blamed-some, derived_seen, derived_higher, derived_rises}
 
 -- ---- what the derived nogood gives
 

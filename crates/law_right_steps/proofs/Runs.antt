@@ -10,12 +10,13 @@ use Rattle.abt_defs.specs.Agents.{Agent, Message, Announce, Refuse, Add_link, Re
 use Rattle.abt_defs.specs.Reasons.{ruled_out, derived, step_of}
 use Rattle.abt_defs.specs.Steps.{Outcome, stay, to_each, is_free, choice, refuse, take_or_refuse, settle, is_newer, learn, learn_all, is_news, is_named, unlinked, ask, heed, first_sent, own_value, receive}
 use Rattle.abt_defs.specs.Network.{Network, sent_to, acted, left, next_number, deliver_head, deliver_at, deliver, ready, run, start, start_by, empty_network, settle_below, is_empty, is_false, pairs}
-use Rattle.dcsp_defs.proofs.Lists.{find-found, In-split, In-below, and_left, and_right, get-In, get-last, get-more, filter-from}
-use Rattle.abt_invariants.proofs.Sent.{In-cond, sent_to-each, sent_to-append}
-use Rattle.abt_invariants.proofs.Facts.{Fine, Sound, Kept}
-use Rattle.abt_invariants.proofs.Learns.{learns_one, learns_all, keeps}
-use Rattle.abt_invariants.proofs.Receives.{announced, heeded, IsExpected}
-use Rattle.abt_invariants.proofs.Runs.{delivered, expected, settled_below, In-pairs}
+use Rattle.dcsp_defs.proofs.Derivations.{no_steps, derivation_push}
+use Rattle.dcsp_defs.proofs.Lists.{find-found, In-split, In-below, and_left, and_right, get-In, get-last, filter-from}
+use Rattle.law_invariants.proofs.Sent.{In-cond, sent_to-each, sent_to-append}
+use Rattle.law_invariants.proofs.Facts.{Fine, Sound, Kept}
+use Rattle.law_invariants.proofs.Learns.{learns_one, learns_all, keeps}
+use Rattle.law_invariants.proofs.Receives.{announced, heeded, IsExpected}
+use Rattle.law_invariants.proofs.Runs.{delivered, expected, settled_below, In-pairs}
 use Rattle.law_right_steps.specs.StepsRight.{StepsRight}
 use Rattle.law_right_steps.proofs.Reasons.{Source, step_right, enumerate-at}
 
@@ -159,13 +160,7 @@ pub record Right (p : Csp) (net : Network) : Type 0 where
 
 right-more : (p : Csp) (steps : List Step) (o : Option Step) → IsDerivation p steps → OptionRight p steps o → IsDerivation p (steps ++ option_to_list o)
 right-more p steps None h r = subst (IsDerivation p) (sym (append-nil steps)) h
-right-more p steps (Some s) h r = λ k step e. elim (get-more steps s step k e) [
-  | inl old ↦ subst (λ (earlier : List Step). IsRight p earlier step) (sym old.1) (h k step old.0)
-  | inr new ↦ subst (λ (earlier : List Step). IsRight p earlier step) (sym new.1) (subst (IsRight p steps) (sym new.0) r)
-]
-
-no_steps : (p : Csp) → IsDerivation p []
-no_steps p k step e = cc
+right-more p steps (Some s) h r = derivation_push p steps s h r
 
 grown : (p : Csp) (i : ℕ) (net : Network) (links : ℕ → ℕ → List Message) (d : ℕ) (o : Outcome) → ((k j : ℕ) (m : Message) → In m (links k j) → IsRooted net.steps m) → AllRooted p net → Grown p net.steps o → AllRooted p (acted i o (record net { links = links; deliveries = d }))
 grown p i net links d o g h x = record {

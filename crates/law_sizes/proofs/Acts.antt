@@ -6,8 +6,8 @@ use Rattle.abt_defs.specs.Agents.{Agent, Message, Announce, Refuse, Add_link, St
 use Rattle.abt_defs.specs.Reasons.{derived, step_of}
 use Rattle.abt_defs.specs.Steps.{Outcome, stay, to_each, is_free, choice, refuse, take_or_refuse, settle, is_newer, forget, learn, learn_all, is_news, unlinked, ask, heed, first_sent, receive}
 use Rattle.abt_defs.specs.Network.{refutes, is_empty}
-use Rattle.abt_invariants.proofs.Learns.{learns_all, keeps}
-use Rattle.abt_invariants.proofs.Settles.{derived_seen}
+use Rattle.law_invariants.proofs.Learns.{learns_all, keeps}
+use Rattle.law_invariants.proofs.Settles.{derived_seen}
 
 abbrev pub HasValue : Agent → Type 0
 HasValue a = (v : ℤ) × (a.value ≡ Some v)

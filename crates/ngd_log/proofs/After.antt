@@ -47,6 +47,7 @@ pub after_other : (c b : ℕ) (text bytes : List ℕ) → (b ≡ c → ⊥) → 
 unfolding after
 after_other c b text bytes n = rw (ne_eqb b c n) refl
 
+-- nothing is taken from no bytes
 pub after_nothing : (c : ℕ) (text : List ℕ) → after (c ∷ text) [] ≡ None
 unfolding after
 after_nothing c text = refl

@@ -17,9 +17,11 @@ pub bind_some : {A B : Type 0} (o : Option A) (f : A → Option B) (y : B) → (
 bind_some (Some x) f y e = (x, refl, e)
 bind_some None f y e = absurd cc
 
+-- a value that is there
 abbrev pub some : {A : Type 0} → A → Option A
 some x = Some x
 
+-- equal options have equal values
 pub some_is : {A : Type 0} (x y : A) → some x ≡ some y → x ≡ y
 some_is x y e = cc
 

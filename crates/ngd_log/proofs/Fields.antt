@@ -21,11 +21,13 @@ pub record Took (bytes text rest : List ℕ) (P : Type 0) : Type 0 where
 
 -- ---- signed numbers
 
+-- the value of the digits after `-`
 negative_is : (n : ℕ) (unsigned : List ℕ) (v : ℤ) (rest : List ℕ) → 0 < n → n ≤ 2 ^ 63 → neg_ℤ (pos n) ≡ v → unsigned ≡ decimal n ++ rest → Took (45 ∷ unsigned) (signed_decimal v) rest (FitsSigned w64 v)
 negative_is zero unsigned v rest some most e parts = absurd (omega arith)
 negative_is (suc n) unsigned v rest some most e parts =
     subst (λ (w : ℤ). Took (45 ∷ unsigned) (signed_decimal w) rest (FitsSigned w64 w)) e (record { parts = ap (λ (x : List ℕ). 45 ∷ x) parts; holds = record { sfits = omega arith } })
 
+-- what was read with or without `-`
 signed_takes : (bytes : List ℕ) (o : Option (List ℕ)) (v : ℤ) (rest : List ℕ) → after (codes "-") bytes ≡ o → signed_at bytes o ≡ Some (v, rest) → Took bytes (signed_decimal v) rest (FitsSigned w64 v)
 unfolding negative plain
 signed_takes bytes (Some unsigned) v rest a h =
@@ -41,10 +43,12 @@ signed_takes bytes None v rest a h =
     let t = number_takes bytes n.0 n.1 r in
     subst (λ (x : ℤ × List ℕ). Took bytes (signed_decimal x.0) x.1 (FitsSigned w64 x.0)) p.1 (record { parts = t.parts; holds = record { sfits = ltb-true _ _ p.0 } }))
 
+-- a signed number that was read is the text of its value
 pub integer_takes : (bytes : List ℕ) (v : ℤ) (rest : List ℕ) → integer_at bytes ≡ Some (v, rest) → Took bytes (signed_decimal v) rest (FitsSigned w64 v)
 unfolding integer_at
 integer_takes bytes v rest h = signed_takes bytes (after (codes "-") bytes) v rest refl h
 
+-- the text of a value is read again
 pub integer_again : (v : ℤ) (rest : List ℕ) → FitsSigned w64 v → begins_with_digit rest ≡ false → integer_at (signed_decimal v ++ rest) ≡ Some (v, rest)
 unfolding integer_at negative plain
 integer_again (pos n) rest fits stop =
@@ -57,6 +61,7 @@ integer_again (negsuc n) rest fits stop =
 
 -- ---- numbers in a range
 
+-- a number in a range that was read
 pub counted_takes : (most : ℕ) (bytes : List ℕ) (x : ℕ) (rest : List ℕ) → counted_at most bytes ≡ Some (x, rest) → Took bytes (decimal (x + 1)) rest (x < most)
 unfolding counted_at
 counted_takes most bytes x rest h =
@@ -68,12 +73,14 @@ counted_takes most bytes x rest h =
     let same : n.0 - 1 + 1 ≡ n.0 = omega arith in
     subst (λ (y : ℕ × List ℕ). Took bytes (decimal (y.0 + 1)) y.1 (y.0 < most)) p.1 (record { parts = rw same t.parts; holds = omega arith }))
 
+-- a number in the range is read again
 pub counted_again : (most x : ℕ) (rest : List ℕ) → x < most → most < 2 ^ 64 → begins_with_digit rest ≡ false → counted_at most (decimal (x + 1) ++ rest) ≡ Some (x, rest)
 unfolding counted_at
 counted_again most x rest within fits stop =
     let e : x + 1 - 1 ≡ x = omega arith in
     rw (number_again (x + 1) rest (omega arith) stop, lt-ltb 0 (x + 1) (omega arith), le-leb (x + 1) most (omega arith), e) refl
 
+-- a step's number that was read
 pub step_number_takes : (bytes : List ℕ) (k : ℕ) (rest : List ℕ) → step_number_at bytes ≡ Some (k, rest) → Took bytes (decimal k) rest (IsStepNumber k)
 unfolding step_number_at
 step_number_takes bytes k rest h =
@@ -83,6 +90,7 @@ step_number_takes bytes k rest h =
     subst (λ (y : ℕ × List ℕ). Took bytes (decimal y.0) y.1 (IsStepNumber y.0)) p.1
     (record { parts = t.parts; holds = record { positive = ltb-true _ _ (and_left _ _ p.0); bounded = leb-true _ _ (and_right _ _ p.0) } }))
 
+-- a step's number is read again
 pub step_number_again : (k : ℕ) (rest : List ℕ) → IsStepNumber k → begins_with_digit rest ≡ false → step_number_at (decimal k ++ rest) ≡ Some (k, rest)
 unfolding step_number_at
 step_number_again k rest fits stop =
@@ -96,6 +104,7 @@ pub record IsPair (y : Pair) : Type 0 where
   pub variable : IsVariable y.var
   pub value : FitsSigned w64 y.value
 
+-- a pair that was read
 pub pair_takes : (bytes : List ℕ) (y : Pair) (rest : List ℕ) → pair_at bytes ≡ Some (y, rest) → Took bytes (pair_text y) rest (IsPair y)
 unfolding pair_at
 pair_takes bytes y rest h =
@@ -109,6 +118,7 @@ pair_takes bytes y rest h =
     let parts : bytes ≡ pair_text made.0 ++ made.1 = after_takes (codes "v") bytes a ra ∙ rw (t.parts, after_takes (codes "=") x.1 b rb, u.parts) (simp append_assoc) in
     subst (λ (z : Pair × List ℕ). Took bytes (pair_text z.0) z.1 (IsPair z.0)) (some_is made (y, rest) i) (record { parts = parts; holds = record { variable = t.holds; value = u.holds } })))))
 
+-- a pair's text is read again
 pub pair_again : (y : Pair) (rest : List ℕ) → IsPair y → begins_with_digit rest ≡ false → pair_at (pair_text y ++ rest) ≡ Some (y, rest)
 unfolding pair_at
 pair_again y rest fits stop =
@@ -123,6 +133,7 @@ pair_again y rest fits stop =
 
 -- ---- reasons
 
+-- a reason that was read
 pub reason_takes : (bytes : List ℕ) (r : Reason) (rest : List ℕ) → reason_at bytes ≡ Some (r, rest) → Took bytes (reason_text r) rest (IsReasonInRange r)
 unfolding reason_at
 reason_takes [] r rest h = absurd cc
@@ -144,6 +155,7 @@ reason_takes (b ∷ bytes) r rest h =
           ]
     ]
 
+-- a reason's text is read again
 pub reason_again : (r : Reason) (rest : List ℕ) → IsReasonInRange r → begins_with_digit rest ≡ false → reason_at (reason_text r ++ rest) ≡ Some (r, rest)
 unfolding reason_at
 reason_again (Rule x) rest fits stop = rw (counted_again 262144 x rest fits (omega arith) stop) refl

@@ -24,6 +24,7 @@ Takes {X = X} item text ok = (bytes : List ℕ) (x : X) (rest : List ℕ) → it
 abbrev pub Again : {X : Type 0} → (List ℕ → Option (X × List ℕ)) → (X → List ℕ) → (X → Type 0) → Type 0
 Again {X = X} item text ok = (x : X) (rest : List ℕ) → ok x → begins_with_digit rest ≡ false → item (text x ++ rest) ≡ Some (x, rest)
 
+-- items that were read
 items_takes : {X : Type 0} (c : ℕ) (item : List ℕ → Option (X × List ℕ)) (text : X → List ℕ) (ok : X → Type 0) → Takes item text ok
     → (most : ℕ) (bytes : List ℕ) (xs : List X) (rest : List ℕ) → items_at (c ∷ []) item most bytes ≡ Some (xs, rest) → Took bytes (items_text c text xs) rest (AllByRecursion ok xs)
 unfolding items_at
@@ -41,10 +42,12 @@ items_takes {X = X} c item text ok law (suc most) bytes xs rest h =
           subst (λ (p : List X × List ℕ). Took bytes (items_text c text p.0) p.1 (AllByRecursion ok p.0)) (some_is (x.0 ∷ ys.0, ys.1) (xs, rest) f) (record { parts = parts; holds = (t.holds, u.holds) })))
     ]) refl h
 
+-- no digit stands at the front of items behind a separator that is none
 stops : {X : Type 0} (c : ℕ) (text : X → List ℕ) (xs : List X) (rest : List ℕ) → is_ascii_digit c ≡ false → begins_with_digit rest ≡ false → begins_with_digit (items_text c text xs ++ rest) ≡ false
 stops c text [] rest d stop = stop
 stops c text (x ∷ xs) rest d stop = d
 
+-- the text of items is read again
 items_again : {X : Type 0} (c : ℕ) (item : List ℕ → Option (X × List ℕ)) (text : X → List ℕ) (ok : X → Type 0) → Again item text ok → is_ascii_digit c ≡ false
     → (most : ℕ) (xs : List X) (rest : List ℕ) → length xs ≤ most → AllByRecursion ok xs → begins_with_digit rest ≡ false → after (c ∷ []) rest ≡ None
     → items_at (c ∷ []) item most (items_text c text xs ++ rest) ≡ Some (xs, rest)
@@ -71,20 +74,25 @@ fewer c text (x ∷ xs) rest =
 
 -- ---- reasons
 
+-- reasons that were read
 pub reasons_takes : (bytes : List ℕ) (rs : List Reason) (rest : List ℕ) → reasons_at bytes ≡ Some (rs, rest) → Took bytes (reasons_text rs) rest (AllByRecursion IsReasonInRange rs)
 reasons_takes bytes rs rest h = items_takes 32 reason_at reason_text IsReasonInRange reason_takes (length bytes) bytes rs rest h
 
+-- the text of reasons is read again
 pub reasons_again : (rs : List Reason) (rest : List ℕ) → AllByRecursion IsReasonInRange rs → begins_with_digit rest ≡ false → after (codes " ") rest ≡ None → reasons_at (reasons_text rs ++ rest) ≡ Some (rs, rest)
 reasons_again rs rest h stop none = items_again 32 reason_at reason_text IsReasonInRange reason_again refl (length (reasons_text rs ++ rest)) rs rest (fewer 32 reason_text rs rest) h stop none
 
 -- ---- pairs
 
+-- five texts, joined from the right
 regroup : (a b c d rest : List ℕ) → (a ++ b ++ c ++ d) ++ rest ≡ a ++ (b ++ (c ++ (d ++ rest)))
 regroup a b c d rest = simp append_assoc
 
+-- pairs, by their parts
 joined : (bytes a : List ℕ) (y : Pair) (b : List ℕ) (ys : List Pair) (d r : List ℕ) → bytes ≡ codes "[" ++ a → a ≡ pair_text y ++ b → b ≡ items_text 44 pair_text ys ++ d → d ≡ codes "]" ++ r → bytes ≡ pairs_text (y ∷ ys) ++ r
 joined bytes a y b ys d r e f g h = rw (e, f, g, h) (sym (regroup (codes "[") (pair_text y) (items_text 44 pair_text ys) (codes "]") r))
 
+-- pairs that were read
 pub pairs_takes : (bytes : List ℕ) (ys : List Pair) (rest : List ℕ) → pairs_at bytes ≡ Some (ys, rest) → Took bytes (pairs_text ys) rest (AllByRecursion IsPair ys)
 unfolding pairs_at pairs_before
 pairs_takes bytes ys rest h =
@@ -108,6 +116,7 @@ pairs_takes bytes ys rest h =
           subst (λ (p : List Pair × List ℕ). Took bytes (pairs_text p.0) p.1 (AllByRecursion IsPair p.0)) (some_is (zs.0, r) (ys, rest) i) second))))
     ]) refl e)
 
+-- the text of pairs is read again
 pub pairs_again : (ys : List Pair) (rest : List ℕ) → AllByRecursion IsPair ys → pairs_at (pairs_text ys ++ rest) ≡ Some (ys, rest)
 unfolding pairs_at pairs_before after
 pairs_again [] rest h = refl

@@ -7,6 +7,7 @@ use Rattle.ngd_log.specs.Reading.{◌>>=◌, after, items_at}
 abbrev pub with_front : {X : Type 0} → List X → Option (List X × List ℕ) → Option (List X × List ℕ)
 with_front front read = read >>= λ xs. Some (front ++ xs.0, xs.1)
 
+-- one item more in front
 regroup : {X : Type 0} (front : List X) (x : X) (read : Option (List X × List ℕ)) → with_front front (read >>= λ xs. Some (x ∷ xs.0, xs.1)) ≡ with_front (front ++ x ∷ []) read
 regroup {X = X} front x (Some xs) = ap (λ (ys : List X). Some (ys, xs.1)) (simp append_assoc)
 regroup front x None = refl

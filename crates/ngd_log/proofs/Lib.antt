@@ -8,4 +8,7 @@ pub mod Fields
 pub mod ItemLaws
 pub mod LineLaws
 pub mod LineFeeds
+pub mod LogLines
+pub mod FirstBad
 pub mod LogLaws
+pub mod Answered

@@ -22,46 +22,56 @@ use Rattle.ngd_log.proofs.Numbers.{decimal_digits}
 
 -- ---- a step's line has one line feed
 
+-- no digit is a line feed
 no_feed_in_digits : (ds : List ℕ) → all_ascii_digits ds ≡ true → HasNoLineFeed ds
 no_feed_in_digits [] h = tt
 no_feed_in_digits (c ∷ cs) h =
     let d : is_ascii_digit c ≡ true = and_left _ _ h in
     (ne_eqb c 10 (λ e. absurd (false≢true (ap is_ascii_digit (sym e) ∙ d))), no_feed_in_digits cs (and_right _ _ h))
 
+-- nor is one in a number
 no_feed_in_decimal : (n : ℕ) → n < 2 ^ 64 → HasNoLineFeed (decimal n)
 no_feed_in_decimal n small = no_feed_in_digits (decimal n) (decimal_digits n small)
 
+-- in a signed number
 no_feed_in_signed : (v : ℤ) → FitsSigned w64 v → HasNoLineFeed (signed_decimal v)
 no_feed_in_signed (pos n) fits = let s : n < 2 ^ 63 = fits.sfits in no_feed_in_decimal n (omega arith)
 no_feed_in_signed (negsuc n) fits = let s : n < 2 ^ 63 = fits.sfits in (refl, no_feed_in_decimal (suc n) (omega arith))
 
+-- in two texts
 both : (xs ys : List ℕ) → HasNoLineFeed xs → HasNoLineFeed ys → HasNoLineFeed (xs ++ ys)
 both xs ys h k = each_append (λ b. eqb b 10 ≡ false) xs ys h k
 
+-- in a pair
 no_feed_in_pair : (y : Pair) → IsPair y → HasNoLineFeed (pair_text y)
 no_feed_in_pair y i =
     let v = i.variable in
     both (codes "v" ++ decimal (y.var + 1) ++ codes "=") (signed_decimal y.value)
     (both (codes "v" ++ decimal (y.var + 1)) (codes "=") (refl, no_feed_in_decimal (y.var + 1) (omega arith)) (refl, tt)) (no_feed_in_signed y.value i.value)
 
+-- in items
 no_feed_in_items : {X : Type 0} (c : ℕ) (text : X → List ℕ) (ok : X → Type 0) (xs : List X) → eqb c 10 ≡ false → ((x : X) → ok x → HasNoLineFeed (text x)) → AllByRecursion ok xs → HasNoLineFeed (flat_map (λ x. (c ∷ []) ++ text x) xs)
 no_feed_in_items c text ok [] e f h = tt
 no_feed_in_items c text ok (x ∷ xs) e f h = (e, both (text x) (flat_map (λ x. (c ∷ []) ++ text x) xs) (f x h.0) (no_feed_in_items c text ok xs e f h.1))
 
+-- in pairs
 no_feed_in_pairs : (ys : List Pair) → AllByRecursion IsPair ys → HasNoLineFeed (pairs_text ys)
 no_feed_in_pairs [] h = (refl, (refl, tt))
 no_feed_in_pairs (y ∷ ys) h =
     both (codes "[" ++ pair_text y ++ flat_map (λ (z : Pair). codes "," ++ pair_text z) ys) (codes "]")
     (both (codes "[" ++ pair_text y) (flat_map (λ (z : Pair). codes "," ++ pair_text z) ys) (refl, no_feed_in_pair y h.0) (no_feed_in_items 44 pair_text IsPair ys refl no_feed_in_pair h.1)) (refl, tt)
 
+-- in a reason
 no_feed_in_reason : (r : Reason) → IsReasonInRange r → HasNoLineFeed (reason_text r)
 no_feed_in_reason (Rule x) h = (refl, no_feed_in_decimal (x + 1) (omega arith))
 no_feed_in_reason (Earlier k) h = let b = h.bounded in (refl, no_feed_in_decimal k (omega arith))
 
+-- in a variable
 no_feed_in_variable : (o : Option ℕ) (nogood : List Pair) (reasons : List Reason) → IsWritable (record { variable = o; nogood = nogood; reasons = reasons }) → HasNoLineFeed (variable_text o)
 no_feed_in_variable None nogood reasons w = (refl, tt)
 no_feed_in_variable (Some x) nogood reasons w = let v : x < 4096 = w.in_range.variable in (refl, no_feed_in_decimal (x + 1) (omega arith))
 
+-- a step's line has one line feed, at its end
 pub step_line-IsLine : (number : ℕ) (step : Step) → IsStepNumber number → IsWritable step → IsLine (step_line number step)
 step_line-IsLine number step numbered w =
     let a = decimal number in
@@ -87,6 +97,7 @@ step_line-IsLine number step numbered w =
 
 -- ---- lines
 
+-- bytes without a line feed, and one
 lines-cons : (body rest : List ℕ) → HasNoLineFeed body → lines (body ++ codes "\n" ++ rest) ≡ (body ++ codes "\n") ∷ lines rest
 lines-cons [] rest h = refl
 lines-cons (b ∷ body) rest h = rw (h.0, lines-cons body rest h.1) refl
@@ -106,6 +117,7 @@ lines_plain [] h some = absurd (omega arith)
 lines_plain (b ∷ []) h some = rw h.0 refl
 lines_plain (b ∷ c ∷ text) h some = rw (h.0, lines_plain (c ∷ text) h.1 (omega arith)) refl
 
+-- there is a line before which the byte stands
 with_byte-some : (b : ℕ) (ls : List (List ℕ)) → with_byte b ls ≡ [] → ⊥
 with_byte-some b [] h = cc
 with_byte-some b (l ∷ ls) h = cc
@@ -116,6 +128,7 @@ no_lines [] h = refl
 no_lines (b ∷ text) h =
     elim (chosen (eqb b 10) ((b ∷ []) ∷ lines text) (with_byte b (lines text)) [] h) [ inl e ↦ absurd (let g = e.1 in cc) | inr e ↦ absurd (with_byte-some b (lines text) e.1) ]
 
+-- the byte stands first
 concat-with_byte : (b : ℕ) (ls : List (List ℕ)) → concat (with_byte b ls) ≡ b ∷ concat ls
 concat-with_byte b [] = refl
 concat-with_byte b (l ∷ ls) = refl

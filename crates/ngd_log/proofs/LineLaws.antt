@@ -24,6 +24,7 @@ use Rattle.ngd_log.proofs.ItemLaws.{reasons_takes, reasons_again, pairs_takes, p
 abbrev pub rest_text : Option ℕ → List Pair → List Reason → List ℕ
 rest_text variable nogood reasons = variable_text variable ++ (codes " " ++ (pairs_text nogood ++ (codes " <-" ++ (reasons_text reasons ++ codes "\n"))))
 
+-- eight texts, joined from the right
 regroup : (a b c d e f g h : List ℕ) → a ++ b ++ c ++ d ++ e ++ f ++ g ++ h ≡ a ++ (b ++ (c ++ (d ++ (e ++ (f ++ (g ++ h))))))
 regroup a b c d e f g h = simp append_assoc
 
@@ -31,6 +32,7 @@ regroup a b c d e f g h = simp append_assoc
 pub step_line_is : (number : ℕ) (step : Step) → step_line number step ≡ decimal number ++ (codes " " ++ rest_text step.variable step.nogood step.reasons)
 step_line_is number step = regroup (decimal number) (codes " ") (variable_text step.variable) (codes " ") (pairs_text step.nogood) (codes " <-") (reasons_text step.reasons) (codes "\n")
 
+-- one line feed
 line_feed_is : (bytes : List ℕ) → is_line_feed bytes ≡ true → bytes ≡ codes "\n"
 line_feed_is [] h = absurd cc
 line_feed_is (b ∷ []) h = ap (λ (x : ℕ). x ∷ []) (eqb-true _ _ h)
@@ -40,11 +42,13 @@ line_feed_is (b ∷ c ∷ bytes) h = absurd cc
 abbrev pub TookRest : List ℕ → Step → Type 0
 TookRest bytes step = Took bytes (rest_text step.variable step.nogood step.reasons) [] (IsWritable step)
 
+-- the rest of a line, by its parts
 joined : (bytes a : List ℕ) (x : ℕ) (b c : List ℕ) (ys : List Pair) (d e : List ℕ) (rs : List Reason) (rest : List ℕ)
     → bytes ≡ codes "v" ++ a → a ≡ decimal (x + 1) ++ b → b ≡ codes " " ++ c → c ≡ pairs_text ys ++ d → d ≡ codes " <-" ++ e → e ≡ reasons_text rs ++ rest → rest ≡ codes "\n"
     → bytes ≡ rest_text (Some x) ys rs ++ []
 joined bytes a x b c ys d e rs rest h1 h2 h3 h4 h5 h6 h7 = rw (h1, h2, h3, h4, h5, h6, h7) (sym (append-nil (rest_text (Some x) ys rs)))
 
+-- a step with a variable that was read
 variable_takes : (bytes : List ℕ) (step : Step) → variable_step bytes ≡ Some step → TookRest bytes step
 unfolding variable_step
 variable_takes bytes step h =
@@ -72,6 +76,7 @@ variable_takes bytes step h =
     let second : TookRest bytes made = subst (λ (zs : List Pair). TookRest bytes (record { variable = Some x.0; nogood = zs; reasons = rs.0 })) n.0 first in
     subst (λ (s : Step). TookRest bytes s) p.1 second)))))))
 
+-- the line of a step with a variable is read again
 variable_again : (x : ℕ) (nogood : List Pair) (reasons : List Reason) → IsWritable (record { variable = Some x; nogood = nogood; reasons = reasons })
     → variable_step (rest_text (Some x) nogood reasons) ≡ Some (record { variable = Some x; nogood = nogood; reasons = reasons })
 unfolding variable_step after
@@ -87,6 +92,7 @@ variable_again x nogood reasons w =
 rule_text : (rule : ℕ) → rest_text None [] (Rule rule ∷ []) ≡ codes "- [] <- c" ++ (decimal (rule + 1) ++ codes "\n")
 rule_text rule = ap (λ (x : List ℕ). codes "- [] <- c" ++ (x ++ codes "\n")) (append-nil (decimal (rule + 1)))
 
+-- a step without a variable that was read
 rule_takes : (bytes : List ℕ) (step : Step) → rule_step bytes ≡ Some step → TookRest (codes "- [] <- c" ++ bytes) step
 unfolding rule_step
 rule_takes bytes step h =
@@ -103,18 +109,22 @@ rule_takes bytes step h =
     let first : TookRest (codes "- [] <- c" ++ bytes) made = record { parts = parts; holds = fits } in
     subst (λ (s : Step). TookRest (codes "- [] <- c" ++ bytes) s) p.1 first)
 
+-- the line of a step without a variable is read again
 rule_again : (rule : ℕ) → rule < 262144 → rule_step (decimal (rule + 1) ++ codes "\n") ≡ Some (record { variable = None; nogood = []; reasons = Rule rule ∷ [] })
 unfolding rule_step
 rule_again rule h = rw (counted_again 262144 rule (codes "\n") h (omega arith) refl) refl
 
+-- a step of either form that was read
 form_takes : (a : List ℕ) (o : Option (List ℕ)) (step : Step) → after (codes "- [] <- c") a ≡ o → form_at a o ≡ Some step → TookRest a step
 form_takes a None step r h = variable_takes a step h
 form_takes a (Some bytes) step r h = rw (after_takes (codes "- [] <- c") a bytes r) (rule_takes bytes step h)
 
+-- a line with a variable has not the second form
 variable_form : (x : ℕ) (nogood : List Pair) (reasons : List Reason) → after (codes "- [] <- c") (rest_text (Some x) nogood reasons) ≡ None
 unfolding after
 variable_form x nogood reasons = refl
 
+-- the rest of the line of either form is read again
 form_again : (variable : Option ℕ) (nogood : List Pair) (reasons : List Reason) → IsWritable (record { variable = variable; nogood = nogood; reasons = reasons })
     → form_at (rest_text variable nogood reasons) (after (codes "- [] <- c") (rest_text variable nogood reasons)) ≡ Some (record { variable = variable; nogood = nogood; reasons = reasons })
 form_again (Some x) nogood reasons w = rw (variable_form x nogood reasons) (variable_again x nogood reasons w)
@@ -126,6 +136,7 @@ form_again None nogood reasons w =
     = ap (λ (t : List ℕ). form_at t (after (codes "- [] <- c") t)) (rule_text alone.rule) ∙ ap (form_at (codes "- [] <- c" ++ bytes)) (after_again (codes "- [] <- c") bytes) ∙ rule_again alone.rule within.0 in
     rw (alone.nogood, alone.reasons) one
 
+-- a line that gives a step is its line
 pub step_takes : (number : ℕ) (line : List ℕ) (step : Step) → step_of number line ≡ Some step → IsStepLine number line step
 unfolding step_of
 step_takes number line step h =
@@ -141,6 +152,7 @@ step_takes number line step h =
       | inr e ↦ absurd (let g = e.1 in cc)
     ]))
 
+-- a step's line gives it again
 pub step_again : (number : ℕ) (step : Step) → IsStepNumber number → IsWritable step → step_of number (step_line number step) ≡ Some step
 unfolding step_of
 step_again number step numbered w =
@@ -164,6 +176,7 @@ pub gives_step : (number : ℕ) (line : List ℕ) (r : Result Step LineError) �
 gives_step number line (Ok s) h = step_takes number line s h
 gives_step number line (Err e) h = tt
 
+-- and a line that gives none is of no step
 pub gives_none : (number : ℕ) (line : List ℕ) (r : Result Step LineError) → Gives (λ x. x) r (step_of number line) → r ≡ Err Bad → (step : Step) → IsStepLine number line step → ⊥
 gives_none number line (Ok s) h e = absurd cc
 gives_none number line (Err Bad) h e = λ step is. step_none number line step h is

@@ -16,9 +16,11 @@ abbrev pub digits_from : ℕ → List ℕ → ℕ
 digits_from n [] = n
 digits_from n (c ∷ cs) = digits_from (n * 10 + (c - 48)) cs
 
+-- each byte is a digit
 abbrev pub AreDigits : List ℕ → Type 0
 AreDigits ds = all_ascii_digits ds ≡ true
 
+-- the words of this file are those of the standard library
 own : IsNumeralModel AreDigits (digits_from 0)
 own = numerals_by_fold _ (search rules) digits_from (search rules)
 
@@ -27,6 +29,7 @@ grows : (n : ℕ) (ds : List ℕ) → n ≤ digits_from n ds
 grows n [] = omega arith
 grows n (c ∷ cs) = let h = grows (n * 10 + (c - 48)) cs in omega arith
 
+-- digits are read again, where no digit follows
 digits_again : (n : ℕ) (ds rest : List ℕ) → AreDigits ds → digits_from n ds < 2 ^ 64 → begins_with_digit rest ≡ false → digits_at n (ds ++ rest) ≡ Some (digits_from n ds, rest)
 unfolding digits_at
 digits_again n [] [] h small stop = refl
@@ -46,9 +49,11 @@ record Took (n : ℕ) (bytes : List ℕ) (m : ℕ) (rest : List ℕ) : Type 0 wh
   small : m < 2 ^ 64
   stop : begins_with_digit rest ≡ false
 
+-- reading stops at once
 stopped : (n : ℕ) (bytes : List ℕ) (m : ℕ) (rest : List ℕ) → n < 2 ^ 64 → begins_with_digit bytes ≡ false → n ≡ m → bytes ≡ rest → Took n bytes m rest
 stopped n bytes m rest lt stop e f = record { ds = []; parts = f; digits = refl; value = e; small = rw (← e) lt; stop = rw (← f) stop }
 
+-- digits that were read
 digits_takes : (n : ℕ) (bytes : List ℕ) (m : ℕ) (rest : List ℕ) → n < 2 ^ 64 → digits_at n bytes ≡ Some (m, rest) → Took n bytes m rest
 unfolding digits_at
 digits_takes n [] m rest lt h =
@@ -78,6 +83,7 @@ digits_number (c ∷ cs) rest h first small stop =
     let d : is_ascii_digit c ≡ true = and_left _ _ h in
     rw (z, d) (digits_again 0 (c ∷ cs) rest h small stop)
 
+-- a number's text is read again, where no digit follows
 pub number_again : (n : ℕ) (rest : List ℕ) → n < 2 ^ 64 → begins_with_digit rest ≡ false → number_at (decimal n ++ rest) ≡ Some (n, rest)
 unfolding number_at
 number_again zero rest small stop = rw (decimal_digit 0 (omega arith)) (rw stop refl)
@@ -102,6 +108,7 @@ nonzero b bytes n rest z d t =
           record { parts = rw (← value, text) parts; small = t.small }
     ]) t.parts t.digits t.value
 
+-- a number that was read
 pub number_takes : (bytes : List ℕ) (n : ℕ) (rest : List ℕ) → number_at bytes ≡ Some (n, rest) → TookNumber bytes n rest
 unfolding number_at
 number_takes [] n rest h = absurd cc
@@ -131,6 +138,7 @@ pub record BeginsWithDigit (bytes : List ℕ) : Type 0 where
   pub parts : bytes ≡ first ∷ others
   pub digit : is_ascii_digit first ≡ true
 
+-- digits begin with a digit
 digits_begin : (ds rest : List ℕ) → AreDigits ds → 0 < length ds → BeginsWithDigit (ds ++ rest)
 digits_begin [] rest h some = absurd (omega arith)
 digits_begin (c ∷ cs) rest h some = record { first = c; others = cs ++ rest; parts = refl; digit = and_left _ _ h }

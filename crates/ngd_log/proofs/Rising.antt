@@ -6,6 +6,7 @@ use Rattle.dcsp_nogood.specs.declared.Pair.{Pair}
 use Rattle.dcsp_nogood.specs.Pairs.{IsRising, IsFirstFall}
 use Rattle.ngd_log.specs.Reading.{rises, nogood_of}
 
+-- pairs that pass the test rise
 pub rises-IsRising : (ys : List Pair) → rises ys ≡ true → IsRising ys
 rises-IsRising [] h k lt = absurd (omega arith)
 rises-IsRising (y ∷ []) h k lt = absurd (omega arith)
@@ -14,6 +15,7 @@ rises-IsRising (y ∷ z ∷ ys) h (suc k) lt =
     let e : suc k + 1 ≡ suc (k + 1) = omega arith in
     rw e (rises-IsRising (z ∷ ys) (and_right _ _ h) k (omega arith))
 
+-- pairs that rise pass the test
 pub IsRising-rises : (ys : List Pair) → IsRising ys → rises ys ≡ true
 IsRising-rises [] h = refl
 IsRising-rises (y ∷ []) h = refl

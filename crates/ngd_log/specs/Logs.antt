@@ -4,7 +4,7 @@ use Rattle.std.specs.List.{AllByRecursion, concat}
 use Rattle.dcsp_defs.specs.declared.Step.{Step}
 use Rattle.ngd_log.specs.declared.log.LogError.{LogError}
 use Rattle.ngd_log.specs.declared.log.LogError.TheVariants.{Line, Memory}
-use Rattle.ngd_log.specs.StepText.{step_line, IsWritable}
+use Rattle.ngd_log.specs.StepText.{step_line, IsWritable, IsStepLine}
 
 -- the lines of the steps, the first of which has this number
 abbrev pub step_lines : ℕ → List Step → List (List ℕ)
@@ -78,6 +78,12 @@ pub record LogOrBadLine (text : List ℕ) : Type 0 where
 abbrev pub LogsDiffer : Type 0
 LogsDiffer = (a b : List Step) (more : List ℕ) → AreWritable a → AreWritable b
     → log_text a ++ more ≡ log_text b → (a ≡ b) × (more ≡ [])
+
+-- A log begins with `ngd 1` and the lines of these steps, and then comes the line of the step with the next number, or `end`.
+pub record NextLine (steps : List Step) (line : List ℕ) : Type 0 where
+  pub only : BeginLog (codes "ngd 1\n" ∷ step_lines 1 steps ++ line ∷ []) → ((step : Step) × IsStepLine (length steps + 1) line step) ⊎ (line ≡ codes "end\n")
+  pub step : (step : Step) → IsStepLine (length steps + 1) line step → BeginLog (codes "ngd 1\n" ∷ step_lines 1 steps ++ line ∷ [])
+  pub last : line ≡ codes "end\n" → BeginLog (codes "ngd 1\n" ∷ step_lines 1 steps ++ line ∷ [])
 
 -- no line feed is among the bytes
 abbrev pub HasNoLineFeed : List ℕ → Type 0

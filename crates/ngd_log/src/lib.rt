@@ -8,6 +8,7 @@
 #![tactic(auto)]
 
 mod derivation;
+pub mod field;
 mod log;
 mod reader;
 mod writer;
@@ -15,7 +16,7 @@ mod writer;
 pub use dcsp_defs::{Reason, ReasonList, Step};
 pub use dcsp_list::Memory;
 pub use derivation::Derivation;
-pub use log::{LogError, log_or_bad_line, logs_differ, read_log};
+pub use log::{LogError, log_or_bad_line, logs_differ, next_lines, read_log};
 pub use writer::{HEAD, TAIL, write_step};
 
 #[cfg(test)]

@@ -1,7 +1,7 @@
 //! Reading a log.
 ghost use Rattle.std.specs.Prelude.{◌≡◌, ℕ, ◌+◌, ◌<◌, ◌∷◌, List, length, IfOk, IfErr, IfSome, IfNone, IsErrOf, Ok, Err};
 ghost use Rattle.dcsp_defs.specs.declared.Step.{Step};
-ghost use Rattle.ngd_log.specs.Logs.{lines, HasNoLineFeed, IsLogOf, IsFirstBad, LogOrBadLine, LogsDiffer, IsUnlessMemory, IsCause};
+ghost use Rattle.ngd_log.specs.Logs.{lines, HasNoLineFeed, IsLogOf, IsFirstBad, LogOrBadLine, LogsDiffer, AreWritable, NextLine, IsUnlessMemory, IsCause};
 
 use crate::derivation::Derivation;
 use crate::reader::{LineError, read_step};
@@ -83,6 +83,11 @@ fn split_line(text: &[u8]) -> Option<(&[u8], &[u8])>
 /// Different derivations have different logs, and no log begins another.
 pub fn logs_differ()
     ensures { LogsDiffer }
+{}
+
+/// After the lines of steps a log has the line of the step with the next number, or `end`.
+pub fn next_lines()
+    ensures { (steps : List Step) (line : List ℕ) → AreWritable steps → NextLine steps line }
 {}
 
 /// Each text is the log of one derivation, or has one first bad line.

@@ -3,7 +3,9 @@ use Rattle.std.proofs.lemmas.List.{nil_from_length}
 use Rattle.std.proofs.lemmas.Bool.{eqb-true, eqb-false}
 use Rattle.ngd_log.specs.Logs.{lines, IsFirstBad}
 use Rattle.ngd_log.specs.StepText.{IsStepLine}
-use Rattle.ngd_log.proofs.LogLaws.{tail, head, HasFront, bad_head_plain, bad_head_other, bad_open, bad_more, bad_line, log_of_front, front_more, same_text, other_text, unequal_text, ok_holds}
+use Rattle.ngd_log.proofs.LogLines.{tail, head}
+use Rattle.ngd_log.proofs.FirstBad.{HasFront, bad_line, log_of_front, front_more}
+use Rattle.ngd_log.proofs.Answered.{bad_head_plain, bad_head_other, bad_open, bad_more, same_text, other_text, unequal_text, ok_holds}
 use Rattle.ngd_log.proofs.log.log_of.Goals as goal
 
 pub returns-in_default-clause-cause : goal.returns-in_default-clause-cause

@@ -1,6 +1,6 @@
 use Rattle.std.proofs.Common.{length}
 use Rattle.ngd_log.specs.Logs.{lines}
-use Rattle.ngd_log.proofs.LogLaws.{HasFront}
+use Rattle.ngd_log.proofs.FirstBad.{HasFront}
 use Rattle.ngd_log.proofs.log.log_of.Given as goal
 
 -- the lines so far are those of the steps

@@ -1,4 +1,4 @@
-use Rattle.ngd_log.proofs.LogLaws.{accepted, refused, caused}
+use Rattle.ngd_log.proofs.Answered.{accepted, refused, caused}
 use Rattle.ngd_log.proofs.log.read_log.Goals as goal
 
 pub returns-clause-line : goal.returns-clause-line

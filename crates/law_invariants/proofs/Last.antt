@@ -4,9 +4,9 @@ use Rattle.dcsp_defs.specs.Words.{In}
 use Rattle.dcsp_defs.specs.Csp.{Csp}
 use Rattle.abt_defs.specs.Agents.{Agent, Message, Announce, Refuse, Add_link, Stamped}
 use Rattle.abt_defs.specs.Network.{Network}
-use Rattle.abt_invariants.proofs.Facts.{AtLeast, Kept}
-use Rattle.abt_invariants.proofs.Moves.{Moves, up_to_date, stamped-same}
-use Rattle.abt_invariants.specs.Invariants.{last_told}
+use Rattle.law_invariants.proofs.Facts.{AtLeast, Kept}
+use Rattle.law_invariants.proofs.Moves.{Moves, up_to_date, stamped-same}
+use Rattle.law_invariants.specs.Invariants.{last_told}
 
 last-append : (xs ys : List Message) (o : Option Stamped) → last_told (xs ++ ys) o ≡ last_told ys (last_told xs o)
 last-append [] ys o = refl

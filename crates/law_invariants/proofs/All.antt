@@ -9,14 +9,14 @@ use Rattle.dcsp_defs.proofs.Lists.{In-below, get-In, filter-from}
 use Rattle.abt_defs.specs.Agents.{Message, Announce, Refuse, Add_link, Stamped, StampedNogood, lowest, value_in}
 use Rattle.abt_defs.specs.Steps.{settle, receive}
 use Rattle.abt_defs.specs.Network.{Network, acted, left, next_number, deliver_head, deliver_at, deliver, ready, run, start, start_by, empty_network, settle_below, is_false, pairs}
-use Rattle.abt_invariants.proofs.Nogoods.{value_at-In}
-use Rattle.abt_invariants.proofs.Facts.{asks, bit, Kept}
-use Rattle.abt_invariants.proofs.Moves.{bit_up}
-use Rattle.abt_invariants.proofs.Receives.{only, receives}
-use Rattle.abt_invariants.proofs.Runs.{moved, expected, delivers, settled, settled_below, split_at, In-pairs}
-use Rattle.abt_invariants.specs.Invariants.{requests, Held, In_view, On_list, In_nogood, Own, Witness, Invariants, InvariantsHold}
-use Rattle.abt_invariants.proofs.Last.{Lasts, lasts_after}
-use Rattle.abt_invariants.proofs.Values.{Known, known_after, held_dated}
+use Rattle.law_invariants.proofs.Nogoods.{value_at-In}
+use Rattle.law_invariants.proofs.Facts.{asks, bit, Kept}
+use Rattle.law_invariants.proofs.Moves.{bit_up}
+use Rattle.law_invariants.proofs.Receives.{only, receives}
+use Rattle.law_invariants.proofs.Runs.{moved, expected, delivers, settled, settled_below, split_at, In-pairs}
+use Rattle.law_invariants.specs.Invariants.{requests, Held, In_view, On_list, In_nogood, Own, Witness, Invariants, InvariantsHold}
+use Rattle.law_invariants.proofs.Last.{Lasts, lasts_after}
+use Rattle.law_invariants.proofs.Values.{Known, known_after, held_dated}
 
 -- what a run keeps, beside the rest
 pub record Also (net : Network) : Type 0 where

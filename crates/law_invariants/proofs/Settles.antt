@@ -12,9 +12,9 @@ use Rattle.abt_defs.specs.Reasons.{Item, ruled_out, causes, blamed, pair_at, der
 use Rattle.abt_defs.specs.Steps.{Outcome, stay, take_value, is_free, choice, refuse, take_or_refuse, settle}
 use Rattle.abt_defs.specs.Network.{sent_to, refutes, is_empty}
 use Rattle.dcsp_defs.proofs.Lists.{In-filter_map, In-below, find-found, and_left, and_right}
-use Rattle.abt_invariants.proofs.Sent.{In-cond, In-cond-true, sent_to-each}
-use Rattle.abt_invariants.proofs.Nogoods.{In-value_at, In-plain, plain-In, map_rises, lowest-last}
-use Rattle.abt_invariants.proofs.Facts.{asks, Proper, Fine, Sound, Chosen, Sends}
+use Rattle.law_invariants.proofs.Sent.{In-cond, In-cond-true, sent_to-each}
+use Rattle.law_invariants.proofs.Nogoods.{In-value_at, In-plain, plain-In, map_rises, lowest-last}
+use Rattle.law_invariants.proofs.Facts.{asks, Proper, Fine, Sound, Chosen, Sends}
 
 -- ---- the derived nogood
 

@@ -6,9 +6,9 @@ use Rattle.dcsp_defs.specs.Csp.{Csp}
 use Rattle.dcsp_defs.proofs.Lists.{In-split}
 use Rattle.abt_defs.specs.Agents.{Announce, Refuse, Stamped}
 use Rattle.abt_defs.specs.Network.{Network}
-use Rattle.abt_invariants.proofs.Facts.{Kept}
-use Rattle.abt_invariants.proofs.Moves.{Moves, in_came, in_mid}
-use Rattle.abt_invariants.specs.Invariants.{Held, In_view, On_list, In_nogood, Own}
+use Rattle.law_invariants.proofs.Facts.{Kept}
+use Rattle.law_invariants.proofs.Moves.{Moves, in_came, in_mid}
+use Rattle.law_invariants.specs.Invariants.{Held, In_view, On_list, In_nogood, Own}
 
 -- which value each agent took when: history k n is the n-th of agent k
 pub record Known (net : Network) : Type 0 where

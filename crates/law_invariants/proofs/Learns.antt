@@ -9,8 +9,8 @@ use Rattle.dcsp_nogood.specs.Pairs.{value_at}
 use Rattle.abt_defs.specs.Agents.{Agent, Record, Stamped, StampedNogood, known}
 use Rattle.abt_defs.specs.Steps.{is_newer, forget, learn, learn_all, is_news, fits, is_refused, keep}
 use Rattle.dcsp_defs.proofs.Lists.{In-left, In-right, In-split, list_all-In, In-list_all, list_any-In, In-list_any, and_left, and_right}
-use Rattle.abt_invariants.proofs.Nogoods.{is_value-is, is-is_value}
-use Rattle.abt_invariants.proofs.Facts.{AtLeast, Distinct, Agreeing}
+use Rattle.law_invariants.proofs.Nogoods.{is_value-is, is-is_value}
+use Rattle.law_invariants.proofs.Facts.{AtLeast, Distinct, Agreeing}
 
 pub record Learns (i : ℕ) (a b : Agent) (pairs : StampedNogood) : Type 0 where
   pub view_from : (k : ℕ) (s : Stamped) → b.view k ≡ Some s → (a.view k ≡ Some s) ⊎ ((k < i) × In (k, s) pairs)

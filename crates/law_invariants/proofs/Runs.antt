@@ -9,11 +9,11 @@ use Rattle.abt_defs.specs.Steps.{Outcome, settle, receive}
 use Rattle.dcsp_defs.specs.Csp.{owns}
 use Rattle.abt_defs.specs.Network.{Network, sent_to, refutes, acted, left, next_number, deliver_head, deliver_at, deliver, ready, run, start, empty_network, settle_below, is_false, start_by, pairs}
 use Rattle.dcsp_defs.proofs.Lists.{In-split, In-below, In-list_any, list_any-In, and_left, and_right, and_both, get-In, filter-from}
-use Rattle.abt_invariants.proofs.Owners.{owner_in, owner_greatest}
-use Rattle.abt_invariants.proofs.Settles.{settles, rests}
-use Rattle.abt_invariants.proofs.Facts.{asks, bit, Sound, Chosen, Acts, Kept}
-use Rattle.abt_invariants.proofs.Moves.{Moves, kept_after, bit_up}
-use Rattle.abt_invariants.proofs.Receives.{Done, Takes, only, then, receives, IsExpected}
+use Rattle.law_invariants.proofs.Owners.{owner_in, owner_greatest}
+use Rattle.law_invariants.proofs.Settles.{settles, rests}
+use Rattle.law_invariants.proofs.Facts.{asks, bit, Sound, Chosen, Acts, Kept}
+use Rattle.law_invariants.proofs.Moves.{Moves, kept_after, bit_up}
+use Rattle.law_invariants.proofs.Receives.{Done, Takes, only, then, receives, IsExpected}
 
 -- nobody acts
 pub idle : (p : Csp) (i : ℕ) (a : Agent) → Acts p i a a (λ k. []) (λ j. [])

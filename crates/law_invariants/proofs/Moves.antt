@@ -10,8 +10,8 @@ use Rattle.abt_defs.specs.Agents.{Agent, Message, Announce, Refuse, Add_link, Re
 use Rattle.abt_defs.specs.Reasons.{Item, items, record_item, ruled_out}
 use Rattle.abt_defs.specs.Network.{Network}
 use Rattle.dcsp_defs.proofs.Lists.{In-left, In-right, In-split, In-map, In-list_all, find-some}
-use Rattle.abt_invariants.proofs.Nogoods.{In-value_at, In-plain, is-is_value, value_at-In}
-use Rattle.abt_invariants.proofs.Facts.{asks, bit, AtLeast, Dated, Fine, IsDated, Sound, Chosen, Passed, Backed, Kept, Acts}
+use Rattle.law_invariants.proofs.Nogoods.{In-value_at, In-plain, is-is_value, value_at-In}
+use Rattle.law_invariants.proofs.Facts.{asks, bit, AtLeast, Dated, Fine, IsDated, Sound, Chosen, Passed, Backed, Kept, Acts}
 
 pub asks-append : (xs ys : List Message) → asks (xs ++ ys) ≡ asks xs + asks ys
 asks-append [] ys = omega arith

@@ -9,12 +9,12 @@ use Rattle.abt_defs.specs.Agents.{Agent, Message, Announce, Refuse, Add_link, Re
 use Rattle.abt_defs.specs.Steps.{Outcome, to_each, settle, stay, is_newer, learn, learn_all, is_news, is_named, unlinked, ask, heed, first_sent, own_value, receive}
 use Rattle.abt_defs.specs.Network.{sent_to, refutes}
 use Rattle.dcsp_defs.proofs.Lists.{In-right, In-split, or_cases, or_right, or_left, and_left, and_right, and_both, list_any-In}
-use Rattle.abt_invariants.proofs.Sent.{In-cond, In-cond-true, sent_to-each, sent_to-append}
-use Rattle.abt_invariants.proofs.Nogoods.{plain-In}
-use Rattle.abt_invariants.proofs.Facts.{asks, bit, AtLeast, Proper, Fine, Sound, Chosen, Brought, Heeds, Sends, Acts}
-use Rattle.abt_invariants.proofs.Moves.{asks-append}
-use Rattle.abt_invariants.proofs.Settles.{Settles, settles, rests, stays}
-use Rattle.abt_invariants.proofs.Learns.{learns_one, learns_all, not_newer, keeps}
+use Rattle.law_invariants.proofs.Sent.{In-cond, In-cond-true, sent_to-each, sent_to-append}
+use Rattle.law_invariants.proofs.Nogoods.{plain-In}
+use Rattle.law_invariants.proofs.Facts.{asks, bit, AtLeast, Proper, Fine, Sound, Chosen, Brought, Heeds, Sends, Acts}
+use Rattle.law_invariants.proofs.Moves.{asks-append}
+use Rattle.law_invariants.proofs.Settles.{Settles, settles, rests, stays}
+use Rattle.law_invariants.proofs.Learns.{learns_one, learns_all, not_newer, keeps}
 
 -- one agent acts and stays sound
 pub record Done (p : Csp) (i : ℕ) (a b : Agent) (came went : ℕ → List Message) : Type 0 where

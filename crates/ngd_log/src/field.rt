@@ -1,0 +1,137 @@
+//! Fields of a text, read from left to right: each call gives a value and the bytes after it.
+ghost use Rattle.std.specs.Prelude.{◌≡◌, ℕ, ◌+◌, ◌≤◌, length, IfSome};
+ghost use Rattle.ngd_log.specs.Reading.{Reads, after, digits_at, number_at, integer_at, counted_at, step_number_at, pair_at, reason_at};
+
+use dcsp_defs::Reason;
+use dcsp_nogood::Pair;
+
+/// The greatest number of a variable.
+pub(crate) const VARIABLES: u32 = 4096;
+
+/// The greatest number of a rule.
+pub(crate) const RULES: u32 = 262_144;
+
+/// The greatest number of a step.
+const STEPS: u64 = 1 << 62;
+
+/// What stands after this text, where the bytes begin with it.
+pub fn after<'t>(text: &[u8], bytes: &'t [u8]) -> Option<&'t [u8]>
+    ensures reads { Reads (λ x. x.now) result (after text.now bytes.now) }
+    ensures shorter { IfSome result (λ x. length x.now + length text.now ≡ length bytes.now) }
+{
+    bytes.strip_prefix(text)
+}
+
+/// The digits at the front, as a number.
+#[tactic(auto, unfolding(crate::specs::Reading::digits_at))]
+fn digits_at(bytes: &[u8]) -> Option<(u64, &[u8])>
+    ensures reads { Reads (λ x. (x.0, x.1.now)) result (digits_at 0 bytes.now) }
+    ensures shorter { IfSome result (λ x. length x.1.now ≤ length bytes.now) }
+{
+    let mut number = 0u64;
+    let mut rest = bytes;
+    while let [byte, others @ ..] = rest {
+        if !byte.is_ascii_digit() {
+            break;
+        }
+        number = number.checked_mul(10)?.checked_add(u64::from(byte - b'0'))?;
+        rest = others;
+    }
+    Some((number, rest))
+}
+
+/// A number of 64 bits in decimal digits, without leading zeros.
+#[tactic(auto, unfolding(crate::specs::Reading::number_at))]
+fn number_at(bytes: &[u8]) -> Option<(u64, &[u8])>
+    ensures reads { Reads (λ x. (x.0, x.1.now)) result (number_at bytes.now) }
+    ensures shorter { IfSome result (λ x. length x.1.now ≤ length bytes.now) }
+{
+    match bytes {
+        [b'0', b'0'..=b'9', ..] => None,
+        [b'0', rest @ ..] => Some((0, rest)),
+        [b'1'..=b'9', ..] => digits_at(bytes),
+        _ => None,
+    }
+}
+
+/// A signed number of 64 bits in decimal digits, without leading zeros and without `-0`.
+#[tactic(auto, unfolding(crate::specs::Reading::integer_at, crate::specs::Reading::negative, crate::specs::Reading::plain))]
+pub fn integer_at(bytes: &[u8]) -> Option<(i64, &[u8])>
+    ensures reads { Reads (λ x. (x.0, x.1.now)) result (integer_at bytes.now) }
+    ensures shorter { IfSome result (λ x. length x.1.now ≤ length bytes.now) }
+{
+    match after(b"-", bytes) {
+        Some(unsigned) => {
+            let (number, rest) = number_at(unsigned)?;
+            if number == 0 {
+                return None;
+            }
+            Some((0i64.checked_sub_unsigned(number)?, rest))
+        }
+        None => {
+            let (number, rest) = number_at(bytes)?;
+            if number > i64::MAX as u64 {
+                return None;
+            }
+            Some((number as i64, rest))
+        }
+    }
+}
+
+/// A number from 1 to `most`, as a number counted from 0.
+#[tactic(auto, unfolding(crate::specs::Reading::counted_at))]
+pub(crate) fn counted_at(bytes: &[u8], most: u32) -> Option<(u32, &[u8])>
+    ensures reads { Reads (λ x. (x.0, x.1.now)) result (counted_at most bytes.now) }
+    ensures shorter { IfSome result (λ x. length x.1.now ≤ length bytes.now) }
+{
+    let (number, rest) = number_at(bytes)?;
+    if number == 0 || number > u64::from(most) {
+        return None;
+    }
+    Some((number as u32 - 1, rest))
+}
+
+/// The number of a step.
+#[tactic(auto, unfolding(crate::specs::Reading::step_number_at))]
+pub(crate) fn step_number_at(bytes: &[u8]) -> Option<(u64, &[u8])>
+    ensures reads { Reads (λ x. (x.0, x.1.now)) result (step_number_at bytes.now) }
+    ensures shorter { IfSome result (λ x. length x.1.now ≤ length bytes.now) }
+{
+    let (number, rest) = number_at(bytes)?;
+    if number == 0 || number > STEPS {
+        return None;
+    }
+    Some((number, rest))
+}
+
+/// A pair, as `v2=-7`.
+#[tactic(auto, unfolding(crate::specs::Reading::pair_at))]
+pub(crate) fn pair_at(bytes: &[u8]) -> Option<(Pair, &[u8])>
+    ensures reads { Reads (λ x. (x.0, x.1.now)) result (pair_at bytes.now) }
+    ensures shorter { IfSome result (λ x. length x.1.now ≤ length bytes.now) }
+{
+    let rest = after(b"v", bytes)?;
+    let (var, rest) = counted_at(rest, VARIABLES)?;
+    let rest = after(b"=", rest)?;
+    let (value, rest) = integer_at(rest)?;
+    Some((Pair { var, value }, rest))
+}
+
+/// A reason, as `c2` or `n5`.
+#[tactic(auto, unfolding(crate::specs::Reading::reason_at))]
+pub(crate) fn reason_at(bytes: &[u8]) -> Option<(Reason, &[u8])>
+    ensures reads { Reads (λ x. (x.0, x.1.now)) result (reason_at bytes.now) }
+    ensures shorter { IfSome result (λ x. length x.1.now ≤ length bytes.now) }
+{
+    match bytes {
+        [b'c', rest @ ..] => {
+            let (rule, rest) = counted_at(rest, RULES)?;
+            Some((Reason::Rule(rule), rest))
+        }
+        [b'n', rest @ ..] => {
+            let (step, rest) = step_number_at(rest)?;
+            Some((Reason::Earlier(step), rest))
+        }
+        _ => None,
+    }
+}
