@@ -2,7 +2,7 @@
 use Rattle.std.specs.Prelude.{ℕ, ◌<◌, ℤ, Bool, false, List, [], ◌++◌, map, filter, length, Option, Some, None, ◌==◌, All, IsTrue}
 use Rattle.std.specs.List.{list_any, filter_map}
 use Rattle.dcsp_meaning.specs.Table.{is_shape, truth}
-use Rattle.dcsp_meaning.specs.declared.Kind.TheVariants.{IntEq}
+use Rattle.dcsp_meaning.specs.declared.kinds.Kind.TheVariants.{IntEq}
 use Rattle.dcsp_defs.specs.Words.{below}
 use Rattle.dcsp_defs.specs.Csp.{Assignment}
 use Rattle.dcsp_problem.specs.declared.rule.Term.{Term}

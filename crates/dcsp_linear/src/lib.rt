@@ -1,0 +1,163 @@
+//! Linear constraints: sums of coefficients times values, each exact in 128 bits, as the MiniZinc Handbook's
+//! chapter on FlatZinc lists them (`int_lin_eq`, `int_lin_le`, `int_lin_ne` and their kin).
+#![tactic(auto)]
+
+ghost use Rattle.std.specs.Prelude.{◌≡◌, ℕ, ◌+◌, ◌*◌, ◌<◌, ◌≤◌, ℤ, pos, ◌+ℤ◌, ◌*ℤ◌, List, length, slice_index_or, unsigned_abs, Some, None, if◌then◌else◌, nat_le, sum_by};
+ghost use Rattle.dcsp_linear.specs.Sums.{sum_of, stands, size_of, sizes_of, width_of};
+
+/// The greatest width of a sum, 2^126: 128 bits hold such a sum, and each part of it.
+pub const WIDEST: u128 = 1 << 126;
+
+/// How a sum stands to its total.
+#[derive(Clone, Copy, Debug, PartialEq, Eq)]
+pub enum Rel {
+    /// The sum is equal to the total.
+    Equal,
+    /// The sum is at most the total.
+    AtMost,
+    /// The sum differs from the total.
+    Differ,
+}
+
+/// The terms of a sum: a coefficient and a value at each place, counted from 0.
+pub trait Weighted {
+    ghost pairs: { Self → List (ℤ × ℤ) };
+
+    /// The number of terms.
+    fn count(&self) -> usize
+        ensures { result ≡ length (pairs self.now) };
+
+    /// The coefficient at a place.
+    fn coef(&self, place: usize) -> i64
+        requires { place < length (pairs self.now) }
+        ensures { result ≡ (slice_index_or (pairs self.now) place (pos 0, pos 0)).0 };
+
+    /// The value at a place.
+    fn value(&self, place: usize) -> i64
+        requires { place < length (pairs self.now) }
+        ensures { result ≡ (slice_index_or (pairs self.now) place (pos 0, pos 0)).1 };
+}
+
+/// The width of a sum: each absolute coefficient times the greatest absolute value of its term, and the
+/// greatest absolute value of the total, added up. `None` where this is above 2^126.
+pub fn width(coefs: &[i64], greatest: &[u64], total: u64) -> Option<u128>
+    requires { length coefs.now ≡ length greatest.now }
+    ensures { let width = width_of coefs.now greatest.now total in result ≡ (if nat_le width WIDEST then Some width else None) }
+{
+    let mut width = u128::from(total);
+    for place in 0..coefs.len() {
+        width = plus_greatest(width, coefs[place], greatest[place]);
+        if width > WIDEST {
+            return None;
+        }
+    }
+    Some(width)
+}
+
+/// The width with one term more.
+fn plus_greatest(width: u128, coef: i64, greatest: u64) -> u128
+    requires { width ≤ WIDEST }
+    ensures { result ≡ width + unsigned_abs coef * greatest }
+{
+    width + u128::from(coef.unsigned_abs()) * u128::from(greatest)
+}
+
+/// Whether the sum of each coefficient times its value stands so to the total, in one pass.
+pub fn sum_holds<W: Weighted>(rel: Rel, weighted: &W, total: i64) -> bool
+    requires { sizes_of (W.pairs weighted.now) total ≤ WIDEST }
+    ensures { result ≡ stands rel (sum_of (W.pairs weighted.now)) total }
+{
+    let sum = sum_of(weighted);
+    let total = i128::from(total);
+    match rel {
+        Rel::Equal => sum == total,
+        Rel::AtMost => sum <= total,
+        Rel::Differ => sum != total,
+    }
+}
+
+/// The sum of each coefficient times its value.
+fn sum_of<W: Weighted>(weighted: &W) -> i128
+    requires { sum_by size_of (W.pairs weighted.now) ≤ WIDEST }
+    ensures { result ≡ sum_of (W.pairs weighted.now) }
+{
+    let mut sum: i128 = 0;
+    for place in 0..weighted.count() {
+        sum = plus_product(sum, weighted.coef(place), weighted.value(place));
+    }
+    sum
+}
+
+/// The sum with one product more.
+fn plus_product(sum: i128, coef: i64, value: i64) -> i128
+    requires { unsigned_abs sum + unsigned_abs coef * unsigned_abs value ≤ WIDEST }
+    ensures { result ≡ sum +ℤ (coef *ℤ value) }
+{
+    sum + i128::from(coef) * i128::from(value)
+}
+
+#[cfg(test)]
+mod tests {
+    use super::*;
+
+    /// Terms that stand in a list.
+    #[derive(Drop)]
+    struct Terms<'a> {
+        pairs: &'a [(i64, i64)],
+    }
+
+    impl Weighted for Terms<'_> {
+        ghost pairs = { λ terms. terms.pairs.now };
+
+        fn count(&self) -> usize {
+            self.pairs.len()
+        }
+
+        fn coef(&self, place: usize) -> i64 {
+            self.pairs[place].0
+        }
+
+        fn value(&self, place: usize) -> i64 {
+            self.pairs[place].1
+        }
+    }
+
+    /// How a sum of at most two terms stands to its total: equal to it, at most it, different from it.
+    fn stands(pairs: &[(i64, i64)], total: i64) -> (bool, bool, bool)
+        requires { sizes_of pairs.now total ≤ WIDEST }
+    {
+        let terms = Terms { pairs };
+        (
+            sum_holds(Rel::Equal, &terms, total),
+            sum_holds(Rel::AtMost, &terms, total),
+            sum_holds(Rel::Differ, &terms, total),
+        )
+    }
+
+    #[test]
+    fn sums_in_their_relation(rt: HostRuntime) {
+        assert_eq!(rt; stands(&[], 0), (true, true, false));
+        assert_eq!(rt; stands(&[(2, 3), (-1, 4)], 2), (true, true, false));
+        assert_eq!(rt; stands(&[(2, 3), (-1, 4)], 1), (false, false, true));
+        assert_eq!(rt; stands(&[(2, -3), (1, 4)], 0), (false, true, true));
+        assert_eq!(rt;
+            stands(&[(4294967296, 4294967296)], 0),
+            (false, false, true)
+        );
+        assert_eq!(rt; stands(&[(i64::MIN, i64::MIN)], 0), (false, false, true));
+        assert_eq!(rt; stands(&[(1, i64::MIN)], i64::MIN), (true, true, false));
+    }
+
+    #[test]
+    fn widths(rt: HostRuntime) {
+        let most = 9223372036854775808;
+        assert_eq!(rt; width(&[], &[], 7), Some(7));
+        assert_eq!(rt; width(&[2, -3], &[5, 7], 4), Some(35));
+        assert_eq!(rt; width(&[i64::MIN], &[most], 0), Some(WIDEST));
+        assert_eq!(rt; width(&[i64::MIN], &[most], 1), None);
+        assert_eq!(rt;
+            width(&[i64::MIN, i64::MIN], &[u64::MAX, u64::MAX], u64::MAX),
+            None
+        );
+    }
+}

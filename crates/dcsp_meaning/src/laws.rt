@@ -1,0 +1,11 @@
+//! Laws of the table's definitions.
+
+ghost use Rattle.dcsp_meaning.specs.Division.{DividesTowardsZero, HasOneQuotient};
+
+/// The quotients of `int_div` and the remainders of `int_mod` are those of division that truncates towards zero:
+/// the dividend is the divisor times the quotient and a remainder, which is smaller than the divisor, and is 0
+/// or has the dividend's sign; and no other quotient will do.
+pub fn division_truncates()
+    ensures divided { DividesTowardsZero }
+    ensures one { HasOneQuotient }
+{}

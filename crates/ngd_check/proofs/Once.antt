@@ -1,0 +1,77 @@
+-- A derivation has one finding.
+use Rattle.std.proofs.Common.{◌≡◌, ℕ, zero, suc, ◌-◌, ◌<◌, List, [], ◌∷◌, slice_get, take, Some, inl, inr, ◌⊎◌, refl, sym, ap, ◌∙◌, subst, arith}
+use Rattle.dcsp_defs.specs.declared.Step.{Step}
+use Rattle.dcsp_defs.specs.Csp.{Csp}
+use Rattle.dcsp_defs.specs.Derivation.{IsRight, IsDerivation}
+use Rattle.ngd_check.specs.declared.Finding.{Finding}
+use Rattle.ngd_check.specs.declared.Finding.TheVariants.{Verified, BadStep, NotEmpty}
+use Rattle.ngd_check.specs.Findings.{IsFirstWrong, IsFinding}
+
+-- an item at a place below m is an item of the first m
+get_below : {X : Type 0} (xs : List X) (n m : ℕ) (x : X) → n < m → slice_get xs n ≡ Some x → slice_get (take m xs) n ≡ Some x
+get_below xs n zero x l h = absurd (omega arith)
+get_below [] n (suc m) x l h = h
+get_below (y ∷ ys) zero (suc m) x l h = h
+get_below (y ∷ ys) (suc n) (suc m) x l h = get_below ys n m x (omega arith) h
+
+-- the first n of the first m are the first n
+take_below : {X : Type 0} (xs : List X) (n m : ℕ) → n < m → take n (take m xs) ≡ take n xs
+take_below xs n zero l = absurd (omega arith)
+take_below xs zero (suc m) l = refl
+take_below [] (suc n) (suc m) l = refl
+take_below (y ∷ ys) (suc n) (suc m) l = ap (λ (zs : List _). y ∷ zs) (take_below ys n m (omega arith))
+
+-- of two numbers one is less, or they are equal
+compared : (n m : ℕ) → (n < m) ⊎ ((n ≡ m) ⊎ (m < n))
+compared zero zero = inr (inl refl)
+compared zero (suc m) = inl (omega arith)
+compared (suc n) zero = inr (inr (omega arith))
+compared (suc n) (suc m) = elim (compared n m) [
+  | inl l ↦ inl (omega arith)
+  | inr r ↦ elim r [
+    | inl e ↦ inr (inl (ap suc e))
+    | inr l ↦ inr (inr (omega arith))
+  ]
+]
+
+-- a derivation has no wrong step
+none_wrong : (p : Csp) (steps : List Step) (number : ℕ) → IsDerivation p steps → IsFirstWrong p steps number → ⊥
+none_wrong p steps zero right w = let t = w.there in cc
+none_wrong p steps (suc k) right w =
+    let before : suc k - 1 ≡ k = omega arith in
+    w.wrong (subst (λ (n : ℕ). IsRight p (take n steps) w.step) (sym before) (right k w.step w.there))
+
+-- no step before the first wrong one is wrong
+not_before : (p : Csp) (steps : List Step) (n m : ℕ) → n < m → IsFirstWrong p steps n → IsFirstWrong p steps m → ⊥
+not_before p steps zero m l v w = let t = v.there in cc
+not_before p steps (suc n) zero l v w = absurd (omega arith)
+not_before p steps (suc n) (suc m) l v w =
+    let first : suc n - 1 ≡ n = omega arith in
+    let second : suc m - 1 ≡ m = omega arith in
+    let right : IsDerivation p (take m steps) = subst (λ (k : ℕ). IsDerivation p (take k steps)) second w.right_before in
+    let there : slice_get (take m steps) n ≡ Some v.step = get_below steps n m v.step (omega arith) v.there in
+    let at : IsRight p (take n (take m steps)) v.step = right n v.step there in
+    let same : take n (take m steps) ≡ take (suc n - 1) steps = take_below steps n m (omega arith) ∙ ap (λ (k : ℕ). take k steps) (sym first) in
+    v.wrong (subst (λ (earlier : List Step). IsRight p earlier v.step) same at)
+
+-- two first wrong steps are one
+one_first : (p : Csp) (steps : List Step) (n m : ℕ) → IsFirstWrong p steps n → IsFirstWrong p steps m → n ≡ m
+one_first p steps n m v w = elim (compared n m) [
+  | inl l ↦ absurd (not_before p steps n m l v w)
+  | inr r ↦ elim r [
+    | inl e ↦ e
+    | inr l ↦ absurd (not_before p steps m n l w v)
+  ]
+]
+
+-- a derivation has one finding
+pub one_finding : (p : Csp) (steps : List Step) (f g : Finding) → IsFinding p steps f → IsFinding p steps g → f ≡ g
+one_finding p steps Verified Verified h k = refl
+one_finding p steps Verified (BadStep n) h k = absurd (none_wrong p steps n h.right k)
+one_finding p steps Verified NotEmpty h k = absurd (k.not_empty h.ends)
+one_finding p steps (BadStep n) Verified h k = absurd (none_wrong p steps n k.right h)
+one_finding p steps (BadStep n) (BadStep m) h k = ap BadStep (one_first p steps n m h k)
+one_finding p steps (BadStep n) NotEmpty h k = absurd (none_wrong p steps n k.right h)
+one_finding p steps NotEmpty Verified h k = absurd (h.not_empty k.ends)
+one_finding p steps NotEmpty (BadStep n) h k = absurd (none_wrong p steps n h.right k)
+one_finding p steps NotEmpty NotEmpty h k = refl

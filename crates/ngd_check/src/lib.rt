@@ -1,0 +1,71 @@
+//! Checks whether a derivation refutes a problem. It knows nothing of agents.
+#![tactic(auto)]
+
+mod given;
+mod step;
+
+ghost use Rattle.std.specs.Prelude.{◌≡◌, ◌↔◌, IsTrue, List};
+ghost use Rattle.dcsp_defs.specs.declared.Step.{Step};
+ghost use Rattle.dcsp_defs.specs.Derivation.{EndsEmpty};
+ghost use Rattle.dcsp_defs.specs.Csp.{Csp, IsCsp, HasNoSolution};
+ghost use Rattle.dcsp_problem.specs.Problems.{csp_of};
+ghost use Rattle.ngd_check.specs.Findings.{IsFinding};
+
+use dcsp_problem::Problem;
+use ngd_log::{Derivation, Step};
+
+#[cfg(test)]
+mod tests;
+
+/// What a check finds.
+#[derive(Clone, Copy, Debug, PartialEq, Eq)]
+pub enum Finding {
+    /// The derivation is a refutation: the problem has no solution.
+    Verified,
+    /// The step with this number, counted from 1, is the first that is wrong.
+    BadStep { step: u64 },
+    /// Each step is right, and there is no step or the last nogood is not empty.
+    NotEmpty,
+}
+
+/// Whether the derivation refutes the problem. It takes no memory.
+pub fn check(problem: &Problem, derivation: &Derivation) -> Finding
+    ensures exact { IsFinding (csp_of problem.now) derivation.now result }
+    ensures sound { result ≡ Finding.Verified → HasNoSolution (csp_of problem.now) }
+{
+    finding_of(problem, derivation.steps())
+}
+
+fn finding_of(problem: &Problem, steps: &[Step]) -> Finding
+    ensures exact { IsFinding (csp_of problem.now) steps.now result }
+    ensures well_formed { IsCsp (csp_of problem.now) }
+{
+    let vars = problem.vars();
+    for (place, step) in steps.iter().enumerate() {
+        if !step::is_right(problem, vars, &steps[..place], step) {
+            return Finding::BadStep {
+                step: place as u64 + 1,
+            };
+        }
+    }
+    if ends_empty(steps) {
+        Finding::Verified
+    } else {
+        Finding::NotEmpty
+    }
+}
+
+/// Whether there is a last step, and its nogood is empty.
+fn ends_empty(steps: &[Step]) -> bool
+    ensures { IsTrue result ↔ EndsEmpty steps.now }
+{
+    match steps.last() {
+        Some(step) => step.nogood.pairs().is_empty(),
+        None => false,
+    }
+}
+
+/// A derivation has one finding.
+pub fn one_finding()
+    ensures { (p : Csp) (steps : List Step) (f g : Finding) → IsFinding p steps f → IsFinding p steps g → f ≡ g }
+{}
