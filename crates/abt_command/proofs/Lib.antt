@@ -1,0 +1,4 @@
+pub mod Files
+pub mod Once
+pub mod Outcomes
+pub mod Threes

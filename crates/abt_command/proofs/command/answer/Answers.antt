@@ -1,0 +1,5 @@
+use Rattle.abt_command.proofs.Outcomes.{told}
+use Rattle.abt_command.proofs.command.answer.Goals as goal
+
+pub returns-clause-answered : goal.returns-clause-answered
+returns-clause-answered g c = told (g.F.Folder.held c.args.folder.now) c.args.model.now c.args.log.now (g.S.Sink.written c.args.out.now) (g.S.Sink.written c.tell.new.out) c.in_ok-finding.finding c.tell.result c.in_ok-finding.ensures.found c.tell.ensures.told

@@ -1,0 +1,12 @@
+use Rattle.std.proofs.Common.{◌≡◌, List, ℕ, [], ◌∷◌, map, sym, ◌∙◌, subst, codes, string_bytes}
+use Rattle.std.specs.Prelude.{IfSome}
+use Rattle.std.proofs.lemmas.Slice.Eq.{bytes_eq-Decides}
+use Rattle.abt_command.specs.CommandLines.{IsLine, line_of}
+use Rattle.abt_command.proofs.Threes.{three}
+use Rattle.abt_command.proofs.words.words_of.Goals as goal
+
+pub returns-in-len3-clause-some : goal.returns-in-len3-clause-some
+returns-in-len3-clause-some c =
+    let word = (bytes_eq-Decides c.as_str.result.now (codes "check")).0 (sym c.eq.ensures ∙ c.if-eq.true) in
+    rw (three string_bytes c.args.words.now c.word-item.result c.model-item.result c.log-item.result c.in-len3.len_at_least c.in-len3.len_below c.word-item.is c.model-item.is c.log-item.is)
+    (rw (← c.as_str.ensures.value, ← c.as_str-in-len3.ensures.value, ← c.as_str-in-len3-2.ensures.value, word) c.check_of.ensures.some)

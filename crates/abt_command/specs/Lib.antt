@@ -1,0 +1,5 @@
+pub mod CommandLines
+pub mod Outcomes
+pub mod Answers
+pub mod Files
+pub mod Told
