@@ -1,0 +1,11 @@
+pub mod Combining
+pub mod ListsSoFar
+pub mod ExprLaws
+pub mod AnnotationLaws
+pub mod MarkLaws
+pub mod ElementLaws
+pub mod DeclarationLaws
+pub mod ItemLaws
+pub mod OneAnswer
+pub mod Semicolons
+pub mod Endings

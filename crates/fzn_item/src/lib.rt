@@ -1,0 +1,23 @@
+//! The items of FlatZinc, as the MiniZinc Handbook's chapter on FlatZinc has them.
+//!
+//! The tokens of a text are cut after each `;`, and each piece is one item. Names and texts stay places
+//! of the text. The productions stand in `specs/` as relations on token lists, one beside the other.
+#![tactic(auto)]
+
+mod annotation;
+mod atom;
+mod declaration;
+mod element;
+mod expr;
+mod item;
+mod marking;
+mod reading;
+mod single;
+
+pub use dcsp_domain::{IntList, RangeList};
+pub use dcsp_list::Memory;
+pub use item::{Atom, AtomList, Base, Expr, ExprList, Goal, Item, ItemError, ItemList, Marked};
+pub use reading::{items, items_end_at_semicolons, one_answer};
+
+#[cfg(test)]
+mod tests;

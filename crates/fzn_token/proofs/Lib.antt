@@ -1,0 +1,17 @@
+pub mod Runs
+pub mod GapLaws
+pub mod TextEnds
+pub mod FloatTails
+pub mod DigitValues
+pub mod Literals
+pub mod Keywords
+pub mod Classes
+pub mod LongestNames
+pub mod LongestTexts
+pub mod NumberForms
+pub mod Extents
+pub mod LongestNumbers
+pub mod LongestMarks
+pub mod SoFar
+pub mod OneKind
+pub mod OneAnswer

@@ -1,0 +1,41 @@
+//! The classes of bytes.
+
+ghost use Rattle.std.specs.Prelude.{◌≡◌, ◌≤◌, ◌↔◌, ◌⊎◌, IsTrue};
+ghost use Rattle.fzn_token.specs.Bytes.{is_blank, is_letter, is_name_byte, is_digit_in};
+
+/// Whether it is a space, a tab, a line feed or a carriage return.
+pub(crate) fn is_blank(byte: u8) -> bool
+    ensures { result ≡ is_blank byte }
+{
+    byte == b' ' || byte == b'\t' || byte == b'\n' || byte == b'\r'
+}
+
+/// Whether it is a letter of ASCII or `_`.
+pub(crate) fn is_letter(byte: u8) -> bool
+    ensures { result ≡ is_letter byte }
+{
+    byte.is_ascii_alphabetic() || byte == b'_'
+}
+
+/// Whether it is a letter or digit of ASCII or `_`.
+pub(crate) fn is_name_byte(byte: u8) -> bool
+    ensures { result ≡ is_name_byte byte }
+{
+    byte.is_ascii_alphanumeric() || byte == b'_'
+}
+
+/// Whether it is a digit in this base, as a letter in either case above 9.
+pub(crate) fn is_digit(byte: u8, base: u32) -> bool
+    requires at_least { 2 ≤ base }
+    requires at_most { base ≤ 36 }
+    ensures { result ≡ is_digit_in base byte }
+{
+    char::from(byte).is_digit(base)
+}
+
+/// Whether an exponent begins with it.
+pub(crate) fn is_exponent_letter(byte: u8) -> bool
+    ensures { IsTrue result ↔ ((byte ≡ 101) ⊎ (byte ≡ 69)) }
+{
+    byte == b'e' || byte == b'E'
+}

@@ -1,0 +1,93 @@
+//! Integers and floats.
+
+ghost use Rattle.std.specs.Prelude.{◌≡◌, ◌<◌, ◌≤◌, ◌+◌, ◌⊎◌, length, slice_index, slice_range, true};
+ghost use Rattle.std.specs.Str.Parse.{digits_value};
+ghost use Rattle.fzn_token.specs.Bytes.{is_digit_in, IsWholeRun};
+ghost use Rattle.fzn_token.specs.Numbers.{IsSign, IsDigits, signed};
+ghost use Rattle.fzn_token.specs.Tokens.{IsLongest};
+ghost use Rattle.fzn_token.specs.Reading.{Reads};
+
+use crate::digits::{digits_end, magnitude, prefixed_end, with_sign};
+use crate::float::tail_end;
+use crate::token::{LexError, Token, TokenKind};
+
+/// The number that begins with the digit or `-` here.
+pub(crate) fn number_token(text: &[u8], at: usize) -> Result<Token, LexError>
+    requires small { length text.now ≤ 16777216 }
+    requires within { at < length text.now }
+    requires number { (is_digit_in 10 (slice_index text.now at) ≡ true) ⊎ (slice_index text.now at ≡ 45) }
+    ensures { Reads text.now at result }
+{
+    if text[at] == b'-' {
+        let end = digits_end(text, at + 1, 10);
+        if end == at + 1 {
+            Err(LexError::Bad { at: at as u32 })
+        } else {
+            unsigned_token(text, at, true, at + 1, end)
+        }
+    } else {
+        let end = digits_end(text, at, 10);
+        unsigned_token(text, at, false, at, end)
+    }
+}
+
+/// The number at `at` whose digits begin at `start`, where the decimal ones end at `end`.
+fn unsigned_token(
+    text: &[u8],
+    at: usize,
+    minus: bool,
+    start: usize,
+    end: usize,
+) -> Result<Token, LexError>
+    requires small { length text.now ≤ 16777216 }
+    requires within { at < length text.now }
+    requires sign { IsSign minus text.now at start }
+    requires whole { IsWholeRun (is_digit_in 10) text.now start end }
+    requires some { start < end }
+    ensures { Reads text.now at result }
+{
+    match prefixed_end(text, start, b'x', 16) {
+        Some(to) => integer_token(text, at, minus, (start + 2, to), 16),
+        None => match prefixed_end(text, start, b'o', 8) {
+            Some(to) => integer_token(text, at, minus, (start + 2, to), 8),
+            None => match tail_end(text, end) {
+                Some(to) => Ok(Token {
+                    kind: TokenKind::Float,
+                    from: at as u32,
+                    to: to as u32,
+                }),
+                None => integer_token(text, at, minus, (start, end), 10),
+            },
+        },
+    }
+}
+
+/// The integer at `at` with these digits, which is the longest token there.
+fn integer_token(
+    text: &[u8],
+    at: usize,
+    minus: bool,
+    digits: (usize, usize),
+    base: u32,
+) -> Result<Token, LexError>
+    requires small { length text.now ≤ 16777216 }
+    requires within { at < length text.now }
+    requires digits { IsDigits base text.now digits.0 digits.1 }
+    requires at_least { 2 ≤ base }
+    requires at_most { base ≤ 36 }
+    requires longest { IsLongest (TokenKind.Whole (signed minus (digits_value base (slice_range text.now digits.0 digits.1)))) text.now at digits.1 }
+    ensures { Reads text.now at result }
+{
+    let from = at as u32;
+    match magnitude(text, digits.0, digits.1, base) {
+        None => Err(LexError::IntRange { at: from }),
+        Some(n) => match with_sign(minus, n) {
+            None => Err(LexError::IntRange { at: from }),
+            Some(z) => Ok(Token {
+                kind: TokenKind::Whole(z),
+                from,
+                to: digits.1 as u32,
+            }),
+        },
+    }
+}
