@@ -10,6 +10,10 @@ const MODEL: &[u8] =
 
 const LOG: &[u8] = b"ngd 1\n1 v2 [v1=0] <- c1 c2\n2 v2 [v1=1] <- c2 c1\n3 v1 [] <- n1 n2\nend\n";
 
+/// Three variables in a row of differences. The log of one case has a pair that it does not need.
+const CHAIN: &[u8] =
+    b"var 0..1: x;\nvar 0..0: y;\nvar 0..0: z;\nconstraint int_ne(x,y);\nconstraint int_ne(y,z);\nsolve satisfy;\n";
+
 /// The words `check m.fzn` and this log's name.
 fn check_words(rt: &impl Abort, alloc: Global, log: &str) -> Vec<String> {
     let mut words = Vec::new(alloc);
@@ -37,46 +41,75 @@ struct Case {
     err: &'static [u8],
 }
 
+const CASES: [Case; 9] = [
+    Case {
+        model: MODEL,
+        log: LOG,
+        status: Status::Good,
+        out: b"verified\n",
+        err: b"",
+    },
+    Case {
+        model: MODEL,
+        log: b"ngd 1\n1 v2 [v1=0] <- c1 c2\n2 v2 [v1=1] <- c2 c1\nend\n",
+        status: Status::No,
+        out: b"rejected not empty\n",
+        err: b"",
+    },
+    Case {
+        model: MODEL,
+        log: b"ngd 1\n1 v2 [v1=0] <- c1\n2 v2 [v1=1] <- c2 c1\n3 v1 [] <- n1 n2\nend\n",
+        status: Status::No,
+        out: b"rejected step 1\n",
+        err: b"",
+    },
+    Case {
+        model: MODEL,
+        log: b"ngd 1\n1 v2 [v1=0] <- c1 n1\n2 v2 [v1=1] <- c2 c1\n3 v1 [] <- n1 n2\nend\n",
+        status: Status::No,
+        out: b"rejected step 1\n",
+        err: b"",
+    },
+    Case {
+        model: MODEL,
+        log: b"ngd 1\n1 v2 [v1=0] <- c2 c1\n2 v2 [v1=1] <- c2 c1\n3 v1 [] <- n1 n2\nend\n",
+        status: Status::No,
+        out: b"rejected step 1\n",
+        err: b"",
+    },
+    Case {
+        model: MODEL,
+        log: b"ngd 1\nend\n",
+        status: Status::No,
+        out: b"rejected not empty\n",
+        err: b"",
+    },
+    Case {
+        model: CHAIN,
+        log: b"ngd 1\n1 v3 [v1=1,v2=0] <- c2\n2 v2 [v1=1] <- n1\n3 v2 [v1=0] <- c1\n4 v1 [] <- n3 n2\nend\n",
+        status: Status::Good,
+        out: b"verified\n",
+        err: b"",
+    },
+    Case {
+        model: MODEL,
+        log: b"ngd 1\n1 v2 [v1=0] <- c1 c2\n2 v2 [v1=1] <- c2 c1\n3 v1 [] <- n1 n2\n",
+        status: Status::Text,
+        out: b"",
+        err: b"abt: log: line 5\n",
+    },
+    Case {
+        model: b"var  0..1: x;\nvar 0..1: y;\nconstraint int_ne(x,y);\nconstraint int_eq(x,y);\nsolve satisfy;\n",
+        log: LOG,
+        status: Status::Model,
+        out: b"",
+        err: b"abt: model: not built yet\n",
+    },
+];
+
 #[test]
 fn answers_with_one_line(rt: HostRuntime) {
-    let cases = [
-        Case {
-            model: MODEL,
-            log: LOG,
-            status: Status::Good,
-            out: b"verified\n",
-            err: b"",
-        },
-        Case {
-            model: MODEL,
-            log: b"ngd 1\n1 v2 [v1=0] <- c1 c2\n2 v2 [v1=1] <- c2 c1\nend\n",
-            status: Status::No,
-            out: b"rejected not empty\n",
-            err: b"",
-        },
-        Case {
-            model: MODEL,
-            log: b"ngd 1\n1 v2 [v1=0] <- c1\n2 v2 [v1=1] <- c2 c1\n3 v1 [] <- n1 n2\nend\n",
-            status: Status::No,
-            out: b"rejected step 1\n",
-            err: b"",
-        },
-        Case {
-            model: MODEL,
-            log: b"ngd 1\n1 v2 [v1=0] <- c1 c2\n2 v2 [v1=1] <- c2 c1\n3 v1 [] <- n1 n2\n",
-            status: Status::Text,
-            out: b"",
-            err: b"abt: log: line 5\n",
-        },
-        Case {
-            model: b"var  0..1: x;\nvar 0..1: y;\nconstraint int_ne(x,y);\nconstraint int_eq(x,y);\nsolve satisfy;\n",
-            log: LOG,
-            status: Status::Model,
-            out: b"",
-            err: b"abt: model: not built yet\n",
-        },
-    ];
-    for case in cases {
+    for case in &CASES {
         let words = check_words(&rt, rt.alloc(), "m.ngd");
         let mut folder = folder_with(&rt, rt.alloc(), case.model, case.log);
         let mut out = MemorySink::new(rt.alloc());
