@@ -51,6 +51,7 @@ pub record Record : Type 0 where
 abbrev pub View : Type 0
 View = ℕ → Option Stamped
 
+-- the state of an agent
 pub record Agent : Type 0 where
   pub value : Option ℤ
   pub stamp : ℕ  -- how many values it has taken

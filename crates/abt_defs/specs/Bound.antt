@@ -13,5 +13,6 @@ product_below p (suc i) = product_below p i * (1 + length (domain p i))
 abbrev pub unlinked_pairs : Csp → ℕ
 unlinked_pairs p = sum_below (λ i. sum_below (λ k. cond (shares p i k) 0 1) i) (count p)
 
+-- the greatest number of messages that a run can deliver
 abbrev pub message_bound : Csp → ℕ
 message_bound p = unlinked_pairs p + sum_below (λ i. (count p - 1 - i) * length (domain p i) * product_below p i + (product_below p i - 1)) (count p)

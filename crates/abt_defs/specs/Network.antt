@@ -8,6 +8,7 @@ use Rattle.dcsp_defs.specs.declared.Step.{Step}
 use Rattle.abt_defs.specs.Agents.{Agent, Message, fresh}
 use Rattle.abt_defs.specs.Steps.{Outcome, settle, receive}
 
+-- all agents, what is in transit between them, and what came of it so far
 pub record Network : Type 0 where
   pub agents : ℕ → Agent
   pub links : ℕ → ℕ → List Message  -- from the first to the second, the oldest first
@@ -20,6 +21,7 @@ abbrev pub sent_to : ℕ → List (ℕ × Message) → List Message
 sent_to j [] = []
 sent_to j (x ∷ xs) = cond (x.0 == j) (x.1 ∷ sent_to j xs) (sent_to j xs)
 
+-- whether the list has no item
 abbrev pub is_empty : {X : Type 0} → List X → Bool
 is_empty [] = true
 is_empty (x ∷ xs) = false
@@ -43,6 +45,7 @@ acted i o net = record {
 abbrev pub left : ℕ → ℕ → List Message → Network → Network
 left k i rest net = record net { links = update net.links k (update (net.links k) i rest); deliveries = net.deliveries + 1 }
 
+-- the number of the step that is made next
 abbrev pub next_number : Network → ℕ
 next_number net = length net.steps + 1
 
@@ -59,6 +62,7 @@ pairs n = flat_map (λ k. map (λ i. (k, i)) (below n)) (below n)
 abbrev pub ready : Csp → Network → List (ℕ × ℕ)
 ready p net = filter (λ (x : ℕ × ℕ). not (is_empty (net.links x.0 x.1))) (pairs (count p))
 
+-- the head of the list of this pair is delivered, if there is a pair
 abbrev pub deliver_at : Csp → Option (ℕ × ℕ) → Network → Network
 deliver_at p None net = net
 deliver_at p (Some x) net = deliver_head p x.0 x.1 (net.links x.0 x.1) net
@@ -67,6 +71,7 @@ deliver_at p (Some x) net = deliver_head p x.0 x.1 (net.links x.0 x.1) net
 abbrev pub deliver : Csp → ℕ → Network → Network
 deliver p c net = deliver_at p (slice_get (ready p net) (c % length (ready p net))) net
 
+-- fresh agents, and nothing in transit
 abbrev pub empty_network : Csp → Network
 empty_network p = record { agents = fresh p; links = λ k i. []; steps = []; refuted = false; deliveries = 0 }
 
@@ -87,6 +92,7 @@ start_by p None = settle_below p (count p) (empty_network p)
 start_by p (Some x) =
     record (empty_network p) { steps = record { variable = None; nogood = []; reasons = Rule x.0 ∷ [] } ∷ []; refuted = true }
 
+-- the network as a run begins with it
 abbrev pub start : Csp → Network
 start p = start_by p (find (λ (x : ℕ × Constraint). is_false x.1) (enumerate_from 0 p.constraints))
 

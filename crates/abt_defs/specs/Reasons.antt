@@ -21,9 +21,11 @@ pub record Item : Type 0 where
 abbrev pub known_pairs : Known → List ℕ → Nogood
 known_pairs known scope = filter_map (λ k. option_map (pair_of k) (known k)) scope
 
+-- an owned constraint, with its number, as an item
 abbrev pub constraint_item : ℕ × Constraint → Item
 constraint_item x = record { reason = Rule x.0; variables = x.1.scope; violated = λ values. is_violated values x.1; pairs = λ values. known_pairs values x.1.scope }
 
+-- a recorded nogood as an item
 abbrev pub record_item : Record → Item
 record_item x = record { reason = Earlier x.step; variables = names x.pairs; violated = λ values. agrees values x.pairs; pairs = λ values. x.pairs }
 
@@ -35,6 +37,7 @@ items p i recorded = map constraint_item (owned p i) ++ map record_item recorded
 abbrev pub cause : Csp → ℕ → Known → List Record → ℤ → Option Item
 cause p i known recorded v = find (λ (x : Item). x.violated (with_value i v known)) (items p i recorded)
 
+-- whether the value has a reason
 abbrev pub ruled_out : Csp → ℕ → Known → List Record → ℤ → Bool
 ruled_out p i known recorded v = is_some (cause p i known recorded v)
 
@@ -42,6 +45,7 @@ ruled_out p i known recorded v = is_some (cause p i known recorded v)
 abbrev pub causes : Csp → ℕ → Known → List Record → List Item
 causes p i known recorded = filter_map (cause p i known recorded) (domain p i)
 
+-- the variable with its value and stamp, where it has one
 abbrev pub pair_at : ℕ → Option Stamped → Option (ℕ × Stamped)
 pair_at k None = None
 pair_at k (Some s) = Some (k, s)

@@ -10,6 +10,7 @@ pub data Cargo : Type 0 where
   Step_number : (step : ℕ) → Cargo
   Link : Cargo
 
+-- what a message carries, as a trace has it
 abbrev pub cargo_of : Message → Cargo
 cargo_of (Announce s) = Value s.value
 cargo_of (Refuse step pairs) = Step_number step
@@ -21,10 +22,12 @@ pub record Delivery : Type 0 where
   pub receiver : ℕ
   pub cargo : Cargo
 
+-- the delivery of the head of this list from the first to the second, if it has one
 abbrev pub head_on : ℕ → ℕ → List Message → List Delivery
 head_on k i [] = []
 head_on k i (m ∷ rest) = record { sender = k; receiver = i; cargo = cargo_of m } ∷ []
 
+-- the delivery for this pair, if there is a pair
 abbrev pub delivery_at : Option (ℕ × ℕ) → Network → List Delivery
 delivery_at None net = []
 delivery_at (Some x) net = head_on x.0 x.1 (net.links x.0 x.1)
@@ -68,6 +71,7 @@ go p most (c ∷ cs) net =
     then stopped p most (c ∷ cs) net
     else with_delivery (c % length (ready p net)) (delivery p c net) (go p (most - 1) cs (deliver p c net))
 
+-- a run from the start, with this greatest number of deliveries and these choices
 abbrev pub whole : Csp → ℕ → List ℕ → Run
 whole p most choices = go p most choices (start p)
 

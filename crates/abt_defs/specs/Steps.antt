@@ -48,6 +48,7 @@ is_free p i a (Some v) = not (ruled_out p i (known a) a.recorded v)
 abbrev pub choice : Csp → ℕ → Agent → Option ℤ
 choice p i a = if is_free p i a a.value then a.value else find (λ v. not (ruled_out p i (known a) a.recorded v)) (domain p i)
 
+-- agent i takes the value, or derives a nogood where there is none
 abbrev pub take_or_refuse : Csp → ℕ → ℕ → Agent → Option ℤ → Outcome
 take_or_refuse p i number a (Some v) = take_value p a v
 take_or_refuse p i number a None = refuse number a (step_of p i a.view a.recorded) (derived p i a.view a.recorded)

@@ -41,6 +41,7 @@ pub record Witness (net : Network) (i : ℕ) : Type 0 where
       ⊎ (((net.agents (lowest first rest)).waits ≡ true) × (s : Stamped) × In (lowest first rest, s) (first ∷ rest) × (s.stamp ≡ (net.agents (lowest first rest)).stamp))
       ⊎ (y : ℕ × Stamped) × In y (first ∷ rest) × (y.1.stamp < (net.agents y.0).stamp)
 
+-- what every reached network that is not refuted keeps
 pub record Invariants (p : Csp) (net : Network) : Type 0 where
   -- links and views
   pub present : (k i : ℕ) (v : ℤ) → (net.agents k).tells i ≡ true → (net.agents k).value ≡ Some v → last_told (net.links k i) ((net.agents i).view k) ≡ Some (record { value = v; stamp = (net.agents k).stamp })
@@ -64,5 +65,6 @@ pub record Invariants (p : Csp) (net : Network) : Type 0 where
   pub own_value : (i : ℕ) (x : Record) → In x (net.agents i).recorded → (v : ℤ) × (value_at x.pairs i ≡ Some v) × In v (domain p i)
   pub as_seen : (i : ℕ) (x : Record) → In x (net.agents i).recorded → (y : Pair) → In y x.pairs → (y.var ≡ i) ⊎ (known (net.agents i) y.var ≡ Some y.value)
 
+-- Every network that a run reaches and that is not refuted keeps the invariants.
 abbrev pub InvariantsHold : Csp → Type 0
 InvariantsHold p = IsCsp p → (choices : List ℕ) → (run p choices (start p)).refuted ≡ false → Invariants p (run p choices (start p))

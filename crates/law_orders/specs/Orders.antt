@@ -46,6 +46,7 @@ abbrev pub sent_by : Csp → ℕ → ℕ → List Message → Network → ℕ �
 sent_by p k i [] net a b = []
 sent_by p k i (m ∷ rest) net a b = if a == i then sent_to b (receive p i (next_number net) (net.agents i) k m).sent else []
 
+-- what a delivery at this pair makes the first send to the second
 abbrev pub sent_at : Csp → Option (ℕ × ℕ) → Network → ℕ → ℕ → List Message
 sent_at p None net a b = []
 sent_at p (Some pair) net a b = sent_by p pair.0 pair.1 (net.links pair.0 pair.1) net a b

@@ -20,6 +20,7 @@ pub record Verdicts (p : Csp) (most : ℕ) (r : Run) : Type 0 where
   pub counted : length r.numbers ≡ r.net.deliveries
   pub traced : length r.trace ≡ r.net.deliveries
 
+-- Every run of a well-formed problem has the verdicts.
 abbrev pub AllVerdicts : Csp → Type 0
 AllVerdicts p = IsCsp p → (most : ℕ) (choices : List ℕ) → Verdicts p most (whole p most choices)
 
@@ -31,6 +32,7 @@ pub record Repeats (first again : Run) : Type 0 where
   pub trace : again.trace ≡ first.trace
   pub end : (again.end ≡ first.end) ⊎ ((first.end ≡ Capped) × (again.end ≡ Spent))
 
+-- A run is replayed by its own numbers, under a greatest number of deliveries that is no lower.
 abbrev pub Replays : Csp → Type 0
 Replays p = (most more : ℕ) (choices : List ℕ) → most ≤ more → Repeats (whole p most choices) (whole p more (whole p most choices).numbers)
 
