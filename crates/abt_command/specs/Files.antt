@@ -27,6 +27,7 @@ abbrev pub IsModelReadOf : List ℕ → Result Problem Refusal → Type 0
 IsModelReadOf model (Ok problem) = IsModelOf model problem
 IsModelReadOf model (Err refusal) = IsModelRefusal model refusal
 
+-- the same of the bytes under the name
 abbrev pub IsModelRead : Option (List ℕ → Option (List ℕ)) → List ℕ → Result Problem Refusal → Type 0
 IsModelRead files name result = (model : List ℕ) × IsHeld files name model × IsModelReadOf model result
 
@@ -35,6 +36,7 @@ abbrev pub IsLogReadOf : List ℕ → Result Derivation Refusal → Type 0
 IsLogReadOf log (Ok steps) = IsTextOf log steps
 IsLogReadOf log (Err refusal) = IsLogRefusal log refusal
 
+-- the same of the bytes under the name
 abbrev pub IsLogRead : Option (List ℕ → Option (List ℕ)) → List ℕ → Result Derivation Refusal → Type 0
 IsLogRead files name result = (log : List ℕ) × IsHeld files name log × IsLogReadOf log result
 

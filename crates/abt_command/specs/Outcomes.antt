@@ -14,10 +14,11 @@ use Rattle.abt_command.specs.declared.refusal.Refusal.TheVariants.{ModelLong, Mo
 use Rattle.abt_command.specs.declared.status.Status.{Status}
 use Rattle.abt_command.specs.declared.status.Status.TheVariants.{Good, No, Words, Model, Text, Unfinished, Fault, Memory}
 
--- the most bytes of a model, and of a log
+-- the most bytes of a model
 abbrev pub most_model : ℕ
 most_model = 16777216
 
+-- the most bytes of a log
 abbrev pub most_log : ℕ
 most_log = 2 ^ 62
 

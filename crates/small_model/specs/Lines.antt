@@ -9,14 +9,16 @@ use Rattle.small_model.specs.declared.line.Declaration.{Declaration as SourceDec
 use Rattle.small_model.specs.declared.line.Relation.{Relation as SourceRelation}
 use Rattle.ngd_log.specs.Reading.{◌>>=◌, after, integer_at}
 
--- the words that are no names: those of types and literals, those that begin items, and those that say what is asked
+-- the words that types and literals are written with
 abbrev pub type_words : List (List ℕ)
 type_words =
     codes "array" ∷ codes "bool" ∷ codes "false" ∷ codes "float" ∷ codes "int" ∷ codes "of" ∷ codes "set" ∷ codes "true" ∷ codes "var" ∷ []
 
+-- the words that begin items
 abbrev pub item_words : List (List ℕ)
 item_words = codes "constraint" ∷ codes "predicate" ∷ codes "solve" ∷ []
 
+-- the words that say what is asked
 abbrev pub goal_words : List (List ℕ)
 goal_words = codes "maximize" ∷ codes "minimize" ∷ codes "satisfy" ∷ []
 
@@ -32,6 +34,7 @@ is_letter b = (nat_le 65 b && nat_le b 90) || ((nat_le 97 b && nat_le b 122) || 
 abbrev pub is_name_byte : ℕ → Bool
 is_name_byte b = is_letter b || is_ascii_digit b
 
+-- whether the first byte is a letter
 abbrev pub begins_with_letter : List ℕ → Bool
 begins_with_letter [] = false
 begins_with_letter (b ∷ bytes) = is_letter b

@@ -84,6 +84,7 @@ declarations s [] = None
 declarations s (line ∷ more) =
     option_map_or (λ d. with_variable s d >>= (λ t. declarations t more)) (declaration_of line) (relations s (line ∷ more))
 
+-- no variable and no rule
 abbrev pub nothing_yet : SoFar
 nothing_yet = record { names = []; builder = record { domains = []; rules = [] } }
 
