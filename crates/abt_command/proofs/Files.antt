@@ -6,7 +6,7 @@ use Rattle.dcsp_outside.specs.declared.folder.Fetched.TheVariants.{Long}
 use Rattle.dcsp_outside.specs.Outside.{Fetches, bytes_of}
 use Rattle.ngd_check.specs.declared.Finding.{Finding}
 use Rattle.abt_command.specs.declared.refusal.Refusal.{Refusal}
-use Rattle.abt_command.specs.declared.refusal.Refusal.TheVariants.{ModelLong, ModelUnread, LogLong, LogLine, Fault, Memory}
+use Rattle.abt_command.specs.declared.refusal.Refusal.TheVariants.{ModelLong, ModelRefused, LogLong, LogLine, Fault, Memory}
 use Rattle.abt_command.specs.Answers.{IsHeld}
 use Rattle.abt_command.specs.Outcomes.{IsOutcome, IsModelRefusal}
 use Rattle.abt_command.specs.Files.{IsFoundIn}
@@ -33,7 +33,7 @@ many_bytes (Some files) name most old new fetched e h = (bytes_of (files name), 
 
 model_refused : (model log : List ℕ) (e : Refusal) → IsModelRefusal model e → IsOutcome model log (Err e)
 model_refused model log ModelLong h = h
-model_refused model log ModelUnread h = h
+model_refused model log (ModelRefused error) h = h
 model_refused model log LogLong h = absurd h
 model_refused model log (LogLine number) h = absurd h
 model_refused model log Fault h = tt

@@ -4,19 +4,20 @@ use Rattle.dcsp_defs.specs.declared.Step.{Step}
 use Rattle.dcsp_defs.specs.Csp.{HasNoSolution}
 use Rattle.dcsp_problem.specs.Problems.{Contents, csp_of}
 use Rattle.dcsp_outside.specs.Outside.{bytes_of}
+use Rattle.fzn_model.proofs.Once.{once}
 use Rattle.ngd_log.proofs.LogLaws.{log_or_bad_line}
 use Rattle.ngd_check.specs.declared.Finding.{Finding}
 use Rattle.ngd_check.specs.Findings.{IsFinding}
 use Rattle.ngd_check.proofs.Once.{one_finding}
 use Rattle.abt_command.specs.declared.refusal.Refusal.{Refusal}
-use Rattle.abt_command.specs.declared.refusal.Refusal.TheVariants.{ModelLong, ModelUnread, LogLong, LogLine, Fault, Memory}
+use Rattle.abt_command.specs.declared.refusal.Refusal.TheVariants.{ModelLong, ModelRefused, LogLong, LogLine, Fault, Memory}
 use Rattle.abt_command.specs.declared.status.Status.{Status}
 use Rattle.abt_command.specs.Outcomes.{IsModelOf, IsTextOf, IsFound, IsOutcome, finding_status}
 use Rattle.abt_command.specs.Answers.{IsHeld, IsRefuted, IsComplete, ChecksLog, Stream, outcome_status}
 
 -- a model has one problem
 one_problem : (model : List ℕ) (p q : Contents) → IsModelOf model p → IsModelOf model q → p ≡ q
-one_problem model p q h k = let e : Some p ≡ Some q = sym h.reads ∙ k.reads in cc
+one_problem model p q h k = let e = once model (Ok p) (Ok q) h.reads k.reads in cc
 
 -- a log has one derivation
 one_text : (log : List ℕ) (a b : List Step) → IsTextOf log a → IsTextOf log b → a ≡ b
@@ -32,7 +33,7 @@ one_found model log f g h k =
 pub one_outcome : (model log : List ℕ) (finding : Finding) (o : Result Finding Refusal) → IsFound model log finding → IsOutcome model log o → (o ≡ Ok finding) ⊎ ((o ≡ Err Fault) ⊎ (o ≡ Err Memory))
 one_outcome model log finding (Ok f) h k = inl (ap Ok (one_found model log f finding k h))
 one_outcome model log finding (Err ModelLong) h k = let s = h.model_is.short in absurd (omega (arith, s, k))
-one_outcome model log finding (Err ModelUnread) h k = absurd (let e : Some h.problem ≡ None = sym h.model_is.reads ∙ k.reads in cc)
+one_outcome model log finding (Err (ModelRefused error)) h k = absurd (let e = once model (Ok h.problem) (Err error) h.model_is.reads k.reads in cc)
 one_outcome model log finding (Err LogLong) h k = let s = h.log_is.short in absurd (omega (arith, s, k.1))
 one_outcome model log finding (Err (LogLine number)) h k = absurd ((log_or_bad_line log).not_both h.steps number h.log_is.reads k.1.line)
 one_outcome model log finding (Err Fault) h k = inr (inl refl)

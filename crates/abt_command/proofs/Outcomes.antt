@@ -5,7 +5,7 @@ use Rattle.dcsp_outside.specs.Outside.{Told, AddsPartOf}
 use Rattle.dcsp_outside.proofs.Changes.{Told-same, Told-weaker}
 use Rattle.ngd_check.specs.declared.Finding.{Finding}
 use Rattle.abt_command.specs.declared.refusal.Refusal.{Refusal}
-use Rattle.abt_command.specs.declared.refusal.Refusal.TheVariants.{ModelLong, ModelUnread, LogLong, LogLine, Fault, Memory}
+use Rattle.abt_command.specs.declared.refusal.Refusal.TheVariants.{ModelLong, ModelRefused, LogLong, LogLine, Fault, Memory}
 use Rattle.abt_command.specs.Outcomes.{IsOutcome, IsFound, finding_text}
 use Rattle.abt_command.specs.Answers.{IsHeld, IsAnswered, IsAnsweredIn}
 use Rattle.abt_command.specs.Files.{IsFoundIn}
@@ -14,7 +14,7 @@ use Rattle.abt_command.specs.Told.{IsTold}
 -- a refusal puts nothing on `out`
 nothing_put : (model log : List ℕ) (e : Refusal) (x : List ℕ) → IsAnswered model log (Err e) x x
 nothing_put model log ModelLong x = refl
-nothing_put model log ModelUnread x = refl
+nothing_put model log (ModelRefused error) x = refl
 nothing_put model log LogLong x = refl
 nothing_put model log (LogLine number) x = refl
 nothing_put model log Fault x = inl refl
@@ -34,6 +34,6 @@ module _ (files : Option (List ℕ → Option (List ℕ))) (model_name log_name 
       (h.0, h.1, h.2, h.3, tt, Told-weaker (AddsPartOf (finding_text finding)) (IsAnswered h.0 h.1 (Err Fault)) (λ x y p. inr (finding, h.4, p)) before now t)
   told finding (Err Memory) h t = (h.0, h.1, h.2, h.3, tt, Told-same (IsAnswered h.0 h.1 (Err Memory)) (λ x. refl) before now t)
   told finding (Err ModelLong) h t = absurd t
-  told finding (Err ModelUnread) h t = absurd t
+  told finding (Err (ModelRefused error)) h t = absurd t
   told finding (Err LogLong) h t = absurd t
   told finding (Err (LogLine number)) h t = absurd t

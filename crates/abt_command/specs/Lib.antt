@@ -1,3 +1,4 @@
+pub mod ModelTexts
 pub mod CommandLines
 pub mod Outcomes
 pub mod Answers

@@ -1,16 +1,19 @@
 -- What checking a log against a model comes to, and what is said of it.
-use Rattle.std.specs.Prelude.{◌≡◌, ℕ, ◌^◌, ◌<◌, ◌≤◌, List, [], ◌++◌, length, decimal, codes, Result, Ok, Err, Some, None, ⊤}
+use Rattle.std.specs.Prelude.{◌≡◌, ℕ, ◌^◌, ◌<◌, ◌≤◌, List, [], ◌++◌, length, decimal, codes, Result, Ok, Err, ⊤}
 use Rattle.dcsp_defs.specs.declared.Step.{Step}
 use Rattle.dcsp_problem.specs.Problems.{Contents, csp_of}
 use Rattle.ngd_log.specs.Logs.{IsLogOf, IsFirstBad}
 use Rattle.ngd_check.specs.declared.Finding.{Finding}
 use Rattle.ngd_check.specs.declared.Finding.TheVariants.{Verified, BadStep, NotEmpty}
 use Rattle.ngd_check.specs.Findings.{IsFinding}
-use Rattle.small_model.specs.Models.{small_problem}
-use Rattle.abt_command.specs.declared.refusal.Line.{Line}
-use Rattle.abt_command.specs.declared.refusal.Line.TheVariants.{Fixed, Made}
+use Rattle.fzn_model.specs.Models.{Answers}
+use Rattle.fzn_model.specs.declared.model.ModelError.{ModelError}
+use Rattle.fzn_model.specs.declared.model.ModelError.TheVariants as errors
+use Rattle.abt_command.specs.declared.line.Line.{Line}
+use Rattle.abt_command.specs.declared.line.Line.TheVariants.{Fixed, Made}
+use Rattle.abt_command.specs.ModelTexts.{error_text}
 use Rattle.abt_command.specs.declared.refusal.Refusal.{Refusal}
-use Rattle.abt_command.specs.declared.refusal.Refusal.TheVariants.{ModelLong, ModelUnread, LogLong, LogLine, Fault as Failed, Memory as OutOfMemory}
+use Rattle.abt_command.specs.declared.refusal.Refusal.TheVariants.{ModelLong, ModelRefused, LogLong, LogLine, Fault as Failed, Memory as OutOfMemory}
 use Rattle.abt_command.specs.declared.status.Status.{Status}
 use Rattle.abt_command.specs.declared.status.Status.TheVariants.{Good, No, Words, Model, Text, Unfinished, Fault, Memory}
 
@@ -25,12 +28,12 @@ most_log = 2 ^ 62
 -- this is the problem of the model
 pub record IsModelOf (model : List ℕ) (problem : Contents) : Type 0 where
   pub short : length model ≤ most_model
-  pub reads : small_problem model ≡ Some problem
+  pub reads : Answers model (Ok problem)
 
--- the model is short enough, and has no problem
-pub record IsUnread (model : List ℕ) : Type 0 where
+-- the model is short enough, and this is why it has no problem
+pub record IsRefused (model : List ℕ) (error : ModelError) : Type 0 where
   pub short : length model ≤ most_model
-  pub reads : small_problem model ≡ None
+  pub reads : Answers model (Err error)
 
 -- this is the derivation of the log
 pub record IsTextOf (log : List ℕ) (steps : List Step) : Type 0 where
@@ -57,7 +60,7 @@ pub record IsFound (model log : List ℕ) (finding : Finding) : Type 0 where
 -- what is said of a refusal to read a model: want of memory and faults are always allowed
 abbrev pub IsModelRefusal : List ℕ → Refusal → Type 0
 IsModelRefusal model ModelLong = most_model < length model
-IsModelRefusal model ModelUnread = IsUnread model
+IsModelRefusal model (ModelRefused error) = IsRefused model error
 IsModelRefusal model LogLong = ⊥
 IsModelRefusal model (LogLine number) = ⊥
 IsModelRefusal model Failed = ⊤
@@ -66,7 +69,7 @@ IsModelRefusal model OutOfMemory = ⊤
 -- the same of a log
 abbrev pub IsLogRefusal : List ℕ → Refusal → Type 0
 IsLogRefusal log ModelLong = ⊥
-IsLogRefusal log ModelUnread = ⊥
+IsLogRefusal log (ModelRefused error) = ⊥
 IsLogRefusal log LogLong = most_log < length log
 IsLogRefusal log (LogLine number) = IsBadAt log number
 IsLogRefusal log Failed = ⊤
@@ -76,11 +79,16 @@ IsLogRefusal log OutOfMemory = ⊤
 abbrev pub IsOutcome : List ℕ → List ℕ → Result Finding Refusal → Type 0
 IsOutcome model log (Ok finding) = IsFound model log finding
 IsOutcome model log (Err ModelLong) = most_model < length model
-IsOutcome model log (Err ModelUnread) = IsUnread model
+IsOutcome model log (Err (ModelRefused error)) = IsRefused model error
 IsOutcome model log (Err LogLong) = HasProblem model × (most_log < length log)
 IsOutcome model log (Err (LogLine number)) = HasProblem model × IsBadAt log number
 IsOutcome model log (Err Failed) = ⊤
 IsOutcome model log (Err OutOfMemory) = ⊤
+
+-- the refusal of a model for which its reader gives this error
+abbrev pub model_refusal : ModelError → Refusal
+model_refusal errors.Memory = OutOfMemory
+model_refusal error = ModelRefused error
 
 -- the status of a finding
 abbrev pub finding_status : Finding → Status
@@ -91,7 +99,7 @@ finding_status NotEmpty = No
 -- the status of a refusal
 abbrev pub refusal_status : Refusal → Status
 refusal_status ModelLong = Model
-refusal_status ModelUnread = Model
+refusal_status (ModelRefused error) = Model
 refusal_status LogLong = Text
 refusal_status (LogLine number) = Text
 refusal_status Failed = Fault
@@ -106,7 +114,7 @@ finding_text NotEmpty = codes "rejected not empty\n"
 -- the line that tells a refusal
 abbrev pub refusal_text : Refusal → List ℕ
 refusal_text ModelLong = codes "abt: model: too long\n"
-refusal_text ModelUnread = codes "abt: model: not built yet\n"
+refusal_text (ModelRefused error) = error_text error
 refusal_text LogLong = codes "abt: log: too long\n"
 refusal_text (LogLine number) = codes "abt: log: line " ++ decimal number ++ codes "\n"
 refusal_text Failed = codes "abt: fault\n"

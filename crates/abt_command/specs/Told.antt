@@ -3,7 +3,7 @@ use Rattle.std.specs.Prelude.{◌≡◌, List, ℕ, ◌++◌, Option, Result, Ok
 use Rattle.dcsp_outside.specs.Outside.{Told, AddsPartOf}
 use Rattle.ngd_check.specs.declared.Finding.{Finding}
 use Rattle.abt_command.specs.declared.refusal.Refusal.{Refusal}
-use Rattle.abt_command.specs.declared.refusal.Refusal.TheVariants.{ModelLong, ModelUnread, LogLong, LogLine, Fault, Memory}
+use Rattle.abt_command.specs.declared.refusal.Refusal.TheVariants.{ModelLong, ModelRefused, LogLong, LogLine, Fault, Memory}
 use Rattle.abt_command.specs.Outcomes.{finding_text}
 
 -- its line went last; or some first bytes of it did, and it is a fault; or nothing did, for want of memory
@@ -12,6 +12,6 @@ IsTold finding before now (Ok told) = (told ≡ finding) × Told before now (λ 
 IsTold finding before now (Err Fault) = Told before now (AddsPartOf (finding_text finding))
 IsTold finding before now (Err Memory) = now ≡ before
 IsTold finding before now (Err ModelLong) = ⊥
-IsTold finding before now (Err ModelUnread) = ⊥
+IsTold finding before now (Err (ModelRefused error)) = ⊥
 IsTold finding before now (Err LogLong) = ⊥
 IsTold finding before now (Err (LogLine number)) = ⊥

@@ -5,12 +5,12 @@ ghost use Rattle.dcsp_outside.specs.Outside.{Rose, NoneFalls};
 ghost use Rattle.abt_command.specs.Answers.{IsRefuted};
 ghost use Rattle.abt_command.specs.Files.{IsRead, IsModelRead, IsLogRead, IsFoundIn};
 
-use crate::refusal::Refusal;
+use crate::refusal::{Refusal, model_refusal};
 use dcsp_outside::{Fetched, Folder, FolderError};
 use dcsp_problem::Problem;
+use fzn_model::problem_of;
 use ngd_check::{Finding, check};
 use ngd_log::{Derivation, LogError, read_log};
-use small_model::{ModelError, small_problem};
 use std::alloc::Global;
 
 /// The most bytes of a model.
@@ -62,10 +62,9 @@ fn read_model<F: Folder>(alloc: Global, folder: &mut F, name: &str) -> Result<Pr
     ensures fault { result ≡ Err Refusal.Fault → Rose (F.reads folder.old name.now) (F.reads folder.new name.now) }
 {
     match read_file(alloc, folder, name, MOST_MODEL) {
-        Ok(text) => match small_problem(alloc, &text) {
+        Ok(text) => match problem_of(alloc, &text) {
             Ok(problem) => Ok(problem),
-            Err(ModelError::NotBuilt) => Err(Refusal::ModelUnread),
-            Err(ModelError::Memory) => Err(Refusal::Memory),
+            Err(error) => Err(model_refusal(error)),
         },
         Err(Unread::Long) => Err(Refusal::ModelLong),
         Err(Unread::Fault) => Err(Refusal::Fault),

@@ -3,6 +3,8 @@
 
 mod command;
 mod find;
+mod line;
+mod model_text;
 mod refusal;
 mod status;
 #[cfg(test)]

@@ -1,10 +1,12 @@
 //! Why a log was not checked, and the lines that the program answers with.
 
-ghost use Rattle.std.specs.Prelude.{◌≡◌, ◌++◌, IfOk, decimal, codes};
-ghost use Rattle.abt_command.specs.Outcomes.{bytes_of_line, finding_status, refusal_status, finding_text, refusal_text};
+ghost use Rattle.std.specs.Prelude.{◌≡◌, IfOk};
+ghost use Rattle.abt_command.specs.Outcomes.{bytes_of_line, model_refusal, finding_status, refusal_status, finding_text, refusal_text};
 
+use crate::line::{Line, numbered};
+use crate::model_text::error_line;
 use crate::status::Status;
-use itoa::Buffer;
+use fzn_model::ModelError;
 use ngd_check::Finding;
 use std::alloc::{AllocError, Global};
 
@@ -13,8 +15,8 @@ use std::alloc::{AllocError, Global};
 pub enum Refusal {
     /// The model has more than 16,777,216 bytes.
     ModelLong,
-    /// The model is not of the form that is read so far, or passes a limit.
-    ModelUnread,
+    /// The model has no problem, and this is why. It is never want of memory.
+    ModelRefused { error: ModelError },
     /// The log has more than 2^62 bytes.
     LogLong,
     /// The text is no log, and this is its first bad line, counted from 1.
@@ -34,6 +36,16 @@ impl From<AllocError> for Refusal {
     }
 }
 
+/// The refusal of a model for which its reader gives this error.
+pub(crate) fn model_refusal(error: ModelError) -> Refusal
+    ensures { result ≡ model_refusal error }
+{
+    match error {
+        ModelError::Memory => Refusal::Memory,
+        refused => Refusal::ModelRefused { error: refused },
+    }
+}
+
 /// The status of a finding.
 pub fn finding_status(finding: Finding) -> Status
     ensures { result ≡ finding_status finding }
@@ -49,31 +61,10 @@ pub fn refusal_status(refusal: Refusal) -> Status
     ensures { result ≡ refusal_status refusal }
 {
     match refusal {
-        Refusal::ModelLong | Refusal::ModelUnread => Status::Model,
+        Refusal::ModelLong | Refusal::ModelRefused { .. } => Status::Model,
         Refusal::LogLong | Refusal::LogLine { .. } => Status::Text,
         Refusal::Fault => Status::Fault,
         Refusal::Memory => Status::Memory,
-    }
-}
-
-/// A line that the program answers with.
-#[derive(Drop)]
-pub enum Line {
-    /// The same each time.
-    Fixed(&'static [u8]),
-    /// Made with a number.
-    Made(Vec<u8>),
-}
-
-impl Line {
-    /// The bytes of the line, with its line feed.
-    pub fn bytes(&self) -> &[u8]
-        ensures { result.now ≡ bytes_of_line self.now }
-    {
-        match self {
-            Line::Fixed(bytes) => bytes,
-            Line::Made(bytes) => bytes,
-        }
     }
 }
 
@@ -94,20 +85,10 @@ pub fn refusal_line(alloc: Global, refusal: Refusal) -> Result<Line, AllocError>
 {
     match refusal {
         Refusal::ModelLong => Ok(Line::Fixed(b"abt: model: too long\n")),
-        Refusal::ModelUnread => Ok(Line::Fixed(b"abt: model: not built yet\n")),
+        Refusal::ModelRefused { error } => error_line(alloc, error),
         Refusal::LogLong => Ok(Line::Fixed(b"abt: log: too long\n")),
         Refusal::LogLine { number } => numbered(alloc, b"abt: log: line ", number),
         Refusal::Fault => Ok(Line::Fixed(b"abt: fault\n")),
         Refusal::Memory => Ok(Line::Fixed(b"abt: memory\n")),
     }
-}
-
-/// A line that ends in a number.
-fn numbered(alloc: Global, before: &[u8], number: u64) -> Result<Line, AllocError>
-    ensures { IfOk result (λ line. bytes_of_line line ≡ before.now ++ decimal number ++ codes "\n") }
-{
-    let mut line = Vec::from_slice(alloc, before)?;
-    line.extend_from_slice(Buffer::new().format(number).as_bytes())?;
-    line.extend_from_slice(b"\n")?;
-    Ok(Line::Made(line))
 }

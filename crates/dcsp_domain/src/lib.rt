@@ -158,8 +158,8 @@ fn numbers_from(alloc: Global, low: i64, count: usize) -> Result<Vec<i64>, Alloc
     Ok(values)
 }
 
-/// The distinct values among these, in rising order.
-fn sorted_set(alloc: Global, values: &[i64]) -> Result<Vec<i64>, AllocError>
+/// The distinct values among these, in rising order, however many there are.
+pub fn sorted_set(alloc: Global, values: &[i64]) -> Result<Vec<i64>, AllocError>
     ensures { IfOk result (λ v. v.items ≡ set_of values.now) }
 {
     let mut values = Vec::from_slice(alloc, values)?;

@@ -49,3 +49,50 @@ name_of kind.FznAllDifferentInt = codes "fzn_all_different_int"
 abbrev pub kind_among : List ℕ → List Kind → Option Kind
 kind_among name [] = None
 kind_among name (k ∷ ks) = if bytes_eq name (name_of k) then Some k else kind_among name ks
+
+-- every kind, in the table's order
+abbrev pub kinds : List Kind
+kinds =
+    kind.IntEq ∷
+    kind.IntEqReif ∷
+    kind.IntNe ∷
+    kind.IntNeReif ∷
+    kind.IntLe ∷
+    kind.IntLeReif ∷
+    kind.IntLt ∷
+    kind.IntLtReif ∷
+    kind.IntPlus ∷
+    kind.IntTimes ∷
+    kind.IntMin ∷
+    kind.IntMax ∷
+    kind.IntAbs ∷
+    kind.IntDiv ∷
+    kind.IntMod ∷
+    kind.BoolEq ∷
+    kind.BoolEqReif ∷
+    kind.BoolLe ∷
+    kind.BoolLeReif ∷
+    kind.BoolLt ∷
+    kind.BoolLtReif ∷
+    kind.BoolNot ∷
+    kind.BoolAnd ∷
+    kind.BoolOr ∷
+    kind.BoolXor ∷
+    kind.Bool2int ∷
+    kind.BoolClause ∷
+    kind.BoolClauseReif ∷
+    kind.ArrayBoolAnd ∷
+    kind.ArrayBoolOr ∷
+    kind.ArrayBoolXor ∷
+    kind.ArrayIntElement ∷
+    kind.ArrayVarIntElement ∷
+    kind.ArrayBoolElement ∷
+    kind.ArrayVarBoolElement ∷
+    kind.SetIn ∷
+    kind.SetInReif ∷
+    kind.FznAllDifferentInt ∷
+    []
+
+-- the kind with this name, if there is one
+abbrev pub kind_named : List ℕ → Option Kind
+kind_named name = kind_among name kinds

@@ -3,7 +3,7 @@
 ghost use Rattle.std.specs.Prelude.{◌≡◌, IfSome, IsTrue, Some};
 ghost use Rattle.dcsp_meaning.specs.declared.kinds.Kind.{Kind};
 ghost use Rattle.dcsp_meaning.specs.Table.{is_reified};
-ghost use Rattle.dcsp_meaning.specs.Names.{name_of, kind_among};
+ghost use Rattle.dcsp_meaning.specs.Names.{name_of, kind_among, kind_named};
 
 /// A constraint's name: the builtin constraints of the MiniZinc Handbook's chapter on FlatZinc that need no
 /// sums, and `fzn_all_different_int`.
@@ -192,6 +192,7 @@ impl Kind {
     pub fn from_name(name: &[u8]) -> Option<Kind>
         ensures named { IfSome result (λ kind. name_of kind ≡ name.now) }
         ensures every { (kind : Kind) → name_of kind ≡ name.now → result ≡ Some kind }
+        ensures first { result ≡ kind_named name.now }
     {
         first_named(name)
     }

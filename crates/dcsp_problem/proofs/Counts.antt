@@ -1,22 +1,28 @@
 -- Counts against their limits, and how they grow.
-use Rattle.std.proofs.Common.{◌≡◌, ℕ, ◌+◌, ◌<◌, ◌≤◌, true, false, List, [], ◌∷◌, ◌++◌, length, refl, arith}
-use Rattle.std.specs.Prelude.{ℤ, nat_lt, Option, Some, None, MatchOption, Result, Ok, Err}
+use Rattle.std.proofs.Common.{◌≡◌, ℕ, ◌+◌, ◌<◌, ◌≤◌, Bool, true, false, cond, List, [], ◌∷◌, ◌++◌, length, refl, sym, ap, ◌∙◌, subst, arith}
+use Rattle.std.specs.Prelude.{ℤ, nat_lt, Option, Some, None, MatchOption, Result, Ok, Err, if◌then◌else◌}
+use Rattle.std.specs.Option.{option_map}
 use Rattle.std.proofs.lemmas.Bool.Decides.{nat_tests}
 use Rattle.std.proofs.lemmas.List.{length_push}
 use Rattle.std.proofs.lemmas.List.Elements.{All-push, All-weaker}
 use Rattle.std.proofs.lemmas.List.Sums.{sum_by_push}
 use Rattle.dcsp_domain.specs.Sets.{IsDomain}
+use Rattle.dcsp_linear.specs.declared.TheConstants.{WIDEST}
 use Rattle.dcsp_problem.specs.declared.limits.Which.{Which}
 use Rattle.dcsp_problem.specs.declared.limits.BuildError.{BuildError}
-use Rattle.dcsp_problem.specs.declared.limits.BuildError.TheVariants.{Limit}
+use Rattle.dcsp_problem.specs.declared.limits.BuildError.TheVariants.{Limit, WideSum, Memory}
 use Rattle.dcsp_problem.specs.declared.limits.Which.TheVariants.{Variables, DomainValues, Rules, Terms}
 use Rattle.dcsp_problem.specs.declared.rule.Term.{Term}
 use Rattle.dcsp_problem.specs.declared.rule.Term.TheVariants.{Const, Var}
 use Rattle.dcsp_problem.specs.declared.rule.Rule.{Rule}
-use Rattle.dcsp_problem.specs.Rules.{terms_of, IsTermOf, IsRuleOf}
-use Rattle.dcsp_problem.specs.Problems.{Contents}
-use Rattle.dcsp_problem.specs.Limits.{most, first_past, list_counts}
+use Rattle.dcsp_problem.specs.declared.output.Output.{Output}
+use Rattle.dcsp_problem.specs.Rules.{terms_of, size_of, IsTermOf, IsRuleOf}
+use Rattle.dcsp_problem.specs.Widths.{rule_width}
+use Rattle.dcsp_problem.specs.Outputs.{IsOutputOf}
+use Rattle.dcsp_problem.specs.Problems.{Contents, term_count}
+use Rattle.dcsp_problem.specs.Limits.{most, first_past, limit_of, list_counts, rule_counts, rule_refusal, IsErrorOf}
 use Rattle.dcsp_problem.specs.Index.{IsTallied}
+use Rattle.dcsp_problem.proofs.WidthLaws.{narrow_with}
 
 above_test : (m n : ℕ) → m < n → nat_lt m n ≡ true
 above_test m n h = grind (arith, nat_tests)
@@ -39,10 +45,14 @@ term_of_more n (Var var) h = omega (arith, h)
 rule_of_more : (n : ℕ) (rule : Rule) → IsRuleOf n rule → IsRuleOf (n + 1) rule
 rule_of_more n rule h = record { known = All-weaker (IsTermOf n) (IsTermOf (n + 1)) (term_of_more n) (terms_of rule) h.known; shape = h.shape }
 
+output_of_more : (n : ℕ) (output : Output) → IsOutputOf n output → IsOutputOf (n + 1) output
+output_of_more n output h =
+    record { known = All-weaker (IsTermOf n) (IsTermOf (n + 1)) (term_of_more n) output.terms h.known; few = h.few; shape = h.shape }
+
 -- a further variable within the limits
 pub tallied_variable : (p : Contents) (domain : List ℤ) (values terms total : ℕ) → IsTallied p values terms → IsDomain domain → total ≡ values + length domain
     → length p.domains + 1 ≤ most Variables → total ≤ most DomainValues
-    → IsTallied (record { domains = p.domains ++ domain ∷ []; rules = p.rules }) total terms
+    → IsTallied (record { domains = p.domains ++ domain ∷ []; rules = p.rules; outputs = p.outputs }) total terms
 tallied_variable p domain values terms total t d sum few small =
     let size = length_push p.domains domain in
     let added = sum_by_push length p.domains domain in
@@ -51,11 +61,14 @@ tallied_variable p domain values terms total t d sum few small =
       problem = record {
         domains = All-push IsDomain p.domains domain t.problem.domains d;
         rules = rw same (All-weaker (IsRuleOf (length p.domains)) (IsRuleOf (length p.domains + 1)) (rule_of_more (length p.domains)) p.rules t.problem.rules);
+        outputs = rw same (All-weaker (IsOutputOf (length p.domains)) (IsOutputOf (length p.domains + 1)) (output_of_more (length p.domains)) p.outputs t.problem.outputs);
         few_variables = omega (arith, same);
         few_values = let v = t.all_values in omega arith;
         few_rules = t.problem.few_rules;
         few_terms = t.problem.few_terms;
+        few_outputs = t.problem.few_outputs;
         short_lists = t.problem.short_lists;
+        narrow_sums = narrow_with p.domains domain p.rules t.problem.rules t.problem.narrow_sums;
       };
       all_values = let v = t.all_values in omega arith;
       all_terms = t.all_terms;
@@ -63,20 +76,23 @@ tallied_variable p domain values terms total t d sum few small =
 
 -- a further rule within the limits
 pub tallied_rule : (p : Contents) (rule : Rule) (values terms total : ℕ) → IsTallied p values terms → IsRuleOf (length p.domains) rule → first_past (list_counts rule) ≡ None
-    → total ≡ terms + length (terms_of rule) → length p.rules + 1 ≤ most Rules → total ≤ most Terms
-    → IsTallied (record { domains = p.domains; rules = p.rules ++ rule ∷ [] }) values total
-tallied_rule p rule values terms total t r short sum few small =
+    → rule_width p.domains rule ≤ WIDEST → total ≡ terms + size_of rule → length p.rules + 1 ≤ most Rules → total ≤ most Terms
+    → IsTallied (record { domains = p.domains; rules = p.rules ++ rule ∷ []; outputs = p.outputs }) values total
+tallied_rule p rule values terms total t r short narrow sum few small =
     let size = length_push p.rules rule in
-    let added = sum_by_push (λ (x : Rule). length (terms_of x)) p.rules rule in
+    let added = sum_by_push size_of p.rules rule in
     record {
       problem = record {
         domains = t.problem.domains;
         rules = All-push (IsRuleOf (length p.domains)) p.rules rule t.problem.rules r;
+        outputs = t.problem.outputs;
         few_variables = t.problem.few_variables;
         few_values = t.problem.few_values;
         few_rules = omega arith;
         few_terms = let v = t.all_terms in omega arith;
+        few_outputs = t.problem.few_outputs;
         short_lists = All-push (λ (x : Rule). first_past (list_counts x) ≡ None) p.rules rule t.problem.short_lists short;
+        narrow_sums = All-push (λ (x : Rule). rule_width p.domains x ≤ WIDEST) p.rules rule t.problem.narrow_sums narrow;
       };
       all_values = t.all_values;
       all_terms = let v = t.all_terms in omega arith;
@@ -86,3 +102,61 @@ tallied_rule p rule values terms total t r short sum few small =
 pub counts_fit : (past : Option (Which × ℕ)) (added terms : ℕ) → MatchOption past (◌≡◌ {A = Result ℕ BuildError} (Ok added) (Ok terms)) (λ x. ◌≡◌ {A = Result ℕ BuildError} (Ok added) (Err (Limit x.0 x.1))) → (past ≡ None) × (added ≡ terms)
 counts_fit None added terms h = (refl, cc)
 counts_fit (Some x) added terms h = absurd (cc)
+
+-- one whose lists were not counted to the end has one that is
+pub counts_pass : (past : Option (Which × ℕ)) (error : BuildError) (terms : ℕ) → MatchOption past (◌≡◌ {A = Result ℕ BuildError} (Err error) (Ok terms)) (λ x. ◌≡◌ {A = Result ℕ BuildError} (Err error) (Err (Limit x.0 x.1))) → option_map limit_of past ≡ Some error
+counts_pass None error terms h = absurd (cc)
+counts_pass (Some x) error terms h = cc
+
+-- a width that is not refused is narrow
+pub narrow_from : (width : ℕ) → ◌≡◌ {A = Option BuildError} (if nat_lt WIDEST width then Some WideSum else None) None → width ≤ WIDEST
+narrow_from width h = by_test (nat_lt WIDEST width) refl h where
+  by_test : (b : Bool) → nat_lt WIDEST width ≡ b → ◌≡◌ {A = Option BuildError} (if b then Some WideSum else None) None → width ≤ WIDEST
+  by_test true e h = absurd (cc)
+  by_test false e h = grind (arith, nat_tests)
+
+-- a list that is too long stays the first count past its limit, whatever counts follow
+lists_first : (xs ys : List (Which × ℕ)) (error : BuildError) → option_map limit_of (first_past xs) ≡ Some error → option_map limit_of (first_past (xs ++ ys)) ≡ Some error
+lists_first [] ys error h = absurd (cc)
+lists_first (x ∷ xs) ys error h = by_test (nat_lt (most x.0) x.1) h (lists_first xs ys error) where
+  by_test : (b : Bool) → option_map limit_of (cond b (Some x) (first_past xs)) ≡ Some error → (option_map limit_of (first_past xs) ≡ Some error → option_map limit_of (first_past (xs ++ ys)) ≡ Some error)
+      → option_map limit_of (cond b (Some x) (first_past (xs ++ ys))) ≡ Some error
+  by_test true h later = h
+  by_test false h later = later h
+
+-- where no list is too long, the counts that follow decide
+lists_passed : (xs ys : List (Which × ℕ)) → first_past xs ≡ None → first_past (xs ++ ys) ≡ first_past ys
+lists_passed [] ys h = refl
+lists_passed (x ∷ xs) ys h = by_test (nat_lt (most x.0) x.1) h (lists_passed xs ys) where
+  by_test : (b : Bool) → ◌≡◌ {A = Option (Which × ℕ)} (cond b (Some x) (first_past xs)) None → (first_past xs ≡ None → first_past (xs ++ ys) ≡ first_past ys) → cond b (Some x) (first_past (xs ++ ys)) ≡ first_past ys
+  by_test true h later = absurd (cc)
+  by_test false h later = later h
+
+error_of : (refusal : Option BuildError) (error : BuildError) → refusal ≡ Some error → IsErrorOf refusal error
+error_of refusal (Limit which count) h = h
+error_of refusal WideSum h = h
+error_of refusal Memory h = tt
+
+narrow_refusal : (p : Contents) (rule : Rule) → rule_width p.domains rule ≤ WIDEST → rule_refusal p rule ≡ option_map limit_of (first_past (rule_counts p rule))
+narrow_refusal p rule h = rw (within_test WIDEST (rule_width p.domains rule) h) refl
+
+-- a narrow rule with a list that is too long
+pub refused_for_list : (p : Contents) (rule : Rule) (error : BuildError) → rule_width p.domains rule ≤ WIDEST → option_map limit_of (first_past (list_counts rule)) ≡ Some error → IsErrorOf (rule_refusal p rule) error
+refused_for_list p rule error narrow h = error_of (rule_refusal p rule) error (narrow_refusal p rule narrow ∙ lists_first (list_counts rule) _ error h)
+
+-- one rule too many
+pub refused_for_number : (p : Contents) (rule : Rule) (error : BuildError) (number : ℕ) → rule_width p.domains rule ≤ WIDEST → first_past (list_counts rule) ≡ None
+    → number ≡ length p.rules + 1 → (error ≡ Limit Rules number) × (most Rules < number) → IsErrorOf (rule_refusal p rule) error
+refused_for_number p rule error number narrow short sum e =
+    let here : first_past (rule_counts p rule) ≡ Some (Rules, length p.rules + 1) =
+    lists_passed (list_counts rule) _ short ∙ past_here Rules (length p.rules + 1) ((Terms, term_count p + size_of rule) ∷ []) (subst (λ (z : ℕ). most Rules < z) sum e.1) in
+    error_of (rule_refusal p rule) error (narrow_refusal p rule narrow ∙ ap (λ z. option_map limit_of z) here ∙ ap (λ z. Some (Limit Rules z)) (sym sum) ∙ ap (λ z. Some z) (sym e.0))
+
+-- terms too many
+pub refused_for_terms : (p : Contents) (rule : Rule) (error : BuildError) (terms : ℕ) → rule_width p.domains rule ≤ WIDEST → first_past (list_counts rule) ≡ None → length p.rules + 1 ≤ most Rules
+    → terms ≡ term_count p + size_of rule → (error ≡ Limit Terms terms) × (most Terms < terms) → IsErrorOf (rule_refusal p rule) error
+refused_for_terms p rule error terms narrow short few sum e =
+    let last : first_past ((Terms, term_count p + size_of rule) ∷ []) ≡ Some (Terms, term_count p + size_of rule) = past_here Terms (term_count p + size_of rule) [] (subst (λ (z : ℕ). most Terms < z) sum e.1) in
+    let rest : first_past (rule_counts p rule) ≡ Some (Terms, term_count p + size_of rule) =
+    lists_passed (list_counts rule) _ short ∙ past_later Rules (length p.rules + 1) ((Terms, term_count p + size_of rule) ∷ []) few ∙ last in
+    error_of (rule_refusal p rule) error (narrow_refusal p rule narrow ∙ ap (λ z. option_map limit_of z) rest ∙ ap (λ z. Some (Limit Terms z)) (sym sum) ∙ ap (λ z. Some z) (sym e.0))

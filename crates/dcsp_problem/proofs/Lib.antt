@@ -2,7 +2,10 @@ pub mod RisingNumbers
 pub mod Scopes
 pub mod Local
 pub mod WellFormed
+pub mod WidthLaws
 pub mod Counts
 pub mod OwnerLists
 pub mod Violations
 pub mod Reading
+pub mod MemberLaws
+pub mod Narrow

@@ -10,7 +10,7 @@ use Rattle.dcsp_problem.specs.declared.rule.Term.{Term}
 use Rattle.dcsp_problem.specs.declared.rule.Rule.{Rule}
 use Rattle.dcsp_problem.specs.Rules.{variable_of, scope_of, rule_truth, mentions, IsRuleOf, no_rule}
 use Rattle.dcsp_problem.specs.Problems.{Contents, csp_of, rule_at, constraint_at}
-use Rattle.dcsp_problem.specs.Limits.{IsProblem}
+use Rattle.dcsp_problem.specs.WellFormed.{IsProblem}
 use Rattle.dcsp_problem.specs.Owners.{last_of}
 use Rattle.dcsp_problem.proofs.RisingNumbers.{In-get_or, In-filter_below}
 use Rattle.dcsp_problem.proofs.Local.{truth_local}
@@ -41,6 +41,29 @@ variables_of_three none one two three a b c e f g h =
     let all = filter_map-append variable_of (a ++ b) c in
     let front = filter_map-append variable_of a b in
     rw (all, front, h, g, f, e) refl
+
+variable_first : (term : Term) (rest : List Term) → filter_map variable_of (term ∷ rest) ≡ option_to_list (variable_of term) ++ filter_map variable_of rest
+variable_first term rest = filter_map-append variable_of (term ∷ []) rest ∙ ap (λ z. z ++ filter_map variable_of rest) (sym (variable_alone term))
+
+-- the variables of a sum's terms, of its total, and of the term of its truth
+pub variables_of_total : (none one two : List ℕ) (terms : List Term) (total : Term) → none ≡ [] → one ≡ none ++ filter_map variable_of terms → two ≡ one ++ option_to_list (variable_of total)
+    → two ≡ filter_map variable_of (terms ++ total ∷ [])
+variables_of_total none one two terms total e f g =
+    let all = filter_map-append variable_of terms (total ∷ []) in
+    rw (all, g, f, e, variable_alone total) refl
+
+pub variables_of_told : (none one two three : List ℕ) (terms : List Term) (total told : Term) → none ≡ [] → one ≡ none ++ filter_map variable_of terms → two ≡ one ++ option_to_list (variable_of total) → three ≡ two ++ option_to_list (variable_of told)
+    → three ≡ filter_map variable_of (terms ++ total ∷ told ∷ [])
+variables_of_told none one two three terms total told e f g h =
+    let all = filter_map-append variable_of terms (total ∷ told ∷ []) in
+    let last = variable_first total (told ∷ []) in
+    let front : two ≡ filter_map variable_of terms ++ option_to_list (variable_of total) = g ∙ ap (λ z. z ++ option_to_list (variable_of total)) (f ∙ ap (λ z. z ++ filter_map variable_of terms) e) in
+    h
+    ∙ ap (λ z. z ++ option_to_list (variable_of told)) front
+    ∙ append_assoc (filter_map variable_of terms) (option_to_list (variable_of total)) (option_to_list (variable_of told))
+    ∙ ap (λ z. filter_map variable_of terms ++ (option_to_list (variable_of total) ++ z)) (variable_alone told)
+    ∙ ap (λ z. filter_map variable_of terms ++ z) (sym last)
+    ∙ sym all
 
 -- the rule that stands at a number
 pub rule_is : (p : Contents) (k : ℕ) (rule : Rule) → k < length p.rules → rule ≡ get_or p.rules k rule → rule ≡ rule_at p k

@@ -28,7 +28,7 @@ term_below : (n v : ℕ) (term : Term) → IsTermOf n term → variable_of term 
 term_below n v (Const c) known e = cc
 term_below n v (Var w) known e = let same : w ≡ v = cc in subst (λ (z : ℕ). z < n) same known
 
-variables_below : (n : ℕ) (rule : Rule) → IsRuleOf n rule → (v : ℕ) → In v (variables_of rule) → v < n
+pub variables_below : (n : ℕ) (rule : Rule) → IsRuleOf n rule → (v : ℕ) → In v (variables_of rule) → v < n
 variables_below n rule r v i =
     let found = In-filter_map variable_of v (terms_of rule) i in
     term_below n v found.0 (All-contains (IsTermOf n) (terms_of rule) found.0 r.known (Contains-In (terms_of rule) found.0 found.1)) found.2

@@ -8,7 +8,7 @@ use Rattle.dcsp_defs.specs.Csp.{IsConstraint, IsCsp}
 use Rattle.dcsp_problem.specs.declared.rule.Rule.{Rule}
 use Rattle.dcsp_problem.specs.Rules.{mentions, IsRuleOf, no_rule}
 use Rattle.dcsp_problem.specs.Problems.{Contents, constraint_of, csp_of, constraint_at}
-use Rattle.dcsp_problem.specs.Limits.{IsProblem}
+use Rattle.dcsp_problem.specs.WellFormed.{IsProblem}
 use Rattle.dcsp_problem.proofs.RisingNumbers.{Contains-In, In-filter_below, rising-filter_below}
 use Rattle.dcsp_problem.proofs.Scopes.{In-scope}
 use Rattle.dcsp_problem.proofs.Local.{truth_local}

@@ -1,5 +1,9 @@
+pub mod Members
 pub mod Rules
+pub mod Widths
 pub mod Problems
 pub mod Limits
+pub mod Outputs
+pub mod WellFormed
 pub mod Index
 pub mod Owners

@@ -4,12 +4,14 @@ use Rattle.dcsp_domain.specs.Sets.{has}
 use Rattle.dcsp_defs.specs.Words.{In}
 use Rattle.dcsp_defs.specs.Csp.{Csp, Constraint, Known, domain, count}
 use Rattle.dcsp_problem.specs.declared.rule.Rule.{Rule}
+use Rattle.dcsp_problem.specs.declared.output.Output.{Output}
 use Rattle.dcsp_problem.specs.Rules.{scope_of, rule_truth, size_of, no_rule}
 
--- a domain for each variable, and the rules
+-- a domain for each variable, the rules, and what is told of a solution
 pub record Contents : Type 0 where
   pub domains : List (List ℤ)
   pub rules : List Rule
+  pub outputs : List Output
 
 -- the constraint that a rule over so many variables denotes
 abbrev pub constraint_of : ℕ → Rule → Constraint

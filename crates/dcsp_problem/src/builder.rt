@@ -1,24 +1,30 @@
 //! Problems as they are built.
 
-ghost use Rattle.std.specs.Prelude.{◌≡◌, ◌≤◌, ◌<◌, ◌+◌, ◌++◌, ◌∷◌, [], length, All, IsTrue, IfOk, OnOk, OnErr, MatchOption, Ok, Err};
+ghost use Rattle.std.specs.Prelude.{◌≡◌, ◌≤◌, ◌<◌, ◌+◌, ◌-◌, ◌^◌, ◌++◌, ◌∷◌, [], length, All, IsTrue, IfOk, IfErr, OnOk, OnErr, MatchOption, Ok, Err};
+ghost use Rattle.dcsp_problem.specs.Members.{values_of};
 ghost use Rattle.dcsp_problem.specs.Rules.{IsTermOf, terms_of, size_of, has_shape};
-ghost use Rattle.dcsp_problem.specs.Limits.{first_past, variable_counts, list_counts, rule_counts, KeepsLimits};
+ghost use Rattle.dcsp_problem.specs.Outputs.{IsOutputOf};
+ghost use Rattle.dcsp_problem.specs.Limits.{first_past, list_counts, variable_refusal, rule_refusal, Refuses};
 
 use crate::index::{owned_lists, scope_lists};
 use crate::limits::{BuildError, Which, within};
+use crate::members::member_sets;
+use crate::output::Output;
 use crate::problem::Problem;
-use crate::rule::Rule;
+use crate::rule::{Members, Rule};
+use crate::widths::within_width;
 use dcsp_domain::Domain;
 use dcsp_list::Memory;
 use std::alloc::Global;
 use std::marker::Model;
 
-/// A problem that variables and rules are still added to.
+/// A problem that variables, rules and outputs are still added to.
 #[derive(Debug, Drop)]
 pub struct ProblemBuilder {
     alloc: Global,
     domains: Vec<Domain>,
     rules: Vec<Rule>,
+    outputs: Vec<Output>,
     /// The number of values over all domains.
     values: usize,
     /// The number of terms over all rules.
@@ -31,21 +37,23 @@ impl Model for ProblemBuilder {
 
     ghost Value = { Contents };
 
-    ghost view = { λ b. record { domains = b.domains.items; rules = b.rules.items } };
+    ghost view = { λ b. record { domains = b.domains.items; rules = b.rules.items; outputs = b.outputs.items } };
 
-    ghost invariant = { λ b. IsTallied (record { domains = b.domains.items; rules = b.rules.items }) b.values b.terms };
+    ghost invariant = { λ b. IsTallied (record { domains = b.domains.items; rules = b.rules.items; outputs = b.outputs.items }) b.values b.terms };
 }
 
 impl ProblemBuilder {
-    /// A problem without variables and rules.
+    /// A problem without variables, rules and outputs.
     pub fn new(alloc: Global) -> ProblemBuilder
         ensures domains { result.domains ≡ [] }
         ensures rules { result.rules ≡ [] }
+        ensures outputs { result.outputs ≡ [] }
     {
         ProblemBuilder {
             alloc,
             domains: Vec::new(alloc),
             rules: Vec::new(alloc),
+            outputs: Vec::new(alloc),
             values: 0,
             terms: 0,
         }
@@ -57,7 +65,7 @@ impl ProblemBuilder {
     pub fn add_var(&mut self, domain: Domain) -> Result<u32, BuildError>
         ensures number { IfOk result (λ number. number ≡ length self.old.domains) }
         ensures added { OnOk result (self.new ≡ record self.old { domains = self.old.domains ++ domain ∷ [] }) }
-        ensures limits { KeepsLimits (first_past (variable_counts self.old domain)) result }
+        ensures refusal { Refuses (variable_refusal self.old domain) result }
         ensures err { OnErr result (self.new ≡ self.old) }
     {
         let number = self.domains.len();
@@ -71,16 +79,19 @@ impl ProblemBuilder {
 
     /// Adds a rule over the variables that were added before, and gives its number.
     ///
-    /// `Limit` comes exactly where `Elements` (of one list, the lists from left to right), `Rules` or `Terms`
-    /// would pass its greatest number, tried in this order.
+    /// `WideSum` comes exactly where the width of its sum is above 2^126, over the domains of its variables. After
+    /// that `Limit` comes exactly where `Elements` (of one list, the lists from left to right), `Rules` or `Terms`
+    /// would pass its greatest number, tried in this order. A listed set is no list; its values are terms, each
+    /// as often as it is listed.
     pub fn add_rule(&mut self, rule: Rule) -> Result<u32, BuildError>
         requires known { All (IsTermOf (length self.old.domains)) (terms_of rule) }
         requires shape { IsTrue (has_shape rule) }
         ensures number { IfOk result (λ number. number ≡ length self.old.rules) }
         ensures added { OnOk result (self.new ≡ record self.old { rules = self.old.rules ++ rule ∷ [] }) }
-        ensures limits { KeepsLimits (first_past (rule_counts self.old rule)) result }
+        ensures refusal { Refuses (rule_refusal self.old rule) result }
         ensures err { OnErr result (self.new ≡ self.old) }
     {
+        within_width(self.alloc, &self.domains, &rule)?;
         let number = self.rules.len();
         let added = count_terms(&rule)?;
         within(Which::Rules, number + 1)?;
@@ -91,31 +102,68 @@ impl ProblemBuilder {
         Ok(number as u32)
     }
 
+    /// Adds an output over the variables that were added before. It refuses only with `Memory`.
+    pub fn add_output(&mut self, output: Output) -> Result<(), BuildError>
+        requires few { length self.old.outputs < 2 ^ 32 - 1 }
+        requires fits { IsOutputOf (length self.old.domains) output }
+        ensures added { OnOk result (self.new ≡ record self.old { outputs = self.old.outputs ++ output ∷ [] }) }
+        ensures refusal { IfErr result (λ e. e ≡ BuildError.Memory) }
+        ensures err { OnErr result (self.new ≡ self.old) }
+    {
+        self.outputs.push(output)?;
+        Ok(())
+    }
+
     /// The problem. A refusal drops what was built.
     pub fn finish(self) -> Result<Problem, Memory>
         ensures { IfOk result (λ problem. problem ≡ self) }
     {
         let scopes = scope_lists(self.alloc, &self.rules)?;
+        let sets = member_sets(self.alloc, &self.rules)?;
         let owned = owned_lists(self.alloc, &scopes, self.domains.len())?;
-        Ok(Problem::from_parts(self.domains, self.rules, scopes, owned))
+        Ok(Problem::from_parts(self.domains, self.rules, self.outputs, scopes, sets, owned))
     }
 }
 
 /// The number of the rule's terms, unless one of its lists is too long.
 fn count_terms(rule: &Rule) -> Result<usize, BuildError>
-    ensures { MatchOption (first_past (list_counts rule.now)) (result ≡ Ok (size_of rule.now)) (λ past. result ≡ Err (BuildError.Limit past.0 past.1)) }
+    ensures count { MatchOption (first_past (list_counts rule.now)) (result ≡ Ok (size_of rule.now)) (λ past. result ≡ Err (BuildError.Limit past.0 past.1)) }
+    ensures small { IfOk result (λ count. count < 2 ^ 63) }
 {
     match rule {
         Rule::Plain {
             scalars,
             first,
             second,
+            members,
             ..
         } => {
             within(Which::Elements, scalars.len())?;
             within(Which::Elements, first.len())?;
             within(Which::Elements, second.len())?;
-            Ok(scalars.len() + first.len() + second.len())
+            Ok(scalars.len() + first.len() + second.len() + count_listed(members))
         }
+        Rule::Sum {
+            coefs,
+            terms,
+            truth,
+            ..
+        } => {
+            within(Which::Elements, coefs.len())?;
+            within(Which::Elements, terms.len())?;
+            let reified = usize::from(truth.is_some());
+            Ok(terms.len() + 1 + reified)
+        }
+    }
+}
+
+/// The number of the listed values, as they are written.
+fn count_listed(members: &Members) -> usize
+    ensures count { result ≡ length (values_of members.now) }
+    ensures small { result < 2 ^ 62 }
+{
+    match members {
+        Members::Between { .. } => 0,
+        Members::Listed(values) => values.items().len(),
     }
 }

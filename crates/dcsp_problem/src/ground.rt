@@ -1,18 +1,27 @@
 //! Rules under the values that a look-up gives.
 
-ghost use Rattle.std.specs.Prelude.{◌≡◌, ◌<◌, ℤ, List, map, slice_index_or, IsTrue, false, length};
+ghost use Rattle.std.specs.Prelude.{◌≡◌, ◌≤◌, ◌<◌, ℤ, List, map, slice_index_or, IsTrue, length};
+ghost use Rattle.std.specs.Option.{option_map};
+ghost use Rattle.dcsp_linear.specs.Sums.{sizes_of, stands, sum_of};
 ghost use Rattle.dcsp_defs.specs.Csp.{filled};
-ghost use Rattle.dcsp_problem.specs.Rules.{value_under, rule_truth, has_shape};
+ghost use Rattle.dcsp_problem.specs.Rules.{value_under, rule_truth, has_shape, weighted, is_told};
+ghost use Rattle.dcsp_problem.specs.Widths.{rule_sizes};
+ghost use Rattle.dcsp_problem.specs.Index.{member_set, is_found_in};
 
 use crate::lookup::Lookup;
-use crate::rule::{Rule, Term};
+use crate::members::MemberSet;
+use crate::rule::{Members, Rule, Term};
+use dcsp_linear::{Rel, WIDEST, Weighted, sum_holds};
 use dcsp_meaning::{Ground, holds};
 
-/// A rule's terms, with the values that a look-up gives their variables.
+/// A rule's terms, with the values that a look-up gives their variables, and its members.
 struct GroundTerms<'a, L> {
     scalars: &'a [Term],
     first: &'a [Term],
     second: &'a [Term],
+    members: &'a Members,
+    /// The set of the listed members.
+    set: &'a MemberSet,
     lookup: &'a L,
 }
 
@@ -22,6 +31,8 @@ impl<L> Drop for GroundTerms<'_, L> {
             scalars: _,
             first: _,
             second: _,
+            members: _,
+            set: _,
             lookup: _,
         } = self;
     }
@@ -34,7 +45,7 @@ impl<'a, L: Lookup> Ground for GroundTerms<'a, L> {
 
     ghost second_values = { λ g. map (value_under (filled (L.values g.lookup.now))) g.second.now };
 
-    ghost is_member = { λ g value. false };
+    ghost is_member = { λ g. is_found_in g.members.now g.set.now };
 
     fn scalars(&self) -> usize {
         self.scalars.len()
@@ -60,8 +71,44 @@ impl<'a, L: Lookup> Ground for GroundTerms<'a, L> {
         value_of_term(self.second[place], self.lookup)
     }
 
-    fn member(&self, _value: i64) -> bool {
-        false
+    fn member(&self, value: i64) -> bool {
+        match self.members {
+            Members::Between { low, high } => *low <= value && value <= *high,
+            Members::Listed(_) => self.set.contains(value),
+        }
+    }
+}
+
+/// The terms of a sum with their coefficients, and the values that a look-up gives their variables.
+struct GroundSum<'a, L> {
+    coefs: &'a [i64],
+    terms: &'a [Term],
+    lookup: &'a L,
+}
+
+impl<L> Drop for GroundSum<'_, L> {
+    fn drop(self) {
+        let GroundSum {
+            coefs: _,
+            terms: _,
+            lookup: _,
+        } = self;
+    }
+}
+
+impl<'a, L: Lookup> Weighted for GroundSum<'a, L> {
+    ghost pairs = { λ g. weighted (filled (L.values g.lookup.now)) g.coefs.now g.terms.now };
+
+    fn count(&self) -> usize {
+        self.coefs.len().min(self.terms.len())
+    }
+
+    fn coef(&self, place: usize) -> i64 {
+        self.coefs[place]
+    }
+
+    fn value(&self, place: usize) -> i64 {
+        value_of_term(self.terms[place], self.lookup)
     }
 }
 
@@ -76,8 +123,12 @@ fn value_of_term<L: Lookup>(term: Term, lookup: &L) -> i64
 }
 
 /// Whether the rule is true under the values that the look-up gives; a variable without a value counts as 0.
-pub fn is_true_under<L: Lookup>(rule: &Rule, lookup: &L) -> bool
-    requires { IsTrue (has_shape rule.now) }
+///
+/// The set is that of the rule's listed members.
+pub fn is_true_under<L: Lookup>(rule: &Rule, set: &MemberSet, lookup: &L) -> bool
+    requires shape { IsTrue (has_shape rule.now) }
+    requires set { set.now ≡ member_set rule.now }
+    requires narrow { rule_sizes rule.now (filled (L.values lookup.now)) ≤ WIDEST }
     ensures { result ≡ rule_truth rule.now (filled (L.values lookup.now)) }
 {
     match rule {
@@ -86,14 +137,42 @@ pub fn is_true_under<L: Lookup>(rule: &Rule, lookup: &L) -> bool
             scalars,
             first,
             second,
+            members,
         } => {
             let ground = GroundTerms {
                 scalars: scalars.items(),
                 first: first.items(),
                 second: second.items(),
+                members,
+                set,
                 lookup,
             };
             holds(*kind, &ground)
         }
+        Rule::Sum {
+            rel,
+            coefs,
+            terms,
+            total,
+            truth,
+        } => {
+            let ground = GroundSum {
+                coefs: coefs.items(),
+                terms: terms.items(),
+                lookup,
+            };
+            let total = value_of_term(*total, lookup);
+            is_told(*truth, sum_holds(*rel, &ground, total), lookup)
+        }
+    }
+}
+
+/// The truth itself; where a term tells it, whether that term's value tells it rightly.
+fn is_told<L: Lookup>(truth: Option<Term>, holds: bool, lookup: &L) -> bool
+    ensures { result ≡ is_told (option_map (value_under (filled (L.values lookup.now))) truth) holds }
+{
+    match truth {
+        None => holds,
+        Some(term) => holds == (value_of_term(term, lookup) == 1),
     }
 }

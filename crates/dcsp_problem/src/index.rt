@@ -1,6 +1,6 @@
 //! The scope of each rule, and the rules that each variable owns.
 
-ghost use Rattle.std.specs.Prelude.{◌≡◌, ◌≤◌, ◌<◌, ◌^◌, ◌++◌, ℕ, List, [], map, length, All, OnOk, IfOk, IfSome, vec_len};
+ghost use Rattle.std.specs.Prelude.{◌≡◌, ◌≤◌, ◌<◌, ◌^◌, ◌++◌, ◌∷◌, ℕ, List, [], map, length, All, OnOk, IfOk, IfSome, vec_len};
 ghost use Rattle.std.specs.List.{filter_map};
 ghost use Rattle.std.specs.Option.{option_to_list};
 ghost use Rattle.dcsp_defs.specs.Words.{below};
@@ -44,6 +44,12 @@ fn variable_list(alloc: Global, rule: &Rule) -> Result<Vec<u32>, AllocError>
             second,
             ..
         } => variables_among(alloc, scalars.items(), first.items(), second.items()),
+        Rule::Sum {
+            terms,
+            total,
+            truth,
+            ..
+        } => variables_of_sum(alloc, terms.items(), *total, *truth),
     }
 }
 
@@ -61,6 +67,27 @@ fn variables_among(
     push_variables(&mut variables, first)?;
     push_variables(&mut variables, second)?;
     Ok(variables)
+}
+
+/// The variables among the terms of a sum, its total, and the term of its truth.
+fn variables_of_sum(
+    alloc: Global,
+    terms: &[Term],
+    total: Term,
+    truth: Option<Term>,
+) -> Result<Vec<u32>, AllocError>
+    ensures { IfOk result (λ variables. variables.items ≡ filter_map variable_of (terms.now ++ total ∷ option_to_list truth)) }
+{
+    let mut variables = Vec::new(alloc);
+    push_variables(&mut variables, terms)?;
+    push_variable(&mut variables, total)?;
+    match truth {
+        None => Ok(variables),
+        Some(truth) => {
+            push_variable(&mut variables, truth)?;
+            Ok(variables)
+        }
+    }
 }
 
 /// Adds the variables among the terms.

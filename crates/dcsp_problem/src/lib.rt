@@ -1,9 +1,10 @@
-//! Problems: variables with finite domains, and the rules that the constraints of a FlatZinc text become.
+//! Problems: variables with finite domains, the rules that the constraints of a FlatZinc text become, and what
+//! is told of a solution.
 //!
 //! Variables and rules are numbered from 0, in order of declaration. A problem denotes an abstract
 //! constraint satisfaction problem, `csp_of` in `specs/`: a rule's scope is the set of variables among its
-//! terms, and its test is the meaning of its kind for its terms' values. The variable of a scope that is
-//! declared last owns the rule.
+//! terms, and its test is the meaning of its kind, or of its sum, for its terms' values. The variable of a scope
+//! that is declared last owns the rule.
 #![tactic(auto)]
 
 mod builder;
@@ -11,16 +12,21 @@ mod ground;
 mod index;
 mod limits;
 mod lookup;
+mod members;
+mod output;
 mod problem;
 mod rule;
+mod widths;
 
 pub use builder::ProblemBuilder;
 pub use dcsp_domain::{Domain, DomainError, IntList, Memory, RangeList};
+pub use dcsp_linear::Rel;
 pub use dcsp_meaning::Kind;
 pub use limits::{BuildError, Which};
 pub use lookup::Lookup;
+pub use output::{NameText, Output, Shape};
 pub use problem::Problem;
-pub use rule::{Rule, Term, TermList};
+pub use rule::{Members, Rule, Term, TermList};
 
 #[cfg(test)]
 mod tests;

@@ -3,7 +3,7 @@
 ghost use Rattle.std.specs.Prelude.{◌≡◌, ◌<◌, ◌≤◌, OnOk, IfErr};
 ghost use Rattle.dcsp_problem.specs.Limits.{most};
 
-use std::alloc::AllocFailed;
+use std::alloc::{AllocError, AllocFailed};
 
 /// What is counted.
 #[derive(Clone, Copy, Debug, PartialEq, Eq)]
@@ -43,10 +43,22 @@ impl Which {
 pub enum BuildError {
     /// There would be `count` of these, which is more than their greatest number.
     Limit { which: Which, count: u128 },
-    /// A sum would be too wide. No rule without a sum is refused so.
+    /// The width of a sum is above 2^126: each absolute coefficient times the greatest absolute value of its
+    /// term, and the greatest absolute value of the total, added up. No rule without a sum is refused so.
     WideSum,
     /// Memory ran out.
     Memory,
+}
+
+impl From<AllocError> for BuildError {
+    ghost use Rattle.std.specs.Prelude.{◌≡◌};
+    ghost use Rattle.dcsp_problem.specs.declared.limits.BuildError.TheVariants.{Memory};
+
+    ghost from_gives = { λ _ e. e ≡ Memory };
+
+    fn from(_: AllocError) -> BuildError {
+        BuildError::Memory
+    }
 }
 
 impl<T: Drop> From<AllocFailed<T>> for BuildError {

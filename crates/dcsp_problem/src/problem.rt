@@ -1,26 +1,31 @@
 //! Problems as they stand once they are built.
 
-ghost use Rattle.std.specs.Prelude.{◌≡◌, ◌≤◌, ◌<◌, ℕ, ℤ, pos, List, length, All, Some, is_some, true, slice_get, slice_index_or};
+ghost use Rattle.std.specs.Prelude.{◌≡◌, ◌≤◌, ◌<◌, ◌^◌, ℕ, ℤ, pos, List, length, All, Some, is_some, true, slice_get, slice_index_or};
 ghost use Rattle.std.specs.List.{list_all};
 ghost use Rattle.dcsp_domain.specs.Sets.{has};
 ghost use Rattle.dcsp_defs.specs.Csp.{domain, owner, is_violated, IsConstraint, IsCsp};
 ghost use Rattle.dcsp_problem.specs.Problems.{csp_of, constraint_at, within_domains, AreInDomains};
-ghost use Rattle.dcsp_problem.specs.Limits.{IsProblem};
+ghost use Rattle.dcsp_problem.specs.WellFormed.{IsProblem};
 ghost use Rattle.dcsp_problem.specs.Index.{IsIndexed, owned_rules};
 
 use crate::ground::is_true_under;
 use crate::lookup::{Assigned, Lookup};
+use crate::members::MemberSet;
+use crate::output::Output;
 use crate::rule::{NumberList, Rule};
 use dcsp_domain::Domain;
 use std::marker::Model;
 
-/// Variables with their domains, and rules over them.
+/// Variables with their domains, rules over them, and what is told of a solution.
 #[derive(Debug, Drop)]
 pub struct Problem {
     domains: Vec<Domain>,
     rules: Vec<Rule>,
+    outputs: Vec<Output>,
     /// The scope of each rule.
     scopes: Vec<NumberList>,
+    /// The set of each rule's listed members.
+    sets: Vec<MemberSet>,
     /// The rules that each variable owns.
     owned: Vec<NumberList>,
 }
@@ -31,27 +36,33 @@ impl Model for Problem {
 
     ghost Value = { Contents };
 
-    ghost view = { λ p. record { domains = p.domains.items; rules = p.rules.items } };
+    ghost view = { λ p. record { domains = p.domains.items; rules = p.rules.items; outputs = p.outputs.items } };
 
-    ghost invariant = { λ p. IsIndexed (record { domains = p.domains.items; rules = p.rules.items }) p.scopes.items p.owned.items };
+    ghost invariant = { λ p. IsIndexed (record { domains = p.domains.items; rules = p.rules.items; outputs = p.outputs.items }) p.scopes.items p.sets.items p.owned.items };
 }
 
 impl Problem {
-    /// The problem of these domains and rules, with the scopes and the owned rules that belong to them.
+    /// The problem of these domains, rules and outputs, with the scopes, the sets of listed members and the owned
+    /// rules that belong to them.
     pub(crate) fn from_parts(
         domains: Vec<Domain>,
         rules: Vec<Rule>,
+        outputs: Vec<Output>,
         scopes: Vec<NumberList>,
+        sets: Vec<MemberSet>,
         owned: Vec<NumberList>,
     ) -> Problem
-        requires { IsIndexed (record { domains = domains.items; rules = rules.items }) scopes.items owned.items }
+        requires { IsIndexed (record { domains = domains.items; rules = rules.items; outputs = outputs.items }) scopes.items sets.items owned.items }
         ensures domains { result.domains ≡ domains.items }
         ensures rules { result.rules ≡ rules.items }
+        ensures outputs { result.outputs ≡ outputs.items }
     {
         Problem {
             domains,
             rules,
+            outputs,
             scopes,
+            sets,
             owned,
         }
     }
@@ -91,6 +102,21 @@ impl Problem {
         &self.rules[number as usize]
     }
 
+    /// The number of outputs.
+    pub fn outputs(&self) -> u32
+        ensures { result ≡ length self.now.outputs }
+    {
+        self.outputs.len() as u32
+    }
+
+    /// The output at a place, counted from 0, in the order in which they were added.
+    pub fn output(&self, place: u32) -> &Output
+        requires { place < length self.now.outputs }
+        ensures { slice_get self.now.outputs place ≡ Some result.now }
+    {
+        &self.outputs[place as usize]
+    }
+
     /// The variables among a rule's terms, strictly rising.
     pub fn scope(&self, rule: u32) -> &[u32]
         requires { rule < length self.now.rules }
@@ -125,8 +151,9 @@ impl Problem {
         requires in_domains { (var : ℕ) → var < length self.now.domains → has (domain (csp_of self.now) var) (slice_index_or values.now var (pos 0)) ≡ true }
         ensures { result ≡ (constraint_at self.now rule).test (λ var. slice_index_or values.now var (pos 0)) }
     {
+        let set = &self.sets[rule as usize];
         let rule = &self.rules[rule as usize];
-        is_true_under(rule, &Assigned { values })
+        is_true_under(rule, set, &Assigned { values })
     }
 
     /// Whether the look-up gives each variable of a rule's scope a value of that variable's domain, and the
@@ -139,8 +166,9 @@ impl Problem {
         if !self.knows_scope(rule, lookup) {
             return false;
         }
+        let set = &self.sets[rule as usize];
         let rule = &self.rules[rule as usize];
-        !is_true_under(rule, lookup)
+        !is_true_under(rule, set, lookup)
     }
 
     /// Whether the look-up gives each variable of a rule's scope a value of its domain.

@@ -1,5 +1,7 @@
 //! Rules and their terms.
 
+use dcsp_domain::IntList;
+use dcsp_linear::Rel;
 use dcsp_list::ItemList;
 use dcsp_meaning::Kind;
 
@@ -16,14 +18,35 @@ pub type TermList = ItemList<Term>;
 /// Variables or rules, by their numbers.
 pub type NumberList = ItemList<u32>;
 
-/// A constraint of the problem. A list that its kind does not use is empty.
+/// The numbers that a membership constraint asks about.
+#[derive(Debug, Drop)]
+pub enum Members {
+    /// Those from `low` to `high`, both included; none where `low` is above `high`.
+    Between { low: i64, high: i64 },
+    /// These, in any order, repeats allowed.
+    Listed(IntList),
+}
+
+/// A constraint of the problem.
 #[derive(Debug, Drop)]
 pub enum Rule {
-    /// A constraint that needs no sum.
+    /// A constraint that needs no sum. A list that its kind does not use is empty, and members that it does not
+    /// use are `Listed`, of none.
     Plain {
         kind: Kind,
         scalars: TermList,
         first: TermList,
         second: TermList,
+        members: Members,
+    },
+    /// A linear constraint: the sum of each coefficient times its term is equal to, is at most, differs from the
+    /// total. With a truth term it is reified: it holds exactly where that term, which is true exactly at 1,
+    /// equals the truth of the rest.
+    Sum {
+        rel: Rel,
+        coefs: IntList,
+        terms: TermList,
+        total: Term,
+        truth: Option<Term>,
     },
 }

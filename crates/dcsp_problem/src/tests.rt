@@ -1,6 +1,6 @@
-//! The smallest problem, by every call once.
+//! The smallest problem, by every call once; sums, sets, limits and outputs.
 
-ghost use Rattle.std.specs.Prelude.{◌≡◌, ℕ, IfOk, [], ◌∷◌, length};
+ghost use Rattle.std.specs.Prelude.{◌≡◌, ℕ, pos, negsuc, IfOk, [], ◌∷◌, length};
 
 use super::*;
 use std::alloc::Global;
@@ -8,13 +8,14 @@ use std::test::Fail;
 
 /// A constraint of two terms.
 fn pair(alloc: Global, kind: Kind, left: Term, right: Term) -> Result<Rule, Fail>
-    ensures { IfOk result (λ rule. rule ≡ Rule.Plain kind (left ∷ right ∷ []) [] []) }
+    ensures { IfOk result (λ rule. rule ≡ Rule.Plain kind (left ∷ right ∷ []) [] [] (Members.Listed [])) }
 {
     Ok(Rule::Plain {
         kind,
         scalars: TermList::from_vec(vec![in alloc; left, right]?),
         first: TermList::new(alloc),
         second: TermList::new(alloc),
+        members: Members::Listed(IntList::new(alloc)),
     })
 }
 
@@ -57,7 +58,9 @@ fn tells_scopes_and_owners(rt: HostRuntime) -> Result<(), Fail> {
     let problem = smallest(rt.alloc())?;
     assert_eq!(rt; (problem.vars(), problem.rules()), (2, 3));
     assert_eq!(rt; problem.domain(1).len(), 2);
-    let Rule::Plain { kind, .. } = problem.rule(0);
+    let Rule::Plain { kind, .. } = problem.rule(0) else {
+        return Err(Fail::from("a constraint without a sum"));
+    };
     assert_eq!(rt; *kind, Kind::IntNe);
     assert_eq!(rt; problem.scope(0), [0, 1].as_slice());
     assert_eq!(rt; (problem.owner(0), problem.owner(2)), (Some(1), None));
@@ -96,5 +99,153 @@ fn tells_violations(rt: HostRuntime) -> Result<(), Fail> {
         assert!(rt; rule < 3);
         assert_eq!(rt; problem.violated_by(rule, &two), violated);
     }
+    Ok(())
+}
+
+/// How twice the first variable without the second stands to 1.
+fn sum(alloc: Global, rel: Rel, truth: Option<Term>) -> Result<Rule, Fail>
+    ensures { IfOk result (λ rule. rule ≡ Rule.Sum rel (pos 2 ∷ negsuc 0 ∷ []) (Term.Var 0 ∷ Term.Var 1 ∷ []) (Term.Const (pos 1)) truth) }
+{
+    Ok(Rule::Sum {
+        rel,
+        coefs: IntList::from_vec(vec![in alloc; 2, -1]?),
+        terms: TermList::from_vec(vec![in alloc; Term::Var(0), Term::Var(1)]?),
+        total: Term::Const(1),
+        truth,
+    })
+}
+
+/// The first variable is one of these.
+fn set_in(alloc: Global, members: Members) -> Result<Rule, Fail>
+    ensures { IfOk result (λ rule. rule ≡ Rule.Plain Kind.SetIn (Term.Var 0 ∷ []) [] [] members) }
+{
+    Ok(Rule::Plain {
+        kind: Kind::SetIn,
+        scalars: TermList::from_vec(vec![in alloc; Term::Var(0)]?),
+        first: TermList::new(alloc),
+        second: TermList::new(alloc),
+        members,
+    })
+}
+
+/// Two variables with the values from 0 to 5, two sums and two sets.
+fn sums_and_sets(alloc: Global) -> Result<Problem, Fail>
+    ensures { IfOk result (λ problem. length problem.rules ≡ 4) }
+{
+    let mut builder = ProblemBuilder::new(alloc);
+    builder.add_var(Domain::range(alloc, 0, 5)?)?;
+    builder.add_var(Domain::range(alloc, 0, 5)?)?;
+    builder.add_rule(sum(alloc, Rel::Equal, None)?)?;
+    builder.add_rule(sum(alloc, Rel::AtMost, Some(Term::Const(0)))?)?;
+    builder.add_rule(set_in(alloc, Members::Between { low: 1, high: 3 })?)?;
+    let listed = IntList::from_vec(vec![in alloc; 5, 1, 5]?);
+    builder.add_rule(set_in(alloc, Members::Listed(listed))?)?;
+    Ok(builder.finish()?)
+}
+
+#[test]
+fn tells_sums_and_sets(rt: HostRuntime) -> Result<(), Fail> {
+    let problem = sums_and_sets(rt.alloc())?;
+    let rows = [
+        (0, 1, 1, false),
+        (0, 1, 2, true),
+        (1, 1, 1, true),
+        (1, 2, 1, false),
+        (2, 3, 0, false),
+        (2, 4, 0, true),
+        (3, 5, 0, false),
+        (3, 2, 0, true),
+    ];
+    for (rule, first, second, violated) in rows {
+        let two = Two {
+            first,
+            second: Some(second),
+        };
+        assert!(rt; rule < 4);
+        assert_eq!(rt; problem.violated_by(rule, &two), violated);
+    }
+    Ok(())
+}
+
+/// Adds -2^63 times a variable with the one value -2^63, which is to be at most the total.
+fn add_widest(alloc: Global, total: i64) -> Result<Result<u32, BuildError>, Fail> {
+    let mut builder = ProblemBuilder::new(alloc);
+    builder.add_var(Domain::listed(alloc, &[i64::MIN])?)?;
+    let coefs = IntList::from_vec(vec![in alloc; i64::MIN]?);
+    let terms = TermList::from_vec(vec![in alloc; Term::Var(0)]?);
+    Ok(builder.add_rule(Rule::Sum {
+        rel: Rel::AtMost,
+        coefs,
+        terms,
+        total: Term::Const(total),
+        truth: None,
+    }))
+}
+
+#[test]
+fn takes_the_widest_sum(rt: HostRuntime) -> Result<(), Fail> {
+    assert_eq!(rt; add_widest(rt.alloc(), 0)?, Ok(0));
+    assert_eq!(rt; add_widest(rt.alloc(), 1)?, Err(BuildError::WideSum));
+    Ok(())
+}
+
+/// Adds a set of one value, listed so often, that a constant is in.
+fn add_listed(alloc: Global, often: usize) -> Result<Result<u32, BuildError>, Fail> {
+    let mut builder = ProblemBuilder::new(alloc);
+    Ok(builder.add_rule(Rule::Plain {
+        kind: Kind::SetIn,
+        scalars: TermList::from_vec(vec![in alloc; Term::Const(7)]?),
+        first: TermList::new(alloc),
+        second: TermList::new(alloc),
+        members: Members::Listed(IntList::from_vec(vec![in alloc; 7; often]?)),
+    }))
+}
+
+#[test]
+fn counts_a_value_as_often_as_it_is_listed(rt: HostRuntime) -> Result<(), Fail> {
+    assert_eq!(rt; add_listed(rt.alloc(), 1_048_575)?, Ok(0));
+    assert_eq!(rt;
+        add_listed(rt.alloc(), 1_048_576)?,
+        Err(BuildError::Limit {
+            which: Which::Terms,
+            count: 1_048_577
+        })
+    );
+    Ok(())
+}
+
+/// A problem with two variables that are told as an array.
+fn told(alloc: Global) -> Result<Problem, Fail>
+    ensures { IfOk result (λ problem. length problem.outputs ≡ 1) }
+{
+    let mut builder = ProblemBuilder::new(alloc);
+    builder.add_var(Domain::range(alloc, 0, 1)?)?;
+    builder.add_var(Domain::range(alloc, 0, 1)?)?;
+    let name = NameText::from_vec(vec![in alloc; b'q']?);
+    let shape = Shape::Ranges(RangeList::from_vec(vec![in alloc; (1, 2)]?));
+    let terms = TermList::from_vec(vec![in alloc; Term::Var(1), Term::Var(0)]?);
+    builder.add_output(Output {
+        name,
+        boolean: false,
+        shape,
+        terms,
+    })?;
+    Ok(builder.finish()?)
+}
+
+#[test]
+fn hands_out_outputs(rt: HostRuntime) -> Result<(), Fail> {
+    let problem = told(rt.alloc())?;
+    assert_eq!(rt; problem.outputs(), 1);
+    let output = problem.output(0);
+    assert_eq!(rt; output.name.items(), b"q".as_slice());
+    assert_eq!(rt;
+        output.terms.items(),
+        [Term::Var(1), Term::Var(0)].as_slice()
+    );
+    let Shape::Ranges(ranges) = &output.shape else {
+        return Err(Fail::from("an array"));
+    };
+    assert_eq!(rt; ranges.items(), [(1, 2)].as_slice());
     Ok(())
 }

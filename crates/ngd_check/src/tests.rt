@@ -3,20 +3,21 @@
 ghost use Rattle.std.specs.Prelude.{◌≡◌, IfOk, [], ◌∷◌, length};
 
 use super::*;
-use dcsp_problem::{Domain, Kind, ProblemBuilder, Rule, Term, TermList};
+use dcsp_problem::{Domain, IntList, Kind, Members, ProblemBuilder, Rule, Term, TermList};
 use ngd_log::read_log;
 use std::alloc::Global;
 use std::test::Fail;
 
 /// A constraint between the first two variables.
 fn between(alloc: Global, kind: Kind) -> Result<Rule, Fail>
-    ensures { IfOk result (λ rule. rule ≡ Rule.Plain kind (Term.Var 0 ∷ Term.Var 1 ∷ []) [] []) }
+    ensures { IfOk result (λ rule. rule ≡ Rule.Plain kind (Term.Var 0 ∷ Term.Var 1 ∷ []) [] [] (Members.Listed [])) }
 {
     Ok(Rule::Plain {
         kind,
         scalars: TermList::from_vec(vec![in alloc; Term::Var(0), Term::Var(1)]?),
         first: TermList::new(alloc),
         second: TermList::new(alloc),
+        members: Members::Listed(IntList::new(alloc)),
     })
 }
 

@@ -1,13 +1,44 @@
-use Rattle.std.proofs.Common.{◌+◌, arith, ap, sym, subst, length}
+use Rattle.std.proofs.Common.{◌≤◌, List, ℤ, ◌+◌, arith, ap, sym, ◌∙◌, subst, length}
 use Rattle.std.specs.Prelude.{All}
+use Rattle.std.proofs.lemmas.Result.{err_from_is_err_and}
+use Rattle.dcsp_linear.specs.declared.TheConstants.{WIDEST}
 use Rattle.dcsp_problem.specs.Rules.{IsTermOf, terms_of}
+use Rattle.dcsp_problem.specs.Widths.{rule_width}
 use Rattle.dcsp_problem.specs.Problems.{Contents}
-use Rattle.dcsp_problem.proofs.Counts.{counts_fit, tallied_rule}
+use Rattle.dcsp_problem.specs.Limits.{rule_refusal, IsErrorOf}
+use Rattle.dcsp_problem.proofs.Counts.{counts_fit, counts_pass, narrow_from, tallied_rule, refused_for_list, refused_for_number, refused_for_terms}
 use Rattle.dcsp_problem.proofs.builder.ProblemBuilder.add_rule.Goals as goal
 
 pub invariant_of-self-2 : goal.invariant_of-self-2
 invariant_of-self-2 c =
-    let p : Contents = record { domains = c.self.inside.domains.items; rules = c.self.inside.rules.items } in
-    let fit = counts_fit _ _ _ c.in_ok-added.ensures in
+    let p : Contents = record { domains = c.self.inside.domains.items; rules = c.self.inside.rules.items; outputs = c.self.inside.outputs.items } in
+    let fit = counts_fit _ _ _ c.in_ok-added.ensures.count in
+    let narrow = subst (λ (z : List (List ℤ)). rule_width z c.args.rule ≤ WIDEST) c.deref.ensures.value (narrow_from (rule_width c.deref.result.now c.args.rule) c.in_ok-within_width.ensures) in
     let known : All (IsTermOf (length p.domains)) (terms_of c.args.rule) = subst (λ (z : Contents). All (IsTermOf (length z.domains)) (terms_of c.args.rule)) (sym c.self.view_is) c.requires.known in
-    rw c.in_ok-push.ensures.items (tallied_rule p c.args.rule c.self.inside.values c.self.inside.terms _ c.self.invariant (record { known = known; shape = c.requires.shape }) fit.0 (ap (λ z. c.self.inside.terms + z) fit.1) (omega (arith, c.in_ok-within.ensures.ok)) (omega (arith, c.in_ok-within-2.ensures.ok)))
+    rw c.in_ok-push.ensures.items (tallied_rule p c.args.rule c.self.inside.values c.self.inside.terms _ c.self.invariant (record { known = known; shape = c.requires.shape }) fit.0 narrow (ap (λ z. c.self.inside.terms + z) fit.1) (omega (arith, c.in_ok-within.ensures.ok)) (omega (arith, c.in_ok-within-2.ensures.ok)))
+
+pub returns-in_err-added-clause-refusal : goal.returns-in_err-added-clause-refusal
+returns-in_err-added-clause-refusal c =
+    let p : Contents = record { domains = c.self.inside.domains.items; rules = c.self.inside.rules.items; outputs = c.self.inside.outputs.items } in
+    let narrow = subst (λ (z : List (List ℤ)). rule_width z c.args.rule ≤ WIDEST) c.deref.ensures.value (narrow_from (rule_width c.deref.result.now c.args.rule) c.in_ok-within_width.ensures) in
+    let here = refused_for_list p c.args.rule c.in_err-added.field-0.0 narrow (counts_pass _ _ _ c.in_err-added.ensures.count) in
+    let q = err_from_is_err_and c.from_residual-in_err-added.result c.from_residual-in_err-added.ensures.1 in
+    rw (q.1, q.2) (subst (λ (z : Contents). IsErrorOf (rule_refusal z c.args.rule) c.in_err-added.field-0.0) c.self.view_is here)
+
+pub returns-in_err-within-clause-refusal : goal.returns-in_err-within-clause-refusal
+returns-in_err-within-clause-refusal c =
+    let p : Contents = record { domains = c.self.inside.domains.items; rules = c.self.inside.rules.items; outputs = c.self.inside.outputs.items } in
+    let narrow = subst (λ (z : List (List ℤ)). rule_width z c.args.rule ≤ WIDEST) c.deref.ensures.value (narrow_from (rule_width c.deref.result.now c.args.rule) c.in_ok-within_width.ensures) in
+    let fit = counts_fit _ _ _ c.in_ok-added.ensures.count in
+    let here = refused_for_number p c.args.rule c.in_err-within.field-0.0 (c.len-number.result + 1) narrow fit.0 (omega arith) c.in_err-within.ensures.err in
+    let q = err_from_is_err_and c.from_residual-in_err-within.result c.from_residual-in_err-within.ensures.1 in
+    rw (q.1, q.2) (subst (λ (z : Contents). IsErrorOf (rule_refusal z c.args.rule) c.in_err-within.field-0.0) c.self.view_is here)
+
+pub returns-in_err-within-2-clause-refusal : goal.returns-in_err-within-2-clause-refusal
+returns-in_err-within-2-clause-refusal c =
+    let p : Contents = record { domains = c.self.inside.domains.items; rules = c.self.inside.rules.items; outputs = c.self.inside.outputs.items } in
+    let narrow = subst (λ (z : List (List ℤ)). rule_width z c.args.rule ≤ WIDEST) c.deref.ensures.value (narrow_from (rule_width c.deref.result.now c.args.rule) c.in_ok-within_width.ensures) in
+    let fit = counts_fit _ _ _ c.in_ok-added.ensures.count in
+    let here = refused_for_terms p c.args.rule c.in_err-within-2.field-0.0 (c.self.inside.terms + c.in_ok-added.added) narrow fit.0 (omega (arith, c.in_ok-within.ensures.ok)) (let v = c.self.invariant.all_terms in omega (arith, fit.1)) c.in_err-within-2.ensures.err in
+    let q = err_from_is_err_and c.from_residual-in_err-within-2.result c.from_residual-in_err-within-2.ensures.1 in
+    rw (q.1, q.2) (subst (λ (z : Contents). IsErrorOf (rule_refusal z c.args.rule) c.in_err-within-2.field-0.0) c.self.view_is here)

@@ -1,0 +1,5 @@
+pub mod First
+pub mod Counts
+pub mod Once
+pub mod Sound
+pub mod Answers

@@ -1,0 +1,138 @@
+//! Arrays: their elements, and the sets that these are in.
+
+ghost use Rattle.std.specs.Prelude.{◌≡◌, ℕ, ◌≤◌, length, All, OnOk, IfOk, Ok};
+ghost use Rattle.dcsp_problem.specs.Rules.{IsTermOf};
+ghost use Rattle.dcsp_problem.specs.Limits.{most};
+ghost use Rattle.fzn_scope.specs.Checks.{Gives};
+ghost use Rattle.fzn_scope.specs.Known.{AreKnown};
+ghost use Rattle.fzn_model.specs.Building.{with_rule};
+ghost use Rattle.fzn_model.specs.Declarations.{is_element, element_set, is_index, within, with_member, with_members, elements};
+ghost use Rattle.fzn_model.specs.Reading.{Leaves};
+
+use crate::building::add_rule;
+use crate::declaration::is_boolean;
+use dcsp_domain::IntList;
+use dcsp_problem::{Kind, Members, ProblemBuilder, Rule, Term, TermList, Which};
+use fzn_item::{Base, Expr};
+use fzn_scope::{Names, Refusal, Stop, Wanted, count_of, list_of};
+use std::alloc::Global;
+
+/// Refuses arrays of floats and of sets.
+pub(crate) fn is_element(at: u32, base: &Base) -> Result<(), Refusal>
+    ensures { result ≡ is_element at base.now }
+{
+    match base {
+        Base::Float | Base::Set => Err(Refusal::Unsupported { at }),
+        Base::Bool | Base::Int | Base::Range { .. } | Base::Listed(_) => Ok(()),
+    }
+}
+
+/// Refuses a count above its limit.
+pub(crate) fn within(which: Which, count: usize, at: u32) -> Result<(), Refusal>
+    ensures is { result ≡ within which count at }
+    ensures few { OnOk result (count ≤ most which) }
+{
+    if count > which.most() {
+        return Err(Refusal::Limit {
+            which,
+            count: count as u128,
+            at,
+        });
+    }
+    Ok(())
+}
+
+/// Whether an index goes from 1 to so many.
+fn is_index(index: (i64, i64), count: usize) -> bool
+    ensures { result ≡ is_index index count }
+{
+    index.0 == 1 && i128::from(index.1) == count as i128
+}
+
+/// The elements of an array, as many as its index says, each of the element type.
+#[tactic(auto, unfolding(crate::specs::Declarations::elements))]
+pub(crate) fn elements(
+    alloc: Global,
+    text: &[u8],
+    names: &Names<'_>,
+    variable: bool,
+    base: &Base,
+    index: (i64, i64),
+    name_at: u32,
+    expr: &Expr,
+) -> Result<TermList, Stop>
+    ensures gives { Gives result (elements text.now names.now variable base.now index name_at expr.now) }
+    ensures known { IfOk result (λ terms. (variables : ℕ) → AreKnown variables names.now → All (IsTermOf variables) terms) }
+{
+    let count = count_of(text, names, expr)?;
+    if !is_index(index, count) {
+        return Err(Stop::Refused(Refusal::IllTyped { at: name_at }));
+    }
+    let wanted = Wanted {
+        boolean: is_boolean(base),
+        constant: !variable,
+    };
+    list_of(alloc, text, names, wanted, expr)
+}
+
+/// A copy of a set that elements are in, if the element type says one.
+fn element_set(alloc: Global, base: &Base) -> Result<Option<Members>, Stop>
+    ensures { Gives result (Ok (element_set base.now)) }
+{
+    match base {
+        Base::Range { low, high } => Ok(Some(Members::Between {
+            low: *low,
+            high: *high,
+        })),
+        Base::Listed(values) => {
+            let values = Vec::from_slice(alloc, values.items())?;
+            Ok(Some(Members::Listed(IntList::from_vec(values))))
+        }
+        Base::Bool | Base::Int | Base::Float | Base::Set => Ok(None),
+    }
+}
+
+/// Adds the rule that a term is in the set of the element type, if that says one.
+fn add_member(
+    alloc: Global,
+    builder: &mut ProblemBuilder,
+    at: u32,
+    base: &Base,
+    term: Term,
+) -> Result<(), Stop>
+    requires { IsTermOf (length builder.old.domains) term }
+    ensures added { Leaves builder.new result (with_member at builder.old (element_set base.now) term) }
+    ensures domains { OnOk result (builder.new.domains ≡ builder.old.domains) }
+    ensures outputs { OnOk result (builder.new.outputs ≡ builder.old.outputs) }
+{
+    let Some(members) = element_set(alloc, base)? else {
+        return Ok(());
+    };
+    let rule = Rule::Plain {
+        kind: Kind::SetIn,
+        scalars: TermList::from_vec(vec![in alloc; term]?),
+        first: TermList::new(alloc),
+        second: TermList::new(alloc),
+        members,
+    };
+    add_rule(builder, at, rule)
+}
+
+/// Adds the rules that elements are in the set of the element type, in order, if that says one.
+pub(crate) fn add_members(
+    alloc: Global,
+    builder: &mut ProblemBuilder,
+    at: u32,
+    base: &Base,
+    terms: &[Term],
+) -> Result<(), Stop>
+    requires { All (IsTermOf (length builder.old.domains)) terms.now }
+    ensures added { Leaves builder.new result (with_members at builder.old (element_set base.now) terms.now) }
+    ensures domains { OnOk result (builder.new.domains ≡ builder.old.domains) }
+    ensures outputs { OnOk result (builder.new.outputs ≡ builder.old.outputs) }
+{
+    for term in terms {
+        add_member(alloc, builder, at, base, *term)?;
+    }
+    Ok(())
+}

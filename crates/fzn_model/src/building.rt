@@ -1,0 +1,51 @@
+//! A problem with one thing more, or the refusal at the place of the item that adds it.
+
+ghost use Rattle.std.specs.Prelude.{◌≡◌, ◌+◌, length, All, IsTrue, IfOk, OnOk};
+ghost use Rattle.dcsp_problem.specs.Rules.{IsTermOf, terms_of, has_shape};
+ghost use Rattle.fzn_model.specs.Building.{with_variable, with_rule};
+ghost use Rattle.fzn_model.specs.Reading.{Leaves, stop_at};
+
+use dcsp_problem::{BuildError, Domain, ProblemBuilder, Rule};
+use fzn_scope::{Refusal, Stop};
+
+/// The builder's refusal, at a place.
+fn stop_at(at: u32, error: BuildError) -> Stop
+    ensures { result ≡ stop_at at error }
+{
+    match error {
+        BuildError::Limit { which, count } => Stop::Refused(Refusal::Limit { which, count, at }),
+        BuildError::WideSum => Stop::Refused(Refusal::WideSum { at }),
+        BuildError::Memory => Stop::Memory,
+    }
+}
+
+/// Adds a variable, and gives its number.
+pub(crate) fn add_variable(
+    builder: &mut ProblemBuilder,
+    at: u32,
+    domain: Domain,
+) -> Result<u32, Stop>
+    ensures number { IfOk result (λ number. number ≡ length builder.old.domains) }
+    ensures added { Leaves builder.new result (with_variable at builder.old domain) }
+    ensures domains { OnOk result (length builder.new.domains ≡ length builder.old.domains + 1) }
+    ensures outputs { OnOk result (builder.new.outputs ≡ builder.old.outputs) }
+{
+    match builder.add_var(domain) {
+        Ok(number) => Ok(number),
+        Err(error) => Err(stop_at(at, error)),
+    }
+}
+
+/// Adds a rule.
+pub(crate) fn add_rule(builder: &mut ProblemBuilder, at: u32, rule: Rule) -> Result<(), Stop>
+    requires known { All (IsTermOf (length builder.old.domains)) (terms_of rule) }
+    requires shape { IsTrue (has_shape rule) }
+    ensures added { Leaves builder.new result (with_rule at builder.old rule) }
+    ensures domains { OnOk result (builder.new.domains ≡ builder.old.domains) }
+    ensures outputs { OnOk result (builder.new.outputs ≡ builder.old.outputs) }
+{
+    match builder.add_rule(rule) {
+        Ok(_number) => Ok(()),
+        Err(error) => Err(stop_at(at, error)),
+    }
+}

@@ -1,0 +1,177 @@
+//! Parameters and variables: what their declarations say.
+
+ghost use Rattle.std.specs.Prelude.{◌≡◌, ℕ, ◌<◌, length, OnOk, IfOk, IfErr, IfSome, Ok, Err};
+ghost use Rattle.fzn_item.specs.declared.item.Base.TheVariants as base;
+ghost use Rattle.dcsp_problem.specs.Rules.{IsTermOf};
+ghost use Rattle.fzn_scope.specs.Checks.{Gives};
+ghost use Rattle.fzn_scope.specs.Known.{AreKnown};
+ghost use Rattle.fzn_model.specs.Building.{with_rule};
+ghost use Rattle.fzn_model.specs.Declarations.{is_boolean, right_side, constant, value_of, domain_of, source_of, equality, with_source};
+ghost use Rattle.fzn_model.specs.Reading.{Leaves};
+
+use crate::building::add_rule;
+use dcsp_domain::{Domain, DomainError, IntList};
+use dcsp_problem::{Kind, Members, ProblemBuilder, Rule, Term, TermList, Which};
+use fzn_item::{Base, Expr};
+use fzn_scope::{Declared, Names, Refusal, Stop, Wanted, one_of, set_of};
+use std::alloc::Global;
+
+/// Whether values are Booleans.
+pub(crate) fn is_boolean(base: &Base) -> bool
+    ensures { result ≡ is_boolean base.now }
+{
+    match base {
+        Base::Bool => true,
+        Base::Int | Base::Float | Base::Set | Base::Range { .. } | Base::Listed(_) => false,
+    }
+}
+
+/// A right side that there must be. Where there is none, the refusal is at the name.
+pub(crate) fn right_side(name_at: u32, right: &Option<Expr>) -> Result<&Expr, Refusal>
+    ensures ok { IfOk result (λ expr. right_side name_at right.now ≡ Ok expr.now) }
+    ensures err { IfErr result (λ e. right_side name_at right.now ≡ Err e) }
+{
+    match right {
+        Some(expr) => Ok(expr),
+        None => Err(Refusal::IllTyped { at: name_at }),
+    }
+}
+
+/// The constant of a right side.
+fn constant(
+    text: &[u8],
+    names: &Names<'_>,
+    boolean: bool,
+    expr: &Expr,
+) -> Result<Declared, Refusal>
+    ensures { result ≡ constant text.now names.now boolean expr.now }
+{
+    let wanted = Wanted {
+        boolean,
+        constant: true,
+    };
+    let term = one_of(text, names, wanted, expr)?;
+    Ok(Declared::One { boolean, term })
+}
+
+/// A parameter's value.
+pub(crate) fn value_of(
+    alloc: Global,
+    text: &[u8],
+    names: &Names<'_>,
+    at: u32,
+    base: &Base,
+    expr: &Expr,
+) -> Result<Declared, Stop>
+    ensures { Gives result (value_of text.now names.now at base.now expr.now) }
+{
+    match base {
+        Base::Bool => Ok(constant(text, names, true, expr)?),
+        Base::Int | Base::Range { .. } | Base::Listed(_) => {
+            Ok(constant(text, names, false, expr)?)
+        }
+        Base::Float => Err(Stop::Refused(Refusal::Unsupported { at })),
+        Base::Set => Ok(Declared::Set(set_of(alloc, text, names, expr)?)),
+    }
+}
+
+/// A variable's domain.
+pub(crate) fn domain_of(alloc: Global, at: u32, base: &Base) -> Result<Domain, Stop>
+    ensures { Gives result (domain_of at base.now) }
+{
+    match base {
+        Base::Bool => domain_between(alloc, at, 0, 1),
+        Base::Int => Err(Stop::Refused(Refusal::Unbounded { at })),
+        Base::Float | Base::Set => Err(Stop::Refused(Refusal::Unsupported { at })),
+        Base::Range { low, high } => domain_between(alloc, at, *low, *high),
+        Base::Listed(values) => listed_domain(alloc, at, values),
+    }
+}
+
+/// The domain of a range.
+fn domain_between(alloc: Global, at: u32, low: i64, high: i64) -> Result<Domain, Stop>
+    ensures { Gives result (domain_of at (base.Range low high)) }
+{
+    match Domain::range(alloc, low, high) {
+        Ok(domain) => Ok(domain),
+        Err(DomainError::Large { size }) => Err(Stop::Refused(large(at, size))),
+        Err(DomainError::Memory) => Err(Stop::Memory),
+    }
+}
+
+/// The domain of a listed set.
+fn listed_domain(alloc: Global, at: u32, values: &IntList) -> Result<Domain, Stop>
+    ensures { Gives result (domain_of at (base.Listed values.now)) }
+{
+    match Domain::listed(alloc, values.items()) {
+        Ok(domain) => Ok(domain),
+        Err(DomainError::Large { size }) => Err(Stop::Refused(large(at, size))),
+        Err(DomainError::Memory) => Err(Stop::Memory),
+    }
+}
+
+/// A domain would have so many values.
+fn large(at: u32, count: u128) -> Refusal
+    ensures { result ≡ Refusal.Limit Which.DomainSize count at }
+{
+    Refusal::Limit {
+        which: Which::DomainSize,
+        count,
+        at,
+    }
+}
+
+/// What a variable is equal to, if it has a right side.
+pub(crate) fn source_of(
+    text: &[u8],
+    names: &Names<'_>,
+    boolean: bool,
+    right: &Option<Expr>,
+) -> Result<Option<Term>, Refusal>
+    ensures is { result ≡ source_of text.now names.now boolean right.now }
+    ensures known { IfOk result (λ source. (variables : ℕ) → AreKnown variables names.now → IfSome source (IsTermOf variables)) }
+{
+    let Some(expr) = right else {
+        return Ok(None);
+    };
+    let wanted = Wanted {
+        boolean,
+        constant: false,
+    };
+    Ok(Some(one_of(text, names, wanted, expr)?))
+}
+
+/// Equality of integers or of Booleans.
+fn equality(boolean: bool) -> Kind
+    ensures { result ≡ equality boolean }
+{
+    if boolean { Kind::BoolEq } else { Kind::IntEq }
+}
+
+/// Adds the rule that a variable is equal to its right side, if it has one.
+pub(crate) fn add_source(
+    alloc: Global,
+    builder: &mut ProblemBuilder,
+    at: u32,
+    boolean: bool,
+    number: u32,
+    source: Option<Term>,
+) -> Result<(), Stop>
+    requires number { number < length builder.old.domains }
+    requires known { IfSome source (IsTermOf (length builder.old.domains)) }
+    ensures added { Leaves builder.new result (with_source at builder.old boolean number source) }
+    ensures domains { OnOk result (builder.new.domains ≡ builder.old.domains) }
+    ensures outputs { OnOk result (builder.new.outputs ≡ builder.old.outputs) }
+{
+    let Some(source) = source else {
+        return Ok(());
+    };
+    let rule = Rule::Plain {
+        kind: equality(boolean),
+        scalars: TermList::from_vec(vec![in alloc; Term::Var(number), source]?),
+        first: TermList::new(alloc),
+        second: TermList::new(alloc),
+        members: Members::Listed(IntList::new(alloc)),
+    };
+    add_rule(builder, at, rule)
+}

@@ -1,0 +1,104 @@
+//! From a text to its problem.
+
+ghost use Rattle.std.specs.Prelude.{◌≡◌, ◌≤◌, length};
+ghost use Rattle.fzn_scope.specs.Checks.{Gives};
+ghost use Rattle.fzn_model.specs.Items.{resolved};
+ghost use Rattle.fzn_model.specs.Models.{error_of, AnswersOrLacks};
+ghost use Rattle.fzn_model.specs.Reading.{IsItemised};
+
+use crate::resolver::resolved;
+use dcsp_problem::{Problem, Which};
+use fzn_item::{ItemError, ItemList, items};
+use fzn_scope::{Refusal, Stop};
+use fzn_token::{LexError, tokens};
+use std::alloc::Global;
+
+/// Why a text has no problem. `at` is a place in the text, counted in bytes from 0.
+#[derive(Clone, Copy, Debug, PartialEq, Eq)]
+pub enum ModelError {
+    /// No token, blank or comment begins at this place.
+    Lex { at: u32 },
+    /// The integer at this place does not have 64 bits.
+    IntRange { at: u32 },
+    /// The item that begins here is read by no production.
+    Syntax { at: u32 },
+    /// The item that begins here stands after the solve item, or is no constraint and stands after one.
+    Misplaced { at: u32 },
+    /// The name that is declared here was declared before.
+    Duplicate { at: u32 },
+    /// The name here is not declared.
+    Undeclared { at: u32 },
+    /// The variable whose item begins here has no bounds.
+    Unbounded { at: u32 },
+    /// The declaration that begins here is of floats or of sets that are no parameters; or the goal whose
+    /// word stands here is not to satisfy.
+    Unsupported { at: u32 },
+    /// No constraint has the name here.
+    UnknownConstraint { at: u32 },
+    /// What stands here is not what its place asks for.
+    IllTyped { at: u32 },
+    /// The array declared here cannot be printed as its annotation says.
+    OutputShape { at: u32 },
+    /// The sum of the constraint named here is wider than 2^126.
+    WideSum { at: u32 },
+    /// With the item at this place there would be `count` of these, which is more than their greatest number.
+    Limit {
+        which: Which,
+        count: u128,
+        at: u32,
+    },
+    /// There is no solve item.
+    NoSolve,
+    /// Memory ran out.
+    Memory,
+}
+
+/// The problem of a text of at most 16,777,216 bytes, or its first refusal.
+pub fn problem_of(alloc: Global, text: &[u8]) -> Result<Problem, ModelError>
+    requires { length text.now ≤ 16777216 }
+    ensures { AnswersOrLacks text.now result }
+{
+    let items = items_of(alloc, text)?;
+    match resolved(alloc, text, items.items()) {
+        Ok(problem) => Ok(problem),
+        Err(Stop::Refused(refusal)) => Err(error_of(refusal)),
+        Err(Stop::Memory) => Err(ModelError::Memory),
+    }
+}
+
+/// The items of a text. Its tokens are let go.
+fn items_of(alloc: Global, text: &[u8]) -> Result<ItemList, ModelError>
+    requires { length text.now ≤ 16777216 }
+    ensures { IsItemised text.now result }
+{
+    let tokens = match tokens(alloc, text) {
+        Ok(tokens) => tokens,
+        Err(LexError::Bad { at }) => return Err(ModelError::Lex { at }),
+        Err(LexError::IntRange { at }) => return Err(ModelError::IntRange { at }),
+        Err(LexError::Memory) => return Err(ModelError::Memory),
+    };
+    match items(alloc, text, &tokens) {
+        Ok(items) => Ok(items),
+        Err(ItemError::Syntax { at }) => Err(ModelError::Syntax { at }),
+        Err(ItemError::Memory) => Err(ModelError::Memory),
+    }
+}
+
+/// The refusal of items, as that of a text.
+fn error_of(refusal: Refusal) -> ModelError
+    ensures { result ≡ error_of refusal }
+{
+    match refusal {
+        Refusal::Misplaced { at } => ModelError::Misplaced { at },
+        Refusal::Duplicate { at } => ModelError::Duplicate { at },
+        Refusal::Undeclared { at } => ModelError::Undeclared { at },
+        Refusal::Unbounded { at } => ModelError::Unbounded { at },
+        Refusal::Unsupported { at } => ModelError::Unsupported { at },
+        Refusal::UnknownConstraint { at } => ModelError::UnknownConstraint { at },
+        Refusal::IllTyped { at } => ModelError::IllTyped { at },
+        Refusal::OutputShape { at } => ModelError::OutputShape { at },
+        Refusal::WideSum { at } => ModelError::WideSum { at },
+        Refusal::Limit { which, count, at } => ModelError::Limit { which, count, at },
+        Refusal::NoSolve => ModelError::NoSolve,
+    }
+}

@@ -1,0 +1,138 @@
+//! What is printed for variables and arrays.
+
+ghost use Rattle.std.specs.Prelude.{◌≡◌, ◌<◌, ◌≤◌, ◌^◌, ◌+◌, ◌*◌, length, true, All, OnOk, Ok, Some};
+ghost use Rattle.dcsp_domain.specs.Ranges.{count_between};
+ghost use Rattle.dcsp_problem.specs.Rules.{IsTermOf};
+ghost use Rattle.dcsp_problem.specs.Outputs.{range_product, IsOutputOf};
+ghost use Rattle.fzn_model.specs.Building.{with_output};
+ghost use Rattle.fzn_model.specs.Declarations.{is_shaped, variable_output, array_output};
+ghost use Rattle.fzn_model.specs.Reading.{Leaves, at_most_many};
+
+use dcsp_domain::RangeList;
+use dcsp_problem::{BuildError, NameText, Output, ProblemBuilder, Shape, Term, TermList};
+use fzn_item::Marked;
+use fzn_scope::Stop;
+use std::alloc::Global;
+
+/// More than any array has elements.
+const MANY: u128 = 1 << 63;
+
+/// Whether an array of so many elements can be printed as its mark says.
+pub(crate) fn is_shaped(marked: &Marked, count: usize) -> bool
+    requires { count < 2 ^ 63 }
+    ensures { result ≡ is_shaped marked.now count }
+{
+    match marked {
+        Marked::Nothing | Marked::Variable => true,
+        Marked::Wrong => false,
+        Marked::Ranges(ranges) => {
+            let ranges = ranges.items();
+            1 <= ranges.len() && ranges.len() <= 6 && product(ranges) == count as u128
+        }
+    }
+}
+
+/// The product of the ranges' sizes, or `MANY` where it is greater.
+fn product(ranges: &[(i64, i64)]) -> u128
+    ensures { result ≡ at_most_many (range_product ranges.now) }
+{
+    match ranges.split_first() {
+        Some((first, rest)) => times(size(first.0, first.1), product(rest)),
+        None => 1,
+    }
+}
+
+/// How many numbers there are in a range.
+fn size(low: i64, high: i64) -> u128
+    ensures is { result ≡ count_between low high }
+    ensures fits { result ≤ 2 ^ 64 }
+{
+    if low > high {
+        return 0;
+    }
+    u128::from(high.abs_diff(low)) + 1
+}
+
+/// The product, or `MANY` where it is greater.
+fn times(size: u128, product: u128) -> u128
+    requires size { size ≤ 2 ^ 64 }
+    requires product { product ≤ 2 ^ 63 }
+    ensures { result ≡ at_most_many (size * product) }
+{
+    let product = size * product;
+    if product > MANY { MANY } else { product }
+}
+
+/// Adds what is printed for a variable, if it is marked by `output_var`.
+pub(crate) fn add_variable_output(
+    alloc: Global,
+    builder: &mut ProblemBuilder,
+    name: &[u8],
+    boolean: bool,
+    number: u32,
+    marked: &Marked,
+) -> Result<(), Stop>
+    requires number { number < length builder.old.domains }
+    requires few { length builder.old.outputs < 16777216 }
+    ensures added { Leaves builder.new result (Ok (with_output builder.old (variable_output name.now boolean number marked.now))) }
+    ensures domains { OnOk result (builder.new.domains ≡ builder.old.domains) }
+    ensures outputs { OnOk result (length builder.new.outputs ≤ length builder.old.outputs + 1) }
+{
+    match marked {
+        Marked::Nothing | Marked::Ranges(_) | Marked::Wrong => Ok(()),
+        Marked::Variable => add_output(
+            builder,
+            Output {
+                name: NameText::from_vec(Vec::from_slice(alloc, name)?),
+                boolean,
+                shape: Shape::One,
+                terms: TermList::from_vec(vec![in alloc; Term::Var(number)]?),
+            },
+        ),
+    }
+}
+
+/// Adds what is printed for an array of variables, if it is marked by `output_array`.
+pub(crate) fn add_array_output(
+    alloc: Global,
+    builder: &mut ProblemBuilder,
+    name: &[u8],
+    boolean: bool,
+    marked: &Marked,
+    terms: &[Term],
+) -> Result<(), Stop>
+    requires known { All (IsTermOf (length builder.old.domains)) terms.now }
+    requires elements { length terms.now ≤ 65536 }
+    requires shaped { is_shaped marked.now (length terms.now) ≡ true }
+    requires few { length builder.old.outputs < 16777216 }
+    ensures added { Leaves builder.new result (Ok (with_output builder.old (array_output name.now true boolean marked.now terms.now))) }
+    ensures domains { OnOk result (builder.new.domains ≡ builder.old.domains) }
+    ensures outputs { OnOk result (length builder.new.outputs ≤ length builder.old.outputs + 1) }
+{
+    match marked {
+        Marked::Nothing | Marked::Variable | Marked::Wrong => Ok(()),
+        Marked::Ranges(ranges) => add_output(
+            builder,
+            Output {
+                name: NameText::from_vec(Vec::from_slice(alloc, name)?),
+                boolean,
+                shape: Shape::Ranges(RangeList::from_vec(Vec::from_slice(alloc, ranges.items())?)),
+                terms: TermList::from_vec(Vec::from_slice(alloc, terms)?),
+            },
+        ),
+    }
+}
+
+/// Adds what is printed.
+fn add_output(builder: &mut ProblemBuilder, output: Output) -> Result<(), Stop>
+    requires fits { IsOutputOf (length builder.old.domains) output }
+    requires few { length builder.old.outputs < 16777216 }
+    ensures added { Leaves builder.new result (Ok (with_output builder.old (Some output))) }
+    ensures domains { OnOk result (builder.new.domains ≡ builder.old.domains) }
+    ensures outputs { OnOk result (length builder.new.outputs ≤ length builder.old.outputs + 1) }
+{
+    match builder.add_output(output) {
+        Ok(()) => Ok(()),
+        Err(_) => Err(Stop::Memory),
+    }
+}

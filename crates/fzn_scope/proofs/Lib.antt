@@ -1,0 +1,4 @@
+mod NameTable
+mod Steps
+pub mod KnownLaws
+pub mod ShapeLaws

@@ -1,0 +1,6 @@
+pub mod Checks
+pub mod Names
+pub mod Places
+pub mod Forms
+pub mod Rules
+pub mod Known

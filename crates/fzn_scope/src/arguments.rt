@@ -1,0 +1,217 @@
+//! From a constraint's arguments to its rule.
+
+ghost use Rattle.std.specs.Prelude.{◌≡◌, ℕ, Ok, All, IfOk, IsTrue, length, map};
+ghost use Rattle.dcsp_problem.specs.Rules.{IsTermOf, has_shape, terms_of};
+ghost use Rattle.fzn_scope.specs.Checks.{Gives};
+ghost use Rattle.fzn_scope.specs.Known.{AreKnown};
+ghost use Rattle.fzn_scope.specs.Rules.{no_arguments, with_argument, arguments_after, constant_of, scalar_at, truth_of, rule_of, lengths_agree, form_at, constraint_rule};
+
+use crate::form::{Form, Place};
+use crate::names::Names;
+use crate::place::{Wanted, list_of, one_of, set_of};
+use crate::refusal::{Refusal, Stop};
+use dcsp_problem::{IntList, Members, Rule, Term, TermList};
+use fzn_item::Expr;
+use std::alloc::Global;
+
+/// What the arguments of a constraint are: scalars, two lists and a set, each empty where there is none.
+#[derive(Debug, Drop)]
+pub struct Arguments {
+    pub scalars: TermList,
+    pub first: TermList,
+    pub second: TermList,
+    pub members: Members,
+}
+
+/// No arguments.
+fn no_arguments(alloc: Global) -> Arguments
+    ensures { result ≡ no_arguments }
+{
+    Arguments {
+        scalars: TermList::new(alloc),
+        first: TermList::new(alloc),
+        second: TermList::new(alloc),
+        members: Members::Listed(IntList::new(alloc)),
+    }
+}
+
+/// The arguments with one more, at a place that asks for it.
+fn with_argument(
+    alloc: Global,
+    text: &[u8],
+    names: &Names<'_>,
+    done: Arguments,
+    place: Place,
+    expr: &Expr,
+) -> Result<Arguments, Stop>
+    ensures { Gives result (with_argument text.now names.now done place expr.now) }
+{
+    let mut done = done;
+    match place {
+        Place::Scalar { boolean } => {
+            let wanted = Wanted {
+                boolean,
+                constant: false,
+            };
+            done.scalars.push(one_of(text, names, wanted, expr)?)?;
+        }
+        Place::First(wanted) => done.first = list_of(alloc, text, names, wanted, expr)?,
+        Place::Second { boolean } => {
+            let wanted = Wanted {
+                boolean,
+                constant: false,
+            };
+            done.second = list_of(alloc, text, names, wanted, expr)?;
+        }
+        Place::Set => done.members = set_of(alloc, text, names, expr)?,
+    }
+    Ok(done)
+}
+
+/// The arguments at these places, from left to right.
+fn arguments_of(
+    alloc: Global,
+    text: &[u8],
+    names: &Names<'_>,
+    places: &[Place],
+    exprs: &[Expr],
+) -> Result<Arguments, Stop>
+    requires { length exprs.now ≡ length places.now }
+    ensures { Gives result (arguments_after text.now names.now no_arguments places.now exprs.now) }
+{
+    let mut done = no_arguments(alloc);
+    for index in 0..exprs.len() {
+        done = with_argument(alloc, text, names, done, places[index], &exprs[index])?;
+    }
+    Ok(done)
+}
+
+/// A constant's value; nothing asks for a variable's.
+fn constant_of(term: Term) -> i64
+    ensures { result ≡ constant_of term }
+{
+    match term {
+        Term::Const(value) => value,
+        Term::Var(_) => 0,
+    }
+}
+
+fn constants_of(alloc: Global, terms: &[Term]) -> Result<IntList, Stop>
+    ensures { Gives result (Ok (map constant_of terms.now)) }
+{
+    let mut values = IntList::new(alloc);
+    for term in terms {
+        values.push(constant_of(*term))?;
+    }
+    Ok(values)
+}
+
+/// The scalar at a place, counted from 0.
+fn scalar_at(arguments: &Arguments, place: usize) -> Term
+    ensures { result ≡ scalar_at arguments.now place }
+{
+    match arguments.scalars.items().get(place) {
+        Some(term) => *term,
+        None => Term::Const(0),
+    }
+}
+
+/// The truth that a reified sum speaks of.
+fn truth_of(reified: bool, arguments: &Arguments) -> Option<Term>
+    ensures { result ≡ truth_of reified arguments.now }
+{
+    if reified {
+        Some(scalar_at(arguments, 1))
+    } else {
+        None
+    }
+}
+
+/// The rule that these arguments make.
+fn rule_of(alloc: Global, form: Form, arguments: Arguments) -> Result<Rule, Stop>
+    ensures { Gives result (Ok (rule_of form arguments)) }
+{
+    match form {
+        Form::Plain(kind) => Ok(Rule::Plain {
+            kind,
+            scalars: arguments.scalars,
+            first: arguments.first,
+            second: arguments.second,
+            members: arguments.members,
+        }),
+        Form::Sum { rel, reified, .. } => {
+            let coefs = constants_of(alloc, arguments.first.items())?;
+            let total = scalar_at(&arguments, 0);
+            let truth = truth_of(reified, &arguments);
+            Ok(Rule::Sum {
+                rel,
+                coefs,
+                terms: arguments.second,
+                total,
+                truth,
+            })
+        }
+    }
+}
+
+/// Whether there are as many coefficients as terms.
+fn lengths_agree(form: Form, arguments: &Arguments) -> bool
+    ensures { result ≡ lengths_agree form arguments.now }
+{
+    match form {
+        Form::Plain(_) => true,
+        Form::Sum { .. } => arguments.first.len() == arguments.second.len(),
+    }
+}
+
+fn form_at(at: u32, name: &[u8]) -> Result<Form, Refusal>
+    ensures { result ≡ form_at at name.now }
+{
+    match Form::from_name(name) {
+        Some(form) => Ok(form),
+        None => Err(Refusal::UnknownConstraint { at }),
+    }
+}
+
+/// The rule of a constraint whose name stands at a place.
+///
+/// `UnknownConstraint` comes for a name that no constraint has, and `IllTyped` for a wrong number of arguments
+/// and for lists of unequal lengths, all three at the name. Between them come the refusals of the arguments,
+/// from left to right.
+pub fn constraint_rule(
+    alloc: Global,
+    text: &[u8],
+    names: &Names<'_>,
+    at: u32,
+    name: &[u8],
+    exprs: &[Expr],
+) -> Result<Rule, Stop>
+    ensures gives { Gives result (constraint_rule text.now names.now at name.now exprs.now) }
+    ensures shape { IfOk result (λ rule. IsTrue (has_shape rule)) }
+    ensures known { IfOk result (λ rule. (variables : ℕ) → AreKnown variables names.now → All (IsTermOf variables) (terms_of rule)) }
+{
+    checked_rule(alloc, text, names, at, name, exprs)
+}
+
+#[tactic(auto, unfolding(crate::specs::Rules::constraint_rule))]
+fn checked_rule(
+    alloc: Global,
+    text: &[u8],
+    names: &Names<'_>,
+    at: u32,
+    name: &[u8],
+    exprs: &[Expr],
+) -> Result<Rule, Stop>
+    ensures { Gives result (constraint_rule text.now names.now at name.now exprs.now) }
+{
+    let form = form_at(at, name)?;
+    let places = form.places(exprs.len());
+    if exprs.len() != places.len() {
+        return Err(Stop::Refused(Refusal::IllTyped { at }));
+    }
+    let arguments = arguments_of(alloc, text, names, places, exprs)?;
+    if !lengths_agree(form, &arguments) {
+        return Err(Stop::Refused(Refusal::IllTyped { at }));
+    }
+    rule_of(alloc, form, arguments)
+}

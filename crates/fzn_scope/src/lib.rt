@@ -1,0 +1,20 @@
+//! Names in scope, and what the expressions of FlatZinc (MiniZinc Handbook) mean at the places that ask for
+//! them: integers, Booleans, lists, sets, and the arguments of a constraint with the rule that they make.
+//!
+//! Each call answers what its definition in `specs/` gives: a value, or the first refusal from left to right.
+#![tactic(auto)]
+
+mod arguments;
+mod form;
+mod names;
+mod place;
+mod refusal;
+
+pub use arguments::{Arguments, constraint_rule};
+pub use form::{Form, Place};
+pub use names::{Declared, Names, bytes_at};
+pub use place::{Wanted, count_of, list_of, one_of, set_of, term_of};
+pub use refusal::{Refusal, Stop};
+
+#[cfg(test)]
+mod tests;

@@ -1,0 +1,259 @@
+//! What expressions mean at the places that ask for them.
+
+ghost use Rattle.std.specs.Prelude.{◌≡◌, ℕ, [], Ok, All, IfOk, option_copied};
+ghost use Rattle.dcsp_problem.specs.Rules.{IsTermOf};
+ghost use Rattle.fzn_scope.specs.Known.{AreKnown};
+ghost use Rattle.fzn_scope.specs.Checks.{Gives};
+ghost use Rattle.fzn_scope.specs.Places.{truth_term, is_constant, wanted_term, term_named, term_of, one_of, terms_named, terms_after, list_of, count_named, count_of, set_named, set_of};
+
+use crate::names::{Declared, Names, bytes_at};
+use crate::refusal::{Refusal, Stop};
+use dcsp_problem::{IntList, Members, Term, TermList};
+use fzn_item::{Atom, Expr};
+use std::alloc::Global;
+
+/// What a place asks for: integers or Booleans, and whether they must be constants.
+#[derive(Clone, Copy, Debug, PartialEq, Eq)]
+pub struct Wanted {
+    /// Whether it asks for Booleans and not for integers.
+    pub boolean: bool,
+    /// Whether a variable will not do.
+    pub constant: bool,
+}
+
+/// The term of a truth: 1 for `true`, and 0 for `false`.
+fn truth_term(value: bool) -> Term
+    ensures { result ≡ truth_term value }
+{
+    if value {
+        Term::Const(1)
+    } else {
+        Term::Const(0)
+    }
+}
+
+fn is_constant(term: Term) -> bool
+    ensures { result ≡ is_constant term }
+{
+    match term {
+        Term::Const(_) => true,
+        Term::Var(_) => false,
+    }
+}
+
+/// The term, of a Boolean or of an integer, where it is what is wanted.
+fn wanted_term(wanted: Wanted, at: u32, boolean: bool, term: Term) -> Result<Term, Refusal>
+    ensures { result ≡ wanted_term wanted at boolean term }
+{
+    if boolean == wanted.boolean && (!wanted.constant || is_constant(term)) {
+        Ok(term)
+    } else {
+        Err(Refusal::IllTyped { at })
+    }
+}
+
+/// The term of a name that stands for this.
+fn term_named(wanted: Wanted, at: u32, declared: Option<&Declared>) -> Result<Term, Refusal>
+    ensures { result ≡ term_named wanted at (option_copied declared.entry) }
+{
+    match declared {
+        None => Err(Refusal::Undeclared { at }),
+        Some(Declared::One { boolean, term }) => wanted_term(wanted, at, *boolean, *term),
+        Some(Declared::Set(_)) => Err(Refusal::IllTyped { at }),
+        Some(Declared::Many { .. }) => Err(Refusal::IllTyped { at }),
+    }
+}
+
+/// The term of an atom: a constant, or what a name stands for.
+///
+/// `Undeclared` comes for a name that was not declared, and `IllTyped` for anything else that is not wanted,
+/// both at the atom's first byte.
+pub fn term_of(text: &[u8], names: &Names<'_>, wanted: Wanted, atom: &Atom) -> Result<Term, Refusal>
+    ensures { result ≡ term_of text.now names.now wanted atom.now }
+{
+    match atom {
+        Atom::Truth { at, value } => wanted_term(wanted, *at, true, truth_term(*value)),
+        Atom::Whole { at, value } => wanted_term(wanted, *at, false, Term::Const(*value)),
+        Atom::Name { at, to } => term_named(wanted, *at, names.get(bytes_at(text, *at, *to))),
+        Atom::Float { at } | Atom::Range { at, .. } | Atom::Listed { at, .. } => {
+            Err(Refusal::IllTyped { at: *at })
+        }
+    }
+}
+
+/// The term of an expression at a place that asks for one. A list is `IllTyped` at its bracket.
+pub fn one_of(text: &[u8], names: &Names<'_>, wanted: Wanted, expr: &Expr) -> Result<Term, Refusal>
+    ensures is { result ≡ one_of text.now names.now wanted expr.now }
+    ensures known { IfOk result (λ term. (variables : ℕ) → AreKnown variables names.now → IsTermOf variables term) }
+{
+    match expr {
+        Expr::One(atom) => term_of(text, names, wanted, atom),
+        Expr::List { at, .. } => Err(Refusal::IllTyped { at: *at }),
+    }
+}
+
+fn ill_typed(at: u32) -> Stop
+    ensures { result ≡ Stop.Refused (Refusal.IllTyped at) }
+{
+    Stop::Refused(Refusal::IllTyped { at })
+}
+
+/// The terms of atoms, from left to right.
+fn terms_of(
+    alloc: Global,
+    text: &[u8],
+    names: &Names<'_>,
+    wanted: Wanted,
+    atoms: &[Atom],
+) -> Result<TermList, Stop>
+    ensures { Gives result (terms_after text.now names.now wanted [] atoms.now) }
+{
+    let mut terms = TermList::new(alloc);
+    for atom in atoms {
+        terms.push(term_of(text, names, wanted, atom)?)?;
+    }
+    Ok(terms)
+}
+
+fn copy_of_terms(alloc: Global, terms: &[Term]) -> Result<TermList, Stop>
+    ensures { Gives result (Ok terms.now) }
+{
+    Ok(TermList::from_vec(Vec::from_slice(alloc, terms)?))
+}
+
+/// The terms of a name that stands for this. An array of variables is none of constants, whatever it holds.
+fn terms_named(
+    alloc: Global,
+    wanted: Wanted,
+    at: u32,
+    declared: Option<&Declared>,
+) -> Result<TermList, Stop>
+    ensures { Gives result (terms_named wanted at (option_copied declared.entry)) }
+{
+    match declared {
+        None => Err(Stop::Refused(Refusal::Undeclared { at })),
+        Some(
+            Declared::Many {
+                boolean,
+                variable,
+                terms,
+            },
+        ) => {
+            if *boolean == wanted.boolean && (!wanted.constant || !*variable) {
+                copy_of_terms(alloc, terms.items())
+            } else {
+                Err(ill_typed(at))
+            }
+        }
+        Some(Declared::One { .. }) => Err(ill_typed(at)),
+        Some(Declared::Set(_)) => Err(ill_typed(at)),
+    }
+}
+
+/// The terms of an expression at a place that asks for a list: a list of atoms, or the name of an array.
+pub fn list_of(
+    alloc: Global,
+    text: &[u8],
+    names: &Names<'_>,
+    wanted: Wanted,
+    expr: &Expr,
+) -> Result<TermList, Stop>
+    ensures gives { Gives result (list_of text.now names.now wanted expr.now) }
+    ensures known { IfOk result (λ terms. (variables : ℕ) → AreKnown variables names.now → All (IsTermOf variables) terms) }
+{
+    let atom = match expr {
+        Expr::List { atoms, .. } => return terms_of(alloc, text, names, wanted, atoms.items()),
+        Expr::One(atom) => atom,
+    };
+    match atom {
+        Atom::Name { at, to } => {
+            terms_named(alloc, wanted, *at, names.get(bytes_at(text, *at, *to)))
+        }
+        Atom::Truth { at, .. }
+        | Atom::Whole { at, .. }
+        | Atom::Float { at }
+        | Atom::Range { at, .. }
+        | Atom::Listed { at, .. } => Err(ill_typed(*at)),
+    }
+}
+
+fn count_named(at: u32, declared: Option<&Declared>) -> Result<usize, Refusal>
+    ensures { result ≡ count_named at (option_copied declared.entry) }
+{
+    match declared {
+        None => Err(Refusal::Undeclared { at }),
+        Some(Declared::Many { terms, .. }) => Ok(terms.len()),
+        Some(Declared::One { .. }) => Err(Refusal::IllTyped { at }),
+        Some(Declared::Set(_)) => Err(Refusal::IllTyped { at }),
+    }
+}
+
+/// How many elements the right side of an array has, which is a list or the name of an array.
+pub fn count_of(text: &[u8], names: &Names<'_>, expr: &Expr) -> Result<usize, Refusal>
+    ensures { result ≡ count_of text.now names.now expr.now }
+{
+    let atom = match expr {
+        Expr::List { atoms, .. } => return Ok(atoms.len()),
+        Expr::One(atom) => atom,
+    };
+    match atom {
+        Atom::Name { at, to } => count_named(*at, names.get(bytes_at(text, *at, *to))),
+        Atom::Truth { at, .. }
+        | Atom::Whole { at, .. }
+        | Atom::Float { at }
+        | Atom::Range { at, .. }
+        | Atom::Listed { at, .. } => Err(Refusal::IllTyped { at: *at }),
+    }
+}
+
+fn copy_of_integers(alloc: Global, values: &[i64]) -> Result<IntList, Stop>
+    ensures { Gives result (Ok values.now) }
+{
+    Ok(IntList::from_vec(Vec::from_slice(alloc, values)?))
+}
+
+fn copy_of_set(alloc: Global, set: &Members) -> Result<Members, Stop>
+    ensures { Gives result (Ok set.now) }
+{
+    match set {
+        Members::Between { low, high } => Ok(Members::Between {
+            low: *low,
+            high: *high,
+        }),
+        Members::Listed(values) => Ok(Members::Listed(copy_of_integers(alloc, values.items())?)),
+    }
+}
+
+fn set_named(alloc: Global, at: u32, declared: Option<&Declared>) -> Result<Members, Stop>
+    ensures { Gives result (set_named at (option_copied declared.entry)) }
+{
+    match declared {
+        None => Err(Stop::Refused(Refusal::Undeclared { at })),
+        Some(Declared::Set(set)) => copy_of_set(alloc, set),
+        Some(Declared::One { .. }) => Err(ill_typed(at)),
+        Some(Declared::Many { .. }) => Err(ill_typed(at)),
+    }
+}
+
+/// The set of an expression at a place that asks for one: a range, a listed set, or a set's name.
+pub fn set_of(alloc: Global, text: &[u8], names: &Names<'_>, expr: &Expr) -> Result<Members, Stop>
+    ensures { Gives result (set_of text.now names.now expr.now) }
+{
+    let atom = match expr {
+        Expr::List { at, .. } => return Err(ill_typed(*at)),
+        Expr::One(atom) => atom,
+    };
+    match atom {
+        Atom::Range { low, high, .. } => Ok(Members::Between {
+            low: *low,
+            high: *high,
+        }),
+        Atom::Listed { values, .. } => {
+            Ok(Members::Listed(copy_of_integers(alloc, values.items())?))
+        }
+        Atom::Name { at, to } => set_named(alloc, *at, names.get(bytes_at(text, *at, *to))),
+        Atom::Truth { at, .. } | Atom::Whole { at, .. } | Atom::Float { at } => {
+            Err(ill_typed(*at))
+        }
+    }
+}

@@ -1,0 +1,223 @@
+use super::*;
+use dcsp_list::Memory;
+use dcsp_problem::{IntList, Members, Rel, Rule, Term, TermList};
+use fzn_item::{Item, ItemError, ItemList, items};
+use fzn_token::tokens;
+use std::alloc::{AllocFailed, Global};
+use std::process::Abort;
+use std::test::Fail;
+
+/// The items of a short text.
+fn read(alloc: Global, text: &[u8]) -> Result<ItemList, ItemError> {
+    if text.len() > 1000 {
+        return Err(ItemError::Memory);
+    }
+    match tokens(alloc, text) {
+        Ok(list) => items(alloc, text, &list),
+        Err(_) => Err(ItemError::Memory),
+    }
+}
+
+/// Adds a name to those in scope.
+fn add<'t>(rt: &impl Abort, names: &mut Names<'t>, name: &'t [u8], declared: Declared) {
+    assert!(rt; names.get(name).is_none());
+    assert!(rt; names.declare(name, declared).is_ok());
+}
+
+/// An array of these terms.
+fn many(rt: &impl Abort, alloc: Global, boolean: bool, variable: bool, terms: &[Term]) -> Declared {
+    let terms = Vec::from_slice(alloc, terms).expect(rt, "memory");
+    Declared::Many {
+        boolean,
+        variable,
+        terms: TermList::from_vec(terms),
+    }
+}
+
+/// The integer variables `x` and `y`, the Boolean variable `b`, the parameters `n` (3) and `t` (true), the set `s`,
+/// the integers `cs`, and the arrays of variables `xs` of `x` and `y`, `bs` of `b`, and `vs` of a constant.
+fn scope(rt: &impl Abort, alloc: Global) -> Names<'static> {
+    let mut names = Names::new(alloc);
+    for (name, boolean, term) in [
+        (b"x".as_slice(), false, Term::Var(0)),
+        (b"y", false, Term::Var(1)),
+        (b"b", true, Term::Var(2)),
+        (b"n", false, Term::Const(3)),
+        (b"t", true, Term::Const(1)),
+    ] {
+        add(rt, &mut names, name, Declared::One { boolean, term });
+    }
+    let set = Members::Between { low: 1, high: 3 };
+    add(rt, &mut names, b"s", Declared::Set(set));
+    let constants = many(rt, alloc, false, false, &[Term::Const(1), Term::Const(-1)]);
+    add(rt, &mut names, b"cs", constants);
+    let variables = many(rt, alloc, false, true, &[Term::Var(0), Term::Var(1)]);
+    add(rt, &mut names, b"xs", variables);
+    let truths = many(rt, alloc, true, true, &[Term::Var(2)]);
+    add(rt, &mut names, b"bs", truths);
+    let fixed = many(rt, alloc, false, true, &[Term::Const(4)]);
+    add(rt, &mut names, b"vs", fixed);
+    names
+}
+
+/// The rule of a text's first item, which is a constraint.
+fn rule_of(rt: &impl Abort, alloc: Global, text: &[u8]) -> Result<Rule, Stop> {
+    let list = read(alloc, text).ok().expect(rt, "items");
+    let names = scope(rt, alloc);
+    match list.items().first() {
+        Some(
+            Item::Constraint {
+                name_at,
+                name_to,
+                arguments,
+                ..
+            },
+        ) => {
+            let name = bytes_at(text, *name_at, *name_to);
+            constraint_rule(alloc, text, &names, *name_at, name, arguments.items())
+        }
+        _ => panic!(rt; "no constraint"),
+    }
+}
+
+#[test]
+fn constraints_with_a_rule(rt: HostRuntime) {
+    for text in [
+        b"constraint int_ne(x,1);".as_slice(),
+        b"constraint int_ne(n,y);",
+        b"constraint bool_xor(b,t);",
+        b"constraint bool_xor(b,false,b);",
+        b"constraint bool2int(b,x);",
+        b"constraint set_in(x,s);",
+        b"constraint set_in_reif(x,{5,2,5},b);",
+        b"constraint bool_clause(bs,[]);",
+        b"constraint array_var_int_element(x,xs,y);",
+        b"constraint array_bool_element(x,[t,false],b);",
+        b"constraint fzn_all_different_int(vs);",
+        b"constraint int_lin_eq(cs,xs,n);",
+        b"constraint int_lin_le_reif([n],vs,1,b);",
+        b"constraint bool_lin_le([2],bs,x);",
+    ] {
+        assert!(rt; rule_of(&rt, rt.alloc(), text).is_ok());
+    }
+}
+
+#[test]
+fn constraints_and_their_refusals(rt: HostRuntime) {
+    for (text, refusal) in [
+        (
+            b"constraint int_nq(q);".as_slice(),
+            Refusal::UnknownConstraint { at: 11 },
+        ),
+        (b"constraint int_ne(q);", Refusal::IllTyped { at: 11 }),
+        (b"constraint int_ne(q,b);", Refusal::Undeclared { at: 18 }),
+        (b"constraint int_ne(b,q);", Refusal::IllTyped { at: 18 }),
+        (b"constraint int_ne(x,true);", Refusal::IllTyped { at: 20 }),
+        (b"constraint int_ne(2.5,1);", Refusal::IllTyped { at: 18 }),
+        (b"constraint int_ne(xs,1);", Refusal::IllTyped { at: 18 }),
+        (b"constraint int_ne([q],1);", Refusal::IllTyped { at: 18 }),
+        (b"constraint int_ne(s,1);", Refusal::IllTyped { at: 18 }),
+        (b"constraint bool_eq(b,1);", Refusal::IllTyped { at: 21 }),
+        (b"constraint bool_xor(b);", Refusal::IllTyped { at: 11 }),
+        (b"constraint set_in(x,n);", Refusal::IllTyped { at: 20 }),
+        (b"constraint set_in(x,[1]);", Refusal::IllTyped { at: 20 }),
+        (
+            b"constraint fzn_all_different_int([x,q,b]);",
+            Refusal::Undeclared { at: 36 },
+        ),
+        (
+            b"constraint fzn_all_different_int(x);",
+            Refusal::IllTyped { at: 33 },
+        ),
+        (
+            b"constraint int_lin_eq(xs,xs,3);",
+            Refusal::IllTyped { at: 22 },
+        ),
+        (
+            b"constraint int_lin_eq(vs,[x],3);",
+            Refusal::IllTyped { at: 22 },
+        ),
+        (
+            b"constraint int_lin_eq([1,x],[q],3);",
+            Refusal::IllTyped { at: 25 },
+        ),
+        (
+            b"constraint int_lin_eq(cs,[x],3);",
+            Refusal::IllTyped { at: 11 },
+        ),
+        (
+            b"constraint int_lin_eq(cs,[x],q);",
+            Refusal::Undeclared { at: 29 },
+        ),
+    ] {
+        let refused = rule_of(&rt, rt.alloc(), text).err();
+        assert_eq!(rt; refused, Some(Stop::Refused(refusal)));
+    }
+}
+
+#[test]
+fn rules_of_a_sum_and_of_two_truths(rt: HostRuntime) -> Result<(), Fail> {
+    let text = b"constraint int_lin_le_reif(cs,[x,n],y,b);";
+    match rule_of(&rt, rt.alloc(), text).ok().ok_or("a sum")? {
+        Rule::Sum {
+            rel,
+            coefs,
+            terms,
+            total,
+            truth,
+        } => {
+            assert_eq!(rt; rel, Rel::AtMost);
+            assert_eq!(rt; coefs.items(), [1, -1].as_slice());
+            assert_eq!(rt; terms.items(), [Term::Var(0), Term::Const(3)].as_slice());
+            assert_eq!(rt; total, Term::Var(1));
+            assert_eq!(rt; truth, Some(Term::Var(2)));
+        }
+        Rule::Plain { .. } => panic!(rt; "another rule"),
+    }
+    let text = b"constraint bool_xor(b,t);";
+    match rule_of(&rt, rt.alloc(), text).ok().ok_or("two truths")? {
+        Rule::Plain { scalars, first, .. } => {
+            assert_eq!(rt; scalars.items(), [Term::Var(2), Term::Const(1)].as_slice());
+            assert!(rt; first.is_empty());
+        }
+        Rule::Sum { .. } => panic!(rt; "another rule"),
+    }
+    Ok(())
+}
+
+#[test]
+fn elements_of_right_sides(rt: HostRuntime) {
+    let text = b"constraint p([q,q],xs,q,7);";
+    let list = read(rt.alloc(), text).ok().expect(&rt, "items");
+    let names = scope(&rt, rt.alloc());
+    let Some(Item::Constraint { arguments, .. }) = list.items().first() else {
+        panic!(rt; "no constraint")
+    };
+    for (place, count) in [
+        (0, Ok(2)),
+        (1, Ok(2)),
+        (2, Err(Refusal::Undeclared { at: 22 })),
+        (3, Err(Refusal::IllTyped { at: 24 })),
+    ] {
+        let expr = arguments.items().get(place).expect(&rt, "an expression");
+        assert_eq!(rt; count_of(text, &names, expr), count);
+    }
+}
+
+#[test]
+fn places_outside_a_text_have_no_bytes(rt: HostRuntime) {
+    assert_eq!(rt; bytes_at(b"abc", 1, 3), b"bc".as_slice());
+    assert_eq!(rt; bytes_at(b"abc", 2, 1).len(), 0);
+    assert_eq!(rt; bytes_at(b"abc", 1, 4).len(), 0);
+}
+
+#[test]
+fn want_of_memory_is_no_refusal(rt: HostRuntime) {
+    assert_eq!(rt; Stop::from(Memory), Stop::Memory);
+    assert_eq!(rt; Stop::from((7u32, Memory)), Stop::Memory);
+    assert_eq!(rt; Stop::from(AllocFailed { value: 7u32 }), Stop::Memory);
+    assert_eq!(rt;
+        Stop::from(Refusal::NoSolve),
+        Stop::Refused(Refusal::NoSolve)
+    );
+}
