@@ -2,3 +2,4 @@ pub mod Files
 pub mod Once
 pub mod Outcomes
 pub mod Threes
+pub mod Models

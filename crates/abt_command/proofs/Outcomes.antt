@@ -25,6 +25,11 @@ module _ (files : Option (List ℕ → Option (List ℕ))) (model_name log_name 
   pub refused : (e : Refusal) → now ≡ before → IsFoundIn files model_name log_name (Err e) → IsAnsweredIn files model_name log_name before now (Err e)
   refused e same h = (h.0, h.1, h.2, h.3, h.4, Told-same (IsAnswered h.0 h.1 (Err e)) (nothing_put h.0 h.1 e) before now same)
 
+  -- the same of a call that hands the refusal on
+  pub handed_on : (e : Refusal) (result : Result Finding Refusal) → IsErr result × IsErrAnd result (λ y. y ≡ e) → now ≡ before → IsFoundIn files model_name log_name (Err e) → IsAnsweredIn files model_name log_name before now result
+  handed_on e (Ok finding) is same h = absurd (let no = is.0 in cc)
+  handed_on e (Err y) is same h = rw is.1 (refused e same h)
+
   -- the finding and what telling it came to
   pub told : (finding : Finding) (result : Result Finding Refusal) → IsFoundIn files model_name log_name (Ok finding) → IsTold finding before now result → IsAnsweredIn files model_name log_name before now result
   told finding (Ok f) h t =

@@ -42,12 +42,7 @@ fn placed(alloc: Global, before: &[u8], at: u32) -> Result<Line, AllocError>
 }
 
 /// The line that tells that a limit would be passed.
-fn limit_line(
-    alloc: Global,
-    which: Which,
-    count: u128,
-    at: u32,
-) -> Result<Line, AllocError>
+fn limit_line(alloc: Global, which: Which, count: u128, at: u32) -> Result<Line, AllocError>
     ensures { IfOk result (λ line. bytes_of_line line ≡ error_text (ModelError.Limit which count at)) }
 {
     let mut line = Vec::from_slice(alloc, b"abt: model: limit ")?;

@@ -14,6 +14,139 @@ const LOG: &[u8] = b"ngd 1\n1 v2 [v1=0] <- c1 c2\n2 v2 [v1=1] <- c2 c1\n3 v1 [] 
 const CHAIN: &[u8] =
     b"var 0..1: x;\nvar 0..0: y;\nvar 0..0: z;\nconstraint int_ne(x,y);\nconstraint int_ne(y,z);\nsolve satisfy;\n";
 
+/// Three pigeons in two holes: an array whose element type is a range, and a constraint over it.
+const HOLES: &[u8] = b"% Three pigeons in two holes.
+var 1..2: X_INTRODUCED_0_;
+var 1..2: X_INTRODUCED_1_;
+var 1..2: X_INTRODUCED_2_;
+array [1..3] of var 1..2: hole:: output_array([1..3]) = [X_INTRODUCED_0_,X_INTRODUCED_1_,X_INTRODUCED_2_];
+constraint fzn_all_different_int(hole);
+solve :: int_search(hole,input_order,indomain_min) satisfy;
+";
+
+/// Its refutation.
+const HOLES_LOG: &[u8] = b"ngd 1
+1 v3 [v1=1,v2=1] <- c4 c4
+2 v3 [v1=1,v2=2] <- c4 c4
+3 v2 [v1=1] <- n1 n2
+4 v3 [v1=2,v2=2] <- c4 c4
+5 v3 [v1=2,v2=2] <- c4 c4
+6 v3 [v1=2,v2=1] <- c4 c4
+7 v2 [v1=2] <- n6 n4
+8 v1 [] <- n3 n7
+end
+";
+
+/// Switches: Booleans, reified constraints and a sum of Booleans.
+const SWITCHES: &[u8] =
+    b"% Three switches, an odd number of them on: each two are alike, and the first tells whether at least 2 are on.
+array [1..3] of int: X_INTRODUCED_1_ = [-1,-1,-1];
+var bool: p:: output_var;
+var bool: q:: output_var;
+var bool: r:: output_var;
+var 0..1: X_INTRODUCED_2_ ::var_is_introduced :: is_defined_var;
+var bool: X_INTRODUCED_3_ ::var_is_introduced :: is_defined_var = true;
+constraint array_bool_xor([p,q,r]);
+constraint bool_eq_reif(p,q,X_INTRODUCED_3_);
+constraint bool_xor(q,r,false);
+constraint bool2int(p,X_INTRODUCED_2_):: defines_var(X_INTRODUCED_2_);
+constraint bool_lin_le(X_INTRODUCED_1_,[p,q,r],-2);
+constraint int_lt(X_INTRODUCED_2_,1);
+solve satisfy;
+";
+
+/// Its refutation.
+const SWITCHES_LOG: &[u8] = b"ngd 1
+1 v3 [v1=0,v2=0] <- c2 c4
+2 v3 [v1=0,v2=1] <- c4 c2
+3 v5 [v1=0,v2=1] <- c1 c3
+4 v2 [v1=0] <- n1 n3
+5 v3 [v1=0,v2=1] <- c4 c2
+6 v4 [v1=1] <- c5 c7
+7 v1 [] <- n4 n6
+end
+";
+
+/// Shifts: introduced names, reified constraints that define variables, and clauses.
+const SHIFTS: &[u8] =
+    b"% Three shifts on two days, of which no two that follow each other may be on one day, and the first and last differ.
+array [1..2] of int: X_INTRODUCED_2_ = [1,-1];
+var 1..2: first:: output_var;
+var 1..2: second:: output_var;
+var 1..2: third:: output_var;
+var bool: X_INTRODUCED_0_ ::var_is_introduced :: is_defined_var;
+var bool: X_INTRODUCED_1_ ::var_is_introduced :: is_defined_var;
+constraint int_eq_reif(first,second,X_INTRODUCED_0_):: defines_var(X_INTRODUCED_0_);
+constraint int_lin_eq_reif(X_INTRODUCED_2_,[second,third],0,X_INTRODUCED_1_):: defines_var(X_INTRODUCED_1_);
+constraint bool_clause([],[X_INTRODUCED_0_]);
+constraint bool_clause([],[X_INTRODUCED_1_]);
+constraint int_ne(first,third);
+solve satisfy;
+";
+
+/// Its refutation.
+const SHIFTS_LOG: &[u8] = b"ngd 1
+1 v5 [v2=1,v3=1] <- c2 c4
+2 v4 [v1=1,v2=1] <- c1 c3
+3 v5 [v2=2,v3=2] <- c2 c4
+4 v3 [v1=1,v2=2] <- c5 n3
+5 v2 [v1=1] <- n2 n4
+6 v4 [v1=2,v2=2] <- c1 c3
+7 v5 [v2=2,v3=2] <- c2 c4
+8 v4 [v1=2,v2=2] <- c1 c3
+9 v5 [v2=1,v3=1] <- c2 c4
+10 v3 [v1=2,v2=1] <- n9 c5
+11 v2 [v1=2] <- n10 n6
+12 v1 [] <- n5 n11
+end
+";
+
+/// Prices: arrays and a set of parameters, a listed domain and element constraints. Its log says nothing here.
+const PRICES: &[u8] =
+    b"% Two goods of a price list whose prices add up to 10, though no two of them do.
+array [1..4] of int: price = [3,5,9,4];
+array [1..3] of int: X_INTRODUCED_3_ = [1,1,-1];
+set of int: X_INTRODUCED_4_ = {1,3};
+var {1,2,4}: a:: output_var;
+var 1..4: b:: output_var;
+var 3..9: X_INTRODUCED_0_ ::var_is_introduced :: is_defined_var;
+var 3..9: X_INTRODUCED_1_ ::var_is_introduced :: is_defined_var;
+constraint array_int_element(a,price,X_INTRODUCED_0_):: defines_var(X_INTRODUCED_0_);
+constraint array_int_element(b,price,X_INTRODUCED_1_):: defines_var(X_INTRODUCED_1_);
+constraint set_in(b,X_INTRODUCED_4_);
+constraint int_lin_eq(X_INTRODUCED_3_,[X_INTRODUCED_0_,X_INTRODUCED_1_,10],0);
+solve satisfy;
+";
+
+/// Four queens of which one stands in the first two rows: it has a solution.
+const QUEENS: &[u8] = b"array [1..2] of int: X_INTRODUCED_4_ = [1,-1];
+var 1..4: X_INTRODUCED_0_ :: var_is_introduced;
+var 1..4: X_INTRODUCED_1_ :: var_is_introduced;
+var 1..4: X_INTRODUCED_2_ :: var_is_introduced;
+var 1..4: X_INTRODUCED_3_ :: var_is_introduced;
+array [1..4] of var int: q:: output_array([1..4]) = [X_INTRODUCED_0_,X_INTRODUCED_1_,X_INTRODUCED_2_,X_INTRODUCED_3_];
+constraint int_le(X_INTRODUCED_0_,2);
+constraint int_ne(X_INTRODUCED_0_,X_INTRODUCED_1_);
+constraint int_lin_ne(X_INTRODUCED_4_,[X_INTRODUCED_0_,X_INTRODUCED_1_],1);
+constraint int_lin_ne(X_INTRODUCED_4_,[X_INTRODUCED_0_,X_INTRODUCED_1_],-1);
+constraint int_ne(X_INTRODUCED_0_,X_INTRODUCED_2_);
+constraint int_lin_ne(X_INTRODUCED_4_,[X_INTRODUCED_0_,X_INTRODUCED_2_],2);
+constraint int_lin_ne(X_INTRODUCED_4_,[X_INTRODUCED_0_,X_INTRODUCED_2_],-2);
+constraint int_ne(X_INTRODUCED_0_,X_INTRODUCED_3_);
+constraint int_lin_ne(X_INTRODUCED_4_,[X_INTRODUCED_0_,X_INTRODUCED_3_],3);
+constraint int_lin_ne(X_INTRODUCED_4_,[X_INTRODUCED_0_,X_INTRODUCED_3_],-3);
+constraint int_ne(X_INTRODUCED_1_,X_INTRODUCED_2_);
+constraint int_lin_ne(X_INTRODUCED_4_,[X_INTRODUCED_1_,X_INTRODUCED_2_],1);
+constraint int_lin_ne(X_INTRODUCED_4_,[X_INTRODUCED_1_,X_INTRODUCED_2_],-1);
+constraint int_ne(X_INTRODUCED_1_,X_INTRODUCED_3_);
+constraint int_lin_ne(X_INTRODUCED_4_,[X_INTRODUCED_1_,X_INTRODUCED_3_],2);
+constraint int_lin_ne(X_INTRODUCED_4_,[X_INTRODUCED_1_,X_INTRODUCED_3_],-2);
+constraint int_ne(X_INTRODUCED_2_,X_INTRODUCED_3_);
+constraint int_lin_ne(X_INTRODUCED_4_,[X_INTRODUCED_2_,X_INTRODUCED_3_],1);
+constraint int_lin_ne(X_INTRODUCED_4_,[X_INTRODUCED_2_,X_INTRODUCED_3_],-1);
+solve :: int_search(q,first_fail,indomain_min,complete) satisfy;
+";
+
 /// The words `check m.fzn` and this log's name.
 fn check_words(rt: &impl Abort, alloc: Global, log: &str) -> Vec<String> {
     let mut words = Vec::new(alloc);
@@ -41,7 +174,7 @@ struct Case {
     err: &'static [u8],
 }
 
-const CASES: [Case; 9] = [
+const CASES: [Case; 17] = [
     Case {
         model: MODEL,
         log: LOG,
@@ -99,11 +232,67 @@ const CASES: [Case; 9] = [
         err: b"abt: log: line 5\n",
     },
     Case {
-        model: b"var  0..1: x;\nvar 0..1: y;\nconstraint int_ne(x,y);\nconstraint int_eq(x,y);\nsolve satisfy;\n",
+        model: b"constraint int_le(3,2);\nsolve satisfy;\n",
+        log: b"ngd 1\n1 - [] <- c1\nend\n",
+        status: Status::Good,
+        out: b"verified\n",
+        err: b"",
+    },
+    Case {
+        model: HOLES,
+        log: HOLES_LOG,
+        status: Status::Good,
+        out: b"verified\n",
+        err: b"",
+    },
+    Case {
+        model: SWITCHES,
+        log: SWITCHES_LOG,
+        status: Status::Good,
+        out: b"verified\n",
+        err: b"",
+    },
+    Case {
+        model: SHIFTS,
+        log: SHIFTS_LOG,
+        status: Status::Good,
+        out: b"verified\n",
+        err: b"",
+    },
+    Case {
+        model: PRICES,
+        log: b"ngd 1\nend\n",
+        status: Status::No,
+        out: b"rejected not empty\n",
+        err: b"",
+    },
+    Case {
+        model: QUEENS,
+        log: b"ngd 1\nend\n",
+        status: Status::No,
+        out: b"rejected not empty\n",
+        err: b"",
+    },
+    Case {
+        model: b"var 0..1: x;\nvar 0..1: x;\nsolve satisfy;\n",
         log: LOG,
         status: Status::Model,
         out: b"",
-        err: b"abt: model: not built yet\n",
+        err: b"abt: model: duplicate at 23\n",
+    },
+    Case {
+        model: b"var 0..65536: x;\nsolve satisfy;\n",
+        log: LOG,
+        status: Status::Model,
+        out: b"",
+        err: b"abt: model: limit domain-size 65537 at 0\n",
+    },
+    Case {
+        model: b"",
+        log: LOG,
+        status: Status::Model,
+        out: b"",
+        err: b"abt: model: no solve item\n",
     },
 ];
 
@@ -144,4 +333,27 @@ fn equal_names_are_refused(rt: HostRuntime) {
     assert_eq!(rt; status.code(), 2);
     assert_eq!(rt; out.bytes(), b"".as_slice());
     assert_eq!(rt; err.bytes(), b"abt: bad words\n".as_slice());
+}
+
+#[test]
+fn a_model_has_at_most_16_mib(rt: HostRuntime) {
+    let cases: [(usize, Status, &[u8]); 2] = [
+        (16_777_216, Status::No, b""),
+        (16_777_217, Status::Model, b"abt: model: too long\n"),
+    ];
+    for (size, status, told) in cases {
+        let mut model = vec![in rt.alloc(); b' '; size].expect(&rt, "memory");
+        for (place, byte) in b"solve satisfy;".iter().enumerate() {
+            model[place] = *byte;
+        }
+        let words = check_words(&rt, rt.alloc(), "m.ngd");
+        let mut folder = folder_with(&rt, rt.alloc(), &model, b"ngd 1\nend\n");
+        let mut out = MemorySink::new(rt.alloc());
+        let mut err = MemorySink::new(rt.alloc());
+        assert_eq!(rt;
+            run_command(rt.alloc(), &words, &mut folder, &mut out, &mut err),
+            status
+        );
+        assert_eq!(rt; err.bytes(), told);
+    }
 }

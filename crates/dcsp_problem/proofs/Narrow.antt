@@ -1,5 +1,5 @@
 -- Where values are in their domains, the sum of a problem's rule is narrow.
-use Rattle.std.proofs.Common.{◌≡◌, ℕ, ◌<◌, ◌≤◌, Bool, true, false, List, length, get_or, refl, sym, ap, ◌∙◌, arith, subst}
+use Rattle.std.proofs.Common.{◌≡◌, ℕ, ◌<◌, ◌≤◌, Bool, true, false, List, length, refl, ap, ◌∙◌, arith}
 use Rattle.std.specs.Prelude.{ℤ, pos, Option, Some, None, is_some, unwrap_or, slice_get, slice_index_or, if◌then◌else◌}
 use Rattle.std.specs.List.{list_all}
 use Rattle.std.proofs.lemmas.List.Elements.{All-get_or}
@@ -9,7 +9,6 @@ use Rattle.dcsp_linear.specs.declared.TheConstants.{WIDEST}
 use Rattle.dcsp_defs.specs.Words.{In}
 use Rattle.dcsp_defs.specs.Csp.{Assignment, Known, domain, filled}
 use Rattle.dcsp_defs.proofs.Lists.{list_all-In}
-use Rattle.dcsp_problem.specs.declared.rule.Rule.{Rule}
 use Rattle.dcsp_problem.specs.Rules.{variables_of, IsRuleOf, no_rule}
 use Rattle.dcsp_problem.specs.Widths.{rule_width, rule_sizes}
 use Rattle.dcsp_problem.specs.Problems.{Contents, csp_of, rule_at, constraint_at, value_in, within_domains}

@@ -1,6 +1,6 @@
 -- Widths: which stay as they are, where a greatest absolute value stands, and that no sum is greater.
-use Rattle.std.proofs.Common.{◌≡◌, ℕ, zero, suc, ◌+◌, ◌-◌, ◌*◌, ◌<◌, ◌≤◌, true, max, List, [], ◌∷◌, ◌++◌, map, zip, length, get_or, refl, sym, ap, ◌∙◌, arith, inl, inr, subst}
-use Rattle.std.specs.Prelude.{ℤ, ◌<ℤ◌, ◌≤ℤ◌, unsigned_abs, slice_get, slice_index_or, sum_by, filter_map, All, Option, Some}
+use Rattle.std.proofs.Common.{◌≡◌, ℕ, ◌+◌, ◌-◌, ◌*◌, ◌<◌, ◌≤◌, true, max, List, [], ◌∷◌, ◌++◌, map, zip, length, get_or, refl, sym, ap, ◌∙◌, arith, inl, inr, subst}
+use Rattle.std.specs.Prelude.{ℤ, ◌<ℤ◌, ◌≤ℤ◌, unsigned_abs, slice_get, slice_index_or, sum_by, All, Option, Some}
 use Rattle.std.specs.Option.{option_to_list}
 use Rattle.std.proofs.lemmas.Int.{ints}
 use Rattle.std.proofs.lemmas.Nat.{mul-le}
@@ -19,7 +19,7 @@ use Rattle.dcsp_problem.specs.declared.rule.Term.{Term}
 use Rattle.dcsp_problem.specs.declared.rule.Term.TheVariants.{Const, Var}
 use Rattle.dcsp_problem.specs.declared.rule.Rule.{Rule}
 use Rattle.dcsp_problem.specs.declared.rule.Rule.TheVariants.{Plain, Sum}
-use Rattle.dcsp_problem.specs.Rules.{value_under, terms_of, variables_of, weighted, IsTermOf, IsRuleOf}
+use Rattle.dcsp_problem.specs.Rules.{value_under, terms_of, weighted, IsTermOf, IsRuleOf}
 use Rattle.dcsp_problem.specs.Widths.{greatest_among, greatest_of, rule_width, rule_sizes}
 use Rattle.dcsp_problem.proofs.RisingNumbers.{Contains-In}
 use Rattle.dcsp_problem.proofs.Local.{OfEach, of_left, of_right, of_first, of_rest}

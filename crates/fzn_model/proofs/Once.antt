@@ -31,13 +31,13 @@ not_lexical text result ts x h = elim x.1 [
 same_lexical : (text : List ℕ) (a b : Result Contents ModelError) → IsLexical text a → IsLexical text b → a ≡ b
 same_lexical text a b x y = elim x.1 [
   | inl p ↦ elim y.1 [
-      | inl q ↦ let e = same_lexed text (Err (lexical.Bad x.0)) (Err (lexical.Bad y.0)) p.1 q.1 (λ e. cc) (λ e. cc) in let same : x.0 ≡ y.0 = cc in p.0 ∙ ap (λ at. Err (errors.Lex at)) same ∙ sym q.0
-      | inr q ↦ absurd (let e = same_lexed text (Err (lexical.Bad x.0)) (Err (lexical.IntRange y.0)) p.1 q.1 (λ e. cc) (λ e. cc) in cc)
-    ]
+    | inl q ↦ let e = same_lexed text (Err (lexical.Bad x.0)) (Err (lexical.Bad y.0)) p.1 q.1 (λ e. cc) (λ e. cc) in let same : x.0 ≡ y.0 = cc in p.0 ∙ ap (λ at. Err (errors.Lex at)) same ∙ sym q.0
+    | inr q ↦ absurd (let e = same_lexed text (Err (lexical.Bad x.0)) (Err (lexical.IntRange y.0)) p.1 q.1 (λ e. cc) (λ e. cc) in cc)
+  ]
   | inr p ↦ elim y.1 [
-      | inl q ↦ absurd (let e = same_lexed text (Err (lexical.IntRange x.0)) (Err (lexical.Bad y.0)) p.1 q.1 (λ e. cc) (λ e. cc) in cc)
-      | inr q ↦ let e = same_lexed text (Err (lexical.IntRange x.0)) (Err (lexical.IntRange y.0)) p.1 q.1 (λ e. cc) (λ e. cc) in let same : x.0 ≡ y.0 = cc in p.0 ∙ ap (λ at. Err (errors.IntRange at)) same ∙ sym q.0
-    ]
+    | inl q ↦ absurd (let e = same_lexed text (Err (lexical.IntRange x.0)) (Err (lexical.Bad y.0)) p.1 q.1 (λ e. cc) (λ e. cc) in cc)
+    | inr q ↦ let e = same_lexed text (Err (lexical.IntRange x.0)) (Err (lexical.IntRange y.0)) p.1 q.1 (λ e. cc) (λ e. cc) in let same : x.0 ≡ y.0 = cc in p.0 ∙ ap (λ at. Err (errors.IntRange at)) same ∙ sym q.0
+  ]
 ]
 
 -- a text has one list of tokens
@@ -71,17 +71,17 @@ same_resolved text a b r s =
 pub once : HasOneAnswer
 once text a b p q = elim p [
   | inl x ↦ elim q [
-      | inl y ↦ same_lexical text a b x y
-      | inr y ↦ absurd (elim y [ inl v ↦ not_lexical text a v.tokens x v.lexed | inr s ↦ not_lexical text a s.tokens x s.lexed ])
-    ]
+    | inl y ↦ same_lexical text a b x y
+    | inr y ↦ absurd (elim y [ inl v ↦ not_lexical text a v.tokens x v.lexed | inr s ↦ not_lexical text a s.tokens x s.lexed ])
+  ]
   | inr x ↦ elim x [
-      | inl u ↦ elim q [
-          | inl y ↦ absurd (not_lexical text b u.tokens y u.lexed)
-          | inr y ↦ elim y [ inl v ↦ same_unread text a b u v | inr s ↦ absurd (not_both text a b u s) ]
-        ]
-      | inr r ↦ elim q [
-          | inl y ↦ absurd (not_lexical text b r.tokens y r.lexed)
-          | inr y ↦ elim y [ inl v ↦ absurd (not_both text b a v r) | inr s ↦ same_resolved text a b r s ]
-        ]
+    | inl u ↦ elim q [
+      | inl y ↦ absurd (not_lexical text b u.tokens y u.lexed)
+      | inr y ↦ elim y [ inl v ↦ same_unread text a b u v | inr s ↦ absurd (not_both text a b u s) ]
     ]
+    | inr r ↦ elim q [
+      | inl y ↦ absurd (not_lexical text b r.tokens y r.lexed)
+      | inr y ↦ elim y [ inl v ↦ absurd (not_both text b a v r) | inr s ↦ same_resolved text a b r s ]
+    ]
+  ]
 ]

@@ -38,12 +38,7 @@ pub(crate) fn right_side(name_at: u32, right: &Option<Expr>) -> Result<&Expr, Re
 }
 
 /// The constant of a right side.
-fn constant(
-    text: &[u8],
-    names: &Names<'_>,
-    boolean: bool,
-    expr: &Expr,
-) -> Result<Declared, Refusal>
+fn constant(text: &[u8], names: &Names<'_>, boolean: bool, expr: &Expr) -> Result<Declared, Refusal>
     ensures { result ≡ constant text.now names.now boolean expr.now }
 {
     let wanted = Wanted {

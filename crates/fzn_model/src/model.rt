@@ -42,11 +42,7 @@ pub enum ModelError {
     /// The sum of the constraint named here is wider than 2^126.
     WideSum { at: u32 },
     /// With the item at this place there would be `count` of these, which is more than their greatest number.
-    Limit {
-        which: Which,
-        count: u128,
-        at: u32,
-    },
+    Limit { which: Which, count: u128, at: u32 },
     /// There is no solve item.
     NoSolve,
     /// Memory ran out.

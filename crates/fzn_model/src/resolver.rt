@@ -202,7 +202,14 @@ impl<'t> Resolver<'t> {
         within(Which::Elements, terms.len(), name_at)?;
         let boolean = is_boolean(base);
         add_members(alloc, &mut self.builder, name_at, base, terms.items())?;
-        add_array_output(alloc, &mut self.builder, name, boolean, marked, terms.items())?;
+        add_array_output(
+            alloc,
+            &mut self.builder,
+            name,
+            boolean,
+            marked,
+            terms.items(),
+        )?;
         let value = Declared::Many {
             boolean,
             variable: true,

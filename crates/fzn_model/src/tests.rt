@@ -221,7 +221,10 @@ fn passed(which: Which, count: u128, at: u32) -> Option<ModelError> {
 
 #[test]
 fn counts_variables_and_their_values(rt: HostRuntime) {
-    for (count, error) in [(4_096, None), (4_097, passed(Which::Variables, 4_097, 68_535))] {
+    for (count, error) in [
+        (4_096, None),
+        (4_097, passed(Which::Variables, 4_097, 68_535)),
+    ] {
         let mut text = Vec::new(rt.alloc());
         push_numbered(&rt, &mut text, b"var 0..0: x", count, b";\n");
         push_repeated(&rt, &mut text, b"solve satisfy;\n", 1);
@@ -229,7 +232,10 @@ fn counts_variables_and_their_values(rt: HostRuntime) {
     }
     let end: [(&[u8], Option<ModelError>); 2] = [
         (b"", None),
-        (b"var 0..0: x17;\n", passed(Which::DomainValues, 1_048_577, 305)),
+        (
+            b"var 0..0: x17;\n",
+            passed(Which::DomainValues, 1_048_577, 305),
+        ),
     ];
     for (last, error) in end {
         let mut text = Vec::new(rt.alloc());
@@ -242,7 +248,10 @@ fn counts_variables_and_their_values(rt: HostRuntime) {
 
 #[test]
 fn counts_rules(rt: HostRuntime) {
-    for (count, error) in [(262_144, None), (262_145, passed(Which::Rules, 262_145, 6_291_467))] {
+    for (count, error) in [
+        (262_144, None),
+        (262_145, passed(Which::Rules, 262_145, 6_291_467)),
+    ] {
         let mut text = Vec::new(rt.alloc());
         push_repeated(&rt, &mut text, b"constraint int_le(0,0);\n", count);
         push_repeated(&rt, &mut text, b"solve satisfy;\n", 1);
@@ -254,7 +263,11 @@ fn counts_rules(rt: HostRuntime) {
 fn counts_elements_and_terms(rt: HostRuntime) {
     let last: [(u32, &[u8], Option<ModelError>); 3] = [
         (65_536, b"", None),
-        (65_536, b"constraint int_le(0,0);\n", passed(Which::Terms, 1_048_578, 131_707)),
+        (
+            65_536,
+            b"constraint int_le(0,0);\n",
+            passed(Which::Terms, 1_048_578, 131_707),
+        ),
         (65_537, b"", passed(Which::Elements, 65_537, 25)),
     ];
     for (count, last, error) in last {
@@ -265,7 +278,12 @@ fn counts_elements_and_terms(rt: HostRuntime) {
         push_repeated(&rt, &mut text, b"] of int: a = [0", 1);
         push_repeated(&rt, &mut text, b",0", count - 1);
         push_repeated(&rt, &mut text, b"];\n", 1);
-        push_repeated(&rt, &mut text, b"constraint fzn_all_different_int(a);\n", 16);
+        push_repeated(
+            &rt,
+            &mut text,
+            b"constraint fzn_all_different_int(a);\n",
+            16,
+        );
         push_repeated(&rt, &mut text, last, 1);
         push_repeated(&rt, &mut text, b"solve satisfy;\n", 1);
         assert_eq!(rt; refusal(&rt, rt.alloc(), &text), error);
@@ -290,7 +308,10 @@ fn keeps_the_order_of_rules(rt: HostRuntime) {
     let Ok(problem) = problem_of(rt.alloc(), PARAMETERS) else {
         panic!(rt; "no problem");
     };
-    assert_eq!(rt; (problem.vars(), problem.rules(), problem.outputs()), (2, 4, 2));
+    assert_eq!(rt;
+        (problem.vars(), problem.rules(), problem.outputs()),
+        (2, 4, 2)
+    );
     assert_eq!(rt; problem.domain(0).len(), 3);
     let Rule::Plain { kind, scalars, .. } = problem.rule(0) else {
         panic!(rt; "a sum");
@@ -301,7 +322,14 @@ fn keeps_the_order_of_rules(rt: HostRuntime) {
         panic!(rt; "a sum");
     };
     assert_eq!(rt; *kind, Kind::SetIn);
-    let Rule::Sum { rel, coefs, terms, total, truth } = problem.rule(2) else {
+    let Rule::Sum {
+        rel,
+        coefs,
+        terms,
+        total,
+        truth,
+    } = problem.rule(2)
+    else {
         panic!(rt; "no sum");
     };
     assert_eq!(rt; (*rel, *total, *truth), (Rel::Equal, Term::Const(-1), None));

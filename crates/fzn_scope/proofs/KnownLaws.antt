@@ -1,6 +1,6 @@
 -- Names that stand for terms over so many variables give such terms at each place.
-use Rattle.std.proofs.Common.{◌≡◌, ℕ, zero, suc, ◌<◌, ◌≤◌, ℤ, pos, Bool, true, false, not, ◌&&◌, ◌||◌, List, [], ◌∷◌, ◌++◌, Option, Some, None, Result, Ok, Err, IfSome, IfOk, refl, arith}
-use Rattle.std.specs.Prelude.{All, slice_index_or, length, ◌==◌, if◌then◌else◌}
+use Rattle.std.proofs.Common.{ℕ, zero, suc, ◌<◌, ◌≤◌, pos, Bool, true, false, not, ◌&&◌, ◌||◌, List, [], ◌∷◌, ◌++◌, Option, Some, None, Ok, IfSome, IfOk, arith}
+use Rattle.std.specs.Prelude.{All, slice_index_or, length, ◌==◌}
 use Rattle.std.specs.Str.{bytes_eq}
 use Rattle.std.specs.Option.{option_to_list}
 use Rattle.std.proofs.lemmas.List.Elements.{All-nil, All-cons, All-head, All-tail, All-append, All-push, All-weaker}
@@ -20,14 +20,12 @@ use Rattle.fzn_scope.specs.declared.form.Place.TheVariants.{Scalar, First, Secon
 use Rattle.fzn_scope.specs.declared.form.Form.{Form}
 use Rattle.fzn_scope.specs.declared.form.Form.TheVariants.{Plain, Sum}
 use Rattle.fzn_scope.specs.declared.arguments.Arguments.{Arguments}
-use Rattle.fzn_scope.specs.declared.refusal.Refusal.{Refusal}
 use Rattle.fzn_scope.specs.declared.refusal.Refusal.TheVariants as refusal
-use Rattle.fzn_scope.specs.Checks.{◌>>=◌, refused_if}
 use Rattle.fzn_scope.specs.Names.{Scope, declared_as, bytes_at}
 use Rattle.fzn_scope.specs.Places.{is_constant, same, truth_term, wanted_term, term_named, term_of, one_of, terms_after, terms_named, list_of, set_of}
 use Rattle.fzn_scope.specs.Forms.{places_of}
 use Rattle.fzn_scope.specs.Known.{IsKnown, AreKnown}
-use Rattle.fzn_scope.specs.Rules.{no_arguments, with_argument, arguments_after, constant_of, scalar_at, truth_of, rule_of, lengths_agree, form_at, constraint_rule}
+use Rattle.fzn_scope.specs.Rules.{no_arguments, with_argument, arguments_after, scalar_at, truth_of, rule_of, lengths_agree, form_at, constraint_rule}
 use Rattle.fzn_scope.proofs.Steps.{ok_then, ok_each, ok_unless, ok_if, some_if}
 
 -- with more variables a term is still one

@@ -1,5 +1,5 @@
 -- The rule of a constraint takes as many arguments as its kind asks for.
-use Rattle.std.proofs.Common.{◌≡◌, ℕ, ◌+◌, Bool, true, false, not, ◌||◌, List, [], ◌∷◌, ◌++◌, map, Result, Ok, Err, IfOk, refl, sym, ap, ◌∙◌, zero-add, add-zero, length-append, arith}
+use Rattle.std.proofs.Common.{◌≡◌, ℕ, ◌+◌, Bool, true, false, not, ◌||◌, List, [], ◌∷◌, ◌++◌, Ok, IfOk, refl, sym, ap, ◌∙◌, zero-add, add-zero, length-append, arith}
 use Rattle.std.specs.Prelude.{IsTrue, length, ◌==◌, if◌then◌else◌}
 use Rattle.std.proofs.lemmas.Bool.{eqb-true, not-false}
 use Rattle.std.proofs.lemmas.List.{length-map}
@@ -11,18 +11,15 @@ use Rattle.dcsp_meaning.specs.Table.{is_shape}
 use Rattle.dcsp_problem.specs.declared.rule.Term.{Term}
 use Rattle.dcsp_problem.specs.declared.rule.Rule.{Rule}
 use Rattle.dcsp_problem.specs.Rules.{has_shape}
-use Rattle.fzn_scope.specs.declared.place.Wanted.{Wanted}
 use Rattle.fzn_scope.specs.declared.form.Place.{Place}
 use Rattle.fzn_scope.specs.declared.form.Place.TheVariants.{Scalar, First, Second, Set}
 use Rattle.fzn_scope.specs.declared.form.Form.{Form}
 use Rattle.fzn_scope.specs.declared.form.Form.TheVariants.{Plain, Sum}
 use Rattle.fzn_scope.specs.declared.arguments.Arguments.{Arguments}
-use Rattle.fzn_scope.specs.declared.refusal.Refusal.{Refusal}
 use Rattle.fzn_scope.specs.declared.refusal.Refusal.TheVariants as refusal
-use Rattle.fzn_scope.specs.Checks.{◌>>=◌, refused_if}
 use Rattle.fzn_scope.specs.Names.{Scope}
 use Rattle.fzn_scope.specs.Places.{one_of, list_of, set_of}
-use Rattle.fzn_scope.specs.Forms.{whole, truth, plain_places, reified_places, places_of}
+use Rattle.fzn_scope.specs.Forms.{truth, places_of}
 use Rattle.fzn_scope.specs.Rules.{no_arguments, with_argument, arguments_after, constant_of, rule_of, lengths_agree, form_at, constraint_rule}
 use Rattle.fzn_scope.proofs.Steps.{ok_then, ok_each, ok_unless, both_keep}
 

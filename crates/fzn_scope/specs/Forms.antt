@@ -6,7 +6,6 @@ use Rattle.dcsp_meaning.specs.declared.kinds.Kind.TheVariants as kind
 use Rattle.dcsp_linear.specs.declared.Rel.TheVariants.{Equal, AtMost, Differ}
 use Rattle.dcsp_meaning.specs.Table.{is_reified, plain_of}
 use Rattle.dcsp_meaning.specs.Names.{kind_named}
-use Rattle.fzn_scope.specs.declared.place.Wanted.{Wanted}
 use Rattle.fzn_scope.specs.declared.form.Place.{Place}
 use Rattle.fzn_scope.specs.declared.form.Place.TheVariants.{Scalar, First, Second, Set}
 use Rattle.fzn_scope.specs.declared.form.Form.{Form}

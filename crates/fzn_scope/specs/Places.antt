@@ -1,5 +1,5 @@
 -- What expressions mean at the places that ask for them. A truth is a number: true is 1, and false is 0.
-use Rattle.std.specs.Prelude.{ℕ, ℤ, pos, Bool, true, false, not, ◌&&◌, ◌||◌, List, [], ◌∷◌, ◌++◌, length, Option, Some, None, Result, Ok, Err, if◌then◌else◌}
+use Rattle.std.specs.Prelude.{ℕ, pos, Bool, true, false, not, ◌&&◌, ◌||◌, List, [], ◌∷◌, ◌++◌, length, Option, Some, None, Result, Ok, Err, if◌then◌else◌}
 use Rattle.fzn_item.specs.declared.item.Atom.{Atom}
 use Rattle.fzn_item.specs.declared.item.Atom.TheVariants as atom
 use Rattle.fzn_item.specs.declared.item.Expr.{Expr}

@@ -188,7 +188,8 @@ pub fn constraint_rule(
 ) -> Result<Rule, Stop>
     ensures gives { Gives result (constraint_rule text.now names.now at name.now exprs.now) }
     ensures shape { IfOk result (λ rule. IsTrue (has_shape rule)) }
-    ensures known { IfOk result (λ rule. (variables : ℕ) → AreKnown variables names.now → All (IsTermOf variables) (terms_of rule)) }
+    ensures known { IfOk result (λ rule. (variables : ℕ) → AreKnown variables names.now →
+        All (IsTermOf variables) (terms_of rule)) }
 {
     checked_rule(alloc, text, names, at, name, exprs)
 }

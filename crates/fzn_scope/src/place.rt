@@ -81,10 +81,12 @@ pub fn term_of(text: &[u8], names: &Names<'_>, wanted: Wanted, atom: &Atom) -> R
     }
 }
 
-/// The term of an expression at a place that asks for one. A list is `IllTyped` at its bracket.
+/// The term of an expression at a place that asks for one. It is refused as its atom is, and a list is
+/// `IllTyped` at its bracket.
 pub fn one_of(text: &[u8], names: &Names<'_>, wanted: Wanted, expr: &Expr) -> Result<Term, Refusal>
     ensures is { result ≡ one_of text.now names.now wanted expr.now }
-    ensures known { IfOk result (λ term. (variables : ℕ) → AreKnown variables names.now → IsTermOf variables term) }
+    ensures known { IfOk result (λ term. (variables : ℕ) → AreKnown variables names.now →
+        IsTermOf variables term) }
 {
     match expr {
         Expr::One(atom) => term_of(text, names, wanted, atom),
@@ -151,6 +153,9 @@ fn terms_named(
 }
 
 /// The terms of an expression at a place that asks for a list: a list of atoms, or the name of an array.
+///
+/// A list is refused as the first of its atoms that is, from left to right. `Undeclared` comes for a name that
+/// was not declared, and `IllTyped` for any other atom and for an array that is not wanted, at the atom's first byte.
 pub fn list_of(
     alloc: Global,
     text: &[u8],
@@ -159,7 +164,8 @@ pub fn list_of(
     expr: &Expr,
 ) -> Result<TermList, Stop>
     ensures gives { Gives result (list_of text.now names.now wanted expr.now) }
-    ensures known { IfOk result (λ terms. (variables : ℕ) → AreKnown variables names.now → All (IsTermOf variables) terms) }
+    ensures known { IfOk result (λ terms. (variables : ℕ) → AreKnown variables names.now →
+        All (IsTermOf variables) terms) }
 {
     let atom = match expr {
         Expr::List { atoms, .. } => return terms_of(alloc, text, names, wanted, atoms.items()),
@@ -189,6 +195,9 @@ fn count_named(at: u32, declared: Option<&Declared>) -> Result<usize, Refusal>
 }
 
 /// How many elements the right side of an array has, which is a list or the name of an array.
+///
+/// `Undeclared` comes for a name that was not declared, and `IllTyped` for any other atom and for a name of no
+/// array, at the atom's first byte. The elements are not looked at.
 pub fn count_of(text: &[u8], names: &Names<'_>, expr: &Expr) -> Result<usize, Refusal>
     ensures { result ≡ count_of text.now names.now expr.now }
 {
@@ -235,7 +244,9 @@ fn set_named(alloc: Global, at: u32, declared: Option<&Declared>) -> Result<Memb
     }
 }
 
-/// The set of an expression at a place that asks for one: a range, a listed set, or a set's name.
+/// The set of an expression at a place that asks for one: a range, a listed set as it is written, or a set's name.
+///
+/// `Undeclared` comes for a name that was not declared, and `IllTyped` for anything else, at the first byte.
 pub fn set_of(alloc: Global, text: &[u8], names: &Names<'_>, expr: &Expr) -> Result<Members, Stop>
     ensures { Gives result (set_of text.now names.now expr.now) }
 {

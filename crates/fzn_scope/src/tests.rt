@@ -1,6 +1,6 @@
 use super::*;
 use dcsp_list::Memory;
-use dcsp_problem::{IntList, Members, Rel, Rule, Term, TermList};
+use dcsp_problem::{Members, Rel, Rule, Term, TermList};
 use fzn_item::{Item, ItemError, ItemList, items};
 use fzn_token::tokens;
 use std::alloc::{AllocFailed, Global};
@@ -103,7 +103,7 @@ fn constraints_with_a_rule(rt: HostRuntime) {
 }
 
 #[test]
-fn constraints_and_their_refusals(rt: HostRuntime) {
+fn scalars_and_their_refusals(rt: HostRuntime) {
     for (text, refusal) in [
         (
             b"constraint int_nq(q);".as_slice(),
@@ -119,39 +119,35 @@ fn constraints_and_their_refusals(rt: HostRuntime) {
         (b"constraint int_ne(s,1);", Refusal::IllTyped { at: 18 }),
         (b"constraint bool_eq(b,1);", Refusal::IllTyped { at: 21 }),
         (b"constraint bool_xor(b);", Refusal::IllTyped { at: 11 }),
-        (b"constraint set_in(x,n);", Refusal::IllTyped { at: 20 }),
-        (b"constraint set_in(x,[1]);", Refusal::IllTyped { at: 20 }),
-        (
-            b"constraint fzn_all_different_int([x,q,b]);",
-            Refusal::Undeclared { at: 36 },
-        ),
-        (
-            b"constraint fzn_all_different_int(x);",
-            Refusal::IllTyped { at: 33 },
-        ),
-        (
-            b"constraint int_lin_eq(xs,xs,3);",
-            Refusal::IllTyped { at: 22 },
-        ),
-        (
-            b"constraint int_lin_eq(vs,[x],3);",
-            Refusal::IllTyped { at: 22 },
-        ),
-        (
-            b"constraint int_lin_eq([1,x],[q],3);",
-            Refusal::IllTyped { at: 25 },
-        ),
-        (
-            b"constraint int_lin_eq(cs,[x],3);",
-            Refusal::IllTyped { at: 11 },
-        ),
-        (
-            b"constraint int_lin_eq(cs,[x],q);",
-            Refusal::Undeclared { at: 29 },
-        ),
     ] {
         let refused = rule_of(&rt, rt.alloc(), text).err();
         assert_eq!(rt; refused, Some(Stop::Refused(refusal)));
+    }
+}
+
+#[test]
+fn lists_and_sets_and_their_refusals(rt: HostRuntime) {
+    for (text, refused, at) in [
+        (b"constraint set_in(x,n);".as_slice(), "ill-typed", 20),
+        (b"constraint set_in(x,[1]);", "ill-typed", 20),
+        (
+            b"constraint fzn_all_different_int([x,q,b]);",
+            "undeclared",
+            36,
+        ),
+        (b"constraint fzn_all_different_int(x);", "ill-typed", 33),
+        (b"constraint int_lin_eq(xs,xs,3);", "ill-typed", 22),
+        (b"constraint int_lin_eq(vs,[x],3);", "ill-typed", 22),
+        (b"constraint int_lin_eq([1,x],[q],3);", "ill-typed", 25),
+        (b"constraint int_lin_eq(cs,[x],3);", "ill-typed", 11),
+        (b"constraint int_lin_eq(cs,[x],q);", "undeclared", 29),
+    ] {
+        let refusal = match refused {
+            "undeclared" => Refusal::Undeclared { at },
+            _ => Refusal::IllTyped { at },
+        };
+        let answer = rule_of(&rt, rt.alloc(), text).err();
+        assert_eq!(rt; answer, Some(Stop::Refused(refusal)));
     }
 }
 

@@ -1,7 +1,7 @@
-use Rattle.std.proofs.Common.{All, [], option_copied, IfSome, subst, sym}
+use Rattle.std.proofs.Common.{All, [], option_copied}
 use Rattle.std.proofs.lemmas.List.Elements.{All-nil}
 use Rattle.dcsp_problem.specs.Rules.{IsTermOf}
-use Rattle.fzn_scope.specs.Known.{IsKnown, AreKnown}
+use Rattle.fzn_scope.specs.Known.{AreKnown}
 use Rattle.fzn_scope.specs.Places.{terms_after, terms_named}
 use Rattle.fzn_scope.proofs.Steps.{if_given_each}
 use Rattle.fzn_scope.proofs.KnownLaws.{name_known, terms_known, many_known}

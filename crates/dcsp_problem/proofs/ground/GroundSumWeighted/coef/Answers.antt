@@ -1,6 +1,5 @@
-use Rattle.std.proofs.Common.{◌≡◌, ◌<◌, pos, map, length, get_or, arith, rules, SFits, w64, ap, ◌∙◌, sym}
+use Rattle.std.proofs.Common.{◌<◌, pos, map, length, get_or, arith, rules, SFits, w64, ap, ◌∙◌, sym}
 use Rattle.std.proofs.lemmas.Int.{to_z-of_z}
-use Rattle.std.proofs.lemmas.List.{length-map}
 use Rattle.std.proofs.lemmas.Slice.Zip.{length-zip, get_or-zip}
 use Rattle.dcsp_defs.specs.Csp.{filled}
 use Rattle.dcsp_problem.specs.Rules.{value_under}

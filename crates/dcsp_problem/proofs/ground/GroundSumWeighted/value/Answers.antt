@@ -1,4 +1,4 @@
-use Rattle.std.proofs.Common.{◌≡◌, ◌<◌, pos, map, length, get_or, arith, rules, SFits, w64, ap, ◌∙◌, sym}
+use Rattle.std.proofs.Common.{◌<◌, pos, map, length, arith, rules, SFits, w64, ap, ◌∙◌, sym}
 use Rattle.std.proofs.lemmas.Int.{to_z-of_z}
 use Rattle.std.proofs.lemmas.List.{length-map, get_or-map}
 use Rattle.std.proofs.lemmas.Slice.Zip.{length-zip, get_or-zip}
