@@ -1,6 +1,6 @@
 #!/bin/sh
-# Makes a FlatZinc file of 16 MiB as MiniZinc writes them and one of one-byte tokens, and times the parts
-# of the program over them. It wants python3 and GNU time.
+# Makes FlatZinc files as MiniZinc writes them, at the limits of the program, and times the program and its
+# parts over them. It wants python3 and GNU time.
 set -e
 top=$(cd "$(dirname "$0")/.." && pwd)
 folder=$(mktemp -d)
@@ -11,28 +11,68 @@ folder = sys.argv[1]
 size = 16 * 1024 * 1024
 end = b'solve :: int_search([X_INTRODUCED_0_,X_INTRODUCED_1_],first_fail,indomain_min) satisfy;\n'
 name = lambda i: b'X_INTRODUCED_%d_' % (i % 2000)
-lines = [b'var 1..100: %s:: output_var;\n' % name(i) for i in range(2000)]
+truth = lambda i: b'X_INTRODUCED_%d_' % (3000 + i % 100)
+
+
+def write(file, lines):
+    with open(folder + '/' + file, 'wb') as out:
+        out.write(b''.join(lines))
+
+
+def declared():
+    lines = [b'array [1..2] of int: X_INTRODUCED_4000_ = [1,-1];\n']
+    lines += [b'var 1..100: %s:: output_var;\n' % name(i) for i in range(2000)]
+    return lines + [b'var bool: %s ::var_is_introduced :: is_defined_var;\n' % truth(i) for i in range(100)]
+
+
+def constraint(i):
+    pair = name(i), name(i * 7 + 1)
+    if i % 3 == 0:
+        return b'constraint int_lt_reif(%s,%s,%s):: defines_var(%s);\n' % (pair + (truth(i), truth(i)))
+    return b'constraint int_lin_ne(X_INTRODUCED_4000_,[%s,%s],%d);\n' % (pair + (i % 100,))
+
+
+# 16 MiB of constraints between 2,100 variables
+lines = declared()
 left = size - len(end) - sum(map(len, lines))
 i = 0
-while True:
-    pair = name(i), name(i * 7 + 1)
-    line = b'constraint int_lin_ne(X_INTRODUCED_4_,[%s,%s],%d);\n' % (pair + (i % 100,))
-    if i % 3 == 0:
-        line = b'constraint int_lt_reif(%s,%s,%s):: defines_var(%s);\n' % (pair + (name(i + 5), name(i + 5)))
-    if left < len(line):
-        break
-    lines.append(line)
-    left -= len(line)
+while left >= len(constraint(i)):
+    lines.append(constraint(i))
+    left -= len(lines[-1])
     i += 1
-open(folder + '/large.fzn', 'wb').write(b''.join(lines) + end)
-open(folder + '/short.fzn', 'wb').write(b';' * size)
+write('large.fzn', lines + [end])
+# half of it, for how the cost grows
+half = declared()
+left = size // 2 - len(end) - sum(map(len, half))
+i = 0
+while left >= len(constraint(i)):
+    half.append(constraint(i))
+    left -= len(half[-1])
+    i += 1
+write('half.fzn', half + [end])
+# as many variables and rules as there may be
+variables = [b'var 1..100: x%d;\n' % i for i in range(4096)]
+rules = [b'constraint int_ne(x%d,x%d);\n' % (i % 4096, (i * 7 + 1) % 4096) for i in range(262144)]
+write('rules.fzn', variables + rules + [b'solve satisfy;\n'])
+# as many listed values as there may be
+sets = [b'constraint set_in(x,{%s});\n' % b','.join(b'%d' % (k * 131 + v) for v in range(65535)) for k in range(16)]
+write('listed.fzn', [b'var 1..100: x;\n'] + sets + [b'solve satisfy;\n'])
+write('short.fzn', [b';' * size])
+write('none.ngd', [b'ngd 1\nend\n'])
 PYTHON
-program=${1:-$top/crates/bench_parts/out/bench_parts}
-if [ ! -x "$program" ]; then
-    (cd "$top/crates/bench_parts" && rt run -- items data/small.fzn)
+figures='%e s, of them %U s of processor and %S s in the system; %M KiB at most'
+parts=$top/crates/bench_parts/out/bench_parts
+if [ ! -x "$parts" ]; then
+    (cd "$top/crates/bench_parts" && rt run -- items data/small.fzn) >/dev/null
 fi
+"$top/abt" check "$top/examples/m1.fzn" "$top/examples/m1.ngd" >/dev/null
 cd "$folder"
 for part in 'tokens large.fzn' 'items large.fzn' 'tokens short.fzn'; do
     echo "$part: $(wc -c <"${part#* }") bytes"
-    /usr/bin/time -f '%e s, of them %U s of processor and %S s in the system; %M KiB at most' "$program" $part
+    /usr/bin/time -f "$figures" "$parts" $part
+done
+for model in large.fzn half.fzn rules.fzn listed.fzn; do
+    echo "check $model: $(wc -c <$model) bytes"
+    # the log refutes nothing, so the status is 1
+    /usr/bin/time -f "$figures" "$top/crates/abt_main/out/abt_main" check $model none.ngd || true
 done

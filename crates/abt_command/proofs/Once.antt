@@ -1,5 +1,5 @@
 -- A model and a log have one outcome, faults and want of memory aside.
-use Rattle.std.proofs.Common.{◌≡◌, ℕ, List, Option, Some, None, Result, Ok, Err, refl, sym, subst, ap, ◌∙◌, inl, inr, ◌⊎◌, arith}
+use Rattle.std.proofs.Common.{◌≡◌, ℕ, List, Option, Some, None, Result, Ok, Err, refl, subst, ap, ◌∙◌, inl, inr, ◌⊎◌, arith}
 use Rattle.dcsp_defs.specs.declared.Step.{Step}
 use Rattle.dcsp_defs.specs.Csp.{HasNoSolution}
 use Rattle.dcsp_problem.specs.Problems.{Contents, csp_of}
@@ -12,8 +12,8 @@ use Rattle.ngd_check.proofs.Once.{one_finding}
 use Rattle.abt_command.specs.declared.refusal.Refusal.{Refusal}
 use Rattle.abt_command.specs.declared.refusal.Refusal.TheVariants.{ModelLong, ModelRefused, LogLong, LogLine, Fault, Memory}
 use Rattle.abt_command.specs.declared.status.Status.{Status}
-use Rattle.abt_command.specs.Outcomes.{IsModelOf, IsTextOf, IsFound, IsOutcome, finding_status}
-use Rattle.abt_command.specs.Answers.{IsHeld, IsRefuted, IsComplete, ChecksLog, Stream, outcome_status}
+use Rattle.abt_command.specs.Outcomes.{IsModelOf, IsTextOf, IsFound, IsOutcome}
+use Rattle.abt_command.specs.Answers.{IsHeld, IsRefuted, IsComplete, outcome_status}
 
 -- a model has one problem
 one_problem : (model : List ℕ) (p q : Contents) → IsModelOf model p → IsModelOf model q → p ≡ q

@@ -1,13 +1,13 @@
 -- Telling what was found.
-use Rattle.std.proofs.Common.{◌≡◌, ℕ, ◌++◌, List, Option, Some, None, Result, Ok, Err, refl, sym, subst, inl, inr}
+use Rattle.std.proofs.Common.{◌≡◌, ℕ, List, Option, Result, Ok, Err, refl, inl, inr}
 use Rattle.std.specs.Prelude.{IsErr, IsErrAnd}
-use Rattle.dcsp_outside.specs.Outside.{Told, AddsPartOf}
+use Rattle.dcsp_outside.specs.Outside.{AddsPartOf}
 use Rattle.dcsp_outside.proofs.Changes.{Told-same, Told-weaker}
 use Rattle.ngd_check.specs.declared.Finding.{Finding}
 use Rattle.abt_command.specs.declared.refusal.Refusal.{Refusal}
 use Rattle.abt_command.specs.declared.refusal.Refusal.TheVariants.{ModelLong, ModelRefused, LogLong, LogLine, Fault, Memory}
-use Rattle.abt_command.specs.Outcomes.{IsOutcome, IsFound, finding_text}
-use Rattle.abt_command.specs.Answers.{IsHeld, IsAnswered, IsAnsweredIn}
+use Rattle.abt_command.specs.Outcomes.{finding_text}
+use Rattle.abt_command.specs.Answers.{IsAnswered, IsAnsweredIn}
 use Rattle.abt_command.specs.Files.{IsFoundIn}
 use Rattle.abt_command.specs.Told.{IsTold}
 

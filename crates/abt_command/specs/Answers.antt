@@ -5,7 +5,7 @@ use Rattle.dcsp_defs.specs.Csp.{HasNoSolution}
 use Rattle.dcsp_problem.specs.Problems.{Contents, csp_of}
 use Rattle.ngd_check.specs.declared.Finding.{Finding}
 use Rattle.abt_command.specs.declared.refusal.Refusal.{Refusal}
-use Rattle.abt_command.specs.declared.refusal.Refusal.TheVariants.{ModelLong, ModelRefused, LogLong, LogLine, Fault as Failed, Memory as OutOfMemory}
+use Rattle.abt_command.specs.declared.refusal.Refusal.TheVariants.{Fault as Failed}
 use Rattle.abt_command.specs.declared.status.Status.{Status}
 use Rattle.abt_command.specs.declared.status.Status.TheVariants.{Good, No, Words, Model, Text, Unfinished, Fault, Memory}
 use Rattle.abt_command.specs.Outcomes.{IsModelOf, IsFound, IsOutcome, finding_status, refusal_status, finding_text, refusal_text}

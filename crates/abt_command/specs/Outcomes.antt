@@ -1,5 +1,5 @@
 -- What checking a log against a model comes to, and what is said of it.
-use Rattle.std.specs.Prelude.{◌≡◌, ℕ, ◌^◌, ◌<◌, ◌≤◌, List, [], ◌++◌, length, decimal, codes, Result, Ok, Err, ⊤}
+use Rattle.std.specs.Prelude.{ℕ, ◌^◌, ◌<◌, ◌≤◌, List, ◌++◌, length, decimal, codes, Result, Ok, Err, ⊤}
 use Rattle.dcsp_defs.specs.declared.Step.{Step}
 use Rattle.dcsp_problem.specs.Problems.{Contents, csp_of}
 use Rattle.ngd_log.specs.Logs.{IsLogOf, IsFirstBad}
@@ -15,7 +15,7 @@ use Rattle.abt_command.specs.ModelTexts.{error_text}
 use Rattle.abt_command.specs.declared.refusal.Refusal.{Refusal}
 use Rattle.abt_command.specs.declared.refusal.Refusal.TheVariants.{ModelLong, ModelRefused, LogLong, LogLine, Fault as Failed, Memory as OutOfMemory}
 use Rattle.abt_command.specs.declared.status.Status.{Status}
-use Rattle.abt_command.specs.declared.status.Status.TheVariants.{Good, No, Words, Model, Text, Unfinished, Fault, Memory}
+use Rattle.abt_command.specs.declared.status.Status.TheVariants.{Good, No, Model, Text, Fault, Memory}
 
 -- the most bytes of a model
 abbrev pub most_model : ℕ

@@ -1,8 +1,7 @@
 //! Rules under the values that a look-up gives.
 
-ghost use Rattle.std.specs.Prelude.{◌≡◌, ◌≤◌, ◌<◌, ℤ, List, map, slice_index_or, IsTrue, length};
+ghost use Rattle.std.specs.Prelude.{◌≡◌, ◌≤◌, map, IsTrue};
 ghost use Rattle.std.specs.Option.{option_map};
-ghost use Rattle.dcsp_linear.specs.Sums.{sizes_of, stands, sum_of};
 ghost use Rattle.dcsp_defs.specs.Csp.{filled};
 ghost use Rattle.dcsp_problem.specs.Rules.{value_under, rule_truth, has_shape, weighted, is_told};
 ghost use Rattle.dcsp_problem.specs.Widths.{rule_sizes};

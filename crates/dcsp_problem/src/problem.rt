@@ -1,6 +1,6 @@
 //! Problems as they stand once they are built.
 
-ghost use Rattle.std.specs.Prelude.{◌≡◌, ◌≤◌, ◌<◌, ◌^◌, ℕ, ℤ, pos, List, length, All, Some, is_some, true, slice_get, slice_index_or};
+ghost use Rattle.std.specs.Prelude.{◌≡◌, ◌≤◌, ◌<◌, ℕ, ℤ, pos, List, length, All, Some, is_some, true, slice_get, slice_index_or};
 ghost use Rattle.std.specs.List.{list_all};
 ghost use Rattle.dcsp_domain.specs.Sets.{has};
 ghost use Rattle.dcsp_defs.specs.Csp.{domain, owner, is_violated, IsConstraint, IsCsp};

@@ -1,6 +1,6 @@
 //! How wide a rule's sum may become.
 
-ghost use Rattle.std.specs.Prelude.{◌≡◌, ◌≤◌, ◌<◌, map, length, All, IsTrue, IfOk, MatchOption, nat_lt, Some, None, if◌then◌else◌};
+ghost use Rattle.std.specs.Prelude.{◌≡◌, map, length, All, IsTrue, IfOk, nat_lt, Some, None, if◌then◌else◌};
 ghost use Rattle.dcsp_problem.specs.Rules.{IsTermOf, terms_of, has_shape};
 ghost use Rattle.dcsp_problem.specs.Widths.{greatest_among, greatest_of, rule_width};
 ghost use Rattle.dcsp_problem.specs.Limits.{Refuses};

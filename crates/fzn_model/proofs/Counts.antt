@@ -1,10 +1,10 @@
 -- A text has no more items than bytes.
-use Rattle.std.proofs.Common.{◌≡◌, ℕ, ◌+◌, ◌<◌, ◌≤◌, inl, inr, List, [], ◌∷◌, length, Ok, refl, sym, arith}
+use Rattle.std.proofs.Common.{ℕ, ◌+◌, ◌<◌, ◌≤◌, inl, inr, List, [], ◌∷◌, length, arith}
 use Rattle.fzn_token.specs.declared.token.Token.{Token}
 use Rattle.fzn_token.specs.Tokens.{AreTokensTo, AreTokens}
 use Rattle.fzn_token.proofs.Extents.{extent}
 use Rattle.fzn_item.specs.declared.item.Item.{Item}
-use Rattle.fzn_item.specs.Items.{ToSemicolon, IsItem, AreItemsTo}
+use Rattle.fzn_item.specs.Items.{ToSemicolon, AreItemsTo}
 use Rattle.fzn_item.proofs.Endings.{items_end_law}
 
 -- fewer tokens stand behind a `;`

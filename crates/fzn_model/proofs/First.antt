@@ -1,12 +1,12 @@
 -- The first refusal, by the items in order.
-use Rattle.std.proofs.Common.{◌≡◌, ℕ, ◌⊎◌, inl, inr, Bool, true, false, cond, List, [], ◌∷◌, ◌++◌, Result, Ok, Err, refl, sym, ap, ◌∙◌}
+use Rattle.std.proofs.Common.{◌≡◌, ℕ, ◌⊎◌, inl, inr, Bool, true, false, List, [], ◌∷◌, ◌++◌, Result, Ok, Err, refl, ap}
 use Rattle.fzn_item.specs.declared.item.Item.{Item}
 use Rattle.fzn_scope.specs.declared.refusal.Refusal.{Refusal}
 use Rattle.fzn_scope.specs.declared.refusal.Refusal.TheVariants as refusal
 use Rattle.fzn_scope.specs.Checks.{◌>>=◌}
 use Rattle.fzn_model.specs.Declarations.{SoFar}
 use Rattle.fzn_model.specs.Items.{start, after, after_all, finished, resolved}
-use Rattle.fzn_model.specs.Laws.{IsFirstRefused, IsUnsolved, RefusesFirst}
+use Rattle.fzn_model.specs.Laws.{RefusesFirst}
 
 -- a check that failed, or the next that did
 bind_err : {A B : Type 0} (x : Result A Refusal) (f : A → Result B Refusal) (r : Refusal) → (x >>= f) ≡ Err r → (x ≡ Err r) ⊎ ((a : A) × (x ≡ Ok a) × (f a ≡ Err r))

@@ -1,5 +1,5 @@
 -- A text has one answer.
-use Rattle.std.proofs.Common.{◌≡◌, ℕ, List, ◌⊎◌, inl, inr, Result, Ok, Err, refl, sym, ap, ◌∙◌, subst}
+use Rattle.std.proofs.Common.{◌≡◌, ℕ, List, inl, inr, Result, Ok, Err, sym, ap, ◌∙◌, subst}
 use Rattle.fzn_token.specs.declared.token.Token.{Token}
 use Rattle.fzn_token.specs.declared.token.LexError.{LexError}
 use Rattle.fzn_token.specs.declared.token.LexError.TheVariants as lexical
@@ -14,7 +14,7 @@ use Rattle.dcsp_problem.specs.Problems.{Contents}
 use Rattle.fzn_model.specs.declared.model.ModelError.{ModelError}
 use Rattle.fzn_model.specs.declared.model.ModelError.TheVariants as errors
 use Rattle.fzn_model.specs.Items.{resolved}
-use Rattle.fzn_model.specs.Models.{IsLexical, IsUnread, IsResolved, Answers, HasOneAnswer, answer_of}
+use Rattle.fzn_model.specs.Models.{IsLexical, IsUnread, IsResolved, HasOneAnswer, answer_of}
 
 -- a text has one answer of its tokens
 same_lexed : (text : List ℕ) (a b : Result (List Token) LexError) → lexed.Answers text a → lexed.Answers text b → (a ≡ Err lexical.Memory → ⊥) → (b ≡ Err lexical.Memory → ⊥) → a ≡ b

@@ -1,5 +1,5 @@
 -- Parameters, variables and arrays: what each declaration adds, or its first refusal.
-use Rattle.std.specs.Prelude.{ℕ, ◌≤◌, ℤ, pos, ◌==◌, Bool, true, false, not, ◌&&◌, ◌||◌, nat_le, nat_lt, List, [], ◌∷◌, ◌++◌, length, Option, Some, None, is_some, Result, Ok, Err, if◌then◌else◌}
+use Rattle.std.specs.Prelude.{ℕ, ℤ, pos, ◌==◌, Bool, true, false, not, ◌&&◌, ◌||◌, nat_le, nat_lt, List, [], ◌∷◌, ◌++◌, length, Option, Some, None, is_some, Result, Ok, Err, if◌then◌else◌}
 use Rattle.std.specs.Ordering.{int_eq}
 use Rattle.dcsp_domain.specs.Ranges.{count_between, numbers_between}
 use Rattle.dcsp_domain.specs.Sets.{set_of as values_of}
@@ -14,7 +14,6 @@ use Rattle.dcsp_problem.specs.declared.rule.Term.{Term}
 use Rattle.dcsp_problem.specs.declared.rule.Term.TheVariants.{Var}
 use Rattle.dcsp_problem.specs.declared.rule.Members.{Members}
 use Rattle.dcsp_problem.specs.declared.rule.Members.TheVariants as members
-use Rattle.dcsp_problem.specs.declared.rule.Rule.{Rule}
 use Rattle.dcsp_problem.specs.declared.rule.Rule.TheVariants.{Plain}
 use Rattle.dcsp_problem.specs.declared.output.Output.{Output}
 use Rattle.dcsp_problem.specs.declared.output.Shape.TheVariants as shape

@@ -1,5 +1,5 @@
 -- The refusal of items is that of the first item that is refused, or there is no solve item.
-use Rattle.std.specs.Prelude.{◌≡◌, ℕ, ◌⊎◌, false, List, [], ◌∷◌, ◌++◌, Result, Ok, Err}
+use Rattle.std.specs.Prelude.{◌≡◌, ℕ, ◌⊎◌, false, List, ◌∷◌, ◌++◌, Ok, Err}
 use Rattle.fzn_item.specs.declared.item.Item.{Item}
 use Rattle.fzn_scope.specs.declared.refusal.Refusal.{Refusal}
 use Rattle.fzn_scope.specs.declared.refusal.Refusal.TheVariants as refusal

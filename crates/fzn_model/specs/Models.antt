@@ -1,7 +1,6 @@
 -- The answer for a text: its problem, or its first refusal.
-use Rattle.std.specs.Prelude.{◌≡◌, ℕ, ◌⊎◌, List, [], Result, Ok, Err}
+use Rattle.std.specs.Prelude.{◌≡◌, ℕ, ◌⊎◌, List, Result, Ok, Err}
 use Rattle.fzn_token.specs.declared.token.Token.{Token}
-use Rattle.fzn_token.specs.declared.token.LexError.{LexError}
 use Rattle.fzn_token.specs.declared.token.LexError.TheVariants as lexical
 use Rattle.fzn_token.specs.Reading as lexing
 use Rattle.fzn_item.specs.declared.item.Item.{Item}

@@ -1,5 +1,5 @@
 -- What the parts of the reader hold and answer.
-use Rattle.std.specs.Prelude.{◌≡◌, ◌⊎◌, ℕ, ◌^◌, nat_lt, List, [], ◌∷◌, length, Result, Ok, Err, if◌then◌else◌}
+use Rattle.std.specs.Prelude.{◌≡◌, ◌⊎◌, ℕ, ◌^◌, nat_lt, List, length, Result, Ok, Err, if◌then◌else◌}
 use Rattle.fzn_scope.specs.declared.refusal.Refusal.{Refusal}
 use Rattle.fzn_scope.specs.declared.refusal.Refusal.TheVariants as refusal
 use Rattle.fzn_scope.specs.declared.refusal.Stop.{Stop}
@@ -13,7 +13,6 @@ use Rattle.fzn_token.specs.declared.token.Token.{Token}
 use Rattle.fzn_token.specs.Reading as lexing
 use Rattle.fzn_item.specs.declared.item.Item.{Item}
 use Rattle.fzn_item.specs.Items as parsing
-use Rattle.dcsp_problem.specs.Problems.{Contents}
 use Rattle.fzn_model.specs.declared.model.ModelError.{ModelError}
 use Rattle.fzn_model.specs.declared.model.ModelError.TheVariants as refused
 use Rattle.fzn_model.specs.Declarations.{SoFar}

@@ -1,4 +1,4 @@
-use Rattle.std.proofs.Common.{Err, subst, sym, ◌∙◌}
+use Rattle.std.proofs.Common.{Err, subst, ◌∙◌}
 use Rattle.fzn_model.specs.Models.{AnswersOrLacks}
 use Rattle.abt_command.proofs.Models.{told_as}
 use Rattle.abt_command.proofs.find.read_model.Goals as goal

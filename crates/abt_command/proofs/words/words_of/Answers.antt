@@ -1,7 +1,5 @@
-use Rattle.std.proofs.Common.{◌≡◌, List, ℕ, [], ◌∷◌, map, sym, ◌∙◌, subst, codes, string_bytes}
-use Rattle.std.specs.Prelude.{IfSome}
+use Rattle.std.proofs.Common.{sym, ◌∙◌, codes, string_bytes}
 use Rattle.std.proofs.lemmas.Slice.Eq.{bytes_eq-Decides}
-use Rattle.abt_command.specs.CommandLines.{IsLine, line_of}
 use Rattle.abt_command.proofs.Threes.{three}
 use Rattle.abt_command.proofs.words.words_of.Goals as goal
 
