@@ -1,0 +1,57 @@
+use Rattle.std.proofs.Common.{◌≡◌, ◌<◌, ◌∙◌, ap, sym, subst, length, get_or, arith, rules, Some, None, Option, ℕ, List, refl}
+use Rattle.std.specs.Option.{option_map}
+use Rattle.std.proofs.lemmas.List.{get_or_default}
+use Rattle.dcsp_defs.specs.declared.Reason.TheVariants.{Rule, Earlier}
+use Rattle.abt_reason.specs.Firsts.{IsFirst}
+use Rattle.abt_reason.specs.Causes.{is_false, known_at, value_at, reason_for}
+use Rattle.abt_reason.specs.Cached.{Cached, StandsFor, IsCache, rules_of, size_of}
+use Rattle.abt_reason.proofs.CauseLaws.{reason_rule, reason_step}
+use Rattle.abt_reason.proofs.reasons.Reasons.first.Goals as goal
+
+-- what stands at the value's place
+stands_at : (places : List (Option ℕ)) (k count : ℕ) (o r : Option ℕ) → length places ≡ count → k < count → o ≡ get_or places k o → o ≡ r → get_or places k None ≡ r
+stands_at places k count o r size within is e = sym (get_or_default places k o None (omega arith)) ∙ sym is ∙ e
+
+within_values : (r : Cached) (shown : Cached) (k : ℕ) → r ≡ shown → k < size_of shown.problem shown.agent → k < size_of r.problem r.agent
+within_values r shown k e l = subst (λ (x : Cached). k < size_of x.problem x.agent) (sym e) l
+
+place_in_range : (r shown : Cached) (capacity k at : ℕ) (o : Option ℕ) → IsCache r capacity → r ≡ shown → k < size_of shown.problem shown.agent → o ≡ get_or r.places k o → o ≡ Some at → at < rules_of r.problem r.agent
+place_in_range r shown capacity k at o inv e l is some = inv.lists.in_range k at (stands_at r.places k (size_of r.problem r.agent) o (Some at) inv.lists.size (within_values r shown k e l) is some)
+
+pub bounds-owned-at : goal.bounds-owned-at
+bounds-owned-at c =
+    let inside = place_in_range _ c.args.self.now _ c.args.place c.in-Some.at c.index.result.now c.self.invariant c.self.view_is c.requires c.index.ensures c.in-Some.is in
+    omega (arith, inside, ap length c.owned.ensures.rules)
+
+pub offset_bounds-owned-at : goal.offset_bounds-owned-at
+offset_bounds-owned-at c =
+    let inside = place_in_range _ c.args.self.now _ c.args.place c.in-Some.at c.index.result.now c.self.invariant c.self.view_is c.requires c.index.ensures c.in-Some.is in
+    let below : c.in-Some.at < length c.owned.result.now = omega (arith, inside, ap length c.owned.ensures.rules) in
+    search rules
+
+pub returns-in-Some : goal.returns-in-Some
+returns-in-Some c = λ known items stands.
+    let p = c.self.inside.problem.now in
+    let agent = c.self.inside.agent in
+    let k = c.args.place in
+    let within = within_values _ c.args.self.now k c.self.view_is c.requires in
+    let stood = subst (λ (r : Cached). StandsFor r known items) (sym c.self.view_is) stands in
+    let at = stands_at c.self.inside.rules.places.items k (size_of p agent) c.index.result.now (Some c.in-Some.at) c.self.invariant.lists.size within c.index.ensures c.in-Some.is in
+    let first = subst (IsFirst (is_false p agent (known_at p agent known k)) (rules_of p agent)) at (stood.rules k within) in
+    ap (λ (rules : List ℕ). Some (Rule (get_or rules c.in-Some.at 0))) c.owned.ensures.rules
+    ∙ sym (reason_rule p agent known items (value_at p agent k) c.in-Some.at first)
+    ∙ ap (λ (r : Cached). reason_for r.problem r.agent known items (value_at r.problem r.agent k)) c.self.view_is
+
+pub returns-in-None : goal.returns-in-None
+returns-in-None c = λ known items stands.
+    let p = c.self.inside.problem.now in
+    let agent = c.self.inside.agent in
+    let k = c.args.place in
+    let within = within_values _ c.args.self.now k c.self.view_is c.requires in
+    let stood = subst (λ (r : Cached). StandsFor r known items) (sym c.self.view_is) stands in
+    let at = stands_at c.self.inside.rules.places.items k (size_of p agent) c.index.result.now None c.self.invariant.lists.size within c.index.ensures c.in-None.is in
+    let none = subst (IsFirst (is_false p agent (known_at p agent known k)) (rules_of p agent)) at (stood.rules k within) in
+    let step = stands_at c.self.inside.kept.steps.items k (size_of p agent) c.index-in-None.result.now c.index-in-None.result.now c.self.invariant.kept within c.index-in-None.ensures refl in
+    c.earlier.ensures ∙ ap (option_map Earlier) (sym step ∙ stood.kept.first k within)
+    ∙ sym (reason_step p agent known items (value_at p agent k) none)
+    ∙ ap (λ (r : Cached). reason_for r.problem r.agent known items (value_at r.problem r.agent k)) c.self.view_is

@@ -1,0 +1,98 @@
+//! The first reason for each value, kept while the view and the store change.
+
+ghost use Rattle.std.specs.Prelude.{◌≡◌, ◌<◌, ℕ, List, None, [], IfOk, length};
+ghost use Rattle.dcsp_defs.specs.Csp.{Known};
+ghost use Rattle.abt_defs.specs.Agents.{values_in};
+ghost use Rattle.dcsp_problem.specs.Problems.{csp_of, AreInDomains};
+ghost use Rattle.abt_store.specs.declared.Recorded.{Recorded as TheRecorded};
+ghost use Rattle.abt_view.specs.Views.{view_of};
+ghost use Rattle.abt_reason.specs.Causes.{reason_for, value_at};
+ghost use Rattle.abt_reason.specs.Cached.{size_of, StandsFor, StoodBefore, StoodWithoutLast};
+
+use crate::kept::KeptSteps;
+use crate::rules::FirstRules;
+use crate::search::earlier;
+use abt_store::Store;
+use abt_view::View;
+use dcsp_defs::Reason;
+use dcsp_list::Memory;
+use dcsp_problem::Problem;
+use std::alloc::Global;
+use std::marker::Model;
+
+/// For each value of one agent's domain the first violated item.
+#[derive(Drop)]
+pub struct Reasons<'p> {
+    problem: &'p Problem,
+    agent: u32,
+    rules: FirstRules,
+    kept: KeptSteps,
+}
+
+impl<'p> Model for Reasons<'p> {
+    ghost use Rattle.std.specs.Prelude.{vec_capacity};
+    ghost use Rattle.abt_reason.specs.Cached.{Cached, IsCache};
+
+    ghost Value = { Cached };
+
+    ghost view = { λ r. record { problem = r.problem.now; agent = r.agent; places = r.rules.places.items; steps = r.kept.steps.items; count = r.kept.count; own = r.kept.own } };
+
+    ghost invariant = { λ r. IsCache (record { problem = r.problem.now; agent = r.agent; places = r.rules.places.items; steps = r.kept.steps.items; count = r.kept.count; own = r.kept.own }) (vec_capacity r.rules.changed) };
+}
+
+impl<'p> Reasons<'p> {
+    /// For an agent that was told nothing and keeps no nogood.
+    pub fn new(alloc: Global, problem: &'p Problem, agent: u32) -> Result<Reasons<'p>, Memory>
+        requires { agent < length problem.now.domains }
+        ensures problem { IfOk result (λ reasons. reasons.problem ≡ problem.now) }
+        ensures agent { IfOk result (λ reasons. reasons.agent ≡ agent) }
+        ensures stands { IfOk result (λ reasons. StandsFor reasons (λ k. None) []) }
+    {
+        let values = problem.domain(agent).len();
+        let rules = FirstRules::new(alloc, problem, agent)?;
+        let kept = KeptSteps::new(alloc, values)?;
+        Ok(Reasons {
+            problem,
+            agent,
+            rules,
+            kept,
+        })
+    }
+
+    /// Takes in that the view has changed at one variable, and that the store has taken out the items
+    /// that disagree with it there. It takes no memory.
+    pub fn after_view(&mut self, var: u32, view: &View, store: &Store)
+        requires domains { AreInDomains (csp_of self.old.problem) (values_in (view_of view.now)) }
+        requires stood { StoodBefore self.old var (values_in (view_of view.now)) store.now }
+        ensures problem { self.new.problem ≡ self.old.problem }
+        ensures agent { self.new.agent ≡ self.old.agent }
+        ensures stands { StandsFor self.new (values_in (view_of view.now)) store.now }
+    {
+        let domain = self.problem.domain(self.agent);
+        self.rules.after_view(self.problem, self.agent, var, view);
+        self.kept.after_view(domain, self.agent, var, view, store);
+    }
+
+    /// Takes in that the store has a last item more. It takes no memory.
+    pub fn after_record(&mut self, view: &View, store: &Store)
+        requires { StoodWithoutLast self.old (values_in (view_of view.now)) store.now }
+        ensures problem { self.new.problem ≡ self.old.problem }
+        ensures agent { self.new.agent ≡ self.old.agent }
+        ensures stands { StandsFor self.new (values_in (view_of view.now)) store.now }
+    {
+        let domain = self.problem.domain(self.agent);
+        self.kept.after_record(domain, self.agent, view, store);
+    }
+
+    /// The reason for the value at a place of the agent's domain; `None` exactly if the value is not
+    /// ruled out.
+    pub fn first(&self, place: usize) -> Option<Reason>
+        requires { place < size_of self.now.problem self.now.agent }
+        ensures { (known : Known) (items : List TheRecorded) → StandsFor self.now known items → result ≡ reason_for self.now.problem self.now.agent known items (value_at self.now.problem self.now.agent place) }
+    {
+        match self.rules.places[place] {
+            Some(at) => Some(Reason::Rule(self.problem.owned(self.agent)[at])),
+            None => earlier(self.kept.steps[place]),
+        }
+    }
+}

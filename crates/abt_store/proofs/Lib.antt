@@ -1,0 +1,6 @@
+pub mod Counts
+pub mod Fitting
+pub mod IndexLaws
+pub mod NamingLaws
+pub mod PlaceLaws
+pub mod TakenLaws

@@ -1,0 +1,133 @@
+//! The nogoods that one agent keeps.
+
+ghost use Rattle.std.specs.Prelude.{◌≡◌, [], ◌∷◌, ◌++◌, false, filter, length, IfErr, OnErr, OnOk};
+ghost use Rattle.std.specs.List.{list_all};
+ghost use Rattle.std.specs.Option.{ForSome};
+ghost use Rattle.abt_defs.specs.Steps.{forget};
+ghost use Rattle.abt_store.specs.Stores.{fits, is_ruled_out, lowest_value, places_naming, records_of, IsOncePerValue};
+
+use crate::Recorded;
+use crate::naming::{make_room, name_all, name_item};
+use crate::place_list::PlaceList;
+use crate::taken::{is_fitting, release_values, take_value};
+use dcsp_list::Memory;
+use dcsp_nogood::{Nogood, Pair};
+use std::alloc::Global;
+use std::collections::HashSet;
+use std::marker::Model;
+
+/// The nogoods that one agent keeps, in order of arrival, at most one for each value of a lowest pair.
+#[derive(Debug, Drop)]
+pub struct Store {
+    alloc: Global,
+    items: Vec<Recorded>,
+    /// The values of the items' lowest pairs.
+    values: HashSet<i64>,
+    /// For each variable the places of the items that name it.
+    lists: Vec<PlaceList>,
+}
+
+impl Model for Store {
+    ghost use Rattle.std.specs.Prelude.{List};
+    ghost use Rattle.abt_store.specs.declared.Recorded.{Recorded};
+    ghost use Rattle.abt_store.specs.Index.{IsIndexed};
+
+    ghost Value = { List Recorded };
+
+    ghost view = { λ store. store.items.items };
+
+    ghost invariant = { λ store. IsIndexed store.items.items store.values.keys store.lists.items };
+}
+
+impl Store {
+    /// No nogood.
+    pub fn new(alloc: Global) -> Store
+        ensures { result ≡ [] }
+    {
+        Store {
+            alloc,
+            items: Vec::new(alloc),
+            values: HashSet::new(alloc),
+            lists: Vec::new(alloc),
+        }
+    }
+
+    /// Adds a nogood, derived by the step with this number, at the end. No nogood that is kept may
+    /// have its lowest pair's value. A refusal hands it back and changes nothing.
+    pub fn keep(&mut self, nogood: Nogood, step: u64) -> Result<(), (Nogood, Memory)>
+        requires { ForSome (lowest_value nogood) (λ value. is_ruled_out value self.old ≡ false) }
+        ensures ok { OnOk result (self.new ≡ self.old ++ record { nogood = nogood; step = step } ∷ []) }
+        ensures handed_back { IfErr result (λ refused. refused.0 ≡ nogood) }
+        ensures err { OnErr result (self.new ≡ self.old) }
+    {
+        let pairs = nogood.pairs();
+        if make_room(self.alloc, &mut self.lists, pairs).is_err()
+            || self.items.reserve(1).is_err()
+            || take_value(&mut self.values, &nogood).is_err()
+        {
+            return Err((nogood, Memory));
+        }
+        name_item(&mut self.lists, pairs, self.items.len() as u64);
+        self.items.push_reserved(Recorded { nogood, step });
+        Ok(())
+    }
+
+    /// Whether some item's lowest pair has this value.
+    pub fn rules_out(&self, value: i64) -> bool
+        ensures { result ≡ is_ruled_out value self.now }
+    {
+        self.values.contains(&value)
+    }
+
+    /// Takes out exactly the items that have a pair of the variable with another value. The others
+    /// stay in their order.
+    pub fn forget(&mut self, var: u32, value: i64)
+        ensures items { self.new ≡ filter (fits var value) self.old }
+        ensures records { records_of self.new ≡ forget var value (records_of self.old) }
+    {
+        let known = Pair { var, value };
+        if self.all_fit(known) {
+            return;
+        }
+        release_values(&mut self.values, &self.items, known);
+        self.items.retain(|item| is_fitting(&item.nogood, known));
+        name_all(&mut self.lists, &self.items);
+    }
+
+    /// Whether no item gives the pair's variable another value.
+    fn all_fit(&self, known: Pair) -> bool
+        ensures { result ≡ list_all (fits known.var known.value) self.now }
+    {
+        for place in self.naming(known.var) {
+            if !is_fitting(&self.items[*place as usize].nogood, known) {
+                return false;
+            }
+        }
+        true
+    }
+
+    /// The items in order of arrival.
+    pub fn items(&self) -> &[Recorded]
+        ensures items { result.now ≡ self.now }
+        ensures once { IsOncePerValue self.now }
+    {
+        &self.items
+    }
+
+    /// The number of items.
+    pub fn len(&self) -> usize
+        ensures { result ≡ length self.now }
+    {
+        self.items.len()
+    }
+
+    /// The places, counted from 0 and rising, of exactly the items whose nogood names the variable.
+    pub fn naming(&self, var: u32) -> &[u64]
+        ensures { result.now ≡ places_naming self.now var }
+    {
+        match self.lists.get(var as usize) {
+            None => &[],
+            Some(list) => list.places(),
+        }
+    }
+}

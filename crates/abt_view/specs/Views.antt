@@ -1,0 +1,26 @@
+-- What the slots of a view stand for.
+use Rattle.std.specs.Prelude.{ℕ, List, Option, Some, None, slice_index_or, replicate}
+use Rattle.abt_defs.specs.Agents.{Stamped, View}
+use Rattle.abt_view.specs.declared.Told.{Told}
+
+-- a value with its stamp, as the definitions have it
+abbrev pub stamped_of : Told → Stamped
+stamped_of told = record { value = told.value; stamp = told.stamp }
+
+-- the same, if there is one
+abbrev pub stamped_in : Option Told → Option Stamped
+stamped_in None = None
+stamped_in (Some told) = Some (stamped_of told)
+
+-- the view that has a slot for each higher agent; there is nothing past the last slot
+abbrev pub view_of : List (Option Told) → View
+view_of slots k = stamped_in (slice_index_or slots k None)
+
+-- so many slots in which there is nothing
+abbrev pub blank : ℕ → List (Option Told)
+blank agents = replicate agents None
+
+-- the stamp without its value
+abbrev pub stamp_in : Option Stamped → Option ℕ
+stamp_in None = None
+stamp_in (Some s) = Some s.stamp
