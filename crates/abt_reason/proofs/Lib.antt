@@ -5,4 +5,5 @@ pub mod Domains
 pub mod KeptLaws
 pub mod Loops
 pub mod RecheckLaws
+pub mod Standing
 pub mod Updates

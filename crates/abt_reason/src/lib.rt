@@ -15,3 +15,6 @@ pub use dcsp_defs::Reason;
 pub use dcsp_list::Memory;
 pub use reasons::Reasons;
 pub use search::first_violated;
+
+#[cfg(test)]
+mod tests;
