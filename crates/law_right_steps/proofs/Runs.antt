@@ -85,7 +85,7 @@ module _ (p : Csp) (ok : IsCsp p) (steps : List Step) (i : ℕ) (l : i < count p
   stays : (a : Agent) → Rooted steps a → Grown p steps (stay a)
   stays a r = record { agent = Rooted-more steps [] a r; sent = λ j m u. absurd u; right = tt }
 
-  settled : (a : Agent) → Sound p i a → Rooted steps a → Grown p steps (settle p i (length steps + 1) a)
+  pub settled : (a : Agent) → Sound p i a → Rooted steps a → Grown p steps (settle p i (length steps + 1) a)
   settled a h r =
       elim (not a.waits && is_free p i a a.value) as (λ b. Grown p steps (cond b (stay a) (take_or_refuse p i (length steps + 1) a (choice p i a)))) [
         | true ↦ stays a r
@@ -113,7 +113,7 @@ module _ (p : Csp) (ok : IsCsp p) (steps : List Step) (i : ℕ) (l : i < count p
         right = tt;
       }
 
-  received : (a : Agent) (k : ℕ) (m : Message) → (h : Sound p i a) → Rooted steps a → Fine p k i m → IsExpected p i a h l k m → IsRooted steps m → Grown p steps (receive p i (length steps + 1) a k m)
+  pub received : (a : Agent) (k : ℕ) (m : Message) → (h : Sound p i a) → Rooted steps a → Fine p k i m → IsExpected p i a h l k m → IsRooted steps m → Grown p steps (receive p i (length steps + 1) a k m)
   received a k (Announce s) h r f n g =
       elim (is_newer (a.view k) s.stamp) as (λ b. Grown p steps (cond b (settle p i (length steps + 1) (learn k s a)) (stay a))) [
         | true ↦ settled (learn k s a) (announced p i a h l k s n f).sound (λ x u. r x ((learns_one i k s a n).recorded x u))

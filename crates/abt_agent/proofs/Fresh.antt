@@ -1,0 +1,158 @@
+-- An agent before its start.
+use Rattle.std.proofs.Common.{◌≡◌, ◌≢◌, ℕ, zero, suc, ◌+◌, ◌<◌, ◌≤◌, Bool, true, false, cond, not, ◌&&◌, ◌||◌, List, [], ◌∷◌, map, filter, length, Option, Some, None, ◌==◌, refl, sym, ap, subst, ◌∙◌, arith, ℤ, inl, inr}
+use Rattle.std.specs.Prelude.{filter_map, slice_index_or}
+use Rattle.std.specs.List.{list_any, enumerate_from, cons_option}
+use Rattle.std.proofs.lemmas.Bool.{cases_lt}
+use Rattle.std.proofs.lemmas.Bool.Decides.{nat_tests}
+use Rattle.std.proofs.lemmas.List.{length_push, map-append, length-map, get_or_append_left, get_or_push, get_or_past}
+use Rattle.dcsp_defs.specs.Words.{In, below}
+use Rattle.dcsp_defs.specs.Csp.{Csp, IsCsp, Constraint, count, owns}
+use Rattle.dcsp_defs.proofs.Lists.{and_left, and_right, In-list_any}
+use Rattle.dcsp_defs.specs.declared.Step.{Step}
+use Rattle.abt_defs.specs.Agents.{Agent, plain, fresh, shares, is_among}
+use Rattle.abt_defs.specs.Reasons.{Item, blamed, causes, derived, step_of}
+use Rattle.abt_defs.specs.Steps as steps
+use Rattle.abt_defs.specs.Steps.{Outcome}
+use Rattle.law_invariants.proofs.Facts.{Sound}
+use Rattle.law_invariants.proofs.Owners.{owner_greatest, owner_in}
+use Rattle.law_invariants.proofs.Runs.{start_kept}
+use Rattle.dcsp_problem.specs.Problems.{Contents, csp_of, constraint_at}
+use Rattle.dcsp_problem.specs.Index.{owned_rules}
+use Rattle.abt_view.specs.Views.{view_of}
+use Rattle.abt_store.specs.Stores.{records_of}
+use Rattle.abt_agent.specs.declared.body.Body.{Body}
+use Rattle.abt_agent.specs.declared.Turn.{Turn}
+use Rattle.abt_agent.specs.declared.Turn.TheVariants.{Quiet, Announced, Derived, Empty}
+use Rattle.abt_agent.specs.Turns.{IsTurn, IsFirstTurn}
+use Rattle.abt_agent.specs.Bodies.{agent_of}
+use Rattle.abt_agent.specs.Owned.{names_any}
+use Rattle.abt_agent.proofs.Causes.{any-map, owned_are}
+
+-- ---- which agents share
+
+among : (f g : Constraint → Bool) (cs : List Constraint) (k : ℕ)
+    → list_any (λ (c : Constraint). f c && g c) cs ≡ list_any (λ (x : ℕ × Constraint). g x.1) (filter (λ (x : ℕ × Constraint). f x.1) (enumerate_from k cs))
+among f g [] k = refl
+among f g (c ∷ cs) k =
+    ap (λ z. (f c && g c) || z) (among f g cs (k + 1))
+    ∙ elim (f c) as (λ b. ((b && g c) || list_any (λ (x : ℕ × Constraint). g x.1) (filter (λ (x : ℕ × Constraint). f x.1) (enumerate_from (k + 1) cs))) ≡ list_any (λ (x : ℕ × Constraint). g x.1) (cond b ((k, c) ∷ filter (λ (x : ℕ × Constraint). f x.1) (enumerate_from (k + 1) cs)) (filter (λ (x : ℕ × Constraint). f x.1) (enumerate_from (k + 1) cs)))) [ true ↦ refl | false ↦ refl ]
+
+pub shares_is : (p : Contents) (i k : ℕ) → (not (k == i) && names_any p k (owned_rules p i)) ≡ shares (csp_of p) i k
+shares_is p i k =
+    ap (λ z. not (k == i) && z) (sym (
+    among (owns i) (λ (c : Constraint). is_among k c.scope) (csp_of p).constraints 0
+    ∙ ap (list_any (λ (x : ℕ × Constraint). is_among k x.1.scope)) (owned_are p i)
+    ∙ any-map (λ (x : ℕ × Constraint). is_among k x.1.scope) (λ (r : ℕ). (r, constraint_at p r)) (owned_rules p i)
+    ))
+
+-- ---- nobody shares beyond the tables
+
+sharing : (p : Csp) → IsCsp p → (i k : ℕ) → shares p i k ≡ true → (k < i) × (i < count p)
+sharing p ok i k e =
+    let some = In-list_any (λ (c : Constraint). owns i c && is_among k c.scope) p.constraints (and_right (not (k == i)) _ e) in
+    let own = and_left (owns i some.0) (is_among k some.0.scope) some.2 in
+    let named = In-list_any (λ x. k == x) some.0.scope (and_right (owns i some.0) (is_among k some.0.scope) some.2) in
+    let there : In k some.0.scope = subst (λ (n : ℕ). In n some.0.scope) (sym (is_same k named.0 named.2)) named.1 in
+    let below = owner_greatest p ok i k some.0 some.1 own there in
+    let apart = differs k i (and_left (not (k == i)) _ e) in
+    (omega arith, (ok.constraints some.0 some.1).inside i (owner_in i some.0 own))
+  where
+    is_same : (x y : ℕ) → (x == y) ≡ true → x ≡ y
+    is_same x y h = grind (arith, nat_tests)
+
+    differs : (x y : ℕ) → not (x == y) ≡ true → x ≢ y
+    differs x y h = grind (arith, nat_tests)
+
+not_true : (b : Bool) → (b ≡ true → ⊥) → b ≡ false
+not_true true h = absurd (h refl)
+not_true false h = refl
+
+pub shares_higher : (p : Csp) → IsCsp p → (i k : ℕ) → i ≤ k → shares p i k ≡ false
+shares_higher p ok i k l = not_true (shares p i k) (λ e. let s = (sharing p ok i k e).0 in omega arith)
+
+pub shares_inside : (p : Csp) → IsCsp p → (i k : ℕ) → count p ≤ i → shares p i k ≡ false
+shares_inside p ok i k l = not_true (shares p i k) (λ e. let s = (sharing p ok i k e).1 in omega arith)
+
+-- ---- tables of marks
+
+pub length-below : (n : ℕ) → length (below n) ≡ n
+length-below zero = refl
+length-below (suc n) = let ih = length-below n in let e = length_push (below n) n in omega arith
+
+pub length-marks : (f : ℕ → Bool) (n : ℕ) → length (map f (below n)) ≡ n
+length-marks f n = length-map (below n) f ∙ length-below n
+
+marks_at : (f : ℕ → Bool) (n k : ℕ) → k < n → slice_index_or (map f (below n)) k false ≡ f k
+marks_at f zero k h = absurd (omega arith)
+marks_at f (suc n) k h =
+    let l = length-marks f n in
+    ap (λ z. slice_index_or z k false) (map-append f (below n) (n ∷ []))
+    ∙ elim (cases_lt k n) [
+      | inl before ↦ get_or_append_left (map f (below n)) (f n ∷ []) false k (omega arith) ∙ marks_at f n k before
+      | inr past ↦ let same : n ≡ k = omega arith in get_or_push (map f (below n)) (f n) false k (omega arith) ∙ ap f same
+    ]
+
+marks_are : (f : ℕ → Bool) (n : ℕ) → ((k : ℕ) → n ≤ k → f k ≡ false) → (k : ℕ) → slice_index_or (map f (below n)) k false ≡ f k
+marks_are f n h k = elim (cases_lt k n) [
+  | inl before ↦ marks_at f n k before
+  | inr past ↦ let l = length-marks f n in get_or_past (map f (below n)) k false (omega arith) ∙ sym (h k past)
+]
+
+-- ---- the whole
+
+pub fresh_is : (p : Contents) → IsCsp (csp_of p) → (me : ℕ) (b : Body) → b.value ≡ None → b.stamp ≡ 0 → b.waits ≡ false → view_of b.view ≡ (λ k. None) → b.store ≡ []
+    → b.tells.items ≡ map (λ j. shares (csp_of p) j me) (below (length p.domains)) → b.linked.items ≡ map (shares (csp_of p) me) (below me)
+    → agent_of b ≡ fresh (csp_of p) me
+fresh_is p ok me b v s w view store tells linked =
+    let tell = λ (j : ℕ). ap (λ z. slice_index_or z j false) tells ∙ marks_are (λ j. shares (csp_of p) j me) (length p.domains) (λ k l. shares_inside (csp_of p) ok k me l) j in
+    let link = λ (k : ℕ). ap (λ z. slice_index_or z k false) linked ∙ marks_are (shares (csp_of p) me) me (λ k l. shares_higher (csp_of p) ok me k l) k in
+    let kept = ap records_of store in
+    λ x. record { value = v x; stamp = s x; waits = w x; view = view x; recorded = kept x; tells = λ j. tell j x; linked = λ k. link k x }
+
+-- it is sound
+pub fresh_sound : (p : Csp) → IsCsp p → (i : ℕ) → Sound p i (fresh p i)
+fresh_sound p ok i = (start_kept p ok).sound i
+
+-- ---- no step's number matters
+
+none-mapped : {X Y : Type 0} → (f : X → Option Y) (xs : List X) → ((x : X) → f x ≡ None) → filter_map f xs ≡ []
+none-mapped f [] h = refl
+none-mapped f (x ∷ xs) h = ap (λ o. cons_option o (filter_map f xs)) (h x) ∙ none-mapped f xs h
+
+none_either : {Y : Type 0} → (b : Bool) → cond {A = Option Y} b None None ≡ None
+none_either true = refl
+none_either false = refl
+
+fresh_derives : (p : Csp) (me : ℕ) → derived p me (fresh p me).view (fresh p me).recorded ≡ []
+fresh_derives p me =
+    none-mapped (blamed p me (fresh p me).view (fresh p me).recorded) (below me)
+    (λ k. none_either (list_any (λ (x : Item). is_among k x.variables) (causes p me (λ j. None) [])))
+
+same_choice : (p : Csp) (me n m : ℕ) (a : Agent) (o : Option ℤ) → derived p me a.view a.recorded ≡ [] → steps.take_or_refuse p me n a o ≡ steps.take_or_refuse p me m a o
+same_choice p me n m a (Some v) e = refl
+same_choice p me n m a None e = ap (steps.refuse n a (step_of p me a.view a.recorded)) e ∙ sym (ap (steps.refuse m a (step_of p me a.view a.recorded)) e)
+
+pub same_number : (p : Csp) (me n m : ℕ) (a : Agent) → a ≡ fresh p me → steps.settle p me n a ≡ steps.settle p me m a
+same_number p me n m a f =
+    ap (λ z. cond (not a.waits && steps.is_free p me a a.value) (steps.stay a) z)
+    (same_choice p me n m a (steps.choice p me a) (ap (λ (z : Agent). derived p me z.view z.recorded) f ∙ fresh_derives p me))
+
+-- ---- what the first turn is
+
+takes_first : (p : Csp) (me n : ℕ) (o : Option ℤ) (turn : Turn) → IsTurn (fresh p me) (steps.take_or_refuse p me n (fresh p me) o) turn → IsFirstTurn turn
+takes_first p me n (Some v) Quiet h = let e = h.1 in absurd (omega arith)
+takes_first p me n (Some v) Announced h = tt
+takes_first p me n (Some v) (Derived s) h = let e = h.0 in cc
+takes_first p me n (Some v) (Empty s) h = tt
+takes_first p me n None turn h = by_turn turn (subst (λ (o : Outcome). IsTurn (fresh p me) o turn) (ap (steps.refuse n (fresh p me) (step_of p me (fresh p me).view (fresh p me).recorded)) (fresh_derives p me)) h)
+  where
+    by_turn : (turn : Turn) → IsTurn (fresh p me) (record { agent = fresh p me; sent = []; step = Some (step_of p me (fresh p me).view (fresh p me).recorded) }) turn → IsFirstTurn turn
+    by_turn Quiet g = let e = g.0 in cc
+    by_turn Announced g = tt
+    by_turn (Derived s) g =
+        let same : step_of p me (fresh p me).view (fresh p me).recorded ≡ s = cc in
+        g.1 (ap (λ (z : Step). z.nogood) (sym same) ∙ ap plain (fresh_derives p me))
+    by_turn (Empty s) g = tt
+
+pub first_turn : (p : Csp) (me n : ℕ) (a : Agent) (turn : Turn) → a ≡ fresh p me → IsTurn a (steps.settle p me n a) turn → IsFirstTurn turn
+first_turn p me n a turn f h = takes_first p me n (steps.choice p me (fresh p me)) turn (subst (λ (z : Agent). IsTurn z (steps.settle p me n z) turn) f h)

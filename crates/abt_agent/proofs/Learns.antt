@@ -1,0 +1,32 @@
+-- What an agent learns and keeps.
+use Rattle.std.proofs.Common.{◌≡◌, ℕ, List, ◌++◌, sym, ap, subst, ◌∙◌}
+use Rattle.dcsp_nogood.specs.declared.Pair.{Pair}
+use Rattle.dcsp_defs.specs.Words.{In}
+use Rattle.abt_defs.specs.Agents.{Agent, Record, StampedNogood, plain, Add_link}
+use Rattle.abt_defs.specs.Steps as steps
+use Rattle.law_invariants.proofs.Facts.{Proper, Sound}
+use Rattle.law_invariants.proofs.Learns.{learns_all}
+use Rattle.dcsp_problem.specs.Problems.{Contents, csp_of}
+use Rattle.abt_message.specs.declared.Sent.{Sent}
+use Rattle.abt_message.specs.Messages.{messages_of, with_stamps}
+use Rattle.abt_agent.proofs.Lists.{plain-with_stamps}
+
+-- the nogoods that are left after asking and learning are proper
+pub left_proper : (p : Contents) (me : ℕ) (pairs : List Pair) (ys : StampedNogood) (a c : Agent) → Sound (csp_of p) me a → c ≡ steps.learn_all me ys (steps.ask me pairs a)
+    → (x : Record) → In x c.recorded → Proper (csp_of p) me x.pairs
+left_proper p me pairs ys a c h e x u = h.proper x ((learns_all me ys (steps.ask me pairs a)).recorded x (subst (λ (z : Agent). In x z.recorded) e u))
+
+pub heeded : (me step : ℕ) (nogood ps qs : List Pair) (stamps : List ℕ) (a b c d : Agent) → ps ≡ nogood → qs ≡ nogood
+    → b ≡ steps.ask me ps a → c ≡ steps.learn_all me (with_stamps qs stamps) b → d ≡ steps.keep me (record { step = step; pairs = nogood }) c
+    → d ≡ steps.heed me step (with_stamps nogood stamps) a
+heeded me step nogood ps qs stamps a b c d p q asked learnt kept =
+    let n : nogood ≡ plain (with_stamps nogood stamps) = sym (plain-with_stamps nogood stamps) in
+    let b' : b ≡ steps.ask me (plain (with_stamps nogood stamps)) a = asked ∙ ap (λ z. steps.ask me z a) (p ∙ n) in
+    let c' : c ≡ steps.learn_all me (with_stamps nogood stamps) b = learnt ∙ ap (λ z. steps.learn_all me (with_stamps z stamps) b) q in
+    kept ∙ ap (λ z. steps.keep me (record { step = step; pairs = z }) c) n ∙ ap (steps.keep me (record { step = step; pairs = plain (with_stamps nogood stamps) })) (c' ∙ ap (steps.learn_all me (with_stamps nogood stamps)) b')
+
+pub asked_for : (me : ℕ) (nogood ps : List Pair) (stamps : List ℕ) (a : Agent) (out went : List Sent) → ps ≡ nogood
+    → messages_of went ≡ messages_of out ++ steps.to_each Add_link (steps.unlinked me ps a)
+    → messages_of went ≡ messages_of out ++ steps.to_each Add_link (steps.unlinked me (plain (with_stamps nogood stamps)) a)
+asked_for me nogood ps stamps a out went p e =
+    e ∙ ap (λ z. messages_of out ++ steps.to_each Add_link (steps.unlinked me z a)) (p ∙ sym (plain-with_stamps nogood stamps))

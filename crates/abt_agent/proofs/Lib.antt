@@ -1,0 +1,9 @@
+pub mod Lists
+pub mod Causes
+pub mod GivesUp
+pub mod Learns
+pub mod Receives
+pub mod Fresh
+pub mod Proper
+pub mod Rights
+pub mod Tracks

@@ -1,0 +1,57 @@
+-- Lists of messages, of pairs with stamps, and of the numbers below one.
+use Rattle.std.proofs.Common.{◌≡◌, ℕ, zero, suc, ◌+◌, ◌<◌, Bool, true, false, cond, List, [], ◌∷◌, ◌++◌, drop, get_or, length, filter, Option, Some, None, option_to_list, refl, sym, ap, ◌∙◌, arith, add-one}
+use Rattle.std.specs.Prelude.{filter_map}
+use Rattle.std.specs.List.{cons_option}
+use Rattle.std.proofs.lemmas.List.{map-append, drop_more}
+use Rattle.std.proofs.lemmas.List.Elements.{filter-append, filter_map-append}
+use Rattle.dcsp_nogood.specs.declared.Pair.{Pair}
+use Rattle.dcsp_defs.specs.Words.{below}
+use Rattle.abt_defs.specs.Agents.{Message, Stamped, plain}
+use Rattle.abt_defs.specs.Steps.{to_each}
+use Rattle.abt_message.specs.Messages.{with_stamps}
+
+pub below-more : (n : ℕ) → below (n + 1) ≡ below n ++ n ∷ []
+below-more n = rw add-one refl
+
+one_each : (m : Message) (n : ℕ) (b : Bool) → to_each m (cond b (n ∷ []) []) ≡ cond b ((n, m) ∷ []) []
+one_each m n true = refl
+one_each m n false = refl
+
+-- one message to each of some agents, and one agent more
+pub each_more : (m : Message) (f : ℕ → Bool) (n : ℕ) → to_each m (filter f (below (n + 1))) ≡ to_each m (filter f (below n)) ++ cond (f n) ((n, m) ∷ []) []
+each_more m f n =
+    ap (λ z. to_each m (filter f z)) (below-more n)
+    ∙ ap (to_each m) (filter-append f (below n) (n ∷ []))
+    ∙ map-append (λ (k : ℕ). (k, m)) (filter f (below n)) (cond (f n) (n ∷ []) [])
+    ∙ ap (λ z. to_each m (filter f (below n)) ++ z) (one_each m n (f n))
+
+pub with_stamps-push : (ps : List Pair) (ss : List ℕ) (q : Pair) (s : ℕ) → length ss ≡ length ps → with_stamps (ps ++ q ∷ []) (ss ++ s ∷ []) ≡ with_stamps ps ss ++ (q.var, record { value = q.value; stamp = s }) ∷ []
+with_stamps-push [] [] q s e = refl
+with_stamps-push [] (t ∷ ss) q s e = absurd (omega arith)
+with_stamps-push (p ∷ ps) [] q s e = absurd (omega arith)
+with_stamps-push (p ∷ ps) (t ∷ ss) q s e = ap (λ (z : List (ℕ × Stamped)). (p.var, record { value = p.value; stamp = t }) ∷ z) (with_stamps-push ps ss q s (omega arith))
+
+pub plain-with_stamps : (ps : List Pair) (ss : List ℕ) → plain (with_stamps ps ss) ≡ ps
+plain-with_stamps [] ss = refl
+plain-with_stamps (p ∷ ps) [] = ap (λ (z : List Pair). p ∷ z) (plain-with_stamps ps [])
+plain-with_stamps (p ∷ ps) (s ∷ ss) = ap (λ (z : List Pair). p ∷ z) (plain-with_stamps ps ss)
+
+pub stamps_step : (ps : List Pair) (ss : List ℕ) (k : ℕ) (d : Pair) → k < length ps → length ss ≡ length ps
+    → with_stamps (drop k ps) (drop k ss) ≡ ((get_or ps k d).var, record { value = (get_or ps k d).value; stamp = get_or ss k 0 }) ∷ with_stamps (drop (k + 1) ps) (drop (k + 1) ss)
+stamps_step ps ss k d h l = let e = drop_more ps k d h in let f = drop_more ss k 0 (omega arith) in λ x. with_stamps (e x) (f x)
+
+pub one : {X : Type 0} → (o : Option X) → cons_option o [] ≡ option_to_list o
+one None = refl
+one (Some x) = refl
+
+pub told_more : {X : Type 0} → (f : ℕ → Option X) (n : ℕ) → filter_map f (below (n + 1)) ≡ filter_map f (below n) ++ option_to_list (f n)
+told_more f n = ap (filter_map f) (below-more n) ∙ filter_map-append f (below n) (n ∷ []) ∙ ap (λ z. filter_map f (below n) ++ z) (one (f n))
+
+-- two functions that agree below n
+pub map_below : {X : Type 0} → (f g : ℕ → Option X) (n : ℕ) → ((k : ℕ) → k < n → f k ≡ g k) → filter_map f (below n) ≡ filter_map g (below n)
+map_below f g zero h = refl
+map_below {X} f g (suc n) h =
+    filter_map-append f (below n) (n ∷ [])
+    ∙ ap (λ (z : List X). z ++ cons_option (f n) []) (map_below f g n (λ k l. h k (omega arith)))
+    ∙ ap (λ (o : Option X). filter_map g (below n) ++ cons_option o []) (h n (omega arith))
+    ∙ sym (filter_map-append g (below n) (n ∷ []))

@@ -1,0 +1,140 @@
+-- What a message that comes does.
+use Rattle.std.proofs.Common.{◌≡◌, ℕ, ◌+◌, ◌<◌, Bool, true, false, cond, not, ◌&&◌, List, ◌++◌, length, refl, sym, ap, subst, ◌∙◌, arith, append-nil, append_assoc, Result, Ok, Err, inl, inr}
+use Rattle.std.specs.Prelude.{IfOk, OnOk}
+use Rattle.dcsp_list.specs.declared.Memory.{Memory}
+use Rattle.std.proofs.lemmas.Bool.Decides.{eqb_tells}
+use Rattle.dcsp_nogood.specs.declared.Pair.{Pair}
+use Rattle.dcsp_defs.specs.Words.{In, update}
+use Rattle.dcsp_defs.specs.Csp.{Csp, count, domain}
+use Rattle.abt_defs.specs.Agents.{Agent, Message, Refuse, Stamped, StampedNogood, plain, Add_link}
+use Rattle.abt_defs.specs.Steps as steps
+use Rattle.abt_defs.specs.Steps.{Outcome}
+use Rattle.law_invariants.proofs.Facts.{Proper, Sound}
+use Rattle.law_invariants.proofs.Settles.{settles}
+use Rattle.law_invariants.proofs.Learns.{learns_all, keeps}
+use Rattle.law_invariants.proofs.Receives.{announced, heeded as takes_nogood}
+use Rattle.dcsp_problem.specs.Problems.{Contents, csp_of}
+use Rattle.abt_message.specs.declared.Sent.{Sent}
+use Rattle.abt_message.specs.Messages.{messages_of, with_stamps}
+use Rattle.abt_agent.specs.declared.body.Body.{Body}
+use Rattle.abt_agent.specs.declared.Turn.{Turn}
+use Rattle.abt_agent.specs.declared.Turn.TheVariants.{Quiet, Announced, Derived, Empty}
+use Rattle.abt_agent.specs.Turns.{IsTurn}
+use Rattle.abt_agent.specs.Bodies.{agent_of, IsSized, IsGood, Does}
+use Rattle.abt_agent.proofs.Lists.{plain-with_stamps}
+
+pub ok_then : {X E : Type 0} (r : Result X E) {P Q : X → Type 0} → ((x : X) → P x → Q x) → IfOk r P → IfOk r Q
+ok_then (Ok x) f h = f x h
+ok_then (Err e) f h = h
+
+-- beside what holds on every answer
+pub ok_both : {X E : Type 0} (r : Result X E) {P Q : X → Type 0} {F : Type 0} → (F → (x : X) → P x → Q x) → OnOk r F → IfOk r P → IfOk r Q
+ok_both (Ok x) f o h = f o x h
+ok_both (Err e) f o h = h
+
+-- ---- the agent's own facts hold after it
+
+-- after it has learned a value
+pub learned_sound : (p : Csp) (i from : ℕ) (s : Stamped) (a b : Agent) → Sound p i a → i < count p → from < i → In s.value (domain p from) → b ≡ steps.learn from s a → Sound p i b
+learned_sound p i from s a b h l higher there e =
+    subst (Sound p i) (sym e) (announced p i a h l from s higher ((omega arith), there)).sound
+
+-- after it has taken in a nogood
+pub heeded_sound : (p : Csp) (i step : ℕ) (nogood : List Pair) (stamps : List ℕ) (a b : Agent) → Sound p i a → i < count p → Proper p i nogood → b ≡ steps.heed i step (with_stamps nogood stamps) a → Sound p i b
+heeded_sound p i step nogood stamps a b h l proper e =
+    subst (Sound p i) (sym e) (takes_nogood p i a h l 0 step (with_stamps nogood stamps) (subst (Proper p i) (sym (plain-with_stamps nogood stamps)) proper)).sound
+
+-- after it has settled
+pub settled_sound : (p : Csp) (i number : ℕ) (a b : Agent) → Sound p i a → i < count p → b ≡ (steps.settle p i number a).agent → Sound p i b
+settled_sound p i number a b h l e = subst (Sound p i) (sym e) (settles p i l a h number).sound
+
+-- after a link request
+pub link_sound : (p : Csp) (i from : ℕ) (a b : Agent) → Sound p i a → from < count p → b ≡ record a { tells = update a.tells from true } → Sound p i b
+link_sound p i from a b h l e = subst (Sound p i) (sym e) (record {
+  in_domain = h.in_domain;
+  stamped = h.stamped;
+  in_view = h.in_view;
+  proper = h.proper;
+  agreeing = h.agreeing;
+  distinct = h.distinct;
+  higher = h.higher;
+  constraints = h.constraints;
+  lower = λ j u. elim (eqb_tells j from) [ inl t ↦ omega arith | inr t ↦ h.lower j (rw t.0 at u) ];
+})
+
+pub good_settled : (t : Contents) (me number : ℕ) (before after : Body) (out went : List Sent) (r : Result Turn Memory) → IsGood t me before
+    → IfOk r (λ turn. Does t me (steps.settle (csp_of t) me number (agent_of before)) before after out went turn) → OnOk r (IsGood t me after)
+good_settled t me number before after out went (Ok turn) h d = record { sized = d.sized; sound = settled_sound (csp_of t) me number (agent_of before) (agent_of after) h.sound h.sized.me_exists d.agent }
+good_settled t me number before after out went (Err e) h d = tt
+
+pub good_linked : (t : Contents) (me number from : ℕ) (before after : Body) (out went : List Sent) (r : Result Turn Memory) → IsGood t me before → from < length t.domains
+    → IfOk r (λ turn. Does t me (steps.receive (csp_of t) me number (agent_of before) from Add_link) before after out went turn) → OnOk r (IsGood t me after)
+good_linked t me number from before after out went (Ok turn) h l d = record { sized = d.sized; sound = link_sound (csp_of t) me from (agent_of before) (agent_of after) h.sound l d.agent }
+good_linked t me number from before after out went (Err e) h l d = tt
+
+-- ---- stamps stay
+
+pub heed_stamp : (me step : ℕ) (ys : StampedNogood) (a : Agent) → (steps.heed me step ys a).stamp ≡ a.stamp
+heed_stamp me step ys a =
+    (keeps me (record { step = step; pairs = plain ys }) (steps.learn_all me ys (steps.ask me (plain ys) a))).stamp
+    ∙ (learns_all me ys (steps.ask me (plain ys) a)).stamp
+
+-- ---- what follows
+
+turn_same : (a b : Agent) (sent : List (ℕ × Message)) (o : Outcome) (turn : Turn) → a.stamp ≡ b.stamp → IsTurn a o turn → IsTurn b (steps.first_sent sent o) turn
+turn_same a b sent o Quiet e h = (h.0, h.1 ∙ e)
+turn_same a b sent o Announced e h = (h.0, h.1 ∙ ap (λ z. z + 1) e)
+turn_same a b sent o (Derived s) e h = h
+turn_same a b sent o (Empty s) e h = h
+
+-- messages sent before settling come first
+after_first : (t : Contents) (me : ℕ) (o : Outcome) (before mid after : Body) (out first went : List Sent) (sent : List (ℕ × Message)) (turn : Turn)
+    → mid.stamp ≡ before.stamp → messages_of first ≡ messages_of out ++ sent → Does t me o mid after first went turn
+    → Does t me (steps.first_sent sent o) before after out went turn
+after_first t me o before mid after out first went sent turn e f d = record {
+  agent = d.agent;
+  sent = d.sent ∙ ap (λ z. z ++ o.sent) f ∙ append_assoc (messages_of out) sent o.sent;
+  turn_is = turn_same (agent_of mid) (agent_of before) sent o turn e d.turn_is;
+  sized = d.sized;
+}
+
+-- the agent heeds the nogood, and goes on waiting
+stays_idle : (t : Contents) (me : ℕ) (before after : Body) (b : Agent) (out went : List Sent) (sent : List (ℕ × Message))
+    → agent_of after ≡ b → after.stamp ≡ before.stamp → messages_of went ≡ messages_of out ++ sent → IsSized t me after
+    → Does t me (steps.first_sent sent (steps.stay b)) before after out went Quiet
+stays_idle t me before after b out went sent e f m sized = record {
+  agent = e;
+  sent = m ∙ ap (λ z. messages_of out ++ z) (sym (append-nil sent));
+  turn_is = (refl, ap (λ (z : Agent). z.stamp) (sym e) ∙ f);
+  sized = sized;
+}
+
+-- what a nogood does, by whether the agent goes on waiting
+idle_is : (t : Contents) (me number from step : ℕ) (nogood ps : List Pair) (stamps : List ℕ) (a : Agent) (idle : Bool) → ps ≡ nogood
+    → idle ≡ (a.waits && not (steps.is_news me (with_stamps ps stamps) a))
+    → steps.first_sent (steps.to_each Add_link (steps.unlinked me (plain (with_stamps nogood stamps)) a)) (cond idle (steps.stay (steps.heed me step (with_stamps nogood stamps) a)) (steps.settle (csp_of t) me number (steps.heed me step (with_stamps nogood stamps) a)))
+    ≡ steps.receive (csp_of t) me number a from (Refuse step (with_stamps nogood stamps))
+idle_is t me number from step nogood ps stamps a idle p e =
+    ap (λ b. steps.first_sent (steps.to_each Add_link (steps.unlinked me (plain (with_stamps nogood stamps)) a)) (cond b (steps.stay (steps.heed me step (with_stamps nogood stamps) a)) (steps.settle (csp_of t) me number (steps.heed me step (with_stamps nogood stamps) a))))
+    (e ∙ ap (λ z. a.waits && not (steps.is_news me (with_stamps z stamps) a)) p)
+
+module _ (t : Contents) (me number from step : ℕ) (nogood ps : List Pair) (stamps : List ℕ) (before mid : Body) (out first : List Sent)
+    (p : ps ≡ nogood) (heeds : agent_of mid ≡ steps.heed me step (with_stamps nogood stamps) (agent_of before))
+    (asks : messages_of first ≡ messages_of out ++ steps.to_each Add_link (steps.unlinked me (plain (with_stamps nogood stamps)) (agent_of before))) where
+  pub same_stamp : mid.stamp ≡ before.stamp
+  same_stamp = ap (λ (z : Agent). z.stamp) heeds ∙ heed_stamp me step (with_stamps nogood stamps) (agent_of before)
+
+  pub refused_idle : true ≡ ((agent_of before).waits && not (steps.is_news me (with_stamps ps stamps) (agent_of before))) → IsSized t me mid
+      → Does t me (steps.receive (csp_of t) me number (agent_of before) from (Refuse step (with_stamps nogood stamps))) before mid out first Quiet
+  refused_idle e sized =
+      subst (λ o. Does t me o before mid out first Quiet) (idle_is t me number from step nogood ps stamps (agent_of before) true p e)
+      (stays_idle t me before mid (steps.heed me step (with_stamps nogood stamps) (agent_of before)) out first (steps.to_each Add_link (steps.unlinked me (plain (with_stamps nogood stamps)) (agent_of before))) heeds same_stamp asks sized)
+
+  pub refused_settles : (after : Body) (went : List Sent) (turn : Turn) → false ≡ ((agent_of before).waits && not (steps.is_news me (with_stamps ps stamps) (agent_of before)))
+      → Does t me (steps.settle (csp_of t) me number (agent_of mid)) mid after first went turn
+      → Does t me (steps.receive (csp_of t) me number (agent_of before) from (Refuse step (with_stamps nogood stamps))) before after out went turn
+  refused_settles after went turn e d =
+      subst (λ o. Does t me o before after out went turn) (idle_is t me number from step nogood ps stamps (agent_of before) false p e)
+      (after_first t me (steps.settle (csp_of t) me number (steps.heed me step (with_stamps nogood stamps) (agent_of before))) before mid after out first went
+      (steps.to_each Add_link (steps.unlinked me (plain (with_stamps nogood stamps)) (agent_of before))) turn same_stamp asks
+      (subst (λ z. Does t me (steps.settle (csp_of t) me number z) mid after first went turn) heeds d))

@@ -1,0 +1,40 @@
+-- The reasons are kept up with view and store.
+use Rattle.std.proofs.Common.{◌≡◌, ◌≢◌, ℕ, cond, List, Some, refl, sym, ap, subst, ◌∙◌, inl, inr}
+use Rattle.std.specs.Prelude.{filter}
+use Rattle.std.proofs.lemmas.Bool.{ne_eqb, eq-eqb}
+use Rattle.std.proofs.lemmas.Bool.Decides.{eqb_tells}
+use Rattle.dcsp_defs.specs.Words.{In, update}
+use Rattle.dcsp_defs.specs.Csp.{Csp, domain}
+use Rattle.abt_defs.specs.Agents.{Stamped, View, values_in, value_in}
+use Rattle.dcsp_problem.specs.Problems.{AreInDomains}
+use Rattle.abt_store.specs.declared.Recorded.{Recorded}
+use Rattle.abt_store.specs.Stores.{fits}
+use Rattle.abt_reason.specs.Cached.{Cached, StandsFor, StoodBefore}
+
+module _ (old new : View) (from : ℕ) (s : Stamped) (e : new ≡ update old from (Some s)) where
+  at : (k : ℕ) → new k ≡ update old from (Some s) k
+  at k = ap (λ (f : View). f k) e
+
+  pub new_domains : (p : Csp) → In s.value (domain p from) → AreInDomains p (values_in old) → AreInDomains p (values_in new)
+  new_domains p there all var v l g = elim (eqb_tells var from) [
+    | inl t ↦
+        let some : Some s.value ≡ Some v = sym (ap (λ b. value_in (cond b (Some s) (old var))) t.0) ∙ sym (ap value_in (at var)) ∙ g in
+        let same : s.value ≡ v = cc in
+        subst (λ z. In v (domain p z)) (sym t.1) (subst (λ z. In z (domain p from)) same there)
+    | inr t ↦ all var v l (sym (ap (λ b. value_in (cond b (Some s) (old var))) t.0) ∙ sym (ap value_in (at var)) ∙ g)
+  ]
+
+  same_others : (k : ℕ) → k ≢ from → values_in old k ≡ values_in new k
+  same_others k ne = sym (ap (λ b. value_in (cond b (Some s) (old k))) (ne_eqb k from ne)) ∙ sym (ap value_in (at k))
+
+  new_value : values_in new from ≡ Some s.value
+  new_value = ap value_in (at from) ∙ ap (λ b. value_in (cond b (Some s) (old from))) (eq-eqb from from refl)
+
+  pub stood_before : (r : Cached) (before items : List Recorded) → StandsFor r (values_in old) before → items ≡ filter (fits from s.value) before → StoodBefore r from (values_in new) items
+  stood_before r before items stood left = record {
+    known_before = values_in old;
+    items_before = before;
+    stood = stood;
+    others = same_others;
+    left = inr (s.value, new_value, left);
+  }

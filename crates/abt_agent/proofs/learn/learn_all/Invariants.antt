@@ -1,0 +1,11 @@
+use Rattle.std.proofs.Common.{◌≡◌, drop}
+use Rattle.abt_defs.specs.Steps as steps
+use Rattle.abt_message.specs.Messages.{with_stamps}
+use Rattle.abt_agent.specs.Bodies.{agent_of, IsSized}
+use Rattle.abt_agent.proofs.learn.learn_all.Given as goal
+
+abbrev pub invariant-loop-place : goal.invariant-loop-place
+invariant-loop-place l = record {
+  agent : steps.learn_all l.me (with_stamps (drop l.place l.pairs) (drop l.place l.stamps)) (agent_of l.body) ≡ steps.learn_all l.me (with_stamps l.pairs l.stamps) (agent_of l.initial.body);
+  sized : IsSized l.problem l.me l.body;
+}

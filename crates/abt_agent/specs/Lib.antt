@@ -1,0 +1,6 @@
+pub mod Turns
+pub mod States
+pub mod Bodies
+pub mod Places
+pub mod Owned
+pub mod Rights

@@ -1,0 +1,81 @@
+-- The agent that callers see.
+use Rattle.std.specs.Prelude.{◌≡◌, ℕ, ◌-◌, ◌<◌, ◌^◌, ℤ, Bool, false, List, ◌++◌, length, Option, Some, slice_get, slice_index_or}
+use Rattle.std.specs.Option.{option_map}
+use Rattle.dcsp_nogood.specs.declared.Pair.{Pair}
+use Rattle.dcsp_defs.specs.Words.{In}
+use Rattle.dcsp_defs.specs.Csp.{domain}
+use Rattle.abt_defs.specs.Agents.{Agent, fresh}
+use Rattle.abt_defs.specs.Steps.{Outcome}
+use Rattle.dcsp_problem.specs.Problems.{Contents, csp_of}
+use Rattle.abt_message.specs.declared.Message.{Message}
+use Rattle.abt_message.specs.declared.Message.TheVariants.{Tell, Refuse, AddLink}
+use Rattle.abt_message.specs.declared.Sent.{Sent}
+use Rattle.abt_message.specs.Messages.{messages_of}
+use Rattle.abt_view.specs.declared.Told.{Told}
+use Rattle.abt_view.specs.Views.{view_of}
+use Rattle.abt_store.specs.declared.Recorded.{Recorded}
+use Rattle.abt_store.specs.Stores.{records_of}
+use Rattle.abt_agent.specs.declared.Turn.{Turn}
+use Rattle.abt_agent.specs.Turns.{IsTurn}
+
+-- what the code's agent has
+pub record State : Type 0 where
+  pub problem : Contents
+  pub me : ℕ
+  pub value : Option ℤ
+  pub stamp : ℕ
+  pub waits : Bool
+  pub view : List (Option Told)
+  pub store : List Recorded
+  pub tells : List Bool
+  pub linked : List Bool
+  pub spent : Bool  -- it ran out of memory
+
+-- what a table of marks says of k
+abbrev pub marked : List Bool → ℕ → Bool
+marked marks k = slice_index_or marks k false
+
+-- the agent of the definitions
+abbrev pub stands_for : State → Agent
+stands_for s = record {
+  value = s.value;
+  stamp = s.stamp;
+  waits = s.waits;
+  view = view_of s.view;
+  recorded = records_of s.store;
+  tells = marked s.tells;
+  linked = marked s.linked;
+}
+
+-- the agent did what the definitions' agent does: its new state, what it sent, and what it tells of its turn
+pub record Acts (old new : State) (o : Outcome) (out went : List Sent) (turn : Turn) : Type 0 where
+  pub agent : stands_for new ≡ o.agent
+  pub sent : messages_of went ≡ messages_of out ++ o.sent
+  pub turn_is : IsTurn (stands_for old) o turn
+  pub problem : new.problem ≡ old.problem
+  pub me : new.me ≡ old.me
+  pub good : new.spent ≡ false
+
+-- a nogood for agent i: its lowest variable is i, its values are of the domains, and each has a stamp
+pub record IsNogoodFor (p : Contents) (i : ℕ) (nogood : List Pair) (stamps : List ℕ) : Type 0 where
+  pub lowest : option_map (λ (pair : Pair). pair.var) (slice_get nogood (length nogood - 1)) ≡ Some i
+  pub values : (pair : Pair) → In pair nogood → In pair.value (domain (csp_of p) pair.var)
+  pub stamped : length stamps ≡ length nogood
+
+-- which messages may come to agent i, and from whom
+abbrev pub IsFit : Contents → ℕ → ℕ → Message → Type 0
+IsFit p i from (Tell value stamp) = (from < i) × In value (domain (csp_of p) from)
+IsFit p i from (Refuse nogood stamps step) = IsNogoodFor p i nogood stamps
+IsFit p i from AddLink = from < length p.domains
+
+-- what is asked of a message to an agent that is not spent
+pub record CanReceive (s : State) (from : ℕ) (m : Message) : Type 0 where
+  pub stamp : s.stamp < 2 ^ 62
+  pub fit : IsFit s.problem s.me from m
+
+-- an agent before its start
+pub record IsFresh (p : Contents) (i : ℕ) (s : State) : Type 0 where
+  pub agent : stands_for s ≡ fresh (csp_of p) i
+  pub problem : s.problem ≡ p
+  pub me : s.me ≡ i
+  pub good : s.spent ≡ false

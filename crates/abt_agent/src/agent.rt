@@ -1,0 +1,158 @@
+//! The agent that callers see.
+
+ghost use Rattle.std.specs.Prelude.{◌≡◌, ◌<◌, IfOk, IsErr, OnErr, ℕ, List, false, length, true};
+ghost use Rattle.dcsp_defs.specs.declared.Step.{Step as TheStep};
+ghost use Rattle.abt_defs.specs.Steps as steps;
+ghost use Rattle.law_bounded_store.specs.Stores.{IsBoundedStore};
+ghost use Rattle.law_right_steps.specs.Merges.{IsUnionOfReasons};
+ghost use Rattle.dcsp_problem.specs.Problems.{csp_of};
+ghost use Rattle.abt_message.specs.Messages.{message_of};
+ghost use Rattle.abt_agent.specs.States.{stands_for, Acts, CanReceive, IsFresh};
+ghost use Rattle.abt_agent.specs.Turns.{IsFirstTurn};
+ghost use Rattle.abt_agent.specs.Rights.{AreOfSteps, BringsOfStep, IsRightTurn};
+ghost use Rattle.abt_store.specs.Stores.{records_of};
+
+use crate::Turn;
+use crate::body::{Body, fresh_body};
+use crate::receive::{act, first_settle};
+use abt_message::{Message, Outbox};
+use dcsp_list::Memory;
+use dcsp_problem::Problem;
+use std::alloc::Global;
+use std::marker::Model;
+
+/// One agent of a problem.
+///
+/// After want of memory it is spent: it meets all conditions, and `start` and `receive` answer
+/// `Memory` from then on.
+#[derive(Drop)]
+pub struct Agent<'p> {
+    problem: &'p Problem,
+    alloc: Global,
+    me: u32,
+    body: Body<'p>,
+    spent: bool,
+}
+
+impl<'p> Model for Agent<'p> {
+    ghost use Rattle.std.specs.Prelude.{◌≡◌, false};
+    ghost use Rattle.abt_agent.specs.States.{State};
+    ghost use Rattle.abt_agent.specs.Bodies.{IsGood};
+
+    ghost Value = { State };
+
+    ghost view = { λ a. record { problem = a.problem.now; me = a.me; value = a.body.value; stamp = a.body.stamp; waits = a.body.waits; view = a.body.view; store = a.body.store; tells = a.body.tells.items; linked = a.body.linked.items; spent = a.spent } };
+
+    ghost invariant = { λ a. a.spent ≡ false → IsGood a.problem.now a.me a.body };
+}
+
+impl<'p> Agent<'p> {
+    /// The agent of this variable, counted from 0, before its start.
+    pub fn new(alloc: Global, problem: &'p Problem, agent: u32) -> Result<Agent<'p>, Memory>
+        requires { agent < length problem.now.domains }
+        ensures { IfOk result (λ a. IsFresh problem.now agent a) }
+    {
+        let body = fresh_body(alloc, problem, agent)?;
+        Ok(Agent {
+            problem,
+            alloc,
+            me: agent,
+            body,
+            spent: false,
+        })
+    }
+
+    /// Settles for the first time: the agent takes its least value, or makes a step with the empty
+    /// nogood, which is right after any steps. The messages are appended to `out`.
+    pub fn start(&mut self, out: &mut Outbox) -> Result<Turn, Memory>
+        requires { self.old.spent ≡ false → IsFresh self.old.problem self.old.me self.old }
+        ensures does { (number : ℕ) → IfOk result (λ turn. Acts self.old self.new (steps.settle (csp_of self.old.problem) self.old.me number (stands_for self.old)) out.old out.new turn) }
+        ensures first { IfOk result IsFirstTurn }
+        ensures right { (made : List TheStep) → IfOk result (IsRightTurn (csp_of self.old.problem) made) }
+        ensures problem { self.new.problem ≡ self.old.problem }
+        ensures me { self.new.me ≡ self.old.me }
+        ensures spends { OnErr result (self.new.spent ≡ true) }
+        ensures spent { self.old.spent ≡ true → IsErr result }
+    {
+        if self.spent {
+            return Err(Memory);
+        }
+        let problem = self.problem;
+        match first_settle(self.alloc, problem, self.me, &mut self.body, out) {
+            Ok(turn) => Ok(turn),
+            Err(memory) => {
+                self.spent = true;
+                Err(memory)
+            }
+        }
+    }
+
+    /// Receives a message from another agent. The messages are appended to `out`: link requests first,
+    /// then what settling sends. A nogood that is sent carries `next_step`, the number of the step that
+    /// derives it. A step that it makes is right after any steps of which those that the kept nogoods
+    /// and the message name have these nogoods.
+    pub fn receive(
+        &mut self,
+        from: u32,
+        message: Message,
+        next_step: u64,
+        out: &mut Outbox,
+    ) -> Result<Turn, Memory>
+        requires { self.old.spent ≡ false → CanReceive self.old from message }
+        ensures does { IfOk result (λ turn. Acts self.old self.new (steps.receive (csp_of self.old.problem) self.old.me next_step (stands_for self.old) from (message_of message)) out.old out.new turn) }
+        ensures right { (made : List TheStep) → AreOfSteps made (records_of self.old.store) → BringsOfStep made message → IfOk result (IsRightTurn (csp_of self.old.problem) made) }
+        ensures problem { self.new.problem ≡ self.old.problem }
+        ensures me { self.new.me ≡ self.old.me }
+        ensures spends { OnErr result (self.new.spent ≡ true) }
+        ensures spent { self.old.spent ≡ true → IsErr result }
+    {
+        if self.spent {
+            return Err(Memory);
+        }
+        let problem = self.problem;
+        match act(
+            self.alloc,
+            problem,
+            self.me,
+            &mut self.body,
+            from,
+            message,
+            next_step,
+            out,
+        ) {
+            Ok(turn) => Ok(turn),
+            Err(memory) => {
+                self.spent = true;
+                Err(memory)
+            }
+        }
+    }
+
+    /// The agent's value, if it has one.
+    ///
+    /// The agent keeps at most one nogood for each value of its domain, with at most one pair for each
+    /// agent down to itself, and all but its own pair are as its view has them. What its reasons contribute
+    /// to a nogood never clashes, and the nogood that it would derive is their union.
+    pub fn value(&self) -> Option<i64>
+        ensures value { result ≡ self.now.value }
+        ensures bounded { self.now.spent ≡ false → IsBoundedStore (csp_of self.now.problem) self.now.me (stands_for self.now) }
+        ensures merges { self.now.spent ≡ false → IsUnionOfReasons (csp_of self.now.problem) self.now.me (stands_for self.now) }
+    {
+        let _vars = self.problem.vars();
+        self.body.value
+    }
+
+    /// Whether the agent waits: it has sent a nogood, and has learned nothing since.
+    pub fn waits(&self) -> bool
+        ensures { result ≡ self.now.waits }
+    {
+        self.body.waits
+    }
+
+    /// How many values the agent has taken.
+    pub fn stamp(&self) -> u64
+        ensures { result ≡ self.now.stamp }
+    {
+        self.body.stamp
+    }
+}

@@ -1,0 +1,69 @@
+//! Link requests.
+
+ghost use Rattle.std.specs.Prelude.{◌≡◌, ◌∷◌, ◌++◌, ◌&&◌, [], OnOk, filter, length, not, if◌then◌else◌};
+ghost use Rattle.dcsp_defs.specs.Words.{below};
+ghost use Rattle.abt_defs.specs.Agents.{Add_link};
+ghost use Rattle.abt_defs.specs.Steps as steps;
+ghost use Rattle.abt_message.specs.Messages.{message_of, messages_of};
+ghost use Rattle.abt_agent.specs.Bodies.{agent_of, IsSized};
+ghost use Rattle.abt_agent.specs.States.{marked};
+
+use crate::body::Body;
+use crate::marks::mark_pairs;
+use abt_message::{Message, Outbox, Sent};
+use dcsp_list::Memory;
+use dcsp_nogood::Pair;
+use dcsp_problem::Problem;
+
+/// Sends the message if it is wanted.
+pub fn push_if(out: &mut Outbox, wanted: bool, to: u32, message: Message) -> Result<(), Memory>
+    ensures { OnOk result (messages_of out.new ≡ messages_of out.old ++ (if wanted then (to, message_of message) ∷ [] else [])) }
+{
+    if wanted {
+        out.push(Sent { to, message }).map_err(|_| Memory)
+    } else {
+        Ok(())
+    }
+}
+
+/// Whether the pairs name the variable.
+fn is_named(var: u32, pairs: &[Pair]) -> bool
+    ensures { result ≡ steps.is_named var pairs.now }
+{
+    for pair in pairs {
+        if var == pair.var {
+            return true;
+        }
+    }
+    false
+}
+
+/// Asks for a link each agent that the pairs name and that is not marked, rising.
+fn ask_each(linked: &[bool], me: u32, pairs: &[Pair], out: &mut Outbox) -> Result<(), Memory>
+    requires { length linked.now ≡ me }
+    ensures { OnOk result (messages_of out.new ≡ messages_of out.old ++ steps.to_each Add_link (filter (λ k. steps.is_named k pairs.now && not (marked linked.now k)) (below me))) }
+{
+    for to in 0..me {
+        let wanted = !linked[to as usize] && is_named(to, pairs);
+        push_if(out, wanted, to, Message::AddLink)?;
+    }
+    Ok(())
+}
+
+/// Asks for the links that the pairs want, and counts them as asked.
+pub fn ask(
+    problem: &Problem,
+    me: u32,
+    body: &mut Body,
+    pairs: &[Pair],
+    out: &mut Outbox,
+) -> Result<(), Memory>
+    requires { IsSized problem.now me body.old }
+    ensures agent { OnOk result (agent_of body.new ≡ steps.ask me pairs.now (agent_of body.old)) }
+    ensures sent { OnOk result (messages_of out.new ≡ messages_of out.old ++ steps.to_each Add_link (steps.unlinked me pairs.now (agent_of body.old))) }
+    ensures sized { OnOk result (IsSized problem.now me body.new) }
+{
+    ask_each(&body.linked, me, pairs, out)?;
+    mark_pairs(&mut body.linked, pairs);
+    Ok(())
+}

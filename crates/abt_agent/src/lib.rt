@@ -1,0 +1,39 @@
+//! One agent of asynchronous backtracking.
+//!
+//! Each variable has an agent, and a lower number is a higher priority. An agent takes a value that
+//! nothing rules out, tells it to lower agents, and answers values and nogoods that reach it; where
+//! every value is ruled out it sends a nogood to the lowest agent that this names (Yokoo, Durfee,
+//! Ishida and Kuwabara, IEEE TKDE 10(5), 1998). Values carry stamps, and an agent keeps only nogoods
+//! that agree with its view, at most one for each of its values.
+#![tactic(auto)]
+
+mod agent;
+mod ask;
+mod body;
+mod learn;
+mod marks;
+mod receive;
+mod refusal;
+mod search;
+mod settle;
+mod under;
+
+pub use agent::Agent;
+pub use dcsp_list::Memory;
+pub use ngd_log::Step;
+
+/// What an agent did.
+#[derive(Debug, Drop)]
+pub enum Turn {
+    /// It has taken no value and made no step.
+    Quiet,
+    /// It has taken a value and told it.
+    Announced,
+    /// It has made this step, whose nogood is not empty, and sent the nogood.
+    Derived(Step),
+    /// It has made this step, whose nogood is empty: the problem has no solution.
+    Empty(Step),
+}
+
+#[cfg(test)]
+mod tests;

@@ -1,0 +1,172 @@
+//! Agents of the smallest problem without a solution.
+
+ghost use Rattle.std.specs.Prelude.{◌≡◌, ◌<◌, ◌∷◌, [], IfOk, length, true};
+ghost use Rattle.dcsp_defs.specs.Words.{In};
+ghost use Rattle.dcsp_defs.specs.Csp.{domain};
+ghost use Rattle.dcsp_problem.specs.Problems.{csp_of};
+ghost use Rattle.abt_agent.specs.States.{IsFit};
+
+use super::*;
+use abt_message::{Message, Outbox, Sent, StampList};
+use dcsp_defs::Reason;
+use dcsp_nogood::{Nogood, Pair};
+use dcsp_problem::{Domain, IntList, Kind, Members, Problem, ProblemBuilder, Rule, Term, TermList};
+use std::alloc::Global;
+use std::process::Abort;
+use std::test::Fail;
+
+/// A constraint between the first two variables.
+fn between(alloc: Global, kind: Kind) -> Result<Rule, Fail>
+    ensures { IfOk result (λ rule. rule ≡ Rule.Plain kind (Term.Var 0 ∷ Term.Var 1 ∷ []) [] [] (Members.Listed [])) }
+{
+    Ok(Rule::Plain {
+        kind,
+        scalars: TermList::from_vec(vec![in alloc; Term::Var(0), Term::Var(1)]?),
+        first: TermList::new(alloc),
+        second: TermList::new(alloc),
+        members: Members::Listed(IntList::new(alloc)),
+    })
+}
+
+/// Two variables with the values 0 and 1, which differ and are equal.
+fn smallest(alloc: Global) -> Result<Problem, Fail>
+    ensures { IfOk result (λ problem. length problem.domains ≡ 2) }
+{
+    let mut builder = ProblemBuilder::new(alloc);
+    builder.add_var(Domain::range(alloc, 0, 1)?)?;
+    builder.add_var(Domain::range(alloc, 0, 1)?)?;
+    builder.add_rule(between(alloc, Kind::IntNe)?)?;
+    builder.add_rule(between(alloc, Kind::IntEq)?)?;
+    Ok(builder.finish()?)
+}
+
+/// The agent of a variable, which has started.
+fn started<'p>(
+    rt: &impl Abort,
+    alloc: Global,
+    problem: &'p Problem,
+    agent: u32,
+    out: &mut Outbox,
+) -> Agent<'p>
+    requires { agent < length problem.now.domains }
+    ensures problem { result.problem ≡ problem.now }
+    ensures me { result.me ≡ agent }
+{
+    let mut agent = Agent::new(alloc, problem, agent).expect(rt, "memory");
+    let turn = agent.start(out).expect(rt, "memory");
+    assert!(rt; matches!(&turn, Turn::Announced));
+    agent
+}
+
+/// Hands the agent a message, from an agent of the problem.
+fn handed(
+    rt: &impl Abort,
+    problem: &Problem,
+    agent: &mut Agent,
+    from: u32,
+    message: Message,
+    out: &mut Outbox,
+) -> Turn
+    requires problem { agent.old.problem ≡ problem.now }
+    requires fit { IsFit problem.now agent.old.me from message }
+    ensures problem { agent.new.problem ≡ problem.now }
+    ensures me { agent.new.me ≡ agent.old.me }
+{
+    assert!(rt; agent.stamp() < 100);
+    agent.receive(from, message, 1, out).expect(rt, "memory")
+}
+
+/// Whether the domain of a variable has the value.
+fn has_value(problem: &Problem, var: u32, value: i64) -> bool
+    requires { var < length problem.now.domains }
+    ensures { result ≡ true → In value (domain (csp_of problem.now) var) }
+{
+    match problem.domain(var).place_of(value) {
+        Some(_) => true,
+        None => false,
+    }
+}
+
+#[test]
+fn derives_and_waits(rt: HostRuntime) -> Result<(), Fail> {
+    let alloc = rt.alloc();
+    let problem = smallest(alloc)?;
+    let mut out = Outbox::new(alloc);
+    let mut agent = started(&rt, alloc, &problem, 1, &mut out);
+    assert!(rt; out.is_empty());
+    assert_eq!(rt; agent.value(), Some(0));
+    assert!(rt; has_value(&problem, 0, 0));
+    let told = Message::Tell { value: 0, stamp: 1 };
+    match handed(&rt, &problem, &mut agent, 0, told, &mut out) {
+        Turn::Derived(step) => {
+            assert_eq!(rt; step.variable, Some(1));
+            assert_eq!(rt; step.nogood.pairs(), [Pair { var: 0, value: 0 }].as_slice());
+            assert_eq!(rt;
+                step.reasons.items(),
+                [Reason::Rule(0), Reason::Rule(1)].as_slice()
+            );
+        }
+        _ => panic!(rt; "no step"),
+    }
+    assert!(rt; agent.waits());
+    match out.take_first() {
+        Some(
+            Sent {
+                to: 0,
+                message: Message::Refuse {
+                    nogood,
+                    stamps,
+                    step: 1,
+                },
+            },
+        ) => {
+            assert_eq!(rt; nogood.pairs(), [Pair { var: 0, value: 0 }].as_slice());
+            assert_eq!(rt; stamps.items(), [1].as_slice());
+        }
+        _ => panic!(rt; "no nogood"),
+    }
+    assert!(rt; out.is_empty());
+    assert!(rt; has_value(&problem, 1, 1));
+    let own = own_nogood(&rt, alloc, 1, 1);
+    let quiet = handed(&rt, &problem, &mut agent, 0, own, &mut out);
+    assert!(rt; matches!(&quiet, Turn::Quiet));
+    assert!(rt; out.is_empty());
+    Ok(())
+}
+
+/// A nogood of one pair, whose value has the stamp 1.
+fn own_nogood(rt: &impl Abort, alloc: Global, var: u32, value: i64) -> Message
+    ensures { result ≡ Message.Refuse (record { var = var; value = value } ∷ []) (1 ∷ []) 1 }
+{
+    let nogood = Nogood::from_pairs(alloc, &[Pair { var, value }]).expect(rt, "memory");
+    let mut stamps = StampList::new(alloc);
+    assert!(rt; stamps.push(1).is_ok());
+    Message::Refuse {
+        nogood,
+        stamps,
+        step: 1,
+    }
+}
+
+#[test]
+fn answers_a_link_request(rt: HostRuntime) -> Result<(), Fail> {
+    let alloc = rt.alloc();
+    let problem = smallest(alloc)?;
+    let mut out = Outbox::new(alloc);
+    let mut agent = started(&rt, alloc, &problem, 0, &mut out);
+    assert!(rt; out.take_first().is_some());
+    assert!(rt; out.is_empty());
+    let quiet = handed(&rt, &problem, &mut agent, 1, Message::AddLink, &mut out);
+    assert!(rt; matches!(&quiet, Turn::Quiet));
+    match out.take_first() {
+        Some(
+            Sent {
+                to: 1,
+                message: Message::Tell { value: 0, stamp: 1 },
+            },
+        ) => {}
+        _ => panic!(rt; "no value"),
+    }
+    assert!(rt; out.is_empty());
+    Ok(())
+}
