@@ -1,6 +1,6 @@
 #!/bin/sh
 # Makes FlatZinc files as MiniZinc writes them, at the limits of the program, and times the program and its
-# parts over them. It wants python3 and GNU time.
+# parts over them, and one agent over many messages. It wants python3 and GNU time.
 set -e
 top=$(cd "$(dirname "$0")/.." && pwd)
 folder=$(mktemp -d)
@@ -70,6 +70,11 @@ cd "$folder"
 for part in 'tokens large.fzn' 'items large.fzn' 'tokens short.fzn'; do
     echo "$part: $(wc -c <"${part#* }") bytes"
     /usr/bin/time -f "$figures" "$parts" $part
+done
+# one agent of 1,000 values with 50 higher ones: values and nogoods, then values alone beside so many kept nogoods
+for run in 'agent 1000000' 'quiet 1000000 0' 'quiet 1000000 90' 'quiet 1000000 900'; do
+    echo "$run"
+    /usr/bin/time -f "$figures" "$parts" $run
 done
 for model in large.fzn half.fzn rules.fzn listed.fzn; do
     echo "check $model: $(wc -c <$model) bytes"

@@ -1,15 +1,67 @@
-//! Counts the tokens or the items of a file: the program that `bench/run.sh` times.
+//! Counts the tokens or the items of a file, or hands one agent many messages: the program that `bench/run.sh`
+//! times.
 #![tactic(auto)]
 
+ghost use Rattle.std.specs.Prelude.{◌<◌, length};
+
+mod driver;
+mod problem;
+mod runs;
+
+use driver::Counts;
 use fzn_item::items;
 use fzn_token::tokens;
+use problem::built;
+use runs::{mixed, quiet};
+use std::alloc::Global;
 use std::{env, fs};
+
+/// What the words ask one agent to be handed; `None` where memory runs out.
+fn run(alloc: Global, messages: u32, kept: Option<u32>) -> Option<Counts> {
+    let problem = built(alloc)?;
+    match kept {
+        None => mixed(alloc, &problem, messages),
+        Some(kept) => quiet(alloc, &problem, messages, kept),
+    }
+}
+
+/// How many nogoods the words ask the agent to keep first, if they ask for that.
+fn kept_of(words: &[String]) -> anyhow::Result<Option<u32>>
+    requires { 2 < length words.now }
+{
+    if words[1].as_str() == "agent" {
+        return Ok(None);
+    }
+    if words.len() == 3 {
+        return Ok(Some(0));
+    }
+    Ok(Some(words[3].parse::<u32>()?))
+}
 
 fn main(rt: HostRuntime) -> anyhow::Result<()> {
     let alloc = rt.alloc();
     let words: Vec<String> = env::args(&rt)?.collect(alloc)?;
-    if words.len() != 3 {
-        println!(rt; "usage: bench_parts tokens|items FILE")?;
+    if words.len() < 3 {
+        println!(rt;
+            "usage: bench_parts tokens|items FILE, agent MESSAGES, or quiet MESSAGES KEPT"
+        )?;
+        return Ok(());
+    }
+    if words[1].as_str() == "agent" || words[1].as_str() == "quiet" {
+        let kept = kept_of(&words)?;
+        match run(alloc, words[2].parse::<u32>()?, kept) {
+            Some(counts) => {
+                println!(rt;
+                    "{} messages received, {} values taken",
+                    counts.received, counts.taken
+                )?;
+                println!(rt;
+                    "{} steps made, {} messages sent",
+                    counts.steps, counts.sent
+                )?;
+            }
+            None => println!(rt; "out of memory, or no such values")?,
+        }
         return Ok(());
     }
     let text = fs::read(&rt, words[2].as_str())?;
