@@ -72,7 +72,7 @@ for part in 'tokens large.fzn' 'items large.fzn' 'tokens short.fzn'; do
     /usr/bin/time -f "$figures" "$parts" $part
 done
 # one agent of 1,000 values with 50 higher ones: values and nogoods, then values alone beside so many kept nogoods
-for run in 'agent 1000000' 'quiet 1000000 0' 'quiet 1000000 90' 'quiet 1000000 900'; do
+for run in 'agent 100000' 'quiet 100000 0' 'quiet 100000 90' 'quiet 100000 900'; do
     echo "$run"
     /usr/bin/time -f "$figures" "$parts" $run
 done
