@@ -32,24 +32,20 @@ def constraint(i):
     return b'constraint int_lin_ne(X_INTRODUCED_4000_,[%s,%s],%d);\n' % (pair + (i % 100,))
 
 
-# 16 MiB of constraints between 2,100 variables
-lines = declared()
-left = size - len(end) - sum(map(len, lines))
-i = 0
-while left >= len(constraint(i)):
-    lines.append(constraint(i))
-    left -= len(lines[-1])
-    i += 1
-write('large.fzn', lines + [end])
-# half of it, for how the cost grows
-half = declared()
-left = size // 2 - len(end) - sum(map(len, half))
-i = 0
-while left >= len(constraint(i)):
-    half.append(constraint(i))
-    left -= len(half[-1])
-    i += 1
-write('half.fzn', half + [end])
+def filled(size):
+    lines = declared()
+    left = size - len(end) - sum(map(len, lines))
+    i = 0
+    while left >= len(constraint(i)):
+        lines.append(constraint(i))
+        left -= len(lines[-1])
+        i += 1
+    return lines + [end]
+
+
+# 16 MiB of constraints between 2,100 variables, and half of it, for how the cost grows
+write('large.fzn', filled(size))
+write('half.fzn', filled(size // 2))
 # as many variables and rules as there may be
 variables = [b'var 1..100: x%d;\n' % i for i in range(4096)]
 rules = [b'constraint int_ne(x%d,x%d);\n' % (i % 4096, (i * 7 + 1) % 4096) for i in range(262144)]
