@@ -1,0 +1,154 @@
+//! The messages in transit.
+
+ghost use Rattle.std.specs.Prelude.{◌≡◌, ◌≢◌, ◌<◌, ◌≤◌, [], IfErr, IfOk, OnErr, OnOk, Some, slice_get, length};
+ghost use Rattle.abt_links.specs.Transit.{link_of, IsOpen, Opens, Sends, Takes, ready_pairs, message_count};
+
+use crate::opened::Opened;
+use crate::pair_set::PairSet;
+use crate::queues::Queues;
+use abt_message::Message;
+use dcsp_list::Memory;
+use std::alloc::Global;
+use std::marker::Model;
+
+/// A message with its sender and its receiver, both counted from 0.
+#[derive(Debug, Drop)]
+pub struct Carried {
+    pub from: u32,
+    pub to: u32,
+    pub message: Message,
+}
+
+/// The messages in transit: a list for each ordered pair of agents that was opened, first in and first
+/// out. A list that has a message is ready; ready lists are numbered from 0, by sender and then by
+/// receiver.
+///
+/// Only `new`, `open_pair` and `send` take memory: the bits of a `PairSet`, a key in an index and 12
+/// bytes for each pair that was opened, and one entry of a slab for each message.
+#[derive(Drop)]
+pub struct Links {
+    agents: u32,
+    opened: Opened,
+    queues: Queues,
+    ready: PairSet,
+}
+
+impl Model for Links {
+    ghost use Rattle.abt_links.specs.Transit.{Transit};
+
+    ghost Value = { Transit };
+
+    ghost use Rattle.abt_links.specs.Whole.{IsWhole};
+
+    ghost view = { λ l. record { agents = l.agents; opened = l.opened; lists = l.queues } };
+
+    ghost invariant = { λ l. IsWhole (record { agents = l.agents; opened = l.opened; lists = l.queues }) l.ready };
+}
+
+impl Links {
+    /// The links of this many agents. No pair is open.
+    pub fn new(alloc: Global, agents: u32) -> Result<Links, Memory>
+        requires { agents ≤ 4096 }
+        ensures agents { IfOk result (λ l. l.agents ≡ agents) }
+        ensures none { IfOk result (λ l. l.opened ≡ []) }
+        ensures empty { IfOk result (λ l. l.lists ≡ []) }
+    {
+        let ready = PairSet::new(alloc, agents)?;
+        Ok(Links {
+            agents,
+            opened: Opened::new(alloc),
+            queues: Queues::new(alloc),
+            ready,
+        })
+    }
+
+    /// Opens the pair, if it is not open. A refusal changes nothing.
+    pub fn open_pair(&mut self, from: u32, to: u32) -> Result<(), Memory>
+        requires sender { from < self.old.agents }
+        requires receiver { to < self.old.agents }
+        ensures ok { OnOk result (Opens self.old self.new from to) }
+        ensures again { IsOpen self.old from to → self.new ≡ self.old }
+        ensures err { OnErr result (self.new ≡ self.old) }
+    {
+        if self.opened.find(from, to).is_some() {
+            return Ok(());
+        }
+        self.opened.add(from, to)?;
+        if let Err(_) = self.queues.open() {
+            self.opened.drop_last();
+            return Err(Memory);
+        }
+        Ok(())
+    }
+
+    /// Puts a message last on the list of its pair. A refusal hands it back and changes nothing.
+    pub fn send(&mut self, from: u32, to: u32, message: Message) -> Result<(), (Message, Memory)>
+        requires { IsOpen self.old from to }
+        ensures ok { OnOk result (Sends self.old self.new from to message) }
+        ensures handed_back { IfErr result (λ refused. refused.0 ≡ message) }
+        ensures err { OnErr result (self.new ≡ self.old) }
+    {
+        let place = self.opened.place_of(from, to);
+        if let Err(refused) = self.queues.push(place, message) {
+            return Err(refused);
+        }
+        self.ready.set(from, to, true);
+        Ok(())
+    }
+
+    /// How many messages are in transit.
+    pub fn in_transit(&self) -> u64
+        ensures { result ≡ message_count self.now }
+    {
+        self.queues.total()
+    }
+
+    /// How many messages are in transit from one agent to another; 0 where the pair is not open.
+    pub fn waiting(&self, from: u32, to: u32) -> u64
+        ensures { result ≡ length (link_of self.now from to) }
+    {
+        match self.opened.find(from, to) {
+            Some(place) => self.queues.count(place),
+            None => 0,
+        }
+    }
+
+    /// How many lists are ready.
+    pub fn ready_count(&self) -> u32
+        ensures { result ≡ length (ready_pairs self.now) }
+    {
+        self.ready.count()
+    }
+
+    /// Sender and receiver of the ready list with this number.
+    pub fn ready_pair(&self, number: u32) -> (u32, u32)
+        requires { number < length (ready_pairs self.now) }
+        ensures { slice_get (ready_pairs self.now) number ≡ Some result }
+    {
+        self.ready.nth(number)
+    }
+
+    /// The number of this pair's list, which is ready.
+    pub fn number(&self, from: u32, to: u32) -> u32
+        requires { link_of self.now from to ≢ [] }
+        ensures { slice_get (ready_pairs self.now) result ≡ Some (from, to) }
+    {
+        self.ready.number(from, to)
+    }
+
+    /// Takes the first message of the ready list with this number.
+    pub fn take_ready(&mut self, number: u32) -> Carried
+        requires { number < length (ready_pairs self.old) }
+        ensures pair { slice_get (ready_pairs self.old) number ≡ Some (result.from, result.to) }
+        ensures sender { result.from < self.old.agents }
+        ensures receiver { result.to < self.old.agents }
+        ensures takes { Takes self.old self.new result.from result.to result.message }
+    {
+        let (from, to) = self.ready.nth(number);
+        let place = self.opened.place_of(from, to);
+        let message = self.queues.pop(place);
+        let is_last = self.queues.is_empty(place);
+        self.ready.set(from, to, !is_last);
+        Carried { from, to, message }
+    }
+}

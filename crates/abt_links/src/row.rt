@@ -1,0 +1,150 @@
+//! A set of numbers, one bit each.
+
+ghost use Rattle.std.specs.Prelude.{◌≡◌, ◌≢◌, ◌<◌, ◌≤◌, ◌*◌, ℕ, count_ones, ◌==◌, length, true, false, if◌then◌else◌, IfOk};
+ghost use Rattle.std.specs.Int.{bit_at};
+ghost use Rattle.abt_links.specs.Marks.{is_set, rank};
+
+use dcsp_list::Memory;
+use std::alloc::Global;
+use std::marker::Model;
+
+/// A set of numbers below a bound: number `i` is in where bit `i % 64` of word `i / 64` is set.
+#[derive(Drop)]
+pub(crate) struct Row {
+    words: Vec<u64>,
+}
+
+impl Model for Row {
+    ghost use Rattle.std.specs.Prelude.{List, ℕ};
+
+    ghost Value = { List ℕ };
+
+    ghost view = { λ r. r.words.items };
+}
+
+impl Row {
+    /// No number, with room for all below `bound`.
+    pub(crate) fn new(alloc: Global, bound: u32) -> Result<Row, Memory>
+        requires { bound ≤ 4096 }
+        ensures room { IfOk result (λ r. bound ≤ 64 * length r) }
+        ensures short { IfOk result (λ r. length r ≤ 64) }
+        ensures none { IfOk result (λ r. (i : ℕ) → is_set r i ≡ false) }
+    {
+        match vec![in alloc; 0u64; (bound as usize + 63) / 64] {
+            Ok(words) => Ok(Row { words }),
+            Err(_) => Err(Memory),
+        }
+    }
+
+    /// Whether a number is in.
+    pub(crate) fn contains(&self, number: u32) -> bool
+        requires { number < 64 * length self.now }
+        ensures { result ≡ is_set self.now number }
+    {
+        let word = self.words[number as usize / 64];
+        (word >> (number % 64)) & 1 == 1
+    }
+
+    /// Puts a number in, if it is not in.
+    pub(crate) fn insert(&mut self, number: u32)
+        requires { number < 64 * length self.old }
+        ensures marks { (i : ℕ) → is_set self.new i ≡ (if i == number then true else is_set self.old i) }
+        ensures length { length self.new ≡ length self.old }
+    {
+        let place = number as usize / 64;
+        let word = self.words[place];
+        self.words[place] = with_bit(word, number % 64);
+    }
+
+    /// The number that is in and has so many before it. It looks at each word up to it, and at the bits
+    /// of one.
+    pub(crate) fn nth(&self, rest: u32) -> u32
+        requires short { length self.now ≤ 64 }
+        requires some { rest < rank (is_set self.now) (64 * length self.now) }
+        ensures set { is_set self.now result ≡ true }
+        ensures before { rank (is_set self.now) result ≡ rest }
+    {
+        let mut left = rest;
+        for (place, word) in self.words.iter().enumerate() {
+            let word = *word;
+            let here = word.count_ones();
+            if left < here {
+                return place as u32 * 64 + nth_bit(word, left);
+            }
+            left -= here;
+        }
+        0
+    }
+
+    /// How many numbers before this one are in.
+    pub(crate) fn rank(&self, number: u32) -> u32
+        requires short { length self.now ≤ 64 }
+        requires room { number < 64 * length self.now }
+        ensures { result ≡ rank (is_set self.now) number }
+    {
+        let last = number as usize / 64;
+        let mut before = 0;
+        for place in 0..last {
+            let word = self.words[place];
+            before += word.count_ones();
+        }
+        before + ones_below(self.words[last], number % 64)
+    }
+
+    /// Takes a number out, if it is in.
+    pub(crate) fn remove(&mut self, number: u32)
+        requires { number < 64 * length self.old }
+        ensures marks { (i : ℕ) → is_set self.new i ≡ (if i == number then false else is_set self.old i) }
+        ensures length { length self.new ≡ length self.old }
+    {
+        let place = number as usize / 64;
+        let word = self.words[place];
+        self.words[place] = without_bit(word, number % 64);
+    }
+}
+
+/// The word with this bit set.
+fn with_bit(word: u64, bit: u32) -> u64
+    requires { bit < 64 }
+    ensures same { bit_at result bit ≡ 1 }
+    ensures others { (i : ℕ) → i ≢ bit → bit_at result i ≡ bit_at word i }
+{
+    word | (1 << bit)
+}
+
+/// The word with this bit cleared.
+fn without_bit(word: u64, bit: u32) -> u64
+    requires { bit < 64 }
+    ensures same { bit_at result bit ≡ 0 }
+    ensures others { (i : ℕ) → i < 64 → i ≢ bit → bit_at result i ≡ bit_at word i }
+{
+    word & !(1 << bit)
+}
+
+/// The bit that has so many set bits below it.
+fn nth_bit(word: u64, rest: u32) -> u32
+    requires { rest < count_ones word }
+    ensures inside { result < 64 }
+    ensures set { bit_at word result ≡ 1 }
+    ensures before { rank (λ i. bit_at word i == 1) result ≡ rest }
+{
+    let mut left = rest;
+    for bit in 0..64u32 {
+        if (word >> bit) & 1 == 0 {
+            continue;
+        }
+        if left == 0 {
+            return bit;
+        }
+        left -= 1;
+    }
+    0
+}
+
+/// How many bits below this one are set.
+fn ones_below(word: u64, bit: u32) -> u32
+    requires { bit < 64 }
+    ensures { result ≡ rank (λ i. bit_at word i == 1) bit }
+{
+    (word & ((1 << bit) - 1)).count_ones()
+}

@@ -1,0 +1,139 @@
+//! Counts whose running sums are found fast.
+
+ghost use Rattle.std.specs.Prelude.{◌≡◌, ◌+◌, ◌-◌, ◌<◌, ◌≤◌, ◌^◌, length, IfOk, replicate, slice_set, slice_index, sum, take, drop};
+
+use dcsp_list::Memory;
+use std::alloc::Global;
+use std::marker::Model;
+
+/// A list of counts.
+///
+/// The sum of each block of 64 counts is kept beside them, so a running sum is found by a walk over the
+/// blocks and then over one block: at most 128 looks at 4,096 counts.
+#[derive(Drop)]
+pub(crate) struct Sums {
+    counts: Vec<u32>,
+    blocks: Vec<u32>,
+    total: u32,
+}
+
+impl Model for Sums {
+    ghost use Rattle.std.specs.Prelude.{List, ℕ};
+    ghost use Rattle.abt_links.specs.Blocks.{IsBlocked};
+
+    ghost Value = { List ℕ };
+
+    ghost view = { λ s. s.counts.items };
+
+    ghost invariant = { λ s. IsBlocked s.counts.items s.blocks.items s.total };
+}
+
+impl Sums {
+    /// So many counts, all 0.
+    pub(crate) fn new(alloc: Global, size: u32) -> Result<Sums, Memory>
+        requires { size ≤ 4096 }
+        ensures { IfOk result (λ s. s ≡ replicate size 0) }
+    {
+        let counts = match vec![in alloc; 0u32; size as usize] {
+            Ok(counts) => counts,
+            Err(_) => return Err(Memory),
+        };
+        match vec![in alloc; 0u32; (size as usize + 63) / 64] {
+            Ok(blocks) => Ok(Sums {
+                counts,
+                blocks,
+                total: 0,
+            }),
+            Err(_) => Err(Memory),
+        }
+    }
+
+    /// Raises a count by one.
+    pub(crate) fn raise(&mut self, place: u32)
+        requires exists { place < length self.old }
+        requires few { sum self.old < 2 ^ 32 - 1 }
+        ensures { self.new ≡ slice_set self.old place (slice_index self.old place + 1) }
+    {
+        let place = place as usize;
+        self.counts[place] += 1;
+        self.blocks[place / 64] += 1;
+        self.total += 1;
+    }
+
+    /// Lowers a count by one.
+    pub(crate) fn lower(&mut self, place: u32)
+        requires exists { place < length self.old }
+        requires some { 0 < slice_index self.old place }
+        ensures { self.new ≡ slice_set self.old place (slice_index self.old place - 1) }
+    {
+        let place = place as usize;
+        self.counts[place] -= 1;
+        self.blocks[place / 64] -= 1;
+        self.total -= 1;
+    }
+
+    /// The sum of all counts.
+    pub(crate) fn total(&self) -> u32
+        ensures { result ≡ sum self.now }
+    {
+        self.total
+    }
+
+    /// The sum of the counts before a place.
+    pub(crate) fn before(&self, place: u32) -> u32
+        requires exists { place ≤ length self.now }
+        requires few { sum self.now < 2 ^ 32 }
+        ensures { result ≡ sum (take place self.now) }
+    {
+        let place = place as usize;
+        let block = place / 64;
+        sum_of(&self.blocks[..block]) + sum_of(&self.counts[block * 64..place])
+    }
+
+    /// The place where the running sum passes `number`, and by how much the sum before it falls short
+    /// of `number`.
+    pub(crate) fn find(&self, number: u32) -> (u32, u32)
+        requires { number < sum self.now }
+        ensures exists { result.0 < length self.now }
+        ensures before { sum (take result.0 self.now) + result.1 ≡ number }
+        ensures within { result.1 < slice_index self.now result.0 }
+    {
+        let mut left = number;
+        for (block, here) in self.blocks.iter().enumerate() {
+            let here = *here;
+            if left < here {
+                return find_from(&self.counts, block * 64, left);
+            }
+            left -= here;
+        }
+        (0, 0)
+    }
+}
+
+/// The place where the running sum from `start` on passes `number`, and by how much the sum before it
+/// falls short.
+fn find_from(counts: &[u32], start: usize, number: u32) -> (u32, u32)
+    requires few { length counts.now ≤ 4096 }
+    requires some { number < sum (drop start counts.now) }
+    ensures exists { result.0 < length counts.now }
+    ensures before { sum (take result.0 counts.now) + result.1 ≡ sum (take start counts.now) + number }
+    ensures within { result.1 < slice_index counts.now result.0 }
+{
+    let mut left = number;
+    for place in start..counts.len() {
+        let here = counts[place];
+        if left < here {
+            return (place as u32, left);
+        }
+        left -= here;
+    }
+    (0, 0)
+}
+
+/// The sum of some counts.
+fn sum_of(counts: &[u32]) -> u32
+    requires { sum counts.now < 2 ^ 32 }
+    ensures { result ≡ sum counts.now }
+{
+    counts.iter().sum()
+}
