@@ -18,3 +18,5 @@ pub use abt_message::{Memory, Message};
 pub use links::{Carried, Links};
 pub use pair_set::PairSet;
 
+#[cfg(test)]
+mod tests;

@@ -88,8 +88,8 @@ impl Links {
         ensures handed_back { IfErr result (λ refused. refused.0 ≡ message) }
         ensures err { OnErr result (self.new ≡ self.old) }
     {
-        let place = self.opened.place_of(from, to);
-        if let Err(refused) = self.queues.push(place, message) {
+        let list = self.opened.place_of(from, to);
+        if let Err(refused) = self.queues.push(list, message) {
             return Err(refused);
         }
         self.ready.set(from, to, true);

@@ -161,18 +161,18 @@ fn add(cells: &mut Slab<Cell>, ends: Ends, message: Message) -> Result<Ends, (Me
         return Err((message, Memory));
     }
     cells.insert_reserved(Cell { message, next: 0 });
+    let alone = Ends {
+        first: key,
+        last: key,
+        count,
+    };
     if ends.count == 0 {
-        return Ok(Ends {
-            first: key,
-            last: key,
-            count,
-        });
+        return Ok(alone);
     }
     link(cells, ends.last, key);
     Ok(Ends {
         first: ends.first,
-        last: key,
-        count,
+        ..alone
     })
 }
 

@@ -53,8 +53,13 @@ pub overflow_add-result : goal.overflow_add-result
 overflow_add-result c =
     let k : Known (record { agents = c.self.inside.agents; rows = c.self.inside.rows.items }) c.self.inside.sums c.args.from c.args.to = known (record { agents = c.self.inside.agents; rows = c.self.inside.rows.items }) c.self.inside.sums c.args.from c.args.to c.args.self.now c.self.invariant c.self.view_is c.requires in
     let row : c.index.result.now ≡ row_at (record { agents = c.self.inside.agents; rows = c.self.inside.rows.items }) c.args.from = row_read (record { agents = c.self.inside.agents; rows = c.self.inside.rows.items }) c.self.inside.sums c.args.from c.args.to c.index.result.now k c.index.ensures in
-    omega (arith, number_is (record { agents = c.self.inside.agents; rows = c.self.inside.rows.items }) c.self.inside.sums c.args.from c.args.to c.before-2.result c.rank.result c.index.result.now c.before-2.ensures c.rank.ensures row,
-      number-small (record { agents = c.self.inside.agents; rows = c.self.inside.rows.items }) c.self.inside.sums c.args.from c.args.to c.self.invariant k.sender, k.receiver, c.self.invariant.small)
+    omega (
+      arith,
+      number_is (record { agents = c.self.inside.agents; rows = c.self.inside.rows.items }) c.self.inside.sums c.args.from c.args.to c.before-2.result c.rank.result c.index.result.now c.before-2.ensures c.rank.ensures row,
+      number-small (record { agents = c.self.inside.agents; rows = c.self.inside.rows.items }) c.self.inside.sums c.args.from c.args.to c.self.invariant k.sender,
+      k.receiver,
+      c.self.invariant.small,
+    )
 
 pub returns : goal.returns
 returns c =
