@@ -1,0 +1,15 @@
+//! Problems in FlatZinc that are made from numbers: queens, graph colouring, sparse colouring and
+//! pigeons. Each text declares its variables, lists them in an array that a solution prints (not the
+//! pigeons), states its constraints and asks for any solution. Random words are those of the generator
+//! XSH RR 64/32 (O'Neill, "PCG: a family of simple fast space-efficient statistically good algorithms
+//! for random number generation"), seeded by a number.
+#![tactic(auto)]
+
+mod lines;
+mod problems;
+
+pub use dcsp_list::Memory;
+pub use problems::{colouring, pigeons, queens, sparse};
+
+#[cfg(test)]
+mod tests;
