@@ -1,8 +1,23 @@
 -- What the calls of a folder and of a sink do.
-use Rattle.std.specs.Prelude.{◌≡◌, ◌≢◌, ℕ, ◌+◌, ◌-◌, ◌^◌, ◌<◌, ◌≤◌, min, List, [], ◌++◌, length, Option, Some, None, unwrap_or, Result, Ok, Err, ⊤}
+use Rattle.std.specs.Prelude.{◌≡◌, ◌≢◌, ℕ, ◌+◌, ◌-◌, ◌^◌, ◌<◌, ◌≤◌, min, List, [], ◌++◌, length, ◌⊎◌, Option, Some, None, unwrap_or, Result, Ok, Err, ⊤}
 use Rattle.dcsp_outside.specs.declared.folder.Fetched.{Fetched}
 use Rattle.dcsp_outside.specs.declared.folder.Fetched.TheVariants.{Whole, Long}
 use Rattle.dcsp_outside.specs.declared.folder.FolderError.{FolderError}
+use Rattle.dcsp_outside.specs.declared.folder.FolderError.TheVariants as folder_errors
+use Rattle.dcsp_outside.specs.declared.sink.SinkError.{SinkError}
+use Rattle.dcsp_outside.specs.declared.sink.SinkError.TheVariants as sink_errors
+
+-- a folder as contracts see it: what is held under each name, where the folder tells it; the names that calls of `create` made, in their order; and how many reads and writes of each name have failed
+pub record Place : Type 0 where
+  pub held : Option (List ℕ → Option (List ℕ))
+  pub created : List (List ℕ)
+  pub reads : List ℕ → ℕ
+  pub writes : List ℕ → ℕ
+
+-- a sink as contracts see it: all bytes that were written, where the sink tells them, and how many calls have failed
+pub record Stream : Type 0 where
+  pub written : Option (List ℕ)
+  pub faults : ℕ
 
 -- one more, up to the last value of 64 bits, where a count stays
 abbrev pub one_more : ℕ → ℕ
@@ -15,6 +30,23 @@ Rose before now = one_more before ≤ now
 -- no name's count falls
 abbrev pub NoneFalls : (List ℕ → ℕ) → (List ℕ → ℕ) → Type 0
 NoneFalls before now = (name : List ℕ) → before name ≤ now name
+
+-- every count of the folder, of every name and kind, is as it was
+pub record SameCounts (old new : Place) : Type 0 where
+  pub reads : new.reads ≡ old.reads
+  pub writes : new.writes ≡ old.writes
+
+-- this holds unless the folder failed
+abbrev pub UnlessFailed : {T : Type 0} → Result T FolderError → Type 0 → Type 0
+UnlessFailed (Ok done) P = P
+UnlessFailed (Err folder_errors.Memory) P = P
+UnlessFailed (Err folder_errors.Failed) P = ⊤
+
+-- this holds unless the sink failed
+abbrev pub UnlessPutFailed : {T : Type 0} → Result T SinkError → Type 0 → Type 0
+UnlessPutFailed (Ok done) P = P
+UnlessPutFailed (Err sink_errors.Memory) P = P
+UnlessPutFailed (Err sink_errors.Failed) P = ⊤
 
 -- where the contents are told, the old and the new ones stand so
 abbrev pub Told : {A : Type 0} → Option A → Option A → (A → A → Type 0) → Type 0
@@ -39,6 +71,10 @@ IsPrefixOf part whole = (rest : List ℕ) × (part ++ rest ≡ whole)
 -- some first bytes of the piece went last
 abbrev pub AddsPartOf : List ℕ → List ℕ → List ℕ → Type 0
 AddsPartOf piece old new = (part : List ℕ) × IsPrefixOf part piece × (new ≡ old ++ part)
+
+-- a file is as it was, or some first bytes of the piece went last
+abbrev pub AppendsPartOf : List ℕ → Option (List ℕ) → Option (List ℕ) → Type 0
+AppendsPartOf piece old new = (new ≡ old) ⊎ ((part : List ℕ) × IsPrefixOf part piece × (new ≡ Some (bytes_of old ++ part)))
 
 -- a fetch of these bytes: all of them go last, or there are more than `most`, or it is refused
 abbrev pub Fetches : List ℕ → ℕ → List ℕ → List ℕ → Result Fetched FolderError → Type 0

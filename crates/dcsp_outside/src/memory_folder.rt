@@ -87,13 +87,12 @@ impl Folder for MemoryFolder {
     ghost use Rattle.std.specs.Prelude.{Some};
     ghost use Rattle.std.specs.FinMap as map;
 
-    ghost held = { λ folder. Some (λ name. map.get folder.kept.files name) };
-
-    ghost created = { λ folder. folder.kept.created };
-
-    ghost reads = { λ folder _. folder.calls.faults };
-
-    ghost writes = { λ folder _. folder.calls.faults };
+    ghost place = { λ folder. record {
+      held = Some (λ name. map.get folder.kept.files name);
+      created = folder.kept.created;
+      reads = λ _. folder.calls.faults;
+      writes = λ _. folder.calls.faults;
+    } };
 
     fn fetch(&mut self, name: &str, most: u64, into: &mut Vec<u8>) -> Result<Fetched, FolderError>
         ensures bytes { Fetches (bytes_of (map.get self.old.kept.files name.now)) most

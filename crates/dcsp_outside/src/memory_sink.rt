@@ -68,9 +68,7 @@ impl MemorySink {
 impl Sink for MemorySink {
     ghost use Rattle.std.specs.Prelude.{Some};
 
-    ghost written = { λ sink. Some sink.written };
-
-    ghost faults = { λ sink. sink.calls.faults };
+    ghost stream = { λ sink. record { written = Some sink.written; faults = sink.calls.faults } };
 
     fn put(&mut self, bytes: &[u8]) -> Result<(), SinkError>
         ensures fails { IsErrOf result SinkError.Failed ↔ IsTrue (fails_next self.old.calls) }

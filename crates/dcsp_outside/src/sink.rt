@@ -1,7 +1,7 @@
 //! A sink that takes bytes.
 
-ghost use Rattle.std.specs.Prelude.{◌≡◌, ℕ, ◌≤◌, List, ◌++◌, Option, OnOk, IsErrOf};
-ghost use Rattle.dcsp_outside.specs.Outside.{Rose, Told, AddsPartOf};
+ghost use Rattle.std.specs.Prelude.{◌≡◌, ◌≤◌, ◌++◌, OnOk, IsErrOf};
+ghost use Rattle.dcsp_outside.specs.Outside.{Stream, Rose, UnlessPutFailed, Told, AddsPartOf};
 
 /// Why a sink refused a piece.
 #[derive(Clone, Copy, Debug, PartialEq, Eq)]
@@ -15,21 +15,20 @@ pub enum SinkError {
 /// A sink: bytes are written at its end.
 ///
 /// What was written may be left untold, as a terminal leaves it; the clauses on bytes speak of
-/// sinks that tell it.
+/// sinks that tell it. The count of failures never falls, and a call that does not answer `Failed`
+/// leaves it as it was.
 pub trait Sink {
-    /// All bytes that were written, where the sink tells them.
-    ghost written: { Self → Option (List ℕ) };
-
-    /// How many calls of `put` have failed.
-    ghost faults: { Self → ℕ };
+    /// The sink as contracts see it.
+    ghost stream: { Self → Stream };
 
     /// Writes the bytes last. After `Failed` some first bytes of them, or none, were written.
     fn put(&mut self, bytes: &[u8]) -> Result<(), SinkError>
-        ensures ok { OnOk result (Told (written self.old) (written self.new)
+        ensures ok { OnOk result (Told (stream self.old).written (stream self.new).written
             (λ old new. new ≡ old ++ bytes.now)) }
-        ensures failed { IsErrOf result SinkError.Failed → Told (written self.old) (written self.new)
+        ensures failed { IsErrOf result SinkError.Failed → Told (stream self.old).written (stream self.new).written
             (AddsPartOf bytes.now) }
-        ensures memory { IsErrOf result SinkError.Memory → written self.new ≡ written self.old }
-        ensures count { faults self.old ≤ faults self.new }
-        ensures cause { IsErrOf result SinkError.Failed → Rose (faults self.old) (faults self.new) };
+        ensures memory { IsErrOf result SinkError.Memory → (stream self.new).written ≡ (stream self.old).written }
+        ensures faults { (stream self.old).faults ≤ (stream self.new).faults }
+        ensures count { UnlessPutFailed result ((stream self.new).faults ≡ (stream self.old).faults) }
+        ensures cause { IsErrOf result SinkError.Failed → Rose (stream self.old).faults (stream self.new).faults };
 }

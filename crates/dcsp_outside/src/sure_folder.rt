@@ -59,13 +59,12 @@ impl Folder for SureFolder {
     ghost use Rattle.std.specs.Prelude.{Some};
     ghost use Rattle.std.specs.FinMap as map;
 
-    ghost held = { λ folder. Some (λ name. map.get folder.files name) };
-
-    ghost created = { λ folder. folder.created };
-
-    ghost reads = { λ _ _. 0 };
-
-    ghost writes = { λ _ _. 0 };
+    ghost place = { λ folder. record {
+      held = Some (λ name. map.get folder.files name);
+      created = folder.created;
+      reads = λ _. 0;
+      writes = λ _. 0;
+    } };
 
     fn fetch(&mut self, name: &str, most: u64, into: &mut Vec<u8>) -> Result<Fetched, FolderError>
         ensures bytes { Fetches (bytes_of (map.get self.old.files name.now)) most

@@ -41,9 +41,7 @@ impl SureSink {
 impl Sink for SureSink {
     ghost use Rattle.std.specs.Prelude.{Some};
 
-    ghost written = { λ sink. Some sink };
-
-    ghost faults = { λ _. 0 };
+    ghost stream = { λ sink. record { written = Some sink; faults = 0 } };
 
     fn put(&mut self, bytes: &[u8]) -> Result<(), SinkError>
         ensures ok { OnOk result (self.new ≡ self.old ++ bytes.now) }
