@@ -1,0 +1,4 @@
+pub mod Scripts
+pub mod Ways
+pub mod Left
+pub mod Texts
