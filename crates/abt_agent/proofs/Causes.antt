@@ -15,7 +15,7 @@ use Rattle.dcsp_defs.specs.declared.Reason.{Reason}
 use Rattle.dcsp_defs.specs.declared.Reason.TheVariants.{Rule, Earlier}
 use Rattle.abt_defs.specs.Agents.{Agent, Stamped, View, plain, known, values_in, value_in, is_among}
 use Rattle.abt_defs.specs.Reasons.{Item, constraint_item, record_item, cause, ruled_out, causes, blamed, derived, step_of}
-use Rattle.law_invariants.proofs.Facts.{Sound}
+use Rattle.law_invariants.specs.OneAgent.{Sound}
 use Rattle.dcsp_problem.specs.declared.rule.Rule as rules
 use Rattle.dcsp_problem.specs.Rules.{no_rule}
 use Rattle.dcsp_problem.specs.Problems.{Contents, csp_of, constraint_of, constraint_at, AreInDomains}

@@ -13,7 +13,7 @@ use Rattle.abt_defs.specs.Agents.{Agent, plain, fresh, shares, is_among}
 use Rattle.abt_defs.specs.Reasons.{Item, blamed, causes, derived, step_of}
 use Rattle.abt_defs.specs.Steps as steps
 use Rattle.abt_defs.specs.Steps.{Outcome}
-use Rattle.law_invariants.proofs.Facts.{Sound}
+use Rattle.law_invariants.specs.OneAgent.{Sound}
 use Rattle.law_invariants.proofs.Owners.{owner_greatest, owner_in}
 use Rattle.law_invariants.proofs.Runs.{start_kept}
 use Rattle.dcsp_problem.specs.Problems.{Contents, csp_of, constraint_at}

@@ -1,5 +1,5 @@
 -- A step, and the nogood that is sent.
-use Rattle.std.proofs.Common.{◌≡◌, ℕ, suc, ◌-◌, true, List, [], ◌∷◌, ◌++◌, length, Some, None, refl, sym, ap, subst, ◌∙◌, arith, append-nil}
+use Rattle.std.proofs.Common.{◌≡◌, ℕ, suc, ◌-◌, true, List, [], ◌∷◌, length, Some, None, refl, sym, ap, subst, ◌∙◌, arith}
 use Rattle.std.specs.Prelude.{slice_get}
 use Rattle.std.proofs.lemmas.Option.{slice_get-get_or}
 use Rattle.dcsp_nogood.specs.declared.Pair.{Pair}
@@ -9,7 +9,9 @@ use Rattle.abt_defs.specs.Reasons.{derived, step_of}
 use Rattle.abt_defs.specs.Steps as steps
 use Rattle.dcsp_problem.specs.Problems.{Contents, csp_of}
 use Rattle.abt_message.specs.declared.Sent.{Sent}
-use Rattle.abt_message.specs.Messages.{with_stamps, messages_of}
+use Rattle.abt_message.specs.Messages.{with_stamps}
+use Rattle.abt_agent.specs.Outgoing.{Posts}
+use Rattle.abt_agent.proofs.Posting.{posts_none}
 use Rattle.abt_view.specs.Views.{view_of}
 use Rattle.abt_store.specs.Stores.{records_of}
 use Rattle.abt_agent.specs.declared.body.Body.{Body}
@@ -58,17 +60,17 @@ module _ (t : Contents) (me number : ℕ) (b : Body) (sized : IsSized t me b) (o
       let none = last_none s.nogood e in
       let all : steps.take_or_refuse (csp_of t) me number (agent_of b) None ≡ record { agent = agent_of b; sent = []; step = Some s } =
       same_outcome ∙ ap (λ z. steps.refuse number (agent_of b) s (with_stamps z stamps)) none in
-      subst (λ o. Does t me o b b out out (Empty s)) (sym all) (record { agent = refl; sent = sym (append-nil (messages_of out)); turn_is = (refl, none); sized = sized })
+      subst (λ o. Does t me o b b out out (Empty s)) (sym all) (record { agent = refl; sent = posts_none out; turn_is = (refl, none); sized = sized })
 
   pub gives_up : (last : Pair) (copy : List Pair) (went : List Sent) → Some last ≡ slice_get s.nogood (length s.nogood - 1) → copy ≡ s.nogood
-      → messages_of went ≡ messages_of out ++ (last.var, Refuse number (with_stamps copy stamps)) ∷ []
+      → Posts out went ((last.var, Refuse number (with_stamps copy stamps)) ∷ [])
       → Does t me (steps.take_or_refuse (csp_of t) me number (agent_of b) None) b (record b { waits = true }) out went (Derived s)
   gives_up last copy went e c m =
       let all : steps.take_or_refuse (csp_of t) me number (agent_of b) None ≡ record { agent = record (agent_of b) { waits = true }; sent = (last.var, Refuse number (with_stamps s.nogood stamps)) ∷ []; step = Some s } =
       same_outcome ∙ refused number (agent_of b) s s.nogood stamps last e in
       subst (λ o. Does t me o b (record b { waits = true }) out went (Derived s)) (sym all) (record {
         agent = refl;
-        sent = m ∙ ap (λ z. messages_of out ++ (last.var, Refuse number (with_stamps z stamps)) ∷ []) c;
+        sent = subst (λ z. Posts out went ((last.var, Refuse number (with_stamps z stamps)) ∷ [])) c m;
         turn_is = (refl, last_some s.nogood last e);
-        sized = record { me_exists = sized.me_exists; view = sized.view; linked = sized.linked; tells = sized.tells; domains = sized.domains; problem = sized.problem; agent = sized.agent; stands = sized.stands };
+        sized = record { me_exists = sized.me_exists; view = sized.view; linked = sized.linked; tells = sized.tells; domains = sized.domains; stamps = sized.stamps; problem = sized.problem; agent = sized.agent; stands = sized.stands };
       })

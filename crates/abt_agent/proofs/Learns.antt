@@ -1,14 +1,15 @@
 -- What an agent learns and keeps.
-use Rattle.std.proofs.Common.{◌≡◌, ℕ, List, ◌++◌, sym, ap, subst, ◌∙◌}
+use Rattle.std.proofs.Common.{◌≡◌, ℕ, List, sym, ap, subst, ◌∙◌}
 use Rattle.dcsp_nogood.specs.declared.Pair.{Pair}
 use Rattle.dcsp_defs.specs.Words.{In}
 use Rattle.abt_defs.specs.Agents.{Agent, Record, StampedNogood, plain, Add_link}
 use Rattle.abt_defs.specs.Steps as steps
-use Rattle.law_invariants.proofs.Facts.{Proper, Sound}
+use Rattle.law_invariants.specs.OneAgent.{Proper, Sound}
 use Rattle.law_invariants.proofs.Learns.{learns_all}
 use Rattle.dcsp_problem.specs.Problems.{Contents, csp_of}
 use Rattle.abt_message.specs.declared.Sent.{Sent}
-use Rattle.abt_message.specs.Messages.{messages_of, with_stamps}
+use Rattle.abt_message.specs.Messages.{with_stamps}
+use Rattle.abt_agent.specs.Outgoing.{Posts}
 use Rattle.abt_agent.proofs.Lists.{plain-with_stamps}
 
 -- the nogoods that are left after asking and learning are proper
@@ -26,7 +27,7 @@ heeded me step nogood ps qs stamps a b c d p q asked learnt kept =
     kept ∙ ap (λ z. steps.keep me (record { step = step; pairs = z }) c) n ∙ ap (steps.keep me (record { step = step; pairs = plain (with_stamps nogood stamps) })) (c' ∙ ap (steps.learn_all me (with_stamps nogood stamps)) b')
 
 pub asked_for : (me : ℕ) (nogood ps : List Pair) (stamps : List ℕ) (a : Agent) (out went : List Sent) → ps ≡ nogood
-    → messages_of went ≡ messages_of out ++ steps.to_each Add_link (steps.unlinked me ps a)
-    → messages_of went ≡ messages_of out ++ steps.to_each Add_link (steps.unlinked me (plain (with_stamps nogood stamps)) a)
+    → Posts out went (steps.to_each Add_link (steps.unlinked me ps a))
+    → Posts out went (steps.to_each Add_link (steps.unlinked me (plain (with_stamps nogood stamps)) a))
 asked_for me nogood ps stamps a out went p e =
-    e ∙ ap (λ z. messages_of out ++ steps.to_each Add_link (steps.unlinked me z a)) (p ∙ sym (plain-with_stamps nogood stamps))
+    subst (λ z. Posts out went (steps.to_each Add_link (steps.unlinked me z a))) (p ∙ sym (plain-with_stamps nogood stamps)) e

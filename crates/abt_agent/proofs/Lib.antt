@@ -1,4 +1,5 @@
 pub mod Lists
+pub mod Posting
 pub mod Causes
 pub mod GivesUp
 pub mod Learns

@@ -8,7 +8,7 @@ use Rattle.dcsp_defs.specs.Words.{In, IsRising, is_value}
 use Rattle.dcsp_defs.specs.Csp.{Csp, names}
 use Rattle.abt_defs.specs.Agents.{Record}
 use Rattle.abt_defs.specs.Steps.{is_refused}
-use Rattle.law_invariants.proofs.Facts.{Proper}
+use Rattle.law_invariants.specs.OneAgent.{Proper}
 use Rattle.dcsp_problem.specs.Problems.{Contents, csp_of}
 use Rattle.abt_store.specs.declared.Recorded.{Recorded}
 use Rattle.abt_store.specs.Stores.{record_of, records_of, lowest_value, is_ruled_out}

@@ -1,5 +1,5 @@
 -- What a message that comes does.
-use Rattle.std.proofs.Common.{◌≡◌, ℕ, ◌+◌, ◌<◌, Bool, true, false, cond, not, ◌&&◌, List, ◌++◌, length, refl, sym, ap, subst, ◌∙◌, arith, append-nil, append_assoc, Result, Ok, Err, inl, inr}
+use Rattle.std.proofs.Common.{◌≡◌, ℕ, ◌+◌, ◌<◌, Bool, true, false, cond, not, ◌&&◌, List, ◌++◌, length, refl, sym, ap, subst, ◌∙◌, arith, append-nil, Result, Ok, Err, inl, inr}
 use Rattle.std.specs.Prelude.{IfOk, OnOk}
 use Rattle.dcsp_list.specs.declared.Memory.{Memory}
 use Rattle.std.proofs.lemmas.Bool.Decides.{eqb_tells}
@@ -9,13 +9,15 @@ use Rattle.dcsp_defs.specs.Csp.{Csp, count, domain}
 use Rattle.abt_defs.specs.Agents.{Agent, Message, Refuse, Stamped, StampedNogood, plain, Add_link}
 use Rattle.abt_defs.specs.Steps as steps
 use Rattle.abt_defs.specs.Steps.{Outcome}
-use Rattle.law_invariants.proofs.Facts.{Proper, Sound}
+use Rattle.law_invariants.specs.OneAgent.{Proper, Sound}
 use Rattle.law_invariants.proofs.Settles.{settles}
 use Rattle.law_invariants.proofs.Learns.{learns_all, keeps}
 use Rattle.law_invariants.proofs.Receives.{announced, heeded as takes_nogood}
 use Rattle.dcsp_problem.specs.Problems.{Contents, csp_of}
 use Rattle.abt_message.specs.declared.Sent.{Sent}
-use Rattle.abt_message.specs.Messages.{messages_of, with_stamps}
+use Rattle.abt_message.specs.Messages.{with_stamps}
+use Rattle.abt_agent.specs.Outgoing.{Posts}
+use Rattle.abt_agent.proofs.Posting.{posts_then}
 use Rattle.abt_agent.specs.declared.body.Body.{Body}
 use Rattle.abt_agent.specs.declared.Turn.{Turn}
 use Rattle.abt_agent.specs.declared.Turn.TheVariants.{Quiet, Announced, Derived, Empty}
@@ -89,22 +91,22 @@ turn_same a b sent o (Empty s) e h = h
 
 -- messages sent before settling come first
 after_first : (t : Contents) (me : ℕ) (o : Outcome) (before mid after : Body) (out first went : List Sent) (sent : List (ℕ × Message)) (turn : Turn)
-    → mid.stamp ≡ before.stamp → messages_of first ≡ messages_of out ++ sent → Does t me o mid after first went turn
+    → mid.stamp ≡ before.stamp → Posts out first sent → Does t me o mid after first went turn
     → Does t me (steps.first_sent sent o) before after out went turn
 after_first t me o before mid after out first went sent turn e f d = record {
   agent = d.agent;
-  sent = d.sent ∙ ap (λ z. z ++ o.sent) f ∙ append_assoc (messages_of out) sent o.sent;
+  sent = posts_then out first went sent o.sent f d.sent;
   turn_is = turn_same (agent_of mid) (agent_of before) sent o turn e d.turn_is;
   sized = d.sized;
 }
 
 -- the agent heeds the nogood, and goes on waiting
 stays_idle : (t : Contents) (me : ℕ) (before after : Body) (b : Agent) (out went : List Sent) (sent : List (ℕ × Message))
-    → agent_of after ≡ b → after.stamp ≡ before.stamp → messages_of went ≡ messages_of out ++ sent → IsSized t me after
+    → agent_of after ≡ b → after.stamp ≡ before.stamp → Posts out went sent → IsSized t me after
     → Does t me (steps.first_sent sent (steps.stay b)) before after out went Quiet
 stays_idle t me before after b out went sent e f m sized = record {
   agent = e;
-  sent = m ∙ ap (λ z. messages_of out ++ z) (sym (append-nil sent));
+  sent = subst (Posts out went) (sym (append-nil sent)) m;
   turn_is = (refl, ap (λ (z : Agent). z.stamp) (sym e) ∙ f);
   sized = sized;
 }
@@ -120,7 +122,7 @@ idle_is t me number from step nogood ps stamps a idle p e =
 
 module _ (t : Contents) (me number from step : ℕ) (nogood ps : List Pair) (stamps : List ℕ) (before mid : Body) (out first : List Sent)
     (p : ps ≡ nogood) (heeds : agent_of mid ≡ steps.heed me step (with_stamps nogood stamps) (agent_of before))
-    (asks : messages_of first ≡ messages_of out ++ steps.to_each Add_link (steps.unlinked me (plain (with_stamps nogood stamps)) (agent_of before))) where
+    (asks : Posts out first (steps.to_each Add_link (steps.unlinked me (plain (with_stamps nogood stamps)) (agent_of before)))) where
   pub same_stamp : mid.stamp ≡ before.stamp
   same_stamp = ap (λ (z : Agent). z.stamp) heeds ∙ heed_stamp me step (with_stamps nogood stamps) (agent_of before)
 

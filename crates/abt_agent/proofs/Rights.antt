@@ -8,13 +8,14 @@ use Rattle.abt_defs.specs.Agents.{Agent, Stamped, StampedNogood, Announce, Refus
 use Rattle.abt_defs.specs.Reasons.{derived, step_of}
 use Rattle.abt_defs.specs.Steps as steps
 use Rattle.abt_defs.specs.Steps.{Outcome, is_newer, is_news, settle, learn, heed, stay, first_sent, to_each, unlinked, receive}
-use Rattle.law_invariants.proofs.Facts.{Proper, Sound}
+use Rattle.law_invariants.specs.OneAgent.{Proper, Sound}
 use Rattle.law_right_steps.proofs.Runs.{Rooted, OptionRight, settled, received}
 use Rattle.abt_message.specs.Messages.{with_stamps}
 use Rattle.abt_agent.specs.declared.Turn.{Turn}
 use Rattle.abt_agent.specs.declared.Turn.TheVariants.{Quiet, Announced, Derived, Empty}
 use Rattle.abt_agent.specs.Turns.{IsTurn}
-use Rattle.abt_agent.specs.Rights.{IsOfStep, AreOfSteps, IsRightTurn}
+use Rattle.law_right_steps.specs.Sources.{IsOfStep, AreOfSteps}
+use Rattle.abt_agent.specs.Rights.{IsRightTurn}
 use Rattle.abt_agent.proofs.Lists.{plain-with_stamps}
 
 -- ---- no step's number matters to what the step is

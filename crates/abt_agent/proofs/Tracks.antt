@@ -1,5 +1,5 @@
 -- The reasons are kept up with view and store.
-use Rattle.std.proofs.Common.{◌≡◌, ◌≢◌, ℕ, cond, List, Some, refl, sym, ap, subst, ◌∙◌, inl, inr}
+use Rattle.std.proofs.Common.{◌≡◌, ◌≢◌, ℕ, ◌<◌, cond, List, Some, refl, sym, ap, subst, ◌∙◌, inl, inr}
 use Rattle.std.specs.Prelude.{filter}
 use Rattle.std.proofs.lemmas.Bool.{ne_eqb, eq-eqb}
 use Rattle.std.proofs.lemmas.Bool.Decides.{eqb_tells}
@@ -10,6 +10,7 @@ use Rattle.dcsp_problem.specs.Problems.{AreInDomains}
 use Rattle.abt_store.specs.declared.Recorded.{Recorded}
 use Rattle.abt_store.specs.Stores.{fits}
 use Rattle.abt_reason.specs.Cached.{Cached, StandsFor, StoodBefore}
+use Rattle.abt_agent.specs.Outgoing.{IsStampedView}
 
 module _ (old new : View) (from : ℕ) (s : Stamped) (e : new ≡ update old from (Some s)) where
   at : (k : ℕ) → new k ≡ update old from (Some s) k
@@ -22,6 +23,15 @@ module _ (old new : View) (from : ℕ) (s : Stamped) (e : new ≡ update old fro
         let same : s.value ≡ v = cc in
         subst (λ z. In v (domain p z)) (sym t.1) (subst (λ z. In z (domain p from)) same there)
     | inr t ↦ all var v l (sym (ap (λ b. value_in (cond b (Some s) (old var))) t.0) ∙ sym (ap value_in (at var)) ∙ g)
+  ]
+
+  pub new_stamps : 0 < s.stamp → IsStampedView old → IsStampedView new
+  new_stamps positive all k t g = elim (eqb_tells k from) [
+    | inl u ↦
+        let some : Some s ≡ Some t = sym (ap (λ b. cond b (Some s) (old k)) u.0) ∙ sym (at k) ∙ g in
+        let same : s ≡ t = cc in
+        subst (λ (z : Stamped). 0 < z.stamp) same positive
+    | inr u ↦ all k t (sym (ap (λ b. cond b (Some s) (old k)) u.0) ∙ sym (at k) ∙ g)
   ]
 
   same_others : (k : ℕ) → k ≢ from → values_in old k ≡ values_in new k

@@ -1,19 +1,19 @@
 -- What the inside of the code's agent stands for.
-use Rattle.std.specs.Prelude.{◌≡◌, ℕ, ◌<◌, List, ◌++◌, length}
+use Rattle.std.specs.Prelude.{◌≡◌, ℕ, ◌<◌, List, length}
 use Rattle.dcsp_defs.specs.Words.{In}
 use Rattle.abt_defs.specs.Agents.{Agent, Record, values_in}
 use Rattle.abt_defs.specs.Steps.{Outcome}
-use Rattle.law_invariants.proofs.Facts.{Proper, Sound}
+use Rattle.law_invariants.specs.OneAgent.{Proper, Sound}
 use Rattle.dcsp_problem.specs.Problems.{Contents, csp_of, AreInDomains}
 use Rattle.abt_reason.specs.Cached.{StandsFor}
 use Rattle.abt_message.specs.declared.Sent.{Sent}
-use Rattle.abt_message.specs.Messages.{messages_of}
 use Rattle.abt_view.specs.Views.{view_of}
 use Rattle.abt_store.specs.declared.Recorded.{Recorded}
 use Rattle.abt_store.specs.Stores.{records_of}
 use Rattle.abt_agent.specs.declared.body.Body.{Body}
 use Rattle.abt_agent.specs.declared.Turn.{Turn}
 use Rattle.abt_agent.specs.Turns.{IsTurn}
+use Rattle.abt_agent.specs.Outgoing.{IsStampedView, Posts}
 use Rattle.abt_agent.specs.States.{marked}
 
 -- the agent of the definitions that the code's agent stands for
@@ -28,13 +28,14 @@ agent_of b = record {
   linked = marked b.linked.items;
 }
 
--- the tables are as long as the problem wants them, the view's values are of the domains, and the reasons are those of view and store
+-- the tables are as long as the problem wants them, the view's values are of the domains and have stamps, and the reasons are those of view and store
 pub record IsSized (p : Contents) (me : ℕ) (b : Body) : Type 0 where
   pub me_exists : me < length p.domains
   pub view : length b.view ≡ me
   pub linked : length b.linked.items ≡ me
   pub tells : length b.tells.items ≡ length p.domains
   pub domains : AreInDomains (csp_of p) (values_in (view_of b.view))
+  pub stamps : IsStampedView (view_of b.view)
   pub problem : b.reasons.problem ≡ p
   pub agent : b.reasons.agent ≡ me
   pub stands : StandsFor b.reasons (values_in (view_of b.view)) b.store
@@ -59,6 +60,6 @@ pub record IsGood (p : Contents) (me : ℕ) (b : Body) : Type 0 where
 -- the code did what the definitions' agent does
 pub record Does (p : Contents) (me : ℕ) (o : Outcome) (before after : Body) (out went : List Sent) (turn : Turn) : Type 0 where
   pub agent : agent_of after ≡ o.agent
-  pub sent : messages_of went ≡ messages_of out ++ o.sent
+  pub sent : Posts out went o.sent
   pub turn_is : IsTurn (agent_of before) o turn
   pub sized : IsSized p me after

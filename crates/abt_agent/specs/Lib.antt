@@ -1,4 +1,5 @@
 pub mod Turns
+pub mod Outgoing
 pub mod States
 pub mod Bodies
 pub mod Places

@@ -1,5 +1,5 @@
 -- The agent that callers see.
-use Rattle.std.specs.Prelude.{◌≡◌, ℕ, ◌-◌, ◌<◌, ◌^◌, ℤ, Bool, false, List, ◌++◌, length, Option, Some, slice_get, slice_index_or}
+use Rattle.std.specs.Prelude.{◌≡◌, ℕ, ◌-◌, ◌<◌, ◌^◌, ℤ, Bool, false, List, length, Option, Some, slice_get, slice_index_or}
 use Rattle.std.specs.Option.{option_map}
 use Rattle.dcsp_nogood.specs.declared.Pair.{Pair}
 use Rattle.dcsp_defs.specs.Words.{In}
@@ -10,13 +10,13 @@ use Rattle.dcsp_problem.specs.Problems.{Contents, csp_of}
 use Rattle.abt_message.specs.declared.Message.{Message}
 use Rattle.abt_message.specs.declared.Message.TheVariants.{Tell, Refuse, AddLink}
 use Rattle.abt_message.specs.declared.Sent.{Sent}
-use Rattle.abt_message.specs.Messages.{messages_of}
 use Rattle.abt_view.specs.declared.Told.{Told}
 use Rattle.abt_view.specs.Views.{view_of}
 use Rattle.abt_store.specs.declared.Recorded.{Recorded}
 use Rattle.abt_store.specs.Stores.{records_of}
 use Rattle.abt_agent.specs.declared.Turn.{Turn}
 use Rattle.abt_agent.specs.Turns.{IsTurn}
+use Rattle.abt_agent.specs.Outgoing.{AreStampsOf, Posts}
 
 -- what the code's agent has
 pub record State : Type 0 where
@@ -50,28 +50,34 @@ stands_for s = record {
 -- the agent did what the definitions' agent does: its new state, what it sent, and what it tells of its turn
 pub record Acts (old new : State) (o : Outcome) (out went : List Sent) (turn : Turn) : Type 0 where
   pub agent : stands_for new ≡ o.agent
-  pub sent : messages_of went ≡ messages_of out ++ o.sent
+  pub sent : Posts out went o.sent
   pub turn_is : IsTurn (stands_for old) o turn
   pub problem : new.problem ≡ old.problem
   pub me : new.me ≡ old.me
   pub good : new.spent ≡ false
 
--- a nogood for agent i: its lowest variable is i, its values are of the domains, and each has a stamp
+-- a nogood for agent i: its lowest variable is i, its values are of the domains, and each has a stamp above 0
 pub record IsNogoodFor (p : Contents) (i : ℕ) (nogood : List Pair) (stamps : List ℕ) : Type 0 where
   pub lowest : option_map (λ (pair : Pair). pair.var) (slice_get nogood (length nogood - 1)) ≡ Some i
   pub values : (pair : Pair) → In pair nogood → In pair.value (domain (csp_of p) pair.var)
-  pub stamped : length stamps ≡ length nogood
+  pub stamped : AreStampsOf nogood stamps
 
--- which messages may come to agent i, and from whom
-abbrev pub IsFit : Contents → ℕ → ℕ → Message → Type 0
-IsFit p i from (Tell value stamp) = (from < i) × In value (domain (csp_of p) from)
-IsFit p i from (Refuse nogood stamps step) = IsNogoodFor p i nogood stamps
-IsFit p i from AddLink = from < length p.domains
+-- a value that a higher agent tells: it is of that agent's domain, and its stamp is above 0
+pub record IsToldBy (p : Contents) (i from : ℕ) (value : ℤ) (stamp : ℕ) : Type 0 where
+  pub higher : from < i
+  pub value_in : In value (domain (csp_of p) from)
+  pub stamped : 0 < stamp
 
--- what is asked of a message to an agent that is not spent
-pub record CanReceive (s : State) (from : ℕ) (m : Message) : Type 0 where
+-- which messages may come to agent i, and from whom, before a step with this number is made
+abbrev pub IsFit : Contents → ℕ → ℕ → ℕ → Message → Type 0
+IsFit p i next from (Tell value stamp) = IsToldBy p i from value stamp
+IsFit p i next from (Refuse nogood stamps step) = IsNogoodFor p i nogood stamps × (step < next)
+IsFit p i next from AddLink = (i < from) × (from < length p.domains)
+
+-- what is asked of an agent that is not spent, and of the message, before a step with this number is made
+pub record CanReceive (s : State) (from next : ℕ) (m : Message) : Type 0 where
   pub stamp : s.stamp < 2 ^ 62
-  pub fit : IsFit s.problem s.me from m
+  pub fit : IsFit s.problem s.me next from m
 
 -- an agent before its start
 pub record IsFresh (p : Contents) (i : ℕ) (s : State) : Type 0 where

@@ -1,6 +1,6 @@
 //! The agent that callers see.
 
-ghost use Rattle.std.specs.Prelude.{◌≡◌, ◌<◌, IfOk, IsErr, OnErr, ℕ, List, false, length, true};
+ghost use Rattle.std.specs.Prelude.{◌≡◌, ◌<◌, IfOk, IsErr, OnErr, OnOk, ℕ, List, false, length, true};
 ghost use Rattle.dcsp_defs.specs.declared.Step.{Step as TheStep};
 ghost use Rattle.abt_defs.specs.Steps as steps;
 ghost use Rattle.law_bounded_store.specs.Stores.{IsBoundedStore};
@@ -9,7 +9,8 @@ ghost use Rattle.dcsp_problem.specs.Problems.{csp_of};
 ghost use Rattle.abt_message.specs.Messages.{message_of};
 ghost use Rattle.abt_agent.specs.States.{stands_for, Acts, CanReceive, IsFresh};
 ghost use Rattle.abt_agent.specs.Turns.{IsFirstTurn};
-ghost use Rattle.abt_agent.specs.Rights.{AreOfSteps, BringsOfStep, IsRightTurn};
+ghost use Rattle.law_right_steps.specs.Sources.{AreOfSteps};
+ghost use Rattle.abt_agent.specs.Rights.{BringsOfStep, IsRightTurn};
 ghost use Rattle.abt_store.specs.Stores.{records_of};
 
 use crate::Turn;
@@ -63,12 +64,15 @@ impl<'p> Agent<'p> {
     }
 
     /// Settles for the first time: the agent takes its least value, or makes a step with the empty
-    /// nogood, which is right after any steps. The messages are appended to `out`.
+    /// nogood, which is right after any steps. The messages are appended to `out`, in which all that stood
+    /// there stays. What `value` says of the agent holds here too.
     pub fn start(&mut self, out: &mut Outbox) -> Result<Turn, Memory>
         requires { self.old.spent ≡ false → IsFresh self.old.problem self.old.me self.old }
         ensures does { (number : ℕ) → IfOk result (λ turn. Acts self.old self.new (steps.settle (csp_of self.old.problem) self.old.me number (stands_for self.old)) out.old out.new turn) }
         ensures first { IfOk result IsFirstTurn }
         ensures right { (made : List TheStep) → IfOk result (IsRightTurn (csp_of self.old.problem) made) }
+        ensures bounded { OnOk result (IsBoundedStore (csp_of self.old.problem) self.old.me (stands_for self.new)) }
+        ensures merges { OnOk result (IsUnionOfReasons (csp_of self.old.problem) self.old.me (stands_for self.new)) }
         ensures problem { self.new.problem ≡ self.old.problem }
         ensures me { self.new.me ≡ self.old.me }
         ensures spends { OnErr result (self.new.spent ≡ true) }
@@ -78,6 +82,7 @@ impl<'p> Agent<'p> {
             return Err(Memory);
         }
         let problem = self.problem;
+        let _vars = problem.vars();
         match first_settle(self.alloc, problem, self.me, &mut self.body, out) {
             Ok(turn) => Ok(turn),
             Err(memory) => {
@@ -87,10 +92,13 @@ impl<'p> Agent<'p> {
         }
     }
 
-    /// Receives a message from another agent. The messages are appended to `out`: link requests first,
-    /// then what settling sends. A nogood that is sent carries `next_step`, the number of the step that
-    /// derives it. A step that it makes is right after any steps of which those that the kept nogoods
-    /// and the message name have these nogoods.
+    /// Receives a message from another agent: a value of its domain from a higher one, with a stamp above
+    /// 0; a nogood whose lowest variable is this agent's, with as many stamps as pairs, each above 0, and
+    /// the number of a step below `next_step`; or a link request from a lower one. The messages are
+    /// appended to `out`, in which all that stood there stays: link requests first, then what settling
+    /// sends. A nogood that is sent carries `next_step`, the number of the step that derives it. A step
+    /// that it makes is right after any steps of which those that the kept nogoods and the message name
+    /// have these nogoods. What `value` says of the agent holds here too.
     pub fn receive(
         &mut self,
         from: u32,
@@ -98,9 +106,11 @@ impl<'p> Agent<'p> {
         next_step: u64,
         out: &mut Outbox,
     ) -> Result<Turn, Memory>
-        requires { self.old.spent ≡ false → CanReceive self.old from message }
+        requires { self.old.spent ≡ false → CanReceive self.old from next_step message }
         ensures does { IfOk result (λ turn. Acts self.old self.new (steps.receive (csp_of self.old.problem) self.old.me next_step (stands_for self.old) from (message_of message)) out.old out.new turn) }
         ensures right { (made : List TheStep) → AreOfSteps made (records_of self.old.store) → BringsOfStep made message → IfOk result (IsRightTurn (csp_of self.old.problem) made) }
+        ensures bounded { OnOk result (IsBoundedStore (csp_of self.old.problem) self.old.me (stands_for self.new)) }
+        ensures merges { OnOk result (IsUnionOfReasons (csp_of self.old.problem) self.old.me (stands_for self.new)) }
         ensures problem { self.new.problem ≡ self.old.problem }
         ensures me { self.new.me ≡ self.old.me }
         ensures spends { OnErr result (self.new.spent ≡ true) }
@@ -110,6 +120,7 @@ impl<'p> Agent<'p> {
             return Err(Memory);
         }
         let problem = self.problem;
+        let _vars = problem.vars();
         match act(
             self.alloc,
             problem,

@@ -1,11 +1,12 @@
 //! Link requests.
 
-ghost use Rattle.std.specs.Prelude.{◌≡◌, ◌∷◌, ◌++◌, ◌&&◌, [], OnOk, filter, length, not, if◌then◌else◌};
+ghost use Rattle.std.specs.Prelude.{◌≡◌, ◌<◌, ◌∷◌, ◌&&◌, [], OnOk, filter, length, not, true, if◌then◌else◌};
 ghost use Rattle.dcsp_defs.specs.Words.{below};
 ghost use Rattle.abt_defs.specs.Agents.{Add_link};
 ghost use Rattle.abt_defs.specs.Steps as steps;
-ghost use Rattle.abt_message.specs.Messages.{message_of, messages_of};
+ghost use Rattle.abt_message.specs.Messages.{message_of};
 ghost use Rattle.abt_agent.specs.Bodies.{agent_of, IsSized};
+ghost use Rattle.abt_agent.specs.Outgoing.{IsStamped, Posts};
 ghost use Rattle.abt_agent.specs.States.{marked};
 
 use crate::body::Body;
@@ -17,7 +18,8 @@ use dcsp_problem::Problem;
 
 /// Sends the message if it is wanted.
 pub fn push_if(out: &mut Outbox, wanted: bool, to: u32, message: Message) -> Result<(), Memory>
-    ensures { OnOk result (messages_of out.new ≡ messages_of out.old ++ (if wanted then (to, message_of message) ∷ [] else [])) }
+    requires { wanted ≡ true → IsStamped message }
+    ensures { OnOk result (Posts out.old out.new (if wanted then (to, message_of message) ∷ [] else [])) }
 {
     if wanted {
         out.push(Sent { to, message }).map_err(|_| Memory)
@@ -38,13 +40,21 @@ fn is_named(var: u32, pairs: &[Pair]) -> bool
     false
 }
 
+/// Whether the pairs name the agent, and it is not marked.
+fn is_unlinked(linked: &[bool], to: u32, pairs: &[Pair]) -> bool
+    requires { to < length linked.now }
+    ensures { result ≡ (steps.is_named to pairs.now && not (marked linked.now to)) }
+{
+    is_named(to, pairs) && !linked[to as usize]
+}
+
 /// Asks for a link each agent that the pairs name and that is not marked, rising.
 fn ask_each(linked: &[bool], me: u32, pairs: &[Pair], out: &mut Outbox) -> Result<(), Memory>
     requires { length linked.now ≡ me }
-    ensures { OnOk result (messages_of out.new ≡ messages_of out.old ++ steps.to_each Add_link (filter (λ k. steps.is_named k pairs.now && not (marked linked.now k)) (below me))) }
+    ensures { OnOk result (Posts out.old out.new (steps.to_each Add_link (filter (λ k. steps.is_named k pairs.now && not (marked linked.now k)) (below me)))) }
 {
     for to in 0..me {
-        let wanted = !linked[to as usize] && is_named(to, pairs);
+        let wanted = is_unlinked(linked, to, pairs);
         push_if(out, wanted, to, Message::AddLink)?;
     }
     Ok(())
@@ -60,7 +70,7 @@ pub fn ask(
 ) -> Result<(), Memory>
     requires { IsSized problem.now me body.old }
     ensures agent { OnOk result (agent_of body.new ≡ steps.ask me pairs.now (agent_of body.old)) }
-    ensures sent { OnOk result (messages_of out.new ≡ messages_of out.old ++ steps.to_each Add_link (steps.unlinked me pairs.now (agent_of body.old))) }
+    ensures sent { OnOk result (Posts out.old out.new (steps.to_each Add_link (steps.unlinked me pairs.now (agent_of body.old)))) }
     ensures sized { OnOk result (IsSized problem.now me body.new) }
 {
     ask_each(&body.linked, me, pairs, out)?;

@@ -12,6 +12,7 @@ ghost use Rattle.abt_message.specs.Messages.{with_stamps};
 ghost use Rattle.abt_view.specs.Views.{view_of, stamped_of};
 ghost use Rattle.abt_store.specs.Stores.{is_ruled_out, lowest_value, records_of};
 ghost use Rattle.abt_agent.specs.Bodies.{agent_of, AreProper, IsProper, IsSized};
+ghost use Rattle.abt_agent.specs.Outgoing.{AreStampsOf};
 
 use crate::body::Body;
 use abt_view::Told;
@@ -25,6 +26,7 @@ pub fn learn(problem: &Problem, me: u32, body: &mut Body, from: u32, told: Told)
     requires sized { IsSized problem.now me body.old }
     requires higher { from < me }
     requires value { In told.value (domain (csp_of problem.now) from) }
+    requires stamped { 0 < told.stamp }
     ensures news { result ≡ steps.is_newer (view_of body.old.view from) told.stamp }
     ensures agent { agent_of body.new ≡ steps.learn from (stamped_of told) (agent_of body.old) }
     ensures sized { IsSized problem.now me body.new }
@@ -41,6 +43,7 @@ pub fn learn(problem: &Problem, me: u32, body: &mut Body, from: u32, told: Told)
 fn learn_higher(problem: &Problem, me: u32, body: &mut Body, var: u32, told: Told)
     requires sized { IsSized problem.now me body.old }
     requires value { In told.value (domain (csp_of problem.now) var) }
+    requires stamped { 0 < told.stamp }
     ensures agent { agent_of body.new ≡ (if nat_lt var me then steps.learn var (stamped_of told) (agent_of body.old) else agent_of body.old) }
     ensures sized { IsSized problem.now me body.new }
 {
@@ -52,7 +55,7 @@ fn learn_higher(problem: &Problem, me: u32, body: &mut Body, var: u32, told: Tol
 /// Takes in what is told of higher agents, in order.
 pub fn learn_all(problem: &Problem, me: u32, body: &mut Body, pairs: &[Pair], stamps: &[u64])
     requires sized { IsSized problem.now me body.old }
-    requires stamped { length stamps.now ≡ length pairs.now }
+    requires stamped { AreStampsOf pairs.now stamps.now }
     requires values { (pair : ThePair) → In pair pairs.now → In pair.value (domain (csp_of problem.now) pair.var) }
     ensures agent { agent_of body.new ≡ steps.learn_all me (with_stamps pairs.now stamps.now) (agent_of body.old) }
     ensures sized { IsSized problem.now me body.new }

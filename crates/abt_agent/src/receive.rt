@@ -1,18 +1,20 @@
 //! What a message does to an agent, and its first settling.
 
-ghost use Rattle.std.specs.Prelude.{◌≡◌, ◌<◌, ◌^◌, ◌++◌, IfOk, OnOk, ℕ, List, length, not, ◌&&◌, true};
+ghost use Rattle.std.specs.Prelude.{◌≡◌, ◌<◌, ◌^◌, IfOk, OnOk, ℕ, List, Some, ℤ, length, not, ◌&&◌, true};
 ghost use Rattle.dcsp_nogood.specs.Pairs.{IsRising as PairsRise};
 ghost use Rattle.dcsp_defs.specs.declared.Step.{Step as TheStep};
 ghost use Rattle.dcsp_defs.specs.Words.{update};
 ghost use Rattle.abt_defs.specs.Agents.{fresh, plain, Add_link, Announce, Refuse};
 ghost use Rattle.abt_defs.specs.Steps as steps;
 ghost use Rattle.dcsp_problem.specs.Problems.{csp_of};
-ghost use Rattle.abt_message.specs.Messages.{message_of, messages_of, with_stamps};
+ghost use Rattle.abt_message.specs.Messages.{message_of, with_stamps};
 ghost use Rattle.abt_view.specs.Views.{stamped_of};
-ghost use Rattle.abt_agent.specs.Bodies.{agent_of, Does, IsGood, IsSized};
-ghost use Rattle.abt_agent.specs.States.{marked, IsFit, IsNogoodFor};
+ghost use Rattle.abt_agent.specs.Bodies.{agent_of, Does, IsGood};
+ghost use Rattle.abt_agent.specs.Outgoing.{Posts};
+ghost use Rattle.abt_agent.specs.States.{marked, IsFit, IsNogoodFor, IsToldBy};
 ghost use Rattle.abt_agent.specs.Turns.{IsFirstTurn};
-ghost use Rattle.abt_agent.specs.Rights.{AreOfSteps, BringsOfStep, IsRightTurn};
+ghost use Rattle.law_right_steps.specs.Sources.{AreOfSteps};
+ghost use Rattle.abt_agent.specs.Rights.{BringsOfStep, IsRightTurn};
 ghost use Rattle.abt_store.specs.Stores.{records_of};
 
 use crate::Turn;
@@ -59,7 +61,7 @@ fn receive_tell(
 ) -> Result<Turn, Memory>
     requires good { IsGood problem.now me body.old }
     requires stamp { body.old.stamp < 2 ^ 62 }
-    requires fit { IsFit problem.now me from (Message.Tell told.value told.stamp) }
+    requires fit { IsToldBy problem.now me from told.value told.stamp }
     ensures does { IfOk result (λ turn. Does problem.now me (steps.receive (csp_of problem.now) me number (agent_of body.old) from (Announce (stamped_of told))) body.old body.new out.old out.new turn) }
     ensures good { OnOk result (IsGood problem.now me body.new) }
 {
@@ -82,7 +84,7 @@ fn heed(
     requires good { IsGood problem.now me body.old }
     requires nogood { IsNogoodFor problem.now me nogood stamps.now }
     ensures agent { OnOk result (agent_of body.new ≡ steps.heed me step (with_stamps nogood stamps.now) (agent_of body.old)) }
-    ensures sent { OnOk result (messages_of out.new ≡ messages_of out.old ++ steps.to_each Add_link (steps.unlinked me (plain (with_stamps nogood stamps.now)) (agent_of body.old))) }
+    ensures sent { OnOk result (Posts out.old out.new (steps.to_each Add_link (steps.unlinked me (plain (with_stamps nogood stamps.now)) (agent_of body.old)))) }
     ensures good { OnOk result (IsGood problem.now me body.new) }
 {
     ask(problem, me, body, nogood.pairs(), out)?;
@@ -128,7 +130,8 @@ fn receive_refuse(
 
 /// Tells the agent's value, if there is one.
 fn tell_own(body: &Body, to: u32, out: &mut Outbox) -> Result<(), Memory>
-    ensures { OnOk result (messages_of out.new ≡ messages_of out.old ++ steps.own_value to (agent_of body.now) body.now.value) }
+    requires { (value : ℤ) → body.now.value ≡ Some value → 0 < body.now.stamp }
+    ensures { OnOk result (Posts out.old out.new (steps.own_value to (agent_of body.now) body.now.value)) }
 {
     match body.value {
         Some(value) => {
@@ -159,7 +162,7 @@ fn answer_link(
     number: u64,
     out: &mut Outbox,
 ) -> Result<Turn, Memory>
-    requires sized { IsSized problem.now me body.old }
+    requires good { IsGood problem.now me body.old }
     requires exists { from < length problem.now.domains }
     ensures { IfOk result (λ turn. Does problem.now me (steps.receive (csp_of problem.now) me number (agent_of body.old) from Add_link) body.old body.new out.old out.new turn) }
 {
@@ -198,7 +201,7 @@ pub fn act(
 ) -> Result<Turn, Memory>
     requires good { IsGood problem.now me body.old }
     requires stamp { body.old.stamp < 2 ^ 62 }
-    requires fit { IsFit problem.now me from message }
+    requires fit { IsFit problem.now me number from message }
     ensures does { IfOk result (λ turn. Does problem.now me (steps.receive (csp_of problem.now) me number (agent_of body.old) from (message_of message)) body.old body.new out.old out.new turn) }
     ensures good { OnOk result (IsGood problem.now me body.new) }
     ensures right { (made : List TheStep) → AreOfSteps made (records_of body.old.store) → BringsOfStep made message → IfOk result (IsRightTurn (csp_of problem.now) made) }

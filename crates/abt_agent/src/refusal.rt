@@ -1,6 +1,7 @@
 //! The step that says why an agent has no value left.
 
 ghost use Rattle.std.specs.Prelude.{◌≡◌, ◌<◌, ◌∷◌, ◌++◌, [], ◌&&◌, ℕ, All, IfOk, OnOk, false, filter_map, length, map, nat_lt, option_to_list, ◌||◌};
+ghost use Rattle.std.specs.Option.{ForSome};
 ghost use Rattle.dcsp_defs.specs.Words.{below};
 ghost use Rattle.dcsp_defs.specs.Csp.{domain};
 ghost use Rattle.abt_defs.specs.Reasons.{derived, pair_at, step_of};
@@ -9,6 +10,7 @@ ghost use Rattle.abt_message.specs.Messages.{with_stamps};
 ghost use Rattle.abt_store.specs.Stores.{records_of};
 ghost use Rattle.abt_view.specs.Views.{stamped_in, view_of};
 ghost use Rattle.abt_agent.specs.Bodies.{IsSized};
+ghost use Rattle.abt_agent.specs.Outgoing.{ArePositive, AreStampsOf, IsStampedView};
 ghost use Rattle.abt_agent.specs.States.{marked};
 ghost use Rattle.abt_agent.specs.Places.{blames, blames_one, item_at, told_at, told_if, IsPlace};
 
@@ -37,6 +39,7 @@ pub fn refuse(alloc: Global, problem: &Problem, me: u32, body: &Body) -> Result<
     requires { IsSized problem.now me body.now }
     ensures step { IfOk result (λ refusal. refusal.step ≡ step_of (csp_of problem.now) me (view_of body.now.view) (records_of body.now.store)) }
     ensures pairs { IfOk result (λ refusal. with_stamps refusal.step.nogood refusal.stamps ≡ derived (csp_of problem.now) me (view_of body.now.view) (records_of body.now.store)) }
+    ensures stamped { IfOk result (λ refusal. AreStampsOf refusal.step.nogood refusal.stamps) }
 {
     let places = places(alloc, problem, me, body)?;
     let kept = body.store.items();
@@ -98,8 +101,10 @@ struct Basis {
 
 /// What the view has of the marked agents, rising.
 fn gather(alloc: Global, me: u32, view: &View, marks: &[bool]) -> Result<Basis, Memory>
-    requires { length marks.now ≡ me }
-    ensures { IfOk result (λ basis. with_stamps basis.nogood basis.stamps ≡ filter_map (told_at marks.now (view_of view.now)) (below me)) }
+    requires size { length marks.now ≡ me }
+    requires stamps { IsStampedView (view_of view.now) }
+    ensures told { IfOk result (λ basis. with_stamps basis.nogood basis.stamps ≡ filter_map (told_at marks.now (view_of view.now)) (below me)) }
+    ensures stamped { IfOk result (λ basis. AreStampsOf basis.nogood basis.stamps) }
 {
     let mut pairs = Vec::new(alloc);
     let mut stamps = StampList::new(alloc);
@@ -118,7 +123,9 @@ fn gather(alloc: Global, me: u32, view: &View, marks: &[bool]) -> Result<Basis, 
 
 /// What the view has of the agent, if it is marked.
 fn told_if(is_marked: bool, view: &View, var: u32) -> Option<Told>
-    ensures { pair_at var (stamped_in result) ≡ told_if is_marked (view_of view.now) var }
+    requires { IsStampedView (view_of view.now) }
+    ensures told { pair_at var (stamped_in result) ≡ told_if is_marked (view_of view.now) var }
+    ensures stamped { ForSome result (λ told. 0 < told.stamp) }
 {
     if is_marked {
         let value = view.value_of(var)?;
@@ -136,9 +143,12 @@ fn add_told(
     var: u32,
     told: Option<Told>,
 ) -> Result<(), Memory>
-    requires { length stamps.old ≡ length pairs.old.items }
+    requires size { length stamps.old ≡ length pairs.old.items }
+    requires positive { ArePositive stamps.old }
+    requires stamped { ForSome told (λ told. 0 < told.stamp) }
     ensures told { OnOk result (with_stamps pairs.new.items stamps.new ≡ with_stamps pairs.old.items stamps.old ++ option_to_list (pair_at var (stamped_in told))) }
     ensures size { OnOk result (length stamps.new ≡ length pairs.new.items) }
+    ensures positive { OnOk result (ArePositive stamps.new) }
 {
     match told {
         Some(told) => {

@@ -1,13 +1,13 @@
 //! Settling: an agent keeps its value, takes one, or says why it has none.
 
-ghost use Rattle.std.specs.Prelude.{◌≡◌, ◌<◌, ◌^◌, ◌++◌, IfOk, None, OnOk, filter, length};
+ghost use Rattle.std.specs.Prelude.{◌≡◌, ◌<◌, ◌^◌, IfOk, None, OnOk, filter, length};
 ghost use Rattle.dcsp_defs.specs.Words.{below, In};
 ghost use Rattle.abt_defs.specs.Agents.{Announce};
 ghost use Rattle.abt_defs.specs.Steps as steps;
 ghost use Rattle.dcsp_problem.specs.Problems.{csp_of};
-ghost use Rattle.abt_message.specs.Messages.{messages_of};
 ghost use Rattle.abt_view.specs.Views.{stamped_of};
 ghost use Rattle.abt_agent.specs.Bodies.{agent_of, Does, IsGood, IsSized};
+ghost use Rattle.abt_agent.specs.Outgoing.{Posts};
 ghost use Rattle.abt_agent.specs.States.{marked};
 
 use crate::Turn;
@@ -49,8 +49,9 @@ fn choice(problem: &Problem, me: u32, body: &Body) -> Option<i64>
 
 /// Tells the value to each agent that is marked, rising.
 fn tell_all(tells: &[bool], count: u32, told: Told, out: &mut Outbox) -> Result<(), Memory>
-    requires { length tells.now ≡ count }
-    ensures { OnOk result (messages_of out.new ≡ messages_of out.old ++ steps.to_each (Announce (stamped_of told)) (filter (marked tells.now) (below count))) }
+    requires size { length tells.now ≡ count }
+    requires stamped { 0 < told.stamp }
+    ensures { OnOk result (Posts out.old out.new (steps.to_each (Announce (stamped_of told)) (filter (marked tells.now) (below count)))) }
 {
     for to in 0..count {
         let message = Message::Tell {

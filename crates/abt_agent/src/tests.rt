@@ -58,22 +58,36 @@ fn started<'p>(
     agent
 }
 
+/// A message from another agent, and the number of the step that is made next.
+#[derive(Debug, Drop)]
+struct Incoming {
+    from: u32,
+    message: Message,
+    next_step: u64,
+}
+
 /// Hands the agent a message, from an agent of the problem.
 fn handed(
     rt: &impl Abort,
     problem: &Problem,
     agent: &mut Agent,
-    from: u32,
-    message: Message,
+    incoming: Incoming,
     out: &mut Outbox,
 ) -> Turn
     requires problem { agent.old.problem ≡ problem.now }
-    requires fit { IsFit problem.now agent.old.me from message }
+    requires fit { IsFit problem.now agent.old.me incoming.next_step incoming.from incoming.message }
     ensures problem { agent.new.problem ≡ problem.now }
     ensures me { agent.new.me ≡ agent.old.me }
 {
     assert!(rt; agent.stamp() < 100);
-    agent.receive(from, message, 1, out).expect(rt, "memory")
+    let Incoming {
+        from,
+        message,
+        next_step,
+    } = incoming;
+    agent
+        .receive(from, message, next_step, out)
+        .expect(rt, "memory")
 }
 
 /// Whether the domain of a variable has the value.
@@ -96,8 +110,12 @@ fn derives_and_waits(rt: HostRuntime) -> Result<(), Fail> {
     assert!(rt; out.is_empty());
     assert_eq!(rt; agent.value(), Some(0));
     assert!(rt; has_value(&problem, 0, 0));
-    let told = Message::Tell { value: 0, stamp: 1 };
-    match handed(&rt, &problem, &mut agent, 0, told, &mut out) {
+    let told = Incoming {
+        from: 0,
+        message: Message::Tell { value: 0, stamp: 1 },
+        next_step: 1,
+    };
+    match handed(&rt, &problem, &mut agent, told, &mut out) {
         Turn::Derived(step) => {
             assert_eq!(rt; step.variable, Some(1));
             assert_eq!(rt; step.nogood.pairs(), [Pair { var: 0, value: 0 }].as_slice());
@@ -127,8 +145,12 @@ fn derives_and_waits(rt: HostRuntime) -> Result<(), Fail> {
     }
     assert!(rt; out.is_empty());
     assert!(rt; has_value(&problem, 1, 1));
-    let own = own_nogood(&rt, alloc, 1, 1);
-    let quiet = handed(&rt, &problem, &mut agent, 0, own, &mut out);
+    let own = Incoming {
+        from: 0,
+        message: own_nogood(&rt, alloc, 1, 1),
+        next_step: 2,
+    };
+    let quiet = handed(&rt, &problem, &mut agent, own, &mut out);
     assert!(rt; matches!(&quiet, Turn::Quiet));
     assert!(rt; out.is_empty());
     Ok(())
@@ -156,7 +178,12 @@ fn answers_a_link_request(rt: HostRuntime) -> Result<(), Fail> {
     let mut agent = started(&rt, alloc, &problem, 0, &mut out);
     assert!(rt; out.take_first().is_some());
     assert!(rt; out.is_empty());
-    let quiet = handed(&rt, &problem, &mut agent, 1, Message::AddLink, &mut out);
+    let request = Incoming {
+        from: 1,
+        message: Message::AddLink,
+        next_step: 1,
+    };
+    let quiet = handed(&rt, &problem, &mut agent, request, &mut out);
     assert!(rt; matches!(&quiet, Turn::Quiet));
     match out.take_first() {
         Some(

@@ -7,6 +7,7 @@ pub mod Settles
 pub mod Learns
 pub mod Receives
 pub mod Runs
+pub mod Sounds
 pub mod All
 pub mod Last
 pub mod Values

@@ -16,7 +16,7 @@ use Rattle.law_invariants.proofs.Nogoods.{In-map-from, In-plain, value_at-In}
 use Rattle.law_invariants.proofs.Owners.{owner_greatest}
 use Rattle.law_invariants.proofs.Facts.{Sound}
 use Rattle.law_invariants.proofs.Settles.{blamed-some}
-use Rattle.law_invariants.proofs.Runs.{runs, started}
+use Rattle.law_invariants.proofs.Sounds.{sounds}
 use Rattle.law_right_steps.specs.Merges.{IsUnionOfReasons, MergesAreUnions}
 use Rattle.law_right_steps.proofs.Reasons.{derived_given, enumerate-at, seen_is}
 
@@ -137,4 +137,4 @@ module _ (p : Csp) (ok : IsCsp p) (i : ℕ) (a : Agent) (h : Sound p i a) where
   }
 
 pub merges_are_unions : (p : Csp) → MergesAreUnions p
-merges_are_unions p ok cs f i = union_of_reasons p ok i ((run p cs (start p)).agents i) ((runs p cs (start p) (started p ok) f).sound i)
+merges_are_unions p ok cs i = union_of_reasons p ok i ((run p cs (start p)).agents i) ((sounds p ok cs).sound i)

@@ -265,5 +265,9 @@ right_start_by p ok (Some x) e =
     out true h = cc
     out false h = refl
 
+-- the right steps so far, whatever the choices were
+pub rights : (p : Csp) → IsCsp p → (cs : List ℕ) → Right p (run p cs (start p))
+rights p ok cs = right_run p ok cs (start p) (right_start_by p ok (find (λ (x : ℕ × Constraint). is_false x.1) (enumerate_from 0 p.constraints)) refl)
+
 pub steps_right : (p : Csp) → StepsRight p
-steps_right p ok cs = (right_run p ok cs (start p) (right_start_by p ok (find (λ (x : ℕ × Constraint). is_false x.1) (enumerate_from 0 p.constraints)) refl)).right
+steps_right p ok cs = (rights p ok cs).right

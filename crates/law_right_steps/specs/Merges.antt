@@ -1,5 +1,5 @@
 -- The nogood that an agent derives is the union of what its reasons contribute, and these never clash.
-use Rattle.std.specs.Prelude.{◌≡◌, ◌≢◌, ℕ, false, List, Some, ℤ}
+use Rattle.std.specs.Prelude.{◌≡◌, ◌≢◌, ℕ, List, Some, ℤ}
 use Rattle.dcsp_nogood.specs.Pairs.{value_at, AgreeAt}
 use Rattle.dcsp_defs.specs.Words.{In}
 use Rattle.dcsp_defs.specs.Csp.{Csp, IsCsp}
@@ -19,7 +19,6 @@ pub record IsUnionOfReasons (p : Csp) (i : ℕ) (a : Agent) : Type 0 where
   pub only : (k : ℕ) (v : ℤ) → value_at (plain (derived p i a.view a.recorded)) k ≡ Some v
       → (x : Item) × In x (causes p i (known a) a.recorded) × (k ≢ i) × (value_at (x.pairs (known a)) k ≡ Some v)
 
--- It is so for each agent, whatever the choices were.
+-- It is so for each agent, whatever the choices were, in a refuted network too, where the last settle derived the empty nogood.
 abbrev pub MergesAreUnions : Csp → Type 0
-MergesAreUnions p = IsCsp p → (choices : List ℕ) → (run p choices (start p)).refuted ≡ false
-    → (i : ℕ) → IsUnionOfReasons p i ((run p choices (start p)).agents i)
+MergesAreUnions p = IsCsp p → (choices : List ℕ) (i : ℕ) → IsUnionOfReasons p i ((run p choices (start p)).agents i)

@@ -5,7 +5,7 @@ use Rattle.abt_defs.specs.Agents.{View, shares, values_in}
 use Rattle.abt_view.specs.Views.{view_of}
 use Rattle.abt_store.specs.declared.Recorded.{Recorded}
 use Rattle.abt_reason.specs.Cached.{StandsFor}
-use Rattle.law_invariants.proofs.Facts.{Sound}
+use Rattle.law_invariants.specs.OneAgent.{Sound}
 use Rattle.dcsp_problem.specs.Problems.{csp_of}
 use Rattle.abt_agent.proofs.Fresh.{fresh_is, fresh_sound, length-marks}
 use Rattle.abt_agent.proofs.body.fresh_body.Goals as goal
@@ -23,6 +23,7 @@ returns-clause-good c = record {
     linked = ap length c.in_ok-linked.ensures ∙ length-marks (shares (csp_of c.args.problem.now) c.args.me) c.args.me;
     tells = ap length c.in_ok-tells.ensures ∙ length-marks (λ j. shares (csp_of c.args.problem.now) j c.args.me) (length c.args.problem.now.domains);
     domains = λ var v l e. let none : values_in (view_of c.in_ok-view.view) ≡ (λ k. None) = ap values_in c.in_ok-view.ensures.empty in let at : None ≡ Some v = sym (ap (λ (f : Known). f var) none) ∙ e in cc;
+    stamps = λ k s e. let none : None ≡ Some s = sym (ap (λ (w : View). w k) c.in_ok-view.ensures.empty) ∙ e in cc;
     problem = c.in_ok-reasons.ensures.problem;
     agent = c.in_ok-reasons.ensures.agent;
     stands = subst (λ (items : List Recorded). StandsFor c.in_ok-reasons.reasons (values_in (view_of c.in_ok-view.view)) items) (sym c.new-3.ensures)

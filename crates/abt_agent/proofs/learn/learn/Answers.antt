@@ -6,7 +6,8 @@ use Rattle.abt_reason.specs.Cached.{StandsFor}
 use Rattle.dcsp_problem.specs.Problems.{Contents, csp_of, AreInDomains}
 use Rattle.abt_view.specs.Views.{view_of}
 use Rattle.abt_store.specs.Stores.{fits}
-use Rattle.abt_agent.proofs.Tracks.{new_domains, stood_before}
+use Rattle.abt_agent.specs.Outgoing.{IsStampedView}
+use Rattle.abt_agent.proofs.Tracks.{new_domains, new_stamps, stood_before}
 use Rattle.abt_agent.proofs.learn.learn.Goals as goal
 
 pub after_view-requires-clause-domains : goal.after_view-requires-clause-domains
@@ -34,6 +35,7 @@ returns-then-not-learn-clause-sized c =
       linked = sized.linked;
       tells = sized.tells;
       domains = subst (λ (w : View). AreInDomains (csp_of c.args.problem.now) (values_in w)) (sym same) sized.domains;
+      stamps = subst IsStampedView (sym same) sized.stamps;
       problem = sized.problem;
       agent = sized.agent;
       stands = subst (λ (w : View). StandsFor c.args.body.now.reasons (values_in w) c.args.body.now.store) (sym same) sized.stands;
@@ -50,6 +52,7 @@ returns-clause-sized c =
       linked = sized.linked;
       tells = sized.tells;
       domains = new_domains (view_of c.args.body.now.view) (view_of c.learn.new.self) c.args.from (record { value = c.args.told.value; stamp = c.args.told.stamp }) seen (csp_of c.args.problem.now) c.requires.value sized.domains;
+      stamps = new_stamps (view_of c.args.body.now.view) (view_of c.learn.new.self) c.args.from (record { value = c.args.told.value; stamp = c.args.told.stamp }) seen c.requires.stamped sized.stamps;
       problem = c.after_view.ensures.problem ∙ sized.problem;
       agent = c.after_view.ensures.agent ∙ sized.agent;
       stands = c.after_view.ensures.stands;

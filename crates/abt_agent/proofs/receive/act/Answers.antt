@@ -25,24 +25,24 @@ pub returns-in-Tell-clause-right : goal.returns-in-Tell-clause-right
 returns-in-Tell-clause-right c made rooted brings =
     let p = c.args.problem.now in
     let a = agent_of c.args.body.now in
-    let fit = subst (λ (m : Message). IsFit p c.args.me c.args.from m) c.in-Tell.is c.requires.fit in
+    let fit = subst (λ (m : Message). IsFit p c.args.me c.args.number c.args.from m) c.in-Tell.is c.requires.fit in
     let in_range : SFits w64 c.in-Tell.value = search rules in
     let does = subst (λ (z : ℤ). IfOk c.receive_tell.result (λ (turn : Turn). Does p c.args.me (steps.receive (csp_of p) c.args.me c.args.number a c.args.from (agents.Announce (record { value = z; stamp = c.in-Tell.stamp }))) c.args.body.now c.receive_tell.new.body c.args.out.now c.receive_tell.new.out turn))
     (to_z-of_z w64 c.in-Tell.value in_range) c.receive_tell.ensures.does in
     ok_then c.receive_tell.result
     (λ turn d. told_right (csp_of p) c.vars-vars.ensures.csp made c.args.me c.requires.good.sized.me_exists a c.requires.good.sound rooted c.args.number turn
-    c.args.from (record { value = c.in-Tell.value; stamp = c.in-Tell.stamp }) fit.0 fit.1 d.turn_is)
+    c.args.from (record { value = c.in-Tell.value; stamp = c.in-Tell.stamp }) fit.higher fit.value_in d.turn_is)
     does
 
 pub returns-in-Refuse-clause-right : goal.returns-in-Refuse-clause-right
 returns-in-Refuse-clause-right c made rooted brings =
     let p = c.args.problem.now in
     let a = agent_of c.args.body.now in
-    let fit = subst (λ (m : Message). IsFit p c.args.me c.args.from m) c.in-Refuse.is c.requires.fit in
+    let fit = subst (λ (m : Message). IsFit p c.args.me c.args.number c.args.from m) c.in-Refuse.is c.requires.fit in
     let of_step = subst (λ (m : Message). BringsOfStep made m) c.in-Refuse.is brings in
     ok_both c.receive_refuse.result
     (λ up turn d. refused_right (csp_of p) c.vars-vars.ensures.csp made c.args.me c.requires.good.sized.me_exists a c.requires.good.sound rooted c.args.number turn
-    c.args.from c.in-Refuse.step c.in-Refuse.nogood c.items.result.now (proper_nogood p c.args.me c.in-Refuse.nogood c.in-Refuse.stamps c.requires.good.sized.me_exists up fit) of_step d.turn_is)
+    c.args.from c.in-Refuse.step c.in-Refuse.nogood c.items.result.now (proper_nogood p c.args.me c.in-Refuse.nogood c.in-Refuse.stamps c.requires.good.sized.me_exists up fit.0) of_step d.turn_is)
     c.receive_refuse.ensures.rising (c.receive_refuse.ensures.does c.args.from)
 
 pub returns-in-AddLink-clause-right : goal.returns-in-AddLink-clause-right

@@ -7,12 +7,12 @@ pub settle-requires-clause-good : goal.settle-requires-clause-good
 settle-requires-clause-good c = record {
   sized = c.learn.ensures.sized;
   sound = learned_sound (csp_of c.args.problem.now) c.args.me c.args.from (record { value = c.args.told.value; stamp = c.args.told.stamp }) (agent_of c.args.body.now) (agent_of c.learn.new.body)
-      c.requires.good.sound c.requires.good.sized.me_exists c.requires.fit.0 c.requires.fit.1 c.learn.ensures.agent;
+      c.requires.good.sound c.requires.good.sized.me_exists c.requires.fit.higher c.requires.fit.value_in c.learn.ensures.agent;
 }
 
 pub returns-then-not-learn-clause-good : goal.returns-then-not-learn-clause-good
 returns-then-not-learn-clause-good c = record {
   sized = c.learn.ensures.sized;
   sound = learned_sound (csp_of c.args.problem.now) c.args.me c.args.from (record { value = c.args.told.value; stamp = c.args.told.stamp }) (agent_of c.args.body.now) (agent_of c.learn.new.body)
-      c.requires.good.sound c.requires.good.sized.me_exists c.requires.fit.0 c.requires.fit.1 c.learn.ensures.agent;
+      c.requires.good.sound c.requires.good.sized.me_exists c.requires.fit.higher c.requires.fit.value_in c.learn.ensures.agent;
 }

@@ -7,4 +7,4 @@ pub returns-in_ok-push_stamp-in-Some-clause-told : goal.returns-in_ok-push_stamp
 returns-in_ok-push_stamp-in-Some-clause-told c =
     let fits : SFits w64 c.in-Some.told.value = search rules in
     let same : to_z w64 (of_z w64 c.in-Some.told.value) ≡ c.in-Some.told.value = simp to_z-of_z in
-    rw (c.in_ok-push_pair-in-Some.ensures, c.in_ok-push_stamp-in-Some.ensures, c.in-Some.is, same) (with_stamps-push _ _ _ _ c.requires)
+    rw (c.in_ok-push_pair-in-Some.ensures, c.in_ok-push_stamp-in-Some.ensures, c.in-Some.is, same) (with_stamps-push _ _ _ _ c.requires.size)

@@ -7,6 +7,7 @@ pub loop-var-preserved : goal.loop-var-preserved
 loop-var-preserved c =
     let more = told_more (told_at c.args.marks.now (view_of c.args.view.now)) c.loop-var.var in
     record {
-      told = cc (c.in_ok-add_told.ensures.told, c.loop-var.invariant.told, c.told_if.ensures, more);
+      told = cc (c.in_ok-add_told.ensures.told, c.loop-var.invariant.told, c.told_if.ensures.told, more);
       size = c.in_ok-add_told.ensures.size;
+      positive = c.in_ok-add_told.ensures.positive;
     }

@@ -3,6 +3,7 @@ use Rattle.std.specs.Prelude.{filter_map}
 use Rattle.dcsp_defs.specs.Words.{below}
 use Rattle.abt_message.specs.Messages.{with_stamps}
 use Rattle.abt_view.specs.Views.{view_of}
+use Rattle.abt_agent.specs.Outgoing.{ArePositive}
 use Rattle.abt_agent.specs.Places.{told_at}
 use Rattle.abt_agent.proofs.refusal.gather.Given as goal
 
@@ -10,4 +11,5 @@ abbrev pub invariant-loop-var : goal.invariant-loop-var
 invariant-loop-var l = record {
   told : with_stamps l.pairs.items l.stamps ≡ filter_map (told_at l.marks (view_of l.view)) (below l.var);
   size : length l.stamps ≡ length l.pairs.items;
+  positive : ArePositive l.stamps;
 }

@@ -9,7 +9,7 @@ pub returns-clause-pairs : goal.returns-clause-pairs
 returns-clause-pairs c =
     let p = c.args.problem.now in
     let kept = c.args.body.now.store in
-    c.in_ok-nogood.ensures ∙ derived_is p c.args.me (view_of c.args.body.now.view) kept (marked c.deref-2.result.now) (λ k l.
+    c.in_ok-nogood.ensures.told ∙ derived_is p c.args.me (view_of c.args.body.now.view) kept (marked c.deref-2.result.now) (λ k l.
     ap (λ z. marked z k) c.deref-2.ensures.value ∙ c.in_ok-marks.ensures.marks k l
     ∙ ap (λ z. blames p z c.deref.result.now k) c.items-kept.ensures.items
     ∙ ap (λ z. blames p kept z k) (c.deref.ensures.value ∙ c.in_ok-places.ensures.places))
