@@ -12,7 +12,7 @@ use Rattle.law_replay.specs.Replay.{Continues}
 use Rattle.law_replay.proofs.Whole.{delivers_one}
 use Rattle.law_message_bound.proofs.Below.{below_bound}
 
-run_more : (p : Csp) (cs : List ℕ) (c : ℕ) (net : Network) → run p (cs ++ c ∷ []) net ≡ cond (run p cs net).refuted (run p cs net) (deliver p c (run p cs net))
+pub run_more : (p : Csp) (cs : List ℕ) (c : ℕ) (net : Network) → run p (cs ++ c ∷ []) net ≡ cond (run p cs net).refuted (run p cs net) (deliver p c (run p cs net))
 run_more p [] c net = refl
 run_more p (x ∷ xs) c net = (elim net.refuted as (λ b. net.refuted ≡ b → cond b net (run p (xs ++ c ∷ []) (deliver p x net)) ≡ (let end = cond b net (run p xs (deliver p x net)) in cond end.refuted end (deliver p c end))) [
   | true ↦ λ e. sym (ap (λ b. cond b net (deliver p c net)) e)

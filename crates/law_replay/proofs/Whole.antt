@@ -68,7 +68,7 @@ In-flat_map f x y [] h u = absurd h
 In-flat_map f x y (z ∷ zs) (inl e) u = In-left y (f z) (flat_map f zs) (subst (λ w. In y (f w)) e u)
 In-flat_map f x y (z ∷ zs) (inr h) u = In-right y (f z) (flat_map f zs) (In-flat_map f x y zs h u)
 
-quiet_if_none : (p : Csp) (net : Network) → is_empty (ready p net) ≡ true → IsQuiet p net
+pub quiet_if_none : (p : Csp) (net : Network) → is_empty (ready p net) ≡ true → IsQuiet p net
 quiet_if_none p net h k i lk li = by_test (is_empty (net.links k i)) refl
   where
     here : In (k, i) (pairs (count p))
