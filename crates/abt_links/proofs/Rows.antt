@@ -11,7 +11,7 @@ use Rattle.std.proofs.lemmas.Bool.{cases_eq, cases_lt, cases_Bool, eq-eqb, ne_eq
 use Rattle.std.proofs.lemmas.List.{length-set, get_or-set_same, get_or-set_other, get_or_default, get_or_past, length-replicate, get_or-replicate, length_push, get_or_push, get_or_append_left}
 use Rattle.dcsp_defs.specs.Words.{sum_below}
 use Rattle.abt_links.specs.Marks.{Marks, is_set, marked, marked_pairs, rank, IsCounted, IsFresh, row_at}
-use Rattle.abt_links.proofs.Ranks.{rank_on, rank_off, rank_up, sum_is, count_pairs, bits_of, ones_rank, rank_word, is_set_word, sums_to, nth_pair}
+use Rattle.abt_links.proofs.Ranks.{rank_on, rank_off, rank_up, sum_is, count_pairs, bits_of, ones_rank, rank_word, sums_to, nth_pair}
 
 -- ---- bounds
 

@@ -1,5 +1,5 @@
 -- The table of pairs that rows of bits stand for.
-use Rattle.std.proofs.Common.{◌≡◌, ◌≢◌, ℕ, zero, suc, ◌+◌, ◌-◌, ◌<◌, ◌≤◌, inl, inr, List, [], ◌∷◌, ◌++◌, map, filter, length, get_or, set, cond, eqb, refl, sym, ◌∙◌, ap, arith, Bool, true, false, ◌&&◌, get_or-set_same, get_or-set_other}
+use Rattle.std.proofs.Common.{◌≡◌, ℕ, zero, suc, ◌+◌, ◌-◌, ◌<◌, ◌≤◌, inl, inr, List, [], ◌∷◌, map, length, get_or, set, cond, eqb, refl, sym, ◌∙◌, ap, arith, Bool, true, false, ◌&&◌, get_or-set_same, get_or-set_other}
 use Rattle.std.proofs.lemmas.Bool.{cases_eq, cases_lt, eq-eqb, ne_eqb, both_ways}
 use mathlib.Core.Bool.{beq}
 use Rattle.std.proofs.lemmas.List.{get_or-map, get_or_past, get_or_default, set-get_or, length-map, length_push, get_or_push, get_or_append_left}

@@ -73,7 +73,7 @@ impl Row {
             }
             left -= here;
         }
-        0
+        unreachable!()
     }
 
     /// How many numbers before this one are in.
@@ -138,7 +138,7 @@ fn nth_bit(word: u64, rest: u32) -> u32
         }
         left -= 1;
     }
-    0
+    unreachable!()
 }
 
 /// How many bits below this one are set.

@@ -106,7 +106,7 @@ impl Sums {
             }
             left -= here;
         }
-        (0, 0)
+        unreachable!()
     }
 }
 
@@ -127,7 +127,7 @@ fn find_from(counts: &[u32], start: usize, number: u32) -> (u32, u32)
         }
         left -= here;
     }
-    (0, 0)
+    unreachable!()
 }
 
 /// The sum of some counts.

@@ -1,4 +1,4 @@
-use Rattle.std.proofs.Common.{◌≡◌, ◌<◌, ◌∙◌, sym, ap, subst, arith, ℕ, List}
+use Rattle.std.proofs.Common.{◌<◌, ◌∙◌, sym, ap, subst, arith, ℕ, List}
 use Rattle.std.proofs.lemmas.List.{get_or_default}
 use Rattle.abt_links.specs.PairTables.{PairTable, has_pair}
 use Rattle.abt_links.specs.Marks.{is_set}

@@ -1,5 +1,5 @@
 use Rattle.abt_links.proofs.sums.Sums.before.Goals as goal
-use Rattle.std.proofs.Common.{◌≡◌, ◌≤◌, ◌<◌, ◌+◌, ◌-◌, ◌*◌, ◌/◌, ◌∙◌, ℕ, List, sum, take, drop, length, ap, refl, arith}
+use Rattle.std.proofs.Common.{◌≡◌, ◌≤◌, ◌+◌, ◌-◌, ◌*◌, ◌/◌, ◌∙◌, ℕ, List, sum, take, drop, length, ap, refl, arith}
 use Rattle.abt_links.specs.Blocks.{IsBlocked}
 use Rattle.std.proofs.lemmas.List.Sums.{sum_by-take-le}
 use Rattle.abt_links.proofs.Blocks.{before-parts}
