@@ -1,6 +1,6 @@
 //! An agent that is handed messages, and what it does with them.
 
-ghost use Rattle.std.specs.Prelude.{◌≡◌, ◌<◌, IfSome, length, true};
+ghost use Rattle.std.specs.Prelude.{◌≡◌, ◌+◌, ◌<◌, IfSome, length, true};
 ghost use Rattle.dcsp_defs.specs.Words.{In};
 ghost use Rattle.dcsp_defs.specs.Csp.{domain};
 ghost use Rattle.dcsp_problem.specs.Problems.{csp_of};
@@ -96,7 +96,7 @@ impl<'p> Driver<'p> {
 
     /// Hands the agent a message, and empties what it sends. `None` is want of memory, or too many values taken.
     fn receive(&mut self, from: u32, message: Message, step: u64) -> Option<()>
-        requires { IsFit self.old.problem.now 50 from message }
+        requires { IsFit self.old.problem.now 50 step from message }
     {
         if self.agent.stamp() >= MOST_STAMPS {
             return None;
@@ -108,9 +108,9 @@ impl<'p> Driver<'p> {
         Some(())
     }
 
-    /// Tells the agent the value of a higher one. `None` is also a pair that is no such value.
+    /// Tells the agent the value of a higher one. `None` is also a pair that is no such value, and a stamp of 0.
     pub fn tell(&mut self, pair: Pair, stamp: u64, step: u64) -> Option<()> {
-        if pair.var >= AGENT || !is_value(self.problem, pair) {
+        if pair.var >= AGENT || stamp == 0 || !is_value(self.problem, pair) {
             return None;
         }
         let message = Message::Tell {
@@ -120,7 +120,8 @@ impl<'p> Driver<'p> {
         self.receive(pair.var, message, step)
     }
 
-    /// Hands the agent a nogood of a higher one's value and its own. `None` is also pairs that are no such values.
+    /// Hands the agent the nogood of the step before this one, of a higher agent's value and its own. `None`
+    /// is also pairs that are no such values, and a stamp or a step of 0.
     pub fn refuse(&mut self, pair: Pair, stamp: u64, own: i64, step: u64) -> Option<()> {
         let own = Pair {
             var: AGENT,
@@ -129,7 +130,10 @@ impl<'p> Driver<'p> {
         if pair.var >= AGENT || !is_value(self.problem, pair) || !is_value(self.problem, own) {
             return None;
         }
-        let message = refusal(self.alloc, self.problem, pair, stamp, own, step)?;
+        if stamp == 0 || step == 0 {
+            return None;
+        }
+        let message = refusal(self.alloc, self.problem, pair, stamp, own, step - 1)?;
         self.receive(AGENT + 1, message, step)
     }
 }
@@ -155,7 +159,8 @@ fn refusal(
     requires higher { In higher.value (domain (csp_of problem.now) higher.var) }
     requires own { In own.value (domain (csp_of problem.now) own.var) }
     requires agent { own.var ≡ 50 }
-    ensures { IfSome result (IsFit problem.now 50 51) }
+    requires stamped { 0 < stamp }
+    ensures { IfSome result (IsFit problem.now 50 (step + 1) 51) }
 {
     let _variables = problem.vars();
     let nogood = Nogood::from_pairs(alloc, &[higher, own]).ok()?;

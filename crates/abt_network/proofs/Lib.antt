@@ -1,0 +1,9 @@
+pub mod Posting
+pub mod Sending
+pub mod InRange
+pub mod Delivering
+pub mod Fitting
+pub mod Leading
+pub mod Quiet
+pub mod FirstFalse
+pub mod Beginning

@@ -1,0 +1,18 @@
+use Rattle.std.proofs.Common.{◌≡◌, false, sym, ap, subst, ◌∙◌}
+use Rattle.abt_network.specs.Standing.{NetworkState, StandsAt, Delivers, LeadsOn, reached}
+use Rattle.abt_network.specs.Bodies.{shown}
+use Rattle.abt_network.proofs.network.Network.deliver.Goals as goal
+
+pub returns-in-Ok-clause-delivers : goal.returns-in-Ok-clause-delivers
+returns-in-Ok-clause-delivers c net st =
+    let before : shown c.self.inside.body false ≡ c.args.self.now = ap (shown c.self.inside.body) (sym c.if-self.false) ∙ c.self.view_is in
+    let after : shown c.deliver.new.self false ≡ shown c.deliver.new.self c.self.inside.spent = ap (shown c.deliver.new.self) (sym c.if-self.false) in
+    subst (λ (z : NetworkState). Delivers c.args.self.now.problem z net c.args.choice c.in-Ok.delivery) after
+    (subst (λ (s : NetworkState). StandsAt s net → Delivers s.problem (shown c.deliver.new.self false) net c.args.choice c.in-Ok.delivery) before (c.in-Ok.ensures.delivers net) st)
+
+pub returns-in-Ok-clause-leads : goal.returns-in-Ok-clause-leads
+returns-in-Ok-clause-leads c choices st =
+    let before : shown c.self.inside.body false ≡ c.args.self.now = ap (shown c.self.inside.body) (sym c.if-self.false) ∙ c.self.view_is in
+    let after : shown c.deliver.new.self false ≡ shown c.deliver.new.self c.self.inside.spent = ap (shown c.deliver.new.self) (sym c.if-self.false) in
+    subst (λ (z : NetworkState). LeadsOn c.args.self.now z choices c.args.choice c.in-Ok.delivery) after
+    (subst (λ (s : NetworkState). StandsAt s (reached s choices) → LeadsOn s (shown c.deliver.new.self false) choices c.args.choice c.in-Ok.delivery) before (c.in-Ok.ensures.leads choices) st)

@@ -1,0 +1,4 @@
+pub mod Standing
+pub mod Bodies
+pub mod Passing
+pub mod Settling

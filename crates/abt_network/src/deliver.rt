@@ -1,0 +1,136 @@
+//! Deliveries.
+
+ghost use Rattle.std.specs.Prelude.{◌≡◌, ◌≢◌, ◌<◌, ◌≤◌, ◌+◌, ◌^◌, ℕ, List, length, IfOk, OnOk, false, true};
+ghost use Rattle.abt_defs.specs.Steps as steps;
+ghost use Rattle.abt_defs.specs.Network.{Network as TheNetwork, refutes};
+ghost use Rattle.abt_defs.specs.Runs.{cargo_of};
+ghost use Rattle.dcsp_problem.specs.Problems.{csp_of};
+ghost use Rattle.abt_message.specs.Messages.{message_of};
+ghost use Rattle.abt_agent.specs.States.{Acts, CanReceive, stands_for};
+ghost use Rattle.abt_links.specs.Transit.{ready_pairs};
+ghost use Rattle.abt_network.specs.Standing.{cargo_in, reached, state_at, CanDeliver, Delivers, LeadsOn, StandsAt};
+ghost use Rattle.abt_network.specs.Bodies.{shown, ExpectsAll, IsKept, IsSized, IsTidy};
+ghost use Rattle.abt_network.specs.Passing.{step_in, steps_made, PassesOn};
+
+use crate::body::Body;
+use crate::post::post;
+use crate::{Cargo, Delivery};
+use abt_agent::{Agent, Turn};
+use abt_links::Carried;
+use abt_message::{Message, Outbox};
+use dcsp_list::Memory;
+use ngd_log::Step;
+
+/// Hands the message to its receiver.
+fn hand_over(
+    agents: &mut Vec<Agent>,
+    from: u32,
+    to: u32,
+    message: Message,
+    next_step: u64,
+    out: &mut Outbox,
+) -> Result<Turn, Memory>
+    requires exists { to < length agents.old.items }
+    requires fit { CanReceive (state_at agents.old.items to) from next_step message }
+    ensures does { IfOk result (λ turn. let old = state_at agents.old.items to in Acts old (state_at agents.new.items to) (steps.receive (csp_of old.problem) old.me next_step (stands_for old) from (message_of message)) out.old out.new turn) }
+    ensures others { (k : ℕ) → k ≢ to → state_at agents.new.items k ≡ state_at agents.old.items k }
+    ensures long { length agents.new.items ≡ length agents.old.items }
+{
+    let agent = &mut agents[to as usize];
+    agent.receive(from, message, next_step, out)
+}
+
+/// What is told of a message.
+fn cargo_of(message: &Message) -> Cargo
+    ensures { cargo_in result ≡ cargo_of (message_of message.now) }
+{
+    match message {
+        Message::Tell { value, .. } => Cargo::Tell { value: *value },
+        Message::Refuse { step, .. } => Cargo::Refuse { step: *step },
+        Message::AddLink => Cargo::AddLink,
+    }
+}
+
+/// The step that a turn made, if it made one.
+pub fn step_of(turn: Turn) -> Option<Step>
+    ensures { result ≡ step_in turn }
+{
+    match turn {
+        Turn::Quiet | Turn::Announced => None,
+        Turn::Derived(step) | Turn::Empty(step) => Some(step),
+    }
+}
+
+/// How many steps were made.
+fn count_of(step: &Option<Step>) -> u64
+    ensures count { result ≡ steps_made step.now }
+    ensures few { result ≤ 1 }
+{
+    match step {
+        Some(_) => 1,
+        None => 0,
+    }
+}
+
+/// Whether there is a step, and its nogood is empty.
+fn refutes(step: &Option<Step>) -> bool
+    ensures { result ≡ refutes step.now }
+{
+    match step {
+        Some(step) => step.nogood.pairs().is_empty(),
+        None => false,
+    }
+}
+
+impl<'p> Body<'p> {
+    /// Hands the first message of a list to its receiver, and sends what that puts out.
+    fn pass_on(&mut self, choice: u32) -> Result<Delivery, Memory>
+        requires tidy { IsTidy self.old }
+        requires some { 0 < length (ready_pairs self.old.links) }
+        requires few { self.old.steps < 2 ^ 62 }
+        requires expects { ExpectsAll self.old.problem.now self.old.agents.items self.old.links (self.old.steps + 1) }
+        ensures passes { (net : TheNetwork) → StandsAt (shown self.old false) net → IfOk result (λ d. PassesOn self.old.problem.now self.new.agents.items self.new.links net choice d) }
+        ensures tidy { OnOk result (IsTidy self.new) }
+        ensures sized { IsSized self.new }
+        ensures problem { self.new.problem.now ≡ self.old.problem.now }
+        ensures refuted { self.new.refuted ≡ self.old.refuted }
+        ensures deliveries { self.new.deliveries ≡ self.old.deliveries }
+        ensures steps { self.new.steps ≡ self.old.steps }
+        ensures begun { self.new.begun ≡ self.old.begun }
+    {
+        let _vars = self.problem.vars();
+        let count = self.links.ready_count();
+        let Carried { from, to, message } = self.links.take_ready(choice % count);
+        let cargo = cargo_of(&message);
+        let next = self.steps + 1;
+        let turn = hand_over(&mut self.agents, from, to, message, next, &mut self.out)?;
+        post(&mut self.links, to, &mut self.out)?;
+        let step = step_of(turn);
+        Ok(Delivery {
+            from,
+            to,
+            cargo,
+            step,
+        })
+    }
+
+    /// Delivers the first message of the list number `choice` of those that are ready, after as many
+    /// rounds as it takes.
+    pub fn deliver(&mut self, choice: u32) -> Result<Delivery, Memory>
+        requires kept { IsKept self.old }
+        requires can { CanDeliver (shown self.old false) }
+        ensures delivers { (net : TheNetwork) → StandsAt (shown self.old false) net → IfOk result (λ d. Delivers self.old.problem.now (shown self.new false) net choice d) }
+        ensures leads { (choices : List ℕ) → StandsAt (shown self.old false) (reached (shown self.old false) choices) → IfOk result (λ d. LeadsOn (shown self.old false) (shown self.new false) choices choice d) }
+        ensures kept { OnOk result (IsKept self.new) }
+        ensures begun { OnOk result (self.new.begun ≡ true) }
+        ensures sized { IsSized self.new }
+        ensures problem { self.new.problem.now ≡ self.old.problem.now }
+    {
+        let _vars = self.problem.vars();
+        let delivery = self.pass_on(choice)?;
+        self.deliveries += 1;
+        self.steps += count_of(&delivery.step);
+        self.refuted = refutes(&delivery.step);
+        Ok(delivery)
+    }
+}

@@ -1,0 +1,59 @@
+//! Sends what an agent has put out.
+
+ghost use Rattle.std.specs.Prelude.{◌≡◌, ◌<◌, ◌++◌, ℕ, List, [], All, OnOk, if◌then◌else◌, ◌==◌, ◌&&◌, ◌∷◌};
+ghost use Rattle.abt_defs.specs.Network.{sent_to};
+ghost use Rattle.abt_message.specs.Messages.{message_of, messages_of};
+ghost use Rattle.abt_message.specs.declared.Sent.{Sent as TheSent};
+ghost use Rattle.abt_agent.specs.Outgoing.{IsStamped};
+ghost use Rattle.abt_links.specs.Transit.{IsOpen, Sends};
+ghost use Rattle.abt_network.specs.Standing.{messages_on};
+ghost use Rattle.abt_network.specs.Bodies.{AreStamped};
+
+use abt_links::Links;
+use abt_message::{Message, Outbox, Sent};
+use dcsp_list::Memory;
+
+/// Sends one message on an open pair.
+fn send_one(links: &mut Links, from: u32, to: u32, message: Message) -> Result<(), Memory>
+    requires { IsOpen links.old from to }
+    ensures sends { OnOk result (Sends links.old links.new from to message) }
+    ensures agents { links.new.agents ≡ links.old.agents }
+{
+    match links.send(from, to, message) {
+        Ok(()) => Ok(()),
+        Err(_) => Err(Memory),
+    }
+}
+
+/// Sends one message.
+fn post_one(links: &mut Links, from: u32, sent: Sent) -> Result<(), Memory>
+    requires sender { from < links.old.agents }
+    requires receiver { sent.to < links.old.agents }
+    requires stamps { IsStamped sent.message }
+    requires stamped { AreStamped links.old }
+    ensures agents { links.new.agents ≡ links.old.agents }
+    ensures lists { (k i : ℕ) → OnOk result (messages_on links.new k i ≡ (if k == from && i == sent.to then messages_on links.old k i ++ message_of sent.message ∷ [] else messages_on links.old k i)) }
+    ensures stamped { OnOk result (AreStamped links.new) }
+{
+    let Sent { to, message } = sent;
+    links.open_pair(from, to)?;
+    send_one(links, from, to, message)?;
+    Ok(())
+}
+
+/// Sends all messages of the outbox, in order.
+pub fn post(links: &mut Links, from: u32, out: &mut Outbox) -> Result<(), Memory>
+    requires sender { from < links.old.agents }
+    requires receivers { All (λ (sent : TheSent). sent.to < links.old.agents) out.old }
+    requires stamps { All (λ (sent : TheSent). IsStamped sent.message) out.old }
+    requires stamped { AreStamped links.old }
+    ensures agents { links.new.agents ≡ links.old.agents }
+    ensures lists { (k i : ℕ) → OnOk result (messages_on links.new k i ≡ (if k == from then messages_on links.old k i ++ sent_to i (messages_of out.old) else messages_on links.old k i)) }
+    ensures stamped { OnOk result (AreStamped links.new) }
+    ensures out { OnOk result (out.new ≡ []) }
+{
+    while let Some(sent) = out.take_first() {
+        post_one(links, from, sent)?;
+    }
+    Ok(())
+}
