@@ -1,7 +1,8 @@
 //! The generated problems.
 ghost use Rattle.std.specs.Prelude.{◌≡◌, ℕ, ◌+◌, ◌-◌, ◌<◌, ◌≤◌, ◌++◌, ◌∷◌, [], flat_map, map, string_bytes, codes, IfOk, OnOk};
 ghost use Rattle.std.specs.List.{range_with_len};
-ghost use Rattle.dcsp_gen.specs.Words.{word_of, generator_of, TakesWords};
+ghost use Rattle.abt_schedule.specs.Answers.{generator_of, word_at};
+ghost use Rattle.dcsp_gen.specs.Words.{TakesWords};
 ghost use Rattle.dcsp_gen.specs.Problems.{pairs_of, pairs, queen_lines, queens_text, edge_line, colouring_text, thrice, neighbour_line, sparse_text, apart_line, pigeons_text};
 
 use crate::lines::{push_array, push_diagonals, push_differ, push_solve, push_variables};
@@ -58,7 +59,7 @@ fn push_queen(text: &mut String, n: u32, first: u32) -> Result<(), AllocError>
 pub fn colouring(alloc: Global, n: u32, k: u32, seed: u64) -> Result<Vec<u8>, Memory>
     requires least { 1 ≤ n }
     requires most { n ≤ 200 }
-    ensures { IfOk result (λ text. text.items ≡ colouring_text n k (word_of (generator_of seed))) }
+    ensures { IfOk result (λ text. text.items ≡ colouring_text n k (word_at (generator_of seed))) }
 {
     let mut words = Pcg32::seed_from_u64(seed);
     match colouring_lines(alloc, n, k, &mut words) {
@@ -70,7 +71,7 @@ pub fn colouring(alloc: Global, n: u32, k: u32, seed: u64) -> Result<Vec<u8>, Me
 fn colouring_lines(alloc: Global, n: u32, k: u32, words: &mut Pcg32) -> Result<String, AllocError>
     requires least { 1 ≤ n }
     requires most { n ≤ 200 }
-    ensures { IfOk result (λ text. string_bytes text ≡ colouring_text n k (word_of words.old)) }
+    ensures { IfOk result (λ text. string_bytes text ≡ colouring_text n k (word_at words.old)) }
 {
     let mut text = String::new(alloc);
     push_variables(&mut text, "c", k, n)?;
@@ -110,7 +111,7 @@ fn push_edge(text: &mut String, word: u32, first: u32, second: u32) -> Result<()
 pub fn sparse(alloc: Global, n: u32, seed: u64) -> Result<Vec<u8>, Memory>
     requires least { 1 ≤ n }
     requires most { n ≤ 4096 }
-    ensures { IfOk result (λ text. text.items ≡ sparse_text n (word_of (generator_of seed))) }
+    ensures { IfOk result (λ text. text.items ≡ sparse_text n (word_at (generator_of seed))) }
 {
     let mut words = Pcg32::seed_from_u64(seed);
     match sparse_lines(alloc, n, &mut words) {
@@ -122,7 +123,7 @@ pub fn sparse(alloc: Global, n: u32, seed: u64) -> Result<Vec<u8>, Memory>
 fn sparse_lines(alloc: Global, n: u32, words: &mut Pcg32) -> Result<String, AllocError>
     requires least { 1 ≤ n }
     requires most { n ≤ 4096 }
-    ensures { IfOk result (λ text. string_bytes text ≡ sparse_text n (word_of words.old)) }
+    ensures { IfOk result (λ text. string_bytes text ≡ sparse_text n (word_at words.old)) }
 {
     let mut text = String::new(alloc);
     push_variables(&mut text, "c", 4, n)?;

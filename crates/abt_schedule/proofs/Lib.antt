@@ -1,0 +1,4 @@
+pub mod Answered
+pub mod FirstBad
+pub mod ScheduleLaws
+pub mod ScheduleLines
