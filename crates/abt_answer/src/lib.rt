@@ -4,16 +4,43 @@
 //! a range for each of its dimensions. The last line is `----------`.
 #![tactic(auto)]
 
-ghost use Rattle.std.specs.Prelude.{◌≡◌, ℕ, ℤ, pos, ◌<◌, ◌++◌, length, All, map, flat_map, codes, decimal, slice_index_or, IfOk, OnOk};
+ghost use Rattle.std.specs.Prelude.{◌≡◌, ℕ, ℤ, pos, ◌<◌, ◌≤◌, ◌++◌, length, All, map, flat_map, codes, decimal, slice_index_or, IfOk, OnOk, IsErrOf};
 ghost use Rattle.std.specs.Fmt.{signed_decimal};
 ghost use Rattle.dcsp_problem.specs.Rules.{IsTermOf, value_under};
 ghost use Rattle.dcsp_problem.specs.Outputs.{IsOutputOf};
+ghost use Rattle.dcsp_outside.specs.Outside.{AddsPartOf, Rose, Told, UnlessPutFailed};
 ghost use Rattle.abt_answer.specs.Solutions.{value_text, values_text, range_text, laid_out, output_line, solution_text};
 
 use dcsp_list::Memory;
+use dcsp_outside::{Sink, SinkError};
 use dcsp_problem::{Output, Problem, Shape, Term};
 use itoa::Buffer;
-use std::alloc::AllocError;
+use std::alloc::{AllocError, Global};
+
+/// Puts the text of a solution, the values in the order of the variables, as one piece. It is refused as
+/// `put` is; then some first bytes of the text, or none, were written.
+pub fn write_solution<S: Sink>(
+    alloc: Global,
+    problem: &Problem,
+    values: &[i64],
+    out: &mut S,
+) -> Result<(), SinkError>
+    requires { length values.now ≡ length problem.now.domains }
+    ensures ok { OnOk result (Told (S.stream out.old).written (S.stream out.new).written
+        (λ old new. new ≡ old ++ solution_text problem.now (λ var. slice_index_or values.now var (pos 0)))) }
+    ensures failed { IsErrOf result SinkError.Failed → Told (S.stream out.old).written (S.stream out.new).written
+        (AddsPartOf (solution_text problem.now (λ var. slice_index_or values.now var (pos 0)))) }
+    ensures memory { IsErrOf result SinkError.Memory → (S.stream out.new).written ≡ (S.stream out.old).written }
+    ensures faults { (S.stream out.old).faults ≤ (S.stream out.new).faults }
+    ensures count { UnlessPutFailed result ((S.stream out.new).faults ≡ (S.stream out.old).faults) }
+    ensures cause { IsErrOf result SinkError.Failed → Rose (S.stream out.old).faults (S.stream out.new).faults }
+{
+    let mut text = Vec::new(alloc);
+    if push_solution(problem, values, &mut text).is_err() {
+        return Err(SinkError::Memory);
+    }
+    out.put(&text)
+}
 
 /// Appends the text of a solution, the values in the order of the variables. After a refusal some
 /// first bytes of it may stand there.

@@ -4,6 +4,7 @@ ghost use Rattle.std.specs.Prelude.{◌≡◌, IfOk, length};
 
 use super::*;
 use dcsp_domain::{Domain, RangeList};
+use dcsp_outside::MemorySink;
 use dcsp_problem::{NameText, ProblemBuilder, TermList};
 use std::alloc::Global;
 use std::test::Fail;
@@ -55,5 +56,16 @@ fn tells_a_solution(rt: HostRuntime) -> Result<(), Fail> {
     let expected =
         "b = false;\nx_1 = 1;\nm = array2d(1..2, -1..0, [1, 7, -5, 1]);\nt = array1d(1..2, [true, false]);\n----------\n";
     assert_eq!(rt; text.as_slice(), expected.as_bytes());
+    let mut out = MemorySink::new(alloc);
+    out.fail_at(1)?;
+    assert_eq!(rt;
+        write_solution(alloc, &problem, &[1, 0, -5], &mut out),
+        Err(SinkError::Failed)
+    );
+    assert_eq!(rt;
+        write_solution(alloc, &problem, &[1, 0, -5], &mut out),
+        Ok(())
+    );
+    assert_eq!(rt; out.bytes(), expected.as_bytes());
     Ok(())
 }
