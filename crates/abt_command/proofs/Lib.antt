@@ -1,5 +1,5 @@
-pub mod Files
-pub mod Once
-pub mod Outcomes
 pub mod Threes
-pub mod Models
+pub mod Checks
+pub mod Printing
+pub mod Lawful
+pub mod Lines

@@ -1,6 +1,4 @@
-pub mod ModelTexts
-pub mod CommandLines
-pub mod Outcomes
-pub mod Answers
-pub mod Files
-pub mod Told
+pub mod Lines
+pub mod Checks
+pub mod CheckReports
+pub mod LinePromises

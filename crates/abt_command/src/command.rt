@@ -1,107 +1,104 @@
 //! Running a command over a folder and two streams.
 
-ghost use Rattle.std.specs.Prelude.{◌≡◌, ◌≤◌, ◌⊎◌, ◌↔◌, ℕ, List, Ok, Err, map, string_bytes, codes};
-ghost use Rattle.dcsp_outside.specs.Outside.{Rose};
-ghost use Rattle.abt_command.specs.CommandLines.{IsLine, IsNoLine, Check};
-ghost use Rattle.abt_command.specs.Outcomes.{refusal_text};
-ghost use Rattle.abt_command.specs.Answers.{IsAnsweredIn, IsSaid, ChecksLog, IsComplete, IsRefusal, IsRefuted, Stream};
-ghost use Rattle.abt_command.specs.Told.{IsTold};
+ghost use Rattle.std.specs.Prelude.{◌≡◌, ◌↔◌, ℕ, List, [], Ok, map, string_bytes, codes};
+ghost use Rattle.dcsp_outside.specs.Outside.{Place};
+ghost use Rattle.dcsp_script.specs.Scripts.{outside};
+ghost use Rattle.dcsp_script.specs.Ways.{Did, CountsStay};
+ghost use Rattle.abt_promise.specs.declared.status.Status.{Status};
+ghost use Rattle.abt_promise.specs.Statuses.{IsFinal, IsRefusal, code_of};
+ghost use Rattle.abt_promise.specs.Promises.{IsSaid};
+ghost use Rattle.abt_promise.specs.Runs.{CameIn, Concludes, Ran, Answers, Faults, Lacks};
+ghost use Rattle.abt_promise.specs.Clauses.{HasCause, IsComplete, GainsText, LeavesOthers, CreatesOwn, IsLawful};
+ghost use Rattle.abt_input.specs.Errors.{way_of, error_text};
+ghost use Rattle.abt_command.specs.Lines.{Line, Check, IsLine, IsNoLine, line_of};
+ghost use Rattle.abt_command.specs.LinePromises.{promise_of, EachPromise, HasRun};
+ghost use Rattle.abt_command.specs.Checks.{IsRefuted};
 
-use crate::find::find;
-use crate::refusal::{Refusal, finding_line, finding_status, refusal_line, refusal_status};
-use crate::status::Status;
+use crate::check::run_check;
+use crate::plain::{HELP, VERSION, print};
 use crate::words::{Order, words_of};
-use dcsp_outside::{Folder, Sink, SinkError};
-use ngd_check::Finding;
+use abt_input::{CommandError, error_reply, error_status};
+use abt_promise::{Status, say};
+use dcsp_outside::{Folder, Sink};
 use std::alloc::Global;
 
-/// Puts the line on `err`. Where that fails, nothing else can tell it.
-fn say<S: Sink>(err: &mut S, line: &[u8])
-    ensures { IsSaid line.now (record { written = S.written err.old; faults = S.faults err.old }) (record { written = S.written err.new; faults = S.faults err.new }) }
+/// Puts the error's line on `err`. Where memory is wanted for it, nothing is put.
+fn explain<S: Sink>(alloc: Global, error: CommandError, err: &mut S)
+    ensures { IsSaid (error_text error) (S.stream err.old) (S.stream err.new) }
 {
-    let _ = err.put(line);
-}
-
-/// Puts the finding's line on `out`, in one piece.
-fn tell<S: Sink>(alloc: Global, finding: Finding, out: &mut S) -> Result<Finding, Refusal>
-    ensures told { IsTold finding (S.written out.old) (S.written out.new) result }
-    ensures count { S.faults out.old ≤ S.faults out.new }
-    ensures fault { result ≡ Err Refusal.Fault → Rose (S.faults out.old) (S.faults out.new) }
-{
-    let line = finding_line(alloc, finding)?;
-    match out.put(line.bytes()) {
-        Ok(()) => Ok(finding),
-        Err(SinkError::Failed) => Err(Refusal::Fault),
-        Err(SinkError::Memory) => Err(Refusal::Memory),
+    if let Ok(reply) = error_reply(alloc, error) {
+        say(err, reply.bytes());
     }
 }
 
-/// Puts the refusal's line on `err`.
-fn explain<S: Sink>(alloc: Global, refusal: Refusal, err: &mut S)
-    ensures { IsSaid (refusal_text refusal) (record { written = S.written err.old; faults = S.faults err.old }) (record { written = S.written err.new; faults = S.faults err.new }) }
+/// The status of what a line came to. What stopped it, or refused its input, is said on `err`.
+fn conclude<S: Sink>(alloc: Global, came: Result<Status, CommandError>, err: &mut S) -> Status
+    ensures { Concludes (way_of came) (S.stream err.old) (S.stream err.new) result }
 {
-    if let Ok(line) = refusal_line(alloc, refusal) {
-        say(err, line.bytes());
-    }
-}
-
-/// Checks the log against the model, and puts the finding's line on `out`.
-fn answer<F: Folder, S: Sink>(
-    alloc: Global,
-    folder: &mut F,
-    model: &str,
-    log: &str,
-    out: &mut S,
-) -> Result<Finding, Refusal>
-    ensures answered { IsAnsweredIn (F.held folder.old) model.now log.now (S.written out.old) (S.written out.new) result }
-    ensures sound { result ≡ Ok Finding.Verified → IsRefuted (F.held folder.old) model.now }
-    ensures held { F.held folder.new ≡ F.held folder.old }
-    ensures created { F.created folder.new ≡ F.created folder.old }
-    ensures fault { result ≡ Err Refusal.Fault
-        → Rose (F.reads folder.old model.now) (F.reads folder.new model.now)
-        ⊎ (Rose (F.reads folder.old log.now) (F.reads folder.new log.now) ⊎ Rose (S.faults out.old) (S.faults out.new)) }
-{
-    let finding = find(alloc, folder, model, log)?;
-    tell(alloc, finding, out)
-}
-
-/// Checks the log against the model, and answers on the two streams.
-fn check_log<F: Folder, S: Sink>(
-    alloc: Global,
-    folder: &mut F,
-    model: &str,
-    log: &str,
-    out: &mut S,
-    err: &mut S,
-) -> Status
-    ensures checks { ChecksLog (F.held folder.old) model.now log.now
-        (record { written = S.written out.old; faults = S.faults out.old })
-        (record { written = S.written out.new; faults = S.faults out.new })
-        (record { written = S.written err.old; faults = S.faults err.old })
-        (record { written = S.written err.new; faults = S.faults err.new }) result }
-    ensures sound { result ≡ Status.Good → IsRefuted (F.held folder.old) model.now }
-    ensures complete { IsComplete (F.held folder.old) model.now log.now result }
-    ensures held { F.held folder.new ≡ F.held folder.old }
-    ensures created { F.created folder.new ≡ F.created folder.old }
-    ensures fault { result ≡ Status.Fault
-        → Rose (F.reads folder.old model.now) (F.reads folder.new model.now)
-        ⊎ (Rose (F.reads folder.old log.now) (F.reads folder.new log.now) ⊎ Rose (S.faults out.old) (S.faults out.new)) }
-{
-    match answer(alloc, folder, model, log, out) {
-        Ok(finding) => finding_status(finding),
-        Err(refusal) => {
-            explain(alloc, refusal, err);
-            refusal_status(refusal)
+    match came {
+        Ok(status) => status,
+        Err(error) => {
+            explain(alloc, error, err);
+            error_status(error)
         }
     }
 }
 
+/// Runs the line, up to what is said of it on `err`.
+fn run_line<F: Folder, S: Sink>(
+    alloc: Global,
+    order: Order<'_>,
+    folder: &mut F,
+    out: &mut S,
+) -> Result<Status, CommandError>
+    ensures came { CameIn (promise_of (line_of order.entry))
+        (outside (F.place folder.old) (S.stream out.old))
+        (outside (F.place folder.new) (S.stream out.new)) (way_of result) }
+    ensures verified { (model log : List ℕ) → line_of order.entry ≡ Check model log
+        → result ≡ Ok Status.Good → IsRefuted (F.place folder.old).held model }
+{
+    match order {
+        Order::Help => print(out, HELP),
+        Order::Version => print(out, VERSION),
+        Order::Check { model, log } => run_check(alloc, folder, model, log, out),
+    }
+}
+
+/// Runs the line, and says on `err` what stopped it or refused its input.
+fn run_order<F: Folder, S: Sink>(
+    alloc: Global,
+    order: Order<'_>,
+    folder: &mut F,
+    out: &mut S,
+    err: &mut S,
+) -> Status
+    ensures ran { Ran (promise_of (line_of order.entry))
+        (outside (F.place folder.old) (S.stream out.old))
+        (outside (F.place folder.new) (S.stream out.new))
+        (S.stream err.old) (S.stream err.new) result }
+    ensures verified { (model log : List ℕ) → line_of order.entry ≡ Check model log
+        → result ≡ Status.Good → IsRefuted (F.place folder.old).held model }
+{
+    let came = run_line(alloc, order, folder, out);
+    conclude(alloc, came, err)
+}
+
+/// A law of the lines: a list of words is at most one line, and each line's promise has one report
+/// for the bytes of its files, changes only names that it creates, and fetches only its own names.
+pub fn lines_are_lawful()
+    ensures one_line { (words : List (List ℕ)) (line other : Line)
+        → IsLine words line → IsLine words other → line ≡ other }
+    ensures lawful { (line : Line) → IsLawful (promise_of line) }
+{}
+
 /// Runs the command that the words ask for, and gives its status.
 ///
-/// `check MODEL LOG` reads the model, then the log, and puts one line on `out`: `verified`, where
-/// the log's derivation refutes the model's problem, else `rejected step K` or
-/// `rejected not empty`. Any refusal puts one line on `err` and nothing on `out`: the words first,
-/// then the model, then the log. The folder keeps what it holds.
+/// A status of 0, 1, 3, 4 or 5 is that of the line's report on the bytes of its files, whose writes
+/// were all made, and nothing failed. Status 6 comes only where a fetch failed after all that
+/// stands before it had passed, or where a write of the report failed, and nothing is tried after
+/// it. Status 7 is want of memory, and leaves whole first writes of the report. Any other words
+/// have status 2. What `docs/FORMATS.md` lists goes to `err`, and nothing with the statuses 0, 1
+/// and 5.
 pub fn run_command<F: Folder, S: Sink>(
     alloc: Global,
     words: &[String],
@@ -109,32 +106,67 @@ pub fn run_command<F: Folder, S: Sink>(
     out: &mut S,
     err: &mut S,
 ) -> Status
+    // The whole of it: all that follows is said of this.
+    ensures runs { HasRun (map string_bytes words.now)
+        (outside (F.place folder.old) (S.stream out.old)) (outside (F.place folder.new) (S.stream out.new))
+        (S.stream err.old) (S.stream err.new) result }
+
+    // What status 2 goes with.
     ensures words { (result ≡ Status.Words) ↔ IsNoLine (map string_bytes words.now) }
-    ensures bad_words { result ≡ Status.Words → IsSaid (codes "abt: bad words\n")
-        (record { written = S.written err.old; faults = S.faults err.old })
-        (record { written = S.written err.new; faults = S.faults err.new }) }
-    ensures checks { (model log : List ℕ) → IsLine (map string_bytes words.now) (Check model log)
-        → ChecksLog (F.held folder.old) model log
-        (record { written = S.written out.old; faults = S.faults out.old })
-        (record { written = S.written out.new; faults = S.faults out.new })
-        (record { written = S.written err.old; faults = S.faults err.old })
-        (record { written = S.written err.new; faults = S.faults err.new }) result }
+    ensures bad_words { result ≡ Status.Words
+        → IsSaid (codes "abt: bad words\n") (S.stream err.old) (S.stream err.new) }
+
+    // What each status of a line goes with.
+    ensures answers { EachPromise (map string_bytes words.now) (λ promise. IsFinal result → Answers promise
+        (outside (F.place folder.old) (S.stream out.old)) (outside (F.place folder.new) (S.stream out.new))
+        (S.stream err.old) (S.stream err.new) result) }
+    ensures faults { EachPromise (map string_bytes words.now) (λ promise. result ≡ Status.Fault → Faults promise
+        (outside (F.place folder.old) (S.stream out.old)) (outside (F.place folder.new) (S.stream out.new))
+        (S.stream err.old) (S.stream err.new)) }
+    ensures lacks { EachPromise (map string_bytes words.now) (λ promise. result ≡ Status.Memory → Lacks promise
+        (outside (F.place folder.old) (S.stream out.old)) (outside (F.place folder.new) (S.stream out.new))
+        (S.stream err.old) (S.stream err.new)) }
+
+    // What follows of it.
+    ensures stays { IsFinal result → CountsStay
+        (outside (F.place folder.old) (S.stream out.old)) (outside (F.place folder.new) (S.stream out.new)) }
+    ensures refused { IsRefusal result → Did []
+        (outside (F.place folder.old) (S.stream out.old)) (outside (F.place folder.new) (S.stream out.new)) }
+    ensures cause { EachPromise (map string_bytes words.now) (λ promise. result ≡ Status.Fault → HasCause promise
+        (outside (F.place folder.old) (S.stream out.old)) (outside (F.place folder.new) (S.stream out.new))) }
+    ensures complete { EachPromise (map string_bytes words.now) (λ promise. IsComplete promise
+        (outside (F.place folder.old) (S.stream out.old)) (outside (F.place folder.new) (S.stream out.new)) result) }
+    ensures text { EachPromise (map string_bytes words.now) (λ promise. GainsText promise
+        (outside (F.place folder.old) (S.stream out.old)) (outside (F.place folder.new) (S.stream out.new))) }
+    ensures others { EachPromise (map string_bytes words.now) (λ promise. LeavesOthers promise
+        (outside (F.place folder.old) (S.stream out.old)) (outside (F.place folder.new) (S.stream out.new))) }
+    ensures created { EachPromise (map string_bytes words.now) (λ promise. CreatesOwn promise
+        (outside (F.place folder.old) (S.stream out.old)) (outside (F.place folder.new) (S.stream out.new))) }
+
+    // What single lines mean beyond their reports.
     ensures verified { (model log : List ℕ) → IsLine (map string_bytes words.now) (Check model log)
-        → result ≡ Status.Good → IsRefuted (F.held folder.old) model }
-    ensures complete { (model log : List ℕ) → IsLine (map string_bytes words.now) (Check model log)
-        → IsComplete (F.held folder.old) model log result }
-    ensures refused { IsRefusal result → S.written out.new ≡ S.written out.old }
-    ensures held { F.held folder.new ≡ F.held folder.old }
-    ensures created { F.created folder.new ≡ F.created folder.old }
-    ensures fault { (model log : List ℕ) → IsLine (map string_bytes words.now) (Check model log) → result ≡ Status.Fault
-        → Rose (F.reads folder.old model) (F.reads folder.new model)
-        ⊎ (Rose (F.reads folder.old log) (F.reads folder.new log) ⊎ Rose (S.faults out.old) (S.faults out.new)) }
+        → result ≡ Status.Good → IsRefuted (F.place folder.old).held model }
 {
     match words_of(words) {
-        Some(Order::Check { model, log }) => check_log(alloc, folder, model, log, out, err),
+        Some(order) => run_order(alloc, order, folder, out, err),
         None => {
             say(err, b"abt: bad words\n");
             Status::Words
         }
     }
+}
+
+/// Runs the command that the words ask for, and gives the number that the program ends with.
+pub fn run_program<F: Folder, S: Sink>(
+    alloc: Global,
+    words: &[String],
+    folder: &mut F,
+    out: &mut S,
+    err: &mut S,
+) -> u8
+    ensures { (status : Status) × (result ≡ code_of status) × HasRun (map string_bytes words.now)
+        (outside (F.place folder.old) (S.stream out.old)) (outside (F.place folder.new) (S.stream out.new))
+        (S.stream err.old) (S.stream err.new) status }
+{
+    run_command(alloc, words, folder, out, err).code()
 }

@@ -1,16 +1,17 @@
 //! The commands of the program, over a folder and two streams.
+//!
+//! Each line of words has a promise; `run_command` finds the line, runs it, and says what stopped
+//! it. What holds of every line is said once, in its contract.
 #![tactic(auto)]
 
+mod check;
 mod command;
-mod find;
-mod line;
-mod model_text;
-mod refusal;
-mod status;
+mod plain;
 #[cfg(test)]
 mod tests;
 mod words;
 
-pub use command::run_command;
-pub use status::Status;
+pub use abt_promise::Status;
+pub use command::{lines_are_lawful, run_command, run_program};
+pub use plain::{HELP, VERSION};
 pub use words::{Order, words_of};

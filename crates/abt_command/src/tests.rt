@@ -147,14 +147,19 @@ constraint int_lin_ne(X_INTRODUCED_4_,[X_INTRODUCED_2_,X_INTRODUCED_3_],-1);
 solve :: int_search(q,first_fail,indomain_min,complete) satisfy;
 ";
 
-/// The words `check m.fzn` and this log's name.
-fn check_words(rt: &impl Abort, alloc: Global, log: &str) -> Vec<String> {
+/// These words, as the program is given them.
+fn words_given(rt: &impl Abort, alloc: Global, given: &[&str]) -> Vec<String> {
     let mut words = Vec::new(alloc);
-    for word in ["check", "m.fzn", log] {
+    for word in given {
         let word = String::from_str(alloc, word).expect(rt, "memory");
         words.push(word).expect(rt, "memory");
     }
     words
+}
+
+/// The words `check m.fzn` and this log's name.
+fn check_words(rt: &impl Abort, alloc: Global, log: &str) -> Vec<String> {
+    words_given(rt, alloc, &["check", "m.fzn", log])
 }
 
 /// A folder with this model and this log.
@@ -310,17 +315,155 @@ fn answers_with_one_line(rt: HostRuntime) {
     }
 }
 
+/// Which calls of the folder, of `out` and of `err` fail, counted from 1, and what comes of it.
+#[derive(Drop)]
+struct Failing {
+    model: &'static [u8],
+    folder: u64,
+    out: u64,
+    err: u64,
+    code: u8,
+    told: &'static [u8],
+    said: &'static [u8],
+}
+
+/// With a log that verifies. There is no third call of the folder, and no second one of a sink.
+const FAILING: [Failing; 8] = [
+    Failing {
+        model: MODEL,
+        folder: 3,
+        out: 2,
+        err: 1,
+        code: 0,
+        told: b"verified\n",
+        said: b"",
+    },
+    Failing {
+        model: MODEL,
+        folder: 1,
+        out: 2,
+        err: 2,
+        code: 6,
+        told: b"",
+        said: b"abt: fault\n",
+    },
+    Failing {
+        model: MODEL,
+        folder: 2,
+        out: 2,
+        err: 2,
+        code: 6,
+        told: b"",
+        said: b"abt: fault\n",
+    },
+    Failing {
+        model: MODEL,
+        folder: 3,
+        out: 1,
+        err: 2,
+        code: 6,
+        told: b"",
+        said: b"abt: fault\n",
+    },
+    Failing {
+        model: MODEL,
+        folder: 1,
+        out: 2,
+        err: 1,
+        code: 6,
+        told: b"",
+        said: b"",
+    },
+    Failing {
+        model: b"",
+        folder: 2,
+        out: 1,
+        err: 2,
+        code: 3,
+        told: b"",
+        said: b"abt: model: no solve item\n",
+    },
+    Failing {
+        model: b"",
+        folder: 1,
+        out: 1,
+        err: 2,
+        code: 6,
+        told: b"",
+        said: b"abt: fault\n",
+    },
+    Failing {
+        model: b"",
+        folder: 2,
+        out: 1,
+        err: 1,
+        code: 3,
+        told: b"",
+        said: b"",
+    },
+];
+
 #[test]
-fn a_fault_is_told(rt: HostRuntime) {
-    let words = check_words(&rt, rt.alloc(), "m.ngd");
-    let mut folder = folder_with(&rt, rt.alloc(), MODEL, LOG);
-    folder.fail_at(2).expect(&rt, "memory");
-    let mut out = MemorySink::new(rt.alloc());
-    let mut err = MemorySink::new(rt.alloc());
-    let status = run_command(rt.alloc(), &words, &mut folder, &mut out, &mut err);
-    assert_eq!(rt; status.code(), 6);
-    assert_eq!(rt; out.bytes(), b"".as_slice());
-    assert_eq!(rt; err.bytes(), b"abt: fault\n".as_slice());
+fn each_call_fails_in_turn(rt: HostRuntime) {
+    for case in &FAILING {
+        let words = check_words(&rt, rt.alloc(), "m.ngd");
+        let mut folder = folder_with(&rt, rt.alloc(), case.model, LOG);
+        folder.fail_at(case.folder).expect(&rt, "memory");
+        let mut out = MemorySink::new(rt.alloc());
+        out.fail_at(case.out).expect(&rt, "memory");
+        let mut err = MemorySink::new(rt.alloc());
+        err.fail_at(case.err).expect(&rt, "memory");
+        let status = run_command(rt.alloc(), &words, &mut folder, &mut out, &mut err);
+        assert_eq!(rt; status.code(), case.code);
+        assert_eq!(rt; out.bytes(), case.told);
+        assert_eq!(rt; err.bytes(), case.said);
+        if case.code == 0 {
+            assert_eq!(rt; folder.faults(), 0);
+            assert_eq!(rt; out.faults(), 0);
+            assert_eq!(rt; err.faults(), 0);
+        }
+    }
+}
+
+#[test]
+fn one_word_prints_a_text(rt: HostRuntime) {
+    let cases: [(&str, u64, u8, &[u8], &[u8]); 5] = [
+        ("--help", 2, 0, HELP, b""),
+        ("--version", 2, 0, VERSION, b""),
+        ("--help", 1, 6, b"", b"abt: fault\n"),
+        ("--hel", 2, 2, b"", b"abt: bad words\n"),
+        ("check", 2, 2, b"", b"abt: bad words\n"),
+    ];
+    for (word, failing, code, told, said) in cases {
+        let words = words_given(&rt, rt.alloc(), &[word]);
+        let mut folder = MemoryFolder::new(rt.alloc());
+        folder.fail_at(1).expect(&rt, "memory");
+        let mut out = MemorySink::new(rt.alloc());
+        out.fail_at(failing).expect(&rt, "memory");
+        let mut err = MemorySink::new(rt.alloc());
+        let status = run_command(rt.alloc(), &words, &mut folder, &mut out, &mut err);
+        assert_eq!(rt; status.code(), code);
+        assert_eq!(rt; out.bytes(), told);
+        assert_eq!(rt; err.bytes(), said);
+        assert_eq!(rt; folder.faults(), 0);
+    }
+    assert_eq!(rt;
+        VERSION,
+        b"abt 0.1.0\nrattle-kit-13f logic dac8208d650f15bf\n".as_slice()
+    );
+}
+
+#[test]
+fn a_further_word_is_refused(rt: HostRuntime) {
+    for first in ["--help", "--version"] {
+        let words = words_given(&rt, rt.alloc(), &[first, "check"]);
+        let mut folder = MemoryFolder::new(rt.alloc());
+        let mut out = MemorySink::new(rt.alloc());
+        let mut err = MemorySink::new(rt.alloc());
+        let status = run_command(rt.alloc(), &words, &mut folder, &mut out, &mut err);
+        assert_eq!(rt; status, Status::Words);
+        assert_eq!(rt; out.bytes(), b"".as_slice());
+    }
 }
 
 #[test]

@@ -1,10 +1,14 @@
 //! The words that the program is started with.
 
 ghost use Rattle.std.specs.Prelude.{◌≡◌, ◌↔◌, ◌∷◌, [], codes, map, string_bytes, IfSome, IsNone, IsTrue};
-ghost use Rattle.abt_command.specs.CommandLines.{IsFileName, IsLine, IsNoLine, line_of};
+ghost use Rattle.abt_command.specs.Lines.{IsFileName, IsLine, IsNoLine, line_of};
 
 /// What the words ask for.
 pub enum Order<'w> {
+    /// `--help`: what the program takes.
+    Help,
+    /// `--version`: the program's version and its toolchain.
+    Version,
     /// `check MODEL LOG`: whether the log refutes the model.
     Check { model: &'w str, log: &'w str },
 }
@@ -18,8 +22,23 @@ pub fn words_of(words: &[String]) -> Option<Order<'_>>
     ensures none { IsNone result → IsNoLine (map string_bytes words.now) }
 {
     match words {
+        [word] => plain_of(word.as_str()),
         [word, model, log] if word.as_str() == "check" => check_of(model.as_str(), log.as_str()),
         _ => None,
+    }
+}
+
+/// The order that this one word is.
+fn plain_of<'w>(word: &'w str) -> Option<Order<'w>>
+    ensures some { IfSome result (λ order. IsLine (word.now ∷ []) (line_of order)) }
+    ensures none { IsNone result → IsNoLine (word.now ∷ []) }
+{
+    if word == "--help" {
+        Some(Order::Help)
+    } else if word == "--version" {
+        Some(Order::Version)
+    } else {
+        None
     }
 }
 

