@@ -1,0 +1,32 @@
+use Rattle.std.proofs.Common.{refl}
+use Rattle.dcsp_problem.specs.Problems.{csp_of}
+use Rattle.abt_session.specs.Answers.{first_answers}
+use Rattle.abt_session.proofs.Pieces.{made_then_memory}
+use Rattle.abt_session.proofs.Whole.{takes_none, leaves_at}
+use Rattle.abt_session.proofs.session.run.Goals as goal
+
+pub returns-in_default-clause-takes_part : goal.returns-in_default-clause-takes_part
+returns-in_default-clause-takes_part g c = takes_none c.args.keep _ c.args.taken.now c.args.taken.now refl
+
+pub returns-in_default-clause-verdicts : goal.returns-in_default-clause-verdicts
+returns-in_default-clause-verdicts g c = c.verdicts.ensures (csp_of c.args.problem.now) c.vars-vars.ensures.csp c.args.most (first_answers c.args.most (g.C.Choices.answers c.args.choices.now))
+
+pub returns-in_default-clause-stops : goal.returns-in_default-clause-stops
+returns-in_default-clause-stops g c = c.stops.ensures (csp_of c.args.problem.now) c.args.most (first_answers c.args.most (g.C.Choices.answers c.args.choices.now))
+
+pub returns-in_err-result-clause-verdicts : goal.returns-in_err-result-clause-verdicts
+returns-in_err-result-clause-verdicts g c = c.verdicts.ensures (csp_of c.args.problem.now) c.vars-vars.ensures.csp c.args.most (first_answers c.args.most (g.C.Choices.answers c.args.choices.now))
+
+pub returns-in_err-result-clause-stops : goal.returns-in_err-result-clause-stops
+returns-in_err-result-clause-stops g c = c.stops.ensures (csp_of c.args.problem.now) c.args.most (first_answers c.args.most (g.C.Choices.answers c.args.choices.now))
+
+pub returns-clause-wrote : goal.returns-clause-wrote
+returns-clause-wrote g c =
+    let left = leaves_at c.args.most (g.C.Choices.answers c.args.choices.now) c.args.log_name.now c.args.trace c.in-Ok.ensures.problem c.in_ok-result.ensures.leaves in
+    made_then_memory c.outcome_of.result c.outcome_of.ensures.only_memory left.wrote
+
+pub returns-clause-verdicts : goal.returns-clause-verdicts
+returns-clause-verdicts g c = c.verdicts.ensures (csp_of c.args.problem.now) c.vars-vars.ensures.csp c.args.most (first_answers c.args.most (g.C.Choices.answers c.args.choices.now))
+
+pub returns-clause-stops : goal.returns-clause-stops
+returns-clause-stops g c = c.stops.ensures (csp_of c.args.problem.now) c.args.most (first_answers c.args.most (g.C.Choices.answers c.args.choices.now))

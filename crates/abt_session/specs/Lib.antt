@@ -1,0 +1,5 @@
+pub mod Traces
+pub mod Answers
+pub mod Sessions
+pub mod Running
+pub mod Runners

@@ -1,0 +1,49 @@
+-- What the code of a run keeps, and what a run gives.
+use Rattle.std.specs.Prelude.{◌≡◌, ℕ, Bool, List, [], ◌++◌, map, length, Option, if◌then◌else◌}
+use Rattle.dcsp_defs.specs.Csp.{Csp, count}
+use Rattle.dcsp_defs.specs.Words.{below}
+use Rattle.dcsp_outside.specs.Outside.{IsPrefixOf}
+use Rattle.dcsp_problem.specs.Problems.{Contents, csp_of}
+use Rattle.abt_defs.specs.Network.{Network, values}
+use Rattle.abt_defs.specs.Runs as runs
+use Rattle.abt_network.specs.Standing.{NetworkState, StandsAt, reached}
+use Rattle.abt_session.specs.Answers.{first_answers}
+use Rattle.abt_session.specs.Sessions.{Session, run_of}
+use Rattle.abt_session.specs.declared.outcome.End.{End}
+use Rattle.abt_session.specs.declared.outcome.End.TheVariants.{Solved, Refuted, Spent, Capped}
+use Rattle.abt_session.specs.declared.outcome.Outcome.{Outcome}
+
+-- the run of a problem under these answers
+abbrev pub session_of : Contents → ℕ → (ℕ → Option ℕ) → List ℕ → Bool → Session
+session_of p most answers log trace = record { problem = csp_of p; most = most; choices = first_answers most answers; log = log; trace = trace }
+
+-- some choices lead to where the network stands
+abbrev pub IsOnRun : NetworkState → Type 0
+IsOnRun s = (choices : List ℕ) × StandsAt s (reached s choices)
+
+-- what is taken down of these numbers
+abbrev pub kept : Bool → List ℕ → List ℕ
+kept keep numbers = if keep then numbers else []
+
+-- some first numbers of the run were taken down, if that was asked for
+pub record TakesPart (keep : Bool) (numbers old new : List ℕ) : Type 0 where
+  pub part : List ℕ
+  pub begins : IsPrefixOf part numbers
+  pub added : new ≡ old ++ kept keep part
+
+-- an end as the definitions have it; where nothing is in transit it has the values of all variables
+abbrev pub IsEnd : Csp → Network → runs.End → End → Type 0
+IsEnd p net end (Solved list) = (end ≡ runs.Solved) × (list ≡ map (values net) (below (count p)))
+IsEnd p net end Refuted = end ≡ runs.Refuted
+IsEnd p net end Spent = end ≡ runs.Spent
+IsEnd p net end Capped = end ≡ runs.Capped
+
+-- how a run of this problem ended with this network, and how many deliveries and steps it made
+pub record IsOutcome (p : Csp) (net : Network) (ended : runs.End) (outcome : Outcome) : Type 0 where
+  pub end : IsEnd p net ended outcome.end
+  pub deliveries : outcome.deliveries ≡ net.deliveries
+  pub steps : outcome.steps ≡ length net.steps
+
+-- what a run gives
+abbrev pub Gives : Session → Outcome → Type 0
+Gives s outcome = IsOutcome s.problem (run_of s).net (run_of s).end outcome

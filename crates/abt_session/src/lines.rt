@@ -1,0 +1,101 @@
+//! What one delivery writes.
+
+ghost use Rattle.std.specs.Prelude.{◌≡◌, [], ◌∷◌, Contains, IfSome, option_to_list};
+ghost use Rattle.std.specs.List.{AllByRecursion};
+ghost use Rattle.dcsp_outside.specs.Outside.{Place, Stream};
+ghost use Rattle.dcsp_script.specs.Scripts.{Append, Put, outside};
+ghost use Rattle.dcsp_script.specs.Ways.{Wrote};
+ghost use Rattle.ngd_log.specs.StepText.{step_line, IsInRange, IsStepNumber};
+ghost use Rattle.abt_network.specs.Standing.{delivery_of, steps_of};
+ghost use Rattle.abt_session.specs.Traces.{trace_line};
+ghost use Rattle.abt_session.specs.Sessions.{step_writes, trace_writes};
+
+use crate::trace::push_line;
+use abt_network::{Begun, Delivery};
+use dcsp_defs::Step;
+use dcsp_outside::{Folder, Sink};
+use dcsp_script::{Stop, append, put};
+use ngd_log::write_step;
+
+/// Appends the line of the step with this number. The line is made in `line`.
+pub fn append_step<F: Folder>(
+    folder: &mut F,
+    log: &str,
+    number: u64,
+    step: &Step,
+    line: &mut Vec<u8>,
+) -> Result<(), Stop>
+    requires created { Contains (F.place folder.old).created log.now }
+    requires number { IsStepNumber number }
+    requires in_range { IsInRange step.now }
+    ensures wrote { (out : Stream) → Wrote (Append log.now (step_line number step.now) ∷ [])
+        (outside (F.place folder.old) out) (outside (F.place folder.new) out) result }
+    ensures created { (F.place folder.new).created ≡ (F.place folder.old).created }
+{
+    line.clear();
+    match write_step(number, step, line) {
+        Ok(()) => append(folder, log, line),
+        Err(_) => Err(Stop::Memory),
+    }
+}
+
+/// Appends the line of the step, if one was made.
+pub fn append_made<F: Folder>(
+    folder: &mut F,
+    log: &str,
+    number: u64,
+    step: &Option<Step>,
+    line: &mut Vec<u8>,
+) -> Result<(), Stop>
+    requires created { Contains (F.place folder.old).created log.now }
+    requires number { IfSome step.now (λ s. IsStepNumber number) }
+    requires in_range { IfSome step.now IsInRange }
+    ensures wrote { (out : Stream) → Wrote (step_writes log.now number (option_to_list step.now))
+        (outside (F.place folder.old) out) (outside (F.place folder.new) out) result }
+    ensures created { (F.place folder.new).created ≡ (F.place folder.old).created }
+{
+    match step {
+        Some(step) => append_step(folder, log, number, step, line),
+        None => Ok(()),
+    }
+}
+
+/// Appends the line of the step that a start told of, if it made one.
+pub fn append_begun<F: Folder>(
+    folder: &mut F,
+    log: &str,
+    begun: &Begun,
+    line: &mut Vec<u8>,
+) -> Result<(), Stop>
+    requires created { Contains (F.place folder.old).created log.now }
+    requires in_range { AllByRecursion IsInRange (steps_of begun.now) }
+    ensures wrote { (out : Stream) → Wrote (step_writes log.now 1 (steps_of begun.now))
+        (outside (F.place folder.old) out) (outside (F.place folder.new) out) result }
+    ensures created { (F.place folder.new).created ≡ (F.place folder.old).created }
+{
+    match begun {
+        Begun::Running => Ok(()),
+        Begun::Refuted(step) => append_step(folder, log, 1, step, line),
+    }
+}
+
+/// Puts the line of the delivery with this number, where a trace is asked for.
+pub fn put_delivery<S: Sink>(
+    out: &mut S,
+    trace: bool,
+    number: u64,
+    delivery: &Delivery,
+    line: &mut Vec<u8>,
+) -> Result<(), Stop>
+    ensures { (folder : Place) → Wrote (trace_writes trace number (delivery_of delivery.now ∷ []))
+        (outside folder (S.stream out.old)) (outside folder (S.stream out.new)) result }
+{
+    if !trace {
+        return Ok(());
+    }
+    line.clear();
+    match push_line(line, number, delivery) {
+        Ok(()) => put(out, line),
+        Err(_) => Err(Stop::Memory),
+    }
+}

@@ -1,0 +1,207 @@
+//! A run on its way.
+
+ghost use Rattle.std.specs.Prelude.{◌≡◌, ◌<◌, ◌≤◌, ◌+◌, ◌^◌, ◌++◌, ℕ, [], ◌∷◌, true, false, Contains, IfSome, OnOk, OnErr, Err, option_to_list};
+ghost use Rattle.dcsp_defs.specs.Csp.{IsCsp};
+ghost use Rattle.abt_defs.specs.Network.{Network as TheNetwork, deliver, start};
+ghost use Rattle.law_replay.specs.Stops.{list_number};
+ghost use Rattle.dcsp_outside.specs.Outside.{Place, Stream};
+ghost use Rattle.dcsp_problem.specs.Problems.{csp_of};
+ghost use Rattle.dcsp_problem.specs.WellFormed.{IsProblem};
+ghost use Rattle.dcsp_script.specs.Scripts.{outside};
+ghost use Rattle.dcsp_script.specs.Ways.{Wrote};
+ghost use Rattle.ngd_log.specs.StepText.{IsInRange};
+ghost use Rattle.abt_network.specs.Standing.{delivery_of, CanDeliver, StandsAt};
+ghost use Rattle.abt_session.specs.Sessions.{begun_script, choice_writes, deliveries_write, run_script, step_writes, trace_writes};
+ghost use Rattle.abt_session.specs.Running.{kept, session_of, IsOnRun};
+
+use crate::lines::{append_begun, append_made, put_delivery};
+use abt_network::{Delivery, Network, Standing};
+use abt_schedule::{ChoiceList, Choices};
+use dcsp_outside::{Folder, Sink};
+use dcsp_script::{Stop, append, create};
+use ngd_log::{HEAD, TAIL};
+
+/// Why a run stopped.
+#[derive(Clone, Copy, Debug, PartialEq, Eq)]
+pub enum Halt {
+    Refuted,
+    Solved,
+    Spent,
+    Capped,
+}
+
+/// A run on its way.
+#[derive(Drop)]
+pub struct Runner<'p, 'w> {
+    pub network: Network<'p>,
+    /// The name of the log.
+    pub log: &'w str,
+    /// Whether each delivery puts its line.
+    pub trace: bool,
+    /// Whether the numbers of the lists are taken down.
+    pub keep: bool,
+    pub taken: ChoiceList,
+    /// Where lines are made.
+    pub line: Vec<u8>,
+}
+
+impl<'p, 'w> Runner<'p, 'w> {
+    ghost use Rattle.abt_session.specs.Runners.{Leaves, SameTask};
+
+    /// Makes the whole run, and its log.
+    pub fn run<C: Choices, F: Folder, S: Sink>(
+        &mut self,
+        choices: &mut C,
+        most: u64,
+        folder: &mut F,
+        out: &mut S,
+    ) -> Result<Halt, Stop>
+        requires most { most ≤ 2 ^ 40 }
+        requires sound { self.old.network.spent ≡ false }
+        requires fresh { self.old.network.begun ≡ false }
+        requires problem { IsProblem self.old.network.problem × IsCsp (csp_of self.old.network.problem) }
+        ensures leaves { let s = session_of self.old.network.problem most (C.answers choices.old) self.old.log.now self.old.trace in Leaves s (run_script s) self.old.keep
+            self.old.taken self.new.taken (C.answers choices.old) (C.answers choices.new) self.new.network
+            (outside (F.place folder.old) (S.stream out.old)) (outside (F.place folder.new) (S.stream out.new)) result }
+        ensures problem { self.new.network.problem ≡ self.old.network.problem }
+    {
+        self.begin(folder)?;
+        let halt = self.deliver_all(choices, most, folder, out)?;
+        append(folder, self.log, TAIL)?;
+        Ok(halt)
+    }
+
+    /// Begins the log, and starts the agents.
+    fn begin<F: Folder>(&mut self, folder: &mut F) -> Result<(), Stop>
+        requires sound { self.old.network.spent ≡ false }
+        requires fresh { self.old.network.begun ≡ false }
+        ensures wrote { (out : Stream) → Wrote (begun_script (csp_of self.old.network.problem) self.old.log.now)
+            (outside (F.place folder.old) out) (outside (F.place folder.new) out) result }
+        ensures stands { OnOk result (StandsAt self.new.network (start (csp_of self.old.network.problem))) }
+        ensures same { SameTask self.old self.new }
+        ensures taken { self.new.taken ≡ self.old.taken }
+        ensures sound { OnOk result (self.new.network.spent ≡ false) }
+        ensures begun { OnOk result (self.new.network.begun ≡ true) }
+        ensures created { OnOk result (Contains (F.place folder.new).created self.old.log.now) }
+    {
+        create(folder, self.log)?;
+        append(folder, self.log, HEAD)?;
+        match self.network.start() {
+            Ok(begun) => append_begun(folder, self.log, &begun, &mut self.line),
+            Err(_) => Err(Stop::Memory),
+        }
+    }
+
+    /// Makes the deliveries of the run, until one of its four stops.
+    pub fn deliver_all<C: Choices, F: Folder, S: Sink>(
+        &mut self,
+        choices: &mut C,
+        most: u64,
+        folder: &mut F,
+        out: &mut S,
+    ) -> Result<Halt, Stop>
+        requires created { Contains (F.place folder.old).created self.old.log.now }
+        requires most { most ≤ 2 ^ 40 }
+        requires sound { self.old.network.spent ≡ false }
+        requires begun { self.old.network.begun ≡ true }
+        requires problem { IsProblem self.old.network.problem × IsCsp (csp_of self.old.network.problem) }
+        requires starts { StandsAt self.old.network (start (csp_of self.old.network.problem)) }
+        ensures leaves { let s = session_of self.old.network.problem most (C.answers choices.old) self.old.log.now self.old.trace in Leaves s (deliveries_write s) self.old.keep
+            self.old.taken self.new.taken (C.answers choices.old) (C.answers choices.new) self.new.network
+            (outside (F.place folder.old) (S.stream out.old)) (outside (F.place folder.new) (S.stream out.new)) result }
+        ensures same { SameTask self.old self.new }
+        ensures created { (F.place folder.new).created ≡ (F.place folder.old).created }
+    {
+        for _made in 0..most {
+            match self.network.state() {
+                Standing::Refuted => return Ok(Halt::Refuted),
+                Standing::Quiet => return Ok(Halt::Solved),
+                Standing::Open => {}
+            }
+            let Some(choice) = choices.next() else {
+                return Ok(Halt::Spent);
+            };
+            self.deliver_one(choice, folder, out)?;
+        }
+        match self.network.state() {
+            Standing::Refuted => Ok(Halt::Refuted),
+            Standing::Quiet => Ok(Halt::Solved),
+            Standing::Open => Ok(Halt::Capped),
+        }
+    }
+
+    /// Makes one delivery: the line of its step is appended, and then its own line is put.
+    fn deliver_one<F: Folder, S: Sink>(
+        &mut self,
+        choice: u32,
+        folder: &mut F,
+        out: &mut S,
+    ) -> Result<(), Stop>
+        requires created { Contains (F.place folder.old).created self.old.log.now }
+        requires sound { self.old.network.spent ≡ false }
+        requires can { CanDeliver self.old.network }
+        requires problem { IsProblem self.old.network.problem × IsCsp (csp_of self.old.network.problem) }
+        requires on_run { IsOnRun self.old.network }
+        ensures wrote { (net : TheNetwork) → StandsAt self.old.network net
+            → Wrote (choice_writes (csp_of self.old.network.problem) self.old.log.now self.old.trace (net.deliveries + 1) choice net)
+            (outside (F.place folder.old) (S.stream out.old)) (outside (F.place folder.new) (S.stream out.new)) result }
+        ensures stands { (net : TheNetwork) → StandsAt self.old.network net
+            → OnOk result (StandsAt self.new.network (deliver (csp_of self.old.network.problem) choice net)) }
+        ensures takes { (net : TheNetwork) → StandsAt self.old.network net
+            → OnOk result (self.new.taken ≡ self.old.taken ++ kept self.old.keep (list_number (csp_of self.old.network.problem) choice net ∷ [])) }
+        ensures not_taken { OnErr result (self.new.taken ≡ self.old.taken) }
+        ensures same { SameTask self.old self.new }
+        ensures sound { OnOk result (self.new.network.spent ≡ false) }
+        ensures begun { OnOk result (self.new.network.begun ≡ true) }
+        ensures created { (F.place folder.new).created ≡ (F.place folder.old).created }
+    {
+        let number = choice % self.network.ready();
+        let Ok(delivery) = self.network.deliver(choice) else {
+            return Err(Stop::Memory);
+        };
+        self.write_made(&delivery, folder, out)?;
+        self.take_down(number)
+    }
+
+    /// Writes what the last delivery writes.
+    fn write_made<F: Folder, S: Sink>(
+        &mut self,
+        delivery: &Delivery,
+        folder: &mut F,
+        out: &mut S,
+    ) -> Result<(), Stop>
+        requires created { Contains (F.place folder.old).created self.old.log.now }
+        requires sound { self.old.network.spent ≡ false }
+        requires number { IfSome delivery.now.step (λ s. 0 < self.old.network.steps) }
+        requires in_range { IfSome delivery.now.step IsInRange }
+        ensures wrote { Wrote (step_writes self.old.log.now self.old.network.steps (option_to_list delivery.now.step)
+            ++ trace_writes self.old.trace self.old.network.deliveries (delivery_of delivery.now ∷ []))
+            (outside (F.place folder.old) (S.stream out.old)) (outside (F.place folder.new) (S.stream out.new)) result }
+        ensures same { SameTask self.old self.new }
+        ensures network { self.new.network ≡ self.old.network }
+        ensures taken { self.new.taken ≡ self.old.taken }
+        ensures created { (F.place folder.new).created ≡ (F.place folder.old).created }
+    {
+        let steps = self.network.steps();
+        append_made(folder, self.log, steps, &delivery.step, &mut self.line)?;
+        let made = self.network.deliveries();
+        put_delivery(out, self.trace, made, delivery, &mut self.line)
+    }
+
+    /// Takes the number of a list down, where that is asked for.
+    fn take_down(&mut self, number: u32) -> Result<(), Stop>
+        ensures ok { OnOk result (self.new.taken ≡ self.old.taken ++ kept self.old.keep (number ∷ [])) }
+        ensures err { OnErr result (self.new.taken ≡ self.old.taken) }
+        ensures only_memory { OnErr result (result ≡ Err Stop.Memory) }
+        ensures same { SameTask self.old self.new }
+        ensures network { self.new.network ≡ self.old.network }
+    {
+        if !self.keep {
+            return Ok(());
+        }
+        match self.taken.push(number) {
+            Ok(()) => Ok(()),
+            Err(_) => Err(Stop::Memory),
+        }
+    }
+}

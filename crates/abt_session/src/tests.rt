@@ -1,0 +1,201 @@
+//! Whole runs over a folder in memory.
+
+ghost use Rattle.std.specs.Prelude.{◌≡◌, ◌∷◌, [], IfOk};
+
+use super::*;
+use abt_schedule::{ChoiceList, Seeded, read_schedule};
+use dcsp_outside::{MemoryFolder, MemorySink};
+use dcsp_problem::{Domain, IntList, Kind, Members, Problem, ProblemBuilder, Rule, Term, TermList};
+use std::alloc::Global;
+use std::process::Abort;
+use std::test::Fail;
+
+/// A comparison of two variables.
+fn compare(alloc: Global, kind: Kind, first: u32, second: u32) -> Result<Rule, Fail>
+    ensures { IfOk result (λ rule. rule ≡ Rule.Plain kind (Term.Var first ∷ Term.Var second ∷ []) [] [] (Members.Listed [])) }
+{
+    Ok(Rule::Plain {
+        kind,
+        scalars: TermList::from_vec(vec![in alloc; Term::Var(first), Term::Var(second)]?),
+        first: TermList::new(alloc),
+        second: TermList::new(alloc),
+        members: Members::Listed(IntList::new(alloc)),
+    })
+}
+
+/// Two variables that are equal and differ.
+fn torn(alloc: Global) -> Result<Problem, Fail> {
+    let mut builder = ProblemBuilder::new(alloc);
+    builder.add_var(Domain::range(alloc, 0, 1)?)?;
+    builder.add_var(Domain::range(alloc, 0, 1)?)?;
+    builder.add_rule(compare(alloc, Kind::IntNe, 0, 1)?)?;
+    builder.add_rule(compare(alloc, Kind::IntEq, 0, 1)?)?;
+    Ok(builder.finish()?)
+}
+
+/// The third variable differs from both others, of which the second has one value.
+fn third_differs(alloc: Global) -> Result<Problem, Fail> {
+    let mut builder = ProblemBuilder::new(alloc);
+    builder.add_var(Domain::range(alloc, 0, 1)?)?;
+    builder.add_var(Domain::range(alloc, 1, 1)?)?;
+    builder.add_var(Domain::range(alloc, 0, 1)?)?;
+    builder.add_rule(compare(alloc, Kind::IntNe, 0, 2)?)?;
+    builder.add_rule(compare(alloc, Kind::IntNe, 1, 2)?)?;
+    Ok(builder.finish()?)
+}
+
+#[test]
+fn a_refuted_run(rt: HostRuntime) -> Result<(), Fail> {
+    let alloc = rt.alloc();
+    let problem = torn(alloc)?;
+    let mut folder = MemoryFolder::new(alloc);
+    folder.place("log", b"before")?;
+    let mut out = MemorySink::new(alloc);
+    let mut taken = ChoiceList::new(alloc);
+    let mut choices = Seeded::new(1);
+    let outcome = run(
+        alloc,
+        &problem,
+        &mut choices,
+        4,
+        &mut folder,
+        "log",
+        &mut out,
+        false,
+        &mut taken,
+        true,
+    )
+    .expect(&rt, "no write fails");
+    assert!(rt; matches!(&outcome.end, End::Refuted));
+    assert_eq!(rt; outcome.deliveries, 4);
+    assert_eq!(rt; outcome.steps, 3);
+    assert_eq!(rt;
+        folder.file("log").unwrap_or(&[]),
+        b"ngd 1\n1 v2 [v1=0] <- c1 c2\n2 v2 [v1=1] <- c2 c1\n3 v1 [] <- n1 n2\nend\n".as_slice()
+    );
+    assert_eq!(rt; out.bytes(), b"".as_slice());
+    assert_eq!(rt; taken.choices(), [0u32, 0, 0, 0].as_slice());
+    Ok(())
+}
+
+/// Choices that are all 0.
+const NAUGHTS: &[u8] = b"schedule 1\n0\n0\n0\n0\n0\n0\n0\n0\n0\nend\n";
+
+/// The lines of the trace.
+const TRACE: &[u8] = b"% 1 v1>v3 ok 0
+% 2 v2>v3 ok 1
+% 3 v3>v2 nogood 1
+% 4 v2>v1 link
+% 5 v1>v2 ok 0
+% 6 v2>v1 nogood 2
+% 7 v1>v2 ok 1
+% 8 v1>v3 ok 1
+% 9 v2>v3 ok 1
+";
+
+/// A run under choices that are all 0: the greatest number of deliveries, which calls of the folder and
+/// of `out` fail, what it tells, and what it leaves.
+#[derive(Drop)]
+struct Case {
+    most: u64,
+    folder: u64,
+    out: u64,
+    /// How many deliveries it tells of, or none where it is stopped.
+    made: Option<u64>,
+    log: &'static [u8],
+    /// How many bytes of the trace are put.
+    told: usize,
+    taken: usize,
+}
+
+const CASES: [Case; 6] = [
+    Case {
+        most: 1000,
+        folder: 9,
+        out: 99,
+        made: Some(9),
+        told: 143,
+        taken: 9,
+        log: b"ngd 1\n1 v3 [v1=0,v2=1] <- c1 c2\n2 v2 [v1=0] <- n1\nend\n",
+    },
+    Case {
+        most: 4,
+        folder: 9,
+        out: 99,
+        made: Some(4),
+        told: 64,
+        taken: 4,
+        log: b"ngd 1\n1 v3 [v1=0,v2=1] <- c1 c2\n2 v2 [v1=0] <- n1\nend\n",
+    },
+    Case {
+        most: 1000,
+        folder: 1,
+        out: 99,
+        made: None,
+        told: 0,
+        taken: 0,
+        log: b"before",
+    },
+    Case {
+        most: 1000,
+        folder: 3,
+        out: 99,
+        made: None,
+        told: 15,
+        taken: 1,
+        log: b"ngd 1\n",
+    },
+    Case {
+        most: 1000,
+        folder: 5,
+        out: 99,
+        made: None,
+        told: 143,
+        taken: 9,
+        log: b"ngd 1\n1 v3 [v1=0,v2=1] <- c1 c2\n2 v2 [v1=0] <- n1\n",
+    },
+    Case {
+        most: 1000,
+        folder: 9,
+        out: 3,
+        made: None,
+        told: 30,
+        taken: 2,
+        log: b"ngd 1\n1 v3 [v1=0,v2=1] <- c1 c2\n2 v2 [v1=0] <- n1\n",
+    },
+];
+
+#[test]
+fn a_run_that_is_traced_and_stopped(rt: HostRuntime) -> Result<(), Fail> {
+    let alloc = rt.alloc();
+    let problem = third_differs(alloc)?;
+    for case in &CASES {
+        let mut folder = MemoryFolder::new(alloc);
+        folder.place("log", b"before")?;
+        folder.fail_at(case.folder)?;
+        let mut out = MemorySink::new(alloc);
+        out.fail_at(case.out)?;
+        let mut taken = ChoiceList::new(alloc);
+        let mut choices = read_schedule(alloc, NAUGHTS).expect(&rt, "a schedule");
+        let result = run(
+            alloc,
+            &problem,
+            &mut choices,
+            case.most,
+            &mut folder,
+            "log",
+            &mut out,
+            true,
+            &mut taken,
+            true,
+        );
+        match result {
+            Ok(outcome) => assert_eq!(rt; Some(outcome.deliveries), case.made),
+            Err(stop) => assert!(rt; stop == SessionError::Fault && case.made.is_none()),
+        }
+        assert_eq!(rt; folder.file("log").unwrap_or(&[]), case.log);
+        assert_eq!(rt; out.bytes(), TRACE.get(..case.told).expect(&rt, "a part"));
+        assert_eq!(rt; taken.choices().len(), case.taken);
+    }
+    Ok(())
+}

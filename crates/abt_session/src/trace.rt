@@ -1,0 +1,45 @@
+//! The lines of a trace.
+
+ghost use Rattle.std.specs.Prelude.{◌≡◌, ◌++◌, OnOk, decimal};
+ghost use Rattle.abt_network.specs.Standing.{cargo_in, delivery_of};
+ghost use Rattle.abt_session.specs.Traces.{cargo_text, trace_line};
+
+use abt_network::{Cargo, Delivery};
+use itoa::Buffer;
+use std::alloc::AllocError;
+
+/// Appends the line of the delivery with this number. A refusal may leave a part of it.
+pub fn push_line(line: &mut Vec<u8>, number: u64, delivery: &Delivery) -> Result<(), AllocError>
+    ensures { OnOk result (line.new.items ≡ line.old.items ++ trace_line number (delivery_of delivery.now)) }
+{
+    line.extend_from_slice(b"% ")?;
+    push_number(line, number)?;
+    line.extend_from_slice(b" v")?;
+    push_number(line, u64::from(delivery.from) + 1)?;
+    line.extend_from_slice(b">v")?;
+    push_number(line, u64::from(delivery.to) + 1)?;
+    push_cargo(line, delivery.cargo)?;
+    line.extend_from_slice(b"\n")
+}
+
+fn push_number(line: &mut Vec<u8>, number: u64) -> Result<(), AllocError>
+    ensures { OnOk result (line.new.items ≡ line.old.items ++ decimal number) }
+{
+    line.extend_from_slice(Buffer::new().format(number).as_bytes())
+}
+
+fn push_cargo(line: &mut Vec<u8>, cargo: Cargo) -> Result<(), AllocError>
+    ensures { OnOk result (line.new.items ≡ line.old.items ++ cargo_text (cargo_in cargo)) }
+{
+    match cargo {
+        Cargo::Tell { value } => {
+            line.extend_from_slice(b" ok ")?;
+            line.extend_from_slice(Buffer::new().format(value).as_bytes())
+        }
+        Cargo::Refuse { step } => {
+            line.extend_from_slice(b" nogood ")?;
+            push_number(line, step)
+        }
+        Cargo::AddLink => line.extend_from_slice(b" link"),
+    }
+}
