@@ -1,6 +1,6 @@
 #!/bin/sh
 # Makes FlatZinc files as MiniZinc writes them, at the limits of the program, and times the program and its
-# parts over them, and one agent over many messages. It wants python3 and GNU time.
+# parts over them, one agent over many messages, and appends to a file. It wants python3 and GNU time.
 set -e
 top=$(cd "$(dirname "$0")/.." && pwd)
 folder=$(mktemp -d)
@@ -70,6 +70,9 @@ for run in 'agent 100000' 'quiet 100000 0' 'quiet 100000 90' 'quiet 100000 900';
     echo "$run"
     /usr/bin/time -f "$figures" "$parts" $run
 done
+# lines of 190 bytes, each appended by a call of its own to a file of the system
+echo 'appends 1000000'
+/usr/bin/time -f "$figures" "$parts" appends 1000000
 for model in large.fzn half.fzn rules.fzn listed.fzn; do
     echo "check $model: $(wc -c <$model) bytes"
     # the log refutes nothing, so the status is 1

@@ -1,19 +1,10 @@
 //! The program: a command over the folder and the streams that it was started in.
 #![tactic(auto)]
 
-mod folder;
-mod open_files;
-mod sink;
-#[cfg(test)]
-mod tests;
-mod transfer;
-
 use abt_command::{Status, run_program};
+use abt_files::{OpenFiles, RealFolder, RealSink, Stream};
 use dcsp_list::Memory;
 use dcsp_outside::Sink;
-use folder::RealFolder;
-use open_files::OpenFiles;
-use sink::{RealSink, Stream};
 use std::alloc::Global;
 use std::cell::RefCell;
 use std::env;

@@ -1,13 +1,15 @@
-//! Counts the tokens or the items of a file, or hands one agent many messages: the program that `bench/run.sh`
-//! times.
+//! Counts the tokens or the items of a file, hands one agent many messages, or appends many lines to a file: the
+//! program that `bench/run.sh` times.
 #![tactic(auto)]
 
 ghost use Rattle.std.specs.Prelude.{◌<◌, length};
 
+mod appends;
 mod driver;
 mod problem;
 mod runs;
 
+use appends::append_lines;
 use driver::Counts;
 use fzn_item::items;
 use fzn_token::tokens;
@@ -43,7 +45,7 @@ fn main(rt: HostRuntime) -> anyhow::Result<()> {
     let words: Vec<String> = env::args(&rt)?.collect(alloc)?;
     if words.len() < 3 {
         println!(rt;
-            "usage: bench_parts tokens|items FILE, agent MESSAGES, or quiet MESSAGES KEPT"
+            "usage: bench_parts tokens|items FILE, agent MESSAGES, quiet MESSAGES KEPT, or appends LINES"
         )?;
         return Ok(());
     }
@@ -61,6 +63,14 @@ fn main(rt: HostRuntime) -> anyhow::Result<()> {
                 )?;
             }
             None => println!(rt; "out of memory, or no such values")?,
+        }
+        return Ok(());
+    }
+    if words[1].as_str() == "appends" {
+        let lines = words[2].parse::<u32>()?;
+        match append_lines(alloc, rt, rt.stdout(), lines) {
+            true => println!(rt; "{} lines appended", lines)?,
+            false => println!(rt; "a write failed")?,
         }
         return Ok(());
     }

@@ -2,7 +2,7 @@
 
 ghost use Rattle.std.specs.Prelude.{◌≡◌, ◌≤◌, []};
 ghost use Rattle.dcsp_outside.specs.Outside.{AddsUpTo};
-ghost use Rattle.abt_main.specs.Faults.{CountsFault};
+ghost use Rattle.abt_files.specs.Faults.{CountsFault};
 
 use crate::open_files::OpenFiles;
 use crate::transfer::read_up_to;
