@@ -1,3 +1,4 @@
+pub mod Ordered
 pub mod Pieces
 pub mod Places
 pub mod Stopping

@@ -1,5 +1,6 @@
 pub mod Traces
 pub mod Answers
 pub mod Sessions
+pub mod Order
 pub mod Running
 pub mod Runners

@@ -7,6 +7,7 @@ ghost use Rattle.dcsp_outside.specs.Outside.{Place, Stream};
 ghost use Rattle.dcsp_problem.specs.Problems.{csp_of};
 ghost use Rattle.dcsp_script.specs.Scripts.{outside};
 ghost use Rattle.dcsp_script.specs.Ways.{Wrote};
+ghost use Rattle.abt_session.specs.Order.{WritesInOrder};
 ghost use Rattle.abt_session.specs.Sessions.{run_of, run_script};
 ghost use Rattle.abt_session.specs.Running.{kept, session_of, Gives, TakesPart};
 
@@ -26,6 +27,11 @@ use std::mem;
 /// last line once the run has stopped. Where `trace` is true each delivery puts its line on `out`, after
 /// the line of its step. Where `keep` is true the number of the list of each delivery is pushed to
 /// `taken`. Of each delivery one answer of `choices` is taken.
+///
+/// Wherever the run is stopped, `out` gained a first part of the trace, no name but the log's changed, and
+/// the log, once created, holds a first part of its text; before, it is unchanged or empty. The log keeps
+/// up with the trace: once some deliveries have their whole lines on `out`, the lines of their steps are in
+/// the log, and of later steps at most that of the next delivery.
 pub fn run<C: Choices, F: Folder, S: Sink>(
     alloc: Global,
     problem: &Problem,
@@ -41,6 +47,8 @@ pub fn run<C: Choices, F: Folder, S: Sink>(
     requires { most ≤ 2 ^ 40 }
     ensures wrote { Wrote (run_script (session_of problem.now most (C.answers choices.old) log_name.now trace))
         (outside (F.place folder.old) (S.stream out.old)) (outside (F.place folder.new) (S.stream out.new)) result }
+    ensures in_order { WritesInOrder (session_of problem.now most (C.answers choices.old) log_name.now trace)
+        (outside (F.place folder.old) (S.stream out.old)) (outside (F.place folder.new) (S.stream out.new)) }
     ensures gives { IfOk result (Gives (session_of problem.now most (C.answers choices.old) log_name.now trace)) }
     ensures takes { let s = session_of problem.now most (C.answers choices.old) log_name.now trace in
         OnOk result (taken.new ≡ taken.old ++ kept keep (run_of s).numbers) }

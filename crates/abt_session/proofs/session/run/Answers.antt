@@ -1,7 +1,11 @@
-use Rattle.std.proofs.Common.{refl}
+use Rattle.std.proofs.Common.{refl, ℕ}
 use Rattle.dcsp_problem.specs.Problems.{csp_of}
 use Rattle.abt_session.specs.Answers.{first_answers}
-use Rattle.abt_session.proofs.Pieces.{made_then_memory}
+use Rattle.dcsp_script.specs.Scripts.{outside}
+use Rattle.abt_session.specs.Sessions.{run_script}
+use Rattle.abt_session.specs.Running.{session_of}
+use Rattle.abt_session.proofs.Ordered.{wrote_in_order}
+use Rattle.abt_session.proofs.Pieces.{made_then_memory, memory_at_once}
 use Rattle.abt_session.proofs.Whole.{takes_none, leaves_at}
 use Rattle.abt_session.proofs.session.run.Goals as goal
 
@@ -30,3 +34,18 @@ returns-clause-verdicts g c = c.verdicts.ensures (csp_of c.args.problem.now) c.v
 
 pub returns-clause-stops : goal.returns-clause-stops
 returns-clause-stops g c = c.stops.ensures (csp_of c.args.problem.now) c.args.most (first_answers c.args.most (g.C.Choices.answers c.args.choices.now))
+
+pub returns-in_default-clause-in_order : goal.returns-in_default-clause-in_order
+returns-in_default-clause-in_order g c =
+    let s = session_of c.args.problem.now c.args.most (g.C.Choices.answers c.args.choices.now) c.args.log_name.now c.args.trace in
+    wrote_in_order s {T = ℕ} (memory_at_once (run_script s) (outside (g.F.Folder.place c.args.folder.now) (g.S.Sink.stream c.args.out.now)))
+
+pub returns-in_err-result-clause-in_order : goal.returns-in_err-result-clause-in_order
+returns-in_err-result-clause-in_order g c =
+    let left = leaves_at c.args.most (g.C.Choices.answers c.args.choices.now) c.args.log_name.now c.args.trace c.in-Ok.ensures.problem c.in_err-result.ensures.leaves in
+    wrote_in_order (session_of c.args.problem.now c.args.most (g.C.Choices.answers c.args.choices.now) c.args.log_name.now c.args.trace) left.wrote
+
+pub returns-clause-in_order : goal.returns-clause-in_order
+returns-clause-in_order g c =
+    let left = leaves_at c.args.most (g.C.Choices.answers c.args.choices.now) c.args.log_name.now c.args.trace c.in-Ok.ensures.problem c.in_ok-result.ensures.leaves in
+    wrote_in_order (session_of c.args.problem.now c.args.most (g.C.Choices.answers c.args.choices.now) c.args.log_name.now c.args.trace) left.wrote
