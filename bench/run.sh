@@ -1,6 +1,6 @@
 #!/bin/sh
 # Makes FlatZinc files as MiniZinc writes them, at the limits of the program, and times the program and its
-# parts over them, one agent over many messages, and appends to a file. It wants python3 and GNU time.
+# parts over them, one agent over many messages, all agents of some problems, and appends to a file. It wants python3 and GNU time.
 set -e
 top=$(cd "$(dirname "$0")/.." && pwd)
 folder=$(mktemp -d)
@@ -53,6 +53,25 @@ write('rules.fzn', variables + rules + [b'solve satisfy;\n'])
 # as many listed values as there may be
 sets = [b'constraint set_in(x,{%s});\n' % b','.join(b'%d' % (k * 131 + v) for v in range(65535)) for k in range(16)]
 write('listed.fzn', [b'var 1..100: x;\n'] + sets + [b'solve satisfy;\n'])
+
+
+def each_pair(n, high, lines):
+    """Variables from 1 to `high`, and the lines of constraints for each two of them."""
+    pairs = [(i, j) for i in range(1, n + 1) for j in range(i + 1, n + 1)]
+    variables = [b'var 1..%d: q%d;\n' % (high, i) for i in range(1, n + 1)]
+    return variables + [line for i, j in pairs for line in lines(i, j)] + [b'solve satisfy;\n']
+
+
+def queen(i, j):
+    pair, apart = (i, j), j - i
+    diagonal = b'constraint int_lin_ne([1,-1],[q%d,q%d],%d);\n'
+    return [b'constraint int_ne(q%d,q%d);\n' % pair, diagonal % (i, j, apart), diagonal % (i, j, -apart)]
+
+
+# problems for all agents: twenty queens, eight pigeons in seven holes, and thirty variables with many values
+write('queens.fzn', each_pair(20, 20, queen))
+write('pigeons.fzn', each_pair(8, 7, lambda i, j: queen(i, j)[:1]))
+write('wide.fzn', each_pair(30, 1000, lambda i, j: queen(i, j)[:2]))
 write('short.fzn', [b';' * size])
 write('none.ngd', [b'ngd 1\nend\n'])
 PYTHON
@@ -69,6 +88,11 @@ done
 for run in 'agent 100000' 'quiet 100000 0' 'quiet 100000 90' 'quiet 100000 900'; do
     echo "$run"
     /usr/bin/time -f "$figures" "$parts" $run
+done
+# all agents of a problem, under the choices of one seed
+for problem in queens.fzn pigeons.fzn wide.fzn; do
+    echo "network $problem"
+    /usr/bin/time -f "$figures" "$parts" network $problem
 done
 # lines of 190 bytes, each appended by a call of its own to a file of the system
 echo 'appends 1000000'

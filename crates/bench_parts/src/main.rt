@@ -1,18 +1,21 @@
-//! Counts the tokens or the items of a file, hands one agent many messages, or appends many lines to a file: the
-//! program that `bench/run.sh` times.
+//! Counts the tokens or the items of a file, runs all agents of a file's problem, hands one agent many messages, or
+//! appends many lines to a file: the program that `bench/run.sh` times.
 #![tactic(auto)]
 
 ghost use Rattle.std.specs.Prelude.{◌<◌, length};
 
 mod appends;
 mod driver;
+mod network;
 mod problem;
 mod runs;
 
 use appends::append_lines;
 use driver::Counts;
 use fzn_item::items;
+use fzn_model::problem_of;
 use fzn_token::tokens;
+use network::run_network;
 use problem::built;
 use runs::{mixed, quiet};
 use std::alloc::Global;
@@ -45,7 +48,7 @@ fn main(rt: HostRuntime) -> anyhow::Result<()> {
     let words: Vec<String> = env::args(&rt)?.collect(alloc)?;
     if words.len() < 3 {
         println!(rt;
-            "usage: bench_parts tokens|items FILE, agent MESSAGES, quiet MESSAGES KEPT, or appends LINES"
+            "usage: bench_parts tokens|items|network FILE, agent MESSAGES, quiet MESSAGES KEPT, or appends LINES"
         )?;
         return Ok(());
     }
@@ -77,6 +80,17 @@ fn main(rt: HostRuntime) -> anyhow::Result<()> {
     let text = fs::read(&rt, words[2].as_str())?;
     if text.len() > 16_777_216 {
         println!(rt; "too long")?;
+        return Ok(());
+    }
+    if words[1].as_str() == "network" {
+        let Ok(problem) = problem_of(alloc, &text) else {
+            println!(rt; "no problem")?;
+            return Ok(());
+        };
+        match run_network(alloc, &problem) {
+            Some((deliveries, end)) => println!(rt; "{} deliveries, {:?}", deliveries, end)?,
+            None => println!(rt; "out of memory")?,
+        }
         return Ok(());
     }
     let Ok(list) = tokens(alloc, &text) else {
