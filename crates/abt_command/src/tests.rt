@@ -308,8 +308,8 @@ fn answers_with_one_line(rt: HostRuntime) {
         let mut folder = folder_with(&rt, rt.alloc(), case.model, case.log);
         let mut out = MemorySink::new(rt.alloc());
         let mut err = MemorySink::new(rt.alloc());
-        let status = run_command(rt.alloc(), &words, &mut folder, &mut out, &mut err);
-        assert_eq!(rt; status, case.status);
+        let code = run_program(rt.alloc(), &words, &mut folder, &mut out, &mut err);
+        assert_eq!(rt; code, case.status.code());
         assert_eq!(rt; out.bytes(), case.out);
         assert_eq!(rt; err.bytes(), case.err);
     }
@@ -413,8 +413,8 @@ fn each_call_fails_in_turn(rt: HostRuntime) {
         out.fail_at(case.out).expect(&rt, "memory");
         let mut err = MemorySink::new(rt.alloc());
         err.fail_at(case.err).expect(&rt, "memory");
-        let status = run_command(rt.alloc(), &words, &mut folder, &mut out, &mut err);
-        assert_eq!(rt; status.code(), case.code);
+        let code = run_program(rt.alloc(), &words, &mut folder, &mut out, &mut err);
+        assert_eq!(rt; code, case.code);
         assert_eq!(rt; out.bytes(), case.told);
         assert_eq!(rt; err.bytes(), case.said);
         if case.code == 0 {
@@ -441,8 +441,8 @@ fn one_word_prints_a_text(rt: HostRuntime) {
         let mut out = MemorySink::new(rt.alloc());
         out.fail_at(failing).expect(&rt, "memory");
         let mut err = MemorySink::new(rt.alloc());
-        let status = run_command(rt.alloc(), &words, &mut folder, &mut out, &mut err);
-        assert_eq!(rt; status.code(), code);
+        let came = run_program(rt.alloc(), &words, &mut folder, &mut out, &mut err);
+        assert_eq!(rt; came, code);
         assert_eq!(rt; out.bytes(), told);
         assert_eq!(rt; err.bytes(), said);
         assert_eq!(rt; folder.faults(), 0);
