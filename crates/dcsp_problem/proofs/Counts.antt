@@ -12,11 +12,13 @@ use Rattle.dcsp_problem.specs.declared.limits.Which.{Which}
 use Rattle.dcsp_problem.specs.declared.limits.BuildError.{BuildError}
 use Rattle.dcsp_problem.specs.declared.limits.BuildError.TheVariants.{Limit, WideSum, Memory}
 use Rattle.dcsp_problem.specs.declared.limits.Which.TheVariants.{Variables, DomainValues, Rules, Terms}
+use Rattle.dcsp_problem.specs.declared.aim.Aim.{Aim}
+use Rattle.dcsp_problem.specs.declared.aim.Aim.TheVariants.{Satisfy, Least, Greatest}
 use Rattle.dcsp_problem.specs.declared.rule.Term.{Term}
 use Rattle.dcsp_problem.specs.declared.rule.Term.TheVariants.{Const, Var}
 use Rattle.dcsp_problem.specs.declared.rule.Rule.{Rule}
 use Rattle.dcsp_problem.specs.declared.output.Output.{Output}
-use Rattle.dcsp_problem.specs.Rules.{terms_of, size_of, IsTermOf, IsRuleOf}
+use Rattle.dcsp_problem.specs.Rules.{terms_of, size_of, IsTermOf, IsRuleOf, IsAimOf}
 use Rattle.dcsp_problem.specs.Widths.{rule_width}
 use Rattle.dcsp_problem.specs.Outputs.{IsOutputOf}
 use Rattle.dcsp_problem.specs.Problems.{Contents, term_count}
@@ -45,6 +47,11 @@ term_of_more n (Var var) h = omega (arith, h)
 rule_of_more : (n : ℕ) (rule : Rule) → IsRuleOf n rule → IsRuleOf (n + 1) rule
 rule_of_more n rule h = record { known = All-weaker (IsTermOf n) (IsTermOf (n + 1)) (term_of_more n) (terms_of rule) h.known; shape = h.shape }
 
+aim_of_more : (n : ℕ) (aim : Aim) → IsAimOf n aim → IsAimOf (n + 1) aim
+aim_of_more n Satisfy h = tt
+aim_of_more n (Least term) h = term_of_more n term h
+aim_of_more n (Greatest term) h = term_of_more n term h
+
 output_of_more : (n : ℕ) (output : Output) → IsOutputOf n output → IsOutputOf (n + 1) output
 output_of_more n output h =
     record { known = All-weaker (IsTermOf n) (IsTermOf (n + 1)) (term_of_more n) output.terms h.known; few = h.few; shape = h.shape }
@@ -52,7 +59,7 @@ output_of_more n output h =
 -- a further variable within the limits
 pub tallied_variable : (p : Contents) (domain : List ℤ) (values terms total : ℕ) → IsTallied p values terms → IsDomain domain → total ≡ values + length domain
     → length p.domains + 1 ≤ most Variables → total ≤ most DomainValues
-    → IsTallied (record { domains = p.domains ++ domain ∷ []; rules = p.rules; outputs = p.outputs }) total terms
+    → IsTallied (record { domains = p.domains ++ domain ∷ []; rules = p.rules; outputs = p.outputs; aim = p.aim }) total terms
 tallied_variable p domain values terms total t d sum few small =
     let size = length_push p.domains domain in
     let added = sum_by_push length p.domains domain in
@@ -62,6 +69,7 @@ tallied_variable p domain values terms total t d sum few small =
         domains = All-push IsDomain p.domains domain t.problem.domains d;
         rules = rw same (All-weaker (IsRuleOf (length p.domains)) (IsRuleOf (length p.domains + 1)) (rule_of_more (length p.domains)) p.rules t.problem.rules);
         outputs = rw same (All-weaker (IsOutputOf (length p.domains)) (IsOutputOf (length p.domains + 1)) (output_of_more (length p.domains)) p.outputs t.problem.outputs);
+        aim = rw same (aim_of_more (length p.domains) p.aim t.problem.aim);
         few_variables = omega (arith, same);
         few_values = let v = t.all_values in omega arith;
         few_rules = t.problem.few_rules;
@@ -77,7 +85,7 @@ tallied_variable p domain values terms total t d sum few small =
 -- a further rule within the limits
 pub tallied_rule : (p : Contents) (rule : Rule) (values terms total : ℕ) → IsTallied p values terms → IsRuleOf (length p.domains) rule → first_past (list_counts rule) ≡ None
     → rule_width p.domains rule ≤ WIDEST → total ≡ terms + size_of rule → length p.rules + 1 ≤ most Rules → total ≤ most Terms
-    → IsTallied (record { domains = p.domains; rules = p.rules ++ rule ∷ []; outputs = p.outputs }) values total
+    → IsTallied (record { domains = p.domains; rules = p.rules ++ rule ∷ []; outputs = p.outputs; aim = p.aim }) values total
 tallied_rule p rule values terms total t r short narrow sum few small =
     let size = length_push p.rules rule in
     let added = sum_by_push size_of p.rules rule in
@@ -86,6 +94,7 @@ tallied_rule p rule values terms total t r short narrow sum few small =
         domains = t.problem.domains;
         rules = All-push (IsRuleOf (length p.domains)) p.rules rule t.problem.rules r;
         outputs = t.problem.outputs;
+        aim = t.problem.aim;
         few_variables = t.problem.few_variables;
         few_values = t.problem.few_values;
         few_rules = omega arith;

@@ -9,3 +9,5 @@ pub mod Violations
 pub mod Reading
 pub mod MemberLaws
 pub mod Narrow
+pub mod PieceLaws
+pub mod LowerLists

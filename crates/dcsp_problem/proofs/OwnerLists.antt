@@ -34,7 +34,7 @@ owned_push : (xs : List (List ℕ)) (s : List ℕ) (v : ℕ) → owned_among (xs
 owned_push xs s v = owned_push_from 0 xs s v (length xs) (omega arith)
 
 -- two functions that agree below n
-map_below : {X : Type 0} → (f g : ℕ → X) (n : ℕ) → ((v : ℕ) → v < n → f v ≡ g v) → map f (below n) ≡ map g (below n)
+pub map_below : {X : Type 0} → (f g : ℕ → X) (n : ℕ) → ((v : ℕ) → v < n → f v ≡ g v) → map f (below n) ≡ map g (below n)
 map_below f g zero h = refl
 map_below {X} f g (suc n) h =
     map-append f (below n) (n ∷ [])
@@ -47,7 +47,7 @@ length-map_below f zero = refl
 length-map_below f (suc n) = let h = length-map_below f n in rw (map-append f (below n) (n ∷ [])) (length_push (map f (below n)) (f n) ∙ (omega arith))
 
 -- the item of each number
-get_or-map_below : {X : Type 0} → (f : ℕ → X) (n k : ℕ) (d : X) → k < n → get_or (map f (below n)) k d ≡ f k
+pub get_or-map_below : {X : Type 0} → (f : ℕ → X) (n k : ℕ) (d : X) → k < n → get_or (map f (below n)) k d ≡ f k
 get_or-map_below f zero k d l = absurd (omega arith)
 get_or-map_below {X} f (suc n) k d l =
     let size = length-map_below f n in

@@ -5,13 +5,15 @@ use Rattle.dcsp_defs.specs.Words.{In}
 use Rattle.dcsp_defs.specs.Csp.{Csp, Constraint, Known, domain, count}
 use Rattle.dcsp_problem.specs.declared.rule.Rule.{Rule}
 use Rattle.dcsp_problem.specs.declared.output.Output.{Output}
+use Rattle.dcsp_problem.specs.declared.aim.Aim.{Aim}
 use Rattle.dcsp_problem.specs.Rules.{scope_of, rule_truth, size_of, no_rule}
 
--- a domain for each variable, the rules, and what is told of a solution
+-- a domain for each variable, the rules, what is told of a solution, and what is wanted of one
 pub record Contents : Type 0 where
   pub domains : List (List ℤ)
   pub rules : List Rule
   pub outputs : List Output
+  pub aim : Aim
 
 -- the constraint that a rule over so many variables denotes
 abbrev pub constraint_of : ℕ → Rule → Constraint

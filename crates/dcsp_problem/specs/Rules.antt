@@ -10,6 +10,8 @@ use Rattle.dcsp_defs.specs.Words.{below}
 use Rattle.dcsp_defs.specs.Csp.{Assignment}
 use Rattle.dcsp_problem.specs.declared.rule.Term.{Term}
 use Rattle.dcsp_problem.specs.declared.rule.Term.TheVariants.{Const, Var}
+use Rattle.dcsp_problem.specs.declared.aim.Aim.{Aim}
+use Rattle.dcsp_problem.specs.declared.aim.Aim.TheVariants.{Satisfy, Least, Greatest}
 use Rattle.dcsp_problem.specs.declared.rule.Members.TheVariants.{Listed}
 use Rattle.dcsp_problem.specs.declared.rule.Rule.{Rule}
 use Rattle.dcsp_problem.specs.declared.rule.Rule.TheVariants.{Plain, Sum}
@@ -76,6 +78,12 @@ has_shape (Sum rel coefs terms total told) = length coefs == length terms
 abbrev pub IsTermOf : ℕ → Term → Type 0
 IsTermOf variables (Const value) = Unit {0}
 IsTermOf variables (Var var) = var < variables
+
+-- an aim at one of so many variables, at a constant, or at nothing
+abbrev pub IsAimOf : ℕ → Aim → Type 0
+IsAimOf variables Satisfy = Unit {0}
+IsAimOf variables (Least term) = IsTermOf variables term
+IsAimOf variables (Greatest term) = IsTermOf variables term
 
 -- a rule over so many variables, of an allowed shape
 pub record IsRuleOf (variables : ℕ) (rule : Rule) : Type 0 where

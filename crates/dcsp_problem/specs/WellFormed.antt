@@ -3,17 +3,18 @@ use Rattle.std.specs.Prelude.{◌≡◌, ◌<◌, ◌≤◌, ◌^◌, None, leng
 use Rattle.dcsp_domain.specs.Sets.{IsDomain}
 use Rattle.dcsp_linear.specs.declared.TheConstants.{WIDEST}
 use Rattle.dcsp_problem.specs.declared.limits.Which.TheVariants.{Variables, DomainValues, Rules, Terms}
-use Rattle.dcsp_problem.specs.Rules.{IsRuleOf}
+use Rattle.dcsp_problem.specs.Rules.{IsRuleOf, IsAimOf}
 use Rattle.dcsp_problem.specs.Widths.{rule_width}
 use Rattle.dcsp_problem.specs.Outputs.{IsOutputOf}
 use Rattle.dcsp_problem.specs.Problems.{Contents, value_count, term_count}
 use Rattle.dcsp_problem.specs.Limits.{most, first_past, list_counts}
 
--- its domains are domains, its rules and outputs are over its variables, no count passes its limit, and no sum is too wide
+-- its domains are domains, its rules, outputs and aim are over its variables, no count passes its limit, and no sum is too wide
 pub record IsProblem (p : Contents) : Type 0 where
   pub domains : All IsDomain p.domains
   pub rules : All (IsRuleOf (length p.domains)) p.rules
   pub outputs : All (IsOutputOf (length p.domains)) p.outputs
+  pub aim : IsAimOf (length p.domains) p.aim
   pub few_variables : length p.domains ≤ most Variables
   pub few_values : value_count p ≤ most DomainValues
   pub few_rules : length p.rules ≤ most Rules

@@ -2,15 +2,17 @@
 
 ghost use Rattle.std.specs.Prelude.{◌≡◌, ◌≤◌, ◌<◌, ◌+◌, ◌-◌, ◌^◌, ◌++◌, ◌∷◌, [], length, All, IsTrue, IfOk, IfErr, OnOk, OnErr, MatchOption, Ok, Err};
 ghost use Rattle.dcsp_problem.specs.Members.{values_of};
-ghost use Rattle.dcsp_problem.specs.Rules.{IsTermOf, terms_of, size_of, has_shape};
+ghost use Rattle.dcsp_problem.specs.Rules.{IsTermOf, IsAimOf, terms_of, size_of, has_shape};
 ghost use Rattle.dcsp_problem.specs.Outputs.{IsOutputOf};
 ghost use Rattle.dcsp_problem.specs.Limits.{first_past, list_counts, variable_refusal, rule_refusal, Refuses};
 
+use crate::aim::Aim;
 use crate::index::{owned_lists, scope_lists};
 use crate::limits::{BuildError, Which, within};
+use crate::lower::lower_table;
 use crate::members::member_sets;
 use crate::output::Output;
-use crate::problem::Problem;
+use crate::problem::{Problem, Tables};
 use crate::rule::{Members, Rule};
 use crate::widths::within_width;
 use dcsp_domain::Domain;
@@ -25,6 +27,7 @@ pub struct ProblemBuilder {
     domains: Vec<Domain>,
     rules: Vec<Rule>,
     outputs: Vec<Output>,
+    aim: Aim,
     /// The number of values over all domains.
     values: usize,
     /// The number of terms over all rules.
@@ -37,23 +40,25 @@ impl Model for ProblemBuilder {
 
     ghost Value = { Contents };
 
-    ghost view = { λ b. record { domains = b.domains.items; rules = b.rules.items; outputs = b.outputs.items } };
+    ghost view = { λ b. record { domains = b.domains.items; rules = b.rules.items; outputs = b.outputs.items; aim = b.aim } };
 
-    ghost invariant = { λ b. IsTallied (record { domains = b.domains.items; rules = b.rules.items; outputs = b.outputs.items }) b.values b.terms };
+    ghost invariant = { λ b. IsTallied (record { domains = b.domains.items; rules = b.rules.items; outputs = b.outputs.items; aim = b.aim }) b.values b.terms };
 }
 
 impl ProblemBuilder {
-    /// A problem without variables, rules and outputs.
+    /// A problem without variables, rules and outputs, of which any solution is wanted.
     pub fn new(alloc: Global) -> ProblemBuilder
         ensures domains { result.domains ≡ [] }
         ensures rules { result.rules ≡ [] }
         ensures outputs { result.outputs ≡ [] }
+        ensures aim { result.aim ≡ Aim.Satisfy }
     {
         ProblemBuilder {
             alloc,
             domains: Vec::new(alloc),
             rules: Vec::new(alloc),
             outputs: Vec::new(alloc),
+            aim: Aim::Satisfy,
             values: 0,
             terms: 0,
         }
@@ -114,6 +119,15 @@ impl ProblemBuilder {
         Ok(())
     }
 
+    /// Says what is wanted of a solution, at a constant or at a variable that was added before. It stands in place
+    /// of what was wanted until then.
+    pub fn set_aim(&mut self, aim: Aim)
+        requires { IsAimOf (length self.old.domains) aim }
+        ensures { self.new ≡ record self.old { aim = aim } }
+    {
+        self.aim = aim;
+    }
+
     /// The problem. A refusal drops what was built.
     pub fn finish(self) -> Result<Problem, Memory>
         ensures { IfOk result (λ problem. problem ≡ self) }
@@ -121,7 +135,14 @@ impl ProblemBuilder {
         let scopes = scope_lists(self.alloc, &self.rules)?;
         let sets = member_sets(self.alloc, &self.rules)?;
         let owned = owned_lists(self.alloc, &scopes, self.domains.len())?;
-        Ok(Problem::from_parts(self.domains, self.rules, self.outputs, scopes, sets, owned))
+        let lower = lower_table(self.alloc, &scopes, self.domains.len())?;
+        let tables = Tables {
+            scopes,
+            sets,
+            owned,
+            lower,
+        };
+        Ok(Problem::from_parts(self.domains, self.rules, self.outputs, self.aim, tables))
     }
 }
 

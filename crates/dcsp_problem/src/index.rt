@@ -132,7 +132,7 @@ pub fn owned_lists(
 }
 
 /// So many empty lists.
-fn empty_lists(alloc: Global, count: usize) -> Result<Vec<NumberList>, AllocError>
+pub fn empty_lists(alloc: Global, count: usize) -> Result<Vec<NumberList>, AllocError>
     ensures { IfOk result (λ lists. lists.items ≡ map (owned_among []) (below count)) }
 {
     let mut lists = Vec::with_capacity(alloc, count)?;

@@ -7,17 +7,21 @@
 //! that is declared last owns the rule.
 #![tactic(auto)]
 
+mod aim;
 mod builder;
 mod ground;
 mod index;
 mod limits;
 mod lookup;
+mod lower;
 mod members;
 mod output;
 mod problem;
 mod rule;
+mod table;
 mod widths;
 
+pub use aim::Aim;
 pub use builder::ProblemBuilder;
 pub use dcsp_domain::{Domain, DomainError, IntList, Memory, RangeList};
 pub use dcsp_linear::Rel;

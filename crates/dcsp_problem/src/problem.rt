@@ -6,28 +6,41 @@ ghost use Rattle.dcsp_domain.specs.Sets.{has};
 ghost use Rattle.dcsp_defs.specs.Csp.{domain, owner, is_violated, IsConstraint, IsCsp};
 ghost use Rattle.dcsp_problem.specs.Problems.{csp_of, constraint_at, within_domains, AreInDomains};
 ghost use Rattle.dcsp_problem.specs.WellFormed.{IsProblem};
+ghost use Rattle.dcsp_problem.specs.Rules.{IsAimOf};
 ghost use Rattle.dcsp_problem.specs.Index.{IsIndexed, owned_rules};
+ghost use Rattle.dcsp_problem.specs.Lower.{lower_owners};
 
+use crate::aim::Aim;
 use crate::ground::is_true_under;
 use crate::lookup::{Assigned, Lookup};
 use crate::members::MemberSet;
 use crate::output::Output;
 use crate::rule::{NumberList, Rule};
+use crate::table::NumberTable;
 use dcsp_domain::Domain;
 use std::marker::Model;
 
-/// Variables with their domains, rules over them, and what is told of a solution.
+/// Variables with their domains, rules over them, what is told of a solution, and what is wanted of one.
 #[derive(Debug, Drop)]
 pub struct Problem {
     domains: Vec<Domain>,
     rules: Vec<Rule>,
     outputs: Vec<Output>,
+    aim: Aim,
+    tables: Tables,
+}
+
+/// What is read off the rules once, when a problem is finished.
+#[derive(Debug, Drop)]
+pub struct Tables {
     /// The scope of each rule.
-    scopes: Vec<NumberList>,
+    pub scopes: Vec<NumberList>,
     /// The set of each rule's listed members.
-    sets: Vec<MemberSet>,
+    pub sets: Vec<MemberSet>,
     /// The rules that each variable owns.
-    owned: Vec<NumberList>,
+    pub owned: Vec<NumberList>,
+    /// The later variables that own a rule over each variable.
+    pub lower: NumberTable,
 }
 
 impl Model for Problem {
@@ -36,34 +49,32 @@ impl Model for Problem {
 
     ghost Value = { Contents };
 
-    ghost view = { λ p. record { domains = p.domains.items; rules = p.rules.items; outputs = p.outputs.items } };
+    ghost view = { λ p. record { domains = p.domains.items; rules = p.rules.items; outputs = p.outputs.items; aim = p.aim } };
 
-    ghost invariant = { λ p. IsIndexed (record { domains = p.domains.items; rules = p.rules.items; outputs = p.outputs.items }) p.scopes.items p.sets.items p.owned.items };
+    ghost invariant = { λ p. IsIndexed (record { domains = p.domains.items; rules = p.rules.items; outputs = p.outputs.items; aim = p.aim }) p.tables.scopes.items p.tables.sets.items p.tables.owned.items p.tables.lower };
 }
 
 impl Problem {
-    /// The problem of these domains, rules and outputs, with the scopes, the sets of listed members and the owned
-    /// rules that belong to them.
+    /// The problem of these domains, rules, outputs and aim, with the tables that belong to them.
     pub(crate) fn from_parts(
         domains: Vec<Domain>,
         rules: Vec<Rule>,
         outputs: Vec<Output>,
-        scopes: Vec<NumberList>,
-        sets: Vec<MemberSet>,
-        owned: Vec<NumberList>,
+        aim: Aim,
+        tables: Tables,
     ) -> Problem
-        requires { IsIndexed (record { domains = domains.items; rules = rules.items; outputs = outputs.items }) scopes.items sets.items owned.items }
+        requires { IsIndexed (record { domains = domains.items; rules = rules.items; outputs = outputs.items; aim = aim }) tables.scopes.items tables.sets.items tables.owned.items tables.lower }
         ensures domains { result.domains ≡ domains.items }
         ensures rules { result.rules ≡ rules.items }
         ensures outputs { result.outputs ≡ outputs.items }
+        ensures aim { result.aim ≡ aim }
     {
         Problem {
             domains,
             rules,
             outputs,
-            scopes,
-            sets,
-            owned,
+            aim,
+            tables,
         }
     }
 
@@ -117,6 +128,14 @@ impl Problem {
         &self.outputs[place as usize]
     }
 
+    /// What is wanted of a solution. It is at a constant, at a variable of the problem, or at nothing.
+    pub fn aim(&self) -> Aim
+        ensures aim { result ≡ self.now.aim }
+        ensures known { IsAimOf (length self.now.domains) result }
+    {
+        self.aim
+    }
+
     /// The variables among a rule's terms, strictly rising.
     pub fn scope(&self, rule: u32) -> &[u32]
         requires { rule < length self.now.rules }
@@ -124,7 +143,7 @@ impl Problem {
         ensures inside { All (λ var. var < length self.now.domains) result.now }
         ensures constraint { IsConstraint (csp_of self.now) (constraint_at self.now rule) }
     {
-        self.scopes[rule as usize].items()
+        self.tables.scopes[rule as usize].items()
     }
 
     /// The last variable of a rule's scope; `None` exactly if the scope is empty.
@@ -141,7 +160,16 @@ impl Problem {
         ensures rules { result.now ≡ owned_rules self.now var }
         ensures inside { All (λ rule. rule < length self.now.rules) (owned_rules self.now var) }
     {
-        self.owned[var as usize].items()
+        self.tables.owned[var as usize].items()
+    }
+
+    /// The variables after this one that own a rule with it in scope, strictly rising.
+    pub fn lower_owners(&self, var: u32) -> &[u32]
+        requires { var < length self.now.domains }
+        ensures owners { result.now ≡ lower_owners (csp_of self.now) var }
+        ensures inside { All (λ owner. owner < length self.now.domains) (lower_owners (csp_of self.now) var) }
+    {
+        self.tables.lower.list(var as usize)
     }
 
     /// Whether a rule holds where the variables have these values, in order.
@@ -151,7 +179,7 @@ impl Problem {
         requires in_domains { (var : ℕ) → var < length self.now.domains → has (domain (csp_of self.now) var) (slice_index_or values.now var (pos 0)) ≡ true }
         ensures { result ≡ (constraint_at self.now rule).test (λ var. slice_index_or values.now var (pos 0)) }
     {
-        let set = &self.sets[rule as usize];
+        let set = &self.tables.sets[rule as usize];
         let rule = &self.rules[rule as usize];
         is_true_under(rule, set, &Assigned { values })
     }
@@ -166,7 +194,7 @@ impl Problem {
         if !self.knows_scope(rule, lookup) {
             return false;
         }
-        let set = &self.sets[rule as usize];
+        let set = &self.tables.sets[rule as usize];
         let rule = &self.rules[rule as usize];
         !is_true_under(rule, set, lookup)
     }

@@ -69,6 +69,33 @@ fn tells_scopes_and_owners(rt: HostRuntime) -> Result<(), Fail> {
     Ok(())
 }
 
+/// Three variables, and rules between each two of them in no order, one of them twice.
+fn triangle(alloc: Global) -> Result<Problem, Fail>
+    ensures { IfOk result (λ problem. length problem.domains ≡ 3) }
+{
+    let mut builder = ProblemBuilder::new(alloc);
+    builder.add_var(Domain::range(alloc, 0, 1)?)?;
+    builder.add_var(Domain::range(alloc, 0, 1)?)?;
+    builder.add_var(Domain::range(alloc, 0, 1)?)?;
+    builder.add_rule(pair(alloc, Kind::IntNe, Term::Var(2), Term::Var(0))?)?;
+    builder.add_rule(pair(alloc, Kind::IntNe, Term::Var(0), Term::Var(1))?)?;
+    builder.add_rule(pair(alloc, Kind::IntLe, Term::Var(0), Term::Var(2))?)?;
+    builder.add_rule(pair(alloc, Kind::IntNe, Term::Var(1), Term::Var(2))?)?;
+    builder.set_aim(Aim::Least(Term::Var(2)));
+    Ok(builder.finish()?)
+}
+
+#[test]
+fn tells_lower_owners_and_aims(rt: HostRuntime) -> Result<(), Fail> {
+    let problem = triangle(rt.alloc())?;
+    assert_eq!(rt; problem.lower_owners(0), [1, 2].as_slice());
+    assert_eq!(rt; problem.lower_owners(1), [2].as_slice());
+    assert!(rt; problem.lower_owners(2).is_empty());
+    assert_eq!(rt; problem.aim(), Aim::Least(Term::Var(2)));
+    assert_eq!(rt; smallest(rt.alloc())?.aim(), Aim::Satisfy);
+    Ok(())
+}
+
 #[test]
 fn tells_what_holds(rt: HostRuntime) -> Result<(), Fail> {
     let alloc = rt.alloc();

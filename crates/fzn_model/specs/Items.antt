@@ -7,6 +7,7 @@ use Rattle.fzn_item.specs.declared.item.Goal.{Goal}
 use Rattle.fzn_item.specs.declared.item.Goal.TheVariants as goals
 use Rattle.fzn_item.specs.declared.item.Item.{Item}
 use Rattle.fzn_item.specs.declared.item.Item.TheVariants as item
+use Rattle.dcsp_problem.specs.declared.aim.Aim.TheVariants.{Satisfy}
 use Rattle.dcsp_problem.specs.Problems.{Contents}
 use Rattle.fzn_scope.specs.declared.refusal.Refusal.{Refusal}
 use Rattle.fzn_scope.specs.declared.refusal.Refusal.TheVariants as refusal
@@ -18,7 +19,7 @@ use Rattle.fzn_model.specs.Declarations.{SoFar, is_late, declaration, parameter,
 
 -- before the first item
 abbrev pub start : SoFar
-start = record { scope = []; problem = record { domains = []; rules = []; outputs = [] }; constrained = false; solved = false }
+start = record { scope = []; problem = record { domains = []; rules = []; outputs = []; aim = Satisfy }; constrained = false; solved = false }
 
 -- a parameter, a variable, or an array of either
 abbrev pub declared_by : List ℕ → SoFar → ℕ → Bool → Option (ℤ × ℤ) → Base → ℕ → List ℕ → Marked → Option Expr → Result SoFar Refusal

@@ -11,7 +11,7 @@ use Rattle.dcsp_problem.proofs.builder.ProblemBuilder.add_rule.Goals as goal
 
 pub invariant_of-self-2 : goal.invariant_of-self-2
 invariant_of-self-2 c =
-    let p : Contents = record { domains = c.self.inside.domains.items; rules = c.self.inside.rules.items; outputs = c.self.inside.outputs.items } in
+    let p : Contents = record { domains = c.self.inside.domains.items; rules = c.self.inside.rules.items; outputs = c.self.inside.outputs.items; aim = c.self.inside.aim } in
     let fit = counts_fit _ _ _ c.in_ok-added.ensures.count in
     let narrow = subst (λ (z : List (List ℤ)). rule_width z c.args.rule ≤ WIDEST) c.deref.ensures.value (narrow_from (rule_width c.deref.result.now c.args.rule) c.in_ok-within_width.ensures) in
     let known : All (IsTermOf (length p.domains)) (terms_of c.args.rule) = subst (λ (z : Contents). All (IsTermOf (length z.domains)) (terms_of c.args.rule)) (sym c.self.view_is) c.requires.known in
@@ -19,7 +19,7 @@ invariant_of-self-2 c =
 
 pub returns-in_err-added-clause-refusal : goal.returns-in_err-added-clause-refusal
 returns-in_err-added-clause-refusal c =
-    let p : Contents = record { domains = c.self.inside.domains.items; rules = c.self.inside.rules.items; outputs = c.self.inside.outputs.items } in
+    let p : Contents = record { domains = c.self.inside.domains.items; rules = c.self.inside.rules.items; outputs = c.self.inside.outputs.items; aim = c.self.inside.aim } in
     let narrow = subst (λ (z : List (List ℤ)). rule_width z c.args.rule ≤ WIDEST) c.deref.ensures.value (narrow_from (rule_width c.deref.result.now c.args.rule) c.in_ok-within_width.ensures) in
     let here = refused_for_list p c.args.rule c.in_err-added.field-0.0 narrow (counts_pass _ _ _ c.in_err-added.ensures.count) in
     let q = err_from_is_err_and c.from_residual-in_err-added.result c.from_residual-in_err-added.ensures.1 in
@@ -27,7 +27,7 @@ returns-in_err-added-clause-refusal c =
 
 pub returns-in_err-within-clause-refusal : goal.returns-in_err-within-clause-refusal
 returns-in_err-within-clause-refusal c =
-    let p : Contents = record { domains = c.self.inside.domains.items; rules = c.self.inside.rules.items; outputs = c.self.inside.outputs.items } in
+    let p : Contents = record { domains = c.self.inside.domains.items; rules = c.self.inside.rules.items; outputs = c.self.inside.outputs.items; aim = c.self.inside.aim } in
     let narrow = subst (λ (z : List (List ℤ)). rule_width z c.args.rule ≤ WIDEST) c.deref.ensures.value (narrow_from (rule_width c.deref.result.now c.args.rule) c.in_ok-within_width.ensures) in
     let fit = counts_fit _ _ _ c.in_ok-added.ensures.count in
     let here = refused_for_number p c.args.rule c.in_err-within.field-0.0 (c.len-number.result + 1) narrow fit.0 (omega arith) c.in_err-within.ensures.err in
@@ -36,7 +36,7 @@ returns-in_err-within-clause-refusal c =
 
 pub returns-in_err-within-2-clause-refusal : goal.returns-in_err-within-2-clause-refusal
 returns-in_err-within-2-clause-refusal c =
-    let p : Contents = record { domains = c.self.inside.domains.items; rules = c.self.inside.rules.items; outputs = c.self.inside.outputs.items } in
+    let p : Contents = record { domains = c.self.inside.domains.items; rules = c.self.inside.rules.items; outputs = c.self.inside.outputs.items; aim = c.self.inside.aim } in
     let narrow = subst (λ (z : List (List ℤ)). rule_width z c.args.rule ≤ WIDEST) c.deref.ensures.value (narrow_from (rule_width c.deref.result.now c.args.rule) c.in_ok-within_width.ensures) in
     let fit = counts_fit _ _ _ c.in_ok-added.ensures.count in
     let here = refused_for_terms p c.args.rule c.in_err-within-2.field-0.0 (c.self.inside.terms + c.in_ok-added.added) narrow fit.0 (omega (arith, c.in_ok-within.ensures.ok)) (let v = c.self.invariant.all_terms in omega (arith, fit.1)) c.in_err-within-2.ensures.err in

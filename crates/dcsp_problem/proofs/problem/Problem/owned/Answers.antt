@@ -7,15 +7,15 @@ use Rattle.dcsp_problem.proofs.problem.Problem.owned.Goals as goal
 pub index-requires : goal.index-requires
 index-requires c =
     let size = ap length c.self.invariant.each_owned in
-    let many = length-map_below (owned_rules (record { domains = c.self.inside.domains.items; rules = c.self.inside.rules.items; outputs = c.self.inside.outputs.items })) (length c.self.inside.domains.items) in
+    let many = length-map_below (owned_rules (record { domains = c.self.inside.domains.items; rules = c.self.inside.rules.items; outputs = c.self.inside.outputs.items; aim = c.self.inside.aim })) (length c.self.inside.domains.items) in
     let same = ap (λ z. length z.domains) c.self.view_is in
     omega arith
 
 pub returns-clause-rules : goal.returns-clause-rules
 returns-clause-rules c =
-    let p : Contents = record { domains = c.self.inside.domains.items; rules = c.self.inside.rules.items; outputs = c.self.inside.outputs.items } in
+    let p : Contents = record { domains = c.self.inside.domains.items; rules = c.self.inside.rules.items; outputs = c.self.inside.outputs.items; aim = c.self.inside.aim } in
     let same = ap (λ z. length z.domains) c.self.view_is in
-    c.items.ensures ∙ c.index.ensures ∙ owned_at p c.self.inside.owned.items c.args.var _ c.self.invariant.each_owned (omega arith) ∙ ap (λ z. owned_rules z c.args.var) c.self.view_is
+    c.items.ensures ∙ c.index.ensures ∙ owned_at p c.self.inside.tables.owned.items c.args.var _ c.self.invariant.each_owned (omega arith) ∙ ap (λ z. owned_rules z c.args.var) c.self.view_is
 
 pub returns-clause-inside : goal.returns-clause-inside
 returns-clause-inside c = owned_inside c.args.self.now c.args.var

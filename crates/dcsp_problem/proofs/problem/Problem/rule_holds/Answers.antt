@@ -10,7 +10,7 @@ use Rattle.dcsp_problem.proofs.problem.Problem.rule_holds.Goals as goal
 
 pub returns : goal.returns
 returns c =
-    let p : Contents = record { domains = c.self.inside.domains.items; rules = c.self.inside.rules.items; outputs = c.self.inside.outputs.items } in
+    let p : Contents = record { domains = c.self.inside.domains.items; rules = c.self.inside.rules.items; outputs = c.self.inside.outputs.items; aim = c.self.inside.aim } in
     let same = ap (λ z. length z.rules) c.self.view_is in
     let is = rule_is p c.args.rule c.index-rule.result.now (omega (arith, c.requires.in_range)) c.index-rule.ensures ∙ ap (λ z. rule_at z c.args.rule) c.self.view_is in
     c.is_true_under.ensures
@@ -19,7 +19,7 @@ returns c =
 
 pub is_true_under-requires-clause-narrow : goal.is_true_under-requires-clause-narrow
 is_true_under-requires-clause-narrow c =
-    let p : Contents = record { domains = c.self.inside.domains.items; rules = c.self.inside.rules.items; outputs = c.self.inside.outputs.items } in
+    let p : Contents = record { domains = c.self.inside.domains.items; rules = c.self.inside.rules.items; outputs = c.self.inside.outputs.items; aim = c.self.inside.aim } in
     let same = ap (λ z. length z.rules) c.self.view_is in
     let is = rule_is p c.args.rule c.index-rule.result.now (omega (arith, c.requires.in_range)) c.index-rule.ensures in
     rw is (narrow_of_values p c.args.values.now c.args.rule c.self.invariant.problem (omega (arith, c.requires.in_range)) (subst (λ (z : Contents). (v : ℕ) → v < length z.domains → has (domain (csp_of z) v) (slice_index_or c.args.values.now v (pos 0)) ≡ true) (sym c.self.view_is) c.requires.in_domains))

@@ -5,10 +5,10 @@ use Rattle.dcsp_problem.proofs.problem.Problem.scope.Goals as goal
 
 pub returns-clause-inside : goal.returns-clause-inside
 returns-clause-inside c =
-    let p : Contents = record { domains = c.self.inside.domains.items; rules = c.self.inside.rules.items; outputs = c.self.inside.outputs.items } in
+    let p : Contents = record { domains = c.self.inside.domains.items; rules = c.self.inside.rules.items; outputs = c.self.inside.outputs.items; aim = c.self.inside.aim } in
     let same = ap (λ z. length z.rules) c.self.view_is in
     let in_range : c.args.rule < length p.rules = omega arith in
-    let is = c.items.ensures ∙ scope_is p c.self.inside.scopes.items c.args.rule c.index.result.now c.self.invariant.each_scope in_range c.index.ensures in
+    let is = c.items.ensures ∙ scope_is p c.self.inside.tables.scopes.items c.args.rule c.index.result.now c.self.invariant.each_scope in_range c.index.ensures in
     let many : length p.domains ≡ length c.args.self.now.domains = ap (λ z. length z.domains) c.self.view_is in
     rw (is, ← many) (scope_inside (length p.domains) (rule_at p c.args.rule))
 

@@ -20,7 +20,7 @@ returns-then-not-knows_scope-clause-known g c = λ all.
 pub returns-clause-in_domains : goal.returns-clause-in_domains
 returns-clause-in_domains g c =
     let known = g.L.Lookup.values c.args.lookup.now in
-    let here : Contents = record { domains = c.self.inside.domains.items; rules = c.self.inside.rules.items; outputs = c.self.inside.outputs.items } in
+    let here : Contents = record { domains = c.self.inside.domains.items; rules = c.self.inside.rules.items; outputs = c.self.inside.outputs.items; aim = c.self.inside.aim } in
     let same = ap (λ z. length z.rules) c.self.view_is in
     let is = rule_is here c.args.rule c.index-rule.result.now (omega (arith, c.requires)) c.index-rule.ensures ∙ ap (λ z. rule_at z c.args.rule) c.self.view_is in
     let every : c.knows_scope.result ≡ true = search rules in
@@ -34,7 +34,7 @@ returns-clause-known g c = λ all.
 pub is_true_under-requires-clause-narrow : goal.is_true_under-requires-clause-narrow
 is_true_under-requires-clause-narrow g c =
     let known = g.L.Lookup.values c.args.lookup.now in
-    let here : Contents = record { domains = c.self.inside.domains.items; rules = c.self.inside.rules.items; outputs = c.self.inside.outputs.items } in
+    let here : Contents = record { domains = c.self.inside.domains.items; rules = c.self.inside.rules.items; outputs = c.self.inside.outputs.items; aim = c.self.inside.aim } in
     let same = ap (λ z. length z.rules) c.self.view_is in
     let is = rule_is here c.args.rule c.index-rule.result.now (omega (arith, c.requires)) c.index-rule.ensures in
     let every : c.knows_scope.result ≡ true = search rules in

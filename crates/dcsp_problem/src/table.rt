@@ -1,0 +1,81 @@
+//! Many lists of numbers in one array.
+
+ghost use Rattle.std.specs.Prelude.{◌≡◌, ◌<◌, ◌++◌, ◌∷◌, ℕ, [], List, map, length, All, Some, IfOk, OnOk, slice_get};
+ghost use Rattle.dcsp_problem.specs.Lower.{set_below};
+ghost use Rattle.dcsp_problem.specs.Pieces.{pieces, AreCuts};
+
+use crate::rule::NumberList;
+use dcsp_list::Memory;
+use std::alloc::{AllocError, Global};
+use std::marker::Model;
+
+/// Lists of numbers, one after another in one array.
+#[derive(Debug, Drop)]
+pub struct NumberTable {
+    numbers: Vec<u32>,
+    /// Where each list begins, and after them where the last one ends.
+    places: Vec<usize>,
+}
+
+impl Model for NumberTable {
+    ghost use Rattle.std.specs.Prelude.{ℕ, List};
+    ghost use Rattle.dcsp_problem.specs.Pieces.{pieces, AreCuts};
+
+    ghost Value = { List (List ℕ) };
+
+    ghost view = { λ t. pieces t.numbers.items t.places.items };
+
+    ghost invariant = { λ t. AreCuts t.numbers.items t.places.items };
+}
+
+impl NumberTable {
+    /// The table of these lists, each rising and without repeats.
+    pub fn of_sets(alloc: Global, lists: &[NumberList]) -> Result<NumberTable, Memory>
+        ensures { IfOk result (λ table. (n : ℕ) → All (λ list. All (λ x. x < n) list) lists.now → table ≡ map (set_below n) lists.now) }
+    {
+        let mut numbers = Vec::new(alloc);
+        let mut places = vec![in alloc; 0].map_err(|_| Memory)?;
+        for list in lists {
+            let Ok(set) = rising_set(alloc, list.items()) else {
+                return Err(Memory);
+            };
+            push_list(&mut numbers, &mut places, &set)?;
+        }
+        Ok(NumberTable { numbers, places })
+    }
+
+    /// The list at a place.
+    pub fn list(&self, place: usize) -> &[u32]
+        requires { place < length self.now }
+        ensures { slice_get self.now place ≡ Some result.now }
+    {
+        let start = self.places[place];
+        let end = self.places[place + 1];
+        &self.numbers[start..end]
+    }
+}
+
+/// The numbers, rising and without repeats.
+fn rising_set(alloc: Global, numbers: &[u32]) -> Result<Vec<u32>, AllocError>
+    ensures { IfOk result (λ set. (n : ℕ) → All (λ x. x < n) numbers.now → set.items ≡ set_below n numbers.now) }
+{
+    let mut set = Vec::from_slice(alloc, numbers)?;
+    set.sort_unstable();
+    set.dedup();
+    Ok(set)
+}
+
+/// Adds a list after those that stand there.
+fn push_list(numbers: &mut Vec<u32>, places: &mut Vec<usize>, list: &[u32]) -> Result<(), Memory>
+    requires { AreCuts numbers.old.items places.old.items }
+    ensures list { OnOk result (pieces numbers.new.items places.new.items ≡ pieces numbers.old.items places.old.items ++ list.now ∷ []) }
+    ensures cuts { OnOk result (AreCuts numbers.new.items places.new.items) }
+{
+    let Ok(()) = numbers.extend_from_slice(list) else {
+        return Err(Memory);
+    };
+    match places.push(numbers.len()) {
+        Ok(()) => Ok(()),
+        Err(_) => Err(Memory),
+    }
+}
