@@ -69,11 +69,15 @@ fn first_linked(alloc: Global, problem: &Problem, me: u32) -> Result<Vec<bool>, 
 
 /// The lower agents that are told at first.
 fn first_tells(alloc: Global, problem: &Problem, me: u32) -> Result<Vec<bool>, Memory>
+    requires { me < length problem.now.domains }
     ensures { IfOk result (λ marks. marks.items ≡ map (λ j. shares (csp_of problem.now) j me) (below (length problem.now.domains))) }
 {
-    let mut marks = Vec::new(alloc);
-    for other in 0..problem.vars() {
-        add_mark(&mut marks, shares(problem, other, me))?;
+    let vars = problem.vars() as usize;
+    let Ok(mut marks) = vec![in alloc; false; vars] else {
+        return Err(Memory);
+    };
+    for owner in problem.lower_owners(me) {
+        marks[*owner as usize] = true;
     }
     Ok(marks)
 }

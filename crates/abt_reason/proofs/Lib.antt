@@ -2,8 +2,11 @@ pub mod AfterLaws
 pub mod CauseLaws
 pub mod ChangedLaws
 pub mod Domains
+pub mod FirstLaws
+pub mod GridLaws
+pub mod GridSteps
 pub mod KeptLaws
 pub mod Loops
+pub mod NamedLaws
 pub mod RecheckLaws
 pub mod Standing
-pub mod Updates

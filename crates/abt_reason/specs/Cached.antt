@@ -5,16 +5,18 @@ use Rattle.dcsp_defs.specs.Csp.{Known, domain}
 use Rattle.dcsp_problem.specs.Problems.{Contents, csp_of}
 use Rattle.dcsp_problem.specs.Index.{owned_rules}
 use Rattle.abt_store.specs.declared.Recorded.{Recorded}
-use Rattle.abt_reason.specs.Firsts.{IsFirst}
+use Rattle.abt_reason.specs.Grids.{marks, IsGrid}
+use Rattle.abt_reason.specs.declared.named.Naming.{Naming}
+use Rattle.abt_reason.specs.Named.{ListsScopes, RisesByVariable}
 use Rattle.abt_reason.specs.Causes.{known_at, is_false}
 use Rattle.abt_reason.specs.Kept.{AreLeft, KeepsSteps}
 
--- for each value of the agent's domain the place of the first owned rule that is false, and the step of the first
--- item that agrees; the number of items; and whether each is known to be a nogood of the agent
+-- for each owned rule the values that it rules out; for each value the step of the first item that agrees; the number
+-- of items; and whether each is known to be a nogood of the agent
 pub record Cached : Type 0 where
   pub problem : Contents
   pub agent : ℕ
-  pub places : List (Option ℕ)
+  pub rows : List (List Bool)
   pub steps : List (Option ℕ)
   pub count : ℕ
   pub own : Bool
@@ -27,19 +29,23 @@ size_of p agent = length (domain (csp_of p) agent)
 abbrev pub rules_of : Contents → ℕ → ℕ
 rules_of p agent = length (owned_rules p agent)
 
--- for each value the place of the first owned rule that is false
-abbrev pub KeepsPlaces : Contents → ℕ → Known → List (Option ℕ) → Type 0
-KeepsPlaces p agent known places = (k : ℕ) → k < size_of p agent → IsFirst (is_false p agent (known_at p agent known k)) (rules_of p agent) (slice_index_or places k None)
+-- the row of the owned rule at a place tells at which of the agent's values it is false
+abbrev pub IsRightAt : Contents → ℕ → Known → List (List Bool) → ℕ → Type 0
+IsRightAt p agent known rows place = (k : ℕ) → k < size_of p agent → marks rows k place ≡ is_false p agent (known_at p agent known k) place
+
+-- the row of each owned rule does
+abbrev pub KeepsRows : Contents → ℕ → Known → List (List Bool) → Type 0
+KeepsRows p agent known rows = (place : ℕ) → place < rules_of p agent → IsRightAt p agent known rows place
 
 -- this was right before something was learnt of one variable
-pub record PlacesStoodBefore (p : Contents) (agent var : ℕ) (known : Known) (places : List (Option ℕ)) : Type 0 where
+pub record RowsStoodBefore (p : Contents) (agent var : ℕ) (known : Known) (rows : List (List Bool)) : Type 0 where
   pub known_before : Known
-  pub stood : KeepsPlaces p agent known_before places
+  pub stood : KeepsRows p agent known_before rows
   pub others : (k : ℕ) → k ≢ var → known_before k ≡ known k
 
 -- what is kept is right for these values known and these items
 pub record StandsFor (r : Cached) (known : Known) (items : List Recorded) : Type 0 where
-  pub rules : KeepsPlaces r.problem r.agent known r.places
+  pub rules : KeepsRows r.problem r.agent known r.rows
   pub kept : KeepsSteps (domain (csp_of r.problem) r.agent) r.agent known items r.steps r.count r.own
 
 -- what is kept was right before something was learnt of one variable
@@ -57,15 +63,17 @@ pub record StoodWithoutLast (r : Cached) (known : Known) (items : List Recorded)
   pub stood : StandsFor r known items_before
   pub added : items ≡ items_before ++ last ∷ []
 
--- one place or none for each value, and room for the places of all owned rules
-pub record AreRuleLists (p : Contents) (agent : ℕ) (places : List (Option ℕ)) (capacity : ℕ) : Type 0 where
-  pub size : length places ≡ size_of p agent
-  pub in_range : (k place : ℕ) → slice_index_or places k None ≡ Some place → place < rules_of p agent
-  pub room : rules_of p agent ≤ capacity
+-- a row for each owned rule with its counts and firsts, the variables of their scopes in order, and room for a row
+pub record AreRuleLists (p : Contents) (agent : ℕ) (rows : List (List Bool)) (counts : List ℕ) (firsts : List (Option ℕ)) (namings : List Naming) (row : List Bool) : Type 0 where
+  pub each_rule : length rows ≡ rules_of p agent
+  pub grid : IsGrid rows (size_of p agent) counts firsts
+  pub listed : ListsScopes p (owned_rules p agent) namings (rules_of p agent)
+  pub rising : RisesByVariable namings
+  pub room : length row ≡ size_of p agent
 
--- what every cache is, beside its room
-pub record IsCache (r : Cached) (capacity : ℕ) : Type 0 where
+-- what every cache is
+pub record IsCache (r : Cached) (counts : List ℕ) (firsts : List (Option ℕ)) (namings : List Naming) (row : List Bool) : Type 0 where
   pub agent_exists : r.agent < length r.problem.domains
   pub rising : IsRising (domain (csp_of r.problem) r.agent)
-  pub lists : AreRuleLists r.problem r.agent r.places capacity
+  pub for_rules : AreRuleLists r.problem r.agent r.rows counts firsts namings row
   pub kept : length r.steps ≡ size_of r.problem r.agent

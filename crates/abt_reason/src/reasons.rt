@@ -30,14 +30,13 @@ pub struct Reasons<'p> {
 }
 
 impl<'p> Model for Reasons<'p> {
-    ghost use Rattle.std.specs.Prelude.{vec_capacity};
     ghost use Rattle.abt_reason.specs.Cached.{Cached, IsCache};
 
     ghost Value = { Cached };
 
-    ghost view = { λ r. record { problem = r.problem.now; agent = r.agent; places = r.rules.places.items; steps = r.kept.steps.items; count = r.kept.count; own = r.kept.own } };
+    ghost view = { λ r. record { problem = r.problem.now; agent = r.agent; rows = r.rules.ruled_out.rows.items; steps = r.kept.steps.items; count = r.kept.count; own = r.kept.own } };
 
-    ghost invariant = { λ r. IsCache (record { problem = r.problem.now; agent = r.agent; places = r.rules.places.items; steps = r.kept.steps.items; count = r.kept.count; own = r.kept.own }) (vec_capacity r.rules.changed) };
+    ghost invariant = { λ r. IsCache (record { problem = r.problem.now; agent = r.agent; rows = r.rules.ruled_out.rows.items; steps = r.kept.steps.items; count = r.kept.count; own = r.kept.own }) r.rules.ruled_out.counts.items r.rules.ruled_out.firsts.items r.rules.named.namings.items r.rules.row };
 }
 
 impl<'p> Reasons<'p> {
@@ -90,8 +89,8 @@ impl<'p> Reasons<'p> {
         requires { place < size_of self.now.problem self.now.agent }
         ensures { (known : Known) (items : List TheRecorded) → StandsFor self.now known items → result ≡ reason_for self.now.problem self.now.agent known items (value_at self.now.problem self.now.agent place) }
     {
-        match self.rules.places[place] {
-            Some(at) => Some(Reason::Rule(self.problem.owned(self.agent)[at])),
+        match self.rules.ruled_out.firsts[place] {
+            Some(at) => Some(Reason::Rule(self.problem.owned(self.agent)[at as usize])),
             None => earlier(self.kept.steps[place]),
         }
     }

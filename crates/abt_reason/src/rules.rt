@@ -1,180 +1,139 @@
-//! The first false rule for each value, after the view has changed at one variable.
+//! Which values the owned rules rule out, after the view has changed at one variable.
 
-ghost use Rattle.std.specs.Prelude.{◌≡◌, ◌<◌, ◌≤◌, ◌==◌, ℕ, Bool, All, IfOk, IfSome, None, length, false, slice_index_or, vec_capacity};
-ghost use Rattle.std.specs.List.{list_any};
-ghost use Rattle.dcsp_defs.specs.Csp.{IsConstraint};
-ghost use Rattle.abt_defs.specs.Agents.{values_in, is_among};
-ghost use Rattle.dcsp_problem.specs.Problems.{csp_of, constraint_at, AreInDomains};
-ghost use Rattle.dcsp_problem.specs.Index.{owned_rules};
+ghost use Rattle.std.specs.Prelude.{◌≡◌, ◌≢◌, ◌<◌, ◌≤◌, ℕ, All, IfOk, None, length};
+ghost use Rattle.abt_defs.specs.Agents.{values_in};
+ghost use Rattle.dcsp_problem.specs.Problems.{csp_of, AreInDomains};
 ghost use Rattle.abt_view.specs.Views.{view_of};
-ghost use Rattle.abt_reason.specs.Causes.{is_false, is_false_at, known_at, values_under};
-ghost use Rattle.abt_reason.specs.Cached.{size_of, rules_of, AreRuleLists, KeepsPlaces, PlacesStoodBefore};
-ghost use Rattle.abt_reason.specs.Changed.{HoldChanged};
-ghost use Rattle.abt_reason.specs.Firsts.{IsFirst, IsFirstAmong, IsRisingPlaces, AgreeBut};
+ghost use Rattle.abt_reason.specs.declared.named.Naming.{Naming as TheNaming};
+ghost use Rattle.abt_reason.specs.Grids.{marks, IsGrid};
+ghost use Rattle.abt_reason.specs.Cached.{size_of, rules_of, AreRuleLists, IsRightAt, KeepsRows, RowsStoodBefore};
 
-use crate::search::first_false;
-use crate::under::{Under, own_pair};
+use crate::grid::RuledOut;
+use crate::named::{NamedIn, Naming};
+use crate::under::Known;
 use abt_view::View;
 use dcsp_list::Memory;
 use dcsp_problem::Problem;
+use dcsp_row::{Row, fill_row};
 use std::alloc::Global;
 
-/// For each value of an agent the place of the first false one among the rules that the agent owns.
+/// For each rule that the agent owns the values that it rules out.
 #[derive(Drop)]
 pub struct FirstRules {
-    pub places: Vec<Option<usize>>,
-    /// Room for the places of all these rules.
-    pub changed: Vec<usize>,
+    pub ruled_out: RuledOut,
+    pub named: NamedIn,
+    /// Room for one row.
+    pub row: Row,
 }
 
 impl FirstRules {
     /// For an agent that was told nothing: a rule over its own variable alone may be false.
     pub fn new(alloc: Global, problem: &Problem, agent: u32) -> Result<FirstRules, Memory>
         requires { agent < length problem.now.domains }
-        ensures lists { IfOk result (λ rules. AreRuleLists problem.now agent rules.places.items (vec_capacity rules.changed)) }
-        ensures kept { IfOk result (λ rules. KeepsPlaces problem.now agent (λ k. None) rules.places.items) }
+        ensures lists { IfOk result (λ rules. AreRuleLists problem.now agent rules.ruled_out.rows.items rules.ruled_out.counts.items rules.ruled_out.firsts.items rules.named.namings.items rules.row) }
+        ensures kept { IfOk result (λ rules. KeepsRows problem.now agent (λ k. None) rules.ruled_out.rows.items) }
     {
         let values = problem.domain(agent).len();
-        let rules = problem.owned(agent);
-        let nothing = View::new(alloc, 0)?;
-        let mut places = no_places(alloc, values)?;
-        let mut changed = Vec::with_capacity(alloc, rules.len()).map_err(|_| Memory)?;
-        list_changed(&mut changed, problem, rules, agent);
-        update_rules(&mut places, problem, agent, &changed, &nothing);
-        Ok(FirstRules { places, changed })
+        let owned = problem.owned(agent);
+        let _variables = problem.vars();
+        let view = View::new(alloc, 0)?;
+        let named = NamedIn::new(alloc, problem, owned)?;
+        let mut ruled_out = RuledOut::new(alloc, owned.len(), values)?;
+        let mut row = Row::new(alloc, values)?;
+        refresh_all(&mut ruled_out, &mut row, problem, agent, &view);
+        Ok(FirstRules {
+            ruled_out,
+            named,
+            row,
+        })
     }
 
     /// Takes in that the view has changed at one variable. It takes no memory.
     pub fn after_view(&mut self, problem: &Problem, agent: u32, var: u32, view: &View)
         requires agent { agent < length problem.now.domains }
-        requires lists { AreRuleLists problem.now agent self.old.places.items (vec_capacity self.old.changed) }
+        requires lists { AreRuleLists problem.now agent self.old.ruled_out.rows.items self.old.ruled_out.counts.items self.old.ruled_out.firsts.items self.old.named.namings.items self.old.row }
         requires domains { AreInDomains (csp_of problem.now) (values_in (view_of view.now)) }
-        requires stood { PlacesStoodBefore problem.now agent var (values_in (view_of view.now)) self.old.places.items }
-        ensures lists { AreRuleLists problem.now agent self.new.places.items (vec_capacity self.new.changed) }
-        ensures kept { KeepsPlaces problem.now agent (values_in (view_of view.now)) self.new.places.items }
+        requires stood { RowsStoodBefore problem.now agent var (values_in (view_of view.now)) self.old.ruled_out.rows.items }
+        ensures lists { AreRuleLists problem.now agent self.new.ruled_out.rows.items self.new.ruled_out.counts.items self.new.ruled_out.firsts.items self.new.named.namings.items self.new.row }
+        ensures kept { KeepsRows problem.now agent (values_in (view_of view.now)) self.new.ruled_out.rows.items }
     {
-        list_changed(&mut self.changed, problem, problem.owned(agent), var);
-        update_rules(&mut self.places, problem, agent, &self.changed, view);
+        let namings = self.named.of(var);
+        refresh_each(
+            &mut self.ruled_out,
+            &mut self.row,
+            problem,
+            agent,
+            namings,
+            view,
+        );
     }
 }
 
-/// No place, for each of so many values.
-fn no_places(alloc: Global, values: usize) -> Result<Vec<Option<usize>>, Memory>
-    ensures size { IfOk result (λ places. length places.items ≡ values) }
-    ensures none { IfOk result (λ places. (k : ℕ) → slice_index_or places.items k None ≡ None) }
+/// Brings the row of each rule up to date.
+fn refresh_all(ruled_out: &mut RuledOut, row: &mut Row, problem: &Problem, agent: u32, view: &View)
+    requires agent { agent < length problem.now.domains }
+    requires domains { AreInDomains (csp_of problem.now) (values_in (view_of view.now)) }
+    requires room { length row.old ≡ size_of problem.now agent }
+    requires rows { length ruled_out.old.rows.items ≡ rules_of problem.now agent }
+    requires grid { IsGrid ruled_out.old.rows.items (size_of problem.now agent) ruled_out.old.counts.items ruled_out.old.firsts.items }
+    ensures room { length row.new ≡ size_of problem.now agent }
+    ensures rows { length ruled_out.new.rows.items ≡ rules_of problem.now agent }
+    ensures grid { IsGrid ruled_out.new.rows.items (size_of problem.now agent) ruled_out.new.counts.items ruled_out.new.firsts.items }
+    ensures right { KeepsRows problem.now agent (values_in (view_of view.now)) ruled_out.new.rows.items }
 {
-    vec![in alloc; None; values].map_err(|_| Memory)
-}
-
-/// Puts the places of those rules that have the variable in their scope in place of what the list
-/// holds. It has room for the places of all rules.
-fn list_changed(changed: &mut Vec<usize>, problem: &Problem, rules: &[u32], var: u32)
-    requires room { length rules.now ≤ vec_capacity changed.old }
-    requires rules { All (λ rule. rule < length problem.now.rules) rules.now }
-    ensures changed { HoldChanged problem.now rules.now var (length rules.now) changed.new.items }
-    ensures capacity { vec_capacity changed.new ≡ vec_capacity changed.old }
-{
-    changed.clear();
-    for place in 0..rules.len() {
-        if names_variable(problem, rules[place], var) {
-            changed.push_reserved(place);
-        }
+    for place in 0..problem.owned(agent).len() {
+        refresh(ruled_out, row, problem, agent, place, view);
     }
 }
 
-/// Whether the rule has the variable in its scope.
-fn names_variable(problem: &Problem, rule: u32, var: u32) -> bool
-    requires { rule < length problem.now.rules }
-    ensures named { result ≡ is_among var (constraint_at problem.now rule).scope }
-    ensures constraint { IsConstraint (csp_of problem.now) (constraint_at problem.now rule) }
-{
-    problem.scope(rule).contains(&var)
-}
-
-/// Brings up to date the first false rule for each value of the agent, where only the rules at these
-/// places may have changed.
-fn update_rules(
-    firsts: &mut Vec<Option<usize>>,
+/// Brings the rows of these rules up to date.
+fn refresh_each(
+    ruled_out: &mut RuledOut,
+    row: &mut Row,
     problem: &Problem,
     agent: u32,
-    changed: &[usize],
+    namings: &[Naming],
+    view: &View,
+)
+    requires within { All (λ (n : TheNaming). n.place < rules_of problem.now agent) namings.now }
+    requires agent { agent < length problem.now.domains }
+    requires domains { AreInDomains (csp_of problem.now) (values_in (view_of view.now)) }
+    requires room { length row.old ≡ size_of problem.now agent }
+    requires rows { length ruled_out.old.rows.items ≡ rules_of problem.now agent }
+    requires grid { IsGrid ruled_out.old.rows.items (size_of problem.now agent) ruled_out.old.counts.items ruled_out.old.firsts.items }
+    ensures room { length row.new ≡ size_of problem.now agent }
+    ensures rows { length ruled_out.new.rows.items ≡ rules_of problem.now agent }
+    ensures grid { IsGrid ruled_out.new.rows.items (size_of problem.now agent) ruled_out.new.counts.items ruled_out.new.firsts.items }
+    ensures kept { (place : ℕ) → IsRightAt problem.now agent (values_in (view_of view.now)) ruled_out.old.rows.items place → IsRightAt problem.now agent (values_in (view_of view.now)) ruled_out.new.rows.items place }
+    ensures right { All (λ (n : TheNaming). IsRightAt problem.now agent (values_in (view_of view.now)) ruled_out.new.rows.items n.place) namings.now }
+{
+    for naming in namings {
+        refresh(ruled_out, row, problem, agent, naming.place as usize, view);
+    }
+}
+
+/// Brings the row of one rule up to date.
+fn refresh(
+    ruled_out: &mut RuledOut,
+    row: &mut Row,
+    problem: &Problem,
+    agent: u32,
+    place: usize,
     view: &View,
 )
     requires agent { agent < length problem.now.domains }
-    requires size { length firsts.old.items ≡ size_of problem.now agent }
+    requires place { place < rules_of problem.now agent }
     requires domains { AreInDomains (csp_of problem.now) (values_in (view_of view.now)) }
-    requires rising { IsRisingPlaces changed.now }
-    requires within { (k : ℕ) → k < length changed.now → slice_index_or changed.now k 0 < rules_of problem.now agent }
-    requires in_range { (k place : ℕ) → slice_index_or firsts.old.items k None ≡ Some place → place < rules_of problem.now agent }
-    ensures size { length firsts.new.items ≡ length firsts.old.items }
-    ensures in_range { (k place : ℕ) → slice_index_or firsts.new.items k None ≡ Some place → place < rules_of problem.now agent }
-    ensures first { (k : ℕ) → k < size_of problem.now agent → (before : ℕ → Bool) → IsFirst before (rules_of problem.now agent) (slice_index_or firsts.old.items k None) → AgreeBut changed.now (rules_of problem.now agent) before (is_false problem.now agent (known_at problem.now agent (values_in (view_of view.now)) k)) → IsFirst (is_false problem.now agent (known_at problem.now agent (values_in (view_of view.now)) k)) (rules_of problem.now agent) (slice_index_or firsts.new.items k None) }
+    requires room { length row.old ≡ size_of problem.now agent }
+    requires rows { length ruled_out.old.rows.items ≡ rules_of problem.now agent }
+    requires grid { IsGrid ruled_out.old.rows.items (size_of problem.now agent) ruled_out.old.counts.items ruled_out.old.firsts.items }
+    ensures room { length row.new ≡ size_of problem.now agent }
+    ensures rows { length ruled_out.new.rows.items ≡ rules_of problem.now agent }
+    ensures grid { IsGrid ruled_out.new.rows.items (size_of problem.now agent) ruled_out.new.counts.items ruled_out.new.firsts.items }
+    ensures right { IsRightAt problem.now agent (values_in (view_of view.now)) ruled_out.new.rows.items place }
+    ensures others { (other value : ℕ) → other ≢ place → marks ruled_out.new.rows.items value other ≡ marks ruled_out.old.rows.items value other }
 {
-    if changed.is_empty() {
-        return;
-    }
-    let domain = problem.domain(agent);
-    let rules = problem.owned(agent);
-    for k in 0..domain.len() {
-        let own = own_pair(agent, domain, k);
-        let under = Under { view, own };
-        firsts[k] = updated(problem, rules, &under, changed, firsts[k]);
-    }
-}
-
-/// The first false rule, where `old` was it before, and only the rules at these places may have changed.
-fn updated(
-    problem: &Problem,
-    rules: &[u32],
-    under: &Under,
-    changed: &[usize],
-    old: Option<usize>,
-) -> Option<usize>
-    requires rules { All (λ rule. rule < length problem.now.rules) rules.now }
-    requires domains { AreInDomains (csp_of problem.now) (values_under under.now.view.now under.now.own) }
-    requires rising { IsRisingPlaces changed.now }
-    requires within { (k : ℕ) → k < length changed.now → slice_index_or changed.now k 0 < length rules.now }
-    requires old { IfSome old (λ place. place < length rules.now) }
-    ensures in_range { IfSome result (λ place. place < length rules.now) }
-    ensures first { (before : ℕ → Bool) → IsFirst before (length rules.now) old → AgreeBut changed.now (length rules.now) before (is_false_at problem.now rules.now (values_under under.now.view.now under.now.own)) → IsFirst (is_false_at problem.now rules.now (values_under under.now.view.now under.now.own)) (length rules.now) result }
-{
-    let limit = old.unwrap_or(rules.len());
-    if let Some(place) = first_changed(problem, rules, under, changed, limit) {
-        return Some(place);
-    }
-    match old {
-        None => None,
-        Some(place) => {
-            if changed.contains(&place) {
-                first_false(problem, rules, under, place)
-            } else {
-                Some(place)
-            }
-        }
-    }
-}
-
-/// The first false rule among those at these places below the limit.
-fn first_changed(
-    problem: &Problem,
-    rules: &[u32],
-    under: &Under,
-    changed: &[usize],
-    limit: usize,
-) -> Option<usize>
-    requires rules { All (λ rule. rule < length problem.now.rules) rules.now }
-    requires domains { AreInDomains (csp_of problem.now) (values_under under.now.view.now under.now.own) }
-    requires rising { IsRisingPlaces changed.now }
-    requires within { (k : ℕ) → k < length changed.now → slice_index_or changed.now k 0 < length rules.now }
-    ensures { IsFirstAmong (is_false_at problem.now rules.now (values_under under.now.view.now under.now.own)) changed.now limit result }
-{
-    for place in changed {
-        if *place >= limit {
-            return None;
-        }
-        if problem.violated_by(rules[*place], under) {
-            return Some(*place);
-        }
-    }
-    None
+    let rule = problem.owned(agent)[place];
+    fill_row(problem, rule, agent, &Known { view }, row);
+    ruled_out.replace(place, row);
 }

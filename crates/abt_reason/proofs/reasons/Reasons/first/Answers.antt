@@ -1,8 +1,13 @@
-use Rattle.std.proofs.Common.{◌≡◌, ◌<◌, ◌∙◌, ap, sym, subst, length, get_or, arith, rules, Some, None, Option, ℕ, List, refl}
+use Rattle.std.proofs.Common.{◌≡◌, ◌<◌, ◌∙◌, ap, sym, subst, length, get_or, arith, rules, Some, None, Option, ℕ, List, Bool, refl}
 use Rattle.std.specs.Option.{option_map}
 use Rattle.std.proofs.lemmas.List.{get_or_default}
 use Rattle.dcsp_defs.specs.declared.Reason.TheVariants.{Rule, Earlier}
+use Rattle.dcsp_defs.specs.Csp.{Known}
+use Rattle.abt_store.specs.declared.Recorded.{Recorded}
 use Rattle.abt_reason.specs.Firsts.{IsFirst}
+use Rattle.abt_reason.specs.declared.named.Naming.{Naming}
+use Rattle.abt_reason.specs.Grids.{marks}
+use Rattle.abt_reason.proofs.FirstLaws.{first_alike}
 use Rattle.abt_reason.specs.Causes.{is_false, known_at, value_at, reason_for}
 use Rattle.abt_reason.specs.Cached.{Cached, StandsFor, IsCache, rules_of, size_of}
 use Rattle.abt_reason.proofs.CauseLaws.{reason_rule, reason_step}
@@ -15,17 +20,33 @@ stands_at places k count o r size within is e = sym (get_or_default places k o N
 within_values : (r : Cached) (shown : Cached) (k : ℕ) → r ≡ shown → k < size_of shown.problem shown.agent → k < size_of r.problem r.agent
 within_values r shown k e l = subst (λ (x : Cached). k < size_of x.problem x.agent) (sym e) l
 
-place_in_range : (r shown : Cached) (capacity k at : ℕ) (o : Option ℕ) → IsCache r capacity → r ≡ shown → k < size_of shown.problem shown.agent → o ≡ get_or r.places k o → o ≡ Some at → at < rules_of r.problem r.agent
-place_in_range r shown capacity k at o inv e l is some = inv.lists.in_range k at (stands_at r.places k (size_of r.problem r.agent) o (Some at) inv.lists.size (within_values r shown k e l) is some)
+-- the first row that marks the value
+first_row : (r : Cached) (counts : List ℕ) (firsts : List (Option ℕ)) (namings : List Naming) (row : List Bool) (k : ℕ) (o : Option ℕ) → IsCache r counts firsts namings row → k < size_of r.problem r.agent → o ≡ get_or firsts k o
+    → IsFirst (marks r.rows k) (rules_of r.problem r.agent) o
+first_row r counts firsts namings row k o inv within is =
+    let grid = inv.for_rules.grid in
+    let for_firsts : k < length firsts = let size = grid.first_each in omega arith in
+    subst (λ n. IsFirst (marks r.rows k) n o) inv.for_rules.each_rule (subst (IsFirst (marks r.rows k) (length r.rows)) (sym (is ∙ get_or_default firsts k o None for_firsts)) (grid.right_first k within))
+
+place_in_range : (r shown : Cached) (counts : List ℕ) (firsts : List (Option ℕ)) (namings : List Naming) (row : List Bool) (k at : ℕ) (o : Option ℕ) → IsCache r counts firsts namings row → r ≡ shown → k < size_of shown.problem shown.agent
+    → o ≡ get_or firsts k o → o ≡ Some at → at < rules_of r.problem r.agent
+place_in_range r shown counts firsts namings row k at o inv e l is some =
+    (subst (IsFirst (marks r.rows k) (rules_of r.problem r.agent)) some (first_row r counts firsts namings row k o inv (within_values r shown k e l) is)).0
+
+-- it is the first false rule
+first_rule : (r : Cached) (counts : List ℕ) (firsts : List (Option ℕ)) (namings : List Naming) (row : List Bool) (known : Known) (items : List Recorded) (k : ℕ) (o : Option ℕ) → IsCache r counts firsts namings row → StandsFor r known items
+    → k < size_of r.problem r.agent → o ≡ get_or firsts k o → IsFirst (is_false r.problem r.agent (known_at r.problem r.agent known k)) (rules_of r.problem r.agent) o
+first_rule r counts firsts namings row known items k o inv stands within is =
+    first_alike (marks r.rows k) (is_false r.problem r.agent (known_at r.problem r.agent known k)) (rules_of r.problem r.agent) o (λ j l. stands.rules j l k within) (first_row r counts firsts namings row k o inv within is)
 
 pub bounds-owned-at : goal.bounds-owned-at
 bounds-owned-at c =
-    let inside = place_in_range _ c.args.self.now _ c.args.place c.in-Some.at c.index.result.now c.self.invariant c.self.view_is c.requires c.index.ensures c.in-Some.is in
+    let inside = place_in_range _ c.args.self.now _ _ _ _ c.args.place c.in-Some.at c.index.result.now c.self.invariant c.self.view_is c.requires c.index.ensures c.in-Some.is in
     omega (arith, inside, ap length c.owned.ensures.rules)
 
 pub offset_bounds-owned-at : goal.offset_bounds-owned-at
 offset_bounds-owned-at c =
-    let inside = place_in_range _ c.args.self.now _ c.args.place c.in-Some.at c.index.result.now c.self.invariant c.self.view_is c.requires c.index.ensures c.in-Some.is in
+    let inside = place_in_range _ c.args.self.now _ _ _ _ c.args.place c.in-Some.at c.index.result.now c.self.invariant c.self.view_is c.requires c.index.ensures c.in-Some.is in
     let below : c.in-Some.at < length c.owned.result.now = omega (arith, inside, ap length c.owned.ensures.rules) in
     search rules
 
@@ -36,8 +57,7 @@ returns-in-Some c = λ known items stands.
     let k = c.args.place in
     let within = within_values _ c.args.self.now k c.self.view_is c.requires in
     let stood = subst (λ (r : Cached). StandsFor r known items) (sym c.self.view_is) stands in
-    let at = stands_at c.self.inside.rules.places.items k (size_of p agent) c.index.result.now (Some c.in-Some.at) c.self.invariant.lists.size within c.index.ensures c.in-Some.is in
-    let first = subst (IsFirst (is_false p agent (known_at p agent known k)) (rules_of p agent)) at (stood.rules k within) in
+    let first = subst (IsFirst (is_false p agent (known_at p agent known k)) (rules_of p agent)) c.in-Some.is (first_rule _ _ _ _ _ known items k c.index.result.now c.self.invariant stood within c.index.ensures) in
     ap (λ (rules : List ℕ). Some (Rule (get_or rules c.in-Some.at 0))) c.owned.ensures.rules
     ∙ sym (reason_rule p agent known items (value_at p agent k) c.in-Some.at first)
     ∙ ap (λ (r : Cached). reason_for r.problem r.agent known items (value_at r.problem r.agent k)) c.self.view_is
@@ -49,8 +69,7 @@ returns-in-None c = λ known items stands.
     let k = c.args.place in
     let within = within_values _ c.args.self.now k c.self.view_is c.requires in
     let stood = subst (λ (r : Cached). StandsFor r known items) (sym c.self.view_is) stands in
-    let at = stands_at c.self.inside.rules.places.items k (size_of p agent) c.index.result.now None c.self.invariant.lists.size within c.index.ensures c.in-None.is in
-    let none = subst (IsFirst (is_false p agent (known_at p agent known k)) (rules_of p agent)) at (stood.rules k within) in
+    let none = subst (IsFirst (is_false p agent (known_at p agent known k)) (rules_of p agent)) c.in-None.is (first_rule _ _ _ _ _ known items k c.index.result.now c.self.invariant stood within c.index.ensures) in
     let step = stands_at c.self.inside.kept.steps.items k (size_of p agent) c.index-in-None.result.now c.index-in-None.result.now c.self.invariant.kept within c.index-in-None.ensures refl in
     c.earlier.ensures ∙ ap (option_map Earlier) (sym step ∙ stood.kept.first k within)
     ∙ sym (reason_step p agent known items (value_at p agent k) none)

@@ -1,17 +1,37 @@
-use Rattle.std.proofs.Common.{sym, subst, length, List, ℕ}
-use Rattle.abt_defs.specs.Agents.{values_in}
+use Rattle.std.proofs.Common.{◌≡◌, ◌<◌, ◌∙◌, ap, sym, subst, length, get_or, ℕ, List, Bool, true, false, refl}
+use Rattle.abt_defs.specs.Agents.{values_in, is_among}
 use Rattle.abt_view.specs.Views.{view_of}
-use Rattle.abt_reason.specs.Causes.{is_false, known_at}
-use Rattle.abt_reason.specs.Changed.{HoldChanged}
-use Rattle.abt_reason.proofs.ChangedLaws.{agree_but}
+use Rattle.dcsp_defs.specs.Words.{In}
+use Rattle.dcsp_problem.specs.Problems.{constraint_at}
+use Rattle.dcsp_problem.specs.Index.{owned_rules}
+use Rattle.dcsp_problem.proofs.RisingNumbers.{In-get_or}
+use Rattle.abt_reason.specs.declared.named.Naming.{Naming}
+use Rattle.abt_reason.specs.Named.{naming}
+use Rattle.abt_reason.specs.Cached.{IsRightAt, rules_of}
+use Rattle.abt_reason.proofs.ChangedLaws.{same_without}
+use Rattle.std.proofs.lemmas.List.{get_or_default}
 use Rattle.abt_reason.proofs.rules.FirstRules.after_view.Goals as goal
 
+pub refresh_each-requires-clause-within : goal.refresh_each-requires-clause-within
+refresh_each-requires-clause-within c = λ k d inside.
+    let found = c.of-namings.ensures.part k d inside in
+    let listed = c.requires.lists.listed.within found.0 d found.1 in
+    let same = get_or_default c.args.self.now.named.namings.items found.0 d (get_or c.of-namings.result.now k d) found.1 ∙ found.2 in
+    subst (λ (n : Naming). n.place < rules_of c.args.problem.now c.args.agent) same listed
+
 pub returns-clause-kept : goal.returns-clause-kept
-returns-clause-kept c = λ k within.
+returns-clause-kept c = λ place within.
     let p = c.args.problem.now in
     let agent = c.args.agent in
+    let var = c.args.var in
     let s = c.requires.stood in
-    let holds = subst (λ (places : List ℕ). HoldChanged p c.owned.result.now c.args.var (length c.owned.result.now) places) (sym c.deref.ensures.value) c.list_changed.ensures.changed in
-    let owned = subst (λ (rules : List ℕ). HoldChanged p rules c.args.var (length rules) c.deref.result.now) c.owned.ensures.rules holds in
-    c.update_rules.ensures.first k within (is_false p agent (known_at p agent s.known_before k)) (s.stood k within)
-    (agree_but p agent c.args.var s.known_before (values_in (view_of c.args.view.now)) k c.deref.result.now owned s.others)
+    let known = values_in (view_of c.args.view.now) in
+    let listed = c.requires.lists.listed in
+    let now = c.refresh_each.new.ruled_out.rows.items in
+    let without : is_among var (constraint_at p (get_or (owned_rules p agent) place 0)).scope ≡ false → IsRightAt p agent known now place =
+    λ free. c.refresh_each.ensures.kept place (λ k l. s.stood place within k l ∙ same_without p agent var s.known_before known k place (listed.constraints place within) free s.others) in
+    let with_it : is_among var (constraint_at p (get_or (owned_rules p agent) place 0)).scope ≡ true → IsRightAt p agent known now place =
+    λ named.
+    let found = c.of-namings.ensures.complete place (listed.complete place var within named) in
+    subst (λ (n : Naming). IsRightAt p agent known now n.place) found.2 (c.refresh_each.ensures.right found.0 (naming place var) found.1) in
+    (elim (is_among var (constraint_at p (get_or (owned_rules p agent) place 0)).scope) as (λ b. is_among var (constraint_at p (get_or (owned_rules p agent) place 0)).scope ≡ b → IsRightAt p agent known now place) [ true ↦ with_it | false ↦ without ]) refl

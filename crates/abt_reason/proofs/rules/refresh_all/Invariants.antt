@@ -1,0 +1,14 @@
+use Rattle.std.proofs.Common.{◌≡◌, ℕ, ◌<◌, length}
+use Rattle.abt_defs.specs.Agents.{values_in}
+use Rattle.abt_view.specs.Views.{view_of}
+use Rattle.abt_reason.specs.Grids.{IsGrid}
+use Rattle.abt_reason.specs.Cached.{size_of, rules_of, IsRightAt}
+use Rattle.abt_reason.proofs.rules.refresh_all.Given as goal
+
+abbrev pub invariant-loop-place : goal.invariant-loop-place
+invariant-loop-place l = record {
+  room : length l.row ≡ size_of l.problem l.agent;
+  each_rule : length l.ruled_out.rows.items ≡ rules_of l.problem l.agent;
+  grid : IsGrid l.ruled_out.rows.items (size_of l.problem l.agent) l.ruled_out.counts.items l.ruled_out.firsts.items;
+  right : (place : ℕ) → place < l.place → IsRightAt l.problem l.agent (values_in (view_of l.view)) l.ruled_out.rows.items place;
+}

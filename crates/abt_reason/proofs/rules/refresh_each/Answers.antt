@@ -1,0 +1,42 @@
+use Rattle.std.proofs.Common.{◌≢◌, ◌≡◌, ◌∙◌, ap, sym, subst, ℕ, List, Bool, ◌<◌, arith, length, below_more, get_or, inl, inr}
+use Rattle.std.proofs.lemmas.Bool.{cases_eq}
+use Rattle.abt_defs.specs.Agents.{values_in}
+use Rattle.abt_view.specs.Views.{view_of}
+use Rattle.dcsp_problem.specs.Problems.{Contents}
+use Rattle.dcsp_defs.specs.Csp.{Known}
+use Rattle.std.proofs.lemmas.List.{get_or_default}
+use Rattle.abt_reason.specs.declared.named.Naming.{Naming}
+use Rattle.abt_reason.specs.Named.{naming}
+use Rattle.abt_reason.specs.Grids.{marks}
+use Rattle.abt_reason.specs.Cached.{IsRightAt, size_of}
+use Rattle.abt_reason.proofs.rules.refresh_each.Goals as goal
+
+one_right : (p : Contents) (agent : ℕ) (known : Known) (old new : List (List Bool)) (here : ℕ) → IsRightAt p agent known new here → ((other value : ℕ) → other ≢ here → marks new value other ≡ marks old value other)
+    → (j : ℕ) → IsRightAt p agent known old j → IsRightAt p agent known new j
+one_right p agent known old new here right others j was k l = elim (cases_eq j here) [
+  | inl same ↦ subst (IsRightAt p agent known new) (sym same) right k l
+  | inr apart ↦ others j k apart ∙ was k l
+]
+
+-- what stands past the end of a list
+abbrev no_naming : Naming
+no_naming = naming 0 0
+
+pub loop-naming-preserved : goal.loop-naming-preserved
+loop-naming-preserved c =
+    let p = c.args.problem.now in
+    let agent = c.args.agent in
+    let known = values_in (view_of c.args.view.now) in
+    let namings = c.args.namings.now in
+    let k = c.loop-naming.naming-index in
+    let here = (get_or namings k no_naming).place in
+    let step = one_right p agent known c.loop-naming.ruled_out.rows.items c.refresh.new.ruled_out.rows.items here c.refresh.ensures.right c.refresh.ensures.others in
+    record {
+      room = c.refresh.ensures.room;
+      each_rule = c.refresh.ensures.rows;
+      grid = c.refresh.ensures.grid;
+      kept = λ j was. step j (c.loop-naming.invariant.kept j was);
+      right = λ n d below. below_more (λ n. IsRightAt p agent known c.refresh.new.ruled_out.rows.items (get_or namings n d).place) k
+          (λ n before. step (get_or namings n d).place (c.loop-naming.invariant.right n d before))
+          (subst (λ (x : Naming). IsRightAt p agent known c.refresh.new.ruled_out.rows.items x.place) (get_or_default namings k no_naming d c.loop-naming-test.true) c.refresh.ensures.right) n below;
+    }

@@ -1,0 +1,21 @@
+-- For each variable the places of the rules that name it.
+use Rattle.std.specs.Prelude.{◌≡◌, ℕ, ◌<◌, true, List, All, Contains, slice_index_or}
+use Rattle.std.specs.List.Sorted.{IsNonDecreasingBy}
+use Rattle.dcsp_defs.specs.Csp.{IsConstraint}
+use Rattle.abt_defs.specs.Agents.{is_among}
+use Rattle.dcsp_problem.specs.Problems.{Contents, csp_of, constraint_at}
+use Rattle.abt_reason.specs.declared.named.Naming.{Naming}
+
+-- the rule at a place has the variable in its scope
+abbrev pub naming : ℕ → ℕ → Naming
+naming place var = record { var = var; place = place }
+
+-- in the list stand the variables of the scopes of the first so many of these rules, each with the place of its rule
+pub record ListsScopes (p : Contents) (numbers : List ℕ) (namings : List Naming) (count : ℕ) : Type 0 where
+  pub within : All (λ (n : Naming). n.place < count) namings
+  pub complete : (j var : ℕ) → j < count → is_among var (constraint_at p (slice_index_or numbers j 0)).scope ≡ true → Contains namings (naming j var)
+  pub constraints : (j : ℕ) → j < count → IsConstraint (csp_of p) (constraint_at p (slice_index_or numbers j 0))
+
+-- the variables do not fall
+abbrev pub RisesByVariable : List Naming → Type 0
+RisesByVariable namings = IsNonDecreasingBy (λ (n : Naming). n.var) namings

@@ -1,0 +1,105 @@
+//! For each variable the places of the rules that name it.
+
+ghost use Rattle.std.specs.Prelude.{◌≡◌, ◌≤◌, ◌<◌, ◌^◌, ◌∷◌, [], ◌++◌, ℕ, All, Contains, IfOk, OnOk, IsPermutation, length, map, slice_index_or};
+ghost use Rattle.abt_reason.specs.Named.{naming, ListsScopes, RisesByVariable};
+
+use dcsp_list::Memory;
+use dcsp_problem::Problem;
+use std::alloc::Global;
+
+/// A variable of the scope of a rule.
+#[derive(Clone, Copy)]
+pub struct Naming {
+    pub var: u32,
+    /// The rule's place, counted from 0.
+    pub place: u32,
+}
+
+/// The variables of the scopes of some rules, in one list that rises by variable.
+#[derive(Drop)]
+pub struct NamedIn {
+    pub namings: Vec<Naming>,
+}
+
+impl NamedIn {
+    /// For the rules with these numbers.
+    pub fn new(alloc: Global, problem: &Problem, rules: &[u32]) -> Result<NamedIn, Memory>
+        requires rules { All (λ rule. rule < length problem.now.rules) rules.now }
+        requires few { length rules.now < 2 ^ 32 }
+        ensures lists { IfOk result (λ named. ListsScopes problem.now rules.now named.namings.items (length rules.now)) }
+        ensures rising { IfOk result (λ named. RisesByVariable named.namings.items) }
+    {
+        let namings = namings_of(alloc, problem, rules)?;
+        let namings = by_variable(namings);
+        Ok(NamedIn { namings })
+    }
+
+    /// The places of the rules that name the variable.
+    pub fn of(&self, var: u32) -> &[Naming]
+        requires { RisesByVariable self.now.namings.items }
+        ensures part { All (Contains self.now.namings.items) result.now }
+        ensures complete { (place : ℕ) → Contains self.now.namings.items (naming place var) → Contains result.now (naming place var) }
+    {
+        let namings = self.namings.as_slice();
+        &namings[start_of(namings, var)..end_of(namings, var)]
+    }
+}
+
+/// The variables of the scopes of these rules, rule by rule.
+fn namings_of(alloc: Global, problem: &Problem, rules: &[u32]) -> Result<Vec<Naming>, Memory>
+    requires rules { All (λ rule. rule < length problem.now.rules) rules.now }
+    requires few { length rules.now < 2 ^ 32 }
+    ensures { IfOk result (λ namings. ListsScopes problem.now rules.now namings.items (length rules.now)) }
+{
+    let mut namings = Vec::new(alloc);
+    for place in 0..rules.len() {
+        add_scope(&mut namings, problem.scope(rules[place]), place as u32)?;
+    }
+    Ok(namings)
+}
+
+/// Adds the variables of the scope of the rule at this place.
+fn add_scope(namings: &mut Vec<Naming>, scope: &[u32], place: u32) -> Result<(), Memory>
+    ensures { OnOk result (namings.new.items ≡ namings.old.items ++ map (naming place) scope.now) }
+{
+    for var in scope {
+        add(namings, Naming { var: *var, place })?;
+    }
+    Ok(())
+}
+
+/// Adds one.
+fn add(namings: &mut Vec<Naming>, naming: Naming) -> Result<(), Memory>
+    ensures { OnOk result (namings.new.items ≡ namings.old.items ++ naming ∷ []) }
+{
+    namings.push(naming).map_err(|_| Memory)
+}
+
+/// The same in order of variables.
+fn by_variable(mut namings: Vec<Naming>) -> Vec<Naming>
+    ensures same { IsPermutation namings.items result.items }
+    ensures rising { RisesByVariable result.items }
+{
+    namings.sort_unstable_by_key(|naming| naming.var);
+    namings
+}
+
+/// Where the variable begins, or would.
+fn start_of(namings: &[Naming], var: u32) -> usize
+    requires { RisesByVariable namings.now }
+    ensures within { result ≤ length namings.now }
+    ensures before { (k : ℕ) (d : Naming) → k < result → (slice_index_or namings.now k d).var < var }
+    ensures after { (k : ℕ) (d : Naming) → result ≤ k → k < length namings.now → var ≤ (slice_index_or namings.now k d).var }
+{
+    namings.partition_point(|naming| naming.var < var)
+}
+
+/// Where the variables after this one begin, or would.
+fn end_of(namings: &[Naming], var: u32) -> usize
+    requires { RisesByVariable namings.now }
+    ensures within { result ≤ length namings.now }
+    ensures before { (k : ℕ) (d : Naming) → k < result → (slice_index_or namings.now k d).var ≤ var }
+    ensures after { (k : ℕ) (d : Naming) → result ≤ k → k < length namings.now → var < (slice_index_or namings.now k d).var }
+{
+    namings.partition_point(|naming| naming.var <= var)
+}

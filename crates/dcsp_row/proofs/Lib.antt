@@ -1,0 +1,4 @@
+pub mod BitLaws
+pub mod Domains
+pub mod RowLaws
+pub mod LineLaws

@@ -1,0 +1,40 @@
+-- Sums in which one variable is left open.
+use Rattle.std.specs.Prelude.{◌≡◌, ℕ, ◌+◌, ◌*◌, ◌≤◌, ℤ, pos, ◌+ℤ◌, ◌*ℤ◌, Bool, not, Option, Some, None, unsigned_abs, unwrap_or}
+use Rattle.dcsp_linear.specs.declared.Rel.{Rel}
+use Rattle.dcsp_linear.specs.Sums.{stands}
+use Rattle.dcsp_problem.specs.Rules.{is_told}
+use Rattle.dcsp_row.specs.declared.line.Line.{Line}
+use Rattle.dcsp_row.specs.declared.sums.Told.{Told}
+use Rattle.dcsp_row.specs.declared.sums.Told.TheVariants.{Untold, By, ByOwn}
+
+-- the product with the open variable's coefficient, if it has one
+abbrev pub own_part : Option ℤ → ℤ → ℤ
+own_part None x = pos 0
+own_part (Some coef) x = coef *ℤ x
+
+abbrev pub own_size : Option ℤ → ℤ → ℕ
+own_size None x = 0
+own_size (Some coef) x = unsigned_abs coef * unsigned_abs x
+
+-- the sum where the open variable has this value
+abbrev pub line_at : Line → ℤ → ℤ
+line_at line x = line.base +ℤ own_part line.own x
+
+-- the absolute values of both parts
+abbrev pub line_size : Line → ℤ → ℕ
+line_size line x = unsigned_abs line.base + own_size line.own x
+
+-- one term was added: its coefficient, and its value unless it is the open variable
+pub record AddsTerm (line next : Line) (coef : ℤ) (value : Option ℤ) (x : ℤ) : Type 0 where
+  pub sum : line_at next x ≡ line_at line x +ℤ (coef *ℤ unwrap_or value x)
+  pub size : line_size next x ≤ line_size line x + unsigned_abs coef * unsigned_abs (unwrap_or value x)
+
+-- the value that tells the truth of a sum, if one does
+abbrev pub told_at : Told → ℤ → Option ℤ
+told_at Untold x = None
+told_at (By value) x = Some value
+told_at ByOwn x = Some x
+
+-- whether a sum with an open variable is false where that has this value: it stands so to the total, or is told not to
+abbrev pub is_off : Rel → Line → Option ℤ → Told → ℤ → Bool
+is_off rel line total told value = not (is_told (told_at told value) (stands rel (line_at line value) (unwrap_or total value)))

@@ -1,0 +1,48 @@
+-- Which values of a variable a rule rules out.
+use Rattle.std.specs.Prelude.{◌≡◌, ℕ, ◌<◌, ℤ, pos, Bool, true, false, not, List, length, slice_index_or, int_le, int_lt, unwrap_or, Option, ◌≤◌}
+use Rattle.std.specs.Ordering.{int_eq}
+use Rattle.dcsp_defs.specs.Csp.{Known, domain, filled, is_violated, with_value}
+use Rattle.dcsp_problem.specs.declared.rule.Rule.{Rule}
+use Rattle.dcsp_problem.specs.Rules.{rule_truth}
+use Rattle.dcsp_problem.specs.Problems.{Contents, csp_of, constraint_at}
+use Rattle.dcsp_row.specs.declared.compare.Comparison.{Comparison}
+use Rattle.dcsp_row.specs.declared.compare.Comparison.TheVariants.{Equal, Differ, AtMost, Below}
+
+-- the value at a place
+abbrev pub own_at : List ℤ → ℕ → ℤ
+own_at values place = slice_index_or values place (pos 0)
+
+-- among the first so many of these values the row marks those that pass the test
+abbrev pub MarksBelow : (ℤ → Bool) → List ℤ → ℕ → List Bool → Type 0
+MarksBelow test values count row = (length row ≡ length values) × ((place : ℕ) → place < count → slice_index_or row place false ≡ test (own_at values place))
+
+-- the row marks exactly those of these values that pass the test
+abbrev pub MarksWhere : (ℤ → Bool) → List ℤ → List Bool → Type 0
+MarksWhere test values row = MarksBelow test values (length values) row
+
+-- whether a rule is violated under what is known and this value of the variable
+abbrev pub is_ruled_out : Contents → ℕ → ℕ → Known → ℤ → Bool
+is_ruled_out p rule var known value = is_violated (with_value var value known) (constraint_at p rule)
+
+-- the row marks the values of the variable at which the rule is violated under what is known
+abbrev pub IsRow : Contents → ℕ → ℕ → Known → List Bool → Type 0
+IsRow p rule var known row = MarksWhere (is_ruled_out p rule var known) (domain (csp_of p) var) row
+
+-- the row marks those of these values of the variable at which the rule is false, where what is unknown counts as 0
+abbrev pub TellsFalse : Rule → ℕ → List ℤ → Known → List Bool → Type 0
+TellsFalse rule var values known row = MarksWhere (λ value. not (rule_truth rule (filled (with_value var value known)))) values row
+
+-- each of these values of the variable lets the sums that a rule makes fit
+abbrev pub FitAtEach : (ℤ → ℕ) → ℕ → List ℤ → Type 0
+FitAtEach size most values = (place : ℕ) → place < length values → size (own_at values place) ≤ most
+
+-- how two numbers compare
+abbrev pub compares : Comparison → ℤ → ℤ → Bool
+compares Equal a b = int_eq a b
+compares Differ a b = not (int_eq a b)
+compares AtMost a b = int_le a b
+compares Below a b = int_lt a b
+
+-- whether two numbers do not compare so, where a missing one is this value
+abbrev pub is_missed : Comparison → Option ℤ → Option ℤ → ℤ → Bool
+is_missed comparison first second value = not (compares comparison (unwrap_or first value) (unwrap_or second value))
