@@ -1,0 +1,4 @@
+pub mod FormulaLaws
+pub mod WordLaws
+pub mod HeaderLaws
+pub mod ClauseLaws

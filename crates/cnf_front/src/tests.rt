@@ -1,0 +1,151 @@
+ghost use Rattle.std.specs.Prelude.{IfOk, All};
+ghost use Rattle.cnf_front.specs.Clauses.{IsClauseRule};
+
+use super::*;
+use dcsp_nogood::{Nogood, Pair};
+use dcsp_problem::{Problem, Which};
+use rup_check::{ClauseList, Rup, check_rup, read_proof};
+use std::alloc::Global;
+use std::test::Fail;
+
+/// The problem of a short text.
+fn read(alloc: Global, text: &[u8]) -> Result<Problem, CnfError>
+    ensures { IfOk result (λ problem. All IsClauseRule problem.rules) }
+{
+    if text.len() > 1000 {
+        return Err(CnfError::Memory);
+    }
+    cnf_of(alloc, text)
+}
+
+/// The number of variables, and the answer on a proof.
+fn answer(alloc: Global, text: &[u8], proof: &[u8]) -> Result<(u32, Rup), Fail> {
+    let Ok(problem) = read(alloc, text) else {
+        return Err("a problem".into());
+    };
+    if problem.rules() > 1000 {
+        return Err("a small problem".into());
+    }
+    let mut formula = ClauseList::new(alloc);
+    formula_of(alloc, &problem, &mut formula)
+        .ok()
+        .ok_or("a formula")?;
+    let proof = read_proof(alloc, proof).ok().ok_or("a proof")?;
+    let answer = check_rup(alloc, &formula, &proof).ok().ok_or("memory")?;
+    Ok((problem.vars(), answer))
+}
+
+#[test]
+fn reads(rt: HostRuntime) -> Result<(), Fail> {
+    for (text, proof, wanted) in [
+        (
+            b"p cnf 2 4\n1 2 0\n1 -2 0\n-1 2 0\n-1 -2 0\n".as_slice(),
+            b"1 0\n-1 0\n0\n".as_slice(),
+            (2, Rup::Verified),
+        ),
+        (
+            b"p cnf 2 1\n1 2 0\n".as_slice(),
+            b"1 0\n0\n".as_slice(),
+            (2, Rup::BadClause { number: 1 }),
+        ),
+        (
+            b"p cnf 1 1\n0".as_slice(),
+            b"0\n".as_slice(),
+            (1, Rup::Verified),
+        ),
+        (
+            b"p cnf 1 2\n1 1 0\n-1 -1 0\n".as_slice(),
+            b"0\n".as_slice(),
+            (1, Rup::Verified),
+        ),
+        (b"p cnf 0 0".as_slice(), b"".as_slice(), (0, Rup::NotEmpty)),
+        (
+            b"cnf\np cnf 1 9\nc 5\n 1\r\n0\t-01 % x".as_slice(),
+            b"0\n".as_slice(),
+            (1, Rup::Verified),
+        ),
+        (
+            b"p cnf 4096 1\n4096 -4096\n".as_slice(),
+            b"4096 0\n".as_slice(),
+            (4096, Rup::BadClause { number: 1 }),
+        ),
+    ] {
+        assert_eq!(rt; answer(rt.alloc(), text, proof)?, wanted);
+    }
+    Ok(())
+}
+
+#[test]
+fn names_the_place_of_a_syntax_error(rt: HostRuntime) {
+    for (text, place) in [
+        (b"".as_slice(), 0),
+        (b"c only\n".as_slice(), 7),
+        (b"p".as_slice(), 1),
+        (b"p cnf".as_slice(), 5),
+        (b"p cnf 1".as_slice(), 7),
+        (b"p cnf 1 %".as_slice(), 8),
+        (b"% p cnf 1 1".as_slice(), 0),
+        (b"q cnf 1 1".as_slice(), 0),
+        (b"p dnf 1 1".as_slice(), 2),
+        (b"p\ncnf 1 1".as_slice(), 9),
+        (b"p cnf -1 0".as_slice(), 6),
+        (b"p cnf 1x 0".as_slice(), 6),
+        (b"p cnf 18446744073709551616 0".as_slice(), 6),
+        (b"p cnf 1 1\n2 0".as_slice(), 10),
+        (b"p cnf 1 1\n-0 0".as_slice(), 10),
+        (b"p cnf 1 1\n1%".as_slice(), 10),
+        (b"p cnf 1 1\n+1 0".as_slice(), 10),
+        (b"p cnf 1 1\n- 1".as_slice(), 10),
+        (b"p cnf 1 1\n 1 c 0".as_slice(), 13),
+        (b"p cnf 0 1\n1".as_slice(), 10),
+    ] {
+        match read(rt.alloc(), text) {
+            Ok(_) => panic!(rt; "place {place}"),
+            Err(error) => assert_eq!(rt; error, CnfError::Syntax { at: place }),
+        }
+    }
+}
+
+#[test]
+fn names_a_limit(rt: HostRuntime) {
+    for (text, count) in [
+        (b"p cnf 4097 0".as_slice(), 4097u128),
+        (
+            b"p cnf 18446744073709551615 0".as_slice(),
+            18_446_744_073_709_551_615,
+        ),
+    ] {
+        match read(rt.alloc(), text) {
+            Ok(_) => panic!(rt; "count {count}"),
+            Err(error) => assert_eq!(rt;
+                error,
+                CnfError::Limit {
+                    which: Which::Variables,
+                    count,
+                    at: 6
+                }
+            ),
+        }
+    }
+}
+
+#[test]
+fn writes(rt: HostRuntime) -> Result<(), Fail> {
+    let alloc = rt.alloc();
+    let pairs = [
+        Pair { var: 0, value: 1 },
+        Pair {
+            var: 4095,
+            value: 0,
+        },
+    ];
+    let nogood = Nogood::from_pairs(alloc, &pairs).ok().ok_or("a nogood")?;
+    let empty = Nogood::from_pairs(alloc, &[])
+        .ok()
+        .ok_or("the empty nogood")?;
+    let mut text = Vec::new(alloc);
+    assert_eq!(rt; write_clause(&nogood, &mut text), Ok(()));
+    assert_eq!(rt; write_clause(&empty, &mut text), Ok(()));
+    assert_eq!(rt; text.as_slice(), b"-1 4096 0\n0\n".as_slice());
+    Ok(())
+}

@@ -1,0 +1,12 @@
+pub mod Propagation
+pub mod Literals
+pub mod Verdicts
+pub mod ProofText
+pub mod Reading
+pub mod Stored
+pub mod Parts
+pub mod Assignments
+pub mod Looks
+pub mod Sets
+pub mod Watches
+pub mod Kept

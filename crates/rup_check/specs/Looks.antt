@@ -1,0 +1,24 @@
+-- What the marks say of a clause.
+use Rattle.std.specs.Prelude.{◌≢◌, ◌≤◌, ℕ, List, ◌⊎◌, Bool}
+use Rattle.std.specs.List.{Contains}
+use Rattle.rup_check.specs.Assignments.{flipped, Has}
+
+-- each other literal of the clause is false
+abbrev pub OthersFalse : List Bool → List ℕ → ℕ → Type 0
+OthersFalse marks clause x = (y : ℕ) → Contains clause y → y ≢ x → Has marks (flipped y)
+
+-- a literal of the clause that is not false
+pub record IsOpen (marks : List Bool) (clause : List ℕ) (x : ℕ) : Type 0 where
+  pub among : Contains clause x
+  pub open_ : Has marks (flipped x) → ⊥
+
+-- the clause has a true literal, or two that are not false
+abbrev pub IsQuiet : List Bool → List ℕ → Type 0
+IsQuiet marks clause = ((x : ℕ) × Contains clause x × Has marks x) ⊎ ((x : ℕ) × (y : ℕ) × IsOpen marks clause x × IsOpen marks clause y × (x ≢ y))
+
+-- a literal of the clause that is neither true nor false, beside which each other is false
+pub record IsUnit (marks : List Bool) (clause : List ℕ) (x : ℕ) : Type 0 where
+  pub small : x ≤ 8191
+  pub here : IsOpen marks clause x
+  pub absent : Has marks x → ⊥
+  pub others : OthersFalse marks clause x

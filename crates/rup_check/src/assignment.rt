@@ -1,0 +1,122 @@
+//! The literals that are true so far, with the trail of those that were made true.
+ghost use Rattle.std.specs.Prelude.{◌≡◌, ◌≢◌, ◌<◌, ◌≤◌, ◌+◌, ◌-◌, [], ◌∷◌, ◌++◌, length, map, true, false, not, OnOk, IfOk, IfSome, MatchOption, slice_set, slice_index_or};
+ghost use Rattle.std.specs.List.{All};
+ghost use Rattle.rup_check.specs.Assignments.{flipped, Has, IsAssignment};
+ghost use Rattle.rup_check.specs.Sets.{IsBeginning, IsPut};
+ghost use Rattle.rup_check.specs.Looks.{IsOpen, OthersFalse};
+
+use crate::places::flipped;
+use dcsp_list::Memory;
+use std::alloc::Global;
+
+/// A set of literals.
+#[derive(Drop)]
+pub struct Assignment {
+    /// For each literal whether it is in the set.
+    pub marks: Vec<bool>,
+    /// The literals in the order in which they came.
+    pub trail: Vec<u16>,
+}
+
+impl Assignment {
+    /// The empty set.
+    #[tactic(auto, using(crate::proofs::EndLaws::fresh))]
+    pub(crate) fn new(alloc: Global) -> Result<Assignment, Memory>
+        ensures assigned { IfOk result (λ a. IsAssignment a.marks.items a.trail.items) }
+        ensures empty { IfOk result (λ a. a.trail.items ≡ []) }
+    {
+        let marks = vec![in alloc; false; 8192].map_err(|_| Memory)?;
+        Ok(Assignment {
+            marks,
+            trail: Vec::new(alloc),
+        })
+    }
+
+    /// Whether the literal is in the set.
+    pub(crate) fn has(&self, literal: u16) -> bool
+        requires { literal < length self.now.marks.items }
+        ensures { result ≡ slice_index_or self.now.marks.items literal false }
+    {
+        self.marks[literal as usize]
+    }
+
+    /// The literal that came at this place.
+    pub(crate) fn literal(&self, place: usize) -> u16
+        requires { place < length self.now.trail.items }
+        ensures { result ≡ slice_index_or self.now.trail.items place 0 }
+    {
+        self.trail[place]
+    }
+
+    /// Adds a literal that is not in the set.
+    pub(crate) fn add(&mut self, literal: u16) -> Result<(), Memory>
+        requires small { literal ≤ 8191 }
+        requires assigned { IsAssignment self.old.marks.items self.old.trail.items }
+        requires absent { Has self.old.marks.items literal → ⊥ }
+        ensures marks { OnOk result (self.new.marks.items ≡ slice_set self.old.marks.items literal true) }
+        ensures trail { OnOk result (self.new.trail.items ≡ self.old.trail.items ++ literal ∷ []) }
+        ensures assigned { OnOk result (IsAssignment self.new.marks.items self.new.trail.items) }
+    {
+        self.trail.push(literal).map_err(|_| Memory)?;
+        self.marks[literal as usize] = true;
+        Ok(())
+    }
+
+    /// Adds a literal if it is not in the set.
+    pub(crate) fn put(&mut self, literal: u16) -> Result<(), Memory>
+        requires small { literal ≤ 8191 }
+        requires assigned { IsAssignment self.old.marks.items self.old.trail.items }
+        ensures put { OnOk result (IsPut self.old.marks.items self.new.marks.items literal) }
+        ensures assigned { OnOk result (IsAssignment self.new.marks.items self.new.trail.items) }
+    {
+        if self.marks[literal as usize] {
+            return Ok(());
+        }
+        self.add(literal)
+    }
+}
+
+/// The first literal of the clause that is not false, and is not this one.
+#[tactic(auto, using(crate::proofs::MarkLaws::others_from_index))]
+pub(crate) fn other_open(marks: &[bool], clause: &[u16], but: u16) -> Option<u16>
+    requires size { length marks.now ≡ 8192 }
+    requires small { All (λ x. x ≤ 8191) clause.now }
+    ensures cases { MatchOption result (OthersFalse marks.now clause.now but) (IsOpen marks.now clause.now) }
+    ensures other { IfSome result (λ x. x ≢ but) }
+{
+    for literal in clause {
+        if *literal != but && !marks[flipped(*literal) as usize] {
+            return Some(*literal);
+        }
+    }
+    None
+}
+
+/// Puts the negations of the clause's literals into the empty set: whether it stopped at a literal and its negation.
+pub(crate) fn begin(clause: &[u16], assignment: &mut Assignment) -> Result<bool, Memory>
+    requires assigned { IsAssignment assignment.old.marks.items assignment.old.trail.items }
+    requires empty { assignment.old.trail.items ≡ [] }
+    requires small { All (λ x. x ≤ 8191) clause.now }
+    ensures assigned { OnOk result (IsAssignment assignment.new.marks.items assignment.new.trail.items) }
+    ensures begun { IfOk result (IsBeginning (map flipped clause.now) assignment.new.marks.items) }
+{
+    for literal in clause {
+        if assignment.has(*literal) {
+            return Ok(true);
+        }
+        let negation = flipped(*literal);
+        assignment.put(negation)?;
+    }
+    Ok(false)
+}
+
+/// Takes everything out of the set.
+pub(crate) fn clear(assignment: &mut Assignment)
+    requires assigned { IsAssignment assignment.old.marks.items assignment.old.trail.items }
+    ensures assigned { IsAssignment assignment.new.marks.items assignment.new.trail.items }
+    ensures empty { assignment.new.trail.items ≡ [] }
+{
+    while let Some(literal) = assignment.trail.pop() {
+        assignment.marks[literal as usize] = false;
+    }
+}
