@@ -8,9 +8,9 @@ use Rattle.abt_promise.specs.declared.status.Status.{Status}
 use Rattle.abt_promise.specs.declared.status.Status.TheVariants as statuses
 use Rattle.abt_promise.specs.Runs.{Way, Answered, Refused, Stopped}
 use Rattle.abt_input.specs.ModelTexts.{model_error_text}
-use Rattle.abt_input.specs.Inputs.{most_model, most_log, IsRefused, IsBadAt}
+use Rattle.abt_input.specs.Inputs.{most_model, most_log, most_schedule, IsRefused, IsBadAt, IsScheduleBadAt}
 use Rattle.abt_input.specs.declared.error.CommandError.{CommandError}
-use Rattle.abt_input.specs.declared.error.CommandError.TheVariants.{ModelLong, ModelRefused, LogLong, LogLine, Fault, Memory}
+use Rattle.abt_input.specs.declared.error.CommandError.TheVariants.{ModelLong, ModelRefused, LogLong, LogLine, ScheduleLong, ScheduleLine, Fault, Memory}
 
 -- the error of a command that was stopped
 abbrev pub stop_error : Stop → CommandError
@@ -28,6 +28,8 @@ error_status ModelLong = statuses.Model
 error_status (ModelRefused error) = statuses.Model
 error_status LogLong = statuses.Text
 error_status (LogLine number) = statuses.Text
+error_status ScheduleLong = statuses.Text
+error_status (ScheduleLine number) = statuses.Text
 error_status Fault = statuses.Fault
 error_status Memory = statuses.Memory
 
@@ -37,6 +39,8 @@ error_text ModelLong = codes "abt: model: too long\n"
 error_text (ModelRefused error) = model_error_text error
 error_text LogLong = codes "abt: log: too long\n"
 error_text (LogLine number) = codes "abt: log: line " ++ decimal number ++ codes "\n"
+error_text ScheduleLong = codes "abt: schedule: too long\n"
+error_text (ScheduleLine number) = codes "abt: schedule: line " ++ decimal number ++ codes "\n"
 error_text Fault = codes "abt: fault\n"
 error_text Memory = codes "abt: memory\n"
 
@@ -46,6 +50,8 @@ IsErrorOfModel model ModelLong = most_model < length model
 IsErrorOfModel model (ModelRefused error) = IsRefused model error
 IsErrorOfModel model LogLong = ⊥
 IsErrorOfModel model (LogLine number) = ⊥
+IsErrorOfModel model ScheduleLong = ⊥
+IsErrorOfModel model (ScheduleLine number) = ⊥
 IsErrorOfModel model Fault = ⊥
 IsErrorOfModel model Memory = ⊥
 
@@ -55,8 +61,21 @@ IsErrorOfLog log ModelLong = ⊥
 IsErrorOfLog log (ModelRefused error) = ⊥
 IsErrorOfLog log LogLong = most_log < length log
 IsErrorOfLog log (LogLine number) = IsBadAt log number
+IsErrorOfLog log ScheduleLong = ⊥
+IsErrorOfLog log (ScheduleLine number) = ⊥
 IsErrorOfLog log Fault = ⊥
 IsErrorOfLog log Memory = ⊥
+
+-- this error is why the schedule is refused
+abbrev pub IsErrorOfSchedule : List ℕ → CommandError → Type 0
+IsErrorOfSchedule schedule ModelLong = ⊥
+IsErrorOfSchedule schedule (ModelRefused error) = ⊥
+IsErrorOfSchedule schedule LogLong = ⊥
+IsErrorOfSchedule schedule (LogLine number) = ⊥
+IsErrorOfSchedule schedule ScheduleLong = most_schedule < length schedule
+IsErrorOfSchedule schedule (ScheduleLine number) = IsScheduleBadAt schedule number
+IsErrorOfSchedule schedule Fault = ⊥
+IsErrorOfSchedule schedule Memory = ⊥
 
 -- what a command came to: an answer with its status, refused input, or a stop
 abbrev pub way_of : Result Status CommandError → Way

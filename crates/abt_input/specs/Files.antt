@@ -9,8 +9,8 @@ use Rattle.abt_input.specs.declared.read.Unread.{Unread}
 use Rattle.abt_input.specs.declared.read.Unread.TheVariants as unread
 use Rattle.abt_input.specs.declared.error.CommandError.{CommandError}
 use Rattle.abt_input.specs.declared.error.CommandError.TheVariants.{Fault, Memory}
-use Rattle.abt_input.specs.Inputs.{IsModelOf, IsTextOf}
-use Rattle.abt_input.specs.Errors.{IsErrorOfModel, IsErrorOfLog}
+use Rattle.abt_input.specs.Inputs.{IsModelOf, IsTextOf, HasChoices}
+use Rattle.abt_input.specs.Errors.{IsErrorOfModel, IsErrorOfLog, IsErrorOfSchedule}
 
 -- this holds unless a file could not be read for a fault
 abbrev pub UnlessUnread : {T : Type 0} → Result T Unread → Type 0 → Type 0
@@ -57,3 +57,14 @@ IsLogReadOf log (Err error) = IsErrorOfLog log error
 -- the same of the bytes under the name
 abbrev pub IsLogRead : Option (List ℕ → Option (List ℕ)) → List ℕ → Result Derivation CommandError → Type 0
 IsLogRead files name result = (log : List ℕ) × IsHeld files name log × IsLogReadOf log result
+
+-- reading this schedule gives its choices, or exactly why it is none, faults and want of memory aside
+abbrev pub IsScheduleReadOf : List ℕ → Result (List ℕ) CommandError → Type 0
+IsScheduleReadOf schedule (Ok choices) = HasChoices schedule choices
+IsScheduleReadOf schedule (Err Fault) = ⊤
+IsScheduleReadOf schedule (Err Memory) = ⊤
+IsScheduleReadOf schedule (Err error) = IsErrorOfSchedule schedule error
+
+-- the same of the bytes under the name
+abbrev pub IsScheduleRead : Option (List ℕ → Option (List ℕ)) → List ℕ → Result (List ℕ) CommandError → Type 0
+IsScheduleRead files name result = (schedule : List ℕ) × IsHeld files name schedule × IsScheduleReadOf schedule result

@@ -1,8 +1,9 @@
--- What the bytes of a model or of a log are.
+-- What the bytes of a model, of a log or of a schedule are.
 use Rattle.std.specs.Prelude.{ℕ, ◌^◌, ◌≤◌, List, length, Ok, Err}
 use Rattle.dcsp_defs.specs.declared.Step.{Step}
 use Rattle.dcsp_problem.specs.Problems.{Contents}
 use Rattle.ngd_log.specs.Logs.{IsLogOf, IsFirstBad}
+use Rattle.abt_schedule.specs.Schedules as schedules
 use Rattle.fzn_model.specs.Models.{Answers}
 use Rattle.fzn_model.specs.declared.model.ModelError.{ModelError}
 
@@ -13,6 +14,10 @@ most_model = 16777216
 -- the most bytes of a log
 abbrev pub most_log : ℕ
 most_log = 2 ^ 62
+
+-- the most bytes of a schedule
+abbrev pub most_schedule : ℕ
+most_schedule = 67108864
 
 -- this is the problem of the model
 pub record IsModelOf (model : List ℕ) (problem : Contents) : Type 0 where
@@ -37,3 +42,13 @@ pub record IsTextOf (log : List ℕ) (steps : List Step) : Type 0 where
 pub record IsBadAt (log : List ℕ) (number : ℕ) : Type 0 where
   pub short : length log ≤ most_log
   pub line : IsFirstBad log number
+
+-- these are the choices of the schedule
+pub record HasChoices (schedule choices : List ℕ) : Type 0 where
+  pub short : length schedule ≤ most_schedule
+  pub reads : schedules.IsScheduleOf schedule choices
+
+-- the schedule is short enough, and this is its first bad line
+pub record IsScheduleBadAt (schedule : List ℕ) (number : ℕ) : Type 0 where
+  pub short : length schedule ≤ most_schedule
+  pub line : schedules.IsFirstBad schedule number

@@ -22,6 +22,10 @@ pub enum CommandError {
     LogLong,
     /// The text is no log, and this is its first bad line, counted from 1.
     LogLine { number: u64 },
+    /// The schedule has more than 67,108,864 bytes.
+    ScheduleLong,
+    /// The text is no schedule, and this is its first bad line, counted from 1.
+    ScheduleLine { number: u64 },
     /// The folder or a stream failed.
     Fault,
     /// Want of memory.
@@ -74,7 +78,10 @@ pub fn error_status(error: CommandError) -> Status
 {
     match error {
         CommandError::ModelLong | CommandError::ModelRefused { .. } => Status::Model,
-        CommandError::LogLong | CommandError::LogLine { .. } => Status::Text,
+        CommandError::LogLong
+        | CommandError::LogLine { .. }
+        | CommandError::ScheduleLong
+        | CommandError::ScheduleLine { .. } => Status::Text,
         CommandError::Fault => Status::Fault,
         CommandError::Memory => Status::Memory,
     }
@@ -89,6 +96,8 @@ pub fn error_reply(alloc: Global, error: CommandError) -> Result<Reply, AllocErr
         CommandError::ModelRefused { error } => model_error_reply(alloc, error),
         CommandError::LogLong => Ok(Reply::Fixed(b"abt: log: too long\n")),
         CommandError::LogLine { number } => numbered(alloc, b"abt: log: line ", number),
+        CommandError::ScheduleLong => Ok(Reply::Fixed(b"abt: schedule: too long\n")),
+        CommandError::ScheduleLine { number } => numbered(alloc, b"abt: schedule: line ", number),
         CommandError::Fault => Ok(Reply::Fixed(b"abt: fault\n")),
         CommandError::Memory => Ok(Reply::Fixed(b"abt: memory\n")),
     }

@@ -1,10 +1,11 @@
-//! Reading a model and a log.
+//! Reading a model, a log and a schedule.
 
 ghost use Rattle.std.specs.Prelude.{◌≡◌, Err};
 ghost use Rattle.dcsp_outside.specs.Outside.{Rose, SameCounts};
-ghost use Rattle.abt_input.specs.Files.{IsRead, IsModelRead, IsLogRead, UnlessUnread, UnlessFault};
+ghost use Rattle.abt_input.specs.Files.{IsRead, IsModelRead, IsLogRead, IsScheduleRead, UnlessUnread, UnlessFault};
 
 use crate::error::{CommandError, model_error};
+use abt_schedule::{Listed, ScheduleError, read_schedule};
 use dcsp_outside::{Fetched, Folder, FolderError};
 use dcsp_problem::Problem;
 use fzn_model::problem_of;
@@ -16,6 +17,9 @@ const MOST_MODEL: u64 = 16_777_216;
 
 /// The most bytes of a log.
 const MOST_LOG: u64 = 1 << 62;
+
+/// The most bytes of a schedule.
+const MOST_SCHEDULE: u64 = 67_108_864;
 
 /// Why there are no bytes.
 #[derive(Clone, Copy)]
@@ -92,6 +96,30 @@ pub fn read_derivation<F: Folder>(
             Err(LogError::Memory) => Err(CommandError::Memory),
         },
         Err(Unread::Long) => Err(CommandError::LogLong),
+        Err(Unread::Fault) => Err(CommandError::Fault),
+        Err(Unread::Memory) => Err(CommandError::Memory),
+    }
+}
+
+/// The choices of the schedule under the name. Nothing is written.
+pub fn read_choices<F: Folder>(
+    alloc: Global,
+    folder: &mut F,
+    name: &str,
+) -> Result<Listed, CommandError>
+    ensures read { IsScheduleRead (F.place folder.old).held name.now result }
+    ensures held { (F.place folder.new).held ≡ (F.place folder.old).held }
+    ensures created { (F.place folder.new).created ≡ (F.place folder.old).created }
+    ensures counts { UnlessFault result (SameCounts (F.place folder.old) (F.place folder.new)) }
+    ensures fault { result ≡ Err CommandError.Fault → Rose ((F.place folder.old).reads name.now) ((F.place folder.new).reads name.now) }
+{
+    match read_file(alloc, folder, name, MOST_SCHEDULE) {
+        Ok(text) => match read_schedule(alloc, &text) {
+            Ok(choices) => Ok(choices),
+            Err(ScheduleError::Line { number }) => Err(CommandError::ScheduleLine { number }),
+            Err(ScheduleError::Memory) => Err(CommandError::Memory),
+        },
+        Err(Unread::Long) => Err(CommandError::ScheduleLong),
         Err(Unread::Fault) => Err(CommandError::Fault),
         Err(Unread::Memory) => Err(CommandError::Memory),
     }

@@ -10,6 +10,7 @@ use Rattle.abt_defs.specs.Network as machine
 use Rattle.abt_defs.specs.Network.{run, start, deliver, ready, is_empty, refutes}
 use Rattle.abt_defs.specs.Runs as runs
 use Rattle.ngd_log.specs.StepText.{IsInRange}
+use Rattle.dcsp_problem.specs.declared.aim.Aim.TheVariants.{Satisfy}
 use Rattle.dcsp_problem.specs.Problems.{Contents, csp_of}
 use Rattle.abt_message.specs.Messages.{message_of}
 use Rattle.abt_agent.specs.States.{State, stands_for}
@@ -39,7 +40,7 @@ messages_on t k i = map message_of (link_of t k i)
 
 -- what stands past the last agent
 abbrev pub no_state : State
-no_state = record { problem = record { domains = []; rules = []; outputs = [] }; me = 0; value = None; stamp = 0; waits = false; view = []; store = []; tells = []; linked = []; spent = false }
+no_state = record { problem = record { domains = []; rules = []; outputs = []; aim = Satisfy }; me = 0; value = None; stamp = 0; waits = false; view = []; store = []; tells = []; linked = []; spent = false }
 
 -- agent number i
 abbrev pub state_at : List State → ℕ → State

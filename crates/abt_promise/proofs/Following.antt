@@ -187,7 +187,8 @@ module _ (promise : Promise) (lawful : IsLawful promise) (a b : World) where
       answers_part : (status : Status) → Answers promise a b err now status → DidPartOf r.script a b
       answers_part status k = subst (λ y. DidPartOf y.script a b) (same_report status k) (did_part k.report.script a b k.did)
 
-      report_part : (status : Status) → Ran promise a b err now status → DidPartOf r.script a b
+      -- whatever the status, a part of its script was made
+      pub report_part : (status : Status) → Ran promise a b err now status → DidPartOf r.script a b
       report_part Good h = answers_part Good h
       report_part No h = answers_part No h
       report_part Words h = absurd h
@@ -196,6 +197,13 @@ module _ (promise : Promise) (lawful : IsLawful promise) (a b : World) where
       report_part Unfinished h = answers_part Unfinished h
       report_part Fault h = report_failed h.inputs r (on_inputs h.inputs h.are_held) h.failed
       report_part Memory h = report_lacked h.inputs r (on_inputs h.inputs h.are_held) h.lacked
+
+      -- with a final status, which is its own, its whole script
+      pub report_did : (status : Status) → Ran promise a b err now status → IsFinal status → (status ≡ r.status) × Did r.script a b
+      report_did status h f =
+          let k = ran_answers status h f in
+          let same = same_report status k in
+          (k.status_is ∙ ap (λ y. y.status) same, subst (λ y. Did y.script a b) same k.did)
 
       answers_status : (status : Status) → Answers promise a b err now status → (status ≡ r.status) ⊎ (status ≡ Memory)
       answers_status status k = inl (k.status_is ∙ ap (λ y. y.status) (same_report status k))

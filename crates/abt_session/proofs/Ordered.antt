@@ -35,7 +35,7 @@ only_appends-append : (log : List ℕ) (s t : List Write) → OnlyAppends s log 
 only_appends-append log [] t h k = k
 only_appends-append log (w ∷ s) t h k = (h.0, only_appends-append log s t h.1 k)
 
-leaves-append : (name : List ℕ) (s t : List Write) → LeavesAlone s name → LeavesAlone t name → LeavesAlone (s ++ t) name
+pub leaves-append : (name : List ℕ) (s t : List Write) → LeavesAlone s name → LeavesAlone t name → LeavesAlone (s ++ t) name
 leaves-append name [] t h k = k
 leaves-append name (w ∷ s) t h k = (h.0, leaves-append name s t h.1 k)
 
@@ -274,7 +274,7 @@ module _ (s : Session) where
       let none : (run_of s).net.deliveries - (run_of s).net.deliveries ≡ 0 = omega arith in
       cut (run_of s).net.deliveries all ∙ ap (λ m. (Create s.log ∷ front (run_of s).net.deliveries) ++ (flat_map (delivery_writes s) (range_with_len (run_of s).net.deliveries m) ++ Append s.log (codes "end\n") ∷ [])) none
 
-  whole_puts : put_by (run_script s) ≡ trace_text s
+  pub whole_puts : put_by (run_script s) ≡ trace_text s
   whole_puts =
       let d = (run_of s).net.deliveries in
       let all : (run_of s).net.deliveries ≤ (run_of s).net.deliveries = omega arith in
@@ -291,7 +291,7 @@ module _ (s : Session) where
   later_only : (n : ℕ) → OnlyAppends (later_writes n) s.log
   later_only n = only_appends-append s.log (flat_map (delivery_writes s) (range_with_len n ((run_of s).net.deliveries - n))) (Append s.log (codes "end\n") ∷ []) (range_only n ((run_of s).net.deliveries - n)) (tt, tt)
 
-  whole_leaves : (name : List ℕ) → (s.log ≡ name → ⊥) → LeavesAlone (run_script s) name
+  pub whole_leaves : (name : List ℕ) → (s.log ≡ name → ⊥) → LeavesAlone (run_script s) name
   whole_leaves name other =
       let d = (run_of s).net.deliveries in (
         other,
@@ -305,6 +305,22 @@ module _ (s : Session) where
   -- the log after its creation
   log_after : (w : List Write) (file : Option (List ℕ)) → OnlyAppends w s.log → file_after (Create s.log ∷ w) s.log file ≡ Some (appended_by w s.log)
   log_after w file k = rw ((bytes_decides s.log s.log).1 refl) (appends_to w s.log [] k)
+
+  -- and a first log is a first part of the whole log
+  pub log_begins : (n : ℕ) → n ≤ (run_of s).net.deliveries → IsPrefixOf (log_of_first s n) (log_text (run_of s).net.steps)
+  log_begins n l = (
+    appended_by (later_writes n) s.log,
+    ap (λ t. t ++ appended_by (later_writes n) s.log) (sym (front_appends n l)) ∙ sym (appended_by-append (Create s.log ∷ front n) (later_writes n) s.log)
+        ∙ ap (λ w. appended_by w s.log) (sym (cut n l)) ∙ ap (λ w. appended_by w s.log) whole_is ∙ whole_appends,
+  )
+
+  -- the log after the whole script
+  pub log_whole : (file : Option (List ℕ)) → file_after (run_script s) s.log file ≡ Some (log_text (run_of s).net.steps)
+  log_whole file =
+      let d = (run_of s).net.deliveries in
+      let last : List Write = Append s.log (codes "end\n") ∷ [] in
+      let only : OnlyAppends (front d ++ last) s.log = only_appends-append s.log (front d) last (front_only d) (tt, tt) in
+      ap (λ w. file_after w s.log file) whole_is ∙ log_after (front d ++ last) file only ∙ ap Some whole_appends
 
   -- where a trace is asked for, the front with one delivery more is a script and then the line of that delivery
   front_line : (k : ℕ) (m : Made k) → s.trace ≡ true → Create s.log ∷ front (k + 1) ≡ ((Create s.log ∷ front k) ++ map (Append s.log) (fresh_lines k)) ++ Put (trace_line (k + 1) m.told) ∷ []
@@ -320,7 +336,7 @@ module _ (s : Session) where
     trace_part = subst (λ t. IsPrefixOf (put_by part) t) whole_puts (put_of_part part (run_script s) is_part)
 
     -- a first trace is a first part of the whole trace
-    first_begins : (n : ℕ) → n ≤ (run_of s).net.deliveries → IsPrefixOf (trace_of_first s n) (trace_text s)
+    pub first_begins : (n : ℕ) → n ≤ (run_of s).net.deliveries → IsPrefixOf (trace_of_first s n) (trace_text s)
     first_begins n l = (put_by (later_writes n), ap (λ t. t ++ put_by (later_writes n)) (sym (front_puts n l)) ∙ sym (put_by-append (front n) (later_writes n)) ∙ ap put_by (sym (cut n l)) ∙ whole_puts)
 
     -- what was put is shorter than a first trace that it does not begin with
@@ -377,10 +393,10 @@ module _ (s : Session) where
           let r = line_was_put traced k below (subst (λ n. IsPrefixOf (trace_of_first s n) (put_by part)) e h.whole) in
           (r.0, subst (λ n. IsPrefixOf (log_of_first s n) r.0) (sym e) r.1, r.2)
 
-      keeps_up : KeepsUp s (put_by part) (Contains (created_by part) s.log) files now
+      pub keeps_up : KeepsUp s (put_by part) (Contains (created_by part) s.log) files now
       keeps_up = record { log_part = log_part; others = others; not_ahead = not_ahead; not_behind = not_behind }
 
-  told_so : {A : Type 0} (x y : Option A) (P Q : A → A → Type 0) → ((a b : A) → P a b → Q a b) → Told x y P → Told x y Q
+  pub told_so : {A : Type 0} (x y : Option A) (P Q : A → A → Type 0) → ((a b : A) → P a b → Q a b) → Told x y P → Told x y Q
   told_so (Some a) (Some b) P Q f h = f a b h
   told_so (Some a) None P Q f h = h
   told_so None (Some b) P Q f h = h

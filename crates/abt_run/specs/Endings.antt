@@ -1,0 +1,46 @@
+-- What is printed of a run when it has ended, and its status.
+use Rattle.std.specs.Prelude.{ℕ, ℤ, pos, List, [], ◌++◌, Option, Some, None, length, map, slice_index_or, codes, decimal}
+use Rattle.dcsp_defs.specs.Words.{below}
+use Rattle.dcsp_defs.specs.Csp.{Assignment, count}
+use Rattle.dcsp_problem.specs.Problems.{Contents, csp_of}
+use Rattle.abt_defs.specs.Network.{values}
+use Rattle.abt_defs.specs.Runs.{Run, End, Refuted, Solved, Capped, Spent}
+use Rattle.abt_answer.specs.Solutions.{solution_text}
+use Rattle.abt_promise.specs.declared.status.Status.{Status}
+use Rattle.abt_promise.specs.declared.status.Status.TheVariants.{Good, No, Unfinished}
+
+-- the values of a list, the first variable's first
+abbrev pub assigned : List ℤ → Assignment
+assigned list var = slice_index_or list var (pos 0)
+
+-- the values of all variables at the end of a run
+abbrev pub final_values : Contents → Run → List ℤ
+final_values p run = map (values run.net) (below (count (csp_of p)))
+
+-- the lines of an end with these values
+abbrev pub verdict_text : Contents → List ℤ → End → List ℕ
+verdict_text p list Solved = solution_text p (assigned list)
+verdict_text p list Refuted = codes "=====UNSATISFIABLE=====\n"
+verdict_text p list Capped = codes "=====UNKNOWN=====\n"
+verdict_text p list Spent = codes "=====UNKNOWN=====\n"
+
+-- the lines that tell how many deliveries and steps were made
+abbrev pub counts_text : ℕ → ℕ → List ℕ
+counts_text deliveries steps =
+    codes "% deliveries " ++ decimal deliveries ++ codes "\n% steps " ++ decimal steps ++ codes "\n"
+
+-- the line that tells how many choices are left, where that is told
+abbrev pub unused_text : Option ℕ → List ℕ
+unused_text None = []
+unused_text (Some choices) = codes "% unused " ++ decimal choices ++ codes "\n"
+
+-- the lines of a run that has ended
+abbrev pub ending_text : Contents → Run → List ℕ
+ending_text p run = verdict_text p (final_values p run) run.end ++ counts_text run.net.deliveries (length run.net.steps)
+
+-- the status of an end
+abbrev pub end_status : End → Status
+end_status Solved = Good
+end_status Refuted = No
+end_status Capped = Unfinished
+end_status Spent = Unfinished

@@ -1,0 +1,16 @@
+//! The lines that run the agents of a problem: `replay` under recorded choices, and `solve` under those
+//! of a seed.
+//!
+//! A run writes its log, and its trace where one is asked for, as it goes on; then the record is written,
+//! and how the run ended is put last. So whatever answer was seen has its log.
+#![tactic(auto)]
+
+mod ending;
+mod laws;
+mod record;
+mod replay;
+mod solve;
+
+pub use laws::records_replay;
+pub use replay::{Replay, run_replay};
+pub use solve::{Solve, run_solve};
