@@ -1,0 +1,19 @@
+-- What the lines promise that print a generated model.
+use Rattle.std.specs.Prelude.{ℕ, List, [], ◌∷◌}
+use Rattle.dcsp_script.specs.Scripts.{Put}
+use Rattle.abt_promise.specs.declared.status.Status.TheVariants.{Good}
+use Rattle.abt_promise.specs.Promises.{Promise, plain, answered}
+use Rattle.abt_schedule.specs.Answers.{generator_of, word_at}
+use Rattle.dcsp_gen.specs.Problems.{queens_text, colouring_text}
+
+-- a line that puts one text on `out`
+abbrev pub print_promise : List ℕ → Promise
+print_promise text = plain (answered Good (Put text ∷ []))
+
+-- `gen queens N`
+abbrev pub queens_promise : ℕ → Promise
+queens_promise n = print_promise (queens_text n)
+
+-- `gen colouring N K SEED`
+abbrev pub colouring_promise : ℕ → ℕ → ℕ → Promise
+colouring_promise n k seed = print_promise (colouring_text n k (word_at (generator_of seed)))

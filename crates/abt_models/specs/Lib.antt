@@ -1,0 +1,2 @@
+pub mod BoundReports
+pub mod Generated
