@@ -9,12 +9,11 @@ use Rattle.ngd_check.specs.declared.Finding.{Finding}
 use Rattle.ngd_check.specs.declared.Finding.TheVariants.{Verified, BadStep, NotEmpty}
 use Rattle.ngd_check.specs.Findings.{IsFinding}
 use Rattle.ngd_check.proofs.Once.{one_finding}
-use Rattle.abt_promise.specs.declared.status.Status.TheVariants.{Good}
 use Rattle.abt_promise.specs.Statuses.{IsFinal, IsRefusal}
-use Rattle.abt_promise.specs.Promises.{Report, plain, answered, refused}
+use Rattle.abt_promise.specs.Promises.{Report, answered, refused}
 use Rattle.abt_promise.specs.Clauses.{IsLawful}
 use Rattle.abt_input.specs.declared.error.CommandError.{CommandError}
-use Rattle.abt_input.specs.declared.error.CommandError.TheVariants.{ModelLong, ModelRefused, LogLong, LogLine, Fault, Memory}
+use Rattle.abt_input.specs.declared.error.CommandError.TheVariants.{ModelLong, ModelRefused, LogLong, LogLine, ScheduleLong, ScheduleLine, Fault, Memory}
 use Rattle.abt_input.specs.Errors.{IsErrorOfModel, IsErrorOfLog, error_status, error_text}
 use Rattle.abt_input.proofs.Once.{one_problem, one_text, no_error_of_model, no_error_of_log, one_error_of_model, one_error_of_log}
 use Rattle.abt_command.specs.Checks.{IsFound, finding_status, finding_text}
@@ -33,16 +32,6 @@ put_alone text names s e w c name t = at (subst (λ l. Contains l w) e c)
 
 none_alone : (names : List (List ℕ)) (s : List Write) → s ≡ [] → (w : Write) → Contains s w → (name : List ℕ) → Touches w name → Contains names name
 none_alone names s e w c name t = absurd (never (subst (λ l. Contains l w) e c))
-
--- a line that puts one text
-pub plain_lawful : (text : List ℕ) → IsLawful (plain (answered Good (Put text ∷ [])))
-plain_lawful text = record {
-  one = λ inputs r s h k. h ∙ sym k;
-  final = λ inputs r h. subst (λ y. IsFinal y.status) (sym h) tt;
-  quiet = λ inputs r h bad. absurd (subst (λ y. IsRefusal y.status) h bad);
-  names = λ inputs r h. put_alone text [] r.script (ap (λ y. y.script) h);
-  reads = λ before name h. absurd h;
-}
 
 one_found : (model log : List ℕ) (f g : Finding) → IsFound model log f → IsFound model log g → f ≡ g
 one_found model log f g h k =
@@ -79,6 +68,8 @@ final_error ModelLong model h = tt
 final_error (ModelRefused error) model h = tt
 final_error LogLong model h = tt
 final_error (LogLine number) model h = tt
+final_error ScheduleLong model h = tt
+final_error (ScheduleLine number) model h = tt
 final_error Fault model h = h
 final_error Memory model h = h
 
@@ -87,6 +78,8 @@ final_log_error ModelLong log h = tt
 final_log_error (ModelRefused error) log h = tt
 final_log_error LogLong log h = tt
 final_log_error (LogLine number) log h = tt
+final_log_error ScheduleLong log h = tt
+final_log_error (ScheduleLine number) log h = tt
 final_log_error Fault log h = h
 final_log_error Memory log h = h
 

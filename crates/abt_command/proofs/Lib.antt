@@ -1,5 +1,5 @@
-pub mod Threes
 pub mod Checks
-pub mod Printing
-pub mod Lawful
+pub mod FewWords
 pub mod Lines
+pub mod Lawful
+pub mod Runs

@@ -1,44 +1,242 @@
 -- Lines of words, and how they end.
-use Rattle.std.proofs.Common.{◌≡◌, ℕ, List, [], ◌∷◌, length, get_or, Result, Ok, Err, refl, sym, ap, ◌∙◌, arith, codes}
+use Rattle.std.proofs.Common.{◌≡◌, ℕ, ◌<◌, ◌≤◌, ◌^◌, suc, Bool, true, false, cond, List, [], ◌∷◌, length, get_or, drop, Option, Some, None, Result, Ok, Err, refl, sym, ap, subst, ◌∙◌, arith, codes, decimal}
+use Rattle.std.specs.Prelude.{nat_lt, unwrap_or, option_to_list, IfOk, IsTrue, ◌↔◌}
+use Rattle.std.specs.Str.{bytes_eq}
+use Rattle.std.specs.Str.Parse.{AllDigits, digits_value}
+use Rattle.std.proofs.lemmas.Fmt.{decimal_injective, digits_value-decimal}
+use Rattle.std.proofs.lemmas.Str.Parse.{numerals_by_value, tells_digits}
 use Rattle.dcsp_outside.specs.Outside.{Stream}
 use Rattle.abt_promise.specs.declared.status.Status.{Status}
 use Rattle.abt_promise.specs.declared.status.Status.TheVariants.{Good}
+use Rattle.abt_promise.specs.Statuses.{IsFinal, IsRefusal}
 use Rattle.abt_promise.specs.Promises.{IsSaid}
 use Rattle.abt_promise.specs.Runs.{Concludes}
 use Rattle.abt_promise.specs.Clauses.{IsLawful}
 use Rattle.abt_input.specs.declared.error.CommandError.{CommandError}
-use Rattle.abt_input.specs.declared.error.CommandError.TheVariants.{ModelLong, ModelRefused, LogLong, LogLine, Fault, Memory}
+use Rattle.abt_input.specs.declared.error.CommandError.TheVariants.{ModelLong, ModelRefused, LogLong, LogLine, ScheduleLong, ScheduleLine, Fault, Memory}
 use Rattle.abt_input.specs.Errors.{error_status, error_text, way_of}
-use Rattle.abt_command.specs.Lines.{Line, Help, Version, Check, IsLine}
+use Rattle.abt_models.proofs.Lawful.{bound_lawful, print_lawful}
+use Rattle.abt_run.proofs.Lawful.{replay_lawful, solve_lawful}
+use Rattle.abt_command.specs.Lines.{AreFileNames, Settings, no_settings, Sets, nothing, seeds, records, traces, trace_words, Line, Help, Version, Check, Replay, Solve, Bound, Queens, Colouring, IsFileName, IsWithin, IsSolve, IsLine, IsNoLine}
 use Rattle.abt_command.specs.LinePromises.{promise_of}
-use Rattle.abt_command.proofs.Lawful.{plain_lawful, check_lawful}
+use Rattle.abt_command.proofs.Lawful.{check_lawful}
 
--- the first of two words
-first_length : (words a b : List (List ℕ)) → words ≡ a → words ≡ b → length (get_or a 0 []) ≡ length (get_or b 0 [])
-first_length words a b h k = ap (λ ws. length (get_or ws 0 [])) (sym h ∙ k)
+-- ---- words read back
 
-counts : (words a b : List (List ℕ)) → words ≡ a → words ≡ b → length a ≡ length b
-counts words a b h k = ap length (sym h ∙ k)
+-- the number that the digits write
+abbrev pub number : List ℕ → ℕ
+number digits = digits_value 10 digits
+
+number_back : (n : ℕ) → n < 2 ^ 64 → number (decimal n) ≡ n
+number_back n l = digits_value-decimal (numerals_by_value (AllDigits 10) tells_digits) n l
+
+abbrev pub generated : List ℕ → ℕ → ℕ → ℕ → Line
+generated kind n k seed = cond (bytes_eq kind (codes "queens")) (Queens n) (Colouring n k seed)
+
+-- the line that the words can be, where the options of `solve` set these
+abbrev pub the_line : List (List ℕ) → Settings → Line
+the_line words s =
+    let word = get_or words 0 [] in
+    cond (bytes_eq word (codes "--help")) Help
+    (cond (bytes_eq word (codes "--version")) Version
+    (cond (bytes_eq word (codes "check")) (Check (get_or words 1 []) (get_or words 2 []))
+    (cond (bytes_eq word (codes "replay")) (Replay (get_or words 1 []) (get_or words 2 []) (get_or words 3 []) (nat_lt 4 (length words)))
+    (cond (bytes_eq word (codes "bound")) (Bound (get_or words 1 []))
+    (cond (bytes_eq word (codes "gen")) (generated (get_or words 1 []) (number (get_or words 2 [])) (number (get_or words 3 [])) (number (get_or words 4 [])))
+    (Solve (get_or words 1 []) (get_or words 2 []) (unwrap_or s.seed 0) s.kept s.trace))))))
+
+module _ (words : List (List ℕ)) (s : Settings) where
+  help_back : IsLine words Help → the_line words s ≡ Help
+  help_back h = rw h refl
+
+  version_back : IsLine words Version → the_line words s ≡ Version
+  version_back h = rw h refl
+
+  check_back : (model log : List ℕ) → IsLine words (Check model log) → the_line words s ≡ Check model log
+  check_back model log h = rw h.0 refl
+
+  replay_back : (model schedule log : List ℕ) (trace : Bool) → IsLine words (Replay model schedule log trace) → the_line words s ≡ Replay model schedule log trace
+  replay_back model schedule log false h = rw h.0 refl
+  replay_back model schedule log true h = rw h.0 refl
+
+  bound_back : (model : List ℕ) → IsLine words (Bound model) → the_line words s ≡ Bound model
+  bound_back model h = rw h.0 refl
+
+  queens_back : (n : ℕ) → IsLine words (Queens n) → the_line words s ≡ Queens n
+  queens_back n h = rw h.0 (ap Queens (number_back n (let l = h.1.1 in omega (arith, l))))
+
+  colouring_back : (n k seed : ℕ) → IsLine words (Colouring n k seed) → the_line words s ≡ Colouring n k seed
+  colouring_back n k seed h =
+      let a = number_back n (let l = h.1.1 in omega (arith, l)) in
+      let b = number_back k (let l = h.2.1 in omega (arith, l)) in
+      let c = number_back seed h.3 in
+      rw h.0 (ap (λ x. Colouring x (number (decimal k)) (number (decimal seed))) a ∙ ap (λ x. Colouring n x (number (decimal seed))) b ∙ ap (Colouring n k) c)
+
+solve_back : (words : List (List ℕ)) (model log : List ℕ) (seed : ℕ) (kept : Option (List ℕ)) (trace : Bool) → (h : IsSolve words model log seed kept trace) → the_line words h.settings ≡ Solve model log seed kept trace
+solve_back words model log seed kept trace h = rw (h.words_are, h.seed_is, h.kept_is, h.trace_is) refl
+
+back : (words : List (List ℕ)) (l : Line) → IsLine words l → (s : Settings) × (the_line words s ≡ l)
+back words Help h = (no_settings, help_back words no_settings h)
+back words Version h = (no_settings, version_back words no_settings h)
+back words (Check model log) h = (no_settings, check_back words no_settings model log h)
+back words (Replay model schedule log trace) h = (no_settings, replay_back words no_settings model schedule log trace h)
+back words (Bound model) h = (no_settings, bound_back words no_settings model h)
+back words (Queens n) h = (no_settings, queens_back words no_settings n h)
+back words (Colouring n k seed) h = (no_settings, colouring_back words no_settings n k seed h)
+back words (Solve model log seed kept trace) h = (h.settings, solve_back words model log seed kept trace h)
+
+-- a line of the words is the one that they can be
+pub as_read : (words : List (List ℕ)) (l : Line) → IsLine words l → (s : Settings) × IsLine words (the_line words s)
+as_read words l h = let b = back words l h in (b.0, subst (IsLine words) (sym b.1) h)
+
+-- options are set in one way
+first_long : (words a b : List (List ℕ)) → words ≡ a → words ≡ b → length (get_or a 0 []) ≡ length (get_or b 0 [])
+first_long words a b h k = ap (λ ws. length (get_or ws 0 [])) (sym h ∙ k)
+
+as_long : (words a b : List (List ℕ)) → words ≡ a → words ≡ b → length a ≡ length b
+as_long words a b h k = ap length (sym h ∙ k)
+
+pub sets_once : (words : List (List ℕ)) (before a b : Settings) → Sets words before a → Sets words before b → a ≡ b
+sets_once words before a b (nothing e i) (nothing f j) = i ∙ sym j
+sets_once words before a b (nothing e i) (seeds n more f l s h) = absurd (omega (arith, as_long words [] (codes "--seed" ∷ decimal n ∷ more) e f))
+sets_once words before a b (nothing e i) (records n more f s h) = absurd (omega (arith, as_long words [] (codes "--record" ∷ n ∷ more) e f))
+sets_once words before a b (nothing e i) (traces more f s h) = absurd (omega (arith, as_long words [] (codes "--trace" ∷ more) e f))
+sets_once words before a b (seeds n more e l s h) (nothing f j) = absurd (omega (arith, as_long words [] (codes "--seed" ∷ decimal n ∷ more) f e))
+sets_once words before a b (seeds n more e l s h) (seeds m others f k t g) =
+    let d = decimal_injective n m l k (ap (λ ws. get_or ws 1 []) (sym e ∙ f)) in
+    let r : more ≡ others = ap (drop 2) (sym e ∙ f) in
+    sets_once others (record before { seed = Some m }) a b (subst (λ x. Sets others (record before { seed = Some x }) a) d (subst (λ ws. Sets ws (record before { seed = Some n }) a) r h)) g
+sets_once words before a b (seeds n more e l s h) (records m others f t g) = absurd (omega (arith, first_long words (codes "--seed" ∷ decimal n ∷ more) (codes "--record" ∷ m ∷ others) e f))
+sets_once words before a b (seeds n more e l s h) (traces others f t g) = absurd (omega (arith, first_long words (codes "--seed" ∷ decimal n ∷ more) (codes "--trace" ∷ others) e f))
+sets_once words before a b (records n more e s h) (nothing f j) = absurd (omega (arith, as_long words [] (codes "--record" ∷ n ∷ more) f e))
+sets_once words before a b (records n more e s h) (seeds m others f k t g) = absurd (omega (arith, first_long words (codes "--record" ∷ n ∷ more) (codes "--seed" ∷ decimal m ∷ others) e f))
+sets_once words before a b (records n more e s h) (records m others f t g) =
+    let d : n ≡ m = ap (λ ws. get_or ws 1 []) (sym e ∙ f) in
+    let r : more ≡ others = ap (drop 2) (sym e ∙ f) in
+    sets_once others (record before { kept = Some m }) a b (subst (λ x. Sets others (record before { kept = Some x }) a) d (subst (λ ws. Sets ws (record before { kept = Some n }) a) r h)) g
+sets_once words before a b (records n more e s h) (traces others f t g) = absurd (omega (arith, first_long words (codes "--record" ∷ n ∷ more) (codes "--trace" ∷ others) e f))
+sets_once words before a b (traces more e s h) (nothing f j) = absurd (omega (arith, as_long words [] (codes "--trace" ∷ more) f e))
+sets_once words before a b (traces more e s h) (seeds m others f k t g) = absurd (omega (arith, first_long words (codes "--trace" ∷ more) (codes "--seed" ∷ decimal m ∷ others) e f))
+sets_once words before a b (traces more e s h) (records m others f t g) = absurd (omega (arith, first_long words (codes "--trace" ∷ more) (codes "--record" ∷ m ∷ others) e f))
+sets_once words before a b (traces more e s h) (traces others f t g) =
+    let r : more ≡ others = ap (drop 1) (sym e ∙ f) in
+    sets_once others (record before { trace = true }) a b (subst (λ ws. Sets ws (record before { trace = true }) a) r h) g
+
+-- what a seed at the front of the words sets
+pub seeds_only : (words : List (List ℕ)) (n : ℕ) (more : List (List ℕ)) (before after : Settings) → words ≡ codes "--seed" ∷ decimal n ∷ more → n < 2 ^ 64 → Sets words before after → Sets more (record before { seed = Some n }) after
+seeds_only words n more before after e l (nothing f i) = absurd (omega (arith, as_long words [] (codes "--seed" ∷ decimal n ∷ more) f e))
+seeds_only words n more before after e l (seeds m others f k t h) =
+    let d = decimal_injective m n k l (ap (λ ws. get_or ws 1 []) (sym f ∙ e)) in
+    let r : others ≡ more = ap (drop 2) (sym f ∙ e) in
+    subst (λ x. Sets more (record before { seed = Some x }) after) d (subst (λ ws. Sets ws (record before { seed = Some m }) after) r h)
+seeds_only words n more before after e l (records m others f t h) = absurd (omega (arith, first_long words (codes "--seed" ∷ decimal n ∷ more) (codes "--record" ∷ m ∷ others) e f))
+seeds_only words n more before after e l (traces others f t h) = absurd (omega (arith, first_long words (codes "--seed" ∷ decimal n ∷ more) (codes "--trace" ∷ others) e f))
+
+same_settings : (words : List (List ℕ)) (model log other_model other_log : List ℕ) (seed other_seed : ℕ) (kept other_kept : Option (List ℕ)) (trace other_trace : Bool)
+    → (h : IsSolve words model log seed kept trace) (g : IsSolve words other_model other_log other_seed other_kept other_trace) → h.settings ≡ g.settings
+same_settings words model log other_model other_log seed other_seed kept other_kept trace other_trace h g =
+    let r : h.options ≡ g.options = ap (drop 3) (sym h.words_are ∙ g.words_are) in
+    sets_once g.options no_settings h.settings g.settings (subst (λ ws. Sets ws no_settings h.settings) r h.sets) g.sets
 
 -- a list of words is at most one line
 pub one_line : (words : List (List ℕ)) (k l : Line) → IsLine words k → IsLine words l → k ≡ l
-one_line words Help Help h k = refl
-one_line words Version Version h k = refl
-one_line words Help Version h k = absurd (omega (arith, first_length words (codes "--help" ∷ []) (codes "--version" ∷ []) h k))
-one_line words Version Help h k = absurd (omega (arith, first_length words (codes "--version" ∷ []) (codes "--help" ∷ []) h k))
-one_line words Help (Check m l) h k = absurd (omega (arith, counts words (codes "--help" ∷ []) (codes "check" ∷ m ∷ l ∷ []) h k.0))
-one_line words Version (Check m l) h k = absurd (omega (arith, counts words (codes "--version" ∷ []) (codes "check" ∷ m ∷ l ∷ []) h k.0))
-one_line words (Check m l) Help h k = absurd (omega (arith, counts words (codes "check" ∷ m ∷ l ∷ []) (codes "--help" ∷ []) h.0 k))
-one_line words (Check m l) Version h k = absurd (omega (arith, counts words (codes "check" ∷ m ∷ l ∷ []) (codes "--version" ∷ []) h.0 k))
-one_line words (Check m l) (Check n o) h k =
-    let e = sym h.0 ∙ k.0 in
-    ap (λ x. Check x l) (ap (λ ws. get_or ws 1 []) e) ∙ ap (λ x. Check n x) (ap (λ ws. get_or ws 2 []) e)
+one_line words Help l h g = let b = back words l g in sym (help_back words b.0 h) ∙ b.1
+one_line words Version l h g = let b = back words l g in sym (version_back words b.0 h) ∙ b.1
+one_line words (Check m o) l h g = let b = back words l g in sym (check_back words b.0 m o h) ∙ b.1
+one_line words (Replay m c o t) l h g = let b = back words l g in sym (replay_back words b.0 m c o t h) ∙ b.1
+one_line words (Bound m) l h g = let b = back words l g in sym (bound_back words b.0 m h) ∙ b.1
+one_line words (Queens n) l h g = let b = back words l g in sym (queens_back words b.0 n h) ∙ b.1
+one_line words (Colouring n k c) l h g = let b = back words l g in sym (colouring_back words b.0 n k c h) ∙ b.1
+one_line words (Solve m o n r t) Help h g = sym (solve_back words m o n r t h) ∙ help_back words h.settings g
+one_line words (Solve m o n r t) Version h g = sym (solve_back words m o n r t h) ∙ version_back words h.settings g
+one_line words (Solve m o n r t) (Check a b) h g = sym (solve_back words m o n r t h) ∙ check_back words h.settings a b g
+one_line words (Solve m o n r t) (Replay a b c d) h g = sym (solve_back words m o n r t h) ∙ replay_back words h.settings a b c d g
+one_line words (Solve m o n r t) (Bound a) h g = sym (solve_back words m o n r t h) ∙ bound_back words h.settings a g
+one_line words (Solve m o n r t) (Queens a) h g = sym (solve_back words m o n r t h) ∙ queens_back words h.settings a g
+one_line words (Solve m o n r t) (Colouring a b c) h g = sym (solve_back words m o n r t h) ∙ colouring_back words h.settings a b c g
+one_line words (Solve m o n r t) (Solve a b c d e) h g = sym (solve_back words m o n r t h) ∙ ap (the_line words) (same_settings words m o a b n c r d t e h g) ∙ solve_back words a b c d e g
+
+-- ---- words that are no line
+
+pub no_plain : (word : List ℕ) → (word ≡ codes "--help" → ⊥) → (word ≡ codes "--version" → ⊥) → IsNoLine (word ∷ [])
+no_plain word help version Help h = help (ap (λ ws. get_or ws 0 []) h)
+no_plain word help version Version h = version (ap (λ ws. get_or ws 0 []) h)
+no_plain word help version (Check m o) h = omega (arith, ap length h.0)
+no_plain word help version (Replay m c o t) h = omega (arith, ap length h.0)
+no_plain word help version (Solve m o n r t) h = omega (arith, ap length h.words_are)
+no_plain word help version (Bound m) h = omega (arith, ap length h.0)
+no_plain word help version (Queens n) h = omega (arith, ap length h.0)
+no_plain word help version (Colouring n k s) h = omega (arith, ap length h.0)
+
+-- the first word begins no line
+pub record NoKeyword (word : List ℕ) : Type 0 where
+  pub check : word ≡ codes "check" → ⊥
+  pub replays : word ≡ codes "replay" → ⊥
+  pub solves : word ≡ codes "solve" → ⊥
+  pub bounds : word ≡ codes "bound" → ⊥
+  pub gens : word ≡ codes "gen" → ⊥
+
+pub no_keyword : (words : List (List ℕ)) → (length words ≡ 1 → ⊥) → NoKeyword (get_or words 0 []) → IsNoLine words
+no_keyword words one none Help h = one (ap length h)
+no_keyword words one none Version h = one (ap length h)
+no_keyword words one none (Check m o) h = none.check (ap (λ ws. get_or ws 0 []) h.0)
+no_keyword words one none (Replay m c o t) h = none.replays (ap (λ ws. get_or ws 0 []) h.0)
+no_keyword words one none (Solve m o n r t) h = none.solves (ap (λ ws. get_or ws 0 []) h.words_are)
+no_keyword words one none (Bound m) h = none.bounds (ap (λ ws. get_or ws 0 []) h.0)
+no_keyword words one none (Queens n) h = none.gens (ap (λ ws. get_or ws 0 []) h.0)
+no_keyword words one none (Colouring n k s) h = none.gens (ap (λ ws. get_or ws 0 []) h.0)
+
+pub no_check : (words : List (List ℕ)) → ((model log : List ℕ) → words ≡ model ∷ log ∷ [] → AreFileNames (model ∷ log ∷ []) → ⊥) → IsNoLine (codes "check" ∷ words)
+no_check words none l h = let r = as_read (codes "check" ∷ words) l h in none (get_or words 0 []) (get_or words 1 []) (ap (drop 1) r.1.0) r.1.1
+
+pub no_replay : (words : List (List ℕ)) → ((model schedule log : List ℕ) (trace : Bool) → words ≡ model ∷ schedule ∷ log ∷ trace_words trace → AreFileNames (model ∷ schedule ∷ log ∷ []) → ⊥) → IsNoLine (codes "replay" ∷ words)
+no_replay words none l h = let r = as_read (codes "replay" ∷ words) l h in none (get_or words 0 []) (get_or words 1 []) (get_or words 2 []) (nat_lt 4 (suc (length words))) (ap (drop 1) r.1.0) r.1.1
+
+pub no_solve : (words : List (List ℕ)) → ((model log : List ℕ) (options : List (List ℕ)) (s : Settings) → words ≡ model ∷ log ∷ options → Sets options no_settings s → AreFileNames (model ∷ log ∷ option_to_list s.kept) → ⊥) → IsNoLine (codes "solve" ∷ words)
+no_solve words none l h =
+    let r = as_read (codes "solve" ∷ words) l h in
+    let is = r.1 in
+    none (get_or words 0 []) (get_or words 1 []) is.options is.settings (ap (drop 1) is.words_are) is.sets (subst (λ k. AreFileNames (get_or words 0 [] ∷ get_or words 1 [] ∷ option_to_list k)) is.kept_is is.names)
+
+-- the same where the words' names are no file names
+pub no_solve_names : (words : List (List ℕ)) (model log : List ℕ) (options : List (List ℕ)) (s : Settings) → words ≡ model ∷ log ∷ options → Sets options no_settings s → (AreFileNames (model ∷ log ∷ option_to_list s.kept) → ⊥) → IsNoLine (codes "solve" ∷ words)
+no_solve_names words model log options s e sets none = no_solve words (λ m l others t f again names.
+    let r : others ≡ options = ap (drop 2) (sym f ∙ e) in
+    let same = sets_once options no_settings t s (subst (λ ws. Sets ws no_settings t) r again) sets in
+    let a : m ≡ model = ap (λ ws. get_or ws 0 []) (sym f ∙ e) in
+    let b : l ≡ log = ap (λ ws. get_or ws 1 []) (sym f ∙ e) in
+    none (subst (λ x. AreFileNames (x ∷ log ∷ option_to_list s.kept)) a (subst (λ x. AreFileNames (m ∷ x ∷ option_to_list s.kept)) b (subst (λ x. AreFileNames (m ∷ l ∷ option_to_list x.kept)) same names))))
+
+pub refused_names : {P : Type 0} (b : Bool) → b ≡ false → IsTrue b ↔ P → P → ⊥
+refused_names true e h p = absurd cc
+refused_names false e h p = absurd (let t = h.1 p in cc)
+
+pub no_bound : (words : List (List ℕ)) → ((model : List ℕ) → words ≡ model ∷ [] → IsFileName model → ⊥) → IsNoLine (codes "bound" ∷ words)
+no_bound words none l h = let r = as_read (codes "bound" ∷ words) l h in none (get_or words 0 []) (ap (drop 1) r.1.0) r.1.1
+
+pub no_gen : (words : List (List ℕ)) → ((n : ℕ) → words ≡ codes "queens" ∷ decimal n ∷ [] → IsWithin 1 200 n → ⊥)
+    → ((n k seed : ℕ) → words ≡ codes "colouring" ∷ decimal n ∷ decimal k ∷ decimal seed ∷ [] → IsWithin 1 200 n → IsWithin 1 16 k → seed < 2 ^ 64 → ⊥) → IsNoLine (codes "gen" ∷ words)
+no_gen words queens colourings Help h = omega (arith, first_long _ _ _ refl h)
+no_gen words queens colourings Version h = omega (arith, first_long _ _ _ refl h)
+no_gen words queens colourings (Check m o) h = omega (arith, first_long _ _ _ refl h.0)
+no_gen words queens colourings (Replay m c o t) h = omega (arith, first_long _ _ _ refl h.0)
+no_gen words queens colourings (Solve m o n r t) h = omega (arith, first_long _ _ _ refl h.words_are)
+no_gen words queens colourings (Bound m) h = omega (arith, first_long _ _ _ refl h.0)
+no_gen words queens colourings (Queens n) h = queens n (ap (drop 1) h.0) h.1
+no_gen words queens colourings (Colouring n k s) h = colourings n k s (ap (drop 1) h.0) h.1 h.2 h.3
+
+-- ---- promises
 
 -- each line's promise is lawful
 pub lawful : (line : Line) → IsLawful (promise_of line)
-lawful Help = plain_lawful _
-lawful Version = plain_lawful _
+lawful Help = print_lawful _
+lawful Version = print_lawful _
 lawful (Check m l) = check_lawful m l
+lawful (Replay m c l t) = replay_lawful m c l t
+lawful (Solve m l n r t) = solve_lawful m l n r t
+lawful (Bound m) = bound_lawful m
+lawful (Queens n) = print_lawful _
+lawful (Colouring n k s) = print_lawful _
 
 -- what is said of an error
 pub concluded : (e : CommandError) (err now : Stream) (status : Status) → status ≡ error_status e → IsSaid (error_text e) err now → Concludes (way_of (Err e)) err now status
@@ -46,15 +244,27 @@ concluded ModelLong err now status s h = (s, h)
 concluded (ModelRefused error) err now status s h = (s, h)
 concluded LogLong err now status s h = (s, h)
 concluded (LogLine number) err now status s h = (s, h)
+concluded ScheduleLong err now status s h = (s, h)
+concluded (ScheduleLine number) err now status s h = (s, h)
 concluded Fault err now status s h = (s, h)
 concluded Memory err now status s h = (s, h)
 
--- status 0 goes with an answer
+-- what stands for no refusal and no stop goes with an answer
+pub an_answer : (came : Result Status CommandError) (err now : Stream) (status : Status) → Concludes (way_of came) err now status → IsFinal status → (IsRefusal status → ⊥) → came ≡ Ok status
+an_answer (Ok status_is) err now status h f n = ap Ok (sym h.0)
+an_answer (Err ModelLong) err now status h f n = absurd (n (subst IsRefusal (sym h.0) tt))
+an_answer (Err (ModelRefused error)) err now status h f n = absurd (n (subst IsRefusal (sym h.0) tt))
+an_answer (Err LogLong) err now status h f n = absurd (n (subst IsRefusal (sym h.0) tt))
+an_answer (Err (LogLine number)) err now status h f n = absurd (n (subst IsRefusal (sym h.0) tt))
+an_answer (Err ScheduleLong) err now status h f n = absurd (n (subst IsRefusal (sym h.0) tt))
+an_answer (Err (ScheduleLine number)) err now status h f n = absurd (n (subst IsRefusal (sym h.0) tt))
+an_answer (Err Fault) err now status h f n = absurd (subst IsFinal h.0 f)
+an_answer (Err Memory) err now status h f n = absurd (subst IsFinal h.0 f)
+
+-- status 0 goes with one
 pub good_answer : (came : Result Status CommandError) (err now : Stream) (status : Status) → Concludes (way_of came) err now status → status ≡ Good → came ≡ Ok Good
-good_answer (Ok status_is) err now status h e = ap Ok (sym h.0 ∙ e)
-good_answer (Err ModelLong) err now status h e = absurd (let s = h.0 in cc)
-good_answer (Err (ModelRefused error)) err now status h e = absurd (let s = h.0 in cc)
-good_answer (Err LogLong) err now status h e = absurd (let s = h.0 in cc)
-good_answer (Err (LogLine number)) err now status h e = absurd (let s = h.0 in cc)
-good_answer (Err Fault) err now status h e = absurd (let s = h.0 in cc)
-good_answer (Err Memory) err now status h e = absurd (let s = h.0 in cc)
+good_answer came err now status h e = an_answer came err now status h (subst IsFinal (sym e) tt) (λ r. subst IsRefusal e r) ∙ ap Ok e
+
+pub if_answered : {P : Type 0} (came : Result Status CommandError) (status : Status) → came ≡ Ok status → IfOk came (λ s. P) → P
+if_answered (Ok x) status e h = h
+if_answered (Err x) status e h = absurd cc

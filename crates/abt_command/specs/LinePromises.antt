@@ -1,21 +1,30 @@
 -- What each line of words promises.
-use Rattle.std.specs.Prelude.{◌≡◌, ◌⊎◌, ℕ, List, [], ◌∷◌, codes}
+use Rattle.std.specs.Prelude.{◌≡◌, ◌⊎◌, ℕ, List, [], codes}
 use Rattle.dcsp_outside.specs.Outside.{Stream}
-use Rattle.dcsp_script.specs.Scripts.{Put, World}
+use Rattle.dcsp_script.specs.Scripts.{World}
 use Rattle.dcsp_script.specs.Ways.{Did}
 use Rattle.abt_promise.specs.declared.status.Status.{Status}
-use Rattle.abt_promise.specs.declared.status.Status.TheVariants.{Good, Words}
-use Rattle.abt_promise.specs.Promises.{Promise, plain, answered, IsSaid}
+use Rattle.abt_promise.specs.declared.status.Status.TheVariants.{Words}
+use Rattle.abt_promise.specs.Promises.{Promise, IsSaid}
 use Rattle.abt_promise.specs.Runs.{Ran}
 use Rattle.abt_command.specs.declared.plain.TheConstants.{HELP, VERSION}
-use Rattle.abt_command.specs.Lines.{Line, Help, Version, Check, IsLine, IsNoLine}
+use Rattle.abt_models.specs.BoundReports.{bound_promise}
+use Rattle.abt_models.specs.Generated.{print_promise, queens_promise, colouring_promise}
+use Rattle.abt_run.specs.ReplayPromise.{replay_promise}
+use Rattle.abt_run.specs.SolvePromise.{solve_promise}
+use Rattle.abt_command.specs.Lines.{Line, Help, Version, Check, Replay, Solve, Bound, Queens, Colouring, IsLine, IsNoLine}
 use Rattle.abt_command.specs.CheckReports.{check_promise}
 
 -- the promise of a line
 abbrev pub promise_of : Line → Promise
-promise_of Help = plain (answered Good (Put HELP.now ∷ []))
-promise_of Version = plain (answered Good (Put VERSION.now ∷ []))
+promise_of Help = print_promise HELP.now
+promise_of Version = print_promise VERSION.now
 promise_of (Check model log) = check_promise model log
+promise_of (Replay model schedule log trace) = replay_promise model schedule log trace
+promise_of (Solve model log seed kept trace) = solve_promise model log seed kept trace
+promise_of (Bound model) = bound_promise model
+promise_of (Queens n) = queens_promise n
+promise_of (Colouring n k seed) = colouring_promise n k seed
 
 -- the line that the words are has a promise of which this holds
 abbrev pub EachPromise : List (List ℕ) → (Promise → Type 0) → Type 0

@@ -1,25 +1,92 @@
 -- The lines of words that the program takes.
-use Rattle.std.specs.Prelude.{◌≡◌, ◌≢◌, ℕ, ◌∷◌, [], List, codes}
+use Rattle.std.specs.Prelude.{◌≡◌, ◌≢◌, ℕ, ◌^◌, ◌<◌, ◌≤◌, ◌∷◌, [], List, Bool, true, false, Option, Some, None, option_copied, option_to_list, unwrap_or, codes, decimal, ⊤}
 use Rattle.std.specs.Str.{byte}
 use Rattle.abt_command.specs.declared.words.Order.{Order}
 use Rattle.abt_command.specs.declared.words.Order.TheVariants as orders
+
+-- ---- names
 
 -- a file name is not empty, and does not begin with `-`
 abbrev pub IsFileName : List ℕ → Type 0
 IsFileName [] = ⊥
 IsFileName (b ∷ bytes) = b ≢ byte "-"
 
--- what the words ask for: what the program takes, which version it is, or to check a log against a model
+-- none of these is this name
+abbrev pub IsNewName : List ℕ → List (List ℕ) → Type 0
+IsNewName name [] = ⊤
+IsNewName name (other ∷ names) = (name ≢ other) × IsNewName name names
+
+-- each is a file name, and no two are the same
+abbrev pub AreFileNames : List (List ℕ) → Type 0
+AreFileNames [] = ⊤
+AreFileNames (name ∷ names) = IsFileName name × IsNewName name names × AreFileNames names
+
+-- ---- options
+
+-- what the options of `solve` set: a seed, the name of a record, and whether the trace is put
+pub record Settings : Type 0 where
+  pub seed : Option ℕ
+  pub kept : Option (List ℕ)
+  pub trace : Bool
+
+-- nothing is set
+abbrev pub no_settings : Settings
+no_settings = record { seed = None; kept = None; trace = false }
+
+-- the words set options, in any order and each at most once: there is no word; or the first ones are an option that was not set, and the others set the rest
+pub data Sets : List (List ℕ) → Settings → Settings → Type 0 where
+  nothing : {words : List (List ℕ)} {before after : Settings} → words ≡ [] → after ≡ before → Sets words before after
+  seeds : {words : List (List ℕ)} {before after : Settings} (seed : ℕ) (more : List (List ℕ)) → words ≡ codes "--seed" ∷ decimal seed ∷ more → seed < 2 ^ 64 → before.seed ≡ None → Sets more (record before { seed = Some seed }) after → Sets words before after
+  records : {words : List (List ℕ)} {before after : Settings} (name : List ℕ) (more : List (List ℕ)) → words ≡ codes "--record" ∷ name ∷ more → before.kept ≡ None → Sets more (record before { kept = Some name }) after → Sets words before after
+  traces : {words : List (List ℕ)} {before after : Settings} (more : List (List ℕ)) → words ≡ codes "--trace" ∷ more → before.trace ≡ false → Sets more (record before { trace = true }) after → Sets words before after
+
+-- the words of the one option of `replay`
+abbrev pub trace_words : Bool → List (List ℕ)
+trace_words false = []
+trace_words true = codes "--trace" ∷ []
+
+-- ---- lines
+
+-- what the words ask for: what the program takes, which version it is, to check a log against a model, to run a model's agents under the choices of a schedule or of a seed, to tell a model's message bound, or to print a generated model
 pub data Line : Type 0 where
   Help : Line
   Version : Line
-  Check : (model : List ℕ) → (log : List ℕ) → Line
+  Check : (model log : List ℕ) → Line
+  Replay : (model schedule log : List ℕ) (trace : Bool) → Line
+  Solve : (model log : List ℕ) (seed : ℕ) (kept : Option (List ℕ)) (trace : Bool) → Line
+  Bound : (model : List ℕ) → Line
+  Queens : (n : ℕ) → Line
+  Colouring : (n k seed : ℕ) → Line
+
+-- the words are this line of `solve`; the seed is 0 where none is given
+pub record IsSolve (words : List (List ℕ)) (model log : List ℕ) (seed : ℕ) (kept : Option (List ℕ)) (trace : Bool) : Type 0 where
+  pub options : List (List ℕ)
+  pub settings : Settings
+  pub words_are : words ≡ codes "solve" ∷ model ∷ log ∷ options
+  pub sets : Sets options no_settings settings
+  pub names : AreFileNames (model ∷ log ∷ option_to_list kept)
+  pub seed_is : seed ≡ unwrap_or settings.seed 0
+  pub kept_is : kept ≡ settings.kept
+  pub trace_is : trace ≡ settings.trace
+
+-- a number from the least to the most
+abbrev pub IsWithin : ℕ → ℕ → ℕ → Type 0
+IsWithin least most n = (least ≤ n) × (n ≤ most)
 
 -- the words are this line
 abbrev pub IsLine : List (List ℕ) → Line → Type 0
 IsLine words Help = words ≡ codes "--help" ∷ []
 IsLine words Version = words ≡ codes "--version" ∷ []
-IsLine words (Check model log) = (words ≡ codes "check" ∷ model ∷ log ∷ []) × IsFileName model × IsFileName log × (model ≢ log)
+IsLine words (Check model log) = (words ≡ codes "check" ∷ model ∷ log ∷ []) × AreFileNames (model ∷ log ∷ [])
+IsLine words (Replay model schedule log trace) = (words ≡ codes "replay" ∷ model ∷ schedule ∷ log ∷ trace_words trace) × AreFileNames (model ∷ schedule ∷ log ∷ [])
+IsLine words (Solve model log seed kept trace) = IsSolve words model log seed kept trace
+IsLine words (Bound model) = (words ≡ codes "bound" ∷ model ∷ []) × IsFileName model
+IsLine words (Queens n) = (words ≡ codes "gen" ∷ codes "queens" ∷ decimal n ∷ []) × IsWithin 1 200 n
+IsLine words (Colouring n k seed) = (words ≡ codes "gen" ∷ codes "colouring" ∷ decimal n ∷ decimal k ∷ decimal seed ∷ []) × IsWithin 1 200 n × IsWithin 1 16 k × (seed < 2 ^ 64)
+
+-- some words are this line
+abbrev pub IsSomeLine : Line → Type 0
+IsSomeLine line = (words : List (List ℕ)) × IsLine words line
 
 -- the words are no line of the program
 abbrev pub IsNoLine : List (List ℕ) → Type 0
@@ -30,3 +97,8 @@ abbrev pub line_of : Order → Line
 line_of orders.Help = Help
 line_of orders.Version = Version
 line_of (orders.Check model log) = Check model.now log.now
+line_of (orders.Replay model schedule log trace) = Replay model.now schedule.now log.now trace
+line_of (orders.Solve model log seed kept trace) = Solve model.now log.now seed (option_copied kept) trace
+line_of (orders.Bound model) = Bound model.now
+line_of (orders.GenQueens n) = Queens n
+line_of (orders.GenColouring n k seed) = Colouring n k seed

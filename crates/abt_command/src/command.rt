@@ -1,6 +1,6 @@
 //! Running a command over a folder and two streams.
 
-ghost use Rattle.std.specs.Prelude.{◌≡◌, ◌↔◌, ℕ, List, [], Ok, map, string_bytes, codes};
+ghost use Rattle.std.specs.Prelude.{◌≡◌, ◌↔◌, ℕ, List, [], Ok, map, string_bytes, codes, IfOk};
 ghost use Rattle.dcsp_outside.specs.Outside.{Place};
 ghost use Rattle.dcsp_script.specs.Scripts.{outside};
 ghost use Rattle.dcsp_script.specs.Ways.{Did, CountsStay};
@@ -10,15 +10,19 @@ ghost use Rattle.abt_promise.specs.Promises.{IsSaid};
 ghost use Rattle.abt_promise.specs.Runs.{CameIn, Concludes, Ran, Answers, Faults, Lacks};
 ghost use Rattle.abt_promise.specs.Clauses.{HasCause, IsComplete, GainsText, LeavesOthers, CreatesOwn, IsLawful};
 ghost use Rattle.abt_input.specs.Errors.{way_of, error_text};
-ghost use Rattle.abt_command.specs.Lines.{Line, Check, IsLine, IsNoLine, line_of};
+ghost use Rattle.abt_run.specs.Headline.{HoldsProblem, IsRun, IsSolvedRun, IsRefutedRun, IsUnfinishedRun, IsBoundedRun, WritesOrdered};
+ghost use Rattle.abt_command.specs.AskedRuns.{EachRun, RunsModel};
+ghost use Rattle.abt_command.specs.Lines.{Line, Check, IsLine, IsSomeLine, IsNoLine, line_of};
 ghost use Rattle.abt_command.specs.LinePromises.{promise_of, EachPromise, HasRun};
 ghost use Rattle.abt_command.specs.Checks.{IsRefuted};
 
 use crate::check::run_check;
-use crate::plain::{HELP, VERSION, print};
+use crate::plain::{HELP, VERSION};
 use crate::words::{Order, words_of};
 use abt_input::{CommandError, error_reply, error_status};
+use abt_models::{print, run_bound, run_colouring, run_queens};
 use abt_promise::{Status, say};
+use abt_run::{Replay, Solve, run_replay, run_solve};
 use dcsp_outside::{Folder, Sink};
 use std::alloc::Global;
 
@@ -51,16 +55,52 @@ fn run_line<F: Folder, S: Sink>(
     folder: &mut F,
     out: &mut S,
 ) -> Result<Status, CommandError>
+    requires { IsSomeLine (line_of order) }
     ensures came { CameIn (promise_of (line_of order.entry))
         (outside (F.place folder.old) (S.stream out.old))
         (outside (F.place folder.new) (S.stream out.new)) (way_of result) }
     ensures verified { (model log : List ℕ) → line_of order.entry ≡ Check model log
         → result ≡ Ok Status.Good → IsRefuted (F.place folder.old).held model }
+    ensures sound { (model : List ℕ) → RunsModel (line_of order.entry) model
+        → IfOk result (λ status. HoldsProblem (F.place folder.old).held model) }
 {
     match order {
         Order::Help => print(out, HELP),
         Order::Version => print(out, VERSION),
         Order::Check { model, log } => run_check(alloc, folder, model, log, out),
+        Order::Replay {
+            model,
+            schedule,
+            log,
+            trace,
+        } => {
+            let line = Replay {
+                model,
+                schedule,
+                log,
+                trace,
+            };
+            run_replay(alloc, folder, line, out)
+        }
+        Order::Solve {
+            model,
+            log,
+            seed,
+            kept,
+            trace,
+        } => {
+            let line = Solve {
+                model,
+                log,
+                seed,
+                kept,
+                trace,
+            };
+            run_solve(alloc, folder, line, out)
+        }
+        Order::Bound { model } => run_bound(alloc, folder, model, out),
+        Order::GenQueens { n } => run_queens(alloc, n, out),
+        Order::GenColouring { n, k, seed } => run_colouring(alloc, n, k, seed, out),
     }
 }
 
@@ -72,12 +112,15 @@ fn run_order<F: Folder, S: Sink>(
     out: &mut S,
     err: &mut S,
 ) -> Status
+    requires { IsSomeLine (line_of order) }
     ensures ran { Ran (promise_of (line_of order.entry))
         (outside (F.place folder.old) (S.stream out.old))
         (outside (F.place folder.new) (S.stream out.new))
         (S.stream err.old) (S.stream err.new) result }
     ensures verified { (model log : List ℕ) → line_of order.entry ≡ Check model log
         → result ≡ Status.Good → IsRefuted (F.place folder.old).held model }
+    ensures sound { (model : List ℕ) → RunsModel (line_of order.entry) model
+        → IsFinal result → (IsRefusal result → ⊥) → HoldsProblem (F.place folder.old).held model }
 {
     let came = run_line(alloc, order, folder, out);
     conclude(alloc, came, err)
@@ -143,9 +186,17 @@ pub fn run_command<F: Folder, S: Sink>(
     ensures created { EachPromise (map string_bytes words.now) (λ promise. CreatesOwn promise
         (outside (F.place folder.old) (S.stream out.old)) (outside (F.place folder.new) (S.stream out.new))) }
 
-    // What single lines mean beyond their reports.
+    // What single lines mean beyond their reports: a log that is verified, and the runs.
     ensures verified { (model log : List ℕ) → IsLine (map string_bytes words.now) (Check model log)
         → result ≡ Status.Good → IsRefuted (F.place folder.old).held model }
+    ensures the_run { EachRun (map string_bytes words.now) (F.place folder.old).held (λ asked. IsFinal result → IsRun asked result
+        (outside (F.place folder.old) (S.stream out.old)) (outside (F.place folder.new) (S.stream out.new))) }
+    ensures solved { EachRun (map string_bytes words.now) (F.place folder.old).held (λ asked. IsSolvedRun asked result) }
+    ensures refuted { EachRun (map string_bytes words.now) (F.place folder.old).held (λ asked. IsRefutedRun asked result) }
+    ensures no_stall { EachRun (map string_bytes words.now) (F.place folder.old).held (λ asked. IsFinal result → IsUnfinishedRun asked result) }
+    ensures bound { EachRun (map string_bytes words.now) (F.place folder.old).held (λ asked. IsFinal result → IsBoundedRun asked result) }
+    ensures in_order { EachRun (map string_bytes words.now) (F.place folder.old).held (λ asked. WritesOrdered asked
+        (outside (F.place folder.old) (S.stream out.old)) (outside (F.place folder.new) (S.stream out.new))) }
 {
     match words_of(words) {
         Some(order) => run_order(alloc, order, folder, out, err),

@@ -6,6 +6,7 @@
 
 mod check;
 mod command;
+mod options;
 mod plain;
 #[cfg(test)]
 mod tests;

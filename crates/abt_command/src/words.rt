@@ -1,7 +1,9 @@
 //! The words that the program is started with.
 
-ghost use Rattle.std.specs.Prelude.{◌≡◌, ◌↔◌, ◌∷◌, [], codes, map, string_bytes, IfSome, IsNone, IsTrue};
-ghost use Rattle.abt_command.specs.Lines.{IsFileName, IsLine, IsNoLine, line_of};
+ghost use Rattle.std.specs.Prelude.{◌≡◌, ◌↔◌, ◌∷◌, [], ℕ, Bool, codes, decimal, map, string_bytes, option_copied, option_to_list, IfSome, IsNone, IsTrue};
+ghost use Rattle.abt_command.specs.Lines.{IsFileName, AreFileNames, IsLine, IsNoLine, IsWithin, line_of, trace_words};
+
+use crate::options::{Settings, number_of, settings_of};
 
 /// What the words ask for.
 pub enum Order<'w> {
@@ -10,20 +12,58 @@ pub enum Order<'w> {
     /// `--version`: the program's version and its toolchain.
     Version,
     /// `check MODEL LOG`: whether the log refutes the model.
-    Check { model: &'w str, log: &'w str },
+    Check {
+        model: &'w str,
+        log: &'w str,
+    },
+    /// `replay MODEL SCHEDULE LOG [--trace]`: a run under the choices of the schedule.
+    Replay {
+        model: &'w str,
+        schedule: &'w str,
+        log: &'w str,
+        trace: bool,
+    },
+    /// `solve MODEL LOG [--seed N] [--record FILE] [--trace]`: a run under the choices of a seed, which is 0
+    /// where none is given. `kept` is the name of the record.
+    Solve {
+        model: &'w str,
+        log: &'w str,
+        seed: u64,
+        kept: Option<&'w str>,
+        trace: bool,
+    },
+    /// `bound MODEL`: how many messages a run delivers at most.
+    Bound {
+        model: &'w str,
+    },
+    /// `gen queens N`: the problem of so many queens, from 1 to 200.
+    GenQueens {
+        n: u32,
+    },
+    /// `gen colouring N K SEED`: the colouring of `n` nodes, from 1 to 200, with `k` colours, from 1 to 16.
+    GenColouring {
+        n: u32,
+        k: u32,
+        seed: u64,
+    },
 }
 
 /// The order that the words are, after the program's own name.
 ///
 /// `None` comes exactly where the words are no line of the program. A file name is a nonempty word
-/// that does not begin with `-`, and two equal file names in one line are refused.
+/// that does not begin with `-`, and two equal file names in one line are refused. Options follow the
+/// names, in any order, each at most once.
 pub fn words_of(words: &[String]) -> Option<Order<'_>>
     ensures some { IfSome result (λ order. IsLine (map string_bytes words.now) (line_of order)) }
     ensures none { IsNone result → IsNoLine (map string_bytes words.now) }
 {
     match words {
         [word] => plain_of(word.as_str()),
-        [word, model, log] if word.as_str() == "check" => check_of(model.as_str(), log.as_str()),
+        [word, rest @ ..] if word.as_str() == "check" => check_of(rest),
+        [word, rest @ ..] if word.as_str() == "replay" => replay_of(rest),
+        [word, rest @ ..] if word.as_str() == "solve" => solve_of(rest),
+        [word, rest @ ..] if word.as_str() == "bound" => bound_of(rest),
+        [word, rest @ ..] if word.as_str() == "gen" => gen_of(rest),
         _ => None,
     }
 }
@@ -42,15 +82,146 @@ fn plain_of<'w>(word: &'w str) -> Option<Order<'w>>
     }
 }
 
-/// The order to check this log against this model, if both are file names and differ.
-fn check_of<'w>(model: &'w str, log: &'w str) -> Option<Order<'w>>
-    ensures some { IfSome result (λ order. IsLine (codes "check" ∷ model.now ∷ log.now ∷ []) (line_of order)) }
-    ensures none { IsNone result → IsNoLine (codes "check" ∷ model.now ∷ log.now ∷ []) }
+/// The order of `check` with these words.
+fn check_of(words: &[String]) -> Option<Order<'_>>
+    ensures some { IfSome result (λ order. IsLine (codes "check" ∷ map string_bytes words.now) (line_of order)) }
+    ensures none { IsNone result → IsNoLine (codes "check" ∷ map string_bytes words.now) }
 {
-    if !is_file_name(model) || !is_file_name(log) || model == log {
+    let [model, log] = words else {
+        return None;
+    };
+    let (model, log) = (model.as_str(), log.as_str());
+    if !are_two_names(model, log) {
         return None;
     }
     Some(Order::Check { model, log })
+}
+
+/// The order of `replay` with these words.
+fn replay_of(words: &[String]) -> Option<Order<'_>>
+    ensures some { IfSome result (λ order. IsLine (codes "replay" ∷ map string_bytes words.now) (line_of order)) }
+    ensures none { IsNone result → IsNoLine (codes "replay" ∷ map string_bytes words.now) }
+{
+    let [model, schedule, log, options @ ..] = words else {
+        return None;
+    };
+    let (model, schedule, log) = (model.as_str(), schedule.as_str(), log.as_str());
+    let trace = trace_of(options)?;
+    if !are_three_names(model, schedule, log) {
+        return None;
+    }
+    Some(Order::Replay {
+        model,
+        schedule,
+        log,
+        trace,
+    })
+}
+
+/// Whether a trace is asked for by these options of `replay`.
+fn trace_of(options: &[String]) -> Option<bool>
+    ensures some { IfSome result (λ trace. map string_bytes options.now ≡ trace_words trace) }
+    ensures none { IsNone result → (trace : Bool) → map string_bytes options.now ≡ trace_words trace → ⊥ }
+{
+    match options {
+        [] => Some(false),
+        [option] if option.as_str() == "--trace" => Some(true),
+        _ => None,
+    }
+}
+
+/// The order of `solve` with these words.
+fn solve_of(words: &[String]) -> Option<Order<'_>>
+    ensures some { IfSome result (λ order. IsLine (codes "solve" ∷ map string_bytes words.now) (line_of order)) }
+    ensures none { IsNone result → IsNoLine (codes "solve" ∷ map string_bytes words.now) }
+{
+    let [model, log, options @ ..] = words else {
+        return None;
+    };
+    let (model, log) = (model.as_str(), log.as_str());
+    let Settings { seed, kept, trace } = settings_of(options, Settings::none())?;
+    if !are_solve_names(model, log, kept) {
+        return None;
+    }
+    let seed = seed.unwrap_or(0);
+    Some(Order::Solve {
+        model,
+        log,
+        seed,
+        kept,
+        trace,
+    })
+}
+
+/// The order of `bound` with these words.
+fn bound_of(words: &[String]) -> Option<Order<'_>>
+    ensures some { IfSome result (λ order. IsLine (codes "bound" ∷ map string_bytes words.now) (line_of order)) }
+    ensures none { IsNone result → IsNoLine (codes "bound" ∷ map string_bytes words.now) }
+{
+    let [model] = words else {
+        return None;
+    };
+    let model = model.as_str();
+    if !is_file_name(model) {
+        return None;
+    }
+    Some(Order::Bound { model })
+}
+
+/// The order of `gen` with these words.
+fn gen_of<'w>(words: &'w [String]) -> Option<Order<'w>>
+    ensures some { IfSome result (λ order. IsLine (codes "gen" ∷ map string_bytes words.now) (line_of order)) }
+    ensures none { IsNone result → IsNoLine (codes "gen" ∷ map string_bytes words.now) }
+{
+    match words {
+        [kind, n] if kind.as_str() == "queens" => {
+            let n = number_within(n.as_str(), 200)?;
+            Some(Order::GenQueens { n })
+        }
+        [kind, n, k, seed] if kind.as_str() == "colouring" => {
+            let n = number_within(n.as_str(), 200)?;
+            let k = number_within(k.as_str(), 16)?;
+            let seed = number_of(seed.as_str())?;
+            Some(Order::GenColouring { n, k, seed })
+        }
+        _ => None,
+    }
+}
+
+/// The number from 1 to `most` that the word is.
+fn number_within(word: &str, most: u32) -> Option<u32>
+    ensures some { IfSome result (λ n. (word.now ≡ decimal n) × IsWithin 1 most n) }
+    ensures none { IsNone result → (n : ℕ) → word.now ≡ decimal n → IsWithin 1 most n → ⊥ }
+{
+    let number = number_of(word)?;
+    if number < 1 {
+        return None;
+    }
+    if u64::from(most) < number {
+        return None;
+    }
+    Some(number as u32)
+}
+
+fn are_solve_names(model: &str, log: &str, kept: Option<&str>) -> bool
+    ensures { IsTrue result ↔ AreFileNames (model.now ∷ log.now ∷ option_to_list (option_copied kept.entry)) }
+{
+    match kept {
+        Some(name) => are_three_names(model, log, name),
+        None => are_two_names(model, log),
+    }
+}
+
+fn are_three_names(first: &str, second: &str, third: &str) -> bool
+    ensures { IsTrue result ↔ AreFileNames (first.now ∷ second.now ∷ third.now ∷ []) }
+{
+    is_file_name(first) && first != second && first != third && are_two_names(second, third)
+}
+
+fn are_two_names(first: &str, second: &str) -> bool
+    ensures { IsTrue result ↔ AreFileNames (first.now ∷ second.now ∷ []) }
+{
+    is_file_name(first) && first != second && is_file_name(second)
 }
 
 fn is_file_name(word: &str) -> bool

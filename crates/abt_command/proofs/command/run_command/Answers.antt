@@ -1,8 +1,9 @@
-use Rattle.std.proofs.Common.{inl}
+use Rattle.std.proofs.Common.{inl, refl}
 use Rattle.abt_promise.proofs.Following.{ran_answers, ran_cause, ran_complete, ran_creates, ran_faults, ran_lacks, ran_others, ran_refused, ran_stays, ran_text}
 use Rattle.abt_command.specs.Lines.{Check, line_of}
 use Rattle.abt_command.specs.LinePromises.{promise_of}
 use Rattle.abt_command.proofs.Lines.{one_line, lawful}
+use Rattle.abt_command.proofs.Runs.{asks_for_none, the_run, run_solved, run_refuted, run_unfinished, run_bounded, run_ordered}
 use Rattle.abt_command.proofs.command.run_command.Goals as goal
 
 pub returns-in-Some-clause-answers : goal.returns-in-Some-clause-answers
@@ -40,3 +41,42 @@ returns-in-Some-clause-verified g c = λ model log is good. c.run_order.ensures.
 
 pub returns-in-Some-clause-runs : goal.returns-in-Some-clause-runs
 returns-in-Some-clause-runs g c = inl (line_of c.in-Some.order, c.in-Some.ensures.some, c.run_order.ensures.ran)
+
+pub returns-in-Some-clause-the_run : goal.returns-in-Some-clause-the_run
+returns-in-Some-clause-the_run g c = the_run _ (line_of c.in-Some.order) c.in-Some.ensures.some _ _ _ _ c.run_order.result c.run_order.ensures.ran c.run_order.ensures.sound
+
+pub returns-in-Some-clause-solved : goal.returns-in-Some-clause-solved
+returns-in-Some-clause-solved g c = run_solved _ (line_of c.in-Some.order) c.in-Some.ensures.some _ _ _ _ c.run_order.result c.run_order.ensures.ran c.run_order.ensures.sound
+
+pub returns-in-Some-clause-refuted : goal.returns-in-Some-clause-refuted
+returns-in-Some-clause-refuted g c = run_refuted _ (line_of c.in-Some.order) c.in-Some.ensures.some _ _ _ _ c.run_order.result c.run_order.ensures.ran c.run_order.ensures.sound
+
+pub returns-in-Some-clause-no_stall : goal.returns-in-Some-clause-no_stall
+returns-in-Some-clause-no_stall g c = run_unfinished _ (line_of c.in-Some.order) c.in-Some.ensures.some _ _ _ _ c.run_order.result c.run_order.ensures.ran c.run_order.ensures.sound
+
+pub returns-in-Some-clause-bound : goal.returns-in-Some-clause-bound
+returns-in-Some-clause-bound g c = run_bounded _ (line_of c.in-Some.order) c.in-Some.ensures.some _ _ _ _ c.run_order.result c.run_order.ensures.ran c.run_order.ensures.sound
+
+pub returns-in-Some-clause-in_order : goal.returns-in-Some-clause-in_order
+returns-in-Some-clause-in_order g c = run_ordered _ (line_of c.in-Some.order) c.in-Some.ensures.some _ _ _ _ c.run_order.result c.run_order.ensures.ran c.run_order.ensures.sound
+
+pub returns-in-None-clause-the_run : goal.returns-in-None-clause-the_run
+returns-in-None-clause-the_run g c = asks_for_none _ _ _ (c.in-None.ensures.none refl)
+
+pub returns-in-None-clause-solved : goal.returns-in-None-clause-solved
+returns-in-None-clause-solved g c = asks_for_none _ _ _ (c.in-None.ensures.none refl)
+
+pub returns-in-None-clause-refuted : goal.returns-in-None-clause-refuted
+returns-in-None-clause-refuted g c = asks_for_none _ _ _ (c.in-None.ensures.none refl)
+
+pub returns-in-None-clause-no_stall : goal.returns-in-None-clause-no_stall
+returns-in-None-clause-no_stall g c = asks_for_none _ _ _ (c.in-None.ensures.none refl)
+
+pub returns-in-None-clause-bound : goal.returns-in-None-clause-bound
+returns-in-None-clause-bound g c = asks_for_none _ _ _ (c.in-None.ensures.none refl)
+
+pub returns-in-None-clause-in_order : goal.returns-in-None-clause-in_order
+returns-in-None-clause-in_order g c = asks_for_none _ _ _ (c.in-None.ensures.none refl)
+
+pub run_order-requires : goal.run_order-requires
+run_order-requires g c = (_, c.in-Some.ensures.some)

@@ -1,10 +1,34 @@
-use Rattle.std.proofs.Common.{sym, ◌∙◌, codes, string_bytes}
+use Rattle.std.proofs.Common.{arith, sym, ◌∙◌, codes, string_bytes}
 use Rattle.std.proofs.lemmas.Slice.Eq.{bytes_eq-Decides}
-use Rattle.abt_command.proofs.Threes.{three}
+use Rattle.abt_command.proofs.FewWords.{begins}
 use Rattle.abt_command.proofs.words.words_of.Goals as goal
 
-pub returns-in-len3-clause-some : goal.returns-in-len3-clause-some
-returns-in-len3-clause-some c =
-    let word = (bytes_eq-Decides c.as_str-then-words-lt4.result.now (codes "check")).0 (sym c.eq.ensures ∙ c.if-eq.true) in
-    rw (three string_bytes c.args.words.now c.word-item-then-words-lt4.result c.model-item.result c.log-item.result c.in-len3.len_at_least c.in-len3.len_below c.word-item-then-words-lt4.is c.model-item.is c.log-item.is)
-    (rw (← c.as_str-then-words-lt4.ensures.value, ← c.as_str-in-len3.ensures.value, ← c.as_str-in-len3-2.ensures.value, word) c.check_of.ensures.some)
+pub returns-in-len1-up-clause-some : goal.returns-in-len1-up-clause-some
+returns-in-len1-up-clause-some c =
+    let is = (bytes_eq-Decides c.as_str-2.result.now (codes "check")).0 (sym c.eq.ensures ∙ c.if-eq.true) in
+    let word = sym c.as_str-2.ensures.value ∙ is in
+    rw (begins string_bytes c.args.words.now c.word-item-2.result (omega (arith, c.in-len1-up.len_at_least)) c.word-item-2.is, word) c.check_of.ensures.some
+
+pub returns-in-len1-up-2-clause-some : goal.returns-in-len1-up-2-clause-some
+returns-in-len1-up-2-clause-some c =
+    let is = (bytes_eq-Decides c.as_str-3.result.now (codes "replay")).0 (sym c.eq-2.ensures ∙ c.if-eq-2.true) in
+    let word = sym c.as_str-3.ensures.value ∙ is in
+    rw (begins string_bytes c.args.words.now c.word-item-3.result (omega (arith, c.in-len1-up.len_at_least)) c.word-item-3.is, word) c.replay_of.ensures.some
+
+pub returns-in-len1-up-3-clause-some : goal.returns-in-len1-up-3-clause-some
+returns-in-len1-up-3-clause-some c =
+    let is = (bytes_eq-Decides c.as_str-4.result.now (codes "solve")).0 (sym c.eq-3.ensures ∙ c.if-eq-3.true) in
+    let word = sym c.as_str-4.ensures.value ∙ is in
+    rw (begins string_bytes c.args.words.now c.word-item-4.result (omega (arith, c.in-len1-up.len_at_least)) c.word-item-4.is, word) c.solve_of.ensures.some
+
+pub returns-in-len1-up-4-clause-some : goal.returns-in-len1-up-4-clause-some
+returns-in-len1-up-4-clause-some c =
+    let is = (bytes_eq-Decides c.as_str-5.result.now (codes "bound")).0 (sym c.eq-4.ensures ∙ c.if-eq-4.true) in
+    let word = sym c.as_str-5.ensures.value ∙ is in
+    rw (begins string_bytes c.args.words.now c.word-item-5.result (omega (arith, c.in-len1-up.len_at_least)) c.word-item-5.is, word) c.bound_of.ensures.some
+
+pub returns-in-len1-up-5-clause-some : goal.returns-in-len1-up-5-clause-some
+returns-in-len1-up-5-clause-some c =
+    let is = (bytes_eq-Decides c.as_str-6.result.now (codes "gen")).0 (sym c.eq-5.ensures ∙ c.if-eq-5.true) in
+    let word = sym c.as_str-6.ensures.value ∙ is in
+    rw (begins string_bytes c.args.words.now c.word-item-6.result (omega (arith, c.in-len1-up.len_at_least)) c.word-item-6.is, word) c.gen_of.ensures.some

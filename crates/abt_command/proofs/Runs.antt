@@ -1,0 +1,111 @@
+-- What a run that the words ask for left, sentence by sentence.
+use Rattle.std.proofs.Common.{◌≡◌, ◌≢◌, ℕ, List, [], ◌∷◌, Option, Some, None, refl, sym, subst}
+use Rattle.std.specs.Prelude.{Bool, IfSome, option_to_list}
+use Rattle.dcsp_outside.specs.Outside.{Stream, bytes_of}
+use Rattle.dcsp_script.specs.Scripts.{World}
+use Rattle.dcsp_script.specs.Ways.{Did, DidPartOf}
+use Rattle.dcsp_defs.specs.Csp.{IsCsp}
+use Rattle.dcsp_problem.specs.Problems.{Contents, csp_of}
+use Rattle.abt_promise.specs.declared.status.Status.{Status}
+use Rattle.abt_promise.specs.declared.status.Status.TheVariants.{Good, No}
+use Rattle.abt_promise.specs.Statuses.{IsFinal, IsRefusal}
+use Rattle.abt_promise.specs.Runs.{Ran}
+use Rattle.abt_promise.proofs.Following.{report_part, report_did}
+use Rattle.abt_input.specs.Inputs.{IsModelOf}
+use Rattle.abt_run.specs.Endings.{end_status}
+use Rattle.abt_run.specs.Asked.{Asked, asked_run, asked_script, run_report, replay, solve}
+use Rattle.abt_run.specs.ReplayPromise.{replay_promise, replayed}
+use Rattle.abt_run.specs.SolvePromise.{solve_promise, ran}
+use Rattle.abt_run.specs.Headline.{HoldsProblem, IsRun, IsSolvedRun, IsRefutedRun, IsUnfinishedRun, IsBoundedRun, WritesOrdered}
+use Rattle.abt_run.proofs.Lawful.{no_refusal, replay_lawful, solve_lawful}
+use Rattle.abt_run.proofs.Headlines.{HasOwnRecord, is_run, part_ordered}
+use Rattle.abt_run.proofs.Verdicts.{solved, refuted, bounded, replay_unfinished, solve_unfinished}
+use Rattle.abt_command.specs.Lines.{AreFileNames, Line, Replay, Solve, IsLine, IsNoLine}
+use Rattle.abt_command.specs.LinePromises.{promise_of}
+use Rattle.abt_command.specs.AskedRuns.{AsksFor, replays, solves, EachRun, RunsModel}
+use Rattle.abt_command.proofs.Lines.{one_line}
+
+-- the record of a line has a name of its own
+own_record : (model log : List ℕ) (kept : Option (List ℕ)) → AreFileNames (model ∷ log ∷ option_to_list kept) → IfSome kept (λ k. k ≡ log → ⊥)
+own_record model log None h = tt
+own_record model log (Some k) h = λ e. h.2.1.0 (sym e)
+
+-- words that are no line ask for no run
+pub asks_for_none : (words : List (List ℕ)) (held : Option (List ℕ → Option (List ℕ))) (P : Asked → Type 0) → IsNoLine words → EachRun words held P
+asks_for_none words None P none = tt
+asks_for_none words (Some files) P none = λ asked asks. absurd (so asked asks)
+  where
+    so : (asked : Asked) → AsksFor words files asked → ⊥
+    so asked (replays m s l t h p mp cs hc e) = none (Replay m s l t) h
+    so asked (solves m l n k t h p mp e) = none (Solve m l n k t) h
+
+module _ (words : List (List ℕ)) (line : Line) (is : IsLine words line) (a b : World) (err now : Stream) (status : Status) (line_ran : Ran (promise_of line) a b err now status)
+    (sound : (model : List ℕ) → RunsModel line model → IsFinal status → (IsRefusal status → ⊥) → HoldsProblem a.folder.held model) where
+  as_line : (l : Line) → IsLine words l → Ran (promise_of l) a b err now status
+  as_line l h = subst (λ x. Ran (promise_of x) a b err now status) (one_line words line l is h) line_ran
+
+  module _ (files : List ℕ → Option (List ℕ)) (told : a.folder.held ≡ Some files) where
+    -- with a final status the run's whole script was made, and with any a part of it
+    did_run : (asked : Asked) → AsksFor words files asked → IsFinal status → (status ≡ end_status (asked_run asked).end) × Did (asked_script asked) a b
+    did_run asked (replays m s l t h p mp cs hc e) f = subst (λ x. (status ≡ end_status (asked_run x).end) × Did (asked_script x) a b) (sym e) (report_did (replay_promise m s l t) (replay_lawful m s l t) a b err now files told (run_report (replay p cs l t)) (replayed p cs mp hc refl) status (as_line (Replay m s l t) h) f)
+    did_run asked (solves m l n k t h p mp e) f = subst (λ x. (status ≡ end_status (asked_run x).end) × Did (asked_script x) a b) (sym e) (report_did (solve_promise m l n k t) (solve_lawful m l n k t) a b err now files told (run_report (solve p n l k t)) (ran p mp refl) status (as_line (Solve m l n k t) h) f)
+
+    made_part : (asked : Asked) → AsksFor words files asked → DidPartOf (asked_script asked) a b
+    made_part asked (replays m s l t h p mp cs hc e) = subst (λ x. DidPartOf (asked_script x) a b) (sym e) (report_part (replay_promise m s l t) (replay_lawful m s l t) a b err now files told (run_report (replay p cs l t)) (replayed p cs mp hc refl) status (as_line (Replay m s l t) h))
+    made_part asked (solves m l n k t h p mp e) = subst (λ x. DidPartOf (asked_script x) a b) (sym e) (report_part (solve_promise m l n k t) (solve_lawful m l n k t) a b err now files told (run_report (solve p n l k t)) (ran p mp refl) status (as_line (Solve m l n k t) h))
+
+    own : (asked : Asked) → AsksFor words files asked → HasOwnRecord asked
+    own asked (replays m s l t h p mp cs hc e) = rw e tt
+    own asked (solves m l n k t h p mp e) = rw e (own_record m l k h.names)
+
+    same_problem : (asked : Asked) → AsksFor words files asked → asked.session.problem ≡ csp_of asked.problem
+    same_problem asked (replays m s l t h p mp cs hc e) = rw e refl
+    same_problem asked (solves m l n k t h p mp e) = rw e refl
+
+    -- the model's problem is well-formed
+    of_model : (l : Line) (name : List ℕ) → IsLine words l → RunsModel l name → IsFinal status → (IsRefusal status → ⊥) → HoldsProblem (Some files) name
+    of_model l name h r f n = subst (λ held. HoldsProblem held name) told (sound name (subst (λ x. RunsModel x name) (sym (one_line words line l is h)) r) f n)
+
+    well_formed : (asked : Asked) → AsksFor words files asked → IsFinal status → (IsRefusal status → ⊥) → IsCsp (csp_of asked.problem)
+    well_formed asked (replays m s l t h p mp cs hc e) f n = rw e (of_model (Replay m s l t) m h refl f n p mp)
+    well_formed asked (solves m l n k t h p mp e) f no_refused = rw e (of_model (Solve m l n k t) m h refl f no_refused p mp)
+
+    at_limit : (asked : Asked) → AsksFor words files asked → status ≡ end_status (asked_run asked).end → IsUnfinishedRun asked status
+    at_limit asked (replays m s l t h p mp cs hc e) = rw e (λ i. replay_unfinished p (bytes_of (files s)) cs l t status hc i)
+    at_limit asked (solves m l n k t h p mp e) = rw e (λ i. solve_unfinished p n l k t status i)
+
+    not_refused : (asked : Asked) → status ≡ end_status (asked_run asked).end → IsRefusal status → ⊥
+    not_refused asked i r = no_refusal (asked_run asked).end (subst IsRefusal i r)
+
+  each : (P : Asked → Type 0) → ((files : List ℕ → Option (List ℕ)) → a.folder.held ≡ Some files → (asked : Asked) → AsksFor words files asked → P asked) → EachRun words a.folder.held P
+  each P to = by_held a.folder.held refl
+    where
+      by_held : (held : Option (List ℕ → Option (List ℕ))) → a.folder.held ≡ held → EachRun words held P
+      by_held None e = tt
+      by_held (Some files) e = to files e
+
+  pub the_run : EachRun words a.folder.held (λ asked. IsFinal status → IsRun asked status a b)
+  the_run = each (λ asked. IsFinal status → IsRun asked status a b) (λ files told asked asks f. let d = did_run files told asked asks f in is_run asked (own files told asked asks) a b status d.0 d.1)
+
+  pub run_solved : EachRun words a.folder.held (λ asked. IsSolvedRun asked status)
+  run_solved = each (λ asked. IsSolvedRun asked status) (λ files told asked asks good.
+      let f = subst IsFinal (sym good) tt in
+      let i = (did_run files told asked asks f).0 in
+      solved asked (same_problem files told asked asks) (well_formed files told asked asks f (not_refused files told asked i)) status i good)
+
+  pub run_refuted : EachRun words a.folder.held (λ asked. IsRefutedRun asked status)
+  run_refuted = each (λ asked. IsRefutedRun asked status) (λ files told asked asks answer.
+      let f = subst IsFinal (sym answer) tt in
+      let i = (did_run files told asked asks f).0 in
+      refuted asked (same_problem files told asked asks) (well_formed files told asked asks f (not_refused files told asked i)) status i answer)
+
+  pub run_unfinished : EachRun words a.folder.held (λ asked. IsFinal status → IsUnfinishedRun asked status)
+  run_unfinished = each (λ asked. IsFinal status → IsUnfinishedRun asked status) (λ files told asked asks f. at_limit files told asked asks (did_run files told asked asks f).0)
+
+  pub run_bounded : EachRun words a.folder.held (λ asked. IsFinal status → IsBoundedRun asked status)
+  run_bounded = each (λ asked. IsFinal status → IsBoundedRun asked status) (λ files told asked asks f.
+      let i = (did_run files told asked asks f).0 in
+      bounded asked (same_problem files told asked asks) (well_formed files told asked asks f (not_refused files told asked i)) status i (at_limit files told asked asks i))
+
+  pub run_ordered : EachRun words a.folder.held (λ asked. WritesOrdered asked a b)
+  run_ordered = each (λ asked. WritesOrdered asked a b) (λ files told asked asks. part_ordered asked (own files told asked asks) a b (made_part files told asked asks))

@@ -1,0 +1,31 @@
+-- The runs that words ask for.
+use Rattle.std.specs.Prelude.{◌≡◌, ℕ, Bool, List, [], ◌∷◌, Option, IfSome}
+use Rattle.dcsp_outside.specs.Outside.{bytes_of}
+use Rattle.dcsp_problem.specs.Problems.{Contents}
+use Rattle.abt_input.specs.Inputs.{IsModelOf, HasChoices}
+use Rattle.abt_run.specs.Asked.{Asked, replay, solve}
+use Rattle.abt_command.specs.Lines.{Line, Help, Version, Check, Replay, Solve, Bound, Queens, Colouring, IsLine}
+
+-- the words ask for this run, where these are the files: a replay of a model that has a problem and a schedule that has choices, or a run of such a model from a seed
+pub data AsksFor (words : List (List ℕ)) (files : List ℕ → Option (List ℕ)) (asked : Asked) : Type 0 where
+  replays : (model schedule log : List ℕ) (trace : Bool) → IsLine words (Replay model schedule log trace)
+      → (problem : Contents) → IsModelOf (bytes_of (files model)) problem → (choices : List ℕ) → HasChoices (bytes_of (files schedule)) choices
+      → asked ≡ replay problem choices log trace → AsksFor words files asked
+  solves : (model log : List ℕ) (seed : ℕ) (kept : Option (List ℕ)) (trace : Bool) → IsLine words (Solve model log seed kept trace)
+      → (problem : Contents) → IsModelOf (bytes_of (files model)) problem
+      → asked ≡ solve problem seed log kept trace → AsksFor words files asked
+
+-- this holds of each run that the words ask for, where the folder tells its files
+abbrev pub EachRun : List (List ℕ) → Option (List ℕ → Option (List ℕ)) → (Asked → Type 0) → Type 0
+EachRun words held P = IfSome held (λ files. (asked : Asked) → AsksFor words files asked → P asked)
+
+-- the line runs the model under this name
+abbrev pub RunsModel : Line → List ℕ → Type 0
+RunsModel Help name = ⊥
+RunsModel Version name = ⊥
+RunsModel (Check model log) name = ⊥
+RunsModel (Bound model) name = ⊥
+RunsModel (Queens n) name = ⊥
+RunsModel (Colouring n k seed) name = ⊥
+RunsModel (Replay model schedule log trace) name = model ≡ name
+RunsModel (Solve model log seed kept trace) name = model ≡ name

@@ -1,0 +1,9 @@
+//! Trials of the whole program over folders and streams in memory: what each line answers, writes and says.
+#![tactic(auto)]
+
+#[cfg(test)]
+mod given;
+#[cfg(test)]
+mod runs;
+#[cfg(test)]
+mod wanting;

@@ -1,0 +1,319 @@
+//! The lines `solve` and `replay`.
+
+use crate::given::{File, NO_FILE, left_by, words_of};
+use abt_command::run_program;
+use dcsp_outside::MemorySink;
+
+/// Two variables that differ and are equal.
+const PAIR: &[u8] =
+    b"var 0..1: x;\nvar 0..1: y;\nconstraint int_ne(x,y);\nconstraint int_eq(x,y);\nsolve satisfy;\n";
+
+const PAIR_LOG: &[u8] =
+    b"ngd 1\n1 v2 [v1=0] <- c1 c2\n2 v2 [v1=1] <- c2 c1\n3 v1 [] <- n1 n2\nend\n";
+
+const PAIR_TRACE: &[u8] =
+    b"% 1 v1>v2 ok 0\n% 2 v2>v1 nogood 1\n% 3 v1>v2 ok 1\n% 4 v2>v1 nogood 2\n\
+=====UNSATISFIABLE=====\n% deliveries 4\n% steps 3\n";
+
+/// Two variables that differ.
+const APART: &[u8] =
+    b"var 0..1: x :: output_var;\nvar 0..1: y :: output_var;\nconstraint int_ne(x,y);\nsolve satisfy;\n";
+
+/// Three variables, of which the first two differ from the third.
+const LINKED: &[u8] =
+    b"var 0..1: x :: output_var;\nvar 1..1: y :: output_var;\nvar 0..1: z :: output_var;\n\
+constraint int_ne(x,z);\nconstraint int_ne(y,z);\nsolve satisfy;\n";
+
+/// The choice 0, nine times.
+const NINE: &[u8] = b"schedule 1\n0\n0\n0\n0\n0\n0\n0\n0\n0\nend\n";
+
+/// What came of a line.
+#[derive(Drop)]
+struct Case {
+    words: &'static [&'static str],
+    files: [File; 2],
+    code: u8,
+    out: &'static [u8],
+    err: &'static [u8],
+    /// The file under `l.ngd`, if any bytes are there.
+    log: &'static [u8],
+    /// The file under `r.sch`, if any bytes are there.
+    record: &'static [u8],
+}
+
+const CASES: [Case; 16] = [
+    Case {
+        words: &[
+            "solve",
+            "m.fzn",
+            "l.ngd",
+            "--trace",
+            "--record",
+            "r.sch",
+            "--seed",
+            "18446744073709551615",
+        ],
+        files: [("m.fzn", PAIR), NO_FILE],
+        code: 1,
+        out: PAIR_TRACE,
+        err: b"",
+        log: PAIR_LOG,
+        record: b"schedule 1\n0\n0\n0\n0\nend\n",
+    },
+    Case {
+        words: &["solve", "m.fzn", "l.ngd"],
+        files: [("m.fzn", APART), ("l.ngd", b"what stood here")],
+        code: 0,
+        out: b"x = 0;\ny = 1;\n----------\n% deliveries 1\n% steps 0\n",
+        err: b"",
+        log: b"ngd 1\nend\n",
+        record: b"",
+    },
+    Case {
+        words: &["solve", "m.fzn", "l.ngd"],
+        files: [
+            ("m.fzn", b"constraint int_le(3,2);\nsolve satisfy;\n"),
+            NO_FILE,
+        ],
+        code: 1,
+        out: b"=====UNSATISFIABLE=====\n% deliveries 0\n% steps 1\n",
+        err: b"",
+        log: b"ngd 1\n1 - [] <- c1\nend\n",
+        record: b"",
+    },
+    Case {
+        words: &["solve", "m.fzn", "l.ngd", "--record", "r.sch"],
+        files: [("m.fzn", b"solve satisfy;\n"), NO_FILE],
+        code: 0,
+        out: b"----------\n% deliveries 0\n% steps 0\n",
+        err: b"",
+        log: b"ngd 1\nend\n",
+        record: b"schedule 1\nend\n",
+    },
+    Case {
+        words: &["solve", "m.fzn", "l.ngd"],
+        files: [("m.fzn", b"var 5..3: x;\nsolve satisfy;\n"), NO_FILE],
+        code: 1,
+        out: b"=====UNSATISFIABLE=====\n% deliveries 0\n% steps 1\n",
+        err: b"",
+        log: b"ngd 1\n1 v1 [] <-\nend\n",
+        record: b"",
+    },
+    Case {
+        words: &["replay", "m.fzn", "s.sch", "l.ngd", "--trace"],
+        files: [("m.fzn", LINKED), ("s.sch", NINE)],
+        code: 0,
+        out: b"% 1 v1>v3 ok 0\n% 2 v2>v3 ok 1\n% 3 v3>v2 nogood 1\n% 4 v2>v1 link\n% 5 v1>v2 ok 0\n\
+% 6 v2>v1 nogood 2\n% 7 v1>v2 ok 1\n% 8 v1>v3 ok 1\n% 9 v2>v3 ok 1\n\
+x = 1;\ny = 1;\nz = 0;\n----------\n% deliveries 9\n% steps 2\n% unused 0\n",
+        err: b"",
+        log: b"ngd 1\n1 v3 [v1=0,v2=1] <- c1 c2\n2 v2 [v1=0] <- n1\nend\n",
+        record: b"",
+    },
+    // The choices are used up while a message is in transit.
+    Case {
+        words: &["replay", "m.fzn", "s.sch", "l.ngd"],
+        files: [("m.fzn", PAIR), ("s.sch", b"schedule 1\n7\n0\nend\n")],
+        code: 5,
+        out: b"=====UNKNOWN=====\n% deliveries 2\n% steps 1\n% unused 0\n",
+        err: b"",
+        log: b"ngd 1\n1 v2 [v1=0] <- c1 c2\nend\n",
+        record: b"",
+    },
+    // More choices than the run takes.
+    Case {
+        words: &["replay", "m.fzn", "s.sch", "l.ngd"],
+        files: [("m.fzn", PAIR), ("s.sch", NINE)],
+        code: 1,
+        out: b"=====UNSATISFIABLE=====\n% deliveries 4\n% steps 3\n% unused 5\n",
+        err: b"",
+        log: PAIR_LOG,
+        record: b"",
+    },
+    Case {
+        words: &["replay", "m.fzn", "s.sch", "l.ngd"],
+        files: [("m.fzn", PAIR), ("s.sch", b"schedule 1\n07\nend\n")],
+        code: 4,
+        out: b"",
+        err: b"abt: schedule: line 2\n",
+        log: b"",
+        record: b"",
+    },
+    Case {
+        words: &["replay", "m.fzn", "s.sch", "l.ngd"],
+        files: [("m.fzn", b"solve\n"), ("s.sch", b"schedule 2\n")],
+        code: 3,
+        out: b"",
+        err: b"abt: model: syntax at 0\n",
+        log: b"",
+        record: b"",
+    },
+    Case {
+        words: &["solve", "m.fzn", "l.ngd", "--seed", "01"],
+        files: [("m.fzn", PAIR), NO_FILE],
+        code: 2,
+        out: b"",
+        err: b"abt: bad words\n",
+        log: b"",
+        record: b"",
+    },
+    Case {
+        words: &["solve", "m.fzn", "l.ngd", "--trace", "--trace"],
+        files: [("m.fzn", PAIR), NO_FILE],
+        code: 2,
+        out: b"",
+        err: b"abt: bad words\n",
+        log: b"",
+        record: b"",
+    },
+    Case {
+        words: &["solve", "m.fzn", "l.ngd", "--record", "l.ngd"],
+        files: [("m.fzn", PAIR), NO_FILE],
+        code: 2,
+        out: b"",
+        err: b"abt: bad words\n",
+        log: b"",
+        record: b"",
+    },
+    Case {
+        words: &["replay", "m.fzn", "m.fzn", "l.ngd"],
+        files: [("m.fzn", PAIR), NO_FILE],
+        code: 2,
+        out: b"",
+        err: b"abt: bad words\n",
+        log: b"",
+        record: b"",
+    },
+    Case {
+        words: &["solve", "m.fzn", "l.ngd", "--seed", "18446744073709551616"],
+        files: [("m.fzn", PAIR), NO_FILE],
+        code: 2,
+        out: b"",
+        err: b"abt: bad words\n",
+        log: b"",
+        record: b"",
+    },
+    Case {
+        words: &["replay", "m.fzn", "s.sch", "l.ngd", "--seed", "0"],
+        files: [("m.fzn", PAIR), ("s.sch", NINE)],
+        code: 2,
+        out: b"",
+        err: b"abt: bad words\n",
+        log: b"",
+        record: b"",
+    },
+];
+
+#[test]
+fn runs_answer_and_write(rt: HostRuntime) {
+    for case in &CASES {
+        let left = left_by(&rt, rt.alloc(), &case.files, case.words, 0);
+        assert_eq!(rt; left.code, case.code);
+        assert_eq!(rt; left.out.bytes(), case.out);
+        assert_eq!(rt; left.err.bytes(), case.err);
+        assert_eq!(rt; left.folder.file("l.ngd").unwrap_or(b""), case.log);
+        assert_eq!(rt; left.folder.file("r.sch").unwrap_or(b""), case.record);
+    }
+}
+
+/// Which call of the folder fails, and what is left then of `out` and of the log of a traced run with a record.
+#[derive(Drop)]
+struct Stopped {
+    failing: u64,
+    out: &'static [u8],
+    log: &'static [u8],
+    record: &'static [u8],
+}
+
+/// The calls: the model, the log's creation and head, three steps and the log's end, the record's creation and text.
+const STOPPED: [Stopped; 9] = [
+    Stopped {
+        failing: 1,
+        out: b"",
+        log: b"",
+        record: b"",
+    },
+    Stopped {
+        failing: 2,
+        out: b"",
+        log: b"",
+        record: b"",
+    },
+    Stopped {
+        failing: 3,
+        out: b"",
+        log: b"",
+        record: b"",
+    },
+    Stopped {
+        failing: 4,
+        out: b"",
+        log: b"ngd 1\n",
+        record: b"",
+    },
+    Stopped {
+        failing: 5,
+        out: b"% 1 v1>v2 ok 0\n% 2 v2>v1 nogood 1\n",
+        log: b"ngd 1\n1 v2 [v1=0] <- c1 c2\n",
+        record: b"",
+    },
+    Stopped {
+        failing: 6,
+        out: b"% 1 v1>v2 ok 0\n% 2 v2>v1 nogood 1\n% 3 v1>v2 ok 1\n",
+        log: b"ngd 1\n1 v2 [v1=0] <- c1 c2\n2 v2 [v1=1] <- c2 c1\n",
+        record: b"",
+    },
+    Stopped {
+        failing: 7,
+        out: b"% 1 v1>v2 ok 0\n% 2 v2>v1 nogood 1\n% 3 v1>v2 ok 1\n% 4 v2>v1 nogood 2\n",
+        log: b"ngd 1\n1 v2 [v1=0] <- c1 c2\n2 v2 [v1=1] <- c2 c1\n3 v1 [] <- n1 n2\n",
+        record: b"",
+    },
+    Stopped {
+        failing: 8,
+        out: b"% 1 v1>v2 ok 0\n% 2 v2>v1 nogood 1\n% 3 v1>v2 ok 1\n% 4 v2>v1 nogood 2\n",
+        log: PAIR_LOG,
+        record: b"",
+    },
+    Stopped {
+        failing: 9,
+        out: b"% 1 v1>v2 ok 0\n% 2 v2>v1 nogood 1\n% 3 v1>v2 ok 1\n% 4 v2>v1 nogood 2\n",
+        log: PAIR_LOG,
+        record: b"",
+    },
+];
+
+#[test]
+fn each_call_of_a_run_fails_in_turn(rt: HostRuntime) {
+    for case in &STOPPED {
+        let words = ["solve", "m.fzn", "l.ngd", "--record", "r.sch", "--trace"];
+        let files = [("m.fzn", PAIR), NO_FILE];
+        let left = left_by(&rt, rt.alloc(), &files, &words, case.failing);
+        assert_eq!(rt; left.code, 6);
+        assert_eq!(rt; left.out.bytes(), case.out);
+        assert_eq!(rt; left.err.bytes(), b"abt: fault\n".as_slice());
+        assert_eq!(rt; left.folder.file("l.ngd").unwrap_or(b""), case.log);
+        assert_eq!(rt; left.folder.file("r.sch").unwrap_or(b""), case.record);
+    }
+}
+
+/// A record, replayed, gives the same answer and log.
+#[test]
+fn a_record_is_replayed(rt: HostRuntime) {
+    for model in [PAIR, APART, LINKED] {
+        let files = [("m.fzn", model), NO_FILE];
+        let words = [
+            "solve", "m.fzn", "l.ngd", "--record", "r.sch", "--seed", "5",
+        ];
+        let first = left_by(&rt, rt.alloc(), &files, &words, 0);
+        let mut folder = first.folder;
+        let words = words_of(&rt, rt.alloc(), &["replay", "m.fzn", "r.sch", "again.ngd"]);
+        let mut out = MemorySink::new(rt.alloc());
+        let mut err = MemorySink::new(rt.alloc());
+        let code = run_program(rt.alloc(), &words, &mut folder, &mut out, &mut err);
+        assert_eq!(rt; code, first.code);
+        assert!(rt; out.bytes().starts_with(first.out.bytes()));
+        assert!(rt; out.bytes().ends_with(b"% unused 0\n"));
+        assert_eq!(rt; folder.file("again.ngd"), folder.file("l.ngd"));
+    }
+}

@@ -1,0 +1,58 @@
+//! Memory that runs out in the folder.
+
+use crate::given::words_of;
+use abt_command::run_program;
+use dcsp_outside::{Fetched, Folder, FolderError, MemorySink};
+
+/// A folder that wants memory at each call, and tells nothing of what it holds.
+#[derive(Drop)]
+struct WantingFolder {
+    calls: u64,
+}
+
+impl Folder for WantingFolder {
+    ghost use Rattle.std.specs.Prelude.{None, []};
+
+    ghost place = { λ _. record { held = None; created = []; reads = λ _. 0; writes = λ _. 0 } };
+
+    fn fetch(
+        &mut self,
+        _name: &str,
+        _most: u64,
+        _into: &mut Vec<u8>,
+    ) -> Result<Fetched, FolderError> {
+        self.calls = self.calls.wrapping_add(1);
+        Err(FolderError::Memory)
+    }
+
+    fn create(&mut self, _name: &str) -> Result<(), FolderError> {
+        self.calls = self.calls.wrapping_add(1);
+        Err(FolderError::Memory)
+    }
+
+    fn append(&mut self, _name: &str, _bytes: &[u8]) -> Result<(), FolderError> {
+        self.calls = self.calls.wrapping_add(1);
+        Err(FolderError::Memory)
+    }
+}
+
+#[test]
+fn want_of_memory_ends_with_7(rt: HostRuntime) {
+    let lines: [&[&str]; 4] = [
+        &["check", "m.fzn", "m.ngd"],
+        &["solve", "m.fzn", "m.ngd"],
+        &["replay", "m.fzn", "m.sch", "m.ngd"],
+        &["bound", "m.fzn"],
+    ];
+    for line in lines {
+        let words = words_of(&rt, rt.alloc(), line);
+        let mut folder = WantingFolder { calls: 0 };
+        let mut out = MemorySink::new(rt.alloc());
+        let mut err = MemorySink::new(rt.alloc());
+        let code = run_program(rt.alloc(), &words, &mut folder, &mut out, &mut err);
+        assert_eq!(rt; code, 7);
+        assert_eq!(rt; folder.calls, 1);
+        assert_eq!(rt; out.bytes(), b"".as_slice());
+        assert_eq!(rt; err.bytes(), b"abt: memory\n".as_slice());
+    }
+}
