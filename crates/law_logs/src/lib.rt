@@ -1,11 +1,8 @@
-//! Each derivation of a problem whose numbers are small has a log, which is short.
+//! Each derivation of a problem has a log, which is short where the derivation is.
 #![tactic(auto)]
 
-ghost use Rattle.dcsp_defs.specs.Csp.{Csp};
-ghost use Rattle.law_logs.specs.Logged.{DerivationsHaveLogs};
+mod laws;
+mod problem;
 
-/// A derivation of at most 2^40 + 1 steps has a log of at most 2^62 bytes, where the problem has at most
-/// 4,096 variables and 262,144 constraints, and domains of at most 65,536 values of 64 bits.
-pub fn derivations_have_logs()
-    ensures { (p : Csp) → DerivationsHaveLogs p }
-{}
+pub use laws::derivations_have_logs;
+pub use problem::problems_are_small;
