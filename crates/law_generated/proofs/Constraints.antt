@@ -1,5 +1,5 @@
 -- Items that state constraints, one after another.
-use Rattle.std.proofs.Common.{◌≡◌, ℕ, zero, suc, ◌+◌, ◌-◌, ◌*◌, ◌<◌, ◌≤◌, ◌^◌, Bool, true, false, List, [], ◌∷◌, ◌++◌, map, flat_map, length, sum_by, Some, None, Option, Ok, refl, sym, ap, ◌∙◌, subst, append_assoc, append-nil, length-append, arith}
+use Rattle.std.proofs.Common.{◌≡◌, ℕ, zero, suc, ◌+◌, ◌-◌, ◌*◌, ◌<◌, ◌≤◌, ◌^◌, Bool, true, List, [], ◌∷◌, ◌++◌, flat_map, length, sum_by, None, Ok, refl, sym, ap, ◌∙◌, append_assoc, append-nil, length-append, arith}
 use Rattle.std.specs.Prelude.{ℤ, pos, neg_ℤ, unsigned_abs, slice_index_or}
 use Rattle.std.specs.List.{AllByRecursion}
 use Rattle.std.proofs.lemmas.List.Sums.{sum_by-append}
@@ -37,13 +37,15 @@ one_rule n (Below first second distance) h = (refl, omega arith)
 one_rule n Solve h = absurd h
 
 -- what items leave that state these constraints, and then say the rest
-pub record Leave (text letter : List ℕ) (scope : Scope) (domains : List (List ℤ)) (outputs : List Output) (rules : List Rule) (c : Bool) (lines rest : List Line) (items : List Item) : Type 0 where
+pub record AfterConstraints (text letter : List ℕ) (scope : Scope) (domains : List (List ℤ)) (outputs : List Output) (rules : List Rule) (c : Bool) (lines rest : List Line) (items : List Item) : Type 0 where
   pub left : List Item
   pub constrained : Bool
   pub said : AreSaid text letter rest left
   pub reached : after_all text (so_far scope domains rules outputs c) items ≡ after_all text (so_far scope domains (rules ++ flat_map rules_of lines) outputs constrained) left
 
-module _ (text letter : List ℕ) (high n : ℕ) (small : high ≤ 65536) (scope : Scope) (domains : List (List ℤ)) (outputs : List Output) (there : (i : ℕ) → 1 ≤ i → i ≤ n → StandsFor scope (name letter i) i) (each : (i : ℕ) → i < n → slice_index_or domains i [] ≡ numbers_between (pos 1) (pos high)) where
+module _ (text letter : List ℕ) (high n : ℕ) (small : high ≤ 65536) (scope : Scope) (domains : List (List ℤ)) (outputs : List Output)
+    (there : (i : ℕ) → 1 ≤ i → i ≤ n → StandsFor scope (name letter i) i)
+    (each : (i : ℕ) → i < n → slice_index_or domains i [] ≡ numbers_between (pos 1) (pos high)) where
   -- a variable's values are not wide
   narrow_variable : (a : ℕ) → 1 ≤ a → a ≤ n → greatest_of domains (variable a) ≤ 65536
   narrow_variable a l r =
@@ -86,7 +88,7 @@ module _ (text letter : List ℕ) (high n : ℕ) (small : high ≤ 65536) (scope
     constraint_step c Solve i h says = absurd h
 
   pub constraints_after : (lines : List Line) (rules : List Rule) (c : Bool) (items : List Item) (rest : List Line) → AllByRecursion (IsConstraint n) lines → length rules + length lines ≤ 262144 → sum_by size_of rules ≤ 3 * length rules
-      → AreSaid text letter (lines ++ rest) items → Leave text letter scope domains outputs rules c lines rest items
+      → AreSaid text letter (lines ++ rest) items → AfterConstraints text letter scope domains outputs rules c lines rest items
   constraints_after [] rules c items rest each_is few sizes says = record {
     left = items;
     constrained = c;

@@ -1,15 +1,13 @@
 -- The lines of each generator are within the limits of a problem.
-use Rattle.std.proofs.Common.{◌≡◌, ℕ, zero, suc, ◌+◌, ◌-◌, ◌*◌, ◌%◌, ◌==◌, ◌<◌, ◌≤◌, ◌^◌, inl, inr, Bool, true, false, List, [], ◌∷◌, ◌++◌, map, flat_map, length, codes, Ok, refl, sym, ap, ◌∙◌, subst, append_assoc, mul-le-mul, mod-lt, arith, if◌then◌else◌}
+use Rattle.std.proofs.Common.{◌≡◌, ℕ, ◌-◌, ◌*◌, ◌%◌, ◌==◌, ◌<◌, ◌≤◌, ◌^◌, inl, inr, Bool, true, false, List, [], ◌∷◌, ◌++◌, flat_map, length, codes, Ok, refl, sym, ap, ◌∙◌, subst, append_assoc, mul-le-mul, mod-lt, arith, if◌then◌else◌}
 use Rattle.std.specs.List.{range_with_len, AllByRecursion}
-use Rattle.std.proofs.lemmas.List.FromFn.{length-range_with_len, length-map-range_with_len}
-use Rattle.fzn_item.specs.declared.item.Item.{Item}
-use Rattle.dcsp_gen.specs.Problems.{pairs, pairs_of, thrice}
-use Rattle.fzn_model.specs.Items.{resolved}
+use Rattle.std.proofs.lemmas.List.FromFn.{length-range_with_len}
+use Rattle.dcsp_gen.specs.Problems.{pairs, thrice}
 use Rattle.law_generated_items.specs.Lines.{Line, Print, Differ, Solve, variables, queens_apart, queens, edge, colouring, neighbour, sparse, pigeons_apart, pigeons, lines_with_words}
 use Rattle.law_generated_items.specs.Says.{AreSaid}
 use Rattle.law_generated.specs.Problems.{IsConstraint, AreWithin, all_lines, problem_of}
 use Rattle.law_generated.specs.Generated.{Resolve, GeneratedLinesResolve}
-use Rattle.law_generated.proofs.Lists.{all_weaker, all_append, all_map, all_flat_map, all_range, all_words, few_in_all, few_words}
+use Rattle.law_generated.proofs.Lists.{all_weaker, all_flat_map, all_range, all_words, few_in_all, few_words}
 use Rattle.law_generated.proofs.Pairs.{IsPair, are_pairs, few_pairs, IsLater, are_later}
 use Rattle.law_generated.proofs.Whole.{lines_have_problem}
 
@@ -57,14 +55,10 @@ queens_resolve n small = resolve (codes "q") n n (Print n ∷ []) (flat_map quee
 -- ---- colouring
 
 edge_constrained : (n word : ℕ) (pair : ℕ × ℕ) → IsPair n pair → AllByRecursion (IsConstraint n) (edge word pair)
-edge_constrained n word (first, second) h =
-    let low = h.0 in
-    let rising = h.1 in
-    let high = h.2 in
-    chosen (word % 4 == 0) where
-      chosen : (b : Bool) → AllByRecursion (IsConstraint n) (if b then Differ first second ∷ [] else [])
-      chosen true = ((h.0, omega (arith, h.1, h.2), omega (arith, h.0, h.1), h.2), tt)
-      chosen false = tt
+edge_constrained n word (first, second) h = chosen (word % 4 == 0) where
+  chosen : (b : Bool) → AllByRecursion (IsConstraint n) (if b then Differ first second ∷ [] else [])
+  chosen true = ((h.0, omega (arith, h.1, h.2), omega (arith, h.0, h.1), h.2), tt)
+  chosen false = tt
 
 one_edge : (word : ℕ) (pair : ℕ × ℕ) → length (edge word pair) ≤ 1
 one_edge word (first, second) = chosen (word % 4 == 0) where

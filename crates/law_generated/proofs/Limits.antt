@@ -1,20 +1,16 @@
 -- Counts within the limits of a problem refuse nothing.
-use Rattle.std.proofs.Common.{◌≡◌, ℕ, zero, suc, ◌+◌, ◌*◌, ◌<◌, ◌≤◌, ◌^◌, max, Bool, true, false, List, [], ◌∷◌, ◌++◌, length, sum_by, Some, None, Option, refl, sym, ap, ◌∙◌, arith, if◌then◌else◌}
-use Rattle.std.specs.Prelude.{ℤ, pos, ◌+ℤ◌, ◌-ℤ◌, nat_lt, unsigned_abs, slice_index_or}
+use Rattle.std.proofs.Common.{◌≡◌, ℕ, zero, suc, ◌+◌, ◌≤◌, max, false, List, [], ◌∷◌, ◌++◌, length, sum_by, None, ap, ◌∙◌, arith}
+use Rattle.std.specs.Prelude.{ℤ, pos, ◌+ℤ◌, ◌-ℤ◌, nat_lt, unsigned_abs}
 use Rattle.std.specs.Option.{option_map}
 use Rattle.std.proofs.lemmas.Int.{ints}
 use Rattle.std.proofs.lemmas.Bool.Decides.{nat_tests}
 use Rattle.dcsp_domain.specs.Ranges.{at_least_zero, count_between, numbers_from, numbers_between}
 use Rattle.dcsp_domain.proofs.RangeLaws.{length-numbers_from}
 use Rattle.dcsp_linear.specs.declared.TheConstants.{WIDEST}
-use Rattle.dcsp_problem.specs.declared.limits.Which.{Which}
-use Rattle.dcsp_problem.specs.declared.limits.Which.TheVariants.{Variables, DomainValues, Rules, Terms, Elements}
-use Rattle.dcsp_problem.specs.declared.limits.BuildError.{BuildError}
-use Rattle.dcsp_problem.specs.declared.limits.BuildError.TheVariants.{WideSum}
+use Rattle.dcsp_problem.specs.declared.limits.Which.TheVariants.{Variables, DomainValues}
 use Rattle.dcsp_problem.specs.declared.rule.Rule.{Rule}
-use Rattle.dcsp_problem.specs.Limits.{most, first_past, limit_of, list_counts, rule_counts, variable_refusal, rule_refusal}
-use Rattle.dcsp_problem.specs.Rules.{size_of}
-use Rattle.dcsp_problem.specs.Widths.{greatest_among, greatest_of, rule_width}
+use Rattle.dcsp_problem.specs.Limits.{most, first_past, limit_of, rule_counts, variable_refusal, rule_refusal}
+use Rattle.dcsp_problem.specs.Widths.{greatest_among, rule_width}
 use Rattle.dcsp_problem.specs.Problems.{Contents}
 use Rattle.dcsp_problem.proofs.Counts.{past_later}
 

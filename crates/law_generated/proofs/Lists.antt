@@ -1,5 +1,5 @@
 -- What holds of each item of lists that are made of lists.
-use Rattle.std.proofs.Common.{◌≡◌, ℕ, zero, suc, ◌+◌, ◌*◌, ◌<◌, ◌≤◌, List, [], ◌∷◌, ◌++◌, map, flat_map, length, refl, length-append, arith}
+use Rattle.std.proofs.Common.{◌≡◌, ℕ, zero, suc, ◌+◌, ◌*◌, ◌<◌, ◌≤◌, List, [], ◌∷◌, ◌++◌, map, flat_map, length, length-append, arith}
 use Rattle.std.specs.List.{range_with_len, AllByRecursion}
 use Rattle.law_generated_items.specs.Lines.{Line, lines_with_words}
 

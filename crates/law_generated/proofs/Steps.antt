@@ -1,12 +1,12 @@
 -- What one item adds that says a line.
-use Rattle.std.proofs.Common.{◌≡◌, ℕ, zero, suc, ◌+◌, ◌-◌, ◌*◌, ◌<◌, ◌≤◌, ◌==◌, ◌&&◌, not, Bool, true, false, List, [], ◌∷◌, ◌++◌, map, length, sum_by, Some, None, Option, Result, Ok, Err, refl, sym, ap, ◌∙◌, subst, append_assoc, append-nil, eq-eqb, arith, if◌then◌else◌}
+use Rattle.std.proofs.Common.{◌≡◌, ℕ, zero, suc, ◌+◌, ◌*◌, ◌<◌, ◌≤◌, ◌==◌, Bool, true, false, List, [], ◌∷◌, ◌++◌, map, length, Some, None, Ok, refl, sym, ap, ◌∙◌, append_assoc, append-nil, eq-eqb, arith}
 use Rattle.std.specs.Prelude.{ℤ, pos, neg_ℤ, nat_lt, codes}
 use Rattle.std.specs.List.{range_with_len}
 use Rattle.std.specs.Ordering.{int_eq}
 use Rattle.std.proofs.lemmas.Bool.Decides.{Decides-int_eq}
 use Rattle.std.proofs.lemmas.List.FromFn.{length-map-range_with_len}
 use Rattle.fzn_item.specs.declared.item.Atom.{Atom}
-use Rattle.fzn_item.specs.declared.item.Atom.TheVariants.{Name, Whole}
+use Rattle.fzn_item.specs.declared.item.Atom.TheVariants.{Whole}
 use Rattle.fzn_item.specs.declared.item.Expr.{Expr}
 use Rattle.fzn_item.specs.declared.item.Expr.TheVariants as expr
 use Rattle.fzn_item.specs.declared.item.Base.TheVariants as base
@@ -14,7 +14,7 @@ use Rattle.fzn_item.specs.declared.item.Marked.TheVariants as marked
 use Rattle.fzn_item.specs.declared.item.Item.{Item}
 use Rattle.dcsp_domain.specs.Ranges.{count_between, numbers_between}
 use Rattle.dcsp_problem.specs.declared.rule.Term.{Term}
-use Rattle.dcsp_problem.specs.declared.rule.Term.TheVariants.{Const, Var}
+use Rattle.dcsp_problem.specs.declared.rule.Term.TheVariants.{Var}
 use Rattle.dcsp_problem.specs.declared.rule.Rule.{Rule}
 use Rattle.dcsp_problem.specs.declared.output.Output.{Output}
 use Rattle.dcsp_problem.specs.declared.aim.Aim.TheVariants.{Satisfy}
@@ -22,14 +22,12 @@ use Rattle.dcsp_problem.specs.Limits.{variable_refusal, rule_refusal}
 use Rattle.dcsp_problem.specs.Problems.{Contents}
 use Rattle.dcsp_gen.specs.Lines.{name}
 use Rattle.fzn_scope.specs.declared.names.Declared.TheVariants as declared
-use Rattle.fzn_scope.specs.declared.place.Wanted.{Wanted}
-use Rattle.fzn_scope.specs.declared.refusal.Refusal.{Refusal}
 use Rattle.fzn_scope.specs.Checks.{◌>>=◌}
-use Rattle.fzn_scope.specs.Names.{Scope, declared_as, bytes_at}
+use Rattle.fzn_scope.specs.Names.{Scope, declared_as}
 use Rattle.fzn_scope.specs.Places.{term_of, terms_after}
 use Rattle.fzn_scope.specs.Rules.{constraint_rule}
 use Rattle.fzn_model.specs.Declarations.{SoFar, variable as with_one, array, elements, with_members}
-use Rattle.fzn_model.specs.Items.{start, declare, after, after_all, constraint, solve, finished}
+use Rattle.fzn_model.specs.Items.{declare, after, after_all, constraint, solve, finished}
 use Rattle.law_generated_items.specs.Says.{IsNamed, AreNamed, IsVariable, IsArray, IsDiffer, IsDifferNotBy, IsSolve}
 use Rattle.law_generated.specs.Problems.{variable, differ_rule, differ_not_by_rule, array_output}
 use Rattle.law_generated.proofs.Limits.{within_test, count_is}
@@ -81,9 +79,9 @@ module _ (text : List ℕ) where
       ∙ declared_step scope domains k says.at says.from written small fresh free
 
   -- a name's term
-  name_term : (scope : Scope) (constant : Bool) (written : List ℕ) (number : ℕ) (atom : Atom) → IsNamed text written atom → StandsFor scope written number
+  name_term : (scope : Scope) (written : List ℕ) (number : ℕ) (atom : Atom) → IsNamed text written atom → StandsFor scope written number
       → term_of text scope (record { boolean = false; constant = false }) atom ≡ Ok (variable number)
-  name_term scope constant written number atom says there = rw (says.atom_is, says.written_is, there) refl
+  name_term scope written number atom says there = rw (says.atom_is, says.written_is, there) refl
 
   -- the terms of names
   name_terms : (scope : Scope) (letter : List ℕ) (done : List Term) (first count : ℕ) (atoms : List Atom) → AreNamed text letter first count atoms
@@ -92,7 +90,7 @@ module _ (text : List ℕ) where
   name_terms scope letter done first zero atoms says there = rw (says, append-nil done) refl
   name_terms scope letter done first (suc count) [] says there = absurd says
   name_terms scope letter done first (suc count) (atom ∷ atoms) says there =
-      let here = name_term scope false (name letter first) first atom says.0 (there first (omega arith) (omega arith)) in
+      let here = name_term scope (name letter first) first atom says.0 (there first (omega arith) (omega arith)) in
       rw here (
       name_terms scope letter (done ++ variable first ∷ []) (first + 1) count atoms says.1 (λ i l r. there i (omega (arith, l)) (omega (arith, r)))
       ∙ ap (λ (ts : List Term). Ok ts) (append_assoc done (variable first ∷ []) (map variable (range_with_len (first + 1) count))))
@@ -138,7 +136,7 @@ module _ (text : List ℕ) where
       → constraint_rule text scope at (codes "int_ne") (expr.One x ∷ expr.One y ∷ []) ≡ Ok (differ_rule a b)
   unfolding constraint_rule
   differ_rule_is scope a b at x y first second x_is y_is there also =
-      rw (name_term scope false first a x x_is there, name_term scope false second b y y_is also) refl
+      rw (name_term scope first a x x_is there, name_term scope second b y y_is also) refl
 
   -- the rule of two names and a difference
   differ_not_by_rule_is : (scope : Scope) (a b at factors_at one_at minus_at variables_at difference_at : ℕ) (difference : ℤ) (x y : Atom) (first second : List ℕ)
@@ -149,7 +147,7 @@ module _ (text : List ℕ) where
       ≡ Ok (differ_not_by_rule a b difference)
   unfolding constraint_rule
   differ_not_by_rule_is scope a b at factors_at one_at minus_at variables_at difference_at difference x y first second x_is y_is there also =
-      rw (name_term scope false first a x x_is there, name_term scope false second b y y_is also) refl
+      rw (name_term scope first a x x_is there, name_term scope second b y y_is also) refl
 
   -- a constraint adds its rule
   rule_after : (scope : Scope) (domains : List (List ℤ)) (rules : List Rule) (outputs : List Output) (c : Bool) (rule : Rule) (at from : ℕ) (written : List ℕ) (exprs : List Expr)

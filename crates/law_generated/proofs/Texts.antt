@@ -1,5 +1,5 @@
 -- Generated texts have the problems of their lines.
-use Rattle.std.proofs.Common.{◌≡◌, ℕ, ◌≤◌, inl, inr, List, Ok, codes, refl, sym, ap, subst, arith}
+use Rattle.std.proofs.Common.{◌≡◌, ℕ, ◌≤◌, inr, List, Ok, codes, refl, sym, ap, subst, arith}
 use Rattle.std.specs.List.{AllByRecursion}
 use Rattle.dcsp_gen.specs.Problems.{queens_text, colouring_text, sparse_text, pigeons_text}
 use Rattle.fzn_model.specs.Models.{Answers, answer_of}
@@ -22,14 +22,14 @@ answered letter lines read resolve = inr (inr (record {
   result_is = sym (ap answer_of (resolve (lines_text letter lines) read.items read.said));
 }))
 
-q : IsSmallLetter (codes "q")
-q = record { byte = 113; low = omega arith; high = omega arith; letter_is = refl }
+queens_letter : IsSmallLetter (codes "q")
+queens_letter = record { byte = 113; low = omega arith; high = omega arith; letter_is = refl }
 
-c : IsSmallLetter (codes "c")
-c = record { byte = 99; low = omega arith; high = omega arith; letter_is = refl }
+graph_letter : IsSmallLetter (codes "c")
+graph_letter = record { byte = 99; low = omega arith; high = omega arith; letter_is = refl }
 
-p : IsSmallLetter (codes "p")
-p = record { byte = 112; low = omega arith; high = omega arith; letter_is = refl }
+pigeons_letter : IsSmallLetter (codes "p")
+pigeons_letter = record { byte = 112; low = omega arith; high = omega arith; letter_is = refl }
 
 text_answered : (letter : List ℕ) (text : List ℕ) (lines : List Line) → IsSmallLetter letter → AllByRecursion HasSmallNumbers lines → text ≡ lines_text letter lines → Resolve letter lines
     → Answers text (Ok (problem_of letter lines))
@@ -37,18 +37,18 @@ text_answered letter text lines small within is resolve =
     subst (λ (bytes : List ℕ). Answers bytes (Ok (problem_of letter lines))) (sym is) (answered letter lines (lines_are_read letter lines small within) resolve)
 
 pub queens_have_problem : QueensHaveProblem
-queens_have_problem n some few = text_answered (codes "q") (queens_text n) (queens n) q (numbers_are_small.queens_are n some few) (texts_are_lines.queens_are n) (generated_lines_resolve.queens_do n some few)
+queens_have_problem n some few = text_answered (codes "q") (queens_text n) (queens n) queens_letter (numbers_are_small.queens_are n some few) (texts_are_lines.queens_are n) (generated_lines_resolve.queens_do n some few)
 
 pub colouring_has_problem : ColouringHasProblem
 colouring_has_problem n k words some few coloured low =
-    text_answered (codes "c") (colouring_text n k words) (colouring n k words) c (numbers_are_small.colouring_is n k words some few coloured low) (texts_are_lines.colouring_is n k words) (generated_lines_resolve.colouring_does n k words some few coloured low)
+    text_answered (codes "c") (colouring_text n k words) (colouring n k words) graph_letter (numbers_are_small.colouring_is n k words some few coloured low) (texts_are_lines.colouring_is n k words) (generated_lines_resolve.colouring_does n k words some few coloured low)
 
 pub sparse_has_problem : SparseHasProblem
 sparse_has_problem n words some few =
-    text_answered (codes "c") (sparse_text n words) (sparse n words) c (numbers_are_small.sparse_is n words some few) (texts_are_lines.sparse_is n words) (generated_lines_resolve.sparse_does n words some few)
+    text_answered (codes "c") (sparse_text n words) (sparse n words) graph_letter (numbers_are_small.sparse_is n words some few) (texts_are_lines.sparse_is n words) (generated_lines_resolve.sparse_does n words some few)
 
 pub pigeons_have_problem : PigeonsHaveProblem
-pigeons_have_problem n some few = text_answered (codes "p") (pigeons_text n) (pigeons n) p (numbers_are_small.pigeons_are n some few) (texts_are_lines.pigeons_are n) (generated_lines_resolve.pigeons_do n some few)
+pigeons_have_problem n some few = text_answered (codes "p") (pigeons_text n) (pigeons n) pigeons_letter (numbers_are_small.pigeons_are n some few) (texts_are_lines.pigeons_are n) (generated_lines_resolve.pigeons_do n some few)
 
 queens_do : (n : ℕ) → 1 ≤ n → n ≤ 200 → HasProblem (queens_text n)
 queens_do n some few = (problem_of (codes "q") (queens n), queens_have_problem n some few)

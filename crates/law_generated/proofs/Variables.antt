@@ -1,5 +1,5 @@
 -- Items that declare variables, one after another, and their array.
-use Rattle.std.proofs.Common.{◌≡◌, ℕ, zero, suc, ◌+◌, ◌-◌, ◌*◌, ◌<◌, ◌≤◌, ◌⊎◌, inl, inr, Bool, true, false, List, [], ◌∷◌, ◌++◌, map, flat_map, length, sum_by, Some, None, Option, Ok, refl, sym, ap, ◌∙◌, subst, append_assoc, append-nil, length-append, mul-le-mul_right, arith}
+use Rattle.std.proofs.Common.{◌≡◌, ℕ, zero, suc, ◌+◌, ◌-◌, ◌*◌, ◌<◌, ◌≤◌, inl, inr, false, List, [], ◌∷◌, ◌++◌, map, flat_map, length, sum_by, Some, None, refl, sym, ap, ◌∙◌, subst, append_assoc, append-nil, length-append, mul-le-mul_right, arith}
 use Rattle.std.specs.Prelude.{ℤ, pos, slice_index_or}
 use Rattle.std.specs.List.{range_with_len}
 use Rattle.std.proofs.Math.ListN.{get_or-append}
@@ -41,22 +41,22 @@ none_declared letter high = record {
 }
 
 -- the name of the variable after so many, and what it stands for
-abbrev one : List ℕ → ℕ → List ℕ × Declared
-one letter m = (name letter (m + 1), declared.One false (Var m))
+abbrev entry : List ℕ → ℕ → List ℕ × Declared
+entry letter m = (name letter (m + 1), declared.One false (Var m))
 
 module _ (letter : List ℕ) (high m : ℕ) (scope : Scope) (domains : List (List ℤ)) (so : AreDeclared letter high m scope domains) (room : m + 1 ≤ 4096) where
   fresh : declared_as scope (name letter (m + 1)) ≡ None
   fresh = so.later (m + 1) (omega arith) room
 
-  there_more : (i : ℕ) → 1 ≤ i → i ≤ m + 1 → StandsFor (scope ++ one letter m ∷ []) (name letter i) i
+  there_more : (i : ℕ) → 1 ≤ i → i ≤ m + 1 → StandsFor (scope ++ entry letter m ∷ []) (name letter i) i
   there_more i l r = elim (eqb_tells i (m + 1)) [
     | inl t ↦
         let same : i - 1 ≡ m = omega (arith, t.1) in
-        subst (λ (j : ℕ). declared_as (scope ++ one letter m ∷ []) (name letter j) ≡ Some (declared.One false (Var (i - 1)))) (sym t.1) (
+        subst (λ (j : ℕ). declared_as (scope ++ entry letter m ∷ []) (name letter j) ≡ Some (declared.One false (Var (i - 1)))) (sym t.1) (
         declared-last scope (name letter (m + 1)) (declared.One false (Var m)) fresh ∙ ap (λ (v : ℕ). Some (declared.One false (Var v))) (sym same))
     | inr t ↦
         let apart = t.1 in
-        declared-old scope (one letter m ∷ []) (name letter i) (declared.One false (variable i)) (so.there i l (omega (arith, r, apart)))
+        declared-old scope (entry letter m ∷ []) (name letter i) (declared.One false (variable i)) (so.there i l (omega (arith, r, apart)))
   ]
 
   each_more : (i : ℕ) → i < m + 1 → slice_index_or (domains ++ numbers_between (pos 1) (pos high) ∷ []) i [] ≡ numbers_between (pos 1) (pos high)
@@ -71,7 +71,7 @@ module _ (letter : List ℕ) (high m : ℕ) (scope : Scope) (domains : List (Lis
       ]
 
   -- one variable more
-  one_more : AreDeclared letter high (m + 1) (scope ++ one letter m ∷ []) (domains ++ numbers_between (pos 1) (pos high) ∷ [])
+  one_more : AreDeclared letter high (m + 1) (scope ++ entry letter m ∷ []) (domains ++ numbers_between (pos 1) (pos high) ∷ [])
   one_more =
       let d = numbers_between (pos 1) (pos high) in
       let many = so.many in
@@ -89,16 +89,16 @@ module _ (letter : List ℕ) (high m : ℕ) (scope : Scope) (domains : List (Lis
       }
 
 -- what items leave that declare these variables, and then say the rest
-pub record Leave (text letter : List ℕ) (high n : ℕ) (s : List Item) (scope : Scope) (domains : List (List ℤ)) (rest : List Line) (k from : ℕ) : Type 0 where
+pub record AfterVariables (text letter : List ℕ) (high n : ℕ) (items : List Item) (scope : Scope) (domains : List (List ℤ)) (rest : List Line) (k from : ℕ) : Type 0 where
   pub left : List Item
   pub last : Scope
   pub said : AreSaid text letter rest left
   pub declared : AreDeclared letter high n last (domains ++ flat_map domains_of (map (Declare high) (range_with_len from k)))
-  pub reached : after_all text (so_far scope domains [] [] false) s ≡ after_all text (so_far last (domains ++ flat_map domains_of (map (Declare high) (range_with_len from k))) [] [] false) left
+  pub reached : after_all text (so_far scope domains [] [] false) items ≡ after_all text (so_far last (domains ++ flat_map domains_of (map (Declare high) (range_with_len from k))) [] [] false) left
 
 module _ (text letter : List ℕ) (high n : ℕ) (small : high ≤ 65536) (few : n ≤ 4096) (values : n * high ≤ 1048576) (rest : List Line) where
   pub variables_after : (k m : ℕ) (scope : Scope) (domains : List (List ℤ)) (items : List Item) → m + k ≡ n → AreDeclared letter high m scope domains
-      → AreSaid text letter (map (Declare high) (range_with_len (m + 1) k) ++ rest) items → Leave text letter high n items scope domains rest k (m + 1)
+      → AreSaid text letter (map (Declare high) (range_with_len (m + 1) k) ++ rest) items → AfterVariables text letter high n items scope domains rest k (m + 1)
   variables_after zero m scope domains items e so says =
       let same : m ≡ n = omega (arith, e) in record {
         left = items;
@@ -116,9 +116,9 @@ module _ (text letter : List ℕ) (high n : ℕ) (small : high ≤ 65536) (few :
       let more : (m + 1) * high ≤ n * high = mul-le-mul_right high (omega (arith, e)) in
       let free = free_variable (problem_so_far domains [] []) high (omega (arith, many, room)) (omega (arith, total, more, values)) in
       let step = variable_step text scope domains high (name letter (m + 1)) i says.0 small (so.later (m + 1) (omega arith) room) free in
-      let number : so_far (scope ++ (name letter (m + 1), declared.One false (Var (length domains))) ∷ []) (domains ++ d ∷ []) [] [] false ≡ so_far (scope ++ one letter m ∷ []) (domains ++ d ∷ []) [] [] false =
+      let number : so_far (scope ++ (name letter (m + 1), declared.One false (Var (length domains))) ∷ []) (domains ++ d ∷ []) [] [] false ≡ so_far (scope ++ entry letter m ∷ []) (domains ++ d ∷ []) [] [] false =
       ap (λ (j : ℕ). so_far (scope ++ (name letter (m + 1), declared.One false (Var j)) ∷ []) (domains ++ d ∷ []) [] [] false) many in
-      let next = variables_after k (m + 1) (scope ++ one letter m ∷ []) (domains ++ d ∷ []) items (omega (arith, e)) (one_more letter high m scope domains so room) says.1 in
+      let next = variables_after k (m + 1) (scope ++ entry letter m ∷ []) (domains ++ d ∷ []) items (omega (arith, e)) (one_more letter high m scope domains so room) says.1 in
       let regrouped : (domains ++ d ∷ []) ++ flat_map domains_of (map (Declare high) (range_with_len (m + 1 + 1) k)) ≡ domains ++ flat_map domains_of (map (Declare high) (range_with_len (m + 1) (suc k))) =
       append_assoc domains (d ∷ []) (flat_map domains_of (map (Declare high) (range_with_len (m + 1 + 1) k))) in
       record {

@@ -1,5 +1,5 @@
 -- The problem of the lines of a generated problem: what each line adds to it.
-use Rattle.std.specs.Prelude.{◌≡◌, ℕ, ◌+◌, ◌-◌, ◌*◌, ◌^◌, ◌≤◌, ◌<◌, ◌⊎◌, ℤ, pos, neg_ℤ, false, List, [], ◌∷◌, ◌++◌, length, map, flat_map, None, Ok}
+use Rattle.std.specs.Prelude.{◌≡◌, ℕ, ◌-◌, ◌*◌, ◌^◌, ◌≤◌, ◌<◌, ◌⊎◌, ℤ, pos, neg_ℤ, false, List, [], ◌∷◌, ◌++◌, length, map, flat_map, None, Ok}
 use Rattle.std.specs.List.{range_with_len, AllByRecursion}
 use Rattle.dcsp_domain.specs.Ranges.{numbers_between}
 use Rattle.dcsp_meaning.specs.declared.kinds.Kind.TheVariants.{IntNe}
