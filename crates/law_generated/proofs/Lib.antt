@@ -1,0 +1,10 @@
+pub mod Names
+pub mod Limits
+pub mod Steps
+pub mod Variables
+pub mod Constraints
+pub mod Whole
+pub mod Lists
+pub mod Pairs
+pub mod Generators
+pub mod Texts

@@ -1,0 +1,41 @@
+-- Generated texts have problems: those that their lines say.
+use Rattle.std.specs.Prelude.{◌≡◌, ℕ, ◌≤◌, List, Ok, codes}
+use Rattle.dcsp_gen.specs.Problems.{queens_text, colouring_text, sparse_text, pigeons_text}
+use Rattle.dcsp_problem.specs.Problems.{Contents}
+use Rattle.fzn_item.specs.declared.item.Item.{Item}
+use Rattle.fzn_model.specs.Items.{resolved}
+use Rattle.fzn_model.specs.Models.{Answers}
+use Rattle.law_generated_items.specs.Lines.{Line, queens, colouring, sparse, pigeons}
+use Rattle.law_generated_items.specs.Says.{AreSaid}
+use Rattle.law_generated.specs.Problems.{problem_of}
+
+-- items that say these lines, in any text, have the problem of the lines
+abbrev pub Resolve : List ℕ → List Line → Type 0
+Resolve letter lines = (text : List ℕ) (items : List Item) → AreSaid text letter lines items → resolved text items ≡ Ok (problem_of letter lines)
+
+-- Items that say generated lines have the problem of these lines, for all numbers of the generators.
+pub record GeneratedLinesResolve : Type 0 where
+  pub queens_do : (n : ℕ) → 1 ≤ n → n ≤ 200 → Resolve (codes "q") (queens n)
+  pub colouring_does : (n k : ℕ) (words : ℕ → ℕ) → 1 ≤ n → n ≤ 200 → 1 ≤ k → k ≤ 16 → Resolve (codes "c") (colouring n k words)
+  pub sparse_does : (n : ℕ) (words : ℕ → ℕ) → 1 ≤ n → n ≤ 4096 → Resolve (codes "c") (sparse n words)
+  pub pigeons_do : (n : ℕ) → 2 ≤ n → n ≤ 200 → Resolve (codes "p") (pigeons n)
+
+-- The text of n queens has the problem of its lines.
+abbrev pub QueensHaveProblem : Type 0
+QueensHaveProblem = (n : ℕ) → 1 ≤ n → n ≤ 200 → Answers (queens_text n) (Ok (problem_of (codes "q") (queens n)))
+
+-- So has the text of a graph of n nodes and k colours, for every words.
+abbrev pub ColouringHasProblem : Type 0
+ColouringHasProblem = (n k : ℕ) (words : ℕ → ℕ) → 1 ≤ n → n ≤ 200 → 1 ≤ k → k ≤ 16 → Answers (colouring_text n k words) (Ok (problem_of (codes "c") (colouring n k words)))
+
+-- So has that of a sparse graph of n nodes.
+abbrev pub SparseHasProblem : Type 0
+SparseHasProblem = (n : ℕ) (words : ℕ → ℕ) → 1 ≤ n → n ≤ 4096 → Answers (sparse_text n words) (Ok (problem_of (codes "c") (sparse n words)))
+
+-- So has that of n pigeons.
+abbrev pub PigeonsHaveProblem : Type 0
+PigeonsHaveProblem = (n : ℕ) → 2 ≤ n → n ≤ 200 → Answers (pigeons_text n) (Ok (problem_of (codes "p") (pigeons n)))
+
+-- the text has a problem
+abbrev pub HasProblem : List ℕ → Type 0
+HasProblem text = (problem : Contents) × Answers text (Ok problem)

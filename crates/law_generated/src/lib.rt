@@ -1,0 +1,34 @@
+//! Generated texts have problems: those that their lines say.
+#![tactic(auto)]
+
+ghost use Rattle.dcsp_gen.specs.Problems.{pigeons_text, queens_text, sparse_text};
+ghost use Rattle.law_generated.specs.Generated.{ColouringHasProblem, GeneratedLinesResolve, HasProblem, PigeonsHaveProblem, QueensHaveProblem, SparseHasProblem};
+ghost use Rattle.law_generated.specs.Problems.{LinesHaveProblem, LinesSayProblem};
+ghost use Rattle.std.specs.Prelude.{ℕ};
+
+/// Lines that declare variables, perhaps print them, state constraints on them and ask for any solution say a
+/// problem, and items that say these lines have it, within the limits of a problem.
+pub fn lines_have_problem()
+    ensures problem { LinesSayProblem }
+    ensures items { LinesHaveProblem }
+{}
+
+/// Items that say the lines of a generator have the problem of these lines.
+pub fn generated_lines_resolve()
+    ensures { GeneratedLinesResolve }
+{}
+
+/// Each text that a generator makes is accepted, whatever the words: it has the problem of its lines.
+pub fn generated_texts_have_problems()
+    ensures queens { QueensHaveProblem }
+    ensures colouring { ColouringHasProblem }
+    ensures sparse { SparseHasProblem }
+    ensures pigeons { PigeonsHaveProblem }
+{}
+
+/// Six queens, five pigeons, and a sparse graph of 500 nodes with any words.
+pub fn small_texts_have_problems()
+    ensures queens { HasProblem (queens_text 6) }
+    ensures pigeons { HasProblem (pigeons_text 5) }
+    ensures sparse { (words : ℕ → ℕ) → HasProblem (sparse_text 500 words) }
+{}

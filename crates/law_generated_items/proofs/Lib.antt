@@ -1,0 +1,14 @@
+pub mod Places
+pub mod Numbers
+pub mod Tokens
+pub mod Pieces
+pub mod PieceKinds
+pub mod Derivations
+pub mod Arrays
+pub mod LinePieces
+pub mod VariableNames
+pub mod LineTokens
+pub mod LineItems
+pub mod Whole
+pub mod Texts
+pub mod Limits
