@@ -4,16 +4,17 @@ use crate::given::words_of;
 use abt_command::run_program;
 use dcsp_outside::{Fetched, Folder, FolderError, MemorySink};
 
-/// A folder that wants memory at each call, and tells nothing of what it holds.
+/// A folder that wants memory at each call, and tells nothing of what it holds. One name counts as created,
+/// so that there is one to which bytes may be appended.
 #[derive(Drop)]
 struct WantingFolder {
     calls: u64,
 }
 
 impl Folder for WantingFolder {
-    ghost use Rattle.std.specs.Prelude.{None, []};
+    ghost use Rattle.std.specs.Prelude.{None, [], ◌∷◌};
 
-    ghost place = { λ _. record { held = None; created = []; reads = λ _. 0; writes = λ _. 0 } };
+    ghost place = { λ _. record { held = None; created = [] ∷ []; reads = λ _. 0; writes = λ _. 0 } };
 
     fn fetch(
         &mut self,

@@ -1,0 +1,94 @@
+-- What checking comes to.
+use Rattle.std.proofs.Common.{◌≡◌, ℕ, List, [], ◌∷◌, Option, Some, None, Result, Ok, Err, refl, subst, inl, inr}
+use Rattle.std.specs.Prelude.{IsErr, IsErrAnd}
+use Rattle.dcsp_outside.specs.Outside.{Place, Stream, SameCounts}
+use Rattle.dcsp_defs.specs.Csp.{HasNoSolution}
+use Rattle.dcsp_problem.specs.Problems.{Contents, csp_of}
+use Rattle.dcsp_outside.specs.Outside.{bytes_of}
+use Rattle.dcsp_script.specs.declared.stop.Stop.{Stop}
+use Rattle.dcsp_script.specs.declared.stop.Stop.TheVariants as stops
+use Rattle.dcsp_script.specs.Scripts.{Put, outside}
+use Rattle.dcsp_script.specs.Ways.{Wrote}
+use Rattle.dcsp_script.proofs.Leaves.{did_read, after_read}
+use Rattle.ngd_check.specs.declared.Finding.{Finding}
+use Rattle.ngd_check.specs.declared.Finding.TheVariants.{Verified, BadStep, NotEmpty}
+use Rattle.abt_promise.specs.declared.status.Status.{Status}
+use Rattle.abt_promise.specs.Statuses.{IsFinal}
+use Rattle.abt_promise.specs.Promises.{IsHeld}
+use Rattle.abt_promise.specs.Runs.{CameIn}
+use Rattle.abt_promise.proofs.Coming.{way_with, came_wrote}
+use Rattle.abt_input.specs.declared.error.CommandError.{CommandError}
+use Rattle.abt_input.specs.declared.error.CommandError.TheVariants.{ModelLong, ModelRefused, LogLong, LogLine, ScheduleLong, ScheduleLine, Fault, Memory}
+use Rattle.abt_input.specs.Inputs.{IsModelOf}
+use Rattle.abt_input.specs.Errors.{stop_error, way_of}
+use Rattle.abt_input.specs.Files.{IsModelReadOf, UnlessFault}
+use Rattle.abt_input.proofs.Files.{some_bytes}
+use Rattle.abt_input.proofs.Once.{one_problem}
+use Rattle.abt_check.specs.Checks.{IsOutcome, IsFoundIn, FetchesFailed, IsRefuted, finding_status, finding_text}
+use Rattle.abt_check.specs.CheckReports.{bad_model, bad_log, found, check_promise}
+
+model_refused : (model log : List ℕ) (e : CommandError) → IsModelReadOf model (Err e) → IsOutcome model log (Err e)
+model_refused model log ModelLong h = h
+model_refused model log (ModelRefused error) h = h
+model_refused model log LogLong h = absurd h
+model_refused model log (LogLine number) h = absurd h
+model_refused model log ScheduleLong h = absurd h
+model_refused model log (ScheduleLine number) h = absurd h
+model_refused model log Fault h = tt
+model_refused model log Memory h = tt
+
+-- a refusal of the model refuses the check, whatever the log
+pub refused_first : (files : Option (List ℕ → Option (List ℕ))) (model_name log_name : List ℕ) (e : CommandError) (result : Result Finding CommandError) → IsErr result × IsErrAnd result (λ y. y ≡ e) → ((model : List ℕ) × IsHeld files model_name model × IsModelReadOf model (Err e)) → IsFoundIn files model_name log_name result
+refused_first files model_name log_name e (Ok finding) is h = absurd (let no = is.0 in cc)
+refused_first files model_name log_name e (Err y) is h =
+    let log = some_bytes files log_name in rw (is.1) (h.0, log.0, h.1, log.1, model_refused h.0 log.0 e h.2)
+
+-- the problem that was read of a model is the model's
+pub refuted : (files : Option (List ℕ → Option (List ℕ))) (name : List ℕ) (p : Contents) → ((model : List ℕ) × IsHeld files name model × IsModelOf model p) → HasNoSolution (csp_of p) → IsRefuted files name
+refuted None name p h none = tt
+refuted (Some files) name p h none = λ q k.
+    subst (λ x. HasNoSolution (csp_of x)) (one_problem (bytes_of (files name)) p q (subst (λ m. IsModelOf m p) h.1 h.2) k) none
+
+final_finding : (finding : Finding) → IsFinal (finding_status finding)
+final_finding Verified = tt
+final_finding (BadStep step) = tt
+final_finding NotEmpty = tt
+
+module _ (m l : List ℕ) (p q : Place) (out : Stream) (held : q.held ≡ p.held) (created : q.created ≡ p.created) where
+  -- nothing was found
+  no_finding : (e : CommandError) → IsFoundIn p.held m l (Err e) → UnlessFault {T = Finding} (Err e) (SameCounts p q) → (e ≡ Fault → FetchesFailed m l p q) → CameIn (check_promise m l) (outside p out) (outside q out) (way_of (Err e))
+  no_finding ModelLong h counts fault = record { inputs = h.0 ∷ h.1 ∷ []; are_held = (h.2, (h.3, tt)); came = (bad_model ModelLong h.4 refl, did_read p q out held created counts, tt) }
+  no_finding (ModelRefused error) h counts fault = record { inputs = h.0 ∷ h.1 ∷ []; are_held = (h.2, (h.3, tt)); came = (bad_model (ModelRefused error) h.4 refl, did_read p q out held created counts, tt) }
+  no_finding LogLong h counts fault = record { inputs = h.0 ∷ h.1 ∷ []; are_held = (h.2, (h.3, tt)); came = (bad_log LogLong h.4.0 h.4.1 refl, did_read p q out held created counts, tt) }
+  no_finding (LogLine number) h counts fault = record { inputs = h.0 ∷ h.1 ∷ []; are_held = (h.2, (h.3, tt)); came = (bad_log (LogLine number) h.4.0 h.4.1 refl, did_read p q out held created counts, tt) }
+  no_finding ScheduleLong h counts fault = absurd h.4
+  no_finding (ScheduleLine number) h counts fault = absurd h.4
+  no_finding Memory h counts fault = record { inputs = h.0 ∷ h.1 ∷ []; are_held = (h.2, (h.3, tt)); came = inl (did_read p q out held created counts) }
+  no_finding Fault h counts fault = elim (fault refl) [
+    | inl rose ↦ record {
+      inputs = h.0 ∷ h.1 ∷ [];
+      are_held = (h.2, (h.3, tt));
+      came = inl (record { before = []; later = h.0 ∷ h.1 ∷ []; are_first = refl; name = m; fetches = refl; rose = rose; after = after_read p q out held created });
+    }
+    | inr x ↦ record {
+      inputs = x.0 ∷ h.1 ∷ [];
+      are_held = (x.1, (h.3, tt));
+      came = inl (record { before = x.0 ∷ []; later = h.1 ∷ []; are_first = refl; name = l; fetches = (refl, x.2); rose = x.3; after = after_read p q out held created });
+    }
+  ]
+
+  pub came_unfound : {e : CommandError} (r : Result Status CommandError) → IsErr r × IsErrAnd r (λ y. y ≡ e) → IsFoundIn p.held m l (Err e) → UnlessFault {T = Finding} (Err e) (SameCounts p q) → (e ≡ Fault → FetchesFailed m l p q) → CameIn (check_promise m l) (outside p out) (outside q out) (way_of r)
+  came_unfound {e = e} (Ok x) is h counts fault = absurd (let no = is.0 in cc)
+  came_unfound {e = e} (Err y) is h counts fault = rw is.1 (no_finding e h counts fault)
+
+  -- what was found was told, or that was stopped
+  told_to : {T : Type 0} (now : Stream) (finding : Finding) (r : Result T Stop) → IsFoundIn p.held m l (Ok finding) → SameCounts p q → Wrote (Put (finding_text finding) ∷ []) (outside q out) (outside q now) r → CameIn (check_promise m l) (outside p out) (outside q now) (way_with (finding_status finding) r)
+  told_to now finding r h counts w = came_wrote (check_promise m l) (h.0 ∷ h.1 ∷ []) (finding_status finding) (Put (finding_text finding) ∷ []) r (final_finding finding) (h.2, (h.3, tt)) (found finding h.4 refl) (did_read p q out held created counts) w
+
+  pub came_told : {T : Type 0} (x : T) (now : Stream) (finding : Finding) (status : Status) → status ≡ finding_status finding → IsFoundIn p.held m l (Ok finding) → SameCounts p q → Wrote (Put (finding_text finding) ∷ []) (outside q out) (outside q now) (Ok x) → CameIn (check_promise m l) (outside p out) (outside q now) (way_of (Ok status))
+  came_told x now finding status s h counts w = rw s (told_to now finding (Ok x) h counts w)
+
+  pub came_untold : {T : Type 0} (now : Stream) (finding : Finding) (stop : Stop) (r : Result Status CommandError) → IsErr r × IsErrAnd r (λ y. y ≡ stop_error stop) → IsFoundIn p.held m l (Ok finding) → SameCounts p q → Wrote {T = T} (Put (finding_text finding) ∷ []) (outside q out) (outside q now) (Err stop) → CameIn (check_promise m l) (outside p out) (outside q now) (way_of r)
+  came_untold now finding stop (Ok x) is h counts w = absurd (let no = is.0 in cc)
+  came_untold {T = T} now finding stops.Fault (Err y) is h counts w = rw is.1 (told_to {T = T} now finding (Err stops.Fault) h counts w)
+  came_untold {T = T} now finding stops.Memory (Err y) is h counts w = rw is.1 (told_to {T = T} now finding (Err stops.Memory) h counts w)

@@ -1,0 +1,87 @@
+//! Checking a log against a model.
+
+ghost use Rattle.std.specs.Prelude.{◌≡◌, [], ◌∷◌, Ok, Err, IfOk};
+ghost use Rattle.dcsp_outside.specs.Outside.{Place, SameCounts};
+ghost use Rattle.dcsp_script.specs.Scripts.{Put, outside};
+ghost use Rattle.dcsp_script.specs.Ways.{Wrote};
+ghost use Rattle.abt_promise.specs.Runs.{CameIn};
+ghost use Rattle.abt_input.specs.Errors.{way_of};
+ghost use Rattle.abt_input.specs.Files.{UnlessFault};
+ghost use Rattle.abt_input.specs.Replies.{reply_bytes};
+ghost use Rattle.abt_check.specs.Checks.{IsFoundIn, FetchesFailed, IsRefuted, finding_status, finding_text};
+ghost use Rattle.abt_check.specs.CheckReports.{check_promise};
+
+use abt_input::{CommandError, Reply, numbered, read_derivation, read_model};
+use abt_promise::Status;
+use dcsp_outside::{Folder, Sink};
+use dcsp_script::{Stop, put};
+use ngd_check::{Finding, check};
+use std::alloc::{AllocError, Global};
+
+/// What is found of the log's derivation for the model's problem. The model is read first.
+fn find<F: Folder>(
+    alloc: Global,
+    folder: &mut F,
+    model: &str,
+    log: &str,
+) -> Result<Finding, CommandError>
+    ensures found { IsFoundIn (F.place folder.old).held model.now log.now result }
+    ensures verified { result ≡ Ok Finding.Verified → IsRefuted (F.place folder.old).held model.now }
+    ensures held { (F.place folder.new).held ≡ (F.place folder.old).held }
+    ensures created { (F.place folder.new).created ≡ (F.place folder.old).created }
+    ensures counts { UnlessFault result (SameCounts (F.place folder.old) (F.place folder.new)) }
+    ensures fault { result ≡ Err CommandError.Fault
+        → FetchesFailed model.now log.now (F.place folder.old) (F.place folder.new) }
+{
+    let problem = read_model(alloc, folder, model)?;
+    let derivation = read_derivation(alloc, folder, log)?;
+    Ok(check(&problem, &derivation))
+}
+
+/// The status of a finding.
+fn finding_status(finding: Finding) -> Status
+    ensures { result ≡ finding_status finding }
+{
+    match finding {
+        Finding::Verified => Status::Good,
+        Finding::BadStep { .. } | Finding::NotEmpty => Status::No,
+    }
+}
+
+/// The line that tells a finding.
+fn finding_reply(alloc: Global, finding: Finding) -> Result<Reply, AllocError>
+    ensures { IfOk result (λ reply. reply_bytes reply ≡ finding_text finding) }
+{
+    match finding {
+        Finding::Verified => Ok(Reply::Fixed(b"verified\n")),
+        Finding::BadStep { step } => numbered(alloc, b"rejected step ", step),
+        Finding::NotEmpty => Ok(Reply::Fixed(b"rejected not empty\n")),
+    }
+}
+
+/// Puts the finding's line on `out`, in one piece.
+fn tell<S: Sink>(alloc: Global, finding: Finding, out: &mut S) -> Result<(), Stop>
+    ensures { (folder : Place) → Wrote (Put (finding_text finding) ∷ [])
+        (outside folder (S.stream out.old)) (outside folder (S.stream out.new)) result }
+{
+    let reply = finding_reply(alloc, finding)?;
+    put(out, reply.bytes())
+}
+
+/// Checks the log against the model, and puts the finding's line on `out`.
+pub fn run_check<F: Folder, S: Sink>(
+    alloc: Global,
+    folder: &mut F,
+    model: &str,
+    log: &str,
+    out: &mut S,
+) -> Result<Status, CommandError>
+    ensures came { CameIn (check_promise model.now log.now)
+        (outside (F.place folder.old) (S.stream out.old))
+        (outside (F.place folder.new) (S.stream out.new)) (way_of result) }
+    ensures verified { result ≡ Ok Status.Good → IsRefuted (F.place folder.old).held model.now }
+{
+    let finding = find(alloc, folder, model, log)?;
+    tell(alloc, finding, out)?;
+    Ok(finding_status(finding))
+}
