@@ -23,7 +23,7 @@ never : {A : Type 0} {x : A} → Contains [] x → ⊥
 never (i, below, is) = omega arith
 
 -- a script of one put changes no name
-put_alone : (text : List ℕ) (names : List (List ℕ)) (s : List Write) → s ≡ Put text ∷ [] → (w : Write) → Contains s w → (name : List ℕ) → Touches w name → Contains names name
+pub put_alone : (text : List ℕ) (names : List (List ℕ)) (s : List Write) → s ≡ Put text ∷ [] → (w : Write) → Contains s w → (name : List ℕ) → Touches w name → Contains names name
 put_alone text names s e w c name t = at (subst (λ l. Contains l w) e c)
   where
     at : Contains (Put text ∷ []) w → Contains names name
@@ -33,7 +33,7 @@ put_alone text names s e w c name t = at (subst (λ l. Contains l w) e c)
 none_alone : (names : List (List ℕ)) (s : List Write) → s ≡ [] → (w : Write) → Contains s w → (name : List ℕ) → Touches w name → Contains names name
 none_alone names s e w c name t = absurd (never (subst (λ l. Contains l w) e c))
 
-one_found : (model log : List ℕ) (f g : Finding) → IsFound model log f → IsFound model log g → f ≡ g
+pub one_found : (model log : List ℕ) (f g : Finding) → IsFound model log f → IsFound model log g → f ≡ g
 one_found model log f g h k =
     let p = one_problem model h.problem k.problem h.model_is k.model_is in
     let s = one_text log h.steps k.steps h.log_is k.log_is in

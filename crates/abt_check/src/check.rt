@@ -39,7 +39,7 @@ fn find<F: Folder>(
 }
 
 /// The status of a finding.
-fn finding_status(finding: Finding) -> Status
+pub fn finding_status(finding: Finding) -> Status
     ensures { result ≡ finding_status finding }
 {
     match finding {
@@ -49,7 +49,7 @@ fn finding_status(finding: Finding) -> Status
 }
 
 /// The line that tells a finding.
-fn finding_reply(alloc: Global, finding: Finding) -> Result<Reply, AllocError>
+pub fn finding_reply(alloc: Global, finding: Finding) -> Result<Reply, AllocError>
     ensures { IfOk result (λ reply. reply_bytes reply ≡ finding_text finding) }
 {
     match finding {

@@ -1,5 +1,3 @@
-pub mod Checks
 pub mod FewWords
 pub mod Lines
-pub mod Lawful
 pub mod Runs

@@ -19,7 +19,7 @@ use Rattle.abt_models.proofs.Lawful.{bound_lawful, print_lawful}
 use Rattle.abt_run.proofs.Lawful.{replay_lawful, solve_lawful}
 use Rattle.abt_command.specs.Lines.{AreFileNames, Settings, no_settings, Sets, nothing, seeds, records, traces, trace_words, Line, Help, Version, Check, Replay, Solve, Bound, Queens, Colouring, IsFileName, IsWithin, IsSolve, IsLine, IsNoLine}
 use Rattle.abt_command.specs.LinePromises.{promise_of}
-use Rattle.abt_command.proofs.Lawful.{check_lawful}
+use Rattle.abt_check.proofs.Lawful.{check_lawful}
 
 -- ---- words read back
 

@@ -1,34 +1,43 @@
 -- What a run that the words ask for left, sentence by sentence.
-use Rattle.std.proofs.Common.{◌≡◌, ◌≢◌, ℕ, List, [], ◌∷◌, Option, Some, None, refl, sym, subst}
+use Rattle.std.proofs.Common.{◌≡◌, ◌≢◌, ◌≤◌, ◌^◌, arith, ℕ, List, [], ◌∷◌, Option, Some, None, refl, sym, subst}
 use Rattle.std.specs.Prelude.{Bool, IfSome, option_to_list}
-use Rattle.dcsp_outside.specs.Outside.{Stream, bytes_of}
+use Rattle.dcsp_outside.specs.Outside.{Stream, Told, bytes_of}
 use Rattle.dcsp_script.specs.Scripts.{World}
 use Rattle.dcsp_script.specs.Ways.{Did, DidPartOf}
 use Rattle.dcsp_defs.specs.Csp.{IsCsp}
+use Rattle.dcsp_defs.specs.Derivation.{IsRefutation}
 use Rattle.dcsp_problem.specs.Problems.{Contents, csp_of}
 use Rattle.abt_promise.specs.declared.status.Status.{Status}
 use Rattle.abt_promise.specs.declared.status.Status.TheVariants.{Good, No}
 use Rattle.abt_promise.specs.Statuses.{IsFinal, IsRefusal}
 use Rattle.abt_promise.specs.Runs.{Ran}
 use Rattle.abt_promise.proofs.Following.{report_part, report_did}
-use Rattle.abt_input.specs.Inputs.{IsModelOf}
+use Rattle.ngd_log.specs.Logs.{log_text}
+use Rattle.law_logs.specs.Logged.{IsSmall}
+use Rattle.abt_input.specs.Inputs.{IsModelOf, IsTextOf}
+use Rattle.abt_check.specs.Verifying.{IsVerified}
+use Rattle.abt_check.proofs.Verifying.{refutation_verified}
 use Rattle.abt_run.specs.Endings.{end_status}
 use Rattle.abt_run.specs.Asked.{Asked, asked_run, asked_script, run_report, replay, solve}
 use Rattle.abt_run.specs.ReplayPromise.{replay_promise, replayed}
 use Rattle.abt_run.specs.SolvePromise.{solve_promise, ran}
-use Rattle.abt_run.specs.Headline.{HoldsProblem, IsRun, IsSolvedRun, IsRefutedRun, IsUnfinishedRun, IsBoundedRun, WritesOrdered}
+use Rattle.abt_run.specs.Headline.{HoldsProblem, IsOther, HoldsRun, IsRun, IsSolvedRun, IsRefutedRun, IsUnfinishedRun, IsBoundedRun, WritesOrdered}
 use Rattle.abt_run.proofs.Lawful.{no_refusal, replay_lawful, solve_lawful}
 use Rattle.abt_run.proofs.Headlines.{HasOwnRecord, is_run, part_ordered}
-use Rattle.abt_run.proofs.Verdicts.{solved, refuted, bounded, replay_unfinished, solve_unfinished}
-use Rattle.abt_command.specs.Lines.{AreFileNames, Line, Replay, Solve, IsLine, IsNoLine}
+use Rattle.abt_run.proofs.Verdicts.{solved, refuted, bounded, replay_unfinished, solve_unfinished, refuted_log}
+use Rattle.abt_command.specs.Lines.{IsNewName, AreFileNames, Line, Replay, Solve, IsLine, IsNoLine}
 use Rattle.abt_command.specs.LinePromises.{promise_of}
-use Rattle.abt_command.specs.AskedRuns.{AsksFor, replays, solves, EachRun, RunsModel}
+use Rattle.abt_command.specs.AskedRuns.{AsksFor, replays, solves, EachRun, RunsModel, AskForModel, IsCheckedRun}
 use Rattle.abt_command.proofs.Lines.{one_line}
 
 -- the record of a line has a name of its own
 own_record : (model log : List ℕ) (kept : Option (List ℕ)) → AreFileNames (model ∷ log ∷ option_to_list kept) → IfSome kept (λ k. k ≡ log → ⊥)
 own_record model log None h = tt
 own_record model log (Some k) h = λ e. h.2.1.0 (sym e)
+
+of_kept : {model : List ℕ} (kept : Option (List ℕ)) → IsNewName model (option_to_list kept) → IfSome kept (λ k. model ≢ k)
+of_kept None h = tt
+of_kept (Some k) h = h.0
 
 -- words that are no line ask for no run
 pub asks_for_none : (words : List (List ℕ)) (held : Option (List ℕ → Option (List ℕ))) (P : Asked → Type 0) → IsNoLine words → EachRun words held P
@@ -67,8 +76,26 @@ module _ (words : List (List ℕ)) (line : Line) (is : IsLine words line) (a b :
     of_model l name h r f n = subst (λ held. HoldsProblem held name) told (sound name (subst (λ x. RunsModel x name) (sym (one_line words line l is h)) r) f n)
 
     well_formed : (asked : Asked) → AsksFor words files asked → IsFinal status → (IsRefusal status → ⊥) → IsCsp (csp_of asked.problem)
-    well_formed asked (replays m s l t h p mp cs hc e) f n = rw e (of_model (Replay m s l t) m h refl f n p mp)
-    well_formed asked (solves m l n k t h p mp e) f no_refused = rw e (of_model (Solve m l n k t) m h refl f no_refused p mp)
+    well_formed asked (replays m s l t h p mp cs hc e) f n = rw e (of_model (Replay m s l t) m h refl f n p mp).0
+    well_formed asked (solves m l n k t h p mp e) f no_refused = rw e (of_model (Solve m l n k t) m h refl f no_refused p mp).0
+
+    -- logs can name all that the model's problem has
+    small : (asked : Asked) → AsksFor words files asked → IsFinal status → (IsRefusal status → ⊥) → IsSmall (csp_of asked.problem)
+    small asked (replays m s l t h p mp cs hc e) f n = rw e (of_model (Replay m s l t) m h refl f n p mp).1
+    small asked (solves m l n k t h p mp e) f no_refused = rw e (of_model (Solve m l n k t) m h refl f no_refused p mp).1
+
+    -- the model of the run has a name of its own
+    own_model : (asked : Asked) → AsksFor words files asked → (model : List ℕ) → AskForModel words model → IsOther asked model × IsModelOf (bytes_of (files model)) asked.problem
+    own_model asked (replays m s l t h p mp cs hc e) model a =
+        let is : m ≡ model = subst (λ x. RunsModel x model) (one_line words a.line (Replay m s l t) a.is h) a.runs in
+        rw (e, sym is) ((h.names.1.1.0, tt), mp)
+    own_model asked (solves m l n k t h p mp e) model a =
+        let is : m ≡ model = subst (λ x. RunsModel x model) (one_line words a.line (Solve m l n k t) a.is h) a.runs in
+        rw (e, sym is) ((h.names.1.0, of_kept k h.names.1.1), mp)
+
+    at_most : (asked : Asked) → AsksFor words files asked → asked.session.most ≤ 2 ^ 40
+    at_most asked (replays m s l t h p mp cs hc e) = rw e (omega arith)
+    at_most asked (solves m l n k t h p mp e) = rw e (omega arith)
 
     at_limit : (asked : Asked) → AsksFor words files asked → status ≡ end_status (asked_run asked).end → IsUnfinishedRun asked status
     at_limit asked (replays m s l t h p mp cs hc e) = rw e (λ i. replay_unfinished p (bytes_of (files s)) cs l t status hc i)
@@ -109,3 +136,25 @@ module _ (words : List (List ℕ)) (line : Line) (is : IsLine words line) (a b :
 
   pub run_ordered : EachRun words a.folder.held (λ asked. WritesOrdered asked a b)
   run_ordered = each (λ asked. WritesOrdered asked a b) (λ files told asked asks. part_ordered asked (own files told asked asks) a b (made_part files told asked asks))
+
+  pub run_checked : EachRun words a.folder.held (λ asked. IsCheckedRun words b.folder.held asked status)
+  run_checked = each (λ asked. IsCheckedRun words b.folder.held asked status) (λ files told asked asks answer model runs.
+      let f = subst IsFinal (sym answer) tt in
+      let d = did_run files told asked asks f in
+      let no_refused = not_refused files told asked d.0 in
+      let same = same_problem files told asked asks in
+      let ok = well_formed files told asked asks f no_refused in
+      let refutes = refuted asked same ok status d.0 answer in
+      let log = refuted_log asked same (at_most files told asked asks) ok (small files told asked asks f no_refused) refutes in
+      let mine = own_model files told asked asks model runs in
+      by_held asked model files told mine log refutes (is_run asked (own files told asked asks) a b status d.0 d.1).files)
+    where
+      by_held : (asked : Asked) (model : List ℕ) (files : List ℕ → Option (List ℕ)) → a.folder.held ≡ Some files → IsOther asked model × IsModelOf (bytes_of (files model)) asked.problem → IsTextOf (log_text (asked_run asked).net.steps) (asked_run asked).net.steps → IsRefutation (csp_of asked.problem) (asked_run asked).net.steps
+          → Told a.folder.held b.folder.held (HoldsRun asked) → IfSome b.folder.held (λ now. IsVerified now model asked.session.log)
+      by_held asked model files told mine log refutes holds = at b.folder.held (subst (λ x. Told x b.folder.held (HoldsRun asked)) told holds)
+        where
+          at : (held : Option (List ℕ → Option (List ℕ))) → Told (Some files) held (HoldsRun asked) → IfSome held (λ now. IsVerified now model asked.session.log)
+          at None h = tt
+          at (Some now) h =
+              let same : now model ≡ files model = h.others model mine.0 in
+              refutation_verified now model asked.session.log asked.problem (asked_run asked).net.steps (subst (λ x. IsModelOf (bytes_of x) asked.problem) (sym same) mine.1) (subst (λ x. IsTextOf (bytes_of x) (asked_run asked).net.steps) (sym h.log) log) refutes

@@ -3,6 +3,9 @@ use Rattle.std.specs.Prelude.{◌≡◌, ℕ, Bool, List, [], ◌∷◌, Option,
 use Rattle.dcsp_outside.specs.Outside.{bytes_of}
 use Rattle.dcsp_problem.specs.Problems.{Contents}
 use Rattle.abt_input.specs.Inputs.{IsModelOf, HasChoices}
+use Rattle.abt_promise.specs.declared.status.Status.{Status}
+use Rattle.abt_promise.specs.declared.status.Status.TheVariants.{No}
+use Rattle.abt_check.specs.Verifying.{IsVerified}
 use Rattle.abt_run.specs.Asked.{Asked, replay, solve}
 use Rattle.abt_command.specs.Lines.{Line, Help, Version, Check, Replay, Solve, Bound, Queens, Colouring, IsLine}
 
@@ -29,3 +32,13 @@ RunsModel (Queens n) name = ⊥
 RunsModel (Colouring n k seed) name = ⊥
 RunsModel (Replay model schedule log trace) name = model ≡ name
 RunsModel (Solve model log seed kept trace) name = model ≡ name
+
+-- the words ask for a run of the model under this name
+pub record AskForModel (words : List (List ℕ)) (model : List ℕ) : Type 0 where
+  pub line : Line
+  pub is : IsLine words line
+  pub runs : RunsModel line model
+
+-- with status 1 a check of the log against the model, over the folder that the run left, verifies it, unless it is stopped
+abbrev pub IsCheckedRun : List (List ℕ) → Option (List ℕ → Option (List ℕ)) → Asked → Status → Type 0
+IsCheckedRun words held asked status = status ≡ No → (model : List ℕ) → AskForModel words model → IfSome held (λ files. IsVerified files model asked.session.log)

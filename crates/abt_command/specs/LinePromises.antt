@@ -13,7 +13,7 @@ use Rattle.abt_models.specs.Generated.{print_promise, queens_promise, colouring_
 use Rattle.abt_run.specs.ReplayPromise.{replay_promise}
 use Rattle.abt_run.specs.SolvePromise.{solve_promise}
 use Rattle.abt_command.specs.Lines.{Line, Help, Version, Check, Replay, Solve, Bound, Queens, Colouring, IsLine, IsNoLine}
-use Rattle.abt_command.specs.CheckReports.{check_promise}
+use Rattle.abt_check.specs.CheckReports.{check_promise}
 
 -- the promise of a line
 abbrev pub promise_of : Line → Promise

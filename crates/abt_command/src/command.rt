@@ -10,15 +10,15 @@ ghost use Rattle.abt_promise.specs.Promises.{IsSaid};
 ghost use Rattle.abt_promise.specs.Runs.{CameIn, Concludes, Ran, Answers, Faults, Lacks};
 ghost use Rattle.abt_promise.specs.Clauses.{HasCause, IsComplete, GainsText, LeavesOthers, CreatesOwn, IsLawful};
 ghost use Rattle.abt_input.specs.Errors.{way_of, error_text};
+ghost use Rattle.abt_check.specs.Checks.{IsRefuted};
 ghost use Rattle.abt_run.specs.Headline.{HoldsProblem, IsRun, IsSolvedRun, IsRefutedRun, IsUnfinishedRun, IsBoundedRun, WritesOrdered};
-ghost use Rattle.abt_command.specs.AskedRuns.{EachRun, RunsModel};
+ghost use Rattle.abt_command.specs.AskedRuns.{EachRun, IsCheckedRun, RunsModel};
 ghost use Rattle.abt_command.specs.Lines.{Line, Check, IsLine, IsSomeLine, IsNoLine, line_of};
 ghost use Rattle.abt_command.specs.LinePromises.{promise_of, EachPromise, HasRun};
-ghost use Rattle.abt_command.specs.Checks.{IsRefuted};
 
-use crate::check::run_check;
 use crate::plain::{HELP, VERSION};
 use crate::words::{Order, words_of};
+use abt_check::run_check;
 use abt_input::{CommandError, error_reply, error_status};
 use abt_models::{print, run_bound, run_colouring, run_queens};
 use abt_promise::{Status, say};
@@ -193,6 +193,7 @@ pub fn run_command<F: Folder, S: Sink>(
         (outside (F.place folder.old) (S.stream out.old)) (outside (F.place folder.new) (S.stream out.new))) }
     ensures solved { EachRun (map string_bytes words.now) (F.place folder.old).held (λ asked. IsSolvedRun asked result) }
     ensures refuted { EachRun (map string_bytes words.now) (F.place folder.old).held (λ asked. IsRefutedRun asked result) }
+    ensures checks { EachRun (map string_bytes words.now) (F.place folder.old).held (λ asked. IsCheckedRun (map string_bytes words.now) (F.place folder.new).held asked result) }
     ensures no_stall { EachRun (map string_bytes words.now) (F.place folder.old).held (λ asked. IsFinal result → IsUnfinishedRun asked result) }
     ensures bound { EachRun (map string_bytes words.now) (F.place folder.old).held (λ asked. IsFinal result → IsBoundedRun asked result) }
     ensures in_order { EachRun (map string_bytes words.now) (F.place folder.old).held (λ asked. WritesOrdered asked

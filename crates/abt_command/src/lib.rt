@@ -4,7 +4,6 @@
 //! it. What holds of every line is said once, in its contract.
 #![tactic(auto)]
 
-mod check;
 mod command;
 mod options;
 mod plain;

@@ -8,6 +8,7 @@ use Rattle.dcsp_script.specs.Scripts.{World, outside}
 use Rattle.dcsp_script.specs.Ways.{Did, Wrote}
 use Rattle.dcsp_script.proofs.Leaves.{did_read, after_read}
 use Rattle.dcsp_defs.specs.Csp.{IsCsp}
+use Rattle.law_logs.specs.Logged.{IsSmall}
 use Rattle.dcsp_outside.specs.Outside.{bytes_of}
 use Rattle.dcsp_problem.specs.Problems.{Contents, csp_of}
 use Rattle.abt_promise.specs.declared.status.Status.{Status}
@@ -36,9 +37,10 @@ some_inputs files [] = ([], tt)
 some_inputs files (name ∷ names) = let x = some_bytes files name in let more = some_inputs files names in (x.0 ∷ more.0, (x.1, more.1))
 
 -- the problem that was read of a model is the model's
-pub holds_problem : (files : Option (List ℕ → Option (List ℕ))) (name : List ℕ) (p : Contents) → ((model : List ℕ) × IsHeld files name model × IsModelOf model p) → IsCsp (csp_of p) → HoldsProblem files name
-holds_problem None name p h ok = tt
-holds_problem (Some files) name p h ok = λ q k. subst (λ x. IsCsp (csp_of x)) (one_problem (bytes_of (files name)) p q (subst (λ m. IsModelOf m p) h.1 h.2) k) ok
+pub holds_problem : (files : Option (List ℕ → Option (List ℕ))) (name : List ℕ) (p : Contents) → ((model : List ℕ) × IsHeld files name model × IsModelOf model p) → IsCsp (csp_of p) → IsSmall (csp_of p) → HoldsProblem files name
+holds_problem None name p h ok small = tt
+holds_problem (Some files) name p h ok small = λ q k.
+    subst (λ x. IsCsp (csp_of x) × IsSmall (csp_of x)) (one_problem (bytes_of (files name)) p q (subst (λ m. IsModelOf m p) h.1 h.2) k) (ok, small)
 
 -- ---- a model that is not read
 

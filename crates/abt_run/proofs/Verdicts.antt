@@ -23,7 +23,11 @@ use Rattle.abt_session.specs.Sessions.{Session, run_of}
 use Rattle.abt_session.specs.Running.{session_of}
 use Rattle.abt_promise.specs.declared.status.Status.{Status}
 use Rattle.abt_promise.specs.declared.status.Status.TheVariants.{Good, No, Unfinished}
-use Rattle.abt_input.specs.Inputs.{HasChoices}
+use Rattle.ngd_log.specs.Logs.{log_text}
+use Rattle.law_sizes.proofs.Runs.{sizes_hold}
+use Rattle.law_logs.specs.Logged.{IsSmall}
+use Rattle.law_logs.proofs.Writable.{have_logs}
+use Rattle.abt_input.specs.Inputs.{HasChoices, IsTextOf}
 use Rattle.abt_run.specs.Endings.{assigned, final_values, end_status}
 use Rattle.abt_run.specs.Asked.{Asked, asked_run, most_deliveries, replay, solve, IsReplayed}
 use Rattle.abt_run.specs.Headline.{IsSolvedRun, IsRefutedRun, IsUnfinishedRun, IsBoundedRun}
@@ -198,3 +202,17 @@ records_replay p seed log again trace told =
     let all : length run.numbers ≤ most_deliveries = omega (arith, n, m) in
     let same : first_answers most_deliveries (λ k. slice_get run.numbers k) ≡ run.numbers = list_answers most_deliveries run.numbers ∙ take_all most_deliveries run.numbers all in
     subst (λ cs. Repeats run (whole (csp_of p) most_deliveries cs)) (sym same) (replays (csp_of p) most_deliveries most_deliveries choices (omega arith))
+
+-- ---- logs
+
+-- the log of a refuted run is a text of its derivation
+pub refuted_log : (asked : Asked) → asked.session.problem ≡ csp_of asked.problem → asked.session.most ≤ 2 ^ 40 → IsCsp (csp_of asked.problem) → IsSmall (csp_of asked.problem) → IsRefutation (csp_of asked.problem) (asked_run asked).net.steps
+    → IsTextOf (log_text (asked_run asked).net.steps) (asked_run asked).net.steps
+refuted_log asked same most ok small refutation =
+    let s = asked.session in
+    let h = stops s.problem s.most s.choices in
+    let made = h.at_most in
+    let size = (sizes_hold s.problem (subst IsCsp (sym same) ok) (take (asked_run asked).net.deliveries s.choices)).steps in
+    let few : length (asked_run asked).net.steps ≤ (asked_run asked).net.deliveries + 1 = subst (λ n. length n.steps ≤ n.deliveries + 1) (sym h.net) size in
+    let log = have_logs (csp_of asked.problem) small (asked_run asked).net.steps refutation.right (omega arith) in
+    record { short = log.short; reads = log.log }

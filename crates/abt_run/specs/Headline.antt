@@ -9,6 +9,7 @@ use Rattle.dcsp_problem.specs.Problems.{Contents, csp_of}
 use Rattle.ngd_log.specs.Logs.{log_text}
 use Rattle.abt_defs.specs.Bound.{message_bound}
 use Rattle.law_replay.specs.Stops.{IsOpen}
+use Rattle.law_logs.specs.Logged.{IsSmall}
 use Rattle.abt_schedule.specs.Schedules.{schedule_text}
 use Rattle.abt_session.specs.Order.{trace_text, log_of_first, HasLines}
 use Rattle.abt_promise.specs.declared.status.Status.{Status}
@@ -17,9 +18,9 @@ use Rattle.abt_input.specs.Inputs.{IsModelOf}
 use Rattle.abt_run.specs.Endings.{assigned, final_values, end_status}
 use Rattle.abt_run.specs.Asked.{Asked, asked_run, answer_text}
 
--- the problem of the model under the name, where the folder tells it, is well-formed
+-- the problem of the model under the name, where the folder tells it, is well-formed, and logs can name all that it has
 abbrev pub HoldsProblem : Option (List ℕ → Option (List ℕ)) → List ℕ → Type 0
-HoldsProblem files name = IfSome files (λ f. (problem : Contents) → IsModelOf (bytes_of (f name)) problem → IsCsp (csp_of problem))
+HoldsProblem files name = IfSome files (λ f. (problem : Contents) → IsModelOf (bytes_of (f name)) problem → IsCsp (csp_of problem) × IsSmall (csp_of problem))
 
 -- all that goes to `out`: the trace, where one is asked for, and the answer
 abbrev pub whole_text : Asked → List ℕ

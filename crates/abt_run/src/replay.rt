@@ -19,6 +19,7 @@ use abt_schedule::Listed;
 use dcsp_outside::{Folder, Sink};
 use dcsp_problem::Problem;
 use dcsp_script::Stop;
+use law_logs::problems_are_small;
 use std::alloc::Global;
 
 /// The words of `replay`.
@@ -48,6 +49,7 @@ pub fn run_replay<F: Folder, S: Sink>(
 {
     let problem = read_model(alloc, folder, line.model)?;
     let _vars = problem.vars();
+    problems_are_small(&problem);
     let choices = read_choices(alloc, folder, line.schedule)?;
     let status = run_choices(alloc, &problem, choices, line, folder, out)?;
     Ok(status)

@@ -19,6 +19,7 @@ use abt_schedule::Seeded;
 use dcsp_outside::{Folder, Sink};
 use dcsp_problem::Problem;
 use dcsp_script::Stop;
+use law_logs::problems_are_small;
 use std::alloc::Global;
 
 /// The words of `solve`.
@@ -50,6 +51,7 @@ pub fn run_solve<F: Folder, S: Sink>(
 {
     let problem = read_model(alloc, folder, line.model)?;
     let _vars = problem.vars();
+    problems_are_small(&problem);
     let status = run_seed(alloc, &problem, line, folder, out)?;
     Ok(status)
 }

@@ -3,7 +3,7 @@ use Rattle.abt_promise.proofs.Following.{ran_answers, ran_cause, ran_complete, r
 use Rattle.abt_command.specs.Lines.{Check, line_of}
 use Rattle.abt_command.specs.LinePromises.{promise_of}
 use Rattle.abt_command.proofs.Lines.{one_line, lawful}
-use Rattle.abt_command.proofs.Runs.{asks_for_none, the_run, run_solved, run_refuted, run_unfinished, run_bounded, run_ordered}
+use Rattle.abt_command.proofs.Runs.{asks_for_none, the_run, run_solved, run_refuted, run_checked, run_unfinished, run_bounded, run_ordered}
 use Rattle.abt_command.proofs.command.run_command.Goals as goal
 
 pub returns-in-Some-clause-answers : goal.returns-in-Some-clause-answers
@@ -51,6 +51,9 @@ returns-in-Some-clause-solved g c = run_solved _ (line_of c.in-Some.order) c.in-
 pub returns-in-Some-clause-refuted : goal.returns-in-Some-clause-refuted
 returns-in-Some-clause-refuted g c = run_refuted _ (line_of c.in-Some.order) c.in-Some.ensures.some _ _ _ _ c.run_order.result c.run_order.ensures.ran c.run_order.ensures.sound
 
+pub returns-in-Some-clause-checks : goal.returns-in-Some-clause-checks
+returns-in-Some-clause-checks g c = run_checked _ (line_of c.in-Some.order) c.in-Some.ensures.some _ _ _ _ c.run_order.result c.run_order.ensures.ran c.run_order.ensures.sound
+
 pub returns-in-Some-clause-no_stall : goal.returns-in-Some-clause-no_stall
 returns-in-Some-clause-no_stall g c = run_unfinished _ (line_of c.in-Some.order) c.in-Some.ensures.some _ _ _ _ c.run_order.result c.run_order.ensures.ran c.run_order.ensures.sound
 
@@ -68,6 +71,9 @@ returns-in-None-clause-solved g c = asks_for_none _ _ _ (c.in-None.ensures.none 
 
 pub returns-in-None-clause-refuted : goal.returns-in-None-clause-refuted
 returns-in-None-clause-refuted g c = asks_for_none _ _ _ (c.in-None.ensures.none refl)
+
+pub returns-in-None-clause-checks : goal.returns-in-None-clause-checks
+returns-in-None-clause-checks g c = asks_for_none _ _ _ (c.in-None.ensures.none refl)
 
 pub returns-in-None-clause-no_stall : goal.returns-in-None-clause-no_stall
 returns-in-None-clause-no_stall g c = asks_for_none _ _ _ (c.in-None.ensures.none refl)

@@ -26,4 +26,4 @@ returns-clause-came g c =
     replay_ran _ _ _ _ _ _ _ e.held e.created _ e.read e.counts _ k.held k.created _ k.read k.counts _ _ c.in_ok-status.ensures.status c.in_ok-status.ensures.wrote
 
 pub returns-clause-sound : goal.returns-clause-sound
-returns-clause-sound g c = holds_problem (g.F.Folder.place c.args.folder.now).held c.args.line.model.now c.in_ok-problem.problem c.in_ok-problem.ensures.read c.vars-vars.ensures.csp
+returns-clause-sound g c = holds_problem (g.F.Folder.place c.args.folder.now).held c.args.line.model.now c.in_ok-problem.problem c.in_ok-problem.ensures.read c.vars-vars.ensures.csp c.problems_are_small.ensures

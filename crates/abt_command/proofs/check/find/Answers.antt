@@ -1,8 +1,0 @@
-use Rattle.abt_command.proofs.Checks.{refused_first, refuted}
-use Rattle.abt_command.proofs.check.find.Goals as goal
-
-pub returns-in_err-problem-clause-found : goal.returns-in_err-problem-clause-found
-returns-in_err-problem-clause-found g c = refused_first (g.F.Folder.place c.args.folder.now).held c.args.model.now c.args.log.now c.in_err-problem.field-0.0 c.from_residual.result c.from_residual.ensures c.in_err-problem.ensures.read
-
-pub returns-clause-verified : goal.returns-clause-verified
-returns-clause-verified g c = λ e. refuted (g.F.Folder.place c.args.folder.now).held c.args.model.now c.in_ok-problem.problem c.in_ok-problem.ensures.read (c.check.ensures.sound cc)

@@ -1,0 +1,103 @@
+-- What is told of three runs is what the drill says.
+use Rattle.std.proofs.Common.{◌≡◌, ℕ, Bool, true, false, ◌||◌, List, [], ◌∷◌, ◌++◌, length, codes, decimal, Result, Ok, Err, refl, sym, ap, subst, ◌∙◌, inl, inr}
+use Rattle.std.specs.Prelude.{IsErr, IsErrAnd, if◌then◌else◌}
+use Rattle.dcsp_outside.specs.Outside.{Place, Stream}
+use Rattle.dcsp_defs.specs.Csp.{Csp}
+use Rattle.dcsp_problem.specs.Problems.{Contents}
+use Rattle.dcsp_script.specs.declared.stop.Stop.{Stop}
+use Rattle.dcsp_script.specs.declared.stop.Stop.TheVariants as stops
+use Rattle.dcsp_script.specs.Scripts.{Put, World}
+use Rattle.dcsp_script.specs.Ways.{Wrote}
+use Rattle.dcsp_script.proofs.Ways.{did_nothing}
+use Rattle.abt_defs.specs.Network.{Network}
+use Rattle.abt_defs.specs.Runs as runs
+use Rattle.ngd_log.specs.Logs.{log_text}
+use Rattle.ngd_check.specs.declared.Finding.{Finding}
+use Rattle.abt_schedule.specs.Answers.{word_at, generator_of}
+use Rattle.dcsp_gen.specs.Problems.{sparse_text, queens_text, pigeons_text}
+use Rattle.abt_session.specs.Running.{IsEnd, Gives}
+use Rattle.abt_session.specs.declared.outcome.End.{End}
+use Rattle.abt_session.specs.declared.outcome.End.TheVariants.{Solved, Refuted, Spent, Capped}
+use Rattle.abt_session.specs.declared.outcome.Outcome.{Outcome}
+use Rattle.abt_promise.specs.declared.status.Status.{Status}
+use Rattle.abt_promise.specs.declared.status.Status.TheVariants.{Good, Unfinished}
+use Rattle.abt_promise.specs.Statuses.{IsFinal}
+use Rattle.abt_promise.specs.Runs.{CameIn, Answered, Stopped}
+use Rattle.abt_promise.proofs.Coming.{way_with, came_wrote}
+use Rattle.abt_input.specs.declared.error.CommandError.{CommandError}
+use Rattle.abt_input.specs.declared.error.CommandError.TheVariants.{Memory}
+use Rattle.abt_input.specs.Errors.{stop_error, way_of}
+use Rattle.abt_input.specs.Inputs.{IsModelOf}
+use Rattle.abt_check.specs.Checks.{IsFound, finding_text}
+use Rattle.abt_run.specs.Asked.{seeded_session}
+use Rattle.abt_drill.specs.Drills.{Drill, log_name, run_from, end_word, run_text, drill_text, is_unfinished, drill_status}
+use Rattle.abt_drill.specs.Outcomes.{outcome_word, outcome_text, is_open_end, told_text, told_status}
+use Rattle.abt_drill.specs.DrillPromise.{drill_promise}
+
+-- ---- one run
+
+word_is : (p : Csp) (net : Network) (ended : runs.End) (e : End) → IsEnd p net ended e → outcome_word e ≡ end_word ended
+word_is p net ended (Solved list) h = ap end_word (sym h.0)
+word_is p net ended Refuted h = ap end_word (sym h)
+word_is p net ended Spent h = ap end_word (sym h)
+word_is p net ended Capped h = ap end_word (sym h)
+
+open_is : (p : Csp) (net : Network) (ended : runs.End) (e : End) → IsEnd p net ended e → is_open_end e ≡ is_unfinished ended
+open_is p net ended (Solved list) h = ap is_unfinished (sym h.0)
+open_is p net ended Refuted h = ap is_unfinished (sym h)
+open_is p net ended Spent h = ap is_unfinished (sym h)
+open_is p net ended Capped h = ap is_unfinished (sym h)
+
+-- the outcome is that of the problem's run from the seed
+abbrev pub IsTrial : ℕ → Contents → Outcome → Type 0
+IsTrial seed p outcome = Gives (seeded_session p seed log_name false) outcome
+
+text_is : (seed : ℕ) (name : List ℕ) (p : Contents) (outcome : Outcome) → IsTrial seed p outcome → outcome_text name outcome ≡ run_text name (run_from p seed)
+text_is seed name p outcome h =
+    ap (λ w. name ++ w ++ codes " deliveries " ++ decimal outcome.deliveries) (word_is _ _ _ outcome.end h.end)
+    ∙ ap (λ n. name ++ end_word (run_from p seed).end ++ codes " deliveries " ++ decimal n) h.deliveries
+
+unfinished_is : (seed : ℕ) (p : Contents) (outcome : Outcome) → IsTrial seed p outcome → is_open_end outcome.end ≡ is_unfinished (run_from p seed).end
+unfinished_is seed p outcome h = open_is _ _ _ outcome.end h.end
+
+-- ---- three runs
+
+module _ (seed : ℕ) (sparse queens pigeons : Contents) (a b c : Outcome) (finding : Finding)
+    (sparse_is : IsModelOf (sparse_text 500 (word_at (generator_of seed))) sparse) (queens_is : IsModelOf (queens_text 6) queens) (pigeons_is : IsModelOf (pigeons_text 5) pigeons)
+    (found : IsFound (pigeons_text 5) (log_text (run_from pigeons seed).net.steps) finding)
+    (of_sparse : IsTrial seed sparse a) (of_queens : IsTrial seed queens b) (of_pigeons : IsTrial seed pigeons c) where
+  the_drill : Drill seed
+  the_drill = record { sparse = sparse; queens = queens; pigeons = pigeons; finding = finding; sparse_is = sparse_is; queens_is = queens_is; pigeons_is = pigeons_is; found = found }
+
+  same_text : told_text a b c finding ≡ drill_text seed the_drill
+  same_text = rw (text_is seed (codes "sparse 500 ") sparse a of_sparse, text_is seed (codes "queens 6 ") queens b of_queens, text_is seed (codes "pigeons 5 ") pigeons c of_pigeons, of_pigeons.steps) refl
+
+  same_status : told_status a b c ≡ drill_status seed the_drill
+  same_status = rw (unfinished_is seed sparse a of_sparse, unfinished_is seed queens b of_queens, unfinished_is seed pigeons c of_pigeons) refl
+
+  pub drilled : (status : Status) (text : List ℕ) → status ≡ told_status a b c → text ≡ told_text a b c finding → (d : Drill seed) × (status ≡ drill_status seed d) × (text ≡ drill_text seed d)
+  drilled status text is told = (the_drill, is ∙ same_status, told ∙ same_text)
+
+-- ---- the line
+
+pub final_drill : (x : Bool) → IsFinal (if x then Unfinished else Good)
+final_drill true = tt
+final_drill false = tt
+
+-- memory was wanted before anything was put
+pub drill_lacked : (seed : ℕ) (a : World) → CameIn (drill_promise seed) a a (Stopped stops.Memory)
+drill_lacked seed a = record { inputs = []; are_held = tt; came = inl (did_nothing a) }
+
+module _ (seed : ℕ) (status : Status) (text : List ℕ) (h : (d : Drill seed) × (status ≡ drill_status seed d) × (text ≡ drill_text seed d)) (a b : World) where
+  came : {T : Type 0} (r : Result T Stop) → Wrote (Put text ∷ []) a b r → CameIn (drill_promise seed) a b (way_with status r)
+  came {T = T} r w =
+      rw (h.1) (
+        came_wrote {T = T} (drill_promise seed) [] (drill_status seed h.0) (Put (drill_text seed h.0) ∷ []) r (final_drill _) tt (h.0, refl) (did_nothing a) (subst (λ t. Wrote (Put t ∷ []) a b r) h.2 w))
+
+  pub drill_put : {T : Type 0} (x : T) → Wrote (Put text ∷ []) a b (Ok x) → CameIn (drill_promise seed) a b (Answered status)
+  drill_put x w = came (Ok x) w
+
+  pub drill_stopped : {T : Type 0} (stop : Stop) (r : Result Status CommandError) → IsErr r × IsErrAnd r (λ y. y ≡ stop_error stop) → Wrote {T = T} (Put text ∷ []) a b (Err stop) → CameIn (drill_promise seed) a b (way_of r)
+  drill_stopped stop (Ok x) is w = absurd (let no = is.0 in cc)
+  drill_stopped {T = T} stops.Fault (Err y) is w = rw is.1 (came {T = T} (Err stops.Fault) w)
+  drill_stopped {T = T} stops.Memory (Err y) is w = rw is.1 (came {T = T} (Err stops.Memory) w)

@@ -1,0 +1,107 @@
+//! The run of a generated problem.
+
+ghost use Rattle.std.specs.Prelude.{◌≡◌, ℕ, List, Some, IfOk, OnOk, IsOk};
+ghost use Rattle.std.specs.FinMap as map;
+ghost use Rattle.ngd_log.specs.Logs.{log_text};
+ghost use Rattle.abt_session.specs.Running.{Gives};
+ghost use Rattle.abt_input.specs.Inputs.{IsModelOf};
+ghost use Rattle.abt_check.specs.Checks.{IsFound};
+ghost use Rattle.abt_run.specs.Asked.{seeded_session};
+ghost use Rattle.abt_drill.specs.Drills.{log_name, run_from};
+
+use abt_input::{read_derivation, read_model};
+use abt_schedule::{ChoiceList, Seeded};
+use abt_session::{Outcome, run};
+use dcsp_list::Memory;
+use dcsp_outside::{SureFolder, SureSink};
+use dcsp_problem::Problem;
+use ngd_check::{Finding, check};
+use std::alloc::{AllocError, Global};
+
+/// The most deliveries of a run.
+const MOST_DELIVERIES: u64 = 1 << 40;
+
+/// A problem that was run.
+#[derive(Drop)]
+pub struct Trial {
+    pub problem: Problem,
+    pub outcome: Outcome,
+    /// Where the log of the run is.
+    pub folder: SureFolder,
+}
+
+/// Runs the problem of a generated text under the choices of the seed.
+///
+/// A generated text has a problem and a sure folder never fails, so what is answered in place of a trial
+/// is want of memory.
+pub fn try_text(
+    alloc: Global,
+    text: Result<Vec<u8>, Memory>,
+    seed: u64,
+) -> Result<Trial, AllocError>
+    ensures model { IfOk result (λ trial. IfOk text (λ bytes. IsModelOf bytes.items trial.problem)) }
+    ensures gives { IfOk result (λ trial. Gives (seeded_session trial.problem seed log_name false) trial.outcome) }
+    ensures log { IfOk result (λ trial. map.get trial.folder.files log_name ≡ Some (log_text (run_from trial.problem seed).net.steps)) }
+    ensures made { OnOk result (IsOk text) }
+{
+    let Ok(text) = text else {
+        return Err(AllocError);
+    };
+    let mut folder = SureFolder::new(alloc);
+    let Ok(()) = folder.place("model", &text) else {
+        return Err(AllocError);
+    };
+    let Ok(problem) = read_model(alloc, &mut folder, "model") else {
+        return Err(AllocError);
+    };
+    let outcome = run_problem(alloc, &problem, seed, &mut folder)?;
+    Ok(Trial {
+        problem,
+        outcome,
+        folder,
+    })
+}
+
+/// Runs the problem, with its log in the folder.
+fn run_problem(
+    alloc: Global,
+    problem: &Problem,
+    seed: u64,
+    folder: &mut SureFolder,
+) -> Result<Outcome, AllocError>
+    ensures gives { IfOk result (Gives (seeded_session problem.now seed log_name false)) }
+    ensures log { OnOk result (map.get folder.new.files log_name ≡ Some (log_text (run_from problem.now seed).net.steps)) }
+{
+    let mut choices = Seeded::new(seed);
+    let mut taken = ChoiceList::new(alloc);
+    let mut out = SureSink::new(alloc);
+    match run(
+        alloc,
+        problem,
+        &mut choices,
+        MOST_DELIVERIES,
+        folder,
+        "drill",
+        &mut out,
+        false,
+        &mut taken,
+        false,
+    ) {
+        Ok(outcome) => Ok(outcome),
+        Err(_) => Err(AllocError),
+    }
+}
+
+impl Trial {
+    /// What is found of the log.
+    pub fn check(&mut self, alloc: Global) -> Result<Finding, AllocError>
+        ensures found { (text log : List ℕ) → IsModelOf text self.old.problem → map.get self.old.folder.files log_name ≡ Some log
+            → IfOk result (IsFound text log) }
+        ensures same { (self.new.problem ≡ self.old.problem) × (self.new.outcome ≡ self.old.outcome) }
+    {
+        match read_derivation(alloc, &mut self.folder, "drill") {
+            Ok(derivation) => Ok(check(&self.problem, &derivation)),
+            Err(_) => Err(AllocError),
+        }
+    }
+}
