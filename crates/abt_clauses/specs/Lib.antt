@@ -1,0 +1,2 @@
+pub mod Satisfying
+pub mod RupPromise
