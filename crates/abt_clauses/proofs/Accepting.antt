@@ -154,12 +154,12 @@ var_in (Var j ∷ ts) k (inr i) = inr (var_in ts k i)
 -- ---- literals of a rule's clause
 
 -- a variable of the scope, or its negation
-data IsOfScope (variables : ℕ) (rule : rules.Rule) (y : ℤ) : Type 0 where
+pub data IsOfScope (variables : ℕ) (rule : rules.Rule) (y : ℤ) : Type 0 where
   plain_one : (k : ℕ) → In k (scope_of variables rule) → y ≡ pos (k + 1) → IsOfScope variables rule y
   negated_one : (k : ℕ) → In k (scope_of variables rule) → y ≡ negsuc k → IsOfScope variables rule y
 
 module _ (variables : ℕ) where
-  literal_of_scope : (rule : rules.Rule) → IsClauseRule rule → IsRuleOf variables rule → (y : ℤ) → Contains (rule_clause rule) y → IsOfScope variables rule y
+  pub literal_of_scope : (rule : rules.Rule) → IsClauseRule rule → IsRuleOf variables rule → (y : ℤ) → Contains (rule_clause rule) y → IsOfScope variables rule y
   literal_of_scope (Plain kind s f t m) i r y c = elim (Contains-append_cases (map literal_of f) (map negation_of t) y c) [
     | inl a ↦ (let u = contains_map literal_of f y a in first u.0 (in_of f u.0 u.1) (All-contains IsVariable f u.0 i.1 u.1) u.2)
     | inr a ↦ (let u = contains_map negation_of t y a in second u.0 (in_of t u.0 u.1) (All-contains IsVariable t u.0 i.2 u.1) u.2)

@@ -51,7 +51,8 @@ put_alone text names s e w c name t = at (subst (λ l. Contains l w) e c)
 
 -- ---- rup
 
-one_rup : (cnf proof : List ℕ) (r s : Report) → RupReport cnf proof r → RupReport cnf proof s → r ≡ s
+-- there is one report
+pub one_rup : (cnf proof : List ℕ) (r s : Report) → RupReport cnf proof r → RupReport cnf proof s → r ≡ s
 one_rup cnf proof r s (bad_cnf e h i) (bad_cnf d k j) = i ∙ ap (λ x. refused (error_status x) (error_text x)) (one_error_of_cnf cnf e d h k) ∙ sym j
 one_rup cnf proof r s (bad_cnf e h i) (bad_proof d p k j) = absurd (no_error_of_cnf cnf p.0 e p.1 h)
 one_rup cnf proof r s (bad_cnf e h i) (checked p cs a m k v j) = absurd (no_error_of_cnf cnf p e m h)

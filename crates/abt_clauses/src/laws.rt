@@ -4,6 +4,7 @@ ghost use Rattle.std.specs.Prelude.{ℕ, List};
 ghost use Rattle.abt_promise.specs.Clauses.{IsLawful};
 ghost use Rattle.abt_clauses.specs.Satisfying.{RulesAreClauses, SolutionsSatisfy, RefutationsAreProofs};
 ghost use Rattle.abt_clauses.specs.RupPromise.{rup_promise};
+ghost use Rattle.abt_clauses.specs.CnfPromise.{cnf_promise};
 
 /// A rule that is a clause is true exactly where its clause has a true literal, a variable being true where its
 /// value is 1. So a solution of a formula's problem satisfies the formula.
@@ -21,4 +22,5 @@ pub fn refutations_are_proofs()
 /// Each promise keeps what every line of words keeps.
 pub fn promises_are_lawful()
     ensures rup { (cnf proof : List ℕ) → IsLawful (rup_promise cnf proof) }
+    ensures cnf { (cnf proof : List ℕ) (seed : ℕ) → IsLawful (cnf_promise cnf proof seed) }
 {}

@@ -162,3 +162,152 @@ fn stops_at_the_first_fault(rt: HostRuntime) {
         );
     }
 }
+
+/// What running this formula tells, and what is written under the name of the proof.
+fn cnf_of(alloc: Global, cnf: &[u8], seed: u64) -> Result<(Told, Option<Vec<u8>>), Fail> {
+    let mut folder = MemoryFolder::new(alloc);
+    folder.place("f.cnf", cnf)?;
+    let mut out = MemorySink::new(alloc);
+    let line = Cnf {
+        cnf: "f.cnf",
+        proof: "f.rup",
+        seed,
+    };
+    let came = run_cnf(alloc, &mut folder, line, &mut out);
+    let proof = match folder.file("f.rup") {
+        Some(bytes) => Some(Vec::from_slice(alloc, bytes)?),
+        None => None,
+    };
+    Ok((told_of(alloc, came, &out)?, proof))
+}
+
+/// A formula, what running it from the seed 0 answers, and the proof that it writes.
+#[derive(Drop)]
+struct Search {
+    cnf: &'static [u8],
+    status: Status,
+    out: &'static [u8],
+    said: &'static [u8],
+    proof: Option<&'static [u8]>,
+}
+
+const SEARCHES: [Search; 8] = [
+    Search {
+        cnf: FULL,
+        status: Status::No,
+        out: b"s UNSATISFIABLE\nc deliveries 4\n",
+        said: b"",
+        proof: Some(b"1 0\n-1 0\n0\n"),
+    },
+    Search {
+        cnf: ONE,
+        status: Status::Good,
+        out: b"s SATISFIABLE\nv -1 2 0\nc deliveries 1\n",
+        said: b"",
+        proof: None,
+    },
+    Search {
+        cnf: b"p cnf 1 1\n0",
+        status: Status::No,
+        out: b"s UNSATISFIABLE\nc deliveries 0\n",
+        said: b"",
+        proof: Some(b"0\n"),
+    },
+    Search {
+        cnf: b"p cnf 1 2\n1 1 0\n-1 -1 0\n",
+        status: Status::No,
+        out: b"s UNSATISFIABLE\nc deliveries 0\n",
+        said: b"",
+        proof: Some(b"0\n"),
+    },
+    Search {
+        cnf: b"p cnf 0 0",
+        status: Status::Good,
+        out: b"s SATISFIABLE\nv 0\nc deliveries 0\n",
+        said: b"",
+        proof: None,
+    },
+    Search {
+        cnf: b"p cnf 3 1\n2 0\n",
+        status: Status::Good,
+        out: b"s SATISFIABLE\nv -1 2 -3 0\nc deliveries 0\n",
+        said: b"",
+        proof: None,
+    },
+    Search {
+        cnf: b"p cnf 1 1\n2 0",
+        status: Status::Model,
+        out: b"",
+        said: b"abt: cnf: syntax at 10\n",
+        proof: None,
+    },
+    Search {
+        cnf: b"p cnf 4097 0",
+        status: Status::Model,
+        out: b"",
+        said: b"abt: cnf: limit variables 4097 at 6\n",
+        proof: None,
+    },
+];
+
+#[test]
+fn runs_formulas(rt: HostRuntime) -> Result<(), Fail> {
+    for search in &SEARCHES {
+        let (told, proof) = cnf_of(rt.alloc(), search.cnf, 0)?;
+        assert_eq!(rt; told.status, search.status);
+        assert_eq!(rt; told.out.as_slice(), search.out);
+        assert_eq!(rt; told.said.as_slice(), search.said);
+        assert_eq!(rt; proof.as_deref(), search.proof);
+    }
+    Ok(())
+}
+
+#[test]
+fn its_proofs_are_verified(rt: HostRuntime) -> Result<(), Fail> {
+    let formula =
+        b"p cnf 3 8\n1 2 3 0\n1 2 -3 0\n1 -2 3 0\n1 -2 -3 0\n-1 2 3 0\n-1 2 -3 0\n-1 -2 3 0\n-1 -2 -3 0\n";
+    for seed in [0, 1, 7] {
+        let (told, proof) = cnf_of(rt.alloc(), formula, seed)?;
+        assert_eq!(rt; told.status, Status::No);
+        let proof = proof.ok_or("a proof")?;
+        let checked = rup_of(rt.alloc(), formula, &proof)?;
+        assert_eq!(rt; checked.out.as_slice(), b"verified\n".as_slice());
+    }
+    Ok(())
+}
+
+#[test]
+fn an_answer_comes_after_the_proof(rt: HostRuntime) {
+    for (in_folder, in_out, came, held) in [
+        (9, 9, Ok(Status::No), Some(b"1 0\n-1 0\n0\n".as_slice())),
+        (1, 9, Err(CommandError::Fault), None),
+        (2, 9, Err(CommandError::Fault), None),
+        (3, 9, Err(CommandError::Fault), Some(b"".as_slice())),
+        (4, 9, Err(CommandError::Fault), Some(b"1 0\n".as_slice())),
+        (
+            5,
+            9,
+            Err(CommandError::Fault),
+            Some(b"1 0\n-1 0\n".as_slice()),
+        ),
+        (
+            9,
+            1,
+            Err(CommandError::Fault),
+            Some(b"1 0\n-1 0\n0\n".as_slice()),
+        ),
+    ] {
+        let mut folder = MemoryFolder::new(rt.alloc());
+        folder.place("f.cnf", FULL).expect(&rt, "memory");
+        folder.fail_at(in_folder).expect(&rt, "memory");
+        let mut out = MemorySink::new(rt.alloc());
+        out.fail_at(in_out).expect(&rt, "memory");
+        let line = Cnf {
+            cnf: "f.cnf",
+            proof: "f.rup",
+            seed: 0,
+        };
+        assert_eq!(rt; run_cnf(rt.alloc(), &mut folder, line, &mut out), came);
+        assert_eq!(rt; folder.file("f.rup"), held);
+    }
+}
