@@ -18,7 +18,7 @@ use Rattle.abt_promise.specs.Promises.{IsHeld}
 use Rattle.abt_promise.specs.Runs.{CameIn}
 use Rattle.abt_promise.proofs.Coming.{way_with, came_wrote}
 use Rattle.abt_input.specs.declared.error.CommandError.{CommandError}
-use Rattle.abt_input.specs.declared.error.CommandError.TheVariants.{ModelLong, ModelRefused, LogLong, LogLine, ScheduleLong, ScheduleLine, Fault, Memory}
+use Rattle.abt_input.specs.declared.error.CommandError.TheVariants.{ModelLong, ModelRefused, LogLong, LogLine, ScheduleLong, ScheduleLine, Clauses, Fault, Memory}
 use Rattle.abt_input.specs.Inputs.{IsModelOf}
 use Rattle.abt_input.specs.Errors.{stop_error, way_of}
 use Rattle.abt_input.specs.Files.{IsModelReadOf, UnlessFault}
@@ -34,6 +34,7 @@ model_refused model log LogLong h = absurd h
 model_refused model log (LogLine number) h = absurd h
 model_refused model log ScheduleLong h = absurd h
 model_refused model log (ScheduleLine number) h = absurd h
+model_refused model log (Clauses error) h = absurd h
 model_refused model log Fault h = tt
 model_refused model log Memory h = tt
 
@@ -63,6 +64,7 @@ module _ (m l : List ℕ) (p q : Place) (out : Stream) (held : q.held ≡ p.held
   no_finding (LogLine number) h counts fault = record { inputs = h.0 ∷ h.1 ∷ []; are_held = (h.2, (h.3, tt)); came = (bad_log (LogLine number) h.4.0 h.4.1 refl, did_read p q out held created counts, tt) }
   no_finding ScheduleLong h counts fault = absurd h.4
   no_finding (ScheduleLine number) h counts fault = absurd h.4
+  no_finding (Clauses error) h counts fault = absurd h.4
   no_finding Memory h counts fault = record { inputs = h.0 ∷ h.1 ∷ []; are_held = (h.2, (h.3, tt)); came = inl (did_read p q out held created counts) }
   no_finding Fault h counts fault = elim (fault refl) [
     | inl rose ↦ record {

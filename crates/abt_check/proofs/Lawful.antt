@@ -13,7 +13,7 @@ use Rattle.abt_promise.specs.Statuses.{IsFinal, IsRefusal}
 use Rattle.abt_promise.specs.Promises.{Report, answered, refused}
 use Rattle.abt_promise.specs.Clauses.{IsLawful}
 use Rattle.abt_input.specs.declared.error.CommandError.{CommandError}
-use Rattle.abt_input.specs.declared.error.CommandError.TheVariants.{ModelLong, ModelRefused, LogLong, LogLine, ScheduleLong, ScheduleLine, Fault, Memory}
+use Rattle.abt_input.specs.declared.error.CommandError.TheVariants.{ModelLong, ModelRefused, LogLong, LogLine, ScheduleLong, ScheduleLine, Clauses, Fault, Memory}
 use Rattle.abt_input.specs.Errors.{IsErrorOfModel, IsErrorOfLog, error_status, error_text}
 use Rattle.abt_input.proofs.Once.{one_problem, one_text, no_error_of_model, no_error_of_log, one_error_of_model, one_error_of_log}
 use Rattle.abt_check.specs.Checks.{IsFound, finding_status, finding_text}
@@ -70,6 +70,7 @@ final_error LogLong model h = tt
 final_error (LogLine number) model h = tt
 final_error ScheduleLong model h = tt
 final_error (ScheduleLine number) model h = tt
+final_error (Clauses error) model h = absurd h
 final_error Fault model h = h
 final_error Memory model h = h
 
@@ -80,6 +81,7 @@ final_log_error LogLong log h = tt
 final_log_error (LogLine number) log h = tt
 final_log_error ScheduleLong log h = tt
 final_log_error (ScheduleLine number) log h = tt
+final_log_error (Clauses error) log h = absurd h
 final_log_error Fault log h = h
 final_log_error Memory log h = h
 

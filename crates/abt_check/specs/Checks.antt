@@ -13,7 +13,7 @@ use Rattle.abt_promise.specs.Promises.{IsHeld}
 use Rattle.abt_input.specs.Inputs.{most_log, IsModelOf, HasProblem, IsTextOf, IsBadAt}
 use Rattle.abt_input.specs.Errors.{IsErrorOfModel}
 use Rattle.abt_input.specs.declared.error.CommandError.{CommandError}
-use Rattle.abt_input.specs.declared.error.CommandError.TheVariants.{ModelLong, ModelRefused, LogLong, LogLine, ScheduleLong, ScheduleLine, Fault, Memory}
+use Rattle.abt_input.specs.declared.error.CommandError.TheVariants.{ModelLong, ModelRefused, LogLong, LogLine, ScheduleLong, ScheduleLine, Clauses, Fault, Memory}
 
 -- what is found of the log's derivation for the model's problem
 pub record IsFound (model log : List ℕ) (finding : Finding) : Type 0 where
@@ -44,6 +44,7 @@ IsOutcome model log (Err LogLong) = HasProblem model × (most_log < length log)
 IsOutcome model log (Err (LogLine number)) = HasProblem model × IsBadAt log number
 IsOutcome model log (Err ScheduleLong) = ⊥
 IsOutcome model log (Err (ScheduleLine number)) = ⊥
+IsOutcome model log (Err (Clauses error)) = ⊥
 IsOutcome model log (Err Fault) = ⊤
 IsOutcome model log (Err Memory) = ⊤
 

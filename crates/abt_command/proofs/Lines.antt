@@ -13,8 +13,9 @@ use Rattle.abt_promise.specs.Promises.{IsSaid}
 use Rattle.abt_promise.specs.Runs.{Concludes}
 use Rattle.abt_promise.specs.Clauses.{IsLawful}
 use Rattle.abt_input.specs.declared.error.CommandError.{CommandError}
-use Rattle.abt_input.specs.declared.error.CommandError.TheVariants.{ModelLong, ModelRefused, LogLong, LogLine, ScheduleLong, ScheduleLine, Fault, Memory}
+use Rattle.abt_input.specs.declared.error.CommandError.TheVariants.{ModelLong, ModelRefused, LogLong, LogLine, ScheduleLong, ScheduleLine, Clauses, Fault, Memory}
 use Rattle.abt_input.specs.Errors.{error_status, error_text, way_of}
+use Rattle.abt_input.proofs.Cnfs.{clauses_refuse}
 use Rattle.abt_models.proofs.Lawful.{bound_lawful, print_lawful}
 use Rattle.abt_run.proofs.Lawful.{replay_lawful, solve_lawful}
 use Rattle.abt_command.specs.Lines.{AreFileNames, Settings, no_settings, Sets, nothing, seeds, records, traces, trace_words, Line, Help, Version, Check, Replay, Solve, Bound, Queens, Colouring, IsFileName, IsWithin, IsSolve, IsLine, IsNoLine}
@@ -246,6 +247,7 @@ concluded LogLong err now status s h = (s, h)
 concluded (LogLine number) err now status s h = (s, h)
 concluded ScheduleLong err now status s h = (s, h)
 concluded (ScheduleLine number) err now status s h = (s, h)
+concluded (Clauses error) err now status s h = (s, h)
 concluded Fault err now status s h = (s, h)
 concluded Memory err now status s h = (s, h)
 
@@ -258,6 +260,7 @@ an_answer (Err LogLong) err now status h f n = absurd (n (subst IsRefusal (sym h
 an_answer (Err (LogLine number)) err now status h f n = absurd (n (subst IsRefusal (sym h.0) tt))
 an_answer (Err ScheduleLong) err now status h f n = absurd (n (subst IsRefusal (sym h.0) tt))
 an_answer (Err (ScheduleLine number)) err now status h f n = absurd (n (subst IsRefusal (sym h.0) tt))
+an_answer (Err (Clauses error)) err now status h f n = absurd (n (subst IsRefusal (sym h.0) (clauses_refuse error)))
 an_answer (Err Fault) err now status h f n = absurd (subst IsFinal h.0 f)
 an_answer (Err Memory) err now status h f n = absurd (subst IsFinal h.0 f)
 

@@ -1,3 +1,4 @@
 pub mod Files
 pub mod Models
 pub mod Once
+pub mod Cnfs

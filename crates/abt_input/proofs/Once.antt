@@ -1,15 +1,20 @@
--- A model has one problem or one error, a log one derivation or one error, and a schedule one list of choices or one error.
-use Rattle.std.proofs.Common.{◌≡◌, ℕ, ◌<◌, List, length, Ok, Err, refl, sym, ap, ◌∙◌, arith}
+-- A model has one problem or one error, a log one derivation or one error, a schedule one list of choices or one error, and so have formulas and proofs.
+use Rattle.std.proofs.Common.{◌≡◌, ℕ, ◌<◌, List, length, Ok, Err, refl, sym, ap, ◌∙◌, inl, inr, arith}
+use Rattle.std.specs.Prelude.{ℤ}
 use Rattle.dcsp_defs.specs.declared.Step.{Step}
 use Rattle.dcsp_problem.specs.Problems.{Contents}
 use Rattle.fzn_model.specs.declared.model.ModelError.{ModelError}
 use Rattle.fzn_model.proofs.Once.{once}
 use Rattle.ngd_log.proofs.LogLaws.{log_or_bad_line}
 use Rattle.abt_schedule.proofs.ScheduleLaws.{schedule_or_bad_line}
+use Rattle.cnf_front.specs.declared.header.CnfError.{CnfError}
+use Rattle.rup_check.specs.declared.reader.ProofError.TheVariants as proofs
+use Rattle.rup_check.proofs.ProofLaws.{accepted, refused}
 use Rattle.abt_input.specs.declared.error.CommandError.{CommandError}
-use Rattle.abt_input.specs.declared.error.CommandError.TheVariants.{ModelLong, ModelRefused, LogLong, LogLine, ScheduleLong, ScheduleLine, Fault, Memory}
-use Rattle.abt_input.specs.Inputs.{most_model, most_log, most_schedule, IsModelOf, IsRefused, IsTextOf, IsBadAt, HasChoices, IsScheduleBadAt}
-use Rattle.abt_input.specs.Errors.{IsErrorOfModel, IsErrorOfLog, IsErrorOfSchedule}
+use Rattle.abt_input.specs.declared.error.CommandError.TheVariants.{ModelLong, ModelRefused, LogLong, LogLine, ScheduleLong, ScheduleLine, Clauses, Fault, Memory}
+use Rattle.abt_input.specs.declared.clauses_error.ClausesError.TheVariants.{CnfLong, CnfRefused, ProofLong, ProofLine}
+use Rattle.abt_input.specs.Inputs.{most_model, most_log, most_schedule, most_cnf, IsModelOf, IsRefused, IsTextOf, IsBadAt, HasChoices, IsScheduleBadAt, IsFormulaOf, IsCnfRefused, HasClauses, IsProofBadAt}
+use Rattle.abt_input.specs.Errors.{IsErrorOfModel, IsErrorOfLog, IsErrorOfSchedule, IsErrorOfCnf, IsErrorOfProof}
 
 -- ---- what an error is, by its two causes
 
@@ -32,6 +37,7 @@ of_model model LogLong h = absurd h
 of_model model (LogLine number) h = absurd h
 of_model model ScheduleLong h = absurd h
 of_model model (ScheduleLine number) h = absurd h
+of_model model (Clauses error) h = absurd h
 of_model model Fault h = absurd h
 of_model model Memory h = absurd h
 
@@ -42,6 +48,7 @@ of_log log LogLong h = long_log h refl
 of_log log (LogLine number) h = bad_line number h refl
 of_log log ScheduleLong h = absurd h
 of_log log (ScheduleLine number) h = absurd h
+of_log log (Clauses error) h = absurd h
 of_log log Fault h = absurd h
 of_log log Memory h = absurd h
 
@@ -52,8 +59,45 @@ of_schedule schedule LogLong h = absurd h
 of_schedule schedule (LogLine number) h = absurd h
 of_schedule schedule ScheduleLong h = long_schedule h refl
 of_schedule schedule (ScheduleLine number) h = bad_choice number h refl
+of_schedule schedule (Clauses error) h = absurd h
 of_schedule schedule Fault h = absurd h
 of_schedule schedule Memory h = absurd h
+
+pub data OfCnf (text : List ℕ) (e : CommandError) : Type 0 where
+  long_cnf : most_cnf < length text → e ≡ Clauses CnfLong → OfCnf text e
+  no_formula : (error : CnfError) → IsCnfRefused text error → e ≡ Clauses (CnfRefused error) → OfCnf text e
+
+pub data OfProof (text : List ℕ) (e : CommandError) : Type 0 where
+  long_proof : most_log < length text → e ≡ Clauses ProofLong → OfProof text e
+  bad_clause : (number : ℕ) → IsProofBadAt text number → e ≡ Clauses (ProofLine number) → OfProof text e
+
+pub of_cnf : (text : List ℕ) (e : CommandError) → IsErrorOfCnf text e → OfCnf text e
+of_cnf text ModelLong h = absurd h
+of_cnf text (ModelRefused error) h = absurd h
+of_cnf text LogLong h = absurd h
+of_cnf text (LogLine number) h = absurd h
+of_cnf text ScheduleLong h = absurd h
+of_cnf text (ScheduleLine number) h = absurd h
+of_cnf text (Clauses CnfLong) h = long_cnf h refl
+of_cnf text (Clauses (CnfRefused error)) h = no_formula error h refl
+of_cnf text (Clauses ProofLong) h = absurd h
+of_cnf text (Clauses (ProofLine number)) h = absurd h
+of_cnf text Fault h = absurd h
+of_cnf text Memory h = absurd h
+
+pub of_proof : (text : List ℕ) (e : CommandError) → IsErrorOfProof text e → OfProof text e
+of_proof text ModelLong h = absurd h
+of_proof text (ModelRefused error) h = absurd h
+of_proof text LogLong h = absurd h
+of_proof text (LogLine number) h = absurd h
+of_proof text ScheduleLong h = absurd h
+of_proof text (ScheduleLine number) h = absurd h
+of_proof text (Clauses CnfLong) h = absurd h
+of_proof text (Clauses (CnfRefused error)) h = absurd h
+of_proof text (Clauses ProofLong) h = long_proof h refl
+of_proof text (Clauses (ProofLine number)) h = bad_clause number h refl
+of_proof text Fault h = absurd h
+of_proof text Memory h = absurd h
 
 -- ---- models
 
@@ -126,3 +170,54 @@ one_error_of_schedule schedule e d h k = so (of_schedule schedule e h) (of_sched
     so (long_schedule l is) (bad_choice number m be) = absurd (let s = m.short in omega (arith, s, l))
     so (bad_choice number l is) (long_schedule m be) = absurd (let s = l.short in omega (arith, s, m))
     so (bad_choice number l is) (bad_choice other m be) = is ∙ ap ScheduleLine ((schedule_or_bad_line schedule).one_line number other l.line m.line) ∙ sym be
+
+-- ---- formulas
+
+-- a formula has one problem
+pub one_formula : (text : List ℕ) (p q : Contents) → IsFormulaOf text p → IsFormulaOf text q → p ≡ q
+one_formula text p q h k = let a = h.reads in let b = k.reads in cc
+
+-- a formula with a problem has no error
+pub no_error_of_cnf : (text : List ℕ) (p : Contents) (e : CommandError) → IsFormulaOf text p → IsErrorOfCnf text e → ⊥
+no_error_of_cnf text p e h k = so (of_cnf text e k)
+  where
+    so : OfCnf text e → ⊥
+    so (long_cnf l is) = let s = h.short in omega (arith, s, l)
+    so (no_formula error l is) = let a = h.reads in let b = l.reads in cc
+
+-- a formula has one error
+pub one_error_of_cnf : (text : List ℕ) (e d : CommandError) → IsErrorOfCnf text e → IsErrorOfCnf text d → e ≡ d
+one_error_of_cnf text e d h k = so (of_cnf text e h) (of_cnf text d k)
+  where
+    so : OfCnf text e → OfCnf text d → e ≡ d
+    so (long_cnf l is) (long_cnf m be) = is ∙ sym be
+    so (long_cnf l is) (no_formula error m be) = absurd (let s = m.short in omega (arith, s, l))
+    so (no_formula error l is) (long_cnf m be) = absurd (let s = l.short in omega (arith, s, m))
+    so (no_formula error l is) (no_formula other m be) = is ∙ ap (λ x. Clauses (CnfRefused x)) (let a = l.reads in let b = m.reads in cc) ∙ sym be
+
+-- ---- proofs
+
+-- a proof has one list of clauses
+pub one_proof : (text : List ℕ) (a b : List (List ℤ)) → HasClauses text a → HasClauses text b → a ≡ b
+one_proof text a b h k = elim (accepted text (Ok a) h.reads tt b k.reads) [ inl e ↦ (let f = e in cc) | inr e ↦ absurd (let f = e in cc) ]
+
+-- a proof with clauses has no error
+pub no_error_of_proof : (text : List ℕ) (clauses : List (List ℤ)) (e : CommandError) → HasClauses text clauses → IsErrorOfProof text e → ⊥
+no_error_of_proof text clauses e h k = so (of_proof text e k)
+  where
+    so : OfProof text e → ⊥
+    so (long_proof l is) = let s = h.short in omega (arith, s, l)
+    so (bad_clause number l is) = elim (refused text (Ok clauses) h.reads tt number l.line) [ inl e ↦ (let f = e in cc) | inr e ↦ (let f = e in cc) ]
+
+-- a proof has one error
+pub one_error_of_proof : (text : List ℕ) (e d : CommandError) → IsErrorOfProof text e → IsErrorOfProof text d → e ≡ d
+one_error_of_proof text e d h k = so (of_proof text e h) (of_proof text d k)
+  where
+    same : (m n : ℕ) → IsProofBadAt text m → IsProofBadAt text n → m ≡ n
+    same m n a b = elim (refused text (Err (proofs.Line m)) tt a.line n b.line) [ inl e ↦ (let f = e in cc) | inr e ↦ absurd (let f = e in cc) ]
+
+    so : OfProof text e → OfProof text d → e ≡ d
+    so (long_proof l is) (long_proof m be) = is ∙ sym be
+    so (long_proof l is) (bad_clause number m be) = absurd (let s = m.short in omega (arith, s, l))
+    so (bad_clause number l is) (long_proof m be) = absurd (let s = l.short in omega (arith, s, m))
+    so (bad_clause number l is) (bad_clause other m be) = is ∙ ap (λ x. Clauses (ProofLine x)) (same number other l m) ∙ sym be

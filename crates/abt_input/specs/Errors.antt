@@ -7,10 +7,14 @@ use Rattle.fzn_model.specs.declared.model.ModelError.TheVariants as errors
 use Rattle.abt_promise.specs.declared.status.Status.{Status}
 use Rattle.abt_promise.specs.declared.status.Status.TheVariants as statuses
 use Rattle.abt_promise.specs.Runs.{Way, Answered, Refused, Stopped}
+use Rattle.cnf_front.specs.declared.header.CnfError.{CnfError}
+use Rattle.cnf_front.specs.declared.header.CnfError.TheVariants as cnf
 use Rattle.abt_input.specs.ModelTexts.{model_error_text}
-use Rattle.abt_input.specs.Inputs.{most_model, most_log, most_schedule, IsRefused, IsBadAt, IsScheduleBadAt}
+use Rattle.abt_input.specs.ClausesErrors.{clauses_status, clauses_text}
+use Rattle.abt_input.specs.Inputs.{most_model, most_log, most_schedule, most_cnf, IsRefused, IsBadAt, IsScheduleBadAt, IsCnfRefused, IsProofBadAt}
 use Rattle.abt_input.specs.declared.error.CommandError.{CommandError}
-use Rattle.abt_input.specs.declared.error.CommandError.TheVariants.{ModelLong, ModelRefused, LogLong, LogLine, ScheduleLong, ScheduleLine, Fault, Memory}
+use Rattle.abt_input.specs.declared.error.CommandError.TheVariants.{ModelLong, ModelRefused, LogLong, LogLine, ScheduleLong, ScheduleLine, Clauses, Fault, Memory}
+use Rattle.abt_input.specs.declared.clauses_error.ClausesError.TheVariants.{CnfLong, CnfRefused, ProofLong, ProofLine}
 
 -- the error of a command that was stopped
 abbrev pub stop_error : Stop → CommandError
@@ -22,6 +26,11 @@ abbrev pub model_error : ModelError → CommandError
 model_error errors.Memory = Memory
 model_error error = ModelRefused error
 
+-- the error of a command whose formula's reader gives this error
+abbrev pub cnf_error : CnfError → CommandError
+cnf_error cnf.Memory = Memory
+cnf_error error = Clauses (CnfRefused error)
+
 -- the status of an error
 abbrev pub error_status : CommandError → Status
 error_status ModelLong = statuses.Model
@@ -30,6 +39,7 @@ error_status LogLong = statuses.Text
 error_status (LogLine number) = statuses.Text
 error_status ScheduleLong = statuses.Text
 error_status (ScheduleLine number) = statuses.Text
+error_status (Clauses error) = clauses_status error
 error_status Fault = statuses.Fault
 error_status Memory = statuses.Memory
 
@@ -41,6 +51,7 @@ error_text LogLong = codes "abt: log: too long\n"
 error_text (LogLine number) = codes "abt: log: line " ++ decimal number ++ codes "\n"
 error_text ScheduleLong = codes "abt: schedule: too long\n"
 error_text (ScheduleLine number) = codes "abt: schedule: line " ++ decimal number ++ codes "\n"
+error_text (Clauses error) = clauses_text error
 error_text Fault = codes "abt: fault\n"
 error_text Memory = codes "abt: memory\n"
 
@@ -52,6 +63,7 @@ IsErrorOfModel model LogLong = ⊥
 IsErrorOfModel model (LogLine number) = ⊥
 IsErrorOfModel model ScheduleLong = ⊥
 IsErrorOfModel model (ScheduleLine number) = ⊥
+IsErrorOfModel model (Clauses error) = ⊥
 IsErrorOfModel model Fault = ⊥
 IsErrorOfModel model Memory = ⊥
 
@@ -63,6 +75,7 @@ IsErrorOfLog log LogLong = most_log < length log
 IsErrorOfLog log (LogLine number) = IsBadAt log number
 IsErrorOfLog log ScheduleLong = ⊥
 IsErrorOfLog log (ScheduleLine number) = ⊥
+IsErrorOfLog log (Clauses error) = ⊥
 IsErrorOfLog log Fault = ⊥
 IsErrorOfLog log Memory = ⊥
 
@@ -74,8 +87,21 @@ IsErrorOfSchedule schedule LogLong = ⊥
 IsErrorOfSchedule schedule (LogLine number) = ⊥
 IsErrorOfSchedule schedule ScheduleLong = most_schedule < length schedule
 IsErrorOfSchedule schedule (ScheduleLine number) = IsScheduleBadAt schedule number
+IsErrorOfSchedule schedule (Clauses error) = ⊥
 IsErrorOfSchedule schedule Fault = ⊥
 IsErrorOfSchedule schedule Memory = ⊥
+
+-- this error is why the formula is refused
+abbrev pub IsErrorOfCnf : List ℕ → CommandError → Type 0
+IsErrorOfCnf text (Clauses CnfLong) = most_cnf < length text
+IsErrorOfCnf text (Clauses (CnfRefused error)) = IsCnfRefused text error
+IsErrorOfCnf text other = ⊥
+
+-- this error is why the proof is refused
+abbrev pub IsErrorOfProof : List ℕ → CommandError → Type 0
+IsErrorOfProof text (Clauses ProofLong) = most_log < length text
+IsErrorOfProof text (Clauses (ProofLine number)) = IsProofBadAt text number
+IsErrorOfProof text other = ⊥
 
 -- what a command came to: an answer with its status, refused input, or a stop
 abbrev pub way_of : Result Status CommandError → Way

@@ -1,5 +1,5 @@
 -- What reading a file gives.
-use Rattle.std.specs.Prelude.{◌≡◌, ℕ, ◌<◌, ◌≤◌, List, length, Option, Result, Ok, Err, ⊤}
+use Rattle.std.specs.Prelude.{◌≡◌, ℕ, ℤ, ◌<◌, ◌≤◌, List, length, Option, Result, Ok, Err, ⊤}
 use Rattle.std.specs.declared.vec.Vec.{Vec}
 use Rattle.std.specs.declared.alloc.Global.{Global}
 use Rattle.dcsp_problem.specs.declared.problem.Problem.{Problem}
@@ -9,8 +9,8 @@ use Rattle.abt_input.specs.declared.read.Unread.{Unread}
 use Rattle.abt_input.specs.declared.read.Unread.TheVariants as unread
 use Rattle.abt_input.specs.declared.error.CommandError.{CommandError}
 use Rattle.abt_input.specs.declared.error.CommandError.TheVariants.{Fault, Memory}
-use Rattle.abt_input.specs.Inputs.{IsModelOf, IsTextOf, HasChoices}
-use Rattle.abt_input.specs.Errors.{IsErrorOfModel, IsErrorOfLog, IsErrorOfSchedule}
+use Rattle.abt_input.specs.Inputs.{IsModelOf, IsTextOf, HasChoices, IsFormulaOf, HasClauses}
+use Rattle.abt_input.specs.Errors.{IsErrorOfModel, IsErrorOfLog, IsErrorOfSchedule, IsErrorOfCnf, IsErrorOfProof}
 
 -- this holds unless a file could not be read for a fault
 abbrev pub UnlessUnread : {T : Type 0} → Result T Unread → Type 0 → Type 0
@@ -68,3 +68,25 @@ IsScheduleReadOf schedule (Err error) = IsErrorOfSchedule schedule error
 -- the same of the bytes under the name
 abbrev pub IsScheduleRead : Option (List ℕ → Option (List ℕ)) → List ℕ → Result (List ℕ) CommandError → Type 0
 IsScheduleRead files name result = (schedule : List ℕ) × IsHeld files name schedule × IsScheduleReadOf schedule result
+
+-- reading this formula gives its problem, or exactly why there is none, faults and want of memory aside
+abbrev pub IsFormulaReadOf : List ℕ → Result Problem CommandError → Type 0
+IsFormulaReadOf text (Ok problem) = IsFormulaOf text problem
+IsFormulaReadOf text (Err Fault) = ⊤
+IsFormulaReadOf text (Err Memory) = ⊤
+IsFormulaReadOf text (Err error) = IsErrorOfCnf text error
+
+-- the same of the bytes under the name
+abbrev pub IsFormulaRead : Option (List ℕ → Option (List ℕ)) → List ℕ → Result Problem CommandError → Type 0
+IsFormulaRead files name result = (text : List ℕ) × IsHeld files name text × IsFormulaReadOf text result
+
+-- reading this proof gives its clauses, or exactly why it is none, faults and want of memory aside
+abbrev pub IsProofReadOf : List ℕ → Result (List (List ℤ)) CommandError → Type 0
+IsProofReadOf text (Ok clauses) = HasClauses text clauses
+IsProofReadOf text (Err Fault) = ⊤
+IsProofReadOf text (Err Memory) = ⊤
+IsProofReadOf text (Err error) = IsErrorOfProof text error
+
+-- the same of the bytes under the name
+abbrev pub IsProofRead : Option (List ℕ → Option (List ℕ)) → List ℕ → Result (List (List ℤ)) CommandError → Type 0
+IsProofRead files name result = (text : List ℕ) × IsHeld files name text × IsProofReadOf text result

@@ -1,5 +1,6 @@
 pub mod ModelTexts
 pub mod Replies
 pub mod Inputs
+pub mod ClausesErrors
 pub mod Errors
 pub mod Files

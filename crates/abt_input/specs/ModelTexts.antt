@@ -18,6 +18,10 @@ which_text Elements = codes "elements"
 abbrev pub place_text : ℕ → List ℕ
 place_text at = decimal at ++ codes "\n"
 
+-- which limit would be passed, by how many, and where
+abbrev pub limit_text : Which → ℕ → ℕ → List ℕ
+limit_text which count at = which_text which ++ codes " " ++ decimal count ++ codes " at " ++ place_text at
+
 -- the line that tells why a model has no problem
 abbrev pub model_error_text : ModelError → List ℕ
 model_error_text (errors.Lex at) = codes "abt: model: bad byte at " ++ place_text at
@@ -32,6 +36,6 @@ model_error_text (errors.UnknownConstraint at) = codes "abt: model: unknown cons
 model_error_text (errors.IllTyped at) = codes "abt: model: ill-typed at " ++ place_text at
 model_error_text (errors.OutputShape at) = codes "abt: model: output shape at " ++ place_text at
 model_error_text (errors.WideSum at) = codes "abt: model: wide sum at " ++ place_text at
-model_error_text (errors.Limit which count at) = codes "abt: model: limit " ++ which_text which ++ codes " " ++ decimal count ++ codes " at " ++ place_text at
+model_error_text (errors.Limit which count at) = codes "abt: model: limit " ++ limit_text which count at
 model_error_text errors.NoSolve = codes "abt: model: no solve item\n"
 model_error_text errors.Memory = codes "abt: memory\n"

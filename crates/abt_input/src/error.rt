@@ -1,12 +1,14 @@
 //! Why a command gave no answer, and what is said of it.
 
 ghost use Rattle.std.specs.Prelude.{◌≡◌, IfOk};
-ghost use Rattle.abt_input.specs.Errors.{model_error, stop_error, error_status, error_text};
+ghost use Rattle.abt_input.specs.Errors.{cnf_error, model_error, stop_error, error_status, error_text};
 ghost use Rattle.abt_input.specs.Replies.{reply_bytes};
 
+use crate::clauses_error::{ClausesError, clauses_reply, clauses_status};
 use crate::model_text::model_error_reply;
 use crate::reply::{Reply, numbered};
 use abt_promise::Status;
+use cnf_front::CnfError;
 use dcsp_script::Stop;
 use fzn_model::ModelError;
 use std::alloc::{AllocError, Global};
@@ -26,6 +28,8 @@ pub enum CommandError {
     ScheduleLong,
     /// The text is no schedule, and this is its first bad line, counted from 1.
     ScheduleLine { number: u64 },
+    /// The formula was refused, or the proof about it.
+    Clauses { error: ClausesError },
     /// The folder or a stream failed.
     Fault,
     /// Want of memory.
@@ -72,6 +76,18 @@ pub(crate) fn model_error(error: ModelError) -> CommandError
     }
 }
 
+/// The error of a command whose formula's reader gives this error.
+pub(crate) fn cnf_error(error: CnfError) -> CommandError
+    ensures { result ≡ cnf_error error }
+{
+    match error {
+        CnfError::Memory => CommandError::Memory,
+        refused => CommandError::Clauses {
+            error: ClausesError::CnfRefused { error: refused },
+        },
+    }
+}
+
 /// The status of a command that gave no answer.
 pub fn error_status(error: CommandError) -> Status
     ensures { result ≡ error_status error }
@@ -82,6 +98,7 @@ pub fn error_status(error: CommandError) -> Status
         | CommandError::LogLine { .. }
         | CommandError::ScheduleLong
         | CommandError::ScheduleLine { .. } => Status::Text,
+        CommandError::Clauses { error } => clauses_status(error),
         CommandError::Fault => Status::Fault,
         CommandError::Memory => Status::Memory,
     }
@@ -98,6 +115,7 @@ pub fn error_reply(alloc: Global, error: CommandError) -> Result<Reply, AllocErr
         CommandError::LogLine { number } => numbered(alloc, b"abt: log: line ", number),
         CommandError::ScheduleLong => Ok(Reply::Fixed(b"abt: schedule: too long\n")),
         CommandError::ScheduleLine { number } => numbered(alloc, b"abt: schedule: line ", number),
+        CommandError::Clauses { error } => clauses_reply(alloc, error),
         CommandError::Fault => Ok(Reply::Fixed(b"abt: fault\n")),
         CommandError::Memory => Ok(Reply::Fixed(b"abt: memory\n")),
     }

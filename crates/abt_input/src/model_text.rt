@@ -1,7 +1,7 @@
 //! The lines that tell why a model has no problem.
 
 ghost use Rattle.std.specs.Prelude.{◌≡◌, ◌++◌, IfOk, decimal, codes};
-ghost use Rattle.abt_input.specs.ModelTexts.{which_text, place_text, model_error_text};
+ghost use Rattle.abt_input.specs.ModelTexts.{which_text, place_text, limit_text, model_error_text};
 ghost use Rattle.abt_input.specs.Replies.{reply_bytes};
 
 use crate::reply::{Reply, numbered};
@@ -28,24 +28,32 @@ pub(crate) fn model_error_reply(alloc: Global, error: ModelError) -> Result<Repl
         ModelError::IllTyped { at } => placed(alloc, b"abt: model: ill-typed at ", at),
         ModelError::OutputShape { at } => placed(alloc, b"abt: model: output shape at ", at),
         ModelError::WideSum { at } => placed(alloc, b"abt: model: wide sum at ", at),
-        ModelError::Limit { which, count, at } => limit_line(alloc, which, count, at),
+        ModelError::Limit { which, count, at } => {
+            limit_line(alloc, b"abt: model: limit ", which, count, at)
+        }
         ModelError::NoSolve => Ok(Reply::Fixed(b"abt: model: no solve item\n")),
         ModelError::Memory => Ok(Reply::Fixed(b"abt: memory\n")),
     }
 }
 
 /// A line that ends in a place.
-fn placed(alloc: Global, before: &[u8], at: u32) -> Result<Reply, AllocError>
+pub(crate) fn placed(alloc: Global, before: &[u8], at: u32) -> Result<Reply, AllocError>
     ensures { IfOk result (λ reply. reply_bytes reply ≡ before.now ++ place_text at) }
 {
     numbered(alloc, before, u64::from(at))
 }
 
-/// The line that tells that a limit would be passed.
-fn limit_line(alloc: Global, which: Which, count: u128, at: u32) -> Result<Reply, AllocError>
-    ensures { IfOk result (λ reply. reply_bytes reply ≡ model_error_text (ModelError.Limit which count at)) }
+/// The line of these first bytes that tells which limit would be passed, and where.
+pub(crate) fn limit_line(
+    alloc: Global,
+    before: &[u8],
+    which: Which,
+    count: u128,
+    at: u32,
+) -> Result<Reply, AllocError>
+    ensures { IfOk result (λ reply. reply_bytes reply ≡ before.now ++ limit_text which count at) }
 {
-    let mut line = Vec::from_slice(alloc, b"abt: model: limit ")?;
+    let mut line = Vec::from_slice(alloc, before)?;
     line.extend_from_slice(which_name(which))?;
     line.extend_from_slice(b" ")?;
     line.extend_from_slice(Buffer::new().format(count).as_bytes())?;

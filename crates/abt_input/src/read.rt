@@ -1,15 +1,19 @@
-//! Reading a model, a log and a schedule.
+//! Reading a model, a log, a schedule, a formula and a proof.
 
-ghost use Rattle.std.specs.Prelude.{◌≡◌, Err};
+ghost use Rattle.std.specs.Prelude.{◌≡◌, Err, IfOk, All};
 ghost use Rattle.dcsp_outside.specs.Outside.{Rose, SameCounts};
-ghost use Rattle.abt_input.specs.Files.{IsRead, IsModelRead, IsLogRead, IsScheduleRead, UnlessUnread, UnlessFault};
+ghost use Rattle.cnf_front.specs.Clauses.{IsClauseRule};
+ghost use Rattle.abt_input.specs.Files.{IsRead, IsModelRead, IsLogRead, IsScheduleRead, IsFormulaRead, IsProofRead, UnlessUnread, UnlessFault};
 
-use crate::error::{CommandError, model_error};
+use crate::clauses_error::ClausesError;
+use crate::error::{CommandError, cnf_error, model_error};
 use abt_schedule::{Listed, ScheduleError, read_schedule};
+use cnf_front::cnf_of;
 use dcsp_outside::{Fetched, Folder, FolderError};
 use dcsp_problem::Problem;
 use fzn_model::problem_of;
 use ngd_log::{Derivation, LogError, read_log};
+use rup_check::{ClauseList, ProofError};
 use std::alloc::Global;
 
 /// The most bytes of a model.
@@ -20,6 +24,9 @@ const MOST_LOG: u64 = 1 << 62;
 
 /// The most bytes of a schedule.
 const MOST_SCHEDULE: u64 = 67_108_864;
+
+/// The most bytes of a formula.
+const MOST_CNF: u64 = 16_777_216;
 
 /// Why there are no bytes.
 #[derive(Clone, Copy)]
@@ -120,6 +127,60 @@ pub fn read_choices<F: Folder>(
             Err(ScheduleError::Memory) => Err(CommandError::Memory),
         },
         Err(Unread::Long) => Err(CommandError::ScheduleLong),
+        Err(Unread::Fault) => Err(CommandError::Fault),
+        Err(Unread::Memory) => Err(CommandError::Memory),
+    }
+}
+
+/// The problem of the formula under the name: each of its rules is a clause. Nothing is written.
+pub fn read_formula<F: Folder>(
+    alloc: Global,
+    folder: &mut F,
+    name: &str,
+) -> Result<Problem, CommandError>
+    ensures read { IsFormulaRead (F.place folder.old).held name.now result }
+    ensures clauses { IfOk result (λ problem. All IsClauseRule problem.rules) }
+    ensures held { (F.place folder.new).held ≡ (F.place folder.old).held }
+    ensures created { (F.place folder.new).created ≡ (F.place folder.old).created }
+    ensures counts { UnlessFault result (SameCounts (F.place folder.old) (F.place folder.new)) }
+    ensures fault { result ≡ Err CommandError.Fault → Rose ((F.place folder.old).reads name.now) ((F.place folder.new).reads name.now) }
+{
+    match read_file(alloc, folder, name, MOST_CNF) {
+        Ok(text) => match cnf_of(alloc, &text) {
+            Ok(problem) => Ok(problem),
+            Err(error) => Err(cnf_error(error)),
+        },
+        Err(Unread::Long) => Err(CommandError::Clauses {
+            error: ClausesError::CnfLong,
+        }),
+        Err(Unread::Fault) => Err(CommandError::Fault),
+        Err(Unread::Memory) => Err(CommandError::Memory),
+    }
+}
+
+/// The clauses of the proof under the name. Nothing is written.
+pub fn read_proof<F: Folder>(
+    alloc: Global,
+    folder: &mut F,
+    name: &str,
+) -> Result<ClauseList, CommandError>
+    ensures read { IsProofRead (F.place folder.old).held name.now result }
+    ensures held { (F.place folder.new).held ≡ (F.place folder.old).held }
+    ensures created { (F.place folder.new).created ≡ (F.place folder.old).created }
+    ensures counts { UnlessFault result (SameCounts (F.place folder.old) (F.place folder.new)) }
+    ensures fault { result ≡ Err CommandError.Fault → Rose ((F.place folder.old).reads name.now) ((F.place folder.new).reads name.now) }
+{
+    match read_file(alloc, folder, name, MOST_LOG) {
+        Ok(text) => match rup_check::read_proof(alloc, &text) {
+            Ok(clauses) => Ok(clauses),
+            Err(ProofError::Line { number }) => Err(CommandError::Clauses {
+                error: ClausesError::ProofLine { number },
+            }),
+            Err(ProofError::Memory) => Err(CommandError::Memory),
+        },
+        Err(Unread::Long) => Err(CommandError::Clauses {
+            error: ClausesError::ProofLong,
+        }),
         Err(Unread::Fault) => Err(CommandError::Fault),
         Err(Unread::Memory) => Err(CommandError::Memory),
     }

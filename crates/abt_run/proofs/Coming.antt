@@ -16,7 +16,7 @@ use Rattle.abt_promise.specs.Promises.{Promise, IsHeld, AreHeld, refused}
 use Rattle.abt_promise.specs.Runs.{CameIn}
 use Rattle.abt_promise.proofs.Coming.{way_with, came_wrote}
 use Rattle.abt_input.specs.declared.error.CommandError.{CommandError}
-use Rattle.abt_input.specs.declared.error.CommandError.TheVariants.{ModelLong, ModelRefused, LogLong, LogLine, ScheduleLong, ScheduleLine, Fault, Memory}
+use Rattle.abt_input.specs.declared.error.CommandError.TheVariants.{ModelLong, ModelRefused, LogLong, LogLine, ScheduleLong, ScheduleLine, Clauses, Fault, Memory}
 use Rattle.abt_input.specs.Inputs.{IsModelOf, HasProblem, HasChoices}
 use Rattle.abt_input.specs.Errors.{IsErrorOfModel, IsErrorOfSchedule, error_status, error_text, stop_error, way_of}
 use Rattle.abt_input.specs.Files.{IsModelRead, IsScheduleRead, IsScheduleReadOf, UnlessFault}
@@ -60,6 +60,7 @@ module _ (promise : Promise) (m : List ℕ) (rest : List (List ℕ)) (fetched_is
   no_model (LogLine number) h counts fault = absurd h.2
   no_model ScheduleLong h counts fault = absurd h.2
   no_model (ScheduleLine number) h counts fault = absurd h.2
+  no_model (Clauses error) h counts fault = absurd h.2
   no_model Memory h counts fault = record { inputs = h.0 ∷ others.0; are_held = held_all h.0 h.1; came = inl (did_read p q out held created counts) }
   no_model Fault h counts fault = record {
     inputs = h.0 ∷ others.0;
@@ -128,6 +129,7 @@ module _ (m s log : List ℕ) (trace : Bool) (p q : Place) (out : Stream) (held 
     no_schedule (LogLine number) k same fault = absurd k.2
     no_schedule ScheduleLong k same fault = record { inputs = h.0 ∷ k.0 ∷ []; are_held = (h.1, (k.1, tt)); came = (bad_schedule ScheduleLong (problem, h.2) k.2 refl, did_read p t out all_held all_created (both_same p q t counts same), tt) }
     no_schedule (ScheduleLine number) k same fault = record { inputs = h.0 ∷ k.0 ∷ []; are_held = (h.1, (k.1, tt)); came = (bad_schedule (ScheduleLine number) (problem, h.2) k.2 refl, did_read p t out all_held all_created (both_same p q t counts same), tt) }
+    no_schedule (Clauses error) k same fault = absurd k.2
     no_schedule Memory k same fault = record { inputs = h.0 ∷ k.0 ∷ []; are_held = (h.1, (k.1, tt)); came = inl (did_read p t out all_held all_created (both_same p q t counts same)) }
     no_schedule Fault k same fault = record {
       inputs = h.0 ∷ k.0 ∷ [];

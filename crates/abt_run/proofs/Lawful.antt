@@ -10,7 +10,7 @@ use Rattle.abt_promise.specs.Statuses.{IsFinal, IsRefusal}
 use Rattle.abt_promise.specs.Promises.{Report, refused}
 use Rattle.abt_promise.specs.Clauses.{IsLawful}
 use Rattle.abt_input.specs.declared.error.CommandError.{CommandError}
-use Rattle.abt_input.specs.declared.error.CommandError.TheVariants.{ModelLong, ModelRefused, LogLong, LogLine, ScheduleLong, ScheduleLine, Fault, Memory}
+use Rattle.abt_input.specs.declared.error.CommandError.TheVariants.{ModelLong, ModelRefused, LogLong, LogLine, ScheduleLong, ScheduleLine, Clauses, Fault, Memory}
 use Rattle.abt_input.specs.Inputs.{HasChoices}
 use Rattle.abt_input.specs.Errors.{IsErrorOfModel, IsErrorOfSchedule, error_status, error_text}
 use Rattle.abt_input.proofs.Once.{one_problem, one_list, no_error_of_model, no_error_of_schedule, one_error_of_model, one_error_of_schedule}
@@ -31,6 +31,7 @@ final_error LogLong model h = tt
 final_error (LogLine number) model h = tt
 final_error ScheduleLong model h = tt
 final_error (ScheduleLine number) model h = tt
+final_error (Clauses error) model h = absurd h
 final_error Fault model h = h
 final_error Memory model h = h
 
@@ -41,6 +42,7 @@ final_schedule_error LogLong schedule h = tt
 final_schedule_error (LogLine number) schedule h = tt
 final_schedule_error ScheduleLong schedule h = tt
 final_schedule_error (ScheduleLine number) schedule h = tt
+final_schedule_error (Clauses error) schedule h = absurd h
 final_schedule_error Fault schedule h = h
 final_schedule_error Memory schedule h = h
 

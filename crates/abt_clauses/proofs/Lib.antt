@@ -1,0 +1,17 @@
+pub mod Satisfying
+pub mod Answers
+pub mod Coming
+pub mod Rups
+pub mod Lawful
+pub mod Domains
+pub mod Steps
+pub mod Accepting
+pub mod CnfOutcomes
+pub mod Cnfs
+pub mod CnfLawful
+pub mod Printed
+pub mod Held
+pub mod Written
+pub mod CnfTexts
+pub mod CnfFiles
+pub mod CnfHeadlines

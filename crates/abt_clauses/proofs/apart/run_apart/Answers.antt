@@ -1,0 +1,15 @@
+use Rattle.std.proofs.Common.{◌∙◌}
+use Rattle.abt_clauses.specs.CnfRuns.{cnf_run}
+use Rattle.abt_clauses.proofs.CnfOutcomes.{refutation_is, steps_binary, steps_writable}
+use Rattle.abt_clauses.proofs.apart.run_apart.Goals as goal
+
+pub returns : goal.returns
+returns c =
+    let p = c.args.problem.now in
+    let run = cnf_run c.args.problem.now c.args.seed in
+    let gives = c.in_ok-outcome.ensures.gives in
+    record {
+      outcome = gives;
+      refutation = c.in_ok-refutation.ensures run.net.steps c.in_ok-outcome.ensures.log (steps_writable p c.args.seed c.vars-vars.ensures.csp c.requires c.vars-vars.ensures.problem) ∙ refutation_is p run run.net.steps c.in_ok-outcome.outcome.end gives.end;
+      binary = steps_binary p c.args.seed c.vars-vars.ensures.csp c.requires;
+    }

@@ -1,0 +1,6 @@
+pub mod Satisfying
+pub mod RupPromise
+pub mod CnfRuns
+pub mod CnfOutcomes
+pub mod CnfPromise
+pub mod CnfHeadline
