@@ -1,0 +1,4 @@
+pub mod Searches
+pub mod Tails
+pub mod Places
+pub mod Texts
