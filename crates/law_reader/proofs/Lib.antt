@@ -2,3 +2,8 @@ pub mod Searches
 pub mod Tails
 pub mod Places
 pub mod Texts
+pub mod TokenKinds
+pub mod Deciding
+pub mod Grammar
+pub mod Items
+pub mod Problems
