@@ -1,5 +1,5 @@
 -- Each production reads some tokens, or it fails: productions that are put together of such ones do.
-use Rattle.std.proofs.Common.{◌≡◌, ℕ, zero, suc, ◌+◌, ◌<◌, ◌≤◌, ◌⊎◌, inl, inr, List, [], ◌∷◌, ◌++◌, length, refl, sym, subst, arith}
+use Rattle.std.proofs.Common.{◌≡◌, ℕ, zero, suc, ◌<◌, ◌≤◌, ◌⊎◌, inl, inr, List, [], ◌∷◌, length, refl, sym, subst, arith}
 use Rattle.fzn_token.specs.declared.token.Token.{Token}
 use Rattle.fzn_token.specs.declared.token.TokenKind.{TokenKind}
 use Rattle.fzn_token.specs.declared.token.TokenKind.TheVariants as kind

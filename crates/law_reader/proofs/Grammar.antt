@@ -1,5 +1,5 @@
 -- Each production of the grammar reads some tokens, or it fails.
-use Rattle.std.proofs.Common.{◌≡◌, ℕ, zero, suc, ◌+◌, ◌<◌, ◌≤◌, ◌⊎◌, ◌&&◌, inl, inr, Bool, true, false, cond, List, [], ◌∷◌, length, Option, Some, None, refl, subst, arith}
+use Rattle.std.proofs.Common.{ℕ, zero, suc, ◌<◌, ◌&&◌, inl, inr, Bool, true, false, cond, List, [], ◌∷◌, length, Option, Some, None, refl, arith}
 use Rattle.std.specs.Prelude.{ℤ, ◌||◌, nat_lt, is_none, slice_range, codes}
 use Rattle.std.specs.Str.{bytes_eq}
 use Rattle.fzn_token.specs.declared.token.Token.{Token}
@@ -19,15 +19,14 @@ use Rattle.fzn_item.specs.Exprs.{AtomFrom, AtomAfter, IsAtom, IsExpr, IsLastExpr
 use Rattle.fzn_item.specs.Annotations.{Arguments, RangeEnd, FloatRangeEnd, NumberAfter, IsNumber, InnerAfter, IsInner}
 use Rattle.fzn_item.specs.Marks.{called, IsRange, IsRangeArgument, IsOtherArgument, ArrayEnd, MarkedEnd, IsMarkedAnnotation, AreAnnotations, none, more, first_mark}
 use Rattle.fzn_item.specs.Elements.{SetAfter, IsSetElement, BaseAfter, IsBase, variable, parameter, ElementAfter, IsElement}
-use Rattle.fzn_item.specs.Declarations.{IsRight, NoRight, RightSide, IsNamed, IsDeclaration, IsArray}
+use Rattle.fzn_item.specs.Declarations.{NoRight, RightSide, IsNamed, IsDeclaration, IsArray}
 use Rattle.fzn_item.specs.Items.{ToSemicolon, IsConstraint, GoalAfter, IsGoal, IsSolve, ItemAfter}
 use Rattle.fzn_item.proofs.Combining.{IsUnique, one_unique}
 use Rattle.fzn_item.proofs.ListsSoFar.{integer_unique}
-use Rattle.fzn_item.proofs.ExprLaws.{not_next_unique, any_unique, atom_unique, members_unique, atoms_unique, expr_unique, arguments_unique, last_unique}
+use Rattle.fzn_item.proofs.ExprLaws.{any_unique, atom_unique, expr_unique, arguments_unique}
 use Rattle.fzn_item.proofs.AnnotationLaws.{number_unique, inner_unique}
 use Rattle.fzn_item.proofs.MarkLaws.{range_unique, ranges_unique, annotations_unique, one_more, none_so_far, no_annotation}
 use Rattle.fzn_item.proofs.ElementLaws.{element_after_unique, element_unique}
-use Rattle.fzn_item.proofs.DeclarationLaws.{right_unique}
 use Rattle.law_reader.proofs.TokenKinds.{is_mark}
 use Rattle.law_reader.proofs.Deciding.{Decided, IsDecided, gives_decided, nothing_decided, then_decided, map_decided, or_decided, mark_decided, word_decided, name_decided, float_decided, integer_decided, any_decided, not_next_decided, one_shorter, list_decided, any_list_decided}
 

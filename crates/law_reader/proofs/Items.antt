@@ -1,10 +1,10 @@
 -- Item after item, the tokens of a text have items or an item that no production reads.
-use Rattle.std.proofs.Common.{◌≡◌, ℕ, zero, suc, ◌+◌, ◌<◌, ◌≤◌, inl, inr, List, [], ◌∷◌, ◌++◌, length, Ok, Err, refl, arith}
+use Rattle.std.proofs.Common.{ℕ, zero, suc, ◌<◌, inl, inr, List, [], ◌∷◌, ◌++◌, length, Ok, Err, refl, arith}
 use Rattle.fzn_token.specs.declared.token.Token.{Token}
 use Rattle.fzn_item.specs.declared.item.Item.{Item}
 use Rattle.fzn_item.specs.declared.item.ItemError.TheVariants as errors
 use Rattle.fzn_item.specs.Productions.{IsAny}
-use Rattle.fzn_item.specs.Items.{IsItem, ItemAfter, AreItemsTo}
+use Rattle.fzn_item.specs.Items.{ItemAfter, AreItemsTo}
 use Rattle.fzn_item.proofs.Combining.{fails_then}
 use Rattle.fzn_item.proofs.ExprLaws.{any_unique}
 use Rattle.fzn_item.proofs.ItemLaws.{items_push, unread}

@@ -1,5 +1,5 @@
 -- Whether a token is of a kind.
-use Rattle.std.proofs.Common.{◌≡◌, ℕ, ◌+◌, ◌<◌, ◌≤◌, ◌⊎◌, inl, inr, List, [], ◌∷◌, length, Option, Some, refl, sym, ap, ◌∙◌, arith}
+use Rattle.std.proofs.Common.{◌≡◌, ℕ, ◌⊎◌, inl, inr, List, length, Option, Some, refl, sym, ap, ◌∙◌}
 use Rattle.std.specs.Prelude.{slice_index, nat_lt}
 use Rattle.std.specs.Str.{bytes_eq}
 use Rattle.std.proofs.lemmas.Bool.{cases_Bool, true≢false}
@@ -7,7 +7,6 @@ use Rattle.std.proofs.lemmas.Slice.Eq.{bytes_eq-Decides}
 use Rattle.fzn_token.specs.declared.token.Word.{Word}
 use Rattle.fzn_token.specs.declared.token.Mark.{Mark}
 use Rattle.fzn_token.specs.declared.token.Mark.TheVariants as m
-use Rattle.fzn_token.specs.declared.token.Token.{Token}
 use Rattle.fzn_token.specs.declared.token.TokenKind.{TokenKind}
 use Rattle.fzn_token.specs.declared.token.TokenKind.TheVariants as kind
 use Rattle.fzn_token.specs.Words.{word_text, mark_text}
