@@ -7,3 +7,5 @@ pub mod Deciding
 pub mod Grammar
 pub mod Items
 pub mod Problems
+pub mod Placing
+pub mod ItemPlaces
