@@ -9,3 +9,6 @@ pub mod Items
 pub mod Problems
 pub mod Placing
 pub mod ItemPlaces
+pub mod Refusing
+pub mod RefusedItems
+pub mod RefusalPlaces

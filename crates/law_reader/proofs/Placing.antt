@@ -1,5 +1,5 @@
 -- Where P holds of the places of all tokens, it holds of the places in what productions read, and of those of the rest.
-use Rattle.std.proofs.Common.{◌≡◌, ℕ, ◌⊎◌, inl, inr, List, [], ◌∷◌, Option, Some, None, refl, sym, subst}
+use Rattle.std.proofs.Common.{ℕ, inl, inr, List, [], ◌∷◌, sym, subst}
 use Rattle.std.specs.List.{AllByRecursion}
 use Rattle.fzn_token.specs.declared.token.Token.{Token}
 use Rattle.fzn_token.specs.declared.token.TokenKind.{TokenKind}
