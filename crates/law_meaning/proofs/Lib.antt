@@ -1,0 +1,12 @@
+pub mod Checks
+pub mod Names
+pub mod Values
+pub mod Sorts
+pub mod Arguments
+pub mod Constraints
+pub mod Growth
+pub mod Domains
+pub mod Fits
+pub mod Declared
+pub mod Items
+pub mod Whole

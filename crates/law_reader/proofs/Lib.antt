@@ -1,0 +1,14 @@
+pub mod Searches
+pub mod Tails
+pub mod Places
+pub mod Texts
+pub mod TokenKinds
+pub mod Deciding
+pub mod Grammar
+pub mod Items
+pub mod Problems
+pub mod Placing
+pub mod ItemPlaces
+pub mod Refusing
+pub mod RefusedItems
+pub mod RefusalPlaces

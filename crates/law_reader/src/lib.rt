@@ -1,0 +1,25 @@
+//! What holds of all texts: each has an answer, and each refusal names the place of a token, or one that has none.
+#![tactic(auto)]
+
+ghost use Rattle.law_reader.specs.Answered.{TextsHaveTokens, TokensHaveItems, TextsHaveAnswers};
+ghost use Rattle.law_reader.specs.Placed.{RefusalsArePlaced};
+
+/// Each text, of any length, has tokens or a first place that is refused.
+pub fn texts_have_tokens()
+    ensures { TextsHaveTokens }
+{}
+
+/// Any tokens have items or a first one that no production reads.
+pub fn tokens_have_items()
+    ensures { TokensHaveItems }
+{}
+
+/// Each text has a problem or a first refusal, and so a reader with enough memory has an answer for it.
+pub fn texts_have_answers()
+    ensures { TextsHaveAnswers }
+{}
+
+/// The place that a refusal names is the first byte of a token, or one where no token in range begins.
+pub fn refusals_are_placed()
+    ensures { RefusalsArePlaced }
+{}
