@@ -1,4 +1,4 @@
--- The calm end: how many events it takes to a verdict.
+-- How many calm events it takes to a verdict.
 use Rattle.std.proofs.Common.{◌≡◌, ℕ, zero, suc, ◌+◌, ◌*◌, ◌%◌, ◌<◌, ◌≤◌, Bool, true, false, cond, not, ◌||◌, ◌⊎◌, inl, inr, List, [], ◌∷◌, ◌++◌, length, take, drop, slice_get, Option, Some, None, ◌==◌, refl, sym, ap, ◌∙◌, subst, arith}
 use Rattle.std.specs.Prelude.{nat_lt, nat_le}
 use Rattle.std.proofs.Math.Nat.{mod-eq_of_lt}
@@ -22,10 +22,10 @@ use Rattle.law_lossy.proofs.Facts.{facts_event, facts_after, facts_begin, is_una
 use Rattle.law_lossy.proofs.Events.{moves, same_reliable, pairs-In}
 use Rattle.law_lossy.proofs.Runs.{is_run, network_quiet, IsCounted, counted_event, counted_after, counted_begin, total_raised}
 
--- ---- what every world keeps
+-- ---- what every world that is reached keeps
 
 record Reached (p : Csp) (w : World) : Type 0 where
-  numbered : Facts p w
+  facts : Facts p w
   choices : List ℕ
   runs : reliable w ≡ run p choices (start p)
   counted : IsCounted p w
@@ -38,20 +38,20 @@ run_more p (x ∷ xs) c net = (elim net.refuted as (λ b. net.refuted ≡ b → 
 ]) refl
 
 reached_event : (p : Csp) (word : ℕ) (w : World) → w.network.refuted ≡ false → Reached p w → Reached p (event p word w)
-reached_event p word w f g = elim (moves p word w g.numbered) [
+reached_event p word w f g = elim (moves p word w g.facts) [
   | inl n ↦ record {
-    numbered = facts_event p word w g.numbered;
+    facts = facts_event p word w g.facts;
     choices = g.choices;
     runs = same_reliable w (pair_of_event word w) (event p word w) n ∙ g.runs;
-    counted = counted_event p word w g.numbered g.counted;
+    counted = counted_event p word w g.facts g.counted;
   }
   | inr d ↦ record {
-    numbered = facts_event p word w g.numbered;
+    facts = facts_event p word w g.facts;
     choices = g.choices ++ d.choice ∷ [];
     runs =
         let open_still : (run p g.choices (start p)).refuted ≡ false = ap (λ (x : Network). x.refuted) (sym g.runs) ∙ f in
         d.next ∙ ap (deliver p d.choice) g.runs ∙ sym (run_more p g.choices d.choice (start p) ∙ ap (λ b. cond b (run p g.choices (start p)) (deliver p d.choice (run p g.choices (start p)))) open_still);
-    counted = counted_event p word w g.numbered g.counted;
+    counted = counted_event p word w g.facts g.counted;
   }
 ]
 
@@ -75,7 +75,7 @@ quiet_if_none p net h k i lk li = by_test (is_empty (net.links k i)) refl
     by_test true e = empty_nil (net.links k i) e
     by_test false e = absurd (In-nil (k, i) (ready p net) (empty_nil (ready p net) h) (In-filter (λ (x : ℕ × ℕ). not (is_empty (net.links x.0 x.1))) (k, i) (pairs (count p)) (pairs-In (count p) k i lk li) (ap not e)))
 
--- fewer messages are known to be acknowledged than the bound says
+-- fewer messages are acknowledged than the bound says
 below_bound : (p : Csp) → IsCsp p → (w : World) → Reached p w → has_verdict p w ≡ false → total p w.acknowledged < message_bound p
 below_bound p ok w g v =
     let parts = verdict_parts w.network.refuted (is_quiet p w) v in
@@ -84,14 +84,14 @@ below_bound p ok w g v =
     let l = unfinished_below p ok g.choices f t in
     let d : w.network.deliveries ≡ (run p g.choices (start p)).deliveries = ap (λ (x : Network). x.deliveries) g.runs in
     let c : total p w.handed_up ≡ w.network.deliveries = g.counted in
-    let s : total p w.acknowledged ≤ total p w.handed_up = sum-le _ _ (count p) (λ k lk. sum-le (w.acknowledged k) (w.handed_up k) (count p) (λ i li. g.numbered.acknowledged k i)) in
+    let s : total p w.acknowledged ≤ total p w.handed_up = sum-le _ _ (count p) (λ k lk. sum-le (w.acknowledged k) (w.handed_up k) (count p) (λ i li. g.facts.acknowledged k i)) in
     omega arith
   where
     not_empty : (b : Bool) → is_empty (ready p (reliable w)) ≡ b → is_empty (ready p (reliable w)) ≡ false
     not_empty false e = e
-    not_empty true e = let q = network_quiet p w g.numbered (quiet_if_none p (reliable w) e) in let z = (verdict_parts w.network.refuted (is_quiet p w) v).1 in let y : true ≡ false = sym q ∙ z in cc
+    not_empty true e = let q = network_quiet p w g.facts (quiet_if_none p (reliable w) e) in let z = (verdict_parts w.network.refuted (is_quiet p w) v).1 in let y : true ≡ false = sym q ∙ z in cc
 
--- where every message is known to be acknowledged, the world is quiet
+-- where no pair has a message that is not acknowledged, the world is quiet
 none_unacknowledged : (p : Csp) (w : World) → Facts p w → unacknowledged p w ≡ [] → is_quiet p w ≡ true
 none_unacknowledged p w h e = In-list_all (λ (x : ℕ × ℕ). w.handed_up x.0 x.1 == length (w.network.links x.0 x.1)) (pairs (count p)) (λ x u. by_test x u (nat_lt (w.acknowledged x.0 x.1) (length (w.network.links x.0 x.1))) refl)
   where
@@ -139,7 +139,7 @@ weight_arrive p (Acknowledgement k i n) w = elim (n == w.acknowledged k i + 1) a
 zero_mod : (n : ℕ) → 0 < n → 0 % n ≡ 0
 zero_mod n l = mod-eq_of_lt l
 
--- with packets, the first arrives and leaves
+-- where there are packets, the first arrives and leaves
 first_comes : (p : Csp) (w : World) (x : Packet) (rest : List Packet) → w.pool ≡ x ∷ rest → event p (calm_word w) w ≡ arrive p x (record w { pool = rest })
 first_comes p w x rest e =
     let z : place 1 (x ∷ rest) ≡ 0 = zero_mod (length (x ∷ rest)) (omega arith) in
@@ -147,7 +147,7 @@ first_comes p w x rest e =
     ∙ ap (λ (pool : List Packet). come p (coming 1 pool) (record w { pool = staying 1 pool })) e
     ∙ ap (λ n. come p (slice_get (x ∷ rest) n) (record w { pool = take n (x ∷ rest) ++ drop (suc n) (x ∷ rest) })) z
 
--- with none, the first pair with such a message sends
+-- where there is none, the first pair sends that may
 first_sends : (p : Csp) (w : World) (x : ℕ × ℕ) (rest : List (ℕ × ℕ)) → w.pool ≡ [] → unacknowledged p w ≡ x ∷ rest → event p (calm_word w) w ≡ send_on (Some x) w
 first_sends p w x rest e u =
     let z : 0 % length (x ∷ rest) ≡ 0 = zero_mod (length (x ∷ rest)) (omega arith) in
@@ -155,7 +155,7 @@ first_sends p w x rest e u =
     ∙ ap (λ (xs : List (ℕ × ℕ)). send_on (slice_get xs (0 % length xs)) w) u
     ∙ ap (λ n. send_on (slice_get (x ∷ rest) n) w) z
 
--- how far the calm end is, where n events may still come
+-- what n calm events more are enough for: the pool to be emptied first, or one message after another to be sent, to arrive and to be acknowledged
 data Budget (p : Csp) (bound n : ℕ) (w : World) : Type 0 where
   Emptying : weight w.pool + 3 * bound ≤ n → Budget p bound n w
   Empty : w.pool ≡ [] → 3 * bound ≤ n + 3 * total p w.acknowledged → Budget p bound n w
@@ -185,15 +185,15 @@ one_sent p bound n w g v e l = by_list (unacknowledged p w) refl
     by_message x (Some m) s o = inr (On_its_way x.0 x.1 m (ap (λ (pool : List Packet). pool ++ Data x.0 x.1 (w.acknowledged x.0 x.1 + 1) m ∷ []) e) (omega arith))
 
     by_list : (xs : List (ℕ × ℕ)) → unacknowledged p w ≡ xs → Next p bound n (event p (calm_word w) w)
-    by_list [] u = let q = none_unacknowledged p w g.numbered u in let z = (verdict_parts w.network.refuted (is_quiet p w) v).1 in let y : true ≡ false = sym q ∙ z in cc
+    by_list [] u = let q = none_unacknowledged p w g.facts u in let z = (verdict_parts w.network.refuted (is_quiet p w) v).1 in let y : true ≡ false = sym q ∙ z in cc
     by_list (x ∷ xs) u = subst (Next p bound n) (sym (first_sends p w x xs e u)) (by_message x (slice_get (w.network.links x.0 x.1) (w.acknowledged x.0 x.1)) (is_unacknowledged p w x (subst (In x) (sym u) (inl refl))).2 refl)
 
--- data of the first number that is not known comes
+-- data of the first number that is not acknowledged comes
 one_handed : (p : Csp) (bound n : ℕ) (w : World) (k i : ℕ) (m : Message) → Reached p w → has_verdict p w ≡ false → w.pool ≡ Data k i (w.acknowledged k i + 1) m ∷ [] → 3 * bound ≤ suc n + 3 * total p w.acknowledged + 1 → Next p bound n (event p (calm_word w) w)
 one_handed p bound n w k i m g v e l = subst (Next p bound n) (sym (first_comes p w (Data k i (w.acknowledged k i + 1) m) [] e)) comes
   where
     told : IsRightData p w k i (w.acknowledged k i + 1) m
-    told = g.numbered.packets (Data k i (w.acknowledged k i + 1) m) (subst (In (Data k i (w.acknowledged k i + 1) m)) (sym e) (inl refl))
+    told = g.facts.packets (Data k i (w.acknowledged k i + 1) m) (subst (In (Data k i (w.acknowledged k i + 1) m)) (sym e) (inl refl))
 
     up : (b : Bool) → (hand_up p k i m (record w { pool = [] })).network.refuted ≡ b → Next p bound n (cond b (hand_up p k i m (record w { pool = [] })) (add_packet (Acknowledgement k i (w.acknowledged k i + 1)) (hand_up p k i m (record w { pool = [] }))))
     up true f = inl (ap (λ b. b || is_quiet p (hand_up p k i m (record w { pool = [] }))) f)
@@ -208,7 +208,7 @@ one_handed p bound n w k i m g v e l = subst (Next p bound n) (sym (first_comes 
       | inl t ↦ rw t.0 (up (hand_up p k i m (record w { pool = [] })).network.refuted refl)
       | inr t ↦ rw t.0 (elim (leb_tells (w.acknowledged k i + 1) (w.handed_up k i)) [
         | inl u ↦ rw u.0 (again w.network.refuted refl)
-        | inr u ↦ let ne = t.1 in let h = g.numbered.acknowledged k i in let a = u.1 in absurd (ne (omega arith))
+        | inr u ↦ let ne = t.1 in let h = g.facts.acknowledged k i in let a = u.1 in absurd (ne (omega arith))
       ])
     ]
 
@@ -263,7 +263,7 @@ pub calm_budget : (p : Csp) → CalmBudget p
 calm_budget p ok words n small =
     let w = after p words (begin p) in
     let g : Reached p w = record {
-      numbered = facts_after p words (begin p) (facts_begin p);
+      facts = facts_after p words (begin p) (facts_begin p);
       choices = numbers p words (begin p);
       runs = is_run p words;
       counted = counted_after p words (begin p) (facts_begin p) (counted_begin p);

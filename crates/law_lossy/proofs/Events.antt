@@ -1,4 +1,4 @@
--- What an event does: it hands up nothing, or one message, which is one delivery.
+-- What an event does: it hands up nothing, or one message, which is one delivery over reliable links.
 use Rattle.std.proofs.Common.{◌≡◌, ℕ, suc, ◌+◌, ◌-◌, ◌/◌, ◌%◌, ◌<◌, ◌≤◌, Bool, true, false, cond, not, ◌&&◌, ◌⊎◌, inl, inr, List, [], ◌∷◌, ◌++◌, map, flat_map, length, drop, slice_get, Option, Some, None, ◌==◌, refl, sym, ap, ◌∙◌, subst, arith}
 use Rattle.std.specs.Prelude.{nat_le}
 use Rattle.std.proofs.Math.Nat.{mod-eq_of_lt}
@@ -90,7 +90,7 @@ effect p word w =
 
 -- ---- one message handed up is one delivery
 
--- the lists that are left
+-- the lists that a delivery leaves
 links_left : (w : World) (k i : ℕ) (a b : ℕ) → drop (raised w.handed_up k i a b) (w.network.links a b) ≡ (left k i (drop (suc (w.handed_up k i)) (w.network.links k i)) (reliable w)).links a b
 links_left w k i a b = elim (eqb_tells a k) [
   | inl t ↦ elim (eqb_tells b i) [

@@ -1,4 +1,4 @@
--- What removing, appending and looking up leave of a list, and counts of pairs.
+-- What a list keeps when an item leaves or comes, and counts of pairs of which one rises.
 use Rattle.std.proofs.Common.{◌≡◌, ◌≢◌, ℕ, zero, suc, ◌+◌, ◌<◌, ◌≤◌, ◌%◌, Bool, true, false, cond, ◌⊎◌, inl, inr, List, [], ◌∷◌, ◌++◌, take, drop, length, slice_get, Option, Some, None, is_some, find, ◌==◌, refl, sym, ap, ◌∙◌, arith}
 use Rattle.std.specs.List.{remove, position, position_or_len}
 use Rattle.std.specs.Prelude.{nat_lt}

@@ -1,4 +1,4 @@
--- The world is a run of the network, and what follows from it.
+-- The world is a run over reliable links, and what follows from it.
 use Rattle.std.proofs.Common.{◌≡◌, ◌≢◌, ℕ, zero, suc, ◌+◌, ◌-◌, ◌<◌, ◌≤◌, true, false, cond, ◌&&◌, inl, inr, List, [], ◌∷◌, ◌++◌, length, length-drop, take, drop, append_assoc, append-nil, slice_get, Option, Some, None, option_to_list, find, ◌==◌, refl, sym, ap, ◌∙◌, subst, arith}
 use Rattle.std.specs.List.{enumerate_from}
 use Rattle.std.proofs.lemmas.List.{take-append-le, drop_all}

@@ -7,14 +7,11 @@ use Rattle.lossy_defs.specs.World.{begin}
 use Rattle.lossy_defs.specs.Ends.{calm, calm_words}
 use Rattle.lossy_samples.specs.Rows.{end}
 
-pub ten : end clash 10 ≡ (false, false, 3)
+pub ten : end clash 10 ≡ (false, false, 3, 1)
 ten = refl
 
-pub eleven : end clash 11 ≡ (true, true, 4)
+pub eleven : end clash 11 ≡ (true, true, 4, 0)
 eleven = refl
-
-pub pool : (calm clash 11 (begin clash)).pool ≡ []
-pool = refl
 
 pub words : calm_words clash 12 (begin clash) ≡ 0 ∷ 1 ∷ 1 ∷ 0 ∷ 1 ∷ 1 ∷ 0 ∷ 1 ∷ 1 ∷ 0 ∷ 1 ∷ []
 words = refl

@@ -20,13 +20,14 @@ shown p (word ∷ words) w = let next = event p word w in (delivered p word w, l
 abbrev pub apart : Csp
 apart = csp (bits ∷ bits ∷ []) (differ 0 1 ∷ [])
 
--- after n calm events: whether the run is refuted, whether the world is quiet, and how many messages were handed up
-abbrev pub end : Csp → ℕ → Bool × Bool × ℕ
-end p n = let w = calm p n (begin p) in (w.network.refuted, is_quiet p w, w.network.deliveries)
+-- after n calm events: whether the run is refuted, whether the world is quiet, how many messages were handed up, and how many packets are on their way
+abbrev pub end : Csp → ℕ → Bool × Bool × ℕ × ℕ
+end p n = let w = calm p n (begin p) in (w.network.refuted, is_quiet p w, w.network.deliveries, length w.pool)
 
 -- data is sent, delivered and repeated, and delivered again, which hands up nothing; an acknowledgement is lost
 pub record FourWords : Type 0 where
   pub events : shown clash (0 ∷ 2 ∷ 1 ∷ 3 ∷ []) (begin clash) ≡ (None, 1) ∷ (Some 0, 2) ∷ (None, 2) ∷ (None, 1) ∷ []
+  pub once : (after clash (0 ∷ 2 ∷ 1 ∷ []) (begin clash)).network.deliveries ≡ 1
   pub pool : (after clash (0 ∷ 2 ∷ 1 ∷ []) (begin clash)).pool ≡ Acknowledgement 0 1 1 ∷ Acknowledgement 0 1 1 ∷ []
 
 -- the first acknowledgement is lost; the data is sent again, hands up nothing, and is acknowledged again
@@ -42,15 +43,14 @@ pub record Reordered : Type 0 where
 
 -- refuted with the eleventh event and not before; the data that refutes is not acknowledged
 pub record CalmRefuted : Type 0 where
-  pub ten : end clash 10 ≡ (false, false, 3)
-  pub eleven : end clash 11 ≡ (true, true, 4)
-  pub pool : (calm clash 11 (begin clash)).pool ≡ []
+  pub ten : end clash 10 ≡ (false, false, 3, 1)
+  pub eleven : end clash 11 ≡ (true, true, 4, 0)
   pub words : calm_words clash 12 (begin clash) ≡ 0 ∷ 1 ∷ 1 ∷ 0 ∷ 1 ∷ 1 ∷ 0 ∷ 1 ∷ 1 ∷ 0 ∷ 1 ∷ []
   pub steps : (calm clash 11 (begin clash)).network.steps ≡ step 1 (pair_of 0 (pos 0) ∷ []) (Rule 0 ∷ Rule 1 ∷ []) ∷ step 1 (pair_of 0 (pos 1) ∷ []) (Rule 1 ∷ Rule 0 ∷ []) ∷ step 0 [] (Earlier 1 ∷ Earlier 2 ∷ []) ∷ []
 
 -- solved with the second event, after which given words are not used
 pub record CalmSolved : Type 0 where
-  pub end : end apart 2 ≡ (false, true, 1)
+  pub end : end apart 2 ≡ (false, true, 1, 1)
   pub values : map (values (calm apart 2 (begin apart)).network) (below 2) ≡ pos 0 ∷ pos 1 ∷ []
   pub words : all_words apart [] 5 ≡ 0 ∷ 1 ∷ []
   pub given : all_words apart (3 ∷ 0 ∷ 3 ∷ []) 5 ≡ 3 ∷ 0 ∷ 3 ∷ 0 ∷ 1 ∷ []

@@ -2,4 +2,4 @@ use Rattle.std.proofs.Common.{refl}
 use Rattle.lossy_samples.proofs.four_words.Goals as goal
 
 pub returns : goal.returns
-returns c = record { events = refl; pool = refl }
+returns c = record { events = refl; once = refl; pool = refl }
