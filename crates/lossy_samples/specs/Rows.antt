@@ -36,6 +36,11 @@ pub record LostAcknowledgement : Type 0 where
   pub before : (after clash (0 ∷ 1 ∷ 3 ∷ []) (begin clash)).acknowledged 0 1 ≡ 0
   pub acknowledged : (after clash (0 ∷ 1 ∷ 3 ∷ 0 ∷ 1 ∷ 1 ∷ []) (begin clash)).acknowledged 0 1 ≡ 1
 
+-- an acknowledgement that is repeated counts once
+pub record RepeatedAcknowledgement : Type 0 where
+  pub events : shown clash (0 ∷ 1 ∷ 2 ∷ 1 ∷ []) (begin clash) ≡ (None, 1) ∷ (Some 0, 1) ∷ (None, 1) ∷ (None, 0) ∷ []
+  pub acknowledged : (after clash (0 ∷ 1 ∷ 2 ∷ 1 ∷ []) (begin clash)).acknowledged 0 1 ≡ 1
+
 -- both pairs have sent; the data of the second is delivered first
 pub record Reordered : Type 0 where
   pub events : shown starved (0 ∷ 4 ∷ 5 ∷ 1 ∷ []) (begin starved) ≡ (None, 1) ∷ (None, 2) ∷ (Some 1, 2) ∷ (Some 0, 2) ∷ []

@@ -2,7 +2,7 @@
 //! alone. They are the tests of the definitions.
 #![tactic(auto)]
 
-ghost use Rattle.lossy_samples.specs.Rows.{CalmRefuted, CalmSolved, FourWords, LostAcknowledgement, Reordered};
+ghost use Rattle.lossy_samples.specs.Rows.{CalmRefuted, CalmSolved, FourWords, LostAcknowledgement, Reordered, RepeatedAcknowledgement};
 
 /// Data that is sent, delivered and repeated, delivered again, and an acknowledgement that is lost.
 pub fn four_words()
@@ -12,6 +12,11 @@ pub fn four_words()
 /// An acknowledgement that is lost, and data that is sent again for it.
 pub fn lost_acknowledgement()
     ensures { LostAcknowledgement }
+{}
+
+/// An acknowledgement that is repeated.
+pub fn repeated_acknowledgement()
+    ensures { RepeatedAcknowledgement }
 {}
 
 /// Data of two pairs, the later one delivered first.
