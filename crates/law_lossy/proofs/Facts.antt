@@ -5,7 +5,7 @@ use Rattle.std.proofs.lemmas.Bool.Decides.{nat_tests, eqb_tells, leb_tells}
 use Rattle.std.proofs.lemmas.Option.{slice_get_within}
 use Rattle.dcsp_defs.specs.Words.{In, below}
 use Rattle.dcsp_defs.specs.Csp.{Csp, count}
-use Rattle.dcsp_defs.proofs.Lists.{In-split, In-below, filter-from}
+use Rattle.dcsp_defs.proofs.Lists.{In-split, In-below, filter-from, get-In}
 use Rattle.law_invariants.proofs.Runs.{In-pairs}
 use Rattle.abt_defs.specs.Agents.{Message}
 use Rattle.abt_defs.specs.Steps.{receive}
@@ -14,7 +14,7 @@ use Rattle.lossy_defs.specs.Packets.{Packet, coming, staying, Data, Acknowledgem
 use Rattle.lossy_defs.specs.World.{World, begin, raised, unacknowledged, add_packet, send_first, send_on, send, acknowledge, hand_up, arrive, come, event, after}
 use Rattle.lossy_defs.specs.Facts.{IsRightData, IsRightAcknowledgement, IsRight, Facts}
 use Rattle.law_lossy.specs.Links.{FactsHold}
-use Rattle.law_lossy.proofs.Lists.{In-staying, coming-In, get-In, get_left, raised_tells, raised_up, raised_here}
+use Rattle.law_lossy.proofs.Lists.{In-staying, coming-In, get_left, raised_tells, raised_up, raised_here}
 
 -- the lists keep their messages, and no count of what was handed up falls
 record Grows (w v : World) : Type 0 where

@@ -5,3 +5,4 @@ pub mod Runs
 pub mod Calm
 pub mod Sizes
 pub mod Whole
+pub mod Places

@@ -6,7 +6,7 @@ use Rattle.std.proofs.lemmas.Bool.Decides.{nat_tests, eqb_tells}
 use Rattle.std.proofs.lemmas.List.Folds.{find_at}
 use Rattle.std.proofs.lemmas.Option.{slice_get_within}
 use Rattle.dcsp_defs.specs.Words.{In}
-use Rattle.dcsp_defs.proofs.Lists.{In-split, find-some, find-found}
+use Rattle.dcsp_defs.proofs.Lists.{In-split, find-some, find-found, get-In}
 use Rattle.lossy_defs.specs.Packets.{Packet, place, coming, staying}
 use Rattle.lossy_defs.specs.World.{raised}
 
@@ -26,11 +26,6 @@ In-remove n x xs h = elim (In-split x (take n xs) (drop (suc n) xs) h) [ inl u �
 
 pub In-staying : (word : ℕ) (x : Packet) (pool : List Packet) → In x (staying word pool) → In x pool
 In-staying word x pool h = (elim (word % 4 == 2) as (λ b. In x (cond b pool (remove pool (place word pool))) → In x pool) [ true ↦ λ u. u | false ↦ λ u. In-remove (place word pool) x pool u ]) h
-
-pub get-In : {X : Type 0} → (xs : List X) (n : ℕ) (x : X) → slice_get xs n ≡ Some x → In x xs
-get-In [] n x h = cc
-get-In (y ∷ ys) zero x h = let e : x ≡ y = cc in inl e
-get-In (y ∷ ys) (suc n) x h = inr (get-In ys n x h)
 
 pub coming-In : (word : ℕ) (x : Packet) (pool : List Packet) → coming word pool ≡ Some x → In x pool
 coming-In word x pool h = (elim (word % 4 == 3) as (λ b. cond b None (slice_get pool (place word pool)) ≡ Some x → In x pool) [ true ↦ λ e. cc | false ↦ λ e. get-In pool (place word pool) x e ]) h

@@ -1,10 +1,10 @@
 -- The world is a run of the agents over reliable links.
-use Rattle.std.specs.Prelude.{◌≡◌, ℕ, ◌<◌, ◌≤◌, false, ◌⊎◌, List, [], ◌∷◌, ◌++◌, length, Some, None, option_to_list, ◌==◌, if◌then◌else◌}
+use Rattle.std.specs.Prelude.{◌≡◌, ℕ, ◌<◌, ◌≤◌, false, ◌⊎◌, List, [], ◌∷◌, ◌++◌, length, slice_get, Some, None, option_to_list, ◌==◌, if◌then◌else◌}
 use Rattle.dcsp_defs.specs.Csp.{Csp}
-use Rattle.abt_defs.specs.Network.{start, run, ready, deliver}
+use Rattle.abt_defs.specs.Network.{Network, start, run, ready, deliver}
 use Rattle.abt_defs.specs.Runs.{End, Refuted, Solved, Capped, Spent, Run, whole}
 use Rattle.lossy_defs.specs.World.{World, begin, reliable, event, after}
-use Rattle.lossy_defs.specs.Deliveries.{delivered, numbers}
+use Rattle.lossy_defs.specs.Deliveries.{number_of, delivered, numbers}
 use Rattle.lossy_defs.specs.Ends.{is_quiet}
 
 -- After any events the world is where the run over reliable links is, under the numbers of all that was handed up.
@@ -26,6 +26,10 @@ pub record OneMore (p : Csp) (words : List ℕ) (word : ℕ) (w : World) : Type 
 -- While nothing is refuted, one event more hands up nothing or is one delivery.
 abbrev pub OneMoreEvent : Csp → Type 0
 OneMoreEvent p = (words : List ℕ) (word : ℕ) → (after p words (begin p)).network.refuted ≡ false → OneMore p words word (after p words (begin p))
+
+-- The number of a pair among those whose list is not empty is its place there.
+abbrev pub NumbersArePlaces : Csp → Type 0
+NumbersArePlaces p = (net : Network) (place k i : ℕ) → slice_get (ready p net) place ≡ Some (k, i) → number_of p net (Some (k, i)) ≡ Some place
 
 -- the end of the run over reliable links, with this greatest number of deliveries
 abbrev pub end_of : Csp → ℕ → World → End

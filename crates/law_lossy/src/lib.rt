@@ -3,7 +3,7 @@
 
 ghost use Rattle.dcsp_defs.specs.Csp.{Csp};
 ghost use Rattle.law_lossy.specs.Links.{FactsHold, HandsUpInOrder, WorldIsSmall};
-ghost use Rattle.law_lossy.specs.Run.{IsRun, IsWhole, OneMoreEvent};
+ghost use Rattle.law_lossy.specs.Run.{IsRun, IsWhole, NumbersArePlaces, OneMoreEvent};
 ghost use Rattle.law_lossy.specs.Verdicts.{HandedUpBounded, QuietIsSolved, StepsAreRight};
 ghost use Rattle.law_lossy.specs.Calm.{CalmBudget, CalmEvents, NoVerdictYet};
 
@@ -33,6 +33,11 @@ pub fn is_whole()
 /// One event more hands up nothing, or it is one delivery.
 pub fn one_more_event()
     ensures { (p : Csp) → OneMoreEvent p }
+{}
+
+/// The number of a pair among those whose list is not empty is its place there.
+pub fn numbers_are_places()
+    ensures { (p : Csp) → NumbersArePlaces p }
 {}
 
 /// In a quiet world that is not refuted the agents' values are a solution.
