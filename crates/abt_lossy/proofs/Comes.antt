@@ -11,7 +11,7 @@ use Rattle.lossy_defs.specs.Packets.{place, coming, staying}
 use Rattle.lossy_defs.specs.World.{World, send, come, event}
 use Rattle.lossy_defs.specs.Deliveries.{pair_of_packet, pair_of_event}
 use Rattle.abt_lossy.specs.declared.pool.Packet.{Packet}
-use Rattle.abt_lossy.specs.declared.pool.Packet.TheVariants.{Data}
+use Rattle.abt_lossy.specs.declared.pool.Packet.TheVariants.{Data, Acknowledgement}
 use Rattle.abt_lossy.specs.declared.carrier.Carrier.{Carrier}
 use Rattle.abt_lossy.specs.declared.carrier.Arrival.{Arrival}
 use Rattle.abt_lossy.specs.declared.carrier.Arrival.TheVariants.{Done, Counted, Next}
@@ -79,6 +79,12 @@ next_number w (packets.Data a b c m) k i n t s =
     no_pair a b x e = cc
 next_number w (packets.Acknowledgement a b c) k i n t s = cc
 
+acknowledgement_of : (x : packets.Packet) (k i n : ℕ) → shape x ≡ Acknowledgement k i n → x ≡ packets.Acknowledgement k i n
+acknowledgement_of (packets.Data a b c m) k i n s = cc
+acknowledgement_of (packets.Acknowledgement a b c) k i n s =
+    let ea : a ≡ k = cc in let eb : b ≡ i = cc in let ec : c ≡ n = cc in
+    ap (λ z. packets.Acknowledgement z b c) ea ∙ ap (λ z. packets.Acknowledgement k z c) eb ∙ ap (λ z. packets.Acknowledgement k i z) ec
+
 -- nothing comes
 pub none_comes : (word : ℕ) (old new : Carrier) → word % 4 ≢ 0 → coming word old.pool ≡ None → new.counts ≡ old.counts → new.pool ≡ staying word old.pool → Comes word Done old new
 none_comes word old new ne c same e p w f h =
@@ -94,7 +100,11 @@ one_comes word old mid new packet arrival ne c same e a p w f h =
   where
     by_arrival : (x : packets.Packet) → coming word w.pool ≡ Some x → (b : Arrival) → IsArrival p (record w { pool = staying word w.pool }) x b new → IsComing p w word b new
     by_arrival x e Done r = (pair_is w word ne ∙ ap (pair_of_packet w) e ∙ same_pair w (staying word w.pool) x ∙ r.0, subst (λ (v : World). Carries v new) (sym (event_is p w word ne ∙ ap (λ (o : Option packets.Packet). come p o (record w { pool = staying word w.pool })) e)) r.1)
-    by_arrival x e (Counted k i) r = (pair_is w word ne ∙ ap (pair_of_packet w) e ∙ same_pair w (staying word w.pool) x ∙ r.0, subst (λ (v : World). Carries v new) (sym (event_is p w word ne ∙ ap (λ (o : Option packets.Packet). come p o (record w { pool = staying word w.pool })) e)) r.1)
+    by_arrival x e (Counted k i n) r = (
+      pair_is w word ne ∙ ap (pair_of_packet w) e ∙ same_pair w (staying word w.pool) x ∙ r.0,
+      e ∙ ap Some (acknowledgement_of x k i n r.1),
+      subst (λ (v : World). Carries v new) (sym (event_is p w word ne ∙ ap (λ (o : Option packets.Packet). come p o (record w { pool = staying word w.pool })) e)) r.2,
+    )
     by_arrival x e (Next k i n) r =
         let t : pair_of_packet w (Some x) ≡ Some (k, i) = same_pair w (staying word w.pool) x ∙ r.0 in
         (pair_is w word ne ∙ ap (pair_of_packet w) e ∙ t, next_number w x k i n t r.1, r.2)

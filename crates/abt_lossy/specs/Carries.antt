@@ -6,7 +6,7 @@ use Rattle.std.specs.BTreeMap.{get}
 use Rattle.dcsp_defs.specs.Csp.{Csp}
 use Rattle.abt_defs.specs.Agents.{Message}
 use Rattle.lossy_defs.specs.Packets as packets
-use Rattle.lossy_defs.specs.Packets.{staying}
+use Rattle.lossy_defs.specs.Packets.{coming, staying}
 use Rattle.lossy_defs.specs.World.{World, raised, send_first, acknowledge, hand_up, arrive, event}
 use Rattle.lossy_defs.specs.Deliveries.{pair_of_packet, pair_of_event}
 use Rattle.abt_lossy.specs.declared.pool.Packet.{Packet}
@@ -62,13 +62,13 @@ pub record CountsFit (c : Carrier) : Type 0 where
 -- the counts that an arrival has changed
 abbrev pub Changes : Arrival → Carrier → Carrier → Type 0
 Changes Done old new = new.counts ≡ old.counts
-Changes (Counted k i) old new = (handed_up_of new.counts ≡ handed_up_of old.counts) × (acknowledged_of new.counts ≡ raised (acknowledged_of old.counts) k i)
+Changes (Counted k i n) old new = (handed_up_of new.counts ≡ handed_up_of old.counts) × (acknowledged_of new.counts ≡ raised (acknowledged_of old.counts) k i)
 Changes (Next k i n) old new = new.counts ≡ old.counts
 
 -- The packet x has arrived in w: it hands up nothing and is done with, or its message is the next of this pair.
 abbrev pub IsArrival : Csp → World → packets.Packet → Arrival → Carrier → Type 0
 IsArrival p w x Done new = (pair_of_packet w (Some x) ≡ None) × Carries (arrive p x w) new
-IsArrival p w x (Counted k i) new = (pair_of_packet w (Some x) ≡ None) × Carries (arrive p x w) new
+IsArrival p w x (Counted k i n) new = (pair_of_packet w (Some x) ≡ None) × (shape x ≡ Acknowledgement k i n) × Carries (arrive p x w) new
 IsArrival p w x (Next k i n) new = (pair_of_packet w (Some x) ≡ Some (k, i)) × (shape x ≡ Data k i n) × Carries w new
 
 -- It is so of every world that the carrier stands for.
@@ -86,7 +86,7 @@ Sends k i old new = (w : World) (m : Message) → Carries w old → Carries (sen
 -- The event of the word is done, or what it hands up is the next message of this pair.
 abbrev pub IsComing : Csp → World → ℕ → Arrival → Carrier → Type 0
 IsComing p w word Done new = (pair_of_event word w ≡ None) × Carries (event p word w) new
-IsComing p w word (Counted k i) new = (pair_of_event word w ≡ None) × Carries (event p word w) new
+IsComing p w word (Counted k i n) new = (pair_of_event word w ≡ None) × (coming word w.pool ≡ Some (packets.Acknowledgement k i n)) × Carries (event p word w) new
 IsComing p w word (Next k i n) new = (pair_of_event word w ≡ Some (k, i)) × (n ≡ w.handed_up k i + 1) × Carries (record w { pool = staying word w.pool }) new
 
 -- It is so of every world that the carrier stands for.

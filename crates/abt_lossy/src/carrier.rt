@@ -22,10 +22,11 @@ pub struct Carrier {
 pub enum Arrival {
     /// It has had its whole effect, and no count has changed.
     Done,
-    /// It has had its whole effect: one message more of this pair is known to be acknowledged.
+    /// It has had its whole effect: message `number` of this pair is now known to be acknowledged.
     Counted {
         sender: u32,
         receiver: u32,
+        number: u64,
     },
     /// It is data that is next to be handed up. No count has changed, and `hand_up` is to follow.
     Next {
@@ -84,7 +85,11 @@ impl Carrier {
             } => {
                 if number == self.counts.acknowledged(sender, receiver) + 1 {
                     self.counts.count_acknowledged(sender, receiver)?;
-                    return Ok(Arrival::Counted { sender, receiver });
+                    return Ok(Arrival::Counted {
+                        sender,
+                        receiver,
+                        number,
+                    });
                 }
                 Ok(Arrival::Done)
             }
