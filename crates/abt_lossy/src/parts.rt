@@ -1,0 +1,138 @@
+//! One event of the agents over the medium.
+
+ghost use Rattle.std.specs.Prelude.{◌≡◌, ◌%◌, ◌≢◌, ◌==◌, ◌<◌, ◌&&◌, nat_lt, ℕ, IfOk, OnOk, None, if◌then◌else◌};
+ghost use Rattle.abt_links.specs.PairTables.{has_pair};
+ghost use Rattle.abt_lossy.specs.Carries.{CountsFit};
+ghost use Rattle.abt_lossy.specs.AtWorld.{is_refuted, may_send, Does, IsReached};
+
+use crate::carrier::{Arrival, Carrier};
+use abt_links::PairSet;
+use abt_network::{Network, Standing, Step};
+use dcsp_list::Memory;
+
+/// What an event did.
+#[derive(Debug, Drop)]
+pub struct Happened {
+    /// The number that the list handed up from had among the nonempty ones, if there was one.
+    pub delivered: Option<u32>,
+    /// The step that was made, if there was one.
+    pub step: Option<Step>,
+}
+
+/// The agents with the messages not yet handed up, what the medium has, and which pairs may send.
+#[derive(Drop)]
+pub struct Parts<'p> {
+    /// How many agents there are.
+    pub agents: u32,
+    pub network: Network<'p>,
+    pub carrier: Carrier,
+    pub senders: PairSet,
+}
+
+impl<'p> Parts<'p> {
+    /// Puts the pair among those that may send, or takes it out, by the counts and what waits.
+    fn mark(&mut self, sender: u32, receiver: u32)
+        requires fit { CountsFit self.old.carrier }
+        requires sender { sender < self.old.senders.agents }
+        requires receiver { receiver < self.old.senders.agents }
+        ensures network { self.new.network ≡ self.old.network }
+        ensures carrier { self.new.carrier ≡ self.old.carrier }
+        ensures count { self.new.agents ≡ self.old.agents }
+        ensures agents { self.new.senders.agents ≡ self.old.senders.agents }
+        ensures marks { (k i : ℕ) → has_pair self.new.senders k i ≡ (if k == sender && i == receiver then may_send self.old k i else has_pair self.old.senders k i) }
+    {
+        let acknowledged = self.carrier.counts.acknowledged(sender, receiver);
+        let handed_up = self.carrier.counts.handed_up(sender, receiver);
+        let waiting = self.network.waiting(sender, receiver);
+        let may_send = acknowledged < handed_up || acknowledged - handed_up < waiting;
+        self.senders.set(sender, receiver, may_send);
+    }
+
+    /// Marks all pairs of this sender.
+    fn mark_all(&mut self, sender: u32)
+        requires fit { CountsFit self.old.carrier }
+        requires sender { sender < self.old.agents }
+        requires all { self.old.senders.agents ≡ self.old.agents }
+        ensures network { self.new.network ≡ self.old.network }
+        ensures carrier { self.new.carrier ≡ self.old.carrier }
+        ensures count { self.new.agents ≡ self.old.agents }
+        ensures agents { self.new.senders.agents ≡ self.old.senders.agents }
+        ensures marks { (k i : ℕ) → has_pair self.new.senders k i ≡ (if k == sender && nat_lt i self.old.agents then may_send self.old k i else has_pair self.old.senders k i) }
+    {
+        for receiver in 0..self.agents {
+            self.mark(sender, receiver);
+        }
+    }
+
+    /// An event whose word sends.
+    fn send(&mut self, word: u32) -> Result<(), Memory>
+        requires fit { CountsFit self.old.carrier }
+        requires kind { word % 4 ≡ 0 }
+        ensures { OnOk result (Does word (record { delivered = None; step = None }) self.old self.new) }
+    {
+        let count = self.senders.count();
+        if count == 0 {
+            return Ok(());
+        }
+        let (sender, receiver) = self.senders.nth(word / 4 % count);
+        self.carrier.send(sender, receiver)
+    }
+
+    /// One event, of which nothing that came before has refuted the problem. After `Memory` its effect
+    /// may be lost.
+    pub fn event(&mut self, word: u32) -> Result<Happened, Memory>
+        requires reached { IsReached self.old }
+        ensures { IfOk result (λ happened. Does word happened self.old self.new) }
+    {
+        if word % 4 == 0 {
+            self.send(word)?;
+            return Ok(Happened {
+                delivered: None,
+                step: None,
+            });
+        }
+        match self.carrier.come(word)? {
+            Arrival::Done => Ok(Happened {
+                delivered: None,
+                step: None,
+            }),
+            Arrival::Counted {
+                sender,
+                receiver,
+                number: _,
+            } => {
+                self.mark(sender, receiver);
+                Ok(Happened {
+                    delivered: None,
+                    step: None,
+                })
+            }
+            Arrival::Next {
+                sender,
+                receiver,
+                number,
+            } => {
+                // As many lists are ready as the definitions have, so the number is the list's place there.
+                let _ready = self.network.ready();
+                let choice = self.network.number(sender, receiver);
+                let delivery = self.network.deliver(choice)?;
+                let refuted = is_refuted(self.network.state());
+                self.carrier.hand_up(sender, receiver, number, refuted)?;
+                self.mark_all(receiver);
+                Ok(Happened {
+                    delivered: Some(choice),
+                    step: delivery.step,
+                })
+            }
+        }
+    }
+}
+
+fn is_refuted(standing: Standing) -> bool
+    ensures { result ≡ is_refuted standing }
+{
+    match standing {
+        Standing::Refuted => true,
+        Standing::Open | Standing::Quiet => false,
+    }
+}

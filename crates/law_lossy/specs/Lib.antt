@@ -1,0 +1,4 @@
+pub mod Links
+pub mod Run
+pub mod Verdicts
+pub mod Calm

@@ -1,0 +1,5 @@
+pub mod Packets
+pub mod World
+pub mod Deliveries
+pub mod Ends
+pub mod Facts
