@@ -92,7 +92,7 @@ module _ (seed : ℕ) (status : Status) (text : List ℕ) (h : (d : Drill seed) 
   came : {T : Type 0} (r : Result T Stop) → Wrote (Put text ∷ []) a b r → CameIn (drill_promise seed) a b (way_with status r)
   came {T = T} r w =
       rw (h.1) (
-        came_wrote {T = T} (drill_promise seed) [] (drill_status seed h.0) (Put (drill_text seed h.0) ∷ []) r (final_drill _) tt (h.0, refl) (did_nothing a) (subst (λ t. Wrote (Put t ∷ []) a b r) h.2 w))
+      came_wrote {T = T} (drill_promise seed) [] (drill_status seed h.0) (Put (drill_text seed h.0) ∷ []) r (final_drill _) tt (h.0, refl) (did_nothing a) (subst (λ t. Wrote (Put t ∷ []) a b r) h.2 w))
 
   pub drill_put : {T : Type 0} (x : T) → Wrote (Put text ∷ []) a b (Ok x) → CameIn (drill_promise seed) a b (Answered status)
   drill_put x w = came (Ok x) w
