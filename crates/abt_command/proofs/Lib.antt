@@ -1,3 +1,4 @@
 pub mod FewWords
 pub mod Lines
 pub mod Runs
+pub mod Meanings

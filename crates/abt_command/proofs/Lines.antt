@@ -18,9 +18,12 @@ use Rattle.abt_input.specs.Errors.{error_status, error_text, way_of}
 use Rattle.abt_input.proofs.Cnfs.{clauses_refuse}
 use Rattle.abt_models.proofs.Lawful.{bound_lawful, print_lawful}
 use Rattle.abt_run.proofs.Lawful.{replay_lawful, solve_lawful}
-use Rattle.abt_command.specs.Lines.{AreFileNames, Settings, no_settings, Sets, nothing, seeds, records, traces, trace_words, Line, Help, Version, Check, Replay, Solve, Bound, Queens, Colouring, IsFileName, IsWithin, IsSolve, IsLine, IsNoLine}
+use Rattle.abt_command.specs.Lines.{AreFileNames, Settings, no_settings, Sets, nothing, seeds, records, traces, trace_words, seed_words, AreSeed, IsCnf, Line, Help, Version, Check, Replay, Solve, Bound, Queens, Colouring, Drill, Rup, Cnf, IsFileName, IsWithin, IsSolve, IsLine, IsNoLine}
 use Rattle.abt_command.specs.LinePromises.{promise_of}
 use Rattle.abt_check.proofs.Lawful.{check_lawful}
+use Rattle.abt_drill.proofs.Lawful.{drill_lawful}
+use Rattle.abt_clauses.proofs.Lawful.{rup_lawful}
+use Rattle.abt_clauses.proofs.CnfLawful.{cnf_lawful}
 
 -- ---- words read back
 
@@ -44,7 +47,10 @@ the_line words s =
     (cond (bytes_eq word (codes "replay")) (Replay (get_or words 1 []) (get_or words 2 []) (get_or words 3 []) (nat_lt 4 (length words)))
     (cond (bytes_eq word (codes "bound")) (Bound (get_or words 1 []))
     (cond (bytes_eq word (codes "gen")) (generated (get_or words 1 []) (number (get_or words 2 [])) (number (get_or words 3 [])) (number (get_or words 4 [])))
-    (Solve (get_or words 1 []) (get_or words 2 []) (unwrap_or s.seed 0) s.kept s.trace))))))
+    (cond (bytes_eq word (codes "drill")) (Drill (number (get_or words 1 [])))
+    (cond (bytes_eq word (codes "rup")) (Rup (get_or words 1 []) (get_or words 2 []))
+    (cond (bytes_eq word (codes "cnf")) (Cnf (get_or words 1 []) (get_or words 2 []) (cond (nat_lt 3 (length words)) (number (get_or words 4 [])) 0))
+    (Solve (get_or words 1 []) (get_or words 2 []) (unwrap_or s.seed 0) s.kept s.trace)))))))))
 
 module _ (words : List (List ℕ)) (s : Settings) where
   help_back : IsLine words Help → the_line words s ≡ Help
@@ -73,6 +79,19 @@ module _ (words : List (List ℕ)) (s : Settings) where
       let c = number_back seed h.3 in
       rw h.0 (ap (λ x. Colouring x (number (decimal k)) (number (decimal seed))) a ∙ ap (λ x. Colouring n x (number (decimal seed))) b ∙ ap (Colouring n k) c)
 
+  drill_back : (seed : ℕ) → IsLine words (Drill seed) → the_line words s ≡ Drill seed
+  drill_back seed h = rw h.0 (ap Drill (number_back seed h.1))
+
+  rup_back : (cnf proof : List ℕ) → IsLine words (Rup cnf proof) → the_line words s ≡ Rup cnf proof
+  rup_back cnf proof h = rw h.0 refl
+
+  cnf_back : (cnf proof : List ℕ) (seed : ℕ) → IsLine words (Cnf cnf proof seed) → the_line words s ≡ Cnf cnf proof seed
+  cnf_back cnf proof seed h = rw (h.words_are, h.seeds.options_are, h.seeds.seed_is) (by_given h.seeds.given h.seeds.fits)
+    where
+      by_given : (given : Option ℕ) → IfSome given (λ n. n < 2 ^ 64) → the_line (codes "cnf" ∷ cnf ∷ proof ∷ seed_words given) s ≡ Cnf cnf proof (unwrap_or given 0)
+      by_given None l = refl
+      by_given (Some n) l = ap (Cnf cnf proof) (number_back n l)
+
 solve_back : (words : List (List ℕ)) (model log : List ℕ) (seed : ℕ) (kept : Option (List ℕ)) (trace : Bool) → (h : IsSolve words model log seed kept trace) → the_line words h.settings ≡ Solve model log seed kept trace
 solve_back words model log seed kept trace h = rw (h.words_are, h.seed_is, h.kept_is, h.trace_is) refl
 
@@ -84,6 +103,9 @@ back words (Replay model schedule log trace) h = (no_settings, replay_back words
 back words (Bound model) h = (no_settings, bound_back words no_settings model h)
 back words (Queens n) h = (no_settings, queens_back words no_settings n h)
 back words (Colouring n k seed) h = (no_settings, colouring_back words no_settings n k seed h)
+back words (Drill seed) h = (no_settings, drill_back words no_settings seed h)
+back words (Rup cnf proof) h = (no_settings, rup_back words no_settings cnf proof h)
+back words (Cnf cnf proof seed) h = (no_settings, cnf_back words no_settings cnf proof seed h)
 back words (Solve model log seed kept trace) h = (h.settings, solve_back words model log seed kept trace h)
 
 -- a line of the words is the one that they can be
@@ -148,6 +170,9 @@ one_line words (Replay m c o t) l h g = let b = back words l g in sym (replay_ba
 one_line words (Bound m) l h g = let b = back words l g in sym (bound_back words b.0 m h) ∙ b.1
 one_line words (Queens n) l h g = let b = back words l g in sym (queens_back words b.0 n h) ∙ b.1
 one_line words (Colouring n k c) l h g = let b = back words l g in sym (colouring_back words b.0 n k c h) ∙ b.1
+one_line words (Drill c) l h g = let b = back words l g in sym (drill_back words b.0 c h) ∙ b.1
+one_line words (Rup m o) l h g = let b = back words l g in sym (rup_back words b.0 m o h) ∙ b.1
+one_line words (Cnf m o c) l h g = let b = back words l g in sym (cnf_back words b.0 m o c h) ∙ b.1
 one_line words (Solve m o n r t) Help h g = sym (solve_back words m o n r t h) ∙ help_back words h.settings g
 one_line words (Solve m o n r t) Version h g = sym (solve_back words m o n r t h) ∙ version_back words h.settings g
 one_line words (Solve m o n r t) (Check a b) h g = sym (solve_back words m o n r t h) ∙ check_back words h.settings a b g
@@ -155,6 +180,9 @@ one_line words (Solve m o n r t) (Replay a b c d) h g = sym (solve_back words m 
 one_line words (Solve m o n r t) (Bound a) h g = sym (solve_back words m o n r t h) ∙ bound_back words h.settings a g
 one_line words (Solve m o n r t) (Queens a) h g = sym (solve_back words m o n r t h) ∙ queens_back words h.settings a g
 one_line words (Solve m o n r t) (Colouring a b c) h g = sym (solve_back words m o n r t h) ∙ colouring_back words h.settings a b c g
+one_line words (Solve m o n r t) (Drill a) h g = sym (solve_back words m o n r t h) ∙ drill_back words h.settings a g
+one_line words (Solve m o n r t) (Rup a b) h g = sym (solve_back words m o n r t h) ∙ rup_back words h.settings a b g
+one_line words (Solve m o n r t) (Cnf a b c) h g = sym (solve_back words m o n r t h) ∙ cnf_back words h.settings a b c g
 one_line words (Solve m o n r t) (Solve a b c d e) h g = sym (solve_back words m o n r t h) ∙ ap (the_line words) (same_settings words m o a b n c r d t e h g) ∙ solve_back words a b c d e g
 
 -- ---- words that are no line
@@ -168,6 +196,9 @@ no_plain word help version (Solve m o n r t) h = omega (arith, ap length h.words
 no_plain word help version (Bound m) h = omega (arith, ap length h.0)
 no_plain word help version (Queens n) h = omega (arith, ap length h.0)
 no_plain word help version (Colouring n k s) h = omega (arith, ap length h.0)
+no_plain word help version (Drill s) h = omega (arith, ap length h.0)
+no_plain word help version (Rup m o) h = omega (arith, ap length h.0)
+no_plain word help version (Cnf m o s) h = omega (arith, ap length h.words_are)
 
 -- the first word begins no line
 pub record NoKeyword (word : List ℕ) : Type 0 where
@@ -176,6 +207,9 @@ pub record NoKeyword (word : List ℕ) : Type 0 where
   pub solves : word ≡ codes "solve" → ⊥
   pub bounds : word ≡ codes "bound" → ⊥
   pub gens : word ≡ codes "gen" → ⊥
+  pub drills : word ≡ codes "drill" → ⊥
+  pub rups : word ≡ codes "rup" → ⊥
+  pub cnfs : word ≡ codes "cnf" → ⊥
 
 pub no_keyword : (words : List (List ℕ)) → (length words ≡ 1 → ⊥) → NoKeyword (get_or words 0 []) → IsNoLine words
 no_keyword words one none Help h = one (ap length h)
@@ -186,6 +220,9 @@ no_keyword words one none (Solve m o n r t) h = none.solves (ap (λ ws. get_or w
 no_keyword words one none (Bound m) h = none.bounds (ap (λ ws. get_or ws 0 []) h.0)
 no_keyword words one none (Queens n) h = none.gens (ap (λ ws. get_or ws 0 []) h.0)
 no_keyword words one none (Colouring n k s) h = none.gens (ap (λ ws. get_or ws 0 []) h.0)
+no_keyword words one none (Drill s) h = none.drills (ap (λ ws. get_or ws 0 []) h.0)
+no_keyword words one none (Rup m o) h = none.rups (ap (λ ws. get_or ws 0 []) h.0)
+no_keyword words one none (Cnf m o s) h = none.cnfs (ap (λ ws. get_or ws 0 []) h.words_are)
 
 pub no_check : (words : List (List ℕ)) → ((model log : List ℕ) → words ≡ model ∷ log ∷ [] → AreFileNames (model ∷ log ∷ []) → ⊥) → IsNoLine (codes "check" ∷ words)
 no_check words none l h = let r = as_read (codes "check" ∷ words) l h in none (get_or words 0 []) (get_or words 1 []) (ap (drop 1) r.1.0) r.1.1
@@ -223,8 +260,23 @@ no_gen words queens colourings (Check m o) h = omega (arith, first_long _ _ _ re
 no_gen words queens colourings (Replay m c o t) h = omega (arith, first_long _ _ _ refl h.0)
 no_gen words queens colourings (Solve m o n r t) h = omega (arith, first_long _ _ _ refl h.words_are)
 no_gen words queens colourings (Bound m) h = omega (arith, first_long _ _ _ refl h.0)
+no_gen words queens colourings (Drill s) h = omega (arith, first_long _ _ _ refl h.0)
+no_gen words queens colourings (Rup m o) h = absurd (let e = ap (λ ws. bytes_eq (get_or ws 0 []) (codes "gen")) h.0 in cc)
+no_gen words queens colourings (Cnf m o s) h = absurd (let e = ap (λ ws. bytes_eq (get_or ws 0 []) (codes "gen")) h.words_are in cc)
 no_gen words queens colourings (Queens n) h = queens n (ap (drop 1) h.0) h.1
 no_gen words queens colourings (Colouring n k s) h = colourings n k s (ap (drop 1) h.0) h.1 h.2 h.3
+
+pub no_drill : (words : List (List ℕ)) → ((seed : ℕ) → words ≡ decimal seed ∷ [] → seed < 2 ^ 64 → ⊥) → IsNoLine (codes "drill" ∷ words)
+no_drill words none l h = let r = as_read (codes "drill" ∷ words) l h in none (number (get_or words 0 [])) (ap (drop 1) r.1.0) r.1.1
+
+pub no_rup : (words : List (List ℕ)) → ((cnf proof : List ℕ) → words ≡ cnf ∷ proof ∷ [] → AreFileNames (cnf ∷ proof ∷ []) → ⊥) → IsNoLine (codes "rup" ∷ words)
+no_rup words none l h = let r = as_read (codes "rup" ∷ words) l h in none (get_or words 0 []) (get_or words 1 []) (ap (drop 1) r.1.0) r.1.1
+
+pub no_cnf : (words : List (List ℕ)) → ((cnf proof : List ℕ) (options : List (List ℕ)) (seed : ℕ) → words ≡ cnf ∷ proof ∷ options → AreSeed options seed → AreFileNames (cnf ∷ proof ∷ []) → ⊥) → IsNoLine (codes "cnf" ∷ words)
+no_cnf words none l h =
+    let r = as_read (codes "cnf" ∷ words) l h in
+    let is = r.1 in
+    none (get_or words 0 []) (get_or words 1 []) is.options (cond (nat_lt 3 (suc (length words))) (number (get_or words 3 [])) 0) (ap (drop 1) is.words_are) is.seeds is.names
 
 -- ---- promises
 
@@ -238,6 +290,9 @@ lawful (Solve m l n r t) = solve_lawful m l n r t
 lawful (Bound m) = bound_lawful m
 lawful (Queens n) = print_lawful _
 lawful (Colouring n k s) = print_lawful _
+lawful (Drill s) = drill_lawful s
+lawful (Rup m o) = rup_lawful m o
+lawful (Cnf m o s) = cnf_lawful m o s
 
 -- what is said of an error
 pub concluded : (e : CommandError) (err now : Stream) (status : Status) → status ≡ error_status e → IsSaid (error_text e) err now → Concludes (way_of (Err e)) err now status
@@ -264,10 +319,7 @@ an_answer (Err (Clauses error)) err now status h f n = absurd (n (subst IsRefusa
 an_answer (Err Fault) err now status h f n = absurd (subst IsFinal h.0 f)
 an_answer (Err Memory) err now status h f n = absurd (subst IsFinal h.0 f)
 
--- status 0 goes with one
-pub good_answer : (came : Result Status CommandError) (err now : Stream) (status : Status) → Concludes (way_of came) err now status → status ≡ Good → came ≡ Ok Good
-good_answer came err now status h e = an_answer came err now status h (subst IsFinal (sym e) tt) (λ r. subst IsRefusal e r) ∙ ap Ok e
-
-pub if_answered : {P : Type 0} (came : Result Status CommandError) (status : Status) → came ≡ Ok status → IfOk came (λ s. P) → P
-if_answered (Ok x) status e h = h
+-- what holds of an answer
+pub if_answered : {P : Status → Type 0} (came : Result Status CommandError) (status : Status) → came ≡ Ok status → IfOk came P → P status
+if_answered {P = P} (Ok x) status e h = subst P (let same : x ≡ status = cc in same) h
 if_answered (Err x) status e h = absurd cc

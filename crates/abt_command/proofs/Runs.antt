@@ -17,7 +17,7 @@ use Rattle.law_logs.specs.Logged.{IsSmall}
 use Rattle.abt_input.specs.Inputs.{IsModelOf, IsTextOf}
 use Rattle.abt_check.specs.Verifying.{IsVerified}
 use Rattle.abt_check.proofs.Verifying.{refutation_verified}
-use Rattle.abt_run.specs.Endings.{end_status}
+use Rattle.abt_run.specs.Endings.{assigned, final_values, end_status}
 use Rattle.abt_run.specs.Asked.{Asked, asked_run, asked_script, run_report, replay, solve}
 use Rattle.abt_run.specs.ReplayPromise.{replay_promise, replayed}
 use Rattle.abt_run.specs.SolvePromise.{solve_promise, ran}
@@ -25,9 +25,12 @@ use Rattle.abt_run.specs.Headline.{HoldsProblem, IsOther, HoldsRun, IsRun, IsSol
 use Rattle.abt_run.proofs.Lawful.{no_refusal, replay_lawful, solve_lawful}
 use Rattle.abt_run.proofs.Headlines.{HasOwnRecord, is_run, part_ordered}
 use Rattle.abt_run.proofs.Verdicts.{solved, refuted, bounded, replay_unfinished, solve_unfinished, refuted_log}
-use Rattle.abt_command.specs.Lines.{IsNewName, AreFileNames, Line, Replay, Solve, IsLine, IsNoLine}
+use Rattle.law_meaning.specs.Meaning.{SatisfiesText}
+use Rattle.law_meaning.proofs.Whole.{solutions_satisfy}
+use Rattle.abt_command.specs.Meanings.{Means}
+use Rattle.abt_command.specs.Lines.{IsNewName, AreFileNames, Line, Help, Version, Check, Replay, Solve, Bound, Queens, Colouring, Drill, Rup, Cnf, IsLine, IsNoLine}
 use Rattle.abt_command.specs.LinePromises.{promise_of}
-use Rattle.abt_command.specs.AskedRuns.{AsksFor, replays, solves, EachRun, RunsModel, AskForModel, IsCheckedRun}
+use Rattle.abt_command.specs.AskedRuns.{AsksFor, replays, solves, EachRun, RunsModel, AskForModel, IsCheckedRun, IsSatisfyingRun}
 use Rattle.abt_command.proofs.Lines.{one_line}
 
 -- the record of a line has a name of its own
@@ -49,7 +52,23 @@ asks_for_none words (Some files) P none = λ asked asks. absurd (so asked asks)
     so asked (solves m l n k t h p mp e) = none (Solve m l n k t) h
 
 module _ (words : List (List ℕ)) (line : Line) (is : IsLine words line) (a b : World) (err now : Stream) (status : Status) (line_ran : Ran (promise_of line) a b err now status)
-    (sound : (model : List ℕ) → RunsModel line model → IsFinal status → (IsRefusal status → ⊥) → HoldsProblem a.folder.held model) where
+    (means : IsFinal status → (IsRefusal status → ⊥) → Means line a.folder.held b.folder.held status) where
+  sound : (model : List ℕ) → RunsModel line model → IsFinal status → (IsRefusal status → ⊥) → HoldsProblem a.folder.held model
+  sound model runs f n = of_line line runs (means f n)
+    where
+      of_line : (l : Line) → RunsModel l model → Means l a.folder.held b.folder.held status → HoldsProblem a.folder.held model
+      of_line Help r h = absurd r
+      of_line Version r h = absurd r
+      of_line (Check m l) r h = absurd r
+      of_line (Bound m) r h = absurd r
+      of_line (Queens n) r h = absurd r
+      of_line (Colouring n k c) r h = absurd r
+      of_line (Drill c) r h = absurd r
+      of_line (Rup m p) r h = absurd r
+      of_line (Cnf m p c) r h = absurd r
+      of_line (Replay m c l t) r h = subst (HoldsProblem a.folder.held) r h
+      of_line (Solve m l c k t) r h = subst (HoldsProblem a.folder.held) r h
+
   as_line : (l : Line) → IsLine words l → Ran (promise_of l) a b err now status
   as_line l h = subst (λ x. Ran (promise_of x) a b err now status) (one_line words line l is h) line_ran
 
@@ -158,3 +177,11 @@ module _ (words : List (List ℕ)) (line : Line) (is : IsLine words line) (a b :
           at (Some now) h =
               let same : now model ≡ files model = h.others model mine.0 in
               refutation_verified now model asked.session.log asked.problem (asked_run asked).net.steps (subst (λ x. IsModelOf (bytes_of x) asked.problem) (sym same) mine.1) (subst (λ x. IsTextOf (bytes_of x) (asked_run asked).net.steps) (sym h.log) log) refutes
+
+  pub run_satisfies : EachRun words a.folder.held (λ asked. IsSatisfyingRun words a.folder.held asked status)
+  run_satisfies = each (λ asked. IsSatisfyingRun words a.folder.held asked status) (λ files told asked asks good model runs.
+      let f = subst IsFinal (sym good) tt in
+      let i = (did_run files told asked asks f).0 in
+      let solves = solved asked (same_problem files told asked asks) (well_formed files told asked asks f (not_refused files told asked i)) status i good in
+      let mine = own_model files told asked asks model runs in
+      subst (λ held. IfSome held (λ now. SatisfiesText (bytes_of (now model)) (assigned (final_values asked.problem (asked_run asked))))) (sym told) ((solutions_satisfy (bytes_of (files model)) asked.problem mine.1.reads (assigned (final_values asked.problem (asked_run asked)))).0 solves))

@@ -4,10 +4,12 @@ use Rattle.dcsp_outside.specs.Outside.{bytes_of}
 use Rattle.dcsp_problem.specs.Problems.{Contents}
 use Rattle.abt_input.specs.Inputs.{IsModelOf, HasChoices}
 use Rattle.abt_promise.specs.declared.status.Status.{Status}
-use Rattle.abt_promise.specs.declared.status.Status.TheVariants.{No}
+use Rattle.abt_promise.specs.declared.status.Status.TheVariants.{Good, No}
 use Rattle.abt_check.specs.Verifying.{IsVerified}
-use Rattle.abt_run.specs.Asked.{Asked, replay, solve}
-use Rattle.abt_command.specs.Lines.{Line, Help, Version, Check, Replay, Solve, Bound, Queens, Colouring, IsLine}
+use Rattle.law_meaning.specs.Meaning.{SatisfiesText}
+use Rattle.abt_run.specs.Endings.{assigned, final_values}
+use Rattle.abt_run.specs.Asked.{Asked, asked_run, replay, solve}
+use Rattle.abt_command.specs.Lines.{Line, Help, Version, Check, Replay, Solve, Bound, Queens, Colouring, Drill, Rup, Cnf, IsLine}
 
 -- the words ask for this run, where these are the files: a replay of a model that has a problem and a schedule that has choices, or a run of such a model from a seed
 pub data AsksFor (words : List (List ℕ)) (files : List ℕ → Option (List ℕ)) (asked : Asked) : Type 0 where
@@ -30,6 +32,9 @@ RunsModel (Check model log) name = ⊥
 RunsModel (Bound model) name = ⊥
 RunsModel (Queens n) name = ⊥
 RunsModel (Colouring n k seed) name = ⊥
+RunsModel (Drill seed) name = ⊥
+RunsModel (Rup cnf proof) name = ⊥
+RunsModel (Cnf cnf proof seed) name = ⊥
 RunsModel (Replay model schedule log trace) name = model ≡ name
 RunsModel (Solve model log seed kept trace) name = model ≡ name
 
@@ -42,3 +47,8 @@ pub record AskForModel (words : List (List ℕ)) (model : List ℕ) : Type 0 whe
 -- with status 1 a check of the log against the model, over the folder that the run left, verifies it, unless it is stopped
 abbrev pub IsCheckedRun : List (List ℕ) → Option (List ℕ → Option (List ℕ)) → Asked → Status → Type 0
 IsCheckedRun words held asked status = status ≡ No → (model : List ℕ) → AskForModel words model → IfSome held (λ files. IsVerified files model asked.session.log)
+
+-- with status 0 the values that were printed satisfy the model's text
+abbrev pub IsSatisfyingRun : List (List ℕ) → Option (List ℕ → Option (List ℕ)) → Asked → Status → Type 0
+IsSatisfyingRun words held asked status = status ≡ Good → (model : List ℕ) → AskForModel words model
+    → IfSome held (λ files. SatisfiesText (bytes_of (files model)) (assigned (final_values asked.problem (asked_run asked))))

@@ -2,3 +2,4 @@ pub mod Lines
 pub mod Options
 pub mod LinePromises
 pub mod AskedRuns
+pub mod Meanings

@@ -12,7 +12,10 @@ use Rattle.abt_models.specs.BoundReports.{bound_promise}
 use Rattle.abt_models.specs.Generated.{print_promise, queens_promise, colouring_promise}
 use Rattle.abt_run.specs.ReplayPromise.{replay_promise}
 use Rattle.abt_run.specs.SolvePromise.{solve_promise}
-use Rattle.abt_command.specs.Lines.{Line, Help, Version, Check, Replay, Solve, Bound, Queens, Colouring, IsLine, IsNoLine}
+use Rattle.abt_drill.specs.DrillPromise.{drill_promise}
+use Rattle.abt_clauses.specs.RupPromise.{rup_promise}
+use Rattle.abt_clauses.specs.CnfPromise.{cnf_promise}
+use Rattle.abt_command.specs.Lines.{Line, Help, Version, Check, Replay, Solve, Bound, Queens, Colouring, Drill, Rup, Cnf, IsLine, IsNoLine}
 use Rattle.abt_check.specs.CheckReports.{check_promise}
 
 -- the promise of a line
@@ -25,6 +28,9 @@ promise_of (Solve model log seed kept trace) = solve_promise model log seed kept
 promise_of (Bound model) = bound_promise model
 promise_of (Queens n) = queens_promise n
 promise_of (Colouring n k seed) = colouring_promise n k seed
+promise_of (Drill seed) = drill_promise seed
+promise_of (Rup cnf proof) = rup_promise cnf proof
+promise_of (Cnf cnf proof seed) = cnf_promise cnf proof seed
 
 -- the line that the words are has a promise of which this holds
 abbrev pub EachPromise : List (List ℕ) → (Promise → Type 0) → Type 0

@@ -1,5 +1,5 @@
 -- The lines of words that the program takes.
-use Rattle.std.specs.Prelude.{◌≡◌, ◌≢◌, ℕ, ◌^◌, ◌<◌, ◌≤◌, ◌∷◌, [], List, Bool, true, false, Option, Some, None, option_copied, option_to_list, unwrap_or, codes, decimal, ⊤}
+use Rattle.std.specs.Prelude.{◌≡◌, ◌≢◌, ℕ, ◌^◌, ◌<◌, ◌≤◌, ◌∷◌, [], List, Bool, true, false, Option, Some, None, option_copied, option_to_list, unwrap_or, codes, decimal, IfSome, ⊤}
 use Rattle.std.specs.Str.{byte}
 use Rattle.abt_command.specs.declared.words.Order.{Order}
 use Rattle.abt_command.specs.declared.words.Order.TheVariants as orders
@@ -47,7 +47,7 @@ trace_words true = codes "--trace" ∷ []
 
 -- ---- lines
 
--- what the words ask for: what the program takes, which version it is, to check a log against a model, to run a model's agents under the choices of a schedule or of a seed, to tell a model's message bound, or to print a generated model
+-- what the words ask for: what the program takes, which version it is, to check a log against a model, to run a model's agents under the choices of a schedule or of a seed, to tell a model's message bound, to print a generated model, to run three of these, to check a proof against a formula, or to run a formula's agents
 pub data Line : Type 0 where
   Help : Line
   Version : Line
@@ -57,6 +57,9 @@ pub data Line : Type 0 where
   Bound : (model : List ℕ) → Line
   Queens : (n : ℕ) → Line
   Colouring : (n k seed : ℕ) → Line
+  Drill : (seed : ℕ) → Line
+  Rup : (cnf proof : List ℕ) → Line
+  Cnf : (cnf proof : List ℕ) (seed : ℕ) → Line
 
 -- the words are this line of `solve`; the seed is 0 where none is given
 pub record IsSolve (words : List (List ℕ)) (model log : List ℕ) (seed : ℕ) (kept : Option (List ℕ)) (trace : Bool) : Type 0 where
@@ -68,6 +71,25 @@ pub record IsSolve (words : List (List ℕ)) (model log : List ℕ) (seed : ℕ)
   pub seed_is : seed ≡ unwrap_or settings.seed 0
   pub kept_is : kept ≡ settings.kept
   pub trace_is : trace ≡ settings.trace
+
+-- the words of the one option of `cnf`
+abbrev pub seed_words : Option ℕ → List (List ℕ)
+seed_words None = []
+seed_words (Some seed) = codes "--seed" ∷ decimal seed ∷ []
+
+-- the options are a seed, where one is given; it is 0 where none is
+pub record AreSeed (options : List (List ℕ)) (seed : ℕ) : Type 0 where
+  pub given : Option ℕ
+  pub options_are : options ≡ seed_words given
+  pub fits : IfSome given (λ n. n < 2 ^ 64)
+  pub seed_is : seed ≡ unwrap_or given 0
+
+-- the words are this line of `cnf`
+pub record IsCnf (words : List (List ℕ)) (cnf proof : List ℕ) (seed : ℕ) : Type 0 where
+  pub options : List (List ℕ)
+  pub words_are : words ≡ codes "cnf" ∷ cnf ∷ proof ∷ options
+  pub names : AreFileNames (cnf ∷ proof ∷ [])
+  pub seeds : AreSeed options seed
 
 -- a number from the least to the most
 abbrev pub IsWithin : ℕ → ℕ → ℕ → Type 0
@@ -82,6 +104,9 @@ IsLine words (Replay model schedule log trace) = (words ≡ codes "replay" ∷ m
 IsLine words (Solve model log seed kept trace) = IsSolve words model log seed kept trace
 IsLine words (Bound model) = (words ≡ codes "bound" ∷ model ∷ []) × IsFileName model
 IsLine words (Queens n) = (words ≡ codes "gen" ∷ codes "queens" ∷ decimal n ∷ []) × IsWithin 1 200 n
+IsLine words (Drill seed) = (words ≡ codes "drill" ∷ decimal seed ∷ []) × (seed < 2 ^ 64)
+IsLine words (Rup cnf proof) = (words ≡ codes "rup" ∷ cnf ∷ proof ∷ []) × AreFileNames (cnf ∷ proof ∷ [])
+IsLine words (Cnf cnf proof seed) = IsCnf words cnf proof seed
 IsLine words (Colouring n k seed) = (words ≡ codes "gen" ∷ codes "colouring" ∷ decimal n ∷ decimal k ∷ decimal seed ∷ []) × IsWithin 1 200 n × IsWithin 1 16 k × (seed < 2 ^ 64)
 
 -- some words are this line
@@ -102,3 +127,6 @@ line_of (orders.Solve model log seed kept trace) = Solve model.now log.now seed 
 line_of (orders.Bound model) = Bound model.now
 line_of (orders.GenQueens n) = Queens n
 line_of (orders.GenColouring n k seed) = Colouring n k seed
+line_of (orders.Drill seed) = Drill seed
+line_of (orders.Rup cnf proof) = Rup cnf.now proof.now
+line_of (orders.Cnf cnf proof seed) = Cnf cnf.now proof.now seed

@@ -11,14 +11,17 @@ ghost use Rattle.abt_promise.specs.Runs.{CameIn, Concludes, Ran, Answers, Faults
 ghost use Rattle.abt_promise.specs.Clauses.{HasCause, IsComplete, GainsText, LeavesOthers, CreatesOwn, IsLawful};
 ghost use Rattle.abt_input.specs.Errors.{way_of, error_text};
 ghost use Rattle.abt_check.specs.Checks.{IsRefuted};
-ghost use Rattle.abt_run.specs.Headline.{HoldsProblem, IsRun, IsSolvedRun, IsRefutedRun, IsUnfinishedRun, IsBoundedRun, WritesOrdered};
-ghost use Rattle.abt_command.specs.AskedRuns.{EachRun, IsCheckedRun, RunsModel};
-ghost use Rattle.abt_command.specs.Lines.{Line, Check, IsLine, IsSomeLine, IsNoLine, line_of};
+ghost use Rattle.abt_run.specs.Headline.{IsRun, IsSolvedRun, IsRefutedRun, IsUnfinishedRun, IsBoundedRun, WritesOrdered};
+ghost use Rattle.abt_command.specs.AskedRuns.{EachRun, IsCheckedRun, IsSatisfyingRun};
+ghost use Rattle.abt_command.specs.Meanings.{Means, IsRupAnswer, IsCnfAnswer};
+ghost use Rattle.abt_command.specs.Lines.{Line, Check, Rup, Cnf, IsLine, IsSomeLine, IsNoLine, line_of};
 ghost use Rattle.abt_command.specs.LinePromises.{promise_of, EachPromise, HasRun};
 
 use crate::plain::{HELP, VERSION};
 use crate::words::{Order, words_of};
 use abt_check::run_check;
+use abt_clauses::{Cnf, run_cnf, run_rup};
+use abt_drill::run_drill;
 use abt_input::{CommandError, error_reply, error_status};
 use abt_models::{print, run_bound, run_colouring, run_queens};
 use abt_promise::{Status, say};
@@ -59,10 +62,7 @@ fn run_line<F: Folder, S: Sink>(
     ensures came { CameIn (promise_of (line_of order.entry))
         (outside (F.place folder.old) (S.stream out.old))
         (outside (F.place folder.new) (S.stream out.new)) (way_of result) }
-    ensures verified { (model log : List ℕ) → line_of order.entry ≡ Check model log
-        → result ≡ Ok Status.Good → IsRefuted (F.place folder.old).held model }
-    ensures sound { (model : List ℕ) → RunsModel (line_of order.entry) model
-        → IfOk result (λ status. HoldsProblem (F.place folder.old).held model) }
+    ensures means { IfOk result (Means (line_of order.entry) (F.place folder.old).held (F.place folder.new).held) }
 {
     match order {
         Order::Help => print(out, HELP),
@@ -101,6 +101,9 @@ fn run_line<F: Folder, S: Sink>(
         Order::Bound { model } => run_bound(alloc, folder, model, out),
         Order::GenQueens { n } => run_queens(alloc, n, out),
         Order::GenColouring { n, k, seed } => run_colouring(alloc, n, k, seed, out),
+        Order::Drill { seed } => run_drill(alloc, seed, out),
+        Order::Rup { cnf, proof } => run_rup(alloc, folder, cnf, proof, out),
+        Order::Cnf { cnf, proof, seed } => run_cnf(alloc, folder, Cnf { cnf, proof, seed }, out),
     }
 }
 
@@ -117,10 +120,8 @@ fn run_order<F: Folder, S: Sink>(
         (outside (F.place folder.old) (S.stream out.old))
         (outside (F.place folder.new) (S.stream out.new))
         (S.stream err.old) (S.stream err.new) result }
-    ensures verified { (model log : List ℕ) → line_of order.entry ≡ Check model log
-        → result ≡ Status.Good → IsRefuted (F.place folder.old).held model }
-    ensures sound { (model : List ℕ) → RunsModel (line_of order.entry) model
-        → IsFinal result → (IsRefusal result → ⊥) → HoldsProblem (F.place folder.old).held model }
+    ensures means { IsFinal result → (IsRefusal result → ⊥)
+        → Means (line_of order.entry) (F.place folder.old).held (F.place folder.new).held result }
 {
     let came = run_line(alloc, order, folder, out);
     conclude(alloc, came, err)
@@ -194,10 +195,17 @@ pub fn run_command<F: Folder, S: Sink>(
     ensures solved { EachRun (map string_bytes words.now) (F.place folder.old).held (λ asked. IsSolvedRun asked result) }
     ensures refuted { EachRun (map string_bytes words.now) (F.place folder.old).held (λ asked. IsRefutedRun asked result) }
     ensures checks { EachRun (map string_bytes words.now) (F.place folder.old).held (λ asked. IsCheckedRun (map string_bytes words.now) (F.place folder.new).held asked result) }
+    ensures satisfies { EachRun (map string_bytes words.now) (F.place folder.old).held (λ asked. IsSatisfyingRun (map string_bytes words.now) (F.place folder.old).held asked result) }
     ensures no_stall { EachRun (map string_bytes words.now) (F.place folder.old).held (λ asked. IsFinal result → IsUnfinishedRun asked result) }
     ensures bound { EachRun (map string_bytes words.now) (F.place folder.old).held (λ asked. IsFinal result → IsBoundedRun asked result) }
     ensures in_order { EachRun (map string_bytes words.now) (F.place folder.old).held (λ asked. WritesOrdered asked
         (outside (F.place folder.old) (S.stream out.old)) (outside (F.place folder.new) (S.stream out.new))) }
+
+    // And the proofs about formulas.
+    ensures proved { (cnf proof : List ℕ) → IsLine (map string_bytes words.now) (Rup cnf proof)
+        → IsFinal result → (IsRefusal result → ⊥) → IsRupAnswer (F.place folder.old).held cnf proof result }
+    ensures formula { (cnf proof : List ℕ) (seed : ℕ) → IsLine (map string_bytes words.now) (Cnf cnf proof seed)
+        → IsFinal result → (IsRefusal result → ⊥) → IsCnfAnswer (F.place folder.old).held (F.place folder.new).held cnf proof seed result }
 {
     match words_of(words) {
         Some(order) => run_order(alloc, order, folder, out, err),

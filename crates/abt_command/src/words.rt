@@ -1,7 +1,7 @@
 //! The words that the program is started with.
 
 ghost use Rattle.std.specs.Prelude.{◌≡◌, ◌↔◌, ◌∷◌, [], ℕ, Bool, codes, decimal, map, string_bytes, option_copied, option_to_list, IfSome, IsNone, IsTrue};
-ghost use Rattle.abt_command.specs.Lines.{IsFileName, AreFileNames, IsLine, IsNoLine, IsWithin, line_of, trace_words};
+ghost use Rattle.abt_command.specs.Lines.{IsFileName, AreFileNames, AreSeed, IsLine, IsNoLine, IsWithin, line_of, trace_words};
 
 use crate::options::{Settings, number_of, settings_of};
 
@@ -46,6 +46,22 @@ pub enum Order<'w> {
         k: u32,
         seed: u64,
     },
+    /// `drill SEED`: runs of three generated models under the choices of a seed.
+    Drill {
+        seed: u64,
+    },
+    /// `rup CNF PROOF`: whether the proof shows that the formula cannot be satisfied.
+    Rup {
+        cnf: &'w str,
+        proof: &'w str,
+    },
+    /// `cnf CNF PROOF [--seed N]`: a run of the formula's agents under the choices of a seed, which is 0 where
+    /// none is given. A proof is written where the formula cannot be satisfied.
+    Cnf {
+        cnf: &'w str,
+        proof: &'w str,
+        seed: u64,
+    },
 }
 
 /// The order that the words are, after the program's own name.
@@ -64,6 +80,9 @@ pub fn words_of(words: &[String]) -> Option<Order<'_>>
         [word, rest @ ..] if word.as_str() == "solve" => solve_of(rest),
         [word, rest @ ..] if word.as_str() == "bound" => bound_of(rest),
         [word, rest @ ..] if word.as_str() == "gen" => gen_of(rest),
+        [word, rest @ ..] if word.as_str() == "drill" => drill_of(rest),
+        [word, rest @ ..] if word.as_str() == "rup" => rup_of(rest),
+        [word, rest @ ..] if word.as_str() == "cnf" => cnf_of(rest),
         _ => None,
     }
 }
@@ -184,6 +203,61 @@ fn gen_of<'w>(words: &'w [String]) -> Option<Order<'w>>
             let seed = number_of(seed.as_str())?;
             Some(Order::GenColouring { n, k, seed })
         }
+        _ => None,
+    }
+}
+
+/// The order of `drill` with these words.
+fn drill_of<'w>(words: &'w [String]) -> Option<Order<'w>>
+    ensures some { IfSome result (λ order. IsLine (codes "drill" ∷ map string_bytes words.now) (line_of order)) }
+    ensures none { IsNone result → IsNoLine (codes "drill" ∷ map string_bytes words.now) }
+{
+    let [seed] = words else {
+        return None;
+    };
+    let seed = number_of(seed.as_str())?;
+    Some(Order::Drill { seed })
+}
+
+/// The order of `rup` with these words.
+fn rup_of(words: &[String]) -> Option<Order<'_>>
+    ensures some { IfSome result (λ order. IsLine (codes "rup" ∷ map string_bytes words.now) (line_of order)) }
+    ensures none { IsNone result → IsNoLine (codes "rup" ∷ map string_bytes words.now) }
+{
+    let [cnf, proof] = words else {
+        return None;
+    };
+    let (cnf, proof) = (cnf.as_str(), proof.as_str());
+    if !are_two_names(cnf, proof) {
+        return None;
+    }
+    Some(Order::Rup { cnf, proof })
+}
+
+/// The order of `cnf` with these words.
+fn cnf_of(words: &[String]) -> Option<Order<'_>>
+    ensures some { IfSome result (λ order. IsLine (codes "cnf" ∷ map string_bytes words.now) (line_of order)) }
+    ensures none { IsNone result → IsNoLine (codes "cnf" ∷ map string_bytes words.now) }
+{
+    let [cnf, proof, options @ ..] = words else {
+        return None;
+    };
+    let (cnf, proof) = (cnf.as_str(), proof.as_str());
+    let seed = seed_of(options)?;
+    if !are_two_names(cnf, proof) {
+        return None;
+    }
+    Some(Order::Cnf { cnf, proof, seed })
+}
+
+/// The seed that these options of `cnf` give.
+fn seed_of(options: &[String]) -> Option<u64>
+    ensures some { IfSome result (AreSeed (map string_bytes options.now)) }
+    ensures none { IsNone result → (seed : ℕ) → AreSeed (map string_bytes options.now) seed → ⊥ }
+{
+    match options {
+        [] => Some(0),
+        [option, seed] if option.as_str() == "--seed" => number_of(seed.as_str()),
         _ => None,
     }
 }

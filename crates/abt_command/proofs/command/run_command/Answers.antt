@@ -1,9 +1,10 @@
 use Rattle.std.proofs.Common.{inl, refl}
 use Rattle.abt_promise.proofs.Following.{ran_answers, ran_cause, ran_complete, ran_creates, ran_faults, ran_lacks, ran_others, ran_refused, ran_stays, ran_text}
-use Rattle.abt_command.specs.Lines.{Check, line_of}
+use Rattle.abt_command.specs.Lines.{Check, Rup, Cnf, line_of}
+use Rattle.abt_command.proofs.Meanings.{means_of, verified_by}
 use Rattle.abt_command.specs.LinePromises.{promise_of}
 use Rattle.abt_command.proofs.Lines.{one_line, lawful}
-use Rattle.abt_command.proofs.Runs.{asks_for_none, the_run, run_solved, run_refuted, run_checked, run_unfinished, run_bounded, run_ordered}
+use Rattle.abt_command.proofs.Runs.{asks_for_none, the_run, run_solved, run_refuted, run_checked, run_satisfies, run_unfinished, run_bounded, run_ordered}
 use Rattle.abt_command.proofs.command.run_command.Goals as goal
 
 pub returns-in-Some-clause-answers : goal.returns-in-Some-clause-answers
@@ -37,31 +38,40 @@ pub returns-in-Some-clause-refused : goal.returns-in-Some-clause-refused
 returns-in-Some-clause-refused g c = ran_refused (promise_of (line_of c.in-Some.order)) (lawful (line_of c.in-Some.order)) _ _ _ _ c.run_order.result c.run_order.ensures.ran
 
 pub returns-in-Some-clause-verified : goal.returns-in-Some-clause-verified
-returns-in-Some-clause-verified g c = λ model log is good. c.run_order.ensures.verified model log (one_line _ (line_of c.in-Some.order) (Check model log) c.in-Some.ensures.some is) good
+returns-in-Some-clause-verified g c = λ model log is good. verified_by (one_line _ (line_of c.in-Some.order) (Check model log) c.in-Some.ensures.some is) good c.run_order.ensures.means
 
 pub returns-in-Some-clause-runs : goal.returns-in-Some-clause-runs
 returns-in-Some-clause-runs g c = inl (line_of c.in-Some.order, c.in-Some.ensures.some, c.run_order.ensures.ran)
 
 pub returns-in-Some-clause-the_run : goal.returns-in-Some-clause-the_run
-returns-in-Some-clause-the_run g c = the_run _ (line_of c.in-Some.order) c.in-Some.ensures.some _ _ _ _ c.run_order.result c.run_order.ensures.ran c.run_order.ensures.sound
+returns-in-Some-clause-the_run g c = the_run _ (line_of c.in-Some.order) c.in-Some.ensures.some _ _ _ _ c.run_order.result c.run_order.ensures.ran c.run_order.ensures.means
 
 pub returns-in-Some-clause-solved : goal.returns-in-Some-clause-solved
-returns-in-Some-clause-solved g c = run_solved _ (line_of c.in-Some.order) c.in-Some.ensures.some _ _ _ _ c.run_order.result c.run_order.ensures.ran c.run_order.ensures.sound
+returns-in-Some-clause-solved g c = run_solved _ (line_of c.in-Some.order) c.in-Some.ensures.some _ _ _ _ c.run_order.result c.run_order.ensures.ran c.run_order.ensures.means
 
 pub returns-in-Some-clause-refuted : goal.returns-in-Some-clause-refuted
-returns-in-Some-clause-refuted g c = run_refuted _ (line_of c.in-Some.order) c.in-Some.ensures.some _ _ _ _ c.run_order.result c.run_order.ensures.ran c.run_order.ensures.sound
+returns-in-Some-clause-refuted g c = run_refuted _ (line_of c.in-Some.order) c.in-Some.ensures.some _ _ _ _ c.run_order.result c.run_order.ensures.ran c.run_order.ensures.means
 
 pub returns-in-Some-clause-checks : goal.returns-in-Some-clause-checks
-returns-in-Some-clause-checks g c = run_checked _ (line_of c.in-Some.order) c.in-Some.ensures.some _ _ _ _ c.run_order.result c.run_order.ensures.ran c.run_order.ensures.sound
+returns-in-Some-clause-checks g c = run_checked _ (line_of c.in-Some.order) c.in-Some.ensures.some _ _ _ _ c.run_order.result c.run_order.ensures.ran c.run_order.ensures.means
+
+pub returns-in-Some-clause-satisfies : goal.returns-in-Some-clause-satisfies
+returns-in-Some-clause-satisfies g c = run_satisfies _ (line_of c.in-Some.order) c.in-Some.ensures.some _ _ _ _ c.run_order.result c.run_order.ensures.ran c.run_order.ensures.means
+
+pub returns-in-Some-clause-proved : goal.returns-in-Some-clause-proved
+returns-in-Some-clause-proved g c = λ cnf proof is final answers. means_of (one_line _ (line_of c.in-Some.order) (Rup cnf proof) c.in-Some.ensures.some is) (c.run_order.ensures.means final answers)
+
+pub returns-in-Some-clause-formula : goal.returns-in-Some-clause-formula
+returns-in-Some-clause-formula g c = λ cnf proof seed is final answers. means_of (one_line _ (line_of c.in-Some.order) (Cnf cnf proof seed) c.in-Some.ensures.some is) (c.run_order.ensures.means final answers)
 
 pub returns-in-Some-clause-no_stall : goal.returns-in-Some-clause-no_stall
-returns-in-Some-clause-no_stall g c = run_unfinished _ (line_of c.in-Some.order) c.in-Some.ensures.some _ _ _ _ c.run_order.result c.run_order.ensures.ran c.run_order.ensures.sound
+returns-in-Some-clause-no_stall g c = run_unfinished _ (line_of c.in-Some.order) c.in-Some.ensures.some _ _ _ _ c.run_order.result c.run_order.ensures.ran c.run_order.ensures.means
 
 pub returns-in-Some-clause-bound : goal.returns-in-Some-clause-bound
-returns-in-Some-clause-bound g c = run_bounded _ (line_of c.in-Some.order) c.in-Some.ensures.some _ _ _ _ c.run_order.result c.run_order.ensures.ran c.run_order.ensures.sound
+returns-in-Some-clause-bound g c = run_bounded _ (line_of c.in-Some.order) c.in-Some.ensures.some _ _ _ _ c.run_order.result c.run_order.ensures.ran c.run_order.ensures.means
 
 pub returns-in-Some-clause-in_order : goal.returns-in-Some-clause-in_order
-returns-in-Some-clause-in_order g c = run_ordered _ (line_of c.in-Some.order) c.in-Some.ensures.some _ _ _ _ c.run_order.result c.run_order.ensures.ran c.run_order.ensures.sound
+returns-in-Some-clause-in_order g c = run_ordered _ (line_of c.in-Some.order) c.in-Some.ensures.some _ _ _ _ c.run_order.result c.run_order.ensures.ran c.run_order.ensures.means
 
 pub returns-in-None-clause-the_run : goal.returns-in-None-clause-the_run
 returns-in-None-clause-the_run g c = asks_for_none _ _ _ (c.in-None.ensures.none refl)
@@ -74,6 +84,9 @@ returns-in-None-clause-refuted g c = asks_for_none _ _ _ (c.in-None.ensures.none
 
 pub returns-in-None-clause-checks : goal.returns-in-None-clause-checks
 returns-in-None-clause-checks g c = asks_for_none _ _ _ (c.in-None.ensures.none refl)
+
+pub returns-in-None-clause-satisfies : goal.returns-in-None-clause-satisfies
+returns-in-None-clause-satisfies g c = asks_for_none _ _ _ (c.in-None.ensures.none refl)
 
 pub returns-in-None-clause-no_stall : goal.returns-in-None-clause-no_stall
 returns-in-None-clause-no_stall g c = asks_for_none _ _ _ (c.in-None.ensures.none refl)

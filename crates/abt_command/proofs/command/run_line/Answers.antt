@@ -1,5 +1,6 @@
 use Rattle.std.proofs.Common.{subst}
 use Rattle.abt_command.specs.Lines.{IsLine, IsSomeLine, line_of}
+use Rattle.abt_command.proofs.Meanings.{any_answer, good_alone, both_facts}
 use Rattle.abt_command.proofs.command.run_line.Goals as goal
 
 pub run_queens-requires-clause-least : goal.run_queens-requires-clause-least
@@ -19,3 +20,39 @@ returns-in-GenQueens-clause-came g c = rw c.in-GenQueens.is (c.run_queens.ensure
 
 pub returns-in-GenColouring-clause-came : goal.returns-in-GenColouring-clause-came
 returns-in-GenColouring-clause-came g c = rw c.in-GenColouring.is (c.run_colouring.ensures _)
+
+pub returns-in-Drill-clause-came : goal.returns-in-Drill-clause-came
+returns-in-Drill-clause-came g c = rw c.in-Drill.is (c.run_drill.ensures _)
+
+pub returns-in-Help-clause-means : goal.returns-in-Help-clause-means
+returns-in-Help-clause-means g c = rw c.in-Help.is (any_answer c.print.result)
+
+pub returns-in-Version-clause-means : goal.returns-in-Version-clause-means
+returns-in-Version-clause-means g c = rw c.in-Version.is (any_answer c.print-2.result)
+
+pub returns-in-Check-clause-means : goal.returns-in-Check-clause-means
+returns-in-Check-clause-means g c = rw c.in-Check.is (good_alone c.run_check.result c.run_check.ensures.verified)
+
+pub returns-in-Replay-clause-means : goal.returns-in-Replay-clause-means
+returns-in-Replay-clause-means g c = rw c.in-Replay.is c.run_replay.ensures.sound
+
+pub returns-in-Solve-clause-means : goal.returns-in-Solve-clause-means
+returns-in-Solve-clause-means g c = rw c.in-Solve.is c.run_solve.ensures.sound
+
+pub returns-in-Bound-clause-means : goal.returns-in-Bound-clause-means
+returns-in-Bound-clause-means g c = rw c.in-Bound.is (any_answer c.run_bound.result)
+
+pub returns-in-GenQueens-clause-means : goal.returns-in-GenQueens-clause-means
+returns-in-GenQueens-clause-means g c = rw c.in-GenQueens.is (any_answer c.run_queens.result)
+
+pub returns-in-GenColouring-clause-means : goal.returns-in-GenColouring-clause-means
+returns-in-GenColouring-clause-means g c = rw c.in-GenColouring.is (any_answer c.run_colouring.result)
+
+pub returns-in-Drill-clause-means : goal.returns-in-Drill-clause-means
+returns-in-Drill-clause-means g c = rw c.in-Drill.is (any_answer c.run_drill.result)
+
+pub returns-in-Rup-clause-means : goal.returns-in-Rup-clause-means
+returns-in-Rup-clause-means g c = rw c.in-Rup.is (both_facts _ c.run_rup.result (λ s p q. record { exact = p; refutes = q }) c.run_rup.ensures.exact c.run_rup.ensures.refutes)
+
+pub returns-in-Cnf-clause-means : goal.returns-in-Cnf-clause-means
+returns-in-Cnf-clause-means g c = rw c.in-Cnf.is (both_facts _ c.run_cnf.result (λ s p q. record { means = p; writes = q }) c.run_cnf.ensures.means c.run_cnf.ensures.writes)
