@@ -16,3 +16,4 @@ pub mod Carrying
 pub mod AlikeItems
 pub mod Keeping
 pub mod KeptItems
+pub mod SkippedItems

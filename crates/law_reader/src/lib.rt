@@ -5,6 +5,7 @@
 ghost use Rattle.law_reader.specs.Answered.{TextsHaveTokens, TokensHaveItems, TextsHaveAnswers};
 ghost use Rattle.law_reader.specs.Gapped.{GapsAreIgnored};
 ghost use Rattle.law_reader.specs.Placed.{RefusalsArePlaced};
+ghost use Rattle.law_reader.specs.Predicates.{PredicatesAreIgnored};
 
 /// Each text, of any length, has tokens or a first place that is refused.
 pub fn texts_have_tokens()
@@ -29,4 +30,9 @@ pub fn refusals_are_placed()
 /// A text that has the same tokens as one with a problem, whatever stands between them, has the same problem.
 pub fn gaps_are_ignored()
     ensures { GapsAreIgnored }
+{}
+
+/// Items that have a problem have the same one without their predicates.
+pub fn predicates_are_ignored()
+    ensures { PredicatesAreIgnored }
 {}
