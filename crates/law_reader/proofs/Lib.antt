@@ -12,3 +12,8 @@ pub mod ItemPlaces
 pub mod Refusing
 pub mod RefusedItems
 pub mod RefusalPlaces
+pub mod Carrying
+pub mod AlikeItems
+pub mod Keeping
+pub mod KeptItems
+pub mod SkippedItems

@@ -1,2 +1,4 @@
 pub mod Answered
 pub mod Placed
+pub mod Gapped
+pub mod Predicates

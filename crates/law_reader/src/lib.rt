@@ -1,8 +1,11 @@
-//! What holds of all texts: each has an answer, and each refusal names the place of a token, or one that has none.
+//! What holds of all texts: each has an answer, each refusal names the place of a token, or one that has none, and
+//! blanks and comments between tokens change nothing.
 #![tactic(auto)]
 
 ghost use Rattle.law_reader.specs.Answered.{TextsHaveTokens, TokensHaveItems, TextsHaveAnswers};
+ghost use Rattle.law_reader.specs.Gapped.{GapsAreIgnored};
 ghost use Rattle.law_reader.specs.Placed.{RefusalsArePlaced};
+ghost use Rattle.law_reader.specs.Predicates.{PredicatesAreIgnored};
 
 /// Each text, of any length, has tokens or a first place that is refused.
 pub fn texts_have_tokens()
@@ -22,4 +25,14 @@ pub fn texts_have_answers()
 /// The place that a refusal names is the first byte of a token, or one where no token in range begins.
 pub fn refusals_are_placed()
     ensures { RefusalsArePlaced }
+{}
+
+/// A text that has the same tokens as one with a problem, whatever stands between them, has the same problem.
+pub fn gaps_are_ignored()
+    ensures { GapsAreIgnored }
+{}
+
+/// Items that have a problem have the same one without their predicates.
+pub fn predicates_are_ignored()
+    ensures { PredicatesAreIgnored }
 {}
