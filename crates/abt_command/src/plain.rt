@@ -15,6 +15,12 @@ pub const HELP: &[u8] = b"abt: asynchronous backtracking over FlatZinc, with cer
   abt gen queens N      prints the problem of N queens, 1 to 200
   abt gen colouring N K SEED
                         prints a colouring of N nodes, 1 to 200, with K colours, 1 to 16
+  abt drill SEED        runs three generated models, and checks the log of the last
+  abt cnf CNF PROOF [--seed N]
+                        runs the agents of a formula in DIMACS: prints `s SATISFIABLE` and its
+                        values, or `s UNSATISFIABLE`, with PROOF written, or `s UNKNOWN`
+  abt rup CNF PROOF     checks such a proof by unit propagation: prints `verified`,
+                        `rejected clause K` or `rejected not empty`
   abt --help            prints this text
   abt --version         prints the program's version and its toolchain
 
@@ -22,10 +28,10 @@ MODEL is a FlatZinc file, LOG a log of derivations, SCHEDULE a list of choices. 
 name is not empty, does not begin with `-`, and differs from the others. With --trace
 each delivery prints a line. A seed is 0 to 2^64 - 1, and 0 where none is given.
 
-Status  0 done, and the answer is good     4 the log or the schedule was refused
+Status  0 done, and the answer is good     4 the log, schedule or proof was refused
         1 done, and the answer is no       5 a run was stopped before its verdict
         2 the words are no line above      6 a file or a stream failed
-        3 the model was refused            7 memory ran out
+        3 the model or formula was refused 7 memory ran out
 
 With 2, 3, 4, 6 and 7 a line on standard error says why. README.md tells what is
 proved, docs/FORMATS.md the formats and the lines that refuse a file.

@@ -2,6 +2,8 @@
 #![tactic(auto)]
 
 #[cfg(test)]
+mod formulas;
+#[cfg(test)]
 mod given;
 #[cfg(test)]
 mod runs;

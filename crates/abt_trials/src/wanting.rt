@@ -39,11 +39,13 @@ impl Folder for WantingFolder {
 
 #[test]
 fn want_of_memory_ends_with_7(rt: HostRuntime) {
-    let lines: [&[&str]; 4] = [
+    let lines: [&[&str]; 6] = [
         &["check", "m.fzn", "m.ngd"],
         &["solve", "m.fzn", "m.ngd"],
         &["replay", "m.fzn", "m.sch", "m.ngd"],
         &["bound", "m.fzn"],
+        &["rup", "f.cnf", "p.rup"],
+        &["cnf", "f.cnf", "p.rup"],
     ];
     for line in lines {
         let words = words_of(&rt, rt.alloc(), line);
