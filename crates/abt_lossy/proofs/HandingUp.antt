@@ -30,7 +30,7 @@ use Rattle.abt_lossy.specs.declared.carrier.Carrier.{Carrier}
 use Rattle.abt_lossy.specs.declared.carrier.Arrival.TheVariants.{Counted, Next}
 use Rattle.abt_lossy.specs.declared.parts.Parts.{Parts}
 use Rattle.abt_lossy.specs.Carries.{acknowledged_of, handed_up_of, Carries, Changes, Comes, CountsFit, HandsUp}
-use Rattle.abt_lossy.specs.AtWorld.{is_refuted, may_send, IsAt, IsEvent, Does, IsReached}
+use Rattle.abt_lossy.specs.AtWorld.{is_refuted, may_send, IsAt, IsBlank, IsEvent, Does, IsReached}
 use Rattle.abt_lossy.proofs.Comes.{event_is}
 use Rattle.abt_lossy.proofs.Events.{may_send_by, none_some, comes_counted}
 use Rattle.abt_lossy.proofs.ReadyPairs.{ready_are}
@@ -281,3 +281,25 @@ next_case word k i n c count flag standing d l new mid car s kind comes sound ma
   senders = es;
   marks = λ a b. m a b ∙ ap (λ z. cond (a == i && nat_lt b l.agents) z (has_pair l.senders a b)) (test_by car new.carrier s new.network a b ec en);
 })
+
+-- ---- the start
+
+pub at_start : (l new : Parts) (s : NetworkState) → IsBlank l → StandsAt s (start (csp_of l.network.problem)) → s.problem ≡ l.network.problem → s.begun ≡ true → s.spent ≡ false
+    → new.network ≡ s → new.carrier ≡ l.carrier → new.agents ≡ l.agents → new.senders.agents ≡ l.senders.agents
+    → ((a b : ℕ) → has_pair new.senders a b ≡ cond (nat_lt a l.agents && nat_lt b l.agents) (may_send (record l { network = s }) a b) (has_pair l.senders a b))
+    → IsAt (csp_of l.network.problem) [] new
+at_start l new s blank stands problem begun sound en ec ea es m = record {
+  problem = ap (λ (x : NetworkState). csp_of x.problem) en ∙ ap csp_of problem;
+  network = subst (λ (x : NetworkState). StandsAt x (start (csp_of l.network.problem))) (sym en) stands;
+  carrier = subst (λ (x : Carrier). Carries (begin (csp_of l.network.problem)) x) (sym ec) (blank.carrier (csp_of l.network.problem));
+  agents = ea ∙ blank.agents;
+  senders = es ∙ blank.senders ∙ sym ea;
+  marks = λ a b la lb.
+      let e : l.agents ≡ count (csp_of l.network.problem) = blank.agents in
+      let x : nat_lt a l.agents ≡ true = below_it a l.agents (omega arith) in
+      let y : nat_lt b l.agents ≡ true = below_it b l.agents (omega arith) in
+      m a b ∙ ap (λ z. cond (z && nat_lt b l.agents) (may_send (record l { network = s }) a b) (has_pair l.senders a b)) x
+      ∙ ap (λ z. cond z (may_send (record l { network = s }) a b) (has_pair l.senders a b)) y ∙ test_by l.carrier new.carrier s new.network a b ec en;
+  begun = ap (λ (x : NetworkState). x.begun) en ∙ begun;
+  sound = ap (λ (x : NetworkState). x.spent) en ∙ sound;
+}

@@ -10,7 +10,7 @@ use Rattle.abt_network.specs.declared.Standing.TheVariants.{Open, Quiet, Refuted
 use Rattle.abt_network.specs.Standing.{StandsAt}
 use Rattle.lossy_defs.specs.World.{World, begin, after, event}
 use Rattle.lossy_defs.specs.Deliveries.{delivered, numbers}
-use Rattle.abt_lossy.specs.Carries.{Carries, acknowledged_of, handed_up_of}
+use Rattle.abt_lossy.specs.Carries.{Carries, CountsFit, acknowledged_of, handed_up_of}
 use Rattle.abt_lossy.specs.declared.parts.Parts.{Parts}
 use Rattle.abt_lossy.specs.declared.parts.Happened.{Happened}
 
@@ -27,6 +27,15 @@ pub record IsAt (p : Csp) (words : List ℕ) (l : Parts) : Type 0 where
   pub senders : l.senders.agents ≡ l.agents
   pub marks : (k i : ℕ) → k < count p → i < count p → has_pair l.senders k i ≡ may_send l k i
   pub begun : l.network.begun ≡ true
+  pub sound : l.network.spent ≡ false
+
+-- nothing was started, and no packet is on its way
+pub record IsBlank (l : Parts) : Type 0 where
+  pub carrier : (p : Csp) → Carries (begin p) l.carrier
+  pub fit : CountsFit l.carrier
+  pub agents : l.agents ≡ length l.network.problem.domains
+  pub senders : l.senders.agents ≡ l.agents
+  pub begun : l.network.begun ≡ false
   pub sound : l.network.spent ≡ false
 
 -- one event more has happened, which handed up what is told, with the step that is told

@@ -1,14 +1,18 @@
 //! One event of the agents over the medium.
 
-ghost use Rattle.std.specs.Prelude.{◌≡◌, ◌%◌, ◌≢◌, ◌==◌, ◌<◌, ◌&&◌, nat_lt, ℕ, IfOk, OnOk, None, if◌then◌else◌};
+ghost use Rattle.std.specs.Prelude.{◌≡◌, ◌%◌, ◌≢◌, ◌==◌, ◌<◌, ◌&&◌, nat_lt, ℕ, [], IfOk, OnOk, None, if◌then◌else◌};
+ghost use Rattle.dcsp_problem.specs.Problems.{csp_of};
+ghost use Rattle.abt_network.specs.Standing.{Starts};
 ghost use Rattle.abt_links.specs.PairTables.{has_pair};
 ghost use Rattle.abt_lossy.specs.Carries.{CountsFit};
-ghost use Rattle.abt_lossy.specs.AtWorld.{is_refuted, may_send, Does, IsReached};
+ghost use Rattle.abt_lossy.specs.AtWorld.{is_refuted, may_send, Does, IsAt, IsBlank, IsReached};
 
 use crate::carrier::{Arrival, Carrier};
 use abt_links::PairSet;
-use abt_network::{Network, Standing, Step};
+use abt_network::{Begun, Network, Standing, Step};
 use dcsp_list::Memory;
+use dcsp_problem::Problem;
+use std::alloc::Global;
 
 /// What an event did.
 #[derive(Debug, Drop)]
@@ -30,6 +34,48 @@ pub struct Parts<'p> {
 }
 
 impl<'p> Parts<'p> {
+    /// Fresh agents, and no packet on its way.
+    pub fn new(alloc: Global, problem: &'p Problem) -> Result<Parts<'p>, Memory>
+        ensures problem { IfOk result (λ parts. parts.network.problem ≡ problem.now) }
+        ensures blank { IfOk result (λ parts. IsBlank parts) }
+    {
+        let agents = problem.vars();
+        let network = Network::new(alloc, problem)?;
+        let senders = PairSet::new(alloc, agents)?;
+        Ok(Parts {
+            agents,
+            network,
+            carrier: Carrier::new(alloc),
+            senders,
+        })
+    }
+
+    /// Starts the agents, as `Network::start` does.
+    pub fn start(&mut self) -> Result<Begun, Memory>
+        requires { IsBlank self.old }
+        ensures starts { IfOk result (λ told. Starts self.old.network.problem self.new.network told) }
+        ensures stands { OnOk result (IsAt (csp_of self.old.network.problem) [] self.new) }
+    {
+        let begun = self.network.start()?;
+        self.mark_every();
+        Ok(begun)
+    }
+
+    /// Marks all pairs.
+    fn mark_every(&mut self)
+        requires fit { CountsFit self.old.carrier }
+        requires every { self.old.senders.agents ≡ self.old.agents }
+        ensures network { self.new.network ≡ self.old.network }
+        ensures carrier { self.new.carrier ≡ self.old.carrier }
+        ensures count { self.new.agents ≡ self.old.agents }
+        ensures agents { self.new.senders.agents ≡ self.old.senders.agents }
+        ensures marks { (k i : ℕ) → has_pair self.new.senders k i ≡ (if nat_lt k self.old.agents && nat_lt i self.old.agents then may_send self.old k i else has_pair self.old.senders k i) }
+    {
+        for sender in 0..self.agents {
+            self.mark_all(sender);
+        }
+    }
+
     /// Puts the pair among those that may send, or takes it out, by the counts and what waits.
     fn mark(&mut self, sender: u32, receiver: u32)
         requires fit { CountsFit self.old.carrier }
