@@ -16,13 +16,17 @@ use Rattle.abt_input.specs.Inputs.{IsModelOf}
 use Rattle.abt_input.proofs.Once.{one_problem}
 use Rattle.abt_check.specs.Checks.{IsFound}
 use Rattle.abt_check.proofs.Lawful.{one_found, put_alone}
-use Rattle.abt_drill.specs.Drills.{Drill, run_from, drill_text, drill_status}
+use Rattle.abt_drill.specs.Drills.{Drill, run_from, lines_of, status_of, drill_text, drill_status}
 use Rattle.abt_drill.specs.DrillPromise.{DrillReport, DrillReports, drill_promise}
 use Rattle.abt_drill.proofs.Telling.{final_drill}
 
 -- a drill by what its text and status stand on
 of_parts : (seed : ℕ) (d e : Drill seed) → d.sparse ≡ e.sparse → d.queens ≡ e.queens → d.pigeons ≡ e.pigeons → d.finding ≡ e.finding → (drill_status seed d ≡ drill_status seed e) × (drill_text seed d ≡ drill_text seed e)
-of_parts seed d e a b c f = (rw (a, b, c) refl, rw (a, b, c, f) refl)
+of_parts seed d e a b c f = (
+  ap (λ x. status_of seed x d.queens d.pigeons) a ∙ ap (λ x. status_of seed e.sparse x d.pigeons) b ∙ ap (λ x. status_of seed e.sparse e.queens x) c,
+  ap (λ x. lines_of seed x d.queens d.pigeons d.finding) a ∙ ap (λ x. lines_of seed e.sparse x d.pigeons d.finding) b ∙ ap (λ x. lines_of seed e.sparse e.queens x d.finding) c
+      ∙ ap (λ x. lines_of seed e.sparse e.queens e.pigeons x) f,
+)
 
 one_drill : (seed : ℕ) (d e : Drill seed) → (drill_status seed d ≡ drill_status seed e) × (drill_text seed d ≡ drill_text seed e)
 one_drill seed d e =

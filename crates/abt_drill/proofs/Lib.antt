@@ -1,3 +1,4 @@
 pub mod Lawful
 pub mod Telling
+pub mod Texts
 pub mod Trials

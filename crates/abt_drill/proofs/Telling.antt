@@ -1,9 +1,12 @@
 -- What is told of three runs is what the drill says.
 use Rattle.std.proofs.Common.{◌≡◌, ℕ, Bool, true, false, ◌||◌, List, [], ◌∷◌, ◌++◌, length, codes, decimal, Result, Ok, Err, refl, sym, ap, subst, ◌∙◌, inl, inr}
-use Rattle.std.specs.Prelude.{IsErr, IsErrAnd, if◌then◌else◌}
+use Rattle.std.specs.Prelude.{IsErr, IsErrAnd, IsOk, IfOk, if◌then◌else◌}
+use Rattle.std.specs.declared.vec.Vec.{Vec}
+use Rattle.std.specs.declared.alloc.Global.{Global}
+use Rattle.dcsp_list.specs.declared.Memory.{Memory}
 use Rattle.dcsp_outside.specs.Outside.{Place, Stream}
 use Rattle.dcsp_defs.specs.Csp.{Csp}
-use Rattle.dcsp_problem.specs.Problems.{Contents}
+use Rattle.dcsp_problem.specs.Problems.{Contents, csp_of}
 use Rattle.dcsp_script.specs.declared.stop.Stop.{Stop}
 use Rattle.dcsp_script.specs.declared.stop.Stop.TheVariants as stops
 use Rattle.dcsp_script.specs.Scripts.{Put, World}
@@ -25,12 +28,11 @@ use Rattle.abt_promise.specs.Statuses.{IsFinal}
 use Rattle.abt_promise.specs.Runs.{CameIn, Answered, Stopped}
 use Rattle.abt_promise.proofs.Coming.{way_with, came_wrote}
 use Rattle.abt_input.specs.declared.error.CommandError.{CommandError}
-use Rattle.abt_input.specs.declared.error.CommandError.TheVariants.{Memory}
 use Rattle.abt_input.specs.Errors.{stop_error, way_of}
 use Rattle.abt_input.specs.Inputs.{IsModelOf}
 use Rattle.abt_check.specs.Checks.{IsFound, finding_text}
 use Rattle.abt_run.specs.Asked.{seeded_session}
-use Rattle.abt_drill.specs.Drills.{Drill, log_name, run_from, end_word, run_text, drill_text, is_unfinished, drill_status}
+use Rattle.abt_drill.specs.Drills.{Drill, log_name, run_from, end_word, run_text, lines_of, drill_text, is_unfinished, status_of, drill_status}
 use Rattle.abt_drill.specs.Outcomes.{outcome_word, outcome_text, is_open_end, told_text, told_status}
 use Rattle.abt_drill.specs.DrillPromise.{drill_promise}
 
@@ -54,29 +56,44 @@ IsTrial seed p outcome = Gives (seeded_session p seed log_name false) outcome
 
 text_is : (seed : ℕ) (name : List ℕ) (p : Contents) (outcome : Outcome) → IsTrial seed p outcome → outcome_text name outcome ≡ run_text name (run_from p seed)
 text_is seed name p outcome h =
-    ap (λ w. name ++ w ++ codes " deliveries " ++ decimal outcome.deliveries) (word_is _ _ _ outcome.end h.end)
+    ap (λ w. name ++ w ++ codes " deliveries " ++ decimal outcome.deliveries) (word_is (csp_of p) (run_from p seed).net (run_from p seed).end outcome.end h.end)
     ∙ ap (λ n. name ++ end_word (run_from p seed).end ++ codes " deliveries " ++ decimal n) h.deliveries
 
 unfinished_is : (seed : ℕ) (p : Contents) (outcome : Outcome) → IsTrial seed p outcome → is_open_end outcome.end ≡ is_unfinished (run_from p seed).end
-unfinished_is seed p outcome h = open_is _ _ _ outcome.end h.end
+unfinished_is seed p outcome h = open_is (csp_of p) (run_from p seed).net (run_from p seed).end outcome.end h.end
 
 -- ---- three runs
+
+-- the four lines
+abbrev put_together : List ℕ → List ℕ → List ℕ → ℕ → Finding → List ℕ
+put_together sparse queens pigeons steps finding =
+    sparse ++ codes "\n" ++ queens ++ codes "\n" ++ pigeons ++ codes " steps " ++ decimal steps ++ codes "\n" ++ codes "pigeons 5 " ++ finding_text finding
 
 module _ (seed : ℕ) (sparse queens pigeons : Contents) (a b c : Outcome) (finding : Finding)
     (sparse_is : IsModelOf (sparse_text 500 (word_at (generator_of seed))) sparse) (queens_is : IsModelOf (queens_text 6) queens) (pigeons_is : IsModelOf (pigeons_text 5) pigeons)
     (found : IsFound (pigeons_text 5) (log_text (run_from pigeons seed).net.steps) finding)
     (of_sparse : IsTrial seed sparse a) (of_queens : IsTrial seed queens b) (of_pigeons : IsTrial seed pigeons c) where
-  the_drill : Drill seed
-  the_drill = record { sparse = sparse; queens = queens; pigeons = pigeons; finding = finding; sparse_is = sparse_is; queens_is = queens_is; pigeons_is = pigeons_is; found = found }
+  same_text : told_text a b c finding ≡ lines_of seed sparse queens pigeons finding
+  same_text =
+      ap (λ x. put_together x (outcome_text (codes "queens 6 ") b) (outcome_text (codes "pigeons 5 ") c) c.steps finding) (text_is seed (codes "sparse 500 ") sparse a of_sparse)
+      ∙ ap (λ x. put_together (run_text (codes "sparse 500 ") (run_from sparse seed)) x (outcome_text (codes "pigeons 5 ") c) c.steps finding) (text_is seed (codes "queens 6 ") queens b of_queens)
+      ∙ ap (λ x. put_together (run_text (codes "sparse 500 ") (run_from sparse seed)) (run_text (codes "queens 6 ") (run_from queens seed)) x c.steps finding) (text_is seed (codes "pigeons 5 ") pigeons c of_pigeons)
+      ∙ ap (λ n. put_together (run_text (codes "sparse 500 ") (run_from sparse seed)) (run_text (codes "queens 6 ") (run_from queens seed)) (run_text (codes "pigeons 5 ") (run_from pigeons seed)) n finding) of_pigeons.steps
 
-  same_text : told_text a b c finding ≡ drill_text seed the_drill
-  same_text = rw (text_is seed (codes "sparse 500 ") sparse a of_sparse, text_is seed (codes "queens 6 ") queens b of_queens, text_is seed (codes "pigeons 5 ") pigeons c of_pigeons, of_pigeons.steps) refl
-
-  same_status : told_status a b c ≡ drill_status seed the_drill
+  same_status : told_status a b c ≡ status_of seed sparse queens pigeons
   same_status = rw (unfinished_is seed sparse a of_sparse, unfinished_is seed queens b of_queens, unfinished_is seed pigeons c of_pigeons) refl
 
   pub drilled : (status : Status) (text : List ℕ) → status ≡ told_status a b c → text ≡ told_text a b c finding → (d : Drill seed) × (status ≡ drill_status seed d) × (text ≡ drill_text seed d)
-  drilled status text is told = (the_drill, is ∙ same_status, told ∙ same_text)
+  drilled status text is told = (
+    record { sparse = sparse; queens = queens; pigeons = pigeons; finding = finding; sparse_is = sparse_is; queens_is = queens_is; pigeons_is = pigeons_is; found = found },
+    is ∙ same_status,
+    told ∙ same_text,
+  )
+
+-- the model of a text that was made
+pub model_made : (r : Result (Vec ℕ Global) Memory) (p : Contents) (text : List ℕ) → IsOk r → IfOk r (λ bytes. IsModelOf bytes.items p) → IfOk r (λ bytes. bytes.items ≡ text) → IsModelOf text p
+model_made (Ok bytes) p text ok model is = subst (λ t. IsModelOf t p) is model
+model_made (Err e) p text ok model is = absurd (let no = ok in cc)
 
 -- ---- the line
 
@@ -92,7 +109,7 @@ module _ (seed : ℕ) (status : Status) (text : List ℕ) (h : (d : Drill seed) 
   came : {T : Type 0} (r : Result T Stop) → Wrote (Put text ∷ []) a b r → CameIn (drill_promise seed) a b (way_with status r)
   came {T = T} r w =
       rw (h.1) (
-      came_wrote {T = T} (drill_promise seed) [] (drill_status seed h.0) (Put (drill_text seed h.0) ∷ []) r (final_drill _) tt (h.0, refl) (did_nothing a) (subst (λ t. Wrote (Put t ∷ []) a b r) h.2 w))
+      came_wrote (drill_promise seed) [] (drill_status seed h.0) (Put (drill_text seed h.0) ∷ []) {T = T} r (final_drill _) tt (h.0, refl) (did_nothing a) (subst (λ t. Wrote (Put t ∷ []) a b r) h.2 w))
 
   pub drill_put : {T : Type 0} (x : T) → Wrote (Put text ∷ []) a b (Ok x) → CameIn (drill_promise seed) a b (Answered status)
   drill_put x w = came (Ok x) w

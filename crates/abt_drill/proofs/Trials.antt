@@ -1,25 +1,13 @@
--- What a run over a sure folder leaves there.
+-- What is read of a sure folder.
 use Rattle.std.proofs.Common.{◌≡◌, ℕ, List, Option, Some, Ok, sym, ap, subst, ◌∙◌}
-use Rattle.dcsp_outside.specs.Outside.{Place, Stream, bytes_of}
-use Rattle.dcsp_script.specs.Scripts.{outside}
-use Rattle.dcsp_script.specs.Ways.{Wrote}
+use Rattle.dcsp_outside.specs.Outside.{bytes_of}
 use Rattle.dcsp_defs.specs.declared.Step.{Step}
 use Rattle.dcsp_problem.specs.Problems.{Contents, csp_of}
-use Rattle.ngd_log.specs.Logs.{log_text}
 use Rattle.ngd_check.specs.declared.Finding.{Finding}
 use Rattle.ngd_check.specs.Findings.{IsFinding}
-use Rattle.abt_session.specs.Sessions.{Session, run_of, run_script}
-use Rattle.abt_session.proofs.Ordered.{log_whole}
 use Rattle.abt_promise.specs.Promises.{IsHeld}
 use Rattle.abt_input.specs.Inputs.{IsModelOf, IsTextOf}
 use Rattle.abt_check.specs.Checks.{IsFound}
-
--- the log of a run that was made whole
-pub log_left : {T : Type 0} {x : T} {a b : Place} {out now : Stream} (s : Session) (files later : List ℕ → Option (List ℕ)) → a.held ≡ Some files → b.held ≡ Some later → Wrote (run_script s) (outside a out) (outside b now) (Ok x) → later s.log ≡ Some (log_text (run_of s).net.steps)
-log_left s files later before after wrote =
-    let told = wrote.ended.after.files in
-    let files_after = rw (before, after) at told in
-    files_after s.log ∙ log_whole s (files s.log)
 
 -- a model that is held is the one that was placed
 pub placed_model : (files : List ℕ → Option (List ℕ)) (name bytes : List ℕ) (p : Contents) → files name ≡ Some bytes → ((model : List ℕ) × IsHeld (Some files) name model × IsModelOf model p) → IsModelOf bytes p

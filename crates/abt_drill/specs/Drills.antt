@@ -44,13 +44,17 @@ end_word Spent = codes "unfinished"
 abbrev pub run_text : List ℕ → Run → List ℕ
 run_text name run = name ++ end_word run.end ++ codes " deliveries " ++ decimal run.net.deliveries
 
--- the four lines
+-- the four lines on the runs of these problems, and on the finding
+abbrev pub lines_of : ℕ → Contents → Contents → Contents → Finding → List ℕ
+lines_of seed sparse queens pigeons finding =
+    run_text (codes "sparse 500 ") (run_from sparse seed) ++ codes "\n"
+    ++ run_text (codes "queens 6 ") (run_from queens seed) ++ codes "\n"
+    ++ run_text (codes "pigeons 5 ") (run_from pigeons seed) ++ codes " steps " ++ decimal (length (run_from pigeons seed).net.steps) ++ codes "\n"
+    ++ codes "pigeons 5 " ++ finding_text finding
+
+-- the four lines of a drill
 abbrev pub drill_text : (seed : ℕ) → Drill seed → List ℕ
-drill_text seed d =
-    run_text (codes "sparse 500 ") (run_from d.sparse seed) ++ codes "\n"
-    ++ run_text (codes "queens 6 ") (run_from d.queens seed) ++ codes "\n"
-    ++ run_text (codes "pigeons 5 ") (run_from d.pigeons seed) ++ codes " steps " ++ decimal (length (run_from d.pigeons seed).net.steps) ++ codes "\n"
-    ++ codes "pigeons 5 " ++ finding_text d.finding
+drill_text seed d = lines_of seed d.sparse d.queens d.pigeons d.finding
 
 -- whether a run ended without a verdict
 abbrev pub is_unfinished : End → Bool
@@ -59,7 +63,11 @@ is_unfinished Refuted = false
 is_unfinished Capped = true
 is_unfinished Spent = true
 
--- a drill is unfinished where one of its runs is
+-- three runs are unfinished where one of them is
+abbrev pub status_of : ℕ → Contents → Contents → Contents → Status
+status_of seed sparse queens pigeons =
+    if is_unfinished (run_from sparse seed).end || is_unfinished (run_from queens seed).end || is_unfinished (run_from pigeons seed).end then Unfinished else Good
+
+-- the status of a drill
 abbrev pub drill_status : (seed : ℕ) → Drill seed → Status
-drill_status seed d =
-    if is_unfinished (run_from d.sparse seed).end || is_unfinished (run_from d.queens seed).end || is_unfinished (run_from d.pigeons seed).end then Unfinished else Good
+drill_status seed d = status_of seed d.sparse d.queens d.pigeons

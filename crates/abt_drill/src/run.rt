@@ -1,6 +1,6 @@
 //! The run of a generated problem.
 
-ghost use Rattle.std.specs.Prelude.{◌≡◌, ℕ, List, Some, IfOk, OnOk, IsOk};
+ghost use Rattle.std.specs.Prelude.{◌≡◌, ℕ, false, List, Some, IfOk, OnOk, IsOk};
 ghost use Rattle.std.specs.FinMap as map;
 ghost use Rattle.ngd_log.specs.Logs.{log_text};
 ghost use Rattle.abt_session.specs.Running.{Gives};

@@ -32,5 +32,6 @@ pub fn push_run(into: &mut Vec<u8>, name: &[u8], outcome: &Outcome) -> Result<()
     into.extend_from_slice(name)?;
     into.extend_from_slice(word(&outcome.end))?;
     into.extend_from_slice(b" deliveries ")?;
-    push_number(into, outcome.deliveries)
+    push_number(into, outcome.deliveries)?;
+    Ok(())
 }
