@@ -1,6 +1,6 @@
 -- Lines of words, and how they end.
 use Rattle.std.proofs.Common.{◌≡◌, ℕ, ◌<◌, ◌≤◌, ◌^◌, suc, Bool, true, false, cond, List, [], ◌∷◌, length, get_or, drop, Option, Some, None, Result, Ok, Err, refl, sym, ap, subst, ◌∙◌, arith, codes, decimal}
-use Rattle.std.specs.Prelude.{nat_lt, unwrap_or, option_to_list, IfOk, IsTrue, ◌↔◌}
+use Rattle.std.specs.Prelude.{nat_lt, unwrap_or, option_to_list, IfSome, IfOk, IsTrue, ◌↔◌}
 use Rattle.std.specs.Str.{bytes_eq}
 use Rattle.std.specs.Str.Parse.{AllDigits, digits_value}
 use Rattle.std.proofs.lemmas.Fmt.{decimal_injective, digits_value-decimal}
@@ -278,6 +278,17 @@ no_cnf words none l h =
     let is = r.1 in
     none (get_or words 0 []) (get_or words 1 []) is.options (cond (nat_lt 3 (suc (length words))) (number (get_or words 3 [])) 0) (ap (drop 1) is.words_are) is.seeds is.names
 
+-- the seed that is given
+pub seed_given : (options : List (List ℕ)) (word : List ℕ) (o : Option ℕ) → options ≡ codes "--seed" ∷ word ∷ [] → IfSome o (λ n. word ≡ decimal n) → IfSome o (λ n. n < 2 ^ 64) → IfSome o (AreSeed options)
+seed_given options word None e is fits = tt
+seed_given options word (Some n) e is fits = record { given = Some n; options_are = e ∙ ap (λ w. codes "--seed" ∷ w ∷ []) is; fits = fits; seed_is = refl }
+
+-- options that are no seed
+pub no_seed : (words : List (List ℕ)) (cnf proof : List ℕ) (options : List (List ℕ)) → words ≡ cnf ∷ proof ∷ options → ((seed : ℕ) → AreSeed options seed → ⊥) → IsNoLine (codes "cnf" ∷ words)
+no_seed words cnf proof options e none = no_cnf words (λ m o others seed again are names.
+    let r : others ≡ options = ap (drop 2) (sym again ∙ e) in
+    none seed (subst (λ ws. AreSeed ws seed) r are))
+
 -- ---- promises
 
 -- each line's promise is lawful
@@ -320,6 +331,6 @@ an_answer (Err Fault) err now status h f n = absurd (subst IsFinal h.0 f)
 an_answer (Err Memory) err now status h f n = absurd (subst IsFinal h.0 f)
 
 -- what holds of an answer
-pub if_answered : {P : Status → Type 0} (came : Result Status CommandError) (status : Status) → came ≡ Ok status → IfOk came P → P status
-if_answered {P = P} (Ok x) status e h = subst P (let same : x ≡ status = cc in same) h
-if_answered (Err x) status e h = absurd cc
+pub if_answered : (P : Status → Type 0) (came : Result Status CommandError) (status : Status) → came ≡ Ok status → IfOk came P → P status
+if_answered P (Ok x) status e h = subst P (let same : x ≡ status = cc in same) h
+if_answered P (Err x) status e h = absurd cc

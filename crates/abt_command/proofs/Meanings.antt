@@ -10,12 +10,12 @@ use Rattle.abt_command.specs.Lines.{Line, Check}
 use Rattle.abt_command.specs.Meanings.{Means}
 
 -- the same of the same line
-pub means_of : {line other : Line} {old now : Option (List ℕ → Option (List ℕ))} {status : Status} → line ≡ other → Means line old now status → Means other old now status
-means_of {old = old} {now = now} {status = status} e h = subst (λ l. Means l old now status) e h
+pub means_of : {line other : Line} (old now : Option (List ℕ → Option (List ℕ))) (status : Status) → line ≡ other → Means line old now status → Means other old now status
+means_of old now status e h = subst (λ l. Means l old now status) e h
 
-pub verified_by : {line : Line} {model log : List ℕ} {old now : Option (List ℕ → Option (List ℕ))} {status : Status} → line ≡ Check model log → status ≡ Good
+pub verified_by : {line : Line} {model log : List ℕ} (old now : Option (List ℕ → Option (List ℕ))) (status : Status) → line ≡ Check model log → status ≡ Good
     → (IsFinal status → (IsRefusal status → ⊥) → Means line old now status) → IsRefuted old model
-verified_by {status = status} e good h = means_of e (h (subst IsFinal (sym good) tt) (λ r. subst IsRefusal good r)) good
+verified_by old now status e good h = means_of old now status e (h (subst IsFinal (sym good) tt) (λ r. subst IsRefusal good r)) good
 
 -- nothing is asked of an answer
 pub any_answer : (r : Result Status CommandError) → IfOk r (λ status. ⊤)

@@ -38,9 +38,9 @@ own_record : (model log : List ℕ) (kept : Option (List ℕ)) → AreFileNames 
 own_record model log None h = tt
 own_record model log (Some k) h = λ e. h.2.1.0 (sym e)
 
-of_kept : {model : List ℕ} (kept : Option (List ℕ)) → IsNewName model (option_to_list kept) → IfSome kept (λ k. model ≢ k)
-of_kept None h = tt
-of_kept (Some k) h = h.0
+of_kept : (model : List ℕ) (kept : Option (List ℕ)) → IsNewName model (option_to_list kept) → IfSome kept (λ k. model ≢ k)
+of_kept model None h = tt
+of_kept model (Some k) h = h.0
 
 -- words that are no line ask for no run
 pub asks_for_none : (words : List (List ℕ)) (held : Option (List ℕ → Option (List ℕ))) (P : Asked → Type 0) → IsNoLine words → EachRun words held P
@@ -107,10 +107,10 @@ module _ (words : List (List ℕ)) (line : Line) (is : IsLine words line) (a b :
     own_model : (asked : Asked) → AsksFor words files asked → (model : List ℕ) → AskForModel words model → IsOther asked model × IsModelOf (bytes_of (files model)) asked.problem
     own_model asked (replays m s l t h p mp cs hc e) model a =
         let is : m ≡ model = subst (λ x. RunsModel x model) (one_line words a.line (Replay m s l t) a.is h) a.runs in
-        rw (e, sym is) ((h.names.1.1.0, tt), mp)
+        rw (e, sym is) ((h.1.1.1.0, tt), mp)
     own_model asked (solves m l n k t h p mp e) model a =
         let is : m ≡ model = subst (λ x. RunsModel x model) (one_line words a.line (Solve m l n k t) a.is h) a.runs in
-        rw (e, sym is) ((h.names.1.0, of_kept k h.names.1.1), mp)
+        rw (e, sym is) ((h.names.1.0, of_kept m k h.names.1.1), mp)
 
     at_most : (asked : Asked) → AsksFor words files asked → asked.session.most ≤ 2 ^ 40
     at_most asked (replays m s l t h p mp cs hc e) = rw e (omega arith)

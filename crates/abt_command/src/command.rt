@@ -14,7 +14,8 @@ ghost use Rattle.abt_check.specs.Checks.{IsRefuted};
 ghost use Rattle.abt_run.specs.Headline.{IsRun, IsSolvedRun, IsRefutedRun, IsUnfinishedRun, IsBoundedRun, WritesOrdered};
 ghost use Rattle.abt_command.specs.AskedRuns.{EachRun, IsCheckedRun, IsSatisfyingRun};
 ghost use Rattle.abt_command.specs.Meanings.{Means, IsRupAnswer, IsCnfAnswer};
-ghost use Rattle.abt_command.specs.Lines.{Line, Check, Rup, Cnf, IsLine, IsSomeLine, IsNoLine, line_of};
+ghost use Rattle.abt_command.specs.Lines as lines;
+ghost use Rattle.abt_command.specs.Lines.{Line, Check, IsLine, IsSomeLine, IsNoLine, line_of};
 ghost use Rattle.abt_command.specs.LinePromises.{promise_of, EachPromise, HasRun};
 
 use crate::plain::{HELP, VERSION};
@@ -202,9 +203,9 @@ pub fn run_command<F: Folder, S: Sink>(
         (outside (F.place folder.old) (S.stream out.old)) (outside (F.place folder.new) (S.stream out.new))) }
 
     // And the proofs about formulas.
-    ensures proved { (cnf proof : List ℕ) → IsLine (map string_bytes words.now) (Rup cnf proof)
+    ensures proved { (cnf proof : List ℕ) → IsLine (map string_bytes words.now) (lines.Rup cnf proof)
         → IsFinal result → (IsRefusal result → ⊥) → IsRupAnswer (F.place folder.old).held cnf proof result }
-    ensures formula { (cnf proof : List ℕ) (seed : ℕ) → IsLine (map string_bytes words.now) (Cnf cnf proof seed)
+    ensures formula { (cnf proof : List ℕ) (seed : ℕ) → IsLine (map string_bytes words.now) (lines.Cnf cnf proof seed)
         → IsFinal result → (IsRefusal result → ⊥) → IsCnfAnswer (F.place folder.old).held (F.place folder.new).held cnf proof seed result }
 {
     match words_of(words) {

@@ -38,7 +38,7 @@ pub returns-in-Some-clause-refused : goal.returns-in-Some-clause-refused
 returns-in-Some-clause-refused g c = ran_refused (promise_of (line_of c.in-Some.order)) (lawful (line_of c.in-Some.order)) _ _ _ _ c.run_order.result c.run_order.ensures.ran
 
 pub returns-in-Some-clause-verified : goal.returns-in-Some-clause-verified
-returns-in-Some-clause-verified g c = λ model log is good. verified_by (one_line _ (line_of c.in-Some.order) (Check model log) c.in-Some.ensures.some is) good c.run_order.ensures.means
+returns-in-Some-clause-verified g c = λ model log is good. verified_by _ _ _ (one_line _ (line_of c.in-Some.order) (Check model log) c.in-Some.ensures.some is) good c.run_order.ensures.means
 
 pub returns-in-Some-clause-runs : goal.returns-in-Some-clause-runs
 returns-in-Some-clause-runs g c = inl (line_of c.in-Some.order, c.in-Some.ensures.some, c.run_order.ensures.ran)
@@ -59,10 +59,10 @@ pub returns-in-Some-clause-satisfies : goal.returns-in-Some-clause-satisfies
 returns-in-Some-clause-satisfies g c = run_satisfies _ (line_of c.in-Some.order) c.in-Some.ensures.some _ _ _ _ c.run_order.result c.run_order.ensures.ran c.run_order.ensures.means
 
 pub returns-in-Some-clause-proved : goal.returns-in-Some-clause-proved
-returns-in-Some-clause-proved g c = λ cnf proof is final answers. means_of (one_line _ (line_of c.in-Some.order) (Rup cnf proof) c.in-Some.ensures.some is) (c.run_order.ensures.means final answers)
+returns-in-Some-clause-proved g c = λ cnf proof is final answers. means_of _ _ _ (one_line _ (line_of c.in-Some.order) (Rup cnf proof) c.in-Some.ensures.some is) (c.run_order.ensures.means final answers)
 
 pub returns-in-Some-clause-formula : goal.returns-in-Some-clause-formula
-returns-in-Some-clause-formula g c = λ cnf proof seed is final answers. means_of (one_line _ (line_of c.in-Some.order) (Cnf cnf proof seed) c.in-Some.ensures.some is) (c.run_order.ensures.means final answers)
+returns-in-Some-clause-formula g c = λ cnf proof seed is final answers. means_of _ _ _ (one_line _ (line_of c.in-Some.order) (Cnf cnf proof seed) c.in-Some.ensures.some is) (c.run_order.ensures.means final answers)
 
 pub returns-in-Some-clause-no_stall : goal.returns-in-Some-clause-no_stall
 returns-in-Some-clause-no_stall g c = run_unfinished _ (line_of c.in-Some.order) c.in-Some.ensures.some _ _ _ _ c.run_order.result c.run_order.ensures.ran c.run_order.ensures.means

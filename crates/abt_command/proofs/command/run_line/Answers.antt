@@ -28,7 +28,7 @@ pub returns-in-Help-clause-means : goal.returns-in-Help-clause-means
 returns-in-Help-clause-means g c = rw c.in-Help.is (any_answer c.print.result)
 
 pub returns-in-Version-clause-means : goal.returns-in-Version-clause-means
-returns-in-Version-clause-means g c = rw c.in-Version.is (any_answer c.print-2.result)
+returns-in-Version-clause-means g c = rw c.in-Version.is (any_answer c.print-in-Version.result)
 
 pub returns-in-Check-clause-means : goal.returns-in-Check-clause-means
 returns-in-Check-clause-means g c = rw c.in-Check.is (good_alone c.run_check.result c.run_check.ensures.verified)

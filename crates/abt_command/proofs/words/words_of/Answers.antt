@@ -32,3 +32,21 @@ returns-in-len1-up-5-clause-some c =
     let is = (bytes_eq-Decides c.as_str-6.result.now (codes "gen")).0 (sym c.eq-5.ensures ∙ c.if-eq-5.true) in
     let word = sym c.as_str-6.ensures.value ∙ is in
     rw (begins string_bytes c.args.words.now c.word-item-6.result (omega (arith, c.in-len1-up.len_at_least)) c.word-item-6.is, word) c.gen_of.ensures.some
+
+pub returns-in-len1-up-6-clause-some : goal.returns-in-len1-up-6-clause-some
+returns-in-len1-up-6-clause-some c =
+    let is = (bytes_eq-Decides c.as_str-7.result.now (codes "drill")).0 (sym c.eq-6.ensures ∙ c.if-eq-6.true) in
+    let word = sym c.as_str-7.ensures.value ∙ is in
+    rw (begins string_bytes c.args.words.now c.word-item-7.result (omega (arith, c.in-len1-up.len_at_least)) c.word-item-7.is, word) c.drill_of.ensures.some
+
+pub returns-in-len1-up-7-clause-some : goal.returns-in-len1-up-7-clause-some
+returns-in-len1-up-7-clause-some c =
+    let is = (bytes_eq-Decides c.as_str-8.result.now (codes "rup")).0 (sym c.eq-7.ensures ∙ c.if-eq-7.true) in
+    let word = sym c.as_str-8.ensures.value ∙ is in
+    rw (begins string_bytes c.args.words.now c.word-item-8.result (omega (arith, c.in-len1-up.len_at_least)) c.word-item-8.is, word) c.rup_of.ensures.some
+
+pub returns-in-len1-up-8-clause-some : goal.returns-in-len1-up-8-clause-some
+returns-in-len1-up-8-clause-some c =
+    let is = (bytes_eq-Decides c.as_str-9.result.now (codes "cnf")).0 (sym c.eq-8.ensures ∙ c.if-eq-8.true) in
+    let word = sym c.as_str-9.ensures.value ∙ is in
+    rw (begins string_bytes c.args.words.now c.word-item-9.result (omega (arith, c.in-len1-up.len_at_least)) c.word-item-9.is, word) c.cnf_of.ensures.some

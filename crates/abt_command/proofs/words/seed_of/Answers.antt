@@ -1,0 +1,13 @@
+use Rattle.std.proofs.Common.{◌≡◌, [], ◌∷◌, map, sym, ◌∙◌, codes, string_bytes, refl}
+use Rattle.std.proofs.lemmas.Slice.Eq.{bytes_eq-Decides}
+use Rattle.abt_command.proofs.FewWords.{two}
+use Rattle.abt_command.proofs.Lines.{seed_given}
+use Rattle.abt_command.proofs.words.seed_of.Goals as goal
+
+pub returns-in-len2-clause-some : goal.returns-in-len2-clause-some
+returns-in-len2-clause-some c =
+    let is = (bytes_eq-Decides c.as_str.result.now (codes "--seed")).0 (sym c.eq.ensures ∙ c.if-eq.true) in
+    let option = sym c.as_str.ensures.value ∙ is in
+    let words : map string_bytes c.args.options.now ≡ codes "--seed" ∷ c.as_str-in-len2.result.now ∷ [] =
+    rw (two string_bytes c.args.options.now c.option-item.result c.seed-item.result c.in-len2.len_at_least c.in-len2.len_below c.option-item.is c.seed-item.is, option, sym c.as_str-in-len2.ensures.value) refl in
+    seed_given (map string_bytes c.args.options.now) c.as_str-in-len2.result.now c.number_of.result words c.number_of.ensures.some c.number_of.ensures.fits
