@@ -161,9 +161,9 @@ const LEFT: [&[u8]; 5] = [b"", b"", b"", b"1 0\n", b"1 0\n-1 0\n"];
 
 #[test]
 fn each_call_of_a_formula_fails_in_turn(rt: HostRuntime) {
-    let mut failing = 0;
+    let mut failing: u64 = 0;
     for proof in LEFT {
-        failing += 1;
+        failing = failing.wrapping_add(1);
         let files = [("f.cnf", FOUR), NO_FILE];
         let words = ["cnf", "f.cnf", "p.rup"];
         let left = left_by(&rt, rt.alloc(), &files, &words, failing);
