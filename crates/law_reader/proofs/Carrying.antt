@@ -32,19 +32,19 @@ module _ (text other : List ℕ) where
   pub nothing_carried : {V W : Type 0} (Q : V → W → Type 0) → Carried text other Nothing Nothing Q
   nothing_carried Q ts us alike v rest p = absurd p
 
-  pub then_carried : {A B C D : Type 0} (R : Production A) (S : A → Production C) (R2 : Production B) (S2 : B → Production D) (Q : A → B → Type 0) (T : C → D → Type 0)
-      → Carried text other R R2 Q → ((a : A) (b : B) → Q a b → Carried text other (S a) (S2 b) T) → Carried text other (R >>= S) (R2 >>= S2) T
-  then_carried R S R2 S2 Q T first second ts us alike v rest p =
+  pub then_carried : {A B C D : Type 0} (R : Production A) (S : A → Production C) (R' : Production B) (S' : B → Production D) (Q : A → B → Type 0) (T : C → D → Type 0)
+      → Carried text other R R' Q → ((a : A) (b : B) → Q a b → Carried text other (S a) (S' b) T) → Carried text other (R >>= S) (R' >>= S') T
+  then_carried R S R' S' Q T first second ts us alike v rest p =
       let f = first ts us alike p.0 p.1 p.2 in
       let g = second p.0 f.0 f.3 p.1 f.1 f.4 v rest p.3 in
       (g.0, g.1, (f.0, f.1, f.2, g.2), g.3, g.4)
 
-  pub map_carried : {A B C D : Type 0} (R : Production A) (f : A → C) (R2 : Production B) (g : B → D) (Q : A → B → Type 0) (T : C → D → Type 0)
-      → Carried text other R R2 Q → ((a : A) (b : B) → Q a b → T (f a) (g b)) → Carried text other (R >>= (λ a. Gives (f a))) (R2 >>= (λ b. Gives (g b))) T
-  map_carried R f R2 g Q T first h = then_carried R (λ a. Gives (f a)) R2 (λ b. Gives (g b)) Q T first (λ a b q. gives_carried (f a) (g b) T (h a b q))
+  pub map_carried : {A B C D : Type 0} (R : Production A) (f : A → C) (R' : Production B) (g : B → D) (Q : A → B → Type 0) (T : C → D → Type 0)
+      → Carried text other R R' Q → ((a : A) (b : B) → Q a b → T (f a) (g b)) → Carried text other (R >>= (λ a. Gives (f a))) (R' >>= (λ b. Gives (g b))) T
+  map_carried R f R' g Q T first h = then_carried R (λ a. Gives (f a)) R' (λ b. Gives (g b)) Q T first (λ a b q. gives_carried (f a) (g b) T (h a b q))
 
-  pub or_carried : {V W : Type 0} (R S : Production V) (R2 S2 : Production W) (Q : V → W → Type 0) → Carried text other R R2 Q → Carried text other S S2 Q → Carried text other (Or R S) (Or R2 S2) Q
-  or_carried R S R2 S2 Q first second ts us alike v rest p = elim p [
+  pub or_carried : {V W : Type 0} (R S : Production V) (R' S' : Production W) (Q : V → W → Type 0) → Carried text other R R' Q → Carried text other S S' Q → Carried text other (Or R S) (Or R' S') Q
+  or_carried R S R' S' Q first second ts us alike v rest p = elim p [
     | inl r ↦ let f = first ts us alike v rest r in (f.0, f.1, inl f.2, f.3, f.4)
     | inr s ↦ let f = second ts us alike v rest s in (f.0, f.1, inr f.2, f.3, f.4)
   ]
@@ -71,21 +71,21 @@ module _ (text other : List ℕ) where
       → Carried text other (IsAny >>= (λ t. F t.kind t)) (IsAny >>= (λ u. G u.kind u)) T
   by_kind F G T each = then_carried IsAny (λ t. F t.kind t) IsAny (λ u. G u.kind u) (AreAlike text other) T any_carried (λ t u a. subst (λ k. Carried text other (F t.kind t) (G k u) T) a.kind (each t.kind t u a))
 
-  separated_carried : {V W : Type 0} (R : Production V) (R2 : Production W) (close : Mark) (Q : V → W → Type 0) → Carried text other R R2 Q → Carried text other (IsSeparated R close) (IsSeparated R2 close) (Pairwise Q)
-  separated_carried R R2 close Q each ts us alike vs rest (last {middle = m} {v = w} t r c) =
+  separated_carried : {V W : Type 0} (R : Production V) (R' : Production W) (close : Mark) (Q : V → W → Type 0) → Carried text other R R' Q → Carried text other (IsSeparated R close) (IsSeparated R' close) (Pairwise Q)
+  separated_carried R R' close Q each ts us alike vs rest (last {middle = m} {v = w} t r c) =
       let f = each ts us alike w m r in
       let g = one_carried (kind.Mark close) m f.1 f.4 t rest c in
       (f.0 ∷ [], g.1, last g.0 f.2 g.2, (f.3, tt), g.4)
-  separated_carried R R2 close Q each ts us alike vs rest (more {middle = m} {next = n} {v = w} {vs = ws} t r c s) =
+  separated_carried R R' close Q each ts us alike vs rest (more {middle = m} {next = n} {v = w} {vs = ws} t r c s) =
       let f = each ts us alike w m r in
       let g = one_carried (kind.Mark mark.Comma) m f.1 f.4 t n c in
-      let h = separated_carried R R2 close Q each n g.1 g.4 ws rest s in
+      let h = separated_carried R R' close Q each n g.1 g.4 ws rest s in
       (f.0 ∷ h.0, h.1, more g.0 f.2 g.2 h.2, (f.3, h.3), h.4)
 
-  pub list_carried : {V W : Type 0} (R : Production V) (R2 : Production W) (close : Mark) (Q : V → W → Type 0) → Carried text other R R2 Q → Carried text other (IsListOf R close) (IsListOf R2 close) (Pairwise Q)
-  list_carried R R2 close Q each ts us alike vs rest p = elim p [
+  pub list_carried : {V W : Type 0} (R : Production V) (R' : Production W) (close : Mark) (Q : V → W → Type 0) → Carried text other R R' Q → Carried text other (IsListOf R close) (IsListOf R' close) (Pairwise Q)
+  list_carried R R' close Q each ts us alike vs rest p = elim p [
     | inl empty ↦ let g = one_carried (kind.Mark close) ts us alike empty.1 rest empty.2 in ([], g.1, inl (refl, g.0, g.2), subst (λ xs. Pairwise Q xs []) (sym empty.0) tt, g.4)
-    | inr some ↦ let f = separated_carried R R2 close Q each ts us alike vs rest some in (f.0, f.1, inr f.2, f.3, f.4)
+    | inr some ↦ let f = separated_carried R R' close Q each ts us alike vs rest some in (f.0, f.1, inr f.2, f.3, f.4)
   ]
 
   -- lists of equal values are equal
