@@ -1,12 +1,12 @@
 //! The folder that the program runs in.
 
 ghost use Rattle.std.specs.Prelude.{◌≡◌, ◌≤◌, []};
-ghost use Rattle.dcsp_outside.specs.Outside.{AddsUpTo};
+ghost use Rattle.dcsp_outside.specs.Outside.{AddsPiece, AddsUpTo};
 ghost use Rattle.abt_files.specs.Faults.{CountsFault};
 
 use crate::open_files::OpenFiles;
 use crate::transfer::read_up_to;
-use dcsp_outside::{Fetched, Folder, FolderError};
+use dcsp_outside::{Fetched, Folder, FolderError, Piece};
 use std::alloc::Global;
 use std::cell::RefCell;
 use std::fs::Files;
@@ -64,6 +64,22 @@ impl<'c, R: Files> RealFolder<'c, R, R::File> {
         read_up_to(&mut file, most, into)
     }
 
+    fn piece(
+        &self,
+        name: &str,
+        from: u64,
+        most: usize,
+        into: &mut Vec<u8>,
+    ) -> Result<Piece, FolderError>
+        requires { most ≤ 65536 }
+        ensures { AddsPiece most into.old.items into.new.items result }
+    {
+        match self.open.try_borrow_mut() {
+            Ok(mut open) => open.read_piece(name, from, most, into),
+            Err(_) => Err(FolderError::Failed),
+        }
+    }
+
     fn make(&self, name: &str) -> Result<(), FolderError> {
         match self.open.try_borrow_mut() {
             Ok(mut open) => open.create(name),
@@ -92,6 +108,19 @@ impl<'c, R: Files> Folder for RealFolder<'c, R, R::File> {
     fn fetch(&mut self, name: &str, most: u64, into: &mut Vec<u8>) -> Result<Fetched, FolderError> {
         match self.read(name, most, into) {
             Ok(fetched) => Ok(fetched),
+            Err(error) => Err(self.counted(error)),
+        }
+    }
+
+    fn fetch_piece(
+        &mut self,
+        name: &str,
+        from: u64,
+        most: usize,
+        into: &mut Vec<u8>,
+    ) -> Result<Piece, FolderError> {
+        match self.piece(name, from, most, into) {
+            Ok(piece) => Ok(piece),
             Err(error) => Err(self.counted(error)),
         }
     }

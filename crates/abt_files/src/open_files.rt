@@ -1,12 +1,13 @@
 //! The files that the program created. They stay open, and what is appended waits until it is much.
 
 ghost use Rattle.std.specs.Prelude.{◌≡◌, ◌+◌, ◌<◌, ◌≤◌, vec_len, IfOk, IfSome};
+ghost use Rattle.dcsp_outside.specs.Outside.{AddsPiece};
 
-use crate::transfer::write_whole;
-use dcsp_outside::FolderError;
+use crate::transfer::{read_piece, write_whole};
+use dcsp_outside::{FolderError, Piece};
 use std::alloc::Global;
 use std::fs::{File, Files};
-use std::io::Write;
+use std::io::{Seek, SeekFrom, Write};
 
 /// How many bytes may wait for one file.
 const MOST_WAITING: usize = 65536;
@@ -107,15 +108,26 @@ fn write_to<W: Write>(file: &mut Option<W>, bytes: &[u8]) -> bool {
     }
 }
 
+/// A file that is read in pieces.
+#[derive(Drop)]
+struct ReadFile<W> {
+    name: String,
+    file: W,
+    /// Where the next piece begins if the file is read on.
+    at: u64,
+}
+
 /// The files that the program created, over the files of the system.
 ///
 /// Nothing is written to the system before much waits, another file is read or something is put on
-/// the output; so a program that is killed may leave a file without its last appends.
+/// the output; so a program that is killed may leave a file without its last appends. The file of the
+/// last piece that was read stays open up to its end.
 #[derive(Drop)]
 pub struct OpenFiles<R, W> {
     alloc: Global,
     system: R,
     files: Vec<OpenFile<W>>,
+    reading: Option<ReadFile<W>>,
 }
 
 impl<R: Files> OpenFiles<R, R::File> {
@@ -125,6 +137,7 @@ impl<R: Files> OpenFiles<R, R::File> {
             alloc,
             system,
             files: Vec::new(alloc),
+            reading: None,
         }
     }
 
@@ -156,6 +169,50 @@ impl<R: Files> OpenFiles<R, R::File> {
         match File::open(&self.system, name) {
             Ok(file) => Ok(file),
             Err(_) => Err(FolderError::Failed),
+        }
+    }
+
+    /// Appends `most` bytes of a name from a place on, or all that are left there where they are fewer,
+    /// once all that waits was written. The file is read on where this goes on from the last piece.
+    pub fn read_piece(
+        &mut self,
+        name: &str,
+        from: u64,
+        most: usize,
+        into: &mut Vec<u8>,
+    ) -> Result<Piece, FolderError>
+        requires { most ≤ 65536 }
+        ensures { AddsPiece most into.old.items into.new.items result }
+    {
+        let mut reading = self.reading_at(name, from)?;
+        let piece = read_piece(&mut reading.file, most, into)?;
+        if piece == Piece::Part {
+            reading.at = from.saturating_add(most as u64);
+            self.reading = Some(reading);
+        }
+        Ok(piece)
+    }
+
+    /// The name's file, which stands at this place: that of the last piece where it stands there.
+    fn reading_at(&mut self, name: &str, from: u64) -> Result<ReadFile<R::File>, FolderError> {
+        let mut reading = match self.reading.take() {
+            Some(reading) if reading.name.as_str() == name => {
+                self.write_waiting()?;
+                reading
+            }
+            _ => self.begin_reading(name)?,
+        };
+        if reading.at != from && reading.file.seek(SeekFrom::Start(from)).is_err() {
+            return Err(FolderError::Failed);
+        }
+        Ok(reading)
+    }
+
+    fn begin_reading(&mut self, name: &str) -> Result<ReadFile<R::File>, FolderError> {
+        let file = self.open(name)?;
+        match String::from_str(self.alloc, name) {
+            Ok(name) => Ok(ReadFile { name, file, at: 0 }),
+            Err(_) => Err(FolderError::Memory),
         }
     }
 

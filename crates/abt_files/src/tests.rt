@@ -2,7 +2,7 @@
 use crate::folder::RealFolder;
 use crate::open_files::OpenFiles;
 use crate::sink::{RealSink, Stream};
-use dcsp_outside::{Fetched, Folder, FolderError, Sink, SinkError};
+use dcsp_outside::{Fetched, Folder, FolderError, Piece, Sink, SinkError};
 use std::alloc::{AllocError, Global};
 use std::cell::RefCell;
 use std::fs;
@@ -23,6 +23,30 @@ fn what_is_appended_is_read_back(rt: HostRuntime) -> Result<(), Fail> {
     assert_eq!(rt; text.as_slice(), b"one two".as_slice());
     fs::remove_file(&rt, name)?;
     assert_eq!(rt; folder.fetch(name, 7, &mut text), Err(FolderError::Failed));
+    Ok(())
+}
+
+#[test]
+fn pieces_go_on_where_the_last_ended(rt: HostRuntime) -> Result<(), Fail> {
+    let name = "pieces_test.txt";
+    let alloc = rt.alloc();
+    let mut text = Vec::new(alloc);
+    let open = RefCell::new(OpenFiles::new(alloc, rt));
+    let mut folder = RealFolder::new(alloc, &open);
+    folder.create(name)?;
+    folder.append(name, b"abcde")?;
+    assert_eq!(rt; folder.fetch_piece(name, 0, 2, &mut text)?, Piece::Part);
+    assert_eq!(rt; folder.fetch_piece(name, 2, 3, &mut text)?, Piece::Part);
+    assert_eq!(rt; folder.fetch_piece(name, 5, 1, &mut text)?, Piece::End);
+    assert_eq!(rt; text.as_slice(), b"abcde".as_slice());
+    assert_eq!(rt; folder.fetch_piece(name, 1, 2, &mut text)?, Piece::Part);
+    assert_eq!(rt; folder.fetch_piece(name, 3, 9, &mut text)?, Piece::End);
+    assert_eq!(rt; text.as_slice(), b"abcdebcde".as_slice());
+    fs::remove_file(&rt, name)?;
+    assert_eq!(rt;
+        folder.fetch_piece(name, 0, 1, &mut text),
+        Err(FolderError::Failed)
+    );
     Ok(())
 }
 

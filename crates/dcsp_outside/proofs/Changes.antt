@@ -1,6 +1,7 @@
 -- How changes of a folder or of a sink add up over several calls.
-use Rattle.std.proofs.Common.{◌≡◌, ℕ, ◌≤◌, List, ◌++◌, Option, Some, None, refl, sym, ap, subst, ◌∙◌, append_assoc, arith}
-use Rattle.dcsp_outside.specs.Outside.{Rose, Told, ChangesName, AddsPartOf}
+use Rattle.std.proofs.Common.{◌≡◌, ℕ, zero, suc, ◌≤◌, List, ◌++◌, Option, Some, None, refl, sym, ap, subst, ◌∙◌, append_assoc, arith}
+use Rattle.std.proofs.Common.{[], ◌∷◌, take, drop, inl, inr}
+use Rattle.dcsp_outside.specs.Outside.{Rose, Told, ChangesName, AddsPartOf, AppendsPartOf, AppendsExactly, IsPrefixOf}
 
 -- what is told of two changes, one after the other
 pub Told-trans : {A : Type 0} (P Q R : A → A → Type 0) → ((x y z : A) → P x y → Q y z → R x z) → (a b c : Option A) → Told a b P → Told b c Q → Told a c R
@@ -57,3 +58,24 @@ Rose-then a b c rose stays = omega (arith, rose, stays)
 -- a count that did not fall and then rose
 pub Rose-after : (a b c : ℕ) → a ≤ b → Rose b c → Rose a c
 Rose-after a b c stays rose = omega (arith, stays, rose)
+
+take_drop : (count : ℕ) (piece : List ℕ) → take count piece ++ drop count piece ≡ piece
+take_drop zero piece = refl
+take_drop (suc count) [] = refl
+take_drop (suc count) (b ∷ piece) = ap (λ l. b ∷ l) (take_drop count piece)
+
+-- first bytes of a piece are a part of it
+pub first_part : (count : ℕ) (piece : List ℕ) → IsPrefixOf (take count piece) piece
+first_part count piece = (drop count piece, take_drop count piece)
+
+-- first bytes of a piece that went last in a sink
+pub adds_part : (count : ℕ) (piece old new : List ℕ) → new ≡ old ++ take count piece → AddsPartOf piece old new
+adds_part count piece old new e = (take count piece, first_part count piece, e)
+
+appends_part : (part piece : List ℕ) → IsPrefixOf part piece → (old new : Option (List ℕ)) → AppendsExactly part old new → AppendsPartOf piece old new
+appends_part [] piece is old new same = inl same
+appends_part (b ∷ part) piece is old new went = inr (b ∷ part, is, went)
+
+-- first bytes of a piece that went last in a file
+pub changes_part : (name : List ℕ) (count : ℕ) (piece : List ℕ) (f g : List ℕ → Option (List ℕ)) → ChangesName name (AppendsExactly (take count piece)) f g → ChangesName name (AppendsPartOf piece) f g
+changes_part name count piece f g changes = ChangesName-weaker name _ _ (appends_part _ piece (first_part count piece)) f g changes

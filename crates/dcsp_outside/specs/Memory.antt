@@ -1,6 +1,5 @@
 -- What the folders and the sink in memory are seen as.
-use Rattle.std.specs.Prelude.{ℕ, ◌==◌, Bool, ◌||◌, List, map, is_none, if◌then◌else◌, refl}
-use Rattle.std.specs.List.{list_any}
+use Rattle.std.specs.Prelude.{ℕ, ◌==◌, Bool, ◌||◌, List, [], ◌∷◌, map, take, Option, Some, None, true, false, Result, Ok, Err, is_none, is_some, unwrap_or, if◌then◌else◌, refl}
 use Rattle.std.specs.Ordering.{nat_cmp}
 use Rattle.std.specs.Cmp.Lexicographic.{slice_cmp}
 use Rattle.std.specs.FinMap.{FinMap, get, from_entries, code}
@@ -10,6 +9,11 @@ use Rattle.std.specs.declared.string.String.{String}
 use Rattle.std.specs.declared.vec.Vec.{Vec}
 use Rattle.std.specs.declared.alloc.Global.{Global}
 use Rattle.std.specs.Coded.{Coded, code_by, coded×, coded_ℕ, coded_list}
+use Rattle.dcsp_outside.specs.declared.call_plan.Failure.{Failure}
+use Rattle.dcsp_outside.specs.declared.folder.FolderError.{FolderError}
+use Rattle.dcsp_outside.specs.declared.folder.FolderError.TheVariants.{Failed, Memory}
+use Rattle.dcsp_outside.specs.declared.sink.SinkError.{SinkError}
+use Rattle.dcsp_outside.specs.declared.sink.SinkError.TheVariants as sink_errors
 use Rattle.dcsp_outside.specs.Outside.{one_more}
 
 -- the bytes of each name that is held
@@ -34,20 +38,37 @@ abbrev pub kept_code : Coded Kept
 kept_code =
     code_by (Files × List (List ℕ)) (coded× files_code (coded_list (coded_list coded_ℕ))) (λ k. (k.files, k.created)) (λ p. record { files = p.0; created = p.1 }) (λ _. refl)
 
--- the calls that were made, the numbers of those that are to fail, and the faults so far
+-- the calls that were made, those that are to fail, and the faults so far
 pub record Calls : Type 0 where
   pub made : ℕ
-  pub failing : List ℕ
+  pub failing : List Failure
   pub faults : ℕ
+
+-- a call that is to fail is stored as the pair of its fields
+abbrev pub failure_code : Coded Failure
+failure_code = code_by (ℕ × ℕ) (coded× coded_ℕ coded_ℕ) (λ f. (f.call, f.kept)) (λ p. record { call = p.0; kept = p.1 }) (λ _. refl)
 
 -- a plan of calls is stored as the tuple of its fields
 abbrev pub calls_code : Coded Calls
 calls_code =
-    code_by (ℕ × (List ℕ × ℕ)) (coded× coded_ℕ (coded× (coded_list coded_ℕ) coded_ℕ)) (λ c. (c.made, (c.failing, c.faults))) (λ p. record { made = p.0; failing = p.1.0; faults = p.1.1 }) (λ _. refl)
+    code_by (ℕ × (List Failure × ℕ)) (coded× coded_ℕ (coded× (coded_list failure_code) coded_ℕ)) (λ c. (c.made, (c.failing, c.faults))) (λ p. record { made = p.0; failing = p.1.0; faults = p.1.1 }) (λ _. refl)
+
+-- how many first bytes of its piece the call keeps, where one of these lets it fail; the first that names it decides
+abbrev pub kept_at : ℕ → List Failure → Option ℕ
+kept_at call [] = None
+kept_at call (failure ∷ failures) = if failure.call == call then Some failure.kept else kept_at call failures
+
+-- the same of the call that comes next
+abbrev pub kept_next : Calls → Option ℕ
+kept_next calls = kept_at (one_more calls.made) calls.failing
 
 -- the call that comes next is to fail
 abbrev pub fails_next : Calls → Bool
-fails_next calls = list_any (λ call. call == one_more calls.made) calls.failing
+fails_next calls = is_some (kept_next calls)
+
+-- the first bytes of a piece that the call that comes next keeps where it fails
+abbrev pub kept_of : Calls → List ℕ → List ℕ
+kept_of calls piece = take (unwrap_or (kept_next calls) 0) piece
 
 -- one more call was made, and one more fault was counted if it failed
 abbrev pub after_call : Calls → Bool → Calls
@@ -61,6 +82,18 @@ pub record FolderState : Type 0 where
 -- a folder's state is stored as the pair of its fields
 abbrev pub folder_code : Coded FolderState
 folder_code = code_by (Kept × Calls) (coded× kept_code calls_code) (λ f. (f.kept, f.calls)) (λ p. record { kept = p.0; calls = p.1 }) (λ _. refl)
+
+-- whether the folder failed
+abbrev pub is_failure : {T : Type 0} → Result T FolderError → Bool
+is_failure (Ok done) = false
+is_failure (Err Failed) = true
+is_failure (Err Memory) = false
+
+-- whether the sink failed
+abbrev pub is_put_failure : {T : Type 0} → Result T SinkError → Bool
+is_put_failure (Ok done) = false
+is_put_failure (Err sink_errors.Failed) = true
+is_put_failure (Err sink_errors.Memory) = false
 
 -- a fetch fails if its call is to fail, or if the name is not held
 abbrev pub fails_fetch : FolderState → List ℕ → Bool

@@ -1,7 +1,9 @@
 -- What the calls of a folder and of a sink do.
-use Rattle.std.specs.Prelude.{◌≡◌, ◌≢◌, ℕ, ◌+◌, ◌-◌, ◌^◌, ◌<◌, ◌≤◌, min, List, [], ◌++◌, length, ◌⊎◌, Option, Some, None, unwrap_or, Result, Ok, Err, ⊤}
+use Rattle.std.specs.Prelude.{◌≡◌, ◌≢◌, ℕ, ◌+◌, ◌-◌, ◌^◌, ◌<◌, ◌≤◌, min, List, [], ◌∷◌, ◌++◌, length, take, drop, ◌⊎◌, Option, Some, None, unwrap_or, Result, Ok, Err, ⊤}
 use Rattle.dcsp_outside.specs.declared.folder.Fetched.{Fetched}
 use Rattle.dcsp_outside.specs.declared.folder.Fetched.TheVariants.{Whole, Long}
+use Rattle.dcsp_outside.specs.declared.folder.Piece.{Piece}
+use Rattle.dcsp_outside.specs.declared.folder.Piece.TheVariants.{Part, End}
 use Rattle.dcsp_outside.specs.declared.folder.FolderError.{FolderError}
 use Rattle.dcsp_outside.specs.declared.folder.FolderError.TheVariants as folder_errors
 use Rattle.dcsp_outside.specs.declared.sink.SinkError.{SinkError}
@@ -87,3 +89,20 @@ abbrev pub AddsUpTo : ℕ → List ℕ → List ℕ → Result Fetched FolderErr
 AddsUpTo most old new (Ok Whole) = (bytes : List ℕ) × (length bytes ≤ most) × (new ≡ old ++ bytes)
 AddsUpTo most old new (Ok Long) = new ≡ old
 AddsUpTo most old new (Err e) = new ≡ old
+
+-- a fetch of a piece of these bytes: `most` of them from a place on go last, or all that are left there where they are fewer, or it is refused
+abbrev pub FetchesPiece : List ℕ → ℕ → ℕ → List ℕ → List ℕ → Result Piece FolderError → Type 0
+FetchesPiece bytes from most old new (Ok Part) = (from + most ≤ length bytes) × (new ≡ old ++ take most (drop from bytes))
+FetchesPiece bytes from most old new (Ok End) = (length bytes < from + most) × (new ≡ old ++ drop from bytes)
+FetchesPiece bytes from most old new (Err e) = new ≡ old
+
+-- whatever a folder holds, a piece has `most` bytes, or fewer where the bytes end
+abbrev pub AddsPiece : ℕ → List ℕ → List ℕ → Result Piece FolderError → Type 0
+AddsPiece most old new (Ok Part) = (bytes : List ℕ) × (length bytes ≡ most) × (new ≡ old ++ bytes)
+AddsPiece most old new (Ok End) = (bytes : List ℕ) × (length bytes < most) × (new ≡ old ++ bytes)
+AddsPiece most old new (Err e) = new ≡ old
+
+-- exactly these bytes went last in a file; without any it is as it was
+abbrev pub AppendsExactly : List ℕ → Option (List ℕ) → Option (List ℕ) → Type 0
+AppendsExactly [] old new = new ≡ old
+AppendsExactly (b ∷ bytes) old new = new ≡ Some (bytes_of old ++ b ∷ bytes)

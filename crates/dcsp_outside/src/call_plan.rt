@@ -2,17 +2,26 @@
 
 ghost use Rattle.std.specs.Prelude.{◌≡◌, ◌≤◌, [], ◌∷◌, ◌++◌, OnOk, OnErr};
 ghost use Rattle.dcsp_outside.specs.Outside.{one_more};
-ghost use Rattle.dcsp_outside.specs.Memory.{fails_next};
+ghost use Rattle.dcsp_outside.specs.Memory.{kept_at, kept_next};
 
 use dcsp_list::Memory;
 use std::alloc::Global;
 use std::marker::Model;
 
+/// A call that is to fail.
+#[derive(Clone, Copy)]
+pub struct Failure {
+    /// Its number, counted from 1.
+    pub call: u64,
+    /// How many first bytes of its piece are kept.
+    pub kept: usize,
+}
+
 /// Calls are counted from 1. Both counts stay at their type's last value.
 #[derive(Drop)]
 pub struct CallPlan {
     made: u64,
-    failing: Vec<u64>,
+    failing: Vec<Failure>,
     faults: u64,
 }
 
@@ -36,24 +45,36 @@ impl CallPlan {
         }
     }
 
-    /// Lets call number `call` fail.
-    pub fn fail_at(&mut self, call: u64) -> Result<(), Memory>
-        ensures ok { OnOk result (self.new ≡ record self.old { failing = self.old.failing ++ call ∷ [] }) }
+    /// Lets a call fail.
+    pub fn add(&mut self, failure: Failure) -> Result<(), Memory>
+        ensures ok { OnOk result (self.new ≡ record self.old { failing = self.old.failing ++ failure ∷ [] }) }
         ensures err { OnErr result (self.new ≡ self.old) }
     {
-        match self.failing.push(call) {
+        match self.failing.push(failure) {
             Ok(()) => Ok(()),
             Err(_) => Err(Memory),
         }
     }
 
-    /// Counts one more call, and tells whether it is to fail.
-    pub fn count_call(&mut self) -> bool
-        ensures fails { result ≡ fails_next self.old }
+    /// Counts one more call. Where it is to fail, tells how many first bytes of its piece are kept.
+    pub fn count_call(&mut self) -> Option<usize>
+        ensures kept { result ≡ kept_next self.old }
         ensures counted { self.new ≡ record self.old { made = one_more self.old.made } }
     {
         self.made = self.made.saturating_add(1);
-        self.failing.contains(&self.made)
+        self.kept_at(self.made)
+    }
+
+    /// How many first bytes the call with this number keeps, if it is to fail.
+    fn kept_at(&self, call: u64) -> Option<usize>
+        ensures { result ≡ kept_at call self.now.failing }
+    {
+        for failure in &self.failing {
+            if failure.call == call {
+                return Some(failure.kept);
+            }
+        }
+        None
     }
 
     /// Counts one more fault.

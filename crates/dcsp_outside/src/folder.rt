@@ -1,7 +1,7 @@
 //! A folder of named bytes.
 
-ghost use Rattle.std.specs.Prelude.{◌≡◌, [], ◌∷◌, ◌++◌, ◌⊎◌, IfSome, OnOk, IsErrOf, Contains, is_ok, if◌then◌else◌};
-ghost use Rattle.dcsp_outside.specs.Outside.{Place, Rose, NoneFalls, SameCounts, UnlessFailed, Told, ChangesName, AppendsPartOf, Fetches, AddsUpTo, bytes_of};
+ghost use Rattle.std.specs.Prelude.{◌≡◌, ◌^◌, ◌≤◌, [], ◌∷◌, ◌++◌, ◌⊎◌, IfSome, OnOk, IsErrOf, Contains, is_ok, if◌then◌else◌};
+ghost use Rattle.dcsp_outside.specs.Outside.{Place, Rose, NoneFalls, SameCounts, UnlessFailed, Told, ChangesName, AppendsPartOf, Fetches, AddsUpTo, FetchesPiece, AddsPiece, bytes_of};
 
 /// What a fetch found.
 #[derive(Clone, Copy, Debug, PartialEq, Eq)]
@@ -11,6 +11,18 @@ pub enum Fetched {
     /// The name has more bytes than were asked for, and none was appended.
     Long,
 }
+
+/// What a fetch of a piece found.
+#[derive(Clone, Copy, Debug, PartialEq, Eq)]
+pub enum Piece {
+    /// The name has as many bytes as were asked for, and these were appended.
+    Part,
+    /// Fewer are left, maybe none, and all of them were appended.
+    End,
+}
+
+/// The most bytes that a fetch of a piece may ask for.
+pub const MOST_PIECE: usize = 65536;
 
 /// Why a call on a folder was refused.
 #[derive(Clone, Copy, Debug, PartialEq, Eq)]
@@ -37,6 +49,31 @@ pub trait Folder {
         ensures bytes { IfSome (place self.old).held
             (λ files. Fetches (bytes_of (files name.now)) most into.old.items into.new.items result) }
         ensures adds { AddsUpTo most into.old.items into.new.items result }
+        ensures held { (place self.new).held ≡ (place self.old).held }
+        ensures created { (place self.new).created ≡ (place self.old).created }
+        ensures reads { NoneFalls (place self.old).reads (place self.new).reads }
+        ensures writes { NoneFalls (place self.old).writes (place self.new).writes }
+        ensures counts { UnlessFailed result (SameCounts (place self.old) (place self.new)) }
+        ensures cause { IsErrOf result FolderError.Failed
+            → Rose ((place self.old).reads name.now) ((place self.new).reads name.now) };
+
+    /// Appends `most` bytes of the name, counted from place `from` on, to `into`; where fewer are left
+    /// there, all of those.
+    ///
+    /// A name that is not held reads as empty, or fails.
+    fn fetch_piece(
+        &mut self,
+        name: &str,
+        from: u64,
+        most: usize,
+        into: &mut Vec<u8>,
+    ) -> Result<Piece, FolderError>
+        requires some { 1 ≤ most }
+        requires few { most ≤ MOST_PIECE }
+        requires place { from ≤ 2 ^ 62 }
+        ensures bytes { IfSome (place self.old).held
+            (λ files. FetchesPiece (bytes_of (files name.now)) from most into.old.items into.new.items result) }
+        ensures adds { AddsPiece most into.old.items into.new.items result }
         ensures held { (place self.new).held ≡ (place self.old).held }
         ensures created { (place self.new).created ≡ (place self.old).created }
         ensures reads { NoneFalls (place self.old).reads (place self.new).reads }

@@ -1,12 +1,12 @@
 //! What a folder in memory keeps, and how it changes.
 
-ghost use Rattle.std.specs.Prelude.{◌≡◌, ℕ, ◌≤◌, [], ◌∷◌, ◌++◌, length, OnOk, OnErr, IsErrOf};
+ghost use Rattle.std.specs.Prelude.{◌≡◌, ℕ, ◌≤◌, [], ◌∷◌, ◌++◌, length, OnOk, OnErr, IsErrOf, take, drop};
 ghost use Rattle.std.specs.Option.{option_copied};
 ghost use Rattle.std.specs.FinMap as map;
-ghost use Rattle.dcsp_outside.specs.Outside.{ChangesName, Fetches, bytes_of};
+ghost use Rattle.dcsp_outside.specs.Outside.{ChangesName, Fetches, FetchesPiece, bytes_of};
 
 use crate::file_table::FileTable;
-use crate::folder::{Fetched, FolderError};
+use crate::folder::{Fetched, FolderError, Piece};
 use dcsp_list::Memory;
 use std::alloc::Global;
 use std::marker::Model;
@@ -98,8 +98,60 @@ pub fn fetch_bytes(bytes: &[u8], most: u64, into: &mut Vec<u8>) -> Result<Fetche
     if bytes.len() as u64 > most {
         return Ok(Fetched::Long);
     }
+    extend(into, bytes)?;
+    Ok(Fetched::Whole)
+}
+
+/// Appends `most` of the bytes from place `from` on, or all that are left there where they are fewer.
+pub fn fetch_piece_of(
+    bytes: &[u8],
+    from: u64,
+    most: usize,
+    into: &mut Vec<u8>,
+) -> Result<Piece, FolderError>
+    requires some { 1 ≤ most }
+    ensures bytes { FetchesPiece bytes.now from most into.old.items into.new.items result }
+    ensures never_fails { IsErrOf result FolderError.Failed → ⊥ }
+{
+    let rest = rest_from(bytes, from);
+    if rest.len() < most {
+        extend(into, rest)?;
+        return Ok(Piece::End);
+    }
+    extend(into, &rest[..most])?;
+    Ok(Piece::Part)
+}
+
+/// Appends the bytes.
+fn extend(into: &mut Vec<u8>, bytes: &[u8]) -> Result<(), FolderError>
+    ensures ok { OnOk result (into.new.items ≡ into.old.items ++ bytes.now) }
+    ensures err { OnErr result (into.new.items ≡ into.old.items) }
+    ensures never_fails { IsErrOf result FolderError.Failed → ⊥ }
+{
     match into.extend_from_slice(bytes) {
-        Ok(()) => Ok(Fetched::Whole),
+        Ok(()) => Ok(()),
         Err(_) => Err(FolderError::Memory),
+    }
+}
+
+/// The bytes from a place on; none where there are fewer.
+fn rest_from(bytes: &[u8], from: u64) -> &[u8]
+    ensures { result.now ≡ drop from bytes.now }
+{
+    if from < bytes.len() as u64 {
+        &bytes[from as usize..]
+    } else {
+        &[]
+    }
+}
+
+/// The first bytes, as many as this or all where they are fewer.
+pub fn first_of(bytes: &[u8], count: usize) -> &[u8]
+    ensures { result.now ≡ take count bytes.now }
+{
+    if count < bytes.len() {
+        &bytes[..count]
+    } else {
+        bytes
     }
 }

@@ -17,7 +17,7 @@ mod sure_sink;
 mod tests;
 
 pub use dcsp_list::Memory;
-pub use folder::{Fetched, Folder, FolderError};
+pub use folder::{Fetched, Folder, FolderError, MOST_PIECE, Piece};
 pub use memory_folder::MemoryFolder;
 pub use memory_sink::MemorySink;
 pub use sink::{Sink, SinkError};

@@ -1,23 +1,24 @@
 //! A folder in memory whose calls can be made to fail.
 
-ghost use Rattle.std.specs.Prelude.{◌≡◌, ℕ, ◌≤◌, ◌↔◌, [], ◌∷◌, ◌++◌, ◌||◌, OnOk, OnErr, IsErrOf, IsTrue};
+ghost use Rattle.std.specs.Prelude.{◌≡◌, ℕ, ◌≤◌, ◌↔◌, [], ◌∷◌, ◌++◌, ◌||◌, OnOk, OnErr, IsErrOf, IsTrue, Some, false};
 ghost use Rattle.std.specs.Option.{option_copied};
 ghost use Rattle.std.specs.FinMap as map;
-ghost use Rattle.dcsp_outside.specs.Outside.{ChangesName, Fetches, bytes_of};
-ghost use Rattle.dcsp_outside.specs.Memory.{fails_next, fails_fetch, after_call};
+ghost use Rattle.dcsp_outside.specs.Outside.{ChangesName, AppendsExactly, AppendsPartOf, Fetches, FetchesPiece, bytes_of};
+ghost use Rattle.dcsp_outside.specs.Memory.{fails_next, fails_fetch, kept_of, is_failure, after_call};
 
-use crate::call_plan::CallPlan;
-use crate::folder::{Fetched, Folder, FolderError};
-use crate::kept_files::{KeptFiles, fetch_bytes};
+use crate::call_plan::{CallPlan, Failure};
+use crate::folder::{Fetched, Folder, FolderError, Piece};
+use crate::kept_files::{KeptFiles, fetch_bytes, fetch_piece_of, first_of};
 use dcsp_list::Memory;
 use std::alloc::Global;
 use std::marker::Model;
 
 /// A folder in memory whose calls can be made to fail.
 ///
-/// Calls of `fetch`, `create` and `append` are counted together, from 1 up to `2^64 - 1`, where
-/// the number stays. A call fails exactly where [`MemoryFolder::fail_at`] named its number, or
-/// where it fetches a name that is not held; a call that fails changes nothing but the counts.
+/// Calls of `fetch`, `fetch_piece`, `create` and `append` are counted together, from 1 up to
+/// `2^64 - 1`, where the number stays. A call fails exactly where [`MemoryFolder::fail_at`] or
+/// [`MemoryFolder::fail_after`] named its number, or where it fetches a name that is not held. It
+/// then changes nothing but the counts, but for the bytes that `fail_after` lets an append keep.
 #[derive(Drop)]
 pub struct MemoryFolder {
     kept: KeptFiles,
@@ -67,12 +68,25 @@ impl MemoryFolder {
     /// Lets call number `call` fail, counted from 1.
     pub fn fail_at(&mut self, call: u64) -> Result<(), Memory>
         ensures ok { OnOk result (self.new.calls ≡ record self.old.calls {
-          failing = self.old.calls.failing ++ call ∷ [];
+          failing = self.old.calls.failing ++ record { call = call; kept = 0 } ∷ [];
         }) }
         ensures err { OnErr result (self.new.calls ≡ self.old.calls) }
         ensures kept { self.new.kept ≡ self.old.kept }
     {
-        self.calls.fail_at(call)
+        self.fail_after(call, 0)
+    }
+
+    /// Lets call number `call` fail, counted from 1. Where it is an append, the first `kept` bytes of
+    /// its piece go last, or all where they are fewer; for want of memory for these it answers `Memory`.
+    /// Where a call is named twice, the first counts.
+    pub fn fail_after(&mut self, call: u64, kept: usize) -> Result<(), Memory>
+        ensures ok { OnOk result (self.new.calls ≡ record self.old.calls {
+          failing = self.old.calls.failing ++ record { call = call; kept = kept } ∷ [];
+        }) }
+        ensures err { OnErr result (self.new.calls ≡ self.old.calls) }
+        ensures kept { self.new.kept ≡ self.old.kept }
+    {
+        self.calls.add(Failure { call, kept })
     }
 
     /// How many calls have failed, up to `2^64 - 1`, where the number stays.
@@ -80,6 +94,51 @@ impl MemoryFolder {
         ensures { result ≡ self.now.calls.faults }
     {
         self.calls.faults()
+    }
+
+    /// Counts a call that reads the name, and tells whether it fails.
+    fn fails_fetch(&mut self, name: &str) -> bool
+        ensures fails { result ≡ fails_fetch self.old name.now }
+        ensures calls { self.new.calls ≡ after_call self.old.calls (fails_fetch self.old name.now) }
+        ensures never_falls { self.old.calls.faults ≤ self.new.calls.faults }
+        ensures kept { self.new.kept ≡ self.old.kept }
+    {
+        let is_named = self.calls.count_call().is_some();
+        if is_named || self.kept.file(name).is_none() {
+            self.calls.count_fault();
+            return true;
+        }
+        false
+    }
+
+    /// Lets these bytes go last in the name. Where there are none, it stays as it was.
+    fn add_part(&mut self, name: &str, bytes: &[u8]) -> Result<(), FolderError>
+        ensures ok { OnOk result (ChangesName name.now (AppendsExactly bytes.now)
+            (map.get self.old.kept.files) (map.get self.new.kept.files)) }
+        ensures err { OnErr result (self.new.kept ≡ self.old.kept) }
+        ensures memory { IsErrOf result FolderError.Failed → ⊥ }
+        ensures created { self.new.kept.created ≡ self.old.kept.created }
+        ensures calls { self.new.calls ≡ self.old.calls }
+    {
+        if bytes.is_empty() {
+            return Ok(());
+        }
+        self.add(name, bytes)
+    }
+
+    /// Lets these bytes go last in the name.
+    fn add(&mut self, name: &str, bytes: &[u8]) -> Result<(), FolderError>
+        ensures ok { OnOk result (ChangesName name.now (λ old new. new ≡ Some (bytes_of old ++ bytes.now))
+            (map.get self.old.kept.files) (map.get self.new.kept.files)) }
+        ensures err { OnErr result (self.new.kept ≡ self.old.kept) }
+        ensures memory { IsErrOf result FolderError.Failed → ⊥ }
+        ensures created { self.new.kept.created ≡ self.old.kept.created }
+        ensures calls { self.new.calls ≡ self.old.calls }
+    {
+        match self.kept.append(name, bytes) {
+            Ok(()) => Ok(()),
+            Err(Memory) => Err(FolderError::Memory),
+        }
     }
 }
 
@@ -102,13 +161,31 @@ impl Folder for MemoryFolder {
         ensures never_falls { self.old.calls.faults ≤ self.new.calls.faults }
         ensures kept { self.new.kept ≡ self.old.kept }
     {
-        let is_named = self.calls.count_call();
-        let file = if is_named { None } else { self.kept.file(name) };
-        let Some(bytes) = file else {
-            self.calls.count_fault();
+        if self.fails_fetch(name) {
             return Err(FolderError::Failed);
-        };
-        fetch_bytes(bytes, most, into)
+        }
+        fetch_bytes(self.kept.file(name).unwrap_or(&[]), most, into)
+    }
+
+    fn fetch_piece(
+        &mut self,
+        name: &str,
+        from: u64,
+        most: usize,
+        into: &mut Vec<u8>,
+    ) -> Result<Piece, FolderError>
+        requires some { 1 ≤ most }
+        ensures bytes { FetchesPiece (bytes_of (map.get self.old.kept.files name.now)) from most
+            into.old.items into.new.items result }
+        ensures fails { IsErrOf result FolderError.Failed ↔ IsTrue (fails_fetch self.old name.now) }
+        ensures calls { self.new.calls ≡ after_call self.old.calls (fails_fetch self.old name.now) }
+        ensures never_falls { self.old.calls.faults ≤ self.new.calls.faults }
+        ensures kept { self.new.kept ≡ self.old.kept }
+    {
+        if self.fails_fetch(name) {
+            return Err(FolderError::Failed);
+        }
+        fetch_piece_of(self.kept.file(name).unwrap_or(&[]), from, most, into)
     }
 
     fn create(&mut self, name: &str) -> Result<(), FolderError>
@@ -121,7 +198,7 @@ impl Folder for MemoryFolder {
             (self.new.kept.created ≡ self.old.kept.created ++ name.now ∷ []) }
         ensures err { OnErr result (self.new.kept ≡ self.old.kept) }
     {
-        if self.calls.count_call() {
+        if self.calls.count_call().is_some() {
             self.calls.count_fault();
             return Err(FolderError::Failed);
         }
@@ -132,21 +209,25 @@ impl Folder for MemoryFolder {
     }
 
     fn append(&mut self, name: &str, bytes: &[u8]) -> Result<(), FolderError>
-        ensures fails { IsErrOf result FolderError.Failed ↔ IsTrue (fails_next self.old.calls) }
-        ensures calls { self.new.calls ≡ after_call self.old.calls (fails_next self.old.calls) }
+        ensures goes_through { OnOk result (fails_next self.old.calls ≡ false) }
+        ensures fails { IsErrOf result FolderError.Failed → IsTrue (fails_next self.old.calls) }
+        ensures calls { self.new.calls ≡ after_call self.old.calls (is_failure result) }
         ensures never_falls { self.old.calls.faults ≤ self.new.calls.faults }
         ensures ok { OnOk result (ChangesName name.now (λ old new. new ≡ Some (bytes_of old ++ bytes.now))
             (map.get self.old.kept.files) (map.get self.new.kept.files)) }
         ensures created { self.new.kept.created ≡ self.old.kept.created }
-        ensures err { OnErr result (self.new.kept ≡ self.old.kept) }
+        ensures failed { IsErrOf result FolderError.Failed
+            → ChangesName name.now (AppendsExactly (kept_of self.old.calls bytes.now))
+            (map.get self.old.kept.files) (map.get self.new.kept.files) }
+        ensures part { IsErrOf result FolderError.Failed → ChangesName name.now (AppendsPartOf bytes.now)
+            (map.get self.old.kept.files) (map.get self.new.kept.files) }
+        ensures memory { IsErrOf result FolderError.Memory → self.new.kept ≡ self.old.kept }
     {
-        if self.calls.count_call() {
-            self.calls.count_fault();
-            return Err(FolderError::Failed);
-        }
-        match self.kept.append(name, bytes) {
-            Ok(()) => Ok(()),
-            Err(Memory) => Err(FolderError::Memory),
-        }
+        let Some(kept) = self.calls.count_call() else {
+            return self.add(name, bytes);
+        };
+        self.add_part(name, first_of(bytes, kept))?;
+        self.calls.count_fault();
+        Err(FolderError::Failed)
     }
 }

@@ -1,9 +1,11 @@
 //! A sink in memory whose calls can be made to fail.
 
-ghost use Rattle.std.specs.Prelude.{◌≡◌, ℕ, ◌≤◌, ◌↔◌, [], ◌∷◌, ◌++◌, OnOk, OnErr, IsErrOf, IsTrue};
-ghost use Rattle.dcsp_outside.specs.Memory.{fails_next, after_call};
+ghost use Rattle.std.specs.Prelude.{◌≡◌, ℕ, ◌≤◌, ◌↔◌, [], ◌∷◌, ◌++◌, OnOk, OnErr, IsErrOf, IsTrue, false};
+ghost use Rattle.dcsp_outside.specs.Outside.{AddsPartOf};
+ghost use Rattle.dcsp_outside.specs.Memory.{fails_next, kept_of, is_put_failure, after_call};
 
-use crate::call_plan::CallPlan;
+use crate::call_plan::{CallPlan, Failure};
+use crate::kept_files::first_of;
 use crate::sink::{Sink, SinkError};
 use dcsp_list::Memory;
 use std::alloc::Global;
@@ -12,7 +14,8 @@ use std::marker::Model;
 /// A sink in memory whose calls can be made to fail.
 ///
 /// Calls of `put` are counted from 1 up to `2^64 - 1`, where the number stays. A call fails exactly
-/// where [`MemorySink::fail_at`] named its number, and then writes nothing.
+/// where [`MemorySink::fail_at`] or [`MemorySink::fail_after`] named its number, and then writes
+/// nothing but what `fail_after` lets it keep.
 #[derive(Drop)]
 pub struct MemorySink {
     written: Vec<u8>,
@@ -20,6 +23,7 @@ pub struct MemorySink {
 }
 
 impl Model for MemorySink {
+    ghost use Rattle.dcsp_outside.specs.Outside.{AddsPartOf};
     ghost use Rattle.dcsp_outside.specs.Memory.{SinkState};
 
     ghost Value = { SinkState };
@@ -49,12 +53,25 @@ impl MemorySink {
     /// Lets call number `call` fail, counted from 1.
     pub fn fail_at(&mut self, call: u64) -> Result<(), Memory>
         ensures ok { OnOk result (self.new.calls ≡ record self.old.calls {
-          failing = self.old.calls.failing ++ call ∷ [];
+          failing = self.old.calls.failing ++ record { call = call; kept = 0 } ∷ [];
         }) }
         ensures err { OnErr result (self.new.calls ≡ self.old.calls) }
         ensures written { self.new.written ≡ self.old.written }
     {
-        self.calls.fail_at(call)
+        self.fail_after(call, 0)
+    }
+
+    /// Lets call number `call` fail, counted from 1. The first `kept` bytes of its piece are written
+    /// last, or all where they are fewer; for want of memory for these it answers `Memory`. Where a call
+    /// is named twice, the first counts.
+    pub fn fail_after(&mut self, call: u64, kept: usize) -> Result<(), Memory>
+        ensures ok { OnOk result (self.new.calls ≡ record self.old.calls {
+          failing = self.old.calls.failing ++ record { call = call; kept = kept } ∷ [];
+        }) }
+        ensures err { OnErr result (self.new.calls ≡ self.old.calls) }
+        ensures written { self.new.written ≡ self.old.written }
+    {
+        self.calls.add(Failure { call, kept })
     }
 
     /// How many calls have failed, up to `2^64 - 1`, where the number stays.
@@ -62,6 +79,19 @@ impl MemorySink {
         ensures { result ≡ self.now.calls.faults }
     {
         self.calls.faults()
+    }
+
+    /// Writes the bytes last.
+    fn write(&mut self, bytes: &[u8]) -> Result<(), SinkError>
+        ensures ok { OnOk result (self.new.written ≡ self.old.written ++ bytes.now) }
+        ensures err { OnErr result (self.new.written ≡ self.old.written) }
+        ensures memory { IsErrOf result SinkError.Failed → ⊥ }
+        ensures calls { self.new.calls ≡ self.old.calls }
+    {
+        match self.written.extend_from_slice(bytes) {
+            Ok(()) => Ok(()),
+            Err(_) => Err(SinkError::Memory),
+        }
     }
 }
 
@@ -71,19 +101,22 @@ impl Sink for MemorySink {
     ghost stream = { λ sink. record { written = Some sink.written; faults = sink.calls.faults } };
 
     fn put(&mut self, bytes: &[u8]) -> Result<(), SinkError>
-        ensures fails { IsErrOf result SinkError.Failed ↔ IsTrue (fails_next self.old.calls) }
-        ensures calls { self.new.calls ≡ after_call self.old.calls (fails_next self.old.calls) }
+        ensures goes_through { OnOk result (fails_next self.old.calls ≡ false) }
+        ensures fails { IsErrOf result SinkError.Failed → IsTrue (fails_next self.old.calls) }
+        ensures calls { self.new.calls ≡ after_call self.old.calls (is_put_failure result) }
         ensures never_falls { self.old.calls.faults ≤ self.new.calls.faults }
         ensures ok { OnOk result (self.new.written ≡ self.old.written ++ bytes.now) }
-        ensures err { OnErr result (self.new.written ≡ self.old.written) }
+        ensures failed { IsErrOf result SinkError.Failed
+            → self.new.written ≡ self.old.written ++ kept_of self.old.calls bytes.now }
+        ensures part { IsErrOf result SinkError.Failed
+            → AddsPartOf bytes.now self.old.written self.new.written }
+        ensures memory { IsErrOf result SinkError.Memory → self.new.written ≡ self.old.written }
     {
-        if self.calls.count_call() {
-            self.calls.count_fault();
-            return Err(SinkError::Failed);
-        }
-        match self.written.extend_from_slice(bytes) {
-            Ok(()) => Ok(()),
-            Err(_) => Err(SinkError::Memory),
-        }
+        let Some(kept) = self.calls.count_call() else {
+            return self.write(bytes);
+        };
+        self.write(first_of(bytes, kept))?;
+        self.calls.count_fault();
+        Err(SinkError::Failed)
     }
 }

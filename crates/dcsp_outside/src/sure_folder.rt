@@ -1,12 +1,12 @@
 //! A folder in memory that never fails.
 
-ghost use Rattle.std.specs.Prelude.{◌≡◌, ℕ, [], ◌∷◌, ◌++◌, OnOk, OnErr, IsErrOf};
+ghost use Rattle.std.specs.Prelude.{◌≡◌, ◌≤◌, ℕ, [], ◌∷◌, ◌++◌, OnOk, OnErr, IsErrOf};
 ghost use Rattle.std.specs.Option.{option_copied};
 ghost use Rattle.std.specs.FinMap as map;
-ghost use Rattle.dcsp_outside.specs.Outside.{ChangesName, Fetches, bytes_of};
+ghost use Rattle.dcsp_outside.specs.Outside.{ChangesName, Fetches, FetchesPiece, bytes_of};
 
-use crate::folder::{Fetched, Folder, FolderError};
-use crate::kept_files::{KeptFiles, fetch_bytes};
+use crate::folder::{Fetched, Folder, FolderError, Piece};
+use crate::kept_files::{KeptFiles, fetch_bytes, fetch_piece_of};
 use dcsp_list::Memory;
 use std::alloc::Global;
 use std::marker::Model;
@@ -73,6 +73,22 @@ impl Folder for SureFolder {
         ensures kept { self.new ≡ self.old }
     {
         fetch_bytes(self.kept.file(name).unwrap_or(&[]), most, into)
+    }
+
+    fn fetch_piece(
+        &mut self,
+        name: &str,
+        from: u64,
+        most: usize,
+        into: &mut Vec<u8>,
+    ) -> Result<Piece, FolderError>
+        requires some { 1 ≤ most }
+        ensures bytes { FetchesPiece (bytes_of (map.get self.old.files name.now)) from most
+            into.old.items into.new.items result }
+        ensures never_fails { IsErrOf result FolderError.Failed → ⊥ }
+        ensures kept { self.new ≡ self.old }
+    {
+        fetch_piece_of(self.kept.file(name).unwrap_or(&[]), from, most, into)
     }
 
     fn create(&mut self, name: &str) -> Result<(), FolderError>
