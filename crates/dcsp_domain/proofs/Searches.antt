@@ -1,5 +1,5 @@
 -- What a binary search says of a rising list.
-use Rattle.std.proofs.Common.{◌≡◌, ℕ, ◌+◌, ◌<◌, ◌≤◌, Bool, true, false, List, length, get_or, refl, sym, ap, ◌∙◌, arith, rules, inl, inr, ◌⊎◌}
+use Rattle.std.proofs.Common.{◌≡◌, ℕ, zero, suc, ◌+◌, ◌<◌, ◌≤◌, Bool, true, false, List, [], ◌∷◌, slice_get, Option, None, Some, IfSome, length, get_or, refl, sym, ap, ◌∙◌, arith, rules, inl, inr, ◌⊎◌}
 use Rattle.std.specs.Prelude.{ℤ, ◌<ℤ◌, Contains, is_some, Result, Ok, Err}
 use Rattle.std.specs.Result.{result_ok}
 use Rattle.std.specs.List.Sorted.{IsSorted, IsSearchInRange, IsBinarySearchResult, IsStrictlySortedBy}
@@ -7,6 +7,7 @@ use Rattle.std.specs.Ordering.{int_cmp, is_lt}
 use Rattle.std.specs.declared.cmp.Ordering.TheVariants.{Less, Equal}
 use Rattle.std.proofs.lemmas.Cmp.{int_cmp_total}
 use Rattle.std.proofs.lemmas.Int.{ints}
+use Rattle.std.proofs.lemmas.Option.{get_or_from_slice_get}
 use Rattle.std.proofs.lemmas.List.Sorted.{searchable_from_sorted}
 use Rattle.std.proofs.lemmas.Map.Keys.{Less-from_sorted}
 use Rattle.dcsp_domain.specs.Sets.{IsRising, has}
@@ -48,3 +49,13 @@ search_finds xs v (Err i) up bound split =
       absent : (t : Bool) → has xs v ≡ t → (Contains xs v → ⊥) → false ≡ t
       absent false e nowhere = refl
       absent true e nowhere = absurd (nowhere ((has_decides xs v).0 e))
+
+within : (xs : List ℤ) (k : ℕ) (v : ℤ) → slice_get xs k ≡ Some v → k < length xs
+within [] k v h = absurd cc
+within (x ∷ xs) zero v h = omega arith
+within (x ∷ xs) (suc k) v h = let l = within xs k v h in omega (arith, l)
+
+-- a value that stands at a place is one of the list's
+pub found_there : (xs : List ℤ) (v : ℤ) (place : Option ℕ) → is_some place ≡ true → IfSome place (λ k. slice_get xs k ≡ Some v) → is_some place ≡ has xs v
+found_there xs v None e h = absurd cc
+found_there xs v (Some k) e h = sym ((has_decides xs v).1 (k, within xs k v h, get_or_from_slice_get xs k v v h))

@@ -131,8 +131,33 @@ impl Domain {
         ensures found { IfSome result (λ place. slice_get self.now place ≡ Some value) }
         ensures has { is_some result ≡ has self.now value }
     {
-        self.values.binary_search(&value).ok()
+        place_in(&self.values, value)
     }
+}
+
+/// The place of a value among rising ones.
+fn place_in(values: &[i64], value: i64) -> Option<usize>
+    requires { IsRising values.now }
+    ensures found { IfSome result (λ place. slice_get values.now place ≡ Some value) }
+    ensures has { is_some result ≡ has values.now value }
+{
+    let place = place_without_gaps(values, value);
+    if place.is_some() {
+        return place;
+    }
+    values.binary_search(&value).ok()
+}
+
+/// The place at which the value is, if it is at the one at which it would be without gaps before it.
+fn place_without_gaps(values: &[i64], value: i64) -> Option<usize>
+    ensures { IfSome result (λ place. slice_get values.now place ≡ Some value) }
+{
+    let low = *values.first()?;
+    let place = value.abs_diff(low) as usize;
+    if place < values.len() && values[place] == value {
+        return Some(place);
+    }
+    None
 }
 
 /// How many numbers there are from `low` to `high`.
