@@ -25,7 +25,7 @@ abbrev pub Again : {X : Type 0} → (List ℕ → Option (X × List ℕ)) → (X
 Again {X = X} item text ok = (x : X) (rest : List ℕ) → ok x → begins_with_digit rest ≡ false → item (text x ++ rest) ≡ Some (x, rest)
 
 -- items that were read
-items_takes : {X : Type 0} (c : ℕ) (item : List ℕ → Option (X × List ℕ)) (text : X → List ℕ) (ok : X → Type 0) → Takes item text ok
+pub items_takes : {X : Type 0} (c : ℕ) (item : List ℕ → Option (X × List ℕ)) (text : X → List ℕ) (ok : X → Type 0) → Takes item text ok
     → (most : ℕ) (bytes : List ℕ) (xs : List X) (rest : List ℕ) → items_at (c ∷ []) item most bytes ≡ Some (xs, rest) → Took bytes (items_text c text xs) rest (AllByRecursion ok xs)
 unfolding items_at
 items_takes {X = X} c item text ok law zero bytes xs rest h =
@@ -48,7 +48,7 @@ stops c text [] rest d stop = stop
 stops c text (x ∷ xs) rest d stop = d
 
 -- the text of items is read again
-items_again : {X : Type 0} (c : ℕ) (item : List ℕ → Option (X × List ℕ)) (text : X → List ℕ) (ok : X → Type 0) → Again item text ok → is_ascii_digit c ≡ false
+pub items_again : {X : Type 0} (c : ℕ) (item : List ℕ → Option (X × List ℕ)) (text : X → List ℕ) (ok : X → Type 0) → Again item text ok → is_ascii_digit c ≡ false
     → (most : ℕ) (xs : List X) (rest : List ℕ) → length xs ≤ most → AllByRecursion ok xs → begins_with_digit rest ≡ false → after (c ∷ []) rest ≡ None
     → items_at (c ∷ []) item most (items_text c text xs ++ rest) ≡ Some (xs, rest)
 unfolding items_at
@@ -65,7 +65,7 @@ items_again c item text ok law d (suc most) (x ∷ xs) rest room h stop none =
     ) refl
 
 -- there are no more items than bytes
-fewer : {X : Type 0} (c : ℕ) (text : X → List ℕ) (xs : List X) (rest : List ℕ) → length xs ≤ length (items_text c text xs ++ rest)
+pub fewer : {X : Type 0} (c : ℕ) (text : X → List ℕ) (xs : List X) (rest : List ℕ) → length xs ≤ length (items_text c text xs ++ rest)
 fewer c text [] rest = omega arith
 fewer c text (x ∷ xs) rest =
     let h = fewer c text xs rest in

@@ -12,3 +12,12 @@ pub mod LogLines
 pub mod FirstBad
 pub mod LogLaws
 pub mod Answered
+pub mod Deletions
+pub mod EntryLines
+pub mod EntryBad
+pub mod EntryLaws
+pub mod GoodEntries
+pub mod Standings
+pub mod Fed
+pub mod OneAnswer
+pub mod Joined

@@ -30,7 +30,7 @@ no_feed_in_digits (c ∷ cs) h =
     (ne_eqb c 10 (λ e. absurd (false≢true (ap is_ascii_digit (sym e) ∙ d))), no_feed_in_digits cs (and_right _ _ h))
 
 -- nor is one in a number
-no_feed_in_decimal : (n : ℕ) → n < 2 ^ 64 → HasNoLineFeed (decimal n)
+pub no_feed_in_decimal : (n : ℕ) → n < 2 ^ 64 → HasNoLineFeed (decimal n)
 no_feed_in_decimal n small = no_feed_in_digits (decimal n) (decimal_digits n small)
 
 -- in a signed number
@@ -39,7 +39,7 @@ no_feed_in_signed (pos n) fits = let s : n < 2 ^ 63 = fits.sfits in no_feed_in_d
 no_feed_in_signed (negsuc n) fits = let s : n < 2 ^ 63 = fits.sfits in (refl, no_feed_in_decimal (suc n) (omega arith))
 
 -- in two texts
-both : (xs ys : List ℕ) → HasNoLineFeed xs → HasNoLineFeed ys → HasNoLineFeed (xs ++ ys)
+pub both : (xs ys : List ℕ) → HasNoLineFeed xs → HasNoLineFeed ys → HasNoLineFeed (xs ++ ys)
 both xs ys h k = each_append (λ b. eqb b 10 ≡ false) xs ys h k
 
 -- in a pair
@@ -50,7 +50,7 @@ no_feed_in_pair y i =
     (both (codes "v" ++ decimal (y.var + 1)) (codes "=") (refl, no_feed_in_decimal (y.var + 1) (omega arith)) (refl, tt)) (no_feed_in_signed y.value i.value)
 
 -- in items
-no_feed_in_items : {X : Type 0} (c : ℕ) (text : X → List ℕ) (ok : X → Type 0) (xs : List X) → eqb c 10 ≡ false → ((x : X) → ok x → HasNoLineFeed (text x)) → AllByRecursion ok xs → HasNoLineFeed (flat_map (λ x. (c ∷ []) ++ text x) xs)
+pub no_feed_in_items : {X : Type 0} (c : ℕ) (text : X → List ℕ) (ok : X → Type 0) (xs : List X) → eqb c 10 ≡ false → ((x : X) → ok x → HasNoLineFeed (text x)) → AllByRecursion ok xs → HasNoLineFeed (flat_map (λ x. (c ∷ []) ++ text x) xs)
 no_feed_in_items c text ok [] e f h = tt
 no_feed_in_items c text ok (x ∷ xs) e f h = (e, both (text x) (flat_map (λ x. (c ∷ []) ++ text x) xs) (f x h.0) (no_feed_in_items c text ok xs e f h.1))
 

@@ -33,7 +33,7 @@ pub step_line_is : (number : ℕ) (step : Step) → step_line number step ≡ de
 step_line_is number step = regroup (decimal number) (codes " ") (variable_text step.variable) (codes " ") (pairs_text step.nogood) (codes " <-") (reasons_text step.reasons) (codes "\n")
 
 -- one line feed
-line_feed_is : (bytes : List ℕ) → is_line_feed bytes ≡ true → bytes ≡ codes "\n"
+pub line_feed_is : (bytes : List ℕ) → is_line_feed bytes ≡ true → bytes ≡ codes "\n"
 line_feed_is [] h = absurd cc
 line_feed_is (b ∷ []) h = ap (λ (x : ℕ). x ∷ []) (eqb-true _ _ h)
 line_feed_is (b ∷ c ∷ bytes) h = absurd cc

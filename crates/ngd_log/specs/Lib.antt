@@ -1,3 +1,7 @@
 pub mod StepText
 pub mod Logs
 pub mod Reading
+pub mod Entries
+pub mod EntryTexts
+pub mod EntryReading
+pub mod Pieces

@@ -5,18 +5,33 @@
 //! A step's line is `K vX [vA=N,vB=N] <- R R`: its number from 1, its variable counted from 1, the
 //! pairs of its nogood, and its reasons, `cN` for the rule with number N from 1 and `nN` for an
 //! earlier step. A step without a variable has the line `K - [] <- cN`.
+//!
+//! This is version 1. A log of version 2 has the first line `ngd 2`, and a line `d K K K` for each
+//! deletion: the numbers of the steps that no later step cites. Deletions have no numbers.
 #![tactic(auto)]
 
+mod body;
+mod deletion;
 mod derivation;
+mod entry;
+mod entry_reader;
 pub mod field;
 mod log;
+mod pieces;
 mod reader;
+mod standing;
 mod writer;
 
 pub use dcsp_defs::{Reason, ReasonList, Step};
 pub use dcsp_list::Memory;
+pub use deletion::{HEAD2, write_deletion};
 pub use derivation::Derivation;
+pub use entry::{Entries, Entry, NumberList};
 pub use log::{LogError, log_or_bad_line, logs_differ, next_lines, read_log};
+pub use pieces::{
+    LogReader, entries_or_bad_line, good_lines, one_answer, read_pieces, texts_differ,
+};
+pub use standing::Version;
 pub use writer::{HEAD, TAIL, write_step};
 
 #[cfg(test)]

@@ -1,7 +1,7 @@
 //! Reading a log.
-ghost use Rattle.std.specs.Prelude.{◌≡◌, ℕ, ◌+◌, ◌<◌, ◌∷◌, List, length, IfOk, IfErr, IfSome, IfNone, IsErrOf, Ok, Err};
+ghost use Rattle.std.specs.Prelude.{◌≡◌, ℕ, ◌+◌, ◌<◌, ◌∷◌, ◌++◌, List, length, IfOk, IfErr, IfSome, IfNone, IsErrOf, Ok, Err};
 ghost use Rattle.dcsp_defs.specs.declared.Step.{Step};
-ghost use Rattle.ngd_log.specs.Logs.{lines, HasNoLineFeed, IsLogOf, IsFirstBad, LogOrBadLine, LogsDiffer, AreWritable, NextLine, IsUnlessMemory, IsCause};
+ghost use Rattle.ngd_log.specs.Logs.{lines, HasNoLineFeed, IsLine, IsLogOf, IsFirstBad, LogOrBadLine, LogsDiffer, AreWritable, NextLine, IsUnlessMemory, IsCause};
 
 use crate::derivation::Derivation;
 use crate::reader::{LineError, read_step};
@@ -67,9 +67,11 @@ fn log_of(alloc: Global, text: &[u8]) -> Result<Derivation, LogError>
 }
 
 /// The first line, with its line feed, and what follows it.
-fn split_line(text: &[u8]) -> Option<(&[u8], &[u8])>
+pub(crate) fn split_line(text: &[u8]) -> Option<(&[u8], &[u8])>
     ensures first { IfSome result (λ x. lines text.now ≡ x.0.now ∷ lines x.1.now) }
     ensures shorter { IfSome result (λ x. length x.1.now < length text.now) }
+    ensures parts { IfSome result (λ x. text.now ≡ x.0.now ++ x.1.now) }
+    ensures whole { IfSome result (λ x. IsLine x.0.now) }
     ensures none { IfNone result (HasNoLineFeed text.now) }
 {
     for (at, byte) in text.iter().enumerate() {

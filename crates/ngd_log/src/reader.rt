@@ -94,7 +94,7 @@ fn nogood_of(alloc: Global, pairs: &[Pair]) -> Result<Nogood, LineError>
 }
 
 /// Whether this is one line feed.
-fn is_line_feed(bytes: &[u8]) -> bool
+pub(crate) fn is_line_feed(bytes: &[u8]) -> bool
     ensures { result ≡ is_line_feed bytes.now }
 {
     matches!(bytes, [b'\n'])
@@ -151,7 +151,7 @@ pub fn read_step(alloc: Global, number: u64, line: &[u8]) -> Result<Step, LineEr
 
 /// The step of a whole line, which has this number.
 #[tactic(auto, unfolding(crate::specs::Reading::step_of))]
-fn step_of(alloc: Global, number: u64, line: &[u8]) -> Result<Step, LineError>
+pub(crate) fn step_of(alloc: Global, number: u64, line: &[u8]) -> Result<Step, LineError>
     ensures { Gives (λ x. x) result (step_of number line.now) }
 {
     let (found, rest) = step_number_at(line).ok_or(LineError::Bad)?;

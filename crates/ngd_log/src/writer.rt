@@ -56,7 +56,7 @@ fn line_of(alloc: Global, number: u64, step: &Step) -> Result<Vec<u8>, AllocErro
     Ok(line)
 }
 
-fn push_number(line: &mut Vec<u8>, number: u64) -> Result<(), AllocError>
+pub(crate) fn push_number(line: &mut Vec<u8>, number: u64) -> Result<(), AllocError>
     ensures { OnOk result (line.new.items ≡ line.old.items ++ decimal number) }
 {
     line.extend_from_slice(Buffer::new().format(number).as_bytes())

@@ -1,0 +1,192 @@
+-- The lines of entries, and reading them.
+use Rattle.std.proofs.Common.{◌≡◌, ℕ, ◌+◌, ◌<◌, ◌≤◌, ◌^◌, List, [], ◌∷◌, ◌++◌, length, get_or, Some, None, refl, sym, ap, subst, ◌∙◌, arith}
+use Rattle.std.specs.Prelude.{codes, decimal}
+use Rattle.std.specs.List.{AllByRecursion, concat}
+use Rattle.std.proofs.lemmas.List.{append-nil, length_push}
+use Rattle.std.proofs.lemmas.List.Folds.{concat-append}
+use Rattle.dcsp_defs.specs.declared.Step.{Step}
+use Rattle.ngd_log.specs.declared.entry.Entry.{Entry}
+use Rattle.ngd_log.specs.declared.entry.Entry.TheVariants.{Step as A_step, Delete}
+use Rattle.ngd_log.specs.declared.standing.Version.{Version}
+use Rattle.ngd_log.specs.declared.standing.Version.TheVariants.{One, Two}
+use Rattle.ngd_log.specs.StepText.{step_line, IsStepNumber, IsWritable, IsStepLine}
+use Rattle.ngd_log.specs.Logs.{lines, IsLine}
+use Rattle.ngd_log.specs.Entries.{steps_of}
+use Rattle.ngd_log.specs.EntryTexts.{deletion_line, entry_line, next_number, entry_lines, head, entries_text, text_lines, IsNumbered, IsEntryLine, IsWritableEntry, HaveText, IsTextOf}
+use Rattle.ngd_log.specs.EntryReading.{step_entry, either_entry, entry_of, deletion_at}
+use Rattle.ngd_log.specs.Reading.{after, step_of}
+use Rattle.ngd_log.proofs.Chosen.{bind_then, some_is}
+use Rattle.ngd_log.proofs.After.{after_takes, after_again}
+use Rattle.ngd_log.proofs.Numbers.{begins_decimal, after_no_digit}
+use Rattle.ngd_log.proofs.Each.{each_push, each_append}
+use Rattle.ngd_log.proofs.ItemLaws.{items_text}
+use Rattle.ngd_log.proofs.LineLaws.{rest_text, step_line_is, step_takes, step_again}
+use Rattle.ngd_log.proofs.LineFeeds.{step_line-IsLine, lines-concat}
+use Rattle.ngd_log.proofs.LogLines.{tail, tail-IsLine, not_tail}
+use Rattle.ngd_log.proofs.Deletions.{deletion_line-IsLine, deletion_takes, deletion_again}
+
+-- ---- one line
+
+-- a head is a line
+pub head-IsLine : (v : Version) → IsLine (head v)
+head-IsLine One = record { body = codes "ngd 1"; plain = (refl, (refl, (refl, (refl, (refl, tt))))); same = refl }
+head-IsLine Two = record { body = codes "ngd 2"; plain = (refl, (refl, (refl, (refl, (refl, tt))))); same = refl }
+
+-- the versions have different heads
+pub one_head : (v w : Version) → head v ≡ head w → v ≡ w
+one_head One One e = refl
+one_head Two Two e = refl
+one_head One Two e = absurd (let f : 49 ≡ 50 = ap (λ (t : List ℕ). get_or t 4 0) e in omega (arith, f))
+one_head Two One e = absurd (let f : 50 ≡ 49 = ap (λ (t : List ℕ). get_or t 4 0) e in omega (arith, f))
+
+-- an entry's line is a line
+pub entry_line-IsLine : (v : Version) (number : ℕ) (entry : Entry) → IsNumbered number entry → IsWritableEntry v entry → IsLine (entry_line number entry)
+entry_line-IsLine v number (A_step s) n w = step_line-IsLine number s n w
+entry_line-IsLine One number (Delete ns) n w = absurd w
+entry_line-IsLine Two number (Delete ns) n w = deletion_line-IsLine ns w
+
+-- no entry's line is `end`
+pub not_end : (number : ℕ) (entry : Entry) → IsNumbered number entry → entry_line number entry ≡ tail → ⊥
+not_end number (A_step s) n e = let b = n.bounded in not_tail number s (omega arith) e
+not_end number (Delete ns) n e = let f : 100 ≡ 101 = ap (λ (t : List ℕ). get_or t 0 0) e in omega (arith, f)
+
+-- a step that is read as an entry
+step_entry_takes : (number : ℕ) (line : List ℕ) (entry : Entry) → step_entry number line ≡ Some entry → (s : Step) × (entry ≡ A_step s) × IsStepLine number line s
+unfolding step_entry
+step_entry_takes number line entry h =
+    bind_then (step_of number line) (λ s. Some (A_step s)) entry h (λ s rs e. (s, sym (some_is (A_step s) entry e), step_takes number line s rs))
+
+-- as the line of an entry
+of_step : (v : Version) (number : ℕ) (line : List ℕ) (entry : Entry) → (s : Step) × (entry ≡ A_step s) × IsStepLine number line s → IsEntryLine v number line entry
+of_step v number line entry h = subst (λ (e : Entry). IsEntryLine v number line e) (sym h.1) (record { numbered = h.2.numbered; writable = h.2.writable; same = h.2.same })
+
+-- an entry that is read is the one whose line it is
+pub entry_takes : (v : Version) (number : ℕ) (line : List ℕ) (entry : Entry) → entry_of v number line ≡ Some entry → IsEntryLine v number line entry
+unfolding entry_of
+entry_takes One number line entry h = of_step One number line entry (step_entry_takes number line entry h)
+entry_takes Two number line entry h =
+    (elim (after (codes "d") line) as (λ o. after (codes "d") line ≡ o → either_entry number line o ≡ Some entry → IsEntryLine Two number line entry) [
+      | None ↦ λ a k. of_step Two number line entry (step_entry_takes number line entry k)
+      | Some rest ↦ λ a k.
+          bind_then (deletion_at rest) (λ ns. Some (Delete ns)) entry k (λ ns rn e.
+          let d = deletion_takes rest ns rn in
+          subst (λ (x : Entry). IsEntryLine Two number line x) (some_is (Delete ns) entry e) (record { numbered = tt; writable = d.0; same = after_takes (codes "d") line rest a ∙ d.1 }))
+    ]) refl h
+
+-- a step's line does not begin with `d`
+no_deletion : (number : ℕ) (s : Step) → IsStepNumber number → after (codes "d") (step_line number s) ≡ None
+no_deletion number s n =
+    let b = n.bounded in
+    ap (after (codes "d")) (step_line_is number s) ∙ after_no_digit 100 [] (decimal number ++ (codes " " ++ rest_text s.variable s.nogood s.reasons)) refl (begins_decimal number (codes " " ++ rest_text s.variable s.nogood s.reasons) (omega arith))
+
+-- a step's line is read again as an entry
+step_entry_again : (number : ℕ) (s : Step) → IsStepNumber number → IsWritable s → step_entry number (step_line number s) ≡ Some (A_step s)
+unfolding step_entry
+step_entry_again number s n w = rw (step_again number s n w) refl
+
+-- an entry's line is read again
+pub entry_again : (v : Version) (number : ℕ) (entry : Entry) → IsNumbered number entry → IsWritableEntry v entry → entry_of v number (entry_line number entry) ≡ Some entry
+unfolding entry_of
+entry_again One number (A_step s) n w = step_entry_again number s n w
+entry_again One number (Delete ns) n w = absurd w
+entry_again Two number (A_step s) n w = rw (no_deletion number s n) (step_entry_again number s n w)
+entry_again Two number (Delete ns) n w =
+    let rest = items_text 32 decimal ns ++ codes "\n" in
+    let split : deletion_line ns ≡ codes "d" ++ rest = refl in
+    rw (split, after_again (codes "d") rest, deletion_again ns w) refl
+
+-- a line that gives no entry is none's
+pub entry_none : (v : Version) (number : ℕ) (line : List ℕ) (entry : Entry) → entry_of v number line ≡ None → IsEntryLine v number line entry → ⊥
+entry_none v number line entry none is =
+    let again : entry_of v number line ≡ Some entry = ap (entry_of v number) is.same ∙ entry_again v number entry is.numbered is.writable in
+    cc
+
+-- one line is of one entry
+pub one_entry : (v : Version) (number : ℕ) (line : List ℕ) (a b : Entry) → IsEntryLine v number line a → IsEntryLine v number line b → a ≡ b
+one_entry v number line a b ia ib =
+    some_is a b (sym (entry_again v number a ia.numbered ia.writable) ∙ ap (entry_of v number) (sym ia.same ∙ ib.same) ∙ entry_again v number b ib.numbered ib.writable)
+
+-- ---- several lines
+
+-- the number of the next step after these entries
+abbrev pub number_after : ℕ → List Entry → ℕ
+number_after number [] = number
+number_after number (entry ∷ entries) = number_after (next_number number entry) entries
+
+-- it counts the steps
+pub number_after_is : (number : ℕ) (entries : List Entry) → number_after number entries ≡ number + length (steps_of entries)
+number_after_is number [] = omega arith
+number_after_is number (A_step s ∷ entries) = let h = number_after_is (number + 1) entries in omega arith
+number_after_is number (Delete ns ∷ entries) = number_after_is number entries
+
+-- as many lines as entries
+pub length-entry_lines : (number : ℕ) (entries : List Entry) → length (entry_lines number entries) ≡ length entries
+length-entry_lines number [] = refl
+length-entry_lines number (entry ∷ entries) = let h = length-entry_lines (next_number number entry) entries in omega arith
+
+-- the lines with one entry more
+pub entry_lines-push : (number : ℕ) (entries : List Entry) (entry : Entry) → entry_lines number (entries ++ entry ∷ []) ≡ entry_lines number entries ++ entry_line (number_after number entries) entry ∷ []
+entry_lines-push number [] entry = refl
+entry_lines-push number (e ∷ entries) entry = ap (λ (x : List (List ℕ)). entry_line number e ∷ x) (entry_lines-push (next_number number e) entries entry)
+
+-- the steps with one entry more
+pub steps_of-append : (xs ys : List Entry) → steps_of (xs ++ ys) ≡ steps_of xs ++ steps_of ys
+steps_of-append [] ys = refl
+steps_of-append (A_step s ∷ xs) ys = ap (λ (x : List Step). s ∷ x) (steps_of-append xs ys)
+steps_of-append (Delete ns ∷ xs) ys = steps_of-append xs ys
+
+-- each of the entries has a line in a text of this version, where the next step has this number
+abbrev pub HaveLines : Version → ℕ → List Entry → Type 0
+HaveLines v number [] = Unit {0}
+HaveLines v number (entry ∷ entries) = IsNumbered number entry × IsWritableEntry v entry × HaveLines v (next_number number entry) entries
+
+pub have_lines : (v : Version) (number : ℕ) (entries : List Entry) → 0 < number → number + length (steps_of entries) ≤ 2 ^ 62 + 1 → AllByRecursion (IsWritableEntry v) entries → HaveLines v number entries
+have_lines v number [] p n w = tt
+have_lines v number (A_step s ∷ entries) p n w = (record { positive = p; bounded = omega arith }, w.0, have_lines v (number + 1) entries (omega arith) (omega arith) w.1)
+have_lines v number (Delete ns ∷ entries) p n w = (tt, w.0, have_lines v number entries p n w.1)
+
+-- the entries of a text
+pub from_one : (v : Version) (entries : List Entry) → HaveText v entries → HaveLines v 1 entries
+from_one v entries w = let c = w.count in have_lines v 1 entries (omega arith) (omega arith) w.each
+
+-- no entries have a text
+pub no_entries : (v : Version) → HaveText v []
+no_entries v = record { count = omega arith; each = tt }
+
+-- one entry more
+pub HaveText-push : (v : Version) (entries : List Entry) (entry : Entry) → HaveText v entries → IsNumbered (length (steps_of entries) + 1) entry → IsWritableEntry v entry → HaveText v (entries ++ entry ∷ [])
+HaveText-push v entries entry w n i = record { count = counted entry n; each = each_push (IsWritableEntry v) entries entry w.each i }
+  where
+    counted : (e : Entry) → IsNumbered (length (steps_of entries) + 1) e → length (steps_of (entries ++ e ∷ [])) ≤ 2 ^ 62
+    counted (A_step s) m = let e = steps_of-append entries (A_step s ∷ []) in let l = length_push (steps_of entries) s in let b = m.bounded in rw e (omega arith)
+    counted (Delete ns) m = let e = steps_of-append entries (Delete ns ∷ []) ∙ append-nil (steps_of entries) in let c = w.count in rw e c
+
+-- each is a line
+pub entry_lines-IsLine : (v : Version) (number : ℕ) (entries : List Entry) → HaveLines v number entries → AllByRecursion IsLine (entry_lines number entries)
+entry_lines-IsLine v number [] h = tt
+entry_lines-IsLine v number (entry ∷ entries) h = (entry_line-IsLine v number entry h.0 h.1, entry_lines-IsLine v (next_number number entry) entries h.2)
+
+-- the lines before `end`
+abbrev pub front_lines : Version → List Entry → List (List ℕ)
+front_lines v entries = head v ∷ entry_lines 1 entries
+
+-- the text is made up of its lines
+pub entries_text_is : (v : Version) (entries : List Entry) → entries_text v entries ≡ concat (text_lines v entries)
+entries_text_is v entries = sym (concat-append (front_lines v entries) (tail ∷ []) ∙ ap (λ (t : List ℕ). concat (front_lines v entries) ++ t) (append-nil tail))
+
+-- each line in front is a line
+pub front-IsLine : (v : Version) (entries : List Entry) → HaveText v entries → AllByRecursion IsLine (front_lines v entries)
+front-IsLine v entries w = (head-IsLine v, entry_lines-IsLine v 1 entries (from_one v entries w))
+
+-- the lines of a text that begins with those of the entries
+pub lines_of_front : (v : Version) (entries : List Entry) (rest : List ℕ) → HaveText v entries → lines (concat (front_lines v entries) ++ rest) ≡ front_lines v entries ++ lines rest
+lines_of_front v entries rest w = lines-concat (front_lines v entries) rest (front-IsLine v entries w)
+
+-- the lines of a text that begins with that of entries
+pub lines_of_text : (v : Version) (entries : List Entry) (rest : List ℕ) → HaveText v entries → lines (entries_text v entries ++ rest) ≡ text_lines v entries ++ lines rest
+lines_of_text v entries rest w =
+    ap (λ (t : List ℕ). lines (t ++ rest)) (entries_text_is v entries) ∙ lines-concat (text_lines v entries) rest (each_append IsLine (front_lines v entries) (tail ∷ []) (front-IsLine v entries w) (tail-IsLine, tt))
+
+-- the lines of a whole text
+pub lines_of_whole : (text : List ℕ) (v : Version) (entries : List Entry) → IsTextOf text v entries → lines text ≡ text_lines v entries
+lines_of_whole text v entries is = ap lines (is.same ∙ sym (append-nil (entries_text v entries))) ∙ lines_of_text v entries [] is.writable ∙ append-nil (text_lines v entries)

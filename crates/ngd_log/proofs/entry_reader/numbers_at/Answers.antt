@@ -1,0 +1,33 @@
+use Rattle.std.proofs.Common.{◌≡◌, ◌-◌, ◌++◌, ◌∷◌, [], length, arith, codes}
+use Rattle.std.proofs.lemmas.List.{length_push}
+use Rattle.ngd_log.specs.Reading.{step_number_at}
+use Rattle.ngd_log.specs.EntryReading.{numbers_at}
+use Rattle.ngd_log.proofs.Items.{goes_on, fails_on, is_done}
+use Rattle.ngd_log.proofs.entry_reader.numbers_at.Goals as goal
+
+pub returns-in_default-step_number_at : goal.returns-in_default-step_number_at
+returns-in_default-step_number_at c =
+    let l = c.loop-next in
+    fails_on (codes " ") step_number_at l.numbers (length c.args.bytes.now - length l.numbers - 1) (length c.args.bytes.now - length l.numbers) l.rest.now c.in-Some.next.now (numbers_at c.args.bytes.now)
+    (let s = c.in-Some.ensures.shorter in let r = l.invariant.room in omega arith) c.in-Some.ensures.reads c.in_default-step_number_at.ensures.reads l.invariant.same
+
+pub returns : goal.returns
+returns c =
+    let l = c.loop-next in
+    is_done (codes " ") step_number_at l.numbers (length c.args.bytes.now - length l.numbers) l.rest.now (numbers_at c.args.bytes.now) c.in_default.ensures.reads l.invariant.same
+
+pub loop-next-preserved : goal.loop-next-preserved
+loop-next-preserved c =
+    let l = c.loop-next in
+    let x = c.in-Some-step_number_at.number in
+    let s = c.in-Some.ensures.shorter in
+    let t = c.in-Some-step_number_at.ensures.shorter in
+    let r = l.invariant.room in
+    let n = length_push l.numbers x in
+    let pushed : c.push.new.self ≡ l.numbers ++ x ∷ [] = c.in_ok-push.ensures.ok in
+    let left : length c.args.bytes.now - length c.push.new.self ≡ length c.args.bytes.now - length l.numbers - 1 = rw pushed (omega arith) in
+    record {
+      same = rw (left, pushed) (goes_on (codes " ") step_number_at l.numbers (length c.args.bytes.now - length l.numbers - 1) (length c.args.bytes.now - length l.numbers) l.rest.now c.in-Some.next.now x c.in-Some-step_number_at.others.now (numbers_at c.args.bytes.now)
+          (omega arith) c.in-Some.ensures.reads c.in-Some-step_number_at.ensures.reads l.invariant.same);
+      room = rw pushed (omega arith);
+    }

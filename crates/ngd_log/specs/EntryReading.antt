@@ -1,0 +1,72 @@
+-- Reading a line of an entry from left to right, on lists.
+use Rattle.std.specs.Prelude.{ℕ, Bool, true, false, ◌&&◌, List, [], ◌∷◌, length, Option, Some, None, nat_lt, if◌then◌else◌, codes}
+use Rattle.std.specs.Str.{bytes_eq}
+use Rattle.ngd_log.specs.declared.entry.Entry.{Entry}
+use Rattle.ngd_log.specs.declared.entry.Entry.TheVariants.{Step as A_step, Delete}
+use Rattle.ngd_log.specs.declared.standing.Version.{Version}
+use Rattle.ngd_log.specs.declared.standing.Version.TheVariants.{One, Two}
+use Rattle.ngd_log.specs.Reading.{◌>>=◌, after, items_at, step_number_at, is_line_feed, step_of}
+use Rattle.ngd_log.specs.Logs.{lines}
+use Rattle.ngd_log.specs.EntryTexts.{next_number}
+
+-- the numbers, each behind a space
+abbrev pub numbers_at : List ℕ → Option (List ℕ × List ℕ)
+numbers_at bytes = items_at (codes " ") step_number_at (length bytes) bytes
+
+-- whether each number is above the one before it, and the first above `last`
+abbrev pub rises_after : ℕ → List ℕ → Bool
+rises_after last [] = true
+rises_after last (k ∷ numbers) = nat_lt last k && rises_after k numbers
+
+-- whether there is a number
+abbrev pub has_number : List ℕ → Bool
+has_number [] = false
+has_number (k ∷ numbers) = true
+
+-- the numbers of a deletion's line after its `d`
+unfoldable pub deletion_at : List ℕ → Option (List ℕ)
+deletion_at bytes = do
+  ns ← numbers_at bytes
+  if has_number ns.0 && rises_after 0 ns.0 && is_line_feed ns.1 then Some ns.0 else None
+
+-- the step of a whole line, as an entry
+unfoldable pub step_entry : ℕ → List ℕ → Option Entry
+step_entry number line = step_of number line >>= λ step. Some (A_step step)
+
+-- the entry of a whole line, where `rest` is what stands after `d` if that is next
+abbrev pub either_entry : ℕ → List ℕ → Option (List ℕ) → Option Entry
+either_entry number line None = step_entry number line
+either_entry number line (Some rest) = deletion_at rest >>= λ numbers. Some (Delete numbers)
+
+-- the entry of a whole line in a text of this version, where the next step has this number
+unfoldable pub entry_of : Version → ℕ → List ℕ → Option Entry
+entry_of One number line = step_entry number line
+entry_of Two number line = either_entry number line (after (codes "d") line)
+
+-- the version of a text with this first line
+abbrev pub version_of : List ℕ → Option Version
+version_of line = if bytes_eq line (codes "ngd 1\n") then Some One else (if bytes_eq line (codes "ngd 2\n") then Some Two else None)
+
+-- an entry that was read, and those after it
+abbrev pub with_entry : Option Entry → (Entry → List Entry) → List Entry
+with_entry None others = []
+with_entry (Some entry) others = entry ∷ others entry
+
+-- the entries of these lines up to the first that is of none, where the next step has this number
+abbrev pub entries_from : Version → ℕ → List (List ℕ) → List Entry
+entries_from version number [] = []
+entries_from version number (line ∷ others) = with_entry (entry_of version number line) (λ entry. entries_from version (next_number number entry) others)
+
+-- the entries of the lines after the first, which is of this version
+abbrev pub entries_after : Option Version → List (List ℕ) → List Entry
+entries_after None others = []
+entries_after (Some version) others = entries_from version 1 others
+
+-- the entries of these lines, the first of which is a head
+abbrev pub entries_in : List (List ℕ) → List Entry
+entries_in [] = []
+entries_in (line ∷ others) = entries_after (version_of line) others
+
+-- the entries of the good lines of a text, up to the first that is no entry's
+abbrev pub good_entries : List ℕ → List Entry
+good_entries text = entries_in (lines text)
