@@ -1,3 +1,12 @@
+pub mod Alike
+pub mod Citing
+pub mod Forms
+pub mod Growing
+pub mod KeptLists
 pub mod Once
 pub mod Parts
+pub mod Placing
+pub mod Rooms
+pub mod Steps
+pub mod Taking
 pub mod Zips

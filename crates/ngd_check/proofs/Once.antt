@@ -1,28 +1,31 @@
--- A derivation has one finding.
-use Rattle.std.proofs.Common.{◌≡◌, ℕ, zero, suc, ◌-◌, ◌<◌, List, [], ◌∷◌, slice_get, take, Some, inl, inr, ◌⊎◌, refl, sym, ap, ◌∙◌, subst, arith}
+-- A derivation has one finding, and so have entries.
+use Rattle.std.proofs.Common.{◌≡◌, ℕ, zero, suc, ◌-◌, ◌+◌, ◌<◌, List, [], ◌∷◌, length, slice_get, take, Option, Some, inl, inr, ◌⊎◌, refl, sym, ap, ◌∙◌, subst, arith}
 use Rattle.dcsp_defs.specs.declared.Step.{Step}
 use Rattle.dcsp_defs.specs.Csp.{Csp}
 use Rattle.dcsp_defs.specs.Derivation.{IsRight, IsDerivation}
 use Rattle.ngd_check.specs.declared.Finding.{Finding}
-use Rattle.ngd_check.specs.declared.Finding.TheVariants.{Verified, BadStep, NotEmpty}
-use Rattle.ngd_check.specs.Findings.{IsFirstWrong, IsFinding}
+use Rattle.ngd_check.specs.declared.Finding.TheVariants.{Verified, BadStep, BadDeletion, NotEmpty}
+use Rattle.ngd_log.specs.declared.entry.Entry.{Entry}
+use Rattle.ngd_log.specs.declared.entry.Entry.TheVariants.{Step as A_step, Delete}
+use Rattle.ngd_check.specs.Entries.{steps_of, IsRightEntry, AreRight}
+use Rattle.ngd_check.specs.Findings.{IsFirstWrong, IsFinding, IsFirstWrongEntry, IsFirstWrongStep, IsFirstWrongDeletion, IsFindingOf}
 
 -- an item at a place below m is an item of the first m
-get_below : {X : Type 0} (xs : List X) (n m : ℕ) (x : X) → n < m → slice_get xs n ≡ Some x → slice_get (take m xs) n ≡ Some x
+pub get_below : {X : Type 0} (xs : List X) (n m : ℕ) (x : X) → n < m → slice_get xs n ≡ Some x → slice_get (take m xs) n ≡ Some x
 get_below xs n zero x l h = absurd (omega arith)
 get_below [] n (suc m) x l h = h
 get_below (y ∷ ys) zero (suc m) x l h = h
 get_below (y ∷ ys) (suc n) (suc m) x l h = get_below ys n m x (omega arith) h
 
 -- the first n of the first m are the first n
-take_below : {X : Type 0} (xs : List X) (n m : ℕ) → n < m → take n (take m xs) ≡ take n xs
+pub take_below : {X : Type 0} (xs : List X) (n m : ℕ) → n < m → take n (take m xs) ≡ take n xs
 take_below xs n zero l = absurd (omega arith)
 take_below xs zero (suc m) l = refl
 take_below [] (suc n) (suc m) l = refl
 take_below (y ∷ ys) (suc n) (suc m) l = ap (λ (zs : List _). y ∷ zs) (take_below ys n m (omega arith))
 
 -- of two numbers one is less, or they are equal
-compared : (n m : ℕ) → (n < m) ⊎ ((n ≡ m) ⊎ (m < n))
+pub compared : (n m : ℕ) → (n < m) ⊎ ((n ≡ m) ⊎ (m < n))
 compared zero zero = inr (inl refl)
 compared zero (suc m) = inl (omega arith)
 compared (suc n) zero = inr (inr (omega arith))
@@ -68,10 +71,73 @@ one_first p steps n m v w = elim (compared n m) [
 pub one_finding : (p : Csp) (steps : List Step) (f g : Finding) → IsFinding p steps f → IsFinding p steps g → f ≡ g
 one_finding p steps Verified Verified h k = refl
 one_finding p steps Verified (BadStep n) h k = absurd (none_wrong p steps n h.right k)
+one_finding p steps Verified (BadDeletion n) h k = absurd k
 one_finding p steps Verified NotEmpty h k = absurd (k.not_empty h.ends)
 one_finding p steps (BadStep n) Verified h k = absurd (none_wrong p steps n k.right h)
 one_finding p steps (BadStep n) (BadStep m) h k = ap BadStep (one_first p steps n m h k)
+one_finding p steps (BadStep n) (BadDeletion m) h k = absurd k
 one_finding p steps (BadStep n) NotEmpty h k = absurd (none_wrong p steps n k.right h)
+one_finding p steps (BadDeletion n) g h k = absurd h
 one_finding p steps NotEmpty Verified h k = absurd (h.not_empty k.ends)
 one_finding p steps NotEmpty (BadStep n) h k = absurd (none_wrong p steps n h.right k)
+one_finding p steps NotEmpty (BadDeletion n) h k = absurd k
 one_finding p steps NotEmpty NotEmpty h k = refl
+
+-- right entries have no wrong one
+right_none_wrong : (p : Csp) (es : List Entry) (place : ℕ) (e : Entry) → AreRight p es → IsFirstWrongEntry p es place e → ⊥
+right_none_wrong p es place e right w = w.wrong (right place e w.there)
+
+-- no entry before the first wrong one is wrong
+not_wrong_before : (p : Csp) (es : List Entry) (n m : ℕ) (d e : Entry) → n < m → IsFirstWrongEntry p es n d → IsFirstWrongEntry p es m e → ⊥
+not_wrong_before p es n m d e l v w =
+    let at : IsRightEntry p (take n (take m es)) d = w.right_before n d (get_below es n m d l v.there) in
+    v.wrong (subst (λ (before : List Entry). IsRightEntry p before d) (take_below es n m l) at)
+
+-- two first wrong entries are one
+one_place : (p : Csp) (es : List Entry) (n m : ℕ) (d e : Entry) → IsFirstWrongEntry p es n d → IsFirstWrongEntry p es m e → n ≡ m
+one_place p es n m d e v w = elim (compared n m) [
+  | inl l ↦ absurd (not_wrong_before p es n m d e l v w)
+  | inr r ↦ elim r [
+    | inl same ↦ same
+    | inr l ↦ absurd (not_wrong_before p es m n e d l w v)
+  ]
+]
+
+same_entry : (o : Option Entry) (d e : Entry) → o ≡ Some d → o ≡ Some e → d ≡ e
+same_entry o d e h k = let t : Some d ≡ Some e = sym h ∙ k in cc
+
+-- a wrong step is no wrong deletion
+not_both : (p : Csp) (es : List Entry) (n m : ℕ) → IsFirstWrongStep p es n → IsFirstWrongDeletion p es m → ⊥
+not_both p es n m v w =
+    let place = one_place p es v.place w.place (A_step v.step) (Delete w.numbers) v.first w.first in
+    let same = same_entry (slice_get es w.place) (A_step v.step) (Delete w.numbers) (subst (λ (k : ℕ). slice_get es k ≡ Some (A_step v.step)) place v.first.there) w.first.there in
+    cc
+
+one_step : (p : Csp) (es : List Entry) (n m : ℕ) → IsFirstWrongStep p es n → IsFirstWrongStep p es m → n ≡ m
+one_step p es n m v w =
+    let place = one_place p es v.place w.place (A_step v.step) (A_step w.step) v.first w.first in
+    v.numbered ∙ (ap (λ k. length (steps_of (take k es)) + 1) place ∙ sym w.numbered)
+
+one_deletion : (p : Csp) (es : List Entry) (n m : ℕ) → IsFirstWrongDeletion p es n → IsFirstWrongDeletion p es m → n ≡ m
+one_deletion p es n m v w =
+    let place = one_place p es v.place w.place (Delete v.numbers) (Delete w.numbers) v.first w.first in
+    v.counted ∙ (ap (λ k. length (steps_of (take k es))) place ∙ sym w.counted)
+
+-- entries have one finding
+pub one_finding_of : (p : Csp) (es : List Entry) (f g : Finding) → IsFindingOf p es f → IsFindingOf p es g → f ≡ g
+one_finding_of p es Verified Verified h k = refl
+one_finding_of p es Verified (BadStep n) h k = absurd (right_none_wrong p es k.place (A_step k.step) h.right k.first)
+one_finding_of p es Verified (BadDeletion n) h k = absurd (right_none_wrong p es k.place (Delete k.numbers) h.right k.first)
+one_finding_of p es Verified NotEmpty h k = absurd (k.not_empty h.ends)
+one_finding_of p es (BadStep n) Verified h k = absurd (right_none_wrong p es h.place (A_step h.step) k.right h.first)
+one_finding_of p es (BadStep n) (BadStep m) h k = ap BadStep (one_step p es n m h k)
+one_finding_of p es (BadStep n) (BadDeletion m) h k = absurd (not_both p es n m h k)
+one_finding_of p es (BadStep n) NotEmpty h k = absurd (right_none_wrong p es h.place (A_step h.step) k.right h.first)
+one_finding_of p es (BadDeletion n) Verified h k = absurd (right_none_wrong p es h.place (Delete h.numbers) k.right h.first)
+one_finding_of p es (BadDeletion n) (BadStep m) h k = absurd (not_both p es m n k h)
+one_finding_of p es (BadDeletion n) (BadDeletion m) h k = ap BadDeletion (one_deletion p es n m h k)
+one_finding_of p es (BadDeletion n) NotEmpty h k = absurd (right_none_wrong p es h.place (Delete h.numbers) k.right h.first)
+one_finding_of p es NotEmpty Verified h k = absurd (h.not_empty k.ends)
+one_finding_of p es NotEmpty (BadStep n) h k = absurd (right_none_wrong p es k.place (A_step k.step) h.right k.first)
+one_finding_of p es NotEmpty (BadDeletion n) h k = absurd (right_none_wrong p es k.place (Delete k.numbers) h.right k.first)
+one_finding_of p es NotEmpty NotEmpty h k = refl

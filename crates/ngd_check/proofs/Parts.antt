@@ -1,5 +1,5 @@
 -- The parts of a right step.
-use Rattle.std.proofs.Common.{◌≡◌, ℕ, zero, suc, ◌<◌, Bool, true, false, not, ◌&&◌, List, [], ◌∷◌, length, slice_get, Some, None, ℤ, pos, is_some, inl, inr, refl, sym, ap, ◌∙◌, subst, arith}
+use Rattle.std.proofs.Common.{◌≡◌, ℕ, zero, suc, ◌<◌, Bool, true, false, not, ◌&&◌, ◌↔◌, List, [], ◌∷◌, length, slice_get, Some, None, ℤ, pos, is_some, inl, inr, refl, sym, ap, ◌∙◌, subst, arith}
 use Rattle.std.specs.Ordering.{int_eq}
 use Rattle.std.proofs.lemmas.Bool.Decides.{Decides-int_eq, eqb_tells}
 use Rattle.std.specs.List.{list_all}
@@ -8,8 +8,8 @@ use Rattle.dcsp_nogood.specs.declared.Pair.{Pair}
 use Rattle.dcsp_nogood.specs.Pairs.{value_at}
 use Rattle.dcsp_domain.specs.Sets.{has}
 use Rattle.dcsp_defs.specs.Words.{In}
-use Rattle.dcsp_defs.specs.Csp.{Csp, Constraint, is_violated, given_with, domain}
-use Rattle.dcsp_defs.specs.Derivation.{IsKnownPair, IsFalseAlone}
+use Rattle.dcsp_defs.specs.Csp.{Csp, Constraint, Known, is_violated, with_value, domain}
+use Rattle.dcsp_defs.specs.Derivation.{IsKnownPair, IsFalseAlone, IsFalseRule}
 use Rattle.dcsp_defs.proofs.Lists.{In-list_any, list_any-In}
 use Rattle.dcsp_problem.specs.Problems.{Contents, csp_of, constraint_of, AreInDomains}
 
@@ -48,16 +48,27 @@ alone_violated p n c there h =
     cc_some : (a b : Constraint) → Some a ≡ Some b → a ≡ b
     cc_some a b e = cc
 
--- the values at hand of a step are in their domains
-pub given_in_domains : (p : Csp) (pairs : List Pair) (x : ℕ) (v : ℤ) → ((y : Pair) → In y pairs → IsKnownPair p y) → In v (domain p x) → AreInDomains p (given_with x v pairs)
-given_in_domains p pairs x v known here k w l e = elim (eqb_tells k x) [
-  | inl t ↦ let s : Some v ≡ Some w = rw t.0 at e in let same : v ≡ w = cc in subst (λ (n : ℕ). In w (domain p n)) (sym t.1) (subst (λ (u : ℤ). In u (domain p x)) same here)
-  | inr t ↦ by_pairs pairs known (rw t.0 at e)
+-- the values of known pairs are in their domains
+pub pairs_in_domains : (p : Csp) (pairs : List Pair) → ((y : Pair) → In y pairs → IsKnownPair p y) → AreInDomains p (value_at pairs)
+pairs_in_domains p [] known k w l f = absurd cc
+pairs_in_domains p (y ∷ ys) known k w l f = elim (eqb_tells k y.var) [
+  | inl t ↦ let s : Some y.value ≡ Some w = rw t.0 at f in let same : y.value ≡ w = cc in subst (λ (n : ℕ). In w (domain p n)) (sym t.1) (subst (λ (u : ℤ). In u (domain p y.var)) same (known y (inl refl)).value)
+  | inr t ↦ pairs_in_domains p ys (λ z u. known z (inr u)) k w l (rw t.0 at f)
 ]
-  where
-    by_pairs : (pairs : List Pair) → ((y : Pair) → In y pairs → IsKnownPair p y) → value_at pairs k ≡ Some w → In w (domain p k)
-    by_pairs [] h f = absurd cc
-    by_pairs (y ∷ ys) h f = elim (eqb_tells k y.var) [
-      | inl t ↦ let s : Some y.value ≡ Some w = rw t.0 at f in let same : y.value ≡ w = cc in subst (λ (n : ℕ). In w (domain p n)) (sym t.1) (subst (λ (u : ℤ). In u (domain p y.var)) same (h y (inl refl)).value)
-      | inr t ↦ by_pairs ys (λ z u. h z (inr u)) (rw t.0 at f)
-    ]
+
+-- and so are these with one more that is in its domain
+pub more_in_domains : (p : Csp) (known : Known) (x : ℕ) (v : ℤ) → AreInDomains p known → In v (domain p x) → AreInDomains p (with_value x v known)
+more_in_domains p known x v h here k w l e = elim (eqb_tells k x) [
+  | inl t ↦ let s : Some v ≡ Some w = rw t.0 at e in let same : v ≡ w = cc in subst (λ (n : ℕ). In w (domain p n)) (sym t.1) (subst (λ (u : ℤ). In u (domain p x)) same here)
+  | inr t ↦ h k w l (rw t.0 at e)
+]
+
+-- a constraint of the problem is a reason exactly if it is violated
+pub false_rule : (p : Csp) (known : Known) (n : ℕ) (c : Constraint) (b : Bool) → slice_get p.constraints n ≡ Some c → b ≡ is_violated known c → (b ≡ true) ↔ IsFalseRule p known n
+false_rule p known n c b there e = (
+  λ t. (c, there, sym e ∙ t),
+  λ h.
+      let both : Some h.0 ≡ Some c = sym h.1 ∙ there in
+      let same : h.0 ≡ c = cc in
+      e ∙ subst (λ (d : Constraint). is_violated known d ≡ true) same h.2,
+)

@@ -1,1 +1,7 @@
+pub mod Citing
+pub mod Entries
 pub mod Findings
+pub mod Places
+pub mod Progress
+pub mod Rooms
+pub mod Tables

@@ -1,35 +1,40 @@
 //! The values that a step has at hand.
 
-ghost use Rattle.std.specs.Prelude.{◌≡◌, None};
-ghost use Rattle.dcsp_defs.specs.Csp.{given_with, agrees};
+ghost use Rattle.std.specs.Prelude.{◌≡◌, None, All};
+ghost use Rattle.dcsp_nogood.specs.Pairs.{value_at};
+ghost use Rattle.dcsp_defs.specs.Csp.{with_value, agrees};
+ghost use Rattle.dcsp_problem.specs.Problems.{csp_of};
+ghost use Rattle.ngd_check.specs.Places.{IsPlaced, pairs_of};
 
+use crate::arena::Placed;
+use crate::places::pair_at;
 use dcsp_nogood::{Nogood, Pair};
-use dcsp_problem::Lookup;
+use dcsp_problem::{Lookup, Problem};
 
-/// The values of a nogood's pairs, with a value of a further variable.
-#[derive(Clone, Copy)]
-pub struct Given<'n> {
-    pub nogood: &'n Nogood,
+/// Values that are known, with a value of a further variable.
+#[derive(Drop)]
+pub struct Given<'l, L> {
+    pub known: &'l L,
     pub var: u32,
     pub value: i64,
 }
 
-impl Lookup for Given<'_> {
-    ghost values = { λ given. given_with given.var given.value given.nogood.now };
+impl<L: Lookup> Lookup for Given<'_, L> {
+    ghost values = { λ given. with_value given.var given.value (L.values given.known.now) };
 
     fn value_of(&self, var: u32) -> Option<i64> {
         if var == self.var {
             Some(self.value)
         } else {
-            self.nogood.value_of(var)
+            self.known.value_of(var)
         }
     }
 }
 
-impl Given<'_> {
+impl<L: Lookup> Given<'_, L> {
     /// Whether these values have each of the pairs.
     pub fn agrees_with(&self, pairs: &[Pair]) -> bool
-        ensures { result ≡ agrees (given_with self.now.var self.now.value self.now.nogood.now) pairs.now }
+        ensures { result ≡ agrees (with_value self.now.var self.now.value (L.values self.now.known.now)) pairs.now }
     {
         for pair in pairs {
             if self.value_of(pair.var) != Some(pair.value) {
@@ -37,6 +42,34 @@ impl Given<'_> {
             }
         }
         true
+    }
+
+    /// Whether these values have each of the pairs that are given by places.
+    pub fn agrees_at(&self, problem: &Problem, pairs: &[Placed]) -> bool
+        requires { All (IsPlaced (csp_of problem.now)) pairs.now }
+        ensures { result ≡ agrees (with_value self.now.var self.now.value (L.values self.now.known.now)) (pairs_of (csp_of problem.now) pairs.now) }
+    {
+        for placed in pairs {
+            let pair = pair_at(problem, *placed);
+            if self.value_of(pair.var) != Some(pair.value) {
+                return false;
+            }
+        }
+        true
+    }
+}
+
+/// The values of a nogood's pairs, found by searches.
+#[derive(Clone, Copy)]
+pub struct Searched<'n> {
+    pub nogood: &'n Nogood,
+}
+
+impl Lookup for Searched<'_> {
+    ghost values = { λ searched. value_at searched.nogood.now };
+
+    fn value_of(&self, var: u32) -> Option<i64> {
+        self.nogood.value_of(var)
     }
 }
 

@@ -1,7 +1,14 @@
-//! Checks whether a derivation refutes a problem. It knows nothing of agents.
+//! Checks whether a derivation, or the entries of a log, refute a problem. It knows nothing of agents.
 #![tactic(auto)]
 
+mod arena;
+mod checker;
+mod cites;
+mod freed;
 mod given;
+mod kept;
+mod places;
+mod present;
 mod step;
 
 ghost use Rattle.std.specs.Prelude.{◌≡◌, ◌↔◌, IsTrue, List};
@@ -9,10 +16,15 @@ ghost use Rattle.dcsp_defs.specs.declared.Step.{Step};
 ghost use Rattle.dcsp_defs.specs.Derivation.{EndsEmpty};
 ghost use Rattle.dcsp_defs.specs.Csp.{Csp, IsCsp, HasNoSolution};
 ghost use Rattle.dcsp_problem.specs.Problems.{csp_of};
-ghost use Rattle.ngd_check.specs.Findings.{IsFinding};
+ghost use Rattle.ngd_check.specs.Findings.{IsFinding, IsFindingOf, IsFoundAlike};
+ghost use Rattle.ngd_check.specs.Entries.{EntriesExclude, EntriesRefute, AreOneForm};
+ghost use Rattle.ngd_log.specs.declared.entry.Entry.{Entry};
 
+pub use checker::Checker;
+use cites::NogoodsOf;
 use dcsp_problem::Problem;
 use ngd_log::{Derivation, Step};
+use step::is_right;
 
 #[cfg(test)]
 mod tests;
@@ -24,6 +36,8 @@ pub enum Finding {
     Verified,
     /// The step with this number, counted from 1, is the first that is wrong.
     BadStep { step: u64 },
+    /// The first wrong entry is a deletion, with so many steps before it. A derivation has none.
+    BadDeletion { after: u64 },
     /// Each step is right, and there is no step or the last nogood is not empty.
     NotEmpty,
 }
@@ -42,7 +56,10 @@ fn finding_of(problem: &Problem, steps: &[Step]) -> Finding
 {
     let vars = problem.vars();
     for (place, step) in steps.iter().enumerate() {
-        if !step::is_right(problem, vars, &steps[..place], step) {
+        let nogoods = NogoodsOf {
+            steps: &steps[..place],
+        };
+        if !is_right(problem, vars, &nogoods, step) {
             return Finding::BadStep {
                 step: place as u64 + 1,
             };
@@ -65,7 +82,24 @@ fn ends_empty(steps: &[Step]) -> bool
     }
 }
 
-/// A derivation has one finding.
+/// A derivation has one finding, and so have entries.
 pub fn one_finding()
-    ensures { (p : Csp) (steps : List Step) (f g : Finding) → IsFinding p steps f → IsFinding p steps g → f ≡ g }
+    ensures derivation { (p : Csp) (steps : List Step) (f g : Finding) → IsFinding p steps f → IsFinding p steps g → f ≡ g }
+    ensures entries { (p : Csp) (entries : List Entry) (f g : Finding) → IsFindingOf p entries f → IsFindingOf p entries g → f ≡ g }
+{}
+
+/// No solution extends the nogood of a step of right entries.
+pub fn entries_exclude()
+    ensures { (p : Csp) → EntriesExclude p }
+{}
+
+/// A problem that entries refute has no solution.
+pub fn entries_refute()
+    ensures { (p : Csp) → EntriesRefute p }
+{}
+
+/// A list of steps and its entries are right together, refute together, and have the same finding.
+pub fn one_form()
+    ensures right { (p : Csp) (steps : List Step) → AreOneForm p steps }
+    ensures found { (p : Csp) (steps : List Step) → IsFoundAlike p steps }
 {}

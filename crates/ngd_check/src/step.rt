@@ -1,43 +1,100 @@
-//! Whether a step is right, after those before it.
+//! Whether a step is right, where reasons may cite the nogoods at hand.
 
-ghost use Rattle.std.specs.Prelude.{All, ◌≡◌, ◌<◌, ◌≤◌, ◌↔◌, ℕ, ℤ, length, IsTrue, Some, slice_get};
+ghost use Rattle.std.specs.Prelude.{All, ◌≡◌, ◌<◌, ◌≤◌, ◌↔◌, ℕ, ℤ, length, IsTrue, IfOk, Some, slice_get};
 ghost use Rattle.std.specs.List.{AllZip};
 ghost use Rattle.dcsp_nogood.specs.declared.Pair.{Pair};
+ghost use Rattle.dcsp_nogood.specs.Pairs.{value_at};
 ghost use Rattle.dcsp_defs.specs.Words.{In};
-ghost use Rattle.dcsp_defs.specs.Csp.{domain, given_with};
-ghost use Rattle.dcsp_defs.specs.Derivation.{IsReason, IsAgreeingStep, IsKnownPair, IsFalseAlone, IsRightAt, IsRightNowhere, IsRight};
+ghost use Rattle.dcsp_defs.specs.Csp.{domain, with_value};
+ghost use Rattle.dcsp_defs.specs.Derivation.{IsKnownPair, IsFalseAlone, IsRightNowhere};
 ghost use Rattle.dcsp_problem.specs.Problems.{csp_of, AreInDomains};
+ghost use Rattle.ngd_check.specs.Tables.{IsClear};
+ghost use Rattle.ngd_check.specs.Citing.{IsReasonUnder, IsRightAtCiting, IsRightCiting};
 
-use crate::given::{Given, Nothing};
-use dcsp_nogood::{Nogood, Pair};
-use dcsp_problem::Problem;
+use crate::cites::Cites;
+use crate::given::{Given, Nothing, Searched};
+use crate::present::Present;
+use dcsp_list::Memory;
+use dcsp_nogood::Pair;
+use dcsp_problem::{Lookup, Problem};
 use ngd_log::{Reason, Step};
 
-/// Whether the step is right after the earlier ones. The problem has so many variables.
-pub fn is_right(problem: &Problem, vars: u32, earlier: &[Step], step: &Step) -> bool
+/// Whether the step is right. The problem has so many variables.
+pub fn is_right<C: Cites>(problem: &Problem, vars: u32, nogoods: &C, step: &Step) -> bool
     requires { vars ≡ length problem.now.domains }
-    ensures { IsTrue result ↔ IsRight (csp_of problem.now) earlier.now step.now }
+    ensures { IsTrue result ↔ IsRightCiting (csp_of problem.now) (C.cited nogoods.now) step.now }
+{
+    if !are_known(problem, vars, step.nogood.pairs()) {
+        return false;
+    }
+    let known = Searched {
+        nogood: &step.nogood,
+    };
+    is_right_known(problem, vars, nogoods, &known, step)
+}
+
+/// The same of a step whose pairs are those of variables of the problem and values of their domains, and are
+/// at hand.
+pub fn is_right_known<C: Cites, L: Lookup>(
+    problem: &Problem,
+    vars: u32,
+    nogoods: &C,
+    known: &L,
+    step: &Step,
+) -> bool
+    requires vars { vars ≡ length problem.now.domains }
+    requires pairs { All (IsKnownPair (csp_of problem.now)) step.now.nogood }
+    requires known { L.values known.now ≡ value_at step.now.nogood }
+    ensures { IsTrue result ↔ IsRightCiting (csp_of problem.now) (C.cited nogoods.now) step.now }
 {
     match step.variable {
-        Some(var) => is_right_at(problem, vars, earlier, var, step),
+        Some(var) => is_right_at(problem, vars, nogoods, known, var, step),
         None => is_right_nowhere(problem, step),
     }
 }
 
-fn is_right_at(problem: &Problem, vars: u32, earlier: &[Step], var: u32, step: &Step) -> bool
-    requires { vars ≡ length problem.now.domains }
-    ensures { IsTrue result ↔ IsRightAt (csp_of problem.now) earlier.now var step.now }
+/// The same by a table that has no values, and again has none.
+pub fn is_right_by<C: Cites>(
+    problem: &Problem,
+    nogoods: &C,
+    present: &mut Present,
+    step: &Step,
+) -> Result<bool, Memory>
+    requires pairs { All (IsKnownPair (csp_of problem.now)) step.now.nogood }
+    requires clear { IsClear present.old }
+    ensures right { IfOk result (λ right. IsTrue right ↔ IsRightCiting (csp_of problem.now) (C.cited nogoods.now) step.now) }
+    ensures clear { IsClear present.new }
 {
+    let vars = problem.vars();
+    present.make_ready(vars)?;
+    present.take_in(step.nogood.pairs());
+    let right = is_right_known(problem, vars, nogoods, present, step);
+    present.clear(step.nogood.pairs());
+    Ok(right)
+}
+
+fn is_right_at<C: Cites, L: Lookup>(
+    problem: &Problem,
+    vars: u32,
+    nogoods: &C,
+    known: &L,
+    var: u32,
+    step: &Step,
+) -> bool
+    requires vars { vars ≡ length problem.now.domains }
+    requires pairs { All (IsKnownPair (csp_of problem.now)) step.now.nogood }
+    requires known { L.values known.now ≡ value_at step.now.nogood }
+    ensures { IsTrue result ↔ IsRightAtCiting (csp_of problem.now) (C.cited nogoods.now) var step.now }
+{
+    // The pairs of a nogood rise, whatever is asked of them.
+    let _pairs = step.nogood.pairs();
     if var >= vars {
         return false;
     }
-    if step.nogood.value_of(var).is_some() {
+    if known.value_of(var).is_some() {
         return false;
     }
-    if !are_known(problem, vars, step.nogood.pairs()) {
-        return false;
-    }
-    are_reasons(problem, earlier, &step.nogood, var, step.reasons.items())
+    are_reasons(problem, nogoods, known, var, step.reasons.items())
 }
 
 /// Whether each pair names a variable of the problem and a value of its domain.
@@ -64,16 +121,16 @@ fn is_known(problem: &Problem, vars: u32, pair: Pair) -> bool
 }
 
 /// Whether there is a reason for each value of the variable, at its place.
-fn are_reasons(
+fn are_reasons<C: Cites, L: Lookup>(
     problem: &Problem,
-    earlier: &[Step],
-    nogood: &Nogood,
+    nogoods: &C,
+    known: &L,
     var: u32,
     reasons: &[Reason],
 ) -> bool
     requires variable { var < length problem.now.domains }
-    requires known { All (IsKnownPair (csp_of problem.now)) nogood.now }
-    ensures { IsTrue result ↔ AllZip (IsReason (csp_of problem.now) earlier.now nogood.now var) (domain (csp_of problem.now) var) reasons.now }
+    requires known { AreInDomains (csp_of problem.now) (L.values known.now) }
+    ensures { IsTrue result ↔ AllZip (λ value. IsReasonUnder (csp_of problem.now) (C.cited nogoods.now) (with_value var value (L.values known.now))) (domain (csp_of problem.now) var) reasons.now }
 {
     let values = problem.domain(var);
     if reasons.len() != values.len() {
@@ -81,11 +138,11 @@ fn are_reasons(
     }
     for (place, reason) in reasons.iter().enumerate() {
         let given = Given {
-            nogood,
+            known,
             var,
             value: values.value(place),
         };
-        if !is_reason(problem, earlier, &given, *reason) {
+        if !is_reason(problem, nogoods, &given, *reason) {
             return false;
         }
     }
@@ -93,24 +150,19 @@ fn are_reasons(
 }
 
 /// Whether this reason rules the value out.
-fn is_reason(problem: &Problem, earlier: &[Step], given: &Given, reason: Reason) -> bool
-    requires { AreInDomains (csp_of problem.now) (given_with given.now.var given.now.value given.now.nogood.now) }
-    ensures { IsTrue result ↔ IsReason (csp_of problem.now) earlier.now given.now.nogood.now given.now.var given.now.value reason }
+fn is_reason<C: Cites, L: Lookup>(
+    problem: &Problem,
+    nogoods: &C,
+    given: &Given<L>,
+    reason: Reason,
+) -> bool
+    requires { AreInDomains (csp_of problem.now) (with_value given.now.var given.now.value (L.values given.now.known.now)) }
+    ensures { IsTrue result ↔ IsReasonUnder (csp_of problem.now) (C.cited nogoods.now) (with_value given.now.var given.now.value (L.values given.now.known.now)) reason }
 {
     match reason {
         Reason::Rule(number) => number < problem.rules() && problem.violated_by(number, given),
-        Reason::Earlier(number) => is_earlier(earlier, given, number),
+        Reason::Earlier(number) => nogoods.agrees(number, given),
     }
-}
-
-/// Whether the earlier step with this number has a nogood that agrees.
-fn is_earlier(earlier: &[Step], given: &Given, number: u64) -> bool
-    ensures { IsTrue result ↔ IsAgreeingStep earlier.now (given_with given.now.var given.now.value given.now.nogood.now) number }
-{
-    if number == 0 || number > earlier.len() as u64 {
-        return false;
-    }
-    given.agrees_with(earlier[number as usize - 1].nogood.pairs())
 }
 
 /// Whether the step has no variable and rests on a rule without variables that is false.

@@ -6,6 +6,7 @@ use Rattle.std.proofs.lemmas.Option.{slice_get-get_or}
 use Rattle.dcsp_defs.specs.declared.Step.{Step}
 use Rattle.dcsp_defs.specs.Derivation.{IsDerivation}
 use Rattle.dcsp_problem.specs.Problems.{csp_of}
+use Rattle.ngd_check.proofs.Citing.{right_to, right_from}
 use Rattle.ngd_check.proofs.finding_of.Goals as goal
 
 pub returns-then-not-is_right-clause-exact : goal.returns-then-not-is_right-clause-exact
@@ -18,7 +19,7 @@ returns-then-not-is_right-clause-exact c =
       step = step;
       there = rw add-one there;
       right_before = rw before c.loop-place.invariant;
-      wrong = λ h. let t = c.if-not-is_right.ensures.1 (rw before at h) in cc;
+      wrong = λ h. let t = c.if-not-is_right.ensures.1 (right_to (csp_of c.args.problem.now) (take place c.args.steps.now) step (rw before at h)) in cc;
     }
 
 pub loop-place-preserved : goal.loop-place-preserved
@@ -26,7 +27,7 @@ loop-place-preserved c =
     let place = c.loop-place.place in
     let step = c.index-steps-place.result in
     let more : take (place + 1) c.args.steps.now ≡ take place c.args.steps.now ++ step ∷ [] = take_more c.args.steps.now place step (omega arith) ∙ ap (λ (s : Step). take place c.args.steps.now ++ s ∷ []) (sym c.index-steps-place.is) in
-    rw more (derivation_push (csp_of c.args.problem.now) (take place c.args.steps.now) step c.loop-place.invariant (c.if-not-is_right.ensures.0 refl))
+    rw more (derivation_push (csp_of c.args.problem.now) (take place c.args.steps.now) step c.loop-place.invariant (right_from (csp_of c.args.problem.now) (take place c.args.steps.now) step (c.if-not-is_right.ensures.0 refl)))
 
 -- after the loop each step is right
 all_right : (p : Csp) (steps : List Step) (place : ℕ) → length steps ≤ place → IsDerivation p (take place steps) → IsDerivation p steps

@@ -1,27 +1,33 @@
-use Rattle.std.proofs.Common.{◌≡◌, Option, Some, None, refl, arith, false, is_some, sym, subst, List}
-use Rattle.dcsp_nogood.specs.declared.Pair.{Pair}
-use Rattle.dcsp_defs.specs.Derivation.{IsKnownPair}
-use Rattle.dcsp_problem.specs.Problems.{csp_of}
-use Rattle.std.specs.Prelude.{All}
-use Rattle.ngd_check.proofs.Zips.{all_in, in_all}
+use Rattle.std.proofs.Common.{◌≡◌, Option, Some, None, refl, arith, false, is_some, sym, ap, ◌∙◌, subst}
+use Rattle.std.specs.Prelude.{ℤ}
+use Rattle.std.specs.List.{AllZip}
+use Rattle.dcsp_nogood.specs.Pairs.{value_at}
+use Rattle.dcsp_defs.specs.Csp.{Known, domain, with_value}
+use Rattle.dcsp_problem.specs.Problems.{csp_of, AreInDomains}
+use Rattle.ngd_check.specs.Citing.{IsReasonUnder}
+use Rattle.ngd_check.proofs.Parts.{pairs_in_domains}
+use Rattle.ngd_check.proofs.Zips.{all_in}
 use Rattle.ngd_check.proofs.step.is_right_at.Goals as goal
 
 none_of : {A : Type 0} (o : Option A) → is_some o ≡ false → o ≡ None
 none_of None e = refl
 none_of (Some x) e = absurd cc
 
-pub returns-then-not-are_known : goal.returns-then-not-are_known
-returns-then-not-are_known c =
-    (λ t. absurd cc, λ h. c.if-not-are_known.ensures.1 (subst (λ (ps : List Pair). All (IsKnownPair (csp_of c.args.problem.now)) ps) (sym c.pairs.ensures.pairs) (in_all _ _ h.pairs)))
+pub are_reasons-requires-clause-known : goal.are_reasons-requires-clause-known
+are_reasons-requires-clause-known g c = subst (λ (f : Known). AreInDomains (csp_of c.args.problem.now) f) (sym c.requires.known) (pairs_in_domains (csp_of c.args.problem.now) c.args.step.now.nogood (all_in _ _ c.requires.pairs))
 
 pub returns : goal.returns
-returns c = (
-  λ t. record {
-    variable = omega arith;
-    rising = c.pairs.ensures.rising;
-    pairs = all_in _ _ (subst (λ (ps : List Pair). All (IsKnownPair (csp_of c.args.problem.now)) ps) c.pairs.ensures.pairs (c.if-not-are_known.ensures.0 refl));
-    other = none_of _ (let e = c.if-is_some.ensures in cc);
-    reasons = let z = c.are_reasons.ensures.0 t in rw c.items.ensures at z;
-  },
-  λ h. c.are_reasons.ensures.1 (rw c.items.ensures h.reasons),
-)
+returns g c =
+    let p = csp_of c.args.problem.now in
+    let nogood = c.args.step.now.nogood in
+    let R : Known → ℤ → _ → Type 0 = λ f value. IsReasonUnder p (g.C.Cites.cited c.args.nogoods.now) (with_value c.args.var value f) in
+    let here : value_at nogood c.args.var ≡ c.value_of.result = ap (λ (f : Known). f c.args.var) (sym c.requires.known) ∙ sym c.value_of.ensures in (
+      λ t. record {
+        variable = omega arith;
+        rising = c.pairs-pairs.ensures.rising;
+        pairs = all_in _ _ c.requires.pairs;
+        other = none_of (value_at nogood c.args.var) (ap is_some here ∙ (sym c.is_some.ensures ∙ c.if-is_some.false));
+        reasons = let z = subst (λ (f : Known). AllZip (R f) (domain p c.args.var) c.items.result.now) c.requires.known (c.are_reasons.ensures.0 t) in rw c.items.ensures at z;
+      },
+      λ h. c.are_reasons.ensures.1 (subst (λ (f : Known). AllZip (R f) (domain p c.args.var) c.items.result.now) (sym c.requires.known) (rw c.items.ensures h.reasons)),
+    )

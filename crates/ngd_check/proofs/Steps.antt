@@ -1,0 +1,57 @@
+-- One step of a checker.
+use Rattle.std.proofs.Common.{◌≡◌, ◌+◌, ◌==◌, ◌↔◌, ℕ, Bool, true, false, cond, List, [], ◌∷◌, ◌++◌, length, Option, Some, None, is_some, MatchOption, refl, sym, ◌∙◌, subst, All, inl, inr, arith}
+use Rattle.std.specs.List.{list_any}
+use Rattle.std.proofs.lemmas.Bool.Decides.{eqb_tells}
+use Rattle.dcsp_defs.specs.declared.Step.{Step}
+use Rattle.dcsp_defs.specs.Csp.{Nogood, IsCsp, HasNoSolution}
+use Rattle.dcsp_problem.specs.Problems.{csp_of}
+use Rattle.ngd_log.specs.declared.entry.Entry.{Entry}
+use Rattle.ngd_log.specs.declared.entry.Entry.TheVariants.{Step as A_step, Delete}
+use Rattle.ngd_check.specs.declared.Finding.{Finding}
+use Rattle.ngd_check.specs.Citing.{IsRightCiting}
+use Rattle.ngd_check.specs.Findings.{IsFirstWrongStep, IsFirstWrongDeletion}
+use Rattle.ngd_check.specs.Progress.{Progress, kept_at, HasTakenRight, IsWrongAt, HasTaken}
+use Rattle.ngd_check.proofs.Forms.{entries_refute}
+use Rattle.ngd_check.proofs.Taking.{taken_step, taken_wrong_step, taken_deletion, taken_wrong_deletion, wrong_stays, found_right}
+
+module _ (q : Progress) (going : q.wrong ≡ None) (es : List Entry) (h : HasTaken es q) where
+  right_so_far : HasTakenRight (csp_of q.problem) es q.kept q.ends_empty
+  right_so_far = subst (λ (o : Option Finding). MatchOption o (HasTakenRight (csp_of q.problem) es q.kept q.ends_empty) (IsWrongAt (csp_of q.problem) es)) going h
+
+  pub progress_step : (s : Step) (kept : List (Option Nogood)) (c : Bool) → IsRightCiting (csp_of q.problem) (kept_at q.kept) s → kept ≡ q.kept ++ Some s.nogood ∷ [] → ((c ≡ true) ↔ (s.nogood ≡ [])) → HasTaken (es ++ A_step s ∷ []) (record { problem = q.problem; kept = kept; ends_empty = c; wrong = q.wrong })
+  progress_step s kept c right same ends = rw (going, same) (taken_step (csp_of q.problem) es q.kept q.ends_empty right_so_far s c right ends)
+
+  pub progress_wrong_step : (s : Step) → ¬ IsRightCiting (csp_of q.problem) (kept_at q.kept) s → IsFirstWrongStep (csp_of q.problem) (es ++ A_step s ∷ []) (length q.kept + 1)
+  progress_wrong_step s wrong = taken_wrong_step (csp_of q.problem) es q.kept q.ends_empty right_so_far s wrong
+
+  pub progress_deletion : (ns : List ℕ) (kept : List (Option Nogood)) → All (λ n. is_some (kept_at q.kept n) ≡ true) ns → length kept ≡ length q.kept → ((n : ℕ) → kept_at kept n ≡ cond (list_any (λ deleted. n == deleted) ns) None (kept_at q.kept n)) → HasTaken (es ++ Delete ns ∷ []) (record { problem = q.problem; kept = kept; ends_empty = q.ends_empty; wrong = q.wrong })
+  progress_deletion ns kept there same cleared = rw going (taken_deletion (csp_of q.problem) es q.kept q.ends_empty right_so_far ns kept there same cleared)
+
+  pub progress_wrong_deletion : (ns : List ℕ) → ¬ All (λ n. is_some (kept_at q.kept n) ≡ true) ns → IsFirstWrongDeletion (csp_of q.problem) (es ++ Delete ns ∷ []) (length q.kept)
+  progress_wrong_deletion ns wrong = taken_wrong_deletion (csp_of q.problem) es q.kept q.ends_empty right_so_far ns wrong
+
+-- after a first wrong entry nothing changes
+pub progress_stays : (q : Progress) (f : Finding) (es : List Entry) (more : Entry) → q.wrong ≡ Some f → HasTaken es q → HasTaken (es ++ more ∷ []) q
+progress_stays q f es more found h =
+    let M : Option Finding → Type 0 = λ o. MatchOption o (HasTakenRight (csp_of q.problem) es q.kept q.ends_empty) (IsWrongAt (csp_of q.problem) es) in
+    let N : Option Finding → Type 0 = λ o. MatchOption o (HasTakenRight (csp_of q.problem) (es ++ more ∷ []) q.kept q.ends_empty) (IsWrongAt (csp_of q.problem) (es ++ more ∷ [])) in
+    subst N (sym found) (wrong_stays (csp_of q.problem) es more f (subst M found h))
+
+-- right entries that end in the empty nogood leave no solution
+pub progress_refutes : (q : Progress) (es : List Entry) → IsCsp (csp_of q.problem) → HasTaken es q → q.wrong ≡ None → q.ends_empty ≡ true → HasNoSolution (csp_of q.problem)
+progress_refutes q es ok h going ends = entries_refute (csp_of q.problem) ok es ((found_right (csp_of q.problem) es q.kept q.ends_empty (right_so_far q going es h)).1 ends)
+
+-- a nogood is empty if its pairs are
+pub empty_test : (xs ys : Nogood) (b : Bool) → b ≡ (length xs == 0) → xs ≡ ys → (b ≡ true) ↔ (ys ≡ [])
+empty_test xs ys b e same = subst (λ (zs : Nogood). (b ≡ true) ↔ (zs ≡ [])) same (by_pairs xs e)
+  where
+    by_pairs : (zs : Nogood) → b ≡ (length zs == 0) → (b ≡ true) ↔ (zs ≡ [])
+    by_pairs [] f = (λ _. refl, λ _. f)
+    by_pairs (z ∷ zs) f = elim (eqb_tells (length (z ∷ zs)) 0) [
+      | inl t ↦ absurd (let e : length (z ∷ zs) ≡ 0 = t.1 in omega arith)
+      | inr t ↦ (λ u. let g : false ≡ true = sym t.0 ∙ (sym f ∙ u) in cc, λ u. cc)
+    ]
+
+pub found_some : (o : Option Finding) → is_some o ≡ true → (f : Finding) × (o ≡ Some f)
+found_some None e = cc
+found_some (Some f) e = (f, refl)

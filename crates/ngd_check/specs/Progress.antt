@@ -1,0 +1,55 @@
+-- How far a checker is, and what it has taken.
+use Rattle.std.specs.Prelude.{◌≡◌, ◌↔◌, ◌≤◌, ℕ, zero, suc, ℤ, Bool, true, List, length, slice_index_or, Option, None, MatchOption}
+use Rattle.dcsp_defs.specs.Csp.{Csp, IsCsp, Nogood}
+use Rattle.dcsp_defs.specs.Derivation.{EndsEmpty}
+use Rattle.dcsp_problem.specs.Problems.{Contents, csp_of}
+use Rattle.ngd_log.specs.declared.entry.Entry.{Entry}
+use Rattle.ngd_check.specs.declared.Finding.{Finding}
+use Rattle.ngd_check.specs.declared.Finding.TheVariants.{Verified, BadStep, BadDeletion, NotEmpty}
+use Rattle.ngd_check.specs.Citing.{Cited}
+use Rattle.ngd_check.specs.Tables.{IsClear}
+use Rattle.ngd_check.specs.Entries.{steps_of, is_deleted, cited_after, AreRight}
+use Rattle.ngd_check.specs.Findings.{IsFirstWrongStep, IsFirstWrongDeletion}
+
+-- the problem; for each step the nogood that is kept of it; whether the last step's is empty; and what is found of the first wrong entry
+pub record Progress : Type 0 where
+  pub problem : Contents
+  pub kept : List (Option Nogood)
+  pub ends_empty : Bool
+  pub wrong : Option Finding
+
+-- the problem is well formed, and has so many variables
+pub record IsOver (vars : ℕ) (problem : Contents) : Type 0 where
+  pub counted : vars ≡ length problem.domains
+  pub csp : IsCsp (csp_of problem)
+
+-- between two entries no variable has a value
+pub record IsAtRest (vars : ℕ) (problem : Contents) (present : List (Option ℤ)) : Type 0 where
+  pub over : IsOver vars problem
+  pub clear : IsClear present
+
+-- what is kept of the step with this number
+abbrev pub kept_at : List (Option Nogood) → Cited
+kept_at kept zero = None
+kept_at kept (suc k) = slice_index_or kept k None
+
+-- no entry was wrong, what is kept is what numbers cite, and deletions have numbers of steps alone
+pub record HasTakenRight (p : Csp) (entries : List Entry) (kept : List (Option Nogood)) (ends_empty : Bool) : Type 0 where
+  pub right : AreRight p entries
+  pub steps : length kept ≡ length (steps_of entries)
+  pub cited : (number : ℕ) → kept_at kept number ≡ cited_after entries number
+  pub named : (number : ℕ) → is_deleted entries number ≡ true → number ≤ length (steps_of entries)
+  pub ends : (ends_empty ≡ true) ↔ EndsEmpty (steps_of entries)
+
+-- the finding is of a first wrong entry
+abbrev pub IsWrongAt : Csp → List Entry → Finding → Type 0
+IsWrongAt p entries Verified = ⊥
+IsWrongAt p entries (BadStep number) = IsFirstWrongStep p entries number
+IsWrongAt p entries (BadDeletion after) = IsFirstWrongDeletion p entries after
+IsWrongAt p entries NotEmpty = ⊥
+
+-- the checker is where taking these entries, in this order, leads
+abbrev pub HasTaken : List Entry → Progress → Type 0
+HasTaken entries checker = MatchOption checker.wrong
+    (HasTakenRight (csp_of checker.problem) entries checker.kept checker.ends_empty)
+    (IsWrongAt (csp_of checker.problem) entries)

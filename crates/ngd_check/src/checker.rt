@@ -1,0 +1,157 @@
+//! A checker of entries that come one by one.
+
+ghost use Rattle.std.specs.Prelude.{◌≡◌, ◌↔◌, IsTrue, IfOk, [], ◌∷◌, ◌++◌, None, List, OnOk, OnErr};
+ghost use Rattle.dcsp_defs.specs.Csp.{HasNoSolution};
+ghost use Rattle.dcsp_problem.specs.Problems.{csp_of};
+ghost use Rattle.ngd_log.specs.declared.entry.Entry.{Entry};
+ghost use Rattle.ngd_log.specs.declared.entry.Entry.TheVariants.{Step as A_step, Delete};
+ghost use Rattle.ngd_check.specs.Findings.{IsFindingOf};
+ghost use Rattle.ngd_check.specs.Citing.{IsRightCiting};
+ghost use Rattle.ngd_check.specs.Places.{ArePlaced};
+ghost use Rattle.ngd_check.specs.Progress.{HasTaken, kept_at};
+ghost use Rattle.ngd_check.specs.Tables.{IsClear};
+
+use crate::Finding;
+use crate::arena::Placed;
+use crate::kept::Kept;
+use crate::places::place_each;
+use crate::present::Present;
+use crate::step::is_right_by;
+use dcsp_list::Memory;
+use dcsp_problem::Problem;
+use ngd_log::{Entry, Step};
+use std::alloc::Global;
+use std::marker::Model;
+
+/// Takes the entries of a log one by one, and tells what is found of those taken.
+///
+/// It keeps the nogoods of the steps that no deletion has named, 4 bytes a pair and 8 bytes a step, and
+/// nothing else of an entry. It keeps the allocator that it was made with.
+#[derive(Drop)]
+pub struct Checker<'p> {
+    /// The number of the problem's variables.
+    vars: u32,
+    kept: Kept<'p>,
+    /// The values of the present step's pairs.
+    present: Present,
+    /// The present step's pairs with the places of their values.
+    placed: Vec<Placed>,
+    /// Whether the last step has the empty nogood.
+    ends_empty: bool,
+    /// What is found of the first wrong entry.
+    wrong: Option<Finding>,
+}
+
+impl<'p> Model for Checker<'p> {
+    ghost use Rattle.ngd_check.specs.Progress.{Progress, IsAtRest};
+
+    ghost Value = { Progress };
+
+    ghost view = { λ checker. record { problem = checker.kept.problem; kept = checker.kept.nogoods; ends_empty = checker.ends_empty; wrong = checker.wrong } };
+
+    ghost invariant = { λ checker. IsAtRest checker.vars checker.kept.problem checker.present };
+}
+
+impl<'p> Checker<'p> {
+    /// A checker that has taken no entry. It takes no memory.
+    pub fn new(alloc: Global, problem: &'p Problem) -> Checker<'p>
+        ensures problem { result.problem ≡ problem.now }
+        ensures taken { HasTaken [] result }
+    {
+        Checker {
+            vars: problem.vars(),
+            kept: Kept::new(alloc, problem),
+            present: Present::new(alloc),
+            placed: Vec::new(alloc),
+            ends_empty: false,
+            wrong: None,
+        }
+    }
+
+    /// Takes the next entry. A refusal, which is for want of memory alone, leaves the checker as it was.
+    pub fn take(&mut self, entry: &Entry) -> Result<(), Memory>
+        ensures problem { self.new.problem ≡ self.old.problem }
+        ensures taken { (entries : List Entry) → HasTaken entries self.old → OnOk result (HasTaken (entries ++ entry.now ∷ []) self.new) }
+        ensures err { OnErr result (self.new ≡ self.old) }
+    {
+        if self.wrong.is_some() {
+            return Ok(());
+        }
+        match entry {
+            Entry::Step(step) => self.take_step(step),
+            Entry::Delete(numbers) => {
+                self.take_deletion(numbers.items());
+                Ok(())
+            }
+        }
+    }
+
+    fn take_step(&mut self, step: &Step) -> Result<(), Memory>
+        requires { self.old.wrong ≡ None }
+        ensures problem { self.new.problem ≡ self.old.problem }
+        ensures taken { (entries : List Entry) → HasTaken entries self.old → OnOk result (HasTaken (entries ++ A_step step.now ∷ []) self.new) }
+        ensures err { OnErr result (self.new ≡ self.old) }
+    {
+        let right = is_right_after(&self.kept, &mut self.present, &mut self.placed, step)?;
+        if right {
+            self.kept.push(&self.placed)?;
+            self.ends_empty = step.nogood.pairs().is_empty();
+        } else {
+            self.wrong = Some(Finding::BadStep {
+                step: self.kept.len() + 1,
+            });
+        }
+        Ok(())
+    }
+
+    fn take_deletion(&mut self, numbers: &[u64])
+        requires { self.old.wrong ≡ None }
+        ensures problem { self.new.problem ≡ self.old.problem }
+        ensures taken { (entries : List Entry) → HasTaken entries self.old → HasTaken (entries ++ Delete numbers.now ∷ []) self.new }
+    {
+        if self.kept.has_each(numbers) {
+            self.kept.drop_each(numbers);
+        } else {
+            self.wrong = Some(Finding::BadDeletion {
+                after: self.kept.len(),
+            });
+        }
+    }
+
+    /// What is found of the entries taken. It takes no memory.
+    pub fn finding(&self) -> Finding
+        ensures exact { (entries : List Entry) → HasTaken entries self.now → IsFindingOf (csp_of self.now.problem) entries result }
+        ensures sound { (entries : List Entry) → HasTaken entries self.now → result ≡ Finding.Verified → HasNoSolution (csp_of self.now.problem) }
+    {
+        match self.wrong {
+            Some(finding) => finding,
+            None => {
+                if self.ends_empty {
+                    Finding::Verified
+                } else {
+                    Finding::NotEmpty
+                }
+            }
+        }
+    }
+}
+
+/// Whether the step is right, where these nogoods are kept. If it is, `placed` then has its pairs with the
+/// places of their values.
+fn is_right_after(
+    kept: &Kept,
+    present: &mut Present,
+    placed: &mut Vec<Placed>,
+    step: &Step,
+) -> Result<bool, Memory>
+    requires { IsClear present.old }
+    ensures right { IfOk result (λ right. IsTrue right ↔ IsRightCiting (csp_of kept.now.problem) (kept_at kept.now.nogoods) step.now) }
+    ensures placed { IfOk result (λ right. IsTrue right → ArePlaced (csp_of kept.now.problem) step.now.nogood placed.new.items) }
+    ensures clear { IsClear present.new }
+{
+    let problem = kept.problem();
+    if !place_each(problem, step.nogood.pairs(), placed)? {
+        return Ok(false);
+    }
+    is_right_by(problem, kept, present, step)
+}
