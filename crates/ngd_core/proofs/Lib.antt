@@ -1,0 +1,4 @@
+pub mod Limiting
+pub mod Marking
+pub mod Refuting
+pub mod Trimming

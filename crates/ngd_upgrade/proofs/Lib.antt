@@ -1,0 +1,6 @@
+pub mod Numbers
+pub mod EndLaws
+pub mod Findings
+pub mod Tables
+pub mod Texts
+pub mod GroupLaws

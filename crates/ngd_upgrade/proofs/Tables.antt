@@ -1,0 +1,160 @@
+-- Tables that are changed one by one, and the entries so far.
+use Rattle.std.proofs.Common.{◌≡◌, ℕ, zero, suc, ◌+◌, ◌-◌, ◌<◌, ◌≤◌, Bool, true, false, cond, ◌||◌, eqb, ltb, List, [], ◌∷◌, ◌++◌, length, take, drop, get_or, max, inl, inr, refl, sym, ap, ◌∙◌, append_assoc, arith}
+use Rattle.std.specs.List.{filter}
+use Rattle.std.proofs.Math.Nat.{le-max_left, max-eq_right}
+use Rattle.std.proofs.lemmas.Bool.{cases_eq, eq-eqb, ne_eqb}
+use Rattle.std.proofs.lemmas.List.{take_more, append-nil}
+use Rattle.std.proofs.lemmas.List.Elements.{filter-append}
+use Rattle.dcsp_defs.specs.declared.Reason.{Reason}
+use Rattle.dcsp_defs.specs.declared.Step.{Step}
+use Rattle.ngd_log.specs.declared.entry.Entry.{Entry}
+use Rattle.ngd_log.specs.declared.entry.Entry.TheVariants.{Step as A_step}
+use Rattle.ngd_upgrade.specs.Upgrade.{is_citation, cites, end_of, numbers, ending, as_deletion, deletion_after, upgraded_from, deleted_count}
+use Rattle.ngd_upgrade.proofs.EndLaws.{end_more}
+use Rattle.ngd_upgrade.proofs.Numbers.{count_split, count_most, length-numbers}
+
+-- ---- raised values
+
+-- the greater of two, twice
+max_twice : (n e : ℕ) → max n (max n e) ≡ max n e
+max_twice n e = max-eq_right {n = n} {m = max n e} (le-max_left n e)
+
+-- raised by one test, and by another
+raised : (a b : Bool) (n e x : ℕ) → x ≡ cond a (max n e) e → cond b (max n x) x ≡ cond (a || b) (max n e) e
+raised true true n e x h = rw h (max_twice n e)
+raised true false n e x h = h
+raised false true n e x h = rw h refl
+raised false false n e x h = h
+
+-- one reason more
+pub cites_more : (number : ℕ) (reasons : List Reason) (i : ℕ) (d : Reason) → i < length reasons → cites number (take (i + 1) reasons) ≡ (cites number (take i reasons) || is_citation number (get_or reasons i d))
+cites_more number reasons i d lt = ap (cites number) (take_more reasons i d lt) ∙ any_push (take i reasons) (get_or reasons i d)
+  where
+    or_false : (b : Bool) → (b || false) ≡ b
+    or_false true = refl
+    or_false false = refl
+
+    or_later : (a b c : Bool) → (a || (b || c)) ≡ ((a || b) || c)
+    or_later true b c = refl
+    or_later false b c = refl
+
+    any_push : (rs : List Reason) (r : Reason) → cites number (rs ++ r ∷ []) ≡ (cites number rs || is_citation number r)
+    any_push [] r = or_false (is_citation number r)
+    any_push (x ∷ rs) r = ap (λ b. is_citation number x || b) (any_push rs r) ∙ or_later (is_citation number x) (cites number rs) (is_citation number r)
+
+-- a value with one reason more
+pub raised_more : (number n e x y : ℕ) (reasons : List Reason) (i : ℕ) (r : Reason) → i < length reasons → r ≡ get_or reasons i r
+    → x ≡ cond (cites number (take i reasons)) (max n e) e → y ≡ cond (is_citation number r) (max n x) x → y ≡ cond (cites number (take (i + 1) reasons)) (max n e) e
+raised_more number n e x y reasons i r lt is h k =
+    k ∙ raised (cites number (take i reasons)) (is_citation number r) n e x h
+    ∙ ap (λ (b : Bool). cond b (max n e) e) (ap (λ (q : Reason). cites number (take i reasons) || is_citation number q) is ∙ sym (cites_more number reasons i r lt))
+
+-- a value with one step more
+pub ended_more : (number x y : ℕ) (steps : List Step) (i : ℕ) (s : Step) → i < length steps → s ≡ get_or steps i s → x ≡ end_of (take i steps) number → length (take i steps) ≡ i
+    → y ≡ cond (cites number s.reasons) (max (i + 1) x) x → y ≡ end_of (take (i + 1) steps) number
+ended_more number x y steps i s lt is h count k =
+    k ∙ ap (λ (e : ℕ). cond (cites number s.reasons) (max (i + 1) e) e) h
+    ∙ ap (λ (n : ℕ). cond (cites number s.reasons) (max (n + 1) (end_of (take i steps) number)) (end_of (take i steps) number)) (sym count)
+    ∙ sym (end_more (take i steps) s number)
+    ∙ ap (λ (ss : List Step). end_of ss number) (ap (λ (t : Step). take i steps ++ t ∷ []) is ∙ sym (take_more steps i s lt))
+
+-- so many of the first
+pub taken : {X : Type 0} (xs : List X) (n : ℕ) → n ≤ length xs → length (take n xs) ≡ n
+taken xs zero le = refl
+taken [] (suc n) le = absurd (omega (arith, le))
+taken (x ∷ xs) (suc n) le = ap suc (taken xs n (omega (arith, le)))
+
+-- ---- groups
+
+-- a group with one number more
+pub group_more : (ends : List ℕ) (place k e : ℕ) (old new : List ℕ) → e ≡ get_or ends place 0 → 0 < e → old ≡ filter (λ number. eqb (get_or ends (number - 1) 0) (k + 1)) (numbers place)
+    → (k ≡ e - 1 → new ≡ old ++ (place + 1) ∷ []) → ((k ≡ e - 1 → ⊥) → new ≡ old) → new ≡ filter (λ number. eqb (get_or ends (number - 1) 0) (k + 1)) (numbers (place + 1))
+group_more ends place k e old new is some so_far here other =
+    let next : place + 1 ≡ suc place = omega arith in
+    let back : suc place - 1 ≡ place = omega arith in
+    let all : filter p (numbers (place + 1)) ≡ filter p (numbers place) ++ filter p (suc place ∷ []) = ap (λ (n : ℕ). filter p (numbers n)) next ∙ filter-append p (numbers place) (suc place ∷ []) in
+    let tested : p (suc place) ≡ eqb e (k + 1) = ap (λ (n : ℕ). eqb (get_or ends n 0) (k + 1)) back ∙ ap (λ (n : ℕ). eqb n (k + 1)) (sym is) in
+    elim (cases_eq k (e - 1)) [
+      | inl same ↦
+          let yes : p (suc place) ≡ true = tested ∙ eq-eqb e (k + 1) (omega (arith, same, some)) in
+          here same ∙ ap (λ (ns : List ℕ). ns ++ (place + 1) ∷ []) so_far ∙ ap (λ (n : ℕ). filter p (numbers place) ++ n ∷ []) next ∙ sym (all ∙ ap (λ (b : Bool). filter p (numbers place) ++ cond b (suc place ∷ []) []) yes)
+      | inr not_same ↦
+          let no_pick : p (suc place) ≡ false = tested ∙ ne_eqb e (k + 1) (λ f. not_same (omega (arith, f))) in
+          other not_same ∙ so_far ∙ sym (all ∙ ap (λ (b : Bool). filter p (numbers place) ++ cond b (suc place ∷ []) []) no_pick ∙ append-nil (filter p (numbers place)))
+    ]
+  where
+    p : ℕ → Bool
+    p number = eqb (get_or ends (number - 1) 0) (k + 1)
+
+-- ---- entries
+
+-- what is left with one step less
+pub left_next : (steps : List Step) (place : ℕ) (step : Step) → place + 1 < length steps → step ≡ get_or steps place step
+    → upgraded_from steps (place + 1) (drop place steps) ≡ A_step step ∷ (as_deletion (ending steps (place + 1)) ++ upgraded_from steps (place + 1 + 1) (drop (place + 1) steps))
+left_next steps place step lt is =
+    ap (upgraded_from steps (place + 1)) (dropped steps place step (omega (arith, lt)) is)
+    ∙ ap (λ (es : List Entry). A_step step ∷ (es ++ upgraded_from steps (place + 1 + 1) (drop (place + 1) steps))) (some_left (drop (place + 1) steps) (left steps (place + 1) lt))
+  where
+    dropped : (xs : List Step) (n : ℕ) (x : Step) → n < length xs → x ≡ get_or xs n x → drop n xs ≡ x ∷ drop (n + 1) xs
+    dropped [] n x lt is = absurd (omega (arith, lt))
+    dropped (y ∷ xs) zero x lt is = ap (λ (z : Step). z ∷ xs) (sym is)
+    dropped (y ∷ xs) (suc n) x lt is = let e : suc n + 1 ≡ suc (n + 1) = omega arith in rw e (dropped xs n x (omega (arith, lt)) is)
+
+    left : (xs : List Step) (n : ℕ) → n < length xs → 0 < length (drop n xs)
+    left [] n lt = absurd (omega (arith, lt))
+    left (y ∷ xs) zero lt = omega arith
+    left (y ∷ xs) (suc n) lt = left xs n (omega (arith, lt))
+
+    some_left : (others : List Step) → 0 < length others → deletion_after steps (place + 1) others ≡ as_deletion (ending steps (place + 1))
+    some_left [] lt = absurd (omega (arith, lt))
+    some_left (o ∷ others) lt = refl
+
+-- the entries so far with a step and its deletion
+pub entries_more : (steps : List Step) (place : ℕ) (step : Step) (into one two all : List Entry) (group : List ℕ) → place + 1 < length steps → step ≡ get_or steps place step
+    → into ++ upgraded_from steps (place + 1) (drop place steps) ≡ all → one ≡ into ++ A_step step ∷ [] → two ≡ one ++ as_deletion group → group ≡ ending steps (place + 1)
+    → two ++ upgraded_from steps (place + 1 + 1) (drop (place + 1) steps) ≡ all
+entries_more steps place step into one two all group lt is so_far e f g =
+    let rest = upgraded_from steps (place + 1 + 1) (drop (place + 1) steps) in
+    ap (λ (es : List Entry). es ++ rest) (f ∙ ap (λ (es : List Entry). es ++ as_deletion group) e)
+    ∙ ap (λ (ns : List ℕ). ((into ++ A_step step ∷ []) ++ as_deletion ns) ++ rest) g
+    ∙ append_assoc (into ++ A_step step ∷ []) (as_deletion (ending steps (place + 1))) rest
+    ∙ append_assoc into (A_step step ∷ []) (as_deletion (ending steps (place + 1)) ++ rest)
+    ∙ ap (λ (es : List Entry). into ++ es) (sym (left_next steps place step lt is)) ∙ so_far
+
+-- how many are deleted so far
+pub deleted_more : (steps : List Step) (place : ℕ) (step : Step) (deleted all : ℕ) (group : List ℕ) → place + 1 < length steps → step ≡ get_or steps place step
+    → deleted + deleted_count (upgraded_from steps (place + 1) (drop place steps)) ≡ all → group ≡ ending steps (place + 1)
+    → deleted + length group + deleted_count (upgraded_from steps (place + 1 + 1) (drop (place + 1) steps)) ≡ all
+deleted_more steps place step deleted all group lt is so_far g =
+    let rest = upgraded_from steps (place + 1 + 1) (drop (place + 1) steps) in
+    let one : deleted_count (upgraded_from steps (place + 1) (drop place steps)) ≡ length group + deleted_count rest =
+    ap deleted_count (left_next steps place step lt is) ∙ ap (λ (ns : List ℕ). deleted_count (as_deletion ns ++ rest)) (sym g) ∙ counted group in
+    omega (arith, so_far, one)
+  where
+    counted : (ns : List ℕ) → deleted_count (as_deletion ns ++ upgraded_from steps (place + 1 + 1) (drop (place + 1) steps)) ≡ length ns + deleted_count (upgraded_from steps (place + 1 + 1) (drop (place + 1) steps))
+    counted [] = omega arith
+    counted (n ∷ ns) = refl
+
+-- no more than those that ended
+pub few_more : (steps : List Step) (k deleted : ℕ) (group : List ℕ) → deleted ≤ length (filter (λ number. ltb (end_of steps number) k) (numbers (length steps))) → group ≡ ending steps k
+    → deleted + length group ≤ length (filter (λ number. ltb (end_of steps number) (k + 1)) (numbers (length steps)))
+few_more steps k deleted group few g =
+    let split = count_split (end_of steps) k (numbers (length steps)) in
+    let same = ap length g in
+    omega (arith, few, split, same)
+
+-- nor than the steps
+pub few_most : (steps : List Step) (k : ℕ) → length (filter (λ number. ltb (end_of steps number) k) (numbers (length steps))) ≤ length steps
+few_most steps k =
+    let a = count_most (λ number. ltb (end_of steps number) k) (numbers (length steps)) in
+    let b = length-numbers (length steps) in
+    omega (arith, a, b)
+
+-- an item of the front
+pub item_of_front : (xs front : List Step) (last : Step) (i : ℕ) (d : Step) → xs ≡ front ++ last ∷ [] → i < length front → get_or xs i d ≡ get_or front i d
+item_of_front xs front last i d e lt = ap (λ (ys : List Step). get_or ys i d) e ∙ in_front front i lt
+  where
+    in_front : (ys : List Step) (j : ℕ) → j < length ys → get_or (ys ++ last ∷ []) j d ≡ get_or ys j d
+    in_front [] j lt = absurd (omega (arith, lt))
+    in_front (y ∷ ys) zero lt = refl
+    in_front (y ∷ ys) (suc j) lt = in_front ys j (omega (arith, lt))
