@@ -11,7 +11,7 @@ use Rattle.dcsp_script.specs.Scripts.{Put, outside}
 use Rattle.dcsp_script.specs.Ways.{Wrote}
 use Rattle.dcsp_script.proofs.Leaves.{did_read, after_read}
 use Rattle.ngd_check.specs.declared.Finding.{Finding}
-use Rattle.ngd_check.specs.declared.Finding.TheVariants.{Verified, BadStep, NotEmpty}
+use Rattle.ngd_check.specs.declared.Finding.TheVariants.{Verified, BadStep, BadDeletion, NotEmpty}
 use Rattle.abt_promise.specs.declared.status.Status.{Status}
 use Rattle.abt_promise.specs.Statuses.{IsFinal}
 use Rattle.abt_promise.specs.Promises.{IsHeld}
@@ -24,7 +24,7 @@ use Rattle.abt_input.specs.Errors.{stop_error, way_of}
 use Rattle.abt_input.specs.Files.{IsModelReadOf, UnlessFault}
 use Rattle.abt_input.proofs.Files.{some_bytes}
 use Rattle.abt_input.proofs.Once.{one_problem}
-use Rattle.abt_check.specs.Checks.{IsOutcome, IsFoundIn, FetchesFailed, IsRefuted, finding_status, finding_text}
+use Rattle.abt_check.specs.Checks.{IsOutcomeOfLog, IsLogFound, IsOutcome, IsFoundIn, FetchesFailed, IsRefuted, finding_status, finding_text}
 use Rattle.abt_check.specs.CheckReports.{bad_model, bad_log, found, check_promise}
 
 model_refused : (model log : List ℕ) (e : CommandError) → IsModelReadOf model (Err e) → IsOutcome model log (Err e)
@@ -44,6 +44,23 @@ refused_first files model_name log_name e (Ok finding) is h = absurd (let no = i
 refused_first files model_name log_name e (Err y) is h =
     let log = some_bytes files log_name in rw (is.1) (h.0, log.0, h.1, log.1, model_refused h.0 log.0 e h.2)
 
+-- what was found of the log for the model's problem
+pub found_second : (files : Option (List ℕ → Option (List ℕ))) (model_name log_name : List ℕ) (p : Contents) (result : Result Finding CommandError) → ((model : List ℕ) × IsHeld files model_name model × IsModelOf model p) → IsLogFound files log_name p result
+    → IsFoundIn files model_name log_name result
+found_second files model_name log_name p result h k = (h.0, k.0, h.1, k.1, outcome result k.2)
+  where
+    outcome : (r : Result Finding CommandError) → IsOutcomeOfLog p k.0 r → IsOutcome h.0 k.0 r
+    outcome (Ok finding) x = record { problem = p; model_is = h.2; log_found = x }
+    outcome (Err ModelLong) x = absurd x
+    outcome (Err (ModelRefused error)) x = absurd x
+    outcome (Err LogLong) x = ((p, h.2), x)
+    outcome (Err (LogLine number)) x = ((p, h.2), x)
+    outcome (Err ScheduleLong) x = absurd x
+    outcome (Err (ScheduleLine number)) x = absurd x
+    outcome (Err (Clauses error)) x = absurd x
+    outcome (Err Fault) x = tt
+    outcome (Err Memory) x = tt
+
 -- the problem that was read of a model is the model's
 pub refuted : (files : Option (List ℕ → Option (List ℕ))) (name : List ℕ) (p : Contents) → ((model : List ℕ) × IsHeld files name model × IsModelOf model p) → HasNoSolution (csp_of p) → IsRefuted files name
 refuted None name p h none = tt
@@ -53,6 +70,7 @@ refuted (Some files) name p h none = λ q k.
 final_finding : (finding : Finding) → IsFinal (finding_status finding)
 final_finding Verified = tt
 final_finding (BadStep step) = tt
+final_finding (BadDeletion after) = tt
 final_finding NotEmpty = tt
 
 module _ (m l : List ℕ) (p q : Place) (out : Stream) (held : q.held ≡ p.held) (created : q.created ≡ p.created) where

@@ -1,22 +1,25 @@
 -- Each line's promise is lawful.
-use Rattle.std.proofs.Common.{◌≡◌, ℕ, zero, suc, List, [], ◌∷◌, sym, ap, subst, ◌∙◌, arith}
+use Rattle.std.proofs.Common.{◌≡◌, ℕ, zero, suc, ◌<◌, List, [], ◌∷◌, length, refl, sym, ap, subst, ◌∙◌, arith}
 use Rattle.std.specs.Prelude.{Contains}
 use Rattle.std.proofs.lemmas.List.Elements.{Contains-append_left, Contains-push}
-use Rattle.dcsp_problem.specs.Problems.{csp_of}
+use Rattle.dcsp_problem.specs.Problems.{Contents, csp_of}
 use Rattle.dcsp_script.specs.Scripts.{Write, Put}
 use Rattle.dcsp_script.specs.Texts.{Touches}
 use Rattle.ngd_check.specs.declared.Finding.{Finding}
-use Rattle.ngd_check.specs.declared.Finding.TheVariants.{Verified, BadStep, NotEmpty}
-use Rattle.ngd_check.specs.Findings.{IsFinding}
-use Rattle.ngd_check.proofs.Once.{one_finding}
+use Rattle.ngd_check.specs.declared.Finding.TheVariants.{Verified, BadStep, BadDeletion, NotEmpty}
+use Rattle.ngd_check.specs.Findings.{IsFindingOf}
+use Rattle.ngd_check.proofs.Once.{one_finding_of}
+use Rattle.ngd_log.specs.declared.entry.Entry.{Entry}
+use Rattle.ngd_log.proofs.EntryLaws.{entries_or_bad_line}
 use Rattle.abt_promise.specs.Statuses.{IsFinal, IsRefusal}
 use Rattle.abt_promise.specs.Promises.{Report, answered, refused}
 use Rattle.abt_promise.specs.Clauses.{IsLawful}
 use Rattle.abt_input.specs.declared.error.CommandError.{CommandError}
 use Rattle.abt_input.specs.declared.error.CommandError.TheVariants.{ModelLong, ModelRefused, LogLong, LogLine, ScheduleLong, ScheduleLine, Clauses, Fault, Memory}
-use Rattle.abt_input.specs.Errors.{IsErrorOfModel, IsErrorOfLog, error_status, error_text}
-use Rattle.abt_input.proofs.Once.{one_problem, one_text, no_error_of_model, no_error_of_log, one_error_of_model, one_error_of_log}
-use Rattle.abt_check.specs.Checks.{IsFound, finding_status, finding_text}
+use Rattle.abt_input.specs.Errors.{IsErrorOfModel, error_status, error_text}
+use Rattle.abt_input.specs.Inputs.{most_log}
+use Rattle.abt_input.proofs.Once.{one_problem, no_error_of_model, one_error_of_model}
+use Rattle.abt_check.specs.Checks.{HasEntries, IsEntryBadAt, IsErrorOfEntries, IsFoundFor, IsFound, finding_status, finding_text}
 use Rattle.abt_check.specs.CheckReports.{CheckReport, bad_model, bad_log, found, CheckReports, CheckFetches, check_promise}
 
 never : {A : Type 0} {x : A} → Contains [] x → ⊥
@@ -33,21 +36,67 @@ put_alone text names s e w c name t = at (subst (λ l. Contains l w) e c)
 none_alone : (names : List (List ℕ)) (s : List Write) → s ≡ [] → (w : Write) → Contains s w → (name : List ℕ) → Touches w name → Contains names name
 none_alone names s e w c name t = absurd (never (subst (λ l. Contains l w) e c))
 
+-- ---- logs of either version
+
+data OfEntries (log : List ℕ) (e : CommandError) : Type 0 where
+  long_log : most_log < length log → e ≡ LogLong → OfEntries log e
+  bad_line : (number : ℕ) → IsEntryBadAt log number → e ≡ LogLine number → OfEntries log e
+
+of_entries : (log : List ℕ) (e : CommandError) → IsErrorOfEntries log e → OfEntries log e
+of_entries log ModelLong h = absurd h
+of_entries log (ModelRefused error) h = absurd h
+of_entries log LogLong h = long_log h refl
+of_entries log (LogLine number) h = bad_line number h refl
+of_entries log ScheduleLong h = absurd h
+of_entries log (ScheduleLine number) h = absurd h
+of_entries log (Clauses error) h = absurd h
+of_entries log Fault h = absurd h
+of_entries log Memory h = absurd h
+
+-- a log has one list of entries
+one_list : (log : List ℕ) (a b : List Entry) → HasEntries log a → HasEntries log b → a ≡ b
+one_list log a b h k = (entries_or_bad_line log).one_list a b h.reads k.reads
+
+-- a log with entries has no error
+no_error_of_entries : (log : List ℕ) (entries : List Entry) (e : CommandError) → HasEntries log entries → IsErrorOfEntries log e → ⊥
+no_error_of_entries log entries e h k = so (of_entries log e k)
+  where
+    so : OfEntries log e → ⊥
+    so (long_log l is) = let s = h.short in omega (arith, s, l)
+    so (bad_line number l is) = (entries_or_bad_line log).not_both entries number h.reads l.line
+
+-- a log has one error
+one_error_of_entries : (log : List ℕ) (e d : CommandError) → IsErrorOfEntries log e → IsErrorOfEntries log d → e ≡ d
+one_error_of_entries log e d h k = so (of_entries log e h) (of_entries log d k)
+  where
+    so : OfEntries log e → OfEntries log d → e ≡ d
+    so (long_log l is) (long_log m be) = is ∙ sym be
+    so (long_log l is) (bad_line number m be) = absurd (let s = m.short in omega (arith, s, l))
+    so (bad_line number l is) (long_log m be) = absurd (let s = l.short in omega (arith, s, m))
+    so (bad_line number l is) (bad_line other m be) = is ∙ ap LogLine ((entries_or_bad_line log).one_line number other l.line m.line) ∙ sym be
+
+-- ---- checking
+
+-- one thing is found of a log for a problem
+one_found_for : (p : Contents) (log : List ℕ) (f g : Finding) → IsFoundFor p log f → IsFoundFor p log g → f ≡ g
+one_found_for p log f g h k =
+    let s = one_list log h.entries k.entries h.log_is k.log_is in
+    one_finding_of (csp_of p) k.entries f g (subst (λ x. IsFindingOf (csp_of p) x f) s h.found) k.found
+
 pub one_found : (model log : List ℕ) (f g : Finding) → IsFound model log f → IsFound model log g → f ≡ g
 one_found model log f g h k =
     let p = one_problem model h.problem k.problem h.model_is k.model_is in
-    let s = one_text log h.steps k.steps h.log_is k.log_is in
-    one_finding (csp_of k.problem) k.steps f g (subst (λ x. IsFinding (csp_of x) k.steps f) p (subst (λ x. IsFinding (csp_of h.problem) x f) s h.found)) k.found
+    one_found_for k.problem log f g (subst (λ x. IsFoundFor x log f) p h.log_found) k.log_found
 
 one_check : (model log : List ℕ) (r s : Report) → CheckReport model log r → CheckReport model log s → r ≡ s
 one_check model log r s (bad_model e h i) (bad_model d k j) = i ∙ ap (λ x. refused (error_status x) (error_text x)) (one_error_of_model model e d h k) ∙ sym j
 one_check model log r s (bad_model e h i) (bad_log d p k j) = absurd (no_error_of_model model p.0 e p.1 h)
 one_check model log r s (bad_model e h i) (found f k j) = absurd (no_error_of_model model k.problem e k.model_is h)
 one_check model log r s (bad_log d p k j) (bad_model e h i) = absurd (no_error_of_model model p.0 e p.1 h)
-one_check model log r s (bad_log d p k j) (bad_log e q h i) = j ∙ ap (λ x. refused (error_status x) (error_text x)) (one_error_of_log log d e k h) ∙ sym i
-one_check model log r s (bad_log d p k j) (found f h i) = absurd (no_error_of_log log h.steps d h.log_is k)
+one_check model log r s (bad_log d p k j) (bad_log e q h i) = j ∙ ap (λ x. refused (error_status x) (error_text x)) (one_error_of_entries log d e k h) ∙ sym i
+one_check model log r s (bad_log d p k j) (found f h i) = absurd (no_error_of_entries log h.log_found.entries d h.log_found.log_is k)
 one_check model log r s (found f k j) (bad_model e h i) = absurd (no_error_of_model model k.problem e k.model_is h)
-one_check model log r s (found f k j) (bad_log e q h i) = absurd (no_error_of_log log k.steps e k.log_is h)
+one_check model log r s (found f k j) (bad_log e q h i) = absurd (no_error_of_entries log k.log_found.entries e k.log_found.log_is h)
 one_check model log r s (found f k j) (found g h i) = j ∙ ap (λ x. answered (finding_status x) (Put (finding_text x) ∷ [])) (one_found model log f g k h) ∙ sym i
 
 one_reports : (inputs : List (List ℕ)) (r s : Report) → CheckReports inputs r → CheckReports inputs s → r ≡ s
@@ -74,7 +123,7 @@ final_error (Clauses error) model h = absurd h
 final_error Fault model h = h
 final_error Memory model h = h
 
-final_log_error : (e : CommandError) (log : List ℕ) → IsErrorOfLog log e → IsFinal (error_status e)
+final_log_error : (e : CommandError) (log : List ℕ) → IsErrorOfEntries log e → IsFinal (error_status e)
 final_log_error ModelLong log h = tt
 final_log_error (ModelRefused error) log h = tt
 final_log_error LogLong log h = tt
@@ -88,6 +137,7 @@ final_log_error Memory log h = h
 final_finding : (f : Finding) → IsFinal (finding_status f)
 final_finding Verified = tt
 final_finding (BadStep step) = tt
+final_finding (BadDeletion after) = tt
 final_finding NotEmpty = tt
 
 final_check : (model log : List ℕ) (r : Report) → CheckReport model log r → IsFinal r.status
@@ -98,6 +148,7 @@ final_check model log r (found f h i) = subst (λ y. IsFinal y.status) (sym i) (
 good_finding : (f : Finding) → IsRefusal (finding_status f) → ⊥
 good_finding Verified h = h
 good_finding (BadStep step) h = h
+good_finding (BadDeletion after) h = h
 good_finding NotEmpty h = h
 
 quiet_check : (model log : List ℕ) (r : Report) → CheckReport model log r → IsRefusal r.status → r.script ≡ []

@@ -1,10 +1,18 @@
 -- A log of a refutation is verified.
-use Rattle.std.proofs.Common.{◌≡◌, ℕ, List, [], ◌∷◌, Option, Some, refl, sym, subst}
-use Rattle.dcsp_outside.specs.Outside.{Stream, bytes_of}
+use Rattle.std.proofs.Common.{◌≡◌, ℕ, ◌+◌, List, [], ◌∷◌, ◌++◌, Option, codes, refl, sym, ap, ◌∙◌}
+use Rattle.std.specs.List.{concat}
+use Rattle.dcsp_outside.specs.Outside.{bytes_of}
 use Rattle.dcsp_defs.specs.declared.Step.{Step}
 use Rattle.dcsp_defs.specs.Derivation.{IsRefutation}
 use Rattle.dcsp_problem.specs.Problems.{Contents, csp_of}
-use Rattle.dcsp_script.specs.Scripts.{World, Put}
+use Rattle.dcsp_script.specs.Scripts.{Put}
+use Rattle.ngd_log.specs.declared.standing.Version.TheVariants.{One}
+use Rattle.ngd_log.specs.StepText.{step_line}
+use Rattle.ngd_log.specs.Logs.{step_lines, IsLogOf}
+use Rattle.ngd_log.specs.Entries.{entries_of}
+use Rattle.ngd_log.specs.EntryTexts.{entry_lines, IsLogOfEntries}
+use Rattle.ngd_log.proofs.OneAnswer.{have_text}
+use Rattle.ngd_check.proofs.Forms.{one_form}
 use Rattle.ngd_check.specs.declared.Finding.TheVariants.{Verified}
 use Rattle.abt_promise.specs.declared.status.Status.{Status}
 use Rattle.abt_promise.specs.declared.status.Status.TheVariants.{Good, No, Words, Model, Text, Unfinished, Fault, Memory}
@@ -13,17 +21,34 @@ use Rattle.abt_promise.specs.Promises.{answered}
 use Rattle.abt_promise.specs.Runs.{Ran}
 use Rattle.abt_promise.proofs.Following.{report_did}
 use Rattle.abt_input.specs.Inputs.{IsModelOf, IsTextOf}
-use Rattle.abt_check.specs.Checks.{finding_status, finding_text}
+use Rattle.abt_check.specs.Checks.{IsFoundFor, finding_status, finding_text}
 use Rattle.abt_check.specs.CheckReports.{CheckReport, found, check_promise}
 use Rattle.abt_check.specs.Verifying.{VerifiesUnlessStopped, IsVerified}
 use Rattle.abt_check.proofs.Lawful.{check_lawful}
+
+-- steps have the same lines as entries
+lines_same : (number : ℕ) (steps : List Step) → entry_lines number (entries_of steps) ≡ step_lines number steps
+lines_same number [] = refl
+lines_same number (s ∷ steps) = ap (λ (x : List (List ℕ)). step_line number s ∷ x) (lines_same (number + 1) steps)
+
+-- the log of steps is that of these as entries
+as_entries : (text : List ℕ) (steps : List Step) → IsLogOf text steps → IsLogOfEntries text (entries_of steps)
+as_entries text steps is = (One, record { writable = have_text One steps is.writable; same = is.same ∙ sym (ap (λ (ls : List (List ℕ)). codes "ngd 1\n" ++ concat ls ++ codes "end\n") (lines_same 1 steps)) })
+
+-- the log of a refutation is verified
+refutation_found : (log : List ℕ) (p : Contents) (steps : List Step) → IsTextOf log steps → IsRefutation (csp_of p) steps → IsFoundFor p log Verified
+refutation_found log p steps is refutes = record {
+  entries = entries_of steps;
+  log_is = record { short = is.short; reads = as_entries log steps is.reads };
+  found = (one_form (csp_of p) steps).refutation.0 refutes;
+}
 
 -- the files hold a model and the log of a refutation of its problem
 pub refutation_verified : (files : List ℕ → Option (List ℕ)) (model log : List ℕ) (p : Contents) (steps : List Step) → IsModelOf (bytes_of (files model)) p → IsTextOf (bytes_of (files log)) steps → IsRefutation (csp_of p) steps → IsVerified files model log
 refutation_verified files model log p steps is_model is_log refutes old new err now status told ran = by_status status ran
   where
     report_is : CheckReport (bytes_of (files model)) (bytes_of (files log)) (answered (finding_status Verified) (Put (finding_text Verified) ∷ []))
-    report_is = found Verified (record { problem = p; steps = steps; model_is = is_model; log_is = is_log; found = refutes }) refl
+    report_is = found Verified (record { problem = p; model_is = is_model; log_found = refutation_found (bytes_of (files log)) p steps is_log refutes }) refl
 
     -- a final status is that of the one report
     good : (s : Status) → Ran (check_promise model log) old new err now s → IsFinal s → s ≡ Good

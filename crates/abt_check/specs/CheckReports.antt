@@ -5,13 +5,13 @@ use Rattle.dcsp_script.specs.Scripts.{Put}
 use Rattle.abt_promise.specs.Promises.{Report, Promise, answered, refused}
 use Rattle.abt_input.specs.declared.error.CommandError.{CommandError}
 use Rattle.abt_input.specs.Inputs.{HasProblem}
-use Rattle.abt_input.specs.Errors.{IsErrorOfModel, IsErrorOfLog, error_status, error_text}
-use Rattle.abt_check.specs.Checks.{IsFound, finding_status, finding_text}
+use Rattle.abt_input.specs.Errors.{IsErrorOfModel, error_status, error_text}
+use Rattle.abt_check.specs.Checks.{IsErrorOfEntries, IsFound, finding_status, finding_text}
 
 -- its report of the bytes of a model and a log: the model is refused; or it has a problem and the log is refused; or what is found of them is put on `out`
 pub data CheckReport (model log : List ℕ) (report : Report) : Type 0 where
   bad_model : (error : CommandError) → IsErrorOfModel model error → report ≡ refused (error_status error) (error_text error) → CheckReport model log report
-  bad_log : (error : CommandError) → HasProblem model → IsErrorOfLog log error → report ≡ refused (error_status error) (error_text error) → CheckReport model log report
+  bad_log : (error : CommandError) → HasProblem model → IsErrorOfEntries log error → report ≡ refused (error_status error) (error_text error) → CheckReport model log report
   found : (finding : Finding) → IsFound model log finding → report ≡ answered (finding_status finding) (Put (finding_text finding) ∷ []) → CheckReport model log report
 
 -- its report of the bytes that it fetches

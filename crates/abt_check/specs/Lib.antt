@@ -1,3 +1,4 @@
 pub mod Checks
+pub mod LogChecks
 pub mod CheckReports
 pub mod Verifying

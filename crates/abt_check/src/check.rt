@@ -11,14 +11,15 @@ ghost use Rattle.abt_input.specs.Replies.{reply_bytes};
 ghost use Rattle.abt_check.specs.Checks.{IsFoundIn, FetchesFailed, IsRefuted, finding_status, finding_text};
 ghost use Rattle.abt_check.specs.CheckReports.{check_promise};
 
-use abt_input::{CommandError, Reply, numbered, read_derivation, read_model};
+use crate::pieces::check_log;
+use abt_input::{CommandError, Reply, numbered, read_model};
 use abt_promise::Status;
 use dcsp_outside::{Folder, Sink};
 use dcsp_script::{Stop, put};
-use ngd_check::{Finding, check};
+use ngd_check::Finding;
 use std::alloc::{AllocError, Global};
 
-/// What is found of the log's derivation for the model's problem. The model is read first.
+/// What is found of the log's entries for the model's problem. The model is read first.
 fn find<F: Folder>(
     alloc: Global,
     folder: &mut F,
@@ -34,8 +35,7 @@ fn find<F: Folder>(
         → FetchesFailed model.now log.now (F.place folder.old) (F.place folder.new) }
 {
     let problem = read_model(alloc, folder, model)?;
-    let derivation = read_derivation(alloc, folder, log)?;
-    Ok(check(&problem, &derivation))
+    check_log(alloc, folder, &problem, log)
 }
 
 /// The status of a finding.
@@ -44,7 +44,7 @@ pub fn finding_status(finding: Finding) -> Status
 {
     match finding {
         Finding::Verified => Status::Good,
-        Finding::BadStep { .. } | Finding::NotEmpty => Status::No,
+        Finding::BadStep { .. } | Finding::BadDeletion { .. } | Finding::NotEmpty => Status::No,
     }
 }
 
@@ -55,6 +55,7 @@ pub fn finding_reply(alloc: Global, finding: Finding) -> Result<Reply, AllocErro
     match finding {
         Finding::Verified => Ok(Reply::Fixed(b"verified\n")),
         Finding::BadStep { step } => numbered(alloc, b"rejected step ", step),
+        Finding::BadDeletion { after } => numbered(alloc, b"rejected deletion after step ", after),
         Finding::NotEmpty => Ok(Reply::Fixed(b"rejected not empty\n")),
     }
 }

@@ -1,8 +1,13 @@
-//! The line `check MODEL LOG`: a log is checked against a model, and what was found is put in one line.
+//! The line `check MODEL LOG`: a log of either version is checked against a model as its pieces
+//! come, and what was found is put in one line.
 #![tactic(auto)]
 
 mod check;
 mod laws;
+mod log_check;
+mod pieces;
 
 pub use check::{finding_reply, finding_status, run_check};
 pub use laws::check_is_lawful;
+pub use log_check::Checked;
+pub use pieces::{check_and_keep, check_log};

@@ -9,13 +9,14 @@ ghost use Rattle.abt_check.specs.Checks.{IsFound};
 ghost use Rattle.abt_run.specs.Asked.{seeded_session};
 ghost use Rattle.abt_drill.specs.Drills.{log_name, run_from};
 
-use abt_input::{read_derivation, read_model};
+use abt_check::check_log;
+use abt_input::read_model;
 use abt_schedule::{ChoiceList, Seeded};
 use abt_session::{Outcome, run};
 use dcsp_list::Memory;
 use dcsp_outside::{SureFolder, SureSink};
 use dcsp_problem::Problem;
-use ngd_check::{Finding, check};
+use ngd_check::Finding;
 use std::alloc::{AllocError, Global};
 
 /// The most deliveries of a run.
@@ -99,8 +100,8 @@ impl Trial {
             → IfOk result (IsFound text log) }
         ensures same { (self.new.problem ≡ self.old.problem) × (self.new.outcome ≡ self.old.outcome) }
     {
-        match read_derivation(alloc, &mut self.folder, "drill") {
-            Ok(derivation) => Ok(check(&self.problem, &derivation)),
+        match check_log(alloc, &mut self.folder, &self.problem, "drill") {
+            Ok(finding) => Ok(finding),
             Err(_) => Err(AllocError),
         }
     }

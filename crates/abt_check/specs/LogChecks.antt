@@ -1,0 +1,102 @@
+-- A log that is checked as its pieces come.
+use Rattle.std.specs.Prelude.{◌≡◌, ℕ, ◌+◌, ◌<◌, true, List, ◌++◌, length, Option, IfSome, Result, Ok, Err, ⊤}
+use Rattle.dcsp_outside.specs.Outside.{Place, SameCounts, IsPrefixOf, bytes_of}
+use Rattle.dcsp_outside.specs.declared.folder.Piece.{Piece}
+use Rattle.dcsp_outside.specs.declared.folder.Piece.TheVariants.{Part, End}
+use Rattle.dcsp_script.specs.declared.stop.Stop.{Stop}
+use Rattle.dcsp_script.specs.declared.stop.Stop.TheVariants as stops
+use Rattle.ngd_log.specs.declared.entry.Entry.{Entry}
+use Rattle.ngd_log.specs.EntryReading.{good_entries}
+use Rattle.ngd_log.specs.Pieces.{IsFed}
+use Rattle.ngd_check.specs.Entries.{steps_of}
+use Rattle.ngd_check.specs.Progress.{HasTaken}
+use Rattle.abt_promise.specs.Promises.{IsHeld}
+use Rattle.abt_input.specs.Inputs.{most_log}
+use Rattle.abt_input.specs.declared.error.CommandError.{CommandError}
+use Rattle.dcsp_problem.specs.Problems.{Contents, csp_of}
+use Rattle.ngd_check.specs.Findings.{IsFindingOf}
+use Rattle.abt_check.specs.declared.log_check.LogCheck.{LogCheck}
+use Rattle.abt_check.specs.declared.log_check.Checked.{Checked}
+use Rattle.abt_check.specs.Checks.{HasEntries, IsOutcomeOfLog}
+
+-- the check is of the same problem, and keeps steps or not as before
+pub record HasSameTask (old new : LogCheck) : Type 0 where
+  pub problem : new.checker.problem ≡ old.checker.problem
+  pub keeps : new.keeps ≡ old.keeps
+
+-- taking these entries leads from one check to the other
+pub record HasGoneOn (old new : LogCheck) (entries : List Entry) : Type 0 where
+  pub task : HasSameTask old new
+  pub reader : new.reader ≡ old.reader
+  pub taken : (before : List Entry) → HasTaken before old.checker → HasTaken (before ++ entries) new.checker
+  pub kept : old.keeps ≡ true → new.steps ≡ old.steps ++ steps_of entries
+
+-- the first of the entries were taken, and the others wait
+pub record HasTakenFront (old new : LogCheck) (entries others : List Entry) : Type 0 where
+  pub front : List Entry
+  pub parts : entries ≡ front ++ others
+  pub gone_on : HasGoneOn old new front
+
+-- the text has come: it was read, the entries of its good lines were checked, and their steps are kept where steps are
+pub record HasCome (check : LogCheck) (text : List ℕ) : Type 0 where
+  pub fed : IsFed check.reader text
+  pub taken : HasTaken (good_entries text) check.checker
+  pub kept : check.keeps ≡ true → check.steps ≡ steps_of (good_entries text)
+
+-- as many bytes have come; where the folder tells its files, they are the first of the name's
+pub record StandsAt (files : Option (List ℕ → Option (List ℕ))) (name : List ℕ) (from : ℕ) (check : LogCheck) : Type 0 where
+  pub text : List ℕ
+  pub counted : length text ≡ from
+  pub front : IfSome files (λ f. IsPrefixOf text (bytes_of (f name)))
+  pub come : HasCome check text
+
+-- all bytes of the name have come, and they are fewer than so many
+pub record HasEndedBelow (files : Option (List ℕ → Option (List ℕ))) (name : List ℕ) (bound : ℕ) (check : LogCheck) : Type 0 where
+  pub log : List ℕ
+  pub held : IsHeld files name log
+  pub short : length log < bound
+  pub come : HasCome check log
+
+-- where a piece of `most` bytes from this place leads
+abbrev pub LeadsOn : Option (List ℕ → Option (List ℕ)) → List ℕ → ℕ → ℕ → LogCheck → Result Piece Stop → Type 0
+LeadsOn files name from most check (Ok Part) = StandsAt files name (from + most) check
+LeadsOn files name from most check (Ok End) = HasEndedBelow files name (from + most) check
+LeadsOn files name from most check (Err stop) = ⊤
+
+-- the log under the name is too long
+abbrev pub IsLogLong : Option (List ℕ → Option (List ℕ)) → List ℕ → Type 0
+IsLogLong files name = (log : List ℕ) × IsHeld files name log × (most_log < length log)
+
+-- where the whole log leads: a part of it is left where it is too long
+abbrev pub LeadsToEnd : Option (List ℕ → Option (List ℕ)) → List ℕ → LogCheck → Result Piece Stop → Type 0
+LeadsToEnd files name check (Ok Part) = IsLogLong files name
+LeadsToEnd files name check (Ok End) = HasEndedBelow files name (most_log + 1) check
+LeadsToEnd files name check (Err stop) = ⊤
+
+-- what is found of the log's entries for this problem, with the log's steps, deletions left out
+pub record IsKeptFor (problem : Contents) (log : List ℕ) (checked : Checked) : Type 0 where
+  pub entries : List Entry
+  pub log_is : HasEntries log entries
+  pub found : IsFindingOf (csp_of problem) entries checked.finding
+  pub steps : checked.steps ≡ steps_of entries
+
+-- what checking the log for this problem comes to where its steps are kept, faults and want of memory aside
+abbrev pub IsOutcomeWithSteps : Contents → List ℕ → Result Checked CommandError → Type 0
+IsOutcomeWithSteps problem log (Ok checked) = IsKeptFor problem log checked
+IsOutcomeWithSteps problem log (Err error) = IsOutcomeOfLog problem log (Err error)
+
+-- the same of the log under the name
+abbrev pub IsLogKept : Option (List ℕ → Option (List ℕ)) → List ℕ → Contents → Result Checked CommandError → Type 0
+IsLogKept files name problem result = (log : List ℕ) × IsHeld files name log × IsOutcomeWithSteps problem log result
+
+-- this holds unless a fault stopped it
+abbrev pub UnlessFaulted : {T : Type 0} → Result T Stop → Type 0 → Type 0
+UnlessFaulted (Ok done) P = P
+UnlessFaulted (Err stops.Memory) P = P
+UnlessFaulted (Err stops.Fault) P = ⊤
+
+-- calls that read alone, and did not fail
+pub record HasOnlyRead (old new : Place) : Type 0 where
+  pub held : new.held ≡ old.held
+  pub created : new.created ≡ old.created
+  pub counts : SameCounts old new

@@ -1,0 +1,113 @@
+//! A log that is checked as its pieces come.
+
+ghost use Rattle.std.specs.Prelude.{◌≡◌, ℕ, ◌+◌, ◌++◌, ◌∷◌, [], ◌^◌, ◌≤◌, true, List, length, OnOk, Ok, Err};
+ghost use Rattle.dcsp_defs.specs.Csp.{HasNoSolution};
+ghost use Rattle.dcsp_problem.specs.Problems.{csp_of};
+ghost use Rattle.ngd_log.specs.declared.entry.Entry.{Entry as AnEntry};
+ghost use Rattle.ngd_check.specs.Entries.{steps_of};
+ghost use Rattle.abt_input.specs.Inputs.{most_log};
+ghost use Rattle.abt_check.specs.Checks.{IsOutcomeOfLog};
+ghost use Rattle.abt_check.specs.LogChecks.{HasSameTask, HasGoneOn, HasCome};
+
+use abt_input::CommandError;
+use dcsp_list::Memory;
+use dcsp_problem::Problem;
+use ngd_check::{Checker, Finding};
+use ngd_log::{Derivation, Entries, Entry, LogError, LogReader};
+use std::alloc::Global;
+
+/// A log of either version that is checked as its pieces come. Neither its text nor its entries are kept.
+#[derive(Drop)]
+pub struct LogCheck<'p> {
+    pub alloc: Global,
+    pub reader: LogReader,
+    pub checker: Checker<'p>,
+    /// Whether the steps are kept.
+    pub keeps: bool,
+    /// The steps so far, where they are kept.
+    pub steps: Derivation,
+}
+
+/// What is found of a log, with its steps.
+#[derive(Drop)]
+pub struct Checked {
+    /// What is found of the log's entries.
+    pub finding: Finding,
+    /// The log's steps in order, deletions left out.
+    pub steps: Derivation,
+}
+
+/// Keeps the entry where it is a step.
+fn keep_step(steps: &mut Derivation, entry: Entry) -> Result<(), Memory>
+    ensures { OnOk result (steps.new ≡ steps.old ++ steps_of (entry ∷ [])) }
+{
+    match entry {
+        Entry::Step(step) => steps.push(step).map_err(|_| Memory),
+        Entry::Delete(_) => Ok(()),
+    }
+}
+
+impl<'p> LogCheck<'p> {
+    /// A check of which nothing has come. It takes no memory.
+    pub fn new(alloc: Global, problem: &'p Problem, keeps: bool) -> LogCheck<'p>
+        ensures problem { result.checker.problem ≡ problem.now }
+        ensures keeps { result.keeps ≡ keeps }
+        ensures come { HasCome result [] }
+    {
+        LogCheck {
+            alloc,
+            reader: LogReader::new(alloc),
+            checker: Checker::new(alloc, problem),
+            keeps,
+            steps: Derivation::new(alloc),
+        }
+    }
+
+    fn take_entry(&mut self, entry: Entry) -> Result<(), Memory>
+        ensures { OnOk result (HasGoneOn self.old self.new (entry ∷ [])) }
+    {
+        self.checker.take(&entry)?;
+        if !self.keeps {
+            return Ok(());
+        }
+        keep_step(&mut self.steps, entry)
+    }
+
+    /// Takes the entries in order.
+    fn take_entries(&mut self, entries: &mut Entries) -> Result<(), Memory>
+        ensures { OnOk result (HasGoneOn self.old self.new entries.old) }
+    {
+        while let Some(entry) = entries.take_first() {
+            self.take_entry(entry)?;
+        }
+        Ok(())
+    }
+
+    /// Takes the next piece of the log, and checks the entries of the lines that it completes.
+    ///
+    /// The refusal is for want of memory alone: a bad line stands, and is told at the end.
+    pub fn take_piece(&mut self, piece: &[u8]) -> Result<(), Memory>
+        requires room { self.old.reader.fed + length piece.now ≤ 2 ^ 63 }
+        ensures task { OnOk result (HasSameTask self.old self.new) }
+        ensures come { (text : List ℕ) → HasCome self.old text → OnOk result (HasCome self.new (text ++ piece.now)) }
+    {
+        let mut entries = Entries::new(self.alloc);
+        match self.reader.feed(piece, &mut entries) {
+            Ok(()) | Err(LogError::Line { .. }) => self.take_entries(&mut entries),
+            Err(LogError::Memory) => Err(Memory),
+        }
+    }
+
+    /// What is found of the log that has come.
+    pub fn finding(&self) -> Result<Finding, CommandError>
+        ensures found { (log : List ℕ) → HasCome self.now log → length log ≤ most_log → IsOutcomeOfLog self.now.checker.problem log result }
+        ensures sound { (log : List ℕ) → HasCome self.now log → result ≡ Ok Finding.Verified → HasNoSolution (csp_of self.now.checker.problem) }
+        ensures no_fault { result ≡ Err CommandError.Fault → ⊥ }
+    {
+        match self.reader.finish() {
+            Ok(()) => Ok(self.checker.finding()),
+            Err(LogError::Line { number }) => Err(CommandError::LogLine { number }),
+            Err(LogError::Memory) => Err(CommandError::Memory),
+        }
+    }
+}
