@@ -1,0 +1,13 @@
+pub mod Coming
+pub mod Writing
+pub mod Files
+pub mod Lawful
+pub mod Meaning
+pub mod Lines
+pub mod OneCore
+pub mod CoreLawful
+pub mod Refuting
+pub mod Shorter
+pub mod CoreComing
+pub mod CoreFiles
+pub mod CoreFound

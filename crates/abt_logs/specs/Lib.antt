@@ -1,0 +1,4 @@
+pub mod UpgradePromise
+pub mod Upgrading
+pub mod CorePromise
+pub mod Trimming

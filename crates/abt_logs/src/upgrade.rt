@@ -1,0 +1,83 @@
+//! The line `upgrade LOG NEW`.
+
+ghost use Rattle.std.specs.Prelude.{◌≡◌, ◌∷◌, [], IfOk, OnOk};
+ghost use Rattle.dcsp_outside.specs.Outside.{Place};
+ghost use Rattle.dcsp_script.specs.Scripts.{Put, outside};
+ghost use Rattle.dcsp_script.specs.Ways.{Wrote};
+ghost use Rattle.ngd_log.specs.Logs.{AreWritable};
+ghost use Rattle.abt_promise.specs.Runs.{CameIn};
+ghost use Rattle.abt_input.specs.Errors.{way_of};
+ghost use Rattle.abt_logs.specs.UpgradePromise.{counts_text, upgrade_script, upgrade_promise};
+ghost use Rattle.abt_logs.specs.Upgrading.{HoldsUpgrade};
+
+use crate::entries::write_entries;
+use abt_input::{CommandError, read_derivation};
+use abt_promise::Status;
+use dcsp_outside::{Folder, Sink};
+use dcsp_script::{Stop, put};
+use itoa::Buffer;
+use ngd_log::{Derivation, Entries};
+use ngd_upgrade::upgraded;
+use std::alloc::{AllocError, Global};
+
+/// Writes the log, which is of version 1, under the new name as one of version 2: its steps in order, and after each
+/// but the last a deletion of the steps that no later one cites. Then it tells how many steps there are, and how
+/// many of them are deleted.
+pub fn run_upgrade<F: Folder, S: Sink>(
+    alloc: Global,
+    folder: &mut F,
+    log: &str,
+    new: &str,
+    out: &mut S,
+) -> Result<Status, CommandError>
+    ensures came { CameIn (upgrade_promise log.now new.now)
+        (outside (F.place folder.old) (S.stream out.old))
+        (outside (F.place folder.new) (S.stream out.new)) (way_of result) }
+    ensures writes { OnOk result (HoldsUpgrade log.now new.now (F.place folder.old).held (F.place folder.new).held) }
+{
+    let steps = read_derivation(alloc, folder, log)?;
+    upgrade(alloc, folder, &steps, new, out)?;
+    Ok(Status::Good)
+}
+
+/// Writes the steps with their deletions under the name, and tells their counts.
+fn upgrade<F: Folder, S: Sink>(
+    alloc: Global,
+    folder: &mut F,
+    steps: &Derivation,
+    new: &str,
+    out: &mut S,
+) -> Result<(), Stop>
+    requires { AreWritable steps.now }
+    ensures { Wrote (upgrade_script new.now steps.now)
+        (outside (F.place folder.old) (S.stream out.old))
+        (outside (F.place folder.new) (S.stream out.new)) result }
+{
+    let mut entries = Entries::new(alloc);
+    let Ok(deleted) = upgraded(alloc, steps, &mut entries) else {
+        return Err(Stop::Memory);
+    };
+    write_entries(alloc, folder, new, &mut entries)?;
+    tell(alloc, steps.len(), deleted, out)
+}
+
+/// Puts the line that tells the counts on `out`, in one piece.
+fn tell<S: Sink>(alloc: Global, steps: u64, deleted: u64, out: &mut S) -> Result<(), Stop>
+    ensures { (folder : Place) → Wrote (Put (counts_text steps deleted) ∷ [])
+        (outside folder (S.stream out.old)) (outside folder (S.stream out.new)) result }
+{
+    let line = counts_line(alloc, steps, deleted)?;
+    put(out, &line)
+}
+
+/// The line that tells how many steps there are, and how many of them are deleted.
+fn counts_line(alloc: Global, steps: u64, deleted: u64) -> Result<Vec<u8>, AllocError>
+    ensures { IfOk result (λ line. line.items ≡ counts_text steps deleted) }
+{
+    let mut line = Vec::from_slice(alloc, b"upgraded steps ")?;
+    line.extend_from_slice(Buffer::new().format(steps).as_bytes())?;
+    line.extend_from_slice(b" deleted ")?;
+    line.extend_from_slice(Buffer::new().format(deleted).as_bytes())?;
+    line.extend_from_slice(b"\n")?;
+    Ok(line)
+}
