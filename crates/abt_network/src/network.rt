@@ -125,7 +125,8 @@ impl<'p> Network<'p> {
     /// Sender and receiver of the ready list with this number, by sender and then by receiver.
     pub fn ready_pair(&self, number: u32) -> (u32, u32)
         requires { number < length (ready_pairs self.now.links) }
-        ensures { slice_get (ready_pairs self.now.links) number ≡ Some result }
+        ensures pair { slice_get (ready_pairs self.now.links) number ≡ Some result }
+        ensures machine { (net : TheNetwork) → StandsAt self.now net → self.now.spent ≡ false → slice_get (ready (csp_of self.now.problem) net) number ≡ Some result }
     {
         self.body.links.ready_pair(number)
     }

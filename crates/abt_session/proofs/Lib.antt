@@ -5,3 +5,6 @@ pub mod Stopping
 pub mod Turns
 pub mod Whole
 pub mod Writing
+pub mod Links
+pub mod Delays
+pub mod Nearest

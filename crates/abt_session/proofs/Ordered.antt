@@ -53,7 +53,7 @@ module _ (log : List ℕ) where
   append_lines_only [] = tt
   append_lines_only (line ∷ lines) = (tt, append_lines_only lines)
 
-  append_lines_leave : (name : List ℕ) → (log ≡ name → ⊥) → (lines : List (List ℕ)) → LeavesAlone (map (Append log) lines) name
+  pub append_lines_leave : (name : List ℕ) → (log ≡ name → ⊥) → (lines : List (List ℕ)) → LeavesAlone (map (Append log) lines) name
   append_lines_leave name other [] = tt
   append_lines_leave name other (line ∷ lines) = (other, append_lines_leave name other lines)
 
@@ -75,7 +75,7 @@ module _ (log : List ℕ) where
 
 -- ---- lines
 
-step_lines-append : (number : ℕ) (a b : List Step) → step_lines number (a ++ b) ≡ step_lines number a ++ step_lines (number + length a) b
+pub step_lines-append : (number : ℕ) (a b : List Step) → step_lines number (a ++ b) ≡ step_lines number a ++ step_lines (number + length a) b
 step_lines-append number [] b = let e : number ≡ number + 0 = omega arith in ap (λ n. step_lines n b) e
 step_lines-append number (x ∷ a) b = let e : number + 1 + length a ≡ number + suc (length a) = omega arith in ap (λ l. step_line number x ∷ l) (step_lines-append (number + 1) a b ∙ ap (λ n. step_lines (number + 1) a ++ step_lines n b) e)
 

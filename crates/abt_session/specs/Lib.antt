@@ -4,3 +4,4 @@ pub mod Sessions
 pub mod Order
 pub mod Running
 pub mod Runners
+pub mod Starving

@@ -78,6 +78,24 @@ fn a_refuted_run(rt: HostRuntime) -> Result<(), Fail> {
     Ok(())
 }
 
+#[test]
+fn a_starved_run(rt: HostRuntime) -> Result<(), Fail> {
+    let alloc = rt.alloc();
+    let problem = third_differs(alloc)?;
+    let mut taken = ChoiceList::new(alloc);
+    let told = starve(alloc, &problem, 0, 2, 10, &mut taken).expect(&rt, "memory");
+    assert_eq!(rt; told.end, StarvedEnd::Solved);
+    assert_eq!(rt; told.deliveries, 10);
+    assert_eq!(rt;
+        taken.choices(),
+        [1u32, 0, 0, 0, 0, 0, 0, 1, 1, 0].as_slice()
+    );
+    let told = starve(alloc, &problem, 0, 2, 1, &mut taken).expect(&rt, "memory");
+    assert_eq!(rt; told.end, StarvedEnd::Open);
+    assert_eq!(rt; told.deliveries, 1);
+    Ok(())
+}
+
 /// Choices that are all 0.
 const NAUGHTS: &[u8] = b"schedule 1\n0\n0\n0\n0\n0\n0\n0\n0\n0\nend\n";
 

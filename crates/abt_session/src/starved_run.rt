@@ -1,0 +1,145 @@
+//! A run that starves a link.
+
+ghost use Rattle.std.specs.Prelude.{◌≡◌, ◌<◌, ◌≤◌, ◌^◌, ◌++◌, ◌∷◌, [], true, false, length, IfOk, OnErr, OnOk};
+ghost use Rattle.abt_defs.specs.Network.{Network as TheNetwork, deliver, start};
+ghost use Rattle.abt_defs.specs.Runs.{starved, starved_choice};
+ghost use Rattle.dcsp_problem.specs.Problems.{csp_of};
+ghost use Rattle.law_replay.specs.Replay.{Verdicts};
+ghost use Rattle.abt_links.specs.Transit.{ready_pairs};
+ghost use Rattle.abt_network.specs.Standing.{CanDeliver, StandsAt};
+ghost use Rattle.abt_session.specs.Running.{TakesPart};
+ghost use Rattle.abt_session.specs.Starving.{end_at, starving_choices, AreNear, IsStarved};
+
+use abt_network::{Network, Standing};
+use abt_schedule::ChoiceList;
+use dcsp_list::Memory;
+use dcsp_problem::Problem;
+use std::alloc::Global;
+
+/// How a run that starves a link ends.
+#[derive(Clone, Copy, Debug, PartialEq, Eq)]
+pub enum StarvedEnd {
+    /// Nothing is in transit, and nothing was refuted: the values are a solution.
+    Solved,
+    /// A step with the empty nogood was made.
+    Refuted,
+    /// The greatest number of deliveries was made, and a message is in transit.
+    Open,
+}
+
+/// What a run that starves a link comes to.
+#[derive(Clone, Copy, Debug, PartialEq, Eq)]
+pub struct Starved {
+    pub end: StarvedEnd,
+    /// How many deliveries were made.
+    pub deliveries: u64,
+}
+
+/// Runs the agents of a problem, with at most `most` deliveries, and starves the link from `from` to `to`:
+/// each delivery is from the first list that is ready and not that link's, and from that link's only where
+/// it is the only one. Agents count from 0; a pair without messages starves nothing.
+///
+/// The choices are pushed to `taken`. Each is 0 or 1 and is the number of its list, so that a run by those
+/// numbers is a run under the choices. After want of memory some first ones of them were pushed.
+pub fn starve(
+    alloc: Global,
+    problem: &Problem,
+    from: u32,
+    to: u32,
+    most: u64,
+    taken: &mut ChoiceList,
+) -> Result<Starved, Memory>
+    requires { most ≤ 2 ^ 40 }
+    ensures starved { IfOk result (IsStarved (csp_of problem.now) from to most) }
+    ensures takes { OnOk result (taken.new ≡ taken.old ++ starving_choices (csp_of problem.now) from to most) }
+    ensures takes_part { TakesPart true (starving_choices (csp_of problem.now) from to most) taken.old taken.new }
+    ensures numbers { (starved (csp_of problem.now) from to most).numbers ≡ starving_choices (csp_of problem.now) from to most }
+    ensures near { AreNear most (starving_choices (csp_of problem.now) from to most) }
+    ensures verdicts { Verdicts (csp_of problem.now) most (starved (csp_of problem.now) from to most) }
+{
+    law_replay::verdicts();
+    let _vars = problem.vars();
+    let mut network = Network::new(alloc, problem)?;
+    let _begun = network.start()?;
+    deliver_others(&mut network, from, to, most, taken)?;
+    Ok(Starved {
+        end: end_of(&network),
+        deliveries: network.deliveries(),
+    })
+}
+
+/// Makes the deliveries of the run, until it ends or the greatest number was made.
+fn deliver_others(
+    network: &mut Network,
+    from: u32,
+    to: u32,
+    most: u64,
+    taken: &mut ChoiceList,
+) -> Result<(), Memory>
+    requires most { most ≤ 2 ^ 40 }
+    requires sound { network.old.spent ≡ false }
+    requires begun { network.old.begun ≡ true }
+    requires starts { StandsAt network.old (start (csp_of network.old.problem)) }
+    ensures stands { OnOk result (StandsAt network.new (starved (csp_of network.old.problem) from to most).net) }
+    ensures takes { OnOk result (taken.new ≡ taken.old ++ starving_choices (csp_of network.old.problem) from to most) }
+    ensures takes_part { TakesPart true (starving_choices (csp_of network.old.problem) from to most) taken.old taken.new }
+    ensures sound { OnOk result (network.new.spent ≡ false) }
+    ensures problem { network.new.problem ≡ network.old.problem }
+{
+    for _made in 0..most {
+        match network.state() {
+            Standing::Open => {}
+            Standing::Refuted | Standing::Quiet => return Ok(()),
+        }
+        deliver_other(network, from, to, taken)?;
+    }
+    Ok(())
+}
+
+/// Makes one delivery, from the first ready list of another pair, if there is one.
+fn deliver_other(
+    network: &mut Network,
+    from: u32,
+    to: u32,
+    taken: &mut ChoiceList,
+) -> Result<(), Memory>
+    requires sound { network.old.spent ≡ false }
+    requires can { CanDeliver network.old }
+    ensures stands { (net : TheNetwork) → StandsAt network.old net
+        → OnOk result (StandsAt network.new (deliver (csp_of network.old.problem) (starved_choice (csp_of network.old.problem) from to net) net)) }
+    ensures takes { (net : TheNetwork) → StandsAt network.old net
+        → OnOk result (taken.new ≡ taken.old ++ starved_choice (csp_of network.old.problem) from to net ∷ []) }
+    ensures not_taken { OnErr result (taken.new ≡ taken.old) }
+    ensures sound { OnOk result (network.new.spent ≡ false) }
+    ensures begun { OnOk result (network.new.begun ≡ true) }
+    ensures problem { network.new.problem ≡ network.old.problem }
+{
+    let number = first_other(network, from, to);
+    let _delivery = network.deliver(number)?;
+    taken.push(number)
+}
+
+/// The number of the first ready list of another pair, or 0 where there is none.
+fn first_other(network: &Network, from: u32, to: u32) -> u32
+    requires { network.now.spent ≡ false }
+    ensures { (net : TheNetwork) → StandsAt network.now net → result ≡ starved_choice (csp_of network.now.problem) from to net }
+{
+    for number in 0..network.ready() {
+        if network.ready_pair(number) != (from, to) {
+            return number;
+        }
+    }
+    0
+}
+
+/// How a run has ended that leaves the network so.
+fn end_of(network: &Network) -> StarvedEnd
+    requires { network.now.spent ≡ false }
+    ensures { (net : TheNetwork) → StandsAt network.now net → result ≡ end_at (csp_of network.now.problem) net }
+{
+    match network.state() {
+        Standing::Refuted => StarvedEnd::Refuted,
+        Standing::Quiet => StarvedEnd::Solved,
+        Standing::Open => StarvedEnd::Open,
+    }
+}

@@ -1,0 +1,4 @@
+pub mod Lawful
+pub mod Coming
+pub mod Files
+pub mod Replaying

@@ -1,0 +1,2 @@
+pub mod StarvePromise
+pub mod Starving
