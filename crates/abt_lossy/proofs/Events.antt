@@ -23,6 +23,7 @@ use Rattle.law_lossy.proofs.Events.{effect}
 use Rattle.law_lossy.proofs.Runs.{is_run}
 use Rattle.law_lossy.proofs.Whole.{one_more_event}
 use Rattle.abt_lossy.specs.declared.parts.Parts.{Parts}
+use Rattle.abt_lossy.specs.declared.parts.Happened.{Happened}
 use Rattle.abt_lossy.specs.declared.carrier.Arrival.TheVariants.{Done, Counted}
 use Rattle.abt_lossy.specs.Carries.{acknowledged_of, handed_up_of, Carries, Changes, Comes, Sends}
 use Rattle.abt_lossy.specs.AtWorld.{may_send, IsAt, IsEvent, Does}
@@ -95,7 +96,7 @@ none_up : (p : Csp) (words : List ℕ) (word : ℕ) (old new : Parts) → IsAt p
     → ((k i : ℕ) → k < count p → i < count p → has_pair new.senders k i ≡ may_send new k i) → IsEvent p words word (record { delivered = None; step = None }) (after p words (begin p)) new
 none_up p words word old new s f d n c g a m =
     let none : delivered p word (after p words (begin p)) ≡ None = ap (number_of p (reliable (after p words (begin p)))) d in
-    record { stands = at_none p words word old new s f none n c g a m; delivered = none; steps = none_steps p word (after p words (begin p)) d }
+    record { stands = at_none p words word old new s f none n c g a m; delivered = none; steps = none_steps p word (after p words (begin p)) d; right = tt; in_range = tt }
 
 -- ---- sending
 
@@ -175,3 +176,7 @@ comes_counted word k i n l new comes changes same g u m p words s f =
       ]
       | inr t ↦ rw t.0 (s.marks a b la lb ∙ still a b (now a b ∙ raised_row (acknowledged_of l.carrier.counts) k i a t.1 b))
     ])
+
+-- what happened is told
+pub happens_as : {word : ℕ} {a b : Happened} {l new : Parts} → a ≡ b → Does word a l new → Does word b l new
+happens_as {word = word} {l = l} {new = new} e h = subst (λ (x : Happened). Does word x l new) e h

@@ -1,6 +1,6 @@
 -- An event that hands up a message, and what its calls ask for.
 use Rattle.std.proofs.Common.{◌≡◌, ◌≢◌, ℕ, ◌+◌, ◌%◌, ◌^◌, ◌<◌, ◌≤◌, Bool, true, false, cond, ◌&&◌, ◌⊎◌, inl, inr, List, [], ◌∷◌, ◌++◌, length, map, slice_get, Option, Some, None, option_to_list, unwrap_or, ◌==◌, refl, sym, ap, ◌∙◌, subst, arith}
-use Rattle.std.specs.Prelude.{nat_lt}
+use Rattle.std.specs.Prelude.{nat_lt, IfSome}
 use Rattle.std.proofs.lemmas.Bool.Decides.{nat_tests, eqb_tells}
 use Rattle.dcsp_defs.specs.Csp.{Csp, count}
 use Rattle.dcsp_defs.specs.declared.Step.{Step}
@@ -10,10 +10,11 @@ use Rattle.dcsp_problem.specs.Problems.{csp_of}
 use Rattle.abt_message.specs.Messages.{message_of}
 use Rattle.abt_links.specs.Transit.{link_of, ready_pairs}
 use Rattle.abt_links.specs.PairTables.{has_pair}
+use Rattle.ngd_log.specs.StepText.{IsInRange}
 use Rattle.abt_network.specs.declared.Delivery.{Delivery}
 use Rattle.abt_network.specs.declared.Standing.{Standing}
 use Rattle.abt_network.specs.declared.Standing.TheVariants.{Open, Quiet, Refuted}
-use Rattle.abt_network.specs.Standing.{NetworkState, StandsAt, standing_in, CanDeliver, Delivers as CodeDelivers}
+use Rattle.abt_network.specs.Standing.{NetworkState, StandsAt, standing_in, reached, CanDeliver, Delivers as CodeDelivers, LeadsOn, IsRightStep}
 use Rattle.lossy_defs.specs.Packets.{Data, Acknowledgement, coming, staying}
 use Rattle.lossy_defs.specs.World.{World, begin, reliable, raised, add_packet, acknowledge, hand_up, arrive, come, event, after}
 use Rattle.lossy_defs.specs.Deliveries.{pair_of_event, number_of, delivered, numbers}
@@ -57,6 +58,7 @@ pub record Handed (word k i n c : ℕ) (step : Option Step) (l : Parts) (mid : C
   pub place : (net : Net) → StandsAt l.network net → slice_get (ready (csp_of l.network.problem) net) c ≡ Some (k, i)
   pub there : (net : Net) → StandsAt l.network net → StandsAt new.network (deliver (csp_of l.network.problem) c net)
   pub steps : (net : Net) → StandsAt l.network net → (deliver (csp_of l.network.problem) c net).steps ≡ net.steps ++ option_to_list step
+  pub right : (choices : List ℕ) → StandsAt l.network (reached l.network choices) → IsRightStep (csp_of l.network.problem) (reached l.network choices).steps step × IfSome step IsInRange
   pub hands : HandsUp k i n new.network.refuted mid new.carrier
   pub problem : new.network.problem ≡ l.network.problem
   pub begun : new.network.begun ≡ true
@@ -83,6 +85,8 @@ module _ (p : Csp) (words : List ℕ) (word k i n c : ℕ) (step : Option Step) 
       let chosen : d.choice ≡ c = same_some d.choice c (sym d.number ∙ dn) in
       let there : StandsAt new.network (deliver p c net) = subst (λ (q : Csp). StandsAt new.network (deliver q c net)) s.problem (h.there net s.network) in
       let made : (deliver p c net).steps ≡ net.steps ++ option_to_list step = subst (λ (q : Csp). (deliver q c net).steps ≡ net.steps ++ option_to_list step) s.problem (h.steps net s.network) in
+      let right : IsRightStep p net.steps step × IfSome step IsInRange =
+      subst (λ (q : Csp). StandsAt l.network (run q ns (start q)) → IsRightStep q (run q ns (start q)).steps step × IfSome step IsInRange) s.problem (h.right ns) s.network in
       let next : reliable (event p word w) ≡ deliver p c net = d.next ∙ ap (λ x. deliver p x (reliable w)) chosen ∙ ap (deliver p c) e in
       let one = one_more_event p words word f in
       let more : numbers p (words ++ word ∷ []) (begin p) ≡ ns ++ c ∷ [] = one.numbers ∙ ap (λ o. ns ++ option_to_list o) dn in
@@ -122,6 +126,8 @@ module _ (p : Csp) (words : List ℕ) (word k i n c : ℕ) (step : Option Step) 
         };
         delivered = dn;
         steps = ap (λ (x : Net). x.steps) next ∙ made ∙ ap (λ (x : Net). x.steps ++ option_to_list step) (sym e);
+        right = subst (λ (x : Net). IsRightStep p x.steps step) (sym e) right.0;
+        in_range = right.1;
       }
 
   hands_one : IsEvent p words word (record { delivered = Some c; step = step }) (after p words (begin p)) new
@@ -262,17 +268,18 @@ flag_of s = elim s.refuted as (λ b. is_refuted (cond b Refuted (cond (is_empty 
 pub next_case : (word k i n c count : ℕ) (flag : Bool) (standing : Standing) (d : Delivery) (l new : Parts) (mid car : Carrier) (s : NetworkState) → word % 4 ≢ 0 → Comes word (Next k i n) l.carrier mid
     → l.network.spent ≡ false → count ≡ length (ready_pairs l.network.links) → ((net : Net) → StandsAt l.network net → l.network.spent ≡ false → count ≡ length (ready (csp_of l.network.problem) net))
     → slice_get (ready_pairs l.network.links) c ≡ Some (k, i)
-    → ((net : Net) → StandsAt l.network net → CodeDelivers l.network.problem s net c d) → s.problem ≡ l.network.problem → s.begun ≡ true → s.spent ≡ false
+    → ((net : Net) → StandsAt l.network net → CodeDelivers l.network.problem s net c d) → ((choices : List ℕ) → StandsAt l.network (reached l.network choices) → LeadsOn l.network s choices c d) → s.problem ≡ l.network.problem → s.begun ≡ true → s.spent ≡ false
     → standing ≡ standing_in s → flag ≡ is_refuted standing → HandsUp k i n flag mid car
     → new.network ≡ s → new.carrier ≡ car → new.agents ≡ l.agents → new.senders.agents ≡ l.senders.agents
     → ((a b : ℕ) → has_pair new.senders a b ≡ cond (a == i && nat_lt b l.agents) (may_send (record l { network = s; carrier = car }) a b) (has_pair l.senders a b))
     → Does word (record { delivered = Some c; step = d.step }) l new
-next_case word k i n c count flag standing d l new mid car s kind comes sound many machine place delivers problem begun spent stands told hands en ec ea es m = comes_next word k i n c d.step l new mid (record {
+next_case word k i n c count flag standing d l new mid car s kind comes sound many machine place delivers leads problem begun spent stands told hands en ec ea es m = comes_next word k i n c d.step l new mid (record {
   kind = kind;
   comes = comes;
   place = λ net at. subst (λ (xs : List (ℕ × ℕ)). slice_get xs c ≡ Some (k, i)) (ready_are l.network net at (sym many ∙ machine net at sound)) place;
   there = λ net at. subst (λ (x : NetworkState). StandsAt x (deliver (csp_of l.network.problem) c net)) (sym en) (delivers net at).stands;
   steps = λ net at. (delivers net at).steps;
+  right = λ choices at. ((leads choices at).right, (leads choices at).in_range);
   hands = subst (λ (x : Carrier). HandsUp k i n new.network.refuted mid x) (sym ec) (subst (λ (b : Bool). HandsUp k i n b mid car) (told ∙ ap is_refuted stands ∙ flag_of s ∙ sym (ap (λ (x : NetworkState). x.refuted) en)) hands);
   problem = ap (λ (x : NetworkState). x.problem) en ∙ problem;
   begun = ap (λ (x : NetworkState). x.begun) en ∙ begun;

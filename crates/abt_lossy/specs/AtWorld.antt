@@ -1,5 +1,5 @@
 -- At which world the agents over the medium stand.
-use Rattle.std.specs.Prelude.{◌≡◌, ℕ, ◌+◌, ◌<◌, ◌^◌, Bool, true, false, nat_lt, List, [], ◌∷◌, ◌++◌, length, option_to_list}
+use Rattle.std.specs.Prelude.{◌≡◌, ℕ, ◌+◌, ◌<◌, ◌^◌, Bool, true, false, nat_lt, List, [], ◌∷◌, ◌++◌, length, IfSome, option_to_list}
 use Rattle.dcsp_defs.specs.Csp.{Csp, count}
 use Rattle.dcsp_problem.specs.Problems.{csp_of}
 use Rattle.abt_links.specs.Transit.{link_of}
@@ -7,7 +7,8 @@ use Rattle.abt_links.specs.PairTables.{has_pair}
 use Rattle.abt_defs.specs.Network.{run, start}
 use Rattle.abt_network.specs.declared.Standing.{Standing}
 use Rattle.abt_network.specs.declared.Standing.TheVariants.{Open, Quiet, Refuted}
-use Rattle.abt_network.specs.Standing.{StandsAt}
+use Rattle.ngd_log.specs.StepText.{IsInRange}
+use Rattle.abt_network.specs.Standing.{StandsAt, IsRightStep}
 use Rattle.lossy_defs.specs.World.{World, begin, after, event}
 use Rattle.lossy_defs.specs.Deliveries.{delivered, numbers}
 use Rattle.abt_lossy.specs.Carries.{Carries, CountsFit, acknowledged_of, handed_up_of}
@@ -38,11 +39,13 @@ pub record IsBlank (l : Parts) : Type 0 where
   pub begun : l.network.begun ≡ false
   pub sound : l.network.spent ≡ false
 
--- one event more has happened, which handed up what is told, with the step that is told
+-- one event more has happened, which handed up what is told, with the step that is told, which is right and can stand in a log
 pub record IsEvent (p : Csp) (words : List ℕ) (word : ℕ) (happened : Happened) (w : World) (new : Parts) : Type 0 where
   pub stands : IsAt p (words ++ word ∷ []) new
   pub delivered : delivered p word w ≡ happened.delivered
   pub steps : (event p word w).network.steps ≡ w.network.steps ++ option_to_list happened.step
+  pub right : IsRightStep p w.network.steps happened.step
+  pub in_range : IfSome happened.step IsInRange
 
 -- It is so wherever they stood.
 abbrev pub Does : ℕ → Happened → Parts → Parts → Type 0

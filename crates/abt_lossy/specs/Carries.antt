@@ -1,8 +1,9 @@
 -- Which counts and packets of the definitions the code's are, and what its events do to them.
-use Rattle.std.specs.Prelude.{◌≡◌, ℕ, ◌+◌, ◌<◌, ◌^◌, Bool, false, map, Option, Some, None}
+use Rattle.std.specs.Prelude.{◌≡◌, ℕ, ◌+◌, ◌<◌, ◌^◌, Bool, false, List, map, Option, Some, None}
 use Rattle.std.specs.Ordering.{nat_cmp, ordering_then}
 use Rattle.std.specs.declared.cmp.Ordering.{Ordering}
-use Rattle.std.specs.BTreeMap.{get}
+use Rattle.std.specs.Map.{lookup}
+use Rattle.std.specs.BTreeMap.{is_at}
 use Rattle.dcsp_defs.specs.Csp.{Csp}
 use Rattle.abt_defs.specs.Agents.{Message}
 use Rattle.lossy_defs.specs.Packets as packets
@@ -11,7 +12,6 @@ use Rattle.lossy_defs.specs.World.{World, raised, send_first, acknowledge, hand_
 use Rattle.lossy_defs.specs.Deliveries.{pair_of_packet, pair_of_event}
 use Rattle.abt_lossy.specs.declared.pool.Packet.{Packet}
 use Rattle.abt_lossy.specs.declared.pool.Packet.TheVariants.{Data, Acknowledgement}
-use Rattle.abt_lossy.specs.declared.counts.Counts.{Counts}
 use Rattle.abt_lossy.specs.declared.counts.PairCounts.{PairCounts}
 use Rattle.abt_lossy.specs.declared.carrier.Carrier.{Carrier}
 use Rattle.abt_lossy.specs.declared.carrier.Arrival.{Arrival}
@@ -38,13 +38,21 @@ acknowledged_in (Some x) = x.acknowledged
 abbrev pub pair_cmp : ℕ × ℕ → ℕ × ℕ → Ordering
 pair_cmp x y = ordering_then (nat_cmp x.0 y.0) (nat_cmp x.1 y.1)
 
+-- the counts of the pairs that are kept
+abbrev pub Counts : Type 0
+Counts = List ((ℕ × ℕ) × PairCounts)
+
+-- those of the pair from k to i, if it is kept
+abbrev pub counts_at : Counts → ℕ → ℕ → Option PairCounts
+counts_at counts k i = lookup (is_at (pair_cmp (k, i))) counts
+
 -- how many messages from k to i were handed up
 abbrev pub handed_up_of : Counts → ℕ → ℕ → ℕ
-handed_up_of counts k i = handed_up_in (get pair_cmp counts.pairs (k, i))
+handed_up_of counts k i = handed_up_in (counts_at counts k i)
 
 -- how many of them are known to be acknowledged
 abbrev pub acknowledged_of : Counts → ℕ → ℕ → ℕ
-acknowledged_of counts k i = acknowledged_in (get pair_cmp counts.pairs (k, i))
+acknowledged_of counts k i = acknowledged_in (counts_at counts k i)
 
 -- the carrier has what the world has, but for the messages
 pub record Carries (w : World) (c : Carrier) : Type 0 where

@@ -1,2 +1,4 @@
 pub mod Carries
 pub mod AtWorld
+pub mod InWorld
+pub mod Kept

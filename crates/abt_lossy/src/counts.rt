@@ -23,6 +23,15 @@ pub struct Counts {
     pairs: BTreeMap<(u32, u32), PairCounts>,
 }
 
+impl Model for Counts {
+    ghost use Rattle.std.specs.Prelude.{List, ℕ};
+    ghost use Rattle.abt_lossy.specs.declared.counts.PairCounts.{PairCounts};
+
+    ghost Value = { List ((ℕ × ℕ) × PairCounts) };
+
+    ghost view = { λ counts. counts.pairs.entries };
+}
+
 impl Counts {
     /// All counts are 0. It keeps the allocator.
     pub fn new(alloc: Global) -> Counts
@@ -74,10 +83,10 @@ impl Counts {
             handed_up: counts.handed_up + 1,
             acknowledged: counts.acknowledged,
         };
-        match self.pairs.insert((sender, receiver), more) {
-            Ok(_) => Ok(()),
-            Err(_) => Err(Memory),
-        }
+        let Ok(_) = self.pairs.insert((sender, receiver), more) else {
+            return Err(Memory);
+        };
+        Ok(())
     }
 
     /// One message more of the pair is known to be acknowledged. Where memory runs out, all counts are
@@ -94,9 +103,9 @@ impl Counts {
             handed_up: counts.handed_up,
             acknowledged: counts.acknowledged + 1,
         };
-        match self.pairs.insert((sender, receiver), more) {
-            Ok(_) => Ok(()),
-            Err(_) => Err(Memory),
-        }
+        let Ok(_) = self.pairs.insert((sender, receiver), more) else {
+            return Err(Memory);
+        };
+        Ok(())
     }
 }

@@ -8,14 +8,12 @@
 
 mod carrier;
 mod counts;
+mod lossy;
 mod parts;
 mod pool;
 
-pub use carrier::{Arrival, Carrier};
-pub use counts::Counts;
+pub use abt_network::{Begun, Standing};
 pub use dcsp_list::Memory;
-pub use parts::{Happened, Parts};
-pub use pool::{Packet, Pool};
-
-#[cfg(test)]
-mod tests;
+pub use lossy::Lossy;
+pub use ngd_log::Step;
+pub use parts::Happened;

@@ -55,6 +55,7 @@ impl<'p> Parts<'p> {
         requires { IsBlank self.old }
         ensures starts { IfOk result (λ told. Starts self.old.network.problem self.new.network told) }
         ensures stands { OnOk result (IsAt (csp_of self.old.network.problem) [] self.new) }
+        ensures problem { self.new.network.problem ≡ self.old.network.problem }
     {
         let begun = self.network.start()?;
         self.mark_every();
@@ -114,7 +115,8 @@ impl<'p> Parts<'p> {
     fn send(&mut self, word: u32) -> Result<(), Memory>
         requires fit { CountsFit self.old.carrier }
         requires kind { word % 4 ≡ 0 }
-        ensures { OnOk result (Does word (record { delivered = None; step = None }) self.old self.new) }
+        ensures does { OnOk result (Does word (record { delivered = None; step = None }) self.old self.new) }
+        ensures network { self.new.network ≡ self.old.network }
     {
         let count = self.senders.count();
         if count == 0 {
@@ -128,30 +130,22 @@ impl<'p> Parts<'p> {
     /// may be lost.
     pub fn event(&mut self, word: u32) -> Result<Happened, Memory>
         requires reached { IsReached self.old }
-        ensures { IfOk result (λ happened. Does word happened self.old self.new) }
+        ensures does { IfOk result (λ happened. Does word happened self.old self.new) }
+        ensures problem { self.new.network.problem ≡ self.old.network.problem }
     {
         if word % 4 == 0 {
             self.send(word)?;
-            return Ok(Happened {
-                delivered: None,
-                step: None,
-            });
+            return Ok(nothing());
         }
         match self.carrier.come(word)? {
-            Arrival::Done => Ok(Happened {
-                delivered: None,
-                step: None,
-            }),
+            Arrival::Done => Ok(nothing()),
             Arrival::Counted {
                 sender,
                 receiver,
                 number: _,
             } => {
                 self.mark(sender, receiver);
-                Ok(Happened {
-                    delivered: None,
-                    step: None,
-                })
+                Ok(nothing())
             }
             Arrival::Next {
                 sender,
@@ -174,6 +168,17 @@ impl<'p> Parts<'p> {
     }
 }
 
+/// Nothing was handed up, and no step was made.
+fn nothing() -> Happened
+    ensures { result ≡ record { delivered = None; step = None } }
+{
+    Happened {
+        delivered: None,
+        step: None,
+    }
+}
+
+/// Whether a network that stands so is refuted.
 fn is_refuted(standing: Standing) -> bool
     ensures { result ≡ is_refuted standing }
 {

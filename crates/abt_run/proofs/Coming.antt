@@ -32,7 +32,7 @@ use Rattle.abt_run.specs.SolvePromise.{ran, solve_promise}
 use Rattle.abt_run.proofs.Lawful.{final_end}
 
 -- there are some bytes under each of the names
-some_inputs : (files : Option (List ℕ → Option (List ℕ))) (names : List (List ℕ)) → (inputs : List (List ℕ)) × AreHeld files names inputs
+pub some_inputs : (files : Option (List ℕ → Option (List ℕ))) (names : List (List ℕ)) → (inputs : List (List ℕ)) × AreHeld files names inputs
 some_inputs files [] = ([], tt)
 some_inputs files (name ∷ names) = let x = some_bytes files name in let more = some_inputs files names in (x.0 ∷ more.0, (x.1, more.1))
 
@@ -68,7 +68,7 @@ module _ (promise : Promise) (m : List ℕ) (rest : List (List ℕ)) (fetched_is
     came = inl (record { before = []; later = h.0 ∷ others.0; are_first = refl; name = m; fetches = fetches; rose = fault refl; after = after_read p q out held created });
   }
 
-  unread_model : {e : CommandError} (r : Result Status CommandError) → IsErr r × IsErrAnd r (λ y. y ≡ e) → IsModelRead p.held m (Err e) → UnlessFault {T = Unit {0}} (Err e) (SameCounts p q) → (e ≡ Fault → Rose (p.reads m) (q.reads m)) → CameIn promise (outside p out) (outside q out) (way_of r)
+  pub unread_model : {e : CommandError} (r : Result Status CommandError) → IsErr r × IsErrAnd r (λ y. y ≡ e) → IsModelRead p.held m (Err e) → UnlessFault {T = Unit {0}} (Err e) (SameCounts p q) → (e ≡ Fault → Rose (p.reads m) (q.reads m)) → CameIn promise (outside p out) (outside q out) (way_of r)
   unread_model {e = e} (Ok x) is h counts fault = absurd (let no = is.0 in cc)
   unread_model {e = e} (Err y) is h counts fault = rw is.1 (no_model e h counts fault)
 

@@ -24,7 +24,7 @@ use Rattle.abt_run.proofs.Scripts.{touches_none, same_name, asked_leaves}
 
 -- ---- errors and ends
 
-final_error : (e : CommandError) (model : List ℕ) → IsErrorOfModel model e → IsFinal (error_status e)
+pub final_error : (e : CommandError) (model : List ℕ) → IsErrorOfModel model e → IsFinal (error_status e)
 final_error ModelLong model h = tt
 final_error (ModelRefused error) model h = tt
 final_error LogLong model h = tt
@@ -60,10 +60,10 @@ no_refusal Spent h = h
 
 -- ---- names
 
-in_nothing : {A : Type 0} {x : A} → Contains [] x → ⊥
+pub in_nothing : {A : Type 0} {x : A} → Contains [] x → ⊥
 in_nothing (i, below, is) = omega arith
 
-first_of : (a : List ℕ) (more : List (List ℕ)) → Contains (a ∷ more) a
+pub first_of : (a : List ℕ) (more : List (List ℕ)) → Contains (a ∷ more) a
 first_of a more = Contains-append_left (a ∷ []) more a (Contains-push [] a)
 
 -- a run changes only its log and its record
@@ -84,7 +84,7 @@ run_names asked r is w c name t = by_kept asked.kept refl
         (λ same. subst (λ n. Contains (asked.session.log ∷ k ∷ []) n) same (Contains-push (asked.session.log ∷ []) k))
         (λ other. absurd (touches_none (asked_script asked) w name (asked_leaves asked name unlike (rw e other)) inside t))))
 
-nothing_written : (names : List (List ℕ)) (r : Report) → r.script ≡ [] → (w : Write) → Contains r.script w → (name : List ℕ) → Touches w name → Contains names name
+pub nothing_written : (names : List (List ℕ)) (r : Report) → r.script ≡ [] → (w : Write) → Contains r.script w → (name : List ℕ) → Touches w name → Contains names name
 nothing_written names r is w c name t = absurd (in_nothing (subst (λ l. Contains l w) is c))
 
 -- ---- replay

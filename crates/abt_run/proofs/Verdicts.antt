@@ -56,7 +56,7 @@ unfinished_end Spent e = inr refl
 -- ---- solutions
 
 -- a solution is one by its values at the problem's variables alone
-same_solution : (p : Csp) → IsCsp p → (f g : ℕ → ℤ) → ((i : ℕ) → i < count p → f i ≡ g i) → IsSolution p g → IsSolution p f
+pub same_solution : (p : Csp) → IsCsp p → (f g : ℕ → ℤ) → ((i : ℕ) → i < count p → f i ≡ g i) → IsSolution p g → IsSolution p f
 same_solution p ok f g same h = record {
   domains = λ i l. subst (λ v. In v (domain p i)) (sym (same i l)) (h.domains i l);
   constraints = λ c is. (ok.constraints c is).local f g (λ k scope. same k ((ok.constraints c is).inside k scope)) ∙ h.constraints c is;

@@ -47,7 +47,9 @@ pub fn tell<S: Sink>(
     }
 }
 
-fn push_outcome(
+/// Pushes how the run ended: its solution or what stands in its place, how many deliveries and steps were made,
+/// and how many choices are left, where that is told.
+pub fn push_outcome(
     problem: &Problem,
     outcome: &Outcome,
     unused: Option<u64>,

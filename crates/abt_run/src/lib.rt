@@ -11,6 +11,8 @@ mod record;
 mod replay;
 mod solve;
 
+pub use ending::{end_status, push_outcome};
 pub use laws::records_replay;
+pub use record::write_record;
 pub use replay::{Replay, run_replay};
 pub use solve::{Solve, run_solve};

@@ -64,7 +64,7 @@ pub fn run_recorded<C: Choices, F: Folder, S: Sink>(
 }
 
 /// Writes the record of these numbers, where one is asked for.
-fn write_record<F: Folder>(
+pub fn write_record<F: Folder>(
     alloc: Global,
     folder: &mut F,
     kept: Option<&str>,

@@ -52,7 +52,7 @@ one_more_event p words word f =
 
 -- ---- the whole run
 
-quiet_same : (p : Csp) (w : World) → Facts p w → is_empty (ready p (reliable w)) ≡ is_quiet p w
+pub quiet_same : (p : Csp) (w : World) → Facts p w → is_empty (ready p (reliable w)) ≡ is_quiet p w
 quiet_same p w h = by_tests (is_empty (ready p (reliable w))) (is_quiet p w) refl refl
   where
     none_ready : (xs : List (ℕ × ℕ)) → ready p (reliable w) ≡ xs → IsQuiet p (reliable w) → is_empty xs ≡ true

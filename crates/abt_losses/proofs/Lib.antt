@@ -1,0 +1,11 @@
+pub mod Worlds
+pub mod Turns
+pub mod Counting
+pub mod SeedLoop
+pub mod CalmLoop
+pub mod Making
+pub mod Endings
+pub mod Meaning
+pub mod Lawful
+pub mod Coming
+pub mod Files

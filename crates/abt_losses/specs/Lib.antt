@@ -1,0 +1,4 @@
+pub mod Asked
+pub mod LossyPromise
+pub mod Runners
+pub mod Meaning
