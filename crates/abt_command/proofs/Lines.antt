@@ -18,10 +18,14 @@ use Rattle.abt_input.specs.Errors.{error_status, error_text, way_of}
 use Rattle.abt_input.proofs.Cnfs.{clauses_refuse}
 use Rattle.abt_models.proofs.Lawful.{bound_lawful, print_lawful}
 use Rattle.abt_run.proofs.Lawful.{replay_lawful, solve_lawful}
-use Rattle.abt_command.specs.Lines.{AreFileNames, Settings, no_settings, Sets, nothing, seeds, records, traces, trace_words, seed_words, AreSeed, IsCnf, Line, Help, Version, Check, Replay, Solve, Bound, Queens, Colouring, Drill, Rup, Cnf, IsFileName, IsWithin, IsSolve, IsLine, IsNoLine}
+use Rattle.abt_command.specs.Lines.{AreFileNames, Settings, no_settings, Sets, nothing, seeds, records, traces, trace_words, seed_words, AreSeed, IsCnf, Line, Help, Version, Check, Replay, Solve, Bound, Queens, Colouring, Drill, Upgrade, Core, Starve, Lossy, Rup, Cnf, IsFileName, IsWithin, IsSolve, IsLossy, IsLine, IsNoLine, record_words}
 use Rattle.abt_command.specs.LinePromises.{promise_of}
 use Rattle.abt_check.proofs.Lawful.{check_lawful}
 use Rattle.abt_drill.proofs.Lawful.{drill_lawful}
+use Rattle.abt_logs.proofs.Lawful.{upgrade_lawful}
+use Rattle.abt_logs.proofs.CoreLawful.{core_lawful}
+use Rattle.abt_starve.proofs.Lawful.{starve_lawful}
+use Rattle.abt_losses.proofs.Lawful.{lossy_lawful}
 use Rattle.abt_clauses.proofs.Lawful.{rup_lawful}
 use Rattle.abt_clauses.proofs.CnfLawful.{cnf_lawful}
 
@@ -48,9 +52,13 @@ the_line words s =
     (cond (bytes_eq word (codes "bound")) (Bound (get_or words 1 []))
     (cond (bytes_eq word (codes "gen")) (generated (get_or words 1 []) (number (get_or words 2 [])) (number (get_or words 3 [])) (number (get_or words 4 [])))
     (cond (bytes_eq word (codes "drill")) (Drill (number (get_or words 1 [])))
+    (cond (bytes_eq word (codes "upgrade")) (Upgrade (get_or words 1 []) (get_or words 2 []))
+    (cond (bytes_eq word (codes "core")) (Core (get_or words 1 []) (get_or words 2 []) (get_or words 3 []))
+    (cond (bytes_eq word (codes "starve")) (Starve (get_or words 1 []) (number (get_or words 2 [])) (number (get_or words 3 [])) (get_or words 4 []))
+    (cond (bytes_eq word (codes "lossy")) (Lossy (get_or words 1 []) (get_or words 2 []) (number (get_or words 3 [])) (number (get_or words 4 [])) (cond (nat_lt 5 (length words)) (Some (get_or words 6 [])) None))
     (cond (bytes_eq word (codes "rup")) (Rup (get_or words 1 []) (get_or words 2 []))
     (cond (bytes_eq word (codes "cnf")) (Cnf (get_or words 1 []) (get_or words 2 []) (cond (nat_lt 3 (length words)) (number (get_or words 4 [])) 0))
-    (Solve (get_or words 1 []) (get_or words 2 []) (unwrap_or s.seed 0) s.kept s.trace)))))))))
+    (Solve (get_or words 1 []) (get_or words 2 []) (unwrap_or s.seed 0) s.kept s.trace)))))))))))))
 
 module _ (words : List (List ℕ)) (s : Settings) where
   help_back : IsLine words Help → the_line words s ≡ Help
@@ -82,6 +90,25 @@ module _ (words : List (List ℕ)) (s : Settings) where
   drill_back : (seed : ℕ) → IsLine words (Drill seed) → the_line words s ≡ Drill seed
   drill_back seed h = rw h.0 (ap Drill (number_back seed h.1))
 
+  upgrade_back : (log new : List ℕ) → IsLine words (Upgrade log new) → the_line words s ≡ Upgrade log new
+  upgrade_back log new h = rw h.0 refl
+
+  core_back : (model log trimmed : List ℕ) → IsLine words (Core model log trimmed) → the_line words s ≡ Core model log trimmed
+  core_back model log trimmed h = rw h.0 refl
+
+  starve_back : (model : List ℕ) (from to : ℕ) (file : List ℕ) → IsLine words (Starve model from to file) → the_line words s ≡ Starve model from to file
+  starve_back model from to file h =
+      let a = number_back from (let l = h.1.1 in omega (arith, l)) in
+      let b = number_back to (let l = h.2.1 in omega (arith, l)) in
+      rw h.0 (ap (λ x. Starve model x (number (decimal to)) file) a ∙ ap (λ x. Starve model from x file) b)
+
+  lossy_back : (model log : List ℕ) (events seed : ℕ) (kept : Option (List ℕ)) → IsLine words (Lossy model log events seed kept) → the_line words s ≡ Lossy model log events seed kept
+  lossy_back model log events seed kept h = rw h.words_are (by_kept kept ∙ ap (λ x. Lossy model log x (number (decimal seed)) kept) (number_back events (let l = h.few.1 in omega (arith, l))) ∙ ap (λ x. Lossy model log events x kept) (number_back seed h.fits))
+    where
+      by_kept : (k : Option (List ℕ)) → the_line (codes "lossy" ∷ model ∷ log ∷ decimal events ∷ decimal seed ∷ record_words k) s ≡ Lossy model log (number (decimal events)) (number (decimal seed)) k
+      by_kept None = refl
+      by_kept (Some name) = refl
+
   rup_back : (cnf proof : List ℕ) → IsLine words (Rup cnf proof) → the_line words s ≡ Rup cnf proof
   rup_back cnf proof h = rw h.0 refl
 
@@ -104,6 +131,10 @@ back words (Bound model) h = (no_settings, bound_back words no_settings model h)
 back words (Queens n) h = (no_settings, queens_back words no_settings n h)
 back words (Colouring n k seed) h = (no_settings, colouring_back words no_settings n k seed h)
 back words (Drill seed) h = (no_settings, drill_back words no_settings seed h)
+back words (Upgrade log new) h = (no_settings, upgrade_back words no_settings log new h)
+back words (Core model log trimmed) h = (no_settings, core_back words no_settings model log trimmed h)
+back words (Starve model from to file) h = (no_settings, starve_back words no_settings model from to file h)
+back words (Lossy model log events seed kept) h = (no_settings, lossy_back words no_settings model log events seed kept h)
 back words (Rup cnf proof) h = (no_settings, rup_back words no_settings cnf proof h)
 back words (Cnf cnf proof seed) h = (no_settings, cnf_back words no_settings cnf proof seed h)
 back words (Solve model log seed kept trace) h = (h.settings, solve_back words model log seed kept trace h)
@@ -171,6 +202,10 @@ one_line words (Bound m) l h g = let b = back words l g in sym (bound_back words
 one_line words (Queens n) l h g = let b = back words l g in sym (queens_back words b.0 n h) ∙ b.1
 one_line words (Colouring n k c) l h g = let b = back words l g in sym (colouring_back words b.0 n k c h) ∙ b.1
 one_line words (Drill c) l h g = let b = back words l g in sym (drill_back words b.0 c h) ∙ b.1
+one_line words (Upgrade m o) l h g = let b = back words l g in sym (upgrade_back words b.0 m o h) ∙ b.1
+one_line words (Core m o t) l h g = let b = back words l g in sym (core_back words b.0 m o t h) ∙ b.1
+one_line words (Starve m a c o) l h g = let b = back words l g in sym (starve_back words b.0 m a c o h) ∙ b.1
+one_line words (Lossy m o n c k) l h g = let b = back words l g in sym (lossy_back words b.0 m o n c k h) ∙ b.1
 one_line words (Rup m o) l h g = let b = back words l g in sym (rup_back words b.0 m o h) ∙ b.1
 one_line words (Cnf m o c) l h g = let b = back words l g in sym (cnf_back words b.0 m o c h) ∙ b.1
 one_line words (Solve m o n r t) Help h g = sym (solve_back words m o n r t h) ∙ help_back words h.settings g
@@ -181,6 +216,10 @@ one_line words (Solve m o n r t) (Bound a) h g = sym (solve_back words m o n r t
 one_line words (Solve m o n r t) (Queens a) h g = sym (solve_back words m o n r t h) ∙ queens_back words h.settings a g
 one_line words (Solve m o n r t) (Colouring a b c) h g = sym (solve_back words m o n r t h) ∙ colouring_back words h.settings a b c g
 one_line words (Solve m o n r t) (Drill a) h g = sym (solve_back words m o n r t h) ∙ drill_back words h.settings a g
+one_line words (Solve m o n r t) (Upgrade a b) h g = sym (solve_back words m o n r t h) ∙ upgrade_back words h.settings a b g
+one_line words (Solve m o n r t) (Core a b c) h g = sym (solve_back words m o n r t h) ∙ core_back words h.settings a b c g
+one_line words (Solve m o n r t) (Starve a b c d) h g = sym (solve_back words m o n r t h) ∙ starve_back words h.settings a b c d g
+one_line words (Solve m o n r t) (Lossy a b c d e) h g = sym (solve_back words m o n r t h) ∙ lossy_back words h.settings a b c d e g
 one_line words (Solve m o n r t) (Rup a b) h g = sym (solve_back words m o n r t h) ∙ rup_back words h.settings a b g
 one_line words (Solve m o n r t) (Cnf a b c) h g = sym (solve_back words m o n r t h) ∙ cnf_back words h.settings a b c g
 one_line words (Solve m o n r t) (Solve a b c d e) h g = sym (solve_back words m o n r t h) ∙ ap (the_line words) (same_settings words m o a b n c r d t e h g) ∙ solve_back words a b c d e g
@@ -197,6 +236,10 @@ no_plain word help version (Bound m) h = omega (arith, ap length h.0)
 no_plain word help version (Queens n) h = omega (arith, ap length h.0)
 no_plain word help version (Colouring n k s) h = omega (arith, ap length h.0)
 no_plain word help version (Drill s) h = omega (arith, ap length h.0)
+no_plain word help version (Upgrade m o) h = omega (arith, ap length h.0)
+no_plain word help version (Core m o t) h = omega (arith, ap length h.0)
+no_plain word help version (Starve m a c o) h = omega (arith, ap length h.0)
+no_plain word help version (Lossy m o n c k) h = omega (arith, ap length h.words_are)
 no_plain word help version (Rup m o) h = omega (arith, ap length h.0)
 no_plain word help version (Cnf m o s) h = omega (arith, ap length h.words_are)
 
@@ -208,6 +251,10 @@ pub record NoKeyword (word : List ℕ) : Type 0 where
   pub bounds : word ≡ codes "bound" → ⊥
   pub gens : word ≡ codes "gen" → ⊥
   pub drills : word ≡ codes "drill" → ⊥
+  pub upgrades : word ≡ codes "upgrade" → ⊥
+  pub cores : word ≡ codes "core" → ⊥
+  pub starves : word ≡ codes "starve" → ⊥
+  pub loses : word ≡ codes "lossy" → ⊥
   pub rups : word ≡ codes "rup" → ⊥
   pub cnfs : word ≡ codes "cnf" → ⊥
 
@@ -221,6 +268,10 @@ no_keyword words one none (Bound m) h = none.bounds (ap (λ ws. get_or ws 0 []) 
 no_keyword words one none (Queens n) h = none.gens (ap (λ ws. get_or ws 0 []) h.0)
 no_keyword words one none (Colouring n k s) h = none.gens (ap (λ ws. get_or ws 0 []) h.0)
 no_keyword words one none (Drill s) h = none.drills (ap (λ ws. get_or ws 0 []) h.0)
+no_keyword words one none (Upgrade m o) h = none.upgrades (ap (λ ws. get_or ws 0 []) h.0)
+no_keyword words one none (Core m o t) h = none.cores (ap (λ ws. get_or ws 0 []) h.0)
+no_keyword words one none (Starve m a c o) h = none.starves (ap (λ ws. get_or ws 0 []) h.0)
+no_keyword words one none (Lossy m o n c k) h = none.loses (ap (λ ws. get_or ws 0 []) h.words_are)
 no_keyword words one none (Rup m o) h = none.rups (ap (λ ws. get_or ws 0 []) h.0)
 no_keyword words one none (Cnf m o s) h = none.cnfs (ap (λ ws. get_or ws 0 []) h.words_are)
 
@@ -261,6 +312,10 @@ no_gen words queens colourings (Replay m c o t) h = omega (arith, first_long _ _
 no_gen words queens colourings (Solve m o n r t) h = omega (arith, first_long _ _ _ refl h.words_are)
 no_gen words queens colourings (Bound m) h = omega (arith, first_long _ _ _ refl h.0)
 no_gen words queens colourings (Drill s) h = omega (arith, first_long _ _ _ refl h.0)
+no_gen words queens colourings (Upgrade m o) h = omega (arith, first_long _ _ _ refl h.0)
+no_gen words queens colourings (Core m o t) h = omega (arith, first_long _ _ _ refl h.0)
+no_gen words queens colourings (Starve m a c o) h = omega (arith, first_long _ _ _ refl h.0)
+no_gen words queens colourings (Lossy m o n c k) h = omega (arith, first_long _ _ _ refl h.words_are)
 no_gen words queens colourings (Rup m o) h = absurd (let e = ap (λ ws. bytes_eq (get_or ws 0 []) (codes "gen")) h.0 in cc)
 no_gen words queens colourings (Cnf m o s) h = absurd (let e = ap (λ ws. bytes_eq (get_or ws 0 []) (codes "gen")) h.words_are in cc)
 no_gen words queens colourings (Queens n) h = queens n (ap (drop 1) h.0) h.1
@@ -268,6 +323,23 @@ no_gen words queens colourings (Colouring n k s) h = colourings n k s (ap (drop 
 
 pub no_drill : (words : List (List ℕ)) → ((seed : ℕ) → words ≡ decimal seed ∷ [] → seed < 2 ^ 64 → ⊥) → IsNoLine (codes "drill" ∷ words)
 no_drill words none l h = let r = as_read (codes "drill" ∷ words) l h in none (number (get_or words 0 [])) (ap (drop 1) r.1.0) r.1.1
+
+pub no_upgrade : (words : List (List ℕ)) → ((log new : List ℕ) → words ≡ log ∷ new ∷ [] → AreFileNames (log ∷ new ∷ []) → ⊥) → IsNoLine (codes "upgrade" ∷ words)
+no_upgrade words none l h = let r = as_read (codes "upgrade" ∷ words) l h in none (get_or words 0 []) (get_or words 1 []) (ap (drop 1) r.1.0) r.1.1
+
+pub no_core : (words : List (List ℕ)) → ((model log trimmed : List ℕ) → words ≡ model ∷ log ∷ trimmed ∷ [] → AreFileNames (model ∷ log ∷ trimmed ∷ []) → ⊥) → IsNoLine (codes "core" ∷ words)
+no_core words none l h = let r = as_read (codes "core" ∷ words) l h in none (get_or words 0 []) (get_or words 1 []) (get_or words 2 []) (ap (drop 1) r.1.0) r.1.1
+
+pub no_starve : (words : List (List ℕ)) → ((model : List ℕ) (from to : ℕ) (file : List ℕ) → words ≡ model ∷ decimal from ∷ decimal to ∷ file ∷ [] → IsWithin 1 4096 from → IsWithin 1 4096 to → AreFileNames (model ∷ file ∷ []) → ⊥) → IsNoLine (codes "starve" ∷ words)
+no_starve words none l h =
+    let r = as_read (codes "starve" ∷ words) l h in
+    none (get_or words 0 []) (number (get_or words 1 [])) (number (get_or words 2 [])) (get_or words 3 []) (ap (drop 1) r.1.0) r.1.1 r.1.2 r.1.3
+
+pub no_lossy : (words : List (List ℕ)) → ((model log : List ℕ) (events seed : ℕ) (kept : Option (List ℕ)) → words ≡ model ∷ log ∷ decimal events ∷ decimal seed ∷ record_words kept → IsWithin 0 1000000 events → seed < 2 ^ 64 → AreFileNames (model ∷ log ∷ option_to_list kept) → ⊥) → IsNoLine (codes "lossy" ∷ words)
+no_lossy words none l h =
+    let r = as_read (codes "lossy" ∷ words) l h in
+    let is = r.1 in
+    none (get_or words 0 []) (get_or words 1 []) (number (get_or words 2 [])) (number (get_or words 3 [])) (cond (nat_lt 5 (suc (length words))) (Some (get_or words 5 [])) None) (ap (drop 1) is.words_are) is.few is.fits is.names
 
 pub no_rup : (words : List (List ℕ)) → ((cnf proof : List ℕ) → words ≡ cnf ∷ proof ∷ [] → AreFileNames (cnf ∷ proof ∷ []) → ⊥) → IsNoLine (codes "rup" ∷ words)
 no_rup words none l h = let r = as_read (codes "rup" ∷ words) l h in none (get_or words 0 []) (get_or words 1 []) (ap (drop 1) r.1.0) r.1.1
@@ -302,6 +374,10 @@ lawful (Bound m) = bound_lawful m
 lawful (Queens n) = print_lawful _
 lawful (Colouring n k s) = print_lawful _
 lawful (Drill s) = drill_lawful s
+lawful (Upgrade m o) = upgrade_lawful m o
+lawful (Core m o t) = core_lawful m o t
+lawful (Starve m a c o) = starve_lawful m a c o
+lawful (Lossy m o n c k) = lossy_lawful m o n c k
 lawful (Rup m o) = rup_lawful m o
 lawful (Cnf m o s) = cnf_lawful m o s
 

@@ -1,8 +1,9 @@
 -- What the answers of lines mean.
-use Rattle.std.proofs.Common.{◌≡◌, ℕ, List, Option, Result, Ok, Err, sym, ap, subst}
-use Rattle.std.specs.Prelude.{IfOk, ⊤}
+use Rattle.std.proofs.Common.{◌≡◌, ℕ, List, Result, Ok, Err, sym, ap, subst}
+use Rattle.std.specs.Prelude.{IfOk, OnOk, ⊤}
+use Rattle.dcsp_script.specs.Scripts.{World}
 use Rattle.abt_promise.specs.declared.status.Status.{Status}
-use Rattle.abt_promise.specs.declared.status.Status.TheVariants.{Good}
+use Rattle.abt_promise.specs.declared.status.Status.TheVariants.{Good, No}
 use Rattle.abt_promise.specs.Statuses.{IsFinal, IsRefusal}
 use Rattle.abt_input.specs.declared.error.CommandError.{CommandError}
 use Rattle.abt_check.specs.Checks.{IsRefuted}
@@ -10,11 +11,11 @@ use Rattle.abt_command.specs.Lines.{Line, Check}
 use Rattle.abt_command.specs.Meanings.{Means}
 
 -- the same of the same line
-pub means_of : {line other : Line} (old now : Option (List ℕ → Option (List ℕ))) (status : Status) → line ≡ other → Means line old now status → Means other old now status
+pub means_of : {line other : Line} (old now : World) (status : Status) → line ≡ other → Means line old now status → Means other old now status
 means_of old now status e h = subst (λ l. Means l old now status) e h
 
-pub verified_by : {line : Line} {model log : List ℕ} (old now : Option (List ℕ → Option (List ℕ))) (status : Status) → line ≡ Check model log → status ≡ Good
-    → (IsFinal status → (IsRefusal status → ⊥) → Means line old now status) → IsRefuted old model
+pub verified_by : {line : Line} {model log : List ℕ} (old now : World) (status : Status) → line ≡ Check model log → status ≡ Good
+    → (IsFinal status → (IsRefusal status → ⊥) → Means line old now status) → IsRefuted old.folder.held model
 verified_by old now status e good h = means_of old now status e (h (subst IsFinal (sym good) tt) (λ r. subst IsRefusal good r)) good
 
 -- nothing is asked of an answer
@@ -27,7 +28,22 @@ pub good_alone : {P : Type 0} (r : Result Status CommandError) → (r ≡ Ok Goo
 good_alone (Ok x) h = λ e. h (ap Ok e)
 good_alone (Err e) h = tt
 
+-- one fact of status 0, and one of status 1
+pub good_or_no : {P Q : Type 0} (R : Status → Type 0) (r : Result Status CommandError) → ((s : Status) → (s ≡ Good → P) → (s ≡ No → Q) → R s) → (r ≡ Ok Good → P) → (r ≡ Ok No → Q) → IfOk r R
+good_or_no R (Ok x) f p q = f x (λ e. p (ap Ok e)) (λ e. q (ap Ok e))
+good_or_no R (Err e) f p q = tt
+
 -- two facts of an answer
 pub both_facts : {P Q : Status → Type 0} (R : Status → Type 0) (r : Result Status CommandError) → ((s : Status) → P s → Q s → R s) → IfOk r P → IfOk r Q → IfOk r R
 both_facts R (Ok x) f p q = f x p q
 both_facts R (Err e) f p q = tt
+
+-- two facts that hold of each answer alike
+pub always_both : {P Q : Type 0} (R : Type 0) (r : Result Status CommandError) → (P → Q → R) → OnOk r P → OnOk r Q → IfOk r (λ status. R)
+always_both R (Ok x) f p q = f p q
+always_both R (Err e) f p q = tt
+
+-- what holds of each answer alike
+pub always : (P : Type 0) (r : Result Status CommandError) → OnOk r P → IfOk r (λ status. P)
+always P (Ok x) h = h
+always P (Err e) h = tt

@@ -28,7 +28,7 @@ use Rattle.abt_run.proofs.Verdicts.{solved, refuted, bounded, replay_unfinished,
 use Rattle.law_meaning.specs.Meaning.{SatisfiesText}
 use Rattle.law_meaning.proofs.Whole.{solutions_satisfy}
 use Rattle.abt_command.specs.Meanings.{Means}
-use Rattle.abt_command.specs.Lines.{IsNewName, AreFileNames, Line, Help, Version, Check, Replay, Solve, Bound, Queens, Colouring, Drill, Rup, Cnf, IsLine, IsNoLine}
+use Rattle.abt_command.specs.Lines.{IsNewName, AreFileNames, Line, Help, Version, Check, Replay, Solve, Bound, Queens, Colouring, Drill, Upgrade, Core, Starve, Lossy, Rup, Cnf, IsLine, IsNoLine}
 use Rattle.abt_command.specs.LinePromises.{promise_of}
 use Rattle.abt_command.specs.AskedRuns.{AsksFor, replays, solves, EachRun, RunsModel, AskForModel, IsCheckedRun, IsSatisfyingRun}
 use Rattle.abt_command.proofs.Lines.{one_line}
@@ -52,11 +52,11 @@ asks_for_none words (Some files) P none = λ asked asks. absurd (so asked asks)
     so asked (solves m l n k t h p mp e) = none (Solve m l n k t) h
 
 module _ (words : List (List ℕ)) (line : Line) (is : IsLine words line) (a b : World) (err now : Stream) (status : Status) (line_ran : Ran (promise_of line) a b err now status)
-    (means : IsFinal status → (IsRefusal status → ⊥) → Means line a.folder.held b.folder.held status) where
+    (means : IsFinal status → (IsRefusal status → ⊥) → Means line a b status) where
   sound : (model : List ℕ) → RunsModel line model → IsFinal status → (IsRefusal status → ⊥) → HoldsProblem a.folder.held model
   sound model runs f n = of_line line runs (means f n)
     where
-      of_line : (l : Line) → RunsModel l model → Means l a.folder.held b.folder.held status → HoldsProblem a.folder.held model
+      of_line : (l : Line) → RunsModel l model → Means l a b status → HoldsProblem a.folder.held model
       of_line Help r h = absurd r
       of_line Version r h = absurd r
       of_line (Check m l) r h = absurd r
@@ -64,6 +64,10 @@ module _ (words : List (List ℕ)) (line : Line) (is : IsLine words line) (a b :
       of_line (Queens n) r h = absurd r
       of_line (Colouring n k c) r h = absurd r
       of_line (Drill c) r h = absurd r
+      of_line (Upgrade m n) r h = absurd r
+      of_line (Core m o n) r h = absurd r
+      of_line (Starve m a c o) r h = absurd r
+      of_line (Lossy m o n c k) r h = absurd r
       of_line (Rup m p) r h = absurd r
       of_line (Cnf m p c) r h = absurd r
       of_line (Replay m c l t) r h = subst (HoldsProblem a.folder.held) r h

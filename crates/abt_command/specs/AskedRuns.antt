@@ -9,7 +9,7 @@ use Rattle.abt_check.specs.Verifying.{IsVerified}
 use Rattle.law_meaning.specs.Meaning.{SatisfiesText}
 use Rattle.abt_run.specs.Endings.{assigned, final_values}
 use Rattle.abt_run.specs.Asked.{Asked, asked_run, replay, solve}
-use Rattle.abt_command.specs.Lines.{Line, Help, Version, Check, Replay, Solve, Bound, Queens, Colouring, Drill, Rup, Cnf, IsLine}
+use Rattle.abt_command.specs.Lines.{Line, Help, Version, Check, Replay, Solve, Bound, Queens, Colouring, Drill, Upgrade, Core, Starve, Lossy, Rup, Cnf, IsLine}
 
 -- the words ask for this run, where these are the files: a replay of a model that has a problem and a schedule that has choices, or a run of such a model from a seed
 pub data AsksFor (words : List (List ℕ)) (files : List ℕ → Option (List ℕ)) (asked : Asked) : Type 0 where
@@ -33,6 +33,10 @@ RunsModel (Bound model) name = ⊥
 RunsModel (Queens n) name = ⊥
 RunsModel (Colouring n k seed) name = ⊥
 RunsModel (Drill seed) name = ⊥
+RunsModel (Upgrade log new) name = ⊥
+RunsModel (Core model log trimmed) name = ⊥
+RunsModel (Starve model from to file) name = ⊥
+RunsModel (Lossy model log events seed kept) name = ⊥
 RunsModel (Rup cnf proof) name = ⊥
 RunsModel (Cnf cnf proof seed) name = ⊥
 RunsModel (Replay model schedule log trace) name = model ≡ name

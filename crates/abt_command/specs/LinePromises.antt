@@ -13,9 +13,13 @@ use Rattle.abt_models.specs.Generated.{print_promise, queens_promise, colouring_
 use Rattle.abt_run.specs.ReplayPromise.{replay_promise}
 use Rattle.abt_run.specs.SolvePromise.{solve_promise}
 use Rattle.abt_drill.specs.DrillPromise.{drill_promise}
+use Rattle.abt_logs.specs.UpgradePromise.{upgrade_promise}
+use Rattle.abt_logs.specs.CorePromise.{core_promise}
+use Rattle.abt_starve.specs.StarvePromise.{starve_promise}
+use Rattle.abt_losses.specs.LossyPromise.{lossy_promise}
 use Rattle.abt_clauses.specs.RupPromise.{rup_promise}
 use Rattle.abt_clauses.specs.CnfPromise.{cnf_promise}
-use Rattle.abt_command.specs.Lines.{Line, Help, Version, Check, Replay, Solve, Bound, Queens, Colouring, Drill, Rup, Cnf, IsLine, IsNoLine}
+use Rattle.abt_command.specs.Lines.{Line, Help, Version, Check, Replay, Solve, Bound, Queens, Colouring, Drill, Upgrade, Core, Starve, Lossy, Rup, Cnf, IsLine, IsNoLine}
 use Rattle.abt_check.specs.CheckReports.{check_promise}
 
 -- the promise of a line
@@ -29,6 +33,10 @@ promise_of (Bound model) = bound_promise model
 promise_of (Queens n) = queens_promise n
 promise_of (Colouring n k seed) = colouring_promise n k seed
 promise_of (Drill seed) = drill_promise seed
+promise_of (Upgrade log new) = upgrade_promise log new
+promise_of (Core model log trimmed) = core_promise model log trimmed
+promise_of (Starve model from to file) = starve_promise model from to file
+promise_of (Lossy model log events seed kept) = lossy_promise model log events seed kept
 promise_of (Rup cnf proof) = rup_promise cnf proof
 promise_of (Cnf cnf proof seed) = cnf_promise cnf proof seed
 

@@ -47,7 +47,7 @@ trace_words true = codes "--trace" ∷ []
 
 -- ---- lines
 
--- what the words ask for: what the program takes, which version it is, to check a log against a model, to run a model's agents under the choices of a schedule or of a seed, to tell a model's message bound, to print a generated model, to run three of these, to check a proof against a formula, or to run a formula's agents
+-- what the words ask for: what the program takes, which version it is, to check a log against a model, to run a model's agents under the choices of a schedule or of a seed, to tell a model's message bound, to print a generated model, to run three of these, to write a log with deletions, to tell which constraints a refutation uses, to write the choices of a starved run, to run a model's agents over a medium that loses, to check a proof against a formula, or to run a formula's agents
 pub data Line : Type 0 where
   Help : Line
   Version : Line
@@ -58,6 +58,10 @@ pub data Line : Type 0 where
   Queens : (n : ℕ) → Line
   Colouring : (n k seed : ℕ) → Line
   Drill : (seed : ℕ) → Line
+  Upgrade : (log new : List ℕ) → Line
+  Core : (model log trimmed : List ℕ) → Line
+  Starve : (model : List ℕ) (from to : ℕ) (file : List ℕ) → Line
+  Lossy : (model log : List ℕ) (events seed : ℕ) (kept : Option (List ℕ)) → Line
   Rup : (cnf proof : List ℕ) → Line
   Cnf : (cnf proof : List ℕ) (seed : ℕ) → Line
 
@@ -91,9 +95,21 @@ pub record IsCnf (words : List (List ℕ)) (cnf proof : List ℕ) (seed : ℕ) :
   pub names : AreFileNames (cnf ∷ proof ∷ [])
   pub seeds : AreSeed options seed
 
+-- the words of the one option of `lossy`
+abbrev pub record_words : Option (List ℕ) → List (List ℕ)
+record_words None = []
+record_words (Some name) = codes "--record" ∷ name ∷ []
+
 -- a number from the least to the most
 abbrev pub IsWithin : ℕ → ℕ → ℕ → Type 0
 IsWithin least most n = (least ≤ n) × (n ≤ most)
+
+-- the words are this line of `lossy`
+pub record IsLossy (words : List (List ℕ)) (model log : List ℕ) (events seed : ℕ) (kept : Option (List ℕ)) : Type 0 where
+  pub words_are : words ≡ codes "lossy" ∷ model ∷ log ∷ decimal events ∷ decimal seed ∷ record_words kept
+  pub few : IsWithin 0 1000000 events
+  pub fits : seed < 2 ^ 64
+  pub names : AreFileNames (model ∷ log ∷ option_to_list kept)
 
 -- the words are this line
 abbrev pub IsLine : List (List ℕ) → Line → Type 0
@@ -105,6 +121,10 @@ IsLine words (Solve model log seed kept trace) = IsSolve words model log seed ke
 IsLine words (Bound model) = (words ≡ codes "bound" ∷ model ∷ []) × IsFileName model
 IsLine words (Queens n) = (words ≡ codes "gen" ∷ codes "queens" ∷ decimal n ∷ []) × IsWithin 1 200 n
 IsLine words (Drill seed) = (words ≡ codes "drill" ∷ decimal seed ∷ []) × (seed < 2 ^ 64)
+IsLine words (Upgrade log new) = (words ≡ codes "upgrade" ∷ log ∷ new ∷ []) × AreFileNames (log ∷ new ∷ [])
+IsLine words (Core model log trimmed) = (words ≡ codes "core" ∷ model ∷ log ∷ trimmed ∷ []) × AreFileNames (model ∷ log ∷ trimmed ∷ [])
+IsLine words (Starve model from to file) = (words ≡ codes "starve" ∷ model ∷ decimal from ∷ decimal to ∷ file ∷ []) × IsWithin 1 4096 from × IsWithin 1 4096 to × AreFileNames (model ∷ file ∷ [])
+IsLine words (Lossy model log events seed kept) = IsLossy words model log events seed kept
 IsLine words (Rup cnf proof) = (words ≡ codes "rup" ∷ cnf ∷ proof ∷ []) × AreFileNames (cnf ∷ proof ∷ [])
 IsLine words (Cnf cnf proof seed) = IsCnf words cnf proof seed
 IsLine words (Colouring n k seed) = (words ≡ codes "gen" ∷ codes "colouring" ∷ decimal n ∷ decimal k ∷ decimal seed ∷ []) × IsWithin 1 200 n × IsWithin 1 16 k × (seed < 2 ^ 64)
@@ -128,5 +148,9 @@ line_of (orders.Bound model) = Bound model.now
 line_of (orders.GenQueens n) = Queens n
 line_of (orders.GenColouring n k seed) = Colouring n k seed
 line_of (orders.Drill seed) = Drill seed
+line_of (orders.Upgrade log new) = Upgrade log.now new.now
+line_of (orders.Core model log trimmed) = Core model.now log.now trimmed.now
+line_of (orders.Starve model from to file) = Starve model.now from to file.now
+line_of (orders.Lossy model log events seed kept) = Lossy model.now log.now events seed (option_copied kept)
 line_of (orders.Rup cnf proof) = Rup cnf.now proof.now
 line_of (orders.Cnf cnf proof seed) = Cnf cnf.now proof.now seed

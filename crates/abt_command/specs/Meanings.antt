@@ -1,12 +1,17 @@
 -- What an answer of a line means beyond its report.
 use Rattle.std.specs.Prelude.{◌≡◌, ℕ, List, Option, ⊤}
+use Rattle.dcsp_script.specs.Scripts.{World}
 use Rattle.abt_promise.specs.declared.status.Status.{Status}
-use Rattle.abt_promise.specs.declared.status.Status.TheVariants.{Good}
+use Rattle.abt_promise.specs.declared.status.Status.TheVariants.{Good, No}
 use Rattle.abt_check.specs.Checks.{IsRefuted}
 use Rattle.abt_run.specs.Headline.{HoldsProblem}
 use Rattle.abt_clauses.specs.RupPromise.{HoldsRefuted, TellsExactly}
 use Rattle.abt_clauses.specs.CnfHeadline.{HoldsCnfRun, HoldsProof}
-use Rattle.abt_command.specs.Lines.{Line, Help, Version, Check, Replay, Solve, Bound, Queens, Colouring, Drill, Rup, Cnf}
+use Rattle.abt_logs.specs.Upgrading.{HoldsUpgrade}
+use Rattle.abt_logs.specs.Trimming.{HoldsCore, CreatesNothing}
+use Rattle.abt_starve.specs.Starving.{HoldsStarved, TellsStarved}
+use Rattle.abt_losses.specs.Meaning.{HoldsLossyRun}
+use Rattle.abt_command.specs.Lines.{Line, Help, Version, Check, Replay, Solve, Bound, Queens, Colouring, Drill, Upgrade, Core, Starve, Lossy, Rup, Cnf}
 
 -- `rup`: the status is 0 exactly where the proof is accepted, and then the formula cannot be satisfied
 pub record IsRupAnswer (old : Option (List ℕ → Option (List ℕ))) (cnf proof : List ℕ) (status : Status) : Type 0 where
@@ -18,16 +23,30 @@ pub record IsCnfAnswer (old now : Option (List ℕ → Option (List ℕ))) (cnf 
   pub means : HoldsCnfRun old cnf seed status
   pub writes : HoldsProof cnf proof seed status old now
 
--- what the line's answer with this status means, with the files before and after
-abbrev pub Means : Line → Option (List ℕ → Option (List ℕ)) → Option (List ℕ → Option (List ℕ)) → Status → Type 0
-Means Help old now status = ⊤
-Means Version old now status = ⊤
-Means (Check model log) old now status = status ≡ Good → IsRefuted old model
-Means (Replay model schedule log trace) old now status = HoldsProblem old model
-Means (Solve model log seed kept trace) old now status = HoldsProblem old model
-Means (Bound model) old now status = ⊤
-Means (Queens n) old now status = ⊤
-Means (Colouring n k seed) old now status = ⊤
-Means (Drill seed) old now status = ⊤
-Means (Rup cnf proof) old now status = IsRupAnswer old cnf proof status
-Means (Cnf cnf proof seed) old now status = IsCnfAnswer old now cnf proof seed status
+-- `core`: with status 0 the log was trimmed and its core told, with status 1 nothing was created
+pub record IsCoreAnswer (model log trimmed : List ℕ) (old new : World) (status : Status) : Type 0 where
+  pub trims : status ≡ Good → HoldsCore model log trimmed old new
+  pub rejects : status ≡ No → CreatesNothing old new
+
+-- `starve`: the choices of the run were written, and the line that was put tells how it ended
+pub record IsStarvedAnswer (model : List ℕ) (from to : ℕ) (file : List ℕ) (old new : World) : Type 0 where
+  pub writes : HoldsStarved model from to file old.folder.held new.folder.held
+  pub tells : TellsStarved model from to old.folder.held old.out.written new.out.written
+
+-- what the line's answer with this status means, with the outside before and after
+abbrev pub Means : Line → World → World → Status → Type 0
+Means Help old new status = ⊤
+Means Version old new status = ⊤
+Means (Check model log) old new status = status ≡ Good → IsRefuted old.folder.held model
+Means (Replay model schedule log trace) old new status = HoldsProblem old.folder.held model
+Means (Solve model log seed kept trace) old new status = HoldsProblem old.folder.held model
+Means (Bound model) old new status = ⊤
+Means (Queens n) old new status = ⊤
+Means (Colouring n k seed) old new status = ⊤
+Means (Drill seed) old new status = ⊤
+Means (Upgrade log new_log) old new status = HoldsUpgrade log new_log old.folder.held new.folder.held
+Means (Core model log trimmed) old new status = IsCoreAnswer model log trimmed old new status
+Means (Starve model from to file) old new status = IsStarvedAnswer model from to file old new
+Means (Lossy model log events seed kept) old new status = HoldsLossyRun old.folder.held model events seed log kept status
+Means (Rup cnf proof) old new status = IsRupAnswer old.folder.held cnf proof status
+Means (Cnf cnf proof seed) old new status = IsCnfAnswer old.folder.held new.folder.held cnf proof seed status

@@ -1,6 +1,6 @@
 //! Running a command over a folder and two streams.
 
-ghost use Rattle.std.specs.Prelude.{◌≡◌, ◌↔◌, ℕ, List, [], Ok, map, string_bytes, codes, IfOk};
+ghost use Rattle.std.specs.Prelude.{◌≡◌, ◌↔◌, ℕ, List, Option, [], Ok, map, string_bytes, codes, IfOk};
 ghost use Rattle.dcsp_outside.specs.Outside.{Place};
 ghost use Rattle.dcsp_script.specs.Scripts.{outside};
 ghost use Rattle.dcsp_script.specs.Ways.{Did, CountsStay};
@@ -13,7 +13,9 @@ ghost use Rattle.abt_input.specs.Errors.{way_of, error_text};
 ghost use Rattle.abt_check.specs.Checks.{IsRefuted};
 ghost use Rattle.abt_run.specs.Headline.{IsRun, IsSolvedRun, IsRefutedRun, IsUnfinishedRun, IsBoundedRun, WritesOrdered};
 ghost use Rattle.abt_command.specs.AskedRuns.{EachRun, IsCheckedRun, IsSatisfyingRun};
-ghost use Rattle.abt_command.specs.Meanings.{Means, IsRupAnswer, IsCnfAnswer};
+ghost use Rattle.abt_command.specs.Meanings.{Means, IsRupAnswer, IsCnfAnswer, IsCoreAnswer, IsStarvedAnswer};
+ghost use Rattle.abt_logs.specs.Upgrading.{HoldsUpgrade};
+ghost use Rattle.abt_losses.specs.Meaning.{HoldsLossyRun};
 ghost use Rattle.abt_command.specs.Lines as lines;
 ghost use Rattle.abt_command.specs.Lines.{Line, Check, IsLine, IsSomeLine, IsNoLine, line_of};
 ghost use Rattle.abt_command.specs.LinePromises.{promise_of, EachPromise, HasRun};
@@ -24,9 +26,12 @@ use abt_check::run_check;
 use abt_clauses::{Cnf, run_cnf, run_rup};
 use abt_drill::run_drill;
 use abt_input::{CommandError, error_reply, error_status};
+use abt_logs::{CoreLine, run_core, run_upgrade};
+use abt_losses::{Losses, run_lossy};
 use abt_models::{print, run_bound, run_colouring, run_queens};
 use abt_promise::{Status, say};
 use abt_run::{Replay, Solve, run_replay, run_solve};
+use abt_starve::{Starve, run_starve};
 use dcsp_outside::{Folder, Sink};
 use std::alloc::Global;
 
@@ -63,7 +68,8 @@ fn run_line<F: Folder, S: Sink>(
     ensures came { CameIn (promise_of (line_of order.entry))
         (outside (F.place folder.old) (S.stream out.old))
         (outside (F.place folder.new) (S.stream out.new)) (way_of result) }
-    ensures means { IfOk result (Means (line_of order.entry) (F.place folder.old).held (F.place folder.new).held) }
+    ensures means { IfOk result (Means (line_of order.entry)
+        (outside (F.place folder.old) (S.stream out.old)) (outside (F.place folder.new) (S.stream out.new))) }
 {
     match order {
         Order::Help => print(out, HELP),
@@ -103,6 +109,49 @@ fn run_line<F: Folder, S: Sink>(
         Order::GenQueens { n } => run_queens(alloc, n, out),
         Order::GenColouring { n, k, seed } => run_colouring(alloc, n, k, seed, out),
         Order::Drill { seed } => run_drill(alloc, seed, out),
+        Order::Upgrade { log, new } => run_upgrade(alloc, folder, log, new, out),
+        Order::Core {
+            model,
+            log,
+            trimmed,
+        } => {
+            let line = CoreLine {
+                model,
+                log,
+                trimmed,
+            };
+            run_core(alloc, folder, line, out)
+        }
+        Order::Starve {
+            model,
+            from,
+            to,
+            file,
+        } => {
+            let line = Starve {
+                model,
+                from,
+                to,
+                file,
+            };
+            run_starve(alloc, folder, line, out)
+        }
+        Order::Lossy {
+            model,
+            log,
+            events,
+            seed,
+            kept,
+        } => {
+            let line = Losses {
+                model,
+                log,
+                events,
+                seed,
+                kept,
+            };
+            run_lossy(alloc, folder, line, out)
+        }
         Order::Rup { cnf, proof } => run_rup(alloc, folder, cnf, proof, out),
         Order::Cnf { cnf, proof, seed } => run_cnf(alloc, folder, Cnf { cnf, proof, seed }, out),
     }
@@ -122,7 +171,7 @@ fn run_order<F: Folder, S: Sink>(
         (outside (F.place folder.new) (S.stream out.new))
         (S.stream err.old) (S.stream err.new) result }
     ensures means { IsFinal result → (IsRefusal result → ⊥)
-        → Means (line_of order.entry) (F.place folder.old).held (F.place folder.new).held result }
+        → Means (line_of order.entry) (outside (F.place folder.old) (S.stream out.old)) (outside (F.place folder.new) (S.stream out.new)) result }
 {
     let came = run_line(alloc, order, folder, out);
     conclude(alloc, came, err)
@@ -207,6 +256,20 @@ pub fn run_command<F: Folder, S: Sink>(
         → IsFinal result → (IsRefusal result → ⊥) → IsRupAnswer (F.place folder.old).held cnf proof result }
     ensures formula { (cnf proof : List ℕ) (seed : ℕ) → IsLine (map string_bytes words.now) (lines.Cnf cnf proof seed)
         → IsFinal result → (IsRefusal result → ⊥) → IsCnfAnswer (F.place folder.old).held (F.place folder.new).held cnf proof seed result }
+
+    // And a log that was upgraded, or trimmed.
+    ensures upgraded { (log new : List ℕ) → IsLine (map string_bytes words.now) (lines.Upgrade log new)
+        → result ≡ Status.Good → HoldsUpgrade log new (F.place folder.old).held (F.place folder.new).held }
+    ensures trimmed { (model log trimmed : List ℕ) → IsLine (map string_bytes words.now) (lines.Core model log trimmed)
+        → IsFinal result → (IsRefusal result → ⊥) → IsCoreAnswer model log trimmed
+        (outside (F.place folder.old) (S.stream out.old)) (outside (F.place folder.new) (S.stream out.new)) result }
+
+    // And a run that starves a link, or that is made over a medium that loses, repeats and reorders.
+    ensures starved { (model : List ℕ) (from to : ℕ) (file : List ℕ) → IsLine (map string_bytes words.now) (lines.Starve model from to file)
+        → result ≡ Status.Good → IsStarvedAnswer model from to file
+        (outside (F.place folder.old) (S.stream out.old)) (outside (F.place folder.new) (S.stream out.new)) }
+    ensures lossy { (model log : List ℕ) (events seed : ℕ) (kept : Option (List ℕ)) → IsLine (map string_bytes words.now) (lines.Lossy model log events seed kept)
+        → IsFinal result → (IsRefusal result → ⊥) → HoldsLossyRun (F.place folder.old).held model events seed log kept result }
 {
     match words_of(words) {
         Some(order) => run_order(alloc, order, folder, out, err),

@@ -10,7 +10,19 @@ pub const HELP: &[u8] = b"abt: asynchronous backtracking over FlatZinc, with cer
   abt replay MODEL SCHEDULE LOG [--trace]
                         runs them under the choices of a schedule, as a record is
   abt check MODEL LOG   checks whether the log refutes the model: prints `verified`,
-                        `rejected step K` or `rejected not empty`
+                        `rejected step K`, `rejected deletion after step K` or
+                        `rejected not empty`
+  abt upgrade LOG NEW   writes the log to NEW with deletions of the steps that nothing cites
+                        any more, so that a check keeps less
+  abt core MODEL LOG TRIMMED
+                        prints which constraints the refutation uses, as `c1`, and writes
+                        the steps that it needs to TRIMMED
+  abt starve MODEL FROM TO FILE
+                        writes to FILE the choices of a run that delivers from the agent of
+                        variable FROM to that of TO only where nothing else is in transit
+  abt lossy MODEL LOG EVENTS SEED [--record FILE]
+                        runs the agents over a medium that loses, repeats and reorders in
+                        EVENTS events, 0 to 1000000, drawn from SEED, and then calms down
   abt bound MODEL       prints how many messages a run delivers at most
   abt gen queens N      prints the problem of N queens, 1 to 200
   abt gen colouring N K SEED

@@ -1,7 +1,7 @@
 //! The words that the program is started with.
 
-ghost use Rattle.std.specs.Prelude.{◌≡◌, ◌↔◌, ◌∷◌, [], ℕ, Bool, codes, decimal, map, string_bytes, option_copied, option_to_list, IfSome, IsNone, IsTrue};
-ghost use Rattle.abt_command.specs.Lines.{IsFileName, AreFileNames, AreSeed, IsLine, IsNoLine, IsWithin, line_of, trace_words};
+ghost use Rattle.std.specs.Prelude.{◌≡◌, ◌↔◌, ◌∷◌, [], ℕ, Bool, List, Option, codes, decimal, map, string_bytes, option_copied, option_to_list, IfSome, IsNone, IsTrue};
+ghost use Rattle.abt_command.specs.Lines.{IsFileName, AreFileNames, AreSeed, IsLine, IsNoLine, IsWithin, line_of, record_words, trace_words};
 
 use crate::options::{Settings, number_of, settings_of};
 
@@ -50,6 +50,34 @@ pub enum Order<'w> {
     Drill {
         seed: u64,
     },
+    /// `upgrade LOG NEW`: NEW takes the log with the deletions that it allows.
+    Upgrade {
+        log: &'w str,
+        new: &'w str,
+    },
+    /// `core MODEL LOG TRIMMED`: which constraints the refutation uses; TRIMMED takes the steps that it needs.
+    Core {
+        model: &'w str,
+        log: &'w str,
+        trimmed: &'w str,
+    },
+    /// `starve MODEL FROM TO FILE`: FILE takes the choices of the run that delivers from one agent to another, both
+    /// counted from 1 and at most 4,096, only where nothing else is in transit.
+    Starve {
+        model: &'w str,
+        from: u32,
+        to: u32,
+        file: &'w str,
+    },
+    /// `lossy MODEL LOG EVENTS SEED [--record FILE]`: a run over a medium that loses, repeats and reorders in so many
+    /// events, at most 1,000,000, which are drawn from a seed. `kept` is the name of the record.
+    Lossy {
+        model: &'w str,
+        log: &'w str,
+        events: u32,
+        seed: u64,
+        kept: Option<&'w str>,
+    },
     /// `rup CNF PROOF`: whether the proof shows that the formula cannot be satisfied.
     Rup {
         cnf: &'w str,
@@ -83,6 +111,10 @@ pub fn words_of(words: &[String]) -> Option<Order<'_>>
         [word, rest @ ..] if word.as_str() == "drill" => drill_of(rest),
         [word, rest @ ..] if word.as_str() == "rup" => rup_of(rest),
         [word, rest @ ..] if word.as_str() == "cnf" => cnf_of(rest),
+        [word, rest @ ..] if word.as_str() == "upgrade" => upgrade_of(rest),
+        [word, rest @ ..] if word.as_str() == "core" => core_of(rest),
+        [word, rest @ ..] if word.as_str() == "starve" => starve_of(rest),
+        [word, rest @ ..] if word.as_str() == "lossy" => lossy_of(rest),
         _ => None,
     }
 }
@@ -194,12 +226,12 @@ fn gen_of<'w>(words: &'w [String]) -> Option<Order<'w>>
 {
     match words {
         [kind, n] if kind.as_str() == "queens" => {
-            let n = number_within(n.as_str(), 200)?;
+            let n = number_within(n.as_str(), 1, 200)?;
             Some(Order::GenQueens { n })
         }
         [kind, n, k, seed] if kind.as_str() == "colouring" => {
-            let n = number_within(n.as_str(), 200)?;
-            let k = number_within(k.as_str(), 16)?;
+            let n = number_within(n.as_str(), 1, 200)?;
+            let k = number_within(k.as_str(), 1, 16)?;
             let seed = number_of(seed.as_str())?;
             Some(Order::GenColouring { n, k, seed })
         }
@@ -217,6 +249,98 @@ fn drill_of<'w>(words: &'w [String]) -> Option<Order<'w>>
     };
     let seed = number_of(seed.as_str())?;
     Some(Order::Drill { seed })
+}
+
+/// The order of `upgrade` with these words.
+fn upgrade_of(words: &[String]) -> Option<Order<'_>>
+    ensures some { IfSome result (λ order. IsLine (codes "upgrade" ∷ map string_bytes words.now) (line_of order)) }
+    ensures none { IsNone result → IsNoLine (codes "upgrade" ∷ map string_bytes words.now) }
+{
+    let [log, new] = words else {
+        return None;
+    };
+    let (log, new) = (log.as_str(), new.as_str());
+    if !are_two_names(log, new) {
+        return None;
+    }
+    Some(Order::Upgrade { log, new })
+}
+
+/// The order of `core` with these words.
+fn core_of(words: &[String]) -> Option<Order<'_>>
+    ensures some { IfSome result (λ order. IsLine (codes "core" ∷ map string_bytes words.now) (line_of order)) }
+    ensures none { IsNone result → IsNoLine (codes "core" ∷ map string_bytes words.now) }
+{
+    let [model, log, trimmed] = words else {
+        return None;
+    };
+    let (model, log, trimmed) = (model.as_str(), log.as_str(), trimmed.as_str());
+    if !are_three_names(model, log, trimmed) {
+        return None;
+    }
+    Some(Order::Core {
+        model,
+        log,
+        trimmed,
+    })
+}
+
+/// The order of `starve` with these words.
+fn starve_of<'w>(words: &'w [String]) -> Option<Order<'w>>
+    ensures some { IfSome result (λ order. IsLine (codes "starve" ∷ map string_bytes words.now) (line_of order)) }
+    ensures none { IsNone result → IsNoLine (codes "starve" ∷ map string_bytes words.now) }
+{
+    let [model, from, to, file] = words else {
+        return None;
+    };
+    let (model, file) = (model.as_str(), file.as_str());
+    let from = number_within(from.as_str(), 1, 4096)?;
+    let to = number_within(to.as_str(), 1, 4096)?;
+    if !are_two_names(model, file) {
+        return None;
+    }
+    Some(Order::Starve {
+        model,
+        from,
+        to,
+        file,
+    })
+}
+
+/// The order of `lossy` with these words.
+fn lossy_of<'w>(words: &'w [String]) -> Option<Order<'w>>
+    ensures some { IfSome result (λ order. IsLine (codes "lossy" ∷ map string_bytes words.now) (line_of order)) }
+    ensures none { IsNone result → IsNoLine (codes "lossy" ∷ map string_bytes words.now) }
+{
+    let [model, log, events, seed, options @ ..] = words else {
+        return None;
+    };
+    let (model, log) = (model.as_str(), log.as_str());
+    let events = number_within(events.as_str(), 0, 1_000_000)?;
+    let seed = number_of(seed.as_str())?;
+    let kept = record_of(options)?;
+    if !are_solve_names(model, log, kept) {
+        return None;
+    }
+    Some(Order::Lossy {
+        model,
+        log,
+        events,
+        seed,
+        kept,
+    })
+}
+
+/// The name of the record that these options of `lossy` ask for, where they do.
+fn record_of<'w>(options: &'w [String]) -> Option<Option<&'w str>>
+    ensures some { IfSome result (λ kept. map string_bytes options.now ≡ record_words (option_copied kept)) }
+    ensures none { IsNone result → (kept : Option (List ℕ)) → map string_bytes options.now ≡ record_words kept → ⊥ }
+{
+    match options {
+        [] => Some(None),
+        [option, name] if option.as_str() == "--record" => Some(Some(name.as_str())),
+        _ => None,
+    }
 }
 
 /// The order of `rup` with these words.
@@ -262,13 +386,13 @@ fn seed_of(options: &[String]) -> Option<u64>
     }
 }
 
-/// The number from 1 to `most` that the word is.
-fn number_within(word: &str, most: u32) -> Option<u32>
-    ensures some { IfSome result (λ n. (word.now ≡ decimal n) × IsWithin 1 most n) }
-    ensures none { IsNone result → (n : ℕ) → word.now ≡ decimal n → IsWithin 1 most n → ⊥ }
+/// The number from `least` to `most` that the word is.
+fn number_within(word: &str, least: u32, most: u32) -> Option<u32>
+    ensures some { IfSome result (λ n. (word.now ≡ decimal n) × IsWithin least most n) }
+    ensures none { IsNone result → (n : ℕ) → word.now ≡ decimal n → IsWithin least most n → ⊥ }
 {
     let number = number_of(word)?;
-    if number < 1 {
+    if number < u64::from(least) {
         return None;
     }
     if u64::from(most) < number {

@@ -1,6 +1,7 @@
-use Rattle.std.proofs.Common.{inl, refl}
+use Rattle.std.proofs.Common.{inl, refl, sym, subst}
+use Rattle.abt_promise.specs.Statuses.{IsFinal, IsRefusal}
 use Rattle.abt_promise.proofs.Following.{ran_answers, ran_cause, ran_complete, ran_creates, ran_faults, ran_lacks, ran_others, ran_refused, ran_stays, ran_text}
-use Rattle.abt_command.specs.Lines.{Check, Rup, Cnf, line_of}
+use Rattle.abt_command.specs.Lines.{Check, Core, Starve, Lossy, Rup, Cnf, Upgrade, line_of}
 use Rattle.abt_command.proofs.Meanings.{means_of, verified_by}
 use Rattle.abt_command.specs.LinePromises.{promise_of}
 use Rattle.abt_command.proofs.Lines.{one_line, lawful}
@@ -63,6 +64,22 @@ returns-in-Some-clause-proved g c = λ cnf proof is final answers. means_of _ _ 
 
 pub returns-in-Some-clause-formula : goal.returns-in-Some-clause-formula
 returns-in-Some-clause-formula g c = λ cnf proof seed is final answers. means_of _ _ _ (one_line _ (line_of c.in-Some.order) (Cnf cnf proof seed) c.in-Some.ensures.some is) (c.run_order.ensures.means final answers)
+
+pub returns-in-Some-clause-upgraded : goal.returns-in-Some-clause-upgraded
+returns-in-Some-clause-upgraded g c = λ log new is good.
+    means_of _ _ _ (one_line _ (line_of c.in-Some.order) (Upgrade log new) c.in-Some.ensures.some is) (c.run_order.ensures.means (subst IsFinal (sym good) tt) (λ r. subst IsRefusal good r))
+
+pub returns-in-Some-clause-trimmed : goal.returns-in-Some-clause-trimmed
+returns-in-Some-clause-trimmed g c = λ model log trimmed is final answers.
+    means_of _ _ _ (one_line _ (line_of c.in-Some.order) (Core model log trimmed) c.in-Some.ensures.some is) (c.run_order.ensures.means final answers)
+
+pub returns-in-Some-clause-starved : goal.returns-in-Some-clause-starved
+returns-in-Some-clause-starved g c = λ model from to file is good.
+    means_of _ _ _ (one_line _ (line_of c.in-Some.order) (Starve model from to file) c.in-Some.ensures.some is) (c.run_order.ensures.means (subst IsFinal (sym good) tt) (λ r. subst IsRefusal good r))
+
+pub returns-in-Some-clause-lossy : goal.returns-in-Some-clause-lossy
+returns-in-Some-clause-lossy g c = λ model log events seed kept is final answers.
+    means_of _ _ _ (one_line _ (line_of c.in-Some.order) (Lossy model log events seed kept) c.in-Some.ensures.some is) (c.run_order.ensures.means final answers)
 
 pub returns-in-Some-clause-no_stall : goal.returns-in-Some-clause-no_stall
 returns-in-Some-clause-no_stall g c = run_unfinished _ (line_of c.in-Some.order) c.in-Some.ensures.some _ _ _ _ c.run_order.result c.run_order.ensures.ran c.run_order.ensures.means

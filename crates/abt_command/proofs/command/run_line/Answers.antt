@@ -1,6 +1,6 @@
 use Rattle.std.proofs.Common.{subst}
 use Rattle.abt_command.specs.Lines.{IsLine, IsSomeLine, line_of}
-use Rattle.abt_command.proofs.Meanings.{any_answer, good_alone, both_facts}
+use Rattle.abt_command.proofs.Meanings.{always, always_both, any_answer, good_alone, good_or_no, both_facts}
 use Rattle.abt_command.proofs.command.run_line.Goals as goal
 
 pub run_queens-requires-clause-least : goal.run_queens-requires-clause-least
@@ -56,3 +56,21 @@ returns-in-Rup-clause-means g c = rw c.in-Rup.is (both_facts _ c.run_rup.result 
 
 pub returns-in-Cnf-clause-means : goal.returns-in-Cnf-clause-means
 returns-in-Cnf-clause-means g c = rw c.in-Cnf.is (both_facts _ c.run_cnf.result (λ s p q. record { means = p; writes = q }) c.run_cnf.ensures.means c.run_cnf.ensures.writes)
+
+pub returns-in-Upgrade-clause-means : goal.returns-in-Upgrade-clause-means
+returns-in-Upgrade-clause-means g c = rw c.in-Upgrade.is (always _ c.run_upgrade.result c.run_upgrade.ensures.writes)
+
+pub run_starve-requires-clause-from : goal.run_starve-requires-clause-from
+run_starve-requires-clause-from g c = (subst (λ o. IsSomeLine (line_of o)) c.in-Starve.is c.requires).1.1.0
+
+pub run_starve-requires-clause-to : goal.run_starve-requires-clause-to
+run_starve-requires-clause-to g c = (subst (λ o. IsSomeLine (line_of o)) c.in-Starve.is c.requires).1.2.0
+
+pub returns-in-Core-clause-means : goal.returns-in-Core-clause-means
+returns-in-Core-clause-means g c = rw c.in-Core.is (good_or_no _ c.run_core.result (λ s p q. record { trims = p; rejects = q }) c.run_core.ensures.trims c.run_core.ensures.rejects)
+
+pub returns-in-Starve-clause-means : goal.returns-in-Starve-clause-means
+returns-in-Starve-clause-means g c = rw c.in-Starve.is (always_both _ c.run_starve.result (λ p q. record { writes = p; tells = q }) c.run_starve.ensures.writes c.run_starve.ensures.tells)
+
+pub returns-in-Lossy-clause-means : goal.returns-in-Lossy-clause-means
+returns-in-Lossy-clause-means g c = rw c.in-Lossy.is c.run_lossy.ensures.run

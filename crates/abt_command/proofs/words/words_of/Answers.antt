@@ -50,3 +50,27 @@ returns-in-len1-up-8-clause-some c =
     let is = (bytes_eq-Decides c.as_str-9.result.now (codes "cnf")).0 (sym c.eq-8.ensures ∙ c.if-eq-8.true) in
     let word = sym c.as_str-9.ensures.value ∙ is in
     rw (begins string_bytes c.args.words.now c.word-item-9.result (omega (arith, c.in-len1-up.len_at_least)) c.word-item-9.is, word) c.cnf_of.ensures.some
+
+pub returns-in-len1-up-9-clause-some : goal.returns-in-len1-up-9-clause-some
+returns-in-len1-up-9-clause-some c =
+    let is = (bytes_eq-Decides c.as_str-10.result.now (codes "upgrade")).0 (sym c.eq-9.ensures ∙ c.if-eq-9.true) in
+    let word = sym c.as_str-10.ensures.value ∙ is in
+    rw (begins string_bytes c.args.words.now c.word-item-10.result (omega (arith, c.in-len1-up.len_at_least)) c.word-item-10.is, word) c.upgrade_of.ensures.some
+
+pub returns-in-len1-up-10-clause-some : goal.returns-in-len1-up-10-clause-some
+returns-in-len1-up-10-clause-some c =
+    let is = (bytes_eq-Decides c.as_str-11.result.now (codes "core")).0 (sym c.eq-10.ensures ∙ c.if-eq-10.true) in
+    let word = sym c.as_str-11.ensures.value ∙ is in
+    rw (begins string_bytes c.args.words.now c.word-item-11.result (omega (arith, c.in-len1-up.len_at_least)) c.word-item-11.is, word) c.core_of.ensures.some
+
+pub returns-in-len1-up-11-clause-some : goal.returns-in-len1-up-11-clause-some
+returns-in-len1-up-11-clause-some c =
+    let is = (bytes_eq-Decides c.as_str-12.result.now (codes "starve")).0 (sym c.eq-11.ensures ∙ c.if-eq-11.true) in
+    let word = sym c.as_str-12.ensures.value ∙ is in
+    rw (begins string_bytes c.args.words.now c.word-item-12.result (omega (arith, c.in-len1-up.len_at_least)) c.word-item-12.is, word) c.starve_of.ensures.some
+
+pub returns-in-len1-up-12-clause-some : goal.returns-in-len1-up-12-clause-some
+returns-in-len1-up-12-clause-some c =
+    let is = (bytes_eq-Decides c.as_str-13.result.now (codes "lossy")).0 (sym c.eq-12.ensures ∙ c.if-eq-12.true) in
+    let word = sym c.as_str-13.ensures.value ∙ is in
+    rw (begins string_bytes c.args.words.now c.word-item-13.result (omega (arith, c.in-len1-up.len_at_least)) c.word-item-13.is, word) c.lossy_of.ensures.some
