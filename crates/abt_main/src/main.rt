@@ -8,11 +8,15 @@ use dcsp_outside::Sink;
 use std::alloc::Global;
 use std::cell::RefCell;
 use std::env;
+use std::fs::File;
 use std::io::ErrorKind;
 use std::process::ExitCode;
 
 fn main(rt: HostRuntime) -> ExitCode {
     let alloc = rt.alloc();
+    // A stream that was closed before the program began leaves its number free, and no file may take it: what is put
+    // on the stream would go there. So these take such numbers, and a put fails.
+    let _held = [null_device(&rt), null_device(&rt), null_device(&rt)];
     let output = Stream::Output(rt.stdout());
     let errors = Stream::Error(rt.stderr());
     let words = words_given(alloc, &rt);
@@ -29,6 +33,11 @@ fn main(rt: HostRuntime) -> ExitCode {
     // An answer lets nothing wait; so only a command that was refused, and has told it, has more to write.
     let _ = out.write_waiting();
     ExitCode::from(code)
+}
+
+/// The null device, to be read, where it can be opened.
+fn null_device(rt: &HostRuntime) -> Option<File> {
+    File::open(rt, "/dev/null").ok()
 }
 
 /// The words after the program's name.
