@@ -154,22 +154,3 @@ fn formulas_and_drills(rt: HostRuntime) {
         assert_eq!(rt; left.folder.file("p.rup").unwrap_or(b""), case.proof);
     }
 }
-
-/// What the proof holds where the call of the folder with this number, from 1, fails: the formula, the proof's
-/// creation and its three lines.
-const LEFT: [&[u8]; 5] = [b"", b"", b"", b"1 0\n", b"1 0\n-1 0\n"];
-
-#[test]
-fn each_call_of_a_formula_fails_in_turn(rt: HostRuntime) {
-    let mut failing: u64 = 0;
-    for proof in LEFT {
-        failing = failing.wrapping_add(1);
-        let files = [("f.cnf", FOUR), NO_FILE];
-        let words = ["cnf", "f.cnf", "p.rup"];
-        let left = left_by(&rt, rt.alloc(), &files, &words, failing);
-        assert_eq!(rt; left.code, 6);
-        assert_eq!(rt; left.out.bytes(), b"".as_slice());
-        assert_eq!(rt; left.err.bytes(), b"abt: fault\n".as_slice());
-        assert_eq!(rt; left.folder.file("p.rup").unwrap_or(b""), proof);
-    }
-}

@@ -6,6 +6,14 @@ mod formulas;
 #[cfg(test)]
 mod given;
 #[cfg(test)]
+mod hostile;
+#[cfg(test)]
+mod limits;
+#[cfg(test)]
+mod logs;
+#[cfg(test)]
+mod losses;
+#[cfg(test)]
 mod runs;
 #[cfg(test)]
 mod wanting;

@@ -1,45 +1,17 @@
 //! The lines `solve` and `replay`.
 
-use crate::given::{File, NO_FILE, left_by, words_of};
+use crate::given::{
+    APART, Case, LINKED, NO_FILE, PAIR, PAIR_LOG, folder_of, left_by, run_over, words_of,
+};
 use abt_command::run_program;
 use dcsp_outside::MemorySink;
-
-/// Two variables that differ and are equal.
-const PAIR: &[u8] =
-    b"var 0..1: x;\nvar 0..1: y;\nconstraint int_ne(x,y);\nconstraint int_eq(x,y);\nsolve satisfy;\n";
-
-const PAIR_LOG: &[u8] =
-    b"ngd 1\n1 v2 [v1=0] <- c1 c2\n2 v2 [v1=1] <- c2 c1\n3 v1 [] <- n1 n2\nend\n";
 
 const PAIR_TRACE: &[u8] =
     b"% 1 v1>v2 ok 0\n% 2 v2>v1 nogood 1\n% 3 v1>v2 ok 1\n% 4 v2>v1 nogood 2\n\
 =====UNSATISFIABLE=====\n% deliveries 4\n% steps 3\n";
 
-/// Two variables that differ.
-const APART: &[u8] =
-    b"var 0..1: x :: output_var;\nvar 0..1: y :: output_var;\nconstraint int_ne(x,y);\nsolve satisfy;\n";
-
-/// Three variables, of which the first two differ from the third.
-const LINKED: &[u8] =
-    b"var 0..1: x :: output_var;\nvar 1..1: y :: output_var;\nvar 0..1: z :: output_var;\n\
-constraint int_ne(x,z);\nconstraint int_ne(y,z);\nsolve satisfy;\n";
-
 /// The choice 0, nine times.
 const NINE: &[u8] = b"schedule 1\n0\n0\n0\n0\n0\n0\n0\n0\n0\nend\n";
-
-/// What came of a line.
-#[derive(Drop)]
-struct Case {
-    words: &'static [&'static str],
-    files: [File; 2],
-    code: u8,
-    out: &'static [u8],
-    err: &'static [u8],
-    /// The file under `l.ngd`, if any bytes are there.
-    log: &'static [u8],
-    /// The file under `r.sch`, if any bytes are there.
-    record: &'static [u8],
-}
 
 const CASES: [Case; 16] = [
     Case {
@@ -207,12 +179,7 @@ x = 1;\ny = 1;\nz = 0;\n----------\n% deliveries 9\n% steps 2\n% unused 0\n",
 #[test]
 fn runs_answer_and_write(rt: HostRuntime) {
     for case in &CASES {
-        let left = left_by(&rt, rt.alloc(), &case.files, case.words, 0);
-        assert_eq!(rt; left.code, case.code);
-        assert_eq!(rt; left.out.bytes(), case.out);
-        assert_eq!(rt; left.err.bytes(), case.err);
-        assert_eq!(rt; left.folder.file("l.ngd").unwrap_or(b""), case.log);
-        assert_eq!(rt; left.folder.file("r.sch").unwrap_or(b""), case.record);
+        case.expect(&rt, rt.alloc());
     }
 }
 
@@ -297,6 +264,40 @@ fn each_call_of_a_run_fails_in_turn(rt: HostRuntime) {
     }
 }
 
+/// An append that fails may leave first bytes of its piece.
+#[test]
+fn a_failing_append_leaves_first_bytes(rt: HostRuntime) {
+    let mut folder = folder_of(&rt, rt.alloc(), &[("m.fzn", PAIR)]);
+    folder.fail_after(4, 5).expect(&rt, "memory");
+    let words = words_of(&rt, rt.alloc(), &["solve", "m.fzn", "l.ngd"]);
+    let mut out = MemorySink::new(rt.alloc());
+    let mut err = MemorySink::new(rt.alloc());
+    let code = run_program(rt.alloc(), &words, &mut folder, &mut out, &mut err);
+    assert_eq!(rt; code, 6);
+    assert_eq!(rt; folder.file("l.ngd"), Some(b"ngd 1\n1 v2 ".as_slice()));
+    assert_eq!(rt; out.bytes(), b"".as_slice());
+}
+
+/// A stream that fails at its first piece, and keeps some bytes of it.
+#[test]
+fn a_stream_fails(rt: HostRuntime) {
+    let mut folder = folder_of(&rt, rt.alloc(), &[("m.fzn", PAIR)]);
+    let words = words_of(&rt, rt.alloc(), &["solve", "m.fzn", "l.ngd"]);
+    let mut out = MemorySink::new(rt.alloc());
+    let mut err = MemorySink::new(rt.alloc());
+    out.fail_after(1, 3).expect(&rt, "memory");
+    let code = run_program(rt.alloc(), &words, &mut folder, &mut out, &mut err);
+    assert_eq!(rt; code, 6);
+    assert_eq!(rt; out.bytes(), b"===".as_slice());
+    assert_eq!(rt; folder.file("l.ngd"), Some(PAIR_LOG));
+    let none = words_of(&rt, rt.alloc(), &[]);
+    let mut err = MemorySink::new(rt.alloc());
+    err.fail_at(1).expect(&rt, "memory");
+    let code = run_program(rt.alloc(), &none, &mut folder, &mut out, &mut err);
+    assert_eq!(rt; code, 2);
+    assert_eq!(rt; err.bytes(), b"".as_slice());
+}
+
 /// A record, replayed, gives the same answer and log.
 #[test]
 fn a_record_is_replayed(rt: HostRuntime) {
@@ -306,14 +307,11 @@ fn a_record_is_replayed(rt: HostRuntime) {
             "solve", "m.fzn", "l.ngd", "--record", "r.sch", "--seed", "5",
         ];
         let first = left_by(&rt, rt.alloc(), &files, &words, 0);
-        let mut folder = first.folder;
-        let words = words_of(&rt, rt.alloc(), &["replay", "m.fzn", "r.sch", "again.ngd"]);
-        let mut out = MemorySink::new(rt.alloc());
-        let mut err = MemorySink::new(rt.alloc());
-        let code = run_program(rt.alloc(), &words, &mut folder, &mut out, &mut err);
-        assert_eq!(rt; code, first.code);
-        assert!(rt; out.bytes().starts_with(first.out.bytes()));
-        assert!(rt; out.bytes().ends_with(b"% unused 0\n"));
-        assert_eq!(rt; folder.file("again.ngd"), folder.file("l.ngd"));
+        let words = ["replay", "m.fzn", "r.sch", "again.ngd"];
+        let again = run_over(&rt, rt.alloc(), first.folder, &words);
+        assert_eq!(rt; again.code, first.code);
+        assert!(rt; again.out.bytes().starts_with(first.out.bytes()));
+        assert!(rt; again.out.bytes().ends_with(b"% unused 0\n"));
+        assert_eq!(rt; again.folder.file("again.ngd"), again.folder.file("l.ngd"));
     }
 }

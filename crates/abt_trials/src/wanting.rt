@@ -2,7 +2,7 @@
 
 use crate::given::words_of;
 use abt_command::run_program;
-use dcsp_outside::{Fetched, Folder, FolderError, MemorySink};
+use dcsp_outside::{Fetched, Folder, FolderError, MemorySink, Piece};
 
 /// A folder that wants memory at each call, and tells nothing of what it holds. One name counts as created,
 /// so that there is one to which bytes may be appended.
@@ -26,6 +26,17 @@ impl Folder for WantingFolder {
         Err(FolderError::Memory)
     }
 
+    fn fetch_piece(
+        &mut self,
+        _name: &str,
+        _from: u64,
+        _most: usize,
+        _into: &mut Vec<u8>,
+    ) -> Result<Piece, FolderError> {
+        self.calls = self.calls.wrapping_add(1);
+        Err(FolderError::Memory)
+    }
+
     fn create(&mut self, _name: &str) -> Result<(), FolderError> {
         self.calls = self.calls.wrapping_add(1);
         Err(FolderError::Memory)
@@ -39,11 +50,15 @@ impl Folder for WantingFolder {
 
 #[test]
 fn want_of_memory_ends_with_7(rt: HostRuntime) {
-    let lines: [&[&str]; 6] = [
+    let lines: [&[&str]; 10] = [
         &["check", "m.fzn", "m.ngd"],
         &["solve", "m.fzn", "m.ngd"],
         &["replay", "m.fzn", "m.sch", "m.ngd"],
         &["bound", "m.fzn"],
+        &["upgrade", "l.ngd", "n.ngd"],
+        &["core", "m.fzn", "l.ngd", "t.ngd"],
+        &["starve", "m.fzn", "1", "2", "s.sch"],
+        &["lossy", "m.fzn", "l.ngd", "5", "0"],
         &["rup", "f.cnf", "p.rup"],
         &["cnf", "f.cnf", "p.rup"],
     ];

@@ -1,0 +1,232 @@
+//! Each call of the outside fails in turn, on every line of the program.
+
+use crate::given::{File, NO_FILE, PAIR, PAIR_LOG, folder_of, words_of};
+use abt_command::run_program;
+use dcsp_outside::{MemoryFolder, MemorySink};
+use std::alloc::Global;
+use std::process::Abort;
+
+/// A line, and the files that it reads and creates.
+#[derive(Drop)]
+struct Line {
+    words: &'static [&'static str],
+    files: [File; 2],
+    creates: &'static [&'static str],
+}
+
+/// Each of the two literals, and neither.
+const FORMULA: &[u8] = b"p cnf 2 3\n1 2 0\n-1 0\n-2 0\n";
+
+const LINES: [Line; 15] = [
+    Line {
+        words: &["check", "m.fzn", "l.ngd"],
+        files: [("m.fzn", PAIR), ("l.ngd", PAIR_LOG)],
+        creates: &[],
+    },
+    Line {
+        words: &["replay", "m.fzn", "s.sch", "l.ngd", "--trace"],
+        files: [("m.fzn", PAIR), ("s.sch", b"schedule 1\n0\n1\n2\nend\n")],
+        creates: &["l.ngd"],
+    },
+    Line {
+        words: &["solve", "m.fzn", "l.ngd", "--record", "r.sch", "--trace"],
+        files: [("m.fzn", PAIR), ("l.ngd", b"what stood here")],
+        creates: &["l.ngd", "r.sch"],
+    },
+    Line {
+        words: &["bound", "m.fzn"],
+        files: [("m.fzn", PAIR), NO_FILE],
+        creates: &[],
+    },
+    Line {
+        words: &["gen", "queens", "3"],
+        files: [NO_FILE, NO_FILE],
+        creates: &[],
+    },
+    Line {
+        words: &["gen", "colouring", "4", "2", "7"],
+        files: [NO_FILE, NO_FILE],
+        creates: &[],
+    },
+    Line {
+        words: &["drill", "7"],
+        files: [NO_FILE, NO_FILE],
+        creates: &[],
+    },
+    Line {
+        words: &["upgrade", "l.ngd", "n.ngd"],
+        files: [("l.ngd", PAIR_LOG), ("n.ngd", b"what stood here")],
+        creates: &["n.ngd"],
+    },
+    Line {
+        words: &["core", "m.fzn", "l.ngd", "t.ngd"],
+        files: [("m.fzn", PAIR), ("l.ngd", PAIR_LOG)],
+        creates: &["t.ngd"],
+    },
+    Line {
+        words: &["starve", "m.fzn", "1", "2", "s.sch"],
+        files: [("m.fzn", PAIR), ("s.sch", b"what stood here")],
+        creates: &["s.sch"],
+    },
+    Line {
+        words: &["lossy", "m.fzn", "l.ngd", "5", "3", "--record", "r.sch"],
+        files: [("m.fzn", PAIR), NO_FILE],
+        creates: &["l.ngd", "r.sch"],
+    },
+    Line {
+        words: &["rup", "f.cnf", "p.rup"],
+        files: [("f.cnf", FORMULA), ("p.rup", b"0\n")],
+        creates: &[],
+    },
+    Line {
+        words: &["cnf", "f.cnf", "p.rup"],
+        files: [("f.cnf", FORMULA), NO_FILE],
+        creates: &["p.rup"],
+    },
+    Line {
+        words: &["--help"],
+        files: [NO_FILE, NO_FILE],
+        creates: &[],
+    },
+    Line {
+        words: &["--version"],
+        files: [NO_FILE, NO_FILE],
+        creates: &[],
+    },
+];
+
+/// How many first bytes of its piece a failing call keeps: none, some, and all.
+const KEPT: [usize; 3] = [0, 3, usize::MAX];
+
+/// More calls than a line of the table makes.
+const MANY: u64 = 40;
+
+/// What a line left.
+#[derive(Drop)]
+struct Left {
+    code: u8,
+    folder: MemoryFolder,
+    out: MemorySink,
+    err: MemorySink,
+}
+
+impl Line {
+    /// Runs the line. The calls of the folder and of `out` with these numbers fail, where they are not 0,
+    /// and keep so many bytes.
+    fn run(&self, rt: &impl Abort, alloc: Global, call: u64, put: u64, kept: usize) -> Left {
+        let words = words_of(rt, alloc, self.words);
+        let mut folder = folder_of(rt, alloc, &self.files);
+        let mut out = MemorySink::new(alloc);
+        let mut err = MemorySink::new(alloc);
+        folder.fail_after(call, kept).expect(rt, "memory");
+        out.fail_after(put, kept).expect(rt, "memory");
+        let code = run_program(alloc, &words, &mut folder, &mut out, &mut err);
+        Left {
+            code,
+            folder,
+            out,
+            err,
+        }
+    }
+
+    /// The folder before the line.
+    fn given(&self, rt: &impl Abort, alloc: Global) -> MemoryFolder {
+        folder_of(rt, alloc, &self.files)
+    }
+
+    /// Each call of the folder fails in turn.
+    fn try_calls(&self, rt: &impl Abort, alloc: Global) {
+        let whole = self.run(rt, alloc, 0, 0, 0);
+        let given = self.given(rt, alloc);
+        let first = self.run(rt, alloc, 1, 0, 0);
+        for name in self.creates {
+            assert!(rt; first.folder.file(name) == given.file(name));
+        }
+        for call in 1..MANY {
+            let before = self.run(rt, alloc, call, 0, 0);
+            if before.code != 6 {
+                assert_eq!(rt; before.code, whole.code);
+                return;
+            }
+            assert!(rt; whole.out.bytes().starts_with(before.out.bytes()));
+            self.try_call(rt, alloc, call, &before);
+        }
+        rt.panic("more calls than a line of the table makes");
+    }
+
+    /// Call number `call` of the folder fails, and keeps more bytes than the failure that left `before`.
+    fn try_call(&self, rt: &impl Abort, alloc: Global, call: u64, before: &Left) {
+        let after = self.run(rt, alloc, call.wrapping_add(1), 0, 0);
+        for kept in KEPT {
+            let left = self.run(rt, alloc, call, 0, kept);
+            self.expect_fault(rt, alloc, &left);
+            assert!(rt; left.out.bytes() == before.out.bytes());
+            for name in self.creates {
+                let wanted = cut(before.folder.file(name), after.folder.file(name), kept);
+                assert!(rt; left.folder.file(name) == wanted);
+            }
+        }
+    }
+
+    /// Each piece that is put on `out` fails in turn.
+    fn try_puts(&self, rt: &impl Abort, alloc: Global) {
+        let whole = self.run(rt, alloc, 0, 0, 0);
+        for put in 1..MANY {
+            let before = self.run(rt, alloc, 0, put, 0);
+            if before.code != 6 {
+                assert!(rt; before.out.bytes() == whole.out.bytes());
+                return;
+            }
+            let after = self.run(rt, alloc, 0, put.wrapping_add(1), 0);
+            for kept in KEPT {
+                let left = self.run(rt, alloc, 0, put, kept);
+                self.expect_fault(rt, alloc, &left);
+                let wanted = cut(Some(before.out.bytes()), Some(after.out.bytes()), kept);
+                assert!(rt; Some(left.out.bytes()) == wanted);
+                for name in self.creates {
+                    assert!(rt; left.folder.file(name) == before.folder.file(name));
+                }
+            }
+        }
+        rt.panic("more pieces than a line of the table puts");
+    }
+
+    /// The line was stopped by a fault, which is said on `err`, and what it does not create is as it was.
+    fn expect_fault(&self, rt: &impl Abort, alloc: Global, left: &Left) {
+        assert_eq!(rt; left.code, 6);
+        assert_eq!(rt; left.err.bytes(), b"abt: fault\n".as_slice());
+        let given = self.given(rt, alloc);
+        for (name, _) in &self.files {
+            if !self.creates.contains(name) {
+                assert!(rt; left.folder.file(name) == given.file(name));
+            }
+        }
+    }
+}
+
+/// What a failing call leaves that would have led from `before` to `after`: where it adds bytes, the first of
+/// them that it keeps; else what was there.
+fn cut<'b>(before: Option<&'b [u8]>, after: Option<&'b [u8]>, kept: usize) -> Option<&'b [u8]> {
+    let Some(now) = after else {
+        return before;
+    };
+    let Some(was) = before else {
+        return None;
+    };
+    if !now.starts_with(was) {
+        return before;
+    }
+    let len = was.len().saturating_add(kept);
+    if now.len() <= len {
+        return after;
+    }
+    Some(&now[..len])
+}
+
+#[test]
+fn each_call_fails_in_turn(rt: HostRuntime) {
+    for line in &LINES {
+        line.try_calls(&rt, rt.alloc());
+        line.try_puts(&rt, rt.alloc());
+    }
+}

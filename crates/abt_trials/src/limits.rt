@@ -1,0 +1,171 @@
+//! Each limit is met at its number, and refused one beyond.
+
+use crate::given::{Left, PAIR, folder_of, left_by, run_over};
+use dcsp_outside::MemoryFolder;
+use itoa::Buffer;
+use std::alloc::Global;
+use std::process::Abort;
+
+const SATISFY: &[u8] = b"solve satisfy;\n";
+
+/// The first two variables differ from the third, which has one value.
+const STARVED: &[u8] =
+    b"var 0..1: x :: output_var;\nvar 0..1: y :: output_var;\nvar 0..0: z :: output_var;\n\
+constraint int_ne(x,z);\nconstraint int_ne(y,z);\nsolve satisfy;\n";
+
+/// Adds the line so many times.
+fn add_many(rt: &impl Abort, alloc: Global, text: &mut Vec<u8>, line: &[u8], count: u32) {
+    let mut block = Vec::new(alloc);
+    for _ in 0..1000 {
+        block.extend_from_slice(line).expect(rt, "memory");
+    }
+    for _ in 0..count / 1000 {
+        text.extend_from_slice(&block).expect(rt, "memory");
+    }
+    for _ in 0..count % 1000 {
+        text.extend_from_slice(line).expect(rt, "memory");
+    }
+}
+
+/// The lines of variables `x1` to `xN`, which begin so.
+fn variables(rt: &impl Abort, alloc: Global, head: &[u8], count: u32) -> Vec<u8> {
+    let mut text = Vec::new(alloc);
+    let mut digits = Buffer::new();
+    for number in 0..count {
+        text.extend_from_slice(head).expect(rt, "memory");
+        text.extend_from_slice(digits.format(number.wrapping_add(1)).as_bytes())
+            .expect(rt, "memory");
+        text.extend_from_slice(b";\n").expect(rt, "memory");
+    }
+    text
+}
+
+/// The line of an array of so many zeros.
+fn zeros(rt: &impl Abort, alloc: Global, head: &[u8], count: u32) -> Vec<u8> {
+    let mut text = Vec::from_slice(alloc, head).expect(rt, "memory");
+    add_many(rt, alloc, &mut text, b"0,", count.saturating_sub(1));
+    text.extend_from_slice(b"0];\n").expect(rt, "memory");
+    text
+}
+
+/// A model with this text and this last part must be answered so by `bound`.
+fn expect(rt: &impl Abort, alloc: Global, text: &[u8], last: &[u8], code: u8, said: &[u8]) {
+    let mut model = Vec::from_slice(alloc, text).expect(rt, "memory");
+    model.extend_from_slice(last).expect(rt, "memory");
+    let mut folder = MemoryFolder::new(alloc);
+    folder.place("m.fzn", &model).expect(rt, "memory");
+    let left = run_over(rt, alloc, folder, &["bound", "m.fzn"]);
+    assert_eq!(rt; left.code, code);
+    assert_eq!(rt; left.err.bytes(), said);
+}
+
+#[test]
+fn variables_and_values(rt: HostRuntime) {
+    let alloc = rt.alloc();
+    let many = variables(&rt, alloc, b"var 0..0: x", 4096);
+    expect(&rt, alloc, &many, SATISFY, 0, b"");
+    let said = b"abt: model: limit variables 4097 at 68535\n";
+    expect(
+        &rt,
+        alloc,
+        &many,
+        b"var 0..0: x4097;\nsolve satisfy;\n",
+        3,
+        said,
+    );
+    let wide = variables(&rt, alloc, b"var 0..65535: x", 16);
+    expect(&rt, alloc, &wide, SATISFY, 0, b"");
+    let said = b"abt: model: limit domain-values 1048577 at 305\n";
+    expect(
+        &rt,
+        alloc,
+        &wide,
+        b"var 0..0: x17;\nsolve satisfy;\n",
+        3,
+        said,
+    );
+}
+
+#[test]
+fn rules_terms_and_elements(rt: HostRuntime) {
+    let alloc = rt.alloc();
+    let mut rules = Vec::new(alloc);
+    add_many(
+        &rt,
+        alloc,
+        &mut rules,
+        b"constraint int_le(0,0);\n",
+        262_144,
+    );
+    expect(&rt, alloc, &rules, SATISFY, 0, b"");
+    let one_more = b"constraint int_le(0,0);\nsolve satisfy;\n";
+    let said = b"abt: model: limit rules 262145 at 6291467\n";
+    expect(&rt, alloc, &rules, one_more, 3, said);
+    let mut terms = zeros(&rt, alloc, b"array [1..65536] of int: a = [", 65_536);
+    let all = b"constraint fzn_all_different_int(a);\n";
+    add_many(&rt, alloc, &mut terms, all, 16);
+    expect(&rt, alloc, &terms, SATISFY, 0, b"");
+    let said = b"abt: model: limit terms 1048578 at 131707\n";
+    expect(&rt, alloc, &terms, one_more, 3, said);
+    let elements = zeros(&rt, alloc, b"array [1..65537] of int: a = [", 65_537);
+    let said = b"abt: model: limit elements 65537 at 25\n";
+    expect(&rt, alloc, &elements, SATISFY, 3, said);
+}
+
+#[test]
+fn lengths_of_models(rt: HostRuntime) {
+    let alloc = rt.alloc();
+    let mut blanks = Vec::new(alloc);
+    add_many(&rt, alloc, &mut blanks, b" ", 16_777_202);
+    expect(&rt, alloc, b"solve satisfy;", &blanks, 0, b"");
+    blanks.push(b' ').expect(&rt, "memory");
+    let said = b"abt: model: too long\n";
+    expect(&rt, alloc, b"solve satisfy;", &blanks, 3, said);
+}
+
+/// What a replay of the choice 10 and of so many choices 0 leaves.
+fn replayed(rt: &impl Abort, alloc: Global, zeros: u32) -> Left {
+    let mut schedule = Vec::from_slice(alloc, b"schedule 1\n10\n").expect(rt, "memory");
+    add_many(rt, alloc, &mut schedule, b"0\n", zeros);
+    schedule.extend_from_slice(b"end\n").expect(rt, "memory");
+    let mut folder = folder_of(rt, alloc, &[("m.fzn", PAIR)]);
+    folder.place("s.sch", &schedule).expect(rt, "memory");
+    run_over(rt, alloc, folder, &["replay", "m.fzn", "s.sch", "l.ngd"])
+}
+
+/// The longest schedule has 67,108,864 bytes.
+#[test]
+fn lengths_of_schedules(rt: HostRuntime) {
+    let alloc = rt.alloc();
+    let left = replayed(&rt, alloc, 33_554_423);
+    assert_eq!(rt; left.code, 1);
+    assert!(rt; left.out.bytes().ends_with(b"% unused 33554420\n"));
+    let left = replayed(&rt, alloc, 33_554_424);
+    assert_eq!(rt; left.code, 4);
+    assert_eq!(rt; left.err.bytes(), b"abt: schedule: too long\n".as_slice());
+}
+
+/// A run that meets its bound, and one that starves a link.
+#[test]
+fn runs_at_their_worst(rt: HostRuntime) {
+    let alloc = rt.alloc();
+    let model =
+        b"var 0..99: x;\nvar 0..99: y;\nconstraint int_ne(x,y);\nconstraint int_eq(x,y);\nsolve satisfy;\n";
+    let files = [("m.fzn", model.as_slice())];
+    let left = left_by(&rt, alloc, &files, &["solve", "m.fzn", "l.ngd"], 0);
+    assert_eq!(rt; left.code, 1);
+    let said = b"=====UNSATISFIABLE=====\n% deliveries 200\n% steps 101\n".as_slice();
+    assert_eq!(rt; left.out.bytes(), said);
+    let left = left_by(&rt, alloc, &files, &["bound", "m.fzn"], 0);
+    assert_eq!(rt; left.out.bytes(), b"bound 200\n".as_slice());
+    let files = [("m.fzn", STARVED)];
+    let words = ["starve", "m.fzn", "1", "3", "s.sch"];
+    let left = left_by(&rt, alloc, &files, &words, 0);
+    assert_eq!(rt; left.code, 0);
+    assert_eq!(rt;
+        left.out.bytes(),
+        b"starved solved deliveries 6\n".as_slice()
+    );
+    let choices = b"schedule 1\n1\n1\n1\n0\n0\n0\nend\n".as_slice();
+    assert_eq!(rt; left.folder.file("s.sch"), Some(choices));
+}

@@ -1,0 +1,125 @@
+#!/usr/bin/env bash
+# Outside the gate: what is left by a program that is killed, by a disk that is full, and by names that are no
+# plain files. hostile.sh [PROGRAM]; without one it takes ./abt, and then also makes single allocations fail, where
+# the toolchain is installed.
+set -u
+repository=$(cd "$(dirname "$0")/.." && pwd)
+program=${1:-$repository/abt}
+room=$(mktemp -d)
+trap 'rm -rf "$room"' EXIT
+cd "$room" || exit 1
+failed=0
+
+# tell WHAT GOOD: prints a line, and counts it where it is not good.
+tell() {
+    if [ "$2" = 1 ]; then echo "ok      $1"; else echo "FAILED  $1"; failed=$((failed + 1)); fi
+}
+
+# ends WHAT STATUS ERR WORDS..: the program ends with this status and says this on standard error.
+ends() {
+    local what=$1 status=$2 said=$3 got=0
+    shift 3
+    "$program" "$@" > out 2> err || got=$?
+    tell "$what: status $status" "$([ "$got" = "$status" ] && [ "$(cat err)" = "$said" ] && echo 1)"
+}
+
+# is_part PART WHOLE: the one file is the first part of the other.
+is_part() { head -c "$(stat -c %s "$1")" "$2" | cmp -s - "$1"; }
+
+"$program" gen queens 5 > small.fzn || exit 1
+printf 'var 0..1: x;\nvar 0..1: y;\nconstraint int_ne(x,y);\nconstraint int_eq(x,y);\nsolve satisfy;\n' > pair.fzn
+"$program" solve pair.fzn pair.ngd > /dev/null
+"$program" solve pair.fzn other.ngd --record pair.sch > /dev/null
+printf 'p cnf 1 2\n1 0\n-1 0\n' > no.cnf
+sha256sum small.fzn pair.fzn pair.ngd pair.sch no.cnf > given
+
+echo "== killed at random moments"
+# Nine variables with eight values, no two alike: a long refutation.
+{
+    for v in 1 2 3 4 5 6 7 8 9; do echo "var 1..8: p$v;"; done
+    for v in 1 2 3 4 5 6 7 8 9; do for w in 1 2 3 4 5 6 7 8 9; do [ $v -lt $w ] && echo "constraint int_ne(p$v,p$w);"; done; done
+    echo "solve satisfy;"
+} > long.fzn
+began=$(date +%s%N)
+"$program" solve long.fzn whole.ngd > /dev/null
+took=$((($(date +%s%N) - began) / 1000000))
+echo "a whole run takes $took ms and writes $(stat -c %s whole.ngd) bytes"
+lines=0 kills=0
+for _ in $(seq 1 25); do
+    rm -f part.ngd
+    "$program" solve long.fzn part.ngd > part.out &
+    pid=$!
+    sleep "$(printf '0.%03d' $((RANDOM % (took > 900 ? 900 : took + 1))))"
+    kill -9 $pid 2> /dev/null && kills=$((kills + 1))
+    wait $pid 2> /dev/null
+    [ -e part.ngd ] || continue
+    is_part part.ngd whole.ngd || tell "the log of a killed run is no first part" 0
+    [ -s part.ngd ] && [ "$(tail -c 1 part.ngd | od -An -tx1)" != " 0a" ] || lines=$((lines + 1))
+    if [ -s part.out ]; then cmp -s part.ngd whole.ngd || tell "an answer was put before its log was whole" 0; fi
+done
+tell "$kills runs were killed; each log is a first part of the whole one, $lines of them in whole lines" 1
+
+echo "== a disk that is full"
+(
+    trap '' XFSZ
+    ulimit -f 8
+    "$program" solve long.fzn limited.ngd > limited.out 2> limited.err
+    echo $? > limited.status
+)
+tell "a limit on the file's size: status 6" "$([ "$(cat limited.status)" = 6 ] && [ "$(cat limited.err)" = "abt: fault" ] && [ ! -s limited.out ] && is_part limited.ngd whole.ngd && echo 1)"
+mkdir tiny
+if mount -t tmpfs -o size=16k none tiny 2> /dev/null; then
+    ends "a small file system" 6 "abt: fault" solve long.fzn tiny/l.ngd
+    tell "what it holds is a first part" "$(is_part tiny/l.ngd whole.ngd && echo 1)"
+    umount tiny
+else
+    echo "skipped a small file system: nothing can be mounted here"
+fi
+if [ -e /dev/full ]; then ends "a log named /dev/full" 6 "abt: fault" solve pair.fzn /dev/full; fi
+"$program" solve pair.fzn shut.ngd >&- 2> err
+tell "standard output is closed: status 6" "$([ $? = 6 ] && [ "$(cat err)" = "abt: fault" ] && echo 1)"
+
+echo "== names that are no plain files"
+mkdir folder
+for words in "check folder pair.ngd" "check pair.fzn folder" "solve folder l.ngd" "solve pair.fzn folder" \
+    "solve pair.fzn l.ngd --record folder" "replay pair.fzn folder l.ngd" "replay pair.fzn pair.sch folder" \
+    "bound folder" "upgrade folder n.ngd" "upgrade pair.ngd folder" "core folder pair.ngd t.ngd" \
+    "core pair.fzn folder t.ngd" "core pair.fzn pair.ngd folder" "starve pair.fzn 1 2 folder" "starve folder 1 2 s.sch" \
+    "lossy folder l.ngd 5 1" "lossy pair.fzn folder 5 1" "rup folder pair.ngd" "rup no.cnf folder" \
+    "cnf folder p.rup" "cnf no.cnf folder" "bound none.fzn" "check pair.fzn none.ngd"; do
+    # shellcheck disable=SC2086
+    ends "$words" 6 "abt: fault" $words
+done
+if [ "$(id -u)" != 0 ]; then
+    cp pair.fzn shut.fzn && chmod 000 shut.fzn
+    ends "a model without rights" 6 "abt: fault" bound shut.fzn
+    cp pair.ngd kept.ngd && chmod 444 kept.ngd
+    ends "a log that may not be written" 6 "abt: fault" solve pair.fzn kept.ngd
+    tell "it is as it was" "$(cmp -s pair.ngd kept.ngd && echo 1)"
+else
+    echo "skipped rights: root has all"
+fi
+tell "what the lines only read is as it was" "$(sha256sum -c --quiet given > /dev/null 2>&1 && echo 1)"
+
+if [ $# = 0 ] && command -v rt > /dev/null; then
+    echo "== allocations that fail, one at a time; each try compiles the program anew"
+    printf '0\n' > no.rup
+    for words in "check pair.fzn pair.ngd" "solve pair.fzn l.ngd --record r.sch --trace" "replay pair.fzn pair.sch l.ngd" \
+        "bound pair.fzn" "gen queens 2" "upgrade pair.ngd n.ngd" "core pair.fzn pair.ngd t.ngd" "starve pair.fzn 1 2 s.sch" \
+        "lossy pair.fzn l.ngd 5 1" "rup no.cnf no.rup" "cnf no.cnf p.rup"; do
+        # shellcheck disable=SC2086
+        "$program" $words > /dev/null 2>&1
+        status=$?
+        for number in 1 5 25 125; do
+            # shellcheck disable=SC2086
+            (cd "$repository/crates/abt_main" && rt try --fail-alloc $number --seconds 20 --data "pair.fzn=$room/pair.fzn" \
+                --data "pair.ngd=$room/pair.ngd" --data "pair.sch=$room/pair.sch" --data "no.cnf=$room/no.cnf" \
+                --data "no.rup=$room/no.rup" -- $words) > tried 2>&1
+            got=$?
+            tell "$words, allocation $number: status $got" "$({ [ $got = 7 ] && grep -q '^abt: memory$' tried || [ $got = $status ]; } && echo 1)"
+        done
+    done
+fi
+
+echo "$failed failed"
+[ "$failed" = 0 ]
