@@ -28,6 +28,16 @@ fn between(alloc: Global, kind: Kind) -> Result<Rule, Fail>
     })
 }
 
+/// Adds that the first two variables differ and are equal.
+fn add_rules(builder: &mut ProblemBuilder, alloc: Global) -> Result<(), Fail>
+    requires { length builder.old.domains ≡ 2 }
+    ensures { builder.new.domains ≡ builder.old.domains }
+{
+    builder.add_rule(between(alloc, Kind::IntNe)?)?;
+    builder.add_rule(between(alloc, Kind::IntEq)?)?;
+    Ok(())
+}
+
 /// Two variables with the values 0 and 1, which differ and are equal.
 fn smallest(alloc: Global) -> Result<Problem, Fail>
     ensures { IfOk result (λ problem. length problem.domains ≡ 2) }
@@ -35,8 +45,7 @@ fn smallest(alloc: Global) -> Result<Problem, Fail>
     let mut builder = ProblemBuilder::new(alloc);
     builder.add_var(Domain::range(alloc, 0, 1)?)?;
     builder.add_var(Domain::range(alloc, 0, 1)?)?;
-    builder.add_rule(between(alloc, Kind::IntNe)?)?;
-    builder.add_rule(between(alloc, Kind::IntEq)?)?;
+    add_rules(&mut builder, alloc)?;
     Ok(builder.finish()?)
 }
 
@@ -101,61 +110,6 @@ fn has_value(problem: &Problem, var: u32, value: i64) -> bool
     }
 }
 
-#[test]
-fn derives_and_waits(rt: HostRuntime) -> Result<(), Fail> {
-    let alloc = rt.alloc();
-    let problem = smallest(alloc)?;
-    let mut out = Outbox::new(alloc);
-    let mut agent = started(&rt, alloc, &problem, 1, &mut out);
-    assert!(rt; out.is_empty());
-    assert_eq!(rt; agent.value(), Some(0));
-    assert!(rt; has_value(&problem, 0, 0));
-    let told = Incoming {
-        from: 0,
-        message: Message::Tell { value: 0, stamp: 1 },
-        next_step: 1,
-    };
-    match handed(&rt, &problem, &mut agent, told, &mut out) {
-        Turn::Derived(step) => {
-            assert_eq!(rt; step.variable, Some(1));
-            assert_eq!(rt; step.nogood.pairs(), [Pair { var: 0, value: 0 }].as_slice());
-            assert_eq!(rt;
-                step.reasons.items(),
-                [Reason::Rule(0), Reason::Rule(1)].as_slice()
-            );
-        }
-        _ => panic!(rt; "no step"),
-    }
-    assert!(rt; agent.waits());
-    match out.take_first() {
-        Some(
-            Sent {
-                to: 0,
-                message: Message::Refuse {
-                    nogood,
-                    stamps,
-                    step: 1,
-                },
-            },
-        ) => {
-            assert_eq!(rt; nogood.pairs(), [Pair { var: 0, value: 0 }].as_slice());
-            assert_eq!(rt; stamps.items(), [1].as_slice());
-        }
-        _ => panic!(rt; "no nogood"),
-    }
-    assert!(rt; out.is_empty());
-    assert!(rt; has_value(&problem, 1, 1));
-    let own = Incoming {
-        from: 0,
-        message: own_nogood(&rt, alloc, 1, 1),
-        next_step: 2,
-    };
-    let quiet = handed(&rt, &problem, &mut agent, own, &mut out);
-    assert!(rt; matches!(&quiet, Turn::Quiet));
-    assert!(rt; out.is_empty());
-    Ok(())
-}
-
 /// A nogood of one pair, whose value has the stamp 1.
 fn own_nogood(rt: &impl Abort, alloc: Global, var: u32, value: i64) -> Message
     ensures { result ≡ Message.Refuse (record { var = var; value = value } ∷ []) (1 ∷ []) 1 }
@@ -170,21 +124,50 @@ fn own_nogood(rt: &impl Abort, alloc: Global, var: u32, value: i64) -> Message
     }
 }
 
-#[test]
-fn answers_a_link_request(rt: HostRuntime) -> Result<(), Fail> {
-    let alloc = rt.alloc();
-    let problem = smallest(alloc)?;
-    let mut out = Outbox::new(alloc);
-    let mut agent = started(&rt, alloc, &problem, 0, &mut out);
-    assert!(rt; out.take_first().is_some());
+fn expect_pairs(rt: &impl Abort, nogood: &Nogood, pairs: &[Pair]) {
+    assert_eq!(rt; nogood.pairs(), pairs);
+}
+
+fn expect_reasons(rt: &impl Abort, found: &[Reason], reasons: &[Reason]) {
+    assert_eq!(rt; found, reasons);
+}
+
+/// The turn derived that the first variable has not the value 0, by both rules.
+fn expect_derived(rt: &impl Abort, turn: &Turn) {
+    match turn {
+        Turn::Derived(step) => {
+            assert!(rt; step.variable == Some(1));
+            expect_pairs(rt, &step.nogood, &[Pair { var: 0, value: 0 }]);
+            let reasons = [Reason::Rule(0), Reason::Rule(1)];
+            expect_reasons(rt, step.reasons.items(), &reasons);
+        }
+        _ => panic!(rt; "no step"),
+    }
+}
+
+/// The one message refuses the value 0 of the first variable, by the first step.
+fn expect_refused(rt: &impl Abort, out: &mut Outbox) {
+    match out.take_first() {
+        Some(
+            Sent {
+                to: 0,
+                message: Message::Refuse {
+                    nogood,
+                    stamps,
+                    step: 1,
+                },
+            },
+        ) => {
+            expect_pairs(rt, &nogood, &[Pair { var: 0, value: 0 }]);
+            assert_eq!(rt; stamps.items(), [1].as_slice());
+        }
+        _ => panic!(rt; "no nogood"),
+    }
     assert!(rt; out.is_empty());
-    let request = Incoming {
-        from: 1,
-        message: Message::AddLink,
-        next_step: 1,
-    };
-    let quiet = handed(&rt, &problem, &mut agent, request, &mut out);
-    assert!(rt; matches!(&quiet, Turn::Quiet));
+}
+
+/// The one message tells the second variable's agent the value 0.
+fn expect_told(rt: &impl Abort, out: &mut Outbox) {
     match out.take_first() {
         Some(
             Sent {
@@ -195,5 +178,93 @@ fn answers_a_link_request(rt: HostRuntime) -> Result<(), Fail> {
         _ => panic!(rt; "no value"),
     }
     assert!(rt; out.is_empty());
+}
+
+/// Nothing came of the turn.
+fn expect_quiet(rt: &impl Abort, turn: &Turn, out: &Outbox) {
+    assert!(rt; matches!(turn, Turn::Quiet));
+    assert!(rt; out.is_empty());
+}
+
+/// Hands the second variable's agent the value 0 of the first variable.
+fn hand_value(rt: &impl Abort, problem: &Problem, agent: &mut Agent, out: &mut Outbox) -> Turn
+    requires two { length problem.now.domains ≡ 2 }
+    requires problem { agent.old.problem ≡ problem.now }
+    requires me { agent.old.me ≡ 1 }
+    ensures problem { agent.new.problem ≡ problem.now }
+    ensures me { agent.new.me ≡ agent.old.me }
+{
+    assert!(rt; has_value(problem, 0, 0));
+    let told = Incoming {
+        from: 0,
+        message: Message::Tell { value: 0, stamp: 1 },
+        next_step: 1,
+    };
+    handed(rt, problem, agent, told, out)
+}
+
+/// Hands the second variable's agent a nogood of its value 1.
+fn hand_nogood(
+    rt: &impl Abort,
+    alloc: Global,
+    problem: &Problem,
+    agent: &mut Agent,
+    out: &mut Outbox,
+) -> Turn
+    requires two { length problem.now.domains ≡ 2 }
+    requires problem { agent.old.problem ≡ problem.now }
+    requires me { agent.old.me ≡ 1 }
+{
+    assert!(rt; has_value(problem, 1, 1));
+    let own = Incoming {
+        from: 0,
+        message: own_nogood(rt, alloc, 1, 1),
+        next_step: 2,
+    };
+    handed(rt, problem, agent, own, out)
+}
+
+#[test]
+fn derives_and_waits(rt: HostRuntime) -> Result<(), Fail> {
+    let alloc = rt.alloc();
+    let problem = smallest(alloc)?;
+    let mut out = Outbox::new(alloc);
+    let mut agent = started(&rt, alloc, &problem, 1, &mut out);
+    assert!(rt; out.is_empty());
+    assert_eq!(rt; agent.value(), Some(0));
+    let derived = hand_value(&rt, &problem, &mut agent, &mut out);
+    expect_derived(&rt, &derived);
+    assert!(rt; agent.waits());
+    expect_refused(&rt, &mut out);
+    let quiet = hand_nogood(&rt, alloc, &problem, &mut agent, &mut out);
+    expect_quiet(&rt, &quiet, &out);
+    Ok(())
+}
+
+/// Hands the first variable's agent the second one's wish for a link.
+fn hand_request(rt: &impl Abort, problem: &Problem, agent: &mut Agent, out: &mut Outbox) -> Turn
+    requires two { length problem.now.domains ≡ 2 }
+    requires problem { agent.old.problem ≡ problem.now }
+    requires me { agent.old.me ≡ 0 }
+{
+    let request = Incoming {
+        from: 1,
+        message: Message::AddLink,
+        next_step: 1,
+    };
+    handed(rt, problem, agent, request, out)
+}
+
+#[test]
+fn answers_a_link_request(rt: HostRuntime) -> Result<(), Fail> {
+    let alloc = rt.alloc();
+    let problem = smallest(alloc)?;
+    let mut out = Outbox::new(alloc);
+    let mut agent = started(&rt, alloc, &problem, 0, &mut out);
+    assert!(rt; out.take_first().is_some());
+    assert!(rt; out.is_empty());
+    let quiet = hand_request(&rt, &problem, &mut agent, &mut out);
+    assert!(rt; matches!(&quiet, Turn::Quiet));
+    expect_told(&rt, &mut out);
     Ok(())
 }

@@ -5,38 +5,44 @@ use md5::{Digest, Md5};
 use std::process::Abort;
 use std::test::Fail;
 
+/// The text is this one.
+fn expect_text(rt: &impl Abort, text: &[u8], expected: &str) {
+    assert_eq!(rt; text, expected.as_bytes());
+}
+
 #[test]
 fn small_texts(rt: HostRuntime) -> Result<(), Fail> {
     let alloc = rt.alloc();
-    let table = [
-        (
-            queens(alloc, 1),
-            "var 1..1: q1;\narray [1..1] of var int: q :: output_array([1..1]) = [q1];\nsolve satisfy;\n",
-        ),
-        (
-            queens(alloc, 2),
-            "var 1..2: q1;\nvar 1..2: q2;\narray [1..2] of var int: q :: output_array([1..2]) = [q1,q2];\nconstraint int_ne(q1,q2);\nconstraint int_lin_ne([1,-1],[q1,q2],1);\nconstraint int_lin_ne([1,-1],[q1,q2],-1);\nsolve satisfy;\n",
-        ),
-        (
-            colouring(alloc, 1, 3, 5),
-            "var 1..3: c1;\narray [1..1] of var int: c :: output_array([1..1]) = [c1];\nsolve satisfy;\n",
-        ),
-        (
-            colouring(alloc, 4, 3, 5),
-            "var 1..3: c1;\nvar 1..3: c2;\nvar 1..3: c3;\nvar 1..3: c4;\narray [1..4] of var int: c :: output_array([1..4]) = [c1,c2,c3,c4];\nconstraint int_ne(c1,c3);\nconstraint int_ne(c2,c4);\nsolve satisfy;\n",
-        ),
-        (
-            sparse(alloc, 3, 7),
-            "var 1..4: c1;\nvar 1..4: c2;\nvar 1..4: c3;\narray [1..3] of var int: c :: output_array([1..3]) = [c1,c2,c3];\nconstraint int_ne(c1,c2);\nconstraint int_ne(c1,c2);\nconstraint int_ne(c1,c2);\nconstraint int_ne(c1,c3);\nconstraint int_ne(c1,c3);\nconstraint int_ne(c2,c3);\nsolve satisfy;\n",
-        ),
-        (
-            pigeons(alloc, 3),
-            "var 1..2: p1;\nvar 1..2: p2;\nvar 1..2: p3;\nconstraint int_ne(p1,p2);\nconstraint int_ne(p1,p3);\nconstraint int_ne(p2,p3);\nsolve satisfy;\n",
-        ),
-    ];
-    for (made, expected) in table {
-        assert_eq!(rt; made?.as_slice(), expected.as_bytes());
-    }
+    expect_text(
+        &rt,
+        &queens(alloc, 1)?,
+        "var 1..1: q1;\narray [1..1] of var int: q :: output_array([1..1]) = [q1];\nsolve satisfy;\n",
+    );
+    expect_text(
+        &rt,
+        &queens(alloc, 2)?,
+        "var 1..2: q1;\nvar 1..2: q2;\narray [1..2] of var int: q :: output_array([1..2]) = [q1,q2];\nconstraint int_ne(q1,q2);\nconstraint int_lin_ne([1,-1],[q1,q2],1);\nconstraint int_lin_ne([1,-1],[q1,q2],-1);\nsolve satisfy;\n",
+    );
+    expect_text(
+        &rt,
+        &colouring(alloc, 1, 3, 5)?,
+        "var 1..3: c1;\narray [1..1] of var int: c :: output_array([1..1]) = [c1];\nsolve satisfy;\n",
+    );
+    expect_text(
+        &rt,
+        &colouring(alloc, 4, 3, 5)?,
+        "var 1..3: c1;\nvar 1..3: c2;\nvar 1..3: c3;\nvar 1..3: c4;\narray [1..4] of var int: c :: output_array([1..4]) = [c1,c2,c3,c4];\nconstraint int_ne(c1,c3);\nconstraint int_ne(c2,c4);\nsolve satisfy;\n",
+    );
+    expect_text(
+        &rt,
+        &sparse(alloc, 3, 7)?,
+        "var 1..4: c1;\nvar 1..4: c2;\nvar 1..4: c3;\narray [1..3] of var int: c :: output_array([1..3]) = [c1,c2,c3];\nconstraint int_ne(c1,c2);\nconstraint int_ne(c1,c2);\nconstraint int_ne(c1,c2);\nconstraint int_ne(c1,c3);\nconstraint int_ne(c1,c3);\nconstraint int_ne(c2,c3);\nsolve satisfy;\n",
+    );
+    expect_text(
+        &rt,
+        &pigeons(alloc, 3)?,
+        "var 1..2: p1;\nvar 1..2: p2;\nvar 1..2: p3;\nconstraint int_ne(p1,p2);\nconstraint int_ne(p1,p3);\nconstraint int_ne(p2,p3);\nsolve satisfy;\n",
+    );
     Ok(())
 }
 

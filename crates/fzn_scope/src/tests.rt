@@ -24,6 +24,11 @@ fn add<'t>(rt: &impl Abort, names: &mut Names<'t>, name: &'t [u8], declared: Dec
     assert!(rt; names.declare(name, declared).is_ok());
 }
 
+/// A variable or a parameter.
+fn one(boolean: bool, term: Term) -> Declared {
+    Declared::One { boolean, term }
+}
+
 /// An array of these terms.
 fn many(rt: &impl Abort, alloc: Global, boolean: bool, variable: bool, terms: &[Term]) -> Declared {
     let terms = Vec::from_slice(alloc, terms).expect(rt, "memory");
@@ -38,15 +43,11 @@ fn many(rt: &impl Abort, alloc: Global, boolean: bool, variable: bool, terms: &[
 /// the integers `cs`, and the arrays of variables `xs` of `x` and `y`, `bs` of `b`, and `vs` of a constant.
 fn scope(rt: &impl Abort, alloc: Global) -> Names<'static> {
     let mut names = Names::new(alloc);
-    for (name, boolean, term) in [
-        (b"x".as_slice(), false, Term::Var(0)),
-        (b"y", false, Term::Var(1)),
-        (b"b", true, Term::Var(2)),
-        (b"n", false, Term::Const(3)),
-        (b"t", true, Term::Const(1)),
-    ] {
-        add(rt, &mut names, name, Declared::One { boolean, term });
-    }
+    add(rt, &mut names, b"x", one(false, Term::Var(0)));
+    add(rt, &mut names, b"y", one(false, Term::Var(1)));
+    add(rt, &mut names, b"b", one(true, Term::Var(2)));
+    add(rt, &mut names, b"n", one(false, Term::Const(3)));
+    add(rt, &mut names, b"t", one(true, Term::Const(1)));
     let set = Members::Between { low: 1, high: 3 };
     add(rt, &mut names, b"s", Declared::Set(set));
     let constants = many(rt, alloc, false, false, &[Term::Const(1), Term::Const(-1)]);
@@ -80,75 +81,166 @@ fn rule_of(rt: &impl Abort, alloc: Global, text: &[u8]) -> Result<Rule, Stop> {
     }
 }
 
+/// The text's first item is a constraint that has a rule.
+fn expect_rule(rt: &impl Abort, alloc: Global, text: &[u8]) {
+    assert!(rt; rule_of(rt, alloc, text).is_ok());
+}
+
+/// The text's first item is a constraint that is refused for this.
+fn expect_refused(rt: &impl Abort, alloc: Global, text: &[u8], refusal: Refusal) {
+    assert_eq!(rt;
+        rule_of(rt, alloc, text).err(),
+        Some(Stop::Refused(refusal))
+    );
+}
+
 #[test]
 fn constraints_with_a_rule(rt: HostRuntime) {
-    for text in [
-        b"constraint int_ne(x,1);".as_slice(),
-        b"constraint int_ne(n,y);",
-        b"constraint bool_xor(b,t);",
-        b"constraint bool_xor(b,false,b);",
-        b"constraint bool2int(b,x);",
-        b"constraint set_in(x,s);",
-        b"constraint set_in_reif(x,{5,2,5},b);",
-        b"constraint bool_clause(bs,[]);",
-        b"constraint array_var_int_element(x,xs,y);",
-        b"constraint array_bool_element(x,[t,false],b);",
-        b"constraint fzn_all_different_int(vs);",
-        b"constraint int_lin_eq(cs,xs,n);",
-        b"constraint int_lin_le_reif([n],vs,1,b);",
-        b"constraint bool_lin_le([2],bs,x);",
-    ] {
-        assert!(rt; rule_of(&rt, rt.alloc(), text).is_ok());
-    }
+    let alloc = rt.alloc();
+    expect_rule(&rt, alloc, b"constraint int_ne(x,1);");
+    expect_rule(&rt, alloc, b"constraint int_ne(n,y);");
+    expect_rule(&rt, alloc, b"constraint bool_xor(b,t);");
+    expect_rule(&rt, alloc, b"constraint bool_xor(b,false,b);");
+    expect_rule(&rt, alloc, b"constraint bool2int(b,x);");
+    expect_rule(&rt, alloc, b"constraint set_in(x,s);");
+    expect_rule(&rt, alloc, b"constraint set_in_reif(x,{5,2,5},b);");
+    expect_rule(&rt, alloc, b"constraint bool_clause(bs,[]);");
+    expect_rule(&rt, alloc, b"constraint array_var_int_element(x,xs,y);");
+    expect_rule(&rt, alloc, b"constraint array_bool_element(x,[t,false],b);");
+    expect_rule(&rt, alloc, b"constraint fzn_all_different_int(vs);");
+    expect_rule(&rt, alloc, b"constraint int_lin_eq(cs,xs,n);");
+    expect_rule(&rt, alloc, b"constraint int_lin_le_reif([n],vs,1,b);");
+    expect_rule(&rt, alloc, b"constraint bool_lin_le([2],bs,x);");
 }
 
 #[test]
 fn scalars_and_their_refusals(rt: HostRuntime) {
-    for (text, refusal) in [
-        (
-            b"constraint int_nq(q);".as_slice(),
-            Refusal::UnknownConstraint { at: 11 },
-        ),
-        (b"constraint int_ne(q);", Refusal::IllTyped { at: 11 }),
-        (b"constraint int_ne(q,b);", Refusal::Undeclared { at: 18 }),
-        (b"constraint int_ne(b,q);", Refusal::IllTyped { at: 18 }),
-        (b"constraint int_ne(x,true);", Refusal::IllTyped { at: 20 }),
-        (b"constraint int_ne(2.5,1);", Refusal::IllTyped { at: 18 }),
-        (b"constraint int_ne(xs,1);", Refusal::IllTyped { at: 18 }),
-        (b"constraint int_ne([q],1);", Refusal::IllTyped { at: 18 }),
-        (b"constraint int_ne(s,1);", Refusal::IllTyped { at: 18 }),
-        (b"constraint bool_eq(b,1);", Refusal::IllTyped { at: 21 }),
-        (b"constraint bool_xor(b);", Refusal::IllTyped { at: 11 }),
-    ] {
-        let refused = rule_of(&rt, rt.alloc(), text).err();
-        assert_eq!(rt; refused, Some(Stop::Refused(refusal)));
-    }
+    let alloc = rt.alloc();
+    expect_refused(
+        &rt,
+        alloc,
+        b"constraint int_nq(q);",
+        Refusal::UnknownConstraint { at: 11 },
+    );
+    expect_refused(
+        &rt,
+        alloc,
+        b"constraint int_ne(q);",
+        Refusal::IllTyped { at: 11 },
+    );
+    expect_refused(
+        &rt,
+        alloc,
+        b"constraint int_ne(q,b);",
+        Refusal::Undeclared { at: 18 },
+    );
+    expect_refused(
+        &rt,
+        alloc,
+        b"constraint int_ne(b,q);",
+        Refusal::IllTyped { at: 18 },
+    );
+    expect_refused(
+        &rt,
+        alloc,
+        b"constraint int_ne(x,true);",
+        Refusal::IllTyped { at: 20 },
+    );
+    expect_refused(
+        &rt,
+        alloc,
+        b"constraint int_ne(2.5,1);",
+        Refusal::IllTyped { at: 18 },
+    );
+    expect_refused(
+        &rt,
+        alloc,
+        b"constraint int_ne(xs,1);",
+        Refusal::IllTyped { at: 18 },
+    );
+    expect_refused(
+        &rt,
+        alloc,
+        b"constraint int_ne([q],1);",
+        Refusal::IllTyped { at: 18 },
+    );
+    expect_refused(
+        &rt,
+        alloc,
+        b"constraint int_ne(s,1);",
+        Refusal::IllTyped { at: 18 },
+    );
+    expect_refused(
+        &rt,
+        alloc,
+        b"constraint bool_eq(b,1);",
+        Refusal::IllTyped { at: 21 },
+    );
+    expect_refused(
+        &rt,
+        alloc,
+        b"constraint bool_xor(b);",
+        Refusal::IllTyped { at: 11 },
+    );
 }
 
 #[test]
 fn lists_and_sets_and_their_refusals(rt: HostRuntime) {
-    for (text, refused, at) in [
-        (b"constraint set_in(x,n);".as_slice(), "ill-typed", 20),
-        (b"constraint set_in(x,[1]);", "ill-typed", 20),
-        (
-            b"constraint fzn_all_different_int([x,q,b]);",
-            "undeclared",
-            36,
-        ),
-        (b"constraint fzn_all_different_int(x);", "ill-typed", 33),
-        (b"constraint int_lin_eq(xs,xs,3);", "ill-typed", 22),
-        (b"constraint int_lin_eq(vs,[x],3);", "ill-typed", 22),
-        (b"constraint int_lin_eq([1,x],[q],3);", "ill-typed", 25),
-        (b"constraint int_lin_eq(cs,[x],3);", "ill-typed", 11),
-        (b"constraint int_lin_eq(cs,[x],q);", "undeclared", 29),
-    ] {
-        let refusal = match refused {
-            "undeclared" => Refusal::Undeclared { at },
-            _ => Refusal::IllTyped { at },
-        };
-        let answer = rule_of(&rt, rt.alloc(), text).err();
-        assert_eq!(rt; answer, Some(Stop::Refused(refusal)));
-    }
+    let alloc = rt.alloc();
+    expect_refused(
+        &rt,
+        alloc,
+        b"constraint set_in(x,n);",
+        Refusal::IllTyped { at: 20 },
+    );
+    expect_refused(
+        &rt,
+        alloc,
+        b"constraint set_in(x,[1]);",
+        Refusal::IllTyped { at: 20 },
+    );
+    expect_refused(
+        &rt,
+        alloc,
+        b"constraint fzn_all_different_int([x,q,b]);",
+        Refusal::Undeclared { at: 36 },
+    );
+    expect_refused(
+        &rt,
+        alloc,
+        b"constraint fzn_all_different_int(x);",
+        Refusal::IllTyped { at: 33 },
+    );
+    expect_refused(
+        &rt,
+        alloc,
+        b"constraint int_lin_eq(xs,xs,3);",
+        Refusal::IllTyped { at: 22 },
+    );
+    expect_refused(
+        &rt,
+        alloc,
+        b"constraint int_lin_eq(vs,[x],3);",
+        Refusal::IllTyped { at: 22 },
+    );
+    expect_refused(
+        &rt,
+        alloc,
+        b"constraint int_lin_eq([1,x],[q],3);",
+        Refusal::IllTyped { at: 25 },
+    );
+    expect_refused(
+        &rt,
+        alloc,
+        b"constraint int_lin_eq(cs,[x],3);",
+        Refusal::IllTyped { at: 11 },
+    );
+    expect_refused(
+        &rt,
+        alloc,
+        b"constraint int_lin_eq(cs,[x],q);",
+        Refusal::Undeclared { at: 29 },
+    );
 }
 
 #[test]
@@ -181,23 +273,25 @@ fn rules_of_a_sum_and_of_two_truths(rt: HostRuntime) -> Result<(), Fail> {
     Ok(())
 }
 
-#[test]
-fn elements_of_right_sides(rt: HostRuntime) {
+/// The right side at a place of the arguments has so many elements, or is refused.
+fn expect_count(rt: &impl Abort, alloc: Global, place: usize, count: Result<usize, Refusal>) {
     let text = b"constraint p([q,q],xs,q,7);";
-    let list = read(rt.alloc(), text).ok().expect(&rt, "items");
-    let names = scope(&rt, rt.alloc());
+    let list = read(alloc, text).ok().expect(rt, "items");
+    let names = scope(rt, alloc);
     let Some(Item::Constraint { arguments, .. }) = list.items().first() else {
         panic!(rt; "no constraint")
     };
-    for (place, count) in [
-        (0, Ok(2)),
-        (1, Ok(2)),
-        (2, Err(Refusal::Undeclared { at: 22 })),
-        (3, Err(Refusal::IllTyped { at: 24 })),
-    ] {
-        let expr = arguments.items().get(place).expect(&rt, "an expression");
-        assert_eq!(rt; count_of(text, &names, expr), count);
-    }
+    let expr = arguments.items().get(place).expect(rt, "an expression");
+    assert_eq!(rt; count_of(text, &names, expr), count);
+}
+
+#[test]
+fn elements_of_right_sides(rt: HostRuntime) {
+    let alloc = rt.alloc();
+    expect_count(&rt, alloc, 0, Ok(2));
+    expect_count(&rt, alloc, 1, Ok(2));
+    expect_count(&rt, alloc, 2, Err(Refusal::Undeclared { at: 22 }));
+    expect_count(&rt, alloc, 3, Err(Refusal::IllTyped { at: 24 }));
 }
 
 #[test]

@@ -1,5 +1,6 @@
 use super::*;
 use std::alloc::Global;
+use std::process::Abort;
 use std::test::Fail;
 
 /// The clauses of all signs over two variables.
@@ -13,98 +14,124 @@ fn answer(alloc: Global, formula: &[u8], proof: &[u8]) -> Result<Rup, Fail> {
     Ok(answer)
 }
 
-#[test]
-fn checks(rt: HostRuntime) -> Result<(), Fail> {
-    for (formula, proof, wanted) in [
-        (SQUARE, b"1 0\n-1 0\n0\n".as_slice(), Rup::Verified),
-        (
-            SQUARE,
-            b"3 -3 0\n2 0\n3 0\n1 0\n0\n".as_slice(),
-            Rup::Verified,
-        ),
-        (
-            b"1 1 2 0\n-1 -1 0\n-2 -2 0\n".as_slice(),
-            b"0\n".as_slice(),
-            Rup::Verified,
-        ),
-        (b"0\n".as_slice(), b"5 0\n0\n".as_slice(), Rup::Verified),
-        (SQUARE, b"1 0\n-1 0\n".as_slice(), Rup::NotEmpty),
-        (b"".as_slice(), b"".as_slice(), Rup::NotEmpty),
-        (b"1 0\n".as_slice(), b"2 -2 0\n".as_slice(), Rup::NotEmpty),
-        (
-            b"".as_slice(),
-            b"0\n".as_slice(),
-            Rup::BadClause { number: 1 },
-        ),
-        (
-            b"1 2 0\n".as_slice(),
-            b"1 0\n0\n".as_slice(),
-            Rup::BadClause { number: 1 },
-        ),
-        (
-            b"1 2 0\n-1 2 0\n".as_slice(),
-            b"2 0\n1 0\n0\n".as_slice(),
-            Rup::BadClause { number: 2 },
-        ),
-        (
-            b"1 2 3 0\n-1 0\n-2 0\n".as_slice(),
-            b"3 0\n-3 0\n".as_slice(),
-            Rup::BadClause { number: 2 },
-        ),
-        (
-            b"4096 -4096 0\n".as_slice(),
-            b"4096 -4096 0\n4096 0\n".as_slice(),
-            Rup::BadClause { number: 2 },
-        ),
-    ] {
-        assert_eq!(rt; answer(rt.alloc(), formula, proof)?, wanted);
+/// The answer on a proof, where formula and proof stand in lines, must be this one.
+fn expect_answer(rt: &impl Abort, alloc: Global, formula: &[u8], proof: &[u8], wanted: Rup) {
+    match answer(alloc, formula, proof) {
+        Ok(found) => assert_eq!(rt; found, wanted),
+        Err(_) => panic!(rt; "no answer"),
     }
-    Ok(())
+}
+
+#[test]
+fn verifies(rt: HostRuntime) {
+    let alloc = rt.alloc();
+    expect_answer(&rt, alloc, SQUARE, b"1 0\n-1 0\n0\n", Rup::Verified);
+    expect_answer(
+        &rt,
+        alloc,
+        SQUARE,
+        b"3 -3 0\n2 0\n3 0\n1 0\n0\n",
+        Rup::Verified,
+    );
+    expect_answer(
+        &rt,
+        alloc,
+        b"1 1 2 0\n-1 -1 0\n-2 -2 0\n",
+        b"0\n",
+        Rup::Verified,
+    );
+    expect_answer(&rt, alloc, b"0\n", b"5 0\n0\n", Rup::Verified);
+}
+
+#[test]
+fn wants_the_empty_clause(rt: HostRuntime) {
+    let alloc = rt.alloc();
+    expect_answer(&rt, alloc, SQUARE, b"1 0\n-1 0\n", Rup::NotEmpty);
+    expect_answer(&rt, alloc, b"", b"", Rup::NotEmpty);
+    expect_answer(&rt, alloc, b"1 0\n", b"2 -2 0\n", Rup::NotEmpty);
+}
+
+#[test]
+fn names_the_first_bad_clause(rt: HostRuntime) {
+    let alloc = rt.alloc();
+    expect_answer(&rt, alloc, b"", b"0\n", Rup::BadClause { number: 1 });
+    expect_answer(
+        &rt,
+        alloc,
+        b"1 2 0\n",
+        b"1 0\n0\n",
+        Rup::BadClause { number: 1 },
+    );
+    expect_answer(
+        &rt,
+        alloc,
+        b"1 2 0\n-1 2 0\n",
+        b"2 0\n1 0\n0\n",
+        Rup::BadClause { number: 2 },
+    );
+    expect_answer(
+        &rt,
+        alloc,
+        b"1 2 3 0\n-1 0\n-2 0\n",
+        b"3 0\n-3 0\n",
+        Rup::BadClause { number: 2 },
+    );
+    expect_answer(
+        &rt,
+        alloc,
+        b"4096 -4096 0\n",
+        b"4096 -4096 0\n4096 0\n",
+        Rup::BadClause { number: 2 },
+    );
+}
+
+/// The text must be so many clauses.
+fn expect_clauses(rt: &impl Abort, alloc: Global, text: &[u8], clauses: usize) {
+    match read_proof(alloc, text) {
+        Ok(proof) => assert_eq!(rt; proof.len(), clauses),
+        Err(error) => panic!(rt; "{error:?}"),
+    }
 }
 
 #[test]
 fn reads(rt: HostRuntime) {
-    for (text, clauses) in [
-        (b"".as_slice(), 0),
-        (b"0\n".as_slice(), 1),
-        (b"1 1 -1 0\n".as_slice(), 1),
-        (b"-4096 4096 0\n0\n".as_slice(), 2),
-    ] {
-        match read_proof(rt.alloc(), text) {
-            Ok(proof) => assert_eq!(rt; proof.len(), clauses),
-            Err(error) => panic!(rt; "{error:?}"),
-        }
+    let alloc = rt.alloc();
+    expect_clauses(&rt, alloc, b"", 0);
+    expect_clauses(&rt, alloc, b"0\n", 1);
+    expect_clauses(&rt, alloc, b"1 1 -1 0\n", 1);
+    expect_clauses(&rt, alloc, b"-4096 4096 0\n0\n", 2);
+}
+
+/// The first bad line of the text must have this number.
+fn expect_bad_line(rt: &impl Abort, alloc: Global, text: &[u8], number: u64) {
+    match read_proof(alloc, text) {
+        Ok(_) => panic!(rt; "line {number}"),
+        Err(error) => assert_eq!(rt; error, ProofError::Line { number }),
     }
 }
 
 #[test]
 fn names_the_first_bad_line(rt: HostRuntime) {
-    for (text, line) in [
-        (b"01 0\n".as_slice(), 1),
-        (b"-01 0\n".as_slice(), 1),
-        (b"1 0\n-0 0\n".as_slice(), 2),
-        (b"0 0\n".as_slice(), 1),
-        (b"+1 0\n".as_slice(), 1),
-        (b"- 1 0\n".as_slice(), 1),
-        (b"4097 0\n".as_slice(), 1),
-        (b"18446744073709551617 0\n".as_slice(), 1),
-        (b"1  0\n".as_slice(), 1),
-        (b" 0\n".as_slice(), 1),
-        (b"1\t2 0\n".as_slice(), 1),
-        (b"1\n".as_slice(), 1),
-        (b"1 \n".as_slice(), 1),
-        (b"1 0 \n".as_slice(), 1),
-        (b"0\r\n".as_slice(), 1),
-        (b"\n".as_slice(), 1),
-        (b"1 0\n\n".as_slice(), 2),
-        (b"1 0".as_slice(), 1),
-        (b"1 0\n0".as_slice(), 2),
-    ] {
-        match read_proof(rt.alloc(), text) {
-            Ok(_) => panic!(rt; "line {line}"),
-            Err(error) => assert_eq!(rt; error, ProofError::Line { number: line }),
-        }
-    }
+    let alloc = rt.alloc();
+    expect_bad_line(&rt, alloc, b"01 0\n", 1);
+    expect_bad_line(&rt, alloc, b"-01 0\n", 1);
+    expect_bad_line(&rt, alloc, b"1 0\n-0 0\n", 2);
+    expect_bad_line(&rt, alloc, b"0 0\n", 1);
+    expect_bad_line(&rt, alloc, b"+1 0\n", 1);
+    expect_bad_line(&rt, alloc, b"- 1 0\n", 1);
+    expect_bad_line(&rt, alloc, b"4097 0\n", 1);
+    expect_bad_line(&rt, alloc, b"18446744073709551617 0\n", 1);
+    expect_bad_line(&rt, alloc, b"1  0\n", 1);
+    expect_bad_line(&rt, alloc, b" 0\n", 1);
+    expect_bad_line(&rt, alloc, b"1\t2 0\n", 1);
+    expect_bad_line(&rt, alloc, b"1\n", 1);
+    expect_bad_line(&rt, alloc, b"1 \n", 1);
+    expect_bad_line(&rt, alloc, b"1 0 \n", 1);
+    expect_bad_line(&rt, alloc, b"0\r\n", 1);
+    expect_bad_line(&rt, alloc, b"\n", 1);
+    expect_bad_line(&rt, alloc, b"1 0\n\n", 2);
+    expect_bad_line(&rt, alloc, b"1 0", 1);
+    expect_bad_line(&rt, alloc, b"1 0\n0", 2);
 }
 
 #[test]
