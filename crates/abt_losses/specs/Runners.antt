@@ -1,10 +1,14 @@
 -- A run over the medium on its way.
-use Rattle.std.specs.Prelude.{◌≡◌, ℕ, ◌+◌, ◌≤◌, Bool, true, false, List, [], drop, length}
+use Rattle.std.specs.Prelude.{◌≡◌, ℕ, ◌+◌, ◌≤◌, ◌++◌, Bool, true, false, List, [], drop, length, map}
+use Rattle.dcsp_defs.specs.Words.{below}
 use Rattle.dcsp_defs.specs.declared.Step.{Step}
 use Rattle.dcsp_problem.specs.Problems.{Contents, csp_of}
 use Rattle.dcsp_script.specs.Scripts.{Write}
 use Rattle.lossy_defs.specs.World.{begin}
 use Rattle.lossy_defs.specs.Deliveries.{numbers}
+use Rattle.lossy_defs.specs.Ends.{calm_words, used}
+use Rattle.abt_schedule.specs.Answers.{word_at}
+use Rattle.rand_pcg.specs.Lcg.{Lcg}
 use Rattle.abt_lossy.specs.InWorld.{LossyState, IsAfter, reached}
 use Rattle.abt_session.specs.Running.{kept, IsOutcome}
 use Rattle.abt_session.specs.Sessions.{step_writes}
@@ -30,6 +34,18 @@ pub record HasMade (words : List ℕ) (r : Runner) : Type 0 where
 -- where these steps grew to those, an append for each that is new
 abbrev pub new_writes : List ℕ → List Step → List Step → List Write
 new_writes log before now = step_writes log (length before + 1) (drop (length before) now)
+
+-- the appends of the steps that the world of these later words has beyond that of the earlier ones
+abbrev pub writes_between : LossyState → List ℕ → List ℕ → List ℕ → List Write
+writes_between s log earlier later = new_writes log (reached s earlier).network.steps (reached s later).network.steps
+
+-- the first words of a generator, so many of them, until a verdict stands
+abbrev pub seeded_until_verdict : LossyState → Lcg → ℕ → List ℕ
+seeded_until_verdict s generator events = used (csp_of s.problem) (map (word_at generator) (below events)) (begin (csp_of s.problem))
+
+-- these words and calm ones after them, at most so many, until a verdict stands
+abbrev pub calmed : LossyState → List ℕ → ℕ → List ℕ
+calmed s words most = words ++ calm_words (csp_of s.problem) most (reached s words)
 
 -- what events leave as it was
 pub record SameTask (old new : Runner) : Type 0 where

@@ -1,13 +1,11 @@
 //! A run over the medium on its way.
 
-ghost use Rattle.std.specs.Prelude.{◌≡◌, ◌<◌, ◌≤◌, ◌+◌, ◌^◌, ◌++◌, ℕ, List, [], ◌∷◌, map, length, false, Contains, IfOk, OnErr, OnOk, Err, option_to_list};
-ghost use Rattle.dcsp_defs.specs.Words.{below};
+ghost use Rattle.std.specs.Prelude.{◌≡◌, ◌<◌, ◌≤◌, ◌+◌, ◌^◌, ◌++◌, ℕ, List, [], ◌∷◌, length, false, Contains, IfOk, OnErr, OnOk, Err, option_to_list};
 ghost use Rattle.dcsp_outside.specs.Outside.{Place, Stream};
 ghost use Rattle.dcsp_problem.specs.Problems.{csp_of};
 ghost use Rattle.dcsp_script.specs.Scripts.{Append, Create, outside};
 ghost use Rattle.dcsp_script.specs.Ways.{Wrote};
-ghost use Rattle.lossy_defs.specs.World.{begin};
-ghost use Rattle.lossy_defs.specs.Ends.{calm_word, calm_words, has_verdict, used};
+ghost use Rattle.lossy_defs.specs.Ends.{calm_word, has_verdict};
 ghost use Rattle.abt_network.specs.Standing.{standing_in, steps_of};
 ghost use Rattle.abt_lossy.specs.InWorld.{reached, CanHappen};
 ghost use Rattle.abt_schedule.specs.Answers.{word_at};
@@ -40,7 +38,7 @@ pub struct Runner<'p, 'w> {
 }
 
 impl<'p, 'w> Runner<'p, 'w> {
-    ghost use Rattle.abt_losses.specs.Runners.{new_writes, HasMade, SameTask};
+    ghost use Rattle.abt_losses.specs.Runners.{calmed, seeded_until_verdict, writes_between, HasMade, SameTask};
 
     /// Makes the whole run, and its log: the events of the seed, so many of them, and then calm ones, at most
     /// `most`, until a verdict stands.
@@ -95,9 +93,9 @@ impl<'p, 'w> Runner<'p, 'w> {
     ) -> Result<(), Stop>
         requires created { Contains (F.place folder.old).created self.old.log.now }
         requires made { HasMade [] self.old }
-        ensures wrote { let p = csp_of self.old.medium.problem in (out : Stream) → Wrote (new_writes self.old.log.now (reached self.old.medium []).network.steps (reached self.old.medium (used p (map (word_at words) (below events)) (begin p))).network.steps)
+        ensures wrote { (out : Stream) → Wrote (writes_between self.old.medium self.old.log.now [] (seeded_until_verdict self.old.medium words events))
             (outside (F.place folder.old) out) (outside (F.place folder.new) out) result }
-        ensures made { let p = csp_of self.old.medium.problem in OnOk result (HasMade (used p (map (word_at words) (below events)) (begin p)) self.new) }
+        ensures made { OnOk result (HasMade (seeded_until_verdict self.old.medium words events) self.new) }
         ensures same { SameTask self.old self.new }
         ensures created { (F.place folder.new).created ≡ (F.place folder.old).created }
     {
@@ -118,9 +116,9 @@ impl<'p, 'w> Runner<'p, 'w> {
         requires created { Contains (F.place folder.old).created self.old.log.now }
         requires made { (words : List ℕ) × HasMade words self.old }
         requires few { self.old.medium.events + most < 2 ^ 48 }
-        ensures wrote { (words : List ℕ) (out : Stream) → HasMade words self.old → Wrote (new_writes self.old.log.now (reached self.old.medium words).network.steps (reached self.old.medium (words ++ calm_words (csp_of self.old.medium.problem) most (reached self.old.medium words))).network.steps)
+        ensures wrote { (words : List ℕ) (out : Stream) → HasMade words self.old → Wrote (writes_between self.old.medium self.old.log.now words (calmed self.old.medium words most))
             (outside (F.place folder.old) out) (outside (F.place folder.new) out) result }
-        ensures made { (words : List ℕ) → HasMade words self.old → OnOk result (HasMade (words ++ calm_words (csp_of self.old.medium.problem) most (reached self.old.medium words)) self.new) }
+        ensures made { (words : List ℕ) → HasMade words self.old → OnOk result (HasMade (calmed self.old.medium words most) self.new) }
         ensures same { SameTask self.old self.new }
         ensures created { (F.place folder.new).created ≡ (F.place folder.old).created }
     {
@@ -158,7 +156,7 @@ impl<'p, 'w> Runner<'p, 'w> {
         requires created { Contains (F.place folder.old).created self.old.log.now }
         requires made { (words : List ℕ) × HasMade words self.old }
         requires can { CanHappen self.old.medium }
-        ensures wrote { (words : List ℕ) (out : Stream) → HasMade words self.old → Wrote (new_writes self.old.log.now (reached self.old.medium words).network.steps (reached self.old.medium (words ++ word ∷ [])).network.steps)
+        ensures wrote { (words : List ℕ) (out : Stream) → HasMade words self.old → Wrote (writes_between self.old.medium self.old.log.now words (words ++ word ∷ []))
             (outside (F.place folder.old) out) (outside (F.place folder.new) out) result }
         ensures made { (words : List ℕ) → HasMade words self.old → OnOk result (HasMade (words ++ word ∷ []) self.new) }
         ensures same { SameTask self.old self.new }
