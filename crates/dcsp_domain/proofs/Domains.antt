@@ -1,6 +1,6 @@
 -- Lists that are domains, as the code makes them.
-use Rattle.std.proofs.Common.{◌≡◌, ℕ, ◌≤◌, List, [], length, ap, ◌∙◌, arith, rules}
-use Rattle.std.specs.Prelude.{ℤ, IsPermutation}
+use Rattle.std.proofs.Common.{◌≡◌, ℕ, suc, ◌≤◌, Bool, true, false, List, [], ◌∷◌, length, ap, ◌∙◌, arith, rules}
+use Rattle.std.specs.Prelude.{ℤ, IsPermutation, cond, filter}
 use Rattle.std.specs.List.{dedup}
 use Rattle.std.specs.List.Retain.{IsFiltered, DiffersFromLast}
 use Rattle.std.specs.List.Sorted.{IsSorted}
@@ -13,7 +13,7 @@ use Rattle.std.proofs.lemmas.List.Sorted.{Contains-permutation, IsPermutation-sy
 use Rattle.dcsp_domain.specs.declared.TheConstants.{MOST_VALUES}
 use Rattle.dcsp_domain.specs.Sets.{IsDomain, IsSetOf, set_of}
 use Rattle.dcsp_domain.specs.Ranges.{numbers_from}
-use Rattle.dcsp_domain.proofs.Rising.{has_same}
+use Rattle.dcsp_domain.proofs.Rising.{has_same, rises_from_rising, rises_filter, rising_from_rises}
 use Rattle.dcsp_domain.proofs.SetLaws.{set_of_is_set, one_set}
 use Rattle.dcsp_domain.proofs.RangeLaws.{rising-numbers_from, length-numbers_from}
 use Rattle.dcsp_domain.proofs.Searches.{rising_from_sorted}
@@ -38,4 +38,18 @@ pub domain_of_range : (low : ℤ) (n : ℕ) (list : List ℤ) → list ≡ numbe
 domain_of_range low n list is few = record {
   rising = rw is (rising-numbers_from low n);
   small = let size = length-numbers_from low n in let same = ap length is in omega arith;
+}
+
+pub length_filter : (p : ℤ → Bool) (xs : List ℤ) → length (filter p xs) ≤ length xs
+length_filter p [] = omega arith
+length_filter p (x ∷ xs) = kept (p x) (length_filter p xs) where
+  kept : (b : Bool) → length (filter p xs) ≤ length xs → length (cond b (x ∷ filter p xs) (filter p xs)) ≤ suc (length xs)
+  kept true few = omega arith
+  kept false few = omega arith
+
+-- those of a domain's values that pass a test
+pub domain_of_filter : (p : ℤ → Bool) (values list : List ℤ) → list ≡ filter p values → IsDomain values → IsDomain list
+domain_of_filter p values list is of = record {
+  rising = rw is (rising_from_rises (filter p values) (rises_filter p values (rises_from_rising values of.rising)));
+  small = let few = length_filter p values in let same = ap length is in let most = of.small in omega arith;
 }

@@ -1,6 +1,6 @@
 -- Rising lists of integers: by index, and by recursion on the list.
-use Rattle.std.proofs.Common.{◌≡◌, suc, Bool, true, false, List, [], ◌∷◌, get_or, refl, ap, arith, inl, inr, ◌⊎◌, subst}
-use Rattle.std.specs.Prelude.{ℤ, ◌<ℤ◌, ◌||◌, All, Contains}
+use Rattle.std.proofs.Common.{◌≡◌, suc, Bool, true, false, List, [], ◌∷◌, get_or, refl, sym, ap, arith, inl, inr, ◌⊎◌, subst}
+use Rattle.std.specs.Prelude.{ℤ, ◌<ℤ◌, ◌||◌, All, Contains, cond, filter}
 use Rattle.std.specs.Bool.{Decides}
 use Rattle.std.specs.Ordering.{int_eq}
 use Rattle.std.proofs.lemmas.Bool.Decides.{Decides-int_eq, same_from_decides}
@@ -67,3 +67,22 @@ has_later v x xs h = cases (int_eq v x) where
   cases : (b : Bool) → (b || has xs v) ≡ true
   cases true = refl
   cases false = h
+
+-- a value among those that pass a test is among all
+has_from_filter : (p : ℤ → Bool) (v : ℤ) (xs : List ℤ) → has (filter p xs) v ≡ true → has xs v ≡ true
+has_from_filter p v [] h = absurd (cc)
+has_from_filter p v (x ∷ xs) h = cases (p x) (has_from_filter p v xs) h where
+  cases : (b : Bool) → (has (filter p xs) v ≡ true → has xs v ≡ true) → has (cond b (x ∷ filter p xs) (filter p xs)) v ≡ true → has (x ∷ xs) v ≡ true
+  cases true later h = elim (has_cases v x (filter p xs) h) [
+    | inl e ↦ subst (λ (z : ℤ). has (x ∷ xs) z ≡ true) (sym e) (has_first x xs)
+    | inr l ↦ has_later v x xs (later l)
+  ]
+  cases false later h = has_later v x xs (later h)
+
+-- those of rising numbers that pass a test rise
+pub rises_filter : (p : ℤ → Bool) (xs : List ℤ) → Rises xs → Rises (filter p xs)
+rises_filter p [] r = tt
+rises_filter p (x ∷ xs) r = kept (p x) (rises_filter p xs r.1) where
+  kept : (b : Bool) → Rises (filter p xs) → Rises (cond b (x ∷ filter p xs) (filter p xs))
+  kept true later = (record { each = λ v h. r.0.each v (has_from_filter p v xs h) }, later)
+  kept false later = later

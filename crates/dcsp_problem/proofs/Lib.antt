@@ -9,5 +9,6 @@ pub mod Violations
 pub mod Reading
 pub mod MemberLaws
 pub mod Narrow
+pub mod Narrowed
 pub mod PieceLaws
 pub mod LowerLists

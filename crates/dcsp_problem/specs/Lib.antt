@@ -2,6 +2,7 @@ pub mod Members
 pub mod Rules
 pub mod Widths
 pub mod Problems
+pub mod Aims
 pub mod Limits
 pub mod Outputs
 pub mod WellFormed

@@ -1,5 +1,8 @@
 //! What is wanted of a solution.
 
+ghost use Rattle.std.specs.Prelude.{◌≡◌};
+ghost use Rattle.dcsp_problem.specs.Aims.{aimed_at};
+
 use crate::rule::Term;
 
 /// What is wanted of a solution.
@@ -11,4 +14,16 @@ pub enum Aim {
     Least(Term),
     /// One with the greatest value of this term.
     Greatest(Term),
+}
+
+impl Aim {
+    /// The variable that is aimed at; `None` where any solution is wanted, or the aim is at a constant.
+    pub fn variable(self) -> Option<u32>
+        ensures { result ≡ aimed_at self }
+    {
+        match self {
+            Aim::Least(Term::Var(var)) | Aim::Greatest(Term::Var(var)) => Some(var),
+            _ => None,
+        }
+    }
 }

@@ -12,7 +12,7 @@ use crate::limits::{BuildError, Which, within};
 use crate::lower::lower_table;
 use crate::members::member_sets;
 use crate::output::Output;
-use crate::problem::{Problem, Tables};
+use crate::problem::{Problem, Shared, Tables};
 use crate::rule::{Members, Rule};
 use crate::widths::within_width;
 use dcsp_domain::Domain;
@@ -142,7 +142,12 @@ impl ProblemBuilder {
             owned,
             lower,
         };
-        Ok(Problem::from_parts(self.domains, self.rules, self.outputs, self.aim, tables))
+        let shared = Shared {
+            rules: self.rules,
+            outputs: self.outputs,
+            tables,
+        };
+        Problem::from_parts(self.alloc, self.domains, self.aim, shared)
     }
 }
 

@@ -31,6 +31,3 @@ pub use lookup::Lookup;
 pub use output::{NameText, Output, Shape};
 pub use problem::Problem;
 pub use rule::{Members, Rule, Term, TermList};
-
-#[cfg(test)]
-mod tests;

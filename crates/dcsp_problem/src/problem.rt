@@ -1,12 +1,13 @@
 //! Problems as they stand once they are built.
 
-ghost use Rattle.std.specs.Prelude.{◌≡◌, ◌≤◌, ◌<◌, ℕ, ℤ, pos, List, length, All, Some, is_some, true, slice_get, slice_index_or};
+ghost use Rattle.std.specs.Prelude.{◌≡◌, ◌≤◌, ◌<◌, ℕ, ℤ, pos, List, length, All, Some, is_some, true, slice_get, slice_index_or, IfOk, IsSome, filter};
 ghost use Rattle.std.specs.List.{list_all};
 ghost use Rattle.dcsp_domain.specs.Sets.{has};
 ghost use Rattle.dcsp_defs.specs.Csp.{domain, owner, is_violated, IsConstraint, IsCsp};
 ghost use Rattle.dcsp_problem.specs.Problems.{csp_of, constraint_at, within_domains, AreInDomains};
 ghost use Rattle.dcsp_problem.specs.WellFormed.{IsProblem};
 ghost use Rattle.dcsp_problem.specs.Rules.{IsAimOf};
+ghost use Rattle.dcsp_problem.specs.Aims.{aimed_at, is_better, narrowed_domains, narrowed};
 ghost use Rattle.dcsp_problem.specs.Index.{IsIndexed, owned_rules};
 ghost use Rattle.dcsp_problem.specs.Lower.{lower_owners};
 
@@ -18,19 +19,29 @@ use crate::output::Output;
 use crate::rule::{NumberList, Rule};
 use crate::table::NumberTable;
 use dcsp_domain::Domain;
+use dcsp_list::Memory;
+use std::alloc::Global;
 use std::marker::Model;
+use std::rc::Rc;
 
 /// Variables with their domains, rules over them, what is told of a solution, and what is wanted of one.
 #[derive(Debug, Drop)]
 pub struct Problem {
     domains: Vec<Domain>,
-    rules: Vec<Rule>,
-    outputs: Vec<Output>,
     aim: Aim,
-    tables: Tables,
+    shared: Rc<Shared>,
 }
 
-/// What is read off the rules once, when a problem is finished.
+/// What a problem has in common with those that it is narrowed to.
+#[derive(Debug, Drop)]
+pub struct Shared {
+    pub rules: Vec<Rule>,
+    pub outputs: Vec<Output>,
+    /// What is read off the rules once, when a problem is finished.
+    pub tables: Tables,
+}
+
+/// What is read off a problem's rules.
 #[derive(Debug, Drop)]
 pub struct Tables {
     /// The scope of each rule.
@@ -49,32 +60,29 @@ impl Model for Problem {
 
     ghost Value = { Contents };
 
-    ghost view = { λ p. record { domains = p.domains.items; rules = p.rules.items; outputs = p.outputs.items; aim = p.aim } };
+    ghost view = { λ p. record { domains = p.domains.items; rules = p.shared.value.rules.items; outputs = p.shared.value.outputs.items; aim = p.aim } };
 
-    ghost invariant = { λ p. IsIndexed (record { domains = p.domains.items; rules = p.rules.items; outputs = p.outputs.items; aim = p.aim }) p.tables.scopes.items p.tables.sets.items p.tables.owned.items p.tables.lower };
+    ghost invariant = { λ p. IsIndexed (record { domains = p.domains.items; rules = p.shared.value.rules.items; outputs = p.shared.value.outputs.items; aim = p.aim }) p.shared.value.tables.scopes.items p.shared.value.tables.sets.items p.shared.value.tables.owned.items p.shared.value.tables.lower };
 }
 
 impl Problem {
-    /// The problem of these domains, rules, outputs and aim, with the tables that belong to them.
+    /// The problem of these domains and this aim, and of rules and outputs with the tables that belong to them all.
     pub(crate) fn from_parts(
+        alloc: Global,
         domains: Vec<Domain>,
-        rules: Vec<Rule>,
-        outputs: Vec<Output>,
         aim: Aim,
-        tables: Tables,
-    ) -> Problem
-        requires { IsIndexed (record { domains = domains.items; rules = rules.items; outputs = outputs.items; aim = aim }) tables.scopes.items tables.sets.items tables.owned.items tables.lower }
-        ensures domains { result.domains ≡ domains.items }
-        ensures rules { result.rules ≡ rules.items }
-        ensures outputs { result.outputs ≡ outputs.items }
-        ensures aim { result.aim ≡ aim }
+        shared: Shared,
+    ) -> Result<Problem, Memory>
+        requires { IsIndexed (record { domains = domains.items; rules = shared.rules.items; outputs = shared.outputs.items; aim = aim }) shared.tables.scopes.items shared.tables.sets.items shared.tables.owned.items shared.tables.lower }
+        ensures { IfOk result (λ problem. problem ≡ record { domains = domains.items; rules = shared.rules.items; outputs = shared.outputs.items; aim = aim }) }
     {
-        Problem {
-            domains,
-            rules,
-            outputs,
-            aim,
-            tables,
+        match Rc::new(alloc, shared) {
+            Ok(shared) => Ok(Problem {
+                domains,
+                aim,
+                shared,
+            }),
+            Err(_) => Err(Memory),
         }
     }
 
@@ -102,7 +110,7 @@ impl Problem {
         ensures rules { result ≡ length self.now.rules }
         ensures constraints { (number : ℕ) → number < length self.now.rules → slice_get (csp_of self.now).constraints number ≡ Some (constraint_at self.now number) }
     {
-        self.rules.len() as u32
+        self.shared.rules.len() as u32
     }
 
     /// The rule with this number.
@@ -110,14 +118,14 @@ impl Problem {
         requires { number < length self.now.rules }
         ensures { slice_get self.now.rules number ≡ Some result.now }
     {
-        &self.rules[number as usize]
+        &self.shared.rules[number as usize]
     }
 
     /// The number of outputs.
     pub fn outputs(&self) -> u32
         ensures { result ≡ length self.now.outputs }
     {
-        self.outputs.len() as u32
+        self.shared.outputs.len() as u32
     }
 
     /// The output at a place, counted from 0, in the order in which they were added.
@@ -125,7 +133,7 @@ impl Problem {
         requires { place < length self.now.outputs }
         ensures { slice_get self.now.outputs place ≡ Some result.now }
     {
-        &self.outputs[place as usize]
+        &self.shared.outputs[place as usize]
     }
 
     /// What is wanted of a solution. It is at a constant, at a variable of the problem, or at nothing.
@@ -136,6 +144,26 @@ impl Problem {
         self.aim
     }
 
+    /// The problem that only better solutions solve: in the domain of the variable that the aim is at stay only
+    /// the values below `better` for the least, above it for the greatest.
+    ///
+    /// The domains are copied; all else is lent to the new problem.
+    pub fn narrowed(&self, better: i64) -> Result<Problem, Memory>
+        requires { IsSome (aimed_at self.now.aim) }
+        ensures { IfOk result (λ problem. problem ≡ narrowed self.now better) }
+    {
+        let var = self.aim.variable().unwrap();
+        let domains = narrowed_domains(&self.domains, self.aim, var, better)?;
+        let Ok(shared) = self.shared.clone() else {
+            return Err(Memory);
+        };
+        Ok(Problem {
+            domains,
+            aim: self.aim,
+            shared,
+        })
+    }
+
     /// The variables among a rule's terms, strictly rising.
     pub fn scope(&self, rule: u32) -> &[u32]
         requires { rule < length self.now.rules }
@@ -143,7 +171,7 @@ impl Problem {
         ensures inside { All (λ var. var < length self.now.domains) result.now }
         ensures constraint { IsConstraint (csp_of self.now) (constraint_at self.now rule) }
     {
-        self.tables.scopes[rule as usize].items()
+        self.shared.tables.scopes[rule as usize].items()
     }
 
     /// The last variable of a rule's scope; `None` exactly if the scope is empty.
@@ -160,7 +188,7 @@ impl Problem {
         ensures rules { result.now ≡ owned_rules self.now var }
         ensures inside { All (λ rule. rule < length self.now.rules) (owned_rules self.now var) }
     {
-        self.tables.owned[var as usize].items()
+        self.shared.tables.owned[var as usize].items()
     }
 
     /// The variables after this one that own a rule with it in scope, strictly rising.
@@ -169,7 +197,7 @@ impl Problem {
         ensures owners { result.now ≡ lower_owners (csp_of self.now) var }
         ensures inside { All (λ owner. owner < length self.now.domains) (lower_owners (csp_of self.now) var) }
     {
-        self.tables.lower.list(var as usize)
+        self.shared.tables.lower.list(var as usize)
     }
 
     /// Whether a rule holds where the variables have these values, in order.
@@ -179,8 +207,8 @@ impl Problem {
         requires in_domains { (var : ℕ) → var < length self.now.domains → has (domain (csp_of self.now) var) (slice_index_or values.now var (pos 0)) ≡ true }
         ensures { result ≡ (constraint_at self.now rule).test (λ var. slice_index_or values.now var (pos 0)) }
     {
-        let set = &self.tables.sets[rule as usize];
-        let rule = &self.rules[rule as usize];
+        let set = &self.shared.tables.sets[rule as usize];
+        let rule = &self.shared.rules[rule as usize];
         is_true_under(rule, set, &Assigned { values })
     }
 
@@ -194,8 +222,8 @@ impl Problem {
         if !self.knows_scope(rule, lookup) {
             return false;
         }
-        let set = &self.tables.sets[rule as usize];
-        let rule = &self.rules[rule as usize];
+        let set = &self.shared.tables.sets[rule as usize];
+        let rule = &self.shared.rules[rule as usize];
         !is_true_under(rule, set, lookup)
     }
 
@@ -223,5 +251,46 @@ impl Problem {
             None => false,
             Some(value) => self.domain(var).place_of(value).is_some(),
         }
+    }
+}
+
+/// The domains, where of one variable's only those values stay that are better than the bound.
+fn narrowed_domains(
+    domains: &Vec<Domain>,
+    aim: Aim,
+    var: u32,
+    bound: i64,
+) -> Result<Vec<Domain>, Memory>
+    requires known { var < length domains.now.items }
+    requires aimed { IsSome (aimed_at aim) }
+    ensures { IfOk result (λ narrowed. narrowed.items ≡ narrowed_domains aim bound var domains.now.items) }
+{
+    let mut narrowed = copied_domains(domains)?;
+    narrowed[var as usize] = better_values(aim, &domains[var as usize], bound)?;
+    Ok(narrowed)
+}
+
+/// The same domains once more.
+fn copied_domains(domains: &Vec<Domain>) -> Result<Vec<Domain>, Memory>
+    ensures { IfOk result (λ copies. copies.items ≡ domains.now.items) }
+{
+    let Ok(mut copies) = Vec::with_capacity(*domains.allocator(), domains.len()) else {
+        return Err(Memory);
+    };
+    for domain in domains {
+        let copy = domain.copied()?;
+        copies.push(copy).map_err(|_| Memory)?;
+    }
+    Ok(copies)
+}
+
+/// Those of the values that are better than the bound.
+fn better_values(aim: Aim, domain: &Domain, bound: i64) -> Result<Domain, Memory>
+    requires { IsSome (aimed_at aim) }
+    ensures { IfOk result (λ values. values ≡ filter (is_better aim bound) domain.now) }
+{
+    match aim {
+        Aim::Greatest(_) => domain.above(bound),
+        _ => domain.below(bound),
     }
 }

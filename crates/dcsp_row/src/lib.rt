@@ -13,6 +13,3 @@ mod sums;
 
 pub use fill::fill_row;
 pub use row::{BLOCK, Row};
-
-#[cfg(test)]
-mod tests;

@@ -18,6 +18,3 @@ pub use dcsp_domain::{IntList, RangeList};
 pub use dcsp_list::Memory;
 pub use item::{Atom, AtomList, Base, Expr, ExprList, Goal, Item, ItemError, ItemList, Marked};
 pub use reading::{items, items_end_at_semicolons, one_answer};
-
-#[cfg(test)]
-mod tests;

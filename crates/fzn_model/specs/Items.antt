@@ -7,12 +7,15 @@ use Rattle.fzn_item.specs.declared.item.Goal.{Goal}
 use Rattle.fzn_item.specs.declared.item.Goal.TheVariants as goals
 use Rattle.fzn_item.specs.declared.item.Item.{Item}
 use Rattle.fzn_item.specs.declared.item.Item.TheVariants as item
-use Rattle.dcsp_problem.specs.declared.aim.Aim.TheVariants.{Satisfy}
+use Rattle.dcsp_problem.specs.declared.aim.Aim.{Aim}
+use Rattle.dcsp_problem.specs.declared.aim.Aim.TheVariants.{Satisfy, Least, Greatest}
 use Rattle.dcsp_problem.specs.Problems.{Contents}
 use Rattle.fzn_scope.specs.declared.refusal.Refusal.{Refusal}
 use Rattle.fzn_scope.specs.declared.refusal.Refusal.TheVariants as refusal
 use Rattle.fzn_scope.specs.Checks.{◌>>=◌, refused_if}
-use Rattle.fzn_scope.specs.Names.{bytes_at}
+use Rattle.fzn_scope.specs.declared.place.Wanted.{Wanted}
+use Rattle.fzn_scope.specs.Names.{Scope, bytes_at}
+use Rattle.fzn_scope.specs.Places.{one_of}
 use Rattle.fzn_scope.specs.Rules.{constraint_rule}
 use Rattle.fzn_model.specs.Building.{with_rule}
 use Rattle.fzn_model.specs.Declarations.{SoFar, is_late, declaration, parameter, variable, array}
@@ -41,18 +44,26 @@ constraint text s at name_at name exprs = do
   ruled ← with_rule name_at s.problem rule
   Ok (record s { problem = ruled; constrained = true })
 
--- a goal is to satisfy; what is to be least or greatest is refused at its word
-abbrev pub is_goal : Goal → Result (Unit {0}) Refusal
-is_goal goals.Satisfy = Ok tt
-is_goal (goals.Minimize at what) = Err (refusal.Unsupported at)
-is_goal (goals.Maximize at what) = Err (refusal.Unsupported at)
+-- at an integer's place
+abbrev pub an_integer : Wanted
+an_integer = record { boolean = false; constant = false }
+
+-- what a goal wants of a solution: any, or the least or the greatest value of an integer
+abbrev pub aim_of : List ℕ → Scope → Goal → Result Aim Refusal
+aim_of text scope goals.Satisfy = Ok Satisfy
+aim_of text scope (goals.Minimize at what) = do
+  term ← one_of text scope an_integer what
+  Ok (Least term)
+aim_of text scope (goals.Maximize at what) = do
+  term ← one_of text scope an_integer what
+  Ok (Greatest term)
 
 -- a solve item is the last
-unfoldable pub solve : SoFar → ℕ → Goal → Result SoFar Refusal
-solve s at goal = do
+unfoldable pub solve : List ℕ → SoFar → ℕ → Goal → Result SoFar Refusal
+solve text s at goal = do
   _ ← refused_if s.solved (refusal.Misplaced at)
-  _ ← is_goal goal
-  Ok (record s { solved = true })
+  aim ← aim_of text s.scope goal
+  Ok (record s { problem = record s.problem { aim = aim }; solved = true })
 
 -- a predicate adds nothing
 unfoldable pub predicate : SoFar → ℕ → Result SoFar Refusal
@@ -65,7 +76,7 @@ abbrev pub after : List ℕ → SoFar → Item → Result SoFar Refusal
 after text s (item.Predicate at) = predicate s at
 after text s (item.Declare at variable index base name_at name_to marked right) = declare text s at variable index base name_at (bytes_at text name_at name_to) marked right
 after text s (item.Constraint at name_at name_to arguments) = constraint text s at name_at (bytes_at text name_at name_to) arguments
-after text s (item.Solve at goal) = solve s at goal
+after text s (item.Solve at goal) = solve text s at goal
 
 -- these items more, in order
 abbrev pub after_all : List ℕ → SoFar → List Item → Result SoFar Refusal

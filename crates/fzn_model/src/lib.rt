@@ -9,6 +9,7 @@
 mod array;
 mod building;
 mod declaration;
+mod goal;
 mod laws;
 mod model;
 mod output;
@@ -18,6 +19,3 @@ pub use dcsp_list::Memory;
 pub use dcsp_problem::{Problem, Which};
 pub use laws::{first_refusal, one_answer};
 pub use model::{ModelError, problem_of};
-
-#[cfg(test)]
-mod tests;

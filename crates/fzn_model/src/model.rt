@@ -30,8 +30,7 @@ pub enum ModelError {
     Undeclared { at: u32 },
     /// The variable whose item begins here has no bounds.
     Unbounded { at: u32 },
-    /// The declaration that begins here is of floats or of sets that are no parameters; or the goal whose
-    /// word stands here is not to satisfy.
+    /// The declaration that begins here is of floats or of sets that are no parameters.
     Unsupported { at: u32 },
     /// No constraint has the name here.
     UnknownConstraint { at: u32 },

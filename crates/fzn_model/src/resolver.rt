@@ -4,12 +4,13 @@ ghost use Rattle.std.specs.Prelude.{◌≡◌, ◌≤◌, ◌<◌, ◌+◌, true
 ghost use Rattle.fzn_scope.specs.Checks.{Gives};
 ghost use Rattle.fzn_scope.specs.Names.{declared_as};
 ghost use Rattle.fzn_model.specs.Declarations.{is_late, declaration, parameter, variable, array};
-ghost use Rattle.fzn_model.specs.Items.{start, is_goal, declare, declared_by, constraint, solve, predicate, after, finished, resolved};
+ghost use Rattle.fzn_model.specs.Items.{start, declare, declared_by, constraint, solve, predicate, after, finished, resolved};
 ghost use Rattle.fzn_model.specs.Reading.{Leaves, so_far, IsSound};
 
 use crate::array::{add_members, elements, is_element, within};
 use crate::building::{add_rule, add_variable};
 use crate::declaration::{add_source, domain_of, is_boolean, right_side, source_of, value_of};
+use crate::goal::aim_of;
 use crate::output::{add_array_output, add_variable_output, is_shaped};
 use dcsp_problem::{Problem, ProblemBuilder, Term, Which};
 use fzn_item::{Base, Expr, Goal, Item, Marked};
@@ -246,16 +247,17 @@ impl<'t> Resolver<'t> {
 
     /// A solve item.
     #[tactic(auto, unfolding(crate::specs::Items::solve))]
-    fn solve(&mut self, at: u32, goal: &Goal) -> Result<(), Stop>
+    fn solve(&mut self, text: &[u8], at: u32, goal: &Goal) -> Result<(), Stop>
         requires sound { IsSound (so_far self.old) }
-        ensures is { Leaves (so_far self.new) result (solve (so_far self.old) at goal.now) }
+        ensures is { Leaves (so_far self.new) result (solve text.now (so_far self.old) at goal.now) }
         ensures sound { OnOk result (IsSound (so_far self.new)) }
         ensures outputs { OnOk result (length self.new.builder.outputs ≤ length self.old.builder.outputs + 1) }
     {
         if self.solved {
             return Err(Stop::Refused(Refusal::Misplaced { at }));
         }
-        is_goal(goal)?;
+        let aim = aim_of(text, &self.names, goal)?;
+        self.builder.set_aim(aim);
         self.solved = true;
         Ok(())
     }
@@ -366,7 +368,7 @@ impl<'t> Resolver<'t> {
                 let name = bytes_at(text, *name_at, *name_to);
                 self.constraint(alloc, text, *at, *name_at, name, arguments.items())
             }
-            Item::Solve { at, goal } => self.solve(*at, goal),
+            Item::Solve { at, goal } => self.solve(text, *at, goal),
         }
     }
 
@@ -378,18 +380,6 @@ impl<'t> Resolver<'t> {
             return Err(Stop::Refused(Refusal::NoSolve));
         }
         Ok(self.builder.finish()?)
-    }
-}
-
-/// The goal is to satisfy.
-fn is_goal(goal: &Goal) -> Result<(), Refusal>
-    ensures { result ≡ is_goal goal.now }
-{
-    match goal {
-        Goal::Satisfy => Ok(()),
-        Goal::Minimize { at, .. } | Goal::Maximize { at, .. } => {
-            Err(Refusal::Unsupported { at: *at })
-        }
     }
 }
 

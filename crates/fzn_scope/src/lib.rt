@@ -15,6 +15,3 @@ pub use form::{Form, Place};
 pub use names::{Declared, Names, bytes_at};
 pub use place::{Wanted, count_of, list_of, one_of, set_of, term_of};
 pub use refusal::{Refusal, Stop};
-
-#[cfg(test)]
-mod tests;

@@ -19,6 +19,3 @@ mod token;
 pub use dcsp_list::Memory;
 pub use lexer::{one_answer, tokens};
 pub use token::{LexError, Mark, Token, TokenKind, TokenList, Word};
-
-#[cfg(test)]
-mod tests;

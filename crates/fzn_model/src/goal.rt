@@ -1,0 +1,31 @@
+//! Goals: what is wanted of a solution.
+
+ghost use Rattle.std.specs.Prelude.{◌≡◌, ℕ, IfOk};
+ghost use Rattle.dcsp_problem.specs.Rules.{IsAimOf};
+ghost use Rattle.fzn_scope.specs.Known.{AreKnown};
+ghost use Rattle.fzn_model.specs.Items.{aim_of};
+
+use dcsp_problem::Aim;
+use fzn_item::Goal;
+use fzn_scope::{Names, Refusal, Wanted, one_of};
+
+/// An integer, constant or not.
+const AN_INTEGER: Wanted = Wanted {
+    boolean: false,
+    constant: false,
+};
+
+/// What a goal wants of a solution: any, or the least or the greatest value of an integer.
+///
+/// `Undeclared` and `IllTyped` come as at every integer's place, at the first byte of the goal's expression.
+pub(crate) fn aim_of(text: &[u8], names: &Names<'_>, goal: &Goal) -> Result<Aim, Refusal>
+    ensures is { result ≡ aim_of text.now names.now goal.now }
+    ensures known { IfOk result (λ aim. (variables : ℕ) → AreKnown variables names.now →
+        IsAimOf variables aim) }
+{
+    match goal {
+        Goal::Satisfy => Ok(Aim::Satisfy),
+        Goal::Minimize { what, .. } => Ok(Aim::Least(one_of(text, names, AN_INTEGER, what)?)),
+        Goal::Maximize { what, .. } => Ok(Aim::Greatest(one_of(text, names, AN_INTEGER, what)?)),
+    }
+}
