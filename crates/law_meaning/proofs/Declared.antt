@@ -159,6 +159,7 @@ pub record Variable (text : List ℕ) (s t : SoFar) (at : ℕ) (type : Base) (na
   pub scope : t.scope ≡ s.scope ++ (name, declared.One (is_boolean type) (Var (length s.problem.domains))) ∷ []
   pub domains : t.problem.domains ≡ s.problem.domains ++ domain ∷ []
   pub rules : t.problem.rules ≡ s.problem.rules ++ source_rules (is_boolean type) (length s.problem.domains) source
+  pub solved : t.solved ≡ s.solved
 
 pub variable_is : (text : List ℕ) (s t : SoFar) (at : ℕ) (type : Base) (name_at : ℕ) (name : List ℕ) (marked : Marked) (right : Option Expr) → variable text s at type name_at name marked right ≡ Ok t → Variable text s t at type name right
 unfolding variable
@@ -181,6 +182,7 @@ variable_is text s t at type name_at name marked right e =
       scope = ap (λ (x : SoFar). x.scope) (sym is);
       domains = ap (λ (x : SoFar). x.problem.domains) (sym is) ∙ output_domains r.0 out ∙ ruled.0 ∙ ap (λ (x : Contents). x.domains) (sym widened);
       rules = ap (λ (x : SoFar). x.problem.rules) (sym is) ∙ output_rules r.0 out ∙ ruled.1 ∙ ap (λ (x : Contents). x.rules ++ source_rules (is_boolean type) n o.0) (sym widened);
+      solved = ap (λ (x : SoFar). x.solved) (sym is);
     }
 
 -- a truth's number
@@ -298,6 +300,7 @@ pub record Array (text : List ℕ) (s t : SoFar) (isvar : Bool) (type : Base) (n
   pub scope : t.scope ≡ s.scope ++ (name, declared.Many (is_boolean type) isvar terms) ∷ []
   pub domains : t.problem.domains ≡ s.problem.domains ++ []
   pub rules : t.problem.rules ≡ s.problem.rules ++ array_rules isvar (element_set type) terms
+  pub solved : t.solved ≡ s.solved
 
 elements_are : (text : List ℕ) (scope : Scope) (isvar : Bool) (type : Base) (index : ℤ × ℤ) (name_at : ℕ) (x : Expr) (terms : List Term) → elements text scope isvar type index name_at x ≡ Ok terms → list_of text scope (record { boolean = is_boolean type; constant = not isvar }) x ≡ Ok terms
 unfolding elements
@@ -325,6 +328,7 @@ array_is text s t at isvar index type name_at name marked right e =
       scope = ap (λ (y : SoFar). y.scope) (sym is);
       domains = ap (λ (y : SoFar). y.problem.domains) (sym is) ∙ output_domains r.0 out ∙ ruled.0 ∙ sym (append-nil s.problem.domains);
       rules = ap (λ (y : SoFar). y.problem.rules) (sym is) ∙ output_rules r.0 out ∙ ruled.1;
+      solved = ap (λ (y : SoFar). y.solved) (sym is);
     }
 
 members_hold : (values : Assignment) (set : Members) (terms : List Term) → Hold values (map (set_rule set) terms) ↔ ((v : ℤ) → In v (map (value_under values) terms) → is_member set v ≡ true)

@@ -1,6 +1,6 @@
 -- One item more: where it is taken, values fit afterwards where they fitted before and the item holds.
 use Rattle.std.proofs.Common.{◌≡◌, ℕ, pos, Bool, true, false, not, List, [], ◌∷◌, ◌++◌, length, Option, Some, None, Ok, refl, sym, ap, ◌∙◌, subst, append-nil, arith}
-use Rattle.std.specs.Prelude.{ℤ}
+use Rattle.std.specs.Prelude.{◌↔◌, ℤ}
 use Rattle.std.specs.Option.{option_map}
 use Rattle.fzn_item.specs.declared.item.Expr.{Expr}
 use Rattle.fzn_item.specs.declared.item.Base.{Base}
@@ -14,6 +14,7 @@ use Rattle.dcsp_defs.proofs.Lists.{get-last}
 use Rattle.fzn_scope.specs.declared.place.Wanted.{Wanted}
 use Rattle.dcsp_problem.specs.declared.rule.Term.TheVariants.{Var}
 use Rattle.dcsp_problem.specs.declared.rule.Rule.{Rule}
+use Rattle.dcsp_problem.specs.declared.aim.Aim.{Aim}
 use Rattle.dcsp_problem.specs.Limits.{rule_refusal}
 use Rattle.dcsp_problem.specs.Problems.{Contents}
 use Rattle.fzn_scope.specs.declared.names.Declared.TheVariants as declared
@@ -22,7 +23,7 @@ use Rattle.fzn_scope.specs.Names.{Scope, declared_as, bytes_at}
 use Rattle.fzn_scope.specs.Rules.{constraint_rule}
 use Rattle.fzn_model.specs.Building.{refused_at, with_rule}
 use Rattle.fzn_model.specs.Declarations.{SoFar, is_late, declaration, domain_of, is_boolean, element_set}
-use Rattle.fzn_model.specs.Items.{declared_by, constraint, is_goal, solve, predicate, after}
+use Rattle.fzn_model.specs.Items.{declared_by, constraint, aim_of, solve, predicate, after}
 use Rattle.law_meaning.specs.Environments.{Value, Environment, expr_value}
 use Rattle.law_meaning.specs.Meaning.{variable_of}
 use Rattle.law_meaning.proofs.Checks.{bind_ok, not_refused}
@@ -94,14 +95,15 @@ step_array text s t at isvar index type name_at name_to marked right sorted fres
     ((λ x. let y = h.0 x in (y.0, numbered_none values env (length s.problem.domains) _ none)), (λ y. h.1 (y.0, tt))))
 
 -- what a constraint adds
-record Constrained (text : List ℕ) (s t : SoFar) (name_at : ℕ) (name : List ℕ) (exprs : List Expr) : Type 0 where
-  rule : Rule
-  rule_is : constraint_rule text s.scope name_at name exprs ≡ Ok rule
-  scope : t.scope ≡ s.scope
-  domains : t.problem.domains ≡ s.problem.domains
-  rules : t.problem.rules ≡ s.problem.rules ++ rule ∷ []
+pub record Constrained (text : List ℕ) (s t : SoFar) (name_at : ℕ) (name : List ℕ) (exprs : List Expr) : Type 0 where
+  pub rule : Rule
+  pub rule_is : constraint_rule text s.scope name_at name exprs ≡ Ok rule
+  pub scope : t.scope ≡ s.scope
+  pub domains : t.problem.domains ≡ s.problem.domains
+  pub rules : t.problem.rules ≡ s.problem.rules ++ rule ∷ []
+  pub solved : t.solved ≡ s.solved
 
-constrained_is : (text : List ℕ) (s t : SoFar) (at name_at : ℕ) (name : List ℕ) (exprs : List Expr) → constraint text s at name_at name exprs ≡ Ok t → Constrained text s t name_at name exprs
+pub constrained_is : (text : List ℕ) (s t : SoFar) (at name_at : ℕ) (name : List ℕ) (exprs : List Expr) → constraint text s at name_at name exprs ≡ Ok t → Constrained text s t name_at name exprs
 unfolding constraint
 constrained_is text s t at name_at name exprs e =
     let a = not_refused s.solved (refusal.Misplaced at) _ t e in
@@ -116,6 +118,7 @@ constrained_is text s t at name_at name exprs e =
       scope = ap (λ (x : SoFar). x.scope) (sym is);
       domains = ap (λ (x : SoFar). x.problem.domains) (sym is) ∙ ap (λ (x : Contents). x.domains) (sym ruled);
       rules = ap (λ (x : SoFar). x.problem.rules) (sym is) ∙ ap (λ (x : Contents). x.rules) (sym ruled);
+      solved = ap (λ (x : SoFar). x.solved) (sym is);
     }
 
 same_sorted : (s t : SoFar) → t.scope ≡ s.scope → t.problem.domains ≡ s.problem.domains → Sorted s.problem.domains s.scope → Sorted t.problem.domains t.scope
@@ -144,47 +147,63 @@ step_constraint text s t at name_at name_to exprs sorted p = record {
 -- what neither a predicate nor a solve item changes
 record Unchanged (s t : SoFar) : Type 0 where
   scope : t.scope ≡ s.scope
-  problem : t.problem ≡ s.problem
+  domains : t.problem.domains ≡ s.problem.domains
+  rules : t.problem.rules ≡ s.problem.rules
 
-fits_same : (values : Assignment) (env : Environment) (s t : SoFar) → t.scope ≡ s.scope → t.problem ≡ s.problem → Fits values env s → Fits values env t
-fits_same values env s t a b h = record {
+fits_same : (values : Assignment) (env : Environment) (s t : SoFar) → t.scope ≡ s.scope → t.problem.domains ≡ s.problem.domains → t.problem.rules ≡ s.problem.rules → Fits values env s → Fits values env t
+fits_same values env s t a b c h = record {
   agrees = subst (Agrees values env) (sym a) h.agrees;
-  domains = subst (λ (x : Contents). InDomains values x.domains) (sym b) h.domains;
-  rules = subst (λ (x : Contents). Hold values x.rules) (sym b) h.rules;
+  domains = subst (InDomains values) (sym b) h.domains;
+  rules = subst (Hold values) (sym c) h.rules;
 }
 
-predicate_is : (s t : SoFar) (at : ℕ) → predicate s at ≡ Ok t → Unchanged s t
+fits_unchanged : (values : Assignment) (env : Environment) (s t : SoFar) → Unchanged s t → Fits values env t ↔ (Fits values env s × (Unit {0} × Unit {0}))
+fits_unchanged values env s t p = (
+  (λ h. (fits_same values env t s (sym p.scope) (sym p.domains) (sym p.rules) h, (tt, tt))),
+  (λ h. fits_same values env s t p.scope p.domains p.rules h.0),
+)
+
+pub predicate_is : (s t : SoFar) (at : ℕ) → predicate s at ≡ Ok t → s ≡ t
 unfolding predicate
 predicate_is s t at e =
     let a = not_refused (is_late s) (refusal.Misplaced at) (λ u. Ok s) t e in
-    let is : s ≡ t = let k = a.1 in cc in
-    record { scope = ap (λ (x : SoFar). x.scope) (sym is); problem = ap (λ (x : SoFar). x.problem) (sym is) }
+    let k = a.1 in cc
 
-solve_is : (s t : SoFar) (at : ℕ) (goal : Goal) → solve s at goal ≡ Ok t → Unchanged s t
+step_predicate : (text : List ℕ) (s t : SoFar) (at : ℕ) → Sorted s.problem.domains s.scope → s ≡ t → Step text s t (item.Predicate at)
+step_predicate text s t at sorted is =
+    let p : Unchanged s t = record { scope = ap (λ (x : SoFar). x.scope) (sym is); domains = ap (λ (x : SoFar). x.problem.domains) (sym is); rules = ap (λ (x : SoFar). x.problem.rules) (sym is) } in
+    record {
+      keeps = λ n d l. subst (λ (z : Scope). declared_as z n ≡ Some d) (sym p.scope) l;
+      declares = λ n e. absurd cc;
+      sorted = same_sorted s t p.scope p.domains sorted;
+      count = ap (λ (x : List (List ℤ)). length x) p.domains ∙ omega arith;
+      fits = λ values env. fits_unchanged values env s t p;
+    }
+
+-- what a solve item adds: what its goal asks for
+pub record Solved (text : List ℕ) (s t : SoFar) (goal : Goal) : Type 0 where
+  pub aim : Aim
+  pub aim_is : aim_of text s.scope goal ≡ Ok aim
+  pub result_is : record s { problem = record s.problem { aim = aim }; solved = true } ≡ t
+
+pub solve_is : (text : List ℕ) (s t : SoFar) (at : ℕ) (goal : Goal) → solve text s at goal ≡ Ok t → Solved text s t goal
 unfolding solve
-solve_is s t at goal e =
+solve_is text s t at goal e =
     let a = not_refused s.solved (refusal.Misplaced at) _ t e in
-    let b = bind_ok (is_goal goal) (λ u. Ok (record s { solved = true })) t a.1 in
-    let is : record s { solved = true } ≡ t = let k = b.2 in cc in
-    record { scope = ap (λ (x : SoFar). x.scope) (sym is); problem = ap (λ (x : SoFar). x.problem) (sym is) }
+    let b = bind_ok (aim_of text s.scope goal) (λ aim. Ok (record s { problem = record s.problem { aim = aim }; solved = true })) t a.1 in
+    let is : record s { problem = record s.problem { aim = b.0 }; solved = true } ≡ t = let k = b.2 in cc in
+    record { aim = b.0; aim_is = b.1; result_is = is }
 
-step_predicate : (text : List ℕ) (s t : SoFar) (at : ℕ) → Sorted s.problem.domains s.scope → Unchanged s t → Step text s t (item.Predicate at)
-step_predicate text s t at sorted p = record {
-  keeps = λ n d l. subst (λ (z : Scope). declared_as z n ≡ Some d) (sym p.scope) l;
-  declares = λ n e. absurd cc;
-  sorted = same_sorted s t p.scope (ap (λ (x : Contents). x.domains) p.problem) sorted;
-  count = ap (λ (x : Contents). length x.domains) p.problem ∙ omega arith;
-  fits = λ values env. ((λ h. (fits_same values env t s (sym p.scope) (sym p.problem) h, (tt, tt))), (λ h. fits_same values env s t p.scope p.problem h.0));
-}
-
-step_solve : (text : List ℕ) (s t : SoFar) (at : ℕ) (goal : Goal) → Sorted s.problem.domains s.scope → Unchanged s t → Step text s t (item.Solve at goal)
-step_solve text s t at goal sorted p = record {
-  keeps = λ n d l. subst (λ (z : Scope). declared_as z n ≡ Some d) (sym p.scope) l;
-  declares = λ n e. absurd cc;
-  sorted = same_sorted s t p.scope (ap (λ (x : Contents). x.domains) p.problem) sorted;
-  count = ap (λ (x : Contents). length x.domains) p.problem ∙ omega arith;
-  fits = λ values env. ((λ h. (fits_same values env t s (sym p.scope) (sym p.problem) h, (tt, tt))), (λ h. fits_same values env s t p.scope p.problem h.0));
-}
+step_solve : (text : List ℕ) (s t : SoFar) (at : ℕ) (goal : Goal) → Sorted s.problem.domains s.scope → Solved text s t goal → Step text s t (item.Solve at goal)
+step_solve text s t at goal sorted q =
+    let p : Unchanged s t = record { scope = ap (λ (x : SoFar). x.scope) (sym q.result_is); domains = ap (λ (x : SoFar). x.problem.domains) (sym q.result_is); rules = ap (λ (x : SoFar). x.problem.rules) (sym q.result_is) } in
+    record {
+      keeps = λ n d l. subst (λ (z : Scope). declared_as z n ≡ Some d) (sym p.scope) l;
+      declares = λ n e. absurd cc;
+      sorted = same_sorted s t p.scope p.domains sorted;
+      count = ap (λ (x : List (List ℤ)). length x) p.domains ∙ omega arith;
+      fits = λ values env. fits_unchanged values env s t p;
+    }
 
 step_declared : (text : List ℕ) (s t : SoFar) (at : ℕ) (isvar : Bool) (index : Option (ℤ × ℤ)) (type : Base) (name_at name_to : ℕ) (marked : Marked) (right : Option Expr) → Sorted s.problem.domains s.scope → declared_as s.scope (bytes_at text name_at name_to) ≡ None
     → declared_by text s at isvar index type name_at (bytes_at text name_at name_to) marked right ≡ Ok t → Step text s t (item.Declare at isvar index type name_at name_to marked right)
@@ -204,4 +223,4 @@ step_of text s t (item.Declare at isvar index type name_at name_to marked right)
     let b = bind_ok (declaration s at name_at name) (λ u. declared_by text s at isvar index type name_at name marked right) t e in
     step_declared text s t at isvar index type name_at name_to marked right sorted (is_new s at name_at name b.0 b.1) b.2
 step_of text s t (item.Constraint at name_at name_to exprs) sorted e = step_constraint text s t at name_at name_to exprs sorted (constrained_is text s t at name_at (bytes_at text name_at name_to) exprs e)
-step_of text s t (item.Solve at goal) sorted e = step_solve text s t at goal sorted (solve_is s t at goal e)
+step_of text s t (item.Solve at goal) sorted e = step_solve text s t at goal sorted (solve_is text s t at goal e)

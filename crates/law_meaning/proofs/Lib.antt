@@ -9,4 +9,7 @@ pub mod Domains
 pub mod Fits
 pub mod Declared
 pub mod Items
+pub mod Steps
+pub mod Goals
 pub mod Whole
+pub mod Optima

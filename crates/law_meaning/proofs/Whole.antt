@@ -1,138 +1,38 @@
--- All items, one after another, and the law.
-use Rattle.std.proofs.Common.{◌≡◌, ℕ, zero, suc, ◌+◌, pos, inl, inr, List, [], ◌∷◌, length, Option, Some, None, Result, Ok, Err, refl, sym, ap, ◌∙◌, subst, arith}
-use Rattle.std.specs.Prelude.{◌↔◌, slice_get}
-use Rattle.std.specs.List.{cons_option}
+-- What the problem of items, and of a text, means.
+use Rattle.std.proofs.Common.{◌≡◌, ℕ, ◌+◌, pos, inl, inr, List, [], Option, Some, None, Result, Ok, Err, sym, ap, ◌∙◌, subst, arith}
 use Rattle.fzn_token.specs.declared.token.Token.{Token}
 use Rattle.fzn_token.specs.Tokens.{AreTokens}
 use Rattle.fzn_token.proofs.OneAnswer.{one_answer_lem}
 use Rattle.fzn_item.specs.declared.item.Item.{Item}
 use Rattle.fzn_item.specs.Items.{AreItemsTo}
 use Rattle.fzn_item.proofs.OneAnswer.{one_answer_law}
-use Rattle.dcsp_defs.specs.Words.{In}
 use Rattle.dcsp_defs.specs.Csp.{Assignment, IsSolution}
 use Rattle.dcsp_problem.specs.Problems.{Contents, csp_of}
-use Rattle.fzn_scope.specs.declared.refusal.Refusal.TheVariants as refusal
 use Rattle.fzn_scope.specs.declared.names.Declared.{Declared}
-use Rattle.fzn_scope.specs.Names.{declared_as}
-use Rattle.fzn_model.specs.Declarations.{SoFar}
-use Rattle.fzn_model.specs.Items.{start, after, after_all, finished, resolved}
-use Rattle.law_meaning.specs.Environments.{Value, Number, Environment}
-use Rattle.law_meaning.specs.Holding.{Holds}
-use Rattle.law_meaning.specs.Meaning.{Satisfies, variable_of, variables, name_of, MeansItsItems, MeansItsText, SolutionsSatisfy, VariablesDetermine}
 use Rattle.fzn_scope.specs.declared.refusal.Refusal.{Refusal}
+use Rattle.fzn_scope.specs.Names.{declared_as}
+use Rattle.fzn_model.specs.Items.{start, after_all, finished, resolved}
 use Rattle.fzn_model.specs.Models.{answer_of}
-use Rattle.law_meaning.proofs.Checks.{bind_ok, passed}
+use Rattle.law_meaning.specs.Environments.{Value, Number, Environment}
+use Rattle.law_meaning.specs.Meaning.{Satisfies, MeansItsItems, MeansItsText, SolutionsSatisfy, VariablesDetermine}
+use Rattle.law_meaning.proofs.Checks.{bind_ok}
 use Rattle.law_meaning.proofs.Names.{meaning}
-use Rattle.law_meaning.proofs.Sorts.{Sorted}
 use Rattle.law_meaning.proofs.Growth.{solution_is}
-use Rattle.law_meaning.proofs.Fits.{Fits, NumberedAt, count_of}
-use Rattle.law_meaning.proofs.Items.{step_of}
-
--- the names have the values from this number on
-abbrev NumberedFrom : ℕ → Assignment → Environment → List (List ℕ) → Type 0
-NumberedFrom n values env names = (k : ℕ) (name : List ℕ) → slice_get names k ≡ Some name → env name ≡ Number (values (n + k))
-
--- the variable of an item, if it has one, before those of the next
-abbrev before : Option (List ℕ) → List (List ℕ) → List (List ℕ)
-before None names = names
-before (Some name) names = name ∷ names
-
-numbered_more : (n : ℕ) (values : Assignment) (env : Environment) (o : Option (List ℕ)) (names : List (List ℕ))
-    → NumberedFrom n values env (before o names) ↔ (NumberedAt values env n o × NumberedFrom (n + count_of o) values env names)
-numbered_more n values env None names =
-    let same : (k : ℕ) → n + 0 + k ≡ n + k = λ k. omega arith in (
-      (λ h. (tt, λ k name e. h k name e ∙ ap (λ (j : ℕ). Number (values j)) (sym (same k)))),
-      (λ h k name e. h.1 k name e ∙ ap (λ (j : ℕ). Number (values j)) (same k)),
-    )
-numbered_more n values env (Some first) names =
-    let here : n + 0 ≡ n = omega arith in
-    let next : (k : ℕ) → n + suc k ≡ n + 1 + k = λ k. omega arith in (
-      (λ h. (h 0 first refl ∙ ap (λ (j : ℕ). Number (values j)) here, λ k name e. h (suc k) name e ∙ ap (λ (j : ℕ). Number (values j)) (next k))),
-      (λ h. numbered_back n values env first names h.0 h.1),
-    ) where
-      numbered_back : (n : ℕ) (values : Assignment) (env : Environment) (first : List ℕ) (names : List (List ℕ)) → env first ≡ Number (values n) → NumberedFrom (n + 1) values env names → NumberedFrom n values env (first ∷ names)
-      numbered_back n values env first names h t zero name e =
-          let is : first ≡ name = cc in
-          let here : n ≡ n + 0 = omega arith in
-          subst (λ (x : List ℕ). env x ≡ Number (values (n + 0))) is (h ∙ ap (λ (j : ℕ). Number (values j)) here)
-      numbered_back n values env first names h t (suc k) name e =
-          let next : n + 1 + k ≡ n + suc k = omega arith in
-          t k name e ∙ ap (λ (j : ℕ). Number (values j)) next
-
-variables_more : (text : List ℕ) (i : Item) (rest : List Item) → variables text (i ∷ rest) ≡ before (variable_of text i) (variables text rest)
-variables_more text i rest = by_cases (variable_of text i) (variables text rest) where
-  by_cases : (o : Option (List ℕ)) (names : List (List ℕ)) → cons_option o names ≡ before o names
-  by_cases None names = refl
-  by_cases (Some name) names = refl
-
--- these items more
-record Steps (text : List ℕ) (s t : SoFar) (items : List Item) : Type 0 where
-  keeps : (name : List ℕ) (d : Declared) → declared_as s.scope name ≡ Some d → declared_as t.scope name ≡ Some d
-  declares : (i : Item) (name : List ℕ) → In i items → name_of text i ≡ Some name → (d : Declared) × (declared_as t.scope name ≡ Some d)
-  sorted : Sorted t.problem.domains t.scope
-  fits : (values : Assignment) (env : Environment) → Fits values env t ↔ (Fits values env s × (((i : Item) → In i items → Holds text env i) × NumberedFrom (length s.problem.domains) values env (variables text items)))
-
-steps_of : (text : List ℕ) (items : List Item) (s t : SoFar) → Sorted s.problem.domains s.scope → after_all text s items ≡ Ok t → Steps text s t items
-steps_of text [] s t sorted e =
-    let is : s ≡ t = cc in
-    record {
-      keeps = λ n d l. subst (λ (x : SoFar). declared_as x.scope n ≡ Some d) is l;
-      declares = λ i n m e. absurd m;
-      sorted = subst (λ (x : SoFar). Sorted x.problem.domains x.scope) is sorted;
-      fits = λ values env. ((λ h. (subst (Fits values env) (sym is) h, ((λ i n. absurd n), (λ k name l. absurd cc)))), (λ h. subst (Fits values env) is h.0));
-    }
-steps_of text (i ∷ rest) s t sorted e =
-    let b = bind_ok (after text s i) (λ next. after_all text next rest) t e in
-    let one = step_of text s b.0 i sorted b.1 in
-    let more = steps_of text rest b.0 t one.sorted b.2 in
-    let o = variable_of text i in
-    let vs = variables_more text i rest in
-    record {
-      keeps = λ n d l. more.keeps n d (one.keeps n d l);
-      declares = λ j n m l. elim m [
-        | inl q ↦ let f = one.declares n (subst (λ (x : Item). name_of text x ≡ Some n) q l) in (f.0, more.keeps n f.0 f.1)
-        | inr q ↦ more.declares j n q l
-      ];
-      sorted = more.sorted;
-      fits = λ values env.
-          let n = length s.problem.domains in
-          let numbered = numbered_more n values env o (variables text rest) in (
-            (λ h.
-                let r = (more.fits values env).0 h in
-                let f = (one.fits values env).0 r.0 in (
-                  f.0,
-                  (
-                    (λ j m. elim m [ inl q ↦ subst (λ (x : Item). Holds text env x) (sym q) f.1.0 | inr q ↦ r.1.0 j q ]),
-                    subst (NumberedFrom n values env) (sym vs) (numbered.1 (f.1.1, subst (λ (c : ℕ). NumberedFrom c values env (variables text rest)) one.count r.1.1)),
-                  ),
-                )),
-            (λ h.
-                let k = numbered.0 (subst (NumberedFrom n values env) vs h.1.1) in
-                let f = (one.fits values env).1 (h.0, (h.1.0 i (inl refl), k.0)) in
-                (more.fits values env).1 (f, ((λ j m. h.1.0 j (inr m)), subst (λ (c : ℕ). NumberedFrom c values env (variables text rest)) (sym one.count) k.1))),
-          );
-    }
+use Rattle.law_meaning.proofs.Fits.{Fits}
+use Rattle.law_meaning.proofs.Steps.{steps_of, start_sorted, satisfied_fits, problem_is}
+use Rattle.law_meaning.proofs.Goals.{aims_at_its_goal}
 
 -- the value of what a name stands for, if it was declared
 abbrev value_if : Assignment → Option Declared → Value
 value_if values None = Number (pos 0)
 value_if values (Some d) = meaning values d
 
-start_sorted : Sorted start.problem.domains start.scope
-start_sorted name d e = absurd cc
-
-start_fits : (values : Assignment) (env : Environment) → Fits values env start
-start_fits values env = record { agrees = λ name d e. absurd cc; domains = λ k l. absurd (omega (arith, l)); rules = λ r i. absurd i }
-
-problem_is : (t : SoFar) (p : Contents) → finished t ≡ Ok p → t.problem ≡ p
-problem_is t p e = (passed t.solved t.problem p refusal.NoSolve e).1
-
 pub means_its_items : MeansItsItems
 unfolding resolved
 means_its_items text items p e values =
     let b = bind_ok (after_all text start items) finished p e in
     let t = b.0 in
-    let is = problem_is t p b.2 in
+    let is = (problem_is t p b.2).1 in
     let steps = steps_of text items start t start_sorted b.1 in
     let solves = solution_is values t.problem in
     let number : (k : ℕ) → 0 + k ≡ k = λ k. omega arith in (
@@ -143,8 +43,7 @@ means_its_items text items p e values =
           let r = (steps.fits values env).0 fits in
           (env, record { each = r.1.0; numbered = λ k name l. r.1.1 k name l ∙ ap (λ (j : ℕ). Number (values j)) (number k) })),
       (λ h.
-          let env = h.0 in
-          let f = (steps.fits values env).1 (start_fits values env, (h.1.each, λ k name l. h.1.numbered k name l ∙ ap (λ (j : ℕ). Number (values j)) (sym (number k)))) in
+          let f = satisfied_fits text items t b.1 values h.0 h.1 in
           subst (λ (q : Contents). IsSolution (csp_of q) values) is (solves.1 (f.domains, f.rules))),
     )
 
@@ -157,16 +56,18 @@ means_its_text text p h = elim h [
   | inl lexical ↦ absurd (elim lexical.1 [ inl bad ↦ (let e = bad.0 in cc) | inr range ↦ (let e = range.0 in cc) ])
   | inr rest ↦ elim rest [
     | inl unread ↦ absurd (let e = unread.result_is in cc)
-    | inr r ↦ record { tokens = r.tokens; items = r.items; lexed = r.lexed; read = r.read; means = means_its_items text r.items p (resolved_is (resolved text r.items) p r.result_is) }
+    | inr r ↦
+        let is = resolved_is (resolved text r.items) p r.result_is in
+        record { tokens = r.tokens; items = r.items; lexed = r.lexed; read = r.read; means = means_its_items text r.items p is; aim = aims_at_its_goal text r.items p is }
   ]
 ]
 
 -- a text has one list of tokens
-same_tokens : (text : List ℕ) (ts us : List Token) → AreTokens text ts → AreTokens text us → ts ≡ us
+pub same_tokens : (text : List ℕ) (ts us : List Token) → AreTokens text ts → AreTokens text us → ts ≡ us
 same_tokens text ts us h k = let e = one_answer_lem text (Ok ts) (Ok us) h k (λ e. cc) (λ e. cc) in cc
 
 -- tokens have one list of items
-same_items : (text : List ℕ) (ts us : List Token) (is js : List Item) → ts ≡ us → AreItemsTo text ts is [] → AreItemsTo text us js [] → is ≡ js
+pub same_items : (text : List ℕ) (ts us : List Token) (is js : List Item) → ts ≡ us → AreItemsTo text ts is [] → AreItemsTo text us js [] → is ≡ js
 same_items text ts us is js e h k =
     let s = one_answer_law text us (Ok is) (Ok js) (subst (λ (x : List Token). AreItemsTo text x is []) e h) k (λ e. cc) (λ e. cc) in cc
 
@@ -184,8 +85,7 @@ unfolding resolved
 variables_determine text items p e values env other h k i name within named =
     let b = bind_ok (after_all text start items) finished p e in
     let steps = steps_of text items start b.0 start_sorted b.1 in
-    let number : (k : ℕ) → k ≡ 0 + k = λ k. omega arith in
-    let f = (steps.fits values env).1 (start_fits values env, (h.each, λ k name l. h.numbered k name l ∙ ap (λ (j : ℕ). Number (values j)) (number k))) in
-    let g = (steps.fits values other).1 (start_fits values other, (k.each, λ k' name l. k.numbered k' name l ∙ ap (λ (j : ℕ). Number (values j)) (number k'))) in
+    let f = satisfied_fits text items b.0 b.1 values env h in
+    let g = satisfied_fits text items b.0 b.1 values other k in
     let d = steps.declares i name within named in
     f.agrees name d.0 d.1 ∙ sym (g.agrees name d.0 d.1)

@@ -1,3 +1,4 @@
 pub mod Environments
 pub mod Holding
 pub mod Meaning
+pub mod Best

@@ -47,10 +47,10 @@ pub data RightsAlike (text other : List ℕ) : Option Expr → Option Expr → T
   both_none : RightsAlike text other None None
   both_some : {a b : Expr} → ExprsAlike text other a b → RightsAlike text other (Some a) (Some b)
 
-pub data GoalsAlike : Goal → Goal → Type 0 where
-  both_satisfy : GoalsAlike goals.Satisfy goals.Satisfy
-  both_least : {at to : ℕ} {a b : Expr} → GoalsAlike (goals.Minimize at a) (goals.Minimize to b)
-  both_greatest : {at to : ℕ} {a b : Expr} → GoalsAlike (goals.Maximize at a) (goals.Maximize to b)
+pub data GoalsAlike (text other : List ℕ) : Goal → Goal → Type 0 where
+  both_satisfy : GoalsAlike text other goals.Satisfy goals.Satisfy
+  both_least : {at to : ℕ} {a b : Expr} → ExprsAlike text other a b → GoalsAlike text other (goals.Minimize at a) (goals.Minimize to b)
+  both_greatest : {at to : ℕ} {a b : Expr} → ExprsAlike text other a b → GoalsAlike text other (goals.Maximize at a) (goals.Maximize to b)
 
 pub data ItemsAlike (text other : List ℕ) : Item → Item → Type 0 where
   both_predicate : {at to : ℕ} → ItemsAlike text other (item.Predicate at) (item.Predicate to)
@@ -59,7 +59,7 @@ pub data ItemsAlike (text other : List ℕ) : Item → Item → Type 0 where
       → ItemsAlike text other (item.Declare at isvar index type name_at name_to says a) (item.Declare at2 isvar index type name_at2 name_to2 says b)
   both_constraint : {at name_at name_to at2 name_at2 name_to2 : ℕ} {a b : List Expr} → bytes_at text name_at name_to ≡ bytes_at other name_at2 name_to2 → Pairwise (ExprsAlike text other) a b
       → ItemsAlike text other (item.Constraint at name_at name_to a) (item.Constraint at2 name_at2 name_to2 b)
-  both_solve : {at to : ℕ} {a b : Goal} → GoalsAlike a b → ItemsAlike text other (item.Solve at a) (item.Solve to b)
+  both_solve : {at to : ℕ} {a b : Goal} → GoalsAlike text other a b → ItemsAlike text other (item.Solve at a) (item.Solve to b)
 
 module _ (text other : List ℕ) where
   -- ---- expressions
@@ -302,15 +302,15 @@ module _ (text other : List ℕ) where
       then_carried text other _ _ _ _ _ (ItemsAlike text other) annotations_carried (λ _ _ _.
       map_carried text other _ (λ _. item.Constraint t.from n.from n.to a) _ (λ _. item.Constraint u.from m.from m.to b) _ (ItemsAlike text other) (one_carried text other (kind.Mark mark.Semicolon)) (λ _ _ _. both_constraint h.bytes each)))))
 
-  goal_after_carried : (k : TokenKind) (t u : Token) → AreAlike text other t u → Carried text other (GoalAfter k t) (GoalAfter k u) GoalsAlike
-  goal_after_carried (kind.Word word.Satisfy) t u h = map_carried text other _ (λ _. goals.Satisfy) _ (λ _. goals.Satisfy) _ GoalsAlike (one_carried text other (kind.Mark mark.Semicolon)) (λ _ _ _. both_satisfy)
-  goal_after_carried (kind.Word word.Minimize) t u h = map_carried text other _ (λ what. goals.Minimize t.from what) _ (λ what. goals.Minimize u.from what) _ GoalsAlike (last_carried text other) (λ _ _ _. both_least)
-  goal_after_carried (kind.Word word.Maximize) t u h = map_carried text other _ (λ what. goals.Maximize t.from what) _ (λ what. goals.Maximize u.from what) _ GoalsAlike (last_carried text other) (λ _ _ _. both_greatest)
-  goal_after_carried _ t u h = nothing_carried text other GoalsAlike
+  goal_after_carried : (k : TokenKind) (t u : Token) → AreAlike text other t u → Carried text other (GoalAfter k t) (GoalAfter k u) (GoalsAlike text other)
+  goal_after_carried (kind.Word word.Satisfy) t u h = map_carried text other _ (λ _. goals.Satisfy) _ (λ _. goals.Satisfy) _ (GoalsAlike text other) (one_carried text other (kind.Mark mark.Semicolon)) (λ _ _ _. both_satisfy)
+  goal_after_carried (kind.Word word.Minimize) t u h = map_carried text other _ (λ what. goals.Minimize t.from what) _ (λ what. goals.Minimize u.from what) _ (GoalsAlike text other) (last_carried text other) (λ _ _ same. both_least same)
+  goal_after_carried (kind.Word word.Maximize) t u h = map_carried text other _ (λ what. goals.Maximize t.from what) _ (λ what. goals.Maximize u.from what) _ (GoalsAlike text other) (last_carried text other) (λ _ _ same. both_greatest same)
+  goal_after_carried _ t u h = nothing_carried text other (GoalsAlike text other)
 
   solve_carried : (t u : Token) → Carried text other (IsSolve text t) (IsSolve other u) (ItemsAlike text other)
   solve_carried t u = then_carried text other _ _ _ _ _ (ItemsAlike text other) annotations_carried (λ _ _ _.
-      map_carried text other IsGoal (λ goal. item.Solve t.from goal) IsGoal (λ goal. item.Solve u.from goal) GoalsAlike (ItemsAlike text other) (by_kind text other GoalAfter GoalAfter GoalsAlike goal_after_carried) (λ _ _ h. both_solve h))
+      map_carried text other IsGoal (λ goal. item.Solve t.from goal) IsGoal (λ goal. item.Solve u.from goal) (GoalsAlike text other) (ItemsAlike text other) (by_kind text other GoalAfter GoalAfter (GoalsAlike text other) goal_after_carried) (λ _ _ h. both_solve h))
 
   item_after_carried : (k : TokenKind) (t u : Token) → AreAlike text other t u → Carried text other (ItemAfter text k t) (ItemAfter other k u) (ItemsAlike text other)
   item_after_carried (kind.Word word.Predicate) t u h = map_carried text other _ (λ _. item.Predicate t.from) _ (λ _. item.Predicate u.from) _ (ItemsAlike text other) to_semicolon_carried (λ _ _ _. both_predicate)

@@ -43,8 +43,8 @@ RightPlaced P (Some e) = ExprPlaced P e
 
 abbrev pub GoalPlaced : (ℕ → Type 0) → Goal → Type 0
 GoalPlaced P goals.Satisfy = Unit {0}
-GoalPlaced P (goals.Minimize at what) = P at
-GoalPlaced P (goals.Maximize at what) = P at
+GoalPlaced P (goals.Minimize at what) = P at × ExprPlaced P what
+GoalPlaced P (goals.Maximize at what) = P at × ExprPlaced P what
 
 abbrev pub ItemPlaced : (ℕ → Type 0) → Item → Type 0
 ItemPlaced P (item.Predicate at) = P at
@@ -264,8 +264,8 @@ module _ (P : ℕ → Type 0) where
 
   goal_after_placed : (k : TokenKind) (t : Token) → P t.from → Placed P (GoalAfter k t) (GoalPlaced P)
   goal_after_placed (kind.Word word.Satisfy) t here = map_placed P _ (λ _. goals.Satisfy) _ (GoalPlaced P) (mark_placed P mark.Semicolon) (λ _ _. tt)
-  goal_after_placed (kind.Word word.Minimize) t here = map_placed P _ (λ what. goals.Minimize t.from what) _ (GoalPlaced P) last_placed (λ _ _. here)
-  goal_after_placed (kind.Word word.Maximize) t here = map_placed P _ (λ what. goals.Maximize t.from what) _ (GoalPlaced P) last_placed (λ _ _. here)
+  goal_after_placed (kind.Word word.Minimize) t here = map_placed P _ (λ what. goals.Minimize t.from what) _ (GoalPlaced P) last_placed (λ _ each. (here, each))
+  goal_after_placed (kind.Word word.Maximize) t here = map_placed P _ (λ what. goals.Maximize t.from what) _ (GoalPlaced P) last_placed (λ _ each. (here, each))
   goal_after_placed _ t here = nothing_placed P (GoalPlaced P)
 
   goal_placed : Placed P IsGoal (GoalPlaced P)

@@ -32,7 +32,7 @@ use Rattle.fzn_scope.specs.Places.{one_of, count_of, set_of}
 use Rattle.fzn_scope.specs.Rules.{constraint_rule}
 use Rattle.fzn_model.specs.Building.{with_variable, with_rule}
 use Rattle.fzn_model.specs.Declarations.{SoFar, within, is_late, declaration, is_boolean, constant, value_of, parameter, domain_of, source_of, equality, with_source, variable, is_element, element_set, is_index, is_shaped, with_member, with_members, with_set, elements, array}
-use Rattle.fzn_model.specs.Items.{start, declared_by, declare, constraint, is_goal, solve, predicate, after, after_all, finished, resolved}
+use Rattle.fzn_model.specs.Items.{start, declared_by, declare, constraint, an_integer, aim_of, solve, predicate, after, after_all, finished, resolved}
 use Rattle.fzn_model.specs.Models.{answer_of}
 use Rattle.law_reader.specs.Gapped.{AllAlike, GapsAreIgnored}
 use Rattle.law_reader.proofs.Carrying.{Pairwise}
@@ -78,17 +78,6 @@ members_keep at to problem set (term ∷ terms) = keeps_bind (with_member at pro
 with_set_keeps : (isvar : Bool) (at to : ℕ) (problem : Contents) (set : Option Members) (terms : List Term) → Keeps (with_set isvar at problem set terms) (with_set isvar to problem set terms)
 with_set_keeps true at to problem set terms = members_keep at to problem set terms
 with_set_keeps false at to problem set terms = refl
-
-goal_keeps : (a b : Goal) → GoalsAlike a b → Keeps (is_goal a) (is_goal b)
-goal_keeps _ _ both_satisfy = refl
-goal_keeps _ _ both_least = tt
-goal_keeps _ _ both_greatest = tt
-
-solve_keeps : (s : SoFar) (at to : ℕ) (a b : Goal) → GoalsAlike a b → Keeps (solve s at a) (solve s to b)
-unfolding solve
-solve_keeps s at to a b h =
-    keeps_bind (refused_if s.solved (refusal.Misplaced at)) (refused_if s.solved (refusal.Misplaced to)) _ _ (keeps_if s.solved (refusal.Misplaced at) (refusal.Misplaced to)) (λ _.
-    keeps_bind (is_goal a) (is_goal b) _ _ (goal_keeps a b h) (λ _. refl))
 
 predicate_keeps : (s : SoFar) (at to : ℕ) → Keeps (predicate s at) (predicate s to)
 unfolding predicate
@@ -156,6 +145,17 @@ module _ (text other : List ℕ) where
   declare_keeps : (s : SoFar) (at to : ℕ) (isvar : Bool) (index : Option (ℤ × ℤ)) (type : Base) (name_at name_to : ℕ) (name : List ℕ) (says : Marked) (x y : Option Expr) → RightsAlike text other x y → Keeps (declare text s at isvar index type name_at name says x) (declare other s to isvar index type name_to name says y)
   declare_keeps s at to isvar index type name_at name_to name says x y h =
       keeps_bind (declaration s at name_at name) (declaration s to name_to name) _ _ (declaration_keeps s at to name_at name_to name) (λ _. declared_by_keeps s at to isvar index type name_at name_to name says x y h)
+
+  goal_keeps : (scope : Scope) (x y : Goal) → GoalsAlike text other x y → Keeps (aim_of text scope x) (aim_of other scope y)
+  goal_keeps scope _ _ both_satisfy = refl
+  goal_keeps scope _ _ (both_least {a = a} {b = b} h) = keeps_bind (one_of text scope an_integer a) (one_of other scope an_integer b) _ _ (one_keeps text other scope an_integer a b h) (λ _. refl)
+  goal_keeps scope _ _ (both_greatest {a = a} {b = b} h) = keeps_bind (one_of text scope an_integer a) (one_of other scope an_integer b) _ _ (one_keeps text other scope an_integer a b h) (λ _. refl)
+
+  solve_keeps : (s : SoFar) (at to : ℕ) (a b : Goal) → GoalsAlike text other a b → Keeps (solve text s at a) (solve other s to b)
+  unfolding solve
+  solve_keeps s at to a b h =
+      keeps_bind (refused_if s.solved (refusal.Misplaced at)) (refused_if s.solved (refusal.Misplaced to)) _ _ (keeps_if s.solved (refusal.Misplaced at) (refusal.Misplaced to)) (λ _.
+      keeps_bind (aim_of text s.scope a) (aim_of other s.scope b) _ _ (goal_keeps s.scope a b h) (λ _. refl))
 
   item_keeps : (s : SoFar) (i j : Item) → ItemsAlike text other i j → Keeps (after text s i) (after other s j)
   item_keeps s _ _ (both_predicate {at = at} {to = to}) = predicate_keeps s at to

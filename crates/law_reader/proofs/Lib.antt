@@ -17,3 +17,12 @@ pub mod AlikeItems
 pub mod Keeping
 pub mod KeptItems
 pub mod SkippedItems
+pub mod Judging
+pub mod SortedNames
+pub mod JudgedExprs
+pub mod JudgedLimits
+pub mod JudgedArguments
+pub mod JudgedRules
+pub mod JudgedDeclarations
+pub mod JudgedItems
+pub mod Accepting

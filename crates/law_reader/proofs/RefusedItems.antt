@@ -29,7 +29,7 @@ use Rattle.fzn_scope.specs.Places.{one_of, count_of, set_of}
 use Rattle.fzn_scope.specs.Rules.{constraint_rule}
 use Rattle.fzn_model.specs.Building.{with_variable, with_rule}
 use Rattle.fzn_model.specs.Declarations.{SoFar, within, is_late, declaration, is_boolean, right_side, constant, value_of, parameter, domain_of, source_of, equality, with_source, variable, is_element, element_set, is_index, is_shaped, with_member, with_members, with_set, elements, array}
-use Rattle.fzn_model.specs.Items.{start, declared_by, constraint, is_goal, solve, predicate, after, after_all, resolved}
+use Rattle.fzn_model.specs.Items.{start, declared_by, constraint, an_integer, aim_of, solve, predicate, after, after_all, resolved}
 use Rattle.law_reader.proofs.ItemPlaces.{ExprPlaced, RightPlaced, GoalPlaced, ItemPlaced}
 use Rattle.law_reader.proofs.Refusing.{Refuses, bind_refuses, if_refuses, choice_refuses, one_refuses, list_refuses, count_refuses, set_refuses, constraint_refuses, variable_refuses, rule_refuses}
 
@@ -137,16 +137,16 @@ module _ (P : ℕ → Type 0) where
         bind_refuses P (constraint_rule text s.scope name_at name es) _ (constraint_refuses P text s.scope name_at name es k each) (λ rule.
         bind_refuses P (with_rule name_at s.problem rule) _ (rule_refuses P name_at s.problem rule k) (λ _. tt)))
 
-    goal_refuses : (goal : Goal) → GoalPlaced P goal → Refuses P (is_goal goal)
-    goal_refuses goals.Satisfy h = tt
-    goal_refuses (goals.Minimize at what) h = h
-    goal_refuses (goals.Maximize at what) h = h
+    goal_refuses : (scope : Scope) (goal : Goal) → GoalPlaced P goal → Refuses P (aim_of text scope goal)
+    goal_refuses scope goals.Satisfy h = tt
+    goal_refuses scope (goals.Minimize at what) h = bind_refuses P (one_of text scope an_integer what) _ (one_refuses P text scope an_integer what h.1) (λ _. tt)
+    goal_refuses scope (goals.Maximize at what) h = bind_refuses P (one_of text scope an_integer what) _ (one_refuses P text scope an_integer what h.1) (λ _. tt)
 
-    solve_refuses : (s : SoFar) (at : ℕ) (goal : Goal) → P at → GoalPlaced P goal → Refuses P (solve s at goal)
+    solve_refuses : (s : SoFar) (at : ℕ) (goal : Goal) → P at → GoalPlaced P goal → Refuses P (solve text s at goal)
     unfolding solve
     solve_refuses s at goal h k =
         bind_refuses P (refused_if s.solved (refusal.Misplaced at)) _ (if_refuses P s.solved (refusal.Misplaced at) h) (λ _.
-        bind_refuses P (is_goal goal) _ (goal_refuses goal k) (λ _. tt))
+        bind_refuses P (aim_of text s.scope goal) _ (goal_refuses s.scope goal k) (λ _. tt))
 
     predicate_refuses : (s : SoFar) (at : ℕ) → P at → Refuses P (predicate s at)
     unfolding predicate

@@ -1,7 +1,8 @@
-//! What holds of all texts: each has an answer, each refusal names the place of a token, or one that has none, and
-//! blanks and comments between tokens change nothing.
+//! What holds of all texts: each has an answer, each refusal names the place of a token, or one that has none, blanks
+//! and comments between tokens change nothing, and a text has a problem exactly where its items pass their checks.
 #![tactic(auto)]
 
+ghost use Rattle.law_reader.specs.Accepted.{AcceptedItems, AcceptedTexts};
 ghost use Rattle.law_reader.specs.Answered.{TextsHaveTokens, TokensHaveItems, TextsHaveAnswers};
 ghost use Rattle.law_reader.specs.Gapped.{GapsAreIgnored};
 ghost use Rattle.law_reader.specs.Placed.{RefusalsArePlaced};
@@ -35,4 +36,11 @@ pub fn gaps_are_ignored()
 /// Items that have a problem have the same one without their predicates.
 pub fn predicates_are_ignored()
     ensures { PredicatesAreIgnored }
+{}
+
+/// Items have a problem exactly where each passes each of its checks, whatever the order of the checks, and one is a
+/// solve item; and a text exactly where its items do.
+pub fn checks_decide()
+    ensures items { AcceptedItems }
+    ensures texts { AcceptedTexts }
 {}
