@@ -1,0 +1,4 @@
+pub mod Narrowing
+pub mod RoundLists
+pub mod Fewer
+pub mod SearchLaws

@@ -1,0 +1,34 @@
+-- What the code of a search keeps.
+use Rattle.std.specs.Prelude.{◌≤◌, ℕ, ℤ, Bool, true, false, List, length, Option, Some, None}
+use Rattle.dcsp_problem.specs.declared.aim.Aim.{Aim}
+use Rattle.dcsp_problem.specs.Rules.{IsAimOf}
+use Rattle.dcsp_problem.specs.Problems.{Contents}
+use Rattle.abt_optimum.specs.declared.round.Round.{Round}
+use Rattle.abt_optimum.specs.declared.round.RoundEnd.{RoundEnd}
+use Rattle.abt_optimum.specs.declared.round.RoundEnd.TheVariants.{Solved, Refuted, Capped}
+use Rattle.abt_optimum.specs.declared.best.BestEnd.{BestEnd}
+use Rattle.abt_optimum.specs.declared.best.BestEnd.TheVariants.{Optimal, NoSolution, Open}
+use Rattle.abt_optimum.specs.Rounds.{most_rounds}
+use Rattle.abt_optimum.specs.Searches.{SearchState, IsSearch}
+
+-- the search with these parts
+abbrev pub shown : Contents → List Round → Option (List ℤ) → SearchState
+shown problem rounds values = record { problem = problem; rounds = rounds; values = values }
+
+-- it is a search whose aim can be told, and there is room for all rounds that there may be
+pub record IsKept (capacity : ℕ) (s : SearchState) : Type 0 where
+  pub search : IsSearch s
+  pub aim : IsAimOf (length s.problem.domains) s.problem.aim
+  pub room : most_rounds s.problem ≤ capacity
+
+-- the values of a solved round tell what is aimed at
+abbrev pub TellsAim : Aim → RoundEnd → Type 0
+TellsAim aim (Solved values) = IsAimOf (length values) aim
+TellsAim aim Refuted = Unit {0}
+TellsAim aim Capped = Unit {0}
+
+-- the end that is told, where the last round was capped or not, and with the values of the last solved round
+abbrev pub end_of : Bool → Option (List ℤ) → BestEnd
+end_of true values = Open values
+end_of false (Some values) = Optimal values
+end_of false None = NoSolution

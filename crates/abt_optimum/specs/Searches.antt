@@ -1,0 +1,49 @@
+-- Searches, as callers see them.
+use Rattle.std.specs.Prelude.{◌≡◌, ◌≢◌, ℤ, List, Option, Some, IfSome, option_map}
+use Rattle.dcsp_defs.specs.Csp.{HasNoSolution}
+use Rattle.dcsp_problem.specs.declared.aim.Aim.{Aim}
+use Rattle.dcsp_problem.specs.declared.aim.Aim.TheVariants.{Satisfy}
+use Rattle.dcsp_problem.specs.Problems.{Contents, csp_of}
+use Rattle.abt_optimum.specs.declared.round.Ended.TheVariants as ended
+use Rattle.abt_optimum.specs.declared.round.Ended.{Ended}
+use Rattle.abt_optimum.specs.declared.round.Round.{Round}
+use Rattle.abt_optimum.specs.declared.round.RoundEnd.{RoundEnd}
+use Rattle.abt_optimum.specs.declared.round.RoundEnd.TheVariants.{Solved, Refuted, Capped}
+use Rattle.abt_optimum.specs.Best.{assigned, aim_value, Solves}
+use Rattle.abt_optimum.specs.Rounds.{last_round, best_value, round_problem, AreRounds}
+
+-- a search: the whole problem, the rounds that have ended, and the values of the last one that was solved
+pub record SearchState : Type 0 where
+  pub problem : Contents
+  pub rounds : List Round
+  pub values : Option (List ℤ)
+
+-- a round of the problem ends rightly so: the values that it was solved with are a solution, and it was refuted only where there is none
+abbrev pub EndsRightly : Contents → RoundEnd → Type 0
+EndsRightly p (Solved values) = Solves p values
+EndsRightly p Refuted = HasNoSolution (csp_of p)
+EndsRightly p Capped = Unit {0}
+
+-- the end, with the value at the aim in place of all values
+abbrev pub end_at : Aim → RoundEnd → Ended
+end_at aim (Solved values) = ended.Solved (aim_value aim (assigned values))
+end_at aim Refuted = ended.Refuted
+end_at aim Capped = ended.Capped
+
+-- the round after these that ended so
+abbrev pub round_after : Aim → List Round → RoundEnd → Round
+round_after aim rounds end = record { better = best_value rounds; end = end_at aim end }
+
+-- the values of the last solved round, after one that ended so
+abbrev pub values_after : Option (List ℤ) → RoundEnd → Option (List ℤ)
+values_after old (Solved values) = Some values
+values_after old Refuted = old
+values_after old Capped = old
+
+-- What every search is: its rounds are those of a search; its values are a solution of the whole problem, with the value at the aim that is the best known; and a last round that was refuted had no solution.
+pub record IsSearch (s : SearchState) : Type 0 where
+  pub aimed : s.problem.aim ≢ Satisfy
+  pub rounds : AreRounds s.problem s.rounds
+  pub solves : IfSome s.values (Solves s.problem)
+  pub value : option_map (λ values. aim_value s.problem.aim (assigned values)) s.values ≡ best_value s.rounds
+  pub refuted : (better : Option ℤ) → last_round s.rounds ≡ Some (record { better = better; end = ended.Refuted }) → HasNoSolution (csp_of (round_problem s.problem better))
