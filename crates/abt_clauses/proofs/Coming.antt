@@ -8,7 +8,7 @@ use Rattle.abt_promise.specs.declared.status.Status.{Status}
 use Rattle.abt_promise.specs.Promises.{Promise, IsHeld, AreHeld, refused}
 use Rattle.abt_promise.specs.Runs.{CameIn}
 use Rattle.abt_input.specs.declared.error.CommandError.{CommandError}
-use Rattle.abt_input.specs.declared.error.CommandError.TheVariants.{ModelLong, ModelRefused, LogLong, LogLine, ScheduleLong, ScheduleLine, Clauses, Fault, Memory}
+use Rattle.abt_input.specs.declared.error.CommandError.TheVariants.{ModelLong, ModelRefused, NoAim, LogLong, LogLine, ScheduleLong, ScheduleLine, Clauses, Fault, Memory}
 use Rattle.abt_input.specs.Errors.{IsErrorOfCnf, error_status, error_text, way_of}
 use Rattle.abt_input.specs.Files.{IsFormulaRead, UnlessFault}
 use Rattle.abt_input.proofs.Files.{some_bytes}
@@ -39,6 +39,7 @@ module _ (promise : Promise) (c : List ℕ) (rest : List (List ℕ)) (fetched_is
   no_formula (LogLine number) h counts fault = absurd h.2
   no_formula ScheduleLong h counts fault = absurd h.2
   no_formula (ScheduleLine number) h counts fault = absurd h.2
+  no_formula NoAim h counts fault = absurd h.2
   no_formula (Clauses error) h counts fault = record {
     inputs = h.0 ∷ others.0;
     are_held = held_all h.0 h.1;

@@ -15,7 +15,7 @@ use Rattle.abt_promise.specs.Promises.{AreHeld, refused}
 use Rattle.abt_promise.specs.Runs.{CameIn}
 use Rattle.abt_promise.proofs.Coming.{way_with, came_wrote}
 use Rattle.abt_input.specs.declared.error.CommandError.{CommandError}
-use Rattle.abt_input.specs.declared.error.CommandError.TheVariants.{ModelLong, ModelRefused, LogLong, LogLine, ScheduleLong, ScheduleLine, Clauses, Fault, Memory}
+use Rattle.abt_input.specs.declared.error.CommandError.TheVariants.{ModelLong, ModelRefused, NoAim, LogLong, LogLine, ScheduleLong, ScheduleLine, Clauses, Fault, Memory}
 use Rattle.abt_input.specs.Errors.{IsErrorOfCnf, error_status, error_text, stop_error, way_of}
 use Rattle.abt_input.specs.Files.{IsFormulaRead, IsProofRead, UnlessFault}
 use Rattle.abt_input.proofs.Cnfs.{clauses_final}
@@ -49,6 +49,7 @@ module _ (c d : List ℕ) (p q : Place) (out : Stream) (held : q.held ≡ p.held
     no_proof (LogLine number) k same fault = absurd k.2
     no_proof ScheduleLong k same fault = absurd k.2
     no_proof (ScheduleLine number) k same fault = absurd k.2
+    no_proof NoAim k same fault = absurd k.2
     no_proof (Clauses error) k same fault = record {
       inputs = h.0 ∷ k.0 ∷ [];
       are_held = (h.1, (k.1, tt));

@@ -9,8 +9,6 @@ mod cnf;
 mod laws;
 mod proof;
 mod rup;
-#[cfg(test)]
-mod tests;
 
 pub use cnf::{Cnf, run_cnf};
 pub use laws::{clauses_say_rules, promises_are_lawful, refutations_are_proofs};

@@ -78,26 +78,47 @@ fn reads(rt: HostRuntime) -> Result<(), Fail> {
 #[test]
 fn names_the_place_of_a_syntax_error(rt: HostRuntime) {
     for (text, place) in [
+        // the text's end
         (b"".as_slice(), 0),
         (b"c only\n".as_slice(), 7),
+        (b"c p cnf 1 1".as_slice(), 11),
         (b"p".as_slice(), 1),
         (b"p cnf".as_slice(), 5),
         (b"p cnf 1".as_slice(), 7),
-        (b"p cnf 1 %".as_slice(), 8),
+        (b"p cnf 1 ".as_slice(), 8),
+        // the token that ends the text
         (b"% p cnf 1 1".as_slice(), 0),
+        (b"p %".as_slice(), 2),
+        (b"p cnf %".as_slice(), 6),
+        (b"p cnf 1 %".as_slice(), 8),
+        // `p` and `cnf`
         (b"q cnf 1 1".as_slice(), 0),
+        (b"pcnf 1 1".as_slice(), 0),
         (b"p dnf 1 1".as_slice(), 2),
         (b"p\ncnf 1 1".as_slice(), 9),
+        // the number of variables
         (b"p cnf -1 0".as_slice(), 6),
         (b"p cnf 1x 0".as_slice(), 6),
         (b"p cnf 18446744073709551616 0".as_slice(), 6),
+        // the number of clauses
+        (b"p cnf 1 x".as_slice(), 8),
+        (b"p cnf 1 -1".as_slice(), 8),
+        (b"p cnf 1 1%".as_slice(), 8),
+        // a literal or 0
         (b"p cnf 1 1\n2 0".as_slice(), 10),
+        (b"p cnf 0 1\n1".as_slice(), 10),
+        (b"p cnf 1 1\n18446744073709551617".as_slice(), 10),
+        (b"p cnf  1\t1\r\n-2".as_slice(), 12),
+        (b"p cnf 1 1\n1 -00".as_slice(), 12),
         (b"p cnf 1 1\n-0 0".as_slice(), 10),
-        (b"p cnf 1 1\n1%".as_slice(), 10),
         (b"p cnf 1 1\n+1 0".as_slice(), 10),
         (b"p cnf 1 1\n- 1".as_slice(), 10),
+        (b"p cnf 1 1\n --1".as_slice(), 11),
+        (b"p cnf 1 1\n0x".as_slice(), 10),
+        (b"p cnf 1 1\n1%".as_slice(), 10),
+        (b"p cnf 1 1\n1 0\n1 %0".as_slice(), 16),
         (b"p cnf 1 1\n 1 c 0".as_slice(), 13),
-        (b"p cnf 0 1\n1".as_slice(), 10),
+        (b"p cnf 2 1\nc x\n3".as_slice(), 14),
     ] {
         match read(rt.alloc(), text) {
             Ok(_) => panic!(rt; "place {place}"),

@@ -1,59 +1,16 @@
--- Units, and the end of the queue.
-use Rattle.std.proofs.Common.{◌≡◌, ℕ, ◌<◌, ◌≤◌, ◌+◌, List, [], inl, inr, Bool, true, false, length, get_or, sym, ◌∙◌, subst, arith}
+-- The end of the queue, and the rest after it.
+use Rattle.std.proofs.Common.{◌≡◌, ℕ, List, [], inl, inr, Bool, true, false, get_or, sym, subst}
 use Rattle.std.specs.List.{Contains}
-use Rattle.std.proofs.lemmas.Bool.{cases_eq}
-use Rattle.std.proofs.lemmas.List.{get_or_default}
-use Rattle.std.proofs.lemmas.List.Elements.{Contains-get_or}
-use Rattle.rup_check.specs.Propagation.{Forced, unit}
-use Rattle.rup_check.specs.Assignments.{flipped, Has}
-use Rattle.rup_check.specs.Sets.{KeepsSound, IsFinished, IsPut}
+use Rattle.rup_check.specs.Assignments.{flipped, Has, IsAssignment}
+use Rattle.rup_check.specs.Sets.{IsFinished, IsEnd}
 use Rattle.rup_check.specs.Looks.{IsQuiet}
-use Rattle.rup_check.specs.Watches.{IsPairOf, IsSettled, IsState, IsShort, IsClean, IsUnitOf, AreForced, no_pair}
+use Rattle.rup_check.specs.Watches.{IsPairOf, IsSettled, IsState, HasOneOf, IsEnded, IsRest, no_pair}
 use Rattle.rup_check.specs.declared.watches.Pair.{Pair}
-use Rattle.rup_check.specs.Sets.{IsEnd}
-use Rattle.rup_check.specs.Watches.{IsReady, IsRun, AreShorts}
-use Rattle.rup_check.specs.Assignments.{IsAssignment}
-use Rattle.rup_check.proofs.StateLaws.{nothing_done}
-use Rattle.rup_check.proofs.PropagationLaws.{contains_nil, true_or_not}
-use Rattle.rup_check.proofs.MarkLaws.{finished_from_index, has_small}
+use Rattle.rup_check.proofs.StateLaws.{undone, nothing_done}
+use Rattle.rup_check.proofs.PropagationLaws.{true_or_not}
+use Rattle.rup_check.proofs.MarkLaws.{finished_from_index}
 
-pub clean_put : (before after : List Bool) (x : ℕ) → length before ≡ 8192 → x ≤ 8191 → IsClean before → (Has before (flipped x) → ⊥) → IsPut before after x → IsClean after
-clean_put before after x size small clean absent p y h g =
-    (elim (p.only y h) [
-      | inl e ↦ (elim (p.only (flipped y) g) [
-        | inl f ↦ absurd (omega arith)
-        | inr old ↦ absent (subst (λ w. Has before (flipped w)) e old)
-      ])
-      | inr held ↦ (elim (p.only (flipped y) g) [
-        | inl f ↦ (let yl : y < length before = has_small before y held in let back : y ≡ flipped x = omega arith in absent (subst (λ w. Has before w) back held))
-        | inr old ↦ clean y held old
-      ])
-    ])
-
--- a unit that was put in keeps marks sound
-pub unit_put_sound : (formula : List (List ℕ)) (before after : List Bool) (x : ℕ) → IsUnitOf formula x → IsClean after → IsPut before after x → KeepsSound formula before after
-unit_put_sound formula before after x u clean p start s =
-    let here : Forced flipped formula start x = unit u.clause u.in_formula u.among (λ y m n. absurd (n (u.alone y m))) in
-    record {
-      within = λ y h. (elim (p.only y h) [ inl e ↦ subst (λ w. Forced flipped formula start w) (sym e) here | inr old ↦ s.within y old ]);
-      consistent = clean;
-    }
-
--- a unit whose negation is there
-pub unit_false : (formula : List (List ℕ)) (units : List ℕ) (marks : List Bool) (x : ℕ) → IsUnitOf formula x → Has marks (flipped x) → AreForced formula units marks true
-unit_false formula units marks x u h = (u.clause, u.in_formula, λ y m. subst (λ w. Has marks (flipped w)) (sym (u.alone y m)) h)
-
-pub forced_more : (units : List ℕ) (before after : List Bool) (i x : ℕ) → x ≡ get_or units i 0 → IsPut before after x → ((k : ℕ) → k < i → Has before (get_or units k 0)) → (k : ℕ) → k < i + 1 → Has after (get_or units k 0)
-forced_more units before after i x e p all k l =
-    (elim (cases_eq k i) [
-      | inl f ↦ subst (λ w. Has after (get_or units w 0)) (sym f) (subst (λ w. Has after w) e p.here)
-      | inr n ↦ p.grows (get_or units k 0) (all k (omega arith))
-    ])
-
-pub forced_all : (formula : List (List ℕ)) (units : List ℕ) (marks : List Bool) (i : ℕ) → i ≡ length units → ((k : ℕ) → k < i → Has marks (get_or units k 0)) → AreForced formula units marks false
-forced_all formula units marks i e all x (k, l, f) = subst (λ w. Has marks w) (get_or_default units k 0 x l ∙ f) (all k (omega arith))
-
-module _ (formula : List (List ℕ)) (pairs : List Pair) (lists : List (List ℕ)) (units : List ℕ) (has_empty : Bool) (marks : List Bool) (trail : List ℕ) (s : IsState formula pairs lists units has_empty marks trail) (listed : (x : ℕ) → Has marks x → Contains trail x) (forced : (x : ℕ) → Contains units x → Has marks x) (no_empty : has_empty ≡ false) where
+module _ (formula : List (List ℕ)) (pairs : List Pair) (lists : List (List ℕ)) (units base : List ℕ) (marks : List Bool) (trail : List ℕ) (s : IsState formula pairs lists units base marks trail) (listed : (x : ℕ) → Has marks x → Contains trail x) (forced : (x : ℕ) → Contains units x → Has marks x) where
   quiet_pair : (clause : List ℕ) (pair : Pair) → IsPairOf clause pair → IsSettled marks trail pair → IsQuiet marks clause
   quiet_pair clause pair p t =
       (elim (true_or_not (get_or marks pair.first false)) [
@@ -64,9 +21,8 @@ module _ (formula : List (List ℕ)) (pairs : List Pair) (lists : List (List ℕ
         ])
       ])
 
-  quiet_short : (clause : List ℕ) → IsShort units has_empty clause → IsQuiet marks clause
-  quiet_short clause (inl (x, u, c)) = inl (x, c, forced x u)
-  quiet_short clause (inr (e, n)) = let clash : true ≡ false = sym e ∙ no_empty in cc
+  quiet_short : (clause : List ℕ) → HasOneOf units clause → IsQuiet marks clause
+  quiet_short clause (x, u, c) = inl (x, c, forced x u)
 
   -- where all on the trail is done each clause is quiet
   pub finished_of_state : IsFinished formula marks
@@ -75,25 +31,22 @@ module _ (formula : List (List ℕ)) (pairs : List Pair) (lists : List (List ℕ
     | inr t ↦ quiet_short (get_or formula k []) t
   ]))
 
-pub unit_here : (formula : List (List ℕ)) (units : List ℕ) (i : ℕ) → ((x : ℕ) → Contains units x → IsUnitOf formula x) → i < length units → IsUnitOf formula (get_or units i 0)
-unit_here formula units i h l = h (get_or units i 0) (Contains-get_or units i 0 l)
-
--- an empty clause is false
-pub empty_false : (formula : List (List ℕ)) (marks : List Bool) → Contains formula [] → IsEnd formula marks true
-empty_false formula marks h = ([], h, λ y m. absurd (contains_nil y m))
-
 -- the end of the queue
-pub end_of_run : (formula : List (List ℕ)) (units : List ℕ) (has_empty : Bool) (pairs : List Pair) (lists : List (List ℕ)) (marks : List Bool) (trail : List ℕ) (b : Bool) → IsAssignment marks trail → ((x : ℕ) → Contains units x → Has marks x) → has_empty ≡ false → IsRun formula units has_empty pairs lists marks trail b → IsEnd formula marks b
-end_of_run formula units has_empty pairs lists marks trail true a forced no_empty r = r.1
-end_of_run formula units has_empty pairs lists marks trail false a forced no_empty r = finished_of_state formula pairs lists units has_empty marks trail r a.listed forced no_empty
+pub end_of_run : (formula : List (List ℕ)) (units base : List ℕ) (pairs : List Pair) (lists : List (List ℕ)) (marks : List Bool) (trail : List ℕ) (b : Bool) → IsAssignment marks trail → ((x : ℕ) → Contains units x → Has marks x) → IsEnded formula units base pairs lists marks trail b → IsEnd formula marks b
+end_of_run formula units base pairs lists marks trail true a forced r = r.1
+end_of_run formula units base pairs lists marks trail false a forced r = finished_of_state formula pairs lists units base marks trail r a.listed forced
 
-pub state_of_run : (formula : List (List ℕ)) (units : List ℕ) (has_empty : Bool) (pairs : List Pair) (lists : List (List ℕ)) (marks : List Bool) (trail : List ℕ) (b : Bool) → IsRun formula units has_empty pairs lists marks trail b → IsState formula pairs lists units has_empty marks []
-state_of_run formula units has_empty pairs lists marks trail true r = r.0
-state_of_run formula units has_empty pairs lists marks trail false r = nothing_done formula pairs lists units has_empty marks marks trail r
+-- the rest after the trail was undone
+pub rest_again : (formula : List (List ℕ)) (pairs pairs' : List Pair) (lists lists' : List (List ℕ)) (marks between marks' : List Bool) (trail done trail' : List ℕ) → IsRest formula pairs lists marks trail → IsAssignment marks' trail' → trail' ≡ trail → IsState formula pairs' lists' trail trail between done → IsRest formula pairs' lists' marks' trail'
+rest_again formula pairs pairs' lists lists' marks between marks' trail done trail' r a e s =
+    subst (λ z. IsRest formula pairs' lists' marks' z) (sym e) record {
+      assigned = subst (λ z. IsAssignment marks' z) e a;
+      sound = record { within = λ x h. r.sound.within x (old x h); consistent = λ x h g. r.sound.consistent x (old x h) (old (flipped x) g) };
+      state = undone formula pairs' lists' trail trail between marks' done s (λ y h. a.marked y (subst (λ z. Contains z y) (sym e) h));
+    } where
+      old : (x : ℕ) → Has marks' x → Has marks x
+      old x h = r.assigned.marked x (subst (λ z. Contains z x) e (a.listed x h))
 
-pub ready_on : (formula : List (List ℕ)) (units units' : List ℕ) (e e' : Bool) (pairs : List Pair) (lists : List (List ℕ)) (marks : List Bool) → units' ≡ units → e' ≡ e → AreShorts formula units e → IsState formula pairs lists units e marks [] → IsReady formula pairs lists units' e' marks
-ready_on formula units units' e e' pairs lists marks u f a s =
-    subst (λ z. IsReady formula pairs lists z e' marks) (sym u) (subst (λ z. IsReady formula pairs lists units z marks) (sym f) record { state = s; shorts = a })
-
-pub ready_still : (formula : List (List ℕ)) (units : List ℕ) (e : Bool) (pairs : List Pair) (lists : List (List ℕ)) (marks marks' : List Bool) → IsReady formula pairs lists units e marks → IsReady formula pairs lists units e marks'
-ready_still formula units e pairs lists marks marks' r = record { state = nothing_done formula pairs lists units e marks marks' [] r.state; shorts = r.shorts }
+pub ended_state : (formula : List (List ℕ)) (units base : List ℕ) (pairs : List Pair) (lists : List (List ℕ)) (marks : List Bool) (trail : List ℕ) (b : Bool) → IsEnded formula units base pairs lists marks trail b → IsState formula pairs lists units base marks []
+ended_state formula units base pairs lists marks trail true r = r.0
+ended_state formula units base pairs lists marks trail false r = nothing_done formula pairs lists units base marks marks trail r r.base_marked

@@ -1,22 +1,22 @@
 -- One clause more.
-use Rattle.std.proofs.Common.{◌≡◌, ℕ, ◌<◌, ◌≤◌, ◌+◌, List, [], ◌∷◌, ◌++◌, ◌⊎◌, inl, inr, Bool, true, length, get_or, set, sym, refl, ap, ◌∙◌, subst, arith, length-append}
+use Rattle.std.proofs.Common.{◌≡◌, ℕ, ◌<◌, ◌≤◌, ◌+◌, List, [], ◌∷◌, ◌++◌, ◌⊎◌, inl, inr, Bool, true, false, length, get_or, set, sym, refl, ap, ◌∙◌, subst, arith, length-append}
 use Rattle.std.specs.List.{Contains, All}
 use Rattle.std.proofs.lemmas.Bool.{cases_eq}
-use Rattle.std.proofs.lemmas.List.{get_or_default, get_or_append_left, get_or_push, length-set}
-use Rattle.std.proofs.lemmas.List.Elements.{All-contains, Contains-append_left, Contains-push, Contains-push_cases}
-use Rattle.rup_check.specs.Assignments.{flipped}
-use Rattle.rup_check.specs.Watches.{IsPairOf, IsState, IsKept, IsShort, IsEntry, IsUnitOf, IsReady, IsJoined, no_pair}
+use Rattle.std.proofs.lemmas.List.{get_or_append_left, get_or_push, length-set}
+use Rattle.std.proofs.lemmas.List.Elements.{All-contains, Contains-append_left, Contains-push}
+use Rattle.rup_check.specs.Propagation.{Conflicts, IsFalsified}
+use Rattle.rup_check.specs.Assignments.{flipped, Has, IsAssignment, IsSound}
+use Rattle.rup_check.specs.Looks.{IsOpen, IsUnit, OthersFalse}
+use Rattle.rup_check.specs.Sets.{KeepsSound, HasFalse}
+use Rattle.rup_check.specs.Watches.{IsPairOf, IsState, IsKept, HasOneOf, IsEntry, IsEnded, IsRest, IsRoot, AreListed, Extends, no_pair}
 use Rattle.rup_check.specs.declared.watches.Pair.{Pair}
 use Rattle.rup_check.proofs.WatchLaws.{ListsGrow, grown, pushed, grown_cases}
-use Rattle.rup_check.proofs.PropagationLaws.{contains_nil}
+use Rattle.rup_check.proofs.MarkLaws.{unit_sound, has_kept}
+use Rattle.rup_check.proofs.StateLaws.{marked_more, settled_down}
+use Rattle.rup_check.proofs.RunLaws.{contains_front}
+use Rattle.rup_check.proofs.PropagationLaws.{forced_grow, conflicts_grow}
 
-pub alone_from_index : (clause : List ℕ) (but : ℕ) → ((k : ℕ) → k < length clause → get_or clause k 0 ≡ but) → (y : ℕ) → Contains clause y → y ≡ but
-alone_from_index clause but h y (k, l, e) = sym e ∙ get_or_default clause k y 0 l ∙ h k l
-
-pub among_small : (clause : List ℕ) (x : ℕ) → All (λ y. y ≤ 8191) clause → Contains clause x → x ≤ 8191
-among_small clause x s h = All-contains (λ y. y ≤ 8191) clause x s h
-
-module _ (formula : List (List ℕ)) (pairs : List Pair) (lists lists' : List (List ℕ)) (units units' : List ℕ) (e e' : Bool) (marks : List Bool) (clause : List ℕ) (p : Pair) (s : IsState formula pairs lists units e marks []) (sized : length lists' ≡ length lists) (lists_grow : ListsGrow lists lists') (units_grow : (x : ℕ) → Contains units x → Contains units' x) (flag : e ≡ true → e' ≡ true) (entries' : (x k : ℕ) → Contains (get_or lists' x []) k → Contains (get_or lists x []) k ⊎ ((k ≡ length formula) × IsPairOf clause p)) (here : IsKept lists' marks [] clause p (length formula) ⊎ IsShort units' e' clause) where
+module _ (formula : List (List ℕ)) (pairs : List Pair) (lists lists' : List (List ℕ)) (units units' base : List ℕ) (marks : List Bool) (done : List ℕ) (clause : List ℕ) (p : Pair) (s : IsState formula pairs lists units base marks done) (sized : length lists' ≡ length lists) (lists_grow : ListsGrow lists lists') (units_grow : (x : ℕ) → Contains units x → Contains units' x) (entries' : (x k : ℕ) → Contains (get_or lists' x []) k → Contains (get_or lists x []) k ⊎ ((k ≡ length formula) × IsPairOf clause p)) (here : IsKept lists' base marks done clause p (length formula) ⊎ HasOneOf units' clause) where
   old_clause : (k : ℕ) → k < length formula → get_or (formula ++ clause ∷ []) k [] ≡ get_or formula k []
   old_clause k l = get_or_append_left formula (clause ∷ []) [] k l
 
@@ -44,27 +44,28 @@ module _ (formula : List (List ℕ)) (pairs : List Pair) (lists lists' : List (L
     pair_of = subst (λ z. IsPairOf z (get_or (pairs ++ p ∷ []) (length formula) no_pair)) (sym new_clause) (subst (λ z. IsPairOf clause z) (sym new_pair) i);
   }
 
-  kept_on : (k : ℕ) → IsKept lists marks [] (get_or formula k []) (get_or pairs k no_pair) k → IsKept lists' marks [] (get_or formula k []) (get_or pairs k no_pair) k
+  kept_on : (k : ℕ) → IsKept lists base marks done (get_or formula k []) (get_or pairs k no_pair) k → IsKept lists' base marks done (get_or formula k []) (get_or pairs k no_pair) k
   kept_on k t = record {
     pair_of = t.pair_of;
     first = lists_grow (get_or pairs k no_pair).first k t.first;
     second = lists_grow (get_or pairs k no_pair).second k t.second;
     settled = t.settled;
+    rooted = t.rooted;
   }
 
-  short_on : (c : List ℕ) → IsShort units e c → IsShort units' e' c
-  short_on c (inl (x, u, m)) = inl (x, units_grow x u, m)
-  short_on c (inr (f, n)) = inr (flag f, n)
+  short_on : (c : List ℕ) → HasOneOf units c → HasOneOf units' c
+  short_on c (x, u, m) = (x, units_grow x u, m)
 
   abbrev Tended : List ℕ → Pair → ℕ → Type 0
-  Tended c q k = IsKept lists' marks [] c q k ⊎ IsShort units' e' c
+  Tended c q k = IsKept lists' base marks done c q k ⊎ HasOneOf units' c
 
-  pub state_grown : IsState (formula ++ clause ∷ []) (pairs ++ p ∷ []) lists' units' e' marks []
+  pub state_grown : IsState (formula ++ clause ∷ []) (pairs ++ p ∷ []) lists' units' base marks done
   state_grown = record {
     counted = length-append pairs (p ∷ []) ∙ ap (λ n. n + 1) s.counted ∙ sym longer;
     sized = sized ∙ s.sized;
     entries = λ x k h. (elim (entries' x k h) [ inl i ↦ entry_on k (s.entries x k i) | inr i ↦ subst (λ z. IsEntry (formula ++ clause ∷ []) (pairs ++ p ∷ []) z) (sym i.0) (entry_new i.1) ]);
-    done_marked = λ y h. absurd (contains_nil y h);
+    done_marked = s.done_marked;
+    base_marked = s.base_marked;
     clauses = λ k l. (elim (cases_eq k (length formula)) [
       | inl f ↦ subst (λ z. Tended (get_or (formula ++ clause ∷ []) z []) (get_or (pairs ++ p ∷ []) z no_pair) z) (sym f) (subst (λ z. Tended z (get_or (pairs ++ p ∷ []) (length formula) no_pair) (length formula)) (sym new_clause) (subst (λ z. Tended clause z (length formula)) (sym new_pair) here))
       | inr n ↦ (let m : k < length formula = omega (arith, longer) in subst (λ z. Tended z (get_or (pairs ++ p ∷ []) k no_pair) k) (sym (old_clause k m)) (subst (λ z. Tended (get_or formula k []) z k) (sym (old_pair k m)) (elim (s.clauses k m) [
@@ -74,90 +75,107 @@ module _ (formula : List (List ℕ)) (pairs : List Pair) (lists lists' : List (L
     ]);
   }
 
-pub in_more : (formula : List (List ℕ)) (clause c : List ℕ) → Contains formula c → Contains (formula ++ clause ∷ []) c
-in_more formula clause c h = Contains-append_left formula (clause ∷ []) c h
-
-unit_on : (formula : List (List ℕ)) (clause : List ℕ) (x : ℕ) → IsUnitOf formula x → IsUnitOf (formula ++ clause ∷ []) x
-unit_on formula clause x u = record { clause = u.clause; in_formula = in_more formula clause u.clause u.in_formula; among = u.among; alone = u.alone; small = u.small }
-
 lists_same : (lists : List (List ℕ)) → ListsGrow lists lists
 lists_same lists x k h = h
 
--- ---- the three kinds
+in_more : (formula : List (List ℕ)) (clause c : List ℕ) → Contains formula c → Contains (formula ++ clause ∷ []) c
+in_more formula clause c h = Contains-append_left formula (clause ∷ []) c h
 
-module _ (formula : List (List ℕ)) (pairs : List Pair) (lists : List (List ℕ)) (units : List ℕ) (e : Bool) (marks : List Bool) (clause : List ℕ) (r : IsReady formula pairs lists units e marks) where
-  pub grown_empty : clause ≡ [] → IsReady (formula ++ clause ∷ []) (pairs ++ no_pair ∷ []) lists units true marks
-  grown_empty none = record {
-    state = state_grown formula pairs lists lists units units e true marks clause no_pair r.state refl (lists_same lists) (λ x h. h) (λ h. refl) (λ x k h. inl h) (inr (inr (refl, λ y h. contains_nil y (subst (λ z. Contains z y) none h))));
-    shorts = record {
-      unit = λ x h. unit_on formula clause x (r.shorts.unit x h);
-      empty = λ h. subst (λ z. Contains (formula ++ clause ∷ []) z) none (Contains-push formula clause);
-    };
-  }
+sound_more : (formula : List (List ℕ)) (clause : List ℕ) (marks : List Bool) → IsSound formula [] marks → IsSound (formula ++ clause ∷ []) [] marks
+sound_more formula clause marks s = record {
+  within = λ x h. forced_grow flipped formula (formula ++ clause ∷ []) [] [] (in_more formula clause) (λ y g. g) x (s.within x h);
+  consistent = s.consistent;
+}
 
-  pub grown_unit : (units' : List ℕ) (x : ℕ) → IsJoined units units' x → x ≤ 8191 → Contains clause x → ((y : ℕ) → Contains clause y → y ≡ x) → IsReady (formula ++ clause ∷ []) (pairs ++ no_pair ∷ []) lists units' e marks
-  grown_unit units' x j small among alone = record {
-    state = state_grown formula pairs lists lists units units' e e marks clause no_pair r.state refl (lists_same lists) j.grows (λ h. h) (λ y k h. inl h) (inr (inl (x, j.here, among)));
-    shorts = record {
-      unit = λ y h. (elim (j.only y h) [
-        | inl old ↦ unit_on formula clause y (r.shorts.unit y old)
-        | inr f ↦ subst (λ z. IsUnitOf (formula ++ clause ∷ []) z) f record { clause = clause; in_formula = Contains-push formula clause; among = among; alone = alone; small = small }
-      ]);
-      empty = λ h. in_more formula clause [] (r.shorts.empty h);
-    };
-  }
+false_conflicts : (formula : List (List ℕ)) (marks : List Bool) → IsSound formula [] marks → HasFalse formula marks → Conflicts flipped formula []
+false_conflicts formula marks s (clause, c, f) = inl (clause, c, λ y m. s.within (flipped y) (f y m))
 
-  pub grown_long : (p : Pair) (middle after : List (List ℕ)) → IsPairOf clause p → middle ≡ set lists p.first (get_or lists p.first [] ++ length formula ∷ []) → after ≡ set middle p.second (get_or middle p.second [] ++ length formula ∷ []) → IsReady (formula ++ clause ∷ []) (pairs ++ p ∷ []) after units e marks
-  grown_long p middle after i m a =
+pub still_refuted : (formula more : List (List ℕ)) (clause : List ℕ) → more ≡ formula ++ clause ∷ [] → Conflicts flipped formula [] → Conflicts flipped more []
+still_refuted formula more clause m c =
+    subst (λ z. Conflicts flipped z []) (sym m) (conflicts_grow flipped formula (formula ++ clause ∷ []) [] [] (in_more formula clause) (λ y g. g) c)
+
+-- ---- the kinds of a clause
+
+module _ (formula more : List (List ℕ)) (pairs pairs' : List Pair) (lists : List (List ℕ)) (marks : List Bool) (trail : List ℕ) (clause : List ℕ) (more_is : more ≡ formula ++ clause ∷ []) (r : IsRest formula pairs lists marks trail) where
+  rest_by : (p : Pair) (lists' : List (List ℕ)) → pairs' ≡ pairs ++ p ∷ [] → IsState (formula ++ clause ∷ []) (pairs ++ p ∷ []) lists' trail trail marks trail → IsRest more pairs' lists' marks trail
+  rest_by p lists' e s =
+      subst (λ z. IsRest z pairs' lists' marks trail) (sym more_is) (subst (λ z. IsRest (formula ++ clause ∷ []) z lists' marks trail) (sym e) record { assigned = r.assigned; sound = sound_more formula clause marks r.sound; state = s })
+
+  pub rest_true : pairs' ≡ pairs ++ no_pair ∷ [] → (x : ℕ) → Contains clause x → Has marks x → IsRest more pairs' lists marks trail
+  rest_true e x m h =
+      rest_by no_pair lists e (state_grown formula pairs lists lists trail trail trail marks trail clause no_pair r.state refl (lists_same lists) (λ y g. g) (λ y k g. inl g) (inr (x, r.assigned.listed x h, m)))
+
+  pub root_false : IsFalsified flipped (Has marks) clause → Conflicts flipped more []
+  root_false f =
+      subst (λ z. Conflicts flipped z []) (sym more_is) (false_conflicts (formula ++ clause ∷ []) marks (sound_more formula clause marks r.sound) (clause, Contains-push formula clause, f))
+
+  pub rest_long : (p : Pair) (lists' : List (List ℕ)) → pairs' ≡ pairs ++ p ∷ [] → AreListed lists lists' p (length pairs) → IsPairOf clause p → IsOpen marks clause p.first → IsOpen marks clause p.second → IsRest more pairs' lists' marks trail
+  rest_long p after e (middle, m, a) i first_open second_open =
       let sized : length lists ≡ 8192 = r.state.sized in
+      let counted : length pairs ≡ length formula = r.state.counted in
+      let m' : middle ≡ set lists p.first (get_or lists p.first [] ++ length formula ∷ []) = m ∙ ap (λ z. set lists p.first (get_or lists p.first [] ++ z ∷ [])) counted in
+      let a' : after ≡ set middle p.second (get_or middle p.second [] ++ length formula ∷ []) = a ∙ ap (λ z. set middle p.second (get_or middle p.second [] ++ z ∷ [])) counted in
       let first_small : p.first ≤ 8191 = i.first_small in
       let second_small : p.second ≤ 8191 = i.second_small in
       let l1 : p.first < length lists = omega arith in
-      let s1 : length middle ≡ length lists = ap length m ∙ length-set lists p.first (get_or lists p.first [] ++ length formula ∷ []) in
+      let s1 : length middle ≡ length lists = ap length m' ∙ length-set lists p.first (get_or lists p.first [] ++ length formula ∷ []) in
       let l2 : p.second < length middle = omega arith in
-      let s2 : length after ≡ length middle = ap length a ∙ length-set middle p.second (get_or middle p.second [] ++ length formula ∷ []) in
-      let g1 : ListsGrow lists middle = subst (λ z. ListsGrow lists z) (sym m) (grown lists p.first (length formula) l1) in
-      let g2 : ListsGrow middle after = subst (λ z. ListsGrow middle z) (sym a) (grown middle p.second (length formula) l2) in
-      let at1 : Contains (get_or middle p.first []) (length formula) = subst (λ z. Contains (get_or z p.first []) (length formula)) (sym m) (pushed lists p.first (length formula) l1) in
-      let at2 : Contains (get_or after p.second []) (length formula) = subst (λ z. Contains (get_or z p.second []) (length formula)) (sym a) (pushed middle p.second (length formula) l2) in
-      let grow : ListsGrow lists after = λ x k h. g2 x k (g1 x k h) in
-      let cases : (x k : ℕ) → Contains (get_or after x []) k → Contains (get_or lists x []) k ⊎ ((k ≡ length formula) × IsPairOf clause p) = (λ x k h. (elim (grown_cases middle p.second (length formula) x k l2 (subst (λ z. Contains (get_or z x []) k) a h)) [
-        | inl g ↦ (elim (grown_cases lists p.first (length formula) x k l1 (subst (λ z. Contains (get_or z x []) k) m g)) [
+      let s2 : length after ≡ length middle = ap length a' ∙ length-set middle p.second (get_or middle p.second [] ++ length formula ∷ []) in
+      let g1 : ListsGrow lists middle = subst (λ z. ListsGrow lists z) (sym m') (grown lists p.first (length formula) l1) in
+      let g2 : ListsGrow middle after = subst (λ z. ListsGrow middle z) (sym a') (grown middle p.second (length formula) l2) in
+      let at1 : Contains (get_or middle p.first []) (length formula) = subst (λ z. Contains (get_or z p.first []) (length formula)) (sym m') (pushed lists p.first (length formula) l1) in
+      let at2 : Contains (get_or after p.second []) (length formula) = subst (λ z. Contains (get_or z p.second []) (length formula)) (sym a') (pushed middle p.second (length formula) l2) in
+      let cases : (x k : ℕ) → Contains (get_or after x []) k → Contains (get_or lists x []) k ⊎ ((k ≡ length formula) × IsPairOf clause p) = (λ x k h. (elim (grown_cases middle p.second (length formula) x k l2 (subst (λ z. Contains (get_or z x []) k) a' h)) [
+        | inl g ↦ (elim (grown_cases lists p.first (length formula) x k l1 (subst (λ z. Contains (get_or z x []) k) m' g)) [
           | inl f ↦ inl f
           | inr f ↦ inr (f, i)
         ])
         | inr f ↦ inr (f, i)
       ])) in
-      record {
-        state = state_grown formula pairs lists after units units e e marks clause p r.state (s2 ∙ s1) grow (λ x h. h) (λ h. h) cases (inl record {
-          pair_of = i;
-          first = g2 p.first (length formula) at1;
-          second = at2;
-          settled = record { first = λ h. absurd (contains_nil (flipped p.first) h); second = λ h. absurd (contains_nil (flipped p.second) h) };
-        });
-        shorts = record {
-          unit = λ x h. unit_on formula clause x (r.shorts.unit x h);
-          empty = λ h. in_more formula clause [] (r.shorts.empty h);
-        };
-      }
+      rest_by p after e (state_grown formula pairs lists after trail trail trail marks trail clause p r.state (s2 ∙ s1) (λ x k h. g2 x k (g1 x k h)) (λ x h. h) cases (inl record {
+        pair_of = i;
+        first = g2 p.first (length formula) at1;
+        second = at2;
+        settled = record { first = λ h. absurd (first_open.open_ (r.assigned.marked (flipped p.first) h)); second = λ h. absurd (second_open.open_ (r.assigned.marked (flipped p.second) h)) };
+        rooted = record { first = λ h. absurd (first_open.open_ (r.assigned.marked (flipped p.first) h)); second = λ h. absurd (second_open.open_ (r.assigned.marked (flipped p.second) h)) };
+      }))
 
-ready_by : (formula : List (List ℕ)) (pairs pairs' : List Pair) (lists : List (List ℕ)) (units units' : List ℕ) (e : Bool) (marks : List Bool) → pairs' ≡ pairs → units' ≡ units → IsReady formula pairs lists units e marks → IsReady formula pairs' lists units' e marks
-ready_by formula pairs pairs' lists units units' e marks p u r = subst (λ z. IsReady formula z lists units' e marks) (sym p) (subst (λ z. IsReady formula pairs lists z e marks) (sym u) r)
+  -- a unit, before what it forces is looked at
+  module _ (x : ℕ) (marks' : List Bool) (trail' : List ℕ) (u : IsUnit marks clause x) (e : pairs' ≡ pairs ++ no_pair ∷ []) (marks_are : marks' ≡ set marks x true) (trail_is : trail' ≡ trail ++ x ∷ []) where
+    in_marks : x < length marks
+    in_marks = let small : x ≤ 8191 = u.small in let size : length marks ≡ 8192 = r.assigned.size in omega arith
 
-module _ (pairs pairs' : List Pair) (lists : List (List ℕ)) (units : List ℕ) (e : Bool) (clause : List ℕ) where
-  pub now_empty : pairs' ≡ pairs ++ no_pair ∷ [] → clause ≡ [] → (formula : List (List ℕ)) (marks : List Bool) → IsReady formula pairs lists units e marks → IsReady (formula ++ clause ∷ []) pairs' lists units true marks
-  now_empty p none formula marks r = ready_by (formula ++ clause ∷ []) (pairs ++ no_pair ∷ []) pairs' lists units units true marks p refl (grown_empty formula pairs lists units e marks clause r none)
+    pub unit_state : IsState more pairs' lists trail' trail marks' trail
+    unit_state =
+        subst (λ z. IsState z pairs' lists trail' trail marks' trail) (sym more_is) (subst (λ z. IsState (formula ++ clause ∷ []) z lists trail' trail marks' trail) (sym e)
+        (marked_more (formula ++ clause ∷ []) (pairs ++ no_pair ∷ []) lists trail' trail marks marks' trail
+        (state_grown formula pairs lists lists trail trail' trail marks trail clause no_pair r.state refl (lists_same lists) (λ y g. subst (λ z. Contains z y) (sym trail_is) (Contains-append_left trail (x ∷ []) y g)) (λ y k g. inl g) (inr (x, subst (λ z. Contains z x) (sym trail_is) (Contains-push trail x), u.here.among)))
+        (λ y g. subst (λ z. Has z y) (sym marks_are) (has_kept marks x y in_marks g))))
 
-  pub now_unit : (units' : List ℕ) (x : ℕ) → pairs' ≡ pairs ++ no_pair ∷ [] → IsJoined units units' x → x ≤ 8191 → Contains clause x → ((y : ℕ) → Contains clause y → y ≡ x) → (formula : List (List ℕ)) (marks : List Bool) → IsReady formula pairs lists units e marks → IsReady (formula ++ clause ∷ []) pairs' lists units' e marks
-  now_unit units' x p j small among alone formula marks r = ready_by (formula ++ clause ∷ []) (pairs ++ no_pair ∷ []) pairs' lists units' units' e marks p refl (grown_unit formula pairs lists units e marks clause r units' x j small among alone)
+    pub unit_root_sound : IsSound more [] marks'
+    unit_root_sound =
+        subst (λ z. IsSound more [] z) (sym marks_are) (subst (λ z. IsSound z [] (set marks x true)) (sym more_is)
+        (unit_sound (formula ++ clause ∷ []) marks x r.assigned.size clause (Contains-push formula clause) u [] (sound_more formula clause marks r.sound)))
 
-  pub now_long : (p : Pair) (number : ℕ) (middle after : List (List ℕ)) → pairs' ≡ pairs ++ p ∷ [] → number ≡ length pairs → IsPairOf clause p → middle ≡ set lists p.first (get_or lists p.first [] ++ number ∷ []) → after ≡ set middle p.second (get_or middle p.second [] ++ number ∷ []) → (formula : List (List ℕ)) (marks : List Bool) → IsReady formula pairs lists units e marks → IsReady (formula ++ clause ∷ []) pairs' after units e marks
-  now_long p number middle after f n i m a formula marks r =
-      let c : number ≡ length formula = n ∙ r.state.counted in
-      ready_by (formula ++ clause ∷ []) (pairs ++ p ∷ []) pairs' after units units e marks f refl (grown_long formula pairs lists units e marks clause r p middle after i (m ∙ ap (λ z. set lists p.first (get_or lists p.first [] ++ z ∷ [])) c) (a ∙ ap (λ z. set middle p.second (get_or middle p.second [] ++ z ∷ [])) c))
+    -- and after it
+    pub unit_root : (pairs'' : List Pair) (lists' : List (List ℕ)) (marks'' : List Bool) (trail'' : List ℕ) (found : Bool) → IsAssignment marks'' trail'' → Extends trail' trail'' → KeepsSound more marks' marks'' → IsEnded more trail' trail pairs'' lists' marks'' trail'' found → IsRoot more pairs'' lists' marks'' trail'' found
+    unit_root pairs'' lists' marks'' trail'' true a extends keeps (s, f) = false_conflicts more marks'' (keeps [] unit_root_sound) f
+    unit_root pairs'' lists' marks'' trail'' false a extends keeps s = record {
+      assigned = a;
+      sound = keeps [] unit_root_sound;
+      state = settled_down more pairs'' lists' trail' trail marks'' trail'' a (λ y h. contains_front trail' trail'' y extends h) s;
+    }
 
-pub joined_there : (units : List ℕ) (x : ℕ) → Contains units x → IsJoined units units x
-joined_there units x h = record { here = h; grows = λ y m. m; only = λ y m. inl m }
+-- ---- what a clause is
 
-pub joined_push : (units units' : List ℕ) (x : ℕ) → units' ≡ units ++ x ∷ [] → IsJoined units units' x
-joined_push units units' x e = subst (λ z. IsJoined units z x) (sym e) record { here = Contains-push units x; grows = λ y m. Contains-append_left units (x ∷ []) y m; only = λ y m. Contains-push_cases units x y m }
+pub unit_kind : (marks : List Bool) (clause : List ℕ) (x : ℕ) → All (λ y. y ≤ 8191) clause → ((y : ℕ) → Contains clause y → Has marks y → ⊥) → IsOpen marks clause x → OthersFalse marks clause x → IsUnit marks clause x
+unit_kind marks clause x small none o others = record { small = All-contains (λ y. y ≤ 8191) clause x small o.among; here = o; absent = none x o.among; others = others }
+
+pub long_kind : (marks : List Bool) (clause : List ℕ) (p : Pair) → All (λ y. y ≤ 8191) clause → IsOpen marks clause p.first → IsOpen marks clause p.second → (p.second ≡ p.first → ⊥) → IsPairOf clause p
+long_kind marks clause p small o q n = record {
+  first = o.among;
+  second = q.among;
+  apart = λ e. n (sym e);
+  first_small = All-contains (λ y. y ≤ 8191) clause p.first small o.among;
+  second_small = All-contains (λ y. y ≤ 8191) clause p.second small q.among;
+}

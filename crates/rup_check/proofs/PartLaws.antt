@@ -1,10 +1,10 @@
 -- Facts on clauses in one list.
 use Rattle.std.proofs.Common.{◌≡◌, ◌≢◌, ℕ, ◌<◌, ◌≤◌, ◌+◌, ◌-◌, List, [], ◌∷◌, ◌++◌, length, take, drop, get_or, sym, refl, ap, ◌∙◌, subst, arith, zero, suc}
 use Rattle.std.specs.Prelude.{slice_range, Result, Ok, Err, OnOk, OnErr}
-use Rattle.std.proofs.lemmas.List.{length-take-le, take-append-le, drop-append-le, length-drop, take_all}
+use Rattle.std.proofs.lemmas.List.{take-append-le, drop-append-le, length-drop, take_all}
 use Rattle.std.proofs.Math.Seq.{drop-append_seam}
 use Rattle.std.specs.List.{All}
-use Rattle.std.proofs.lemmas.List.{get_or_append_left, get_or_push}
+use Rattle.std.proofs.lemmas.List.{get_or_append_left, get_or_push, get_or-append-add, get_or-take}
 use Rattle.std.proofs.lemmas.List.Elements.{All-append}
 use Rattle.std.proofs.lemmas.Bool.{cases_eq}
 use Rattle.std.proofs.Common.{inl, inr}
@@ -31,8 +31,31 @@ part_start_before from es (suc k) n = let e : k ≡ suc k - 1 = omega arith in a
 pub part_value : (es xs : List ℕ) (k : ℕ) → k < length es → take (get_or es k 0 - part_start 0 es k) (drop (part_start 0 es k) xs) ≡ get_or (parts 0 es xs) k []
 part_value es xs k l = sym (get_or-parts 0 es xs k l)
 
-pub length_known : (formula proof : List (List ℕ)) (n : ℕ) → n ≤ length proof → length (formula ++ take n proof) ≡ length formula + n
-length_known formula proof n l = length-append formula (take n proof) ∙ ap (λ m. length formula + m) (length-take-le n proof l)
+-- a clause of the formula, or of the proof behind it
+pub in_formula : (formula proof : List (List ℕ)) (number : ℕ) → number < length formula → get_or formula number [] ≡ get_or (formula ++ proof) number []
+in_formula formula proof number l = sym (get_or_append_left formula proof [] number l)
+
+pub in_proof : (formula proof : List (List ℕ)) (number : ℕ) → length formula ≤ number → get_or proof (number - length formula) [] ≡ get_or (formula ++ proof) number []
+in_proof formula proof number l =
+    let back : length formula + (number - length formula) ≡ number = omega arith in
+    sym (ap (λ z. get_or (formula ++ proof) z []) (sym back) ∙ get_or-append-add formula proof (number - length formula) [])
+
+below_take : (all : List (List ℕ)) (count number : ℕ) → number < length (take count all) → number < count
+below_take [] zero number l = absurd (omega arith)
+below_take [] (suc count) number l = absurd (omega arith)
+below_take (c ∷ all) zero number l = absurd (omega arith)
+below_take (c ∷ all) (suc count) zero l = omega arith
+below_take (c ∷ all) (suc count) (suc number) l = omega (arith, below_take all count number (omega arith))
+
+pub within_all : (all : List (List ℕ)) (count number : ℕ) → number < length (take count all) → number < length all
+within_all [] zero number l = absurd (omega arith)
+within_all [] (suc count) number l = absurd (omega arith)
+within_all (c ∷ all) zero number l = absurd (omega arith)
+within_all (c ∷ all) (suc count) zero l = omega arith
+within_all (c ∷ all) (suc count) (suc number) l = omega (arith, within_all all count number (omega arith))
+
+pub known_value : (all : List (List ℕ)) (count number : ℕ) → number < length (take count all) → get_or all number [] ≡ get_or (take count all) number []
+known_value all count number l = sym (get_or-take count all number [] (below_take all count number l))
 
 slice_kept : (xs ys : List ℕ) (a b : ℕ) → a ≤ b → b ≤ length xs → slice_range (xs ++ ys) a b ≡ slice_range xs a b
 slice_kept xs ys a b l m =

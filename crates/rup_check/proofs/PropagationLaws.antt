@@ -21,6 +21,15 @@ module _ {L : Type 0} (negate : L → L) (formula : List (List L)) (start : List
   conflict_of_within In within (inl (clause, c, f)) = inl (clause, c, λ y h. within (negate y) (f y h))
   conflict_of_within In within (inr (x, h, n)) = inr (x, within x h, within (negate x) n)
 
+-- more clauses and a longer start force no less
+module _ {L : Type 0} (negate : L → L) (formula formula' : List (List L)) (start start' : List L) (more : (c : List L) → Contains formula c → Contains formula' c) (longer : (x : L) → Contains start x → Contains start' x) where
+  pub forced_grow : (x : L) → Forced negate formula start x → Forced negate formula' start' x
+  forced_grow = least negate formula start (Forced negate formula' start') (λ clause x c m f. unit clause (more clause c) m f) (λ x h. given (longer x h))
+
+  pub conflicts_grow : Conflicts negate formula start → Conflicts negate formula' start'
+  conflicts_grow (inl (clause, c, f)) = inl (clause, more clause c, λ y h. forced_grow (negate y) (f y h))
+  conflicts_grow (inr (x, h, n)) = inr (x, forced_grow x h, forced_grow (negate x) n)
+
 -- in this list, or an end of it
 pub contains_cons : {X : Type 0} (x : X) (xs : List X) (y : X) → Contains xs y → Contains (x ∷ xs) y
 contains_cons x xs y (k, l, e) = (suc k, omega arith, e)
@@ -31,7 +40,7 @@ contains_head x xs = (0, omega arith, refl)
 pub contains_nil : {X : Type 0} (x : X) → Contains [] x → ⊥
 contains_nil x (k, l, e) = omega arith
 
-contains_cases : {X : Type 0} (x : X) (xs : List X) (y : X) → Contains (x ∷ xs) y → (x ≡ y) ⊎ Contains xs y
+pub contains_cases : {X : Type 0} (x : X) (xs : List X) (y : X) → Contains (x ∷ xs) y → (x ≡ y) ⊎ Contains xs y
 contains_cases x xs y (zero, l, e) = inl e
 contains_cases x xs y (suc k, l, e) = inr (k, omega arith, e)
 

@@ -3,15 +3,16 @@ use Rattle.std.proofs.Common.{◌≡◌, ℕ, ◌<◌, ◌≤◌, List, [], ◌�
 use Rattle.std.specs.List.{Contains}
 use Rattle.std.proofs.lemmas.Bool.{cases_eq}
 use Rattle.std.proofs.lemmas.List.{get_or-set_other, get_or-set_same, length-set}
-use Rattle.std.proofs.lemmas.List.Elements.{Contains-append_left, Contains-append_right, Contains-append_cases, Contains-push_cases}
-use Rattle.rup_check.specs.Assignments.{flipped, Has}
-use Rattle.rup_check.specs.Watches.{IsListed, IsSettled, IsSettledAt, IsWatch, IsEntry, IsState, no_pair}
+use Rattle.std.proofs.lemmas.List.Elements.{Contains-push_cases}
+use Rattle.rup_check.specs.Assignments.{flipped, Has, IsAssignment}
+use Rattle.rup_check.specs.Sets.{Grows}
+use Rattle.rup_check.specs.Watches.{IsListed, IsSettled, IsSettledAt, IsRooted, IsWatch, IsEntry, IsState, no_pair}
 use Rattle.rup_check.specs.declared.watches.Pair.{Pair}
 use Rattle.rup_check.proofs.PropagationLaws.{contains_nil}
 
-module _ (formula : List (List ℕ)) (pairs : List Pair) (lists : List (List ℕ)) (units : List ℕ) (has_empty : Bool) (q : ℕ) (marks : List Bool) (done : List ℕ) where
+module _ (formula : List (List ℕ)) (pairs : List Pair) (lists : List (List ℕ)) (units base : List ℕ) (q : ℕ) (marks : List Bool) (done : List ℕ) where
   -- the list of q is taken out
-  module _ (small : q ≤ 8191) (s : IsState formula pairs lists units has_empty marks done) where
+  module _ (small : q ≤ 8191) (s : IsState formula pairs lists units base marks done) where
     within : q < length lists
     within = let sized : length lists ≡ 8192 = s.sized in omega arith
 
@@ -39,13 +40,14 @@ module _ (formula : List (List ℕ)) (pairs : List Pair) (lists : List (List ℕ
           | inr n ↦ s.entries x k (subst (λ w. Contains w k) (get_or-set_other lists q x [] [] n) h)
         ])
 
-    pub opened : IsWatch formula pairs (set lists q []) units has_empty (get_or lists q []) q marks done
+    pub opened : IsWatch formula pairs (set lists q []) units base (get_or lists q []) (get_or lists q []) q marks done
     opened = record {
       counted = s.counted;
       sized = length-set lists q [] ∙ s.sized;
       entries = taken_entries;
       left = λ k h. s.entries q k h;
       done_marked = s.done_marked;
+      base_marked = s.base_marked;
       clauses = λ k l. (elim (s.clauses k l) [
         | inr t ↦ inr t
         | inl t ↦ inl record {
@@ -53,103 +55,94 @@ module _ (formula : List (List ℕ)) (pairs : List Pair) (lists : List (List ℕ
           first = taken_listed (get_or pairs k no_pair).first k t.first;
           second = taken_listed (get_or pairs k no_pair).second k t.second;
           settled = t.settled;
+          rooted = t.rooted;
           here = taken_here (get_or pairs k no_pair) k t.first t.second;
         }
       ]);
     }
 
-  -- the whole list of q was looked at
-  unlisted : (x k : ℕ) → IsListed lists [] q x k → Contains (get_or lists x []) k
-  unlisted x k (inl h) = h
-  unlisted x k (inr (e, h)) = absurd (contains_nil k h)
-
-  pub closed : q ≤ 8191 → Has marks (flipped q) → IsWatch formula pairs lists units has_empty [] q marks done → IsState formula pairs lists units has_empty marks (done ++ flipped q ∷ [])
-  closed small h w = record {
-    counted = w.counted;
-    sized = w.sized;
-    entries = w.entries;
-    done_marked = λ y m. (elim (Contains-push_cases done (flipped q) y m) [
-      | inl old ↦ w.done_marked y old
-      | inr e ↦ subst (λ z. Has marks z) e h
-    ]);
-    clauses = λ k l. (elim (w.clauses k l) [
+-- the same clauses and watches, with other marks, and other literals done
+module _ (formula : List (List ℕ)) (pairs : List Pair) (lists : List (List ℕ)) (units base : List ℕ) (marks marks' : List Bool) (done : List ℕ) (s : IsState formula pairs lists units base marks done) where
+  with_done : (done' : List ℕ) → ((y : ℕ) → Contains base y → Has marks' y) → ((y : ℕ) → Contains done' y → Has marks' y) → ((pair : Pair) → IsSettled marks done pair → IsRooted base pair → IsSettled marks' done' pair) → IsState formula pairs lists units base marks' done'
+  with_done done' base_marked done_marked on = record {
+    counted = s.counted;
+    sized = s.sized;
+    entries = s.entries;
+    done_marked = done_marked;
+    base_marked = base_marked;
+    clauses = λ k l. (elim (s.clauses k l) [
       | inr t ↦ inr t
       | inl t ↦ inl record {
         pair_of = t.pair_of;
-        first = unlisted (get_or pairs k no_pair).first k t.first;
-        second = unlisted (get_or pairs k no_pair).second k t.second;
-        settled = settled_on (get_or pairs k no_pair) k (t.pair_of.first_small, t.pair_of.second_small) t.settled t.here;
+        first = t.first;
+        second = t.second;
+        settled = on (get_or pairs k no_pair) t.settled t.rooted;
+        rooted = t.rooted;
       }
     ]);
-  } where
-    at_q : (x : ℕ) → x ≤ 8191 → flipped q ≡ flipped x → x ≡ q
-    at_q x l e = omega arith
+  }
 
-    settled_on : (pair : Pair) (k : ℕ) → (pair.first ≤ 8191 × pair.second ≤ 8191) → IsSettled marks done pair → (Contains [] k ⊎ IsSettledAt marks q pair) → IsSettled marks (done ++ flipped q ∷ []) pair
-    settled_on pair k l t (inl n) = absurd (contains_nil k n)
-    settled_on pair k l t (inr here) = record {
-      first = λ m. (elim (Contains-push_cases done (flipped q) (flipped pair.first) m) [
-        | inl old ↦ t.first old
-        | inr e ↦ here.first (at_q pair.first l.0 e)
-      ]);
-      second = λ m. (elim (Contains-push_cases done (flipped q) (flipped pair.second) m) [
-        | inl old ↦ t.second old
-        | inr e ↦ here.second (at_q pair.second l.1 e)
-      ]);
-    }
+  -- nothing is done
+  pub nothing_done : ((y : ℕ) → Contains base y → Has marks' y) → IsState formula pairs lists units base marks' []
+  nothing_done base_marked = with_done [] base_marked (λ y h. absurd (contains_nil y h)) (λ pair t r. record { first = λ h. absurd (contains_nil (flipped pair.first) h); second = λ h. absurd (contains_nil (flipped pair.second) h) })
 
--- nothing is done
-pub nothing_done : (formula : List (List ℕ)) (pairs : List Pair) (lists : List (List ℕ)) (units : List ℕ) (has_empty : Bool) (marks marks' : List Bool) (done : List ℕ) → IsState formula pairs lists units has_empty marks done → IsState formula pairs lists units has_empty marks' []
-nothing_done formula pairs lists units has_empty marks marks' done s = record {
+  -- what stays marked is done, whatever else was marked and done
+  pub undone : ((y : ℕ) → Contains base y → Has marks' y) → IsState formula pairs lists units base marks' base
+  undone base_marked = with_done base base_marked base_marked (λ pair t r. record { first = λ h. base_marked pair.second (r.first h); second = λ h. base_marked pair.first (r.second h) })
+
+  -- more is marked
+  pub marked_more : Grows marks marks' → IsState formula pairs lists units base marks' done
+  marked_more grows = with_done done (λ y h. grows y (s.base_marked y h)) (λ y h. grows y (s.done_marked y h)) (λ pair t r. record { first = λ h. grows pair.second (t.first h); second = λ h. grows pair.first (t.second h) })
+
+-- all that is marked is done
+pub settled_down : (formula : List (List ℕ)) (pairs : List Pair) (lists : List (List ℕ)) (units base : List ℕ) (marks : List Bool) (trail : List ℕ) → IsAssignment marks trail → ((y : ℕ) → Contains units y → Contains trail y) → IsState formula pairs lists units base marks trail → IsState formula pairs lists trail trail marks trail
+settled_down formula pairs lists units base marks trail a within s = record {
   counted = s.counted;
   sized = s.sized;
   entries = s.entries;
-  done_marked = λ y h. absurd (contains_nil y h);
+  done_marked = s.done_marked;
+  base_marked = s.done_marked;
   clauses = λ k l. (elim (s.clauses k l) [
-    | inr t ↦ inr t
+    | inr (x, u, m) ↦ inr (x, within x u, m)
     | inl t ↦ inl record {
       pair_of = t.pair_of;
       first = t.first;
       second = t.second;
-      settled = record { first = λ h. absurd (contains_nil (flipped (get_or pairs k no_pair).first) h); second = λ h. absurd (contains_nil (flipped (get_or pairs k no_pair).second) h) };
+      settled = t.settled;
+      rooted = record { first = λ h. a.listed (get_or pairs k no_pair).second (t.settled.first h); second = λ h. a.listed (get_or pairs k no_pair).first (t.settled.second h) };
     }
   ]);
 }
 
--- what was taken out of the list of q is put back
-module _ (formula : List (List ℕ)) (pairs : List Pair) (lists : List (List ℕ)) (units : List ℕ) (has_empty : Bool) (pending : List ℕ) (q : ℕ) (marks : List Bool) (done : List ℕ) (small : q ≤ 8191) (w : IsWatch formula pairs lists units has_empty pending q marks done) where
+-- the list of q is put back
+module _ (formula : List (List ℕ)) (pairs : List Pair) (lists : List (List ℕ)) (units base : List ℕ) (held pending : List ℕ) (q : ℕ) (marks : List Bool) (done : List ℕ) (small : q ≤ 8191) (out : get_or lists q [] ≡ []) (w : IsWatch formula pairs lists units base held pending q marks done) where
   back_within : q < length lists
   back_within = let sized : length lists ≡ 8192 = w.sized in omega arith
 
-  at_q : get_or (set lists q (get_or lists q [] ++ pending)) q [] ≡ get_or lists q [] ++ pending
-  at_q = get_or-set_same lists q (get_or lists q [] ++ pending) [] back_within
-
-  back_listed : (x k : ℕ) → IsListed lists pending q x k → Contains (get_or (set lists q (get_or lists q [] ++ pending)) x []) k
+  back_listed : (x k : ℕ) → IsListed lists held q x k → Contains (get_or (set lists q held) x []) k
   back_listed x k h =
       (elim (cases_eq x q) [
-        | inl e ↦ subst (λ z. Contains (get_or (set lists q (get_or lists q [] ++ pending)) z []) k) (sym e) (subst (λ z. Contains z k) (sym at_q) (elim h [
-          | inl i ↦ Contains-append_left (get_or lists q []) pending k (subst (λ z. Contains (get_or lists z []) k) e i)
-          | inr i ↦ Contains-append_right (get_or lists q []) pending k i.1
+        | inl e ↦ subst (λ z. Contains (get_or (set lists q held) z []) k) (sym e) (subst (λ z. Contains z k) (sym (get_or-set_same lists q held [] back_within)) (elim h [
+          | inl i ↦ absurd (contains_nil k (subst (λ z. Contains z k) out (subst (λ z. Contains (get_or lists z []) k) e i)))
+          | inr i ↦ i.1
         ]))
-        | inr n ↦ subst (λ z. Contains z k) (sym (get_or-set_other lists q x (get_or lists q [] ++ pending) [] n)) (elim h [ inl i ↦ i | inr i ↦ absurd (n i.0) ])
+        | inr n ↦ subst (λ z. Contains z k) (sym (get_or-set_other lists q x held [] n)) (elim h [ inl i ↦ i | inr i ↦ absurd (n i.0) ])
       ])
 
-  back_entries : (x k : ℕ) → Contains (get_or (set lists q (get_or lists q [] ++ pending)) x []) k → IsEntry formula pairs k
+  back_entries : (x k : ℕ) → Contains (get_or (set lists q held) x []) k → IsEntry formula pairs k
   back_entries x k h =
       (elim (cases_eq x q) [
-        | inl e ↦ (elim (Contains-append_cases (get_or lists q []) pending k (subst (λ z. Contains z k) at_q (subst (λ z. Contains (get_or (set lists q (get_or lists q [] ++ pending)) z []) k) e h))) [
-          | inl i ↦ w.entries q k i
-          | inr i ↦ w.left k i
-        ])
-        | inr n ↦ w.entries x k (subst (λ z. Contains z k) (get_or-set_other lists q x (get_or lists q [] ++ pending) [] n) h)
+        | inl e ↦ w.left k (subst (λ z. Contains z k) (get_or-set_same lists q held [] back_within) (subst (λ z. Contains (get_or (set lists q held) z []) k) e h))
+        | inr n ↦ w.entries x k (subst (λ z. Contains z k) (get_or-set_other lists q x held [] n) h)
       ])
 
-  pub restored : (marks' : List Bool) → IsState formula pairs (set lists q (get_or lists q [] ++ pending)) units has_empty marks' []
-  restored marks' = record {
+  pub restored : (marks' : List Bool) → Grows marks marks' → IsState formula pairs (set lists q held) units base marks' []
+  restored marks' grows = record {
     counted = w.counted;
-    sized = length-set lists q (get_or lists q [] ++ pending) ∙ w.sized;
+    sized = length-set lists q held ∙ w.sized;
     entries = back_entries;
     done_marked = λ y h. absurd (contains_nil y h);
+    base_marked = λ y h. grows y (w.base_marked y h);
     clauses = λ k l. (elim (w.clauses k l) [
       | inr t ↦ inr t
       | inl t ↦ inl record {
@@ -157,6 +150,46 @@ module _ (formula : List (List ℕ)) (pairs : List Pair) (lists : List (List ℕ
         first = back_listed (get_or pairs k no_pair).first k t.first;
         second = back_listed (get_or pairs k no_pair).second k t.second;
         settled = record { first = λ h. absurd (contains_nil (flipped (get_or pairs k no_pair).first) h); second = λ h. absurd (contains_nil (flipped (get_or pairs k no_pair).second) h) };
+        rooted = t.rooted;
+      }
+    ]);
+  }
+
+  at_q : (x : ℕ) → x ≤ 8191 → flipped q ≡ flipped x → x ≡ q
+  at_q x l e = omega arith
+
+  settled_on : (pair : Pair) (k : ℕ) → (pair.first ≤ 8191 × pair.second ≤ 8191) → IsSettled marks done pair → (Contains [] k ⊎ IsSettledAt marks q pair) → IsSettled marks (done ++ flipped q ∷ []) pair
+  settled_on pair k l t (inl n) = absurd (contains_nil k n)
+  settled_on pair k l t (inr here) = record {
+    first = λ m. (elim (Contains-push_cases done (flipped q) (flipped pair.first) m) [
+      | inl old ↦ t.first old
+      | inr e ↦ here.first (at_q pair.first l.0 e)
+    ]);
+    second = λ m. (elim (Contains-push_cases done (flipped q) (flipped pair.second) m) [
+      | inl old ↦ t.second old
+      | inr e ↦ here.second (at_q pair.second l.1 e)
+    ]);
+  }
+
+  -- where all of it was looked at, q is done
+  pub closed : Has marks (flipped q) → pending ≡ [] → IsState formula pairs (set lists q held) units base marks (done ++ flipped q ∷ [])
+  closed h none = record {
+    counted = w.counted;
+    sized = length-set lists q held ∙ w.sized;
+    entries = back_entries;
+    done_marked = λ y m. (elim (Contains-push_cases done (flipped q) y m) [
+      | inl old ↦ w.done_marked y old
+      | inr e ↦ subst (λ z. Has marks z) e h
+    ]);
+    base_marked = w.base_marked;
+    clauses = λ k l. (elim (w.clauses k l) [
+      | inr t ↦ inr t
+      | inl t ↦ inl record {
+        pair_of = t.pair_of;
+        first = back_listed (get_or pairs k no_pair).first k t.first;
+        second = back_listed (get_or pairs k no_pair).second k t.second;
+        settled = settled_on (get_or pairs k no_pair) k (t.pair_of.first_small, t.pair_of.second_small) t.settled (subst (λ z. Contains z k ⊎ IsSettledAt marks q (get_or pairs k no_pair)) none t.here);
+        rooted = t.rooted;
       }
     ]);
   }

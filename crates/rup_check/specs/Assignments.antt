@@ -1,5 +1,5 @@
 -- The marks of the literals in a set, and the trail of what was marked.
-use Rattle.std.specs.Prelude.{◌≡◌, ℕ, ◌≤◌, ◌+◌, ◌-◌, List, Bool, true, false, not, length, count_by}
+use Rattle.std.specs.Prelude.{◌≡◌, ◌≢◌, ℕ, ◌<◌, ◌≤◌, ◌+◌, ◌-◌, List, Bool, true, false, not, length, count_by}
 use Rattle.std.specs.List.{Contains, All, slice_index_or}
 use Rattle.rup_check.specs.Propagation.{Forced}
 
@@ -18,6 +18,7 @@ pub record IsAssignment (marks : List Bool) (trail : List ℕ) : Type 0 where
   pub listed : (x : ℕ) → Has marks x → Contains trail x
   pub marked : (x : ℕ) → Contains trail x → Has marks x
   pub counted : count_by not marks + length trail ≡ 8192
+  pub apart : (i j : ℕ) → i < j → j < length trail → slice_index_or trail i 0 ≢ slice_index_or trail j 0
 
 -- what is marked is forced, and nothing is marked beside its negation
 pub record IsSound (formula : List (List ℕ)) (start : List ℕ) (marks : List Bool) : Type 0 where

@@ -1,5 +1,5 @@
 -- What the marks say of a clause.
-use Rattle.std.specs.Prelude.{◌≢◌, ◌≤◌, ℕ, List, ◌⊎◌, Bool}
+use Rattle.std.specs.Prelude.{◌≢◌, ◌≤◌, ℕ, List, ◌⊎◌, Bool, true, false}
 use Rattle.std.specs.List.{Contains}
 use Rattle.rup_check.specs.Assignments.{flipped, Has}
 
@@ -22,3 +22,8 @@ pub record IsUnit (marks : List Bool) (clause : List ℕ) (x : ℕ) : Type 0 whe
   pub here : IsOpen marks clause x
   pub absent : Has marks x → ⊥
   pub others : OthersFalse marks clause x
+
+-- whether a literal of the clause is true
+abbrev pub SaysTrue : List Bool → List ℕ → Bool → Type 0
+SaysTrue marks clause true = (x : ℕ) × Contains clause x × Has marks x
+SaysTrue marks clause false = (x : ℕ) → Contains clause x → Has marks x → ⊥

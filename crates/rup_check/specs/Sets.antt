@@ -1,5 +1,5 @@
 -- What propagation keeps and finds.
-use Rattle.std.specs.Prelude.{◌≡◌, ℕ, List, ◌⊎◌, Bool, true, false}
+use Rattle.std.specs.Prelude.{◌≡◌, ℕ, List, ◌⊎◌, Bool, true, false, map}
 use Rattle.std.specs.List.{Contains}
 use Rattle.rup_check.specs.Propagation.{HasProperty, IsFalsified}
 use Rattle.rup_check.specs.Assignments.{flipped, Has, IsSound}
@@ -26,16 +26,17 @@ abbrev pub IsEnd : List (List ℕ) → List Bool → Bool → Type 0
 IsEnd formula marks true = HasFalse formula marks
 IsEnd formula marks false = IsFinished formula marks
 
--- the start was marked, and no more
-pub record IsBegun (start : List ℕ) (marks : List Bool) : Type 0 where
-  pub all : (x : ℕ) → Contains start x → Has marks x
-  pub only : (x : ℕ) → Has marks x → Contains start x
+-- the negations of the clause's literals were marked beside what was, and no more
+pub record IsBegun (before : List Bool) (clause : List ℕ) (marks : List Bool) : Type 0 where
+  pub all : (x : ℕ) → Contains (map flipped clause) x → Has marks x
+  pub only : (x : ℕ) → Has marks x → Contains (map flipped clause) x ⊎ Has before x
   pub consistent : (x : ℕ) → Has marks x → Has marks (flipped x) → ⊥
+  pub grows : Grows before marks
 
--- whether the start has a literal and its negation; if not, it was marked
-abbrev pub IsBeginning : List ℕ → List Bool → Bool → Type 0
-IsBeginning start marks true = (x : ℕ) × Contains start x × Contains start (flipped x)
-IsBeginning start marks false = IsBegun start marks
+-- whether a literal of the clause was true, or the negation of another; if not, the negations were marked
+abbrev pub IsBeginning : List Bool → List ℕ → List Bool → Bool → Type 0
+IsBeginning before clause marks true = (x : ℕ) × Contains clause x × (Contains (map flipped clause) x ⊎ Has before x)
+IsBeginning before clause marks false = IsBegun before clause marks
 
 -- whether the clause has the property
 abbrev pub IsAnswer : List (List ℕ) → List ℕ → Bool → Type 0

@@ -1,8 +1,8 @@
 -- Two watched literals of each clause.
-use Rattle.std.specs.Prelude.{◌≡◌, ◌≢◌, ℕ, ◌<◌, ◌≤◌, List, [], ◌∷◌, ◌++◌, ◌⊎◌, Bool, true, false, length}
+use Rattle.std.specs.Prelude.{◌≡◌, ◌≢◌, ℕ, ◌<◌, ◌≤◌, List, [], ◌∷◌, ◌++◌, ◌⊎◌, Bool, true, false, length, take, slice_set}
 use Rattle.std.specs.List.{Contains, slice_index_or}
-use Rattle.rup_check.specs.Propagation.{IsFalsified}
-use Rattle.rup_check.specs.Assignments.{flipped, Has}
+use Rattle.rup_check.specs.Propagation.{IsFalsified, Conflicts}
+use Rattle.rup_check.specs.Assignments.{flipped, Has, IsAssignment, IsSound}
 use Rattle.rup_check.specs.Sets.{HasFalse}
 use Rattle.rup_check.specs.Looks.{IsOpen, IsUnit}
 use Rattle.rup_check.specs.declared.watches.Pair.{Pair}
@@ -10,6 +10,8 @@ use Rattle.rup_check.specs.declared.watches.Kind.{Kind}
 use Rattle.rup_check.specs.declared.watches.Kind.TheVariants as kind
 use Rattle.rup_check.specs.declared.turns.Turn.{Turn}
 use Rattle.rup_check.specs.declared.turns.Turn.TheVariants as turn
+use Rattle.rup_check.specs.declared.turns.Look.{Look}
+use Rattle.rup_check.specs.declared.turns.Look.TheVariants as look
 
 -- the pair are two literals of the clause
 pub record IsPairOf (clause : List ℕ) (pair : Pair) : Type 0 where
@@ -19,9 +21,9 @@ pub record IsPairOf (clause : List ℕ) (pair : Pair) : Type 0 where
   pub first_small : pair.first ≤ 8191
   pub second_small : pair.second ≤ 8191
 
--- the clause is in the list of the literal, or in what was taken out of the list of q and not looked at yet
+-- the clause is in the list of the literal, or in the list of q, which was taken out
 abbrev pub IsListed : List (List ℕ) → List ℕ → ℕ → ℕ → ℕ → Type 0
-IsListed lists pending q literal number = Contains (slice_index_or lists literal []) number ⊎ ((literal ≡ q) × Contains pending number)
+IsListed lists held q literal number = Contains (slice_index_or lists literal []) number ⊎ ((literal ≡ q) × Contains held number)
 
 -- where one of the pair was made false among what is done, the other is true
 pub record IsSettled (marks : List Bool) (done : List ℕ) (pair : Pair) : Type 0 where
@@ -33,16 +35,22 @@ pub record IsSettledAt (marks : List Bool) (q : ℕ) (pair : Pair) : Type 0 wher
   pub first : pair.first ≡ q → Has marks pair.second
   pub second : pair.second ≡ q → Has marks pair.first
 
--- the clause has no two literals: it is empty, which the flag says, or its one literal is among the units
-abbrev pub IsShort : List ℕ → Bool → List ℕ → Type 0
-IsShort units has_empty clause = ((x : ℕ) × Contains units x × Contains clause x) ⊎ ((has_empty ≡ true) × ((y : ℕ) → Contains clause y → ⊥))
+-- a literal of the clause is among these, so it needs no watch
+abbrev pub HasOneOf : List ℕ → List ℕ → Type 0
+HasOneOf units clause = (x : ℕ) × Contains units x × Contains clause x
 
--- a clause while the list of q is looked at
-pub record IsTended (lists : List (List ℕ)) (pending : List ℕ) (q : ℕ) (marks : List Bool) (done : List ℕ) (clause : List ℕ) (pair : Pair) (number : ℕ) : Type 0 where
+-- where one of the pair is false by these literals, the other is among them
+pub record IsRooted (base : List ℕ) (pair : Pair) : Type 0 where
+  pub first : Contains base (flipped pair.first) → Contains base pair.second
+  pub second : Contains base (flipped pair.second) → Contains base pair.first
+
+-- a clause while the list of q is looked at: the first of what is held of it are still to be looked at
+pub record IsTended (lists : List (List ℕ)) (held pending : List ℕ) (q : ℕ) (base : List ℕ) (marks : List Bool) (done : List ℕ) (clause : List ℕ) (pair : Pair) (number : ℕ) : Type 0 where
   pub pair_of : IsPairOf clause pair
-  pub first : IsListed lists pending q pair.first number
-  pub second : IsListed lists pending q pair.second number
+  pub first : IsListed lists held q pair.first number
+  pub second : IsListed lists held q pair.second number
   pub settled : IsSettled marks done pair
+  pub rooted : IsRooted base pair
   pub here : Contains pending number ⊎ IsSettledAt marks q pair
 
 -- the other of the pair
@@ -66,88 +74,89 @@ pub record IsEntry (formula : List (List ℕ)) (pairs : List Pair) (number : ℕ
   pub in_range : number < length formula
   pub pair_of : IsPairOf (slice_index_or formula number []) (slice_index_or pairs number no_pair)
 
--- every clause is tended, while the list of q is looked at
-pub record IsWatch (formula : List (List ℕ)) (pairs : List Pair) (lists : List (List ℕ)) (units : List ℕ) (has_empty : Bool) (pending : List ℕ) (q : ℕ) (marks : List Bool) (done : List ℕ) : Type 0 where
+-- every clause is tended or has one of the units, while the list of q is looked at
+pub record IsWatch (formula : List (List ℕ)) (pairs : List Pair) (lists : List (List ℕ)) (units base : List ℕ) (held pending : List ℕ) (q : ℕ) (marks : List Bool) (done : List ℕ) : Type 0 where
   pub counted : length pairs ≡ length formula
   pub sized : length lists ≡ 8192
   pub entries : (x k : ℕ) → Contains (slice_index_or lists x []) k → IsEntry formula pairs k
-  pub left : (k : ℕ) → Contains pending k → IsEntry formula pairs k
+  pub left : (k : ℕ) → Contains held k → IsEntry formula pairs k
   pub done_marked : (y : ℕ) → Contains done y → Has marks y
-  pub clauses : (k : ℕ) → k < length formula → IsTended lists pending q marks done (slice_index_or formula k []) (slice_index_or pairs k no_pair) k ⊎ IsShort units has_empty (slice_index_or formula k [])
+  pub base_marked : (y : ℕ) → Contains base y → Has marks y
+  pub clauses : (k : ℕ) → k < length formula → IsTended lists held pending q base marks done (slice_index_or formula k []) (slice_index_or pairs k no_pair) k ⊎ HasOneOf units (slice_index_or formula k [])
 
 -- no literal is marked beside its negation
 abbrev pub IsClean : List Bool → Type 0
 IsClean marks = (x : ℕ) → Has marks x → Has marks (flipped x) → ⊥
 
--- one clause of the list of q was looked at: false says that the list is one shorter, true that the clause is false and nothing changed
-abbrev pub IsTaken : List (List ℕ) → ℕ → ℕ → List ℕ → Bool → List Pair → List (List ℕ) → List Bool → List Pair → List (List ℕ) → List Bool → Bool → Type 0
-IsTaken formula number q units has_empty pairs lists marks pairs' lists' marks' false =
-    (rest : List ℕ) (done : List ℕ) → IsWatch formula pairs lists units has_empty (rest ++ number ∷ []) q marks done → IsWatch formula pairs' lists' units has_empty rest q marks' done
-IsTaken formula number q units has_empty pairs lists marks pairs' lists' marks' true =
+-- the list without the number, once
+pub record IsWithout (before after : List ℕ) (number : ℕ) : Type 0 where
+  pub others : (k : ℕ) → k ≢ number → Contains before k → Contains after k
+  pub only : (k : ℕ) → Contains after k → Contains before k
+
+-- one clause of the list of q was looked at: it stays in the list or leaves it, or it is false and nothing changed
+abbrev pub IsTaken : List (List ℕ) → ℕ → ℕ → List Pair → List (List ℕ) → List Bool → List Pair → List (List ℕ) → List Bool → Look → Type 0
+IsTaken formula number q pairs lists marks pairs' lists' marks' look.Stays =
+    (units base held rest done : List ℕ) → IsWatch formula pairs lists units base held (rest ++ number ∷ []) q marks done → IsWatch formula pairs' lists' units base held rest q marks' done
+IsTaken formula number q pairs lists marks pairs' lists' marks' look.Leaves =
+    (units base held held' rest done : List ℕ) → IsWithout held held' number → IsWatch formula pairs lists units base held (rest ++ number ∷ []) q marks done → IsWatch formula pairs' lists' units base held' rest q marks' done
+IsTaken formula number q pairs lists marks pairs' lists' marks' look.IsFalse =
     (pairs' ≡ pairs) × (lists' ≡ lists) × HasFalse formula marks'
 
 -- a clause between two lists
-pub record IsKept (lists : List (List ℕ)) (marks : List Bool) (done : List ℕ) (clause : List ℕ) (pair : Pair) (number : ℕ) : Type 0 where
+pub record IsKept (lists : List (List ℕ)) (base : List ℕ) (marks : List Bool) (done : List ℕ) (clause : List ℕ) (pair : Pair) (number : ℕ) : Type 0 where
   pub pair_of : IsPairOf clause pair
   pub first : Contains (slice_index_or lists pair.first []) number
   pub second : Contains (slice_index_or lists pair.second []) number
   pub settled : IsSettled marks done pair
+  pub rooted : IsRooted base pair
 
--- every clause is kept, where the lists of the negations of what is done were looked at
-pub record IsState (formula : List (List ℕ)) (pairs : List Pair) (lists : List (List ℕ)) (units : List ℕ) (has_empty : Bool) (marks : List Bool) (done : List ℕ) : Type 0 where
+-- every clause is kept or has one of the units, where the lists of the negations of what is done were looked at
+pub record IsState (formula : List (List ℕ)) (pairs : List Pair) (lists : List (List ℕ)) (units base : List ℕ) (marks : List Bool) (done : List ℕ) : Type 0 where
   pub counted : length pairs ≡ length formula
   pub sized : length lists ≡ 8192
   pub entries : (x k : ℕ) → Contains (slice_index_or lists x []) k → IsEntry formula pairs k
   pub done_marked : (y : ℕ) → Contains done y → Has marks y
-  pub clauses : (k : ℕ) → k < length formula → IsKept lists marks done (slice_index_or formula k []) (slice_index_or pairs k no_pair) k ⊎ IsShort units has_empty (slice_index_or formula k [])
+  pub base_marked : (y : ℕ) → Contains base y → Has marks y
+  pub clauses : (k : ℕ) → k < length formula → IsKept lists base marks done (slice_index_or formula k []) (slice_index_or pairs k no_pair) k ⊎ HasOneOf units (slice_index_or formula k [])
 
--- the list of q was looked at: false says that its negation is done, true that a clause is false
-abbrev pub IsVisited : List (List ℕ) → ℕ → List ℕ → Bool → List Pair → List (List ℕ) → List Bool → List Pair → List (List ℕ) → List Bool → Bool → Type 0
-IsVisited formula q units has_empty pairs lists marks pairs' lists' marks' false =
-    (done : List ℕ) → IsState formula pairs lists units has_empty marks done → IsState formula pairs' lists' units has_empty marks' (done ++ flipped q ∷ [])
-IsVisited formula q units has_empty pairs lists marks pairs' lists' marks' true =
-    IsState formula pairs' lists' units has_empty marks' [] × HasFalse formula marks'
+-- the state from which something was looked at is kept: false says that this is done now, true that a clause is false
+abbrev pub IsEnded : List (List ℕ) → List ℕ → List ℕ → List Pair → List (List ℕ) → List Bool → List ℕ → Bool → Type 0
+IsEnded formula units base pairs lists marks done false = IsState formula pairs lists units base marks done
+IsEnded formula units base pairs lists marks done true = IsState formula pairs lists units base marks [] × HasFalse formula marks
+
+-- the list of q was looked at, so that its negation is done
+abbrev pub IsVisited : List (List ℕ) → ℕ → List Pair → List (List ℕ) → List Bool → List Pair → List (List ℕ) → List Bool → Bool → Type 0
+IsVisited formula q pairs lists marks pairs' lists' marks' found =
+    (units base done : List ℕ) → IsState formula pairs lists units base marks done → IsEnded formula units base pairs' lists' marks' (done ++ flipped q ∷ []) found
 
 -- the list goes on from there
 abbrev pub Extends : List ℕ → List ℕ → Type 0
 Extends before after = (more : List ℕ) × (after ≡ before ++ more)
 
--- the queue was run: false says that all on the trail is done, true that a clause is false
-abbrev pub IsRun : List (List ℕ) → List ℕ → Bool → List Pair → List (List ℕ) → List Bool → List ℕ → Bool → Type 0
-IsRun formula units has_empty pairs lists marks trail false = IsState formula pairs lists units has_empty marks trail
-IsRun formula units has_empty pairs lists marks trail true = IsState formula pairs lists units has_empty marks [] × HasFalse formula marks
+-- the queue was run from a place, so that all on the trail is done
+abbrev pub IsRun : List (List ℕ) → ℕ → List Pair → List (List ℕ) → List Bool → List ℕ → List Pair → List (List ℕ) → List Bool → List ℕ → Bool → Type 0
+IsRun formula head pairs lists marks trail pairs' lists' marks' trail' found =
+    (units base : List ℕ) → IsState formula pairs lists units base marks (take head trail) → IsEnded formula units base pairs' lists' marks' trail' found
 
--- a clause has this literal and no other
-pub record IsUnitOf (formula : List (List ℕ)) (x : ℕ) : Type 0 where
-  pub clause : List ℕ
-  pub in_formula : Contains formula clause
-  pub among : Contains clause x
-  pub alone : (y : ℕ) → Contains clause y → y ≡ x
-  pub small : x ≤ 8191
+-- between two clauses of a proof: what is marked is forced by the formula alone, and all of it is done
+pub record IsRest (formula : List (List ℕ)) (pairs : List Pair) (lists : List (List ℕ)) (marks : List Bool) (trail : List ℕ) : Type 0 where
+  pub assigned : IsAssignment marks trail
+  pub sound : IsSound formula [] marks
+  pub state : IsState formula pairs lists trail trail marks trail
 
--- the units are literals of clauses with no other, and the flag says of an empty clause
-pub record AreShorts (formula : List (List ℕ)) (units : List ℕ) (has_empty : Bool) : Type 0 where
-  pub unit : (x : ℕ) → Contains units x → IsUnitOf formula x
-  pub empty : has_empty ≡ true → Contains formula []
+-- what is known of a formula: true says that propagation from nothing has a conflict
+abbrev pub IsRoot : List (List ℕ) → List Pair → List (List ℕ) → List Bool → List ℕ → Bool → Type 0
+IsRoot formula pairs lists marks trail true = Conflicts flipped formula []
+IsRoot formula pairs lists marks trail false = IsRest formula pairs lists marks trail
 
--- the units were forced: false says that each is marked, true that a clause is false
-abbrev pub AreForced : List (List ℕ) → List ℕ → List Bool → Bool → Type 0
-AreForced formula units marks false = (x : ℕ) → Contains units x → Has marks x
-AreForced formula units marks true = HasFalse formula marks
+-- the clause is in the lists of both of the pair
+abbrev pub AreListed : List (List ℕ) → List (List ℕ) → Pair → ℕ → Type 0
+AreListed before after pair number =
+    (middle : List (List ℕ)) × (middle ≡ slice_set before pair.first (slice_index_or before pair.first [] ++ number ∷ [])) × (after ≡ slice_set middle pair.second (slice_index_or middle pair.second [] ++ number ∷ []))
 
--- the watches of a formula, with nothing marked
-pub record IsReady (formula : List (List ℕ)) (pairs : List Pair) (lists : List (List ℕ)) (units : List ℕ) (has_empty : Bool) (marks : List Bool) : Type 0 where
-  pub state : IsState formula pairs lists units has_empty marks []
-  pub shorts : AreShorts formula units has_empty
-
--- how many different literals a clause has
-abbrev pub IsKind : List ℕ → Kind → Type 0
-IsKind clause kind.Empty = clause ≡ []
-IsKind clause (kind.Unit x) = (x ≤ 8191) × Contains clause x × ((y : ℕ) → Contains clause y → y ≡ x)
-IsKind clause (kind.Long pair) = IsPairOf clause pair
-
--- the literal was put among these
-pub record IsJoined (before after : List ℕ) (x : ℕ) : Type 0 where
-  pub here : Contains after x
-  pub grows : (y : ℕ) → Contains before y → Contains after y
-  pub only : (y : ℕ) → Contains after y → Contains before y ⊎ (x ≡ y)
+-- what the marks make of a clause
+abbrev pub IsKind : List Bool → List ℕ → Kind → Type 0
+IsKind marks clause kind.IsTrue = (x : ℕ) × Contains clause x × Has marks x
+IsKind marks clause kind.IsFalse = IsFalsified flipped (Has marks) clause
+IsKind marks clause (kind.Unit x) = IsUnit marks clause x
+IsKind marks clause (kind.Long pair) = IsPairOf clause pair × IsOpen marks clause pair.first × IsOpen marks clause pair.second

@@ -1,9 +1,11 @@
 //! The literals that are true so far, with the trail of those that were made true.
-ghost use Rattle.std.specs.Prelude.{◌≡◌, ◌≢◌, ◌<◌, ◌≤◌, ◌+◌, ◌-◌, [], ◌∷◌, ◌++◌, length, map, true, false, not, OnOk, IfOk, IfSome, MatchOption, slice_set, slice_index_or};
+ghost use Rattle.std.specs.Prelude.{◌≡◌, ◌≢◌, ◌<◌, ◌≤◌, ◌-◌, [], ◌∷◌, ◌++◌, length, map, take, true, false, not, OnOk, IfOk, IfSome, MatchOption, slice_set, slice_index_or};
 ghost use Rattle.std.specs.List.{All};
+ghost use Rattle.rup_check.specs.Propagation.{IsFalsified};
 ghost use Rattle.rup_check.specs.Assignments.{flipped, Has, IsAssignment};
 ghost use Rattle.rup_check.specs.Sets.{IsBeginning, IsPut};
-ghost use Rattle.rup_check.specs.Looks.{IsOpen, OthersFalse};
+ghost use Rattle.rup_check.specs.Looks.{IsOpen, OthersFalse, SaysTrue};
+ghost use Rattle.rup_check.specs.Watches.{IsClean, Extends};
 
 use crate::places::flipped;
 use dcsp_list::Memory;
@@ -67,6 +69,7 @@ impl Assignment {
         requires small { literal ≤ 8191 }
         requires assigned { IsAssignment self.old.marks.items self.old.trail.items }
         ensures put { OnOk result (IsPut self.old.marks.items self.new.marks.items literal) }
+        ensures trail { OnOk result (Extends self.old.trail.items self.new.trail.items) }
         ensures assigned { OnOk result (IsAssignment self.new.marks.items self.new.trail.items) }
     {
         if self.marks[literal as usize] {
@@ -74,6 +77,36 @@ impl Assignment {
         }
         self.add(literal)
     }
+}
+
+/// Whether a literal of the clause is true.
+#[tactic(auto, using(crate::proofs::MarkLaws::none_from_index))]
+pub(crate) fn has_true(marks: &[bool], clause: &[u16]) -> bool
+    requires size { length marks.now ≡ 8192 }
+    requires small { All (λ x. x ≤ 8191) clause.now }
+    ensures { SaysTrue marks.now clause.now result }
+{
+    for literal in clause {
+        if marks[*literal as usize] {
+            return true;
+        }
+    }
+    false
+}
+
+/// The first literal of the clause that is not false.
+#[tactic(auto, using(crate::proofs::MarkLaws::falsified_from_index))]
+pub(crate) fn first_open(marks: &[bool], clause: &[u16]) -> Option<u16>
+    requires size { length marks.now ≡ 8192 }
+    requires small { All (λ x. x ≤ 8191) clause.now }
+    ensures { MatchOption result (IsFalsified flipped (Has marks.now) clause.now) (IsOpen marks.now clause.now) }
+{
+    for literal in clause {
+        if !marks[flipped(*literal) as usize] {
+            return Some(*literal);
+        }
+    }
+    None
 }
 
 /// The first literal of the clause that is not false, and is not this one.
@@ -92,13 +125,14 @@ pub(crate) fn other_open(marks: &[bool], clause: &[u16], but: u16) -> Option<u16
     None
 }
 
-/// Puts the negations of the clause's literals into the empty set: whether it stopped at a literal and its negation.
+/// Puts the negations of the clause's literals into the set: whether it stopped at a literal that is in the set.
 pub(crate) fn begin(clause: &[u16], assignment: &mut Assignment) -> Result<bool, Memory>
     requires assigned { IsAssignment assignment.old.marks.items assignment.old.trail.items }
-    requires empty { assignment.old.trail.items ≡ [] }
+    requires clean { IsClean assignment.old.marks.items }
     requires small { All (λ x. x ≤ 8191) clause.now }
     ensures assigned { OnOk result (IsAssignment assignment.new.marks.items assignment.new.trail.items) }
-    ensures begun { IfOk result (IsBeginning (map flipped clause.now) assignment.new.marks.items) }
+    ensures trail { OnOk result (Extends assignment.old.trail.items assignment.new.trail.items) }
+    ensures begun { IfOk result (IsBeginning assignment.old.marks.items clause.now assignment.new.marks.items) }
 {
     for literal in clause {
         if assignment.has(*literal) {
@@ -110,13 +144,26 @@ pub(crate) fn begin(clause: &[u16], assignment: &mut Assignment) -> Result<bool,
     Ok(false)
 }
 
-/// Takes everything out of the set.
-pub(crate) fn clear(assignment: &mut Assignment)
+/// Takes the last literal out of the set.
+fn take_last(assignment: &mut Assignment)
     requires assigned { IsAssignment assignment.old.marks.items assignment.old.trail.items }
+    requires some { 0 < length assignment.old.trail.items }
     ensures assigned { IsAssignment assignment.new.marks.items assignment.new.trail.items }
-    ensures empty { assignment.new.trail.items ≡ [] }
+    ensures trail { assignment.new.trail.items ≡ take (length assignment.old.trail.items - 1) assignment.old.trail.items }
 {
-    while let Some(literal) = assignment.trail.pop() {
+    if let Some(literal) = assignment.trail.pop() {
         assignment.marks[literal as usize] = false;
+    }
+}
+
+/// Takes out of the set what came after the first `count` literals.
+pub(crate) fn undo(assignment: &mut Assignment, count: usize)
+    requires assigned { IsAssignment assignment.old.marks.items assignment.old.trail.items }
+    requires within { count ≤ length assignment.old.trail.items }
+    ensures assigned { IsAssignment assignment.new.marks.items assignment.new.trail.items }
+    ensures trail { assignment.new.trail.items ≡ take count assignment.old.trail.items }
+{
+    while assignment.trail.len() > count {
+        take_last(assignment);
     }
 }

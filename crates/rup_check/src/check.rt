@@ -1,10 +1,9 @@
 //! The check of a proof.
-ghost use Rattle.rup_check.specs.Kept.{AreWatched};
-ghost use Rattle.std.specs.Prelude.{◌≡◌, ◌<◌, ◌+◌, ◌-◌, ◌^◌, List, Bool, [], length, not, IfOk, IsTrue, ◌↔◌};
+ghost use Rattle.rup_check.specs.Kept.{IsReady};
+ghost use Rattle.std.specs.Prelude.{◌≡◌, ◌<◌, ◌+◌, ◌-◌, ◌^◌, [], ◌++◌, length, not, OnOk, IfOk, IsTrue, ◌↔◌};
 ghost use Rattle.rup_check.specs.Propagation.{EndsEmpty};
-ghost use Rattle.rup_check.specs.Assignments.{IsAssignment, flipped};
+ghost use Rattle.rup_check.specs.Assignments.{flipped};
 ghost use Rattle.rup_check.specs.Verdicts.{FirstBad, IsVerdict};
-ghost use Rattle.rup_check.specs.Watches.{IsReady};
 ghost use Rattle.std.specs.Prelude.{neg_ℤ};
 ghost use Rattle.rup_check.specs.Literals.{IsUnsatisfiable};
 ghost use Rattle.rup_check.specs.declared.check.Rup.TheVariants.{Verified};
@@ -12,8 +11,8 @@ ghost use Rattle.rup_check.specs.declared.check.Rup.TheVariants.{Verified};
 use crate::assignment::Assignment;
 use crate::clauses::ClauseList;
 use crate::places::{Known, PlaceList};
-use crate::propagation::has_property;
-use crate::watches::{Watches, watch_clause, watch_formula};
+use crate::propagation::{add_clause, has_property};
+use crate::watches::Watches;
 use dcsp_list::Memory;
 use std::alloc::Global;
 
@@ -28,6 +27,29 @@ pub enum Rup {
     NotEmpty,
 }
 
+/// Watches the formula's clauses.
+fn add_formula(
+    alloc: Global,
+    formula: &PlaceList,
+    proof: &PlaceList,
+    watches: &mut Watches,
+    assignment: &mut Assignment,
+) -> Result<(), Memory>
+    requires fits { length (formula.now ++ proof.now) < 2 ^ 64 }
+    requires ready { IsReady [] watches.old assignment.old }
+    ensures { OnOk result (IsReady formula.now watches.new assignment.new) }
+{
+    for count in 0..formula.len() {
+        let known = Known {
+            formula,
+            proof,
+            count,
+        };
+        add_clause(alloc, &known, watches, assignment)?;
+    }
+    Ok(())
+}
+
 /// The first clause of the proof without the property.
 fn first_bad(
     alloc: Global,
@@ -36,23 +58,23 @@ fn first_bad(
     watches: &mut Watches,
     assignment: &mut Assignment,
 ) -> Result<Option<usize>, Memory>
-    requires assigned { IsAssignment assignment.old.marks.items assignment.old.trail.items }
-    requires empty { assignment.old.trail.items ≡ [] }
-    requires ready { (marks : List Bool) → AreWatched formula.now watches.old marks }
+    requires fits { length (formula.now ++ proof.now) < 2 ^ 64 }
+    requires ready { IsReady formula.now watches.old assignment.old }
     ensures { IfOk result (FirstBad flipped formula.now proof.now) }
 {
+    let first = formula.len();
     for number in 0..proof.len() {
         let known = Known {
             formula,
             proof,
-            count: number,
+            count: first + number,
         };
         let clause = proof.clause(number);
         let good = has_property(alloc, &known, clause, watches, assignment)?;
         if !good {
             return Ok(Some(number));
         }
-        watch_clause(watches, clause)?;
+        add_clause(alloc, &known, watches, assignment)?;
     }
     Ok(None)
 }
@@ -88,11 +110,12 @@ fn verdict_of(formula: &PlaceList, proof: &PlaceList, bad: Option<usize>) -> Rup
 
 /// The answer on a proof, where literals stand as places.
 fn verdict(alloc: Global, formula: &PlaceList, proof: &PlaceList) -> Result<Rup, Memory>
-    requires fits { length proof.now < 2 ^ 64 }
+    requires fits { length (formula.now ++ proof.now) < 2 ^ 64 }
     ensures { IfOk result (IsVerdict flipped formula.now proof.now) }
 {
     let mut assignment = Assignment::new(alloc)?;
-    let mut watches = watch_formula(alloc, formula)?;
+    let mut watches = Watches::new(alloc)?;
+    add_formula(alloc, formula, proof, &mut watches, &mut assignment)?;
     let bad = first_bad(alloc, formula, proof, &mut watches, &mut assignment)?;
     Ok(verdict_of(formula, proof, bad))
 }

@@ -1,12 +1,11 @@
 //! Clauses inside: a literal stands as a place. Variable v is place 4,095 + v and its negation 4,096 - v, so that a
 //! place and its negation sum to 8,191. All clauses stand in one array of places, and a second array says where each ends.
-ghost use Rattle.rup_check.specs.Kept.{clauses_of};
+ghost use Rattle.rup_check.specs.Kept.{all_of, clauses_of};
 ghost use Rattle.std.specs.Prelude.{◌≡◌, ◌<◌, ◌≤◌, ◌+◌, ◌-◌, ◌^◌, ℕ, List, [], ◌∷◌, ◌++◌, length, OnOk, OnErr, slice_index_or, map};
 ghost use Rattle.std.specs.List.{All};
 ghost use Rattle.rup_check.specs.Literals.{IsLiteral};
 ghost use Rattle.rup_check.specs.Stored.{place_of};
 ghost use Rattle.rup_check.specs.Watches.{Extends};
-ghost use Rattle.rup_check.specs.Propagation.{known_before};
 ghost use Rattle.rup_check.specs.Assignments.{flipped};
 ghost use Rattle.rup_check.specs.Parts.{parts, part_start, AreEnds};
 
@@ -150,7 +149,7 @@ fn part<'a>(ends: &[usize], literals: &'a [u16], number: usize) -> &'a [u16]
     &literals[start..end]
 }
 
-/// The clauses of a formula and the first ones of a proof.
+/// The clauses of a formula and of its proof, of which the first `count` are known.
 #[derive(Clone, Copy)]
 pub(crate) struct Known<'a> {
     pub(crate) formula: &'a PlaceList,
@@ -159,21 +158,11 @@ pub(crate) struct Known<'a> {
 }
 
 impl<'a> Known<'a> {
-    /// The number of clauses.
-    #[tactic(auto, using(crate::proofs::PartLaws::length_known))]
-    pub(crate) fn len(&self) -> usize
-        requires count { self.now.count ≤ length self.now.proof.now }
-        requires fits { length self.now.formula.now + self.now.count < 2 ^ 64 }
-        ensures { result ≡ length (clauses_of self.now) }
-    {
-        self.formula.len() + self.count
-    }
-
-    /// The literals of a clause.
-    pub(crate) fn clause(&self, number: usize) -> &'a [u16]
-        requires count { self.now.count ≤ length self.now.proof.now }
-        requires in_range { number < length (clauses_of self.now) }
-        ensures value { result.now ≡ slice_index_or (clauses_of self.now) number [] }
+    /// The literals of a clause, known or not.
+    #[tactic(auto, using(crate::proofs::PartLaws::in_formula, crate::proofs::PartLaws::in_proof))]
+    pub(crate) fn any(&self, number: usize) -> &'a [u16]
+        requires { number < length (all_of self.now) }
+        ensures value { result.now ≡ slice_index_or (all_of self.now) number [] }
         ensures small { All (λ x. x ≤ 8191) result.now }
     {
         let first = self.formula.len();
@@ -182,5 +171,15 @@ impl<'a> Known<'a> {
         } else {
             self.proof.clause(number - first)
         }
+    }
+
+    /// The literals of a known clause.
+    #[tactic(auto, using(crate::proofs::PartLaws::known_value))]
+    pub(crate) fn clause(&self, number: usize) -> &'a [u16]
+        requires { number < length (clauses_of self.now) }
+        ensures value { result.now ≡ slice_index_or (clauses_of self.now) number [] }
+        ensures small { All (λ x. x ≤ 8191) result.now }
+    {
+        self.any(number)
     }
 }

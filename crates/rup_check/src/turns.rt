@@ -1,11 +1,10 @@
 //! The clauses that watch a literal, once it is false.
-ghost use Rattle.rup_check.specs.Kept.{clauses_of, IsWatched, LooksAt, Visits};
+ghost use Rattle.rup_check.specs.Kept.{clauses_of, AreWatched, LooksAt, Visits};
 ghost use Rattle.std.specs.Prelude.{◌≡◌, ◌<◌, ◌≤◌, ◌+◌, ◌-◌, [], ◌++◌, length, true, false, not, OnOk, IfOk, slice_set, slice_index_or};
 ghost use Rattle.std.specs.List.{All};
-ghost use Rattle.rup_check.specs.Propagation.{known_before};
 ghost use Rattle.rup_check.specs.Assignments.{flipped, Has, IsAssignment};
 ghost use Rattle.rup_check.specs.Sets.{KeepsSound, Grows};
-ghost use Rattle.rup_check.specs.Watches.{IsTurn, IsPairOf, IsEntry, IsClean, IsTaken, IsState, IsVisited, Extends};
+ghost use Rattle.rup_check.specs.Watches.{IsTurn, IsPairOf, IsEntry, IsClean, Extends};
 
 use crate::assignment::{Assignment, other_open};
 use crate::places::{Known, flipped};
@@ -29,12 +28,23 @@ pub enum Turn {
     Conflict,
 }
 
+/// What becomes of a clause of the list of a literal that became false.
+#[derive(Clone, Copy, Debug)]
+pub enum Look {
+    /// It stays in the list.
+    Stays,
+    /// It leaves the list.
+    Leaves,
+    /// Each of its literals is false.
+    IsFalse,
+}
+
 /// What is to be done with a clause of the list of `literal`, which is false.
-fn turn_of(assignment: &Assignment, clause: &[u16], pair: Pair, literal: u16) -> Turn
+fn turn_of(known: &Known, number: usize, pair: Pair, literal: u16, assignment: &Assignment) -> Turn
+    requires in_range { number < length (clauses_of known.now) }
     requires size { length assignment.now.marks.items ≡ 8192 }
-    requires small { All (λ x. x ≤ 8191) clause.now }
-    requires pair { IsPairOf clause.now pair }
-    ensures { IsTurn assignment.now.marks.items clause.now pair literal result }
+    requires pair { IsPairOf (slice_index_or (clauses_of known.now) number []) pair }
+    ensures { IsTurn assignment.now.marks.items (slice_index_or (clauses_of known.now) number []) pair literal result }
 {
     let other = if pair.first == literal {
         pair.second
@@ -47,7 +57,7 @@ fn turn_of(assignment: &Assignment, clause: &[u16], pair: Pair, literal: u16) ->
     if assignment.has(other) {
         return Turn::Stay;
     }
-    match other_open(&assignment.marks, clause, other) {
+    match other_open(&assignment.marks, known.clause(number), other) {
         Some(to) => Turn::Move { other, to },
         None => {
             if assignment.has(flipped(other)) {
@@ -60,39 +70,30 @@ fn turn_of(assignment: &Assignment, clause: &[u16], pair: Pair, literal: u16) ->
 }
 
 /// Takes the list of a literal.
-pub(crate) fn take_list(
-    lists: &mut Vec<ItemList<usize>>,
-    literal: u16,
-    empty: Vec<usize>,
-) -> Vec<usize>
+fn take_list(alloc: Global, lists: &mut Vec<ItemList<usize>>, literal: u16) -> Vec<usize>
     requires in_range { literal < length lists.old.items }
-    requires empty { empty.items ≡ [] }
     ensures taken { result.items ≡ slice_index_or lists.old.items literal [] }
     ensures left { lists.new.items ≡ slice_set lists.old.items literal [] }
 {
-    mem::replace(&mut lists[literal as usize], ItemList::from_vec(empty)).into_vec()
+    mem::replace(&mut lists[literal as usize], ItemList::new(alloc)).into_vec()
 }
 
-/// Puts clauses back into the list of a literal.
-fn restore(lists: &mut Vec<ItemList<usize>>, literal: u16, numbers: &[usize]) -> Result<(), Memory>
-    requires { literal < length lists.old.items }
-    ensures { OnOk result (lists.new.items ≡ slice_set lists.old.items literal (slice_index_or lists.old.items literal [] ++ numbers.now)) }
+/// Puts the list of a literal back.
+fn put_list(lists: &mut Vec<ItemList<usize>>, literal: u16, list: Vec<usize>)
+    requires in_range { literal < length lists.old.items }
+    ensures { lists.new.items ≡ slice_set lists.old.items literal list.items }
 {
-    for number in numbers {
-        push_to(lists, literal, *number)?;
-    }
-    Ok(())
+    lists[literal as usize] = ItemList::from_vec(list);
 }
 
-/// Looks at a clause of the list of `literal`, which is false: whether the clause is false.
+/// Looks at a clause of the list of `literal`, which is false and whose list was taken out.
 fn take_turn(
     known: &Known,
     watches: &mut Watches,
     number: usize,
     literal: u16,
     assignment: &mut Assignment,
-) -> Result<bool, Memory>
-    requires count { known.now.count ≤ length known.now.proof.now }
+) -> Result<Look, Memory>
     requires entry { IsEntry (clauses_of known.now) watches.old.pairs.items number }
     requires counted { length watches.old.pairs.items ≡ length (clauses_of known.now) }
     requires sized { length watches.old.lists.items ≡ 8192 }
@@ -105,31 +106,26 @@ fn take_turn(
     ensures grows { OnOk result (Grows assignment.old.marks.items assignment.new.marks.items) }
     ensures sound { OnOk result (KeepsSound (clauses_of known.now) assignment.old.marks.items assignment.new.marks.items) }
     ensures taken { IfOk result (LooksAt (clauses_of known.now) number literal watches.old assignment.old.marks.items watches.new assignment.new.marks.items) }
+    ensures out { OnOk result (slice_index_or watches.new.lists.items literal [] ≡ slice_index_or watches.old.lists.items literal []) }
     ensures trail { OnOk result (Extends assignment.old.trail.items assignment.new.trail.items) }
-    ensures units { watches.new.units.items ≡ watches.old.units.items }
-    ensures empty { watches.new.has_empty ≡ watches.old.has_empty }
+    ensures refuted { watches.new.refuted ≡ watches.old.refuted }
 {
-    let clause = known.clause(number);
-    match turn_of(assignment, clause, watches.pair(number), literal) {
-        Turn::Drop => Ok(false),
-        Turn::Stay => {
-            push_to(&mut watches.lists, literal, number)?;
-            Ok(false)
-        }
+    match turn_of(known, number, watches.pair(number), literal, assignment) {
+        Turn::Drop => Ok(Look::Leaves),
+        Turn::Stay => Ok(Look::Stays),
         Turn::Move { other, to } => {
             watches.pairs[number] = Pair {
                 first: other,
                 second: to,
             };
             push_to(&mut watches.lists, to, number)?;
-            Ok(false)
+            Ok(Look::Leaves)
         }
         Turn::Force { other } => {
-            push_to(&mut watches.lists, literal, number)?;
             assignment.add(other)?;
-            Ok(false)
+            Ok(Look::Stays)
         }
-        Turn::Conflict => Ok(true),
+        Turn::Conflict => Ok(Look::IsFalse),
     }
 }
 
@@ -141,8 +137,7 @@ pub(crate) fn visit(
     literal: u16,
     assignment: &mut Assignment,
 ) -> Result<bool, Memory>
-    requires count { known.now.count ≤ length known.now.proof.now }
-    requires state { IsWatched (clauses_of known.now) watches.old assignment.old.marks.items [] }
+    requires state { AreWatched (clauses_of known.now) watches.old assignment.old.marks.items [] }
     requires small { literal ≤ 8191 }
     requires assigned { IsAssignment assignment.old.marks.items assignment.old.trail.items }
     requires clean { IsClean assignment.old.marks.items }
@@ -153,19 +148,24 @@ pub(crate) fn visit(
     ensures sound { OnOk result (KeepsSound (clauses_of known.now) assignment.old.marks.items assignment.new.marks.items) }
     ensures visited { IfOk result (Visits (clauses_of known.now) literal watches.old assignment.old.marks.items watches.new assignment.new.marks.items) }
     ensures trail { OnOk result (Extends assignment.old.trail.items assignment.new.trail.items) }
-    ensures units { watches.new.units.items ≡ watches.old.units.items }
-    ensures empty { watches.new.has_empty ≡ watches.old.has_empty }
+    ensures refuted { watches.new.refuted ≡ watches.old.refuted }
 {
-    let mut spare = mem::replace(&mut watches.spare, Vec::new(alloc));
-    spare.clear();
-    let mut pending = take_list(&mut watches.lists, literal, spare);
-    while let Some(number) = pending.pop() {
-        if take_turn(known, watches, number, literal, assignment)? {
-            pending.push(number).map_err(|_| Memory)?;
-            restore(&mut watches.lists, literal, &pending)?;
-            return Ok(true);
+    let mut list = take_list(alloc, &mut watches.lists, literal);
+    let mut left = list.len();
+    while left > 0 {
+        left -= 1;
+        let number = list[left];
+        match take_turn(known, watches, number, literal, assignment)? {
+            Look::Stays => {}
+            Look::Leaves => {
+                list.swap_remove(left);
+            }
+            Look::IsFalse => {
+                put_list(&mut watches.lists, literal, list);
+                return Ok(true);
+            }
         }
     }
-    watches.spare = pending;
+    put_list(&mut watches.lists, literal, list);
     Ok(false)
 }

@@ -1,10 +1,9 @@
 //! Two watched literals of each clause, and for each literal the clauses that watch it.
-ghost use Rattle.rup_check.specs.Kept.{AreWatched};
-ghost use Rattle.std.specs.Prelude.{◌≡◌, ◌≢◌, ◌<◌, ◌≤◌, ◌+◌, ◌-◌, ℕ, List, Bool, [], ◌∷◌, ◌++◌, length, true, false, not, OnOk, IfOk, IfSome, MatchOption, slice_set, replicate, slice_index_or};
-ghost use Rattle.std.specs.List.{All, Contains};
-ghost use Rattle.rup_check.specs.Watches.{IsReady, IsJoined, IsKind, no_pair};
+ghost use Rattle.std.specs.Prelude.{◌≡◌, ◌<◌, ◌≤◌, [], ◌∷◌, ◌++◌, length, OnOk, IfOk, slice_set, replicate, slice_index_or, false};
+ghost use Rattle.std.specs.List.{All};
+ghost use Rattle.rup_check.specs.Watches.{IsKind, AreListed, no_pair};
 
-use crate::places::PlaceList;
+use crate::assignment::{Assignment, first_open, has_true, other_open};
 use dcsp_list::{ItemList, Memory};
 use std::alloc::Global;
 
@@ -15,33 +14,45 @@ pub struct Pair {
     pub second: u16,
 }
 
-/// How many different literals a clause has.
+/// What the assignment makes of a clause.
 #[derive(Clone, Copy, Debug)]
 pub enum Kind {
-    /// None.
-    Empty,
-    /// This one alone.
+    /// A literal of it is true.
+    IsTrue,
+    /// Each literal of it is false.
+    IsFalse,
+    /// Each literal of it but this one is false.
     Unit(u16),
-    /// Two or more: these are two of them.
+    /// It has two literals or more that are not false: these are two of them.
     Long(Pair),
 }
 
 /// Which clauses watch which literals.
 #[derive(Drop)]
-pub(crate) struct Watches {
-    /// The pair of each clause.
+pub struct Watches {
+    /// The pair of each clause; that of a clause which needs no watch says nothing.
     pub(crate) pairs: Vec<Pair>,
     /// For each literal the clauses that watch it.
     pub(crate) lists: Vec<ItemList<usize>>,
-    /// The literals of clauses that have no other.
-    pub(crate) units: Vec<u16>,
-    /// Whether a clause is empty.
-    pub(crate) has_empty: bool,
-    /// An empty list's memory, for the next list that is looked at.
-    pub(crate) spare: Vec<usize>,
+    /// Whether propagation from nothing has a conflict.
+    pub(crate) refuted: bool,
 }
 
 impl Watches {
+    /// The watches of no clause.
+    pub(crate) fn new(alloc: Global) -> Result<Watches, Memory>
+        ensures pairs { IfOk result (λ w. w.pairs.items ≡ []) }
+        ensures lists { IfOk result (λ w. w.lists.items ≡ replicate 8192 []) }
+        ensures refuted { IfOk result (λ w. w.refuted ≡ false) }
+    {
+        let lists = empty_lists(alloc)?;
+        Ok(Watches {
+            pairs: Vec::new(alloc),
+            lists,
+            refuted: false,
+        })
+    }
+
     /// The pair of a clause.
     pub(crate) fn pair(&self, number: usize) -> Pair
         requires { number < length self.now.pairs.items }
@@ -49,58 +60,54 @@ impl Watches {
     {
         self.pairs[number]
     }
+
+    /// Adds a clause that needs no watch.
+    pub(crate) fn add_none(&mut self) -> Result<(), Memory>
+        ensures pairs { OnOk result (self.new.pairs.items ≡ self.old.pairs.items ++ no_pair ∷ []) }
+        ensures lists { self.new.lists.items ≡ self.old.lists.items }
+        ensures refuted { self.new.refuted ≡ self.old.refuted }
+    {
+        let none = Pair {
+            first: 0,
+            second: 0,
+        };
+        self.pairs.push(none).map_err(|_| Memory)
+    }
+
+    /// Adds a clause that watches two literals.
+    pub(crate) fn add_pair(&mut self, pair: Pair) -> Result<(), Memory>
+        requires sized { length self.old.lists.items ≡ 8192 }
+        requires first { pair.first ≤ 8191 }
+        requires second { pair.second ≤ 8191 }
+        ensures pairs { OnOk result (self.new.pairs.items ≡ self.old.pairs.items ++ pair ∷ []) }
+        ensures lists { OnOk result (AreListed self.old.lists.items self.new.lists.items pair (length self.old.pairs.items)) }
+        ensures refuted { self.new.refuted ≡ self.old.refuted }
+    {
+        let number = self.pairs.len();
+        push_to(&mut self.lists, pair.first, number)?;
+        push_to(&mut self.lists, pair.second, number)?;
+        self.pairs.push(pair).map_err(|_| Memory)
+    }
 }
 
-/// How many different literals a clause has.
-fn kind_of(clause: &[u16]) -> Kind
+/// What the assignment makes of a clause.
+#[tactic(auto, using(crate::proofs::GrowLaws::unit_kind, crate::proofs::GrowLaws::long_kind))]
+pub(crate) fn kind_of(assignment: &Assignment, clause: &[u16]) -> Kind
+    requires size { length assignment.now.marks.items ≡ 8192 }
     requires small { All (λ x. x ≤ 8191) clause.now }
-    ensures { IsKind clause.now result }
+    ensures { IsKind assignment.now.marks.items clause.now result }
 {
-    if clause.is_empty() {
-        return Kind::Empty;
+    let marks = &assignment.marks;
+    if has_true(marks, clause) {
+        return Kind::IsTrue;
     }
-    let first = first_literal(clause);
-    match other_than(clause, first) {
+    let Some(first) = first_open(marks, clause) else {
+        return Kind::IsFalse;
+    };
+    match other_open(marks, clause, first) {
         None => Kind::Unit(first),
-        Some(second) => pair_kind(clause, first, second),
+        Some(second) => Kind::Long(Pair { first, second }),
     }
-}
-
-/// The first literal.
-fn first_literal(clause: &[u16]) -> u16
-    requires small { All (λ x. x ≤ 8191) clause.now }
-    requires some { 0 < length clause.now }
-    ensures among { Contains clause.now result }
-    ensures small { result ≤ 8191 }
-{
-    clause[0]
-}
-
-/// The first literal of the clause that is not this one.
-#[tactic(auto, using(crate::proofs::GrowLaws::alone_from_index))]
-fn other_than(clause: &[u16], but: u16) -> Option<u16>
-    ensures cases { MatchOption result ((y : ℕ) → Contains clause.now y → y ≡ but) (Contains clause.now) }
-    ensures other { IfSome result (λ x. but ≢ x) }
-{
-    for literal in clause {
-        if *literal != but {
-            return Some(*literal);
-        }
-    }
-    None
-}
-
-/// The kind of a clause with these two literals.
-#[tactic(auto, using(crate::proofs::GrowLaws::among_small))]
-fn pair_kind(clause: &[u16], first: u16, second: u16) -> Kind
-    requires small { All (λ x. x ≤ 8191) clause.now }
-    requires first { Contains clause.now first }
-    requires second { Contains clause.now second }
-    requires apart { first ≢ second }
-    ensures { IsKind clause.now result }
-{
-    let _clause = clause;
-    Kind::Long(Pair { first, second })
 }
 
 /// Adds a clause to the list of a literal.
@@ -117,48 +124,6 @@ pub(crate) fn push_to(
         .map_err(|failed| failed.1)
 }
 
-/// Adds a literal to the units, if it is not among them.
-#[tactic(auto, using(crate::proofs::GrowLaws::joined_there, crate::proofs::GrowLaws::joined_push))]
-fn add_unit(units: &mut Vec<u16>, literal: u16) -> Result<(), Memory>
-    ensures { OnOk result (IsJoined units.old.items units.new.items literal) }
-{
-    if units.contains(&literal) {
-        return Ok(());
-    }
-    units.push(literal).map_err(|_| Memory)
-}
-
-/// Watches one clause more.
-pub(crate) fn watch_clause(watches: &mut Watches, clause: &[u16]) -> Result<(), Memory>
-    requires small { All (λ x. x ≤ 8191) clause.now }
-    requires sized { length watches.old.lists.items ≡ 8192 }
-    ensures { OnOk result ((formula : List (List ℕ)) (marks : List Bool) → AreWatched formula watches.old marks → AreWatched (formula ++ clause.now ∷ []) watches.new marks) }
-{
-    let number = watches.pairs.len();
-    let none = Pair {
-        first: 0,
-        second: 0,
-    };
-    match kind_of(clause) {
-        Kind::Empty => {
-            watches.has_empty = true;
-            watches.pairs.push(none).map_err(|_| Memory)?;
-            Ok(())
-        }
-        Kind::Unit(literal) => {
-            add_unit(&mut watches.units, literal)?;
-            watches.pairs.push(none).map_err(|_| Memory)?;
-            Ok(())
-        }
-        Kind::Long(pair) => {
-            push_to(&mut watches.lists, pair.first, number)?;
-            push_to(&mut watches.lists, pair.second, number)?;
-            watches.pairs.push(pair).map_err(|_| Memory)?;
-            Ok(())
-        }
-    }
-}
-
 /// Empty lists.
 fn empty_lists(alloc: Global) -> Result<Vec<ItemList<usize>>, Memory>
     ensures { IfOk result (λ lists. lists.items ≡ replicate 8192 []) }
@@ -168,30 +133,4 @@ fn empty_lists(alloc: Global) -> Result<Vec<ItemList<usize>>, Memory>
         lists.push(ItemList::new(alloc)).map_err(|_| Memory)?;
     }
     Ok(lists)
-}
-
-/// The watches of no clause.
-#[tactic(auto, using(crate::proofs::StartLaws::ready_none))]
-fn no_watches(alloc: Global) -> Result<Watches, Memory>
-    ensures { IfOk result (λ w. (marks : List Bool) → AreWatched [] w marks) }
-{
-    let lists = empty_lists(alloc)?;
-    Ok(Watches {
-        pairs: Vec::new(alloc),
-        lists,
-        units: Vec::new(alloc),
-        has_empty: false,
-        spare: Vec::new(alloc),
-    })
-}
-
-/// The watches of a formula.
-pub(crate) fn watch_formula(alloc: Global, formula: &PlaceList) -> Result<Watches, Memory>
-    ensures { IfOk result (λ w. (marks : List Bool) → AreWatched formula.now w marks) }
-{
-    let mut watches = no_watches(alloc)?;
-    for number in 0..formula.len() {
-        watch_clause(&mut watches, formula.clause(number))?;
-    }
-    Ok(watches)
 }

@@ -1,29 +1,50 @@
-use Rattle.std.proofs.Common.{below_more, arith, ◌<◌, length, [], subst}
-use Rattle.rup_check.specs.Propagation.{known_before}
+use Rattle.std.proofs.Common.{below_more, rules, arith, ◌≡◌, ◌<◌, ◌+◌, ◌++◌, length, take, subst, sym, ap, length-append}
+use Rattle.rup_check.specs.Kept.{IsReady}
 use Rattle.rup_check.specs.Sets.{IsAnswer}
-use Rattle.rup_check.proofs.EndLaws.{answer_good}
-use Rattle.rup_check.proofs.StartLaws.{ready_more, ready_first}
+use Rattle.rup_check.proofs.EndLaws.{answer_good, answer_bad, ready_front, one_on}
 use Rattle.rup_check.proofs.check.first_bad.Goals as goal
 
 pub loop-number-init : goal.loop-number-init
 loop-number-init c = record {
-  assigned = c.requires.assigned;
-  empty = c.requires.empty;
   good = λ k l. absurd (omega arith);
-  ready = λ marks. ready_first c.args.formula.now c.args.proof.now c.args.watches.now.pairs.items c.args.watches.now.lists.items c.args.watches.now.units.items c.args.watches.now.has_empty marks (c.requires.ready marks);
+  ready = subst (λ z. IsReady z c.args.watches.now c.args.assignment.now) (ready_front c.args.formula.now c.args.proof.now) c.requires.ready;
 }
 
-pub watch_clause-requires-clause-sized : goal.watch_clause-requires-clause-sized
-watch_clause-requires-clause-sized c = (c.in_ok-good.ensures.ready []).state.sized
+pub overflow_add-known : goal.overflow_add-known
+overflow_add-known c =
+    let first : c.len-first.result ≡ length c.args.formula.now = search rules in
+    let l : c.loop-number.number < length c.args.proof.now = omega arith in
+    let fits = c.requires.fits in
+    omega (arith, length-append c.args.formula.now c.args.proof.now)
+
+pub has_property-requires-clause-ready : goal.has_property-requires-clause-ready
+has_property-requires-clause-ready c =
+    let first : c.len-first.result ≡ length c.args.formula.now = search rules in
+    subst (λ z. IsReady (take (z + c.loop-number.number) (c.args.formula.now ++ c.args.proof.now)) c.loop-number.watches c.loop-number.assignment) (sym first) c.loop-number.invariant.ready
+
+pub returns-then-not-good : goal.returns-then-not-good
+returns-then-not-good c =
+    let first : c.len-first.result ≡ length c.args.formula.now = search rules in
+    let l : c.loop-number.number < length c.args.proof.now = omega arith in
+    record {
+      in_range = l;
+      bad = answer_bad c.args.formula.now c.args.proof.now c.loop-number.number (c.len-first.result + c.loop-number.number) c.clause-clause.result.now (ap (λ z. z + c.loop-number.number) first) c.clause-clause.ensures.value (subst (λ b. IsAnswer (take (c.len-first.result + c.loop-number.number) (c.args.formula.now ++ c.args.proof.now)) c.clause-clause.result.now b) c.if-not-good.true c.in_ok-good.ensures.answer);
+      before = c.loop-number.invariant.good;
+    }
+
+pub add_clause-requires-clause-next : goal.add_clause-requires-clause-next
+add_clause-requires-clause-next c =
+    let first : c.len-first.result ≡ length c.args.formula.now = search rules in
+    let l : c.loop-number.number < length c.args.proof.now = omega arith in
+    omega (arith, length-append c.args.formula.now c.args.proof.now)
 
 pub loop-number-preserved : goal.loop-number-preserved
 loop-number-preserved c =
+    let first : c.len-first.result ≡ length c.args.formula.now = search rules in
     let l : c.loop-number.number < length c.args.proof.now = omega arith in
     record {
-      assigned = c.in_ok-good.ensures.assigned;
-      empty = c.in_ok-good.ensures.empty;
-      good = below_more _ _ c.loop-number.invariant.good (answer_good c.args.formula.now c.args.proof.now c.loop-number.number c.clause-clause.result.now c.clause-clause.ensures.value (subst (λ b. IsAnswer (known_before c.args.formula.now c.args.proof.now c.loop-number.number) c.clause-clause.result.now b) c.if-not-good.false c.in_ok-good.ensures.answer));
-      ready = λ marks. ready_more c.args.formula.now c.args.proof.now c.loop-number.number c.clause-clause.result.now c.watch_clause.new.watches.pairs.items c.watch_clause.new.watches.lists.items c.watch_clause.new.watches.units.items c.watch_clause.new.watches.has_empty marks l c.clause-clause.ensures.value (c.in_ok-watch_clause.ensures (known_before c.args.formula.now c.args.proof.now c.loop-number.number) marks (c.in_ok-good.ensures.ready marks));
+      good = below_more _ _ c.loop-number.invariant.good (answer_good c.args.formula.now c.args.proof.now c.loop-number.number (c.len-first.result + c.loop-number.number) c.clause-clause.result.now (ap (λ z. z + c.loop-number.number) first) c.clause-clause.ensures.value (subst (λ b. IsAnswer (take (c.len-first.result + c.loop-number.number) (c.args.formula.now ++ c.args.proof.now)) c.clause-clause.result.now b) c.if-not-good.false c.in_ok-good.ensures.answer));
+      ready = subst (λ z. IsReady (take z (c.args.formula.now ++ c.args.proof.now)) c.add_clause.new.watches c.add_clause.new.assignment) (one_on c.len-first.result (length c.args.formula.now) c.loop-number.number first) c.in_ok-add_clause.ensures;
     }
 
 pub returns : goal.returns

@@ -1,24 +1,15 @@
-use Rattle.std.proofs.Common.{subst, map}
-use Rattle.rup_check.specs.Propagation.{known_before}
-use Rattle.rup_check.specs.Assignments.{flipped}
-use Rattle.rup_check.specs.Sets.{IsBeginning}
-use Rattle.rup_check.proofs.EndLaws.{answer_clash, answer_of}
-use Rattle.rup_check.proofs.ForceLaws.{ready_still}
+use Rattle.std.proofs.Common.{subst, sym, ◌∙◌}
+use Rattle.rup_check.specs.Kept.{clauses_of}
+use Rattle.rup_check.specs.Watches.{IsRoot}
+use Rattle.rup_check.proofs.EndLaws.{answer_refuted}
 use Rattle.rup_check.proofs.propagation.has_property.Goals as goal
 
-pub returns-then-branch-clause-answer : goal.returns-then-branch-clause-answer
-returns-then-branch-clause-answer c =
-    answer_clash (known_before c.args.known.now.formula.now c.args.known.now.proof.now c.args.known.now.count) c.args.clause.now c.begin.new.assignment.marks.items (subst (λ w. IsBeginning (map flipped c.args.clause.now) c.begin.new.assignment.marks.items w) c.if-branch.true c.in_ok-begin.ensures.begun)
+pub returns-then-watches-clause-answer : goal.returns-then-watches-clause-answer
+returns-then-watches-clause-answer c = answer_refuted (clauses_of c.args.known.now) c.args.clause.now (subst (λ b. IsRoot (clauses_of c.args.known.now) c.args.watches.now.pairs.items c.args.watches.now.lists.items c.args.assignment.now.marks.items c.args.assignment.now.trail.items b) c.if-watches.true c.requires.ready)
 
-pub returns-clause-answer : goal.returns-clause-answer
-returns-clause-answer c =
-    answer_of (known_before c.args.known.now.formula.now c.args.known.now.proof.now c.args.known.now.count) c.args.clause.now c.begin.new.assignment.marks.items c.propagate.new.assignment.marks.items c.in_ok-conflict.conflict (subst (λ w. IsBeginning (map flipped c.args.clause.now) c.begin.new.assignment.marks.items w) c.if-branch.false c.in_ok-begin.ensures.begun) c.in_ok-conflict.ensures.grows c.in_ok-conflict.ensures.sound c.in_ok-conflict.ensures.end
-
-pub propagate-requires-clause-clean : goal.propagate-requires-clause-clean
-propagate-requires-clause-clean c = (subst (λ w. IsBeginning (map flipped c.args.clause.now) c.begin.new.assignment.marks.items w) c.if-branch.false c.in_ok-begin.ensures.begun).consistent
+pub has_conflict-requires-clause-rests : goal.has_conflict-requires-clause-rests
+has_conflict-requires-clause-rests c = (subst (λ b. IsRoot (clauses_of c.args.known.now) c.args.watches.now.pairs.items c.args.watches.now.lists.items c.args.assignment.now.marks.items c.args.assignment.now.trail.items b) c.if-watches.false c.requires.ready)
 
 pub returns-clause-ready : goal.returns-clause-ready
-returns-clause-ready c = λ marks. ready_still (known_before c.args.known.now.formula.now c.args.known.now.proof.now c.args.known.now.count) c.propagate.new.watches.units.items c.propagate.new.watches.has_empty c.propagate.new.watches.pairs.items c.propagate.new.watches.lists.items c.propagate.new.assignment.marks.items marks c.in_ok-conflict.ensures.ready
-
-pub propagate-requires-clause-ready : goal.propagate-requires-clause-ready
-propagate-requires-clause-ready c = c.requires.ready c.begin.new.assignment.marks.items
+returns-clause-ready c =
+    subst (λ b. IsRoot (clauses_of c.args.known.now) c.has_conflict.new.watches.pairs.items c.has_conflict.new.watches.lists.items c.has_conflict.new.assignment.marks.items c.has_conflict.new.assignment.trail.items b) (sym (c.has_conflict.ensures.refuted ∙ c.if-watches.false)) c.in_ok-conflict.ensures.rests

@@ -1,21 +1,22 @@
-use Rattle.std.proofs.Common.{◌≡◌, List, ℕ, vec_len}
-use Rattle.rup_check.specs.Propagation.{known_before}
+use Rattle.std.proofs.Common.{◌≡◌, ◌≤◌, List, ℕ, [], length, take, get_or}
+use Rattle.rup_check.specs.Kept.{clauses_of}
 use Rattle.rup_check.specs.Assignments.{IsAssignment}
 use Rattle.rup_check.specs.Sets.{KeepsSound, Grows}
 use Rattle.rup_check.specs.Watches.{IsState, IsWatch, IsClean, Extends}
 use Rattle.rup_check.proofs.turns.visit.Given as goal
 
-abbrev pub invariant-loop-number : goal.invariant-loop-number
-invariant-loop-number l = record {
+abbrev pub invariant-loop-left : goal.invariant-loop-left
+invariant-loop-left l = record {
   assigned : IsAssignment l.assignment.marks.items l.assignment.trail.items;
   clean : IsClean l.assignment.marks.items;
   grows : Grows l.fn.assignment.marks.items l.assignment.marks.items;
-  sound : KeepsSound (known_before l.known.formula.now l.known.proof.now l.known.count) l.fn.assignment.marks.items l.assignment.marks.items;
+  sound : KeepsSound (clauses_of l.known) l.fn.assignment.marks.items l.assignment.marks.items;
   trail : Extends l.fn.assignment.trail.items l.assignment.trail.items;
-  units : l.watches.units.items ≡ l.fn.watches.units.items;
-  empty : l.watches.has_empty ≡ l.fn.watches.has_empty;
-  watch : (done : List ℕ) → IsState (known_before l.known.formula.now l.known.proof.now l.known.count) l.fn.watches.pairs.items l.fn.watches.lists.items l.fn.watches.units.items l.fn.watches.has_empty l.fn.assignment.marks.items done → IsWatch (known_before l.known.formula.now l.known.proof.now l.known.count) l.watches.pairs.items l.watches.lists.items l.fn.watches.units.items l.fn.watches.has_empty l.pending.items l.literal l.assignment.marks.items done;
+  refuted : l.watches.refuted ≡ l.fn.watches.refuted;
+  within : l.left ≤ length l.list.items;
+  out : get_or l.watches.lists.items l.literal [] ≡ [];
+  watch : (units base done : List ℕ) → IsState (clauses_of l.known) l.fn.watches.pairs.items l.fn.watches.lists.items units base l.fn.assignment.marks.items done → IsWatch (clauses_of l.known) l.watches.pairs.items l.watches.lists.items units base l.list.items (take l.left l.list.items) l.literal l.assignment.marks.items done;
 }
 
-abbrev pub decreases-loop-number : goal.decreases-loop-number
-decreases-loop-number l = vec_len l.pending
+abbrev pub decreases-loop-left : goal.decreases-loop-left
+decreases-loop-left l = l.left
