@@ -1,5 +1,5 @@
 -- Each line's promise is lawful.
-use Rattle.std.proofs.Common.{◌≡◌, ℕ, zero, suc, ◌<◌, List, [], ◌∷◌, length, refl, sym, ap, subst, ◌∙◌, arith}
+use Rattle.std.proofs.Common.{◌≡◌, ℕ, ℤ, Option, None, zero, suc, ◌<◌, List, [], ◌∷◌, length, refl, sym, ap, subst, ◌∙◌, arith}
 use Rattle.std.specs.Prelude.{Contains}
 use Rattle.std.proofs.lemmas.List.Elements.{Contains-append_left, Contains-push}
 use Rattle.dcsp_problem.specs.Problems.{Contents, csp_of}
@@ -15,12 +15,13 @@ use Rattle.abt_promise.specs.Statuses.{IsFinal, IsRefusal}
 use Rattle.abt_promise.specs.Promises.{Report, answered, refused}
 use Rattle.abt_promise.specs.Clauses.{IsLawful}
 use Rattle.abt_input.specs.declared.error.CommandError.{CommandError}
-use Rattle.abt_input.specs.declared.error.CommandError.TheVariants.{ModelLong, ModelRefused, LogLong, LogLine, ScheduleLong, ScheduleLine, Clauses, Fault, Memory}
-use Rattle.abt_input.specs.Errors.{IsErrorOfModel, error_status, error_text}
+use Rattle.abt_input.specs.declared.error.CommandError.TheVariants.{ModelLong, ModelRefused, NoAim, LogLong, LogLine, ScheduleLong, ScheduleLine, Clauses, Fault, Memory}
+use Rattle.abt_input.specs.Errors.{error_status, error_text}
 use Rattle.abt_input.specs.Inputs.{most_log}
-use Rattle.abt_input.proofs.Once.{one_problem, no_error_of_model, one_error_of_model}
-use Rattle.abt_check.specs.Checks.{HasEntries, IsEntryBadAt, IsErrorOfEntries, IsFoundFor, IsFound, finding_status, finding_text}
-use Rattle.abt_check.specs.CheckReports.{CheckReport, bad_model, bad_log, found, CheckReports, CheckFetches, check_promise}
+use Rattle.abt_check.specs.Taking.{Taking, plain, taking_of}
+use Rattle.abt_check.specs.Checks.{HasEntries, IsEntryBadAt, IsErrorOfEntries, IsFoundFor, IsFoundBy, IsFound, finding_status, finding_text}
+use Rattle.abt_check.specs.CheckReports.{ReportBy, bad_model, bad_log, found, ReportsBy, FetchesBy, check_promise}
+use Rattle.abt_check.proofs.Taken.{IsSettled, settled, final_of_model}
 
 never : {A : Type 0} {x : A} → Contains [] x → ⊥
 never (i, below, is) = omega arith
@@ -49,6 +50,7 @@ of_entries log LogLong h = long_log h refl
 of_entries log (LogLine number) h = bad_line number h refl
 of_entries log ScheduleLong h = absurd h
 of_entries log (ScheduleLine number) h = absurd h
+of_entries log NoAim h = absurd h
 of_entries log (Clauses error) h = absurd h
 of_entries log Fault h = absurd h
 of_entries log Memory h = absurd h
@@ -83,45 +85,38 @@ one_found_for p log f g h k =
     let s = one_list log h.entries k.entries h.log_is k.log_is in
     one_finding_of (csp_of p) k.entries f g (subst (λ x. IsFindingOf (csp_of p) x f) s h.found) k.found
 
-pub one_found : (model log : List ℕ) (f g : Finding) → IsFound model log f → IsFound model log g → f ≡ g
-one_found model log f g h k =
-    let p = one_problem model h.problem k.problem h.model_is k.model_is in
+found_once : (t : Taking) → IsSettled t → (model log : List ℕ) (f g : Finding) → IsFoundBy t model log f → IsFoundBy t model log g → f ≡ g
+found_once t sure model log f g h k =
+    let p = sure.one model h.problem k.problem h.model_is k.model_is in
     one_found_for k.problem log f g (subst (λ x. IsFoundFor x log f) p h.log_found) k.log_found
 
-one_check : (model log : List ℕ) (r s : Report) → CheckReport model log r → CheckReport model log s → r ≡ s
-one_check model log r s (bad_model e h i) (bad_model d k j) = i ∙ ap (λ x. refused (error_status x) (error_text x)) (one_error_of_model model e d h k) ∙ sym j
-one_check model log r s (bad_model e h i) (bad_log d p k j) = absurd (no_error_of_model model p.0 e p.1 h)
-one_check model log r s (bad_model e h i) (found f k j) = absurd (no_error_of_model model k.problem e k.model_is h)
-one_check model log r s (bad_log d p k j) (bad_model e h i) = absurd (no_error_of_model model p.0 e p.1 h)
-one_check model log r s (bad_log d p k j) (bad_log e q h i) = j ∙ ap (λ x. refused (error_status x) (error_text x)) (one_error_of_entries log d e k h) ∙ sym i
-one_check model log r s (bad_log d p k j) (found f h i) = absurd (no_error_of_entries log h.log_found.entries d h.log_found.log_is k)
-one_check model log r s (found f k j) (bad_model e h i) = absurd (no_error_of_model model k.problem e k.model_is h)
-one_check model log r s (found f k j) (bad_log e q h i) = absurd (no_error_of_entries log k.log_found.entries e k.log_found.log_is h)
-one_check model log r s (found f k j) (found g h i) = j ∙ ap (λ x. answered (finding_status x) (Put (finding_text x) ∷ [])) (one_found model log f g k h) ∙ sym i
+pub one_found : (model log : List ℕ) (f g : Finding) → IsFound model log f → IsFound model log g → f ≡ g
+one_found = found_once plain (settled None)
 
-one_reports : (inputs : List (List ℕ)) (r s : Report) → CheckReports inputs r → CheckReports inputs s → r ≡ s
-one_reports [] r s h k = absurd h
-one_reports (model ∷ []) r s h k = absurd h
-one_reports (model ∷ log ∷ []) r s h k = one_check model log r s h k
-one_reports (model ∷ log ∷ x ∷ more) r s h k = absurd h
+module _ (t : Taking) (sure : IsSettled t) where
+  one_check : (model log : List ℕ) (r s : Report) → ReportBy t model log r → ReportBy t model log s → r ≡ s
+  one_check model log r s (bad_model e h i) (bad_model d k j) = i ∙ ap (λ x. refused (error_status x) (error_text x)) (sure.one_error model e d h k) ∙ sym j
+  one_check model log r s (bad_model e h i) (bad_log d p k j) = absurd (sure.none model p.0 e p.1 h)
+  one_check model log r s (bad_model e h i) (found f k j) = absurd (sure.none model k.problem e k.model_is h)
+  one_check model log r s (bad_log d p k j) (bad_model e h i) = absurd (sure.none model p.0 e p.1 h)
+  one_check model log r s (bad_log d p k j) (bad_log e q h i) = j ∙ ap (λ x. refused (error_status x) (error_text x)) (one_error_of_entries log d e k h) ∙ sym i
+  one_check model log r s (bad_log d p k j) (found f h i) = absurd (no_error_of_entries log h.log_found.entries d h.log_found.log_is k)
+  one_check model log r s (found f k j) (bad_model e h i) = absurd (sure.none model k.problem e k.model_is h)
+  one_check model log r s (found f k j) (bad_log e q h i) = absurd (no_error_of_entries log k.log_found.entries e k.log_found.log_is h)
+  one_check model log r s (found f k j) (found g h i) = j ∙ ap (λ x. answered (finding_status x) (Put (finding_text x) ∷ [])) (found_once t sure model log f g k h) ∙ sym i
 
--- a report is that of a model and a log
-of_two : (inputs : List (List ℕ)) (r : Report) → CheckReports inputs r → (model : List ℕ) × (log : List ℕ) × CheckReport model log r
-of_two [] r h = absurd h
-of_two (model ∷ []) r h = absurd h
-of_two (model ∷ log ∷ []) r h = (model, log, h)
-of_two (model ∷ log ∷ x ∷ more) r h = absurd h
+  one_reports : (inputs : List (List ℕ)) (r s : Report) → ReportsBy t inputs r → ReportsBy t inputs s → r ≡ s
+  one_reports [] r s h k = absurd h
+  one_reports (model ∷ []) r s h k = absurd h
+  one_reports (model ∷ log ∷ []) r s h k = one_check model log r s h k
+  one_reports (model ∷ log ∷ x ∷ more) r s h k = absurd h
 
-final_error : (e : CommandError) (model : List ℕ) → IsErrorOfModel model e → IsFinal (error_status e)
-final_error ModelLong model h = tt
-final_error (ModelRefused error) model h = tt
-final_error LogLong model h = tt
-final_error (LogLine number) model h = tt
-final_error ScheduleLong model h = tt
-final_error (ScheduleLine number) model h = tt
-final_error (Clauses error) model h = absurd h
-final_error Fault model h = h
-final_error Memory model h = h
+  -- a report is that of a model and a log
+  of_two : (inputs : List (List ℕ)) (r : Report) → ReportsBy t inputs r → (model : List ℕ) × (log : List ℕ) × ReportBy t model log r
+  of_two [] r h = absurd h
+  of_two (model ∷ []) r h = absurd h
+  of_two (model ∷ log ∷ []) r h = (model, log, h)
+  of_two (model ∷ log ∷ x ∷ more) r h = absurd h
 
 final_log_error : (e : CommandError) (log : List ℕ) → IsErrorOfEntries log e → IsFinal (error_status e)
 final_log_error ModelLong log h = tt
@@ -130,6 +125,7 @@ final_log_error LogLong log h = tt
 final_log_error (LogLine number) log h = tt
 final_log_error ScheduleLong log h = tt
 final_log_error (ScheduleLine number) log h = tt
+final_log_error NoAim log h = tt
 final_log_error (Clauses error) log h = absurd h
 final_log_error Fault log h = h
 final_log_error Memory log h = h
@@ -140,10 +136,10 @@ final_finding (BadStep step) = tt
 final_finding (BadDeletion after) = tt
 final_finding NotEmpty = tt
 
-final_check : (model log : List ℕ) (r : Report) → CheckReport model log r → IsFinal r.status
-final_check model log r (bad_model e h i) = subst (λ y. IsFinal y.status) (sym i) (final_error e model h)
-final_check model log r (bad_log e p h i) = subst (λ y. IsFinal y.status) (sym i) (final_log_error e log h)
-final_check model log r (found f h i) = subst (λ y. IsFinal y.status) (sym i) (final_finding f)
+final_check : (t : Taking) → IsSettled t → (model log : List ℕ) (r : Report) → ReportBy t model log r → IsFinal r.status
+final_check t sure model log r (bad_model e h i) = subst (λ y. IsFinal y.status) (sym i) (final_of_model e (sure.of_model model e h))
+final_check t sure model log r (bad_log e p h i) = subst (λ y. IsFinal y.status) (sym i) (final_log_error e log h)
+final_check t sure model log r (found f h i) = subst (λ y. IsFinal y.status) (sym i) (final_finding f)
 
 good_finding : (f : Finding) → IsRefusal (finding_status f) → ⊥
 good_finding Verified h = h
@@ -151,27 +147,27 @@ good_finding (BadStep step) h = h
 good_finding (BadDeletion after) h = h
 good_finding NotEmpty h = h
 
-quiet_check : (model log : List ℕ) (r : Report) → CheckReport model log r → IsRefusal r.status → r.script ≡ []
-quiet_check model log r (bad_model e h i) bad = ap (λ y. y.script) i
-quiet_check model log r (bad_log e p h i) bad = ap (λ y. y.script) i
-quiet_check model log r (found f h i) bad = absurd (good_finding f (subst (λ y. IsRefusal y.status) i bad))
+quiet_check : (t : Taking) (model log : List ℕ) (r : Report) → ReportBy t model log r → IsRefusal r.status → r.script ≡ []
+quiet_check t model log r (bad_model e h i) bad = ap (λ y. y.script) i
+quiet_check t model log r (bad_log e p h i) bad = ap (λ y. y.script) i
+quiet_check t model log r (found f h i) bad = absurd (good_finding f (subst (λ y. IsRefusal y.status) i bad))
 
-names_check : (names : List (List ℕ)) (model log : List ℕ) (r : Report) → CheckReport model log r → (w : Write) → Contains r.script w → (name : List ℕ) → Touches w name → Contains names name
-names_check names model log r (bad_model e h i) = none_alone names r.script (ap (λ y. y.script) i)
-names_check names model log r (bad_log e p h i) = none_alone names r.script (ap (λ y. y.script) i)
-names_check names model log r (found f h i) = put_alone (finding_text f) names r.script (ap (λ y. y.script) i)
+names_check : (t : Taking) (names : List (List ℕ)) (model log : List ℕ) (r : Report) → ReportBy t model log r → (w : Write) → Contains r.script w → (name : List ℕ) → Touches w name → Contains names name
+names_check t names model log r (bad_model e h i) = none_alone names r.script (ap (λ y. y.script) i)
+names_check t names model log r (bad_log e p h i) = none_alone names r.script (ap (λ y. y.script) i)
+names_check t names model log r (found f h i) = put_alone (finding_text f) names r.script (ap (λ y. y.script) i)
 
-reads_check : (m l : List ℕ) (before : List (List ℕ)) (name : List ℕ) → CheckFetches m l before name → Contains (m ∷ l ∷ []) name
-reads_check m l [] name h = subst (λ n. Contains (m ∷ l ∷ []) n) (sym h) (Contains-append_left (m ∷ []) (l ∷ []) m (Contains-push [] m))
-reads_check m l (model ∷ []) name h = subst (λ n. Contains (m ∷ l ∷ []) n) (sym h.0) (Contains-push (m ∷ []) l)
-reads_check m l (model ∷ log ∷ more) name h = absurd h
+reads_check : (t : Taking) (m l : List ℕ) (before : List (List ℕ)) (name : List ℕ) → FetchesBy t m l before name → Contains (m ∷ l ∷ []) name
+reads_check t m l [] name h = subst (λ n. Contains (m ∷ l ∷ []) n) (sym h) (Contains-append_left (m ∷ []) (l ∷ []) m (Contains-push [] m))
+reads_check t m l (model ∷ []) name h = subst (λ n. Contains (m ∷ l ∷ []) n) (sym h.0) (Contains-push (m ∷ []) l)
+reads_check t m l (model ∷ log ∷ more) name h = absurd h
 
 -- checking
-pub check_lawful : (m l : List ℕ) → IsLawful (check_promise m l)
-check_lawful m l = record {
-  one = one_reports;
-  final = λ inputs r h. let x = of_two inputs r h in final_check x.0 x.1 r x.2;
-  quiet = λ inputs r h bad. let x = of_two inputs r h in quiet_check x.0 x.1 r x.2 bad;
-  names = λ inputs r h. let x = of_two inputs r h in names_check [] x.0 x.1 r x.2;
-  reads = reads_check m l;
+pub check_lawful : (better : Option ℤ) (m l : List ℕ) → IsLawful (check_promise (taking_of better) m l)
+check_lawful better m l = let t = taking_of better in let sure = settled better in record {
+  one = one_reports t sure;
+  final = λ inputs r h. let x = of_two t sure inputs r h in final_check t sure x.0 x.1 r x.2;
+  quiet = λ inputs r h bad. let x = of_two t sure inputs r h in quiet_check t x.0 x.1 r x.2 bad;
+  names = λ inputs r h. let x = of_two t sure inputs r h in names_check t [] x.0 x.1 r x.2;
+  reads = reads_check t m l;
 }

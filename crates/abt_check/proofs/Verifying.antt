@@ -1,5 +1,5 @@
 -- A log of a refutation is verified.
-use Rattle.std.proofs.Common.{◌≡◌, ℕ, ◌+◌, List, [], ◌∷◌, ◌++◌, Option, codes, refl, sym, ap, ◌∙◌}
+use Rattle.std.proofs.Common.{◌≡◌, ℕ, ℤ, ◌+◌, List, [], ◌∷◌, ◌++◌, Option, None, codes, refl, sym, ap, ◌∙◌}
 use Rattle.std.specs.List.{concat}
 use Rattle.dcsp_outside.specs.Outside.{bytes_of}
 use Rattle.dcsp_defs.specs.declared.Step.{Step}
@@ -21,9 +21,10 @@ use Rattle.abt_promise.specs.Promises.{answered}
 use Rattle.abt_promise.specs.Runs.{Ran}
 use Rattle.abt_promise.proofs.Following.{report_did}
 use Rattle.abt_input.specs.Inputs.{IsModelOf, IsTextOf}
+use Rattle.abt_check.specs.Taking.{taking_of}
 use Rattle.abt_check.specs.Checks.{IsFoundFor, finding_status, finding_text}
-use Rattle.abt_check.specs.CheckReports.{CheckReport, found, check_promise}
-use Rattle.abt_check.specs.Verifying.{VerifiesUnlessStopped, IsVerified}
+use Rattle.abt_check.specs.CheckReports.{ReportBy, found, check_promise}
+use Rattle.abt_check.specs.Verifying.{VerifiesUnlessStopped, IsVerifiedBy, IsVerified}
 use Rattle.abt_check.proofs.Lawful.{check_lawful}
 
 -- steps have the same lines as entries
@@ -43,18 +44,18 @@ refutation_found log p steps is refutes = record {
   found = (one_form (csp_of p) steps).refutation.0 refutes;
 }
 
--- the files hold a model and the log of a refutation of its problem
-pub refutation_verified : (files : List ℕ → Option (List ℕ)) (model log : List ℕ) (p : Contents) (steps : List Step) → IsModelOf (bytes_of (files model)) p → IsTextOf (bytes_of (files log)) steps → IsRefutation (csp_of p) steps → IsVerified files model log
-refutation_verified files model log p steps is_model is_log refutes old new err now status told ran = by_status status ran
+-- the files hold a model and the log of a refutation of the problem that is taken of it
+pub refutation_verified_by : (better : Option ℤ) (files : List ℕ → Option (List ℕ)) (model log : List ℕ) (p : Contents) (steps : List Step) → (taking_of better).Is (bytes_of (files model)) p → IsTextOf (bytes_of (files log)) steps → IsRefutation (csp_of p) steps → IsVerifiedBy (taking_of better) files model log
+refutation_verified_by better files model log p steps is_model is_log refutes old new err now status told ran = by_status status ran
   where
-    report_is : CheckReport (bytes_of (files model)) (bytes_of (files log)) (answered (finding_status Verified) (Put (finding_text Verified) ∷ []))
+    report_is : ReportBy (taking_of better) (bytes_of (files model)) (bytes_of (files log)) (answered (finding_status Verified) (Put (finding_text Verified) ∷ []))
     report_is = found Verified (record { problem = p; model_is = is_model; log_found = refutation_found (bytes_of (files log)) p steps is_log refutes }) refl
 
     -- a final status is that of the one report
-    good : (s : Status) → Ran (check_promise model log) old new err now s → IsFinal s → s ≡ Good
-    good s r f = (report_did (check_promise model log) (check_lawful model log) old new err now files told (answered (finding_status Verified) (Put (finding_text Verified) ∷ [])) report_is s r f).0
+    good : (s : Status) → Ran (check_promise (taking_of better) model log) old new err now s → IsFinal s → s ≡ Good
+    good s r f = (report_did (check_promise (taking_of better) model log) (check_lawful better model log) old new err now files told (answered (finding_status Verified) (Put (finding_text Verified) ∷ [])) report_is s r f).0
 
-    by_status : (s : Status) → Ran (check_promise model log) old new err now s → VerifiesUnlessStopped s
+    by_status : (s : Status) → Ran (check_promise (taking_of better) model log) old new err now s → VerifiesUnlessStopped s
     by_status Good r = tt
     by_status No r = absurd (let e = good No r tt in cc)
     by_status Words r = r
@@ -63,3 +64,7 @@ refutation_verified files model log p steps is_model is_log refutes old new err 
     by_status Unfinished r = absurd (let e = good Unfinished r tt in cc)
     by_status Fault r = tt
     by_status Memory r = tt
+
+-- the same of the model's own problem
+pub refutation_verified : (files : List ℕ → Option (List ℕ)) (model log : List ℕ) (p : Contents) (steps : List Step) → IsModelOf (bytes_of (files model)) p → IsTextOf (bytes_of (files log)) steps → IsRefutation (csp_of p) steps → IsVerified files model log
+refutation_verified = refutation_verified_by None

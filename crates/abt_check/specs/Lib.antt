@@ -1,3 +1,4 @@
+pub mod Taking
 pub mod Checks
 pub mod LogChecks
 pub mod CheckReports

@@ -8,34 +8,42 @@ ghost use Rattle.abt_promise.specs.Runs.{CameIn};
 ghost use Rattle.abt_input.specs.Errors.{way_of};
 ghost use Rattle.abt_input.specs.Files.{UnlessFault};
 ghost use Rattle.abt_input.specs.Replies.{reply_bytes};
-ghost use Rattle.abt_check.specs.Checks.{IsFoundIn, FetchesFailed, IsRefuted, finding_status, finding_text};
+ghost use Rattle.abt_check.specs.Checks.{IsFoundIn, FetchesFailed, IsRefutedBy, finding_status, finding_text};
+ghost use Rattle.abt_check.specs.Taking.{taking_of};
 ghost use Rattle.abt_check.specs.CheckReports.{check_promise};
 
+use crate::asked::take_problem;
 use crate::pieces::check_log;
-use abt_input::{CommandError, Reply, numbered, read_model};
+use abt_input::{CommandError, Reply, numbered};
 use abt_promise::Status;
 use dcsp_outside::{Folder, Sink};
 use dcsp_script::{Stop, put};
 use ngd_check::Finding;
 use std::alloc::{AllocError, Global};
 
-/// What is found of the log's entries for the model's problem. The model is read first.
-fn find<F: Folder>(
-    alloc: Global,
-    folder: &mut F,
-    model: &str,
-    log: &str,
-) -> Result<Finding, CommandError>
-    ensures found { IsFoundIn (F.place folder.old).held model.now log.now result }
-    ensures verified { result ≡ Ok Finding.Verified → IsRefuted (F.place folder.old).held model.now }
+/// The words of `check`.
+#[derive(Clone, Copy)]
+pub struct Check<'w> {
+    /// The name of the model.
+    pub model: &'w str,
+    /// The name of the log.
+    pub log: &'w str,
+    /// The value at the model's aim than which no solution is to have a better one, where one is given.
+    pub better: Option<i64>,
+}
+
+/// What is found of the log's entries for the problem that is taken of the model. The model is read first.
+fn find<F: Folder>(alloc: Global, folder: &mut F, line: Check<'_>) -> Result<Finding, CommandError>
+    ensures found { IsFoundIn (taking_of line.entry.better) (F.place folder.old).held line.entry.model.now line.entry.log.now result }
+    ensures verified { result ≡ Ok Finding.Verified → IsRefutedBy (taking_of line.entry.better) (F.place folder.old).held line.entry.model.now }
     ensures held { (F.place folder.new).held ≡ (F.place folder.old).held }
     ensures created { (F.place folder.new).created ≡ (F.place folder.old).created }
     ensures counts { UnlessFault result (SameCounts (F.place folder.old) (F.place folder.new)) }
     ensures fault { result ≡ Err CommandError.Fault
-        → FetchesFailed model.now log.now (F.place folder.old) (F.place folder.new) }
+        → FetchesFailed (taking_of line.entry.better) line.entry.model.now line.entry.log.now (F.place folder.old) (F.place folder.new) }
 {
-    let problem = read_model(alloc, folder, model)?;
-    check_log(alloc, folder, &problem, log)
+    let problem = take_problem(alloc, folder, line.model, line.better)?;
+    check_log(alloc, folder, &problem, line.log)
 }
 
 /// The status of a finding.
@@ -69,20 +77,19 @@ fn tell<S: Sink>(alloc: Global, finding: Finding, out: &mut S) -> Result<(), Sto
     put(out, reply.bytes())
 }
 
-/// Checks the log against the model, and puts the finding's line on `out`.
+/// Checks the log against the problem that is taken of the model, and puts the finding's line on `out`.
 pub fn run_check<F: Folder, S: Sink>(
     alloc: Global,
     folder: &mut F,
-    model: &str,
-    log: &str,
+    line: Check<'_>,
     out: &mut S,
 ) -> Result<Status, CommandError>
-    ensures came { CameIn (check_promise model.now log.now)
+    ensures came { CameIn (check_promise (taking_of line.entry.better) line.entry.model.now line.entry.log.now)
         (outside (F.place folder.old) (S.stream out.old))
         (outside (F.place folder.new) (S.stream out.new)) (way_of result) }
-    ensures verified { result ≡ Ok Status.Good → IsRefuted (F.place folder.old).held model.now }
+    ensures verified { result ≡ Ok Status.Good → IsRefutedBy (taking_of line.entry.better) (F.place folder.old).held line.entry.model.now }
 {
-    let finding = find(alloc, folder, model, log)?;
+    let finding = find(alloc, folder, line)?;
     tell(alloc, finding, out)?;
     Ok(finding_status(finding))
 }

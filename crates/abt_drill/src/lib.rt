@@ -4,8 +4,6 @@
 mod drill;
 mod laws;
 mod run;
-#[cfg(test)]
-mod tests;
 mod text;
 
 pub use drill::run_drill;

@@ -11,7 +11,7 @@ use Rattle.cnf_front.specs.declared.header.CnfError.{CnfError}
 use Rattle.rup_check.specs.declared.reader.ProofError.TheVariants as proofs
 use Rattle.rup_check.proofs.ProofLaws.{accepted, refused}
 use Rattle.abt_input.specs.declared.error.CommandError.{CommandError}
-use Rattle.abt_input.specs.declared.error.CommandError.TheVariants.{ModelLong, ModelRefused, LogLong, LogLine, ScheduleLong, ScheduleLine, Clauses, Fault, Memory}
+use Rattle.abt_input.specs.declared.error.CommandError.TheVariants.{ModelLong, ModelRefused, NoAim, LogLong, LogLine, ScheduleLong, ScheduleLine, Clauses, Fault, Memory}
 use Rattle.abt_input.specs.declared.clauses_error.ClausesError.TheVariants.{CnfLong, CnfRefused, ProofLong, ProofLine}
 use Rattle.abt_input.specs.Inputs.{most_model, most_log, most_schedule, most_cnf, IsModelOf, IsRefused, IsTextOf, IsBadAt, HasChoices, IsScheduleBadAt, IsFormulaOf, IsCnfRefused, HasClauses, IsProofBadAt}
 use Rattle.abt_input.specs.Errors.{IsErrorOfModel, IsErrorOfLog, IsErrorOfSchedule, IsErrorOfCnf, IsErrorOfProof}
@@ -37,6 +37,7 @@ of_model model LogLong h = absurd h
 of_model model (LogLine number) h = absurd h
 of_model model ScheduleLong h = absurd h
 of_model model (ScheduleLine number) h = absurd h
+of_model model NoAim h = absurd h
 of_model model (Clauses error) h = absurd h
 of_model model Fault h = absurd h
 of_model model Memory h = absurd h
@@ -48,6 +49,7 @@ of_log log LogLong h = long_log h refl
 of_log log (LogLine number) h = bad_line number h refl
 of_log log ScheduleLong h = absurd h
 of_log log (ScheduleLine number) h = absurd h
+of_log log NoAim h = absurd h
 of_log log (Clauses error) h = absurd h
 of_log log Fault h = absurd h
 of_log log Memory h = absurd h
@@ -59,6 +61,7 @@ of_schedule schedule LogLong h = absurd h
 of_schedule schedule (LogLine number) h = absurd h
 of_schedule schedule ScheduleLong h = long_schedule h refl
 of_schedule schedule (ScheduleLine number) h = bad_choice number h refl
+of_schedule schedule NoAim h = absurd h
 of_schedule schedule (Clauses error) h = absurd h
 of_schedule schedule Fault h = absurd h
 of_schedule schedule Memory h = absurd h
@@ -78,6 +81,7 @@ of_cnf text LogLong h = absurd h
 of_cnf text (LogLine number) h = absurd h
 of_cnf text ScheduleLong h = absurd h
 of_cnf text (ScheduleLine number) h = absurd h
+of_cnf text NoAim h = absurd h
 of_cnf text (Clauses CnfLong) h = long_cnf h refl
 of_cnf text (Clauses (CnfRefused error)) h = no_formula error h refl
 of_cnf text (Clauses ProofLong) h = absurd h
@@ -92,6 +96,7 @@ of_proof text LogLong h = absurd h
 of_proof text (LogLine number) h = absurd h
 of_proof text ScheduleLong h = absurd h
 of_proof text (ScheduleLine number) h = absurd h
+of_proof text NoAim h = absurd h
 of_proof text (Clauses CnfLong) h = absurd h
 of_proof text (Clauses (CnfRefused error)) h = absurd h
 of_proof text (Clauses ProofLong) h = long_proof h refl

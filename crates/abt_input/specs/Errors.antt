@@ -13,7 +13,7 @@ use Rattle.abt_input.specs.ModelTexts.{model_error_text}
 use Rattle.abt_input.specs.ClausesErrors.{clauses_status, clauses_text}
 use Rattle.abt_input.specs.Inputs.{most_model, most_log, most_schedule, most_cnf, IsRefused, IsBadAt, IsScheduleBadAt, IsCnfRefused, IsProofBadAt}
 use Rattle.abt_input.specs.declared.error.CommandError.{CommandError}
-use Rattle.abt_input.specs.declared.error.CommandError.TheVariants.{ModelLong, ModelRefused, LogLong, LogLine, ScheduleLong, ScheduleLine, Clauses, Fault, Memory}
+use Rattle.abt_input.specs.declared.error.CommandError.TheVariants.{ModelLong, ModelRefused, NoAim, LogLong, LogLine, ScheduleLong, ScheduleLine, Clauses, Fault, Memory}
 use Rattle.abt_input.specs.declared.clauses_error.ClausesError.TheVariants.{CnfLong, CnfRefused, ProofLong, ProofLine}
 
 -- the error of a command that was stopped
@@ -39,6 +39,7 @@ error_status LogLong = statuses.Text
 error_status (LogLine number) = statuses.Text
 error_status ScheduleLong = statuses.Text
 error_status (ScheduleLine number) = statuses.Text
+error_status NoAim = statuses.Model
 error_status (Clauses error) = clauses_status error
 error_status Fault = statuses.Fault
 error_status Memory = statuses.Memory
@@ -51,6 +52,7 @@ error_text LogLong = codes "abt: log: too long\n"
 error_text (LogLine number) = codes "abt: log: line " ++ decimal number ++ codes "\n"
 error_text ScheduleLong = codes "abt: schedule: too long\n"
 error_text (ScheduleLine number) = codes "abt: schedule: line " ++ decimal number ++ codes "\n"
+error_text NoAim = codes "abt: model: no aim\n"
 error_text (Clauses error) = clauses_text error
 error_text Fault = codes "abt: fault\n"
 error_text Memory = codes "abt: memory\n"
@@ -63,6 +65,7 @@ IsErrorOfModel model LogLong = ⊥
 IsErrorOfModel model (LogLine number) = ⊥
 IsErrorOfModel model ScheduleLong = ⊥
 IsErrorOfModel model (ScheduleLine number) = ⊥
+IsErrorOfModel model NoAim = ⊥
 IsErrorOfModel model (Clauses error) = ⊥
 IsErrorOfModel model Fault = ⊥
 IsErrorOfModel model Memory = ⊥
@@ -75,6 +78,7 @@ IsErrorOfLog log LogLong = most_log < length log
 IsErrorOfLog log (LogLine number) = IsBadAt log number
 IsErrorOfLog log ScheduleLong = ⊥
 IsErrorOfLog log (ScheduleLine number) = ⊥
+IsErrorOfLog log NoAim = ⊥
 IsErrorOfLog log (Clauses error) = ⊥
 IsErrorOfLog log Fault = ⊥
 IsErrorOfLog log Memory = ⊥
@@ -87,6 +91,7 @@ IsErrorOfSchedule schedule LogLong = ⊥
 IsErrorOfSchedule schedule (LogLine number) = ⊥
 IsErrorOfSchedule schedule ScheduleLong = most_schedule < length schedule
 IsErrorOfSchedule schedule (ScheduleLine number) = IsScheduleBadAt schedule number
+IsErrorOfSchedule schedule NoAim = ⊥
 IsErrorOfSchedule schedule (Clauses error) = ⊥
 IsErrorOfSchedule schedule Fault = ⊥
 IsErrorOfSchedule schedule Memory = ⊥

@@ -20,6 +20,8 @@ pub enum CommandError {
     ModelLong,
     /// The model has no problem, and this is why. It is never want of memory.
     ModelRefused { error: ModelError },
+    /// The model has a problem, and what it wants of a solution is at no variable, where a better value is asked for.
+    NoAim,
     /// The log has more than 2^62 bytes.
     LogLong,
     /// The text is no log, and this is its first bad line, counted from 1.
@@ -93,7 +95,9 @@ pub fn error_status(error: CommandError) -> Status
     ensures { result ≡ error_status error }
 {
     match error {
-        CommandError::ModelLong | CommandError::ModelRefused { .. } => Status::Model,
+        CommandError::ModelLong | CommandError::ModelRefused { .. } | CommandError::NoAim => {
+            Status::Model
+        }
         CommandError::LogLong
         | CommandError::LogLine { .. }
         | CommandError::ScheduleLong
@@ -111,6 +115,7 @@ pub fn error_reply(alloc: Global, error: CommandError) -> Result<Reply, AllocErr
     match error {
         CommandError::ModelLong => Ok(Reply::Fixed(b"abt: model: too long\n")),
         CommandError::ModelRefused { error } => model_error_reply(alloc, error),
+        CommandError::NoAim => Ok(Reply::Fixed(b"abt: model: no aim\n")),
         CommandError::LogLong => Ok(Reply::Fixed(b"abt: log: too long\n")),
         CommandError::LogLine { number } => numbered(alloc, b"abt: log: line ", number),
         CommandError::ScheduleLong => Ok(Reply::Fixed(b"abt: schedule: too long\n")),

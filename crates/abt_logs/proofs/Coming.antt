@@ -15,7 +15,7 @@ use Rattle.abt_promise.specs.Promises.{IsHeld}
 use Rattle.abt_promise.specs.Runs.{CameIn}
 use Rattle.abt_promise.proofs.Coming.{way_with, came_wrote}
 use Rattle.abt_input.specs.declared.error.CommandError.{CommandError}
-use Rattle.abt_input.specs.declared.error.CommandError.TheVariants.{ModelLong, ModelRefused, LogLong, LogLine, ScheduleLong, ScheduleLine, Clauses, Fault, Memory}
+use Rattle.abt_input.specs.declared.error.CommandError.TheVariants.{ModelLong, ModelRefused, NoAim, LogLong, LogLine, ScheduleLong, ScheduleLine, Clauses, Fault, Memory}
 use Rattle.abt_input.specs.Inputs.{IsTextOf}
 use Rattle.abt_input.specs.Errors.{stop_error, way_of}
 use Rattle.abt_input.specs.Files.{IsLogRead, UnlessFault}
@@ -30,6 +30,7 @@ module _ (log new : List ℕ) (p q : Place) (out : Stream) (held : q.held ≡ p.
   no_steps (LogLine number) h counts fault = record { inputs = h.0 ∷ []; are_held = (h.1, tt); came = (bad_log (LogLine number) h.2 refl, did_read p q out held created counts, tt) }
   no_steps ScheduleLong h counts fault = absurd h.2
   no_steps (ScheduleLine number) h counts fault = absurd h.2
+  no_steps NoAim h counts fault = absurd h.2
   no_steps (Clauses error) h counts fault = absurd h.2
   no_steps Memory h counts fault = record { inputs = h.0 ∷ []; are_held = (h.1, tt); came = inl (did_read p q out held created counts) }
   no_steps Fault h counts fault = record {

@@ -19,9 +19,10 @@ use Rattle.abt_promise.specs.Promises.{answered}
 use Rattle.abt_promise.specs.Runs.{CameIn}
 use Rattle.abt_promise.proofs.Coming.{way_with, came_wrote}
 use Rattle.abt_input.specs.declared.error.CommandError.{CommandError}
-use Rattle.abt_input.specs.declared.error.CommandError.TheVariants.{ModelLong, ModelRefused, LogLong, LogLine, ScheduleLong, ScheduleLine, Clauses, Fault, Memory}
+use Rattle.abt_input.specs.declared.error.CommandError.TheVariants.{ModelLong, ModelRefused, NoAim, LogLong, LogLine, ScheduleLong, ScheduleLine, Clauses, Fault, Memory}
 use Rattle.abt_input.specs.Errors.{stop_error, way_of}
 use Rattle.abt_input.specs.Files.{UnlessFault}
+use Rattle.abt_check.specs.Taking.{plain}
 use Rattle.abt_check.specs.Checks.{IsFoundIn, FetchesFailed, finding_status, finding_text}
 use Rattle.abt_check.specs.CheckReports.{bad_model, bad_log, found}
 use Rattle.abt_logs.specs.declared.found.Found.{Found}
@@ -45,13 +46,14 @@ rejected_status NotEmpty n = refl
 
 module _ (m l t : List ℕ) (p q : Place) (out : Stream) (held : q.held ≡ p.held) (created : q.created ≡ p.created) where
   -- nothing was found
-  no_finding : (e : CommandError) → IsFoundIn p.held m l (Err e) → UnlessFault {T = Found} (Err e) (SameCounts p q) → (e ≡ Fault → FetchesFailed m l p q) → CameIn (core_promise m l t) (outside p out) (outside q out) (way_of (Err e))
+  no_finding : (e : CommandError) → IsFoundIn plain p.held m l (Err e) → UnlessFault {T = Found} (Err e) (SameCounts p q) → (e ≡ Fault → FetchesFailed plain m l p q) → CameIn (core_promise m l t) (outside p out) (outside q out) (way_of (Err e))
   no_finding ModelLong h counts fault = record { inputs = h.0 ∷ h.1 ∷ []; are_held = (h.2, (h.3, tt)); came = (as_check (bad_model ModelLong h.4 refl) model_bad, did_read p q out held created counts, tt) }
   no_finding (ModelRefused error) h counts fault = record { inputs = h.0 ∷ h.1 ∷ []; are_held = (h.2, (h.3, tt)); came = (as_check (bad_model (ModelRefused error) h.4 refl) model_bad, did_read p q out held created counts, tt) }
   no_finding LogLong h counts fault = record { inputs = h.0 ∷ h.1 ∷ []; are_held = (h.2, (h.3, tt)); came = (as_check (bad_log LogLong h.4.0 h.4.1 refl) text_bad, did_read p q out held created counts, tt) }
   no_finding (LogLine number) h counts fault = record { inputs = h.0 ∷ h.1 ∷ []; are_held = (h.2, (h.3, tt)); came = (as_check (bad_log (LogLine number) h.4.0 h.4.1 refl) text_bad, did_read p q out held created counts, tt) }
   no_finding ScheduleLong h counts fault = absurd h.4
   no_finding (ScheduleLine number) h counts fault = absurd h.4
+  no_finding NoAim h counts fault = absurd h.4
   no_finding (Clauses error) h counts fault = absurd h.4
   no_finding Memory h counts fault = record { inputs = h.0 ∷ h.1 ∷ []; are_held = (h.2, (h.3, tt)); came = inl (did_read p q out held created counts) }
   no_finding Fault h counts fault = elim (fault refl) [
@@ -67,7 +69,7 @@ module _ (m l t : List ℕ) (p q : Place) (out : Stream) (held : q.held ≡ p.he
     }
   ]
 
-  pub came_unfound : {e : CommandError} (r : Result Status CommandError) → IsErr r × IsErrAnd r (λ y. y ≡ e) → IsFoundIn p.held m l (Err e) → UnlessFault {T = Found} (Err e) (SameCounts p q) → (e ≡ Fault → FetchesFailed m l p q) → CameIn (core_promise m l t) (outside p out) (outside q out) (way_of r)
+  pub came_unfound : {e : CommandError} (r : Result Status CommandError) → IsErr r × IsErrAnd r (λ y. y ≡ e) → IsFoundIn plain p.held m l (Err e) → UnlessFault {T = Found} (Err e) (SameCounts p q) → (e ≡ Fault → FetchesFailed plain m l p q) → CameIn (core_promise m l t) (outside p out) (outside q out) (way_of r)
   came_unfound {e = e} (Ok x) is h counts fault = absurd (let no = is.0 in cc)
   came_unfound {e = e} (Err y) is h counts fault = rw is.1 (no_finding e h counts fault)
 

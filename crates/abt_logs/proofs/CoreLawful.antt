@@ -1,5 +1,5 @@
 -- The promise of `core` is lawful.
-use Rattle.std.proofs.Common.{◌≡◌, ℕ, List, [], ◌∷◌, length, refl, sym, ap, subst, ◌∙◌}
+use Rattle.std.proofs.Common.{◌≡◌, ℕ, List, [], ◌∷◌, None, length, refl, sym, ap, subst, ◌∙◌}
 use Rattle.std.specs.Prelude.{Contains}
 use Rattle.dcsp_problem.specs.Problems.{Contents}
 use Rattle.dcsp_script.specs.Scripts.{Write, Put}
@@ -27,7 +27,7 @@ verified model log p es h = found Verified (record { problem = p; model_is = h.m
 
 -- so it reports status 0 of it
 good_check : (model log : List ℕ) (p : Contents) (es : List Entry) (r : Report) → IsRefutedBy model log p es → CheckReport model log r → r.status ≡ Good
-good_check model log p es r h k = ap (λ (x : Report). x.status) ((check_lawful [] []).one (model ∷ log ∷ []) r (answered (finding_status Verified) (Put (finding_text Verified) ∷ [])) k (verified model log p es h))
+good_check model log p es r h k = ap (λ (x : Report). x.status) ((check_lawful None [] []).one (model ∷ log ∷ []) r (answered (finding_status Verified) (Put (finding_text Verified) ∷ [])) k (verified model log p es h))
 
 module _ (name : List ℕ) where
   one_trimming : (model log : List ℕ) (p q : Contents) (es fs : List Entry) (a b : Core) → IsRefutedBy model log p es → IsRefutedBy model log q fs → IsCoreOf (steps_of es) a → IsCoreOf (steps_of fs) b → answered Good (core_script name p (steps_of es) a) ≡ answered Good (core_script name q (steps_of fs) b)
@@ -40,7 +40,7 @@ module _ (name : List ℕ) where
       ∙ ap (λ (x : Core). answered Good (core_script name q (steps_of fs) x)) cores)
 
   one_report : (model log : List ℕ) (r s : Report) → CoreReport name model log r → CoreReport name model log s → r ≡ s
-  one_report model log r s (as_check h n) (as_check k m) = (check_lawful [] []).one (model ∷ log ∷ []) r s h k
+  one_report model log r s (as_check h n) (as_check k m) = (check_lawful None [] []).one (model ∷ log ∷ []) r s h k
   one_report model log r s (as_check h n) (trims p es a k i j) = absurd (n (good_check model log p es r k h))
   one_report model log r s (trims p es a h i e) (as_check k m) = absurd (m (good_check model log p es s h k))
   one_report model log r s (trims p es a h i e) (trims q fs b k j d) = e ∙ (one_trimming model log p q es fs a b h k i j ∙ sym d)
@@ -59,15 +59,15 @@ module _ (name : List ℕ) where
   of_two (model ∷ log ∷ x ∷ more) r h = absurd h
 
   final_report : (model log : List ℕ) (r : Report) → CoreReport name model log r → IsFinal r.status
-  final_report model log r (as_check h n) = (check_lawful [] []).final (model ∷ log ∷ []) r h
+  final_report model log r (as_check h n) = (check_lawful None [] []).final (model ∷ log ∷ []) r h
   final_report model log r (trims p es a h i e) = subst (λ (y : Report). IsFinal y.status) (sym e) tt
 
   quiet_report : (model log : List ℕ) (r : Report) → CoreReport name model log r → IsRefusal r.status → r.script ≡ []
-  quiet_report model log r (as_check h n) bad = (check_lawful [] []).quiet (model ∷ log ∷ []) r h bad
+  quiet_report model log r (as_check h n) bad = (check_lawful None [] []).quiet (model ∷ log ∷ []) r h bad
   quiet_report model log r (trims p es a h i e) bad = absurd (subst (λ (y : Report). IsRefusal y.status) e bad)
 
   names_report : (model log : List ℕ) (r : Report) → CoreReport name model log r → (w : Write) → Contains r.script w → KeepsTo name w
-  names_report model log r (as_check h n) w c = λ other t. absurd (never ((check_lawful [] []).names (model ∷ log ∷ []) r h w c other t))
+  names_report model log r (as_check h n) w c = λ other t. absurd (never ((check_lawful None [] []).names (model ∷ log ∷ []) r h w c other t))
   names_report model log r (trims p es a h i e) w c =
       file_here name (log_lines a.steps) (core_text (length p.rules) (length (steps_of es)) a) w (subst (λ (l : List Write). Contains l w) (ap (λ (y : Report). y.script) e) c)
 
@@ -78,5 +78,5 @@ core_lawful model log trimmed = record {
   final = λ inputs r h. let x = of_two trimmed inputs r h in final_report trimmed x.0 x.1 r x.2;
   quiet = λ inputs r h bad. let x = of_two trimmed inputs r h in quiet_report trimmed x.0 x.1 r x.2 bad;
   names = λ inputs r h. let x = of_two trimmed inputs r h in names_report trimmed x.0 x.1 r x.2;
-  reads = (check_lawful model log).reads;
+  reads = (check_lawful None model log).reads;
 }

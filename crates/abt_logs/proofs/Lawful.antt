@@ -12,7 +12,7 @@ use Rattle.abt_promise.specs.Statuses.{IsFinal, IsRefusal}
 use Rattle.abt_promise.specs.Promises.{Report, answered, refused}
 use Rattle.abt_promise.specs.Clauses.{IsLawful}
 use Rattle.abt_input.specs.declared.error.CommandError.{CommandError}
-use Rattle.abt_input.specs.declared.error.CommandError.TheVariants.{ModelLong, ModelRefused, LogLong, LogLine, ScheduleLong, ScheduleLine, Clauses, Fault, Memory}
+use Rattle.abt_input.specs.declared.error.CommandError.TheVariants.{ModelLong, ModelRefused, NoAim, LogLong, LogLine, ScheduleLong, ScheduleLine, Clauses, Fault, Memory}
 use Rattle.abt_input.specs.Errors.{IsErrorOfLog, error_status, error_text}
 use Rattle.abt_input.proofs.Once.{one_text, no_error_of_log, one_error_of_log}
 use Rattle.abt_logs.specs.UpgradePromise.{appends, upgrade_text, upgrade_script, UpgradeReport, bad_log, upgrades, UpgradeReports, UpgradeFetches, upgrade_promise}
@@ -53,6 +53,7 @@ final_error LogLong log h = tt
 final_error (LogLine number) log h = tt
 final_error ScheduleLong log h = tt
 final_error (ScheduleLine number) log h = tt
+final_error NoAim log h = tt
 final_error (Clauses error) log h = absurd h
 final_error Fault log h = h
 final_error Memory log h = h

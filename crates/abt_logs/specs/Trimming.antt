@@ -18,6 +18,7 @@ use Rattle.abt_promise.specs.Promises.{IsHeld}
 use Rattle.abt_input.specs.Inputs.{IsModelOf}
 use Rattle.abt_input.specs.Inputs as inputs
 use Rattle.abt_input.specs.declared.error.CommandError.{CommandError}
+use Rattle.abt_check.specs.Taking.{plain}
 use Rattle.abt_check.specs.Checks.{HasEntries, IsFoundIn}
 use Rattle.abt_check.specs.LogChecks.{IsKeptFor}
 use Rattle.abt_check.specs.Verifying.{IsVerified}
@@ -33,7 +34,7 @@ pub record IsKept (model log : List ℕ) (found : Found) : Type 0 where
 abbrev pub IsKeptIn : Option (List ℕ → Option (List ℕ)) → List ℕ → List ℕ → Result Found CommandError → Type 0
 IsKeptIn files model_name log_name (Ok found) =
     (model : List ℕ) × (log : List ℕ) × IsHeld files model_name model × IsHeld files log_name log × IsKept model log found
-IsKeptIn files model_name log_name (Err error) = IsFoundIn files model_name log_name (Err error)
+IsKeptIn files model_name log_name (Err error) = IsFoundIn plain files model_name log_name (Err error)
 
 -- The core of a log's steps, which refute the problem.
 pub record IsCore (problem : Contents) (steps : List Step) (core : Core) : Type 0 where

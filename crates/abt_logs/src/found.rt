@@ -3,6 +3,7 @@
 ghost use Rattle.std.specs.Prelude.{◌≡◌, Ok, Err};
 ghost use Rattle.dcsp_outside.specs.Outside.{SameCounts};
 ghost use Rattle.abt_input.specs.Files.{UnlessFault};
+ghost use Rattle.abt_check.specs.Taking.{plain};
 ghost use Rattle.abt_check.specs.Checks.{FetchesFailed};
 ghost use Rattle.abt_logs.specs.Trimming.{IsKeptIn};
 
@@ -33,7 +34,7 @@ pub fn find<F: Folder>(
     ensures created { (F.place folder.new).created ≡ (F.place folder.old).created }
     ensures counts { UnlessFault result (SameCounts (F.place folder.old) (F.place folder.new)) }
     ensures fault { result ≡ Err CommandError.Fault
-        → FetchesFailed model.now log.now (F.place folder.old) (F.place folder.new) }
+        → FetchesFailed plain model.now log.now (F.place folder.old) (F.place folder.new) }
 {
     let problem = read_model(alloc, folder, model)?;
     let checked = check_and_keep(alloc, folder, &problem, log)?;

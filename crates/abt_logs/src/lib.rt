@@ -7,8 +7,6 @@ mod entries;
 mod found;
 mod laws;
 mod steps;
-#[cfg(test)]
-mod tests;
 mod trimming;
 mod upgrade;
 

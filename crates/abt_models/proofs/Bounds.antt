@@ -18,7 +18,7 @@ use Rattle.abt_promise.specs.Promises.{IsHeld, answered}
 use Rattle.abt_promise.specs.Runs.{CameIn}
 use Rattle.abt_promise.proofs.Coming.{way_with, came_wrote}
 use Rattle.abt_input.specs.declared.error.CommandError.{CommandError}
-use Rattle.abt_input.specs.declared.error.CommandError.TheVariants.{ModelLong, ModelRefused, LogLong, LogLine, ScheduleLong, ScheduleLine, Clauses, Fault, Memory}
+use Rattle.abt_input.specs.declared.error.CommandError.TheVariants.{ModelLong, ModelRefused, NoAim, LogLong, LogLine, ScheduleLong, ScheduleLine, Clauses, Fault, Memory}
 use Rattle.abt_input.specs.Inputs.{IsModelOf}
 use Rattle.abt_input.specs.Errors.{stop_error, way_of}
 use Rattle.abt_input.specs.Files.{IsModelRead, UnlessFault}
@@ -44,6 +44,7 @@ module _ (m : List ℕ) (p q : Place) (out : Stream) (held : q.held ≡ p.held) 
   no_bound (LogLine number) h counts fault = absurd h.2
   no_bound ScheduleLong h counts fault = absurd h.2
   no_bound (ScheduleLine number) h counts fault = absurd h.2
+  no_bound NoAim h counts fault = absurd h.2
   no_bound (Clauses error) h counts fault = absurd h.2
   no_bound Memory h counts fault = record { inputs = h.0 ∷ []; are_held = (h.1, tt); came = inl (did_read p q out held created counts) }
   no_bound Fault h counts fault = record {

@@ -5,8 +5,6 @@
 mod bound;
 mod generated;
 mod laws;
-#[cfg(test)]
-mod tests;
 mod text;
 
 pub use bound::run_bound;

@@ -26,9 +26,6 @@ use dcsp_problem::Problem;
 use ngd_log::{Derivation, Step};
 use step::is_right;
 
-#[cfg(test)]
-mod tests;
-
 /// What a check finds.
 #[derive(Clone, Copy, Debug, PartialEq, Eq)]
 pub enum Finding {

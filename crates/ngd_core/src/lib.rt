@@ -22,9 +22,6 @@ use rules::cited_rules;
 use std::alloc::Global;
 use trim::trimmed;
 
-#[cfg(test)]
-mod tests;
-
 /// Rules by their numbers, counted from 0.
 pub type RuleNumbers = ItemList<u32>;
 

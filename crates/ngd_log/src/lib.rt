@@ -33,6 +33,3 @@ pub use pieces::{
 };
 pub use standing::Version;
 pub use writer::{HEAD, TAIL, write_step};
-
-#[cfg(test)]
-mod tests;

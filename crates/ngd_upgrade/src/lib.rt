@@ -24,9 +24,6 @@ use groups::groups_of;
 use ngd_log::{Derivation, Entries, Memory};
 use std::alloc::Global;
 
-#[cfg(test)]
-mod tests;
-
 /// Appends the derivation's steps in order, and after each step but the last, if some step ends there,
 /// one deletion of all steps that end there. It answers how many steps were deleted.
 ///

@@ -1,0 +1,77 @@
+-- The problem that a log is checked against: the model's; or where a bound is given, the one that only solutions with a better value solve.
+use Rattle.std.specs.Prelude.{◌≡◌, ℕ, ℤ, List, length, Option, Some, None, IsSome, Result, Ok, Err, ⊤}
+use Rattle.dcsp_problem.specs.declared.problem.Problem.{Problem}
+use Rattle.dcsp_problem.specs.Problems.{Contents}
+use Rattle.dcsp_problem.specs.Rules.{IsAimOf}
+use Rattle.dcsp_problem.specs.Aims.{aimed_at, narrowed}
+use Rattle.abt_promise.specs.Promises.{IsHeld}
+use Rattle.abt_input.specs.Inputs.{IsModelOf}
+use Rattle.abt_input.specs.Errors.{IsErrorOfModel}
+use Rattle.abt_input.specs.declared.error.CommandError.{CommandError}
+use Rattle.abt_input.specs.declared.error.CommandError.TheVariants.{NoAim, Fault, Memory}
+
+-- how a check takes a model: which problem it is of, and why it is refused
+pub record Taking : Type 1 where
+  pub Is : List ℕ → Contents → Type 0
+  pub Refuses : List ℕ → CommandError → Type 0
+
+-- the model's own problem
+abbrev pub plain : Taking
+plain = record { Is = IsModelOf; Refuses = IsErrorOfModel }
+
+-- the model's problem aims at a variable, and this is what it is narrowed to
+pub record IsNarrowedOf (bound : ℤ) (model : List ℕ) (problem : Contents) : Type 0 where
+  pub whole : Contents
+  pub model_is : IsModelOf model whole
+  pub known : IsAimOf (length whole.domains) whole.aim
+  pub aimed : IsSome (aimed_at whole.aim)
+  pub narrowed_is : problem ≡ narrowed whole bound
+
+-- the model's problem aims at no variable
+pub record LacksAim (model : List ℕ) : Type 0 where
+  pub whole : Contents
+  pub model_is : IsModelOf model whole
+  pub aimless : aimed_at whole.aim ≡ None
+
+-- the model has no problem, or it aims at no variable
+abbrev pub IsErrorOfAim : List ℕ → CommandError → Type 0
+IsErrorOfAim model NoAim = LacksAim model
+IsErrorOfAim model error = IsErrorOfModel model error
+
+-- the problem that only solutions with a better value than the bound solve
+abbrev pub narrowing : ℤ → Taking
+narrowing bound = record { Is = IsNarrowedOf bound; Refuses = IsErrorOfAim }
+
+-- what is checked: the whole problem, or where a bound is given, the narrowed one
+abbrev pub taking_of : Option ℤ → Taking
+taking_of None = plain
+taking_of (Some bound) = narrowing bound
+
+-- what is left of a problem that aims at a variable, where only better values than the bound are wanted
+pub record IsNarrowing (bound : ℤ) (whole problem : Contents) : Type 0 where
+  pub known : IsAimOf (length whole.domains) whole.aim
+  pub aimed : IsSome (aimed_at whole.aim)
+  pub narrowed_is : problem ≡ narrowed whole bound
+
+-- what is left of a problem by a bound, if one is given, want of memory aside: itself; or what it is narrowed to; or nothing, where it aims at no variable
+abbrev pub LeavesBounded : Option ℤ → Contents → Result Problem CommandError → Type 0
+LeavesBounded None whole (Ok problem) = problem ≡ whole
+LeavesBounded (Some bound) whole (Ok problem) = IsNarrowing bound whole problem
+LeavesBounded (Some bound) whole (Err NoAim) = aimed_at whole.aim ≡ None
+LeavesBounded better whole (Err Memory) = ⊤
+LeavesBounded better whole (Err error) = ⊥
+
+-- the model has a problem for the check
+abbrev pub HasProblemFor : Taking → List ℕ → Type 0
+HasProblemFor t model = (problem : Contents) × t.Is model problem
+
+-- taking this model gives the problem, or exactly why there is none, faults and want of memory aside
+abbrev pub IsTakenOf : Taking → List ℕ → Result Problem CommandError → Type 0
+IsTakenOf t model (Ok problem) = t.Is model problem
+IsTakenOf t model (Err Fault) = ⊤
+IsTakenOf t model (Err Memory) = ⊤
+IsTakenOf t model (Err error) = t.Refuses model error
+
+-- the same of the bytes under the name
+abbrev pub IsTaken : Taking → Option (List ℕ → Option (List ℕ)) → List ℕ → Result Problem CommandError → Type 0
+IsTaken t files name result = (model : List ℕ) × IsHeld files name model × IsTakenOf t model result
