@@ -178,6 +178,3 @@ fn push_value(boolean: bool, value: i64, into: &mut Vec<u8>) -> Result<(), Alloc
     }
     into.extend_from_slice(b"false")
 }
-
-#[cfg(test)]
-mod tests;

@@ -16,19 +16,17 @@ use Rattle.abt_promise.specs.Promises.{Promise, IsHeld, AreHeld, refused}
 use Rattle.abt_promise.specs.Runs.{CameIn}
 use Rattle.abt_promise.proofs.Coming.{way_with, came_wrote}
 use Rattle.abt_input.specs.declared.error.CommandError.{CommandError}
-use Rattle.abt_input.specs.declared.error.CommandError.TheVariants.{ModelLong, ModelRefused, LogLong, LogLine, ScheduleLong, ScheduleLine, Clauses, Fault, Memory}
+use Rattle.abt_input.specs.declared.error.CommandError.TheVariants.{ModelLong, ModelRefused, NoAim, LogLong, LogLine, ScheduleLong, ScheduleLine, Clauses, Fault, Memory}
 use Rattle.abt_input.specs.Inputs.{IsModelOf, HasProblem, HasChoices}
 use Rattle.abt_input.specs.Errors.{IsErrorOfModel, IsErrorOfSchedule, error_status, error_text, stop_error, way_of}
 use Rattle.abt_input.specs.Files.{IsModelRead, IsScheduleRead, IsScheduleReadOf, UnlessFault}
 use Rattle.abt_input.proofs.Files.{some_bytes}
 use Rattle.abt_input.proofs.Once.{one_problem}
 use Rattle.abt_run.specs.Endings.{end_status}
-use Rattle.abt_run.specs.Asked.{Asked, asked_run, asked_script, replay, solve, run_report}
+use Rattle.abt_run.specs.Asked.{Asked, asked_run, asked_script, replay, run_report}
 use Rattle.abt_run.specs.Headline.{HoldsProblem}
 use Rattle.abt_run.specs.ReplayPromise as replays
 use Rattle.abt_run.specs.ReplayPromise.{bad_schedule, replayed, replay_promise}
-use Rattle.abt_run.specs.SolvePromise as solves
-use Rattle.abt_run.specs.SolvePromise.{ran, solve_promise}
 use Rattle.abt_run.proofs.Lawful.{final_end}
 
 -- there are some bytes under each of the names
@@ -60,6 +58,7 @@ module _ (promise : Promise) (m : List ℕ) (rest : List (List ℕ)) (fetched_is
   no_model (LogLine number) h counts fault = absurd h.2
   no_model ScheduleLong h counts fault = absurd h.2
   no_model (ScheduleLine number) h counts fault = absurd h.2
+  no_model NoAim h counts fault = absurd h.2
   no_model (Clauses error) h counts fault = absurd h.2
   no_model Memory h counts fault = record { inputs = h.0 ∷ others.0; are_held = held_all h.0 h.1; came = inl (did_read p q out held created counts) }
   no_model Fault h counts fault = record {
@@ -75,30 +74,13 @@ module _ (promise : Promise) (m : List ℕ) (rest : List (List ℕ)) (fetched_is
 -- ---- a run that was made, or stopped
 
 module _ (promise : Promise) (inputs : List (List ℕ)) (asked : Asked) (a b c : World) (held : AreHeld a.folder.held promise.fetched inputs) (reports : promise.Reports inputs (run_report asked)) (did : Did [] a b) where
-  came_run : (status : Status) → status ≡ end_status (asked_run asked).end → Wrote (asked_script asked) b c (Ok status) → CameIn promise a c (way_of (Ok status))
+  pub came_run : (status : Status) → status ≡ end_status (asked_run asked).end → Wrote (asked_script asked) b c (Ok status) → CameIn promise a c (way_of (Ok status))
   came_run status is w = rw is (came_wrote promise inputs (end_status (asked_run asked).end) (asked_script asked) (Ok status) (final_end (asked_run asked).end) held reports did w)
 
-  came_stopped : (stop : Stop) (r : Result Status CommandError) → IsErr r × IsErrAnd r (λ y. y ≡ stop_error stop) → Wrote {T = Status} (asked_script asked) b c (Err stop) → CameIn promise a c (way_of r)
+  pub came_stopped : (stop : Stop) (r : Result Status CommandError) → IsErr r × IsErrAnd r (λ y. y ≡ stop_error stop) → Wrote {T = Status} (asked_script asked) b c (Err stop) → CameIn promise a c (way_of r)
   came_stopped stop (Ok x) is w = absurd (let no = is.0 in cc)
   came_stopped stops.Fault (Err y) is w = rw is.1 (came_wrote promise inputs (end_status (asked_run asked).end) (asked_script asked) {T = Status} (Err stops.Fault) (final_end (asked_run asked).end) held reports did w)
   came_stopped stops.Memory (Err y) is w = rw is.1 (came_wrote promise inputs (end_status (asked_run asked).end) (asked_script asked) {T = Status} (Err stops.Memory) (final_end (asked_run asked).end) held reports did w)
-
--- ---- solve
-
-module _ (m log : List ℕ) (seed : ℕ) (kept : Option (List ℕ)) (trace : Bool) (p q : Place) (out : Stream) (held : q.held ≡ p.held) (created : q.created ≡ p.created) where
-  solve_refuses : (model : List ℕ) (e : CommandError) → IsErrorOfModel model e → (files : Option (List ℕ → Option (List ℕ))) (inputs : List (List ℕ)) → AreHeld files [] inputs → (solve_promise m log seed kept trace).Reports (model ∷ inputs) (refused (error_status e) (error_text e))
-  solve_refuses model e h files [] k = solves.bad_model e h refl
-  solve_refuses model e h files (x ∷ inputs) k = absurd k
-
-  pub solve_unread : {e : CommandError} (r : Result Status CommandError) → IsErr r × IsErrAnd r (λ y. y ≡ e) → IsModelRead p.held m (Err e) → UnlessFault {T = Unit {0}} (Err e) (SameCounts p q) → (e ≡ Fault → Rose (p.reads m) (q.reads m)) → CameIn (solve_promise m log seed kept trace) (outside p out) (outside q out) (way_of r)
-  solve_unread r is h counts fault = unread_model (solve_promise m log seed kept trace) m [] refl refl solve_refuses p q out held created r is h counts fault
-
-  module _ (problem : Contents) (h : IsModelRead p.held m (Ok problem)) (counts : SameCounts p q) (c : World) where
-    pub solve_ran : (status : Status) → status ≡ end_status (asked_run (solve problem seed log kept trace)).end → Wrote (asked_script (solve problem seed log kept trace)) (outside q out) c (Ok status) → CameIn (solve_promise m log seed kept trace) (outside p out) c (way_of (Ok status))
-    solve_ran = came_run (solve_promise m log seed kept trace) (h.0 ∷ []) (solve problem seed log kept trace) (outside p out) (outside q out) c (h.1, tt) (ran problem h.2 refl) (did_read p q out held created counts)
-
-    pub solve_stopped : (stop : Stop) (r : Result Status CommandError) → IsErr r × IsErrAnd r (λ y. y ≡ stop_error stop) → Wrote {T = Status} (asked_script (solve problem seed log kept trace)) (outside q out) c (Err stop) → CameIn (solve_promise m log seed kept trace) (outside p out) c (way_of r)
-    solve_stopped = came_stopped (solve_promise m log seed kept trace) (h.0 ∷ []) (solve problem seed log kept trace) (outside p out) (outside q out) c (h.1, tt) (ran problem h.2 refl) (did_read p q out held created counts)
 
 -- ---- replay
 
@@ -129,6 +111,7 @@ module _ (m s log : List ℕ) (trace : Bool) (p q : Place) (out : Stream) (held 
     no_schedule (LogLine number) k same fault = absurd k.2
     no_schedule ScheduleLong k same fault = record { inputs = h.0 ∷ k.0 ∷ []; are_held = (h.1, (k.1, tt)); came = (bad_schedule ScheduleLong (problem, h.2) k.2 refl, did_read p t out all_held all_created (both_same p q t counts same), tt) }
     no_schedule (ScheduleLine number) k same fault = record { inputs = h.0 ∷ k.0 ∷ []; are_held = (h.1, (k.1, tt)); came = (bad_schedule (ScheduleLine number) (problem, h.2) k.2 refl, did_read p t out all_held all_created (both_same p q t counts same), tt) }
+    no_schedule NoAim k same fault = absurd k.2
     no_schedule (Clauses error) k same fault = absurd k.2
     no_schedule Memory k same fault = record { inputs = h.0 ∷ k.0 ∷ []; are_held = (h.1, (k.1, tt)); came = inl (did_read p t out all_held all_created (both_same p q t counts same)) }
     no_schedule Fault k same fault = record {

@@ -10,16 +10,14 @@ use Rattle.abt_promise.specs.Statuses.{IsFinal, IsRefusal}
 use Rattle.abt_promise.specs.Promises.{Report, refused}
 use Rattle.abt_promise.specs.Clauses.{IsLawful}
 use Rattle.abt_input.specs.declared.error.CommandError.{CommandError}
-use Rattle.abt_input.specs.declared.error.CommandError.TheVariants.{ModelLong, ModelRefused, LogLong, LogLine, ScheduleLong, ScheduleLine, Clauses, Fault, Memory}
+use Rattle.abt_input.specs.declared.error.CommandError.TheVariants.{ModelLong, ModelRefused, NoAim, LogLong, LogLine, ScheduleLong, ScheduleLine, Clauses, Fault, Memory}
 use Rattle.abt_input.specs.Inputs.{HasChoices}
 use Rattle.abt_input.specs.Errors.{IsErrorOfModel, IsErrorOfSchedule, error_status, error_text}
 use Rattle.abt_input.proofs.Once.{one_problem, one_list, no_error_of_model, no_error_of_schedule, one_error_of_model, one_error_of_schedule}
 use Rattle.abt_run.specs.Endings.{end_status}
-use Rattle.abt_run.specs.Asked.{Asked, asked_run, asked_script, replay, solve, run_report}
+use Rattle.abt_run.specs.Asked.{Asked, asked_run, asked_script, replay, created_names, run_report}
 use Rattle.abt_run.specs.ReplayPromise as replays
 use Rattle.abt_run.specs.ReplayPromise.{ReplayReport, ReplayReports, ReplayFetches, replay_promise, bad_schedule, replayed}
-use Rattle.abt_run.specs.SolvePromise as solves
-use Rattle.abt_run.specs.SolvePromise.{SolveReport, SolveReports, SolveFetches, solve_creates, solve_promise, ran}
 use Rattle.abt_run.proofs.Scripts.{touches_none, same_name, asked_leaves}
 
 -- ---- errors and ends
@@ -31,6 +29,7 @@ final_error LogLong model h = tt
 final_error (LogLine number) model h = tt
 final_error ScheduleLong model h = tt
 final_error (ScheduleLine number) model h = tt
+final_error NoAim model h = tt
 final_error (Clauses error) model h = absurd h
 final_error Fault model h = h
 final_error Memory model h = h
@@ -42,6 +41,7 @@ final_schedule_error LogLong schedule h = tt
 final_schedule_error (LogLine number) schedule h = tt
 final_schedule_error ScheduleLong schedule h = tt
 final_schedule_error (ScheduleLine number) schedule h = tt
+final_schedule_error NoAim schedule h = tt
 final_schedule_error (Clauses error) schedule h = absurd h
 final_schedule_error Fault schedule h = h
 final_schedule_error Memory schedule h = h
@@ -67,17 +67,17 @@ pub first_of : (a : List ℕ) (more : List (List ℕ)) → Contains (a ∷ more)
 first_of a more = Contains-append_left (a ∷ []) more a (Contains-push [] a)
 
 -- a run changes only its log and its record
-run_names : (asked : Asked) (r : Report) → r ≡ run_report asked → (w : Write) → Contains r.script w → (name : List ℕ) → Touches w name → Contains (solve_creates asked.session.log asked.kept) name
+pub run_names : (asked : Asked) (r : Report) → r ≡ run_report asked → (w : Write) → Contains r.script w → (name : List ℕ) → Touches w name → Contains (created_names asked.session.log asked.kept) name
 run_names asked r is w c name t = by_kept asked.kept refl
   where
-    log_or : (kept : Option (List ℕ)) → ((asked.session.log ≡ name → ⊥) → Contains (solve_creates asked.session.log kept) name) → Contains (solve_creates asked.session.log kept) name
+    log_or : (kept : Option (List ℕ)) → ((asked.session.log ≡ name → ⊥) → Contains (created_names asked.session.log kept) name) → Contains (created_names asked.session.log kept) name
     log_or None other = same_name asked.session.log name (λ e. subst (λ n. Contains (asked.session.log ∷ []) n) e (first_of asked.session.log [])) other
     log_or (Some k) other = same_name asked.session.log name (λ e. subst (λ n. Contains (asked.session.log ∷ k ∷ []) n) e (first_of asked.session.log (k ∷ []))) other
 
     inside : Contains (asked_script asked) w
     inside = subst (λ x. Contains x w) (ap (λ y. y.script) is) c
 
-    by_kept : (kept : Option (List ℕ)) → asked.kept ≡ kept → Contains (solve_creates asked.session.log asked.kept) name
+    by_kept : (kept : Option (List ℕ)) → asked.kept ≡ kept → Contains (created_names asked.session.log asked.kept) name
     by_kept None e = rw e (log_or None (λ unlike. absurd (touches_none (asked_script asked) w name (asked_leaves asked name unlike (rw e tt)) inside t)))
     by_kept (Some k) e = rw e (log_or (Some k) (λ unlike.
         same_name k name
@@ -142,49 +142,4 @@ replay_lawful model schedule log trace = record {
   quiet = λ inputs r h bad. let x = of_two log trace inputs r h in quiet_replay log trace x.0 x.1 r x.2 bad;
   names = λ inputs r h. let x = of_two log trace inputs r h in names_replay log trace x.0 x.1 r x.2;
   reads = reads_replay model schedule;
-}
-
--- ---- solve
-
-module _ (log : List ℕ) (seed : ℕ) (kept : Option (List ℕ)) (trace : Bool) where
-  one_solve : (model : List ℕ) (r s : Report) → SolveReport log seed kept trace model r → SolveReport log seed kept trace model s → r ≡ s
-  one_solve model r s (solves.bad_model e h i) (solves.bad_model d k j) = i ∙ ap (λ x. refused (error_status x) (error_text x)) (one_error_of_model model e d h k) ∙ sym j
-  one_solve model r s (solves.bad_model e h i) (ran p m j) = absurd (no_error_of_model model p e m h)
-  one_solve model r s (ran p m j) (solves.bad_model e h i) = absurd (no_error_of_model model p e m h)
-  one_solve model r s (ran p m j) (ran q n i) = j ∙ ap (λ x. run_report (solve x seed log kept trace)) (one_problem model p q m n) ∙ sym i
-
-  final_solve : (model : List ℕ) (r : Report) → SolveReport log seed kept trace model r → IsFinal r.status
-  final_solve model r (solves.bad_model e h i) = subst (λ y. IsFinal y.status) (sym i) (final_error e model h)
-  final_solve model r (ran p m i) = subst (λ y. IsFinal y.status) (sym i) (final_end (asked_run (solve p seed log kept trace)).end)
-
-  quiet_solve : (model : List ℕ) (r : Report) → SolveReport log seed kept trace model r → IsRefusal r.status → r.script ≡ []
-  quiet_solve model r (solves.bad_model e h i) bad = ap (λ y. y.script) i
-  quiet_solve model r (ran p m i) bad = absurd (no_refusal (asked_run (solve p seed log kept trace)).end (subst (λ y. IsRefusal y.status) i bad))
-
-  names_solve : (model : List ℕ) (r : Report) → SolveReport log seed kept trace model r → (w : Write) → Contains r.script w → (name : List ℕ) → Touches w name → Contains (solve_creates log kept) name
-  names_solve model r (solves.bad_model e h i) = nothing_written (solve_creates log kept) r (ap (λ y. y.script) i)
-  names_solve model r (ran p m i) = run_names (solve p seed log kept trace) r i
-
-  -- a report is that of a model
-  of_one : (inputs : List (List ℕ)) (r : Report) → SolveReports log seed kept trace inputs r → (model : List ℕ) × SolveReport log seed kept trace model r
-  of_one [] r h = absurd h
-  of_one (model ∷ []) r h = (model, h)
-  of_one (model ∷ x ∷ more) r h = absurd h
-
-  one_solves : (inputs : List (List ℕ)) (r s : Report) → SolveReports log seed kept trace inputs r → SolveReports log seed kept trace inputs s → r ≡ s
-  one_solves [] r s h k = absurd h
-  one_solves (model ∷ []) r s h k = one_solve model r s h k
-  one_solves (model ∷ x ∷ more) r s h k = absurd h
-
-reads_solve : (m : List ℕ) (before : List (List ℕ)) (name : List ℕ) → SolveFetches m before name → Contains (m ∷ []) name
-reads_solve m [] name h = subst (λ n. Contains (m ∷ []) n) (sym h) (first_of m [])
-reads_solve m (model ∷ more) name h = absurd h
-
-pub solve_lawful : (model log : List ℕ) (seed : ℕ) (kept : Option (List ℕ)) (trace : Bool) → IsLawful (solve_promise model log seed kept trace)
-solve_lawful model log seed kept trace = record {
-  one = one_solves log seed kept trace;
-  final = λ inputs r h. let x = of_one log seed kept trace inputs r h in final_solve log seed kept trace x.0 r x.1;
-  quiet = λ inputs r h bad. let x = of_one log seed kept trace inputs r h in quiet_solve log seed kept trace x.0 r x.1 bad;
-  names = λ inputs r h. let x = of_one log seed kept trace inputs r h in names_solve log seed kept trace x.0 r x.1;
-  reads = reads_solve model;
 }

@@ -5,7 +5,7 @@ use Rattle.std.proofs.lemmas.List.{take_all}
 use Rattle.std.proofs.lemmas.List.Folds.{concat-append}
 use Rattle.dcsp_defs.specs.Words.{In, below}
 use Rattle.dcsp_defs.specs.Csp.{Csp, Constraint, IsCsp, IsSolution, count, domain}
-use Rattle.dcsp_defs.specs.Derivation.{IsRefutation}
+use Rattle.dcsp_defs.specs.Derivation.{IsDerivation, IsRefutation}
 use Rattle.dcsp_problem.specs.Problems.{Contents, csp_of}
 use Rattle.dcsp_problem.proofs.OwnerLists.{get_or-map_below}
 use Rattle.abt_defs.specs.Bound.{message_bound}
@@ -205,14 +205,17 @@ records_replay p seed log again trace told =
 
 -- ---- logs
 
--- the log of a refuted run is a text of its derivation
-pub refuted_log : (asked : Asked) → asked.session.problem ≡ csp_of asked.problem → asked.session.most ≤ 2 ^ 40 → IsCsp (csp_of asked.problem) → IsSmall (csp_of asked.problem) → IsRefutation (csp_of asked.problem) (asked_run asked).net.steps
-    → IsTextOf (log_text (asked_run asked).net.steps) (asked_run asked).net.steps
-refuted_log asked same most ok small refutation =
-    let s = asked.session in
+-- the log of a run is a text of its steps, where they are a derivation of a problem that logs can name
+pub run_log : (s : Session) (p : Csp) → s.most ≤ 2 ^ 40 → IsCsp s.problem → IsSmall p → IsDerivation p (run_of s).net.steps → IsTextOf (log_text (run_of s).net.steps) (run_of s).net.steps
+run_log s p most ok small right =
     let h = stops s.problem s.most s.choices in
     let made = h.at_most in
-    let size = (sizes_hold s.problem (subst IsCsp (sym same) ok) (take (asked_run asked).net.deliveries s.choices)).steps in
-    let few : length (asked_run asked).net.steps ≤ (asked_run asked).net.deliveries + 1 = subst (λ n. length n.steps ≤ n.deliveries + 1) (sym h.net) size in
-    let log = have_logs (csp_of asked.problem) small (asked_run asked).net.steps refutation.right (omega arith) in
+    let size = (sizes_hold s.problem ok (take (run_of s).net.deliveries s.choices)).steps in
+    let few : length (run_of s).net.steps ≤ (run_of s).net.deliveries + 1 = subst (λ n. length n.steps ≤ n.deliveries + 1) (sym h.net) size in
+    let log = have_logs p small (run_of s).net.steps right (omega arith) in
     record { short = log.short; reads = log.log }
+
+-- so the log of a refuted run is
+pub refuted_log : (asked : Asked) → asked.session.problem ≡ csp_of asked.problem → asked.session.most ≤ 2 ^ 40 → IsCsp (csp_of asked.problem) → IsSmall (csp_of asked.problem) → IsRefutation (csp_of asked.problem) (asked_run asked).net.steps
+    → IsTextOf (log_text (asked_run asked).net.steps) (asked_run asked).net.steps
+refuted_log asked same most ok small refutation = run_log asked.session (csp_of asked.problem) most (subst IsCsp (sym same) ok) small refutation.right

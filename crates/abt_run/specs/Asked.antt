@@ -69,6 +69,11 @@ record_script (Some name) numbers = Create name ∷ Append name (schedule_text n
 abbrev pub asked_script : Asked → List Write
 asked_script asked = run_script asked.session ++ (record_script asked.kept (asked_run asked).numbers ++ Put (answer_text asked) ∷ [])
 
+-- the names that a run creates: its log, and its record where one is asked for
+abbrev pub created_names : List ℕ → Option (List ℕ) → List (List ℕ)
+created_names log None = log ∷ []
+created_names log (Some name) = log ∷ name ∷ []
+
 -- what is reported of the run
 abbrev pub run_report : Asked → Report
 run_report asked = answered (end_status (asked_run asked).end) (asked_script asked)

@@ -2,5 +2,4 @@ pub mod Endings
 pub mod Asked
 pub mod Outcomes
 pub mod ReplayPromise
-pub mod SolvePromise
 pub mod Headline

@@ -78,8 +78,8 @@ fn push_end(problem: &Problem, end: &End, into: &mut Vec<u8>) -> Result<(), Allo
     }
 }
 
-/// How many deliveries and steps were made.
-fn push_counts(deliveries: u64, steps: u64, into: &mut Vec<u8>) -> Result<(), AllocError>
+/// Pushes how many deliveries and steps were made.
+pub fn push_counts(deliveries: u64, steps: u64, into: &mut Vec<u8>) -> Result<(), AllocError>
     ensures { OnOk result (into.new.items ≡ into.old.items ++ counts_text deliveries steps) }
 {
     into.extend_from_slice(b"% deliveries ")?;

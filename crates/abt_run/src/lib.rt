@@ -1,5 +1,5 @@
-//! The lines that run the agents of a problem: `replay` under recorded choices, and `solve` under those
-//! of a seed.
+//! Runs of the agents of a problem: the line `replay`, under recorded choices, and runs under those of a
+//! seed.
 //!
 //! A run writes its log, and its trace where one is asked for, as it goes on; then the record is written,
 //! and how the run ended is put last. So whatever answer was seen has its log.
@@ -11,8 +11,8 @@ mod record;
 mod replay;
 mod solve;
 
-pub use ending::{end_status, push_outcome};
+pub use ending::{end_status, push_counts, push_outcome};
 pub use laws::records_replay;
 pub use record::write_record;
 pub use replay::{Replay, run_replay};
-pub use solve::{Solve, run_solve};
+pub use solve::{Solve, run_seed};

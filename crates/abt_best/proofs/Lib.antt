@@ -1,0 +1,14 @@
+pub mod Bounds
+pub mod Rounds
+pub mod Writing
+pub mod Moments
+pub mod Headlines
+pub mod RoundProblems
+pub mod Searches
+pub mod LastRounds
+pub mod Verdicts
+pub mod Lawful
+pub mod Coming
+pub mod Making
+pub mod Turns
+pub mod Telling

@@ -1,0 +1,14 @@
+//! The line `solve`: a run of the agents where a model asks for any solution, and a search where it asks for the
+//! best value of a term.
+//!
+//! A search has rounds. Each is a run from the same seed, and creates the log anew: the first one on the whole
+//! problem, each later one on the problem narrowed to better values than the one before it found. After the last
+//! round comes the record of the first, and what was found is put last. So whatever answer was seen has the log of
+//! the last round, which refutes every better value.
+#![tactic(auto)]
+
+mod answer;
+mod line;
+mod runner;
+
+pub use line::run_solve;
