@@ -1,8 +1,8 @@
 -- What the inside of the code's agent stands for.
 use Rattle.std.specs.Prelude.{◌≡◌, ℕ, ◌<◌, List, length}
 use Rattle.dcsp_defs.specs.Words.{In}
-use Rattle.abt_defs.specs.Agents.{Agent, Record, values_in}
-use Rattle.abt_defs.specs.Steps.{Outcome}
+use Rattle.abt_defs.specs.Agents.{Agent, Message, Record, values_in}
+use Rattle.abt_defs.specs.Steps.{Outcome, receive}
 use Rattle.law_invariants.specs.OneAgent.{Proper, Sound}
 use Rattle.dcsp_problem.specs.Problems.{Contents, csp_of, AreInDomains}
 use Rattle.abt_reason.specs.Cached.{StandsFor}
@@ -63,3 +63,7 @@ pub record Does (p : Contents) (me : ℕ) (o : Outcome) (before after : Body) (o
   pub sent : Posts out went o.sent
   pub turn_is : IsTurn (agent_of before) o turn
   pub sized : IsSized p me after
+
+-- the code did what the definitions' agent does when it receives this message from another one, where a step that it makes has this number
+abbrev pub DoesReceive : Contents → ℕ → ℕ → ℕ → Message → Body → Body → List Sent → List Sent → Turn → Type 0
+DoesReceive p me number from m before after out went turn = Does p me (receive (csp_of p) me number (agent_of before) from m) before after out went turn

@@ -5,11 +5,12 @@ use Rattle.dcsp_nogood.specs.declared.Pair.{Pair}
 use Rattle.dcsp_defs.specs.Words.{In}
 use Rattle.dcsp_defs.specs.Csp.{domain}
 use Rattle.abt_defs.specs.Agents.{Agent, fresh}
-use Rattle.abt_defs.specs.Steps.{Outcome}
+use Rattle.abt_defs.specs.Steps.{Outcome, settle, receive}
 use Rattle.dcsp_problem.specs.Problems.{Contents, csp_of}
 use Rattle.abt_message.specs.declared.Message.{Message}
 use Rattle.abt_message.specs.declared.Message.TheVariants.{Tell, Refuse, AddLink}
 use Rattle.abt_message.specs.declared.Sent.{Sent}
+use Rattle.abt_message.specs.Messages.{message_of}
 use Rattle.abt_view.specs.declared.Told.{Told}
 use Rattle.abt_view.specs.Views.{view_of}
 use Rattle.abt_store.specs.declared.Recorded.{Recorded}
@@ -55,6 +56,14 @@ pub record Acts (old new : State) (o : Outcome) (out went : List Sent) (turn : T
   pub problem : new.problem ≡ old.problem
   pub me : new.me ≡ old.me
   pub good : new.spent ≡ false
+
+-- the agent settled, where a step that it makes has this number
+abbrev pub Settles : State → State → ℕ → List Sent → List Sent → Turn → Type 0
+Settles old new number out went turn = Acts old new (settle (csp_of old.problem) old.me number (stands_for old)) out went turn
+
+-- the agent received a message from another one, where a step that it makes has this number
+abbrev pub Receives : State → State → ℕ → ℕ → Message → List Sent → List Sent → Turn → Type 0
+Receives old new number from m out went turn = Acts old new (receive (csp_of old.problem) old.me number (stands_for old) from (message_of m)) out went turn
 
 -- a nogood for agent i: its lowest variable is i, its values are of the domains, and each has a stamp above 0
 pub record IsNogoodFor (p : Contents) (i : ℕ) (nogood : List Pair) (stamps : List ℕ) : Type 0 where

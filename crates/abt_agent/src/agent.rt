@@ -2,12 +2,10 @@
 
 ghost use Rattle.std.specs.Prelude.{◌≡◌, ◌<◌, IfOk, IsErr, OnErr, OnOk, ℕ, List, false, length, true};
 ghost use Rattle.dcsp_defs.specs.declared.Step.{Step as TheStep};
-ghost use Rattle.abt_defs.specs.Steps as steps;
 ghost use Rattle.law_bounded_store.specs.Stores.{IsBoundedStore};
 ghost use Rattle.law_right_steps.specs.Merges.{IsUnionOfReasons};
 ghost use Rattle.dcsp_problem.specs.Problems.{csp_of};
-ghost use Rattle.abt_message.specs.Messages.{message_of};
-ghost use Rattle.abt_agent.specs.States.{stands_for, Acts, CanReceive, IsFresh};
+ghost use Rattle.abt_agent.specs.States.{stands_for, CanReceive, IsFresh, Receives, Settles};
 ghost use Rattle.abt_agent.specs.Turns.{IsFirstTurn};
 ghost use Rattle.law_right_steps.specs.Sources.{AreOfSteps};
 ghost use Rattle.abt_agent.specs.Rights.{BringsOfStep, IsRightTurn};
@@ -68,7 +66,7 @@ impl<'p> Agent<'p> {
     /// there stays. What `value` says of the agent holds here too.
     pub fn start(&mut self, out: &mut Outbox) -> Result<Turn, Memory>
         requires { self.old.spent ≡ false → IsFresh self.old.problem self.old.me self.old }
-        ensures does { (number : ℕ) → IfOk result (λ turn. Acts self.old self.new (steps.settle (csp_of self.old.problem) self.old.me number (stands_for self.old)) out.old out.new turn) }
+        ensures does { (number : ℕ) → IfOk result (λ turn. Settles self.old self.new number out.old out.new turn) }
         ensures first { IfOk result IsFirstTurn }
         ensures right { (made : List TheStep) → IfOk result (IsRightTurn (csp_of self.old.problem) made) }
         ensures bounded { OnOk result (IsBoundedStore (csp_of self.old.problem) self.old.me (stands_for self.new)) }
@@ -107,7 +105,7 @@ impl<'p> Agent<'p> {
         out: &mut Outbox,
     ) -> Result<Turn, Memory>
         requires { self.old.spent ≡ false → CanReceive self.old from next_step message }
-        ensures does { IfOk result (λ turn. Acts self.old self.new (steps.receive (csp_of self.old.problem) self.old.me next_step (stands_for self.old) from (message_of message)) out.old out.new turn) }
+        ensures does { IfOk result (λ turn. Receives self.old self.new next_step from message out.old out.new turn) }
         ensures right { (made : List TheStep) → AreOfSteps made (records_of self.old.store) → BringsOfStep made message → IfOk result (IsRightTurn (csp_of self.old.problem) made) }
         ensures bounded { OnOk result (IsBoundedStore (csp_of self.old.problem) self.old.me (stands_for self.new)) }
         ensures merges { OnOk result (IsUnionOfReasons (csp_of self.old.problem) self.old.me (stands_for self.new)) }

@@ -34,6 +34,3 @@ pub enum Turn {
     /// It has made this step, whose nogood is empty: the problem has no solution.
     Empty(Step),
 }
-
-#[cfg(test)]
-mod tests;

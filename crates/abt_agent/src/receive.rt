@@ -9,7 +9,7 @@ ghost use Rattle.abt_defs.specs.Steps as steps;
 ghost use Rattle.dcsp_problem.specs.Problems.{csp_of};
 ghost use Rattle.abt_message.specs.Messages.{message_of, with_stamps};
 ghost use Rattle.abt_view.specs.Views.{stamped_of};
-ghost use Rattle.abt_agent.specs.Bodies.{agent_of, Does, IsGood};
+ghost use Rattle.abt_agent.specs.Bodies.{agent_of, Does, DoesReceive, IsGood};
 ghost use Rattle.abt_agent.specs.Outgoing.{Posts};
 ghost use Rattle.abt_agent.specs.States.{marked, IsFit, IsNogoodFor, IsToldBy};
 ghost use Rattle.abt_agent.specs.Turns.{IsFirstTurn};
@@ -62,7 +62,7 @@ fn receive_tell(
     requires good { IsGood problem.now me body.old }
     requires stamp { body.old.stamp < 2 ^ 62 }
     requires fit { IsToldBy problem.now me from told.value told.stamp }
-    ensures does { IfOk result (λ turn. Does problem.now me (steps.receive (csp_of problem.now) me number (agent_of body.old) from (Announce (stamped_of told))) body.old body.new out.old out.new turn) }
+    ensures does { IfOk result (λ turn. DoesReceive problem.now me number from (Announce (stamped_of told)) body.old body.new out.old out.new turn) }
     ensures good { OnOk result (IsGood problem.now me body.new) }
 {
     if !learn(problem, me, body, from, told) {
@@ -116,7 +116,7 @@ fn receive_refuse(
     requires good { IsGood problem.now me body.old }
     requires stamp { body.old.stamp < 2 ^ 62 }
     requires nogood { IsNogoodFor problem.now me nogood stamps.now }
-    ensures does { (from : ℕ) → IfOk result (λ turn. Does problem.now me (steps.receive (csp_of problem.now) me number (agent_of body.old) from (Refuse step (with_stamps nogood stamps.now))) body.old body.new out.old out.new turn) }
+    ensures does { (from : ℕ) → IfOk result (λ turn. DoesReceive problem.now me number from (Refuse step (with_stamps nogood stamps.now)) body.old body.new out.old out.new turn) }
     ensures good { OnOk result (IsGood problem.now me body.new) }
     ensures rising { OnOk result (PairsRise nogood) }
 {
@@ -164,7 +164,7 @@ fn answer_link(
 ) -> Result<Turn, Memory>
     requires good { IsGood problem.now me body.old }
     requires exists { from < length problem.now.domains }
-    ensures { IfOk result (λ turn. Does problem.now me (steps.receive (csp_of problem.now) me number (agent_of body.old) from Add_link) body.old body.new out.old out.new turn) }
+    ensures { IfOk result (λ turn. DoesReceive problem.now me number from Add_link body.old body.new out.old out.new turn) }
 {
     tell_own(body, from, out)?;
     mark_told(&mut body.tells, from);
@@ -182,7 +182,7 @@ fn receive_link(
 ) -> Result<Turn, Memory>
     requires good { IsGood problem.now me body.old }
     requires exists { from < length problem.now.domains }
-    ensures does { IfOk result (λ turn. Does problem.now me (steps.receive (csp_of problem.now) me number (agent_of body.old) from Add_link) body.old body.new out.old out.new turn) }
+    ensures does { IfOk result (λ turn. DoesReceive problem.now me number from Add_link body.old body.new out.old out.new turn) }
     ensures good { OnOk result (IsGood problem.now me body.new) }
 {
     answer_link(problem, me, body, from, number, out)
@@ -202,7 +202,7 @@ pub fn act(
     requires good { IsGood problem.now me body.old }
     requires stamp { body.old.stamp < 2 ^ 62 }
     requires fit { IsFit problem.now me number from message }
-    ensures does { IfOk result (λ turn. Does problem.now me (steps.receive (csp_of problem.now) me number (agent_of body.old) from (message_of message)) body.old body.new out.old out.new turn) }
+    ensures does { IfOk result (λ turn. DoesReceive problem.now me number from (message_of message) body.old body.new out.old out.new turn) }
     ensures good { OnOk result (IsGood problem.now me body.new) }
     ensures right { (made : List TheStep) → AreOfSteps made (records_of body.old.store) → BringsOfStep made message → IfOk result (IsRightTurn (csp_of problem.now) made) }
 {

@@ -50,6 +50,3 @@ fn unlinked_pairs(problem: &Problem) -> u64
     }
     pairs
 }
-
-#[cfg(test)]
-mod tests;

@@ -7,8 +7,6 @@
 mod folder;
 mod open_files;
 mod sink;
-#[cfg(test)]
-mod tests;
 mod transfer;
 
 pub use folder::RealFolder;

@@ -17,6 +17,3 @@ mod sums;
 pub use abt_message::{Memory, Message};
 pub use links::{Carried, Links};
 pub use pair_set::PairSet;
-
-#[cfg(test)]
-mod tests;

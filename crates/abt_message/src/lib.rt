@@ -104,6 +104,3 @@ impl Outbox {
         self.waiting.is_empty()
     }
 }
-
-#[cfg(test)]
-mod tests;

@@ -1,12 +1,12 @@
 -- What a start makes of agents and links.
-use Rattle.std.specs.Prelude.{◌≡◌, ℕ, List, [], ◌∷◌, find, Option, None, is_some, option_to_list}
+use Rattle.std.specs.Prelude.{◌≡◌, ℕ, List, [], ◌∷◌, length, find, Option, None, is_some, option_to_list}
 use Rattle.std.specs.List.{enumerate_from}
 use Rattle.std.specs.Option.{option_map}
 use Rattle.dcsp_defs.specs.Csp.{Csp, Constraint}
 use Rattle.dcsp_defs.specs.declared.Reason.TheVariants.{Rule}
 use Rattle.dcsp_defs.specs.declared.Step.{Step}
 use Rattle.abt_defs.specs.Steps.{settle}
-use Rattle.abt_defs.specs.Network.{Network, acted, next_number, is_false, refutes}
+use Rattle.abt_defs.specs.Network.{Network, acted, empty_network, next_number, is_false, refutes, settle_below}
 use Rattle.dcsp_problem.specs.Problems.{Contents, csp_of}
 use Rattle.abt_agent.specs.States.{State}
 use Rattle.abt_links.specs.Transit.{Transit}
@@ -25,6 +25,10 @@ pub record HasSettled (p : Contents) (agents : List State) (links : Transit) (ne
   pub stands : Stands p agents links (acted i (settle (csp_of p) i (next_number net) (net.agents i)) net)
   pub made : (settle (csp_of p) i (next_number net) (net.agents i)).step ≡ step
   pub refutes : refutes step ≡ is_some step
+
+-- the network of a problem in which agents settled in order, until one refuted
+abbrev pub all_settled : Contents → Network
+all_settled p = settle_below (csp_of p) (length p.domains) (empty_network (csp_of p))
 
 -- agents and links stand where the network is, in which this step was made, which refutes, or none
 pub record HaveSettled (p : Contents) (agents : List State) (links : Transit) (net : Network) (step : Option Step) : Type 0 where

@@ -1,14 +1,13 @@
 //! The start: a false rule without variables refutes, else the agents settle in order.
 
 ghost use Rattle.std.specs.Prelude.{◌≡◌, ◌≢◌, ◌<◌, ◌∷◌, ◌++◌, [], ℕ, length, IfOk, OnOk, false, true};
-ghost use Rattle.abt_defs.specs.Network.{Network as TheNetwork, empty_network, settle_below, start};
-ghost use Rattle.abt_defs.specs.Steps as steps;
+ghost use Rattle.abt_defs.specs.Network.{Network as TheNetwork, start};
 ghost use Rattle.dcsp_problem.specs.Problems.{csp_of};
-ghost use Rattle.abt_agent.specs.States.{stands_for, Acts, IsFresh};
+ghost use Rattle.abt_agent.specs.States.{IsFresh, Settles};
 ghost use Rattle.abt_agent.specs.Turns.{IsFirstTurn};
 ghost use Rattle.abt_network.specs.Standing.{state_at, Stands, Starts};
 ghost use Rattle.abt_network.specs.Bodies.{shown, AreFreshFrom, IsBlank, IsKept, IsSized, IsTidy};
-ghost use Rattle.abt_network.specs.Settling.{first_false, HasSettled, HaveSettled, IsRuleStep};
+ghost use Rattle.abt_network.specs.Settling.{all_settled, first_false, HasSettled, HaveSettled, IsRuleStep};
 
 use crate::Begun;
 use crate::body::Body;
@@ -85,7 +84,7 @@ impl<'p> Body<'p> {
     fn settle_all(&mut self) -> Result<Option<Step>, Memory>
         requires tidy { IsTidy self.old }
         requires blank { IsBlank self.old.problem.now self.old }
-        ensures settles { IfOk result (λ step. HaveSettled self.old.problem.now self.new.agents.items self.new.links (settle_below (csp_of self.old.problem.now) (length self.old.problem.now.domains) (empty_network (csp_of self.old.problem.now))) step) }
+        ensures settles { IfOk result (λ step. HaveSettled self.old.problem.now self.new.agents.items self.new.links (all_settled self.old.problem.now) step) }
         ensures tidy { OnOk result (IsTidy self.new) }
         ensures sized { IsSized self.new }
         ensures problem { self.new.problem.now ≡ self.old.problem.now }
@@ -147,7 +146,7 @@ impl<'p> Body<'p> {
 fn start_agent(agents: &mut Vec<Agent>, agent: u32, out: &mut Outbox) -> Result<Turn, Memory>
     requires exists { agent < length agents.old.items }
     requires fresh { let old = state_at agents.old.items agent in IsFresh old.problem old.me old }
-    ensures does { (number : ℕ) → IfOk result (λ turn. let old = state_at agents.old.items agent in Acts old (state_at agents.new.items agent) (steps.settle (csp_of old.problem) old.me number (stands_for old)) out.old out.new turn) }
+    ensures does { (number : ℕ) → IfOk result (λ turn. Settles (state_at agents.old.items agent) (state_at agents.new.items agent) number out.old out.new turn) }
     ensures first { IfOk result IsFirstTurn }
     ensures others { (k : ℕ) → k ≢ agent → state_at agents.new.items k ≡ state_at agents.old.items k }
     ensures long { length agents.new.items ≡ length agents.old.items }

@@ -1,12 +1,10 @@
 //! Deliveries.
 
 ghost use Rattle.std.specs.Prelude.{◌≡◌, ◌≢◌, ◌<◌, ◌≤◌, ◌+◌, ◌^◌, ℕ, List, length, IfOk, OnOk, false, true};
-ghost use Rattle.abt_defs.specs.Steps as steps;
 ghost use Rattle.abt_defs.specs.Network.{Network as TheNetwork, refutes};
 ghost use Rattle.abt_defs.specs.Runs.{cargo_of};
-ghost use Rattle.dcsp_problem.specs.Problems.{csp_of};
 ghost use Rattle.abt_message.specs.Messages.{message_of};
-ghost use Rattle.abt_agent.specs.States.{Acts, CanReceive, stands_for};
+ghost use Rattle.abt_agent.specs.States.{CanReceive, Receives};
 ghost use Rattle.abt_links.specs.Transit.{ready_pairs};
 ghost use Rattle.abt_network.specs.Standing.{cargo_in, reached, state_at, CanDeliver, Delivers, LeadsOn, StandsAt};
 ghost use Rattle.abt_network.specs.Bodies.{shown, ExpectsAll, IsKept, IsSized, IsTidy};
@@ -32,7 +30,7 @@ fn hand_over(
 ) -> Result<Turn, Memory>
     requires exists { to < length agents.old.items }
     requires fit { CanReceive (state_at agents.old.items to) from next_step message }
-    ensures does { IfOk result (λ turn. let old = state_at agents.old.items to in Acts old (state_at agents.new.items to) (steps.receive (csp_of old.problem) old.me next_step (stands_for old) from (message_of message)) out.old out.new turn) }
+    ensures does { IfOk result (λ turn. Receives (state_at agents.old.items to) (state_at agents.new.items to) next_step from message out.old out.new turn) }
     ensures others { (k : ℕ) → k ≢ to → state_at agents.new.items k ≡ state_at agents.old.items k }
     ensures long { length agents.new.items ≡ length agents.old.items }
 {

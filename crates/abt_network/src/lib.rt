@@ -58,6 +58,3 @@ pub struct Delivery {
     /// The step that the receiver made, if it made one.
     pub step: Option<Step>,
 }
-
-#[cfg(test)]
-mod tests;

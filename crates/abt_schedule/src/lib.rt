@@ -21,6 +21,3 @@ pub use schedule::{
     write_schedule,
 };
 pub use seeded::Seeded;
-
-#[cfg(test)]
-mod tests;

@@ -13,8 +13,6 @@ mod outcome;
 mod runner;
 mod session;
 mod starved_run;
-#[cfg(test)]
-mod tests;
 mod trace;
 
 pub use dcsp_script::Stop as SessionError;

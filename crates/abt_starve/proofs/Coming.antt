@@ -15,7 +15,7 @@ use Rattle.abt_promise.specs.Promises.{IsHeld}
 use Rattle.abt_promise.specs.Runs.{CameIn}
 use Rattle.abt_promise.proofs.Coming.{way_with, came_wrote}
 use Rattle.abt_input.specs.declared.error.CommandError.{CommandError}
-use Rattle.abt_input.specs.declared.error.CommandError.TheVariants.{ModelLong, ModelRefused, LogLong, LogLine, ScheduleLong, ScheduleLine, Clauses, Fault, Memory}
+use Rattle.abt_input.specs.declared.error.CommandError.TheVariants.{ModelLong, ModelRefused, NoAim, LogLong, LogLine, ScheduleLong, ScheduleLine, Clauses, Fault, Memory}
 use Rattle.abt_input.specs.Inputs.{IsModelOf}
 use Rattle.abt_input.specs.Errors.{stop_error, way_of}
 use Rattle.abt_input.specs.Files.{IsModelRead, UnlessFault}
@@ -30,6 +30,7 @@ module _ (m : List ℕ) (from to : ℕ) (file : List ℕ) (p q : Place) (out : S
   no_model (LogLine number) h counts fault = absurd h.2
   no_model ScheduleLong h counts fault = absurd h.2
   no_model (ScheduleLine number) h counts fault = absurd h.2
+  no_model NoAim h counts fault = absurd h.2
   no_model (Clauses error) h counts fault = absurd h.2
   no_model Memory h counts fault = record { inputs = h.0 ∷ []; are_held = (h.1, tt); came = inl (did_read p q out held created counts) }
   no_model Fault h counts fault = record {

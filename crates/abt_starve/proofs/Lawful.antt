@@ -10,7 +10,7 @@ use Rattle.abt_promise.specs.Statuses.{IsFinal, IsRefusal}
 use Rattle.abt_promise.specs.Promises.{Report, refused}
 use Rattle.abt_promise.specs.Clauses.{IsLawful}
 use Rattle.abt_input.specs.declared.error.CommandError.{CommandError}
-use Rattle.abt_input.specs.declared.error.CommandError.TheVariants.{ModelLong, ModelRefused, LogLong, LogLine, ScheduleLong, ScheduleLine, Clauses, Fault, Memory}
+use Rattle.abt_input.specs.declared.error.CommandError.TheVariants.{ModelLong, ModelRefused, NoAim, LogLong, LogLine, ScheduleLong, ScheduleLine, Clauses, Fault, Memory}
 use Rattle.abt_input.specs.Errors.{IsErrorOfModel, error_status, error_text}
 use Rattle.abt_input.proofs.Once.{one_problem, no_error_of_model, one_error_of_model}
 use Rattle.abt_starve.specs.StarvePromise.{most_starved, starving_run, choices_of, starved_line, starve_report, StarveReport, bad_model, ran, StarveReports, StarveFetches, starve_promise}
@@ -46,6 +46,7 @@ final_error LogLong model h = tt
 final_error (LogLine number) model h = tt
 final_error ScheduleLong model h = tt
 final_error (ScheduleLine number) model h = tt
+final_error NoAim model h = tt
 final_error (Clauses error) model h = absurd h
 final_error Fault model h = h
 final_error Memory model h = h

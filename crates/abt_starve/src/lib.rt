@@ -6,8 +6,6 @@
 
 mod laws;
 mod starve;
-#[cfg(test)]
-mod tests;
 
 pub use laws::starve_is_lawful;
 pub use starve::{Starve, run_starve};

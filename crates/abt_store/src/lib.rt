@@ -20,6 +20,3 @@ pub struct Recorded {
     pub nogood: Nogood,
     pub step: u64,
 }
-
-#[cfg(test)]
-mod tests;

@@ -13,8 +13,6 @@ mod memory_sink;
 mod sink;
 mod sure_folder;
 mod sure_sink;
-#[cfg(test)]
-mod tests;
 
 pub use dcsp_list::Memory;
 pub use folder::{Fetched, Folder, FolderError, MOST_PIECE, Piece};

@@ -6,8 +6,6 @@
 
 mod order;
 mod stop;
-#[cfg(test)]
-mod tests;
 mod writes;
 
 pub use order::parts_in_order;

@@ -1,8 +1,0 @@
-use Rattle.std.proofs.Common.{◌≡◌, length}
-use Rattle.abt_bound.proofs.tests.problem.Given as goal
-
-abbrev pub invariant-loop-size : goal.invariant-loop-size
-invariant-loop-size l = l.vars ≡ length l.builder.domains
-
-abbrev pub invariant-loop-left : goal.invariant-loop-left
-invariant-loop-left l = l.vars ≡ length l.builder.domains

@@ -1,8 +1,0 @@
-use Rattle.std.proofs.Common.{◌≡◌, true}
-use Rattle.abt_network.proofs.tests.play.Given as goal
-
-abbrev pub invariant-loop-told : goal.invariant-loop-told
-invariant-loop-told g l = record {
-  begun : l.network.begun ≡ true;
-  problem : l.network.problem ≡ l.initial.network.problem;
-}
