@@ -1,4 +1,6 @@
 pub mod FewWords
+pub mod SignedWords
 pub mod Lines
 pub mod Runs
+pub mod Searches
 pub mod Meanings

@@ -1,5 +1,5 @@
 -- Lines of words, and how they end.
-use Rattle.std.proofs.Common.{◌≡◌, ℕ, ◌<◌, ◌≤◌, ◌^◌, suc, Bool, true, false, cond, List, [], ◌∷◌, length, get_or, drop, Option, Some, None, Result, Ok, Err, refl, sym, ap, subst, ◌∙◌, arith, codes, decimal}
+use Rattle.std.proofs.Common.{◌≡◌, ℕ, ℤ, FitsSigned, w64, ◌<◌, ◌≤◌, ◌^◌, suc, Bool, true, false, cond, List, [], ◌∷◌, length, get_or, drop, Option, Some, None, Result, Ok, Err, refl, sym, ap, subst, ◌∙◌, arith, codes, decimal}
 use Rattle.std.specs.Prelude.{nat_lt, unwrap_or, option_to_list, IfSome, IfOk, IsTrue, ◌↔◌}
 use Rattle.std.specs.Str.{bytes_eq}
 use Rattle.std.specs.Str.Parse.{AllDigits, digits_value}
@@ -13,12 +13,14 @@ use Rattle.abt_promise.specs.Promises.{IsSaid}
 use Rattle.abt_promise.specs.Runs.{Concludes}
 use Rattle.abt_promise.specs.Clauses.{IsLawful}
 use Rattle.abt_input.specs.declared.error.CommandError.{CommandError}
-use Rattle.abt_input.specs.declared.error.CommandError.TheVariants.{ModelLong, ModelRefused, LogLong, LogLine, ScheduleLong, ScheduleLine, Clauses, Fault, Memory}
+use Rattle.abt_input.specs.declared.error.CommandError.TheVariants.{ModelLong, ModelRefused, NoAim, LogLong, LogLine, ScheduleLong, ScheduleLine, Clauses, Fault, Memory}
 use Rattle.abt_input.specs.Errors.{error_status, error_text, way_of}
 use Rattle.abt_input.proofs.Cnfs.{clauses_refuse}
 use Rattle.abt_models.proofs.Lawful.{bound_lawful, print_lawful}
-use Rattle.abt_run.proofs.Lawful.{replay_lawful, solve_lawful}
-use Rattle.abt_command.specs.Lines.{AreFileNames, Settings, no_settings, Sets, nothing, seeds, records, traces, trace_words, seed_words, AreSeed, IsCnf, Line, Help, Version, Check, Replay, Solve, Bound, Queens, Colouring, Drill, Upgrade, Core, Starve, Lossy, Rup, Cnf, IsFileName, IsWithin, IsSolve, IsLossy, IsLine, IsNoLine, record_words}
+use Rattle.abt_run.proofs.Lawful.{replay_lawful}
+use Rattle.abt_best.proofs.Lawful.{solve_lawful}
+use Rattle.abt_command.proofs.SignedWords.{signed_number, signed_number_back}
+use Rattle.abt_command.specs.Lines.{AreFileNames, better_words, Settings, no_settings, Sets, nothing, seeds, records, traces, trace_words, seed_words, AreSeed, IsCnf, Line, Help, Version, Check, Replay, Solve, Bound, Queens, Colouring, Drill, Upgrade, Core, Starve, Lossy, Rup, Cnf, IsFileName, IsWithin, IsSolve, IsLossy, IsLine, IsNoLine, record_words}
 use Rattle.abt_command.specs.LinePromises.{promise_of}
 use Rattle.abt_check.proofs.Lawful.{check_lawful}
 use Rattle.abt_drill.proofs.Lawful.{drill_lawful}
@@ -47,7 +49,7 @@ the_line words s =
     let word = get_or words 0 [] in
     cond (bytes_eq word (codes "--help")) Help
     (cond (bytes_eq word (codes "--version")) Version
-    (cond (bytes_eq word (codes "check")) (Check (get_or words 1 []) (get_or words 2 []))
+    (cond (bytes_eq word (codes "check")) (Check (get_or words 1 []) (get_or words 2 []) (cond (nat_lt 3 (length words)) (Some (signed_number (get_or words 4 []))) None))
     (cond (bytes_eq word (codes "replay")) (Replay (get_or words 1 []) (get_or words 2 []) (get_or words 3 []) (nat_lt 4 (length words)))
     (cond (bytes_eq word (codes "bound")) (Bound (get_or words 1 []))
     (cond (bytes_eq word (codes "gen")) (generated (get_or words 1 []) (number (get_or words 2 [])) (number (get_or words 3 [])) (number (get_or words 4 [])))
@@ -67,8 +69,12 @@ module _ (words : List (List ℕ)) (s : Settings) where
   version_back : IsLine words Version → the_line words s ≡ Version
   version_back h = rw h refl
 
-  check_back : (model log : List ℕ) → IsLine words (Check model log) → the_line words s ≡ Check model log
-  check_back model log h = rw h.0 refl
+  check_back : (model log : List ℕ) (better : Option ℤ) → IsLine words (Check model log better) → the_line words s ≡ Check model log better
+  check_back model log better h = rw h.words_are (by_better better h.fits)
+    where
+      by_better : (b : Option ℤ) → IfSome b (FitsSigned w64) → the_line (codes "check" ∷ model ∷ log ∷ better_words b) s ≡ Check model log b
+      by_better None fits = refl
+      by_better (Some bound) fits = ap (λ x. Check model log (Some x)) (signed_number_back bound fits)
 
   replay_back : (model schedule log : List ℕ) (trace : Bool) → IsLine words (Replay model schedule log trace) → the_line words s ≡ Replay model schedule log trace
   replay_back model schedule log false h = rw h.0 refl
@@ -125,7 +131,7 @@ solve_back words model log seed kept trace h = rw (h.words_are, h.seed_is, h.kep
 back : (words : List (List ℕ)) (l : Line) → IsLine words l → (s : Settings) × (the_line words s ≡ l)
 back words Help h = (no_settings, help_back words no_settings h)
 back words Version h = (no_settings, version_back words no_settings h)
-back words (Check model log) h = (no_settings, check_back words no_settings model log h)
+back words (Check model log better) h = (no_settings, check_back words no_settings model log better h)
 back words (Replay model schedule log trace) h = (no_settings, replay_back words no_settings model schedule log trace h)
 back words (Bound model) h = (no_settings, bound_back words no_settings model h)
 back words (Queens n) h = (no_settings, queens_back words no_settings n h)
@@ -196,7 +202,7 @@ same_settings words model log other_model other_log seed other_seed kept other_k
 pub one_line : (words : List (List ℕ)) (k l : Line) → IsLine words k → IsLine words l → k ≡ l
 one_line words Help l h g = let b = back words l g in sym (help_back words b.0 h) ∙ b.1
 one_line words Version l h g = let b = back words l g in sym (version_back words b.0 h) ∙ b.1
-one_line words (Check m o) l h g = let b = back words l g in sym (check_back words b.0 m o h) ∙ b.1
+one_line words (Check m o t) l h g = let b = back words l g in sym (check_back words b.0 m o t h) ∙ b.1
 one_line words (Replay m c o t) l h g = let b = back words l g in sym (replay_back words b.0 m c o t h) ∙ b.1
 one_line words (Bound m) l h g = let b = back words l g in sym (bound_back words b.0 m h) ∙ b.1
 one_line words (Queens n) l h g = let b = back words l g in sym (queens_back words b.0 n h) ∙ b.1
@@ -210,7 +216,7 @@ one_line words (Rup m o) l h g = let b = back words l g in sym (rup_back words b
 one_line words (Cnf m o c) l h g = let b = back words l g in sym (cnf_back words b.0 m o c h) ∙ b.1
 one_line words (Solve m o n r t) Help h g = sym (solve_back words m o n r t h) ∙ help_back words h.settings g
 one_line words (Solve m o n r t) Version h g = sym (solve_back words m o n r t h) ∙ version_back words h.settings g
-one_line words (Solve m o n r t) (Check a b) h g = sym (solve_back words m o n r t h) ∙ check_back words h.settings a b g
+one_line words (Solve m o n r t) (Check a b c) h g = sym (solve_back words m o n r t h) ∙ check_back words h.settings a b c g
 one_line words (Solve m o n r t) (Replay a b c d) h g = sym (solve_back words m o n r t h) ∙ replay_back words h.settings a b c d g
 one_line words (Solve m o n r t) (Bound a) h g = sym (solve_back words m o n r t h) ∙ bound_back words h.settings a g
 one_line words (Solve m o n r t) (Queens a) h g = sym (solve_back words m o n r t h) ∙ queens_back words h.settings a g
@@ -229,7 +235,7 @@ one_line words (Solve m o n r t) (Solve a b c d e) h g = sym (solve_back words m
 pub no_plain : (word : List ℕ) → (word ≡ codes "--help" → ⊥) → (word ≡ codes "--version" → ⊥) → IsNoLine (word ∷ [])
 no_plain word help version Help h = help (ap (λ ws. get_or ws 0 []) h)
 no_plain word help version Version h = version (ap (λ ws. get_or ws 0 []) h)
-no_plain word help version (Check m o) h = omega (arith, ap length h.0)
+no_plain word help version (Check m o t) h = omega (arith, ap length h.words_are)
 no_plain word help version (Replay m c o t) h = omega (arith, ap length h.0)
 no_plain word help version (Solve m o n r t) h = omega (arith, ap length h.words_are)
 no_plain word help version (Bound m) h = omega (arith, ap length h.0)
@@ -261,7 +267,7 @@ pub record NoKeyword (word : List ℕ) : Type 0 where
 pub no_keyword : (words : List (List ℕ)) → (length words ≡ 1 → ⊥) → NoKeyword (get_or words 0 []) → IsNoLine words
 no_keyword words one none Help h = one (ap length h)
 no_keyword words one none Version h = one (ap length h)
-no_keyword words one none (Check m o) h = none.check (ap (λ ws. get_or ws 0 []) h.0)
+no_keyword words one none (Check m o t) h = none.check (ap (λ ws. get_or ws 0 []) h.words_are)
 no_keyword words one none (Replay m c o t) h = none.replays (ap (λ ws. get_or ws 0 []) h.0)
 no_keyword words one none (Solve m o n r t) h = none.solves (ap (λ ws. get_or ws 0 []) h.words_are)
 no_keyword words one none (Bound m) h = none.bounds (ap (λ ws. get_or ws 0 []) h.0)
@@ -275,8 +281,11 @@ no_keyword words one none (Lossy m o n c k) h = none.loses (ap (λ ws. get_or ws
 no_keyword words one none (Rup m o) h = none.rups (ap (λ ws. get_or ws 0 []) h.0)
 no_keyword words one none (Cnf m o s) h = none.cnfs (ap (λ ws. get_or ws 0 []) h.words_are)
 
-pub no_check : (words : List (List ℕ)) → ((model log : List ℕ) → words ≡ model ∷ log ∷ [] → AreFileNames (model ∷ log ∷ []) → ⊥) → IsNoLine (codes "check" ∷ words)
-no_check words none l h = let r = as_read (codes "check" ∷ words) l h in none (get_or words 0 []) (get_or words 1 []) (ap (drop 1) r.1.0) r.1.1
+pub no_check : (words : List (List ℕ)) → ((model log : List ℕ) (better : Option ℤ) → words ≡ model ∷ log ∷ better_words better → IfSome better (FitsSigned w64) → AreFileNames (model ∷ log ∷ []) → ⊥) → IsNoLine (codes "check" ∷ words)
+no_check words none l h =
+    let r = as_read (codes "check" ∷ words) l h in
+    let is = r.1 in
+    none (get_or words 0 []) (get_or words 1 []) (cond (nat_lt 3 (suc (length words))) (Some (signed_number (get_or words 3 []))) None) (ap (drop 1) is.words_are) is.fits is.names
 
 pub no_replay : (words : List (List ℕ)) → ((model schedule log : List ℕ) (trace : Bool) → words ≡ model ∷ schedule ∷ log ∷ trace_words trace → AreFileNames (model ∷ schedule ∷ log ∷ []) → ⊥) → IsNoLine (codes "replay" ∷ words)
 no_replay words none l h = let r = as_read (codes "replay" ∷ words) l h in none (get_or words 0 []) (get_or words 1 []) (get_or words 2 []) (nat_lt 4 (suc (length words))) (ap (drop 1) r.1.0) r.1.1
@@ -307,7 +316,7 @@ pub no_gen : (words : List (List ℕ)) → ((n : ℕ) → words ≡ codes "queen
     → ((n k seed : ℕ) → words ≡ codes "colouring" ∷ decimal n ∷ decimal k ∷ decimal seed ∷ [] → IsWithin 1 200 n → IsWithin 1 16 k → seed < 2 ^ 64 → ⊥) → IsNoLine (codes "gen" ∷ words)
 no_gen words queens colourings Help h = omega (arith, first_long _ _ _ refl h)
 no_gen words queens colourings Version h = omega (arith, first_long _ _ _ refl h)
-no_gen words queens colourings (Check m o) h = omega (arith, first_long _ _ _ refl h.0)
+no_gen words queens colourings (Check m o t) h = omega (arith, first_long _ _ _ refl h.words_are)
 no_gen words queens colourings (Replay m c o t) h = omega (arith, first_long _ _ _ refl h.0)
 no_gen words queens colourings (Solve m o n r t) h = omega (arith, first_long _ _ _ refl h.words_are)
 no_gen words queens colourings (Bound m) h = omega (arith, first_long _ _ _ refl h.0)
@@ -367,7 +376,7 @@ no_seed words cnf proof options e none = no_cnf words (λ m o others seed again 
 pub lawful : (line : Line) → IsLawful (promise_of line)
 lawful Help = print_lawful _
 lawful Version = print_lawful _
-lawful (Check m l) = check_lawful m l
+lawful (Check m l b) = check_lawful b m l
 lawful (Replay m c l t) = replay_lawful m c l t
 lawful (Solve m l n r t) = solve_lawful m l n r t
 lawful (Bound m) = bound_lawful m
@@ -389,6 +398,7 @@ concluded LogLong err now status s h = (s, h)
 concluded (LogLine number) err now status s h = (s, h)
 concluded ScheduleLong err now status s h = (s, h)
 concluded (ScheduleLine number) err now status s h = (s, h)
+concluded NoAim err now status s h = (s, h)
 concluded (Clauses error) err now status s h = (s, h)
 concluded Fault err now status s h = (s, h)
 concluded Memory err now status s h = (s, h)
@@ -402,6 +412,7 @@ an_answer (Err LogLong) err now status h f n = absurd (n (subst IsRefusal (sym h
 an_answer (Err (LogLine number)) err now status h f n = absurd (n (subst IsRefusal (sym h.0) tt))
 an_answer (Err ScheduleLong) err now status h f n = absurd (n (subst IsRefusal (sym h.0) tt))
 an_answer (Err (ScheduleLine number)) err now status h f n = absurd (n (subst IsRefusal (sym h.0) tt))
+an_answer (Err NoAim) err now status h f n = absurd (n (subst IsRefusal (sym h.0) tt))
 an_answer (Err (Clauses error)) err now status h f n = absurd (n (subst IsRefusal (sym h.0) (clauses_refuse error)))
 an_answer (Err Fault) err now status h f n = absurd (subst IsFinal h.0 f)
 an_answer (Err Memory) err now status h f n = absurd (subst IsFinal h.0 f)

@@ -1,22 +1,47 @@
 -- What the answers of lines mean.
-use Rattle.std.proofs.Common.{◌≡◌, ℕ, List, Result, Ok, Err, sym, ap, subst}
+use Rattle.std.proofs.Common.{◌≡◌, ℕ, ℤ, List, Option, Some, None, Result, Ok, Err, sym, ap, subst}
 use Rattle.std.specs.Prelude.{IfOk, OnOk, ⊤}
 use Rattle.dcsp_script.specs.Scripts.{World}
 use Rattle.abt_promise.specs.declared.status.Status.{Status}
 use Rattle.abt_promise.specs.declared.status.Status.TheVariants.{Good, No}
 use Rattle.abt_promise.specs.Statuses.{IsFinal, IsRefusal}
 use Rattle.abt_input.specs.declared.error.CommandError.{CommandError}
-use Rattle.abt_check.specs.Checks.{IsRefuted}
+use Rattle.dcsp_outside.specs.Outside.{bytes_of}
+use Rattle.dcsp_defs.specs.Csp.{HasNoSolution}
+use Rattle.dcsp_problem.specs.Problems.{Contents, csp_of}
+use Rattle.abt_optimum.specs.Best.{HasNoBetter}
+use Rattle.abt_optimum.proofs.Narrowing.{decides}
+use Rattle.abt_input.proofs.Once.{one_problem}
+use Rattle.abt_check.specs.Taking.{narrowing, taking_of}
+use Rattle.abt_check.specs.Checks.{IsRefuted, IsRefutedBy}
 use Rattle.abt_command.specs.Lines.{Line, Check}
-use Rattle.abt_command.specs.Meanings.{Means}
+use Rattle.abt_command.specs.Meanings.{Means, HoldsNoBetter}
 
 -- the same of the same line
 pub means_of : {line other : Line} (old now : World) (status : Status) → line ≡ other → Means line old now status → Means other old now status
 means_of old now status e h = subst (λ l. Means l old now status) e h
 
-pub verified_by : {line : Line} {model log : List ℕ} (old now : World) (status : Status) → line ≡ Check model log → status ≡ Good
-    → (IsFinal status → (IsRefusal status → ⊥) → Means line old now status) → IsRefuted old.folder.held model
+verified_by : {line : Line} {model log : List ℕ} {better : Option ℤ} (old now : World) (status : Status) → line ≡ Check model log better → status ≡ Good
+    → (IsFinal status → (IsRefusal status → ⊥) → Means line old now status) → IsRefutedBy (taking_of better) old.folder.held model
 verified_by old now status e good h = means_of old now status e (h (subst IsFinal (sym good) tt) (λ r. subst IsRefusal good r)) good
+
+-- a log that is verified
+pub refuted_by : {line : Line} {model log : List ℕ} (old now : World) (status : Status) → line ≡ Check model log None → status ≡ Good
+    → (IsFinal status → (IsRefusal status → ⊥) → Means line old now status) → IsRefuted old.folder.held model
+refuted_by old now status e good h = verified_by old now status e good h
+
+none_better : (files : Option (List ℕ → Option (List ℕ))) (model : List ℕ) (bound : ℤ) → IsRefutedBy (narrowing bound) files model → HoldsNoBetter files model bound
+none_better None model bound h = tt
+none_better (Some f) model bound h = λ p is.
+    let q = h.taken in
+    let same : q.1.whole ≡ p = one_problem (bytes_of (f model)) q.1.whole p q.1.model_is is in
+    let none = subst (λ (x : Contents). HasNoSolution (csp_of x)) q.1.narrowed_is (h.none q.0 q.1) in
+    subst (λ (x : Contents). HasNoBetter x bound) same ((decides q.1.whole q.1.known q.1.aimed bound).0 none)
+
+-- the same against a better value
+pub no_better_by : {line : Line} {model log : List ℕ} {bound : ℤ} (old now : World) (status : Status) → line ≡ Check model log (Some bound) → status ≡ Good
+    → (IsFinal status → (IsRefusal status → ⊥) → Means line old now status) → HoldsNoBetter old.folder.held model bound
+no_better_by {model = model} {bound = bound} old now status e good h = none_better old.folder.held model bound (verified_by old now status e good h)
 
 -- nothing is asked of an answer
 pub any_answer : (r : Result Status CommandError) → IfOk r (λ status. ⊤)

@@ -20,9 +20,10 @@ use Rattle.abt_check.proofs.Verifying.{refutation_verified}
 use Rattle.abt_run.specs.Endings.{assigned, final_values, end_status}
 use Rattle.abt_run.specs.Asked.{Asked, asked_run, asked_script, run_report, replay, solve}
 use Rattle.abt_run.specs.ReplayPromise.{replay_promise, replayed}
-use Rattle.abt_run.specs.SolvePromise.{solve_promise, ran}
+use Rattle.abt_best.specs.SolvePromise.{solve_promise, ran}
 use Rattle.abt_run.specs.Headline.{HoldsProblem, IsOther, HoldsRun, IsRun, IsSolvedRun, IsRefutedRun, IsUnfinishedRun, IsBoundedRun, WritesOrdered}
-use Rattle.abt_run.proofs.Lawful.{no_refusal, replay_lawful, solve_lawful}
+use Rattle.abt_run.proofs.Lawful.{no_refusal, replay_lawful}
+use Rattle.abt_best.proofs.Lawful.{solve_lawful}
 use Rattle.abt_run.proofs.Headlines.{HasOwnRecord, is_run, part_ordered}
 use Rattle.abt_run.proofs.Verdicts.{solved, refuted, bounded, replay_unfinished, solve_unfinished, refuted_log}
 use Rattle.law_meaning.specs.Meaning.{SatisfiesText}
@@ -34,11 +35,11 @@ use Rattle.abt_command.specs.AskedRuns.{AsksFor, replays, solves, EachRun, RunsM
 use Rattle.abt_command.proofs.Lines.{one_line}
 
 -- the record of a line has a name of its own
-own_record : (model log : List ℕ) (kept : Option (List ℕ)) → AreFileNames (model ∷ log ∷ option_to_list kept) → IfSome kept (λ k. k ≡ log → ⊥)
+pub own_record : (model log : List ℕ) (kept : Option (List ℕ)) → AreFileNames (model ∷ log ∷ option_to_list kept) → IfSome kept (λ k. k ≡ log → ⊥)
 own_record model log None h = tt
 own_record model log (Some k) h = λ e. h.2.1.0 (sym e)
 
-of_kept : (model : List ℕ) (kept : Option (List ℕ)) → IsNewName model (option_to_list kept) → IfSome kept (λ k. model ≢ k)
+pub of_kept : (model : List ℕ) (kept : Option (List ℕ)) → IsNewName model (option_to_list kept) → IfSome kept (λ k. model ≢ k)
 of_kept model None h = tt
 of_kept model (Some k) h = h.0
 
@@ -49,7 +50,7 @@ asks_for_none words (Some files) P none = λ asked asks. absurd (so asked asks)
   where
     so : (asked : Asked) → AsksFor words files asked → ⊥
     so asked (replays m s l t h p mp cs hc e) = none (Replay m s l t) h
-    so asked (solves m l n k t h p mp e) = none (Solve m l n k t) h
+    so asked (solves m l n k t h p mp aim e) = none (Solve m l n k t) h
 
 module _ (words : List (List ℕ)) (line : Line) (is : IsLine words line) (a b : World) (err now : Stream) (status : Status) (line_ran : Ran (promise_of line) a b err now status)
     (means : IsFinal status → (IsRefusal status → ⊥) → Means line a b status) where
@@ -59,7 +60,7 @@ module _ (words : List (List ℕ)) (line : Line) (is : IsLine words line) (a b :
       of_line : (l : Line) → RunsModel l model → Means l a b status → HoldsProblem a.folder.held model
       of_line Help r h = absurd r
       of_line Version r h = absurd r
-      of_line (Check m l) r h = absurd r
+      of_line (Check m l n) r h = absurd r
       of_line (Bound m) r h = absurd r
       of_line (Queens n) r h = absurd r
       of_line (Colouring n k c) r h = absurd r
@@ -71,7 +72,7 @@ module _ (words : List (List ℕ)) (line : Line) (is : IsLine words line) (a b :
       of_line (Rup m p) r h = absurd r
       of_line (Cnf m p c) r h = absurd r
       of_line (Replay m c l t) r h = subst (HoldsProblem a.folder.held) r h
-      of_line (Solve m l c k t) r h = subst (HoldsProblem a.folder.held) r h
+      of_line (Solve m l c k t) r h = subst (HoldsProblem a.folder.held) r h.sound
 
   as_line : (l : Line) → IsLine words l → Ran (promise_of l) a b err now status
   as_line l h = subst (λ x. Ran (promise_of x) a b err now status) (one_line words line l is h) line_ran
@@ -80,19 +81,19 @@ module _ (words : List (List ℕ)) (line : Line) (is : IsLine words line) (a b :
     -- with a final status the run's whole script was made, and with any a part of it
     did_run : (asked : Asked) → AsksFor words files asked → IsFinal status → (status ≡ end_status (asked_run asked).end) × Did (asked_script asked) a b
     did_run asked (replays m s l t h p mp cs hc e) f = subst (λ x. (status ≡ end_status (asked_run x).end) × Did (asked_script x) a b) (sym e) (report_did (replay_promise m s l t) (replay_lawful m s l t) a b err now files told (run_report (replay p cs l t)) (replayed p cs mp hc refl) status (as_line (Replay m s l t) h) f)
-    did_run asked (solves m l n k t h p mp e) f = subst (λ x. (status ≡ end_status (asked_run x).end) × Did (asked_script x) a b) (sym e) (report_did (solve_promise m l n k t) (solve_lawful m l n k t) a b err now files told (run_report (solve p n l k t)) (ran p mp refl) status (as_line (Solve m l n k t) h) f)
+    did_run asked (solves m l n k t h p mp aim e) f = subst (λ x. (status ≡ end_status (asked_run x).end) × Did (asked_script x) a b) (sym e) (report_did (solve_promise m l n k t) (solve_lawful m l n k t) a b err now files told (run_report (solve p n l k t)) (ran p mp aim refl) status (as_line (Solve m l n k t) h) f)
 
     made_part : (asked : Asked) → AsksFor words files asked → DidPartOf (asked_script asked) a b
     made_part asked (replays m s l t h p mp cs hc e) = subst (λ x. DidPartOf (asked_script x) a b) (sym e) (report_part (replay_promise m s l t) (replay_lawful m s l t) a b err now files told (run_report (replay p cs l t)) (replayed p cs mp hc refl) status (as_line (Replay m s l t) h))
-    made_part asked (solves m l n k t h p mp e) = subst (λ x. DidPartOf (asked_script x) a b) (sym e) (report_part (solve_promise m l n k t) (solve_lawful m l n k t) a b err now files told (run_report (solve p n l k t)) (ran p mp refl) status (as_line (Solve m l n k t) h))
+    made_part asked (solves m l n k t h p mp aim e) = subst (λ x. DidPartOf (asked_script x) a b) (sym e) (report_part (solve_promise m l n k t) (solve_lawful m l n k t) a b err now files told (run_report (solve p n l k t)) (ran p mp aim refl) status (as_line (Solve m l n k t) h))
 
     own : (asked : Asked) → AsksFor words files asked → HasOwnRecord asked
     own asked (replays m s l t h p mp cs hc e) = rw e tt
-    own asked (solves m l n k t h p mp e) = rw e (own_record m l k h.names)
+    own asked (solves m l n k t h p mp aim e) = rw e (own_record m l k h.names)
 
     same_problem : (asked : Asked) → AsksFor words files asked → asked.session.problem ≡ csp_of asked.problem
     same_problem asked (replays m s l t h p mp cs hc e) = rw e refl
-    same_problem asked (solves m l n k t h p mp e) = rw e refl
+    same_problem asked (solves m l n k t h p mp aim e) = rw e refl
 
     -- the model's problem is well-formed
     of_model : (l : Line) (name : List ℕ) → IsLine words l → RunsModel l name → IsFinal status → (IsRefusal status → ⊥) → HoldsProblem (Some files) name
@@ -100,29 +101,29 @@ module _ (words : List (List ℕ)) (line : Line) (is : IsLine words line) (a b :
 
     well_formed : (asked : Asked) → AsksFor words files asked → IsFinal status → (IsRefusal status → ⊥) → IsCsp (csp_of asked.problem)
     well_formed asked (replays m s l t h p mp cs hc e) f n = rw e (of_model (Replay m s l t) m h refl f n p mp).0
-    well_formed asked (solves m l n k t h p mp e) f no_refused = rw e (of_model (Solve m l n k t) m h refl f no_refused p mp).0
+    well_formed asked (solves m l n k t h p mp aim e) f no_refused = rw e (of_model (Solve m l n k t) m h refl f no_refused p mp).0
 
     -- logs can name all that the model's problem has
     small : (asked : Asked) → AsksFor words files asked → IsFinal status → (IsRefusal status → ⊥) → IsSmall (csp_of asked.problem)
     small asked (replays m s l t h p mp cs hc e) f n = rw e (of_model (Replay m s l t) m h refl f n p mp).1
-    small asked (solves m l n k t h p mp e) f no_refused = rw e (of_model (Solve m l n k t) m h refl f no_refused p mp).1
+    small asked (solves m l n k t h p mp aim e) f no_refused = rw e (of_model (Solve m l n k t) m h refl f no_refused p mp).1
 
     -- the model of the run has a name of its own
     own_model : (asked : Asked) → AsksFor words files asked → (model : List ℕ) → AskForModel words model → IsOther asked model × IsModelOf (bytes_of (files model)) asked.problem
     own_model asked (replays m s l t h p mp cs hc e) model a =
         let is : m ≡ model = subst (λ x. RunsModel x model) (one_line words a.line (Replay m s l t) a.is h) a.runs in
         rw (e, sym is) ((h.1.1.1.0, tt), mp)
-    own_model asked (solves m l n k t h p mp e) model a =
+    own_model asked (solves m l n k t h p mp aim e) model a =
         let is : m ≡ model = subst (λ x. RunsModel x model) (one_line words a.line (Solve m l n k t) a.is h) a.runs in
         rw (e, sym is) ((h.names.1.0, of_kept m k h.names.1.1), mp)
 
     at_most : (asked : Asked) → AsksFor words files asked → asked.session.most ≤ 2 ^ 40
     at_most asked (replays m s l t h p mp cs hc e) = rw e (omega arith)
-    at_most asked (solves m l n k t h p mp e) = rw e (omega arith)
+    at_most asked (solves m l n k t h p mp aim e) = rw e (omega arith)
 
     at_limit : (asked : Asked) → AsksFor words files asked → status ≡ end_status (asked_run asked).end → IsUnfinishedRun asked status
     at_limit asked (replays m s l t h p mp cs hc e) = rw e (λ i. replay_unfinished p (bytes_of (files s)) cs l t status hc i)
-    at_limit asked (solves m l n k t h p mp e) = rw e (λ i. solve_unfinished p n l k t status i)
+    at_limit asked (solves m l n k t h p mp aim e) = rw e (λ i. solve_unfinished p n l k t status i)
 
     not_refused : (asked : Asked) → status ≡ end_status (asked_run asked).end → IsRefusal status → ⊥
     not_refused asked i r = no_refusal (asked_run asked).end (subst IsRefusal i r)

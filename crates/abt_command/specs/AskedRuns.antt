@@ -1,6 +1,7 @@
 -- The runs that words ask for.
 use Rattle.std.specs.Prelude.{◌≡◌, ℕ, Bool, List, [], ◌∷◌, Option, IfSome}
 use Rattle.dcsp_outside.specs.Outside.{bytes_of}
+use Rattle.dcsp_problem.specs.declared.aim.Aim.TheVariants.{Satisfy}
 use Rattle.dcsp_problem.specs.Problems.{Contents}
 use Rattle.abt_input.specs.Inputs.{IsModelOf, HasChoices}
 use Rattle.abt_promise.specs.declared.status.Status.{Status}
@@ -11,13 +12,13 @@ use Rattle.abt_run.specs.Endings.{assigned, final_values}
 use Rattle.abt_run.specs.Asked.{Asked, asked_run, replay, solve}
 use Rattle.abt_command.specs.Lines.{Line, Help, Version, Check, Replay, Solve, Bound, Queens, Colouring, Drill, Upgrade, Core, Starve, Lossy, Rup, Cnf, IsLine}
 
--- the words ask for this run, where these are the files: a replay of a model that has a problem and a schedule that has choices, or a run of such a model from a seed
+-- the words ask for this run, where these are the files: a replay of a model that has a problem and a schedule that has choices, or a run from a seed of a model that asks for any solution
 pub data AsksFor (words : List (List ℕ)) (files : List ℕ → Option (List ℕ)) (asked : Asked) : Type 0 where
   replays : (model schedule log : List ℕ) (trace : Bool) → IsLine words (Replay model schedule log trace)
       → (problem : Contents) → IsModelOf (bytes_of (files model)) problem → (choices : List ℕ) → HasChoices (bytes_of (files schedule)) choices
       → asked ≡ replay problem choices log trace → AsksFor words files asked
   solves : (model log : List ℕ) (seed : ℕ) (kept : Option (List ℕ)) (trace : Bool) → IsLine words (Solve model log seed kept trace)
-      → (problem : Contents) → IsModelOf (bytes_of (files model)) problem
+      → (problem : Contents) → IsModelOf (bytes_of (files model)) problem → problem.aim ≡ Satisfy
       → asked ≡ solve problem seed log kept trace → AsksFor words files asked
 
 -- this holds of each run that the words ask for, where the folder tells its files
@@ -28,7 +29,7 @@ EachRun words held P = IfSome held (λ files. (asked : Asked) → AsksFor words 
 abbrev pub RunsModel : Line → List ℕ → Type 0
 RunsModel Help name = ⊥
 RunsModel Version name = ⊥
-RunsModel (Check model log) name = ⊥
+RunsModel (Check model log better) name = ⊥
 RunsModel (Bound model) name = ⊥
 RunsModel (Queens n) name = ⊥
 RunsModel (Colouring n k seed) name = ⊥

@@ -2,4 +2,5 @@ pub mod Lines
 pub mod Options
 pub mod LinePromises
 pub mod AskedRuns
+pub mod AskedSearches
 pub mod Meanings

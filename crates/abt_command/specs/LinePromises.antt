@@ -11,7 +11,7 @@ use Rattle.abt_command.specs.declared.plain.TheConstants.{HELP, VERSION}
 use Rattle.abt_models.specs.BoundReports.{bound_promise}
 use Rattle.abt_models.specs.Generated.{print_promise, queens_promise, colouring_promise}
 use Rattle.abt_run.specs.ReplayPromise.{replay_promise}
-use Rattle.abt_run.specs.SolvePromise.{solve_promise}
+use Rattle.abt_best.specs.SolvePromise.{solve_promise}
 use Rattle.abt_drill.specs.DrillPromise.{drill_promise}
 use Rattle.abt_logs.specs.UpgradePromise.{upgrade_promise}
 use Rattle.abt_logs.specs.CorePromise.{core_promise}
@@ -20,13 +20,14 @@ use Rattle.abt_losses.specs.LossyPromise.{lossy_promise}
 use Rattle.abt_clauses.specs.RupPromise.{rup_promise}
 use Rattle.abt_clauses.specs.CnfPromise.{cnf_promise}
 use Rattle.abt_command.specs.Lines.{Line, Help, Version, Check, Replay, Solve, Bound, Queens, Colouring, Drill, Upgrade, Core, Starve, Lossy, Rup, Cnf, IsLine, IsNoLine}
+use Rattle.abt_check.specs.Taking.{taking_of}
 use Rattle.abt_check.specs.CheckReports.{check_promise}
 
 -- the promise of a line
 abbrev pub promise_of : Line → Promise
 promise_of Help = print_promise HELP.now
 promise_of Version = print_promise VERSION.now
-promise_of (Check model log) = check_promise model log
+promise_of (Check model log better) = check_promise (taking_of better) model log
 promise_of (Replay model schedule log trace) = replay_promise model schedule log trace
 promise_of (Solve model log seed kept trace) = solve_promise model log seed kept trace
 promise_of (Bound model) = bound_promise model

@@ -1,6 +1,8 @@
 -- The lines of words that the program takes.
-use Rattle.std.specs.Prelude.{◌≡◌, ◌≢◌, ℕ, ◌^◌, ◌<◌, ◌≤◌, ◌∷◌, [], List, Bool, true, false, Option, Some, None, option_copied, option_to_list, unwrap_or, codes, decimal, IfSome, ⊤}
+use Rattle.std.specs.Prelude.{◌≡◌, ◌≢◌, ℕ, ℤ, FitsSigned, ◌^◌, ◌<◌, ◌≤◌, ◌∷◌, [], List, Bool, true, false, Option, Some, None, option_copied, option_to_list, unwrap_or, codes, decimal, IfSome, ⊤}
 use Rattle.std.specs.Str.{byte}
+use Rattle.std.specs.Int.{w64}
+use Rattle.std.specs.Fmt.{signed_decimal}
 use Rattle.abt_command.specs.declared.words.Order.{Order}
 use Rattle.abt_command.specs.declared.words.Order.TheVariants as orders
 
@@ -40,6 +42,11 @@ pub data Sets : List (List ℕ) → Settings → Settings → Type 0 where
   records : {words : List (List ℕ)} {before after : Settings} (name : List ℕ) (more : List (List ℕ)) → words ≡ codes "--record" ∷ name ∷ more → before.kept ≡ None → Sets more (record before { kept = Some name }) after → Sets words before after
   traces : {words : List (List ℕ)} {before after : Settings} (more : List (List ℕ)) → words ≡ codes "--trace" ∷ more → before.trace ≡ false → Sets more (record before { trace = true }) after → Sets words before after
 
+-- the words of the one option of `check`
+abbrev pub better_words : Option ℤ → List (List ℕ)
+better_words None = []
+better_words (Some bound) = codes "--better" ∷ signed_decimal bound ∷ []
+
 -- the words of the one option of `replay`
 abbrev pub trace_words : Bool → List (List ℕ)
 trace_words false = []
@@ -47,11 +54,11 @@ trace_words true = codes "--trace" ∷ []
 
 -- ---- lines
 
--- what the words ask for: what the program takes, which version it is, to check a log against a model, to run a model's agents under the choices of a schedule or of a seed, to tell a model's message bound, to print a generated model, to run three of these, to write a log with deletions, to tell which constraints a refutation uses, to write the choices of a starved run, to run a model's agents over a medium that loses, to check a proof against a formula, or to run a formula's agents
+-- what the words ask for: what the program takes, which version it is, to check a log against a model or against a better value, to run a model's agents under the choices of a schedule or of a seed, to tell a model's message bound, to print a generated model, to run three of these, to write a log with deletions, to tell which constraints a refutation uses, to write the choices of a starved run, to run a model's agents over a medium that loses, to check a proof against a formula, or to run a formula's agents
 pub data Line : Type 0 where
   Help : Line
   Version : Line
-  Check : (model log : List ℕ) → Line
+  Check : (model log : List ℕ) (better : Option ℤ) → Line
   Replay : (model schedule log : List ℕ) (trace : Bool) → Line
   Solve : (model log : List ℕ) (seed : ℕ) (kept : Option (List ℕ)) (trace : Bool) → Line
   Bound : (model : List ℕ) → Line
@@ -64,6 +71,12 @@ pub data Line : Type 0 where
   Lossy : (model log : List ℕ) (events seed : ℕ) (kept : Option (List ℕ)) → Line
   Rup : (cnf proof : List ℕ) → Line
   Cnf : (cnf proof : List ℕ) (seed : ℕ) → Line
+
+-- the words are this line of `check`; the bound, where one is given, has 64 bits
+pub record IsCheck (words : List (List ℕ)) (model log : List ℕ) (better : Option ℤ) : Type 0 where
+  pub words_are : words ≡ codes "check" ∷ model ∷ log ∷ better_words better
+  pub fits : IfSome better (FitsSigned w64)
+  pub names : AreFileNames (model ∷ log ∷ [])
 
 -- the words are this line of `solve`; the seed is 0 where none is given
 pub record IsSolve (words : List (List ℕ)) (model log : List ℕ) (seed : ℕ) (kept : Option (List ℕ)) (trace : Bool) : Type 0 where
@@ -115,7 +128,7 @@ pub record IsLossy (words : List (List ℕ)) (model log : List ℕ) (events seed
 abbrev pub IsLine : List (List ℕ) → Line → Type 0
 IsLine words Help = words ≡ codes "--help" ∷ []
 IsLine words Version = words ≡ codes "--version" ∷ []
-IsLine words (Check model log) = (words ≡ codes "check" ∷ model ∷ log ∷ []) × AreFileNames (model ∷ log ∷ [])
+IsLine words (Check model log better) = IsCheck words model log better
 IsLine words (Replay model schedule log trace) = (words ≡ codes "replay" ∷ model ∷ schedule ∷ log ∷ trace_words trace) × AreFileNames (model ∷ schedule ∷ log ∷ [])
 IsLine words (Solve model log seed kept trace) = IsSolve words model log seed kept trace
 IsLine words (Bound model) = (words ≡ codes "bound" ∷ model ∷ []) × IsFileName model
@@ -141,7 +154,7 @@ IsNoLine words = (line : Line) → IsLine words line → ⊥
 abbrev pub line_of : Order → Line
 line_of orders.Help = Help
 line_of orders.Version = Version
-line_of (orders.Check model log) = Check model.now log.now
+line_of (orders.Check model log better) = Check model.now log.now better
 line_of (orders.Replay model schedule log trace) = Replay model.now schedule.now log.now trace
 line_of (orders.Solve model log seed kept trace) = Solve model.now log.now seed (option_copied kept) trace
 line_of (orders.Bound model) = Bound model.now

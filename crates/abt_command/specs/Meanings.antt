@@ -1,10 +1,16 @@
 -- What an answer of a line means beyond its report.
-use Rattle.std.specs.Prelude.{◌≡◌, ℕ, List, Option, ⊤}
+use Rattle.std.specs.Prelude.{◌≡◌, ℕ, ℤ, List, Option, IfSome, ⊤}
+use Rattle.dcsp_outside.specs.Outside.{bytes_of}
+use Rattle.dcsp_problem.specs.Problems.{Contents}
+use Rattle.abt_optimum.specs.Best.{HasNoBetter}
+use Rattle.abt_input.specs.Inputs.{IsModelOf}
 use Rattle.dcsp_script.specs.Scripts.{World}
 use Rattle.abt_promise.specs.declared.status.Status.{Status}
 use Rattle.abt_promise.specs.declared.status.Status.TheVariants.{Good, No}
-use Rattle.abt_check.specs.Checks.{IsRefuted}
+use Rattle.abt_check.specs.Taking.{taking_of}
+use Rattle.abt_check.specs.Checks.{IsRefutedBy}
 use Rattle.abt_run.specs.Headline.{HoldsProblem}
+use Rattle.abt_best.specs.SolvePromise.{HoldsWholeProblem}
 use Rattle.abt_clauses.specs.RupPromise.{HoldsRefuted, TellsExactly}
 use Rattle.abt_clauses.specs.CnfHeadline.{HoldsCnfRun, HoldsProof}
 use Rattle.abt_logs.specs.Upgrading.{HoldsUpgrade}
@@ -12,6 +18,11 @@ use Rattle.abt_logs.specs.Trimming.{HoldsCore, CreatesNothing}
 use Rattle.abt_starve.specs.Starving.{HoldsStarved, TellsStarved}
 use Rattle.abt_losses.specs.Meaning.{HoldsLossyRun}
 use Rattle.abt_command.specs.Lines.{Line, Help, Version, Check, Replay, Solve, Bound, Queens, Colouring, Drill, Upgrade, Core, Starve, Lossy, Rup, Cnf}
+
+-- `solve`: the model's problem is well-formed, keeps the limits, and logs can name all that it has
+pub record IsSolveAnswer (old : Option (List ℕ → Option (List ℕ))) (model : List ℕ) : Type 0 where
+  pub sound : HoldsProblem old model
+  pub whole : HoldsWholeProblem old model
 
 -- `rup`: the status is 0 exactly where the proof is accepted, and then the formula cannot be satisfied
 pub record IsRupAnswer (old : Option (List ℕ → Option (List ℕ))) (cnf proof : List ℕ) (status : Status) : Type 0 where
@@ -33,13 +44,17 @@ pub record IsStarvedAnswer (model : List ℕ) (from to : ℕ) (file : List ℕ) 
   pub writes : HoldsStarved model from to file old.folder.held new.folder.held
   pub tells : TellsStarved model from to old.folder.held old.out.written new.out.written
 
+-- no solution of the model's problem, where the folder tells it, has a better value than this at what the problem aims at
+abbrev pub HoldsNoBetter : Option (List ℕ → Option (List ℕ)) → List ℕ → ℤ → Type 0
+HoldsNoBetter files model bound = IfSome files (λ f. (problem : Contents) → IsModelOf (bytes_of (f model)) problem → HasNoBetter problem bound)
+
 -- what the line's answer with this status means, with the outside before and after
 abbrev pub Means : Line → World → World → Status → Type 0
 Means Help old new status = ⊤
 Means Version old new status = ⊤
-Means (Check model log) old new status = status ≡ Good → IsRefuted old.folder.held model
+Means (Check model log better) old new status = status ≡ Good → IsRefutedBy (taking_of better) old.folder.held model
 Means (Replay model schedule log trace) old new status = HoldsProblem old.folder.held model
-Means (Solve model log seed kept trace) old new status = HoldsProblem old.folder.held model
+Means (Solve model log seed kept trace) old new status = IsSolveAnswer old.folder.held model
 Means (Bound model) old new status = ⊤
 Means (Queens n) old new status = ⊤
 Means (Colouring n k seed) old new status = ⊤

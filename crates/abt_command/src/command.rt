@@ -1,6 +1,6 @@
 //! Running a command over a folder and two streams.
 
-ghost use Rattle.std.specs.Prelude.{◌≡◌, ◌↔◌, ℕ, List, Option, [], Ok, map, string_bytes, codes, IfOk};
+ghost use Rattle.std.specs.Prelude.{◌≡◌, ◌↔◌, ℕ, ℤ, List, Option, Some, None, [], Ok, map, string_bytes, codes, IfOk};
 ghost use Rattle.dcsp_outside.specs.Outside.{Place};
 ghost use Rattle.dcsp_script.specs.Scripts.{outside};
 ghost use Rattle.dcsp_script.specs.Ways.{Did, CountsStay};
@@ -13,16 +13,19 @@ ghost use Rattle.abt_input.specs.Errors.{way_of, error_text};
 ghost use Rattle.abt_check.specs.Checks.{IsRefuted};
 ghost use Rattle.abt_run.specs.Headline.{IsRun, IsSolvedRun, IsRefutedRun, IsUnfinishedRun, IsBoundedRun, WritesOrdered};
 ghost use Rattle.abt_command.specs.AskedRuns.{EachRun, IsCheckedRun, IsSatisfyingRun};
-ghost use Rattle.abt_command.specs.Meanings.{Means, IsRupAnswer, IsCnfAnswer, IsCoreAnswer, IsStarvedAnswer};
+ghost use Rattle.abt_best.specs.BestHeadline.{IsSearched, IsBestSearch, IsRefutedSearch, IsUnfinishedSearch, IsBoundedSearch, SearchOrdered};
+ghost use Rattle.abt_command.specs.AskedSearches.{EachSearch, IsCheckedSearch, IsSatisfyingSearch};
+ghost use Rattle.abt_command.specs.Meanings.{Means, HoldsNoBetter, IsRupAnswer, IsCnfAnswer, IsCoreAnswer, IsStarvedAnswer};
 ghost use Rattle.abt_logs.specs.Upgrading.{HoldsUpgrade};
 ghost use Rattle.abt_losses.specs.Meaning.{HoldsLossyRun};
 ghost use Rattle.abt_command.specs.Lines as lines;
-ghost use Rattle.abt_command.specs.Lines.{Line, Check, IsLine, IsSomeLine, IsNoLine, line_of};
+ghost use Rattle.abt_command.specs.Lines.{Line, IsLine, IsSomeLine, IsNoLine, line_of};
 ghost use Rattle.abt_command.specs.LinePromises.{promise_of, EachPromise, HasRun};
 
 use crate::plain::{HELP, VERSION};
 use crate::words::{Order, words_of};
-use abt_check::run_check;
+use abt_best::run_solve;
+use abt_check::{Check, run_check};
 use abt_clauses::{Cnf, run_cnf, run_rup};
 use abt_drill::run_drill;
 use abt_input::{CommandError, error_reply, error_status};
@@ -30,7 +33,7 @@ use abt_logs::{CoreLine, run_core, run_upgrade};
 use abt_losses::{Losses, run_lossy};
 use abt_models::{print, run_bound, run_colouring, run_queens};
 use abt_promise::{Status, say};
-use abt_run::{Replay, Solve, run_replay, run_solve};
+use abt_run::{Replay, Solve, run_replay};
 use abt_starve::{Starve, run_starve};
 use dcsp_outside::{Folder, Sink};
 use std::alloc::Global;
@@ -74,7 +77,9 @@ fn run_line<F: Folder, S: Sink>(
     match order {
         Order::Help => print(out, HELP),
         Order::Version => print(out, VERSION),
-        Order::Check { model, log } => run_check(alloc, folder, model, log, out),
+        Order::Check { model, log, better } => {
+            run_check(alloc, folder, Check { model, log, better }, out)
+        }
         Order::Replay {
             model,
             schedule,
@@ -238,8 +243,10 @@ pub fn run_command<F: Folder, S: Sink>(
         (outside (F.place folder.old) (S.stream out.old)) (outside (F.place folder.new) (S.stream out.new))) }
 
     // What single lines mean beyond their reports: a log that is verified, and the runs.
-    ensures verified { (model log : List ℕ) → IsLine (map string_bytes words.now) (Check model log)
+    ensures verified { (model log : List ℕ) → IsLine (map string_bytes words.now) (lines.Check model log None)
         → result ≡ Status.Good → IsRefuted (F.place folder.old).held model }
+    ensures no_better { (model log : List ℕ) (bound : ℤ) → IsLine (map string_bytes words.now) (lines.Check model log (Some bound))
+        → result ≡ Status.Good → HoldsNoBetter (F.place folder.old).held model bound }
     ensures the_run { EachRun (map string_bytes words.now) (F.place folder.old).held (λ asked. IsFinal result → IsRun asked result
         (outside (F.place folder.old) (S.stream out.old)) (outside (F.place folder.new) (S.stream out.new))) }
     ensures solved { EachRun (map string_bytes words.now) (F.place folder.old).held (λ asked. IsSolvedRun asked result) }
@@ -249,6 +256,18 @@ pub fn run_command<F: Folder, S: Sink>(
     ensures no_stall { EachRun (map string_bytes words.now) (F.place folder.old).held (λ asked. IsFinal result → IsUnfinishedRun asked result) }
     ensures bound { EachRun (map string_bytes words.now) (F.place folder.old).held (λ asked. IsFinal result → IsBoundedRun asked result) }
     ensures in_order { EachRun (map string_bytes words.now) (F.place folder.old).held (λ asked. WritesOrdered asked
+        (outside (F.place folder.old) (S.stream out.old)) (outside (F.place folder.new) (S.stream out.new))) }
+
+    // A search for the best value.
+    ensures the_search { EachSearch (map string_bytes words.now) (F.place folder.old).held (λ asked. IsFinal result → IsSearched asked result
+        (outside (F.place folder.old) (S.stream out.old)) (outside (F.place folder.new) (S.stream out.new))) }
+    ensures best { EachSearch (map string_bytes words.now) (F.place folder.old).held (λ asked. IsBestSearch asked result) }
+    ensures none_at_all { EachSearch (map string_bytes words.now) (F.place folder.old).held (λ asked. IsFinal result → IsRefutedSearch asked result) }
+    ensures best_checks { EachSearch (map string_bytes words.now) (F.place folder.old).held (λ asked. IsCheckedSearch (map string_bytes words.now) (F.place folder.new).held asked result) }
+    ensures best_satisfies { EachSearch (map string_bytes words.now) (F.place folder.old).held (λ asked. IsSatisfyingSearch (map string_bytes words.now) (F.place folder.old).held asked result) }
+    ensures capped { EachSearch (map string_bytes words.now) (F.place folder.old).held (λ asked. IsFinal result → IsUnfinishedSearch asked result) }
+    ensures rounds { EachSearch (map string_bytes words.now) (F.place folder.old).held (λ asked. IsFinal result → IsBoundedSearch asked result) }
+    ensures rounds_in_order { EachSearch (map string_bytes words.now) (F.place folder.old).held (λ asked. SearchOrdered asked
         (outside (F.place folder.old) (S.stream out.old)) (outside (F.place folder.new) (S.stream out.new))) }
 
     // And the proofs about formulas.

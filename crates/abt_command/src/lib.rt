@@ -7,8 +7,6 @@
 mod command;
 mod options;
 mod plain;
-#[cfg(test)]
-mod tests;
 mod words;
 
 pub use abt_promise::Status;

@@ -1,6 +1,8 @@
 //! The options of a line.
 
-ghost use Rattle.std.specs.Prelude.{◌≡◌, ℕ, ◌^◌, ◌<◌, map, string_bytes, decimal, IfSome, IsNone};
+ghost use Rattle.std.specs.Prelude.{◌≡◌, ℕ, ℤ, FitsSigned, ◌^◌, ◌<◌, map, string_bytes, decimal, IfSome, IsNone};
+ghost use Rattle.std.specs.Int.{w64};
+ghost use Rattle.std.specs.Fmt.{signed_decimal};
 ghost use Rattle.abt_command.specs.Lines as lines;
 ghost use Rattle.abt_command.specs.Lines.{Sets};
 ghost use Rattle.abt_command.specs.Options.{settings_in};
@@ -67,6 +69,22 @@ pub fn number_of(word: &str) -> Option<u64>
     ensures none { IsNone result → (number : ℕ) → number < 2 ^ 64 → word.now ≡ decimal number → ⊥ }
 {
     let Ok(number) = word.parse::<u64>() else {
+        return None;
+    };
+    if Buffer::new().format(number) == word {
+        Some(number)
+    } else {
+        None
+    }
+}
+
+/// The number of 64 bits with or without a sign that the word is, without leading zeros, `+` or `-0`.
+pub fn signed_number_of(word: &str) -> Option<i64>
+    ensures some { IfSome result (λ number. word.now ≡ signed_decimal number) }
+    ensures fits { IfSome result (FitsSigned w64) }
+    ensures none { IsNone result → (number : ℤ) → FitsSigned w64 number → word.now ≡ signed_decimal number → ⊥ }
+{
+    let Ok(number) = word.parse::<i64>() else {
         return None;
     };
     if Buffer::new().format(number) == word {

@@ -6,12 +6,16 @@ pub const HELP: &[u8] = b"abt: asynchronous backtracking over FlatZinc, with cer
   abt solve MODEL LOG [--seed N] [--record FILE] [--trace]
                         runs the agents of the model, with deliveries chosen from a seed:
                         prints a solution, `=====UNSATISFIABLE=====` or `=====UNKNOWN=====`,
-                        and writes the log of its derivations; FILE holds the choices
+                        and writes the log of its derivations; FILE holds the choices. Where
+                        the model asks for the least or the greatest value, prints the best
+                        solution and `==========`, and LOG refutes every better value
   abt replay MODEL SCHEDULE LOG [--trace]
                         runs them under the choices of a schedule, as a record is
-  abt check MODEL LOG   checks whether the log refutes the model: prints `verified`,
+  abt check MODEL LOG [--better N]
+                        checks whether the log refutes the model: prints `verified`,
                         `rejected step K`, `rejected deletion after step K` or
-                        `rejected not empty`
+                        `rejected not empty`; with --better, whether it refutes that a
+                        solution has a better value than N at what the model aims at
   abt upgrade LOG NEW   writes the log to NEW with deletions of the steps that nothing cites
                         any more, so that a check keeps less
   abt core MODEL LOG TRIMMED

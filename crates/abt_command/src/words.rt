@@ -1,9 +1,10 @@
 //! The words that the program is started with.
 
-ghost use Rattle.std.specs.Prelude.{◌≡◌, ◌↔◌, ◌∷◌, [], ℕ, Bool, List, Option, codes, decimal, map, string_bytes, option_copied, option_to_list, IfSome, IsNone, IsTrue};
-ghost use Rattle.abt_command.specs.Lines.{IsFileName, AreFileNames, AreSeed, IsLine, IsNoLine, IsWithin, line_of, record_words, trace_words};
+ghost use Rattle.std.specs.Prelude.{◌≡◌, ◌↔◌, ◌∷◌, [], ℕ, ℤ, FitsSigned, Bool, List, Option, codes, decimal, map, string_bytes, option_copied, option_to_list, IfSome, IsNone, IsTrue};
+ghost use Rattle.std.specs.Int.{w64};
+ghost use Rattle.abt_command.specs.Lines.{IsFileName, AreFileNames, AreSeed, IsLine, IsNoLine, IsWithin, better_words, line_of, record_words, trace_words};
 
-use crate::options::{Settings, number_of, settings_of};
+use crate::options::{Settings, number_of, settings_of, signed_number_of};
 
 /// What the words ask for.
 pub enum Order<'w> {
@@ -11,10 +12,12 @@ pub enum Order<'w> {
     Help,
     /// `--version`: the program's version and its toolchain.
     Version,
-    /// `check MODEL LOG`: whether the log refutes the model.
+    /// `check MODEL LOG [--better N]`: whether the log refutes the model; or where a bound is given, that a solution has
+    /// a better value at the model's aim.
     Check {
         model: &'w str,
         log: &'w str,
+        better: Option<i64>,
     },
     /// `replay MODEL SCHEDULE LOG [--trace]`: a run under the choices of the schedule.
     Replay {
@@ -138,14 +141,29 @@ fn check_of(words: &[String]) -> Option<Order<'_>>
     ensures some { IfSome result (λ order. IsLine (codes "check" ∷ map string_bytes words.now) (line_of order)) }
     ensures none { IsNone result → IsNoLine (codes "check" ∷ map string_bytes words.now) }
 {
-    let [model, log] = words else {
+    let [model, log, options @ ..] = words else {
         return None;
     };
     let (model, log) = (model.as_str(), log.as_str());
+    let better = better_of(options)?;
     if !are_two_names(model, log) {
         return None;
     }
-    Some(Order::Check { model, log })
+    Some(Order::Check { model, log, better })
+}
+
+/// The bound that these options of `check` give, where they do.
+fn better_of(options: &[String]) -> Option<Option<i64>>
+    ensures some { IfSome result (λ better. map string_bytes options.now ≡ better_words better) }
+    ensures none { IsNone result → (better : Option ℤ) → IfSome better (FitsSigned w64) → map string_bytes options.now ≡ better_words better → ⊥ }
+{
+    match options {
+        [] => Some(None),
+        [option, bound] if option.as_str() == "--better" => {
+            Some(Some(signed_number_of(bound.as_str())?))
+        }
+        _ => None,
+    }
 }
 
 /// The order of `replay` with these words.

@@ -1,10 +1,11 @@
-use Rattle.std.proofs.Common.{inl, refl, sym, subst}
+use Rattle.std.proofs.Common.{Some, None, inl, refl, sym, subst}
 use Rattle.abt_promise.specs.Statuses.{IsFinal, IsRefusal}
 use Rattle.abt_promise.proofs.Following.{ran_answers, ran_cause, ran_complete, ran_creates, ran_faults, ran_lacks, ran_others, ran_refused, ran_stays, ran_text}
 use Rattle.abt_command.specs.Lines.{Check, Core, Starve, Lossy, Rup, Cnf, Upgrade, line_of}
-use Rattle.abt_command.proofs.Meanings.{means_of, verified_by}
+use Rattle.abt_command.proofs.Meanings.{means_of, refuted_by, no_better_by}
 use Rattle.abt_command.specs.LinePromises.{promise_of}
 use Rattle.abt_command.proofs.Lines.{one_line, lawful}
+use Rattle.abt_command.proofs.Searches.{asks_no_search, the_search, search_best, search_refuted, search_checked, search_satisfies, search_unfinished, search_bounded, search_ordered}
 use Rattle.abt_command.proofs.Runs.{asks_for_none, the_run, run_solved, run_refuted, run_checked, run_satisfies, run_unfinished, run_bounded, run_ordered}
 use Rattle.abt_command.proofs.command.run_command.Goals as goal
 
@@ -39,7 +40,10 @@ pub returns-in-Some-clause-refused : goal.returns-in-Some-clause-refused
 returns-in-Some-clause-refused g c = ran_refused (promise_of (line_of c.in-Some.order)) (lawful (line_of c.in-Some.order)) _ _ _ _ c.run_order.result c.run_order.ensures.ran
 
 pub returns-in-Some-clause-verified : goal.returns-in-Some-clause-verified
-returns-in-Some-clause-verified g c = λ model log is good. verified_by _ _ _ (one_line _ (line_of c.in-Some.order) (Check model log) c.in-Some.ensures.some is) good c.run_order.ensures.means
+returns-in-Some-clause-verified g c = λ model log is good. refuted_by _ _ _ (one_line _ (line_of c.in-Some.order) (Check model log None) c.in-Some.ensures.some is) good c.run_order.ensures.means
+
+pub returns-in-Some-clause-no_better : goal.returns-in-Some-clause-no_better
+returns-in-Some-clause-no_better g c = λ model log bound is good. no_better_by _ _ _ (one_line _ (line_of c.in-Some.order) (Check model log (Some bound)) c.in-Some.ensures.some is) good c.run_order.ensures.means
 
 pub returns-in-Some-clause-runs : goal.returns-in-Some-clause-runs
 returns-in-Some-clause-runs g c = inl (line_of c.in-Some.order, c.in-Some.ensures.some, c.run_order.ensures.ran)
@@ -89,6 +93,54 @@ returns-in-Some-clause-bound g c = run_bounded _ (line_of c.in-Some.order) c.in-
 
 pub returns-in-Some-clause-in_order : goal.returns-in-Some-clause-in_order
 returns-in-Some-clause-in_order g c = run_ordered _ (line_of c.in-Some.order) c.in-Some.ensures.some _ _ _ _ c.run_order.result c.run_order.ensures.ran c.run_order.ensures.means
+
+pub returns-in-Some-clause-the_search : goal.returns-in-Some-clause-the_search
+returns-in-Some-clause-the_search g c = the_search _ (line_of c.in-Some.order) c.in-Some.ensures.some _ _ _ _ c.run_order.result c.run_order.ensures.ran c.run_order.ensures.means
+
+pub returns-in-Some-clause-best : goal.returns-in-Some-clause-best
+returns-in-Some-clause-best g c = search_best _ (line_of c.in-Some.order) c.in-Some.ensures.some _ _ _ _ c.run_order.result c.run_order.ensures.ran c.run_order.ensures.means
+
+pub returns-in-Some-clause-none_at_all : goal.returns-in-Some-clause-none_at_all
+returns-in-Some-clause-none_at_all g c = search_refuted _ (line_of c.in-Some.order) c.in-Some.ensures.some _ _ _ _ c.run_order.result c.run_order.ensures.ran c.run_order.ensures.means
+
+pub returns-in-Some-clause-best_checks : goal.returns-in-Some-clause-best_checks
+returns-in-Some-clause-best_checks g c = search_checked _ (line_of c.in-Some.order) c.in-Some.ensures.some _ _ _ _ c.run_order.result c.run_order.ensures.ran c.run_order.ensures.means
+
+pub returns-in-Some-clause-best_satisfies : goal.returns-in-Some-clause-best_satisfies
+returns-in-Some-clause-best_satisfies g c = search_satisfies _ (line_of c.in-Some.order) c.in-Some.ensures.some _ _ _ _ c.run_order.result c.run_order.ensures.ran c.run_order.ensures.means
+
+pub returns-in-Some-clause-capped : goal.returns-in-Some-clause-capped
+returns-in-Some-clause-capped g c = search_unfinished _ (line_of c.in-Some.order) c.in-Some.ensures.some _ _ _ _ c.run_order.result c.run_order.ensures.ran c.run_order.ensures.means
+
+pub returns-in-Some-clause-rounds : goal.returns-in-Some-clause-rounds
+returns-in-Some-clause-rounds g c = search_bounded _ (line_of c.in-Some.order) c.in-Some.ensures.some _ _ _ _ c.run_order.result c.run_order.ensures.ran c.run_order.ensures.means
+
+pub returns-in-Some-clause-rounds_in_order : goal.returns-in-Some-clause-rounds_in_order
+returns-in-Some-clause-rounds_in_order g c = search_ordered _ (line_of c.in-Some.order) c.in-Some.ensures.some _ _ _ _ c.run_order.result c.run_order.ensures.ran c.run_order.ensures.means
+
+pub returns-in-None-clause-the_search : goal.returns-in-None-clause-the_search
+returns-in-None-clause-the_search g c = asks_no_search _ _ _ (c.in-None.ensures.none refl)
+
+pub returns-in-None-clause-best : goal.returns-in-None-clause-best
+returns-in-None-clause-best g c = asks_no_search _ _ _ (c.in-None.ensures.none refl)
+
+pub returns-in-None-clause-none_at_all : goal.returns-in-None-clause-none_at_all
+returns-in-None-clause-none_at_all g c = asks_no_search _ _ _ (c.in-None.ensures.none refl)
+
+pub returns-in-None-clause-best_checks : goal.returns-in-None-clause-best_checks
+returns-in-None-clause-best_checks g c = asks_no_search _ _ _ (c.in-None.ensures.none refl)
+
+pub returns-in-None-clause-best_satisfies : goal.returns-in-None-clause-best_satisfies
+returns-in-None-clause-best_satisfies g c = asks_no_search _ _ _ (c.in-None.ensures.none refl)
+
+pub returns-in-None-clause-capped : goal.returns-in-None-clause-capped
+returns-in-None-clause-capped g c = asks_no_search _ _ _ (c.in-None.ensures.none refl)
+
+pub returns-in-None-clause-rounds : goal.returns-in-None-clause-rounds
+returns-in-None-clause-rounds g c = asks_no_search _ _ _ (c.in-None.ensures.none refl)
+
+pub returns-in-None-clause-rounds_in_order : goal.returns-in-None-clause-rounds_in_order
+returns-in-None-clause-rounds_in_order g c = asks_no_search _ _ _ (c.in-None.ensures.none refl)
 
 pub returns-in-None-clause-the_run : goal.returns-in-None-clause-the_run
 returns-in-None-clause-the_run g c = asks_for_none _ _ _ (c.in-None.ensures.none refl)

@@ -37,7 +37,7 @@ pub returns-in-Replay-clause-means : goal.returns-in-Replay-clause-means
 returns-in-Replay-clause-means g c = rw c.in-Replay.is c.run_replay.ensures.sound
 
 pub returns-in-Solve-clause-means : goal.returns-in-Solve-clause-means
-returns-in-Solve-clause-means g c = rw c.in-Solve.is c.run_solve.ensures.sound
+returns-in-Solve-clause-means g c = rw c.in-Solve.is (both_facts _ c.run_solve.result (λ status x y. record { sound = x; whole = y }) c.run_solve.ensures.sound c.run_solve.ensures.whole)
 
 pub returns-in-Bound-clause-means : goal.returns-in-Bound-clause-means
 returns-in-Bound-clause-means g c = rw c.in-Bound.is (any_answer c.run_bound.result)

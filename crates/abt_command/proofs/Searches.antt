@@ -1,0 +1,206 @@
+-- What a search that the words ask for left, sentence by sentence.
+use Rattle.std.proofs.Common.{◌≡◌, ◌≢◌, ◌⊎◌, ◌-◌, ◌^◌, ◌<◌, ◌≤◌, zero, suc, ℕ, ℤ, Bool, true, false, cond, List, [], ◌∷◌, length, filter, Option, Some, None, refl, sym, ap, subst, ◌∙◌, arith, inl, inr}
+use Rattle.std.specs.Prelude.{IfSome, IsSome, slice_set, slice_index_or}
+use Rattle.std.proofs.lemmas.List.{length-set, length-map}
+use Rattle.dcsp_domain.proofs.Domains.{length_filter}
+use Rattle.dcsp_outside.specs.Outside.{Stream, Told, bytes_of}
+use Rattle.dcsp_script.specs.Scripts.{World}
+use Rattle.dcsp_script.specs.Ways.{Did, DidPartOf}
+use Rattle.dcsp_defs.specs.Words.{In}
+use Rattle.dcsp_defs.specs.Csp.{IsCsp, IsSolution, domain}
+use Rattle.dcsp_defs.specs.declared.Step.{Step}
+use Rattle.dcsp_defs.specs.Derivation.{IsRefutation}
+use Rattle.dcsp_problem.specs.Problems.{Contents, constraint_of, csp_of}
+use Rattle.dcsp_problem.specs.WellFormed.{IsProblem}
+use Rattle.dcsp_problem.specs.Aims.{aimed_at, is_better, narrowed_at, narrowed}
+use Rattle.dcsp_problem.proofs.Narrowed.{aimed_below}
+use Rattle.abt_promise.specs.declared.status.Status.{Status}
+use Rattle.abt_promise.specs.declared.status.Status.TheVariants.{Good, No}
+use Rattle.abt_promise.specs.Statuses.{IsFinal, IsRefusal}
+use Rattle.abt_promise.specs.Runs.{Ran}
+use Rattle.abt_promise.proofs.Following.{report_part, report_did}
+use Rattle.ngd_log.specs.Logs.{log_text}
+use Rattle.law_logs.specs.Logged.{IsSmall}
+use Rattle.abt_input.specs.Inputs.{IsModelOf, IsTextOf}
+use Rattle.abt_check.specs.Taking.{narrowing, taking_of}
+use Rattle.abt_check.specs.Verifying.{IsVerifiedBy}
+use Rattle.abt_check.proofs.Verifying.{refutation_verified_by}
+use Rattle.abt_run.specs.Endings.{assigned}
+use Rattle.abt_run.specs.Headline.{HoldsProblem}
+use Rattle.abt_run.proofs.Verdicts.{run_log}
+use Rattle.abt_optimum.specs.Best.{aim_value}
+use Rattle.abt_best.specs.Searching.{AskedSearch, round_count, session_after, last_run}
+use Rattle.abt_best.specs.BestAnswers.{search_status}
+use Rattle.abt_best.specs.SearchScripts.{search_script, search_report}
+use Rattle.abt_best.specs.SolvePromise.{solve_promise, searched, HoldsWholeProblem}
+use Rattle.abt_best.specs.BestHeadline.{HoldsSearch, IsSearched, PrintsBest, IsBestSearch, IsRefutedSearch, IsUnfinishedSearch, IsBoundedSearch, SearchOrdered}
+use Rattle.abt_best.proofs.Lawful.{solve_lawful, no_refusal_best}
+use Rattle.abt_best.proofs.Headlines.{OwnsRecord, is_searched, part_ordered}
+use Rattle.abt_best.proofs.Searches.{is_csp_after}
+use Rattle.abt_best.proofs.Verdicts.{is_best, is_refuted, is_unfinished, is_bounded}
+use Rattle.law_meaning.specs.Meaning.{SatisfiesText}
+use Rattle.law_meaning.proofs.Whole.{solutions_satisfy}
+use Rattle.abt_command.specs.Meanings.{Means}
+use Rattle.abt_command.specs.Lines.{Line, Solve, IsLine, IsNoLine}
+use Rattle.abt_command.specs.LinePromises.{promise_of}
+use Rattle.abt_command.specs.AskedRuns.{RunsModel, AskForModel}
+use Rattle.abt_command.specs.AskedSearches.{AsksForSearch, EachSearch, IsCheckedSearch, IsSatisfyingSearch}
+use Rattle.abt_command.proofs.Lines.{one_line}
+use Rattle.abt_command.proofs.Runs.{own_record, of_kept}
+
+-- ---- logs can name what is left of a problem that is narrowed
+
+in_filter : (test : ℤ → Bool) (v : ℤ) (xs : List ℤ) → In v (filter test xs) → In v xs
+in_filter test v [] i = absurd i
+in_filter test v (x ∷ xs) i = kept (test x) (in_filter test v xs) i
+  where
+    kept : (b : Bool) → (In v (filter test xs) → In v xs) → In v (cond b (x ∷ filter test xs) (filter test xs)) → In v (x ∷ xs)
+    kept true later (inl e) = inl e
+    kept true later (inr j) = inr (later j)
+    kept false later j = inr (later j)
+
+-- the domains, where of one only the values that pass the test stay
+abbrev cut : (ℤ → Bool) → ℕ → List (List ℤ) → List (List ℤ)
+cut test var domains = slice_set domains var (filter test (slice_index_or domains var []))
+
+in_cut : (test : ℤ → Bool) (domains : List (List ℤ)) (var x : ℕ) (v : ℤ) → In v (slice_index_or (cut test var domains) x []) → In v (slice_index_or domains x [])
+in_cut test [] var x v i = i
+in_cut test (d ∷ ds) zero zero v i = in_filter test v d i
+in_cut test (d ∷ ds) zero (suc x) v i = i
+in_cut test (d ∷ ds) (suc var) zero v i = i
+in_cut test (d ∷ ds) (suc var) (suc x) v i = in_cut test ds var x v i
+
+long_cut : (test : ℤ → Bool) (domains : List (List ℤ)) (var x : ℕ) → length (slice_index_or (cut test var domains) x []) ≤ length (slice_index_or domains x [])
+long_cut test [] var x = omega arith
+long_cut test (d ∷ ds) zero zero = length_filter test d
+long_cut test (d ∷ ds) zero (suc x) = omega arith
+long_cut test (d ∷ ds) (suc var) zero = omega arith
+long_cut test (d ∷ ds) (suc var) (suc x) = long_cut test ds var x
+
+small_narrowed : (p : Contents) (bound : ℤ) → IsSmall (csp_of p) → IsSmall (csp_of (narrowed p bound))
+small_narrowed p bound small = by (aimed_at p.aim)
+  where
+    by : (o : Option ℕ) → IsSmall (csp_of (narrowed_at o p bound))
+    by None = small
+    by (Some var) =
+        let test = is_better p.aim bound in
+        let same = length-set p.domains var (filter test (slice_index_or p.domains var [])) in
+        let few = small.variables in
+        record {
+          variables = omega arith;
+          rules = let many = small.rules in omega (arith, length-map p.rules (constraint_of (length p.domains)), length-map p.rules (constraint_of (length (cut test var p.domains))), many);
+          domains = λ x l. let long = long_cut test p.domains var x in let most = small.domains x (omega (arith, l, same)) in omega (arith, long, most);
+          values = λ x v l i. small.values x v (omega (arith, l, same)) (in_cut test p.domains var x v i);
+        }
+
+-- words that are no line ask for no search
+pub asks_no_search : (words : List (List ℕ)) (held : Option (List ℕ → Option (List ℕ))) (P : AskedSearch → Type 0) → IsNoLine words → EachSearch words held P
+asks_no_search words None P none = tt
+asks_no_search words (Some files) P none = λ asked asks. absurd (none (Solve asks.model asked.log asked.seed asked.kept asked.trace) asks.line_is)
+
+module _ (words : List (List ℕ)) (line : Line) (is : IsLine words line) (a b : World) (err now : Stream) (status : Status) (line_ran : Ran (promise_of line) a b err now status)
+    (means : IsFinal status → (IsRefusal status → ⊥) → Means line a b status) where
+  module _ (files : List ℕ → Option (List ℕ)) (told : a.folder.held ≡ Some files) (asked : AskedSearch) (asks : AsksForSearch words files asked) where
+    abbrev the_line : Line
+    the_line = Solve asks.model asked.log asked.seed asked.kept asked.trace
+
+    same_line : line ≡ the_line
+    same_line = one_line words line the_line is asks.line_is
+
+    line_did : Ran (solve_promise asks.model asked.log asked.seed asked.kept asked.trace) a b err now status
+    line_did = subst (λ x. Ran (promise_of x) a b err now status) same_line line_ran
+
+    did_search : IsFinal status → (status ≡ search_status asked) × Did (search_script asked) a b
+    did_search f = report_did (solve_promise asks.model asked.log asked.seed asked.kept asked.trace) (solve_lawful asks.model asked.log asked.seed asked.kept asked.trace) a b err now files told (search_report asked) (searched asked.problem asks.model_is asks.aims refl) status line_did f
+
+    made_part : DidPartOf (search_script asked) a b
+    made_part = report_part (solve_promise asks.model asked.log asked.seed asked.kept asked.trace) (solve_lawful asks.model asked.log asked.seed asked.kept asked.trace) a b err now files told (search_report asked) (searched asked.problem asks.model_is asks.aims refl) status line_did
+
+    own : OwnsRecord asked
+    own = own_record asks.model asked.log asked.kept asks.line_is.names
+
+    no_refused : status ≡ search_status asked → IsRefusal status → ⊥
+    no_refused i r = no_refusal_best _ (subst IsRefusal i r)
+
+    -- what the model's problem is known to be
+    answer : IsFinal status → Means the_line a b status
+    answer f = subst (λ l. Means l a b status) same_line (means f (no_refused (did_search f).0))
+
+    whole : IsFinal status → IsProblem asked.problem
+    whole f = subst (λ held. HoldsWholeProblem held asks.model) told (answer f).whole asked.problem asks.model_is
+
+    small : IsFinal status → IsSmall (csp_of asked.problem)
+    small f = (subst (λ held. HoldsProblem held asks.model) told (answer f).sound asked.problem asks.model_is).1
+
+    -- the model of the search has a name of its own
+    own_model : (model : List ℕ) → AskForModel words model → (model ≢ asked.log) × IfSome asked.kept (λ k. model ≢ k) × IsModelOf (bytes_of (files model)) asked.problem
+    own_model model asks_model =
+        let same : asks.model ≡ model = subst (λ x. RunsModel x model) (one_line words asks_model.line the_line asks_model.is asks.line_is) asks_model.runs in
+        subst (λ m. (m ≢ asked.log) × IfSome asked.kept (λ k. m ≢ k) × IsModelOf (bytes_of (files m)) asked.problem) same (asks.line_is.names.1.0, of_kept asks.model asked.kept asks.line_is.names.1.1, asks.model_is)
+
+    -- the log of the last round is a text of its steps
+    log_is : IsFinal status → (p : Contents) → IsSmall (csp_of p) → IsRefutation (csp_of p) (last_run asked).net.steps → IsTextOf (log_text (last_run asked).net.steps) (last_run asked).net.steps
+    log_is f p few refutes = run_log (session_after asked (round_count asked - 1)) (csp_of p) (omega arith) (is_csp_after asked (whole f) (round_count asked - 1)) few refutes.right
+
+    -- a check over the folder that was left, of what the log refutes
+    verifies : IsFinal status → (better : Option ℤ) (p : Contents) → IsSmall (csp_of p) → IsRefutation (csp_of p) (last_run asked).net.steps → ((now : List ℕ → Option (List ℕ)) (model : List ℕ) → IsModelOf (bytes_of (now model)) asked.problem → (taking_of better).Is (bytes_of (now model)) p)
+        → (model : List ℕ) → AskForModel words model → IfSome b.folder.held (λ held. IsVerifiedBy (taking_of better) held model asked.log)
+    verifies f better p few refutes taken model asks_model =
+        let mine = own_model model asks_model in
+        let d = did_search f in
+        let log = log_is f p few refutes in
+        at mine log b.folder.held (subst (λ x. Told x b.folder.held (HoldsSearch asked)) told (is_searched asked own a b status d.0 d.1).files)
+      where
+        at : (model ≢ asked.log) × IfSome asked.kept (λ k. model ≢ k) × IsModelOf (bytes_of (files model)) asked.problem → IsTextOf (log_text (last_run asked).net.steps) (last_run asked).net.steps
+            → (held : Option (List ℕ → Option (List ℕ))) → Told (Some files) held (HoldsSearch asked) → IfSome held (λ x. IsVerifiedBy (taking_of better) x model asked.log)
+        at mine log None h = tt
+        at mine log (Some left) h =
+            let same : left model ≡ files model = h.others model (mine.0, mine.1) in
+            refutation_verified_by better left model asked.log p (last_run asked).net.steps (taken left model (subst (λ x. IsModelOf (bytes_of x) asked.problem) (sym same) mine.2)) (subst (λ x. IsTextOf (bytes_of x) (last_run asked).net.steps) (sym h.log) log) refutes
+
+  each : (P : AskedSearch → Type 0) → ((files : List ℕ → Option (List ℕ)) → a.folder.held ≡ Some files → (asked : AskedSearch) → AsksForSearch words files asked → P asked) → EachSearch words a.folder.held P
+  each P to = by_held a.folder.held refl
+    where
+      by_held : (held : Option (List ℕ → Option (List ℕ))) → a.folder.held ≡ held → EachSearch words held P
+      by_held None e = tt
+      by_held (Some files) e = to files e
+
+  pub the_search : EachSearch words a.folder.held (λ asked. IsFinal status → IsSearched asked status a b)
+  the_search = each (λ asked. IsFinal status → IsSearched asked status a b) (λ files told asked asks f. let d = did_search files told asked asks f in is_searched asked (own files told asked asks) a b status d.0 d.1)
+
+  best_of : (files : List ℕ → Option (List ℕ)) → a.folder.held ≡ Some files → (asked : AskedSearch) → AsksForSearch words files asked → IsBestSearch asked status
+  best_of files told asked asks good = let f = subst IsFinal (sym good) tt in is_best asked (whole files told asked asks f) asks.aims status (did_search files told asked asks f).0 good
+
+  pub search_best : EachSearch words a.folder.held (λ asked. IsBestSearch asked status)
+  search_best = each (λ asked. IsBestSearch asked status) best_of
+
+  pub search_refuted : EachSearch words a.folder.held (λ asked. IsFinal status → IsRefutedSearch asked status)
+  search_refuted = each (λ asked. IsFinal status → IsRefutedSearch asked status) (λ files told asked asks f. is_refuted asked (whole files told asked asks f) asks.aims status (did_search files told asked asks f).0)
+
+  pub search_unfinished : EachSearch words a.folder.held (λ asked. IsFinal status → IsUnfinishedSearch asked status)
+  search_unfinished = each (λ asked. IsFinal status → IsUnfinishedSearch asked status) (λ files told asked asks f. is_unfinished asked (whole files told asked asks f) asks.aims status (did_search files told asked asks f).0)
+
+  pub search_bounded : EachSearch words a.folder.held (λ asked. IsFinal status → IsBoundedSearch asked status)
+  search_bounded = each (λ asked. IsFinal status → IsBoundedSearch asked status) (λ files told asked asks f. is_bounded asked (whole files told asked asks f) asks.aims status (did_search files told asked asks f).0)
+
+  pub search_ordered : EachSearch words a.folder.held (λ asked. SearchOrdered asked a b)
+  search_ordered = each (λ asked. SearchOrdered asked a b) (λ files told asked asks. part_ordered asked (own files told asked asks) a b (made_part files told asked asks))
+
+  pub search_checked : EachSearch words a.folder.held (λ asked. IsCheckedSearch words b.folder.held asked status)
+  search_checked = each (λ asked. IsCheckedSearch words b.folder.held asked status) (λ files told asked asks. record {
+    refuted = λ no.
+        let f = subst IsFinal (sym no) tt in
+        let d = did_search files told asked asks f in
+        let refutes = ((is_refuted asked (whole files told asked asks f) asks.aims status d.0).refutes no).refutes in
+        verifies files told asked asks f None asked.problem (small files told asked asks f) refutes (λ now model x. x);
+    best = λ good some values prints.
+        let f = subst IsFinal (sym good) tt in
+        let value = aim_value asked.problem.aim (assigned values) in
+        verifies files told asked asks f (Some value) (narrowed asked.problem value) (small_narrowed asked.problem value (small files told asked asks f)) (prints.shown some)
+        (λ now model x. record { whole = asked.problem; model_is = x; known = (whole files told asked asks f).aim; aimed = some; narrowed_is = refl });
+  })
+
+  pub search_satisfies : EachSearch words a.folder.held (λ asked. IsSatisfyingSearch words a.folder.held asked status)
+  search_satisfies = each (λ asked. IsSatisfyingSearch words a.folder.held asked status) (λ files told asked asks good values prints model asks_model.
+      let mine = own_model files told asked asks model asks_model in
+      subst (λ held. IfSome held (λ x. SatisfiesText (bytes_of (x model)) (assigned values))) (sym told) ((solutions_satisfy (bytes_of (files model)) asked.problem mine.2.reads (assigned values)).0 prints.best.solves.solution))

@@ -1,0 +1,41 @@
+-- The searches for a best value that words ask for.
+use Rattle.std.specs.Prelude.{◌≡◌, ◌≢◌, ℕ, ℤ, List, Option, IfSome, IsSome}
+use Rattle.dcsp_outside.specs.Outside.{bytes_of}
+use Rattle.dcsp_problem.specs.declared.aim.Aim.TheVariants.{Satisfy}
+use Rattle.dcsp_problem.specs.Aims.{aimed_at}
+use Rattle.abt_input.specs.Inputs.{IsModelOf}
+use Rattle.abt_promise.specs.declared.status.Status.{Status}
+use Rattle.abt_promise.specs.declared.status.Status.TheVariants.{Good, No}
+use Rattle.abt_check.specs.Taking.{narrowing}
+use Rattle.abt_check.specs.Verifying.{IsVerifiedBy, IsVerified}
+use Rattle.law_meaning.specs.Meaning.{SatisfiesText}
+use Rattle.abt_run.specs.Endings.{assigned}
+use Rattle.abt_optimum.specs.Best.{aim_value}
+use Rattle.abt_best.specs.Searching.{AskedSearch}
+use Rattle.abt_best.specs.BestHeadline.{PrintsBest}
+use Rattle.abt_command.specs.Lines.{Solve, IsLine}
+use Rattle.abt_command.specs.AskedRuns.{AskForModel}
+
+-- the words ask for this search, where these are the files: they are a line of `solve`, and its model asks for the best value of a term
+pub record AsksForSearch (words : List (List ℕ)) (files : List ℕ → Option (List ℕ)) (asked : AskedSearch) : Type 0 where
+  pub model : List ℕ
+  pub line_is : IsLine words (Solve model asked.log asked.seed asked.kept asked.trace)
+  pub model_is : IsModelOf (bytes_of (files model)) asked.problem
+  pub aims : asked.problem.aim ≢ Satisfy
+
+-- this holds of each search that the words ask for, where the folder tells its files
+abbrev pub EachSearch : List (List ℕ) → Option (List ℕ → Option (List ℕ)) → (AskedSearch → Type 0) → Type 0
+EachSearch words held P = IfSome held (λ files. (asked : AskedSearch) → AsksForSearch words files asked → P asked)
+
+-- with status 0 the values that were printed satisfy the model's text
+abbrev pub IsSatisfyingSearch : List (List ℕ) → Option (List ℕ → Option (List ℕ)) → AskedSearch → Status → Type 0
+IsSatisfyingSearch words held asked status = status ≡ Good → (values : List ℤ) → PrintsBest asked values → (model : List ℕ) → AskForModel words model
+    → IfSome held (λ files. SatisfiesText (bytes_of (files model)) (assigned values))
+
+-- what a check of the log, over the folder that the search left, says of it, unless it is stopped
+pub record IsCheckedSearch (words : List (List ℕ)) (held : Option (List ℕ → Option (List ℕ))) (asked : AskedSearch) (status : Status) : Type 0 where
+  -- with status 1 it is verified against the model
+  pub refuted : status ≡ No → (model : List ℕ) → AskForModel words model → IfSome held (λ files. IsVerified files model asked.log)
+  -- with status 0, and an aim at a variable, it is verified against the model and better values than that of what was printed
+  pub best : status ≡ Good → IsSome (aimed_at asked.problem.aim) → (values : List ℤ) → PrintsBest asked values → (model : List ℕ) → AskForModel words model
+      → IfSome held (λ files. IsVerifiedBy (narrowing (aim_value asked.problem.aim (assigned values))) files model asked.log)
