@@ -1,12 +1,19 @@
 //! The lines `cnf`, `rup` and `drill`.
 
-use crate::given::{File, NO_FILE, left_by};
+use crate::given::{File, NO_FILE, folder_of, left_by, run_over, words_of};
+use abt_command::run_program;
+use dcsp_outside::MemorySink;
+use std::alloc::Global;
+use std::process::Abort;
 
 /// Each sign of two variables.
 const FOUR: &[u8] = b"p cnf 2 4\n1 2 0\n1 -2 0\n-1 2 0\n-1 -2 0\n";
 
 /// One of two variables.
 const ONE: &[u8] = b"p cnf 2 1\n1 2 0\n";
+
+/// A variable and its negation, each twice in its clause.
+const TWICE: &[u8] = b"p cnf 1 2\n1 1 0\n-1 -1 0\n";
 
 /// What came of a line.
 #[derive(Drop)]
@@ -20,7 +27,7 @@ struct Case {
     proof: &'static [u8],
 }
 
-const CASES: [Case; 15] = [
+const CASES: [Case; 26] = [
     Case {
         words: &["cnf", "f.cnf", "p.rup"],
         files: [("f.cnf", FOUR), NO_FILE],
@@ -56,6 +63,54 @@ const CASES: [Case; 15] = [
     Case {
         words: &["cnf", "f.cnf", "p.rup"],
         files: [("f.cnf", b"p cnf 4097 0\n"), NO_FILE],
+        code: 3,
+        out: b"",
+        err: b"abt: cnf: limit variables 4097 at 6\n",
+        proof: b"",
+    },
+    Case {
+        words: &["cnf", "f.cnf", "p.rup", "--seed", "0"],
+        files: [("f.cnf", b"p cnf 1 1\n0"), NO_FILE],
+        code: 1,
+        out: b"s UNSATISFIABLE\nc deliveries 0\n",
+        err: b"",
+        proof: b"0\n",
+    },
+    Case {
+        words: &["cnf", "f.cnf", "p.rup", "--seed", "0"],
+        files: [("f.cnf", TWICE), NO_FILE],
+        code: 1,
+        out: b"s UNSATISFIABLE\nc deliveries 0\n",
+        err: b"",
+        proof: b"0\n",
+    },
+    Case {
+        words: &["cnf", "f.cnf", "p.rup", "--seed", "0"],
+        files: [("f.cnf", b"p cnf 0 0"), NO_FILE],
+        code: 0,
+        out: b"s SATISFIABLE\nv 0\nc deliveries 0\n",
+        err: b"",
+        proof: b"",
+    },
+    Case {
+        words: &["cnf", "f.cnf", "p.rup", "--seed", "0"],
+        files: [("f.cnf", b"p cnf 3 1\n2 0\n"), NO_FILE],
+        code: 0,
+        out: b"s SATISFIABLE\nv -1 2 -3 0\nc deliveries 0\n",
+        err: b"",
+        proof: b"",
+    },
+    Case {
+        words: &["cnf", "f.cnf", "p.rup", "--seed", "0"],
+        files: [("f.cnf", b"p cnf 1 1\n2 0"), NO_FILE],
+        code: 3,
+        out: b"",
+        err: b"abt: cnf: syntax at 10\n",
+        proof: b"",
+    },
+    Case {
+        words: &["cnf", "f.cnf", "p.rup", "--seed", "0"],
+        files: [("f.cnf", b"p cnf 4097 0"), NO_FILE],
         code: 3,
         out: b"",
         err: b"abt: cnf: limit variables 4097 at 6\n",
@@ -110,6 +165,46 @@ const CASES: [Case; 15] = [
         proof: b"01 0\n",
     },
     Case {
+        words: &["rup", "f.cnf", "p.rup"],
+        files: [("f.cnf", TWICE), ("p.rup", b"0\n")],
+        code: 0,
+        out: b"verified\n",
+        err: b"",
+        proof: b"0\n",
+    },
+    Case {
+        words: &["rup", "f.cnf", "p.rup"],
+        files: [("f.cnf", FOUR), ("p.rup", b"")],
+        code: 1,
+        out: b"rejected not empty\n",
+        err: b"",
+        proof: b"",
+    },
+    Case {
+        words: &["rup", "f.cnf", "p.rup"],
+        files: [("f.cnf", b"p cnf 1 1\n2 0"), ("p.rup", b"1")],
+        code: 3,
+        out: b"",
+        err: b"abt: cnf: syntax at 10\n",
+        proof: b"1",
+    },
+    Case {
+        words: &["rup", "f.cnf", "p.rup"],
+        files: [("f.cnf", b"p cnf 4097 0"), ("p.rup", b"")],
+        code: 3,
+        out: b"",
+        err: b"abt: cnf: limit variables 4097 at 6\n",
+        proof: b"",
+    },
+    Case {
+        words: &["rup", "f.cnf", "p.rup"],
+        files: [("f.cnf", b"p cnf 0 0"), ("p.rup", b"0\n0")],
+        code: 4,
+        out: b"",
+        err: b"abt: proof: line 2\n",
+        proof: b"0\n0",
+    },
+    Case {
         words: &["rup", "f.cnf", "p.rup", "--seed", "1"],
         files: [("f.cnf", FOUR), NO_FILE],
         code: 2,
@@ -152,5 +247,160 @@ fn formulas_and_drills(rt: HostRuntime) {
         assert_eq!(rt; left.out.bytes(), case.out);
         assert_eq!(rt; left.err.bytes(), case.err);
         assert_eq!(rt; left.folder.file("p.rup").unwrap_or(b""), case.proof);
+    }
+}
+
+/// A line, which call of the folder and which piece that is put on `out` fail, the status, and the file under
+/// `p.rup` then.
+#[derive(Drop)]
+struct Failing {
+    words: &'static [&'static str],
+    files: [File; 2],
+    folder: u64,
+    out: u64,
+    code: u8,
+    proof: Option<&'static [u8]>,
+}
+
+impl Failing {
+    /// The line ends so.
+    fn expect(&self, rt: &impl Abort, alloc: Global) {
+        let words = words_of(rt, alloc, self.words);
+        let mut folder = folder_of(rt, alloc, &self.files);
+        let mut out = MemorySink::new(alloc);
+        let mut err = MemorySink::new(alloc);
+        folder.fail_at(self.folder).expect(rt, "memory");
+        out.fail_at(self.out).expect(rt, "memory");
+        let code = run_program(alloc, &words, &mut folder, &mut out, &mut err);
+        assert_eq!(rt; code, self.code);
+        assert_eq!(rt; folder.file("p.rup"), self.proof);
+    }
+}
+
+const CHECKS_FAILING: [Failing; 4] = [
+    Failing {
+        words: &["rup", "f.cnf", "p.rup"],
+        files: [("f.cnf", FOUR), ("p.rup", b"1 0\n-1 0\n0\n")],
+        folder: 9,
+        out: 9,
+        code: 0,
+        proof: Some(b"1 0\n-1 0\n0\n"),
+    },
+    Failing {
+        words: &["rup", "f.cnf", "p.rup"],
+        files: [("f.cnf", FOUR), ("p.rup", b"1 0\n-1 0\n0\n")],
+        folder: 1,
+        out: 9,
+        code: 6,
+        proof: Some(b"1 0\n-1 0\n0\n"),
+    },
+    Failing {
+        words: &["rup", "f.cnf", "p.rup"],
+        files: [("f.cnf", FOUR), ("p.rup", b"1 0\n-1 0\n0\n")],
+        folder: 2,
+        out: 9,
+        code: 6,
+        proof: Some(b"1 0\n-1 0\n0\n"),
+    },
+    Failing {
+        words: &["rup", "f.cnf", "p.rup"],
+        files: [("f.cnf", FOUR), ("p.rup", b"1 0\n-1 0\n0\n")],
+        folder: 9,
+        out: 1,
+        code: 6,
+        proof: Some(b"1 0\n-1 0\n0\n"),
+    },
+];
+
+#[test]
+fn a_check_of_a_proof_stops_at_the_first_fault(rt: HostRuntime) {
+    for case in &CHECKS_FAILING {
+        case.expect(&rt, rt.alloc());
+    }
+}
+
+const RUNS_FAILING: [Failing; 7] = [
+    Failing {
+        words: &["cnf", "f.cnf", "p.rup"],
+        files: [("f.cnf", FOUR), NO_FILE],
+        folder: 9,
+        out: 9,
+        code: 1,
+        proof: Some(b"1 0\n-1 0\n0\n"),
+    },
+    Failing {
+        words: &["cnf", "f.cnf", "p.rup"],
+        files: [("f.cnf", FOUR), NO_FILE],
+        folder: 1,
+        out: 9,
+        code: 6,
+        proof: None,
+    },
+    Failing {
+        words: &["cnf", "f.cnf", "p.rup"],
+        files: [("f.cnf", FOUR), NO_FILE],
+        folder: 2,
+        out: 9,
+        code: 6,
+        proof: None,
+    },
+    Failing {
+        words: &["cnf", "f.cnf", "p.rup"],
+        files: [("f.cnf", FOUR), NO_FILE],
+        folder: 3,
+        out: 9,
+        code: 6,
+        proof: Some(b""),
+    },
+    Failing {
+        words: &["cnf", "f.cnf", "p.rup"],
+        files: [("f.cnf", FOUR), NO_FILE],
+        folder: 4,
+        out: 9,
+        code: 6,
+        proof: Some(b"1 0\n"),
+    },
+    Failing {
+        words: &["cnf", "f.cnf", "p.rup"],
+        files: [("f.cnf", FOUR), NO_FILE],
+        folder: 5,
+        out: 9,
+        code: 6,
+        proof: Some(b"1 0\n-1 0\n"),
+    },
+    Failing {
+        words: &["cnf", "f.cnf", "p.rup"],
+        files: [("f.cnf", FOUR), NO_FILE],
+        folder: 9,
+        out: 1,
+        code: 6,
+        proof: Some(b"1 0\n-1 0\n0\n"),
+    },
+];
+
+#[test]
+fn an_answer_comes_after_the_proof(rt: HostRuntime) {
+    for case in &RUNS_FAILING {
+        case.expect(&rt, rt.alloc());
+    }
+}
+
+/// Each sign of three variables.
+const EIGHT: &[u8] =
+    b"p cnf 3 8\n1 2 3 0\n1 2 -3 0\n1 -2 3 0\n1 -2 -3 0\n-1 2 3 0\n-1 2 -3 0\n-1 -2 3 0\n-1 -2 -3 0\n";
+
+/// The proof that a run from this seed writes is verified.
+fn expect_verified(rt: &impl Abort, alloc: Global, seed: &str) {
+    let words = ["cnf", "f.cnf", "p.rup", "--seed", seed];
+    let left = left_by(rt, alloc, &[("f.cnf", EIGHT)], &words, 0);
+    assert_eq!(rt; left.code, 1);
+    let checked = run_over(rt, alloc, left.folder, &["rup", "f.cnf", "p.rup"]);
+    assert_eq!(rt; checked.out.bytes(), b"verified\n".as_slice());
+}
+
+#[test]
+fn its_proofs_are_verified(rt: HostRuntime) {
+    for seed in ["0", "1", "7"] {
+        expect_verified(&rt, rt.alloc(), seed);
     }
 }

@@ -2,6 +2,10 @@
 #![tactic(auto)]
 
 #[cfg(test)]
+mod best;
+#[cfg(test)]
+mod checks;
+#[cfg(test)]
 mod formulas;
 #[cfg(test)]
 mod given;
@@ -14,6 +18,12 @@ mod logs;
 #[cfg(test)]
 mod losses;
 #[cfg(test)]
+mod plain;
+#[cfg(test)]
+mod refutations;
+#[cfg(test)]
 mod runs;
+#[cfg(test)]
+mod starved;
 #[cfg(test)]
 mod wanting;

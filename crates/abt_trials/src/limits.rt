@@ -112,15 +112,27 @@ fn rules_terms_and_elements(rt: HostRuntime) {
     expect(&rt, alloc, &elements, SATISFY, 3, said);
 }
 
+/// A model with this text must be answered so by the check of an empty log.
+fn expect_checked(rt: &impl Abort, alloc: Global, text: &[u8], code: u8, said: &[u8]) {
+    let mut folder = MemoryFolder::new(alloc);
+    folder.place("m.fzn", text).expect(rt, "memory");
+    folder.place("m.ngd", b"ngd 1\nend\n").expect(rt, "memory");
+    let left = run_over(rt, alloc, folder, &["check", "m.fzn", "m.ngd"]);
+    assert_eq!(rt; left.code, code);
+    assert_eq!(rt; left.err.bytes(), said);
+}
+
 #[test]
 fn lengths_of_models(rt: HostRuntime) {
     let alloc = rt.alloc();
-    let mut blanks = Vec::new(alloc);
-    add_many(&rt, alloc, &mut blanks, b" ", 16_777_202);
-    expect(&rt, alloc, b"solve satisfy;", &blanks, 0, b"");
-    blanks.push(b' ').expect(&rt, "memory");
+    let mut model = Vec::from_slice(alloc, b"solve satisfy;").expect(&rt, "memory");
+    add_many(&rt, alloc, &mut model, b" ", 16_777_202);
+    expect(&rt, alloc, &model, b"", 0, b"");
+    expect_checked(&rt, alloc, &model, 1, b"");
+    model.push(b' ').expect(&rt, "memory");
     let said = b"abt: model: too long\n";
-    expect(&rt, alloc, b"solve satisfy;", &blanks, 3, said);
+    expect(&rt, alloc, &model, b"", 3, said);
+    expect_checked(&rt, alloc, &model, 3, said);
 }
 
 /// What a replay of the choice 10 and of so many choices 0 leaves.

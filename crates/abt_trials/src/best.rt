@@ -1,0 +1,253 @@
+//! Models that ask for the least or the greatest value, and checks against better values.
+
+use crate::given::{Case, NO_FILE, PAIR, PAIR_LOG, left_by};
+use std::alloc::Global;
+use std::process::Abort;
+
+/// Two variables of which the second is above the first, and is to be least.
+const LEAST: &[u8] =
+    b"var 1..3: x :: output_var;\nvar 1..3: y :: output_var;\nconstraint int_lt(x,y);\nsolve minimize y;\n";
+
+/// The log of its last round.
+const LEAST_LOG: &[u8] =
+    b"ngd 1\n1 v2 [v1=1] <- c1\n2 v2 [v1=2] <- c1\n3 v2 [v1=3] <- c1\n4 v1 [] <- n1 n2 n3\nend\n";
+
+/// Two variables of which the second is below the first, and is to be greatest.
+const GREATEST: &[u8] =
+    b"var -3..-1: x :: output_var;\nvar -3..3: y :: output_var;\nconstraint int_lt(y,x);\nsolve maximize y;\n";
+
+/// Two variables that differ and are equal, the second of which is to be least.
+const NONE: &[u8] =
+    b"var 0..1: x;\nvar 0..1: y;\nconstraint int_ne(x,y);\nconstraint int_eq(x,y);\nsolve minimize y;\n";
+
+/// A constant that is to be greatest.
+const CONSTANT: &[u8] =
+    b"var 0..1: x :: output_var;\nvar 0..1: y :: output_var;\nconstraint int_ne(x,y);\nsolve maximize 7;\n";
+
+const CASES: [Case; 7] = [
+    Case {
+        words: &["solve", "m.fzn", "l.ngd"],
+        files: [("m.fzn", LEAST), ("l.ngd", b"what stood here")],
+        code: 0,
+        out: b"x = 1;\ny = 2;\n----------\n==========\n% rounds 2\n% deliveries 7\n% steps 4\n",
+        err: b"",
+        log: LEAST_LOG,
+        record: b"",
+    },
+    // The record is that of the first round.
+    Case {
+        words: &["solve", "m.fzn", "l.ngd", "--record", "r.sch"],
+        files: [("m.fzn", LEAST), NO_FILE],
+        code: 0,
+        out: b"x = 1;\ny = 2;\n----------\n==========\n% rounds 2\n% deliveries 7\n% steps 4\n",
+        err: b"",
+        log: LEAST_LOG,
+        record: b"schedule 1\n0\nend\n",
+    },
+    Case {
+        words: &["solve", "m.fzn", "l.ngd", "--trace", "--seed", "5"],
+        files: [("m.fzn", LEAST), NO_FILE],
+        code: 0,
+        out: b"% round 1\n% 1 v1>v2 ok 1\n% round 2\n% 1 v1>v2 ok 1\n% 2 v2>v1 nogood 1\n\
+% 3 v1>v2 ok 2\n% 4 v2>v1 nogood 2\n% 5 v1>v2 ok 3\n% 6 v2>v1 nogood 3\n\
+x = 1;\ny = 2;\n----------\n==========\n% rounds 2\n% deliveries 7\n% steps 4\n",
+        err: b"",
+        log: LEAST_LOG,
+        record: b"",
+    },
+    Case {
+        words: &["solve", "m.fzn", "l.ngd"],
+        files: [("m.fzn", GREATEST), NO_FILE],
+        code: 0,
+        out: b"x = -1;\ny = -2;\n----------\n==========\n% rounds 3\n% deliveries 14\n% steps 4\n",
+        err: b"",
+        log: b"ngd 1\n1 v2 [v1=-3] <- c1 c1 c1 c1 c1\n2 v2 [v1=-2] <- c1 c1 c1 c1 c1\n\
+3 v2 [v1=-1] <- c1 c1 c1 c1 c1\n4 v1 [] <- n1 n2 n3\nend\n",
+        record: b"",
+    },
+    Case {
+        words: &["solve", "m.fzn", "l.ngd", "--record", "r.sch"],
+        files: [("m.fzn", NONE), NO_FILE],
+        code: 1,
+        out: b"=====UNSATISFIABLE=====\n% rounds 1\n% deliveries 4\n% steps 3\n",
+        err: b"",
+        log: PAIR_LOG,
+        record: b"schedule 1\n0\n0\n0\n0\nend\n",
+    },
+    // One round is all that an aim at a constant takes.
+    Case {
+        words: &["solve", "m.fzn", "l.ngd"],
+        files: [("m.fzn", CONSTANT), NO_FILE],
+        code: 0,
+        out: b"x = 0;\ny = 1;\n----------\n==========\n% rounds 1\n% deliveries 1\n% steps 0\n",
+        err: b"",
+        log: b"ngd 1\nend\n",
+        record: b"",
+    },
+    // The second round has no value left, and is refuted at its start.
+    Case {
+        words: &["solve", "m.fzn", "l.ngd", "--trace"],
+        files: [
+            ("m.fzn", b"var 5..5: x :: output_var;\nsolve maximize x;\n"),
+            NO_FILE,
+        ],
+        code: 0,
+        out: b"% round 1\n% round 2\nx = 5;\n----------\n==========\n% rounds 2\n% deliveries 0\n% steps 1\n",
+        err: b"",
+        log: b"ngd 1\n1 v1 [] <-\nend\n",
+        record: b"",
+    },
+];
+
+#[test]
+fn best_values_are_found(rt: HostRuntime) {
+    for case in &CASES {
+        case.expect(&rt, rt.alloc());
+    }
+}
+
+/// Other lines take such a model as if it asked for any solution.
+#[test]
+fn other_lines_look_at_no_aim(rt: HostRuntime) {
+    let files = [
+        ("m.fzn", LEAST),
+        ("r.sch", b"schedule 1\n0\n0\nend\n".as_slice()),
+    ];
+    let replay = ["replay", "m.fzn", "r.sch", "l.ngd"];
+    let left = left_by(&rt, rt.alloc(), &files, &replay, 0);
+    assert_eq!(rt; left.code, 0);
+    let out = b"x = 1;\ny = 2;\n----------\n% deliveries 1\n% steps 0\n% unused 1\n";
+    assert_eq!(rt; left.out.bytes(), out.as_slice());
+    let left = left_by(&rt, rt.alloc(), &files, &["bound", "m.fzn"], 0);
+    assert_eq!(rt; left.out.bytes(), b"bound 6\n".as_slice());
+}
+
+/// A check of the log against this model with these words at its end.
+#[derive(Drop)]
+struct Trial {
+    model: &'static [u8],
+    log: &'static [u8],
+    bound: &'static str,
+    code: u8,
+    out: &'static [u8],
+    err: &'static [u8],
+}
+
+impl Trial {
+    fn expect(&self, rt: &impl Abort, alloc: Global) {
+        let words = ["check", "m.fzn", "l.ngd", "--better", self.bound];
+        let files = [("m.fzn", self.model), ("l.ngd", self.log)];
+        let left = left_by(rt, alloc, &files, &words, 0);
+        assert_eq!(rt; left.code, self.code);
+        assert_eq!(rt; left.out.bytes(), self.out);
+        assert_eq!(rt; left.err.bytes(), self.err);
+    }
+}
+
+/// A check of the log of the least value.
+fn of_least(bound: &'static str, code: u8, out: &'static [u8], err: &'static [u8]) -> Trial {
+    Trial {
+        model: LEAST,
+        log: LEAST_LOG,
+        bound,
+        code,
+        out,
+        err,
+    }
+}
+
+#[test]
+fn logs_are_checked_against_better_values(rt: HostRuntime) {
+    let alloc = rt.alloc();
+    of_least("2", 0, b"verified\n", b"").expect(&rt, alloc);
+    of_least("3", 1, b"rejected step 1\n", b"").expect(&rt, alloc);
+    let least = "-9223372036854775808";
+    of_least(least, 1, b"rejected step 1\n", b"").expect(&rt, alloc);
+}
+
+#[test]
+fn bounds_are_integers(rt: HostRuntime) {
+    for bound in ["-0", "02", "+2", "9223372036854775808"] {
+        of_least(bound, 2, b"", b"abt: bad words\n").expect(&rt, rt.alloc());
+    }
+}
+
+/// Models that aim at nothing, whose logs are not looked at, and a log that is none.
+const REFUSED: [Trial; 3] = [
+    Trial {
+        model: PAIR,
+        log: PAIR_LOG,
+        bound: "0",
+        code: 3,
+        out: b"",
+        err: b"abt: model: no aim\n",
+    },
+    Trial {
+        model: CONSTANT,
+        log: b"ngd 3\n",
+        bound: "7",
+        code: 3,
+        out: b"",
+        err: b"abt: model: no aim\n",
+    },
+    Trial {
+        model: LEAST,
+        log: b"ngd 3\n",
+        bound: "2",
+        code: 4,
+        out: b"",
+        err: b"abt: log: line 1\n",
+    },
+];
+
+#[test]
+fn checks_against_better_values_are_refused(rt: HostRuntime) {
+    for trial in &REFUSED {
+        trial.expect(&rt, rt.alloc());
+    }
+}
+
+/// The model with this goal is refused so.
+fn refuses(rt: &impl Abort, alloc: Global, model: &[u8], err: &[u8]) {
+    let files = [("m.fzn", b"".as_slice())];
+    let mut folder = crate::given::folder_of(rt, alloc, &files);
+    folder.place("m.fzn", model).expect(rt, "memory");
+    let left = crate::given::run_over(rt, alloc, folder, &["bound", "m.fzn"]);
+    assert_eq!(rt; left.code, 3);
+    assert_eq!(rt; left.err.bytes(), err);
+}
+
+#[test]
+fn goals_are_refused_at_their_expressions(rt: HostRuntime) {
+    let alloc = rt.alloc();
+    refuses(
+        &rt,
+        alloc,
+        b"var 0..1: x;\nsolve minimize z;",
+        b"abt: model: undeclared at 28\n",
+    );
+    refuses(
+        &rt,
+        alloc,
+        b"var 0..1: x;\nsolve maximize [x];",
+        b"abt: model: ill-typed at 28\n",
+    );
+    refuses(
+        &rt,
+        alloc,
+        b"var bool: x;\nsolve maximize x;",
+        b"abt: model: ill-typed at 28\n",
+    );
+    refuses(
+        &rt,
+        alloc,
+        b"var 0..1: x;\nsolve minimize true;",
+        b"abt: model: ill-typed at 28\n",
+    );
+    refuses(
+        &rt,
+        alloc,
+        b"var 0..1: x;\nsolve minimize 1..2;",
+        b"abt: model: ill-typed at 28\n",
+    );
+}

@@ -1,0 +1,371 @@
+//! The kept reasons, beside the plain search.
+
+ghost use Rattle.std.specs.Prelude.{◌≡◌, ◌<◌, ℕ, None, [], ◌∷◌, IfOk, length};
+ghost use Rattle.dcsp_nogood.specs.Pairs.{pair_of};
+ghost use Rattle.abt_defs.specs.Agents.{values_in};
+ghost use Rattle.abt_view.specs.Views.{view_of};
+ghost use Rattle.dcsp_problem.specs.Problems.{csp_of, AreInDomains};
+ghost use Rattle.abt_reason.specs.Cached.{StandsFor};
+ghost use Rattle.abt_reason.specs.Kept.{own_at};
+
+use crate::given::between;
+use abt_reason::{Reason, Reasons, first_violated};
+use abt_store::Store;
+use abt_view::View;
+use dcsp_nogood::{Nogood, Pair};
+use dcsp_problem::{Domain, Kind, Problem, ProblemBuilder};
+use std::alloc::Global;
+use std::process::Abort;
+use std::test::Fail;
+
+fn pair(var: u32, value: i64) -> Pair {
+    Pair { var, value }
+}
+
+/// The agent with the value at a place of its domain.
+fn own_pair(agent: u32, domain: &Domain, place: usize) -> Pair
+    requires { place < length domain.now }
+    ensures { result ≡ pair_of agent (own_at domain.now place) }
+{
+    Pair {
+        var: agent,
+        value: domain.value(place),
+    }
+}
+
+/// Variables with the values from 0 to these, and no rules.
+fn free(alloc: Global, highest: &[i64]) -> Result<Problem, Fail>
+    ensures { IfOk result (λ problem. length problem.domains ≡ length highest.now) }
+{
+    let mut builder = ProblemBuilder::new(alloc);
+    for high in highest {
+        builder.add_var(Domain::range(alloc, 0, *high)?)?;
+    }
+    Ok(builder.finish()?)
+}
+
+/// A view of nothing, with room for two agents.
+fn blank(rt: &impl Abort, alloc: Global) -> View
+    ensures empty { view_of result ≡ (λ k. None) }
+    ensures slots { length result ≡ 2 }
+{
+    match View::new(alloc, 2) {
+        Ok(view) => view,
+        Err(_) => panic!(rt; "memory"),
+    }
+}
+
+/// The reasons of an agent that was told nothing.
+fn fresh<'p>(
+    rt: &impl Abort,
+    alloc: Global,
+    problem: &'p Problem,
+    agent: u32,
+    _view: &View,
+    _store: &Store,
+) -> Reasons<'p>
+    requires agent { agent < length problem.now.domains }
+    requires empty { view_of _view.now ≡ (λ k. None) }
+    requires none { _store.now ≡ [] }
+    ensures stands { StandsFor result (values_in (view_of _view.now)) _store.now }
+    ensures problem { result.problem ≡ problem.now }
+    ensures agent { result.agent ≡ agent }
+{
+    Reasons::new(alloc, problem, agent).expect(rt, "memory")
+}
+
+/// Keeps the nogood of these pairs, which must be free to keep.
+fn record(
+    rt: &impl Abort,
+    alloc: Global,
+    reasons: &mut Reasons,
+    view: &View,
+    store: &mut Store,
+    pairs: &[Pair],
+    step: u64,
+)
+    requires { StandsFor reasons.old (values_in (view_of view.now)) store.old }
+    ensures stands { StandsFor reasons.new (values_in (view_of view.now)) store.new }
+    ensures problem { reasons.new.problem ≡ reasons.old.problem }
+    ensures agent { reasons.new.agent ≡ reasons.old.agent }
+{
+    let nogood = Nogood::from_pairs(alloc, pairs).expect(rt, "a nogood");
+    let lowest = nogood.lowest().expect(rt, "a pair");
+    assert!(rt; !store.rules_out(lowest.value));
+    store.keep(nogood, step).expect(rt, "memory");
+    reasons.after_record(view, store);
+}
+
+/// The first reason for the value at a place must be this one.
+fn expect_first(
+    rt: &impl Abort,
+    problem: &Problem,
+    agent: u32,
+    reasons: &Reasons,
+    place: usize,
+    reason: Option<Reason>,
+)
+    requires agent { agent < length problem.now.domains }
+    requires same { reasons.now.problem ≡ problem.now }
+    requires own { reasons.now.agent ≡ agent }
+{
+    assert!(rt; place < problem.domain(agent).len());
+    assert_eq!(rt; reasons.first(place), reason);
+}
+
+#[test]
+fn tells_the_step_of_each_value(rt: HostRuntime) -> Result<(), Fail> {
+    let problem = free(rt.alloc(), &[2])?;
+    let view = blank(&rt, rt.alloc());
+    let mut store = Store::new(rt.alloc());
+    let mut reasons = fresh(&rt, rt.alloc(), &problem, 0, &view, &store);
+    record(
+        &rt,
+        rt.alloc(),
+        &mut reasons,
+        &view,
+        &mut store,
+        &[pair(0, 1)],
+        4,
+    );
+    assert!(rt; store.rules_out(1));
+    record(
+        &rt,
+        rt.alloc(),
+        &mut reasons,
+        &view,
+        &mut store,
+        &[pair(0, 0)],
+        9,
+    );
+    expect_first(&rt, &problem, 0, &reasons, 0, Some(Reason::Earlier(9)));
+    expect_first(&rt, &problem, 0, &reasons, 1, Some(Reason::Earlier(4)));
+    expect_first(&rt, &problem, 0, &reasons, 2, None);
+    assert_eq!(rt; store.naming(0), [0, 1].as_slice());
+    assert_eq!(rt; store.naming(1), [].as_slice());
+    Ok(())
+}
+
+/// Takes in a view of nothing so many times more.
+fn look_again(reasons: &mut Reasons, times: u32, view: &View, store: &Store)
+    requires empty { view_of view.now ≡ (λ k. None) }
+    requires stands { StandsFor reasons.old (values_in (view_of view.now)) store.now }
+    ensures problem { reasons.new.problem ≡ reasons.old.problem }
+    ensures agent { reasons.new.agent ≡ reasons.old.agent }
+{
+    for _time in 0..times {
+        reasons.after_view(0, view, store);
+    }
+}
+
+/// Keeps a nogood for each value below a number, of the step after it.
+fn record_each(
+    rt: &impl Abort,
+    alloc: Global,
+    reasons: &mut Reasons,
+    view: &View,
+    store: &mut Store,
+    values: u32,
+)
+    requires { StandsFor reasons.old (values_in (view_of view.now)) store.old }
+    ensures stands { StandsFor reasons.new (values_in (view_of view.now)) store.new }
+    ensures problem { reasons.new.problem ≡ reasons.old.problem }
+    ensures agent { reasons.new.agent ≡ reasons.old.agent }
+{
+    for value in 0..values {
+        let pairs = [pair(1, i64::from(value))];
+        record(
+            rt,
+            alloc,
+            reasons,
+            view,
+            store,
+            &pairs,
+            u64::from(value) + 1,
+        );
+    }
+}
+
+/// Each value of so many must have the step after it as its reason.
+fn expect_each(rt: &impl Abort, problem: &Problem, reasons: &Reasons, values: usize)
+    requires agent { 1 < length problem.now.domains }
+    requires same { reasons.now.problem ≡ problem.now }
+    requires own { reasons.now.agent ≡ 1 }
+{
+    for place in 0..values {
+        expect_first(
+            rt,
+            problem,
+            1,
+            reasons,
+            place,
+            Some(Reason::Earlier(place as u64 + 1)),
+        );
+    }
+}
+
+#[test]
+fn tells_many_steps(rt: HostRuntime) -> Result<(), Fail> {
+    let problem = free(rt.alloc(), &[0, 65535])?;
+    let view = blank(&rt, rt.alloc());
+    let mut store = Store::new(rt.alloc());
+    let mut reasons = fresh(&rt, rt.alloc(), &problem, 1, &view, &store);
+    record_each(&rt, rt.alloc(), &mut reasons, &view, &mut store, 65536);
+    look_again(&mut reasons, 1000, &view, &store);
+    expect_each(&rt, &problem, &reasons, 65536);
+    assert_eq!(rt; store.naming(0), [].as_slice());
+    Ok(())
+}
+
+/// Three variables with the values from 0 to 3; the last is neither of the others.
+fn triangle(alloc: Global) -> Result<Problem, Fail>
+    ensures { IfOk result (λ problem. length problem.domains ≡ 3) }
+{
+    let mut builder = ProblemBuilder::new(alloc);
+    builder.add_var(Domain::range(alloc, 0, 3)?)?;
+    builder.add_var(Domain::range(alloc, 0, 3)?)?;
+    builder.add_var(Domain::range(alloc, 0, 3)?)?;
+    builder.add_rule(between(alloc, Kind::IntNe, 0, 2)?)?;
+    builder.add_rule(between(alloc, Kind::IntNe, 2, 1)?)?;
+    Ok(builder.finish()?)
+}
+
+/// A value at a place of a domain is told by an agent above.
+fn learn(
+    rt: &impl Abort,
+    problem: &Problem,
+    reasons: &mut Reasons,
+    view: &mut View,
+    store: &mut Store,
+    var: u32,
+    place: usize,
+    stamp: u64,
+)
+    requires var { var < length view.old }
+    requires exists { var < length problem.now.domains }
+    requires same { reasons.old.problem ≡ problem.now }
+    requires domains { AreInDomains (csp_of problem.now) (values_in (view_of view.old)) }
+    requires stands { StandsFor reasons.old (values_in (view_of view.old)) store.old }
+    ensures slots { length view.new ≡ length view.old }
+    ensures problem { reasons.new.problem ≡ reasons.old.problem }
+    ensures agent { reasons.new.agent ≡ reasons.old.agent }
+    ensures domains { AreInDomains (csp_of problem.now) (values_in (view_of view.new)) }
+    ensures stands { StandsFor reasons.new (values_in (view_of view.new)) store.new }
+{
+    let domain = problem.domain(var);
+    assert!(rt; place < domain.len());
+    let told = own_pair(var, domain, place);
+    if !view.learn(var, told.value, stamp) {
+        return;
+    }
+    store.forget(var, told.value);
+    reasons.after_view(var, view, store);
+}
+
+/// Each value's first reason must be what a search finds.
+fn compare(
+    rt: &impl Abort,
+    problem: &Problem,
+    agent: u32,
+    reasons: &Reasons,
+    view: &View,
+    store: &Store,
+)
+    requires agent { agent < length problem.now.domains }
+    requires same { reasons.now.problem ≡ problem.now }
+    requires own { reasons.now.agent ≡ agent }
+    requires domains { AreInDomains (csp_of problem.now) (values_in (view_of view.now)) }
+{
+    let domain = problem.domain(agent);
+    for place in 0..domain.len() {
+        let own = own_pair(agent, domain, place);
+        let found = first_violated(problem, own, view, store);
+        expect_first(rt, problem, agent, reasons, place, found);
+    }
+}
+
+/// One of the agents above tells a value, and a nogood over it is kept if its own value is free.
+fn change(
+    rt: &impl Abort,
+    alloc: Global,
+    problem: &Problem,
+    reasons: &mut Reasons,
+    view: &mut View,
+    store: &mut Store,
+    number: u32,
+)
+    requires slots { length view.old ≡ 2 }
+    requires exists { length problem.now.domains ≡ 3 }
+    requires same { reasons.old.problem ≡ problem.now }
+    requires domains { AreInDomains (csp_of problem.now) (values_in (view_of view.old)) }
+    requires stands { StandsFor reasons.old (values_in (view_of view.old)) store.old }
+    ensures slots { length view.new ≡ length view.old }
+    ensures problem { reasons.new.problem ≡ reasons.old.problem }
+    ensures agent { reasons.new.agent ≡ reasons.old.agent }
+    ensures domains { AreInDomains (csp_of problem.now) (values_in (view_of view.new)) }
+    ensures stands { StandsFor reasons.new (values_in (view_of view.new)) store.new }
+{
+    let mixed = number.wrapping_mul(2654435761) / 65536;
+    let var = mixed % 2;
+    let place = (mixed / 2 % 4) as usize;
+    learn(
+        rt,
+        problem,
+        reasons,
+        view,
+        store,
+        var,
+        place,
+        u64::from(number) + 1,
+    );
+    let own = i64::from(mixed / 8 % 4);
+    if store.rules_out(own) {
+        return;
+    }
+    let Some(told) = view.value_of(mixed / 32 % 2) else {
+        return;
+    };
+    let pairs = [pair(mixed / 32 % 2, told), pair(2, own)];
+    record(rt, alloc, reasons, view, store, &pairs, u64::from(number));
+}
+
+/// So many changes, with a comparison after each.
+fn drive(
+    rt: &impl Abort,
+    alloc: Global,
+    problem: &Problem,
+    reasons: &mut Reasons,
+    view: &mut View,
+    store: &mut Store,
+    changes: u32,
+)
+    requires slots { length view.old ≡ 2 }
+    requires exists { length problem.now.domains ≡ 3 }
+    requires same { reasons.old.problem ≡ problem.now }
+    requires own { reasons.old.agent ≡ 2 }
+    requires domains { AreInDomains (csp_of problem.now) (values_in (view_of view.old)) }
+    requires stands { StandsFor reasons.old (values_in (view_of view.old)) store.old }
+{
+    for number in 0..changes {
+        change(rt, alloc, problem, reasons, view, store, number);
+        compare(rt, problem, 2, reasons, view, store);
+    }
+}
+
+#[test]
+fn equals_the_search(rt: HostRuntime) -> Result<(), Fail> {
+    let problem = triangle(rt.alloc())?;
+    let mut view = blank(&rt, rt.alloc());
+    let mut store = Store::new(rt.alloc());
+    let mut reasons = fresh(&rt, rt.alloc(), &problem, 2, &view, &store);
+    drive(
+        &rt,
+        rt.alloc(),
+        &problem,
+        &mut reasons,
+        &mut view,
+        &mut store,
+        400,
+    );
+    Ok(())
+}

@@ -1,0 +1,6 @@
+use Rattle.std.proofs.Common.{◌≡◌}
+use Rattle.log_trials.proofs.logs.expect_entries.Given as goal
+
+-- so many bytes were fed
+abbrev pub invariant-loop-byte : goal.invariant-loop-byte
+invariant-loop-byte g l = l.reader.fed ≡ l.byte-index

@@ -1,0 +1,147 @@
+//! The smallest problem, and derivations for it.
+
+use crate::given::{derivation_of, smallest};
+use dcsp_problem::Problem;
+use ngd_check::{Checker, Finding, check};
+use ngd_log::{Entry, NumberList, ReasonList, Step};
+use std::alloc::Global;
+use std::process::Abort;
+use std::test::Fail;
+
+/// The check of these steps finds this.
+fn expect_finding(
+    rt: &impl Abort,
+    alloc: Global,
+    problem: &Problem,
+    steps: &str,
+    finding: Finding,
+) {
+    let derivation = derivation_of(rt, alloc, steps);
+    assert_eq!(rt; check(problem, &derivation), finding, "{steps}");
+}
+
+#[test]
+fn finds(rt: HostRuntime) -> Result<(), Fail> {
+    let problem = smallest(rt.alloc())?;
+    for (steps, finding) in [
+        (
+            "1 v2 [v1=0] <- c1 c2\n2 v2 [v1=1] <- c2 c1\n3 v1 [] <- n1 n2\n",
+            Finding::Verified,
+        ),
+        (
+            "1 v2 [v1=0] <- c1 c2\n2 v2 [v1=1] <- c2 c1\n",
+            Finding::NotEmpty,
+        ),
+        ("", Finding::NotEmpty),
+        (
+            "1 v2 [v1=0] <- c1\n2 v2 [v1=1] <- c2 c1\n3 v1 [] <- n1 n2\n",
+            Finding::BadStep { step: 1 },
+        ),
+        (
+            "1 v2 [v1=0] <- c1 c2\n2 v2 [v1=0] <- c2 c1\n3 v1 [] <- n1 n2\n",
+            Finding::BadStep { step: 2 },
+        ),
+        (
+            "1 v2 [v1=0] <- c1 c2\n2 v2 [v1=1] <- c2 c1\n3 v1 [] <- n1\n",
+            Finding::BadStep { step: 3 },
+        ),
+        ("1 v1 [] <- n1 n1\n", Finding::BadStep { step: 1 }),
+        ("1 - [] <- c1\n", Finding::BadStep { step: 1 }),
+    ] {
+        expect_finding(&rt, rt.alloc(), &problem, steps, finding);
+    }
+    Ok(())
+}
+
+/// What comes next in a list of entries.
+#[derive(Clone, Copy, Debug)]
+enum Next {
+    /// A copy of the step at this place.
+    Take(usize),
+    Delete(u64),
+}
+
+use Next::{Delete, Take};
+
+fn copy_of(rt: &impl Abort, alloc: Global, step: &Step) -> Step {
+    let reasons = Vec::from_slice(alloc, step.reasons.items()).expect(rt, "memory");
+    Step {
+        variable: step.variable,
+        nogood: step.nogood.copy(alloc).expect(rt, "memory"),
+        reasons: ReasonList::from_vec(reasons),
+    }
+}
+
+fn entry_of(rt: &impl Abort, alloc: Global, steps: &[Step], next: Next) -> Entry {
+    match next {
+        Take(place) => {
+            let step = steps.get(place).expect(rt, "a step");
+            Entry::Step(copy_of(rt, alloc, step))
+        }
+        Delete(number) => {
+            let numbers = vec![in alloc; number].expect(rt, "memory");
+            Entry::Delete(NumberList::from_vec(numbers))
+        }
+    }
+}
+
+/// A checker that takes these entries finds this.
+fn expect_of_entries(
+    rt: &impl Abort,
+    alloc: Global,
+    problem: &Problem,
+    steps: &[Step],
+    list: &[Next],
+    finding: Finding,
+) {
+    let mut checker = Checker::new(alloc, problem);
+    for next in list {
+        let entry = entry_of(rt, alloc, steps, *next);
+        assert!(rt; checker.take(&entry).is_ok());
+    }
+    assert_eq!(rt; checker.finding(), finding, "{list:?}");
+}
+
+const STEPS: &str = "1 v2 [v1=0] <- c1 c2
+2 v2 [v1=1] <- c2 c1
+3 v1 [] <- n1 n2
+4 v1 [] <- n2 n3
+";
+
+#[test]
+fn finds_of_entries(rt: HostRuntime) -> Result<(), Fail> {
+    let problem = smallest(rt.alloc())?;
+    let derivation = derivation_of(&rt, rt.alloc(), STEPS);
+    for (list, finding) in [
+        ([Take(0), Take(1), Take(2)].as_slice(), Finding::Verified),
+        (
+            [Take(0), Take(0), Delete(1), Take(1), Take(3)].as_slice(),
+            Finding::Verified,
+        ),
+        (
+            [Take(0), Take(1), Take(2), Delete(3)].as_slice(),
+            Finding::Verified,
+        ),
+        ([].as_slice(), Finding::NotEmpty),
+        ([Take(0), Take(1), Delete(2)].as_slice(), Finding::NotEmpty),
+        (
+            [Take(0), Take(1), Delete(1), Take(2), Delete(9)].as_slice(),
+            Finding::BadStep { step: 3 },
+        ),
+        (
+            [Take(0), Delete(1), Delete(1), Take(2)].as_slice(),
+            Finding::BadDeletion { after: 1 },
+        ),
+        (
+            [Take(0), Take(1), Delete(3), Take(2)].as_slice(),
+            Finding::BadDeletion { after: 2 },
+        ),
+        (
+            [Delete(1), Take(0)].as_slice(),
+            Finding::BadDeletion { after: 0 },
+        ),
+    ] {
+        expect_of_entries(&rt, rt.alloc(), &problem, derivation.steps(), list, finding);
+    }
+    Ok(())
+}

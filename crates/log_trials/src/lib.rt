@@ -1,0 +1,21 @@
+//! Trials of logs, schedules and generated models as texts, of checks, cores and upgrades, and of the lines that tell of them.
+#![tactic(auto)]
+
+#[cfg(test)]
+mod checks;
+#[cfg(test)]
+mod cores;
+#[cfg(test)]
+mod generated;
+#[cfg(test)]
+mod given;
+#[cfg(test)]
+mod log_lines;
+#[cfg(test)]
+mod logs;
+#[cfg(test)]
+mod model_lines;
+#[cfg(test)]
+mod schedules;
+#[cfg(test)]
+mod upgrades;

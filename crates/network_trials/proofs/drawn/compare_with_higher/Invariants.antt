@@ -1,0 +1,5 @@
+use Rattle.std.proofs.Common.{◌≡◌}
+use Rattle.network_trials.proofs.drawn.compare_with_higher.Given as goal
+
+abbrev pub invariant-loop-higher : goal.invariant-loop-higher
+invariant-loop-higher l = l.builder.domains ≡ l.fn.builder.domains

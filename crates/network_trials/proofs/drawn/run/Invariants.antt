@@ -1,0 +1,8 @@
+use Rattle.std.proofs.Common.{◌≡◌, true}
+use Rattle.network_trials.proofs.drawn.run.Given as goal
+
+abbrev pub invariant-loop-made : goal.invariant-loop-made
+invariant-loop-made g l = record {
+  begun : l.network.begun ≡ true;
+  problem : l.network.problem ≡ l.problem;
+}

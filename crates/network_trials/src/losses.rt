@@ -1,0 +1,111 @@
+//! Agents over a medium that loses, repeats and reorders, under words that are written out.
+
+ghost use Rattle.std.specs.Prelude.{◌≡◌, ◌<◌, length, true};
+
+use crate::given::{third_differs, torn};
+use abt_lossy::{Begun, Lossy, Standing};
+use dcsp_problem::Problem;
+use std::alloc::Global;
+use std::process::Abort;
+use std::test::Fail;
+
+/// The agents of the problem after their start, which refutes nothing.
+fn begun<'p>(rt: &impl Abort, alloc: Global, problem: &'p Problem) -> Lossy<'p>
+    ensures begun { result.begun ≡ true }
+    ensures problem { result.problem ≡ problem.now }
+{
+    let mut medium = Lossy::new(alloc, problem).expect(rt, "memory");
+    let begun = medium.start().expect(rt, "memory");
+    assert!(rt; matches!(&begun, Begun::Running));
+    assert_eq!(rt; medium.pool(), 0);
+    medium
+}
+
+/// An event: its word, the number of the list that it hands up from, if it does, whether a step is made, and
+/// how many packets are on their way then.
+type Row = (u32, Option<u32>, bool, u64);
+
+/// Makes the event, which must be as the row says.
+fn event(rt: &impl Abort, medium: &mut Lossy<'_>, row: Row)
+    requires { medium.old.begun ≡ true }
+    ensures begun { medium.new.begun ≡ true }
+    ensures problem { medium.new.problem ≡ medium.old.problem }
+{
+    let (word, delivered, step, pool) = row;
+    assert!(rt; medium.state() == Standing::Open);
+    assert!(rt; medium.events() < 1000);
+    let happened = medium.event(word).expect(rt, "memory");
+    assert_eq!(rt; happened.delivered, delivered);
+    assert_eq!(rt; happened.step.is_some(), step);
+    assert_eq!(rt; medium.pool(), pool);
+}
+
+/// Data is sent, handed up while its packet stays, and acknowledged again as it comes again; then the first
+/// acknowledgement is lost.
+#[test]
+fn a_repeated_packet(rt: HostRuntime) -> Result<(), Fail> {
+    let problem = torn(rt.alloc())?;
+    let mut medium = begun(&rt, rt.alloc(), &problem);
+    event(&rt, &mut medium, (0, None, false, 1));
+    event(&rt, &mut medium, (2, Some(0), true, 2));
+    event(&rt, &mut medium, (1, None, false, 2));
+    event(&rt, &mut medium, (3, None, false, 1));
+    assert_eq!(rt; medium.events(), 4);
+    Ok(())
+}
+
+/// Events of all kinds, until all is handed up that was sent: six messages.
+const ROWS: [Row; 18] = [
+    (4, None, false, 1),
+    (0, None, false, 2),
+    (1, Some(1), true, 2),
+    (8, None, false, 3),
+    (5, None, false, 2),
+    (5, Some(1), false, 2),
+    (4, None, false, 3),
+    (10, Some(1), false, 4),
+    (5, None, false, 3),
+    (1, Some(0), true, 3),
+    (9, None, false, 2),
+    (4, None, false, 3),
+    (3, None, false, 2),
+    (1, None, false, 1),
+    (9, Some(0), false, 1),
+    (0, None, false, 2),
+    (1, None, false, 1),
+    (9, Some(0), false, 1),
+];
+
+/// Makes the events of these rows.
+fn make_all(rt: &impl Abort, medium: &mut Lossy<'_>, rows: &[Row])
+    requires { medium.old.begun ≡ true }
+    ensures { medium.new.problem ≡ medium.old.problem }
+{
+    for row in rows {
+        event(rt, medium, *row);
+    }
+}
+
+/// All that was sent is handed up, after so many events.
+fn expect_quiet(rt: &impl Abort, medium: &Lossy<'_>, events: u64) {
+    assert!(rt; medium.state() == Standing::Quiet);
+    assert_eq!(rt; medium.events(), events);
+}
+
+fn expect_value(rt: &impl Abort, medium: &Lossy<'_>, agent: u32, value: i64)
+    requires { agent < length medium.now.problem.domains }
+{
+    assert!(rt; medium.value(agent) == Some(value));
+}
+
+#[test]
+fn all_kinds_of_events(rt: HostRuntime) -> Result<(), Fail> {
+    let problem = third_differs(rt.alloc(), [0, 0, 0], [1, 1, 0])?;
+    let mut medium = begun(&rt, rt.alloc(), &problem);
+    make_all(&rt, &mut medium, &ROWS);
+    expect_quiet(&rt, &medium, 18);
+    expect_value(&rt, &medium, 0, 1);
+    expect_value(&rt, &medium, 1, 1);
+    expect_value(&rt, &medium, 2, 0);
+    Ok(())
+}

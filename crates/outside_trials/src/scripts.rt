@@ -1,0 +1,134 @@
+//! A log that is written bit by bit, over a folder in memory.
+
+ghost use Rattle.std.specs.Prelude.{[], ◌∷◌, ◌++◌, codes, flat_map, Contains};
+ghost use Rattle.dcsp_script.specs.Scripts.{Create, Append, Put, outside};
+ghost use Rattle.dcsp_script.specs.Ways.{Wrote};
+
+use dcsp_outside::{Folder, MemoryFolder, MemorySink, Sink};
+use dcsp_script::{Stop, append, create, put};
+
+/// Adds the note to the log, and then puts it on `out`.
+fn write_note<F: Folder, S: Sink>(
+    folder: &mut F,
+    out: &mut S,
+    log: &str,
+    note: &[u8],
+) -> Result<(), Stop>
+    requires { Contains (F.place folder.old).created log.now }
+    ensures { Wrote (Append log.now note.now ∷ Put note.now ∷ [])
+        (outside (F.place folder.old) (S.stream out.old))
+        (outside (F.place folder.new) (S.stream out.new)) result }
+{
+    append(folder, log, note)?;
+    put(out, note)
+}
+
+/// Writes each note, and then the log's end.
+fn write_notes<F: Folder, S: Sink>(
+    folder: &mut F,
+    out: &mut S,
+    log: &str,
+    notes: &[Vec<u8>],
+) -> Result<(), Stop>
+    requires { Contains (F.place folder.old).created log.now }
+    ensures { Wrote (flat_map (λ note. Append log.now note.items ∷ Put note.items ∷ []) notes.now
+        ++ Append log.now (codes "end\n") ∷ [])
+        (outside (F.place folder.old) (S.stream out.old))
+        (outside (F.place folder.new) (S.stream out.new)) result }
+{
+    for note in notes {
+        write_note(folder, out, log, note)?;
+    }
+    append(folder, log, b"end\n")
+}
+
+/// Creates the log, writes the notes, and answers.
+fn write_log<F: Folder, S: Sink>(
+    folder: &mut F,
+    out: &mut S,
+    log: &str,
+    notes: &[Vec<u8>],
+) -> Result<(), Stop>
+    ensures { Wrote (Create log.now ∷ ((flat_map (λ note. Append log.now note.items ∷ Put note.items ∷ []) notes.now
+        ++ Append log.now (codes "end\n") ∷ []) ++ Put (codes "done\n") ∷ []))
+        (outside (F.place folder.old) (S.stream out.old))
+        (outside (F.place folder.new) (S.stream out.new)) result }
+{
+    create(folder, log)?;
+    write_notes(folder, out, log, notes)?;
+    put(out, b"done\n")
+}
+
+/// Which calls of the folder and of `out` fail, and what is left.
+#[derive(Drop)]
+struct Case {
+    folder: u64,
+    out: u64,
+    came: Result<(), Stop>,
+    log: &'static [u8],
+    told: &'static [u8],
+}
+
+const CASES: [Case; 6] = [
+    Case {
+        folder: 9,
+        out: 9,
+        came: Ok(()),
+        log: b"a\nb\nend\n",
+        told: b"a\nb\ndone\n",
+    },
+    Case {
+        folder: 1,
+        out: 9,
+        came: Err(Stop::Fault),
+        log: b"before",
+        told: b"",
+    },
+    Case {
+        folder: 3,
+        out: 9,
+        came: Err(Stop::Fault),
+        log: b"a\n",
+        told: b"a\n",
+    },
+    Case {
+        folder: 4,
+        out: 9,
+        came: Err(Stop::Fault),
+        log: b"a\nb\n",
+        told: b"a\nb\n",
+    },
+    Case {
+        folder: 9,
+        out: 1,
+        came: Err(Stop::Fault),
+        log: b"a\n",
+        told: b"",
+    },
+    Case {
+        folder: 9,
+        out: 3,
+        came: Err(Stop::Fault),
+        log: b"a\nb\nend\n",
+        told: b"a\nb\n",
+    },
+];
+
+#[test]
+fn a_script_stops_where_a_write_fails(rt: HostRuntime) {
+    let mut notes = Vec::new(rt.alloc());
+    for text in ["a\n", "b\n"] {
+        let note = Vec::from_slice(rt.alloc(), text.as_bytes()).expect(&rt, "memory");
+        notes.push(note).expect(&rt, "memory");
+    }
+    for case in &CASES {
+        let mut folder = MemoryFolder::new(rt.alloc());
+        folder.place("log", b"before").expect(&rt, "memory");
+        folder.fail_at(case.folder).expect(&rt, "memory");
+        let mut out = MemorySink::new(rt.alloc());
+        out.fail_at(case.out).expect(&rt, "memory");
+        assert_eq!(rt; write_log(&mut folder, &mut out, "log", &notes), case.came);
+        assert_eq!(rt; folder.file("log").unwrap_or(&[]), case.log);
+        assert_eq!(rt; out.bytes(), case.told);
+    }
+}

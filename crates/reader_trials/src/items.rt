@@ -1,0 +1,156 @@
+//! Texts, their items, refusals and marks.
+
+use fzn_item::{Item, ItemError, ItemList, Marked, items};
+use fzn_token::tokens;
+use std::alloc::Global;
+use std::process::Abort;
+use std::test::Fail;
+
+/// The items of a short text.
+fn read(alloc: Global, text: &[u8]) -> Result<ItemList, ItemError> {
+    if text.len() > 1000 {
+        return Err(ItemError::Memory);
+    }
+    match tokens(alloc, text) {
+        Ok(list) => items(alloc, text, &list),
+        Err(_) => Err(ItemError::Memory),
+    }
+}
+
+/// The mark of a short text's first item.
+fn mark(alloc: Global, text: &[u8]) -> &'static str {
+    let Ok(list) = read(alloc, text) else {
+        return "no items";
+    };
+    match list.items().first() {
+        Some(Item::Declare { marked, .. }) => match marked {
+            Marked::Nothing => "nothing",
+            Marked::Variable => "variable",
+            Marked::Ranges(_) => "ranges",
+            Marked::Wrong => "wrong",
+        },
+        _ => "no declaration",
+    }
+}
+
+/// The text has so many items.
+fn expect_items(rt: &impl Abort, alloc: Global, text: &[u8], count: usize) {
+    match read(alloc, text) {
+        Ok(list) => assert_eq!(rt; list.len(), count),
+        Err(_) => panic!(rt; "a text of items"),
+    }
+}
+
+#[test]
+fn texts_and_their_numbers_of_items(rt: HostRuntime) {
+    let alloc = rt.alloc();
+    expect_items(&rt, alloc, b"", 0);
+    expect_items(
+        &rt,
+        alloc,
+        b"predicate p(var int: x, array [int] of bool: y);",
+        1,
+    );
+    expect_items(
+        &rt,
+        alloc,
+        b"bool: b = true; set of int: s = {1,3}; float: f = 1.5;",
+        3,
+    );
+    expect_items(&rt, alloc, b"array [1..2] of int: a = [1,2];", 1);
+    expect_items(
+        &rt,
+        alloc,
+        b"var -3..3: x; var {}: y = x; var set of 1..2: z; var 0.5..1.5: w;",
+        4,
+    );
+    expect_items(
+        &rt,
+        alloc,
+        b"array [1..2] of var bool: a :: output_array([1..2]) = [b, c];",
+        1,
+    );
+    expect_items(
+        &rt,
+        alloc,
+        b"constraint int_eq(x, 3) :: domain(x, [1..2, {0.5, 1}], \"t\");",
+        1,
+    );
+    expect_items(
+        &rt,
+        alloc,
+        b"solve :: int_search([x], input_order) minimize x;",
+        1,
+    );
+    expect_items(&rt, alloc, b"constraint p(); solve satisfy;", 2);
+}
+
+/// The text is refused at this place.
+fn expect_refused(rt: &impl Abort, alloc: Global, text: &[u8], at: u32) {
+    assert!(rt; matches!(read(alloc, text), Err(ItemError::Syntax { at: place }) if place == at));
+}
+
+#[test]
+fn texts_and_their_refusals(rt: HostRuntime) {
+    let alloc = rt.alloc();
+    expect_refused(&rt, alloc, b"solve satisfy; var x;", 15);
+    expect_refused(&rt, alloc, b"var 0..1: x", 0);
+    expect_refused(&rt, alloc, b"solve satisfy; ;", 15);
+    expect_refused(&rt, alloc, b"int: n;", 0);
+    expect_refused(&rt, alloc, b"array [1..1] of var bool: a;", 0);
+    expect_refused(&rt, alloc, b"set of 1..2: s = {1};", 0);
+    expect_refused(&rt, alloc, b"constraint p(x,);", 0);
+    expect_refused(&rt, alloc, b"constraint p(x) :: true;", 0);
+    expect_refused(&rt, alloc, b"solve maximize;", 0);
+    expect_refused(&rt, alloc, b"var x: y; predicate", 0);
+    expect_refused(&rt, alloc, b" int_eq(x, y);", 1);
+}
+
+/// The text's first item is a declaration with this mark.
+fn expect_mark(rt: &impl Abort, alloc: Global, text: &[u8], marked: &str) {
+    assert_eq!(rt; mark(alloc, text), marked);
+}
+
+#[test]
+fn declarations_and_their_marks(rt: HostRuntime) {
+    let alloc = rt.alloc();
+    expect_mark(&rt, alloc, b"var 0..1: x :: a(a);", "nothing");
+    expect_mark(&rt, alloc, b"var 0..1: x :: a(output_var);", "nothing");
+    expect_mark(&rt, alloc, b"var 0..1: x :: output_var();", "nothing");
+    expect_mark(&rt, alloc, b"var 0..1: x :: a :: output_var;", "variable");
+    expect_mark(
+        &rt,
+        alloc,
+        b"var 0..1: x :: output_array([9..9]) :: output_var;",
+        "ranges",
+    );
+    expect_mark(
+        &rt,
+        alloc,
+        b"var 0..1: x :: output_array :: output_var;",
+        "wrong",
+    );
+    expect_mark(&rt, alloc, b"var 0..1: x :: output_array([9]);", "wrong");
+}
+
+/// Whether an annotation of this depth is refused.
+fn refuses_depth(alloc: Global, depth: usize) -> Result<bool, Fail> {
+    let mut text = Vec::new(alloc);
+    text.extend_from_slice(b"var 0..1: x :: ")?;
+    for _ in 0..depth {
+        text.extend_from_slice(b"a(")?;
+    }
+    text.push(b'a')?;
+    for _ in 0..depth {
+        text.push(b')')?;
+    }
+    text.push(b';')?;
+    Ok(read(alloc, &text).is_err())
+}
+
+#[test]
+fn depth_of_annotations(rt: HostRuntime) -> Result<(), Fail> {
+    assert!(rt; !refuses_depth(rt.alloc(), 199)?);
+    assert!(rt; refuses_depth(rt.alloc(), 200)?);
+    Ok(())
+}
