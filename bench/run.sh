@@ -68,10 +68,22 @@ def queen(i, j):
     return [b'constraint int_ne(q%d,q%d);\n' % pair, diagonal % (i, j, apart), diagonal % (i, j, -apart)]
 
 
+def numbers(count, seed):
+    """Numbers below `count`, from a seed."""
+    while True:
+        seed = (seed * 6364136223846793005 + 1442695040888963407) % (1 << 64)
+        yield (seed >> 32) % count
+
+
 # problems for all agents: twenty queens, eight pigeons in seven holes, and thirty variables with many values
 write('queens.fzn', each_pair(20, 20, queen))
 write('pigeons.fzn', each_pair(8, 7, lambda i, j: queen(i, j)[:1]))
 write('wide.fzn', each_pair(30, 1000, lambda i, j: queen(i, j)[:2]))
+# a sparse graph: each node has one of four colours, and differs from three drawn before it
+draw = numbers(1 << 32, 1)
+nodes = [b'var 1..4: q%d;\n' % i for i in range(1, 501)]
+edges = [b'constraint int_ne(q%d,q%d);\n' % (1 + next(draw) % (i - 1), i) for i in range(2, 501) for _ in range(3)]
+write('sparse.fzn', nodes + edges + [b'solve satisfy;\n'])
 write('short.fzn', [b';' * size])
 write('none.ngd', [b'ngd 1\nend\n'])
 PYTHON
@@ -89,10 +101,13 @@ for run in 'agent 100000' 'quiet 100000 0' 'quiet 100000 90' 'quiet 100000 900';
     echo "$run"
     /usr/bin/time -f "$figures" "$parts" $run
 done
-# all agents of a problem, under the choices of one seed
-for problem in queens.fzn pigeons.fzn wide.fzn; do
-    echo "network $problem"
-    /usr/bin/time -f "$figures" "$parts" network $problem
+# all agents of a problem, under the choices of one seed; the time of reading counts too
+"$top/abt" gen queens 20 >generated.fzn
+"$top/abt" gen colouring 100 9 1 >colouring.fzn
+for problem in queens.fzn generated.fzn colouring.fzn sparse.fzn pigeons.fzn wide.fzn; do
+    /usr/bin/time -f '%U %M' -o used "$parts" network $problem >told
+    awk -v name=$problem 'NR == FNR { made = $1; told = $0; next }
+        { printf "network %s: %s, %.2f s of processor, %.0f ns each, %s KiB at most\n", name, told, $1, 1e9 * $1 / made, $2 }' told used
 done
 # lines of 190 bytes, each appended by a call of its own to a file of the system
 echo 'appends 1000000'

@@ -1,7 +1,7 @@
 #!/usr/bin/env bash
-# Outside the gate: what is left by a program that is killed, by a disk that is full, and by names that are no
-# plain files. hostile.sh [PROGRAM]; without one it takes ./abt, and then also makes single allocations fail, where
-# the toolchain is installed.
+# Outside the gate: what is left by a program that is killed, by a disk that is full, by names that are no plain
+# files, and by each allocation and each call on a file that fails. hostile.sh [PROGRAM]; without one it takes ./abt.
+# PROGRAM is the program itself where failing.c is to be preloaded into it.
 set -u
 repository=$(cd "$(dirname "$0")/.." && pwd)
 program=${1:-$repository/abt}
@@ -101,24 +101,83 @@ else
 fi
 tell "what the lines only read is as it was" "$(sha256sum -c --quiet given > /dev/null 2>&1 && echo 1)"
 
-if [ $# = 0 ] && command -v rt > /dev/null; then
-    echo "== allocations that fail, one at a time; each try compiles the program anew"
-    printf '0\n' > no.rup
-    for words in "check pair.fzn pair.ngd" "solve pair.fzn l.ngd --record r.sch --trace" "replay pair.fzn pair.sch l.ngd" \
-        "bound pair.fzn" "gen queens 2" "upgrade pair.ngd n.ngd" "core pair.fzn pair.ngd t.ngd" "starve pair.fzn 1 2 s.sch" \
-        "lossy pair.fzn l.ngd 5 1" "rup no.cnf no.rup" "cnf no.cnf p.rup"; do
-        # shellcheck disable=SC2086
-        "$program" $words > /dev/null 2>&1
-        status=$?
-        for number in 1 5 25 125; do
-            # shellcheck disable=SC2086
-            (cd "$repository/crates/abt_main" && rt try --fail-alloc $number --seconds 20 --data "pair.fzn=$room/pair.fzn" \
-                --data "pair.ngd=$room/pair.ngd" --data "pair.sch=$room/pair.sch" --data "no.cnf=$room/no.cnf" \
-                --data "no.rup=$room/no.rup" -- $words) > tried 2>&1
-            got=$?
-            tell "$words, allocation $number: status $got" "$({ [ $got = 7 ] && grep -q '^abt: memory$' tried || [ $got = $status ]; } && echo 1)"
-        done
+# sweep KIND NUMBER WORDS..: the line, with KIND set to each number up to this one, or to some 20 of them where they are
+# more than 2,000. Each run must end as the line does otherwise, with the same streams and files; or, unless reads and
+# writes are only short, with status 7 and `abt: memory` or status 6 and `abt: fault`, and first parts of what it writes
+# otherwise; or with its refusal's status, and a first part of the refusal's line. It tells how many did what.
+sweep() {
+    local kind=$1 most=$2 step=1 number got right=0 lacks=0 faults=0 unsaid=0 wrong=""
+    shift 2
+    [ "$most" -le 2000 ] || step=$((most / 20))
+    for ((number = 1; number <= most; number += step)); do
+        rm -f new.*
+        got=0
+        env "LD_PRELOAD=$room/failing.so" "$kind=$number" "$program" "$@" > out 2> err || got=$?
+        if [ $got = "$status" ] && cmp -s out whole/out && cmp -s err whole/err && same_files; then
+            right=$((right + 1))
+        elif [ $got = 7 ] && [[ $kind = FAIL_ALLOC* ]] && [ "$(< err)" = "abt: memory" ] && are_parts; then
+            lacks=$((lacks + 1))
+        elif [ $got = 6 ] && [[ $kind = FAIL_IO* ]] && said_fault "$kind" && are_parts; then
+            faults=$((faults + 1))
+        elif [ $got = "$status" ] && [[ $status = [234] && $kind = FAIL* ]] && is_part err whole/err && are_parts; then
+            unsaid=$((unsaid + 1))
+        else
+            wrong="$wrong $number:$got"
+        fi
     done
+    tell "$*, $kind up to $most: $right as otherwise, $lacks memory, $faults fault, $unsaid unsaid$wrong" "$([ -z "$wrong" ] && echo 1)"
+}
+
+# said_fault KIND: the fault was told on standard error, which may fail too where all later calls do.
+said_fault() { [ "$(< err)" = "abt: fault" ] || { [ "$1" = FAIL_IOS ] && [ ! -s err ]; }; }
+
+# same_files: the files that the line creates are those of the whole run.
+same_files() {
+    local name
+    for name in new.ngd new.sch new.rup; do
+        if [ -e "whole/$name" ]; then cmp -s "$name" "whole/$name" || return 1; else [ ! -e "$name" ] || return 1; fi
+    done
+}
+
+# are_parts: what was put and written is a first part of what the whole run puts and writes. A search writes its log
+# anew in each round, so its log is not compared.
+are_parts() {
+    local name
+    is_part out whole/out || return 1
+    for name in new.*; do
+        [ "$name" != "$rewritten" ] || continue
+        [ ! -e "$name" ] || { [ -e "whole/$name" ] && is_part "$name" "whole/$name"; } || return 1
+    done
+}
+
+if command -v cc > /dev/null && cc -shared -fPIC -O1 -o failing.so "$repository/tests/failing.c" -ldl; then
+    echo "== allocations, and calls on files, that fail or are short, one at a time and from one on"
+    printf '0\n' > no.rup
+    printf 'var 0..2: x :: output_var;\nvar 0..2: y;\nconstraint int_ne(x,y);\nsolve minimize y;\n' > best.fzn
+    "$program" solve best.fzn best.ngd > /dev/null
+    mkdir whole
+    for words in "check pair.fzn pair.ngd" "solve pair.fzn new.ngd --record new.sch --trace" "solve small.fzn new.ngd" \
+        "solve best.fzn new.ngd --record new.sch" "check best.fzn best.ngd --better 0" \
+        "replay pair.fzn pair.sch new.ngd --trace" "bound pair.fzn" "gen queens 4" "gen colouring 6 3 1" \
+        "upgrade pair.ngd new.ngd" "core pair.fzn pair.ngd new.ngd" "starve pair.fzn 1 2 new.sch" \
+        "lossy pair.fzn new.ngd 30 7 --record new.sch" "drill 1" "rup no.cnf no.rup" "cnf no.cnf new.rup" "bound no.cnf" \
+        "check pair.fzn pair.sch" "bound pair.fzn more" "--help" "--version"; do
+        rm -f new.* whole/*
+        status=0 rewritten=
+        [[ $words != "solve best.fzn"* ]] || rewritten=new.ngd
+        # shellcheck disable=SC2086
+        COUNTS=counts LD_PRELOAD=$room/failing.so "$program" $words > whole/out 2> whole/err || status=$?
+        read -r allocations calls moves < counts
+        for name in new.*; do [ ! -e "$name" ] || mv "$name" whole/; done
+        # shellcheck disable=SC2086
+        for kind in FAIL_ALLOC FAIL_ALLOCS; do sweep $kind "$allocations" $words; done
+        # shellcheck disable=SC2086
+        for kind in FAIL_IO FAIL_IOS; do sweep $kind "$calls" $words; done
+        # shellcheck disable=SC2086
+        for kind in SHORT_IO SHORT_IOS; do sweep $kind "$moves" $words; done
+    done
+else
+    echo "skipped failing allocations and calls: no C compiler"
 fi
 
 echo "$failed failed"
