@@ -124,7 +124,8 @@ fn verdict(alloc: Global, formula: &PlaceList, proof: &PlaceList) -> Result<Rup,
 /// formula and the clauses before it, and the last is empty.
 ///
 /// A clause has the property if unit propagation from the negations of its literals comes to a conflict. The answer
-/// names the first clause without it. A formula with a verified proof is satisfied by no assignment.
+/// names the first clause without it. A formula with a verified proof is satisfied by no assignment. Where formula and
+/// proof have more than 2^32 clauses together, that counts as want of memory.
 pub fn check_rup(alloc: Global, formula: &ClauseList, proof: &ClauseList) -> Result<Rup, Memory>
     ensures exact { IfOk result (IsVerdict neg_ℤ formula.now proof.now) }
     ensures refutes { IfOk result (λ answer. answer ≡ Verified → IsUnsatisfiable formula.now) }

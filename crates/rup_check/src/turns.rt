@@ -70,7 +70,7 @@ fn turn_of(known: &Known, number: usize, pair: Pair, literal: u16, assignment: &
 }
 
 /// Takes the list of a literal.
-fn take_list(alloc: Global, lists: &mut Vec<ItemList<usize>>, literal: u16) -> Vec<usize>
+fn take_list(alloc: Global, lists: &mut Vec<ItemList<u32>>, literal: u16) -> Vec<u32>
     requires in_range { literal < length lists.old.items }
     ensures taken { result.items ≡ slice_index_or lists.old.items literal [] }
     ensures left { lists.new.items ≡ slice_set lists.old.items literal [] }
@@ -79,7 +79,7 @@ fn take_list(alloc: Global, lists: &mut Vec<ItemList<usize>>, literal: u16) -> V
 }
 
 /// Puts the list of a literal back.
-fn put_list(lists: &mut Vec<ItemList<usize>>, literal: u16, list: Vec<usize>)
+fn put_list(lists: &mut Vec<ItemList<u32>>, literal: u16, list: Vec<u32>)
     requires in_range { literal < length lists.old.items }
     ensures { lists.new.items ≡ slice_set lists.old.items literal list.items }
 {
@@ -90,7 +90,7 @@ fn put_list(lists: &mut Vec<ItemList<usize>>, literal: u16, list: Vec<usize>)
 fn take_turn(
     known: &Known,
     watches: &mut Watches,
-    number: usize,
+    number: u32,
     literal: u16,
     assignment: &mut Assignment,
 ) -> Result<Look, Memory>
@@ -110,11 +110,12 @@ fn take_turn(
     ensures trail { OnOk result (Extends assignment.old.trail.items assignment.new.trail.items) }
     ensures refuted { watches.new.refuted ≡ watches.old.refuted }
 {
-    match turn_of(known, number, watches.pair(number), literal, assignment) {
+    let clause = number as usize;
+    match turn_of(known, clause, watches.pair(clause), literal, assignment) {
         Turn::Drop => Ok(Look::Leaves),
         Turn::Stay => Ok(Look::Stays),
         Turn::Move { other, to } => {
-            watches.pairs[number] = Pair {
+            watches.pairs[clause] = Pair {
                 first: other,
                 second: to,
             };

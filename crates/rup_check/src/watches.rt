@@ -32,8 +32,8 @@ pub enum Kind {
 pub struct Watches {
     /// The pair of each clause; that of a clause which needs no watch says nothing.
     pub(crate) pairs: Vec<Pair>,
-    /// For each literal the clauses that watch it.
-    pub(crate) lists: Vec<ItemList<usize>>,
+    /// For each literal the clauses that watch it. Four bytes tell a clause, so that none from 2^32 on is watched.
+    pub(crate) lists: Vec<ItemList<u32>>,
     /// Whether propagation from nothing has a conflict.
     pub(crate) refuted: bool,
 }
@@ -83,7 +83,7 @@ impl Watches {
         ensures lists { OnOk result (AreListed self.old.lists.items self.new.lists.items pair (length self.old.pairs.items)) }
         ensures refuted { self.new.refuted ≡ self.old.refuted }
     {
-        let number = self.pairs.len();
+        let number = u32::try_from(self.pairs.len()).map_err(|_| Memory)?;
         push_to(&mut self.lists, pair.first, number)?;
         push_to(&mut self.lists, pair.second, number)?;
         self.pairs.push(pair).map_err(|_| Memory)
@@ -112,9 +112,9 @@ pub(crate) fn kind_of(assignment: &Assignment, clause: &[u16]) -> Kind
 
 /// Adds a clause to the list of a literal.
 pub(crate) fn push_to(
-    lists: &mut Vec<ItemList<usize>>,
+    lists: &mut Vec<ItemList<u32>>,
     literal: u16,
-    number: usize,
+    number: u32,
 ) -> Result<(), Memory>
     requires { literal < length lists.old.items }
     ensures { OnOk result (lists.new.items ≡ slice_set lists.old.items literal (slice_index_or lists.old.items literal [] ++ number ∷ [])) }
@@ -125,7 +125,7 @@ pub(crate) fn push_to(
 }
 
 /// Empty lists.
-fn empty_lists(alloc: Global) -> Result<Vec<ItemList<usize>>, Memory>
+fn empty_lists(alloc: Global) -> Result<Vec<ItemList<u32>>, Memory>
     ensures { IfOk result (λ lists. lists.items ≡ replicate 8192 []) }
 {
     let mut lists = Vec::new(alloc);
