@@ -61,14 +61,25 @@ impl Nogood {
         ensures rising { OnOk result (IsRising pairs.now) }
         ensures unordered { (place : ℕ) → IsErrOf result (NogoodError.Unordered place) → IsFirstFall pairs.now place }
     {
-        for k in 1..pairs.len() {
-            if pairs[k].var <= pairs[k - 1].var {
-                return Err(NogoodError::Unordered { place: k });
-            }
+        if let Some(place) = first_fall(pairs) {
+            return Err(NogoodError::Unordered { place });
         }
         match Vec::from_slice(alloc, pairs) {
             Ok(pairs) => Ok(Nogood { pairs }),
             Err(_) => Err(NogoodError::Memory),
+        }
+    }
+
+    /// The nogood of exactly these pairs, whose list it takes over; so it lacks no memory. A refusal names
+    /// the place of the first pair, counted from 0, whose variable is not above the one before it.
+    pub fn from_vec(pairs: Vec<Pair>) -> Result<Nogood, usize>
+        ensures pairs { IfOk result (λ nogood. nogood ≡ pairs.items) }
+        ensures rising { OnOk result (IsRising pairs.items) }
+        ensures unordered { IfErr result (IsFirstFall pairs.items) }
+    {
+        match first_fall(&pairs) {
+            Some(place) => Err(place),
+            None => Ok(Nogood { pairs }),
         }
     }
 
@@ -120,6 +131,19 @@ impl Nogood {
         self.pairs = merged(alloc, &self.pairs, &other.pairs, except)?;
         Ok(())
     }
+}
+
+/// The place of the first pair whose variable is not above the one before it.
+fn first_fall(pairs: &[Pair]) -> Option<usize>
+    ensures rising { IsNone result → IsRising pairs.now }
+    ensures fall { IfSome result (IsFirstFall pairs.now) }
+{
+    for k in 1..pairs.len() {
+        if pairs[k].var <= pairs[k - 1].var {
+            return Some(k);
+        }
+    }
+    None
 }
 
 /// The place of the variable's pair.
