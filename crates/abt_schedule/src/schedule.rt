@@ -7,7 +7,7 @@ ghost use Rattle.abt_schedule.specs.Schedules.{choice_line, schedule_text, AreCh
 use crate::listed::Listed;
 use dcsp_list::Memory;
 use itoa::Buffer;
-use ngd_log::field::{after, integer_at};
+use ngd_log::{after, integer_at};
 use std::alloc::{AllocError, Global};
 
 /// The first line of a schedule.

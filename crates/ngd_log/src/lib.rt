@@ -15,7 +15,7 @@ mod deletion;
 mod derivation;
 mod entry;
 mod entry_reader;
-pub mod field;
+mod field;
 mod log;
 mod pieces;
 mod reader;
@@ -27,6 +27,7 @@ pub use dcsp_list::Memory;
 pub use deletion::{HEAD2, write_deletion};
 pub use derivation::Derivation;
 pub use entry::{Entries, Entry, NumberList};
+pub use field::{after, integer_at};
 pub use log::{LogError, log_or_bad_line, logs_differ, next_lines, read_log};
 pub use pieces::{
     LogReader, entries_or_bad_line, good_lines, one_answer, read_pieces, texts_differ,

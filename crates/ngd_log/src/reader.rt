@@ -1,5 +1,5 @@
 //! Reading a line of a log.
-ghost use Rattle.std.specs.Prelude.{◌≡◌, ℕ, IfOk, IsErrOf};
+ghost use Rattle.std.specs.Prelude.{◌≡◌, ℕ, [], IfOk, IfErr, IsErrOf};
 ghost use Rattle.ngd_log.specs.declared.reader.LineError.TheVariants.{Memory as OutOfMemory};
 ghost use Rattle.dcsp_defs.specs.declared.Step.{Step as DerivationStep};
 ghost use Rattle.ngd_log.specs.StepText.{IsStepLine};
@@ -7,7 +7,7 @@ ghost use Rattle.ngd_log.specs.Reading.{Gives, pairs_from, pairs_at, reasons_at,
 
 use crate::field::{RULES, VARIABLES, after, counted_at, pair_at, reason_at, step_number_at};
 use dcsp_defs::{Reason, ReasonList, Step};
-use dcsp_nogood::{Nogood, NogoodError, Pair};
+use dcsp_nogood::{Nogood, Pair};
 use std::alloc::{AllocFailed, Global};
 
 /// Why a line gives no step.
@@ -34,11 +34,23 @@ impl<T: Drop> From<(T, dcsp_list::Memory)> for LineError {
     }
 }
 
+/// An empty list, with room for an item behind each of these bytes and one more.
+fn list_for<T>(alloc: Global, byte: u8, bytes: &[u8]) -> Result<Vec<T>, LineError>
+    ensures empty { IfOk result (λ list. list.items ≡ []) }
+    ensures memory { IfErr result (λ e. e ≡ OutOfMemory) }
+{
+    let count = bytes.iter().filter(|next| **next == byte).count();
+    match Vec::with_capacity(alloc, count.saturating_add(1)) {
+        Ok(list) => Ok(list),
+        Err(_) => Err(LineError::Memory),
+    }
+}
+
 /// The pairs after this first one, each behind a comma.
 fn pairs_from(alloc: Global, first: Pair, bytes: &[u8]) -> Result<(Vec<Pair>, &[u8]), LineError>
     ensures { Gives (λ x. (x.0.items, x.1.now)) result (pairs_from first bytes.now) }
 {
-    let mut pairs = Vec::new(alloc);
+    let mut pairs = list_for(alloc, b',', bytes)?;
     pairs.push(first)?;
     let mut rest = bytes;
     while let Some(next) = after(b",", rest) {
@@ -70,7 +82,7 @@ fn pairs_at(alloc: Global, bytes: &[u8]) -> Result<(Vec<Pair>, &[u8]), LineError
 fn reasons_at(alloc: Global, bytes: &[u8]) -> Result<(ReasonList, &[u8]), LineError>
     ensures { Gives (λ x. (x.0, x.1.now)) result (reasons_at bytes.now) }
 {
-    let mut reasons = ReasonList::new(alloc);
+    let mut reasons = ReasonList::from_vec(list_for(alloc, b' ', bytes)?);
     let mut rest = bytes;
     while let Some(next) = after(b" ", rest) {
         let Some((reason, others)) = reason_at(next) else {
@@ -83,13 +95,12 @@ fn reasons_at(alloc: Global, bytes: &[u8]) -> Result<(ReasonList, &[u8]), LineEr
 }
 
 /// The nogood of these pairs, where they rise.
-fn nogood_of(alloc: Global, pairs: &[Pair]) -> Result<Nogood, LineError>
-    ensures { Gives (λ x. x) result (nogood_of pairs.now) }
+fn nogood_of(pairs: Vec<Pair>) -> Result<Nogood, LineError>
+    ensures { Gives (λ x. x) result (nogood_of pairs.items) }
 {
-    match Nogood::from_pairs(alloc, pairs) {
+    match Nogood::from_vec(pairs) {
         Ok(nogood) => Ok(nogood),
-        Err(NogoodError::Unordered { .. }) => Err(LineError::Bad),
-        Err(NogoodError::Memory) => Err(LineError::Memory),
+        Err(_) => Err(LineError::Bad),
     }
 }
 
@@ -111,7 +122,7 @@ fn variable_step(alloc: Global, bytes: &[u8]) -> Result<Step, LineError>
     let (pairs, rest) = pairs_at(alloc, rest)?;
     let rest = after(b" <-", rest).ok_or(LineError::Bad)?;
     let (reasons, rest) = reasons_at(alloc, rest)?;
-    let nogood = nogood_of(alloc, &pairs)?;
+    let nogood = nogood_of(pairs)?;
     if !is_line_feed(rest) {
         return Err(LineError::Bad);
     }
@@ -133,7 +144,7 @@ fn rule_step(alloc: Global, bytes: &[u8]) -> Result<Step, LineError>
     }
     let mut reasons = ReasonList::new(alloc);
     reasons.push(Reason::Rule(rule))?;
-    let nogood = nogood_of(alloc, &[])?;
+    let nogood = nogood_of(Vec::new(alloc))?;
     Ok(Step {
         variable: None,
         nogood,

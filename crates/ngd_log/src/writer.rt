@@ -44,7 +44,7 @@ fn line_of(alloc: Global, number: u64, step: &Step) -> Result<Vec<u8>, AllocErro
     ensures rising { OnOk result (IsRising step.now.nogood) }
     ensures values { OnOk result (AllByRecursion (λ y. FitsSigned w64 y.value) step.now.nogood) }
 {
-    let mut line = Vec::new(alloc);
+    let mut line = Vec::with_capacity(alloc, usual_length(step))?;
     push_number(&mut line, number)?;
     line.extend_from_slice(b" ")?;
     push_variable(&mut line, step.variable)?;
@@ -54,6 +54,13 @@ fn line_of(alloc: Global, number: u64, step: &Step) -> Result<Vec<u8>, AllocErro
     push_reasons(&mut line, step.reasons.items())?;
     line.extend_from_slice(b"\n")?;
     Ok(line)
+}
+
+/// About as many bytes as the line of a step has.
+fn usual_length(step: &Step) -> usize {
+    let pairs = step.nogood.pairs().len().saturating_mul(10);
+    let reasons = step.reasons.len().saturating_mul(8);
+    pairs.saturating_add(reasons).saturating_add(32)
 }
 
 pub(crate) fn push_number(line: &mut Vec<u8>, number: u64) -> Result<(), AllocError>
