@@ -15,7 +15,7 @@ value_kept : (values : List ℤ) (v : ℤ) → In v values → value_in values (
 value_kept values v i = let there : has values v ≡ true = list_any-In (int_eq v) v values i ((Decides-int_eq v v).1 refl) in rw there refl
 
 -- where all values are in the domains, none is dropped
-within_same : (p : Csp) (known : Known) → AreInDomains p known → (v : ℕ) → v < count p → within_domains p known v ≡ known v
+pub within_same : (p : Csp) (known : Known) → AreInDomains p known → (v : ℕ) → v < count p → within_domains p known v ≡ known v
 within_same p known all v l = by_value (known v) refl where
   by_value : (o : Option ℤ) → known v ≡ o → value_in (domain p v) o ≡ o
   by_value None e = refl

@@ -222,9 +222,56 @@ impl Problem {
         if !self.knows_scope(rule, lookup) {
             return false;
         }
+        self.is_false(rule, lookup)
+    }
+
+    /// The same of a look-up that gives values of their variables' domains alone: it searches no domain.
+    pub fn violated_within<L: Lookup>(&self, rule: u32, lookup: &L) -> bool
+        requires rule { rule < length self.now.rules }
+        requires domains { AreInDomains (csp_of self.now) (L.values lookup.now) }
+        ensures { result ≡ is_violated (L.values lookup.now) (constraint_at self.now rule) }
+    {
+        if !self.gives_scope(rule, lookup) {
+            return false;
+        }
+        self.is_false(rule, lookup)
+    }
+
+    /// Whether a rule is false under the look-up's values, of which there is one for each variable of its scope.
+    fn is_false<L: Lookup>(&self, rule: u32, lookup: &L) -> bool
+        requires rule { rule < length self.now.rules }
+        requires known { list_all (λ var. is_some (within_domains (csp_of self.now) (L.values lookup.now) var)) (constraint_at self.now rule).scope ≡ true }
+        requires constraint { IsConstraint (csp_of self.now) (constraint_at self.now rule) }
+        ensures { result ≡ is_violated (within_domains (csp_of self.now) (L.values lookup.now)) (constraint_at self.now rule) }
+    {
         let set = &self.shared.tables.sets[rule as usize];
         let rule = &self.shared.rules[rule as usize];
         !is_true_under(rule, set, lookup)
+    }
+
+    /// Whether the look-up, which gives values of domains alone, gives each variable of a rule's scope one.
+    fn gives_scope<L: Lookup>(&self, rule: u32, lookup: &L) -> bool
+        requires rule { rule < length self.now.rules }
+        requires domains { AreInDomains (csp_of self.now) (L.values lookup.now) }
+        ensures known { result ≡ list_all (λ var. is_some (within_domains (csp_of self.now) (L.values lookup.now) var)) (constraint_at self.now rule).scope }
+        ensures constraint { IsConstraint (csp_of self.now) (constraint_at self.now rule) }
+    {
+        let scope = self.scope(rule);
+        for var in scope {
+            if !self.gives(*var, lookup) {
+                return false;
+            }
+        }
+        true
+    }
+
+    /// Whether the look-up, which gives values of domains alone, gives the variable one.
+    fn gives<L: Lookup>(&self, var: u32, lookup: &L) -> bool
+        requires var { var < length self.now.domains }
+        requires domains { AreInDomains (csp_of self.now) (L.values lookup.now) }
+        ensures { result ≡ is_some (within_domains (csp_of self.now) (L.values lookup.now) var) }
+    {
+        lookup.value_of(var).is_some()
     }
 
     /// Whether the look-up gives each variable of a rule's scope a value of its domain.

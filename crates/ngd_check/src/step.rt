@@ -160,7 +160,7 @@ fn is_reason<C: Cites, L: Lookup>(
     ensures { IsTrue result ↔ IsReasonUnder (csp_of problem.now) (C.cited nogoods.now) (with_value given.now.var given.now.value (L.values given.now.known.now)) reason }
 {
     match reason {
-        Reason::Rule(number) => number < problem.rules() && problem.violated_by(number, given),
+        Reason::Rule(number) => number < problem.rules() && problem.violated_within(number, given),
         Reason::Earlier(number) => nogoods.agrees(number, given),
     }
 }

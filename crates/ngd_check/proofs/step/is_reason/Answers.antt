@@ -10,7 +10,7 @@ pub returns-then-number-rules : goal.returns-then-number-rules
 returns-then-number-rules g c =
     let known = with_value c.args.given.now.var c.args.given.now.value (g.L.Lookup.values c.args.given.now.known.now) in
     let there = c.rules.ensures.constraints c.in-Rule.number (omega (arith, c.rules.ensures.rules)) in
-    subst (λ (r : Reason). IsTrue c.violated_by.result ↔ IsReasonUnder (csp_of c.args.problem.now) (g.C.Cites.cited c.args.nogoods.now) known r) (sym c.in-Rule.is) (false_rule (csp_of c.args.problem.now) known c.in-Rule.number _ c.violated_by.result there (c.violated_by.ensures.known c.requires))
+    subst (λ (r : Reason). IsTrue c.violated_within.result ↔ IsReasonUnder (csp_of c.args.problem.now) (g.C.Cites.cited c.args.nogoods.now) known r) (sym c.in-Rule.is) (false_rule (csp_of c.args.problem.now) known c.in-Rule.number _ c.violated_within.result there (c.violated_within.ensures))
 
 pub returns-else-number-rules : goal.returns-else-number-rules
 returns-else-number-rules g c =
