@@ -107,5 +107,5 @@ piece_read items places text shown k start end cuts view same l from to =
     ∙ ap (λ (z : List ℕ). Some (take (end - start) (drop start z))) (sym same)
 
 -- one more list, changed like those before it
-pub changed_more : (f : List ℕ → List ℕ) (lists : List (List ℕ)) (i : ℕ) (d : List ℕ) → i < length lists → map f (take i lists) ++ f (get_or lists i d) ∷ [] ≡ map f (take (i + 1) lists)
+pub changed_more : {X : Type 0} (f : X → List ℕ) (lists : List X) (i : ℕ) (d : X) → i < length lists → map f (take i lists) ++ f (get_or lists i d) ∷ [] ≡ map f (take (i + 1) lists)
 changed_more f lists i d l = sym (ap (map f) (take_more lists i d l) ∙ map-append f (take i lists) (get_or lists i d ∷ []))

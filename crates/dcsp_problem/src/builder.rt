@@ -7,13 +7,14 @@ ghost use Rattle.dcsp_problem.specs.Outputs.{IsOutputOf};
 ghost use Rattle.dcsp_problem.specs.Limits.{first_past, list_counts, variable_refusal, rule_refusal, Refuses};
 
 use crate::aim::Aim;
-use crate::index::{owned_lists, scope_lists};
+use crate::index::owned_lists;
 use crate::limits::{BuildError, Which, within};
 use crate::lower::lower_table;
 use crate::members::member_sets;
 use crate::output::Output;
 use crate::problem::{Problem, Shared, Tables};
 use crate::rule::{Members, Rule};
+use crate::table::NumberTable;
 use crate::widths::within_width;
 use dcsp_domain::Domain;
 use dcsp_list::Memory;
@@ -132,9 +133,10 @@ impl ProblemBuilder {
     pub fn finish(self) -> Result<Problem, Memory>
         ensures { IfOk result (λ problem. problem ≡ self) }
     {
-        let scopes = scope_lists(self.alloc, &self.rules)?;
+        let scopes = NumberTable::of_scopes(self.alloc, &self.rules)?;
         let sets = member_sets(self.alloc, &self.rules)?;
-        let owned = owned_lists(self.alloc, &scopes, self.domains.len())?;
+        let owners = owned_lists(self.alloc, &scopes, self.domains.len())?;
+        let owned = NumberTable::of_lists(self.alloc, &owners)?;
         let lower = lower_table(self.alloc, &scopes, self.domains.len())?;
         let tables = Tables {
             scopes,

@@ -1,4 +1,4 @@
-//! The scope of each rule, and the rules that each variable owns.
+//! The scope of a rule, and the rules that each variable owns.
 
 ghost use Rattle.std.specs.Prelude.{◌≡◌, ◌≤◌, ◌<◌, ◌^◌, ◌++◌, ◌∷◌, ℕ, List, [], map, length, All, OnOk, IfOk, IfSome, vec_len};
 ghost use Rattle.std.specs.List.{filter_map};
@@ -8,29 +8,18 @@ ghost use Rattle.dcsp_problem.specs.Rules.{IsRuleOf, scope_of, variable_of, vari
 ghost use Rattle.dcsp_problem.specs.Owners.{owned_among, with_owned};
 
 use crate::rule::{NumberList, Rule, Term};
+use crate::table::NumberTable;
 use dcsp_list::Memory;
 use std::alloc::{AllocError, Global};
 
-/// The scope of each rule.
-pub fn scope_lists(alloc: Global, rules: &[Rule]) -> Result<Vec<NumberList>, Memory>
-    ensures { IfOk result (λ scopes. (variables : ℕ) → All (IsRuleOf variables) rules.now → scopes.items ≡ map (scope_of variables) rules.now) }
-{
-    let mut scopes = Vec::new(alloc);
-    for rule in rules {
-        let scope = scope_list(alloc, rule).map_err(|_| Memory)?;
-        scopes.push(scope).map_err(|_| Memory)?;
-    }
-    Ok(scopes)
-}
-
 /// The variables among the rule's terms, rising.
-fn scope_list(alloc: Global, rule: &Rule) -> Result<NumberList, AllocError>
-    ensures { IfOk result (λ scope. (variables : ℕ) → IsRuleOf variables rule.now → scope ≡ scope_of variables rule.now) }
+pub fn scope_list(alloc: Global, rule: &Rule) -> Result<Vec<u32>, AllocError>
+    ensures { IfOk result (λ scope. (variables : ℕ) → IsRuleOf variables rule.now → scope.items ≡ scope_of variables rule.now) }
 {
     let mut variables = variable_list(alloc, rule)?;
     variables.sort_unstable();
     variables.dedup();
-    Ok(NumberList::from_vec(variables))
+    Ok(variables)
 }
 
 /// The variables among the rule's terms, as they stand there.
@@ -116,7 +105,7 @@ fn push_variable(variables: &mut Vec<u32>, term: Term) -> Result<(), AllocError>
 /// For each of so many variables the rules that it owns, where these are the rules' scopes.
 pub fn owned_lists(
     alloc: Global,
-    scopes: &[NumberList],
+    scopes: &NumberTable,
     variables: usize,
 ) -> Result<Vec<NumberList>, Memory>
     requires few { length scopes.now ≤ 2 ^ 32 }
@@ -124,8 +113,8 @@ pub fn owned_lists(
     ensures { IfOk result (λ owned. owned.items ≡ map (owned_among scopes.now) (below variables)) }
 {
     let mut owned = empty_lists(alloc, variables).map_err(|_| Memory)?;
-    for (rule, scope) in scopes.iter().enumerate() {
-        let owner = scope.items().last().copied();
+    for rule in 0..scopes.len() {
+        let owner = scopes.list(rule).last().copied();
         push_owned(&mut owned, owner, rule as u32)?;
     }
     Ok(owned)

@@ -13,15 +13,15 @@ use std::alloc::Global;
 /// For each of so many variables the later ones that are last in a scope with it, where these are the rules' scopes.
 pub fn lower_table(
     alloc: Global,
-    scopes: &[NumberList],
+    scopes: &NumberTable,
     variables: usize,
 ) -> Result<NumberTable, Memory>
     requires { All (λ scope. All (λ v. v < variables) scope) scopes.now }
     ensures { IfOk result (λ table. table ≡ map (lower_among scopes.now variables) (below variables)) }
 {
     let mut owners = empty_lists(alloc, variables).map_err(|_| Memory)?;
-    for scope in scopes {
-        push_scope(&mut owners, scope.items())?;
+    for rule in 0..scopes.len() {
+        push_scope(&mut owners, scopes.list(rule))?;
     }
     NumberTable::of_sets(alloc, &owners)
 }

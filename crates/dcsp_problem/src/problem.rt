@@ -16,7 +16,7 @@ use crate::ground::is_true_under;
 use crate::lookup::{Assigned, Lookup};
 use crate::members::MemberSet;
 use crate::output::Output;
-use crate::rule::{NumberList, Rule};
+use crate::rule::Rule;
 use crate::table::NumberTable;
 use dcsp_domain::Domain;
 use dcsp_list::Memory;
@@ -45,11 +45,11 @@ pub struct Shared {
 #[derive(Debug, Drop)]
 pub struct Tables {
     /// The scope of each rule.
-    pub scopes: Vec<NumberList>,
+    pub scopes: NumberTable,
     /// The set of each rule's listed members.
     pub sets: Vec<MemberSet>,
     /// The rules that each variable owns.
-    pub owned: Vec<NumberList>,
+    pub owned: NumberTable,
     /// The later variables that own a rule over each variable.
     pub lower: NumberTable,
 }
@@ -62,7 +62,7 @@ impl Model for Problem {
 
     ghost view = { λ p. record { domains = p.domains.items; rules = p.shared.value.rules.items; outputs = p.shared.value.outputs.items; aim = p.aim } };
 
-    ghost invariant = { λ p. IsIndexed (record { domains = p.domains.items; rules = p.shared.value.rules.items; outputs = p.shared.value.outputs.items; aim = p.aim }) p.shared.value.tables.scopes.items p.shared.value.tables.sets.items p.shared.value.tables.owned.items p.shared.value.tables.lower };
+    ghost invariant = { λ p. IsIndexed (record { domains = p.domains.items; rules = p.shared.value.rules.items; outputs = p.shared.value.outputs.items; aim = p.aim }) p.shared.value.tables.scopes p.shared.value.tables.sets.items p.shared.value.tables.owned p.shared.value.tables.lower };
 }
 
 impl Problem {
@@ -73,7 +73,7 @@ impl Problem {
         aim: Aim,
         shared: Shared,
     ) -> Result<Problem, Memory>
-        requires { IsIndexed (record { domains = domains.items; rules = shared.rules.items; outputs = shared.outputs.items; aim = aim }) shared.tables.scopes.items shared.tables.sets.items shared.tables.owned.items shared.tables.lower }
+        requires { IsIndexed (record { domains = domains.items; rules = shared.rules.items; outputs = shared.outputs.items; aim = aim }) shared.tables.scopes shared.tables.sets.items shared.tables.owned shared.tables.lower }
         ensures { IfOk result (λ problem. problem ≡ record { domains = domains.items; rules = shared.rules.items; outputs = shared.outputs.items; aim = aim }) }
     {
         match Rc::new(alloc, shared) {
@@ -171,7 +171,7 @@ impl Problem {
         ensures inside { All (λ var. var < length self.now.domains) result.now }
         ensures constraint { IsConstraint (csp_of self.now) (constraint_at self.now rule) }
     {
-        self.shared.tables.scopes[rule as usize].items()
+        self.shared.tables.scopes.list(rule as usize)
     }
 
     /// The last variable of a rule's scope; `None` exactly if the scope is empty.
@@ -188,7 +188,7 @@ impl Problem {
         ensures rules { result.now ≡ owned_rules self.now var }
         ensures inside { All (λ rule. rule < length self.now.rules) (owned_rules self.now var) }
     {
-        self.shared.tables.owned[var as usize].items()
+        self.shared.tables.owned.list(var as usize)
     }
 
     /// The variables after this one that own a rule with it in scope, strictly rising.

@@ -1,10 +1,12 @@
 //! Many lists of numbers in one array.
 
 ghost use Rattle.std.specs.Prelude.{◌≡◌, ◌<◌, ◌++◌, ◌∷◌, ℕ, [], List, map, length, All, Some, IfOk, OnOk, slice_get};
+ghost use Rattle.dcsp_problem.specs.Rules.{IsRuleOf, scope_of};
 ghost use Rattle.dcsp_problem.specs.Lower.{set_below};
 ghost use Rattle.dcsp_problem.specs.Pieces.{pieces, AreCuts};
 
-use crate::rule::NumberList;
+use crate::index::scope_list;
+use crate::rule::{NumberList, Rule};
 use dcsp_list::Memory;
 use std::alloc::{AllocError, Global};
 use std::marker::Model;
@@ -42,6 +44,40 @@ impl NumberTable {
             push_list(&mut numbers, &mut places, &set)?;
         }
         Ok(NumberTable { numbers, places })
+    }
+
+    /// The table of these lists.
+    pub fn of_lists(alloc: Global, lists: &[NumberList]) -> Result<NumberTable, Memory>
+        ensures { IfOk result (λ table. table ≡ lists.now) }
+    {
+        let mut numbers = Vec::new(alloc);
+        let mut places = vec![in alloc; 0].map_err(|_| Memory)?;
+        for list in lists {
+            push_list(&mut numbers, &mut places, list.items())?;
+        }
+        Ok(NumberTable { numbers, places })
+    }
+
+    /// The table of the scope of each rule.
+    pub fn of_scopes(alloc: Global, rules: &[Rule]) -> Result<NumberTable, Memory>
+        ensures { IfOk result (λ table. (variables : ℕ) → All (IsRuleOf variables) rules.now → table ≡ map (scope_of variables) rules.now) }
+    {
+        let mut numbers = Vec::new(alloc);
+        let mut places = vec![in alloc; 0].map_err(|_| Memory)?;
+        for rule in rules {
+            let Ok(scope) = scope_list(alloc, rule) else {
+                return Err(Memory);
+            };
+            push_list(&mut numbers, &mut places, &scope)?;
+        }
+        Ok(NumberTable { numbers, places })
+    }
+
+    /// The number of lists.
+    pub fn len(&self) -> usize
+        ensures { result ≡ length self.now }
+    {
+        self.places.len() - 1
     }
 
     /// The list at a place.

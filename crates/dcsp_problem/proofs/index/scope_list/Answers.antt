@@ -4,4 +4,4 @@ use Rattle.dcsp_problem.proofs.index.scope_list.Goals as goal
 pub returns : goal.returns
 returns c = λ variables r.
     let moved = rw c.in_ok-variables.ensures at c.sort_unstable.ensures.permutation in
-    rw c.from_vec.ensures (scope_is_set variables _ _ _ r moved c.sort_unstable.ensures.sorted c.dedup.ensures.filtered)
+    scope_is_set variables _ _ _ r moved c.sort_unstable.ensures.sorted c.dedup.ensures.filtered

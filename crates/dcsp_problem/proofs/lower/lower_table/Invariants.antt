@@ -5,5 +5,5 @@ use Rattle.dcsp_problem.specs.Owners.{owned_among}
 use Rattle.dcsp_problem.specs.Lower.{ends_after, Adds}
 use Rattle.dcsp_problem.proofs.lower.lower_table.Given as goal
 
-abbrev pub invariant-loop-scope : goal.invariant-loop-scope
-invariant-loop-scope l = Adds (λ var number. list_any (λ (scope : List ℕ). ends_after scope var number) (take l.scope-index l.scopes)) (map (owned_among []) (below l.variables)) l.owners.items
+abbrev pub invariant-loop-rule : goal.invariant-loop-rule
+invariant-loop-rule l = Adds (λ var number. list_any (λ (scope : List ℕ). ends_after scope var number) (take l.rule l.scopes)) (map (owned_among []) (below l.variables)) l.owners.items

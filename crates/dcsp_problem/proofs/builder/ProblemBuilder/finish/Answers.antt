@@ -20,31 +20,31 @@ made_scopes variables given rules scopes same made all =
 pub owned_lists-requires-clause-few : goal.owned_lists-requires-clause-few
 owned_lists-requires-clause-few c =
     let p : Contents = record { domains = c.self.inside.domains.items; rules = c.self.inside.rules.items; outputs = c.self.inside.outputs.items; aim = c.self.inside.aim } in
-    let is = made_scopes (length p.domains) c.deref.result.now p.rules c.in_ok-scopes.scopes.items c.deref.ensures.value c.in_ok-scopes.ensures c.self.invariant.problem.rules in
-    rw (c.deref-3.ensures.value, is) (scopes_few p c.self.invariant.problem)
+    let is = made_scopes (length p.domains) c.deref.result.now p.rules c.in_ok-scopes.scopes c.deref.ensures.value c.in_ok-scopes.ensures c.self.invariant.problem.rules in
+    rw is (scopes_few p c.self.invariant.problem)
 
 pub owned_lists-requires-clause-inside : goal.owned_lists-requires-clause-inside
 owned_lists-requires-clause-inside c =
     let p : Contents = record { domains = c.self.inside.domains.items; rules = c.self.inside.rules.items; outputs = c.self.inside.outputs.items; aim = c.self.inside.aim } in
-    let is = made_scopes (length p.domains) c.deref.result.now p.rules c.in_ok-scopes.scopes.items c.deref.ensures.value c.in_ok-scopes.ensures c.self.invariant.problem.rules in
+    let is = made_scopes (length p.domains) c.deref.result.now p.rules c.in_ok-scopes.scopes c.deref.ensures.value c.in_ok-scopes.ensures c.self.invariant.problem.rules in
     let many : c.len.result ≡ length p.domains = omega arith in
-    rw (c.deref-3.ensures.value, is, many) (scopes_inside (length p.domains) p.rules)
+    rw (is, many) (scopes_inside (length p.domains) p.rules)
 
 pub lower_table-requires : goal.lower_table-requires
 lower_table-requires c =
     let p : Contents = record { domains = c.self.inside.domains.items; rules = c.self.inside.rules.items; outputs = c.self.inside.outputs.items; aim = c.self.inside.aim } in
-    let is = made_scopes (length p.domains) c.deref.result.now p.rules c.in_ok-scopes.scopes.items c.deref.ensures.value c.in_ok-scopes.ensures c.self.invariant.problem.rules in
+    let is = made_scopes (length p.domains) c.deref.result.now p.rules c.in_ok-scopes.scopes c.deref.ensures.value c.in_ok-scopes.ensures c.self.invariant.problem.rules in
     let many : c.len-2.result ≡ length p.domains = omega arith in
-    rw (c.deref-4.ensures.value, is, many) (scopes_inside (length p.domains) p.rules)
+    rw (is, many) (scopes_inside (length p.domains) p.rules)
 
 pub from_parts-requires : goal.from_parts-requires
 from_parts-requires c =
     let p : Contents = record { domains = c.self.inside.domains.items; rules = c.self.inside.rules.items; outputs = c.self.inside.outputs.items; aim = c.self.inside.aim } in
-    let is = made_scopes (length p.domains) c.deref.result.now p.rules c.in_ok-scopes.scopes.items c.deref.ensures.value c.in_ok-scopes.ensures c.self.invariant.problem.rules in
+    let is = made_scopes (length p.domains) c.deref.result.now p.rules c.in_ok-scopes.scopes c.deref.ensures.value c.in_ok-scopes.ensures c.self.invariant.problem.rules in
     let many : c.len.result ≡ length p.domains = omega arith in
     let many_lower : c.len-2.result ≡ length p.domains = omega arith in
-    let made : c.in_ok-owned.owned.items ≡ map (owned_among c.in_ok-scopes.scopes.items) (below (length p.domains)) =
-    c.in_ok-owned.ensures ∙ ap (λ (z : List (List ℕ)). map (owned_among z) (below c.len.result)) c.deref-3.ensures.value ∙ ap (λ (z : ℕ). map (owned_among c.in_ok-scopes.scopes.items) (below z)) many in
-    let made_lower : c.in_ok-lower.lower ≡ map (lower_among c.in_ok-scopes.scopes.items (length p.domains)) (below (length p.domains)) =
-    c.in_ok-lower.ensures ∙ ap (λ (z : List (List ℕ)). map (lower_among z c.len-2.result) (below c.len-2.result)) c.deref-4.ensures.value ∙ ap (λ (z : ℕ). map (lower_among c.in_ok-scopes.scopes.items z) (below z)) many_lower in
-    record { problem = c.self.invariant.problem; each_scope = is; each_set = c.in_ok-sets.ensures ∙ ap (λ (z : List Rule). map member_set z) c.deref-2.ensures.value; each_owned = owned_lists_are p c.in_ok-scopes.scopes.items c.in_ok-owned.owned.items is made; each_lower = lower_lists_are p c.in_ok-scopes.scopes.items c.in_ok-lower.lower is made_lower }
+    let made : c.in_ok-owned.owned ≡ map (owned_among c.in_ok-scopes.scopes) (below (length p.domains)) =
+    c.in_ok-owned.ensures ∙ c.deref-3.ensures.value ∙ c.in_ok-owners.ensures ∙ ap (λ (z : ℕ). map (owned_among c.in_ok-scopes.scopes) (below z)) many in
+    let made_lower : c.in_ok-lower.lower ≡ map (lower_among c.in_ok-scopes.scopes (length p.domains)) (below (length p.domains)) =
+    c.in_ok-lower.ensures ∙ ap (λ (z : ℕ). map (lower_among c.in_ok-scopes.scopes z) (below z)) many_lower in
+    record { problem = c.self.invariant.problem; each_scope = is; each_set = c.in_ok-sets.ensures ∙ ap (λ (z : List Rule). map member_set z) c.deref-2.ensures.value; each_owned = owned_lists_are p c.in_ok-scopes.scopes c.in_ok-owned.owned is made; each_lower = lower_lists_are p c.in_ok-scopes.scopes c.in_ok-lower.lower is made_lower }
