@@ -7,7 +7,7 @@ use Rattle.std.proofs.lemmas.Int.{to_z-of_z}
 use Rattle.std.specs.List.{concat}
 use Rattle.ngd_log.specs.Logs.{lines}
 use Rattle.ngd_log.specs.Reading.{after, integer_at}
-use Rattle.ngd_log.proofs.After.{after_takes, after_again}
+use Rattle.ngd_log.proofs.AfterPrefix.{after_takes, after_again}
 use Rattle.std.proofs.lemmas.List.{append-nil, take-take, length-take, take_more, nil_from_length}
 use Rattle.std.proofs.lemmas.List.Folds.{concat-append}
 use Rattle.ngd_log.proofs.Chosen.{some_is}

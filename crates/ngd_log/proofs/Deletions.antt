@@ -12,7 +12,7 @@ use Rattle.ngd_log.specs.EntryReading.{numbers_at, rises_after, has_number, dele
 use Rattle.ngd_log.specs.Reading.{after, step_number_at, is_line_feed}
 use Rattle.ngd_log.specs.Logs.{IsLine}
 use Rattle.ngd_log.proofs.Chosen.{passed, bind_then}
-use Rattle.ngd_log.proofs.After.{after_other}
+use Rattle.ngd_log.proofs.AfterPrefix.{after_other}
 use Rattle.ngd_log.proofs.Fields.{step_number_takes, step_number_again}
 use Rattle.ngd_log.proofs.ItemLaws.{items_text, items_takes, items_again, fewer}
 use Rattle.ngd_log.proofs.LineFeeds.{no_feed_in_decimal, no_feed_in_items}

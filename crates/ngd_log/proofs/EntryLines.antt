@@ -16,7 +16,7 @@ use Rattle.ngd_log.specs.EntryTexts.{deletion_line, entry_line, next_number, ent
 use Rattle.ngd_log.specs.EntryReading.{step_entry, either_entry, entry_of, deletion_at}
 use Rattle.ngd_log.specs.Reading.{after, step_of}
 use Rattle.ngd_log.proofs.Chosen.{bind_then, some_is}
-use Rattle.ngd_log.proofs.After.{after_takes, after_again}
+use Rattle.ngd_log.proofs.AfterPrefix.{after_takes, after_again}
 use Rattle.ngd_log.proofs.Numbers.{begins_decimal, after_no_digit}
 use Rattle.ngd_log.proofs.Each.{each_push, each_append}
 use Rattle.ngd_log.proofs.ItemLaws.{items_text}

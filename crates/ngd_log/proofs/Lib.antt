@@ -1,5 +1,5 @@
 pub mod Each
-pub mod After
+pub mod AfterPrefix
 pub mod Items
 pub mod Rising
 pub mod Chosen

@@ -8,7 +8,7 @@ use Rattle.std.proofs.lemmas.Fmt.{decimal_digit, digits_decimal, digits_value-de
 use Rattle.std.proofs.lemmas.Bool.{false≢true, eqb-true, eqb-false, ne_eqb, ltb-true, lt-ltb}
 use Rattle.dcsp_defs.proofs.Lists.{and_left, and_right, and_both}
 use Rattle.ngd_log.proofs.Chosen.{chosen, some_is}
-use Rattle.ngd_log.proofs.After.{after_other}
+use Rattle.ngd_log.proofs.AfterPrefix.{after_other}
 use Rattle.ngd_log.specs.Reading.{after, begins_with_digit, digits_at, number_at}
 
 -- the number that digits write after those of n

@@ -1,4 +1,4 @@
-use Rattle.ngd_log.proofs.After.{after-strip_prefix}
+use Rattle.ngd_log.proofs.AfterPrefix.{after-strip_prefix}
 use Rattle.ngd_log.proofs.field.after.Goals as goal
 
 pub returns-clause-reads : goal.returns-clause-reads
