@@ -26,3 +26,7 @@ pub mod JudgedRules
 pub mod JudgedDeclarations
 pub mod JudgedItems
 pub mod Accepting
+pub mod PlainForms
+pub mod PlainExprs
+pub mod PlainNotes
+pub mod PlainItems

@@ -14,7 +14,7 @@ use Rattle.fzn_token.specs.Lookup.{word_in, mark_in}
 use Rattle.fzn_token.proofs.Keywords.{word_in_text}
 
 -- two lists of bytes are equal, or they are not
-bytes_or_not : (xs ys : List ℕ) → (xs ≡ ys) ⊎ (xs ≡ ys → ⊥)
+pub bytes_or_not : (xs ys : List ℕ) → (xs ≡ ys) ⊎ (xs ≡ ys → ⊥)
 bytes_or_not xs ys = elim (cases_Bool (bytes_eq xs ys)) [
   | inl same ↦ inl ((bytes_eq-Decides xs ys).0 same)
   | inr differ ↦ inr (λ e. true≢false (sym ((bytes_eq-Decides xs ys).1 e) ∙ differ))

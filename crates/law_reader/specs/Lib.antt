@@ -5,3 +5,4 @@ pub mod Predicates
 pub mod Sorts
 pub mod Arguments
 pub mod Accepted
+pub mod PlainGrammar

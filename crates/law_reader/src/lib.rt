@@ -1,11 +1,13 @@
 //! What holds of all texts: each has an answer, each refusal names the place of a token, or one that has none, blanks
-//! and comments between tokens change nothing, and a text has a problem exactly where its items pass their checks.
+//! and comments between tokens change nothing, a text has a problem exactly where its items pass their checks, and the
+//! grammar that looks ahead reads what the grammar of plain alternatives does.
 #![tactic(auto)]
 
 ghost use Rattle.law_reader.specs.Accepted.{AcceptedItems, AcceptedTexts};
 ghost use Rattle.law_reader.specs.Answered.{TextsHaveTokens, TokensHaveItems, TextsHaveAnswers};
 ghost use Rattle.law_reader.specs.Gapped.{GapsAreIgnored};
 ghost use Rattle.law_reader.specs.Placed.{RefusalsArePlaced};
+ghost use Rattle.law_reader.specs.PlainGrammar.{ItemsAgree, GrammarsAgree};
 ghost use Rattle.law_reader.specs.Predicates.{PredicatesAreIgnored};
 
 /// Each text, of any length, has tokens or a first place that is refused.
@@ -43,4 +45,11 @@ pub fn predicates_are_ignored()
 pub fn checks_decide()
     ensures items { AcceptedItems }
     ensures texts { AcceptedTexts }
+{}
+
+/// The grammar with look-ahead, which the reader follows, has the same items as the grammar of plain alternatives: each
+/// item at its place, and so the items of any tokens.
+pub fn grammars_agree()
+    ensures item { ItemsAgree }
+    ensures items { GrammarsAgree }
 {}
