@@ -3,4 +3,5 @@ pub mod Fitting
 pub mod IndexLaws
 pub mod NamingLaws
 pub mod PlaceLaws
+pub mod PlacedLaws
 pub mod TakenLaws

@@ -1,12 +1,10 @@
 -- What stands beside the items of a store.
-use Rattle.std.specs.Prelude.{◌≡◌, ℕ, ◌<◌, ℤ, List, length, slice_index_or}
-use Rattle.std.specs.List.{list_any}
-use Rattle.std.specs.Ordering.{int_eq}
+use Rattle.std.specs.Prelude.{◌≡◌, ℕ, ◌<◌, ℤ, List, Option, is_some, length, slice_index_or}
 use Rattle.dcsp_nogood.specs.declared.Pair.{Pair}
 use Rattle.dcsp_nogood.specs.Pairs.{var_at}
 use Rattle.abt_store.specs.declared.Recorded.{Recorded}
 use Rattle.abt_store.specs.Places.{Places, no_places}
-use Rattle.abt_store.specs.Stores.{is_ruled_out, places_naming, IsOncePerValue}
+use Rattle.abt_store.specs.Stores.{is_ruled_out, place_against, places_naming, IsOncePerValue}
 
 -- the list of a variable; there is nothing past the last one
 abbrev pub list_of : List Places → ℕ → Places
@@ -24,12 +22,17 @@ HaveRoom lists pairs = (k : ℕ) → k < length pairs → HasRoom lists (var_at 
 abbrev pub AreNamed : List Recorded → List Places → Type 0
 AreNamed items lists = (var : ℕ) → (list_of lists var).items ≡ places_naming items var
 
--- the values of the items' lowest pairs
-abbrev pub AreTaken : List Recorded → List ℤ → Type 0
-AreTaken items values = (value : ℤ) → list_any (int_eq value) values ≡ is_ruled_out value items
+-- a place stands by exactly the values of the items' lowest pairs
+abbrev pub AreTaken : List Recorded → (ℤ → Option ℕ) → Type 0
+AreTaken items places = (value : ℤ) → is_some (places value) ≡ is_ruled_out value items
 
--- beside the items stand the values of their lowest pairs, each of them once, and for each variable the places that name it
-pub record IsIndexed (items : List Recorded) (values : List ℤ) (lists : List Places) : Type 0 where
+-- it is the place of the item
+abbrev pub ArePlaced : List Recorded → (ℤ → Option ℕ) → Type 0
+ArePlaced items places = (value : ℤ) → places value ≡ place_against value items
+
+-- beside the items stand their places by the values of their lowest pairs, each of them once, and for each variable the
+-- places that name it
+pub record IsIndexed (items : List Recorded) (places : ℤ → Option ℕ) (lists : List Places) : Type 0 where
   pub once : IsOncePerValue items
-  pub taken : AreTaken items values
+  pub placed : ArePlaced items places
   pub named : AreNamed items lists

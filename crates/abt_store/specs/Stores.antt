@@ -1,6 +1,6 @@
 -- What a store holds, in the words of the definitions of agents.
 use Rattle.std.specs.Prelude.{ℕ, ◌-◌, ◌≤◌, ℤ, Bool, not, ◌||◌, ◌==◌, List, map, filter, length, slice_get, Option, count_by}
-use Rattle.std.specs.List.{list_all, list_any, enumerate_from}
+use Rattle.std.specs.List.{list_all, list_any, enumerate_from, position_from}
 use Rattle.std.specs.Option.{option_map}
 use Rattle.std.specs.Ordering.{int_eq}
 use Rattle.dcsp_nogood.specs.declared.Pair.{Pair}
@@ -28,6 +28,10 @@ is_against value item = is_value (lowest_value item.nogood) value
 -- some item's lowest pair has this value
 abbrev pub is_ruled_out : ℤ → List Recorded → Bool
 is_ruled_out value items = list_any (is_against value) items
+
+-- the place, counted from 0, of the first item whose lowest pair has this value
+abbrev pub place_against : ℤ → List Recorded → Option ℕ
+place_against value items = position_from (is_against value) 0 items
 
 -- no value is that of two items' lowest pairs
 abbrev pub IsOncePerValue : List Recorded → Type 0

@@ -4,16 +4,16 @@ ghost use Rattle.std.specs.Prelude.{◌≡◌, [], ◌∷◌, ◌++◌, false, f
 ghost use Rattle.std.specs.List.{list_all};
 ghost use Rattle.std.specs.Option.{ForSome};
 ghost use Rattle.abt_defs.specs.Steps.{forget};
-ghost use Rattle.abt_store.specs.Stores.{fits, is_ruled_out, lowest_value, places_naming, records_of, IsOncePerValue};
+ghost use Rattle.abt_store.specs.Stores.{fits, is_ruled_out, lowest_value, place_against, places_naming, records_of, IsOncePerValue};
 
 use crate::Recorded;
 use crate::naming::{make_room, name_all, name_item};
 use crate::place_list::PlaceList;
-use crate::taken::{is_fitting, release_values, take_value};
+use crate::taken::{is_fitting, place_values, release_values, take_value};
 use dcsp_list::Memory;
 use dcsp_nogood::{Nogood, Pair};
 use std::alloc::Global;
-use std::collections::HashSet;
+use std::collections::HashMap;
 use std::marker::Model;
 
 /// The nogoods that one agent keeps, in order of arrival, at most one for each value of a lowest pair.
@@ -21,14 +21,16 @@ use std::marker::Model;
 pub struct Store {
     alloc: Global,
     items: Vec<Recorded>,
-    /// The values of the items' lowest pairs.
-    values: HashSet<i64>,
+    /// The places of the items, by the values of their lowest pairs.
+    places: HashMap<i64, usize>,
     /// For each variable the places of the items that name it.
     lists: Vec<PlaceList>,
 }
 
 impl Model for Store {
     ghost use Rattle.std.specs.Prelude.{List};
+    ghost use Rattle.std.specs.HashMap.{get};
+    ghost use Rattle.std.specs.Ordering.{int_eq};
     ghost use Rattle.abt_store.specs.declared.Recorded.{Recorded};
     ghost use Rattle.abt_store.specs.Index.{IsIndexed};
 
@@ -36,7 +38,7 @@ impl Model for Store {
 
     ghost view = { λ store. store.items.items };
 
-    ghost invariant = { λ store. IsIndexed store.items.items store.values.keys store.lists.items };
+    ghost invariant = { λ store. IsIndexed store.items.items (get int_eq store.places) store.lists.items };
 }
 
 impl Store {
@@ -47,7 +49,7 @@ impl Store {
         Store {
             alloc,
             items: Vec::new(alloc),
-            values: HashSet::new(alloc),
+            places: HashMap::new(alloc),
             lists: Vec::new(alloc),
         }
     }
@@ -63,7 +65,7 @@ impl Store {
         let pairs = nogood.pairs();
         if make_room(self.alloc, &mut self.lists, pairs).is_err()
             || self.items.reserve(1).is_err()
-            || take_value(&mut self.values, &nogood).is_err()
+            || take_value(&mut self.places, &nogood, self.items.len()).is_err()
         {
             return Err((nogood, Memory));
         }
@@ -76,7 +78,15 @@ impl Store {
     pub fn rules_out(&self, value: i64) -> bool
         ensures { result ≡ is_ruled_out value self.now }
     {
-        self.values.contains(&value)
+        self.against(value).is_some()
+    }
+
+    /// The place, counted from 0, of the item whose lowest pair has this value; `None` exactly if
+    /// there is none.
+    pub fn against(&self, value: i64) -> Option<usize>
+        ensures { result ≡ place_against value self.now }
+    {
+        self.places.get(&value).copied()
     }
 
     /// Takes out exactly the items that have a pair of the variable with another value. The others
@@ -89,8 +99,9 @@ impl Store {
         if self.all_fit(known) {
             return;
         }
-        release_values(&mut self.values, &self.items, known);
+        release_values(&mut self.places, &self.items, known);
         self.items.retain(|item| is_fitting(&item.nogood, known));
+        place_values(&mut self.places, &self.items);
         name_all(&mut self.lists, &self.items);
     }
 

@@ -1,51 +1,80 @@
-//! The values of the items' lowest pairs.
+//! Against which value each item stands: the places of the items, by the values of their lowest pairs.
 
-ghost use Rattle.std.specs.Prelude.{◌≡◌, ℤ, ◌||◌, ◌&&◌, ◌==◌, not, OnOk, OnErr, filter};
-ghost use Rattle.std.specs.List.{list_all, list_any};
+ghost use Rattle.std.specs.Prelude.{◌≡◌, ℤ, ◌&&◌, ◌||◌, ◌==◌, not, OnOk, OnErr, Some, filter, is_some, if◌then◌else◌};
+ghost use Rattle.std.specs.HashMap.{get, IsUnchanged};
+ghost use Rattle.std.specs.List.{list_all};
 ghost use Rattle.std.specs.Ordering.{int_eq};
 ghost use Rattle.dcsp_nogood.specs.declared.Pair.{Pair as ThePair};
 ghost use Rattle.dcsp_defs.specs.Words.{is_value};
 ghost use Rattle.abt_store.specs.Stores.{fits, lowest_value, IsOncePerValue};
-ghost use Rattle.abt_store.specs.Index.{AreTaken};
+ghost use Rattle.abt_store.specs.Index.{ArePlaced, AreTaken};
 
 use crate::Recorded;
 use dcsp_list::Memory;
 use dcsp_nogood::{Nogood, Pair};
-use std::collections::HashSet;
+use std::collections::HashMap;
 
-/// Adds the value of the nogood's lowest pair, if there is one.
-pub fn take_value(values: &mut HashSet<i64>, nogood: &Nogood) -> Result<(), Memory>
-    ensures ok { OnOk result ((value : ℤ) → list_any (int_eq value) values.new.keys ≡ (list_any (int_eq value) values.old.keys || is_value (lowest_value nogood.now) value)) }
-    ensures err { OnErr result (values.new.keys ≡ values.old.keys) }
+/// Adds the place of an item, by the value of its nogood's lowest pair, if there is one.
+pub fn take_value(
+    places: &mut HashMap<i64, usize>,
+    nogood: &Nogood,
+    place: usize,
+) -> Result<(), Memory>
+    ensures ok { OnOk result ((value : ℤ) → get int_eq places.new value ≡ (if is_value (lowest_value nogood.now) value then Some place else get int_eq places.old value)) }
+    ensures err { OnErr result (IsUnchanged places.old places.new) }
 {
     let Some(pair) = nogood.lowest() else {
         return Ok(());
     };
-    match values.insert(pair.value) {
+    match places.insert(pair.value, place) {
         Ok(_) => Ok(()),
         Err(_) => Err(Memory),
     }
 }
 
-/// Takes out the values of the items that give the pair's variable another value.
-pub fn release_values(values: &mut HashSet<i64>, items: &[Recorded], known: Pair)
+/// Takes out the values of the items that give the pair's variable another value. The places stay as
+/// they were.
+pub fn release_values(places: &mut HashMap<i64, usize>, items: &[Recorded], known: Pair)
     requires once { IsOncePerValue items.now }
-    requires taken { AreTaken items.now values.old.keys }
-    ensures { AreTaken (filter (fits known.var known.value) items.now) values.new.keys }
+    requires taken { AreTaken items.now (get int_eq places.old) }
+    ensures { AreTaken (filter (fits known.var known.value) items.now) (get int_eq places.new) }
 {
     for item in items {
         if !is_fitting(&item.nogood, known) {
-            release_value(values, &item.nogood);
+            release_value(places, &item.nogood);
         }
     }
 }
 
 /// Takes out the value of the nogood's lowest pair, if there is one.
-fn release_value(values: &mut HashSet<i64>, nogood: &Nogood)
-    ensures { (value : ℤ) → list_any (int_eq value) values.new.keys ≡ (list_any (int_eq value) values.old.keys && not (is_value (lowest_value nogood.now) value)) }
+fn release_value(places: &mut HashMap<i64, usize>, nogood: &Nogood)
+    ensures { (value : ℤ) → is_some (get int_eq places.new value) ≡ (is_some (get int_eq places.old value) && not (is_value (lowest_value nogood.now) value)) }
 {
     if let Some(pair) = nogood.lowest() {
-        values.remove(&pair.value);
+        places.remove(&pair.value);
+    }
+}
+
+/// Puts in the places of the items, whose values are there. It takes no memory.
+pub fn place_values(places: &mut HashMap<i64, usize>, items: &[Recorded])
+    requires once { IsOncePerValue items.now }
+    requires taken { AreTaken items.now (get int_eq places.old) }
+    ensures { ArePlaced items.now (get int_eq places.new) }
+{
+    for (place, item) in items.iter().enumerate() {
+        place_value(places, &item.nogood, place);
+    }
+}
+
+/// Puts in the place of an item, if the value of its nogood's lowest pair is there.
+fn place_value(places: &mut HashMap<i64, usize>, nogood: &Nogood, place: usize)
+    ensures { (value : ℤ) → get int_eq places.new value ≡ (if is_value (lowest_value nogood.now) value && is_some (get int_eq places.old value) then Some place else get int_eq places.old value) }
+{
+    let Some(pair) = nogood.lowest() else {
+        return;
+    };
+    if let Some(kept) = places.get_mut(&pair.value) {
+        *kept = place;
     }
 }
 

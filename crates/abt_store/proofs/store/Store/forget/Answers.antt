@@ -1,12 +1,14 @@
 use Rattle.std.proofs.Common.{◌≡◌, ◌∙◌, ap, sym, rules, arith, filter, length, ℤ, subst, List, w64, SFits, to_z, of_z}
+use Rattle.std.specs.Prelude.{is_some}
 use Rattle.std.specs.List.{list_all}
 use Rattle.std.proofs.lemmas.Fn.{filter_same}
 use Rattle.std.proofs.lemmas.Int.{to_z-of_z}
 use Rattle.abt_store.specs.declared.Recorded.{Recorded}
-use Rattle.abt_store.specs.Stores.{fits, is_ruled_out, records_of, places_naming, IsOncePerValue}
+use Rattle.abt_store.specs.Stores.{fits, is_against, is_ruled_out, place_against, records_of, places_naming, IsOncePerValue}
 use Rattle.abt_store.proofs.Counts.{filter_all}
 use Rattle.abt_store.proofs.Fitting.{records-filter}
 use Rattle.abt_store.proofs.IndexLaws.{fewer_once, fewer_length}
+use Rattle.abt_store.proofs.PlacedLaws.{some_place}
 use Rattle.abt_store.proofs.store.Store.forget.Goals as goal
 
 pub returns-then-all_fit-clause-items : goal.returns-then-all_fit-clause-items
@@ -22,29 +24,46 @@ returns-then-all_fit-clause-records c = ap records_of (returns-then-all_fit-clau
 pub release_values-requires-clause-once : goal.release_values-requires-clause-once
 release_values-requires-clause-once c = subst IsOncePerValue (sym c.deref.ensures.value) c.self.invariant.once
 
-pub name_all-requires : goal.name_all-requires
-name_all-requires c = λ var.
+pub release_values-requires-clause-taken : goal.release_values-requires-clause-taken
+release_values-requires-clause-taken c = λ v.
+    ap is_some (c.self.invariant.placed v) ∙ some_place (is_against v) 0 c.self.inside.items.items ∙ ap (is_ruled_out v) (sym c.deref.ensures.value)
+
+pub place_values-requires-clause-once : goal.place_values-requires-clause-once
+place_values-requires-clause-once c =
     let items = c.self.inside.items.items in
     let test = fits c.args.var c.args.value in
     let kept : c.retain.new.self.items ≡ filter test items = filter_same _ _ _ (λ x b f' k. search rules) _ _ c.retain.ensures.filtered in
-    let left = c.deref-2.ensures.value ∙ kept in
-    omega (arith, fewer_length items test var, ap (λ (z : List Recorded). length (places_naming z var)) left, ap length (c.self.invariant.named var))
+    subst IsOncePerValue (sym (c.deref-2.ensures.value ∙ kept)) (fewer_once items test c.self.invariant.once)
 
-pub invariant_of-self : goal.invariant_of-self
-invariant_of-self c =
+pub place_values-requires-clause-taken : goal.place_values-requires-clause-taken
+place_values-requires-clause-taken c = λ v.
     let in_range : SFits w64 c.args.value = search rules in
     let same : to_z w64 (of_z w64 c.args.value) ≡ c.args.value = simp to_z-of_z in
     let items = c.self.inside.items.items in
     let test = fits c.args.var c.args.value in
     let kept : c.retain.new.self.items ≡ filter test items = filter_same _ _ _ (λ x b f' k. search rules) _ _ c.retain.ensures.filtered in
+    c.release_values.ensures v
+    ∙ ap (λ (z : List Recorded). is_ruled_out v (filter (fits c.args.var (to_z w64 (of_z w64 c.args.value))) z)) c.deref.ensures.value
+    ∙ ap (λ (z : ℤ). is_ruled_out v (filter (fits c.args.var z) items)) same
+    ∙ ap (is_ruled_out v) (sym (c.deref-2.ensures.value ∙ kept))
+
+pub name_all-requires : goal.name_all-requires
+name_all-requires c = λ var.
+    let items = c.self.inside.items.items in
+    let test = fits c.args.var c.args.value in
+    let kept : c.retain.new.self.items ≡ filter test items = filter_same _ _ _ (λ x b f' k. search rules) _ _ c.retain.ensures.filtered in
+    let left = c.deref-3.ensures.value ∙ kept in
+    omega (arith, fewer_length items test var, ap (λ (z : List Recorded). length (places_naming z var)) left, ap length (c.self.invariant.named var))
+
+pub invariant_of-self : goal.invariant_of-self
+invariant_of-self c =
+    let items = c.self.inside.items.items in
+    let test = fits c.args.var c.args.value in
+    let kept : c.retain.new.self.items ≡ filter test items = filter_same _ _ _ (λ x b f' k. search rules) _ _ c.retain.ensures.filtered in
     record {
       once = subst IsOncePerValue (sym kept) (fewer_once items test c.self.invariant.once);
-      taken = λ v.
-          c.release_values.ensures v
-          ∙ ap (λ (z : List Recorded). is_ruled_out v (filter (fits c.args.var (to_z w64 (of_z w64 c.args.value))) z)) c.deref.ensures.value
-          ∙ ap (λ (z : ℤ). is_ruled_out v (filter (fits c.args.var z) items)) same
-          ∙ ap (is_ruled_out v) (sym kept);
-      named = λ var. c.name_all.ensures var ∙ ap (λ (z : List Recorded). places_naming z var) c.deref-2.ensures.value;
+      placed = λ v. c.place_values.ensures v ∙ ap (place_against v) c.deref-2.ensures.value;
+      named = λ var. c.name_all.ensures var ∙ ap (λ (z : List Recorded). places_naming z var) c.deref-3.ensures.value;
     }
 
 pub returns-clause-items : goal.returns-clause-items
