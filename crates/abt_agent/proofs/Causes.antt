@@ -23,15 +23,15 @@ use Rattle.dcsp_problem.specs.Index.{owned_rules}
 use Rattle.dcsp_problem.proofs.OwnerLists.{owned_inside}
 use Rattle.abt_message.specs.Messages.{with_stamps}
 use Rattle.abt_store.specs.declared.Recorded.{Recorded}
-use Rattle.abt_store.specs.Stores.{record_of, records_of}
+use Rattle.abt_store.specs.Stores.{is_against, record_of, records_of}
 use Rattle.abt_view.specs.Views.{view_of}
 use Rattle.abt_defs.specs.Steps.{is_free, choice, is_named}
 use Rattle.abt_agent.specs.declared.body.Body.{Body}
 use Rattle.abt_agent.specs.Bodies.{agent_of}
 use Rattle.abt_reason.specs.Causes.{reason_for, value_at}
-use Rattle.abt_agent.specs.declared.search.Place.{Place}
-use Rattle.abt_agent.specs.declared.search.Place.TheVariants.{Owned, Kept}
-use Rattle.abt_agent.specs.Places.{first_rule, first_kept, place_for, places, least_free, item_at, no_record, IsPlace, blames_one, blames, told_if}
+use Rattle.abt_agent.specs.declared.search.Cause.{Cause}
+use Rattle.abt_agent.specs.declared.search.Cause.TheVariants.{OwnedRule, KeptNogood}
+use Rattle.abt_agent.specs.Causes.{first_rule, first_kept, first_against, cause_for, causes_for, least_free, item_at, no_record, IsCause, blames_one, blames, told_if}
 use Rattle.abt_agent.proofs.Lists.{one, plain-with_stamps, map_below}
 
 -- ---- values of domains
@@ -56,75 +56,74 @@ view_in_domains p i a h var v l e = by_told (a.view var) refl e
 
 -- ---- one item after another
 
-kept_step : (known : Known) (k : ℕ) (xs : List Recorded) (x : Recorded) → k < length xs
-    → first_kept known k (drop k xs) ≡ cond (agrees known (get_or xs k x).nogood) (Some (Kept k)) (first_kept known (k + 1) (drop (k + 1) xs))
-kept_step known k xs x h = at_drop_more (first_kept known k) xs k x h
+against_step : (v : ℤ) (k : ℕ) (xs : List Recorded) (x : Recorded) → k < length xs
+    → first_against v k (drop k xs) ≡ cond (is_against v (get_or xs k x)) (Some (KeptNogood k)) (first_against v (k + 1) (drop (k + 1) xs))
+against_step v k xs x h = at_drop_more (first_against v k) xs k x h
 
-pub kept_here : (known : Known) (k : ℕ) (xs : List Recorded) (x : Recorded) → k < length xs → agrees known (get_or xs k x).nogood ≡ true → first_kept known k (drop k xs) ≡ Some (Kept k)
-kept_here known k xs x h t = kept_step known k xs x h ∙ ap (λ b. cond b (Some (Kept k)) (first_kept known (k + 1) (drop (k + 1) xs))) t
+pub against_here : (v : ℤ) (k : ℕ) (xs : List Recorded) (x : Recorded) → k < length xs → is_against v (get_or xs k x) ≡ true → first_against v k (drop k xs) ≡ Some (KeptNogood k)
+against_here v k xs x h t = against_step v k xs x h ∙ ap (λ b. cond b (Some (KeptNogood k)) (first_against v (k + 1) (drop (k + 1) xs))) t
 
-pub kept_later : (known : Known) (k : ℕ) (xs : List Recorded) (x : Recorded) → k < length xs → agrees known (get_or xs k x).nogood ≡ false
-    → first_kept known k (drop k xs) ≡ first_kept known (k + 1) (drop (k + 1) xs)
-kept_later known k xs x h t = kept_step known k xs x h ∙ ap (λ b. cond b (Some (Kept k)) (first_kept known (k + 1) (drop (k + 1) xs))) t
+pub against_later : (v : ℤ) (k : ℕ) (xs : List Recorded) (x : Recorded) → k < length xs → is_against v (get_or xs k x) ≡ false → first_against v k (drop k xs) ≡ first_against v (k + 1) (drop (k + 1) xs)
+against_later v k xs x h t = against_step v k xs x h ∙ ap (λ b. cond b (Some (KeptNogood k)) (first_against v (k + 1) (drop (k + 1) xs))) t
 
 -- what stands at a place
 pub found_at : (xs : List ℤ) (k : ℕ) (x : ℤ) → slice_get xs k ≡ Some x → get_or xs k (pos 0) ≡ x
 found_at xs k x e = sym (unwrap_or-slice_get xs k (pos 0)) ∙ ap (λ o. unwrap_or o (pos 0)) e
 
 module _ (p : Contents) (i : ℕ) (known : Known) (kept : List Recorded) (xs : List ℤ) (k : ℕ) (x : ℤ) (within : k < length xs) (at : slice_get xs k ≡ Some x) where
-  pub free_here : is_some (place_for p i known kept x) ≡ false → least_free p i known kept (drop k xs) ≡ Some x
+  pub free_here : is_some (cause_for p i known kept x) ≡ false → least_free p i known kept (drop k xs) ≡ Some x
   free_here e =
       at_drop_more (least_free p i known kept) xs k (pos 0) within
       ∙ ap (λ y. least_free p i known kept (y ∷ drop (k + 1) xs)) (found_at xs k x at)
       ∙ ap (λ b. cond (not b) (Some x) (least_free p i known kept (drop (k + 1) xs))) e
 
-  pub free_later : is_some (place_for p i known kept x) ≡ true → least_free p i known kept (drop k xs) ≡ least_free p i known kept (drop (k + 1) xs)
+  pub free_later : is_some (cause_for p i known kept x) ≡ true → least_free p i known kept (drop k xs) ≡ least_free p i known kept (drop (k + 1) xs)
   free_later e =
       at_drop_more (least_free p i known kept) xs k (pos 0) within
       ∙ ap (λ y. least_free p i known kept (y ∷ drop (k + 1) xs)) (found_at xs k x at)
       ∙ ap (λ b. cond (not b) (Some x) (least_free p i known kept (drop (k + 1) xs))) e
 
-  pub places_more : places p i known kept (take (k + 1) xs) ≡ places p i known kept (take k xs) ++ option_to_list (place_for p i known kept x)
-  places_more =
-      ap (places p i known kept) (take_more xs k (pos 0) within)
-      ∙ filter_map-append (place_for p i known kept) (take k xs) (get_or xs k (pos 0) ∷ [])
-      ∙ ap (λ z. places p i known kept (take k xs) ++ z) (one (place_for p i known kept (get_or xs k (pos 0))))
-      ∙ ap (λ y. places p i known kept (take k xs) ++ option_to_list (place_for p i known kept y)) (found_at xs k x at)
+  pub causes_more : causes_for p i known kept (take (k + 1) xs) ≡ causes_for p i known kept (take k xs) ++ option_to_list (cause_for p i known kept x)
+  causes_more =
+      ap (causes_for p i known kept) (take_more xs k (pos 0) within)
+      ∙ filter_map-append (cause_for p i known kept) (take k xs) (get_or xs k (pos 0) ∷ [])
+      ∙ ap (λ z. causes_for p i known kept (take k xs) ++ z) (one (cause_for p i known kept (get_or xs k (pos 0))))
+      ∙ ap (λ y. causes_for p i known kept (take k xs) ++ option_to_list (cause_for p i known kept y)) (found_at xs k x at)
 
 -- ---- places are valid
 
-rule_valid : (p : Contents) (kept : List Recorded) (known : Known) (ns : List ℕ) (x : Place) → All (λ r. r < length p.rules) ns → first_rule p known ns ≡ Some x → IsPlace p kept x
+rule_valid : (p : Contents) (kept : List Recorded) (known : Known) (ns : List ℕ) (x : Cause) → All (λ r. r < length p.rules) ns → first_rule p known ns ≡ Some x → IsCause p kept x
 rule_valid p kept known [] x h e = cc
 rule_valid p kept known (n ∷ ns) x h e =
-    (elim (is_violated known (constraint_at p n)) as (λ b. cond b (Some (Owned n)) (first_rule p known ns) ≡ Some x → IsPlace p kept x) [
-      | true ↦ λ q. let same : Owned n ≡ x = cc in subst (IsPlace p kept) same (All-head (λ r. r < length p.rules) n ns h)
+    (elim (is_violated known (constraint_at p n)) as (λ b. cond b (Some (OwnedRule n)) (first_rule p known ns) ≡ Some x → IsCause p kept x) [
+      | true ↦ λ q. let same : OwnedRule n ≡ x = cc in subst (IsCause p kept) same (All-head (λ r. r < length p.rules) n ns h)
       | false ↦ rule_valid p kept known ns x (All-tail (λ r. r < length p.rules) n ns h)
     ]) e
 
-kept_valid : (p : Contents) (kept : List Recorded) (known : Known) (k : ℕ) (xs : List Recorded) (x : Place) → k + length xs ≡ length kept → first_kept known k xs ≡ Some x → IsPlace p kept x
+kept_valid : (p : Contents) (kept : List Recorded) (known : Known) (k : ℕ) (xs : List Recorded) (x : Cause) → k + length xs ≡ length kept → first_kept known k xs ≡ Some x → IsCause p kept x
 kept_valid p kept known k [] x h e = cc
 kept_valid p kept known k (y ∷ ys) x h e =
-    (elim (agrees known y.nogood) as (λ b. cond b (Some (Kept k)) (first_kept known (k + 1) ys) ≡ Some x → IsPlace p kept x) [
-      | true ↦ λ q. let same : Kept k ≡ x = cc in subst (IsPlace p kept) same (omega arith)
+    (elim (agrees known y.nogood) as (λ b. cond b (Some (KeptNogood k)) (first_kept known (k + 1) ys) ≡ Some x → IsCause p kept x) [
+      | true ↦ λ q. let same : KeptNogood k ≡ x = cc in subst (IsCause p kept) same (omega arith)
       | false ↦ kept_valid p kept known (k + 1) ys x (omega arith)
     ]) e
 
-or_valid : (P : Place → Type 0) (a b : Option Place) (x : Place) → (a ≡ Some x → P x) → (b ≡ Some x → P x) → option_or a b ≡ Some x → P x
+or_valid : (P : Cause → Type 0) (a b : Option Cause) (x : Cause) → (a ≡ Some x → P x) → (b ≡ Some x → P x) → option_or a b ≡ Some x → P x
 or_valid P None b x f g e = g e
 or_valid P (Some y) b x f g e = f e
 
-pub place_valid : (p : Contents) (i : ℕ) (known : Known) (kept : List Recorded) (v : ℤ) (x : Place) → place_for p i known kept v ≡ Some x → IsPlace p kept x
-place_valid p i known kept v x e =
+pub cause_valid : (p : Contents) (i : ℕ) (known : Known) (kept : List Recorded) (v : ℤ) (x : Cause) → cause_for p i known kept v ≡ Some x → IsCause p kept x
+cause_valid p i known kept v x e =
     let k = with_value i v known in
-    or_valid (IsPlace p kept) (first_rule p k (owned_rules p i)) (first_kept k 0 kept) x
+    or_valid (IsCause p kept) (first_rule p k (owned_rules p i)) (first_kept k 0 kept) x
     (rule_valid p kept k (owned_rules p i) x (owned_inside p i)) (kept_valid p kept k 0 kept x (omega arith)) e
 
-pub places_valid : (p : Contents) (i : ℕ) (known : Known) (kept : List Recorded) (vs : List ℤ) → All (IsPlace p kept) (places p i known kept vs)
-places_valid p i known kept [] = All-nil (IsPlace p kept)
-places_valid p i known kept (v ∷ vs) =
-    (elim (place_for p i known kept v) as (λ o. place_for p i known kept v ≡ o → All (IsPlace p kept) (cons_option o (places p i known kept vs))) [
-      | None ↦ λ e. places_valid p i known kept vs
-      | Some x ↦ λ e. All-cons (IsPlace p kept) x _ (place_valid p i known kept v x e) (places_valid p i known kept vs)
+pub causes_valid : (p : Contents) (i : ℕ) (known : Known) (kept : List Recorded) (vs : List ℤ) → All (IsCause p kept) (causes_for p i known kept vs)
+causes_valid p i known kept [] = All-nil (IsCause p kept)
+causes_valid p i known kept (v ∷ vs) =
+    (elim (cause_for p i known kept v) as (λ o. cause_for p i known kept v ≡ o → All (IsCause p kept) (cons_option o (causes_for p i known kept vs))) [
+      | None ↦ λ e. causes_valid p i known kept vs
+      | Some x ↦ λ e. All-cons (IsCause p kept) x _ (cause_valid p i known kept v x e) (causes_valid p i known kept vs)
     ]) refl
 
 -- ---- the owned rules, each with its number
@@ -156,7 +155,7 @@ rules_found : (p : Contents) (kept : List Recorded) (known : Known) (ns : List �
     → find (λ (x : Item). x.violated known) (map constraint_item (map (λ (r : ℕ). (r, constraint_at p r)) ns)) ≡ option_map (item_at p kept) (first_rule p known ns)
 rules_found p kept known [] = refl
 rules_found p kept known (n ∷ ns) =
-    elim (is_violated known (constraint_at p n)) as (λ b. cond b (Some (constraint_item (n, constraint_at p n))) (find (λ (x : Item). x.violated known) (map constraint_item (map (λ (r : ℕ). (r, constraint_at p r)) ns))) ≡ option_map (item_at p kept) (cond b (Some (Owned n)) (first_rule p known ns))) [
+    elim (is_violated known (constraint_at p n)) as (λ b. cond b (Some (constraint_item (n, constraint_at p n))) (find (λ (x : Item). x.violated known) (map constraint_item (map (λ (r : ℕ). (r, constraint_at p r)) ns))) ≡ option_map (item_at p kept) (cond b (Some (OwnedRule n)) (first_rule p known ns))) [
       | true ↦ refl
       | false ↦ rules_found p kept known ns
     ]
@@ -167,7 +166,7 @@ kept_found p all pre [] k known a e = refl
 kept_found p all pre (x ∷ xs) k known a e =
     let here : slice_index_or all k no_record ≡ x = ap (λ z. slice_index_or z k no_record) a ∙ get_or_at pre x xs no_record k e in
     let later = kept_found p all (pre ++ x ∷ []) xs (k + 1) known (a ∙ sym (append_assoc pre (x ∷ []) xs)) (let l = length_push pre x in omega arith) in
-    elim (agrees known x.nogood) as (λ b. cond b (Some (record_item (record_of x))) (find (λ (y : Item). y.violated known) (map record_item (records_of xs))) ≡ option_map (item_at p all) (cond b (Some (Kept k)) (first_kept known (k + 1) xs))) [
+    elim (agrees known x.nogood) as (λ b. cond b (Some (record_item (record_of x))) (find (λ (y : Item). y.violated known) (map record_item (records_of xs))) ≡ option_map (item_at p all) (cond b (Some (KeptNogood k)) (first_kept known (k + 1) xs))) [
       | true ↦ ap (λ z. Some (record_item (record_of z))) (sym here)
       | false ↦ later
     ]
@@ -178,7 +177,7 @@ map_or f (Some x) b = refl
 
 -- the cause of a value is what stands at the place that the code finds
 pub cause_is : (p : Contents) (i : ℕ) (known : Known) (kept : List Recorded) (v : ℤ)
-    → cause (csp_of p) i known (records_of kept) v ≡ option_map (item_at p kept) (place_for p i known kept v)
+    → cause (csp_of p) i known (records_of kept) v ≡ option_map (item_at p kept) (cause_for p i known kept v)
 cause_is p i known kept v =
     let k = with_value i v known in
     find-append (λ (x : Item). x.violated k) (map constraint_item (owned (csp_of p) i)) (map record_item (records_of kept))
@@ -191,8 +190,8 @@ some_map : {X Y : Type 0} → (f : X → Y) (o : Option X) → is_some (option_m
 some_map f None = refl
 some_map f (Some x) = refl
 
-pub ruled_is : (p : Contents) (i : ℕ) (known : Known) (kept : List Recorded) (v : ℤ) → ruled_out (csp_of p) i known (records_of kept) v ≡ is_some (place_for p i known kept v)
-ruled_is p i known kept v = ap is_some (cause_is p i known kept v) ∙ some_map (item_at p kept) (place_for p i known kept v)
+pub ruled_is : (p : Contents) (i : ℕ) (known : Known) (kept : List Recorded) (v : ℤ) → ruled_out (csp_of p) i known (records_of kept) v ≡ is_some (cause_for p i known kept v)
+ruled_is p i known kept v = ap is_some (cause_is p i known kept v) ∙ some_map (item_at p kept) (cause_for p i known kept v)
 
 pub least_is : (p : Contents) (i : ℕ) (known : Known) (kept : List Recorded) (vs : List ℤ)
     → find (λ v. not (ruled_out (csp_of p) i known (records_of kept) v)) vs ≡ least_free p i known kept vs
@@ -209,10 +208,10 @@ filtered_map {X = X} {Y = Y} {Z = Z} g f (x ∷ xs) =
     ]
 
 pub causes_are : (p : Contents) (i : ℕ) (known : Known) (kept : List Recorded)
-    → causes (csp_of p) i known (records_of kept) ≡ map (item_at p kept) (places p i known kept (domain (csp_of p) i))
+    → causes (csp_of p) i known (records_of kept) ≡ map (item_at p kept) (causes_for p i known kept (domain (csp_of p) i))
 causes_are p i known kept =
     ap (λ (q : ℤ → Option Item). filter_map q (domain (csp_of p) i)) (λ s v. cause_is p i known kept v s)
-    ∙ filtered_map (item_at p kept) (place_for p i known kept) (domain (csp_of p) i)
+    ∙ filtered_map (item_at p kept) (cause_for p i known kept) (domain (csp_of p) i)
 
 pub any-map : {X Y : Type 0} → (q : Y → Bool) (f : X → Y) (xs : List X) → list_any q (map f xs) ≡ list_any (λ x. q (f x)) xs
 any-map q f [] = refl
@@ -223,14 +222,14 @@ map-map g f [] = refl
 map-map g f (x ∷ xs) = ap (λ z. g (f x) ∷ z) (map-map g f xs)
 
 -- whether the nogood at a place names k
-pub named_at : (p : Contents) (kept : List Recorded) (at k : ℕ) (d : Recorded) → at < length kept → is_named k (get_or kept at d).nogood ≡ blames_one p kept (Kept at) k
+pub named_at : (p : Contents) (kept : List Recorded) (at k : ℕ) (d : Recorded) → at < length kept → is_named k (get_or kept at d).nogood ≡ blames_one p kept (KeptNogood at) k
 named_at p kept at k d within =
     ap (λ (x : Recorded). is_named k x.nogood) (get_or_default kept at d no_record within)
     ∙ sym (any-map (λ x. k == x) (λ (y : Pair). y.var) (get_or kept at no_record).nogood)
 
 module _ (p : Contents) (i : ℕ) (view : View) (kept : List Recorded) where
-  abbrev pub found : List Place
-  found = places p i (values_in view) kept (domain (csp_of p) i)
+  abbrev pub found : List Cause
+  found = causes_for p i (values_in view) kept (domain (csp_of p) i)
 
   pub blamed_is : (k : ℕ) → blamed (csp_of p) i view (records_of kept) k ≡ told_if (blames p kept found k) view k
   blamed_is k =
@@ -238,7 +237,7 @@ module _ (p : Contents) (i : ℕ) (view : View) (kept : List Recorded) where
       ap (list_any (λ (x : Item). is_among k x.variables)) (causes_are p i (values_in view) kept)
       ∙ any-map (λ (x : Item). is_among k x.variables) (item_at p kept) found)
 
-  pub reasons_are : map (λ (x : Item). x.reason) (causes (csp_of p) i (values_in view) (records_of kept)) ≡ map (λ (x : Place). (item_at p kept x).reason) found
+  pub reasons_are : map (λ (x : Item). x.reason) (causes (csp_of p) i (values_in view) (records_of kept)) ≡ map (λ (x : Cause). (item_at p kept x).reason) found
   reasons_are = ap (map (λ (x : Item). x.reason)) (causes_are p i (values_in view) kept) ∙ map-map (λ (x : Item). x.reason) (item_at p kept) found
 
   -- what is gathered by the marks is what the definitions derive
@@ -250,7 +249,7 @@ module _ (p : Contents) (i : ℕ) (view : View) (kept : List Recorded) where
 
   -- the step of the code is the step of the definitions
   pub step_is : (nogood : List Pair) (stamps : List ℕ) (reasons : List Reason) → with_stamps nogood stamps ≡ derived (csp_of p) i view (records_of kept)
-      → reasons ≡ map (λ (x : Place). (item_at p kept x).reason) found
+      → reasons ≡ map (λ (x : Cause). (item_at p kept x).reason) found
       → record { variable = Some i; nogood = nogood; reasons = reasons } ≡ step_of (csp_of p) i view (records_of kept)
   step_is nogood stamps reasons d r =
       let n : nogood ≡ plain (derived (csp_of p) i view (records_of kept)) = sym (plain-with_stamps nogood stamps) ∙ ap plain d in
@@ -260,24 +259,24 @@ module _ (p : Contents) (i : ℕ) (view : View) (kept : List Recorded) where
 -- ---- what the kept reasons tell
 
 -- among rules, only rules are found
-rule_found : (p : Contents) (known : Known) (ns : List ℕ) (x : Place) → first_rule p known ns ≡ Some x → (r : ℕ) × (x ≡ Owned r)
+rule_found : (p : Contents) (known : Known) (ns : List ℕ) (x : Cause) → first_rule p known ns ≡ Some x → (r : ℕ) × (x ≡ OwnedRule r)
 rule_found p known [] x e = cc
 rule_found p known (n ∷ ns) x e =
-    (elim (is_violated known (constraint_at p n)) as (λ b. cond b (Some (Owned n)) (first_rule p known ns) ≡ Some x → (r : ℕ) × (x ≡ Owned r)) [
-      | true ↦ λ q. let same : x ≡ Owned n = cc in (n, same)
+    (elim (is_violated known (constraint_at p n)) as (λ b. cond b (Some (OwnedRule n)) (first_rule p known ns) ≡ Some x → (r : ℕ) × (x ≡ OwnedRule r)) [
+      | true ↦ λ q. let same : x ≡ OwnedRule n = cc in (n, same)
       | false ↦ rule_found p known ns x
     ]) e
 
 -- among nogoods, only nogoods
-kept_only : (known : Known) (k : ℕ) (xs : List Recorded) (x : Place) → first_kept known k xs ≡ Some x → (j : ℕ) × (x ≡ Kept j)
+kept_only : (known : Known) (k : ℕ) (xs : List Recorded) (x : Cause) → first_kept known k xs ≡ Some x → (j : ℕ) × (x ≡ KeptNogood j)
 kept_only known k [] x e = cc
 kept_only known k (y ∷ ys) x e =
-    (elim (agrees known y.nogood) as (λ b. cond b (Some (Kept k)) (first_kept known (k + 1) ys) ≡ Some x → (j : ℕ) × (x ≡ Kept j)) [
-      | true ↦ λ q. let same : x ≡ Kept k = cc in (k, same)
+    (elim (agrees known y.nogood) as (λ b. cond b (Some (KeptNogood k)) (first_kept known (k + 1) ys) ≡ Some x → (j : ℕ) × (x ≡ KeptNogood j)) [
+      | true ↦ λ q. let same : x ≡ KeptNogood k = cc in (k, same)
       | false ↦ kept_only known (k + 1) ys x
     ]) e
 
-abbrev cited : Contents → List Recorded → Option Place → Option Reason
+abbrev cited : Contents → List Recorded → Option Cause → Option Reason
 cited p kept o = option_map (λ (x : Item). x.reason) (option_map (item_at p kept) o)
 
 -- the reason that is kept, of this problem and agent
@@ -286,46 +285,50 @@ reason_moved p q i j known kept place o e f h =
     h ∙ ap (λ z. reason_for z j known kept (value_at z j place)) e ∙ ap (λ n. reason_for p n known kept (value_at p n place)) f
 
 module _ (p : Contents) (i : ℕ) (known : Known) (kept : List Recorded) (v : ℤ) where
-  reason_is : reason_for p i known kept v ≡ cited p kept (place_for p i known kept v)
+  reason_is : reason_for p i known kept v ≡ cited p kept (cause_for p i known kept v)
   reason_is = ap (option_map (λ (x : Item). x.reason)) (cause_is p i known kept v)
 
-  some_cited : (o : Option Place) → is_some (cited p kept o) ≡ is_some o
+  some_cited : (o : Option Cause) → is_some (cited p kept o) ≡ is_some o
   some_cited None = refl
   some_cited (Some x) = refl
 
-  pub reason_some : is_some (reason_for p i known kept v) ≡ is_some (place_for p i known kept v)
-  reason_some = ap is_some reason_is ∙ some_cited (place_for p i known kept v)
+  pub reason_some : is_some (reason_for p i known kept v) ≡ is_some (cause_for p i known kept v)
+  reason_some = ap is_some reason_is ∙ some_cited (cause_for p i known kept v)
 
-  pub no_reason : reason_for p i known kept v ≡ None → None ≡ place_for p i known kept v
-  no_reason e = by_place (place_for p i known kept v) (sym reason_is ∙ e)
+  pub no_reason : reason_for p i known kept v ≡ None → None ≡ cause_for p i known kept v
+  no_reason e = by_place (cause_for p i known kept v) (sym reason_is ∙ e)
     where
-      by_place : (o : Option Place) → cited p kept o ≡ None → None ≡ o
+      by_place : (o : Option Cause) → cited p kept o ≡ None → None ≡ o
       by_place None f = refl
       by_place (Some x) f = cc
 
-  pub rule_reason : (r : ℕ) → reason_for p i known kept v ≡ Some (Rule r) → Some (Owned r) ≡ place_for p i known kept v
+  pub rule_reason : (r : ℕ) → reason_for p i known kept v ≡ Some (Rule r) → Some (OwnedRule r) ≡ cause_for p i known kept v
   rule_reason r e = by_rule (first_rule p (with_value i v known) (owned_rules p i)) refl (sym reason_is ∙ e)
     where
-      by_kept : (o : Option Place) → first_kept (with_value i v known) 0 kept ≡ o → cited p kept o ≡ Some (Rule r) → Some (Owned r) ≡ o
+      by_kept : (o : Option Cause) → first_kept (with_value i v known) 0 kept ≡ o → cited p kept o ≡ Some (Rule r) → Some (OwnedRule r) ≡ o
       by_kept None f g = cc
-      by_kept (Some x) f g = let q = kept_only (with_value i v known) 0 kept x f in let h : cited p kept (Some (Kept q.0)) ≡ Some (Rule r) = subst (λ (z : Place). cited p kept (Some z) ≡ Some (Rule r)) q.1 g in cc
+      by_kept (Some x) f g = let q = kept_only (with_value i v known) 0 kept x f in let h : cited p kept (Some (KeptNogood q.0)) ≡ Some (Rule r) = subst (λ (z : Cause). cited p kept (Some z) ≡ Some (Rule r)) q.1 g in cc
 
-      by_rule : (o : Option Place) → first_rule p (with_value i v known) (owned_rules p i) ≡ o → cited p kept (option_or o (first_kept (with_value i v known) 0 kept)) ≡ Some (Rule r) → Some (Owned r) ≡ option_or o (first_kept (with_value i v known) 0 kept)
+      by_rule : (o : Option Cause) → first_rule p (with_value i v known) (owned_rules p i) ≡ o → cited p kept (option_or o (first_kept (with_value i v known) 0 kept)) ≡ Some (Rule r) → Some (OwnedRule r) ≡ option_or o (first_kept (with_value i v known) 0 kept)
       by_rule None f g = by_kept (first_kept (with_value i v known) 0 kept) refl g
       by_rule (Some x) f g =
           let q = rule_found p (with_value i v known) (owned_rules p i) x f in
-          let h : cited p kept (Some (Owned q.0)) ≡ Some (Rule r) = subst (λ (z : Place). cited p kept (Some z) ≡ Some (Rule r)) q.1 g in
+          let h : cited p kept (Some (OwnedRule q.0)) ≡ Some (Rule r) = subst (λ (z : Cause). cited p kept (Some z) ≡ Some (Rule r)) q.1 g in
           let same : q.0 ≡ r = cc in
-          ap (λ (n : ℕ). Some (Owned n)) (sym same) ∙ ap Some (sym q.1)
+          ap (λ (n : ℕ). Some (OwnedRule n)) (sym same) ∙ ap Some (sym q.1)
 
-  pub step_reason : (s : ℕ) → reason_for p i known kept v ≡ Some (Earlier s) → first_kept (with_value i v known) 0 kept ≡ place_for p i known kept v
+  pub step_reason : (s : ℕ) → reason_for p i known kept v ≡ Some (Earlier s) → first_kept (with_value i v known) 0 kept ≡ cause_for p i known kept v
   step_reason s e = by_rule (first_rule p (with_value i v known) (owned_rules p i)) refl (sym reason_is ∙ e)
     where
-      by_rule : (o : Option Place) → first_rule p (with_value i v known) (owned_rules p i) ≡ o → cited p kept (option_or o (first_kept (with_value i v known) 0 kept)) ≡ Some (Earlier s) → first_kept (with_value i v known) 0 kept ≡ option_or o (first_kept (with_value i v known) 0 kept)
+      by_rule : (o : Option Cause) → first_rule p (with_value i v known) (owned_rules p i) ≡ o → cited p kept (option_or o (first_kept (with_value i v known) 0 kept)) ≡ Some (Earlier s) → first_kept (with_value i v known) 0 kept ≡ option_or o (first_kept (with_value i v known) 0 kept)
       by_rule None f g = refl
       by_rule (Some x) f g =
           let q = rule_found p (with_value i v known) (owned_rules p i) x f in
-          let h : cited p kept (Some (Owned q.0)) ≡ Some (Earlier s) = subst (λ (z : Place). cited p kept (Some z) ≡ Some (Earlier s)) q.1 g in cc
+          let h : cited p kept (Some (OwnedRule q.0)) ≡ Some (Earlier s) = subst (λ (z : Cause). cited p kept (Some z) ≡ Some (Earlier s)) q.1 g in cc
+
+  -- then a nogood agrees
+  pub step_some : (s : ℕ) → reason_for p i known kept v ≡ Some (Earlier s) → is_some (first_kept (with_value i v known) 0 kept) ≡ true
+  step_some s e = ap is_some (step_reason s e) ∙ sym reason_some ∙ ap is_some e
 
 -- ---- the choice of a value
 
@@ -334,17 +337,17 @@ flip a true e = ap not (sym e)
 flip a false e = ap not (sym e)
 
 -- whether nothing rules out the agent's own value
-pub own_is : (p : Contents) (me : ℕ) (b : Body) (v w : ℤ) (free : Bool) → free ≡ not (is_some (place_for p me (values_in (view_of b.view)) b.store w)) → w ≡ v → b.value ≡ Some v
+pub own_is : (p : Contents) (me : ℕ) (b : Body) (v w : ℤ) (free : Bool) → free ≡ not (is_some (cause_for p me (values_in (view_of b.known.view)) b.known.store w)) → w ≡ v → b.value ≡ Some v
     → free ≡ is_free (csp_of p) me (agent_of b) b.value
 own_is p me b v w free f same e =
     f
-    ∙ ap (λ z. not (is_some (place_for p me (values_in (view_of b.view)) b.store z))) same
-    ∙ ap not (sym (ruled_is p me (values_in (view_of b.view)) b.store v))
+    ∙ ap (λ z. not (is_some (cause_for p me (values_in (view_of b.known.view)) b.known.store z))) same
+    ∙ ap not (sym (ruled_is p me (values_in (view_of b.known.view)) b.known.store v))
     ∙ ap (is_free (csp_of p) me (agent_of b)) (sym e)
 
-pub least_chosen : (p : Contents) (me : ℕ) (b : Body) (least : Option ℤ) → least ≡ least_free p me (values_in (view_of b.view)) b.store (domain (csp_of p) me) → false ≡ is_free (csp_of p) me (agent_of b) b.value
+pub least_chosen : (p : Contents) (me : ℕ) (b : Body) (least : Option ℤ) → least ≡ least_free p me (values_in (view_of b.known.view)) b.known.store (domain (csp_of p) me) → false ≡ is_free (csp_of p) me (agent_of b) b.value
     → least ≡ choice (csp_of p) me (agent_of b)
 least_chosen p me b least f n =
     f
-    ∙ sym (least_is p me (values_in (view_of b.view)) b.store (domain (csp_of p) me))
-    ∙ ap (λ z. cond z b.value (find (λ v. not (ruled_out (csp_of p) me (known (agent_of b)) (records_of b.store) v)) (domain (csp_of p) me))) n
+    ∙ sym (least_is p me (values_in (view_of b.known.view)) b.known.store (domain (csp_of p) me))
+    ∙ ap (λ z. cond z b.value (find (λ v. not (ruled_out (csp_of p) me (known (agent_of b)) (records_of b.known.store) v)) (domain (csp_of p) me))) n

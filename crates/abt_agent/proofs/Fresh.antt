@@ -24,8 +24,8 @@ use Rattle.abt_agent.specs.declared.body.Body.{Body}
 use Rattle.abt_agent.specs.declared.Turn.{Turn}
 use Rattle.abt_agent.specs.declared.Turn.TheVariants.{Quiet, Announced, Derived, Empty}
 use Rattle.abt_agent.specs.Turns.{IsTurn, IsFirstTurn}
-use Rattle.abt_agent.specs.Bodies.{agent_of}
-use Rattle.abt_agent.specs.Owned.{names_any}
+use Rattle.abt_agent.specs.Bodies.{agent_of, owner_of, IsGood, IsInStep}
+use Rattle.abt_agent.specs.Rules.{names_any}
 use Rattle.abt_agent.proofs.Causes.{any-map, owned_are}
 
 -- ---- which agents share
@@ -100,7 +100,7 @@ marks_are f n h k = elim (cases_lt k n) [
 
 -- ---- the whole
 
-pub fresh_is : (p : Contents) → IsCsp (csp_of p) → (me : ℕ) (b : Body) → b.value ≡ None → b.stamp ≡ 0 → b.waits ≡ false → view_of b.view ≡ (λ k. None) → b.store ≡ []
+pub fresh_is : (p : Contents) → IsCsp (csp_of p) → (me : ℕ) (b : Body) → b.value ≡ None → b.stamp ≡ 0 → b.waits ≡ false → view_of b.known.view ≡ (λ k. None) → b.known.store ≡ []
     → b.tells.items ≡ map (λ j. shares (csp_of p) j me) (below (length p.domains)) → b.linked.items ≡ map (shares (csp_of p) me) (below me)
     → agent_of b ≡ fresh (csp_of p) me
 fresh_is p ok me b v s w view store tells linked =
@@ -110,8 +110,15 @@ fresh_is p ok me b v s w view store tells linked =
     λ x. record { value = v x; stamp = s x; waits = w x; view = view x; recorded = kept x; tells = λ j. tell j x; linked = λ k. link k x }
 
 -- it is sound
-pub fresh_sound : (p : Csp) → IsCsp p → (i : ℕ) → Sound p i (fresh p i)
+fresh_sound : (p : Csp) → IsCsp p → (i : ℕ) → Sound p i (fresh p i)
 fresh_sound p ok i = (start_kept p ok).sound i
+
+pub fresh_good : (p : Contents) → IsCsp (csp_of p) → (me : ℕ) (b : Body) → owner_of b.known ≡ (p, me) → IsInStep b.known → length b.tells.items ≡ length p.domains → length b.linked.items ≡ me
+    → agent_of b ≡ fresh (csp_of p) me → IsGood b
+fresh_good p ok me b e in_step tells linked f = record {
+  sized = record { in_step = in_step; linked = linked ∙ sym (ap (λ (x : Contents × ℕ). x.1) e); tells = tells ∙ sym (ap (λ (x : Contents × ℕ). length x.0.domains) e) };
+  sound = subst (λ (x : Contents × ℕ). Sound (csp_of x.0) x.1 (agent_of b)) (sym e) (subst (Sound (csp_of p) me) (sym f) (fresh_sound (csp_of p) ok me));
+}
 
 -- ---- no step's number matters
 

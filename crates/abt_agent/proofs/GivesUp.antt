@@ -7,7 +7,8 @@ use Rattle.dcsp_defs.specs.declared.Step.{Step}
 use Rattle.abt_defs.specs.Agents.{Agent, Stamped, Refuse, lowest}
 use Rattle.abt_defs.specs.Reasons.{derived, step_of}
 use Rattle.abt_defs.specs.Steps as steps
-use Rattle.dcsp_problem.specs.Problems.{Contents, csp_of}
+use Rattle.dcsp_defs.specs.Csp.{Csp}
+use Rattle.dcsp_problem.specs.Problems.{csp_of}
 use Rattle.abt_message.specs.declared.Sent.{Sent}
 use Rattle.abt_message.specs.Messages.{with_stamps}
 use Rattle.abt_agent.specs.Outgoing.{Posts}
@@ -42,35 +43,41 @@ refused number a step (q ∷ qs) (s ∷ ss) last e =
     ap (λ (k : ℕ). record { agent = record a { waits = true }; sent = (k, Refuse number (with_stamps (q ∷ qs) (s ∷ ss))) ∷ []; step = Some step })
     (lowest_is q (record { value = q.value; stamp = s }) qs ss last (subst (λ (z : ℕ). Some last ≡ slice_get (q ∷ qs) z) l e))
 
-module _ (t : Contents) (me number : ℕ) (b : Body) (sized : IsSized t me b) (out : List Sent) (s : Step) (stamps : List ℕ)
-    (step : s ≡ step_of (csp_of t) me (view_of b.view) (records_of b.store)) (pairs : with_stamps s.nogood stamps ≡ derived (csp_of t) me (view_of b.view) (records_of b.store)) where
-  same_step : s ≡ step_of (csp_of t) me (agent_of b).view (agent_of b).recorded
+module _ (number : ℕ) (b : Body) (sized : IsSized b) (out : List Sent) (s : Step) (stamps : List ℕ)
+    (step : s ≡ step_of (csp_of b.known.problem.now) b.known.me (view_of b.known.view) (records_of b.known.store)) (pairs : with_stamps s.nogood stamps ≡ derived (csp_of b.known.problem.now) b.known.me (view_of b.known.view) (records_of b.known.store)) where
+  abbrev p : Csp
+  p = csp_of b.known.problem.now
+
+  abbrev me : ℕ
+  me = b.known.me
+
+  same_step : s ≡ step_of p me (agent_of b).view (agent_of b).recorded
   same_step = step
 
-  same_pairs : with_stamps s.nogood stamps ≡ derived (csp_of t) me (agent_of b).view (agent_of b).recorded
+  same_pairs : with_stamps s.nogood stamps ≡ derived p me (agent_of b).view (agent_of b).recorded
   same_pairs = pairs
 
   -- what is refused, in the code's words
-  same_outcome : steps.take_or_refuse (csp_of t) me number (agent_of b) None ≡ steps.refuse number (agent_of b) s (with_stamps s.nogood stamps)
+  same_outcome : steps.take_or_refuse p me number (agent_of b) None ≡ steps.refuse number (agent_of b) s (with_stamps s.nogood stamps)
   same_outcome = λ x. steps.refuse number (agent_of b) (sym same_step x) (sym same_pairs x)
 
   pub gives_up_empty : None ≡ slice_get s.nogood (length s.nogood - 1)
-      → Does t me (steps.take_or_refuse (csp_of t) me number (agent_of b) None) b b out out (Empty s)
+      → Does (steps.take_or_refuse p me number (agent_of b) None) b b out out (Empty s)
   gives_up_empty e =
       let none = last_none s.nogood e in
-      let all : steps.take_or_refuse (csp_of t) me number (agent_of b) None ≡ record { agent = agent_of b; sent = []; step = Some s } =
+      let all : steps.take_or_refuse p me number (agent_of b) None ≡ record { agent = agent_of b; sent = []; step = Some s } =
       same_outcome ∙ ap (λ z. steps.refuse number (agent_of b) s (with_stamps z stamps)) none in
-      subst (λ o. Does t me o b b out out (Empty s)) (sym all) (record { agent = refl; sent = posts_none out; turn_is = (refl, none); sized = sized })
+      subst (λ o. Does o b b out out (Empty s)) (sym all) (record { agent = refl; sent = posts_none out; turn_is = (refl, none); sized = sized })
 
   pub gives_up : (last : Pair) (copy : List Pair) (went : List Sent) → Some last ≡ slice_get s.nogood (length s.nogood - 1) → copy ≡ s.nogood
       → Posts out went ((last.var, Refuse number (with_stamps copy stamps)) ∷ [])
-      → Does t me (steps.take_or_refuse (csp_of t) me number (agent_of b) None) b (record b { waits = true }) out went (Derived s)
+      → Does (steps.take_or_refuse p me number (agent_of b) None) b (record b { waits = true }) out went (Derived s)
   gives_up last copy went e c m =
-      let all : steps.take_or_refuse (csp_of t) me number (agent_of b) None ≡ record { agent = record (agent_of b) { waits = true }; sent = (last.var, Refuse number (with_stamps s.nogood stamps)) ∷ []; step = Some s } =
+      let all : steps.take_or_refuse p me number (agent_of b) None ≡ record { agent = record (agent_of b) { waits = true }; sent = (last.var, Refuse number (with_stamps s.nogood stamps)) ∷ []; step = Some s } =
       same_outcome ∙ refused number (agent_of b) s s.nogood stamps last e in
-      subst (λ o. Does t me o b (record b { waits = true }) out went (Derived s)) (sym all) (record {
+      subst (λ o. Does o b (record b { waits = true }) out went (Derived s)) (sym all) (record {
         agent = refl;
         sent = subst (λ z. Posts out went ((last.var, Refuse number (with_stamps z stamps)) ∷ [])) c m;
         turn_is = (refl, last_some s.nogood last e);
-        sized = record { me_exists = sized.me_exists; view = sized.view; linked = sized.linked; tells = sized.tells; domains = sized.domains; stamps = sized.stamps; problem = sized.problem; agent = sized.agent; stands = sized.stands };
+        sized = record { in_step = sized.in_step; linked = sized.linked; tells = sized.tells };
       })

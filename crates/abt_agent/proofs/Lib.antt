@@ -6,5 +6,7 @@ pub mod Learns
 pub mod Receives
 pub mod Fresh
 pub mod Proper
+pub mod Against
 pub mod Rights
+pub mod Acting
 pub mod Tracks

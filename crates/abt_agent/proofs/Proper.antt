@@ -12,6 +12,8 @@ use Rattle.law_invariants.specs.OneAgent.{Proper}
 use Rattle.dcsp_problem.specs.Problems.{Contents, csp_of}
 use Rattle.abt_store.specs.declared.Recorded.{Recorded}
 use Rattle.abt_store.specs.Stores.{record_of, records_of, lowest_value, is_ruled_out}
+use Rattle.dcsp_defs.proofs.Lists.{In-map}
+use Rattle.abt_reason.specs.Kept.{IsOwn}
 use Rattle.abt_agent.specs.States.{IsNogoodFor}
 
 -- the pair at the lowest place
@@ -109,3 +111,22 @@ refused_same p i [] v h = refl
 refused_same p i (x ∷ xs) v h =
     ap (λ o. is_value o v || is_refused i (records_of xs) (Some v)) (sym (lowest_proper p i x.nogood (h (record_of x) (inl refl))))
     ∙ ap (λ b. is_value (lowest_value x.nogood) v || b) (refused_same p i xs v (λ y u. h y (inr u)))
+
+-- of a proper nogood the lowest variable is the agent
+lowest_at : (i : ℕ) (pairs : List Pair) → IsRising (names pairs) → ((y : Pair) → In y pairs → y.var ≤ i) → (own : ℤ) → value_at pairs i ≡ Some own → lowest_var pairs ≡ Some i
+lowest_at i [] r low own e = cc
+lowest_at i (x ∷ []) r low own e = elim (eqb_tells i x.var) [
+  | inl t ↦ ap Some (sym t.1)
+  | inr t ↦ let none : None ≡ Some own = rw t.0 at e in cc
+]
+lowest_at i (x ∷ z ∷ zs) r low own e =
+    let a = r.0 z.var (inl refl) in
+    let b = low z (inr (inl refl)) in
+    ap (option_map (λ (p : Pair). p.var)) (tail_lowest x z zs)
+    ∙ elim (eqb_tells i x.var) [
+      | inl t ↦ let s = t.1 in absurd (omega arith)
+      | inr t ↦ lowest_at i (z ∷ zs) r.1 (λ y u. low y (inr u)) own (rw t.0 at e)
+    ]
+
+pub proper_own : (p : Csp) (i : ℕ) (kept : List Recorded) → ((x : Record) → In x (records_of kept) → Proper p i x.pairs) → (x : Recorded) → In x kept → IsOwn i x
+proper_own p i kept h x u = let g = h (record_of x) (In-map record_of x kept u) in lowest_at i x.nogood g.rising g.others g.own g.has

@@ -18,11 +18,12 @@ use Rattle.abt_message.specs.declared.Sent.{Sent}
 use Rattle.abt_message.specs.Messages.{with_stamps}
 use Rattle.abt_agent.specs.Outgoing.{Posts}
 use Rattle.abt_agent.proofs.Posting.{posts_then}
+use Rattle.abt_agent.specs.declared.knowledge.Knowledge.{Knowledge}
 use Rattle.abt_agent.specs.declared.body.Body.{Body}
 use Rattle.abt_agent.specs.declared.Turn.{Turn}
 use Rattle.abt_agent.specs.declared.Turn.TheVariants.{Quiet, Announced, Derived, Empty}
 use Rattle.abt_agent.specs.Turns.{IsTurn}
-use Rattle.abt_agent.specs.Bodies.{agent_of, IsSized, IsGood, Does}
+use Rattle.abt_agent.specs.Bodies.{agent_of, owner_of, IsSized, IsGood, Does, DoesReceive}
 use Rattle.abt_agent.proofs.Lists.{plain-with_stamps}
 
 pub ok_then : {X E : Type 0} (r : Result X E) {P Q : X → Type 0} → ((x : X) → P x → Q x) → IfOk r P → IfOk r Q
@@ -37,21 +38,21 @@ ok_both (Err e) f o h = h
 -- ---- the agent's own facts hold after it
 
 -- after it has learned a value
-pub learned_sound : (p : Csp) (i from : ℕ) (s : Stamped) (a b : Agent) → Sound p i a → i < count p → from < i → In s.value (domain p from) → b ≡ steps.learn from s a → Sound p i b
+learned_sound : (p : Csp) (i from : ℕ) (s : Stamped) (a b : Agent) → Sound p i a → i < count p → from < i → In s.value (domain p from) → b ≡ steps.learn from s a → Sound p i b
 learned_sound p i from s a b h l higher there e =
     subst (Sound p i) (sym e) (announced p i a h l from s higher ((omega arith), there)).sound
 
 -- after it has taken in a nogood
-pub heeded_sound : (p : Csp) (i step : ℕ) (nogood : List Pair) (stamps : List ℕ) (a b : Agent) → Sound p i a → i < count p → Proper p i nogood → b ≡ steps.heed i step (with_stamps nogood stamps) a → Sound p i b
+heeded_sound : (p : Csp) (i step : ℕ) (nogood : List Pair) (stamps : List ℕ) (a b : Agent) → Sound p i a → i < count p → Proper p i nogood → b ≡ steps.heed i step (with_stamps nogood stamps) a → Sound p i b
 heeded_sound p i step nogood stamps a b h l proper e =
     subst (Sound p i) (sym e) (takes_nogood p i a h l 0 step (with_stamps nogood stamps) (subst (Proper p i) (sym (plain-with_stamps nogood stamps)) proper)).sound
 
 -- after it has settled
-pub settled_sound : (p : Csp) (i number : ℕ) (a b : Agent) → Sound p i a → i < count p → b ≡ (steps.settle p i number a).agent → Sound p i b
+settled_sound : (p : Csp) (i number : ℕ) (a b : Agent) → Sound p i a → i < count p → b ≡ (steps.settle p i number a).agent → Sound p i b
 settled_sound p i number a b h l e = subst (Sound p i) (sym e) (settles p i l a h number).sound
 
 -- after a link request
-pub link_sound : (p : Csp) (i from : ℕ) (a b : Agent) → Sound p i a → from < count p → b ≡ record a { tells = update a.tells from true } → Sound p i b
+link_sound : (p : Csp) (i from : ℕ) (a b : Agent) → Sound p i a → from < count p → b ≡ record a { tells = update a.tells from true } → Sound p i b
 link_sound p i from a b h l e = subst (Sound p i) (sym e) (record {
   in_domain = h.in_domain;
   stamped = h.stamped;
@@ -64,15 +65,39 @@ link_sound p i from a b h l e = subst (Sound p i) (sym e) (record {
   lower = λ j u. elim (eqb_tells j from) [ inl t ↦ omega arith | inr t ↦ h.lower j (rw t.0 at u) ];
 })
 
-pub good_settled : (t : Contents) (me number : ℕ) (before after : Body) (out went : List Sent) (r : Result Turn Memory) → IsGood t me before
-    → IfOk r (λ turn. Does t me (steps.settle (csp_of t) me number (agent_of before)) before after out went turn) → OnOk r (IsGood t me after)
-good_settled t me number before after out went (Ok turn) h d = record { sized = d.sized; sound = settled_sound (csp_of t) me number (agent_of before) (agent_of after) h.sound h.sized.me_exists d.agent }
-good_settled t me number before after out went (Err e) h d = tt
+-- the same owner, the same facts
+pub moved_sound : (k l : Knowledge) (a : Agent) → owner_of l ≡ owner_of k → Sound (csp_of k.problem.now) k.me a → Sound (csp_of l.problem.now) l.me a
+moved_sound k l a e h = subst (λ (x : Contents × ℕ). Sound (csp_of x.0) x.1 a) (sym e) h
 
-pub good_linked : (t : Contents) (me number from : ℕ) (before after : Body) (out went : List Sent) (r : Result Turn Memory) → IsGood t me before → from < length t.domains
-    → IfOk r (λ turn. Does t me (steps.receive (csp_of t) me number (agent_of before) from Add_link) before after out went turn) → OnOk r (IsGood t me after)
-good_linked t me number from before after out went (Ok turn) h l d = record { sized = d.sized; sound = link_sound (csp_of t) me from (agent_of before) (agent_of after) h.sound l d.agent }
-good_linked t me number from before after out went (Err e) h l d = tt
+pub good_learned : (from : ℕ) (s : Stamped) (before after : Body) → IsGood before → owner_of after.known ≡ owner_of before.known → IsSized after → from < before.known.me → In s.value (domain (csp_of before.known.problem.now) from)
+    → agent_of after ≡ steps.learn from s (agent_of before) → IsGood after
+good_learned from s before after h e sized higher there a = record {
+  sized = sized;
+  sound = moved_sound before.known after.known (agent_of after) e (learned_sound (csp_of before.known.problem.now) before.known.me from s (agent_of before) (agent_of after) h.sound h.sized.in_step.me_exists higher there a);
+}
+
+pub good_heeded : (step : ℕ) (nogood : List Pair) (stamps : List ℕ) (before after : Body) → IsGood before → owner_of after.known ≡ owner_of before.known → IsSized after → Proper (csp_of before.known.problem.now) before.known.me nogood
+    → agent_of after ≡ steps.heed before.known.me step (with_stamps nogood stamps) (agent_of before) → IsGood after
+good_heeded step nogood stamps before after h e sized proper a = record {
+  sized = sized;
+  sound = moved_sound before.known after.known (agent_of after) e (heeded_sound (csp_of before.known.problem.now) before.known.me step nogood stamps (agent_of before) (agent_of after) h.sound h.sized.in_step.me_exists proper a);
+}
+
+pub good_settled : (number : ℕ) (before after : Body) (out went : List Sent) (r : Result Turn Memory) → IsGood before → owner_of after.known ≡ owner_of before.known
+    → IfOk r (λ turn. Does (steps.settle (csp_of before.known.problem.now) before.known.me number (agent_of before)) before after out went turn) → OnOk r (IsGood after)
+good_settled number before after out went (Ok turn) h e d = record {
+  sized = d.sized;
+  sound = moved_sound before.known after.known (agent_of after) e (settled_sound (csp_of before.known.problem.now) before.known.me number (agent_of before) (agent_of after) h.sound h.sized.in_step.me_exists d.agent);
+}
+good_settled number before after out went (Err f) h e d = tt
+
+pub good_linked : (number from : ℕ) (before after : Body) (out went : List Sent) (r : Result Turn Memory) → IsGood before → from < length before.known.problem.now.domains → owner_of after.known ≡ owner_of before.known
+    → IfOk r (λ turn. DoesReceive number from Add_link before after out went turn) → OnOk r (IsGood after)
+good_linked number from before after out went (Ok turn) h l e d = record {
+  sized = d.sized;
+  sound = moved_sound before.known after.known (agent_of after) e (link_sound (csp_of before.known.problem.now) before.known.me from (agent_of before) (agent_of after) h.sound l d.agent);
+}
+good_linked number from before after out went (Err f) h l e d = tt
 
 -- ---- stamps stay
 
@@ -90,10 +115,10 @@ turn_same a b sent o (Derived s) e h = h
 turn_same a b sent o (Empty s) e h = h
 
 -- messages sent before settling come first
-after_first : (t : Contents) (me : ℕ) (o : Outcome) (before mid after : Body) (out first went : List Sent) (sent : List (ℕ × Message)) (turn : Turn)
-    → mid.stamp ≡ before.stamp → Posts out first sent → Does t me o mid after first went turn
-    → Does t me (steps.first_sent sent o) before after out went turn
-after_first t me o before mid after out first went sent turn e f d = record {
+after_first : (o : Outcome) (before mid after : Body) (out first went : List Sent) (sent : List (ℕ × Message)) (turn : Turn)
+    → mid.stamp ≡ before.stamp → Posts out first sent → Does o mid after first went turn
+    → Does (steps.first_sent sent o) before after out went turn
+after_first o before mid after out first went sent turn e f d = record {
   agent = d.agent;
   sent = posts_then out first went sent o.sent f d.sent;
   turn_is = turn_same (agent_of mid) (agent_of before) sent o turn e d.turn_is;
@@ -101,42 +126,55 @@ after_first t me o before mid after out first went sent turn e f d = record {
 }
 
 -- the agent heeds the nogood, and goes on waiting
-stays_idle : (t : Contents) (me : ℕ) (before after : Body) (b : Agent) (out went : List Sent) (sent : List (ℕ × Message))
-    → agent_of after ≡ b → after.stamp ≡ before.stamp → Posts out went sent → IsSized t me after
-    → Does t me (steps.first_sent sent (steps.stay b)) before after out went Quiet
-stays_idle t me before after b out went sent e f m sized = record {
+stays_idle : (before after : Body) (b : Agent) (out went : List Sent) (sent : List (ℕ × Message))
+    → agent_of after ≡ b → after.stamp ≡ before.stamp → Posts out went sent → IsSized after
+    → Does (steps.first_sent sent (steps.stay b)) before after out went Quiet
+stays_idle before after b out went sent e f m sized = record {
   agent = e;
   sent = subst (Posts out went) (sym (append-nil sent)) m;
   turn_is = (refl, ap (λ (z : Agent). z.stamp) (sym e) ∙ f);
   sized = sized;
 }
 
--- what a nogood does, by whether the agent goes on waiting
-idle_is : (t : Contents) (me number from step : ℕ) (nogood ps : List Pair) (stamps : List ℕ) (a : Agent) (idle : Bool) → ps ≡ nogood
-    → idle ≡ (a.waits && not (steps.is_news me (with_stamps ps stamps) a))
-    → steps.first_sent (steps.to_each Add_link (steps.unlinked me (plain (with_stamps nogood stamps)) a)) (cond idle (steps.stay (steps.heed me step (with_stamps nogood stamps) a)) (steps.settle (csp_of t) me number (steps.heed me step (with_stamps nogood stamps) a)))
-    ≡ steps.receive (csp_of t) me number a from (Refuse step (with_stamps nogood stamps))
-idle_is t me number from step nogood ps stamps a idle p e =
-    ap (λ b. steps.first_sent (steps.to_each Add_link (steps.unlinked me (plain (with_stamps nogood stamps)) a)) (cond b (steps.stay (steps.heed me step (with_stamps nogood stamps) a)) (steps.settle (csp_of t) me number (steps.heed me step (with_stamps nogood stamps) a))))
-    (e ∙ ap (λ z. a.waits && not (steps.is_news me (with_stamps z stamps) a)) p)
+module _ (number from step : ℕ) (nogood ps : List Pair) (stamps : List ℕ) (before mid : Body) (out first : List Sent)
+    (p : ps ≡ nogood) (heeds : agent_of mid ≡ steps.heed before.known.me step (with_stamps nogood stamps) (agent_of before))
+    (asks : Posts out first (steps.to_each Add_link (steps.unlinked before.known.me (plain (with_stamps nogood stamps)) (agent_of before)))) where
+  abbrev csp : Csp
+  csp = csp_of before.known.problem.now
 
-module _ (t : Contents) (me number from step : ℕ) (nogood ps : List Pair) (stamps : List ℕ) (before mid : Body) (out first : List Sent)
-    (p : ps ≡ nogood) (heeds : agent_of mid ≡ steps.heed me step (with_stamps nogood stamps) (agent_of before))
-    (asks : Posts out first (steps.to_each Add_link (steps.unlinked me (plain (with_stamps nogood stamps)) (agent_of before)))) where
+  abbrev me : ℕ
+  me = before.known.me
+
+  abbrev a : Agent
+  a = agent_of before
+
+  abbrev heeded : Agent
+  heeded = steps.heed me step (with_stamps nogood stamps) a
+
+  abbrev requests : List (ℕ × Message)
+  requests = steps.to_each Add_link (steps.unlinked me (plain (with_stamps nogood stamps)) a)
+
+  -- what a nogood does, by whether the agent goes on waiting
+  idle_is : (idle : Bool) → idle ≡ (a.waits && not (steps.is_news me (with_stamps ps stamps) a))
+      → steps.first_sent requests (cond idle (steps.stay heeded) (steps.settle csp me number heeded)) ≡ steps.receive csp me number a from (Refuse step (with_stamps nogood stamps))
+  idle_is idle e =
+      ap (λ b. steps.first_sent requests (cond b (steps.stay heeded) (steps.settle csp me number heeded)))
+      (e ∙ ap (λ z. a.waits && not (steps.is_news me (with_stamps z stamps) a)) p)
+
   pub same_stamp : mid.stamp ≡ before.stamp
-  same_stamp = ap (λ (z : Agent). z.stamp) heeds ∙ heed_stamp me step (with_stamps nogood stamps) (agent_of before)
+  same_stamp = ap (λ (z : Agent). z.stamp) heeds ∙ heed_stamp me step (with_stamps nogood stamps) a
 
-  pub refused_idle : true ≡ ((agent_of before).waits && not (steps.is_news me (with_stamps ps stamps) (agent_of before))) → IsSized t me mid
-      → Does t me (steps.receive (csp_of t) me number (agent_of before) from (Refuse step (with_stamps nogood stamps))) before mid out first Quiet
+  pub refused_idle : true ≡ (a.waits && not (steps.is_news me (with_stamps ps stamps) a)) → IsSized mid
+      → DoesReceive number from (Refuse step (with_stamps nogood stamps)) before mid out first Quiet
   refused_idle e sized =
-      subst (λ o. Does t me o before mid out first Quiet) (idle_is t me number from step nogood ps stamps (agent_of before) true p e)
-      (stays_idle t me before mid (steps.heed me step (with_stamps nogood stamps) (agent_of before)) out first (steps.to_each Add_link (steps.unlinked me (plain (with_stamps nogood stamps)) (agent_of before))) heeds same_stamp asks sized)
+      subst (λ o. Does o before mid out first Quiet) (idle_is true e)
+      (stays_idle before mid heeded out first requests heeds same_stamp asks sized)
 
-  pub refused_settles : (after : Body) (went : List Sent) (turn : Turn) → false ≡ ((agent_of before).waits && not (steps.is_news me (with_stamps ps stamps) (agent_of before)))
-      → Does t me (steps.settle (csp_of t) me number (agent_of mid)) mid after first went turn
-      → Does t me (steps.receive (csp_of t) me number (agent_of before) from (Refuse step (with_stamps nogood stamps))) before after out went turn
-  refused_settles after went turn e d =
-      subst (λ o. Does t me o before after out went turn) (idle_is t me number from step nogood ps stamps (agent_of before) false p e)
-      (after_first t me (steps.settle (csp_of t) me number (steps.heed me step (with_stamps nogood stamps) (agent_of before))) before mid after out first went
-      (steps.to_each Add_link (steps.unlinked me (plain (with_stamps nogood stamps)) (agent_of before))) turn same_stamp asks
-      (subst (λ z. Does t me (steps.settle (csp_of t) me number z) mid after first went turn) heeds d))
+  pub refused_settles : (after : Body) (went : List Sent) (turn : Turn) → owner_of mid.known ≡ owner_of before.known → false ≡ (a.waits && not (steps.is_news me (with_stamps ps stamps) a))
+      → Does (steps.settle (csp_of mid.known.problem.now) mid.known.me number (agent_of mid)) mid after first went turn
+      → DoesReceive number from (Refuse step (with_stamps nogood stamps)) before after out went turn
+  refused_settles after went turn o e d =
+      subst (λ o. Does o before after out went turn) (idle_is false e)
+      (after_first (steps.settle csp me number heeded) before mid after out first went requests turn same_stamp asks
+      (subst (λ z. Does (steps.settle csp me number z) mid after first went turn) heeds
+      (subst (λ (x : Contents × ℕ). Does (steps.settle (csp_of x.0) x.1 number (agent_of mid)) mid after first went turn) o d)))

@@ -1,5 +1,6 @@
 -- What the inside of the code's agent stands for.
 use Rattle.std.specs.Prelude.{◌≡◌, ℕ, ◌<◌, List, length}
+use Rattle.dcsp_nogood.specs.declared.Pair.{Pair}
 use Rattle.dcsp_defs.specs.Words.{In}
 use Rattle.abt_defs.specs.Agents.{Agent, Message, Record, values_in}
 use Rattle.abt_defs.specs.Steps.{Outcome, receive}
@@ -10,11 +11,16 @@ use Rattle.abt_message.specs.declared.Sent.{Sent}
 use Rattle.abt_view.specs.Views.{view_of}
 use Rattle.abt_store.specs.declared.Recorded.{Recorded}
 use Rattle.abt_store.specs.Stores.{records_of}
+use Rattle.abt_agent.specs.declared.knowledge.Knowledge.{Knowledge}
 use Rattle.abt_agent.specs.declared.body.Body.{Body}
 use Rattle.abt_agent.specs.declared.Turn.{Turn}
 use Rattle.abt_agent.specs.Turns.{IsTurn}
 use Rattle.abt_agent.specs.Outgoing.{IsStampedView, Posts}
 use Rattle.abt_agent.specs.States.{marked}
+
+-- which agent of which problem it is
+abbrev pub owner_of : Knowledge → Contents × ℕ
+owner_of k = (k.problem.now, k.me)
 
 -- the agent of the definitions that the code's agent stands for
 abbrev pub agent_of : Body → Agent
@@ -22,48 +28,52 @@ agent_of b = record {
   value = b.value;
   stamp = b.stamp;
   waits = b.waits;
-  view = view_of b.view;
-  recorded = records_of b.store;
+  view = view_of b.known.view;
+  recorded = records_of b.known.store;
   tells = marked b.tells.items;
   linked = marked b.linked.items;
 }
 
--- the tables are as long as the problem wants them, the view's values are of the domains and have stamps, and the reasons are those of view and store
-pub record IsSized (p : Contents) (me : ℕ) (b : Body) : Type 0 where
-  pub me_exists : me < length p.domains
-  pub view : length b.view ≡ me
-  pub linked : length b.linked.items ≡ me
-  pub tells : length b.tells.items ≡ length p.domains
-  pub domains : AreInDomains (csp_of p) (values_in (view_of b.view))
-  pub stamps : IsStampedView (view_of b.view)
-  pub problem : b.reasons.problem ≡ p
-  pub agent : b.reasons.agent ≡ me
-  pub stands : StandsFor b.reasons (values_in (view_of b.view)) b.store
+-- the view has a slot for each higher agent, its values are of the domains and have stamps, and the reasons are those of view and store
+pub record IsInStep (k : Knowledge) : Type 0 where
+  pub me_exists : k.me < length k.problem.now.domains
+  pub view : length k.view ≡ k.me
+  pub domains : AreInDomains (csp_of k.problem.now) (values_in (view_of k.view))
+  pub stamps : IsStampedView (view_of k.view)
+  pub problem : k.reasons.problem ≡ k.problem.now
+  pub agent : k.reasons.agent ≡ k.me
+  pub stands : StandsFor k.reasons (values_in (view_of k.view)) k.store
+
+-- what is known is in step, and the tables are as long as the problem wants them
+pub record IsSized (b : Body) : Type 0 where
+  pub in_step : IsInStep b.known
+  pub linked : length b.linked.items ≡ b.known.me
+  pub tells : length b.tells.items ≡ length b.known.problem.now.domains
 
 -- the nogood is one for this agent, with values of the domains
-abbrev pub IsProper : Contents → ℕ → Record → Type 0
-IsProper p me x = Proper (csp_of p) me x.pairs
+abbrev pub IsProper : Contents → ℕ → List Pair → Type 0
+IsProper p me pairs = Proper (csp_of p) me pairs
 
 -- all that are kept are so
 abbrev pub AreProper : Contents → ℕ → List Recorded → Type 0
-AreProper p me kept = (x : Record) → In x (records_of kept) → IsProper p me x
+AreProper p me kept = (x : Record) → In x (records_of kept) → IsProper p me x.pairs
 
 -- what always holds of the agent
-abbrev pub IsSound : Contents → ℕ → Body → Type 0
-IsSound p me b = Sound (csp_of p) me (agent_of b)
+abbrev pub IsSound : Body → Type 0
+IsSound b = Sound (csp_of b.known.problem.now) b.known.me (agent_of b)
 
 -- the tables are as long as they must be, and the agent's own facts hold
-pub record IsGood (p : Contents) (me : ℕ) (b : Body) : Type 0 where
-  pub sized : IsSized p me b
-  pub sound : IsSound p me b
+pub record IsGood (b : Body) : Type 0 where
+  pub sized : IsSized b
+  pub sound : IsSound b
 
 -- the code did what the definitions' agent does
-pub record Does (p : Contents) (me : ℕ) (o : Outcome) (before after : Body) (out went : List Sent) (turn : Turn) : Type 0 where
+pub record Does (o : Outcome) (before after : Body) (out went : List Sent) (turn : Turn) : Type 0 where
   pub agent : agent_of after ≡ o.agent
   pub sent : Posts out went o.sent
   pub turn_is : IsTurn (agent_of before) o turn
-  pub sized : IsSized p me after
+  pub sized : IsSized after
 
 -- the code did what the definitions' agent does when it receives this message from another one, where a step that it makes has this number
-abbrev pub DoesReceive : Contents → ℕ → ℕ → ℕ → Message → Body → Body → List Sent → List Sent → Turn → Type 0
-DoesReceive p me number from m before after out went turn = Does p me (receive (csp_of p) me number (agent_of before) from m) before after out went turn
+abbrev pub DoesReceive : ℕ → ℕ → Message → Body → Body → List Sent → List Sent → Turn → Type 0
+DoesReceive number from m before after out went turn = Does (receive (csp_of before.known.problem.now) before.known.me number (agent_of before) from m) before after out went turn

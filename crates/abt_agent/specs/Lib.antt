@@ -2,6 +2,6 @@ pub mod Turns
 pub mod Outgoing
 pub mod States
 pub mod Bodies
-pub mod Places
-pub mod Owned
+pub mod Causes
+pub mod Rules
 pub mod Rights

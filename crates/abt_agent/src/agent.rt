@@ -12,8 +12,7 @@ ghost use Rattle.abt_agent.specs.Rights.{BringsOfStep, IsRightTurn};
 ghost use Rattle.abt_store.specs.Stores.{records_of};
 
 use crate::Turn;
-use crate::body::{Body, fresh_body};
-use crate::receive::{act, first_settle};
+use crate::body::Body;
 use abt_message::{Message, Outbox};
 use dcsp_list::Memory;
 use dcsp_problem::Problem;
@@ -26,9 +25,6 @@ use std::marker::Model;
 /// `Memory` from then on.
 #[derive(Drop)]
 pub struct Agent<'p> {
-    problem: &'p Problem,
-    alloc: Global,
-    me: u32,
     body: Body<'p>,
     spent: bool,
 }
@@ -40,9 +36,9 @@ impl<'p> Model for Agent<'p> {
 
     ghost Value = { State };
 
-    ghost view = { λ a. record { problem = a.problem.now; me = a.me; value = a.body.value; stamp = a.body.stamp; waits = a.body.waits; view = a.body.view; store = a.body.store; tells = a.body.tells.items; linked = a.body.linked.items; spent = a.spent } };
+    ghost view = { λ a. record { problem = a.body.known.problem.now; me = a.body.known.me; value = a.body.value; stamp = a.body.stamp; waits = a.body.waits; view = a.body.known.view; store = a.body.known.store; tells = a.body.tells.items; linked = a.body.linked.items; spent = a.spent } };
 
-    ghost invariant = { λ a. a.spent ≡ false → IsGood a.problem.now a.me a.body };
+    ghost invariant = { λ a. a.spent ≡ false → IsGood a.body };
 }
 
 impl<'p> Agent<'p> {
@@ -51,14 +47,8 @@ impl<'p> Agent<'p> {
         requires { agent < length problem.now.domains }
         ensures { IfOk result (λ a. IsFresh problem.now agent a) }
     {
-        let body = fresh_body(alloc, problem, agent)?;
-        Ok(Agent {
-            problem,
-            alloc,
-            me: agent,
-            body,
-            spent: false,
-        })
+        let body = Body::new(alloc, problem, agent)?;
+        Ok(Agent { body, spent: false })
     }
 
     /// Settles for the first time: the agent takes its least value, or makes a step with the empty
@@ -79,9 +69,8 @@ impl<'p> Agent<'p> {
         if self.spent {
             return Err(Memory);
         }
-        let problem = self.problem;
-        let _vars = problem.vars();
-        match first_settle(self.alloc, problem, self.me, &mut self.body, out) {
+        let _vars = self.body.known.problem.vars();
+        match self.body.first_settle(out) {
             Ok(turn) => Ok(turn),
             Err(memory) => {
                 self.spent = true;
@@ -117,18 +106,8 @@ impl<'p> Agent<'p> {
         if self.spent {
             return Err(Memory);
         }
-        let problem = self.problem;
-        let _vars = problem.vars();
-        match act(
-            self.alloc,
-            problem,
-            self.me,
-            &mut self.body,
-            from,
-            message,
-            next_step,
-            out,
-        ) {
+        let _vars = self.body.known.problem.vars();
+        match self.body.receive(from, message, next_step, out) {
             Ok(turn) => Ok(turn),
             Err(memory) => {
                 self.spent = true;
@@ -147,7 +126,7 @@ impl<'p> Agent<'p> {
         ensures bounded { self.now.spent ≡ false → IsBoundedStore (csp_of self.now.problem) self.now.me (stands_for self.now) }
         ensures merges { self.now.spent ≡ false → IsUnionOfReasons (csp_of self.now.problem) self.now.me (stands_for self.now) }
     {
-        let _vars = self.problem.vars();
+        let _vars = self.body.known.problem.vars();
         self.body.value
     }
 

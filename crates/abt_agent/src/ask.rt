@@ -5,7 +5,7 @@ ghost use Rattle.dcsp_defs.specs.Words.{below};
 ghost use Rattle.abt_defs.specs.Agents.{Add_link};
 ghost use Rattle.abt_defs.specs.Steps as steps;
 ghost use Rattle.abt_message.specs.Messages.{message_of};
-ghost use Rattle.abt_agent.specs.Bodies.{agent_of, IsSized};
+ghost use Rattle.abt_agent.specs.Bodies.{agent_of, owner_of, IsSized};
 ghost use Rattle.abt_agent.specs.Outgoing.{IsStamped, Posts};
 ghost use Rattle.abt_agent.specs.States.{marked};
 
@@ -14,7 +14,6 @@ use crate::marks::mark_pairs;
 use abt_message::{Message, Outbox, Sent};
 use dcsp_list::Memory;
 use dcsp_nogood::Pair;
-use dcsp_problem::Problem;
 
 /// Sends the message if it is wanted.
 pub fn push_if(out: &mut Outbox, wanted: bool, to: u32, message: Message) -> Result<(), Memory>
@@ -60,20 +59,17 @@ fn ask_each(linked: &[bool], me: u32, pairs: &[Pair], out: &mut Outbox) -> Resul
     Ok(())
 }
 
-/// Asks for the links that the pairs want, and counts them as asked.
-pub fn ask(
-    problem: &Problem,
-    me: u32,
-    body: &mut Body,
-    pairs: &[Pair],
-    out: &mut Outbox,
-) -> Result<(), Memory>
-    requires { IsSized problem.now me body.old }
-    ensures agent { OnOk result (agent_of body.new ≡ steps.ask me pairs.now (agent_of body.old)) }
-    ensures sent { OnOk result (Posts out.old out.new (steps.to_each Add_link (steps.unlinked me pairs.now (agent_of body.old)))) }
-    ensures sized { OnOk result (IsSized problem.now me body.new) }
-{
-    ask_each(&body.linked, me, pairs, out)?;
-    mark_pairs(&mut body.linked, pairs);
-    Ok(())
+impl<'p> Body<'p> {
+    /// Asks for the links that the pairs want, and counts them as asked.
+    pub fn ask(&mut self, pairs: &[Pair], out: &mut Outbox) -> Result<(), Memory>
+        requires { IsSized self.old }
+        ensures agent { OnOk result (agent_of self.new ≡ steps.ask self.old.known.me pairs.now (agent_of self.old)) }
+        ensures sent { OnOk result (Posts out.old out.new (steps.to_each Add_link (steps.unlinked self.old.known.me pairs.now (agent_of self.old)))) }
+        ensures owner { owner_of self.new.known ≡ owner_of self.old.known }
+        ensures sized { OnOk result (IsSized self.new) }
+    {
+        ask_each(&self.linked, self.known.me, pairs, out)?;
+        mark_pairs(&mut self.linked, pairs);
+        Ok(())
+    }
 }

@@ -1,58 +1,53 @@
-//! What an agent keeps, and what that is before the start.
+//! What an agent has, and what that is before the start.
 
 ghost use Rattle.std.specs.Prelude.{◌≡◌, ◌<◌, ◌∷◌, ◌++◌, [], All, IfOk, OnOk, length, map};
 ghost use Rattle.dcsp_defs.specs.Words.{below};
 ghost use Rattle.abt_defs.specs.Agents.{fresh, is_among, shares};
 ghost use Rattle.dcsp_problem.specs.Problems.{constraint_at, csp_of};
-ghost use Rattle.abt_agent.specs.Bodies.{agent_of, IsGood};
-ghost use Rattle.abt_agent.specs.Owned.{names_any};
+ghost use Rattle.abt_agent.specs.Bodies.{agent_of, owner_of, IsGood};
+ghost use Rattle.abt_agent.specs.Rules.{names_any};
 
-use abt_reason::Reasons;
-use abt_store::Store;
-use abt_view::View;
+use crate::knowledge::Knowledge;
 use dcsp_list::Memory;
 use dcsp_problem::Problem;
 use std::alloc::Global;
 
-/// What an agent keeps.
+/// What an agent has.
 #[derive(Drop)]
 pub struct Body<'p> {
+    pub known: Knowledge<'p>,
     pub value: Option<i64>,
     /// How many values it has taken.
     pub stamp: u64,
     /// Whether it has sent a nogood and has learned nothing since.
     pub waits: bool,
-    pub view: View,
-    pub store: Store,
-    /// For each value of the agent the first reason under the view and the store.
-    pub reasons: Reasons<'p>,
     /// For each agent whether it is told of each value.
     pub tells: Vec<bool>,
     /// For each higher agent whether it is linked or asked.
     pub linked: Vec<bool>,
 }
 
-/// What an agent keeps before its start.
-pub fn fresh_body<'p>(alloc: Global, problem: &'p Problem, me: u32) -> Result<Body<'p>, Memory>
-    requires { me < length problem.now.domains }
-    ensures agent { IfOk result (λ body. agent_of body ≡ fresh (csp_of problem.now) me) }
-    ensures good { IfOk result (λ body. IsGood problem.now me body) }
-{
-    let _vars = problem.vars();
-    let view = View::new(alloc, me)?;
-    let tells = first_tells(alloc, problem, me)?;
-    let linked = first_linked(alloc, problem, me)?;
-    let reasons = Reasons::new(alloc, problem, me)?;
-    Ok(Body {
-        value: None,
-        stamp: 0,
-        waits: false,
-        view,
-        store: Store::new(alloc),
-        reasons,
-        tells,
-        linked,
-    })
+impl<'p> Body<'p> {
+    /// What an agent has before its start.
+    pub fn new(alloc: Global, problem: &'p Problem, me: u32) -> Result<Body<'p>, Memory>
+        requires { me < length problem.now.domains }
+        ensures owner { IfOk result (λ body. owner_of body.known ≡ (problem.now, me)) }
+        ensures agent { IfOk result (λ body. agent_of body ≡ fresh (csp_of problem.now) me) }
+        ensures good { IfOk result IsGood }
+    {
+        let _vars = problem.vars();
+        let known = Knowledge::new(alloc, problem, me)?;
+        let tells = first_tells(alloc, problem, me)?;
+        let linked = first_linked(alloc, problem, me)?;
+        Ok(Body {
+            known,
+            value: None,
+            stamp: 0,
+            waits: false,
+            tells,
+            linked,
+        })
+    }
 }
 
 /// The higher agents that are linked at first.
@@ -60,7 +55,7 @@ fn first_linked(alloc: Global, problem: &Problem, me: u32) -> Result<Vec<bool>, 
     requires { me < length problem.now.domains }
     ensures { IfOk result (λ marks. marks.items ≡ map (shares (csp_of problem.now) me) (below me)) }
 {
-    let mut marks = Vec::new(alloc);
+    let mut marks = Vec::with_capacity(alloc, me as usize).map_err(|_| Memory)?;
     for other in 0..me {
         add_mark(&mut marks, shares(problem, me, other))?;
     }

@@ -10,13 +10,13 @@
 mod agent;
 mod ask;
 mod body;
+mod knowledge;
 mod learn;
 mod marks;
 mod receive;
 mod refusal;
 mod search;
 mod settle;
-mod under;
 
 pub use agent::Agent;
 pub use dcsp_list::Memory;

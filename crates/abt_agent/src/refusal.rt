@@ -9,87 +9,26 @@ ghost use Rattle.dcsp_problem.specs.Problems.{csp_of};
 ghost use Rattle.abt_message.specs.Messages.{with_stamps};
 ghost use Rattle.abt_store.specs.Stores.{records_of};
 ghost use Rattle.abt_view.specs.Views.{stamped_in, view_of};
-ghost use Rattle.abt_agent.specs.Bodies.{IsSized};
+ghost use Rattle.abt_agent.specs.Bodies.{AreProper, IsInStep};
 ghost use Rattle.abt_agent.specs.Outgoing.{ArePositive, AreStampsOf, IsStampedView};
 ghost use Rattle.abt_agent.specs.States.{marked};
-ghost use Rattle.abt_agent.specs.Places.{blames, blames_one, item_at, told_at, told_if, IsPlace};
+ghost use Rattle.abt_agent.specs.Causes.{blames, blames_one, item_at, told_at, told_if, IsCause};
 
-use crate::body::Body;
+use crate::knowledge::Knowledge;
 use crate::marks::{mark_pairs, mark_variables};
-use crate::search::{Place, places};
+use crate::search::Cause;
 use abt_message::StampList;
-use abt_store::Recorded;
-use abt_view::{Told, View};
+use abt_view::Told;
 use dcsp_defs::{Reason, ReasonList};
 use dcsp_list::Memory;
 use dcsp_nogood::{Nogood, Pair};
-use dcsp_problem::Problem;
 use ngd_log::Step;
-use std::alloc::Global;
 
 /// A step, and the stamps of its nogood.
 #[derive(Debug, Drop)]
 pub struct Refusal {
     pub step: Step,
     pub stamps: StampList,
-}
-
-/// The step at the agent's variable that the reasons of all its values make.
-pub fn refuse(alloc: Global, problem: &Problem, me: u32, body: &Body) -> Result<Refusal, Memory>
-    requires { IsSized problem.now me body.now }
-    ensures step { IfOk result (λ refusal. refusal.step ≡ step_of (csp_of problem.now) me (view_of body.now.view) (records_of body.now.store)) }
-    ensures pairs { IfOk result (λ refusal. with_stamps refusal.step.nogood refusal.stamps ≡ derived (csp_of problem.now) me (view_of body.now.view) (records_of body.now.store)) }
-    ensures stamped { IfOk result (λ refusal. AreStampsOf refusal.step.nogood refusal.stamps) }
-{
-    let places = places(alloc, problem, me, body)?;
-    let kept = body.store.items();
-    let marks = blamed(alloc, problem, me, kept, &places)?;
-    let Basis { nogood, stamps } = gather(alloc, me, &body.view, &marks)?;
-    let reasons = reasons_at(alloc, problem, kept, &places)?;
-    let step = Step {
-        variable: Some(me),
-        nogood,
-        reasons,
-    };
-    Ok(Refusal { step, stamps })
-}
-
-/// Marks the higher agents that something at the places names.
-fn blamed(
-    alloc: Global,
-    problem: &Problem,
-    me: u32,
-    kept: &[Recorded],
-    places: &[Place],
-) -> Result<Vec<bool>, Memory>
-    requires { All (IsPlace problem.now kept.now) places.now }
-    ensures marks { IfOk result (λ marks. (k : ℕ) → k < me → marked marks.items k ≡ blames problem.now kept.now places.now k) }
-    ensures size { IfOk result (λ marks. length marks.items ≡ me) }
-{
-    let mut marks = vec![in alloc; false; me as usize].map_err(|_| Memory)?;
-    mark_all(&mut marks, problem, kept, places);
-    Ok(marks)
-}
-
-/// Marks what something at the places names.
-fn mark_all(marks: &mut [bool], problem: &Problem, kept: &[Recorded], places: &[Place])
-    requires { All (IsPlace problem.now kept.now) places.now }
-    ensures { (k : ℕ) → marked marks.new k ≡ (marked marks.old k || (nat_lt k (length marks.old) && blames problem.now kept.now places.now k)) }
-{
-    for place in places {
-        mark_named(marks, problem, kept, *place);
-    }
-}
-
-/// Marks what the item at the place names.
-fn mark_named(marks: &mut [bool], problem: &Problem, kept: &[Recorded], place: Place)
-    requires { IsPlace problem.now kept.now place }
-    ensures { (k : ℕ) → marked marks.new k ≡ (marked marks.old k || (nat_lt k (length marks.old) && blames_one problem.now kept.now place k)) }
-{
-    match place {
-        Place::Owned(rule) => mark_variables(marks, problem.scope(rule)),
-        Place::Kept(at) => mark_pairs(marks, kept[at].nogood.pairs()),
-    }
 }
 
 /// A nogood, and the stamps of its values.
@@ -99,40 +38,119 @@ struct Basis {
     stamps: StampList,
 }
 
-/// What the view has of the marked agents, rising.
-fn gather(alloc: Global, me: u32, view: &View, marks: &[bool]) -> Result<Basis, Memory>
-    requires size { length marks.now ≡ me }
-    requires stamps { IsStampedView (view_of view.now) }
-    ensures told { IfOk result (λ basis. with_stamps basis.nogood basis.stamps ≡ filter_map (told_at marks.now (view_of view.now)) (below me)) }
-    ensures stamped { IfOk result (λ basis. AreStampsOf basis.nogood basis.stamps) }
-{
-    let mut pairs = Vec::new(alloc);
-    let mut stamps = StampList::new(alloc);
-    for var in 0..me {
-        add_told(
-            &mut pairs,
-            &mut stamps,
-            var,
-            told_if(marks[var as usize], view, var),
-        )?;
+impl<'p> Knowledge<'p> {
+    /// The step at the agent's variable that the reasons against all its values make.
+    pub fn refuse(&self) -> Result<Refusal, Memory>
+        requires in_step { IsInStep self.now }
+        requires proper { AreProper self.now.problem.now self.now.me self.now.store }
+        ensures step { IfOk result (λ refusal. refusal.step ≡ step_of (csp_of self.now.problem.now) self.now.me (view_of self.now.view) (records_of self.now.store)) }
+        ensures pairs { IfOk result (λ refusal. with_stamps refusal.step.nogood refusal.stamps ≡ derived (csp_of self.now.problem.now) self.now.me (view_of self.now.view) (records_of self.now.store)) }
+        ensures stamped { IfOk result (λ refusal. AreStampsOf refusal.step.nogood refusal.stamps) }
+    {
+        let causes = self.causes()?;
+        let marks = self.blame(&causes)?;
+        let Basis { nogood, stamps } = self.gather(&marks)?;
+        let reasons = self.reasons_of(&causes)?;
+        let step = Step {
+            variable: Some(self.me),
+            nogood,
+            reasons,
+        };
+        Ok(Refusal { step, stamps })
     }
-    // The pairs rise, so want of memory is all that can refuse.
-    let nogood = Nogood::from_pairs(alloc, &pairs).map_err(|_| Memory)?;
-    Ok(Basis { nogood, stamps })
-}
 
-/// What the view has of the agent, if it is marked.
-fn told_if(is_marked: bool, view: &View, var: u32) -> Option<Told>
-    requires { IsStampedView (view_of view.now) }
-    ensures told { pair_at var (stamped_in result) ≡ told_if is_marked (view_of view.now) var }
-    ensures stamped { ForSome result (λ told. 0 < told.stamp) }
-{
-    if is_marked {
-        let value = view.value_of(var)?;
-        let stamp = view.stamp_of(var)?;
-        Some(Told { value, stamp })
-    } else {
-        None
+    /// Marks the higher agents that some of the causes name.
+    fn blame(&self, causes: &[Cause]) -> Result<Vec<bool>, Memory>
+        requires { All (IsCause self.now.problem.now self.now.store) causes.now }
+        ensures marks { IfOk result (λ marks. (k : ℕ) → k < self.now.me → marked marks.items k ≡ blames self.now.problem.now self.now.store causes.now k) }
+        ensures size { IfOk result (λ marks. length marks.items ≡ self.now.me) }
+    {
+        let mut marks = vec![in self.alloc; false; self.me as usize].map_err(|_| Memory)?;
+        self.mark_all(&mut marks, causes);
+        Ok(marks)
+    }
+
+    /// Marks what some of the causes name.
+    fn mark_all(&self, marks: &mut [bool], causes: &[Cause])
+        requires { All (IsCause self.now.problem.now self.now.store) causes.now }
+        ensures { (k : ℕ) → marked marks.new k ≡ (marked marks.old k || (nat_lt k (length marks.old) && blames self.now.problem.now self.now.store causes.now k)) }
+    {
+        for cause in causes {
+            self.mark_named(marks, *cause);
+        }
+    }
+
+    /// Marks what the cause names.
+    fn mark_named(&self, marks: &mut [bool], cause: Cause)
+        requires { IsCause self.now.problem.now self.now.store cause }
+        ensures { (k : ℕ) → marked marks.new k ≡ (marked marks.old k || (nat_lt k (length marks.old) && blames_one self.now.problem.now self.now.store cause k)) }
+    {
+        match cause {
+            Cause::OwnedRule(rule) => mark_variables(marks, self.problem.scope(rule)),
+            Cause::KeptNogood(place) => {
+                mark_pairs(marks, self.store.items()[place].nogood.pairs());
+            }
+        }
+    }
+
+    /// What the view has of the marked agents, rising.
+    fn gather(&self, marks: &[bool]) -> Result<Basis, Memory>
+        requires size { length marks.now ≡ self.now.me }
+        requires stamps { IsStampedView (view_of self.now.view) }
+        ensures told { IfOk result (λ basis. with_stamps basis.nogood basis.stamps ≡ filter_map (told_at marks.now (view_of self.now.view)) (below self.now.me)) }
+        ensures stamped { IfOk result (λ basis. AreStampsOf basis.nogood basis.stamps) }
+    {
+        let mut pairs = Vec::new(self.alloc);
+        let mut stamps = StampList::new(self.alloc);
+        for var in 0..self.me {
+            add_told(
+                &mut pairs,
+                &mut stamps,
+                var,
+                self.told_if(marks[var as usize], var),
+            )?;
+        }
+        // The pairs rise, so want of memory is all that can refuse.
+        let nogood = Nogood::from_pairs(self.alloc, &pairs).map_err(|_| Memory)?;
+        Ok(Basis { nogood, stamps })
+    }
+
+    /// What the view has of the agent, if it is marked.
+    fn told_if(&self, is_marked: bool, var: u32) -> Option<Told>
+        requires { IsStampedView (view_of self.now.view) }
+        ensures told { pair_at var (stamped_in result) ≡ told_if is_marked (view_of self.now.view) var }
+        ensures stamped { ForSome result (λ told. 0 < told.stamp) }
+    {
+        if is_marked {
+            let value = self.view.value_of(var)?;
+            let stamp = self.view.stamp_of(var)?;
+            Some(Told { value, stamp })
+        } else {
+            None
+        }
+    }
+
+    /// What a step cites for the cause.
+    fn reason_of(&self, cause: Cause) -> Reason
+        requires { IsCause self.now.problem.now self.now.store cause }
+        ensures { result ≡ (item_at self.now.problem.now self.now.store cause).reason }
+    {
+        match cause {
+            Cause::OwnedRule(rule) => Reason::Rule(rule),
+            Cause::KeptNogood(place) => Reason::Earlier(self.store.items()[place].step),
+        }
+    }
+
+    /// What a step cites for the causes, in order.
+    fn reasons_of(&self, causes: &[Cause]) -> Result<ReasonList, Memory>
+        requires { All (IsCause self.now.problem.now self.now.store) causes.now }
+        ensures { IfOk result (λ reasons. reasons ≡ map (λ x. (item_at self.now.problem.now self.now.store x).reason) causes.now) }
+    {
+        let mut reasons = Vec::with_capacity(self.alloc, causes.len()).map_err(|_| Memory)?;
+        for cause in causes {
+            reasons.push(self.reason_of(*cause)).map_err(|_| Memory)?;
+        }
+        Ok(ReasonList::from_vec(reasons))
     }
 }
 
@@ -182,34 +200,4 @@ fn push_stamp(stamps: &mut StampList, stamp: u64) -> Result<(), Memory>
         Ok(()) => Ok(()),
         Err(_) => Err(Memory),
     }
-}
-
-/// What a step cites for the item at the place.
-fn reason_at(problem: &Problem, kept: &[Recorded], place: Place) -> Reason
-    requires { IsPlace problem.now kept.now place }
-    ensures { result ≡ (item_at problem.now kept.now place).reason }
-{
-    match place {
-        Place::Owned(rule) => Reason::Rule(rule),
-        Place::Kept(at) => Reason::Earlier(kept[at].step),
-    }
-}
-
-/// What a step cites for the items at the places, in order.
-fn reasons_at(
-    alloc: Global,
-    problem: &Problem,
-    kept: &[Recorded],
-    places: &[Place],
-) -> Result<ReasonList, Memory>
-    requires { All (IsPlace problem.now kept.now) places.now }
-    ensures { IfOk result (λ reasons. reasons ≡ map (λ x. (item_at problem.now kept.now x).reason) places.now) }
-{
-    let mut reasons = ReasonList::new(alloc);
-    for place in places {
-        reasons
-            .push(reason_at(problem, kept, *place))
-            .map_err(|_| Memory)?;
-    }
-    Ok(reasons)
 }

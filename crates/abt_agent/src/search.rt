@@ -6,109 +6,114 @@ ghost use Rattle.abt_defs.specs.Agents.{values_in};
 ghost use Rattle.dcsp_problem.specs.Problems.{csp_of};
 ghost use Rattle.abt_view.specs.Views.{view_of};
 ghost use Rattle.abt_reason.specs.Causes.{value_at};
-ghost use Rattle.abt_agent.specs.Bodies.{IsSized};
-ghost use Rattle.abt_agent.specs.Places.{first_kept, least_free, place_for, places, values_under, IsOwnAt, IsPlace};
+ghost use Rattle.abt_store.specs.Stores.{is_against};
+ghost use Rattle.abt_agent.specs.Bodies.{AreProper, IsInStep};
+ghost use Rattle.abt_agent.specs.Causes.{first_against, least_free, cause_for, causes_for, IsCause};
 
-use crate::body::Body;
-use crate::under::Under;
+use crate::knowledge::Knowledge;
 use abt_store::Recorded;
 use dcsp_defs::Reason;
 use dcsp_list::Memory;
-use dcsp_nogood::Pair;
-use dcsp_problem::Problem;
-use std::alloc::Global;
 
 /// What rules a value out.
 #[derive(Clone, Copy, Debug, PartialEq, Eq)]
-pub enum Place {
+pub enum Cause {
     /// The rule with this number, which the agent owns.
-    Owned(u32),
-    /// The nogood that is kept at this place.
-    Kept(usize),
+    OwnedRule(u32),
+    /// The nogood at this place of the store.
+    KeptNogood(usize),
 }
 
-/// The first of the nogoods that agrees.
-fn first_kept(kept: &[Recorded], under: &Under) -> Option<Place>
-    ensures { result ≡ first_kept (values_under under.now.view.now under.now.own) 0 kept.now }
+impl<'p> Knowledge<'p> {
+    /// What rules out the value at a place of the agent's domain first, if anything does.
+    fn cause_at(&self, place: usize) -> Option<Cause>
+        requires in_step { IsInStep self.now }
+        requires proper { AreProper self.now.problem.now self.now.me self.now.store }
+        requires place { place < length (domain (csp_of self.now.problem.now) self.now.me) }
+        ensures { result ≡ cause_for self.now.problem.now self.now.me (values_in (view_of self.now.view)) self.now.store (value_at self.now.problem.now self.now.me place) }
+    {
+        match self.reasons.first(place) {
+            None => None,
+            Some(Reason::Rule(rule)) => Some(Cause::OwnedRule(rule)),
+            Some(Reason::Earlier(_)) => first_against(self.store.items(), self.value_at(place)),
+        }
+    }
+
+    /// The value at a place of the agent's domain.
+    fn value_at(&self, place: usize) -> i64
+        requires agent { self.now.me < length self.now.problem.now.domains }
+        requires place { place < length (domain (csp_of self.now.problem.now) self.now.me) }
+        ensures { result ≡ value_at self.now.problem.now self.now.me place }
+    {
+        self.problem.domain(self.me).value(place)
+    }
+
+    /// Whether nothing rules out the value at a place of the agent's domain.
+    pub fn is_free_at(&self, place: usize) -> bool
+        requires in_step { IsInStep self.now }
+        requires place { place < length (domain (csp_of self.now.problem.now) self.now.me) }
+        ensures { result ≡ not (is_some (cause_for self.now.problem.now self.now.me (values_in (view_of self.now.view)) self.now.store (value_at self.now.problem.now self.now.me place))) }
+    {
+        self.reasons.first(place).is_none()
+    }
+
+    /// The least value of the agent's domain that nothing rules out.
+    pub fn least_free(&self) -> Option<i64>
+        requires { IsInStep self.now }
+        ensures { result ≡ least_free self.now.problem.now self.now.me (values_in (view_of self.now.view)) self.now.store (domain (csp_of self.now.problem.now) self.now.me) }
+    {
+        for place in 0..self.problem.domain(self.me).len() {
+            if self.is_free_at(place) {
+                return Some(self.value_at(place));
+            }
+        }
+        None
+    }
+
+    /// What rules out each value of the agent's domain first.
+    pub fn causes(&self) -> Result<Vec<Cause>, Memory>
+        requires in_step { IsInStep self.now }
+        requires proper { AreProper self.now.problem.now self.now.me self.now.store }
+        ensures causes { IfOk result (λ all. all.items ≡ causes_for self.now.problem.now self.now.me (values_in (view_of self.now.view)) self.now.store (domain (csp_of self.now.problem.now) self.now.me)) }
+        ensures valid { IfOk result (λ all. All (IsCause self.now.problem.now self.now.store) all.items) }
+    {
+        let values = self.problem.domain(self.me).len();
+        let mut all = Vec::with_capacity(self.alloc, values).map_err(|_| Memory)?;
+        for place in 0..values {
+            add_cause(&mut all, self.cause_at(place))?;
+        }
+        Ok(all)
+    }
+}
+
+/// The first of the nogoods whose lowest pair has the value.
+fn first_against(kept: &[Recorded], value: i64) -> Option<Cause>
+    ensures { result ≡ first_against value 0 kept.now }
 {
     for place in 0..kept.len() {
-        if under.agrees_with(kept[place].nogood.pairs()) {
-            return Some(Place::Kept(place));
+        if is_against(&kept[place], value) {
+            return Some(Cause::KeptNogood(place));
         }
     }
     None
 }
 
-/// The agent with the value at a place of its domain.
-fn own_pair(problem: &Problem, me: u32, place: usize) -> Pair
-    requires agent { me < length problem.now.domains }
-    requires place { place < length (domain (csp_of problem.now) me) }
-    ensures own { IsOwnAt (domain (csp_of problem.now) me) me place result }
+/// Whether the item's lowest pair has the value.
+fn is_against(item: &Recorded, value: i64) -> bool
+    ensures { result ≡ is_against value item.now }
 {
-    Pair {
-        var: me,
-        value: problem.domain(me).value(place),
+    match item.nogood.lowest() {
+        Some(lowest) => lowest.value == value,
+        None => false,
     }
 }
 
-/// The first item that rules out the value at a place of the agent's domain, if any does.
-fn place_at(problem: &Problem, me: u32, body: &Body, place: usize) -> Option<Place>
-    requires sized { IsSized problem.now me body.now }
-    requires place { place < length (domain (csp_of problem.now) me) }
-    ensures { result ≡ place_for problem.now me (values_in (view_of body.now.view)) body.now.store (value_at problem.now me place) }
+/// Adds a cause at the end, if there is one.
+fn add_cause(all: &mut Vec<Cause>, cause: Option<Cause>) -> Result<(), Memory>
+    ensures { OnOk result (all.new.items ≡ all.old.items ++ option_to_list cause) }
 {
-    match body.reasons.first(place) {
-        None => None,
-        Some(Reason::Rule(rule)) => Some(Place::Owned(rule)),
-        Some(Reason::Earlier(_)) => {
-            let own = own_pair(problem, me, place);
-            let view = &body.view;
-            first_kept(body.store.items(), &Under { view, own })
-        }
-    }
-}
-
-/// Whether nothing rules out the value at a place of the agent's domain.
-pub fn is_free_at(problem: &Problem, me: u32, body: &Body, place: usize) -> bool
-    requires sized { IsSized problem.now me body.now }
-    requires place { place < length (domain (csp_of problem.now) me) }
-    ensures { result ≡ not (is_some (place_for problem.now me (values_in (view_of body.now.view)) body.now.store (value_at problem.now me place))) }
-{
-    body.reasons.first(place).is_none()
-}
-
-/// The least value of the agent's domain that nothing rules out.
-pub fn least_free(problem: &Problem, me: u32, body: &Body) -> Option<i64>
-    requires { IsSized problem.now me body.now }
-    ensures { result ≡ least_free problem.now me (values_in (view_of body.now.view)) body.now.store (domain (csp_of problem.now) me) }
-{
-    for place in 0..problem.domain(me).len() {
-        if is_free_at(problem, me, body, place) {
-            return Some(own_pair(problem, me, place).value);
-        }
-    }
-    None
-}
-
-/// What rules out each value of the agent's domain.
-pub fn places(alloc: Global, problem: &Problem, me: u32, body: &Body) -> Result<Vec<Place>, Memory>
-    requires { IsSized problem.now me body.now }
-    ensures places { IfOk result (λ all. all.items ≡ places problem.now me (values_in (view_of body.now.view)) body.now.store (domain (csp_of problem.now) me)) }
-    ensures valid { IfOk result (λ all. All (IsPlace problem.now body.now.store) all.items) }
-{
-    let mut all = Vec::new(alloc);
-    for place in 0..problem.domain(me).len() {
-        add_place(&mut all, place_at(problem, me, body, place))?;
-    }
-    Ok(all)
-}
-
-/// Adds a place at the end, if there is one.
-fn add_place(all: &mut Vec<Place>, place: Option<Place>) -> Result<(), Memory>
-    ensures { OnOk result (all.new.items ≡ all.old.items ++ option_to_list place) }
-{
-    match place {
-        Some(place) => match all.push(place) {
+    match cause {
+        Some(cause) => match all.push(cause) {
             Ok(()) => Ok(()),
             Err(_) => Err(Memory),
         },

@@ -1,5 +1,5 @@
 use Rattle.std.proofs.Common.{◌≡◌, drop}
-use Rattle.abt_agent.specs.Owned.{names_any}
+use Rattle.abt_agent.specs.Rules.{names_any}
 use Rattle.abt_agent.proofs.body.is_named_by.Given as goal
 
 abbrev pub invariant-loop-rule : goal.invariant-loop-rule

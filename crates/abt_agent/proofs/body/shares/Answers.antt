@@ -1,7 +1,7 @@
 use Rattle.std.proofs.Common.{◌≡◌, ap, sym, ◌∙◌, not, ◌&&◌, ◌==◌, false}
 use Rattle.std.proofs.lemmas.Bool.{ne_eqb}
 use Rattle.dcsp_problem.specs.Index.{owned_rules}
-use Rattle.abt_agent.specs.Owned.{names_any}
+use Rattle.abt_agent.specs.Rules.{names_any}
 use Rattle.abt_agent.proofs.Fresh.{shares_is}
 use Rattle.abt_agent.proofs.body.shares.Goals as goal
 

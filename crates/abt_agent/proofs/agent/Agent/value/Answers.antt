@@ -11,9 +11,9 @@ use Rattle.abt_agent.proofs.agent.Agent.value.Goals as goal
 pub returns-clause-bounded : goal.returns-clause-bounded
 returns-clause-bounded c =
     subst (λ (s : State). s.spent ≡ false → IsBoundedStore (csp_of s.problem) s.me (stands_for s)) c.self.view_is
-    (λ good. bounded_store (csp_of c.self.inside.problem.now) c.self.inside.me (agent_of c.self.inside.body) (c.self.invariant good).sound)
+    (λ good. bounded_store (csp_of c.self.inside.body.known.problem.now) c.self.inside.body.known.me (agent_of c.self.inside.body) (c.self.invariant good).sound)
 
 pub returns-clause-merges : goal.returns-clause-merges
 returns-clause-merges c =
     subst (λ (s : State). s.spent ≡ false → IsUnionOfReasons (csp_of s.problem) s.me (stands_for s)) c.self.view_is
-    (λ good. union_of_reasons (csp_of c.self.inside.problem.now) c.vars-vars.ensures.csp c.self.inside.me (agent_of c.self.inside.body) (c.self.invariant good).sound)
+    (λ good. union_of_reasons (csp_of c.self.inside.body.known.problem.now) c.vars-vars.ensures.csp c.self.inside.body.known.me (agent_of c.self.inside.body) (c.self.invariant good).sound)

@@ -1,0 +1,60 @@
+use Rattle.std.proofs.Common.{◌≡◌, ap, sym, ◌∙◌, Some, to_z, of_z, rules, w64, SFits}
+use Rattle.std.proofs.lemmas.Int.{to_z-of_z}
+use Rattle.dcsp_defs.specs.declared.Reason.TheVariants.{Rule, Earlier}
+use Rattle.dcsp_defs.specs.Csp.{domain}
+use Rattle.abt_defs.specs.Agents.{values_in}
+use Rattle.dcsp_problem.specs.Problems.{csp_of}
+use Rattle.abt_view.specs.Views.{view_of}
+use Rattle.abt_reason.specs.Causes.{value_at}
+use Rattle.abt_agent.specs.Causes.{first_against}
+use Rattle.abt_agent.proofs.Causes.{reason_moved, no_reason, rule_reason, step_reason, step_some}
+use Rattle.abt_agent.proofs.Against.{against_is}
+use Rattle.abt_agent.proofs.Proper.{proper_own}
+use Rattle.abt_agent.proofs.knowledge.Knowledge.cause_at.Goals as goal
+
+pub returns-in-None : goal.returns-in-None
+returns-in-None c =
+    let p = c.args.self.now.problem.now in
+    let me = c.args.self.now.me in
+    let values = domain (csp_of p) me in
+    let known = values_in (view_of c.args.self.now.view) in
+    let store = c.args.self.now.store in
+    let r = c.args.self.now.reasons in
+    let place = c.args.place in
+    let v = value_at p me place in
+    let found = reason_moved p r.problem me r.agent known store place c.first.result c.requires.in_step.problem c.requires.in_step.agent (c.first.ensures known store c.requires.in_step.stands) in
+    no_reason p me known store v (sym found ∙ c.in-None.is)
+
+pub returns-in-Some-Rule : goal.returns-in-Some-Rule
+returns-in-Some-Rule c =
+    let p = c.args.self.now.problem.now in
+    let me = c.args.self.now.me in
+    let values = domain (csp_of p) me in
+    let known = values_in (view_of c.args.self.now.view) in
+    let store = c.args.self.now.store in
+    let r = c.args.self.now.reasons in
+    let place = c.args.place in
+    let v = value_at p me place in
+    let found = reason_moved p r.problem me r.agent known store place c.first.result c.requires.in_step.problem c.requires.in_step.agent (c.first.ensures known store c.requires.in_step.stands) in
+    let is : c.first.result ≡ Some (Rule c.in-Some-Rule.rule) = cc (c.in-Some-Rule.is, c.in-Some-Rule.field-0-is) in
+    rule_reason p me known store v c.in-Some-Rule.rule (sym found ∙ is)
+
+pub returns-in-Some-Earlier : goal.returns-in-Some-Earlier
+returns-in-Some-Earlier c =
+    let p = c.args.self.now.problem.now in
+    let me = c.args.self.now.me in
+    let values = domain (csp_of p) me in
+    let known = values_in (view_of c.args.self.now.view) in
+    let store = c.args.self.now.store in
+    let r = c.args.self.now.reasons in
+    let place = c.args.place in
+    let v = value_at p me place in
+    let found = reason_moved p r.problem me r.agent known store place c.first.result c.requires.in_step.problem c.requires.in_step.agent (c.first.ensures known store c.requires.in_step.stands) in
+    let is : c.first.result ≡ Some (Earlier c.in-Some-Earlier.field-0-0) = cc (c.in-Some-Earlier.is, c.in-Some-Earlier.field-0-is) in
+    let fits : SFits w64 c.value_at.result = search rules in
+    let found_step = sym found ∙ is in
+    c.first_against.ensures
+    ∙ ap (first_against (to_z w64 (of_z w64 c.value_at.result)) 0) c.items.ensures.items
+    ∙ ap (λ w. first_against w 0 store) (to_z-of_z w64 c.value_at.result fits ∙ c.value_at.ensures)
+    ∙ against_is me v known 0 store (proper_own (csp_of p) me store c.requires.proper) (c.items.ensures.once v) (step_some p me known store v c.in-Some-Earlier.field-0-0 found_step)
+    ∙ step_reason p me known store v c.in-Some-Earlier.field-0-0 found_step

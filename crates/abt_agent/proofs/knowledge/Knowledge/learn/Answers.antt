@@ -1,0 +1,55 @@
+use Rattle.std.proofs.Common.{◌≡◌, sym, subst, ◌∙◌, Some, ℤ, filter, rules, w64, SFits}
+use Rattle.std.proofs.lemmas.Int.{to_z-of_z}
+use Rattle.dcsp_defs.specs.Words.{update}
+use Rattle.abt_defs.specs.Agents.{View, values_in}
+use Rattle.abt_reason.specs.Cached.{StandsFor}
+use Rattle.dcsp_problem.specs.Problems.{Contents, csp_of, AreInDomains}
+use Rattle.abt_view.specs.Views.{view_of}
+use Rattle.abt_store.specs.Stores.{fits}
+use Rattle.abt_agent.specs.Outgoing.{IsStampedView}
+use Rattle.abt_agent.proofs.Tracks.{new_domains, new_stamps, stood_before}
+use Rattle.abt_agent.proofs.knowledge.Knowledge.learn.Goals as goal
+
+pub after_view-requires-clause-domains : goal.after_view-requires-clause-domains
+after_view-requires-clause-domains c =
+    let in_range : SFits w64 c.args.told.value = search rules in
+    let seen = subst (λ (z : ℤ). view_of c.learn.new.self ≡ update (view_of c.args.self.now.view) c.args.from (Some (record { value = z; stamp = c.args.told.stamp }))) (to_z-of_z w64 c.args.told.value in_range) c.if-not-learn.ensures.view in
+    subst (λ (p : Contents). AreInDomains (csp_of p) (values_in (view_of c.learn.new.self))) (sym c.requires.in_step.problem)
+    (new_domains (view_of c.args.self.now.view) (view_of c.learn.new.self) c.args.from (record { value = c.args.told.value; stamp = c.args.told.stamp }) seen (csp_of c.args.self.now.problem.now) c.requires.value c.requires.in_step.domains)
+
+pub after_view-requires-clause-stood : goal.after_view-requires-clause-stood
+after_view-requires-clause-stood c =
+    let in_range : SFits w64 c.args.told.value = search rules in
+    let same = to_z-of_z w64 c.args.told.value in_range in
+    let seen = subst (λ (z : ℤ). view_of c.learn.new.self ≡ update (view_of c.args.self.now.view) c.args.from (Some (record { value = z; stamp = c.args.told.stamp }))) same c.if-not-learn.ensures.view in
+    let left = subst (λ (z : ℤ). c.forget.new.self ≡ filter (fits c.args.from z) c.args.self.now.store) same c.forget.ensures.items in
+    stood_before (view_of c.args.self.now.view) (view_of c.learn.new.self) c.args.from (record { value = c.args.told.value; stamp = c.args.told.stamp }) seen c.args.self.now.reasons c.args.self.now.store c.forget.new.self c.requires.in_step.stands left
+
+pub returns-then-not-learn-clause-in_step : goal.returns-then-not-learn-clause-in_step
+returns-then-not-learn-clause-in_step c =
+    let in_step = c.requires.in_step in
+    let same : view_of c.learn.new.self ≡ view_of c.args.self.now.view = c.if-not-learn.ensures.view in
+    record {
+      me_exists = in_step.me_exists;
+      view = c.learn.ensures.slots ∙ in_step.view;
+      domains = subst (λ (w : View). AreInDomains (csp_of c.args.self.now.problem.now) (values_in w)) (sym same) in_step.domains;
+      stamps = subst IsStampedView (sym same) in_step.stamps;
+      problem = in_step.problem;
+      agent = in_step.agent;
+      stands = subst (λ (w : View). StandsFor c.args.self.now.reasons (values_in w) c.args.self.now.store) (sym same) in_step.stands;
+    }
+
+pub returns-clause-in_step : goal.returns-clause-in_step
+returns-clause-in_step c =
+    let in_step = c.requires.in_step in
+    let in_range : SFits w64 c.args.told.value = search rules in
+    let seen = subst (λ (z : ℤ). view_of c.learn.new.self ≡ update (view_of c.args.self.now.view) c.args.from (Some (record { value = z; stamp = c.args.told.stamp }))) (to_z-of_z w64 c.args.told.value in_range) c.if-not-learn.ensures.view in
+    record {
+      me_exists = in_step.me_exists;
+      view = c.learn.ensures.slots ∙ in_step.view;
+      domains = new_domains (view_of c.args.self.now.view) (view_of c.learn.new.self) c.args.from (record { value = c.args.told.value; stamp = c.args.told.stamp }) seen (csp_of c.args.self.now.problem.now) c.requires.value in_step.domains;
+      stamps = new_stamps (view_of c.args.self.now.view) (view_of c.learn.new.self) c.args.from (record { value = c.args.told.value; stamp = c.args.told.stamp }) seen c.requires.stamped in_step.stamps;
+      problem = c.after_view.ensures.problem ∙ in_step.problem;
+      agent = c.after_view.ensures.agent ∙ in_step.agent;
+      stands = c.after_view.ensures.stands;
+    }

@@ -1,0 +1,75 @@
+-- The first item that rules a value out, as the code finds it.
+use Rattle.std.specs.Prelude.{◌≡◌, ℕ, ◌+◌, ◌<◌, length, ℤ, Bool, List, [], ◌∷◌, find, filter_map, Option, Some, None, is_some, not, slice_index_or, if◌then◌else◌}
+use Rattle.std.specs.List.{list_any}
+use Rattle.std.specs.Option.{option_or}
+use Rattle.dcsp_defs.specs.Csp.{Known, is_violated, agrees, with_value}
+use Rattle.abt_defs.specs.Agents.{Stamped, View, is_among}
+use Rattle.abt_defs.specs.Reasons.{Item, constraint_item, record_item, pair_at}
+use Rattle.dcsp_problem.specs.Problems.{Contents, constraint_at}
+use Rattle.dcsp_problem.specs.Index.{owned_rules}
+use Rattle.abt_store.specs.declared.Recorded.{Recorded}
+use Rattle.abt_store.specs.Stores.{is_against, record_of}
+use Rattle.abt_agent.specs.declared.search.Cause.{Cause}
+use Rattle.abt_agent.specs.declared.search.Cause.TheVariants.{OwnedRule, KeptNogood}
+use Rattle.abt_agent.specs.States.{marked}
+
+-- the first of the rules with these numbers that is false
+abbrev pub first_rule : Contents → Known → List ℕ → Option Cause
+first_rule p known [] = None
+first_rule p known (r ∷ rs) = if is_violated known (constraint_at p r) then Some (OwnedRule r) else first_rule p known rs
+
+-- the place, counted from a first one, of the first nogood that agrees
+abbrev pub first_kept : Known → ℕ → List Recorded → Option Cause
+first_kept known k [] = None
+first_kept known k (x ∷ xs) = if agrees known x.nogood then Some (KeptNogood k) else first_kept known (k + 1) xs
+
+-- the place, counted from a first one, of the first nogood whose lowest pair has the value
+abbrev pub first_against : ℤ → ℕ → List Recorded → Option Cause
+first_against v k [] = None
+first_against v k (x ∷ xs) = if is_against v x then Some (KeptNogood k) else first_against v (k + 1) xs
+
+-- among the rules that i owns, then among the nogoods kept
+abbrev pub first_cause : Contents → ℕ → List Recorded → Known → Option Cause
+first_cause p i kept known = option_or (first_rule p known (owned_rules p i)) (first_kept known 0 kept)
+
+-- what rules out this value of i
+abbrev pub cause_for : Contents → ℕ → Known → List Recorded → ℤ → Option Cause
+cause_for p i known kept v = first_cause p i kept (with_value i v known)
+
+-- what rules out each of the values
+abbrev pub causes_for : Contents → ℕ → Known → List Recorded → List ℤ → List Cause
+causes_for p i known kept values = filter_map (cause_for p i known kept) values
+
+-- the least value that nothing rules out
+abbrev pub least_free : Contents → ℕ → Known → List Recorded → List ℤ → Option ℤ
+least_free p i known kept values = find (λ v. not (is_some (cause_for p i known kept v))) values
+
+-- what stands past the last nogood
+abbrev pub no_record : Recorded
+no_record = record { nogood = []; step = 0 }
+
+-- the item at the place
+abbrev pub item_at : Contents → List Recorded → Cause → Item
+item_at p kept (OwnedRule r) = constraint_item (r, constraint_at p r)
+item_at p kept (KeptNogood k) = record_item (record_of (slice_index_or kept k no_record))
+
+-- there is an item at the place
+abbrev pub IsCause : Contents → List Recorded → Cause → Type 0
+IsCause p kept (OwnedRule r) = r < length p.rules
+IsCause p kept (KeptNogood k) = k < length kept
+
+-- the item at the place names k
+abbrev pub blames_one : Contents → List Recorded → Cause → ℕ → Bool
+blames_one p kept x k = is_among k (item_at p kept x).variables
+
+-- an item at the places names k
+abbrev pub blames : Contents → List Recorded → List Cause → ℕ → Bool
+blames p kept all k = list_any (λ (x : Cause). blames_one p kept x k) all
+
+-- what the view has of k, where k is marked
+abbrev pub told_if : Bool → View → ℕ → Option (ℕ × Stamped)
+told_if mark view k = if mark then pair_at k (view k) else None
+
+-- what the view has of k, where the table marks k
+abbrev pub told_at : List Bool → View → ℕ → Option (ℕ × Stamped)
+told_at marks view k = told_if (marked marks k) view k

@@ -1,0 +1,94 @@
+//! What an agent was told, which nogoods it keeps, and why its values are ruled out.
+
+ghost use Rattle.std.specs.Prelude.{◌≡◌, ◌<◌, ◌∷◌, ◌++◌, [], IfOk, None, OnOk, Some, false, length, if◌then◌else◌};
+ghost use Rattle.std.specs.Option.{ForSome};
+ghost use Rattle.dcsp_defs.specs.Words.{In, update};
+ghost use Rattle.dcsp_defs.specs.Csp.{domain};
+ghost use Rattle.dcsp_problem.specs.Problems.{csp_of};
+ghost use Rattle.abt_defs.specs.Steps as steps;
+ghost use Rattle.abt_view.specs.Views.{view_of, stamped_of};
+ghost use Rattle.abt_store.specs.Stores.{is_ruled_out, lowest_value, records_of};
+ghost use Rattle.abt_agent.specs.Bodies.{owner_of, IsInStep};
+
+use abt_reason::Reasons;
+use abt_store::{Recorded, Store};
+use abt_view::{Told, View};
+use dcsp_list::Memory;
+use dcsp_problem::Problem;
+use std::alloc::Global;
+
+/// What an agent was told of higher agents, which nogoods it keeps, and for each of its values the first
+/// reason against it: all three change together.
+#[derive(Drop)]
+pub struct Knowledge<'p> {
+    pub alloc: Global,
+    pub problem: &'p Problem,
+    /// The agent's number.
+    pub me: u32,
+    pub view: View,
+    pub store: Store,
+    /// For each value of the agent the first reason under the view and the store.
+    pub reasons: Reasons<'p>,
+}
+
+impl<'p> Knowledge<'p> {
+    /// What an agent knows that was told nothing.
+    pub fn new(alloc: Global, problem: &'p Problem, me: u32) -> Result<Knowledge<'p>, Memory>
+        requires { me < length problem.now.domains }
+        ensures owner { IfOk result (λ known. owner_of known ≡ (problem.now, me)) }
+        ensures view { IfOk result (λ known. view_of known.view ≡ (λ k. None)) }
+        ensures store { IfOk result (λ known. known.store ≡ []) }
+        ensures in_step { IfOk result IsInStep }
+    {
+        let view = View::new(alloc, me)?;
+        let reasons = Reasons::new(alloc, problem, me)?;
+        Ok(Knowledge {
+            alloc,
+            problem,
+            me,
+            view,
+            store: Store::new(alloc),
+            reasons,
+        })
+    }
+
+    /// Takes in a value that is newer than what the view has, and forgets what disagrees with it. True
+    /// exactly if it is newer.
+    pub fn learn(&mut self, from: u32, told: Told) -> bool
+        requires in_step { IsInStep self.old }
+        requires higher { from < self.old.me }
+        requires value { In told.value (domain (csp_of self.old.problem.now) from) }
+        requires stamped { 0 < told.stamp }
+        ensures news { result ≡ steps.is_newer (view_of self.old.view from) told.stamp }
+        ensures view { view_of self.new.view ≡ (if result then update (view_of self.old.view) from (Some (stamped_of told)) else view_of self.old.view) }
+        ensures store { records_of self.new.store ≡ (if result then steps.forget from told.value (records_of self.old.store) else records_of self.old.store) }
+        ensures owner { owner_of self.new ≡ owner_of self.old }
+        ensures in_step { IsInStep self.new }
+    {
+        if !self.view.learn(from, told.value, told.stamp) {
+            return false;
+        }
+        self.store.forget(from, told.value);
+        self.reasons.after_view(from, &self.view, &self.store);
+        true
+    }
+
+    /// Keeps a nogood, as the first for its value of the agent.
+    pub fn keep(&mut self, recorded: Recorded) -> Result<(), Memory>
+        requires in_step { IsInStep self.old }
+        requires first { ForSome (lowest_value recorded.nogood) (λ value. is_ruled_out value self.old.store ≡ false) }
+        ensures store { OnOk result (self.new.store ≡ self.old.store ++ recorded ∷ []) }
+        ensures view { OnOk result (self.new.view ≡ self.old.view) }
+        ensures owner { owner_of self.new ≡ owner_of self.old }
+        ensures in_step { OnOk result (IsInStep self.new) }
+    {
+        let Recorded { nogood, step } = recorded;
+        match self.store.keep(nogood, step) {
+            Ok(()) => {
+                self.reasons.after_record(&self.view, &self.store);
+                Ok(())
+            }
+            Err(_) => Err(Memory),
+        }
+    }
+}
