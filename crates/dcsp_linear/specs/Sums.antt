@@ -1,5 +1,5 @@
 -- Sums of products over whole numbers without bounds.
-use Rattle.std.specs.Prelude.{ℕ, ◌+◌, ◌*◌, ℤ, pos, ◌+ℤ◌, ◌*ℤ◌, Bool, not, List, [], ◌∷◌, int_le, unsigned_abs, sum_by, zip}
+use Rattle.std.specs.Prelude.{ℕ, ◌+◌, ◌*◌, ◌^◌, ℤ, pos, ◌+ℤ◌, ◌*ℤ◌, Bool, not, List, [], ◌∷◌, int_le, unsigned_abs, sum_by, zip}
 use Rattle.std.specs.Ordering.{int_eq}
 use Rattle.dcsp_linear.specs.declared.Rel.{Rel}
 use Rattle.dcsp_linear.specs.declared.Rel.TheVariants.{Equal, AtMost, Differ}
@@ -30,3 +30,7 @@ greatest_size term = unsigned_abs term.0 * term.1
 -- the width of a sum: the greatest absolute values of its products, and of its total, added up
 abbrev pub width_of : List ℤ → List ℕ → ℕ → ℕ
 width_of coefs greatest total = sum_by greatest_size (zip coefs greatest) + total
+
+-- the greatest width that is allowed: 128 bits hold such a sum, and each part of it
+abbrev pub widest : ℕ
+widest = 2 ^ 126

@@ -3,7 +3,7 @@
 #![tactic(auto)]
 
 ghost use Rattle.std.specs.Prelude.{◌≡◌, ℕ, ◌+◌, ◌*◌, ◌<◌, ◌≤◌, ℤ, pos, ◌+ℤ◌, ◌*ℤ◌, List, length, slice_index_or, unsigned_abs, Some, None, if◌then◌else◌, nat_le, sum_by};
-ghost use Rattle.dcsp_linear.specs.Sums.{sum_of, stands, size_of, sizes_of, width_of};
+ghost use Rattle.dcsp_linear.specs.Sums.{sum_of, stands, size_of, sizes_of, width_of, widest};
 
 /// The greatest width of a sum, 2^126: 128 bits hold such a sum, and each part of it.
 pub const WIDEST: u128 = 1 << 126;
@@ -42,7 +42,7 @@ pub trait Weighted {
 /// greatest absolute value of the total, added up. `None` where this is above 2^126.
 pub fn width(coefs: &[i64], greatest: &[u64], total: u64) -> Option<u128>
     requires { length coefs.now ≡ length greatest.now }
-    ensures { let width = width_of coefs.now greatest.now total in result ≡ (if nat_le width WIDEST then Some width else None) }
+    ensures { let width = width_of coefs.now greatest.now total in result ≡ (if nat_le width widest then Some width else None) }
 {
     let mut width = u128::from(total);
     for place in 0..coefs.len() {
@@ -56,7 +56,7 @@ pub fn width(coefs: &[i64], greatest: &[u64], total: u64) -> Option<u128>
 
 /// The width with one term more.
 fn plus_greatest(width: u128, coef: i64, greatest: u64) -> u128
-    requires { width ≤ WIDEST }
+    requires { width ≤ widest }
     ensures { result ≡ width + unsigned_abs coef * greatest }
 {
     width + u128::from(coef.unsigned_abs()) * u128::from(greatest)
@@ -64,7 +64,7 @@ fn plus_greatest(width: u128, coef: i64, greatest: u64) -> u128
 
 /// Whether the sum of each coefficient times its value stands so to the total, in one pass.
 pub fn sum_holds<W: Weighted>(rel: Rel, weighted: &W, total: i64) -> bool
-    requires { sizes_of (W.pairs weighted.now) total ≤ WIDEST }
+    requires { sizes_of (W.pairs weighted.now) total ≤ widest }
     ensures { result ≡ stands rel (sum_of (W.pairs weighted.now)) total }
 {
     let sum = sum_of(weighted);
@@ -78,7 +78,7 @@ pub fn sum_holds<W: Weighted>(rel: Rel, weighted: &W, total: i64) -> bool
 
 /// The sum of each coefficient times its value.
 fn sum_of<W: Weighted>(weighted: &W) -> i128
-    requires { sum_by size_of (W.pairs weighted.now) ≤ WIDEST }
+    requires { sum_by size_of (W.pairs weighted.now) ≤ widest }
     ensures { result ≡ sum_of (W.pairs weighted.now) }
 {
     let mut sum: i128 = 0;
@@ -90,7 +90,7 @@ fn sum_of<W: Weighted>(weighted: &W) -> i128
 
 /// The sum with one product more.
 fn plus_product(sum: i128, coef: i64, value: i64) -> i128
-    requires { unsigned_abs sum + unsigned_abs coef * unsigned_abs value ≤ WIDEST }
+    requires { unsigned_abs sum + unsigned_abs coef * unsigned_abs value ≤ widest }
     ensures { result ≡ sum +ℤ (coef *ℤ value) }
 {
     sum + i128::from(coef) * i128::from(value)

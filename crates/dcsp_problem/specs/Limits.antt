@@ -1,7 +1,7 @@
 -- Limits of a problem, and why a variable or a rule is not added to it.
 use Rattle.std.specs.Prelude.{◌≡◌, ℕ, ◌+◌, ℤ, List, [], ◌∷◌, ◌++◌, length, find, nat_lt, Option, Some, None, Result, Ok, Err, if◌then◌else◌}
 use Rattle.std.specs.Option.{option_map}
-use Rattle.dcsp_linear.specs.declared.TheConstants.{WIDEST}
+use Rattle.dcsp_linear.specs.Sums.{widest}
 use Rattle.dcsp_problem.specs.declared.limits.Which.{Which}
 use Rattle.dcsp_problem.specs.declared.limits.Which.TheVariants.{DomainSize, Variables, DomainValues, Rules, Terms, Elements}
 use Rattle.dcsp_problem.specs.declared.limits.BuildError.{BuildError}
@@ -48,7 +48,7 @@ rule_counts p rule = list_counts rule ++ (Rules, length p.rules + 1) ∷ (Terms,
 
 -- why a rule is not added, if it is not: its sum is too wide, or else a count passes its limit
 abbrev pub rule_refusal : Contents → Rule → Option BuildError
-rule_refusal p rule = if nat_lt WIDEST (rule_width p.domains rule) then Some WideSum else option_map limit_of (first_past (rule_counts p rule))
+rule_refusal p rule = if nat_lt widest (rule_width p.domains rule) then Some WideSum else option_map limit_of (first_past (rule_counts p rule))
 
 -- an error has this reason, or it is want of memory
 abbrev pub IsErrorOf : Option BuildError → BuildError → Type 0

@@ -1,7 +1,7 @@
 -- What every problem is.
 use Rattle.std.specs.Prelude.{◌≡◌, ◌<◌, ◌≤◌, ◌^◌, None, length, All}
 use Rattle.dcsp_domain.specs.Sets.{IsDomain}
-use Rattle.dcsp_linear.specs.declared.TheConstants.{WIDEST}
+use Rattle.dcsp_linear.specs.Sums.{widest}
 use Rattle.dcsp_problem.specs.declared.limits.Which.TheVariants.{Variables, DomainValues, Rules, Terms}
 use Rattle.dcsp_problem.specs.Rules.{IsRuleOf, IsAimOf}
 use Rattle.dcsp_problem.specs.Widths.{rule_width}
@@ -21,4 +21,4 @@ pub record IsProblem (p : Contents) : Type 0 where
   pub few_terms : term_count p ≤ most Terms
   pub few_outputs : length p.outputs < 2 ^ 32
   pub short_lists : All (λ rule. first_past (list_counts rule) ≡ None) p.rules
-  pub narrow_sums : All (λ rule. rule_width p.domains rule ≤ WIDEST) p.rules
+  pub narrow_sums : All (λ rule. rule_width p.domains rule ≤ widest) p.rules

@@ -3,6 +3,7 @@
 ghost use Rattle.std.specs.Prelude.{◌≡◌, ◌≤◌, map, IsTrue};
 ghost use Rattle.std.specs.Option.{option_map};
 ghost use Rattle.dcsp_defs.specs.Csp.{filled};
+ghost use Rattle.dcsp_linear.specs.Sums.{widest};
 ghost use Rattle.dcsp_problem.specs.Rules.{value_under, rule_truth, has_shape, weighted, is_told};
 ghost use Rattle.dcsp_problem.specs.Widths.{rule_sizes};
 ghost use Rattle.dcsp_problem.specs.Index.{member_set, is_found_in};
@@ -10,7 +11,7 @@ ghost use Rattle.dcsp_problem.specs.Index.{member_set, is_found_in};
 use crate::lookup::Lookup;
 use crate::members::MemberSet;
 use crate::rule::{Members, Rule, Term};
-use dcsp_linear::{Rel, WIDEST, Weighted, sum_holds};
+use dcsp_linear::{Rel, Weighted, sum_holds};
 use dcsp_meaning::{Ground, holds};
 
 /// A rule's terms, with the values that a look-up gives their variables, and its members.
@@ -127,7 +128,7 @@ fn value_of_term<L: Lookup>(term: Term, lookup: &L) -> i64
 pub fn is_true_under<L: Lookup>(rule: &Rule, set: &MemberSet, lookup: &L) -> bool
     requires shape { IsTrue (has_shape rule.now) }
     requires set { set.now ≡ member_set rule.now }
-    requires narrow { rule_sizes rule.now (filled (L.values lookup.now)) ≤ WIDEST }
+    requires narrow { rule_sizes rule.now (filled (L.values lookup.now)) ≤ widest }
     ensures { result ≡ rule_truth rule.now (filled (L.values lookup.now)) }
 {
     match rule {

@@ -1,6 +1,7 @@
 //! How wide a rule's sum may become.
 
 ghost use Rattle.std.specs.Prelude.{◌≡◌, map, length, All, IsTrue, IfOk, nat_lt, Some, None, if◌then◌else◌};
+ghost use Rattle.dcsp_linear.specs.Sums.{widest};
 ghost use Rattle.dcsp_problem.specs.Rules.{IsTermOf, terms_of, has_shape};
 ghost use Rattle.dcsp_problem.specs.Widths.{greatest_among, greatest_of, rule_width};
 ghost use Rattle.dcsp_problem.specs.Limits.{Refuses};
@@ -8,14 +9,14 @@ ghost use Rattle.dcsp_problem.specs.Limits.{Refuses};
 use crate::limits::BuildError;
 use crate::rule::{Rule, Term};
 use dcsp_domain::Domain;
-use dcsp_linear::{WIDEST, width};
+use dcsp_linear::width;
 use std::alloc::{AllocError, Global};
 
 /// Refuses a rule whose sum is too wide over these domains.
 pub fn within_width(alloc: Global, domains: &[Domain], rule: &Rule) -> Result<(), BuildError>
     requires known { All (IsTermOf (length domains.now)) (terms_of rule.now) }
     requires shape { IsTrue (has_shape rule.now) }
-    ensures { Refuses (if nat_lt WIDEST (rule_width domains.now rule.now) then Some BuildError.WideSum else None) result }
+    ensures { Refuses (if nat_lt widest (rule_width domains.now rule.now) then Some BuildError.WideSum else None) result }
 {
     match rule {
         Rule::Plain { .. } => Ok(()),
