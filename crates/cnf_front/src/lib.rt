@@ -12,6 +12,3 @@ pub use dcsp_list::Memory;
 pub use formula::formula_of;
 pub use header::CnfError;
 pub use writer::write_clause;
-
-#[cfg(test)]
-mod tests;

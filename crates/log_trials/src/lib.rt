@@ -1,10 +1,13 @@
-//! Trials of logs, schedules and generated models as texts, of checks, cores and upgrades, and of the lines that tell of them.
+//! Trials of logs, schedules, generated models, formulas and their proofs as texts, of checks, cores and upgrades, and
+//! of the lines that tell of them.
 #![tactic(auto)]
 
 #[cfg(test)]
 mod checks;
 #[cfg(test)]
 mod cores;
+#[cfg(test)]
+mod formulas;
 #[cfg(test)]
 mod generated;
 #[cfg(test)]
@@ -15,6 +18,8 @@ mod log_lines;
 mod logs;
 #[cfg(test)]
 mod model_lines;
+#[cfg(test)]
+mod propagation;
 #[cfg(test)]
 mod schedules;
 #[cfg(test)]

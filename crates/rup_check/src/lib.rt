@@ -14,6 +14,3 @@ pub use check::{Rup, check_rup};
 pub use clauses::ClauseList;
 pub use dcsp_list::Memory;
 pub use reader::{ProofError, read_proof};
-
-#[cfg(test)]
-mod tests;

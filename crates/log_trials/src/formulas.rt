@@ -1,7 +1,9 @@
+//! Trials of formulas as texts, as problems and as clauses.
+
 ghost use Rattle.std.specs.Prelude.{IfOk, All};
 ghost use Rattle.cnf_front.specs.Clauses.{IsClauseRule};
 
-use super::*;
+use cnf_front::{CnfError, cnf_of, formula_of, write_clause};
 use dcsp_nogood::{Nogood, Pair};
 use dcsp_problem::{Problem, Which};
 use rup_check::{ClauseList, Rup, check_rup, read_proof};
