@@ -1,7 +1,5 @@
 -- Lists with commas between, as far as they are read.
-use Rattle.std.proofs.Common.{◌≡◌, List, [], ◌∷◌, ◌++◌, sym, ◌∙◌, subst, ⊎_elim, append_assoc, Ok, Err, Result, false}
-use Rattle.std.specs.Prelude.{OnOk, is_err}
-use Rattle.std.proofs.lemmas.Bool.{false≢true}
+use Rattle.std.proofs.Common.{◌≡◌, List, [], ◌∷◌, ◌++◌, sym, ◌∙◌, subst, ⊎_elim, append_assoc}
 use Rattle.fzn_token.specs.declared.token.Token.{Token}
 use Rattle.fzn_token.specs.declared.token.TokenKind.TheVariants as kind
 use Rattle.fzn_token.specs.declared.token.Mark.{Mark}
@@ -66,8 +64,3 @@ pub integer_unique : IsUnique IsInteger
 integer_unique [] v w r s p q = absurd p
 -- an integer is read in one way
 integer_unique (u ∷ us) v w r s p q = (let same : kind.Whole v ≡ kind.Whole w = sym p.0 ∙ q.0 in cc, p.1 ∙ sym q.1)
-
--- what holds of an `Ok` holds where the result is no error
-pub when_ok : {T E : Type 0} {P : Type 0} (r : Result T E) → false ≡ is_err r → OnOk r P → P
-when_ok (Ok x) e p = p
-when_ok (Err x) e p = absurd (false≢true e)

@@ -66,9 +66,7 @@ pub(crate) fn members(alloc: Global, tokens: &[Token]) -> Result<(IntList, &[Tok
         let Some((value, after)) = integer(rest) else {
             return Err(Stop::Unread);
         };
-        if list.push(value).is_err() {
-            return Err(Stop::Memory);
-        }
+        list.push(value)?;
         match one_of(after, TokenKind::Mark(Mark::Comma)) {
             Some((_, next)) => rest = next,
             None => {

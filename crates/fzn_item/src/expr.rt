@@ -59,9 +59,7 @@ pub(crate) fn arguments(alloc: Global, tokens: &[Token]) -> Result<(ExprList, &[
     let mut rest = tokens;
     'forms: loop {
         let (value, after) = read_expr(alloc, rest)?;
-        if list.push(value).is_err() {
-            return Err(Stop::Memory);
-        }
+        list.push(value)?;
         match one_of(after, TokenKind::Mark(Mark::Comma)) {
             Some((_, next)) => rest = next,
             None => {
@@ -86,9 +84,7 @@ fn atoms(alloc: Global, tokens: &[Token]) -> Result<(AtomList, &[Token]), Stop>
     let mut rest = tokens;
     'forms: loop {
         let (value, after) = read_atom(alloc, rest)?;
-        if list.push(value).is_err() {
-            return Err(Stop::Memory);
-        }
+        list.push(value)?;
         match one_of(after, TokenKind::Mark(Mark::Comma)) {
             Some((_, next)) => rest = next,
             None => {

@@ -1,6 +1,7 @@
 //! What items are, and why tokens have none.
 
 use dcsp_domain::{IntList, RangeList};
+use dcsp_list::Memory;
 
 /// A constant, a name, a range or a listed set. `at` is the place of its first byte.
 #[derive(Debug, Drop)]
@@ -123,4 +124,15 @@ pub enum ItemError {
     Syntax { at: u32 },
     /// Memory ran out.
     Memory,
+}
+
+impl<T: Drop> From<(T, Memory)> for ItemError {
+    ghost use Rattle.std.specs.Prelude.{◌≡◌};
+    ghost use Rattle.fzn_item.specs.declared.item.ItemError.TheVariants as errors;
+
+    ghost from_gives = { λ _ e. e ≡ errors.Memory };
+
+    fn from(_: (T, Memory)) -> ItemError {
+        ItemError::Memory
+    }
 }

@@ -155,9 +155,7 @@ fn ranges(alloc: Global, tokens: &[Token]) -> Result<(RangeList, &[Token]), Stop
         let Some((value, after)) = range(rest) else {
             return Err(Stop::Unread);
         };
-        if list.push(value).is_err() {
-            return Err(Stop::Memory);
-        }
+        list.push(value)?;
         match one_of(after, TokenKind::Mark(Mark::Comma)) {
             Some((_, next)) => rest = next,
             None => {

@@ -25,9 +25,7 @@ pub fn items(alloc: Global, text: &[u8], tokens: &TokenList) -> Result<ItemList,
     while let Some((first, _)) = rest.split_first() {
         match read_item(alloc, text, rest) {
             Ok((item, after)) => {
-                if list.push(item).is_err() {
-                    return Err(ItemError::Memory);
-                }
+                list.push(item)?;
                 rest = after;
             }
             Err(Stop::Unread) => return Err(ItemError::Syntax { at: first.from }),

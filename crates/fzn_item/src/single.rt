@@ -5,6 +5,7 @@ ghost use Rattle.std.specs.Int.{w64};
 ghost use Rattle.fzn_item.specs.Productions.{OneOf, IsInteger};
 ghost use Rattle.fzn_item.specs.Readers.{Finds};
 
+use dcsp_list::Memory;
 use fzn_token::{Token, TokenKind};
 
 /// Why a reader gives nothing.
@@ -14,6 +15,17 @@ pub(crate) enum Stop {
     Unread,
     /// Memory ran out.
     Memory,
+}
+
+impl<T: Drop> From<(T, Memory)> for Stop {
+    ghost use Rattle.std.specs.Prelude.{◌≡◌};
+    ghost use Rattle.fzn_item.specs.declared.single.Stop.TheVariants as stop;
+
+    ghost from_gives = { λ _ e. e ≡ stop.Memory };
+
+    fn from(_: (T, Memory)) -> Stop {
+        Stop::Memory
+    }
 }
 
 /// A token of this kind, and what follows it.

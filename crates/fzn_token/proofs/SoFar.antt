@@ -1,7 +1,5 @@
 -- The tokens read so far.
-use Rattle.std.proofs.Common.{◌≡◌, ℕ, ◌<◌, ◌≤◌, List, [], ◌∷◌, ◌++◌, length, arith, refl, sym, subst, Ok, Err, Result, false}
-use Rattle.std.specs.Prelude.{OnOk, is_err}
-use Rattle.std.proofs.lemmas.Bool.{false≢true}
+use Rattle.std.proofs.Common.{◌≡◌, ℕ, ◌<◌, ◌≤◌, List, [], ◌∷◌, ◌++◌, length, arith, refl, sym, subst, Err}
 use Rattle.fzn_token.specs.declared.token.LexError.{LexError}
 use Rattle.fzn_token.specs.declared.token.LexError.TheVariants as errors
 use Rattle.fzn_token.specs.declared.token.Token.{Token}
@@ -47,8 +45,3 @@ pub refused : (text : List ℕ) (ts : List Token) (at : ℕ) (e : LexError) → 
 refused text ts at (errors.Bad place) so_far below r = record { reached = subst (IsReached text) (sym r.0) (reached so_far below); nothing = subst (NothingBegins text) (sym r.0) r.1 }
 refused text ts at (errors.IntRange place) so_far below r = record { reached = subst (IsReached text) (sym r.0) (reached so_far below); value = r.1.0; to = r.1.1; longest = subst (λ x. IsLongest (kind.Whole r.1.0) text x r.1.1) (sym r.0) r.1.2; outside = r.1.3 }
 refused text ts at errors.Memory so_far below r = absurd r
-
--- what holds of an `Ok` holds where the result is no error
-pub when_ok : {T E : Type 0} {P : Type 0} (r : Result T E) → false ≡ is_err r → OnOk r P → P
-when_ok (Ok x) e p = p
-when_ok (Err x) e p = absurd (false≢true e)

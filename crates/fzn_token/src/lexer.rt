@@ -26,9 +26,7 @@ pub fn tokens(alloc: Global, text: &[u8]) -> Result<TokenList, LexError>
     let mut at = gap_end(text, 0);
     while at < text.len() {
         let token = token_at(text, at)?;
-        if list.push(token).is_err() {
-            return Err(LexError::Memory);
-        }
+        list.push(token)?;
         at = gap_end(text, token.to as usize);
     }
     Ok(list)

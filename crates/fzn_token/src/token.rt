@@ -1,6 +1,6 @@
 //! What tokens are, and why a text has none.
 
-use dcsp_list::ItemList;
+use dcsp_list::{ItemList, Memory};
 
 /// A keyword.
 #[derive(Clone, Copy, Debug, PartialEq, Eq)]
@@ -107,4 +107,15 @@ pub enum LexError {
     IntRange { at: u32 },
     /// Memory ran out.
     Memory,
+}
+
+impl<T: Drop> From<(T, Memory)> for LexError {
+    ghost use Rattle.std.specs.Prelude.{◌≡◌};
+    ghost use Rattle.fzn_token.specs.declared.token.LexError.TheVariants as errors;
+
+    ghost from_gives = { λ _ e. e ≡ errors.Memory };
+
+    fn from(_: (T, Memory)) -> LexError {
+        LexError::Memory
+    }
 }

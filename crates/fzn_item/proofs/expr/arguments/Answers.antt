@@ -3,13 +3,13 @@ use Rattle.std.proofs.lemmas.Result.{err_from_is_err_and}
 use Rattle.fzn_token.specs.declared.token.Mark.TheVariants as mark
 use Rattle.fzn_item.specs.Productions.{IsListOf, IsSeparated}
 use Rattle.fzn_item.specs.Exprs.{IsExpr}
-use Rattle.fzn_item.proofs.ListsSoFar.{IsListSoFar, list_comma, list_close, list_no_form, list_no_mark, list_fails, when_ok}
+use Rattle.fzn_item.proofs.ListsSoFar.{IsListSoFar, list_comma, list_close, list_no_form, list_no_mark, list_fails}
 use Rattle.fzn_item.proofs.ExprLaws.{passes_on, expr_unique}
 use Rattle.fzn_item.proofs.expr.arguments.Goals as goal
 
 pub forms-preserved : goal.forms-preserved
 forms-preserved c =
-    let pushed = when_ok c.push.result c.if-is_err.ensures.value c.push.ensures.ok in
+    let pushed = c.in_ok-push.ensures.ok in
     let read = list_comma IsExpr mark.CloseParen (λ e. cc) expr_unique c.args.tokens.now c.forms.list c.forms.rest.now c.in_ok-value.after.now c.in-Some-one_of.next.now c.in_ok-value.value _ c.forms.invariant.0 c.in_ok-value.ensures.reads c.in-Some-one_of.ensures.reads in
     (subst (λ l. IsListSoFar IsExpr mark.CloseParen c.args.tokens.now l c.in-Some-one_of.next.now) (sym pushed) read, omega (arith, c.forms.invariant.1, c.in_ok-value.ensures.shorter, c.in-Some-one_of.ensures.shorter))
 
@@ -23,5 +23,5 @@ returns-in_default-one_of-clause-reads c = list_fails IsExpr mark.CloseParen (λ
 
 pub returns-in-None-clause-reads : goal.returns-in-None-clause-reads
 returns-in-None-clause-reads c =
-    let pushed = when_ok c.push.result c.if-is_err.ensures.value c.push.ensures.ok in
+    let pushed = c.in_ok-push.ensures.ok in
     inr (subst (λ l. IsSeparated IsExpr mark.CloseParen c.args.tokens.now l c.in-Some-one_of-2.end.now) (sym pushed) (list_close IsExpr mark.CloseParen (λ e. cc) expr_unique c.args.tokens.now c.forms.list c.forms.rest.now c.in_ok-value.after.now c.in-Some-one_of-2.end.now c.in_ok-value.value _ c.forms.invariant.0 c.in_ok-value.ensures.reads c.in-Some-one_of-2.ensures.reads))

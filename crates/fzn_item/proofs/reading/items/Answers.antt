@@ -1,13 +1,12 @@
 use Rattle.std.proofs.Common.{sym, subst, Err}
 use Rattle.fzn_item.specs.Readers.{Reads}
 use Rattle.fzn_item.specs.Items.{AreItemsTo, IsItem}
-use Rattle.fzn_item.proofs.ListsSoFar.{when_ok}
 use Rattle.fzn_item.proofs.ItemLaws.{items_push, unread}
 use Rattle.fzn_item.proofs.reading.items.Goals as goal
 
 pub loop-first-preserved : goal.loop-first-preserved
 loop-first-preserved c =
-    let pushed = when_ok c.push.result c.if-is_err.ensures.value c.push.ensures.ok in
+    let pushed = c.in_ok-push-in-Ok.ensures.ok in
     subst (λ l. AreItemsTo c.args.text.now c.args.tokens.now l c.in-Ok.after.now) (sym pushed) (items_push c.args.text.now c.args.tokens.now c.loop-first.list c.loop-first.rest.now c.in-Ok.item c.in-Ok.after.now c.loop-first.invariant c.in-Ok.ensures.reads)
 
 pub returns-in-Err-Unread : goal.returns-in-Err-Unread

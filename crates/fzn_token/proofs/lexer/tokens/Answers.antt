@@ -1,7 +1,7 @@
 use Rattle.std.proofs.Common.{arith, sym, subst}
 use Rattle.std.proofs.lemmas.Result.{err_from_is_err_and}
 use Rattle.fzn_token.proofs.Extents.{extent}
-use Rattle.fzn_token.proofs.SoFar.{push_so_far, refused, when_ok, AreSoFar}
+use Rattle.fzn_token.proofs.SoFar.{push_so_far, refused, AreSoFar}
 use Rattle.fzn_token.proofs.lexer.tokens.Goals as goal
 
 pub returns-in_err-token : goal.returns-in_err-token
@@ -17,4 +17,4 @@ pub loop-at-preserved : goal.loop-at-preserved
 loop-at-preserved c =
     let found = c.in_ok-token.ensures in
     let pushed = push_so_far c.in_ok-token.token c.loop-at.invariant c.loop-at-test.true found.0 found.1 c.gap_end-at-in-loop-at.ensures in
-    subst (λ ts. AreSoFar c.args.text.now ts c.gap_end-at-in-loop-at.result) (sym (when_ok c.push.result c.if-is_err.ensures.value c.push.ensures.ok)) pushed
+    subst (λ ts. AreSoFar c.args.text.now ts c.gap_end-at-in-loop-at.result) (sym c.in_ok-push.ensures.ok) pushed
