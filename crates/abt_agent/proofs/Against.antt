@@ -1,5 +1,5 @@
 -- The nogood that is kept against a value.
-use Rattle.std.proofs.Common.{◌≡◌, ℕ, ◌+◌, ◌≤◌, Bool, true, false, cond, List, [], ◌∷◌, Option, Some, None, ℤ, is_some, refl, sym, ap, subst, ◌∙◌, arith, inl, inr}
+use Rattle.std.proofs.Common.{◌≡◌, ℕ, ◌+◌, ◌≤◌, Bool, true, false, cond, List, [], ◌∷◌, Some, ℤ, is_some, refl, sym, ap, ◌∙◌, arith, inl, inr}
 use Rattle.std.specs.List.{count_by}
 use Rattle.dcsp_defs.specs.Words.{In}
 use Rattle.dcsp_defs.specs.Csp.{Known, agrees, with_value}
@@ -8,8 +8,7 @@ use Rattle.abt_store.specs.Stores.{is_against}
 use Rattle.abt_store.proofs.Counts.{count_by-cons}
 use Rattle.abt_reason.specs.Kept.{IsOwn}
 use Rattle.abt_reason.proofs.KeptLaws.{not_own_value}
-use Rattle.abt_agent.specs.declared.search.Cause.{Cause}
-use Rattle.abt_agent.specs.declared.search.Cause.TheVariants.{OwnedRule, KeptNogood}
+use Rattle.abt_agent.specs.declared.search.Cause.TheVariants.{KeptNogood}
 use Rattle.abt_agent.specs.Causes.{first_kept, first_against}
 
 module _ (me : ℕ) (v : ℤ) (known : Known) where

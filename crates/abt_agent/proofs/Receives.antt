@@ -1,5 +1,5 @@
 -- What a message that comes does.
-use Rattle.std.proofs.Common.{◌≡◌, ℕ, ◌+◌, ◌<◌, Bool, true, false, cond, not, ◌&&◌, List, ◌++◌, length, refl, sym, ap, subst, ◌∙◌, arith, append-nil, Result, Ok, Err, inl, inr}
+use Rattle.std.proofs.Common.{◌≡◌, ℕ, ◌+◌, ◌<◌, Bool, true, false, cond, not, ◌&&◌, List, length, refl, sym, ap, subst, ◌∙◌, arith, append-nil, Result, Ok, Err, inl, inr}
 use Rattle.std.specs.Prelude.{IfOk, OnOk}
 use Rattle.dcsp_list.specs.declared.Memory.{Memory}
 use Rattle.std.proofs.lemmas.Bool.Decides.{eqb_tells}

@@ -1,5 +1,5 @@
 -- The first item that rules a value out, as the code finds it.
-use Rattle.std.specs.Prelude.{◌≡◌, ℕ, ◌+◌, ◌<◌, length, ℤ, Bool, List, [], ◌∷◌, find, filter_map, Option, Some, None, is_some, not, slice_index_or, if◌then◌else◌}
+use Rattle.std.specs.Prelude.{ℕ, ◌+◌, ◌<◌, length, ℤ, Bool, List, [], ◌∷◌, find, filter_map, Option, Some, None, is_some, not, slice_index_or, if◌then◌else◌}
 use Rattle.std.specs.List.{list_any}
 use Rattle.std.specs.Option.{option_or}
 use Rattle.dcsp_defs.specs.Csp.{Known, is_violated, agrees, with_value}

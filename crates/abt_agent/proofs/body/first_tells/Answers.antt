@@ -3,9 +3,9 @@ use Rattle.std.specs.Prelude.{nat_lt}
 use Rattle.std.specs.List.{list_any}
 use Rattle.std.proofs.lemmas.Bool.{cases_lt}
 use Rattle.std.proofs.lemmas.Bool.Decides.{Decides-eqb, nat_tests, eqb_tells}
-use Rattle.std.proofs.lemmas.List.{map-append, take_more, take_all, get_or-set_same, get_or-set_other, length-set, length-replicate}
+use Rattle.std.proofs.lemmas.List.{map-append, take_more, take_all, get_or-set_same, get_or-set_other}
 use Rattle.std.proofs.lemmas.List.Folds.{list_any-append}
-use Rattle.dcsp_defs.specs.Words.{In, below}
+use Rattle.dcsp_defs.specs.Words.{below}
 use Rattle.dcsp_defs.specs.Csp.{Csp, IsCsp, count}
 use Rattle.dcsp_defs.proofs.Lists.{In-filter, filter-from, below-In, list_any-In, In-list_any}
 use Rattle.dcsp_problem.specs.Problems.{csp_of}
