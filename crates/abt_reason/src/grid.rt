@@ -1,11 +1,11 @@
 //! For each rule a row that tells which values it rules out; for each value how many rules do, and the first of them.
 
-ghost use Rattle.std.specs.Prelude.{◌≡◌, ◌≢◌, ◌<◌, ◌≤◌, ◌^◌, ◌*◌, ◌/◌, ℕ, Bool, IfOk, length, true, false, slice_index_or};
+ghost use Rattle.std.specs.Prelude.{◌≡◌, ◌≢◌, ◌<◌, ◌≤◌, ◌^◌, ℕ, Bool, IfOk, length, true, false, slice_index_or};
 ghost use Rattle.abt_reason.specs.Firsts.{IsFirst};
 ghost use Rattle.abt_reason.specs.Grids.{row_at, marks, count_of, IsGrid};
 
 use dcsp_list::Memory;
-use dcsp_row::{BLOCK, Row};
+use dcsp_row::Row;
 use std::alloc::Global;
 
 /// For each rule the values that it rules out.
@@ -35,8 +35,8 @@ impl RuledOut {
         })
     }
 
-    /// Puts what the rule rules out in place of what it ruled out. Blocks of values for which nothing
-    /// changes are passed over.
+    /// Puts what the rule rules out in place of what it ruled out. Only values for which that changes
+    /// are touched.
     pub fn replace(&mut self, place: usize, row: &Row)
         requires place { place < length self.old.rows.items }
         requires grid { IsGrid self.old.rows.items (length row.now) self.old.counts.items self.old.firsts.items }
@@ -45,28 +45,10 @@ impl RuledOut {
         ensures replaced { (value : ℕ) → value < length row.now → marks self.new.rows.items value place ≡ slice_index_or row.now value false }
         ensures others { (other value : ℕ) → other ≢ place → marks self.new.rows.items value other ≡ marks self.old.rows.items value other }
     {
-        for block in 0..row.len() / BLOCK + 1 {
-            if !row.is_same_in(&self.rows[place], block) {
-                self.replace_block(place, row, block);
-            }
-        }
-    }
-
-    /// Puts in place what the rule rules out of one block of values.
-    fn replace_block(&mut self, place: usize, row: &Row, block: usize)
-        requires place { place < length self.old.rows.items }
-        requires block { block * 64 ≤ length row.now }
-        requires grid { IsGrid self.old.rows.items (length row.now) self.old.counts.items self.old.firsts.items }
-        ensures grid { IsGrid self.new.rows.items (length row.now) self.new.counts.items self.new.firsts.items }
-        ensures rules { length self.new.rows.items ≡ length self.old.rows.items }
-        ensures replaced { (value : ℕ) → value / 64 ≡ block → value < length row.now → marks self.new.rows.items value place ≡ slice_index_or row.now value false }
-        ensures beside { (value : ℕ) → value / 64 ≢ block → marks self.new.rows.items value place ≡ marks self.old.rows.items value place }
-        ensures others { (other value : ℕ) → other ≢ place → marks self.new.rows.items value other ≡ marks self.old.rows.items value other }
-    {
-        let first = block * BLOCK;
-        let count = (row.len() - first).min(BLOCK);
-        for next in 0..count {
-            self.set(place, first + next, row);
+        let mut from = 0;
+        while let Some(value) = row.next_change(&self.rows[place], from) {
+            self.set(place, value, row);
+            from = value + 1;
         }
     }
 

@@ -56,9 +56,10 @@ no_mark size words place zeros = elim (cases_lt place size) [
   | inr past ↦ get_or-eq_default (marks_of size words) false (let all = size_of_marks size words in omega arith)
 ]
 
--- one word stands for one block of marks
-pub same_block : (size more : ℕ) (words others : List ℕ) (block place : ℕ) → get_or words block 0 ≡ get_or others block 0 → place / 64 ≡ block → place < size → place < more
-    → get_or (marks_of size words) place false ≡ get_or (marks_of more others) place false
-same_block size more words others block place same at mine theirs =
-    mark_at size words place mine ∙ ap (λ n. bit_at (get_or words n 0) (place % 64) == 1) at ∙ ap (λ w. bit_at w (place % 64) == 1) same
-    ∙ sym (ap (λ n. bit_at (get_or others n 0) (place % 64) == 1) at) ∙ sym (mark_at more others place theirs)
+-- the same bit, the same mark
+pub same_marks : (size more : ℕ) (words others : List ℕ) (row other : List Bool) → marks_of size words ≡ row → marks_of more others ≡ other → length other ≡ length row → (k : ℕ) → k < length row → has_bit words k ≡ has_bit others k
+    → get_or row k false ≡ get_or other k false
+same_marks size more words others row other e f same k l has =
+    let within : k < size = omega (arith, l, size_of_marks size words, ap length e) in
+    let inside : k < more = omega (arith, l, same, size_of_marks more others, ap length f) in
+    sym (ap (λ (r : List Bool). get_or r k false) e) ∙ mark_at size words k within ∙ has ∙ sym (mark_at more others k inside) ∙ ap (λ (r : List Bool). get_or r k false) f

@@ -2,3 +2,5 @@ pub mod BitLaws
 pub mod Domains
 pub mod RowLaws
 pub mod LineLaws
+pub mod WordLaws
+pub mod CutLaws

@@ -27,7 +27,7 @@ pub fn fill_row<L: Lookup>(problem: &Problem, rule: u32, var: u32, lookup: &L, r
     ensures { IsRow problem.now rule var (L.values lookup.now) row.new }
 {
     if !knows_others(problem.scope(rule), var, lookup) {
-        row.clear();
+        row.mark_side(0, true);
         return;
     }
     let _variables = problem.vars();

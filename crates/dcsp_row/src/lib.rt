@@ -4,6 +4,7 @@
 #![tactic(auto)]
 
 mod compare;
+mod cut;
 mod fill;
 mod general;
 mod known;
@@ -12,4 +13,4 @@ mod row;
 mod sums;
 
 pub use fill::fill_row;
-pub use row::{BLOCK, Row};
+pub use row::Row;

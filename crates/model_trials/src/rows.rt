@@ -101,14 +101,18 @@ fn rows_of_one_variable(rt: HostRuntime) -> Result<(), Fail> {
 }
 
 #[test]
-fn blocks_are_compared(rt: HostRuntime) -> Result<(), Fail> {
+fn changes_are_found(rt: HostRuntime) -> Result<(), Fail> {
     let mut row = Row::new(rt.alloc(), 130).expect(&rt, "memory");
     let other = Row::new(rt.alloc(), 130).expect(&rt, "memory");
+    assert!(rt; row.next_change(&other, 0).is_none());
     row.put(64, true);
-    assert!(rt; row.is_same_in(&other, 0));
-    assert!(rt; !row.is_same_in(&other, 1));
-    assert!(rt; row.is_same_in(&other, 2));
-    row.put(64, false);
-    assert!(rt; row.is_same_in(&other, 1));
+    row.put(129, true);
+    assert!(rt; row.next_change(&other, 0) == Some(64));
+    assert!(rt; row.next_change(&other, 65) == Some(129));
+    assert!(rt; row.next_change(&other, 130).is_none());
+    row.mark_side(70, false);
+    assert!(rt; row.next_change(&other, 0) == Some(70));
+    row.mark_side(70, true);
+    assert!(rt; row.next_change(&other, 70).is_none());
     Ok(())
 }

@@ -1,4 +1,4 @@
-use Rattle.std.proofs.Common.{◌≡◌, ◌<◌, ◌≤◌, length, arith, ◌∙◌, ap, sym, subst, ℕ, ℤ, List, Bool}
+use Rattle.std.proofs.Common.{◌≡◌, ◌<◌, ◌≤◌, false, length, arith, ◌∙◌, ap, sym, subst, ℕ, ℤ, List, Bool}
 use Rattle.dcsp_defs.specs.Csp.{domain, filled, with_value}
 use Rattle.dcsp_problem.specs.declared.rule.Rule.{Rule}
 use Rattle.dcsp_problem.specs.Rules.{no_rule}
@@ -10,15 +10,17 @@ use Rattle.dcsp_problem.proofs.RisingNumbers.{In-get_or}
 use Rattle.dcsp_problem.proofs.Narrow.{narrow_of_known}
 use Rattle.dcsp_row.specs.Rows.{own_at, TellsFalse}
 use Rattle.dcsp_row.proofs.Domains.{get_or_found, own_in_domains}
+use Rattle.dcsp_row.proofs.CutLaws.{base_mark}
 use Rattle.dcsp_row.proofs.RowLaws.{not_known, all_known, scope_within}
 use Rattle.dcsp_row.proofs.fill.fill_row.Goals as goal
 
 pub returns-then-not-knows_others : goal.returns-then-not-knows_others
 returns-then-not-knows_others g c = (
-  c.clear.ensures.size ∙ c.requires.size,
+  c.mark_side.ensures.size ∙ c.requires.size,
   λ place within.
       let value = own_at (domain (csp_of c.args.problem.now) c.args.var) place in
-      c.clear.ensures.none place ∙ not_known (with_value c.args.var value (g.L.Lookup.values c.args.lookup.now)) (constraint_at c.args.problem.now c.args.rule) c.scope.result.now c.knows_others.result c.scope.ensures.scope
+      let here : place < length c.mark_side.new.self = omega (arith, within, c.mark_side.ensures.size, c.requires.size) in
+      c.mark_side.ensures.marks place here ∙ base_mark false place ∙ not_known (with_value c.args.var value (g.L.Lookup.values c.args.lookup.now)) (constraint_at c.args.problem.now c.args.rule) c.scope.result.now c.knows_others.result c.scope.ensures.scope
       (c.knows_others.ensures value) c.if-not-knows_others.true,
 )
 

@@ -3,7 +3,7 @@ use Rattle.std.specs.Prelude.{not, unwrap_or, pos}
 use Rattle.std.proofs.lemmas.Int.{to_z-of_z}
 use Rattle.dcsp_row.specs.Rows.{compares, is_missed, own_at}
 use Rattle.dcsp_row.proofs.Domains.{one_marked, get_or_found}
-use Rattle.dcsp_row.proofs.compare.fill_compared.Goals as goal
+use Rattle.dcsp_row.proofs.compare.compare_each.Goals as goal
 
 pub loop-place-preserved : goal.loop-place-preserved
 loop-place-preserved c =

@@ -2,7 +2,7 @@ use Rattle.std.proofs.Common.{ap, ◌<◌, length, arith}
 use Rattle.std.specs.Prelude.{not}
 use Rattle.dcsp_row.specs.Lines.{is_off}
 use Rattle.dcsp_row.proofs.Domains.{one_marked}
-use Rattle.dcsp_row.proofs.sums.fill_sum.Goals as goal
+use Rattle.dcsp_row.proofs.sums.add_each.Goals as goal
 
 pub loop-place-preserved : goal.loop-place-preserved
 loop-place-preserved c =
