@@ -3,7 +3,7 @@
 ghost use Rattle.std.specs.Prelude.{◌≡◌, ◌<◌, ◌≤◌, ℕ, length, false, slice_index_or, IsTrue};
 ghost use Rattle.dcsp_defs.specs.Csp.{domain};
 ghost use Rattle.dcsp_problem.specs.Problems.{csp_of, AreInDomains};
-ghost use Rattle.dcsp_linear.specs.declared.TheConstants.{WIDEST};
+ghost use Rattle.dcsp_linear.specs.Sums.{widest};
 ghost use Rattle.dcsp_defs.specs.Csp.{filled, with_value};
 ghost use Rattle.dcsp_problem.specs.Rules.{has_shape};
 ghost use Rattle.dcsp_problem.specs.Widths.{rule_sizes};
@@ -40,7 +40,7 @@ pub fn fill_row<L: Lookup>(problem: &Problem, rule: u32, var: u32, lookup: &L, r
 fn fill_fast<L: Lookup>(rule: &Rule, domain: &Domain, var: u32, lookup: &L, row: &mut Row) -> bool
     requires size { length row.old ≡ length domain.now }
     requires shape { IsTrue (has_shape rule.now) }
-    requires narrow { FitAtEach (λ x. rule_sizes rule.now (filled (with_value var x (L.values lookup.now)))) WIDEST domain.now }
+    requires narrow { FitAtEach (λ x. rule_sizes rule.now (filled (with_value var x (L.values lookup.now)))) widest domain.now }
     ensures size { length row.new ≡ length domain.now }
     ensures tells { IsTrue result → TellsFalse rule.now var domain.now (L.values lookup.now) row.new }
 {
@@ -81,7 +81,7 @@ fn fill_comparison<L: Lookup>(
 fn fill_linear<L: Lookup>(rule: &Rule, domain: &Domain, var: u32, lookup: &L, row: &mut Row) -> bool
     requires size { length row.old ≡ length domain.now }
     requires shape { IsTrue (has_shape rule.now) }
-    requires narrow { FitAtEach (λ x. rule_sizes rule.now (filled (with_value var x (L.values lookup.now)))) WIDEST domain.now }
+    requires narrow { FitAtEach (λ x. rule_sizes rule.now (filled (with_value var x (L.values lookup.now)))) widest domain.now }
     ensures size { length row.new ≡ length domain.now }
     ensures tells { IsTrue result → TellsFalse rule.now var domain.now (L.values lookup.now) row.new }
 {

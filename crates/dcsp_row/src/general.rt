@@ -21,6 +21,6 @@ pub fn try_each<L: Lookup>(problem: &Problem, rule: u32, var: u32, lookup: &L, r
     for place in 0..domain.len() {
         let value = domain.value(place);
         let with = WithValue { var, value, lookup };
-        row.put(place, problem.violated_by(rule, &with));
+        row.put(place, problem.violated_within(rule, &with));
     }
 }

@@ -1,8 +1,7 @@
 //! Sums in which one variable is left open.
 
 ghost use Rattle.std.specs.Prelude.{◌≡◌, ◌+◌, ◌*◌, ◌<◌, ◌≤◌, ◌+ℤ◌, ◌*ℤ◌, ℕ, ℤ, IfSome, length, unsigned_abs, sum_by};
-ghost use Rattle.dcsp_linear.specs.Sums.{sum_of, size_of, stands};
-ghost use Rattle.dcsp_linear.specs.declared.TheConstants.{WIDEST};
+ghost use Rattle.dcsp_linear.specs.Sums.{sum_of, size_of, stands, widest};
 ghost use Rattle.dcsp_defs.specs.Csp.{filled, with_value};
 ghost use Rattle.dcsp_problem.specs.Rules.{weighted};
 ghost use Rattle.dcsp_row.specs.Rows.{FitAtEach};
@@ -30,9 +29,9 @@ pub fn line_of<L: Lookup>(
 ) -> Option<Line>
     requires shape { length coefs.now ≡ length terms.now }
     requires some { 0 < length domain.now }
-    requires narrow { FitAtEach (λ x. sum_by size_of (weighted (filled (with_value var x (L.values lookup.now))) coefs.now terms.now)) WIDEST domain.now }
+    requires narrow { FitAtEach (λ x. sum_by size_of (weighted (filled (with_value var x (L.values lookup.now))) coefs.now terms.now)) widest domain.now }
     ensures sum { IfSome result (λ line. (x : ℤ) → line_at line x ≡ sum_of (weighted (filled (with_value var x (L.values lookup.now))) coefs.now terms.now)) }
-    ensures size { IfSome result (λ line. FitAtEach (line_size line) WIDEST domain.now) }
+    ensures size { IfSome result (λ line. FitAtEach (line_size line) widest domain.now) }
 {
     let mut line = Line { base: 0, own: None };
     for place in 0..coefs.len() {
@@ -47,7 +46,7 @@ pub fn line_of<L: Lookup>(
 
 /// The line with one term more.
 fn with_term(line: Line, coef: i64, value: Option<i64>) -> Option<Line>
-    requires { IfSome value (λ v. unsigned_abs line.base + unsigned_abs coef * unsigned_abs v ≤ WIDEST) }
+    requires { IfSome value (λ v. unsigned_abs line.base + unsigned_abs coef * unsigned_abs v ≤ widest) }
     ensures { IfSome result (λ next. (x : ℤ) → AddsTerm line next coef value x) }
 {
     match value {
@@ -67,7 +66,7 @@ fn with_term(line: Line, coef: i64, value: Option<i64>) -> Option<Line>
 
 /// The sum where the open variable has this value.
 pub fn sum_at(line: Line, value: i64) -> i128
-    requires { line_size line value ≤ WIDEST }
+    requires { line_size line value ≤ widest }
     ensures { result ≡ line_at line value }
 {
     match line.own {
@@ -78,7 +77,7 @@ pub fn sum_at(line: Line, value: i64) -> i128
 
 /// The sum with one product more.
 fn plus_product(sum: i128, coef: i64, value: i64) -> i128
-    requires { unsigned_abs sum + unsigned_abs coef * unsigned_abs value ≤ WIDEST }
+    requires { unsigned_abs sum + unsigned_abs coef * unsigned_abs value ≤ widest }
     ensures { result ≡ sum +ℤ (coef *ℤ value) }
 {
     sum + i128::from(coef) * i128::from(value)

@@ -2,8 +2,7 @@
 
 ghost use Rattle.std.specs.Prelude.{◌≡◌, ◌<◌, ◌≤◌, ℕ, ℤ, IfSome, length, false, not, slice_index_or, unsigned_abs, unwrap_or};
 ghost use Rattle.std.specs.Option.{option_map};
-ghost use Rattle.dcsp_linear.specs.Sums.{stands};
-ghost use Rattle.dcsp_linear.specs.declared.TheConstants.{WIDEST};
+ghost use Rattle.dcsp_linear.specs.Sums.{stands, widest};
 ghost use Rattle.dcsp_defs.specs.Csp.{filled, with_value};
 ghost use Rattle.dcsp_problem.specs.Rules.{is_told, value_under};
 ghost use Rattle.dcsp_row.specs.Rows.{compares, own_at, MarksWhere, FitAtEach};
@@ -45,7 +44,7 @@ pub fn told_by<L: Lookup>(truth: Option<Term>, var: u32, lookup: &L) -> Told
 
 /// The values at which the sum is false, where they are easily told.
 pub fn off_where(rel: Rel, line: Line, total: Option<i64>, told: Told) -> Option<Cut>
-    requires { unsigned_abs line.base ≤ WIDEST }
+    requires { unsigned_abs line.base ≤ widest }
     ensures { IfSome result (λ cut. (x : ℤ) → is_in cut x ≡ is_off rel line total told x) }
 {
     let cut = missed_where(rel, line, total?)?;
@@ -59,7 +58,7 @@ pub fn off_where(rel: Rel, line: Line, total: Option<i64>, told: Told) -> Option
 /// The values at which the sum does not stand so to the total, where the open variable is added or
 /// taken away once.
 fn missed_where(rel: Rel, line: Line, total: i64) -> Option<Cut>
-    requires { unsigned_abs line.base ≤ WIDEST }
+    requires { unsigned_abs line.base ≤ widest }
     ensures { IfSome result (λ cut. (x : ℤ) → is_in cut x ≡ not (stands rel (line_at line x) total)) }
 {
     let comparison = comparison_in(rel);
@@ -103,7 +102,7 @@ pub fn fill_sum(
 )
     requires some { 0 < length domain.now }
     requires size { length row.old ≡ length domain.now }
-    requires narrow { FitAtEach (line_size line) WIDEST domain.now }
+    requires narrow { FitAtEach (line_size line) widest domain.now }
     ensures { MarksWhere (is_off rel line total told) domain.now row.new }
 {
     match off_where(rel, line, total, told) {
@@ -115,7 +114,7 @@ pub fn fill_sum(
 /// The same by the sum at each value.
 fn add_each(rel: Rel, line: Line, total: Option<i64>, told: Told, domain: &Domain, row: &mut Row)
     requires size { length row.old ≡ length domain.now }
-    requires narrow { FitAtEach (line_size line) WIDEST domain.now }
+    requires narrow { FitAtEach (line_size line) widest domain.now }
     ensures { MarksWhere (is_off rel line total told) domain.now row.new }
 {
     for place in 0..domain.len() {
@@ -134,7 +133,7 @@ fn holds_at(
     place: usize,
 ) -> bool
     requires place { place < length domain.now }
-    requires narrow { line_size line (own_at domain.now place) ≤ WIDEST }
+    requires narrow { line_size line (own_at domain.now place) ≤ widest }
     ensures { result ≡ is_told (told_at told (own_at domain.now place)) (stands rel (line_at line (own_at domain.now place)) (unwrap_or total (own_at domain.now place))) }
 {
     let value = domain.value(place);

@@ -4,7 +4,7 @@ use Rattle.dcsp_problem.specs.declared.rule.Rule.{Rule}
 use Rattle.dcsp_problem.specs.Rules.{no_rule}
 use Rattle.dcsp_problem.specs.Problems.{csp_of, constraint_at}
 use Rattle.std.specs.Prelude.{pos}
-use Rattle.dcsp_linear.specs.declared.TheConstants.{WIDEST}
+use Rattle.dcsp_linear.specs.Sums.{widest}
 use Rattle.dcsp_problem.specs.Widths.{rule_sizes}
 use Rattle.dcsp_problem.proofs.RisingNumbers.{In-get_or}
 use Rattle.dcsp_problem.proofs.Narrow.{narrow_of_known}
@@ -49,5 +49,5 @@ fill_fast-requires-clause-narrow g c = λ k within.
     let all = own_in_domains (csp_of p) var (own_at values k) (g.L.Lookup.values c.args.lookup.now) (In-get_or values k (pos 0) there) c.requires.known in
     let scope = scope_within p known c.args.rule c.scope.result.now c.knows_others.result all c.scope.ensures.inside c.scope.ensures.scope (c.knows_others.ensures (own_at values k)) c.if-not-knows_others.false in
     let narrow = narrow_of_known p known c.args.rule c.vars-variables.ensures.problem c.requires.rule scope in
-    subst (λ (d : List ℤ). rule_sizes c.rule.result.now (filled (with_value var (own_at d k) (g.L.Lookup.values c.args.lookup.now))) ≤ WIDEST) (sym c.domain.ensures)
-    (subst (λ (rule : Rule). rule_sizes rule (filled known) ≤ WIDEST) (get_or_found p.rules c.args.rule c.rule.result.now no_rule c.rule.ensures) narrow)
+    subst (λ (d : List ℤ). rule_sizes c.rule.result.now (filled (with_value var (own_at d k) (g.L.Lookup.values c.args.lookup.now))) ≤ widest) (sym c.domain.ensures)
+    (subst (λ (rule : Rule). rule_sizes rule (filled known) ≤ widest) (get_or_found p.rules c.args.rule c.rule.result.now no_rule c.rule.ensures) narrow)
