@@ -1,5 +1,5 @@
 -- What the slots of a view stand for.
-use Rattle.std.specs.Prelude.{ℕ, List, Option, Some, None, slice_index_or, replicate}
+use Rattle.std.specs.Prelude.{ℕ, ◌-◌, ◌≤◌, List, ◌++◌, Option, Some, None, length, slice_index_or, replicate}
 use Rattle.abt_defs.specs.Agents.{Stamped, View}
 use Rattle.abt_view.specs.declared.Told.{Told}
 
@@ -24,3 +24,12 @@ blank agents = replicate agents None
 abbrev pub stamp_in : Option Stamped → Option ℕ
 stamp_in None = None
 stamp_in (Some s) = Some s.stamp
+
+-- so many slots, of which these are the first, and in the others there is nothing
+abbrev pub padded : ℕ → List (Option Told) → List (Option Told)
+padded agents slots = slots ++ blank (agents - length slots)
+
+-- so many slots are no more than so many agents, for whom there is room
+pub record HasRoomFor (agents slots capacity : ℕ) : Type 0 where
+  pub within : slots ≤ agents
+  pub room : agents ≤ capacity

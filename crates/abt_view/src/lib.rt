@@ -5,7 +5,7 @@
 //! stamp beside each value.
 #![tactic(auto)]
 
-ghost use Rattle.std.specs.Prelude.{◌≡◌, ◌<◌, Some, None, IfOk, length, slice_index_or, if◌then◌else◌};
+ghost use Rattle.std.specs.Prelude.{◌≡◌, ◌≢◌, ◌+◌, ◌<◌, ◌≤◌, ℕ, Some, None, IfOk, length, max, slice_index_or, vec_capacity, if◌then◌else◌};
 ghost use Rattle.dcsp_defs.specs.Words.{update};
 ghost use Rattle.abt_defs.specs.Agents.{values_in};
 ghost use Rattle.abt_defs.specs.Steps.{is_newer};
@@ -25,17 +25,23 @@ pub struct Told {
 /// For each higher agent the value and the stamp last told, if there was one.
 #[derive(Debug, Drop)]
 pub struct View {
-    /// The agents above, in order.
+    /// The agents above, in order, up to the last that told something. There is room for all of them,
+    /// which is not touched before.
     slots: Vec<Option<Told>>,
+    /// How many there are.
+    agents: usize,
 }
 
 impl Model for View {
-    ghost use Rattle.std.specs.Prelude.{List, Option};
+    ghost use Rattle.std.specs.Prelude.{List, Option, length, vec_capacity};
     ghost use Rattle.abt_view.specs.declared.Told.{Told};
+    ghost use Rattle.abt_view.specs.Views.{padded, HasRoomFor};
 
     ghost Value = { List (Option Told) };
 
-    ghost view = { λ view. view.slots.items };
+    ghost view = { λ view. padded view.agents view.slots.items };
+
+    ghost invariant = { λ view. HasRoomFor view.agents (length view.slots.items) (vec_capacity view.slots) };
 }
 
 impl View {
@@ -44,8 +50,9 @@ impl View {
         ensures slots { IfOk result (λ view. view ≡ blank agent) }
         ensures empty { IfOk result (λ view. view_of view ≡ (λ k. None)) }
     {
-        match vec![in alloc; None; agent as usize] {
-            Ok(slots) => Ok(View { slots }),
+        let agents = agent as usize;
+        match Vec::with_capacity(alloc, agents) {
+            Ok(slots) => Ok(View { slots, agents }),
             Err(_) => Err(Memory),
         }
     }
@@ -58,14 +65,21 @@ impl View {
         ensures view { view_of self.new ≡ (if result then update (view_of self.old) var (Some (record { value = value; stamp = stamp })) else view_of self.old) }
         ensures slots { length self.new ≡ length self.old }
     {
-        let newer = match self.stamp_of(var) {
+        if !self.is_news(var, stamp) {
+            return false;
+        }
+        put_slot(&mut self.slots, var as usize, Told { value, stamp });
+        true
+    }
+
+    /// Whether there is no stamp for an agent or a lower one.
+    fn is_news(&self, var: u32, stamp: u64) -> bool
+        ensures { result ≡ is_newer (view_of self.now var) stamp }
+    {
+        match self.stamp_of(var) {
             None => true,
             Some(known) => known < stamp,
-        };
-        if newer {
-            self.slots[var as usize] = Some(Told { value, stamp });
         }
-        newer
     }
 
     /// The value last told by an agent; `None` where it told nothing or is not higher.
@@ -88,4 +102,18 @@ impl View {
     {
         self.slots.get(var as usize).copied()?
     }
+}
+
+/// Puts what was told into the slot at a place, for which there is room.
+fn put_slot(slots: &mut Vec<Option<Told>>, place: usize, told: Told)
+    requires { place < vec_capacity slots.old }
+    ensures told { slice_index_or slots.new.items place None ≡ Some told }
+    ensures others { (k : ℕ) → k ≢ place → slice_index_or slots.new.items k None ≡ slice_index_or slots.old.items k None }
+    ensures size { length slots.new.items ≤ max (length slots.old.items) (place + 1) }
+    ensures capacity { vec_capacity slots.new ≡ vec_capacity slots.old }
+{
+    for _slot in slots.len()..place + 1 {
+        slots.push_reserved(None);
+    }
+    slots[place] = Some(told);
 }
