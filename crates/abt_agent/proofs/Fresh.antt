@@ -1,13 +1,13 @@
 -- An agent before its start.
 use Rattle.std.proofs.Common.{◌≡◌, ◌≢◌, ℕ, zero, suc, ◌+◌, ◌<◌, ◌≤◌, Bool, true, false, cond, not, ◌&&◌, ◌||◌, List, [], ◌∷◌, map, filter, length, Option, Some, None, ◌==◌, refl, sym, ap, subst, ◌∙◌, arith, ℤ, inl, inr}
-use Rattle.std.specs.Prelude.{filter_map, slice_index_or}
+use Rattle.std.specs.Prelude.{filter_map, nat_lt, slice_index_or}
 use Rattle.std.specs.List.{list_any, enumerate_from, cons_option}
 use Rattle.std.proofs.lemmas.Bool.{cases_lt}
-use Rattle.std.proofs.lemmas.Bool.Decides.{nat_tests}
+use Rattle.std.proofs.lemmas.Bool.Decides.{Decides-eqb, nat_tests}
 use Rattle.std.proofs.lemmas.List.{length_push, map-append, length-map, get_or_append_left, get_or_push, get_or_past}
-use Rattle.dcsp_defs.specs.Words.{In, below}
+use Rattle.dcsp_defs.specs.Words.{In, IsRising, below}
 use Rattle.dcsp_defs.specs.Csp.{Csp, IsCsp, Constraint, count, owns}
-use Rattle.dcsp_defs.proofs.Lists.{and_left, and_right, In-list_any}
+use Rattle.dcsp_defs.proofs.Lists.{and_left, and_right, In-list_any, list_any-In, In-filter, filter-from, below-In}
 use Rattle.dcsp_defs.specs.declared.Step.{Step}
 use Rattle.abt_defs.specs.Agents.{Agent, plain, fresh, shares, is_among}
 use Rattle.abt_defs.specs.Reasons.{Item, blamed, causes, derived, step_of}
@@ -18,6 +18,8 @@ use Rattle.law_invariants.proofs.Owners.{owner_greatest, owner_in}
 use Rattle.law_invariants.proofs.Runs.{start_kept}
 use Rattle.dcsp_problem.specs.Problems.{Contents, csp_of, constraint_at}
 use Rattle.dcsp_problem.specs.Index.{owned_rules}
+use Rattle.dcsp_problem.specs.Lower.{joins, lower_owners}
+use Rattle.dcsp_problem.proofs.RisingNumbers.{rising-filter_below, In-filter_below}
 use Rattle.abt_view.specs.Views.{view_of}
 use Rattle.abt_store.specs.Stores.{records_of}
 use Rattle.abt_agent.specs.declared.body.Body.{Body}
@@ -27,6 +29,7 @@ use Rattle.abt_agent.specs.Turns.{IsTurn, IsFirstTurn}
 use Rattle.abt_agent.specs.Bodies.{agent_of, owner_of, IsGood, IsInStep}
 use Rattle.abt_agent.specs.Rules.{names_any}
 use Rattle.abt_agent.proofs.Causes.{any-map, owned_are}
+use Rattle.abt_agent.proofs.Rising.{among_In}
 
 -- ---- which agents share
 
@@ -73,6 +76,43 @@ shares_higher p ok i k l = not_true (shares p i k) (λ e. let s = (sharing p ok 
 pub shares_inside : (p : Csp) → IsCsp p → (i k : ℕ) → count p ≤ i → shares p i k ≡ false
 shares_inside p ok i k l = not_true (shares p i k) (λ e. let s = (sharing p ok i k e).1 in omega arith)
 
+-- a filter has just the numbers that pass
+among_filter : (q : ℕ → Bool) (n j : ℕ) → j < n → is_among j (filter q (below n)) ≡ q j
+among_filter q n j l = by_test (q j) (is_among j (filter q (below n))) refl refl where
+  by_test : (b c : Bool) → q j ≡ b → is_among j (filter q (below n)) ≡ c → c ≡ b
+  by_test true true e f = refl
+  by_test false false e f = refl
+  by_test true false e f = sym f ∙ list_any-In (λ x. j == x) j (filter q (below n)) (In-filter q j (below n) (below-In n j l) e) ((Decides-eqb j j).1 refl)
+  by_test false true e f =
+      let found = In-list_any (λ x. j == x) (filter q (below n)) f in
+      let passes = (filter-from q found.0 (below n) found.1).1 in
+      let same : j ≡ found.0 = (Decides-eqb j found.0).0 found.2 in
+      sym (ap q same ∙ passes) ∙ e
+
+-- the lower owners are those that share
+lower_share : (p : Csp) → IsCsp p → (me j : ℕ) → j < count p → is_among j (lower_owners p me) ≡ shares p j me
+lower_share p ok me j l =
+    among_filter (λ o. nat_lt me o && list_any (joins o me) p.constraints) (count p) j l
+    ∙ elim (cases_lt me j) [
+      | inl after ↦ ap (λ z. z && list_any (joins j me) p.constraints) (both me j after)
+      | inr past ↦ ap (λ z. z && list_any (joins j me) p.constraints) (none me j past) ∙ sym (shares_higher p ok j me past)
+    ]
+  where
+    both : (m o : ℕ) → m < o → nat_lt m o ≡ not (m == o)
+    both m o h = grind (arith, nat_tests)
+
+    none : (m o : ℕ) → o ≤ m → nat_lt m o ≡ false
+    none m o h = grind (arith, nat_tests)
+
+-- also past the last agent
+pub lower_are : (p : Csp) → IsCsp p → (me j : ℕ) → is_among j (lower_owners p me) ≡ shares p j me
+lower_are p ok me j = elim (cases_lt j (count p)) [
+  | inl l ↦ lower_share p ok me j l
+  | inr past ↦
+      not_true (is_among j (lower_owners p me)) (λ e. let l = (In-filter_below (λ o. nat_lt me o && list_any (joins o me) p.constraints) (count p) j (among_In j (lower_owners p me) e)).0 in omega arith)
+      ∙ sym (shares_inside p ok j me past)
+]
+
 -- ---- tables of marks
 
 pub length-below : (n : ℕ) → length (below n) ≡ n
@@ -101,10 +141,10 @@ marks_are f n h k = elim (cases_lt k n) [
 -- ---- the whole
 
 pub fresh_is : (p : Contents) → IsCsp (csp_of p) → (me : ℕ) (b : Body) → b.value ≡ None → b.stamp ≡ 0 → b.waits ≡ false → view_of b.known.view ≡ (λ k. None) → b.known.store ≡ []
-    → b.tells.items ≡ map (λ j. shares (csp_of p) j me) (below (length p.domains)) → b.linked.items ≡ map (shares (csp_of p) me) (below me)
+    → b.tells.items ≡ lower_owners (csp_of p) me → b.linked.items ≡ map (shares (csp_of p) me) (below me)
     → agent_of b ≡ fresh (csp_of p) me
 fresh_is p ok me b v s w view store tells linked =
-    let tell = λ (j : ℕ). ap (λ z. slice_index_or z j false) tells ∙ marks_are (λ j. shares (csp_of p) j me) (length p.domains) (λ k l. shares_inside (csp_of p) ok k me l) j in
+    let tell = λ (j : ℕ). ap (is_among j) tells ∙ lower_are (csp_of p) ok me j in
     let link = λ (k : ℕ). ap (λ z. slice_index_or z k false) linked ∙ marks_are (shares (csp_of p) me) me (λ k l. shares_higher (csp_of p) ok me k l) k in
     let kept = ap records_of store in
     λ x. record { value = v x; stamp = s x; waits = w x; view = view x; recorded = kept x; tells = λ j. tell j x; linked = λ k. link k x }
@@ -113,10 +153,17 @@ fresh_is p ok me b v s w view store tells linked =
 fresh_sound : (p : Csp) → IsCsp p → (i : ℕ) → Sound p i (fresh p i)
 fresh_sound p ok i = (start_kept p ok).sound i
 
-pub fresh_good : (p : Contents) → IsCsp (csp_of p) → (me : ℕ) (b : Body) → owner_of b.known ≡ (p, me) → IsInStep b.known → length b.tells.items ≡ length p.domains → length b.linked.items ≡ me
+pub fresh_good : (p : Contents) → IsCsp (csp_of p) → (me : ℕ) (b : Body) → owner_of b.known ≡ (p, me) → IsInStep b.known → b.tells.items ≡ lower_owners (csp_of p) me → length b.linked.items ≡ me
     → agent_of b ≡ fresh (csp_of p) me → IsGood b
 fresh_good p ok me b e in_step tells linked f = record {
-  sized = record { in_step = in_step; linked = linked ∙ sym (ap (λ (x : Contents × ℕ). x.1) e); tells = tells ∙ sym (ap (λ (x : Contents × ℕ). length x.0.domains) e) };
+  sized = record {
+    in_step = in_step;
+    linked = linked ∙ sym (ap (λ (x : Contents × ℕ). x.1) e);
+    tells = subst IsRising (sym tells) (rising-filter_below (λ o. nat_lt me o && list_any (joins o me) (csp_of p).constraints) (count (csp_of p)));
+    told_exist = λ k u.
+        let l : k < length p.domains = (In-filter_below (λ o. nat_lt me o && list_any (joins o me) (csp_of p).constraints) (length p.domains) k (subst (λ (z : List ℕ). In k z) tells u)).0 in
+        subst (λ (x : Contents × ℕ). k < length x.0.domains) (sym e) l;
+  };
   sound = subst (λ (x : Contents × ℕ). Sound (csp_of x.0) x.1 (agent_of b)) (sym e) (subst (Sound (csp_of p) me) (sym f) (fresh_sound (csp_of p) ok me));
 }
 

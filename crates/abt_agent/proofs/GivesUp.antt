@@ -79,5 +79,5 @@ module _ (number : ℕ) (b : Body) (sized : IsSized b) (out : List Sent) (s : St
         agent = refl;
         sent = subst (λ z. Posts out went ((last.var, Refuse number (with_stamps z stamps)) ∷ [])) c m;
         turn_is = (refl, last_some s.nogood last e);
-        sized = record { in_step = sized.in_step; linked = sized.linked; tells = sized.tells };
+        sized = record { in_step = sized.in_step; linked = sized.linked; tells = sized.tells; told_exist = sized.told_exist };
       })

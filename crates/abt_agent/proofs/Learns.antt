@@ -1,5 +1,5 @@
 -- What an agent learns and keeps.
-use Rattle.std.proofs.Common.{◌≡◌, ℕ, List, sym, ap, subst, ◌∙◌}
+use Rattle.std.proofs.Common.{◌≡◌, ℕ, ◌<◌, List, length, sym, ap, subst, ◌∙◌}
 use Rattle.dcsp_nogood.specs.declared.Pair.{Pair}
 use Rattle.dcsp_defs.specs.Words.{In}
 use Rattle.abt_defs.specs.Agents.{Agent, Record, StampedNogood, plain, Add_link}
@@ -9,6 +9,9 @@ use Rattle.law_invariants.proofs.Learns.{learns_all}
 use Rattle.dcsp_problem.specs.Problems.{Contents, csp_of}
 use Rattle.abt_message.specs.declared.Sent.{Sent}
 use Rattle.abt_message.specs.Messages.{with_stamps}
+use Rattle.abt_agent.specs.declared.knowledge.Knowledge.{Knowledge}
+use Rattle.abt_agent.specs.declared.body.Body.{Body}
+use Rattle.abt_agent.specs.Bodies.{owner_of, IsInStep, IsSized}
 use Rattle.abt_agent.specs.Outgoing.{Posts}
 use Rattle.abt_agent.proofs.Lists.{plain-with_stamps}
 
@@ -31,3 +34,12 @@ pub asked_for : (me : ℕ) (nogood ps : List Pair) (stamps : List ℕ) (a : Agen
     → Posts out went (steps.to_each Add_link (steps.unlinked me (plain (with_stamps nogood stamps)) a))
 asked_for me nogood ps stamps a out went p e =
     subst (λ z. Posts out went (steps.to_each Add_link (steps.unlinked me z a))) (p ∙ sym (plain-with_stamps nogood stamps)) e
+
+-- what is known has changed, of the same agent
+pub sized_still : (b : Body) (known : Knowledge) → IsSized b → owner_of known ≡ owner_of b.known → IsInStep known → IsSized (record b { known = known })
+sized_still b known sized e in_step = record {
+  in_step = in_step;
+  linked = sized.linked ∙ sym (ap (λ (x : Contents × ℕ). x.1) e);
+  tells = sized.tells;
+  told_exist = λ k i. subst (λ (x : Contents × ℕ). k < length x.0.domains) (sym e) (sized.told_exist k i);
+}

@@ -1,7 +1,9 @@
 pub mod Lists
+pub mod Rising
 pub mod Posting
 pub mod Causes
 pub mod GivesUp
+pub mod Takes
 pub mod Learns
 pub mod Receives
 pub mod Fresh

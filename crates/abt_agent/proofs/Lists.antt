@@ -1,8 +1,8 @@
 -- Lists of messages, of pairs with stamps, and of the numbers below one.
-use Rattle.std.proofs.Common.{◌≡◌, ℕ, zero, suc, ◌+◌, ◌<◌, Bool, true, false, cond, List, [], ◌∷◌, ◌++◌, drop, get_or, length, filter, Option, Some, None, option_to_list, refl, sym, ap, ◌∙◌, arith, add-one}
+use Rattle.std.proofs.Common.{◌≡◌, ℕ, zero, suc, ◌+◌, ◌<◌, Bool, true, false, cond, List, [], ◌∷◌, ◌++◌, drop, get_or, take, length, filter, Option, Some, None, option_to_list, refl, sym, ap, ◌∙◌, arith, add-one}
 use Rattle.std.specs.Prelude.{filter_map}
 use Rattle.std.specs.List.{cons_option}
-use Rattle.std.proofs.lemmas.List.{map-append, drop_more}
+use Rattle.std.proofs.lemmas.List.{map-append, drop_more, take_more}
 use Rattle.std.proofs.lemmas.List.Elements.{filter-append, filter_map-append}
 use Rattle.dcsp_nogood.specs.declared.Pair.{Pair}
 use Rattle.dcsp_defs.specs.Words.{below}
@@ -24,6 +24,10 @@ each_more m f n =
     ∙ ap (to_each m) (filter-append f (below n) (n ∷ []))
     ∙ map-append (λ (k : ℕ). (k, m)) (filter f (below n)) (cond (f n) (n ∷ []) [])
     ∙ ap (λ z. to_each m (filter f (below n)) ++ z) (one_each m n (f n))
+
+-- one message to each of the first agents of a list, and one agent more
+pub each_next : (m : Message) (ts : List ℕ) (k d : ℕ) → k < length ts → to_each m (take (k + 1) ts) ≡ to_each m (take k ts) ++ (get_or ts k d, m) ∷ []
+each_next m ts k d within = ap (to_each m) (take_more ts k d within) ∙ map-append (λ (j : ℕ). (j, m)) (take k ts) (get_or ts k d ∷ [])
 
 pub with_stamps-push : (ps : List Pair) (ss : List ℕ) (q : Pair) (s : ℕ) → length ss ≡ length ps → with_stamps (ps ++ q ∷ []) (ss ++ s ∷ []) ≡ with_stamps ps ss ++ (q.var, record { value = q.value; stamp = s }) ∷ []
 with_stamps-push [] [] q s e = refl

@@ -1,8 +1,8 @@
 -- What the inside of the code's agent stands for.
 use Rattle.std.specs.Prelude.{◌≡◌, ℕ, ◌<◌, List, length}
 use Rattle.dcsp_nogood.specs.declared.Pair.{Pair}
-use Rattle.dcsp_defs.specs.Words.{In}
-use Rattle.abt_defs.specs.Agents.{Agent, Message, Record, values_in}
+use Rattle.dcsp_defs.specs.Words.{In, IsRising}
+use Rattle.abt_defs.specs.Agents.{Agent, Message, Record, is_among, values_in}
 use Rattle.abt_defs.specs.Steps.{Outcome, receive}
 use Rattle.law_invariants.specs.OneAgent.{Proper, Sound}
 use Rattle.dcsp_problem.specs.Problems.{Contents, csp_of, AreInDomains}
@@ -30,7 +30,7 @@ agent_of b = record {
   waits = b.waits;
   view = view_of b.known.view;
   recorded = records_of b.known.store;
-  tells = marked b.tells.items;
+  tells = λ k. is_among k b.tells.items;
   linked = marked b.linked.items;
 }
 
@@ -44,11 +44,12 @@ pub record IsInStep (k : Knowledge) : Type 0 where
   pub agent : k.reasons.agent ≡ k.me
   pub stands : StandsFor k.reasons (values_in (view_of k.view)) k.store
 
--- what is known is in step, and the tables are as long as the problem wants them
+-- what is known is in step, the table of links has a place for each higher agent, and the agents that are told rise and exist
 pub record IsSized (b : Body) : Type 0 where
   pub in_step : IsInStep b.known
   pub linked : length b.linked.items ≡ b.known.me
-  pub tells : length b.tells.items ≡ length b.known.problem.now.domains
+  pub tells : IsRising b.tells.items
+  pub told_exist : (k : ℕ) → In k b.tells.items → k < length b.known.problem.now.domains
 
 -- the nogood is one for this agent, with values of the domains
 abbrev pub IsProper : Contents → ℕ → List Pair → Type 0

@@ -4,7 +4,7 @@ use Rattle.std.specs.Option.{option_map}
 use Rattle.dcsp_nogood.specs.declared.Pair.{Pair}
 use Rattle.dcsp_defs.specs.Words.{In}
 use Rattle.dcsp_defs.specs.Csp.{domain}
-use Rattle.abt_defs.specs.Agents.{Agent, fresh}
+use Rattle.abt_defs.specs.Agents.{Agent, fresh, is_among}
 use Rattle.abt_defs.specs.Steps.{Outcome, settle, receive}
 use Rattle.dcsp_problem.specs.Problems.{Contents, csp_of}
 use Rattle.abt_message.specs.declared.Message.{Message}
@@ -28,7 +28,7 @@ pub record State : Type 0 where
   pub waits : Bool
   pub view : List (Option Told)
   pub store : List Recorded
-  pub tells : List Bool
+  pub tells : List ℕ  -- rising
   pub linked : List Bool
   pub spent : Bool  -- it ran out of memory
 
@@ -44,7 +44,7 @@ stands_for s = record {
   waits = s.waits;
   view = view_of s.view;
   recorded = records_of s.store;
-  tells = marked s.tells;
+  tells = λ k. is_among k s.tells;
   linked = marked s.linked;
 }
 

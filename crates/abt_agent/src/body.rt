@@ -3,6 +3,7 @@
 ghost use Rattle.std.specs.Prelude.{◌≡◌, ◌<◌, ◌∷◌, ◌++◌, [], All, IfOk, OnOk, length, map};
 ghost use Rattle.dcsp_defs.specs.Words.{below};
 ghost use Rattle.abt_defs.specs.Agents.{fresh, is_among, shares};
+ghost use Rattle.dcsp_problem.specs.Lower.{lower_owners};
 ghost use Rattle.dcsp_problem.specs.Problems.{constraint_at, csp_of};
 ghost use Rattle.abt_agent.specs.Bodies.{agent_of, owner_of, IsGood};
 ghost use Rattle.abt_agent.specs.Rules.{names_any};
@@ -21,8 +22,8 @@ pub struct Body<'p> {
     pub stamp: u64,
     /// Whether it has sent a nogood and has learned nothing since.
     pub waits: bool,
-    /// For each agent whether it is told of each value.
-    pub tells: Vec<bool>,
+    /// The agents that are told of each value, rising.
+    pub tells: Vec<u32>,
     /// For each higher agent whether it is linked or asked.
     pub linked: Vec<bool>,
 }
@@ -62,19 +63,13 @@ fn first_linked(alloc: Global, problem: &Problem, me: u32) -> Result<Vec<bool>, 
     Ok(marks)
 }
 
-/// The lower agents that are told at first.
-fn first_tells(alloc: Global, problem: &Problem, me: u32) -> Result<Vec<bool>, Memory>
+/// The lower agents that are told at first, rising.
+fn first_tells(alloc: Global, problem: &Problem, me: u32) -> Result<Vec<u32>, Memory>
     requires { me < length problem.now.domains }
-    ensures { IfOk result (λ marks. marks.items ≡ map (λ j. shares (csp_of problem.now) j me) (below (length problem.now.domains))) }
+    ensures { IfOk result (λ tells. tells.items ≡ lower_owners (csp_of problem.now) me) }
 {
-    let vars = problem.vars() as usize;
-    let Ok(mut marks) = vec![in alloc; false; vars] else {
-        return Err(Memory);
-    };
-    for owner in problem.lower_owners(me) {
-        marks[*owner as usize] = true;
-    }
-    Ok(marks)
+    let lower = problem.lower_owners(me);
+    Vec::from_slice(alloc, lower).map_err(|_| Memory)
 }
 
 /// Adds a mark at the end.

@@ -131,10 +131,10 @@ impl<'p> Body<'p> {
         ensures owner { owner_of self.new.known ≡ owner_of self.old.known }
         ensures sized { OnOk result (IsSized self.new) }
     {
-        if self.is_wanted(&recorded.nogood) {
-            self.known.keep(recorded)
-        } else {
-            Ok(())
+        if !self.is_wanted(&recorded.nogood) {
+            return Ok(());
         }
+        self.known.keep(recorded)?;
+        Ok(())
     }
 }

@@ -1,17 +1,17 @@
 //! What a message does to an agent, and its first settling.
 
-ghost use Rattle.std.specs.Prelude.{◌≡◌, ◌<◌, ◌^◌, IfOk, OnOk, ℕ, List, Some, ℤ, length, not, ◌&&◌, true};
+ghost use Rattle.std.specs.Prelude.{◌≡◌, ◌<◌, ◌^◌, IfOk, OnOk, ℕ, List, Some, ℤ, length, not, ◌&&◌, ◌||◌, ◌==◌, ◌≤◌, slice_index_or};
 ghost use Rattle.dcsp_nogood.specs.Pairs.{IsRising as PairsRise};
 ghost use Rattle.dcsp_defs.specs.declared.Step.{Step as TheStep};
-ghost use Rattle.dcsp_defs.specs.Words.{update};
-ghost use Rattle.abt_defs.specs.Agents.{fresh, plain, Add_link, Announce, Refuse};
+ghost use Rattle.dcsp_defs.specs.Words.{IsRising};
+ghost use Rattle.abt_defs.specs.Agents.{fresh, is_among, plain, Add_link, Announce, Refuse};
 ghost use Rattle.abt_defs.specs.Steps as steps;
 ghost use Rattle.dcsp_problem.specs.Problems.{csp_of};
 ghost use Rattle.abt_message.specs.Messages.{message_of, with_stamps};
 ghost use Rattle.abt_view.specs.Views.{stamped_of};
 ghost use Rattle.abt_agent.specs.Bodies.{agent_of, owner_of, Does, DoesReceive, IsGood};
 ghost use Rattle.abt_agent.specs.Outgoing.{Posts};
-ghost use Rattle.abt_agent.specs.States.{marked, IsFit, IsNogoodFor, IsToldBy};
+ghost use Rattle.abt_agent.specs.States.{IsFit, IsNogoodFor, IsToldBy};
 ghost use Rattle.abt_agent.specs.Turns.{IsFirstTurn};
 ghost use Rattle.law_right_steps.specs.Sources.{AreOfSteps};
 ghost use Rattle.abt_agent.specs.Rights.{BringsOfStep, IsRightTurn};
@@ -153,7 +153,7 @@ impl<'p> Body<'p> {
         self.answer_link(from, out)
     }
 
-    /// Tells the agent's value, and marks the sender as one to be told.
+    /// Tells the agent's value, and counts the sender among those that are told.
     fn answer_link(&mut self, from: u32, out: &mut Outbox) -> Result<Turn, Memory>
         requires good { IsGood self.old }
         requires exists { from < length self.old.known.problem.now.domains }
@@ -161,7 +161,7 @@ impl<'p> Body<'p> {
         ensures owner { owner_of self.new.known ≡ owner_of self.old.known }
     {
         self.tell_own(from, out)?;
-        mark_told(&mut self.tells, from);
+        add_rising(&mut self.tells, from)?;
         Ok(Turn::Quiet)
     }
 
@@ -183,10 +183,40 @@ impl<'p> Body<'p> {
     }
 }
 
-/// Marks the agent as one to be told.
-fn mark_told(tells: &mut [bool], from: u32)
-    requires { from < length tells.old }
-    ensures { marked tells.new ≡ update (marked tells.old) from true }
+/// Adds the agent in its place, if it is not there.
+fn add_rising(agents: &mut Vec<u32>, agent: u32) -> Result<(), Memory>
+    requires { IsRising agents.old.items }
+    ensures rising { OnOk result (IsRising agents.new.items) }
+    ensures among { OnOk result ((k : ℕ) → is_among k agents.new.items ≡ (is_among k agents.old.items || (k == agent))) }
 {
-    tells[from as usize] = true;
+    if is_listed(agents, agent) {
+        return Ok(());
+    }
+    let place = place_of(agents, agent);
+    match agents.insert(place, agent) {
+        Ok(()) => Ok(()),
+        Err(_) => Err(Memory),
+    }
+}
+
+/// Whether the agent is one of these.
+fn is_listed(agents: &[u32], agent: u32) -> bool
+    ensures { result ≡ is_among agent agents.now }
+{
+    agents.contains(&agent)
+}
+
+/// How many of the agents, which rise, are below this one.
+fn place_of(agents: &[u32], agent: u32) -> usize
+    requires { IsRising agents.now }
+    ensures within { result ≤ length agents.now }
+    ensures before { (k : ℕ) → k < result → slice_index_or agents.now k 0 < agent }
+    ensures after { (k : ℕ) → result ≤ k → k < length agents.now → agent ≤ slice_index_or agents.now k 0 }
+{
+    for place in 0..agents.len() {
+        if agent <= agents[place] {
+            return place;
+        }
+    }
+    agents.len()
 }

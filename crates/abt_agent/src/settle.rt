@@ -1,14 +1,13 @@
 //! Settling: an agent keeps its value, takes one, or says why it has none.
 
-ghost use Rattle.std.specs.Prelude.{◌≡◌, ◌<◌, ◌^◌, IfOk, None, OnOk, filter, length};
-ghost use Rattle.dcsp_defs.specs.Words.{below, In};
+ghost use Rattle.std.specs.Prelude.{◌≡◌, ◌<◌, ◌^◌, IfOk, None, OnOk, length};
+ghost use Rattle.dcsp_defs.specs.Words.{In};
 ghost use Rattle.abt_defs.specs.Agents.{Announce};
 ghost use Rattle.abt_defs.specs.Steps as steps;
 ghost use Rattle.dcsp_problem.specs.Problems.{csp_of};
 ghost use Rattle.abt_view.specs.Views.{stamped_of};
 ghost use Rattle.abt_agent.specs.Bodies.{agent_of, owner_of, Does, IsGood, IsSized};
 ghost use Rattle.abt_agent.specs.Outgoing.{Posts};
-ghost use Rattle.abt_agent.specs.States.{marked};
 
 use crate::Turn;
 use crate::ask::push_if;
@@ -18,18 +17,17 @@ use abt_message::{Message, Outbox};
 use abt_view::Told;
 use dcsp_list::Memory;
 
-/// Tells the value to each agent that is marked, rising.
-fn tell_all(tells: &[bool], count: u32, told: Told, out: &mut Outbox) -> Result<(), Memory>
-    requires size { length tells.now ≡ count }
-    requires stamped { 0 < told.stamp }
-    ensures { OnOk result (Posts out.old out.new (steps.to_each (Announce (stamped_of told)) (filter (marked tells.now) (below count)))) }
+/// Tells the value to each of the agents, in order.
+fn tell_all(tells: &[u32], told: Told, out: &mut Outbox) -> Result<(), Memory>
+    requires { 0 < told.stamp }
+    ensures { OnOk result (Posts out.old out.new (steps.to_each (Announce (stamped_of told)) tells.now)) }
 {
-    for to in 0..count {
+    for to in tells {
         let message = Message::Tell {
             value: told.value,
             stamp: told.stamp,
         };
-        push_if(out, tells[to as usize], to, message)?;
+        push_if(out, true, *to, message)?;
     }
     Ok(())
 }
@@ -75,7 +73,7 @@ impl<'p> Body<'p> {
             value,
             stamp: self.stamp,
         };
-        tell_all(&self.tells, self.known.problem.vars(), told, out)?;
+        tell_all(&self.tells, told, out)?;
         Ok(Turn::Announced)
     }
 

@@ -1,15 +1,20 @@
-use Rattle.std.proofs.Common.{refl, rules, w64, SFits, subst, ℤ, cond, [], ◌∷◌}
+use Rattle.std.proofs.Common.{[], ◌∷◌, ℤ, get_or, rules, sym, subst, w64, SFits}
 use Rattle.std.proofs.lemmas.Int.{to_z-of_z}
 use Rattle.abt_defs.specs.Agents.{Announce}
+use Rattle.abt_defs.specs.Steps as steps
 use Rattle.abt_view.specs.Views.{stamped_of}
 use Rattle.abt_agent.specs.Outgoing.{Posts}
-use Rattle.abt_agent.specs.States.{marked}
-use Rattle.abt_agent.proofs.Posting.{posts_each}
+use Rattle.abt_agent.proofs.Lists.{each_next}
+use Rattle.abt_agent.proofs.Posting.{posts_then}
+use Rattle.std.specs.Prelude.{take}
 use Rattle.abt_agent.proofs.settle.tell_all.Goals as goal
 
 pub loop-to-preserved : goal.loop-to-preserved
 loop-to-preserved c =
+    let ts = c.args.tells.now in
+    let k = c.loop-to.to-index in
+    let told = Announce (stamped_of c.args.told) in
     let fits : SFits w64 c.args.told.value = search rules in
-    let sent = subst (λ (z : ℤ). Posts c.loop-to.out c.push_if.new.out (cond (marked c.args.tells.now c.loop-to.to) ((c.loop-to.to, Announce (record { value = z; stamp = c.args.told.stamp })) ∷ []) []))
-    (to_z-of_z w64 c.args.told.value fits) c.in_ok-push_if.ensures in
-    posts_each c.args.out.now c.loop-to.out c.push_if.new.out (Announce (stamped_of c.args.told)) (marked c.args.tells.now) c.loop-to.to (marked c.args.tells.now c.loop-to.to) refl c.loop-to.invariant sent
+    let sent = subst (λ (z : ℤ). Posts c.loop-to.out c.push_if.new.out ((get_or ts k 0, Announce (record { value = z; stamp = c.args.told.stamp })) ∷ [])) (to_z-of_z w64 c.args.told.value fits) c.in_ok-push_if.ensures in
+    subst (Posts c.args.out.now c.push_if.new.out) (sym (each_next told ts k 0 c.loop-to-test.true))
+    (posts_then c.args.out.now c.loop-to.out c.push_if.new.out (steps.to_each told (take k ts)) ((get_or ts k 0, told) ∷ []) c.loop-to.invariant sent)

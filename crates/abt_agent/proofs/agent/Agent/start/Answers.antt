@@ -1,8 +1,8 @@
-use Rattle.std.proofs.Common.{subst, sym}
+use Rattle.std.proofs.Common.{◌≡◌, false, subst, sym}
 use Rattle.law_bounded_store.specs.Stores.{IsBoundedStore}
 use Rattle.law_right_steps.specs.Merges.{IsUnionOfReasons}
 use Rattle.dcsp_problem.specs.Problems.{csp_of}
-use Rattle.abt_agent.specs.States.{State, Acts, stands_for}
+use Rattle.abt_agent.specs.States.{State, IsFresh, Acts, stands_for}
 use Rattle.abt_agent.specs.Rights.{IsRightTurn}
 use Rattle.abt_agent.specs.Bodies.{agent_of}
 use Rattle.law_bounded_store.proofs.Lengths.{bounded_store}
@@ -11,6 +11,10 @@ use Rattle.abt_defs.specs.Steps as steps
 use Rattle.abt_agent.proofs.Acting.{state_of, acts}
 use Rattle.abt_agent.proofs.Receives.{moved_sound}
 use Rattle.abt_agent.proofs.agent.Agent.start.Goals as goal
+
+pub first_settle-requires-clause-fresh : goal.first_settle-requires-clause-fresh
+first_settle-requires-clause-fresh c =
+    (subst (λ (s : State). s.spent ≡ false → IsFresh s.problem s.me s) (sym c.self.view_is) c.requires c.if-self.false).agent
 
 pub returns-in-Ok-clause-does : goal.returns-in-Ok-clause-does
 returns-in-Ok-clause-does c number =

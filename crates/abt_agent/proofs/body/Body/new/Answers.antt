@@ -13,6 +13,6 @@ pub returns-clause-good : goal.returns-clause-good
 returns-clause-good c =
     fresh_good c.args.problem.now c.vars-vars.ensures.csp c.args.me (record { known = c.in_ok-known.known; value = None; stamp = 0; waits = false; tells = c.in_ok-tells.tells; linked = c.in_ok-linked.linked })
     c.in_ok-known.ensures.owner c.in_ok-known.ensures.in_step
-    (ap length c.in_ok-tells.ensures ∙ length-marks (λ j. shares (csp_of c.args.problem.now) j c.args.me) (length c.args.problem.now.domains))
+    c.in_ok-tells.ensures
     (ap length c.in_ok-linked.ensures ∙ length-marks (shares (csp_of c.args.problem.now) c.args.me) c.args.me)
     (returns-clause-agent c)
