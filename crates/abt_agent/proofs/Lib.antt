@@ -9,6 +9,7 @@ pub mod Receives
 pub mod Fresh
 pub mod Proper
 pub mod Against
+pub mod Asks
 pub mod Rights
 pub mod Acting
 pub mod Tracks

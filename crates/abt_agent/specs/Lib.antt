@@ -4,4 +4,5 @@ pub mod States
 pub mod Bodies
 pub mod Causes
 pub mod Rules
+pub mod Asks
 pub mod Rights

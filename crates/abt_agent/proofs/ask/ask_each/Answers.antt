@@ -1,11 +1,20 @@
-use Rattle.std.proofs.Common.{not, ◌&&◌}
+use Rattle.std.proofs.Common.{cond, [], ◌∷◌, get_or, sym, subst}
+use Rattle.std.specs.Prelude.{take}
+use Rattle.dcsp_nogood.specs.Pairs.{no_pair}
 use Rattle.abt_defs.specs.Agents.{Add_link}
 use Rattle.abt_defs.specs.Steps as steps
-use Rattle.abt_agent.specs.States.{marked}
-use Rattle.abt_agent.proofs.Posting.{posts_each}
+use Rattle.abt_agent.specs.Asks.{asked, is_unlinked}
+use Rattle.abt_agent.specs.Outgoing.{Posts}
+use Rattle.abt_agent.proofs.Asks.{asked_more}
+use Rattle.abt_agent.proofs.Posting.{posts_then}
 use Rattle.abt_agent.proofs.ask.ask_each.Goals as goal
 
-pub loop-to-preserved : goal.loop-to-preserved
-loop-to-preserved c =
-    posts_each c.args.out.now c.loop-to.out c.push_if.new.out Add_link (λ k. steps.is_named k c.args.pairs.now && not (marked c.args.linked.now k)) c.loop-to.to c.is_unlinked-wanted.result
-    c.is_unlinked-wanted.ensures c.loop-to.invariant c.in_ok-push_if.ensures
+pub loop-pair-preserved : goal.loop-pair-preserved
+loop-pair-preserved c =
+    let linked = c.args.linked.now in
+    let pairs = c.args.pairs.now in
+    let k = c.loop-pair.pair-index in
+    let to = (get_or pairs k no_pair).var in
+    let sent = subst (λ b. Posts c.loop-pair.out c.push_if.new.out (cond b ((to, Add_link) ∷ []) [])) c.is_unlinked-wanted.ensures c.in_ok-push_if.ensures in
+    subst (Posts c.args.out.now c.push_if.new.out) (sym (asked_more linked pairs k no_pair c.loop-pair-test.true))
+    (posts_then c.args.out.now c.loop-pair.out c.push_if.new.out (steps.to_each Add_link (asked linked (take k pairs))) (cond (is_unlinked linked to) ((to, Add_link) ∷ []) []) c.loop-pair.invariant sent)
