@@ -99,11 +99,11 @@ fn constant_of(term: Term) -> i64
 fn constants_of(alloc: Global, terms: &[Term]) -> Result<IntList, Stop>
     ensures { Gives result (Ok (map constant_of terms.now)) }
 {
-    let mut values = IntList::new(alloc);
+    let mut values = Vec::with_capacity(alloc, terms.len())?;
     for term in terms {
         values.push(constant_of(*term))?;
     }
-    Ok(values)
+    Ok(IntList::from_vec(values))
 }
 
 /// The scalar at a place, counted from 0.

@@ -110,11 +110,11 @@ fn terms_of(
 ) -> Result<TermList, Stop>
     ensures { Gives result (terms_after text.now names.now wanted [] atoms.now) }
 {
-    let mut terms = TermList::new(alloc);
+    let mut terms = Vec::with_capacity(alloc, atoms.len())?;
     for atom in atoms {
         terms.push(term_of(text, names, wanted, atom)?)?;
     }
-    Ok(terms)
+    Ok(TermList::from_vec(terms))
 }
 
 fn copy_of_terms(alloc: Global, terms: &[Term]) -> Result<TermList, Stop>

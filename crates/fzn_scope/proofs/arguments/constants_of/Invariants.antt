@@ -3,4 +3,4 @@ use Rattle.fzn_scope.specs.Rules.{constant_of}
 use Rattle.fzn_scope.proofs.arguments.constants_of.Given as goal
 
 abbrev pub invariant-loop-term : goal.invariant-loop-term
-invariant-loop-term l = l.values ≡ map constant_of (take l.term-index l.terms)
+invariant-loop-term l = l.values.items ≡ map constant_of (take l.term-index l.terms)
