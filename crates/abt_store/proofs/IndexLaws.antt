@@ -1,6 +1,8 @@
 -- The index after a change of the items.
-use Rattle.std.proofs.Common.{◌≡◌, ℕ, ◌+◌, ◌≤◌, Bool, true, false, cond, List, [], ◌∷◌, ◌++◌, length, filter, ℤ, Option, Some, None, refl, sym, ap, ◌∙◌, arith, subst}
-use Rattle.std.specs.List.{count_by}
+use Rattle.std.proofs.Common.{◌≡◌, ℕ, ◌+◌, ◌≤◌, Bool, true, false, cond, List, [], ◌∷◌, ◌++◌, length, filter, take, drop, ℤ, Option, Some, None, refl, sym, ap, ◌∙◌, arith, subst}
+use Rattle.std.specs.List.{count_by, list_all}
+use Rattle.std.proofs.lemmas.List.{length-take, length-take-le, take-append-drop, take_at}
+use Rattle.std.proofs.lemmas.List.Elements.{filter-append}
 use Rattle.std.specs.Option.{ForSome}
 use Rattle.std.specs.Ordering.{int_eq}
 use Rattle.std.proofs.lemmas.Bool.Decides.{Decides-int_eq}
@@ -8,8 +10,8 @@ use Rattle.dcsp_defs.specs.Words.{is_value}
 use Rattle.abt_store.specs.declared.Recorded.{Recorded}
 use Rattle.abt_store.specs.Stores.{lowest_value, is_against, is_ruled_out, place_against, IsOncePerValue, places_naming}
 use Rattle.abt_store.specs.Places.{Places}
-use Rattle.abt_store.specs.Index.{list_of, IsIndexed}
-use Rattle.abt_store.proofs.Counts.{count_by-cons, count_by-append, count_by-filter, none_passed}
+use Rattle.abt_store.specs.Index.{list_of, HaveRoomFrom, IsIndexed}
+use Rattle.abt_store.proofs.Counts.{count_by-cons, count_by-append, count_by-filter, filter_all, none_passed}
 use Rattle.abt_store.proofs.PlaceLaws.{names, with_place, places_push, length-places}
 use Rattle.abt_store.proofs.PlacedLaws.{place_pushed}
 
@@ -64,3 +66,19 @@ fewer_once items q once v = omega (arith, count_by-filter (is_against v) q items
 
 pub fewer_length : (items : List Recorded) (q : Recorded → Bool) (var : ℕ) → length (places_naming (filter q items) var) ≤ length (places_naming items var)
 fewer_length items q var = omega (arith, length-places (filter q items) var, length-places items var, count_by-filter (names var) q items)
+
+-- the items before the first that is taken out stay
+module _ (items : List Recorded) (q : Recorded → Bool) (first : ℕ) (within : first ≤ length items) (all : list_all q (take first items) ≡ true) where
+  pub kept_first : take first (filter q items) ≡ take first items
+  kept_first =
+      ap (λ z. take first (filter q z)) (sym (take-append-drop first items)) ∙ ap (take first) (filter-append q (take first items) (drop first items))
+      ∙ ap (λ z. take first (z ++ filter q (drop first items))) (filter_all q (take first items) all) ∙ take_at (take first items) (filter q (drop first items)) first (length-take-le first items within)
+
+  pub kept_within : first ≤ length (filter q items)
+  kept_within = omega (arith, length-take first (filter q items), ap length kept_first, length-take-le first items within)
+
+  pub kept_room : (lists : List Places) → HaveRoomFrom first items lists → HaveRoomFrom first (filter q items) lists
+  kept_room lists room var less =
+      let fewer = fewer_length items q var in
+      let before = ap (λ z. length (places_naming z var)) kept_first in
+      omega (arith, fewer, room var (omega (arith, less, fewer, before)))

@@ -1,9 +1,12 @@
 -- The places of the items that name a variable.
-use Rattle.std.proofs.Common.{◌≡◌, ℕ, zero, suc, ◌+◌, ◌-◌, ◌<◌, ◌≤◌, Bool, true, false, cond, ◌&&◌, List, [], ◌∷◌, ◌++◌, map, filter, length, get_or, refl, sym, ap, ◌∙◌, arith, subst}
+use Rattle.std.proofs.Common.{◌≡◌, ℕ, zero, suc, ◌+◌, ◌-◌, ◌<◌, ◌≤◌, Bool, true, false, cond, ◌&&◌, List, [], ◌∷◌, ◌++◌, map, filter, length, get_or, take, drop, ◌⊎◌, inl, inr, refl, sym, ap, ◌∙◌, arith, subst}
 use Rattle.std.specs.List.{enumerate_from, count_by, list_all}
 use Rattle.abt_defs.specs.Steps.{is_named}
 use Rattle.abt_store.specs.declared.Recorded.{Recorded}
+use Rattle.std.proofs.lemmas.Bool.{cases_lt}
+use Rattle.std.proofs.lemmas.List.{get_or-take, get_or_append_left, length-append, length-take, length-take-le, take-append-drop, take_at, take_more}
 use Rattle.abt_store.specs.Stores.{places_from, places_naming}
+use Rattle.abt_store.specs.Places.{without_last}
 use Rattle.abt_store.proofs.Counts.{count_by-cons}
 
 -- the item's nogood names the variable
@@ -144,3 +147,52 @@ there_from first (x ∷ xs) var a d within named =
 
 pub place_there : (xs : List Recorded) (var a : ℕ) (d : Recorded) → a < length xs → names var (get_or xs a d) ≡ true → (j : ℕ) × (j < length (places_naming xs var)) × (get_or (places_naming xs var) j 0 ≡ a)
 place_there xs var a d within named = let found = there_from 0 xs var a d within named in let at = found.2 in (found.0, found.1, omega arith)
+
+append_from : (first : ℕ) (xs ys : List Recorded) (var : ℕ) → places_from first (xs ++ ys) var ≡ places_from first xs var ++ places_from (first + length xs) ys var
+append_from first [] ys var = let here : first ≡ first + 0 = omega arith in ap (λ n. places_from n ys var) here
+append_from first (x ∷ xs) ys var =
+    let past : first + 1 + length xs ≡ first + length (x ∷ xs) = omega arith in
+    places_first first x (xs ++ ys) var ∙ ap (λ z. cond (names var x) (first ∷ z) z) (append_from (first + 1) xs ys var) ∙ by_test (names var x)
+    ∙ ap (λ z. z ++ places_from (first + 1 + length xs) ys var) (sym (places_first first x xs var)) ∙ ap (λ n. places_from first (x ∷ xs) var ++ places_from n ys var) past
+  where
+    by_test : (b : Bool) → cond b (first ∷ (places_from (first + 1) xs var ++ places_from (first + 1 + length xs) ys var)) (places_from (first + 1) xs var ++ places_from (first + 1 + length xs) ys var)
+        ≡ cond b (first ∷ places_from (first + 1) xs var) (places_from (first + 1) xs var) ++ places_from (first + 1 + length xs) ys var
+    by_test true = refl
+    by_test false = refl
+
+-- what holds of items that name nothing and of those at the places before one holds of all before the item there
+pub all_before : (p : Recorded → Bool) (xs : List Recorded) (var i a : ℕ) → ((x : Recorded) → names var x ≡ false → p x ≡ true) → get_or (places_naming xs var) i 0 ≡ a
+    → ((j : ℕ) → j < i → (d : Recorded) → p (get_or xs (get_or (places_naming xs var) j 0) d) ≡ true) → list_all p (take a xs) ≡ true
+all_before p xs var i a other is here = all_at_places p (take a xs) var other (λ j l d. at j l d (cases_lt j i)) where
+  size : length (take a xs) ≤ a
+  size = omega (arith, length-take a xs)
+
+  prefix : (j : ℕ) → j < length (places_naming (take a xs) var) → get_or (places_naming xs var) j 0 ≡ get_or (places_naming (take a xs) var) j 0
+  prefix j l =
+      ap (λ z. get_or (places_naming z var) j 0) (sym (take-append-drop a xs)) ∙ ap (λ (z : List ℕ). get_or z j 0) (append_from 0 (take a xs) (drop a xs) var)
+      ∙ get_or_append_left (places_naming (take a xs) var) (places_from (0 + length (take a xs)) (drop a xs) var) 0 j l
+
+  at : (j : ℕ) → j < length (places_naming (take a xs) var) → (d : Recorded) → (j < i) ⊎ (i ≤ j) → p (get_or (take a xs) (get_or (places_naming (take a xs) var) j 0) d) ≡ true
+  at j l d (inl before) =
+      let inside = place_within (take a xs) var j l in
+      let early : get_or (places_naming (take a xs) var) j 0 < a = omega (arith, inside, size) in
+      ap p (get_or-take a xs (get_or (places_naming (take a xs) var) j 0) d early) ∙ ap (λ n. p (get_or xs n d)) (sym (prefix j l)) ∙ here j before d
+  at j l d (inr after) =
+      let within : i < length (places_naming (take a xs) var) = omega (arith, l, after) in
+      absurd (omega (arith, place_within (take a xs) var i within, size, prefix i within, is))
+
+-- without the last place, where one was added
+pub unpushed : (b : Bool) (k : ℕ) (places : List ℕ) → cond b (without_last (with_place b k places)) (with_place b k places) ≡ places
+unpushed true k places = let size : length places ≡ length (places ++ k ∷ []) - 1 = omega (arith, length-append places (k ∷ [])) in take_at places (k ∷ []) _ size
+unpushed false k places = refl
+
+pub grows : (b : Bool) (k : ℕ) (places : List ℕ) → length places ≤ length (with_place b k places)
+grows true k places = omega (arith, length-append places (k ∷ []))
+grows false k places = omega arith
+
+-- the places of the first items with the next one
+pub pushed_at : (items : List Recorded) (k var : ℕ) (x : Recorded) (n : ℕ) → n ≡ k + 1 → k < length items → x ≡ get_or items k x → places_naming (take n items) var ≡ with_place (names var x) k (places_naming (take k items) var)
+pushed_at items k var x n e within is =
+    let more : take (k + 1) items ≡ take k items ++ x ∷ [] = take_more items k x within ∙ ap (λ (y : Recorded). take k items ++ y ∷ []) (sym is) in
+    let size : k ≡ length (take k items) = sym (length-take-le k items (omega arith)) in
+    ap (λ m. places_naming (take m items) var) e ∙ ap (λ z. places_naming z var) more ∙ places_push (take k items) x var k size

@@ -1,5 +1,5 @@
 -- What stands beside the items of a store.
-use Rattle.std.specs.Prelude.{◌≡◌, ℕ, ◌<◌, ℤ, List, Option, is_some, length, slice_index_or}
+use Rattle.std.specs.Prelude.{◌≡◌, ℕ, ◌<◌, ◌≤◌, ℤ, List, Option, is_some, length, slice_index_or, take}
 use Rattle.dcsp_nogood.specs.declared.Pair.{Pair}
 use Rattle.dcsp_nogood.specs.Pairs.{var_at}
 use Rattle.abt_store.specs.declared.Recorded.{Recorded}
@@ -21,6 +21,10 @@ HaveRoom lists pairs = (k : ℕ) → k < length pairs → HasRoom lists (var_at 
 -- for each variable the places of the items that name it
 abbrev pub AreNamed : List Recorded → List Places → Type 0
 AreNamed items lists = (var : ℕ) → (list_of lists var).items ≡ places_naming items var
+
+-- where fewer places of the items before the first name a variable than of all, its list has room for all
+abbrev pub HaveRoomFrom : ℕ → List Recorded → List Places → Type 0
+HaveRoomFrom first items lists = (var : ℕ) → length (places_naming (take first items) var) < length (places_naming items var) → length (places_naming items var) ≤ (list_of lists var).capacity
 
 -- a place stands by exactly the values of the items' lowest pairs
 abbrev pub AreTaken : List Recorded → (ℤ → Option ℕ) → Type 0

@@ -1,10 +1,10 @@
 //! For each variable the places of the items that name it.
 
-ghost use Rattle.std.specs.Prelude.{◌≡◌, ℕ, ◌<◌, ◌≤◌, ◌++◌, [], ◌∷◌, length, OnOk, if◌then◌else◌, vec_len};
-ghost use Rattle.dcsp_nogood.specs.Pairs.{IsRising};
+ghost use Rattle.std.specs.Prelude.{◌≡◌, ℕ, ◌<◌, ◌≤◌, ◌++◌, [], ◌∷◌, length, true, OnOk, if◌then◌else◌, take, vec_len};
+ghost use Rattle.dcsp_nogood.specs.Pairs.{var_at, IsRising};
 ghost use Rattle.abt_defs.specs.Steps.{is_named};
-ghost use Rattle.abt_store.specs.Stores.{places_naming};
-ghost use Rattle.abt_store.specs.Index.{list_of, HasRoom, HaveRoom, AreNamed};
+ghost use Rattle.abt_store.specs.Places.{without_last};
+ghost use Rattle.abt_store.specs.Index.{list_of, HasRoom, HaveRoom, HaveRoomFrom, AreNamed};
 
 use crate::Recorded;
 use crate::place_list::PlaceList;
@@ -57,23 +57,42 @@ pub fn name_item(lists: &mut Vec<PlaceList>, pairs: &[Pair], place: u64)
     }
 }
 
-/// The lists of these items, where there is room for all their places. It takes no memory.
-pub fn name_all(lists: &mut Vec<PlaceList>, items: &[Recorded])
-    requires { (var : ℕ) → length (places_naming items.now var) ≤ length (list_of lists.old.items var).items }
-    ensures { AreNamed items.now lists.new.items }
+/// Takes the places of the items from this one on out of the lists, and leaves the room that they had.
+pub fn unname_from(lists: &mut Vec<PlaceList>, items: &[Recorded], first: usize)
+    requires within { first ≤ length items.now }
+    requires named { AreNamed items.now lists.old.items }
+    ensures named { AreNamed (take first items.now) lists.new.items }
+    ensures room { HaveRoomFrom first items.now lists.new.items }
 {
-    clear_all(lists);
-    for (place, item) in items.iter().enumerate() {
-        name_item(lists, item.nogood.pairs(), place as u64);
+    let mut place = items.len();
+    while place > first {
+        place -= 1;
+        unname_item(lists, items[place].nogood.pairs());
     }
 }
 
-/// Empties each list, and leaves the room that it had.
-fn clear_all(lists: &mut Vec<PlaceList>)
-    ensures places { (var : ℕ) → (list_of lists.new.items var).items ≡ [] }
-    ensures room { (var : ℕ) → length (list_of lists.old.items var).items ≤ (list_of lists.new.items var).capacity }
+/// Takes the last place out of the list of each variable that the pairs name.
+fn unname_item(lists: &mut Vec<PlaceList>, pairs: &[Pair])
+    requires rising { IsRising pairs.now }
+    requires there { (k : ℕ) → k < length pairs.now → var_at pairs.now k < length lists.old.items }
+    ensures places { (var : ℕ) → (list_of lists.new.items var).items ≡ (if is_named var pairs.now then without_last (list_of lists.old.items var).items else (list_of lists.old.items var).items) }
+    ensures capacity { (var : ℕ) → (list_of lists.new.items var).capacity ≡ (list_of lists.old.items var).capacity }
+    ensures had_room { (var : ℕ) → is_named var pairs.now ≡ true → length (list_of lists.old.items var).items ≤ (list_of lists.old.items var).capacity }
 {
-    for k in 0..lists.len() {
-        lists[k].clear();
+    for pair in pairs {
+        lists[pair.var as usize].drop_last();
+    }
+}
+
+/// Adds the places of the items from this one on to the lists, where there is room for them. It takes
+/// no memory.
+pub fn name_from(lists: &mut Vec<PlaceList>, items: &[Recorded], first: usize)
+    requires within { first ≤ length items.now }
+    requires named { AreNamed (take first items.now) lists.old.items }
+    requires room { HaveRoomFrom first items.now lists.old.items }
+    ensures { AreNamed items.now lists.new.items }
+{
+    for place in first..items.len() {
+        name_item(lists, items[place].nogood.pairs(), place as u64);
     }
 }

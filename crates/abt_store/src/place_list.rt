@@ -1,6 +1,7 @@
 //! Places of items, in a list that can be given room before it grows.
 
 ghost use Rattle.std.specs.Prelude.{◌≡◌, ◌<◌, ◌≤◌, [], ◌∷◌, ◌++◌, length, OnOk, vec_capacity};
+ghost use Rattle.abt_store.specs.Places.{without_last};
 
 use dcsp_list::Memory;
 use std::alloc::Global;
@@ -49,13 +50,13 @@ impl PlaceList {
         self.places.push_reserved(place);
     }
 
-    /// Takes out all places, and leaves the room that they had.
-    pub fn clear(&mut self)
-        ensures items { self.new.items ≡ [] }
+    /// Takes out the last place, if there is one, and leaves the room that it had.
+    pub fn drop_last(&mut self)
+        ensures items { self.new.items ≡ without_last self.old.items }
         ensures capacity { self.new.capacity ≡ self.old.capacity }
         ensures had_room { length self.old.items ≤ self.old.capacity }
     {
-        self.places.clear();
+        self.places.pop();
     }
 
     /// The places in order.

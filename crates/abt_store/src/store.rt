@@ -1,13 +1,13 @@
 //! The nogoods that one agent keeps.
 
-ghost use Rattle.std.specs.Prelude.{◌≡◌, [], ◌∷◌, ◌++◌, false, filter, length, IfErr, OnErr, OnOk};
+ghost use Rattle.std.specs.Prelude.{◌≡◌, ◌≤◌, [], ◌∷◌, ◌++◌, false, true, filter, length, take, IfErr, IfSome, IsNone, OnErr, OnOk};
 ghost use Rattle.std.specs.List.{list_all};
 ghost use Rattle.std.specs.Option.{ForSome};
 ghost use Rattle.abt_defs.specs.Steps.{forget};
 ghost use Rattle.abt_store.specs.Stores.{fits, is_ruled_out, lowest_value, place_against, places_naming, records_of, IsOncePerValue};
 
 use crate::Recorded;
-use crate::naming::{make_room, name_all, name_item};
+use crate::naming::{make_room, name_from, name_item, unname_from};
 use crate::place_list::PlaceList;
 use crate::taken::{is_fitting, place_values, release_values, take_value};
 use dcsp_list::Memory;
@@ -96,25 +96,28 @@ impl Store {
         ensures records { records_of self.new ≡ forget var value (records_of self.old) }
     {
         let known = Pair { var, value };
-        if self.all_fit(known) {
+        let Some(first) = self.first_unfit(known) else {
             return;
-        }
+        };
+        unname_from(&mut self.lists, &self.items, first);
         release_values(&mut self.places, &self.items, known);
         self.items.retain(|item| is_fitting(&item.nogood, known));
         place_values(&mut self.places, &self.items);
-        name_all(&mut self.lists, &self.items);
+        name_from(&mut self.lists, &self.items, first);
     }
 
-    /// Whether no item gives the pair's variable another value.
-    fn all_fit(&self, known: Pair) -> bool
-        ensures { result ≡ list_all (fits known.var known.value) self.now }
+    /// The place of the first item that gives the pair's variable another value.
+    fn first_unfit(&self, known: Pair) -> Option<usize>
+        ensures none { IsNone result → list_all (fits known.var known.value) self.now ≡ true }
+        ensures within { IfSome result (λ first. first ≤ length self.now) }
+        ensures before { IfSome result (λ first. list_all (fits known.var known.value) (take first self.now) ≡ true) }
     {
         for place in self.naming(known.var) {
             if !is_fitting(&self.items[*place as usize].nogood, known) {
-                return false;
+                return Some(*place as usize);
             }
         }
-        true
+        None
     }
 
     /// The items in order of arrival.
