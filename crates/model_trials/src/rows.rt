@@ -72,7 +72,7 @@ fn expect_ruled_out(
     for place in 0..domain.len() {
         assert_eq!(rt; row.has(place), ruled_out.contains(&domain.value(place)));
     }
-    row.clear();
+    row.mark_side(0, true);
     for place in 0..row.len() {
         assert!(rt; !row.has(place));
     }
