@@ -23,6 +23,7 @@ use dcsp_defs::{Reason, ReasonList};
 use dcsp_list::Memory;
 use dcsp_nogood::{Nogood, Pair};
 use ngd_log::Step;
+use std::alloc::Global;
 
 /// A step, and the stamps of its nogood.
 #[derive(Debug, Drop)]
@@ -100,8 +101,9 @@ impl<'p> Knowledge<'p> {
         ensures told { IfOk result (λ basis. with_stamps basis.nogood basis.stamps ≡ filter_map (told_at marks.now (view_of self.now.view)) (below self.now.me)) }
         ensures stamped { IfOk result (λ basis. AreStampsOf basis.nogood basis.stamps) }
     {
-        let mut pairs = Vec::new(self.alloc);
-        let mut stamps = StampList::new(self.alloc);
+        let count = count_marks(marks);
+        let mut pairs = Vec::with_capacity(self.alloc, count).map_err(|_| Memory)?;
+        let mut stamps = room_for_stamps(self.alloc, count)?;
         for var in 0..self.me {
             add_told(
                 &mut pairs,
@@ -152,6 +154,19 @@ impl<'p> Knowledge<'p> {
         }
         Ok(ReasonList::from_vec(reasons))
     }
+}
+
+/// How many agents are marked.
+fn count_marks(marks: &[bool]) -> usize {
+    marks.iter().filter(|mark| **mark).count()
+}
+
+/// No stamp, with room for so many.
+fn room_for_stamps(alloc: Global, count: usize) -> Result<StampList, Memory>
+    ensures { IfOk result (λ stamps. stamps ≡ []) }
+{
+    let stamps = Vec::with_capacity(alloc, count).map_err(|_| Memory)?;
+    Ok(StampList::from_vec(stamps))
 }
 
 /// Adds the variable with what is told of it, if there is something.
