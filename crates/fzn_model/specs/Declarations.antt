@@ -148,13 +148,13 @@ variable text s at base name_at name marked right = do
 -- ---- arrays
 
 -- floats and sets are no elements of arrays
-abbrev pub is_element : ℕ → Base → Result (Unit {0}) Refusal
-is_element at base.Bool = Ok tt
-is_element at base.Int = Ok tt
-is_element at base.Float = Err (refusal.Unsupported at)
-is_element at base.Set = Err (refusal.Unsupported at)
-is_element at (base.Range low high) = Ok tt
-is_element at (base.Listed values) = Ok tt
+abbrev pub check_element : ℕ → Base → Result (Unit {0}) Refusal
+check_element at base.Bool = Ok tt
+check_element at base.Int = Ok tt
+check_element at base.Float = Err (refusal.Unsupported at)
+check_element at base.Set = Err (refusal.Unsupported at)
+check_element at (base.Range low high) = Ok tt
+check_element at (base.Listed values) = Ok tt
 
 -- the set that each element of an array of variables is in, if its type says one
 abbrev pub element_set : Base → Option Members
@@ -210,7 +210,7 @@ elements text scope variable base index name_at expr = do
 -- an array adds a rule for each element whose type is a set, what is printed, and its name
 unfoldable pub array : List ℕ → SoFar → ℕ → Bool → ℤ × ℤ → Base → ℕ → List ℕ → Marked → Option Expr → Result SoFar Refusal
 array text s at variable index base name_at name marked right = do
-  _ ← is_element at base
+  _ ← check_element at base
   expr ← right_side name_at right
   terms ← elements text s.scope variable base index name_at expr
   _ ← refused_if (variable && not (is_shaped marked (length terms))) (refusal.OutputShape name_at)

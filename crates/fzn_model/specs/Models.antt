@@ -1,17 +1,32 @@
 -- The answer for a text: its problem, or its first refusal.
 use Rattle.std.specs.Prelude.{◌≡◌, ℕ, ◌⊎◌, List, Result, Ok, Err}
 use Rattle.fzn_token.specs.declared.token.Token.{Token}
+use Rattle.fzn_token.specs.declared.token.LexError.{LexError}
 use Rattle.fzn_token.specs.declared.token.LexError.TheVariants as lexical
 use Rattle.fzn_token.specs.Reading as lexing
 use Rattle.fzn_item.specs.declared.item.Item.{Item}
+use Rattle.fzn_item.specs.declared.item.ItemError.{ItemError}
 use Rattle.fzn_item.specs.declared.item.ItemError.TheVariants as syntactic
 use Rattle.fzn_item.specs.Items as parsing
 use Rattle.dcsp_problem.specs.Problems.{Contents}
 use Rattle.fzn_scope.specs.declared.refusal.Refusal.{Refusal}
 use Rattle.fzn_scope.specs.declared.refusal.Refusal.TheVariants as refusal
+use Rattle.fzn_scope.specs.declared.refusal.Stop.{Stop}
+use Rattle.fzn_scope.specs.declared.refusal.Stop.TheVariants as stop
 use Rattle.fzn_model.specs.declared.model.ModelError.{ModelError}
 use Rattle.fzn_model.specs.declared.model.ModelError.TheVariants as errors
 use Rattle.fzn_model.specs.Items.{resolved}
+
+-- the refusal of tokens, as that of a text
+abbrev pub lexical_error : LexError → ModelError
+lexical_error (lexical.Bad at) = errors.Lex at
+lexical_error (lexical.IntRange at) = errors.IntRange at
+lexical_error lexical.Memory = errors.Memory
+
+-- that of an item that no production reads
+abbrev pub syntactic_error : ItemError → ModelError
+syntactic_error (syntactic.Syntax at) = errors.Syntax at
+syntactic_error syntactic.Memory = errors.Memory
 
 -- the refusal of items, as that of a text
 abbrev pub error_of : Refusal → ModelError
@@ -26,6 +41,11 @@ error_of (refusal.OutputShape at) = errors.OutputShape at
 error_of (refusal.WideSum at) = errors.WideSum at
 error_of (refusal.Limit which count at) = errors.Limit which count at
 error_of refusal.NoSolve = errors.NoSolve
+
+-- what resolution stopped with
+abbrev pub stop_error : Stop → ModelError
+stop_error (stop.Refused refusal) = error_of refusal
+stop_error stop.Memory = errors.Memory
 
 -- the answer for items, as that for a text
 abbrev pub answer_of : Result Contents Refusal → Result Contents ModelError

@@ -6,7 +6,7 @@ ghost use Rattle.dcsp_problem.specs.Limits.{most};
 ghost use Rattle.fzn_scope.specs.Checks.{Gives};
 ghost use Rattle.fzn_scope.specs.Known.{AreKnown};
 ghost use Rattle.fzn_model.specs.Building.{with_rule};
-ghost use Rattle.fzn_model.specs.Declarations.{is_element, element_set, is_index, within, with_member, with_members, elements};
+ghost use Rattle.fzn_model.specs.Declarations.{check_element, element_set, is_index, within, with_member, with_members, elements};
 ghost use Rattle.fzn_model.specs.Reading.{Leaves};
 
 use crate::building::add_rule;
@@ -18,8 +18,8 @@ use fzn_scope::{Names, Refusal, Stop, Wanted, count_of, list_of};
 use std::alloc::Global;
 
 /// Refuses arrays of floats and of sets.
-pub(crate) fn is_element(at: u32, base: &Base) -> Result<(), Refusal>
-    ensures { result ≡ is_element at base.now }
+pub(crate) fn check_element(at: u32, base: &Base) -> Result<(), Refusal>
+    ensures { result ≡ check_element at base.now }
 {
     match base {
         Base::Float | Base::Set => Err(Refusal::Unsupported { at }),

@@ -1,9 +1,7 @@
 //! From a text to its problem.
 
-ghost use Rattle.std.specs.Prelude.{◌≡◌, ◌≤◌, length};
-ghost use Rattle.fzn_scope.specs.Checks.{Gives};
-ghost use Rattle.fzn_model.specs.Items.{resolved};
-ghost use Rattle.fzn_model.specs.Models.{error_of, AnswersOrLacks};
+ghost use Rattle.std.specs.Prelude.{◌≤◌, length};
+ghost use Rattle.fzn_model.specs.Models.{AnswersOrLacks};
 ghost use Rattle.fzn_model.specs.Reading.{IsItemised};
 
 use crate::resolver::resolved;
@@ -48,17 +46,79 @@ pub enum ModelError {
     Memory,
 }
 
+impl From<LexError> for ModelError {
+    ghost use Rattle.std.specs.Prelude.{◌≡◌};
+    ghost use Rattle.fzn_model.specs.Models.{lexical_error};
+
+    ghost from_gives = { λ refused e. e ≡ lexical_error refused };
+
+    fn from(refused: LexError) -> ModelError {
+        match refused {
+            LexError::Bad { at } => ModelError::Lex { at },
+            LexError::IntRange { at } => ModelError::IntRange { at },
+            LexError::Memory => ModelError::Memory,
+        }
+    }
+}
+
+impl From<ItemError> for ModelError {
+    ghost use Rattle.std.specs.Prelude.{◌≡◌};
+    ghost use Rattle.fzn_model.specs.Models.{syntactic_error};
+
+    ghost from_gives = { λ refused e. e ≡ syntactic_error refused };
+
+    fn from(refused: ItemError) -> ModelError {
+        match refused {
+            ItemError::Syntax { at } => ModelError::Syntax { at },
+            ItemError::Memory => ModelError::Memory,
+        }
+    }
+}
+
+impl From<Refusal> for ModelError {
+    ghost use Rattle.std.specs.Prelude.{◌≡◌};
+    ghost use Rattle.fzn_model.specs.Models.{error_of};
+
+    ghost from_gives = { λ refusal e. e ≡ error_of refusal };
+
+    fn from(refusal: Refusal) -> ModelError {
+        match refusal {
+            Refusal::Misplaced { at } => ModelError::Misplaced { at },
+            Refusal::Duplicate { at } => ModelError::Duplicate { at },
+            Refusal::Undeclared { at } => ModelError::Undeclared { at },
+            Refusal::Unbounded { at } => ModelError::Unbounded { at },
+            Refusal::Unsupported { at } => ModelError::Unsupported { at },
+            Refusal::UnknownConstraint { at } => ModelError::UnknownConstraint { at },
+            Refusal::IllTyped { at } => ModelError::IllTyped { at },
+            Refusal::OutputShape { at } => ModelError::OutputShape { at },
+            Refusal::WideSum { at } => ModelError::WideSum { at },
+            Refusal::Limit { which, count, at } => ModelError::Limit { which, count, at },
+            Refusal::NoSolve => ModelError::NoSolve,
+        }
+    }
+}
+
+impl From<Stop> for ModelError {
+    ghost use Rattle.std.specs.Prelude.{◌≡◌};
+    ghost use Rattle.fzn_model.specs.Models.{stop_error};
+
+    ghost from_gives = { λ stop e. e ≡ stop_error stop };
+
+    fn from(stop: Stop) -> ModelError {
+        match stop {
+            Stop::Refused(refusal) => ModelError::from(refusal),
+            Stop::Memory => ModelError::Memory,
+        }
+    }
+}
+
 /// The problem of a text of at most 16,777,216 bytes, or its first refusal.
 pub fn problem_of(alloc: Global, text: &[u8]) -> Result<Problem, ModelError>
     requires { length text.now ≤ 16777216 }
     ensures { AnswersOrLacks text.now result }
 {
     let items = items_of(alloc, text)?;
-    match resolved(alloc, text, items.items()) {
-        Ok(problem) => Ok(problem),
-        Err(Stop::Refused(refusal)) => Err(error_of(refusal)),
-        Err(Stop::Memory) => Err(ModelError::Memory),
-    }
+    Ok(resolved(alloc, text, items.items())?)
 }
 
 /// The items of a text. Its tokens are let go.
@@ -66,34 +126,6 @@ fn items_of(alloc: Global, text: &[u8]) -> Result<ItemList, ModelError>
     requires { length text.now ≤ 16777216 }
     ensures { IsItemised text.now result }
 {
-    let tokens = match tokens(alloc, text) {
-        Ok(tokens) => tokens,
-        Err(LexError::Bad { at }) => return Err(ModelError::Lex { at }),
-        Err(LexError::IntRange { at }) => return Err(ModelError::IntRange { at }),
-        Err(LexError::Memory) => return Err(ModelError::Memory),
-    };
-    match items(alloc, text, &tokens) {
-        Ok(items) => Ok(items),
-        Err(ItemError::Syntax { at }) => Err(ModelError::Syntax { at }),
-        Err(ItemError::Memory) => Err(ModelError::Memory),
-    }
-}
-
-/// The refusal of items, as that of a text.
-fn error_of(refusal: Refusal) -> ModelError
-    ensures { result ≡ error_of refusal }
-{
-    match refusal {
-        Refusal::Misplaced { at } => ModelError::Misplaced { at },
-        Refusal::Duplicate { at } => ModelError::Duplicate { at },
-        Refusal::Undeclared { at } => ModelError::Undeclared { at },
-        Refusal::Unbounded { at } => ModelError::Unbounded { at },
-        Refusal::Unsupported { at } => ModelError::Unsupported { at },
-        Refusal::UnknownConstraint { at } => ModelError::UnknownConstraint { at },
-        Refusal::IllTyped { at } => ModelError::IllTyped { at },
-        Refusal::OutputShape { at } => ModelError::OutputShape { at },
-        Refusal::WideSum { at } => ModelError::WideSum { at },
-        Refusal::Limit { which, count, at } => ModelError::Limit { which, count, at },
-        Refusal::NoSolve => ModelError::NoSolve,
-    }
+    let tokens = tokens(alloc, text)?;
+    Ok(items(alloc, text, &tokens)?)
 }

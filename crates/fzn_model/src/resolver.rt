@@ -7,7 +7,7 @@ ghost use Rattle.fzn_model.specs.Declarations.{is_late, declaration, parameter, 
 ghost use Rattle.fzn_model.specs.Items.{start, declare, declared_by, constraint, solve, predicate, after, finished, resolved};
 ghost use Rattle.fzn_model.specs.Reading.{Leaves, so_far, IsSound};
 
-use crate::array::{add_members, elements, is_element, within};
+use crate::array::{add_members, check_element, elements, within};
 use crate::building::{add_rule, add_variable};
 use crate::declaration::{add_source, domain_of, is_boolean, right_side, source_of, value_of};
 use crate::goal::aim_of;
@@ -157,7 +157,7 @@ impl<'t> Resolver<'t> {
             right,
             ..
         } = declaration;
-        is_element(at, base)?;
+        check_element(at, base)?;
         let expr = right_side(name_at, right)?;
         let terms = elements(alloc, text, &self.names, false, base, index, name_at, expr)?;
         within(Which::Elements, terms.len(), name_at)?;
@@ -194,7 +194,7 @@ impl<'t> Resolver<'t> {
             marked,
             right,
         } = declaration;
-        is_element(at, base)?;
+        check_element(at, base)?;
         let expr = right_side(name_at, right)?;
         let terms = elements(alloc, text, &self.names, true, base, index, name_at, expr)?;
         if !is_shaped(marked, terms.len()) {

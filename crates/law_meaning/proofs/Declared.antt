@@ -35,7 +35,7 @@ use Rattle.fzn_scope.specs.Checks.{refused_if}
 use Rattle.fzn_scope.specs.Names.{Scope, declared_as}
 use Rattle.fzn_scope.specs.Places.{one_of, list_of, count_of, set_of}
 use Rattle.fzn_model.specs.Building.{refused_at, with_variable, with_output}
-use Rattle.fzn_model.specs.Declarations.{SoFar, named, is_late, declaration, is_boolean, right_side, constant, value_of, parameter, domain_of, source_of, equality, with_source, variable_output, variable, is_element, element_set, is_index, is_shaped, with_member, with_members, with_set, array_output, elements, array}
+use Rattle.fzn_model.specs.Declarations.{SoFar, named, is_late, declaration, is_boolean, right_side, constant, value_of, parameter, domain_of, source_of, equality, with_source, variable_output, variable, check_element, element_set, is_index, is_shaped, with_member, with_members, with_set, array_output, elements, array}
 use Rattle.law_meaning.specs.Environments.{Value, Number, Numbers, Environment, expr_value}
 use Rattle.law_meaning.specs.Holding.{in_set, in_type, IsVariable, IsArray}
 use Rattle.law_meaning.proofs.Checks.{bind_ok, not_refused}
@@ -311,7 +311,7 @@ elements_are text scope isvar type index name_at x terms e =
 pub array_is : (text : List ℕ) (s t : SoFar) (at : ℕ) (isvar : Bool) (index : ℤ × ℤ) (type : Base) (name_at : ℕ) (name : List ℕ) (marked : Marked) (right : Option Expr) → array text s at isvar index type name_at name marked right ≡ Ok t → Array text s t isvar type name right
 unfolding array
 array_is text s t at isvar index type name_at name marked right e =
-    let u = bind_ok (is_element at type) _ t e in
+    let u = bind_ok (check_element at type) _ t e in
     let x = bind_ok (right_side name_at right) _ t u.2 in
     let l = bind_ok (elements text s.scope isvar type index name_at x.0) _ t x.2 in
     let a = not_refused (isvar && not (is_shaped marked (length l.0))) (refusal.OutputShape name_at) _ t l.2 in

@@ -9,7 +9,7 @@ use Rattle.dcsp_domain.specs.Sets.{set_of as values_of_list}
 use Rattle.fzn_item.specs.declared.item.Expr.{Expr}
 use Rattle.fzn_item.specs.declared.item.Base.{Base}
 use Rattle.fzn_item.specs.declared.item.Base.TheVariants as base
-use Rattle.dcsp_linear.specs.declared.TheConstants.{WIDEST}
+use Rattle.dcsp_linear.specs.Sums.{widest}
 use Rattle.dcsp_meaning.specs.declared.kinds.Kind.{Kind}
 use Rattle.dcsp_meaning.specs.declared.kinds.Kind.TheVariants.{SetIn}
 use Rattle.dcsp_problem.specs.declared.limits.Which.TheVariants.{DomainSize, Variables, DomainValues, Rules, Terms, Elements}
@@ -32,7 +32,7 @@ use Rattle.fzn_scope.specs.Checks.{◌>>=◌, refused_if}
 use Rattle.fzn_scope.specs.Names.{Scope}
 use Rattle.fzn_scope.specs.Places.{one_of, list_of, count_of, set_of}
 use Rattle.fzn_model.specs.Building.{with_rule, with_output}
-use Rattle.fzn_model.specs.Declarations.{SoFar, named, within, is_boolean, constant, value_of, domain_of, source_of, equality, with_source, is_element, element_set, is_index, with_members, elements}
+use Rattle.fzn_model.specs.Declarations.{SoFar, named, within, is_boolean, constant, value_of, domain_of, source_of, equality, with_source, check_element, element_set, is_index, with_members, elements}
 use Rattle.law_reader.specs.Sorts.{Sort, One, Set, Names, one_suits, one_size, list_suits, list_sizes, set_suits, set_count}
 use Rattle.law_reader.specs.Arguments.{is_within}
 use Rattle.law_reader.specs.Accepted.{values_in, is_bounded, is_of_numbers, member_size, value_suits, source_suits, value_sort, source_sizes, member_sizes, are_few}
@@ -98,10 +98,10 @@ small_judged at p variables rules kind scalars set counted few =
     let rule = Plain kind scalars [] [] set in
     let fewer : length scalars ≤ 65536 = omega (arith, few) in
     let nothing : 0 ≤ 65536 = omega arith in
-    let narrow : 0 ≤ WIDEST = omega arith in
+    let narrow : 0 ≤ widest = omega arith in
     judged_test (with_rule at p rule) _ (are_few variables (rules ++ size_of rule ∷ [])) (λ q. q ≡ with_one_rule p rule)
-    (all_true (not (nat_lt WIDEST 0)) (is_within Elements (length scalars)) (is_within Elements 0) (is_within Elements 0) (none_past ((Rules, length p.rules + 1) ∷ (Terms, term_count p + size_of rule) ∷ []))
-    (not_past WIDEST 0 narrow) (not_past 65536 (length scalars) fewer) (not_past 65536 0 nothing) (not_past 65536 0 nothing)
+    (all_true (not (nat_lt widest 0)) (is_within Elements (length scalars)) (is_within Elements 0) (is_within Elements 0) (none_past ((Rules, length p.rules + 1) ∷ (Terms, term_count p + size_of rule) ∷ []))
+    (not_past widest 0 narrow) (not_past 65536 (length scalars) fewer) (not_past 65536 0 nothing) (not_past 65536 0 nothing)
     ∙ rule_tests p variables rules (size_of rule) counted)
     (rule_judged at p rule)
 
@@ -176,7 +176,7 @@ domain_judged at (base.Listed values) =
     let n = length (values_of_list values) in
     judged_map (within DomainSize n at) (λ _. values_of_list values) (is_within DomainSize n) (λ _. nat_lt (most DomainSize) n ≡ false) (λ domain. domain ≡ values_of_list values) (judged_if (nat_lt (most DomainSize) n) (refusal.Limit DomainSize n at)) (λ _ _. refl)
 
-pub element_judged : (at : ℕ) (type : Base) → Judged (is_element at type) (is_of_numbers type) (λ _. Unit {0})
+pub element_judged : (at : ℕ) (type : Base) → Judged (check_element at type) (is_of_numbers type) (λ _. Unit {0})
 element_judged at base.Bool = (refl, tt)
 element_judged at base.Int = (refl, tt)
 element_judged at base.Float = refl

@@ -29,7 +29,7 @@ use Rattle.fzn_scope.specs.Places.{one_of}
 use Rattle.fzn_scope.specs.Forms.{form_named}
 use Rattle.fzn_scope.specs.Rules.{constraint_rule}
 use Rattle.fzn_model.specs.Building.{with_variable, with_rule, with_output}
-use Rattle.fzn_model.specs.Declarations.{SoFar, named, within, is_late, declaration, is_boolean, value_of, parameter, domain_of, source_of, with_source, variable_output, variable, is_element, element_set, is_index, is_shaped, with_set, array_output, elements, array}
+use Rattle.fzn_model.specs.Declarations.{SoFar, named, within, is_late, declaration, is_boolean, value_of, parameter, domain_of, source_of, with_source, variable_output, variable, check_element, element_set, is_index, is_shaped, with_set, array_output, elements, array}
 use Rattle.fzn_model.specs.Items.{declared_by, constraint, an_integer, aim_of, solve, predicate}
 use Rattle.law_reader.specs.Sorts.{Sort, One, Many, Names, sort_named, one_suits, one_size, list_suits, list_sizes}
 use Rattle.law_reader.specs.Arguments.{is_within, constraint_suits, constraint_size}
@@ -267,8 +267,8 @@ module _ (text : List ℕ) (names : Names) (variables rules : List ℕ) (solved 
       let P = Stands (names ++ (name, Many (is_boolean type) isvar []) ∷ []) (variables ++ []) (rules ++ element_sizes isvar type []) (solved || false) (constrained || false) in
       let enough = are_few (variables ++ []) (rules ++ element_sizes isvar type []) in
       let refused : Unit {0} → Result SoFar Refusal = λ _. Err (refusal.IllTyped name_at) in
-      judged_test (is_element at type >>= refused) (is_of_numbers type && false) ((is_of_numbers type && false) && enough) P (and_nothing (is_of_numbers type) enough)
-      (judged_bind (is_element at type) refused (is_of_numbers type) false (λ _. Unit {0}) P (element_judged at type) (λ _ _. refl))
+      judged_test (check_element at type >>= refused) (is_of_numbers type && false) ((is_of_numbers type && false) && enough) P (and_nothing (is_of_numbers type) enough)
+      (judged_bind (check_element at type) refused (is_of_numbers type) false (λ _. Unit {0}) P (element_judged at type) (λ _ _. refl))
   array_is_judged at isvar index type name_at name marked (Some x) =
       let boolean = is_boolean type in
       let w : Wanted = record { boolean = boolean; constant = not isvar } in
@@ -306,9 +306,9 @@ module _ (text : List ℕ) (names : Names) (variables rules : List ℕ) (solved 
       let after_element : Unit {0} → Result SoFar Refusal = λ _. elements text s.scope isvar type index name_at x >>= shaped in
       let first : Judged (elements text s.scope isvar type index name_at x >>= shaped) (listed && (not (isvar && not (is_shaped marked (length ns))) && (is_within Elements (length ns) && enough))) P =
       judged_bind (elements text s.scope isvar type index name_at x) shaped listed (not (isvar && not (is_shaped marked (length ns))) && (is_within Elements (length ns) && enough)) (AreGiven s.problem.domains w ns) P (elements_judged text names s.problem.domains s.scope h.sorted isvar type index name_at x) sized in
-      judged_test (is_element at type >>= after_element) (is_of_numbers type && (listed && (not (isvar && not (is_shaped marked (length ns))) && (is_within Elements (length ns) && enough)))) ((is_of_numbers type && elements_suit text names isvar index type marked (Some x)) && enough) P
+      judged_test (check_element at type >>= after_element) (is_of_numbers type && (listed && (not (isvar && not (is_shaped marked (length ns))) && (is_within Elements (length ns) && enough)))) ((is_of_numbers type && elements_suit text names isvar index type marked (Some x)) && enough) P
       (array_group (is_of_numbers type) (list_suits text names w x) (is_index index (length ns)) (not (isvar && not (is_shaped marked (length ns)))) (is_within Elements (length ns)) enough)
-      (judged_bind (is_element at type) after_element (is_of_numbers type) (listed && (not (isvar && not (is_shaped marked (length ns))) && (is_within Elements (length ns) && enough))) (λ _. Unit {0}) P (element_judged at type) (λ _ _. first))
+      (judged_bind (check_element at type) after_element (is_of_numbers type) (listed && (not (isvar && not (is_shaped marked (length ns))) && (is_within Elements (length ns) && enough))) (λ _. Unit {0}) P (element_judged at type) (λ _ _. first))
 
   pub declared_by_judged : (at : ℕ) (isvar : Bool) (index : Option (ℤ × ℤ)) (type : Base) (name_at name_to : ℕ) (marked : Marked) (right : Option Expr)
       → Judged (declared_by text s at isvar index type name_at (bytes_at text name_at name_to) marked right)

@@ -7,7 +7,7 @@ use Rattle.std.proofs.lemmas.Bool.Decides.{nat_tests}
 use Rattle.std.proofs.lemmas.List.{length-map}
 use Rattle.std.proofs.lemmas.List.Sums.{sum-map, sum_by_push}
 use Rattle.dcsp_defs.proofs.Lists.{and_left, and_right}
-use Rattle.dcsp_linear.specs.declared.TheConstants.{WIDEST}
+use Rattle.dcsp_linear.specs.Sums.{widest}
 use Rattle.dcsp_problem.specs.declared.limits.Which.{Which}
 use Rattle.dcsp_problem.specs.declared.limits.Which.TheVariants.{Variables, DomainValues, Rules, Terms}
 use Rattle.dcsp_problem.specs.declared.limits.BuildError.TheVariants.{WideSum}
@@ -116,6 +116,6 @@ variable_judged at p variables rules domain h =
     judged_test (with_variable at p domain) (none_past (variable_counts p domain)) (are_few (variables ++ length domain ∷ []) rules) (λ q. q ≡ with_domain p domain) (variable_tests p variables rules domain h)
     (judged_map (refused_at at (variable_refusal p domain)) (λ _. with_domain p domain) (none_past (variable_counts p domain)) (λ _. Unit {0}) (λ q. q ≡ with_domain p domain) (past_judged at (variable_counts p domain)) (λ _ _. refl))
 
-pub rule_judged : (at : ℕ) (p : Contents) (rule : Rule) → Judged (with_rule at p rule) (not (nat_lt WIDEST (rule_width p.domains rule)) && none_past (rule_counts p rule)) (λ q. q ≡ with_one_rule p rule)
+pub rule_judged : (at : ℕ) (p : Contents) (rule : Rule) → Judged (with_rule at p rule) (not (nat_lt widest (rule_width p.domains rule)) && none_past (rule_counts p rule)) (λ q. q ≡ with_one_rule p rule)
 rule_judged at p rule =
-    judged_map (refused_at at (rule_refusal p rule)) (λ _. with_one_rule p rule) (not (nat_lt WIDEST (rule_width p.domains rule)) && none_past (rule_counts p rule)) (λ _. Unit {0}) (λ q. q ≡ with_one_rule p rule) (wide_chosen at (nat_lt WIDEST (rule_width p.domains rule)) (rule_counts p rule)) (λ _ _. refl)
+    judged_map (refused_at at (rule_refusal p rule)) (λ _. with_one_rule p rule) (not (nat_lt widest (rule_width p.domains rule)) && none_past (rule_counts p rule)) (λ _. Unit {0}) (λ q. q ≡ with_one_rule p rule) (wide_chosen at (nat_lt widest (rule_width p.domains rule)) (rule_counts p rule)) (λ _ _. refl)

@@ -6,7 +6,7 @@ use Rattle.std.proofs.lemmas.List.{length-map}
 use Rattle.std.proofs.lemmas.List.Sums.{sum_by-cons}
 use Rattle.fzn_item.specs.declared.item.Expr.{Expr}
 use Rattle.dcsp_linear.specs.declared.Rel.{Rel}
-use Rattle.dcsp_linear.specs.declared.TheConstants.{WIDEST}
+use Rattle.dcsp_linear.specs.Sums.{widest}
 use Rattle.dcsp_linear.specs.Sums.{greatest_size}
 use Rattle.dcsp_problem.specs.declared.limits.Which.{Which}
 use Rattle.dcsp_problem.specs.declared.limits.Which.TheVariants.{Rules, Terms, Elements}
@@ -199,26 +199,26 @@ module _ (text : List ℕ) (names : Names) (scope : Scope) (p : Contents) (sorte
 
   module _ (variables rules : List ℕ) (counted : Counted p variables rules) where
     added_judged : (form : Form) (rule : Rule) → IsMeasured p.domains form (sizes form) rule
-        → Judged (with_rule at p rule) (not (nat_lt WIDEST (width form (sizes form))) && (is_within Elements (length (sizes form).first) && is_within Elements (length (sizes form).second) && are_few variables (rules ++ form_size form (sizes form) ∷ []))) (HasRule (form_size form (sizes form)))
+        → Judged (with_rule at p rule) (not (nat_lt widest (width form (sizes form))) && (is_within Elements (length (sizes form).first) && is_within Elements (length (sizes form).second) && are_few variables (rules ++ form_size form (sizes form) ∷ []))) (HasRule (form_size form (sizes form)))
     added_judged form rule m =
         let s = sizes form in
         let n = form_size form s in
         let few : none_past ((Rules, length p.rules + 1) ∷ (Terms, term_count p + size_of rule) ∷ []) ≡ are_few variables (rules ++ n ∷ []) = rule_tests p variables rules (size_of rule) counted ∙ ap (λ (k : ℕ). are_few variables (rules ++ k ∷ [])) m.size in
         let lists = m.lists ((Rules, length p.rules + 1) ∷ (Terms, term_count p + size_of rule) ∷ []) in
-        let same : (not (nat_lt WIDEST (rule_width p.domains rule)) && none_past (rule_counts p rule)) ≡ (not (nat_lt WIDEST (width form s)) && (is_within Elements (length s.first) && is_within Elements (length s.second) && are_few variables (rules ++ n ∷ []))) =
-        ap (λ (k : ℕ). not (nat_lt WIDEST k) && none_past (rule_counts p rule)) m.wide
-        ∙ ap (λ (b : Bool). not (nat_lt WIDEST (width form s)) && b) (lists ∙ ap (λ (b : Bool). is_within Elements (length s.first) && is_within Elements (length s.second) && b) few) in
+        let same : (not (nat_lt widest (rule_width p.domains rule)) && none_past (rule_counts p rule)) ≡ (not (nat_lt widest (width form s)) && (is_within Elements (length s.first) && is_within Elements (length s.second) && are_few variables (rules ++ n ∷ []))) =
+        ap (λ (k : ℕ). not (nat_lt widest k) && none_past (rule_counts p rule)) m.wide
+        ∙ ap (λ (b : Bool). not (nat_lt widest (width form s)) && b) (lists ∙ ap (λ (b : Bool). is_within Elements (length s.first) && is_within Elements (length s.second) && b) few) in
         judged_test (with_rule at p rule) _ _ (HasRule n) same
-        (judged_more (with_rule at p rule) (not (nat_lt WIDEST (rule_width p.domains rule)) && none_past (rule_counts p rule)) (λ q. q ≡ with_one_rule p rule) (HasRule n) (λ q e. record { rule = rule; added = e; sized = m.size }) (rule_judged at p rule))
+        (judged_more (with_rule at p rule) (not (nat_lt widest (rule_width p.domains rule)) && none_past (rule_counts p rule)) (λ q. q ≡ with_one_rule p rule) (HasRule n) (λ q e. record { rule = rule; added = e; sized = m.size }) (rule_judged at p rule))
 
     -- the rule of a form, added
     pub ruled_judged : (o : Option Form) → Judged ((known_form at o >>= after_form) >>= (λ rule. with_rule at p rule)) (constraint_suits text names o xs && are_few variables (rules ++ constraint_size text names o xs ∷ [])) (HasRule (constraint_size text names o xs))
     ruled_judged None = refl
     ruled_judged (Some form) =
         let s = sizes form in
-        let test = not (nat_lt WIDEST (width form s)) && (is_within Elements (length s.first) && is_within Elements (length s.second) && are_few variables (rules ++ form_size form s ∷ [])) in
+        let test = not (nat_lt widest (width form s)) && (is_within Elements (length s.first) && is_within Elements (length s.second) && are_few variables (rules ++ form_size form s ∷ [])) in
         judged_test (after_form form >>= (λ rule. with_rule at p rule)) (form_test form && test) (constraint_suits text names (Some form) xs && are_few variables (rules ++ constraint_size text names (Some form) xs ∷ [])) (HasRule (form_size form s))
-        (regroup (length xs == length (places_of form (length xs))) (all_suit text names (places_of form (length xs)) xs) (lengths_suit form s) (not (nat_lt WIDEST (width form s))) (is_within Elements (length s.first)) (is_within Elements (length s.second)) (are_few variables (rules ++ form_size form s ∷ [])))
+        (regroup (length xs == length (places_of form (length xs))) (all_suit text names (places_of form (length xs)) xs) (lengths_suit form s) (not (nat_lt widest (width form s))) (is_within Elements (length s.first)) (is_within Elements (length s.second)) (are_few variables (rules ++ form_size form s ∷ [])))
         (judged_bind (after_form form) (λ rule. with_rule at p rule) (form_test form) test (IsMeasured p.domains form s) (HasRule (form_size form s)) (form_judged form) (λ rule m. added_judged form rule m))
 
   -- the same of a constraint's name

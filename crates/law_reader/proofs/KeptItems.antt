@@ -31,7 +31,7 @@ use Rattle.fzn_scope.specs.Names.{Scope, declared_as, bytes_at}
 use Rattle.fzn_scope.specs.Places.{one_of, count_of, set_of}
 use Rattle.fzn_scope.specs.Rules.{constraint_rule}
 use Rattle.fzn_model.specs.Building.{with_variable, with_rule}
-use Rattle.fzn_model.specs.Declarations.{SoFar, within, is_late, declaration, is_boolean, constant, value_of, parameter, domain_of, source_of, equality, with_source, variable, is_element, element_set, is_index, is_shaped, with_member, with_members, with_set, elements, array}
+use Rattle.fzn_model.specs.Declarations.{SoFar, within, is_late, declaration, is_boolean, constant, value_of, parameter, domain_of, source_of, equality, with_source, variable, check_element, element_set, is_index, is_shaped, with_member, with_members, with_set, elements, array}
 use Rattle.fzn_model.specs.Items.{start, declared_by, declare, constraint, an_integer, aim_of, solve, predicate, after, after_all, finished, resolved}
 use Rattle.fzn_model.specs.Models.{answer_of}
 use Rattle.law_reader.specs.Gapped.{AllAlike, GapsAreIgnored}
@@ -59,7 +59,7 @@ with_source_keeps : (at to : ℕ) (problem : Contents) (boolean : Bool) (number 
 with_source_keeps at to problem boolean number None = refl
 with_source_keeps at to problem boolean number (Some source) = rule_keeps at to problem (Plain (equality boolean) (Var number ∷ source ∷ []) [] [] (members.Listed []))
 
-element_keeps : (at to : ℕ) (type : Base) → Keeps (is_element at type) (is_element to type)
+element_keeps : (at to : ℕ) (type : Base) → Keeps (check_element at type) (check_element to type)
 element_keeps at to base.Bool = refl
 element_keeps at to base.Int = refl
 element_keeps at to base.Float = tt
@@ -122,9 +122,9 @@ module _ (text other : List ℕ) where
 
   array_keeps : (s : SoFar) (at to : ℕ) (isvar : Bool) (index : ℤ × ℤ) (type : Base) (name_at name_to : ℕ) (name : List ℕ) (says : Marked) (x y : Option Expr) → RightsAlike text other x y → Keeps (array text s at isvar index type name_at name says x) (array other s to isvar index type name_to name says y)
   unfolding array
-  array_keeps s at to isvar index type name_at name_to name says _ _ both_none = keeps_bind (is_element at type) (is_element to type) _ _ (element_keeps at to type) (λ _. tt)
+  array_keeps s at to isvar index type name_at name_to name says _ _ both_none = keeps_bind (check_element at type) (check_element to type) _ _ (element_keeps at to type) (λ _. tt)
   array_keeps s at to isvar index type name_at name_to name says _ _ (both_some {a = a} {b = b} h) =
-      keeps_bind (is_element at type) (is_element to type) _ _ (element_keeps at to type) (λ _.
+      keeps_bind (check_element at type) (check_element to type) _ _ (element_keeps at to type) (λ _.
       keeps_bind (elements text s.scope isvar type index name_at a) (elements other s.scope isvar type index name_to b) _ _ (elements_keep s.scope isvar type index name_at name_to a b h) (λ terms.
       keeps_bind (refused_if (isvar && not (is_shaped says (length terms))) (refusal.OutputShape name_at)) (refused_if (isvar && not (is_shaped says (length terms))) (refusal.OutputShape name_to)) _ _ (keeps_if (isvar && not (is_shaped says (length terms))) (refusal.OutputShape name_at) (refusal.OutputShape name_to)) (λ _.
       keeps_bind (within which.Elements (length terms) name_at) (within which.Elements (length terms) name_to) _ _ (within_keeps which.Elements (length terms) name_at name_to) (λ _.

@@ -28,7 +28,7 @@ use Rattle.fzn_scope.specs.Names.{Scope, declared_as, bytes_at}
 use Rattle.fzn_scope.specs.Places.{one_of, count_of, set_of}
 use Rattle.fzn_scope.specs.Rules.{constraint_rule}
 use Rattle.fzn_model.specs.Building.{with_variable, with_rule}
-use Rattle.fzn_model.specs.Declarations.{SoFar, within, is_late, declaration, is_boolean, right_side, constant, value_of, parameter, domain_of, source_of, equality, with_source, variable, is_element, element_set, is_index, is_shaped, with_member, with_members, with_set, elements, array}
+use Rattle.fzn_model.specs.Declarations.{SoFar, within, is_late, declaration, is_boolean, right_side, constant, value_of, parameter, domain_of, source_of, equality, with_source, variable, check_element, element_set, is_index, is_shaped, with_member, with_members, with_set, elements, array}
 use Rattle.fzn_model.specs.Items.{start, declared_by, constraint, an_integer, aim_of, solve, predicate, after, after_all, resolved}
 use Rattle.law_reader.proofs.ItemPlaces.{ExprPlaced, RightPlaced, GoalPlaced, ItemPlaced}
 use Rattle.law_reader.proofs.Refusing.{Refuses, bind_refuses, if_refuses, choice_refuses, one_refuses, list_refuses, count_refuses, set_refuses, constraint_refuses, variable_refuses, rule_refuses}
@@ -88,7 +88,7 @@ module _ (P : ℕ → Type 0) where
         bind_refuses P (with_variable name_at s.problem domain) _ (variable_refuses P name_at s.problem domain k) (λ widened.
         bind_refuses P (with_source name_at widened (is_boolean type) (length s.problem.domains) source) _ (with_source_refuses name_at widened (is_boolean type) (length s.problem.domains) source k) (λ _. tt))))
 
-    element_refuses : (at : ℕ) (type : Base) → P at → Refuses P (is_element at type)
+    element_refuses : (at : ℕ) (type : Base) → P at → Refuses P (check_element at type)
     element_refuses at base.Bool h = tt
     element_refuses at base.Int h = tt
     element_refuses at base.Float h = h
@@ -118,7 +118,7 @@ module _ (P : ℕ → Type 0) where
     array_refuses : (s : SoFar) (at : ℕ) (isvar : Bool) (index : ℤ × ℤ) (type : Base) (name_at : ℕ) (name : List ℕ) (marked : Marked) (right : Option Expr) → P at → P name_at → RightPlaced P right → Refuses P (array text s at isvar index type name_at name marked right)
     unfolding array
     array_refuses s at isvar index type name_at name marked right h k r =
-        bind_refuses P (is_element at type) _ (element_refuses at type h) (λ _.
+        bind_refuses P (check_element at type) _ (element_refuses at type h) (λ _.
         with_right name_at right _ k r (λ e each.
         bind_refuses P (elements text s.scope isvar type index name_at e) _ (elements_refuse s.scope isvar type index name_at e k each) (λ terms.
         bind_refuses P (refused_if (isvar && not (is_shaped marked (length terms))) (refusal.OutputShape name_at)) _ (if_refuses P (isvar && not (is_shaped marked (length terms))) (refusal.OutputShape name_at) k) (λ _.

@@ -2,7 +2,7 @@
 use Rattle.std.specs.Prelude.{ℕ, ◌+◌, ◌*◌, ◌==◌, Bool, true, false, not, ◌&&◌, List, [], ◌∷◌, length, flat_map, sum_by, zip, nat_lt, slice_index_or, Option, Some, None}
 use Rattle.std.specs.List.{list_all}
 use Rattle.fzn_item.specs.declared.item.Expr.{Expr}
-use Rattle.dcsp_linear.specs.declared.TheConstants.{WIDEST}
+use Rattle.dcsp_linear.specs.Sums.{widest}
 use Rattle.dcsp_problem.specs.declared.limits.Which.{Which}
 use Rattle.dcsp_problem.specs.declared.limits.Which.TheVariants.{Elements}
 use Rattle.dcsp_problem.specs.Limits.{most}
@@ -95,7 +95,7 @@ form_suits text names form places exprs =
     (length exprs == length places)
     && all_suit text names places exprs
     && lengths_suit form (argument_sizes text names places exprs)
-    && not (nat_lt WIDEST (width form (argument_sizes text names places exprs)))
+    && not (nat_lt widest (width form (argument_sizes text names places exprs)))
     && is_within Elements (length (argument_sizes text names places exprs).first)
     && is_within Elements (length (argument_sizes text names places exprs).second)
 
