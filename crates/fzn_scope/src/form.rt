@@ -75,9 +75,13 @@ impl Form {
     pub fn from_name(name: &[u8]) -> Option<Form>
         ensures { result ≡ form_named name.now }
     {
+        // Sums come first: they are few, most constraints of many models are sums, and no kind has such a name.
+        if let Some(sum) = sum_named(name) {
+            return Some(sum);
+        }
         match Kind::from_name(name) {
             Some(kind) => Some(Form::Plain(kind)),
-            None => sum_named(name),
+            None => None,
         }
     }
 
