@@ -1,6 +1,7 @@
 -- The nogood that is kept against a value.
 use Rattle.std.proofs.Common.{◌≡◌, ℕ, ◌+◌, ◌≤◌, Bool, true, false, cond, List, [], ◌∷◌, Some, ℤ, is_some, refl, sym, ap, ◌∙◌, arith, inl, inr}
-use Rattle.std.specs.List.{count_by}
+use Rattle.std.specs.List.{count_by, position_from}
+use Rattle.std.specs.Option.{option_map}
 use Rattle.dcsp_defs.specs.Words.{In}
 use Rattle.dcsp_defs.specs.Csp.{Known, agrees, with_value}
 use Rattle.abt_store.specs.declared.Recorded.{Recorded}
@@ -44,3 +45,12 @@ module _ (me : ℕ) (v : ℤ) (known : Known) where
           absurd (omega (arith, count_by-cons (is_against v) x xs, one, some e, once))
       by_tests false true f g e later some = let not_own : true ≡ false = sym g ∙ not_own_value me v known x (own x (inl refl)) f in absurd cc
       by_tests false false f g e later some = later (omega (arith, count_by-cons (is_against v) x xs, once)) e
+
+-- the search finds what stands at the first place
+pub against_placed : (v : ℤ) (k : ℕ) (xs : List Recorded) → option_map (λ place. KeptNogood place) (position_from (is_against v) k xs) ≡ first_against v k xs
+against_placed v k [] = refl
+against_placed v k (x ∷ xs) = by_test (is_against v x) (against_placed v (k + 1) xs) where
+  by_test : (b : Bool) → option_map (λ place. KeptNogood place) (position_from (is_against v) (k + 1) xs) ≡ first_against v (k + 1) xs
+      → option_map (λ place. KeptNogood place) (cond b (Some k) (position_from (is_against v) (k + 1) xs)) ≡ cond b (Some (KeptNogood k)) (first_against v (k + 1) xs)
+  by_test true e = refl
+  by_test false e = e

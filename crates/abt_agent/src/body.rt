@@ -1,14 +1,16 @@
 //! What an agent has, and what that is before the start.
 
-ghost use Rattle.std.specs.Prelude.{◌≡◌, ◌<◌, ◌∷◌, ◌++◌, [], All, IfOk, OnOk, length, map};
+ghost use Rattle.std.specs.Prelude.{◌≡◌, ◌<◌, ◌||◌, ◌&&◌, ℕ, [], All, IfOk, length, map, nat_lt};
 ghost use Rattle.dcsp_defs.specs.Words.{below};
-ghost use Rattle.abt_defs.specs.Agents.{fresh, is_among, shares};
+ghost use Rattle.abt_defs.specs.Agents.{fresh, shares};
 ghost use Rattle.dcsp_problem.specs.Lower.{lower_owners};
-ghost use Rattle.dcsp_problem.specs.Problems.{constraint_at, csp_of};
+ghost use Rattle.dcsp_problem.specs.Problems.{csp_of};
 ghost use Rattle.abt_agent.specs.Bodies.{agent_of, owner_of, IsGood};
 ghost use Rattle.abt_agent.specs.Rules.{names_any};
+ghost use Rattle.abt_agent.specs.States.{marked};
 
 use crate::knowledge::Knowledge;
+use crate::marks::mark_variables;
 use dcsp_list::Memory;
 use dcsp_problem::Problem;
 use std::alloc::Global;
@@ -56,11 +58,34 @@ fn first_linked(alloc: Global, problem: &Problem, me: u32) -> Result<Vec<bool>, 
     requires { me < length problem.now.domains }
     ensures { IfOk result (λ marks. marks.items ≡ map (shares (csp_of problem.now) me) (below me)) }
 {
-    let mut marks = Vec::with_capacity(alloc, me as usize).map_err(|_| Memory)?;
-    for other in 0..me {
-        add_mark(&mut marks, shares(problem, me, other))?;
-    }
+    let marks = named_by(alloc, problem, problem.owned(me), me)?;
     Ok(marks)
+}
+
+/// For each of so many variables whether one of the rules names it.
+fn named_by(
+    alloc: Global,
+    problem: &Problem,
+    rules: &[u32],
+    count: u32,
+) -> Result<Vec<bool>, Memory>
+    requires { All (λ r. r < length problem.now.rules) rules.now }
+    ensures size { IfOk result (λ marks. length marks.items ≡ count) }
+    ensures marks { IfOk result (λ marks. (k : ℕ) → k < count → marked marks.items k ≡ names_any problem.now k rules.now) }
+{
+    let mut marks = vec![in alloc; false; count as usize].map_err(|_| Memory)?;
+    mark_scopes(&mut marks, problem, rules);
+    Ok(marks)
+}
+
+/// Marks each variable that one of the rules names, and for which there is a place.
+fn mark_scopes(marks: &mut [bool], problem: &Problem, rules: &[u32])
+    requires { All (λ r. r < length problem.now.rules) rules.now }
+    ensures { (k : ℕ) → marked marks.new k ≡ (marked marks.old k || (nat_lt k (length marks.old) && names_any problem.now k rules.now)) }
+{
+    for rule in rules {
+        mark_variables(marks, problem.scope(*rule));
+    }
 }
 
 /// The lower agents that are told at first, rising.
@@ -70,46 +95,4 @@ fn first_tells(alloc: Global, problem: &Problem, me: u32) -> Result<Vec<u32>, Me
 {
     let lower = problem.lower_owners(me);
     Vec::from_slice(alloc, lower).map_err(|_| Memory)
-}
-
-/// Adds a mark at the end.
-fn add_mark(marks: &mut Vec<bool>, mark: bool) -> Result<(), Memory>
-    ensures { OnOk result (marks.new.items ≡ marks.old.items ++ mark ∷ []) }
-{
-    match marks.push(mark) {
-        Ok(()) => Ok(()),
-        Err(_) => Err(Memory),
-    }
-}
-
-/// Whether the variable owns a rule that names the other one.
-fn shares(problem: &Problem, owner: u32, other: u32) -> bool
-    requires { owner < length problem.now.domains }
-    ensures { result ≡ shares (csp_of problem.now) owner other }
-{
-    if other == owner {
-        return false;
-    }
-    is_named_by(problem, problem.owned(owner), other)
-}
-
-/// Whether one of the rules names the variable.
-fn is_named_by(problem: &Problem, rules: &[u32], var: u32) -> bool
-    requires { All (λ r. r < length problem.now.rules) rules.now }
-    ensures { result ≡ names_any problem.now var rules.now }
-{
-    for rule in rules {
-        if is_in_scope(problem, *rule, var) {
-            return true;
-        }
-    }
-    false
-}
-
-/// Whether the rule names the variable.
-fn is_in_scope(problem: &Problem, rule: u32, var: u32) -> bool
-    requires { rule < length problem.now.rules }
-    ensures { result ≡ is_among var (constraint_at problem.now rule).scope }
-{
-    problem.scope(rule).contains(&var)
 }

@@ -6,12 +6,11 @@ ghost use Rattle.abt_defs.specs.Agents.{values_in};
 ghost use Rattle.dcsp_problem.specs.Problems.{csp_of};
 ghost use Rattle.abt_view.specs.Views.{view_of};
 ghost use Rattle.abt_reason.specs.Causes.{value_at};
-ghost use Rattle.abt_store.specs.Stores.{is_against};
+ghost use Rattle.abt_store.specs.Stores.{IsOncePerValue};
 ghost use Rattle.abt_agent.specs.Bodies.{AreProper, IsInStep};
 ghost use Rattle.abt_agent.specs.Causes.{first_against, least_free, cause_for, causes_for, IsCause};
 
 use crate::knowledge::Knowledge;
-use abt_store::Recorded;
 use dcsp_defs::Reason;
 use dcsp_list::Memory;
 
@@ -35,7 +34,19 @@ impl<'p> Knowledge<'p> {
         match self.reasons.first(place) {
             None => None,
             Some(Reason::Rule(rule)) => Some(Cause::OwnedRule(rule)),
-            Some(Reason::Earlier(_)) => first_against(self.store.items(), self.value_at(place)),
+            Some(Reason::Earlier(_)) => self.against(self.value_at(place)),
+        }
+    }
+
+    /// The nogood that is kept against the value, if there is one.
+    fn against(&self, value: i64) -> Option<Cause>
+        ensures cause { result ≡ first_against value 0 self.now.store }
+        ensures once { IsOncePerValue self.now.store }
+    {
+        let _items = self.store.items();
+        match self.store.against(value) {
+            Some(place) => Some(Cause::KeptNogood(place)),
+            None => None,
         }
     }
 
@@ -83,28 +94,6 @@ impl<'p> Knowledge<'p> {
             add_cause(&mut all, self.cause_at(place))?;
         }
         Ok(all)
-    }
-}
-
-/// The first of the nogoods whose lowest pair has the value.
-fn first_against(kept: &[Recorded], value: i64) -> Option<Cause>
-    ensures { result ≡ first_against value 0 kept.now }
-{
-    for place in 0..kept.len() {
-        if is_against(&kept[place], value) {
-            return Some(Cause::KeptNogood(place));
-        }
-    }
-    None
-}
-
-/// Whether the item's lowest pair has the value.
-fn is_against(item: &Recorded, value: i64) -> bool
-    ensures { result ≡ is_against value item.now }
-{
-    match item.nogood.lowest() {
-        Some(lowest) => lowest.value == value,
-        None => false,
     }
 }
 

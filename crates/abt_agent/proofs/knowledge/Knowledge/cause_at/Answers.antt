@@ -1,4 +1,4 @@
-use Rattle.std.proofs.Common.{◌≡◌, ap, sym, ◌∙◌, Some, to_z, of_z, rules, w64, SFits}
+use Rattle.std.proofs.Common.{◌≡◌, ap, sym, ◌∙◌, Some, rules, w64, SFits}
 use Rattle.std.proofs.lemmas.Int.{to_z-of_z}
 use Rattle.dcsp_defs.specs.declared.Reason.TheVariants.{Rule, Earlier}
 use Rattle.dcsp_defs.specs.Csp.{domain}
@@ -53,8 +53,7 @@ returns-in-Some-Earlier c =
     let is : c.first.result ≡ Some (Earlier c.in-Some-Earlier.field-0-0) = cc (c.in-Some-Earlier.is, c.in-Some-Earlier.field-0-is) in
     let fits : SFits w64 c.value_at.result = search rules in
     let found_step = sym found ∙ is in
-    c.first_against.ensures
-    ∙ ap (first_against (to_z w64 (of_z w64 c.value_at.result)) 0) c.items.ensures.items
+    c.against.ensures.cause
     ∙ ap (λ w. first_against w 0 store) (to_z-of_z w64 c.value_at.result fits ∙ c.value_at.ensures)
-    ∙ against_is me v known 0 store (proper_own (csp_of p) me store c.requires.proper) (c.items.ensures.once v) (step_some p me known store v c.in-Some-Earlier.field-0-0 found_step)
+    ∙ against_is me v known 0 store (proper_own (csp_of p) me store c.requires.proper) (c.against.ensures.once v) (step_some p me known store v c.in-Some-Earlier.field-0-0 found_step)
     ∙ step_reason p me known store v c.in-Some-Earlier.field-0-0 found_step
