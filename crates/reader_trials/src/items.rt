@@ -2,7 +2,7 @@
 
 use fzn_item::{Item, ItemError, ItemList, Marked, items};
 use fzn_token::tokens;
-use std::alloc::Global;
+use std::alloc::{AllocError, Global};
 use std::process::Abort;
 use std::test::Fail;
 
@@ -33,6 +33,85 @@ fn mark(alloc: Global, text: &[u8]) -> &'static str {
     }
 }
 
+/// The short text has one item, and this is its debug text.
+fn expect_item(
+    rt: &impl Abort,
+    alloc: Global,
+    text: &[u8],
+    expected: &str,
+) -> Result<(), AllocError> {
+    let list = read(alloc, text).ok().expect(rt, "an item");
+    assert_eq!(rt; list.len(), 1);
+    for item in list.items() {
+        assert_eq!(rt; format!(in alloc; "{item:?}")?.as_str(), expected);
+    }
+    Ok(())
+}
+
+#[test]
+fn declarations_as_they_are_read(rt: HostRuntime) -> Result<(), AllocError> {
+    let alloc = rt.alloc();
+    expect_item(
+        &rt,
+        alloc,
+        b"set of int: s = {1,3};",
+        "Declare { at: 0, variable: false, index: None, base: Set, name_at: 12, name_to: 13, marked: Nothing, right: Some(One(Listed { at: 16, values: ItemList { items: [1, 3] } })) }",
+    )?;
+    expect_item(
+        &rt,
+        alloc,
+        b"float: f = 1.5;",
+        "Declare { at: 0, variable: false, index: None, base: Float, name_at: 7, name_to: 8, marked: Nothing, right: Some(One(Float { at: 11 })) }",
+    )?;
+    expect_item(
+        &rt,
+        alloc,
+        b"var -3..3: x;",
+        "Declare { at: 0, variable: true, index: None, base: Range { low: -3, high: 3 }, name_at: 11, name_to: 12, marked: Nothing, right: None }",
+    )?;
+    expect_item(
+        &rt,
+        alloc,
+        b"var {5,2}: y = x;",
+        "Declare { at: 0, variable: true, index: None, base: Listed(ItemList { items: [5, 2] }), name_at: 11, name_to: 12, marked: Nothing, right: Some(One(Name { at: 15, to: 16 })) }",
+    )?;
+    expect_item(
+        &rt,
+        alloc,
+        b"array [1..2] of var bool: a :: output_array([1..2]) = [b, true];",
+        "Declare { at: 0, variable: true, index: Some((1, 2)), base: Bool, name_at: 26, name_to: 27, marked: Ranges(ItemList { items: [(1, 2)] }), right: Some(List { at: 54, atoms: ItemList { items: [Name { at: 55, to: 56 }, Truth { at: 58, value: true }] } }) }",
+    )
+}
+
+#[test]
+fn other_items_as_they_are_read(rt: HostRuntime) -> Result<(), AllocError> {
+    let alloc = rt.alloc();
+    expect_item(
+        &rt,
+        alloc,
+        b"predicate p(var int: x, array [int] of bool: y);",
+        "Predicate { at: 0 }",
+    )?;
+    expect_item(
+        &rt,
+        alloc,
+        b"constraint int_eq(x, -4) :: domain(x, [1..2, {0.5, 1}], \"t\");",
+        "Constraint { at: 0, name_at: 11, name_to: 17, arguments: ItemList { items: [One(Name { at: 18, to: 19 }), One(Whole { at: 21, value: -4 })] } }",
+    )?;
+    expect_item(
+        &rt,
+        alloc,
+        b"constraint p(2..1);",
+        "Constraint { at: 0, name_at: 11, name_to: 12, arguments: ItemList { items: [One(Range { at: 13, low: 2, high: 1 })] } }",
+    )?;
+    expect_item(
+        &rt,
+        alloc,
+        b"solve :: int_search([x], input_order) minimize x;",
+        "Solve { at: 0, goal: Minimize { at: 38, what: One(Name { at: 47, to: 48 }) } }",
+    )
+}
+
 /// The text has so many items.
 fn expect_items(rt: &impl Abort, alloc: Global, text: &[u8], count: usize) {
     match read(alloc, text) {
@@ -48,39 +127,8 @@ fn texts_and_their_numbers_of_items(rt: HostRuntime) {
     expect_items(
         &rt,
         alloc,
-        b"predicate p(var int: x, array [int] of bool: y);",
-        1,
-    );
-    expect_items(
-        &rt,
-        alloc,
-        b"bool: b = true; set of int: s = {1,3}; float: f = 1.5;",
-        3,
-    );
-    expect_items(&rt, alloc, b"array [1..2] of int: a = [1,2];", 1);
-    expect_items(
-        &rt,
-        alloc,
         b"var -3..3: x; var {}: y = x; var set of 1..2: z; var 0.5..1.5: w;",
         4,
-    );
-    expect_items(
-        &rt,
-        alloc,
-        b"array [1..2] of var bool: a :: output_array([1..2]) = [b, c];",
-        1,
-    );
-    expect_items(
-        &rt,
-        alloc,
-        b"constraint int_eq(x, 3) :: domain(x, [1..2, {0.5, 1}], \"t\");",
-        1,
-    );
-    expect_items(
-        &rt,
-        alloc,
-        b"solve :: int_search([x], input_order) minimize x;",
-        1,
     );
     expect_items(&rt, alloc, b"constraint p(); solve satisfy;", 2);
 }
