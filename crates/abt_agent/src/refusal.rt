@@ -112,8 +112,8 @@ impl<'p> Knowledge<'p> {
                 self.told_if(marks[var as usize], var),
             )?;
         }
-        // The pairs rise, so want of memory is all that can refuse.
-        let nogood = Nogood::from_pairs(self.alloc, &pairs).map_err(|_| Memory)?;
+        // The pairs rise, so nothing refuses.
+        let nogood = Nogood::from_vec(pairs).map_err(|_| Memory)?;
         Ok(Basis { nogood, stamps })
     }
 
