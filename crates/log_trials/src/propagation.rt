@@ -1,6 +1,6 @@
 //! Trials of proofs of formulas, as texts.
 
-use rup_check::{Rup, check_rup, read_proof};
+use rup_check::{ClauseList, ProofError, Rup, check_rup, read_proof};
 use std::alloc::Global;
 use std::process::Abort;
 use std::test::Fail;
