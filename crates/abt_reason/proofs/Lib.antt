@@ -1,6 +1,7 @@
 pub mod AfterLaws
 pub mod CauseLaws
 pub mod ChangedLaws
+pub mod CountLaws
 pub mod Domains
 pub mod FirstLaws
 pub mod GridLaws
@@ -10,3 +11,4 @@ pub mod Loops
 pub mod NamedLaws
 pub mod RecheckLaws
 pub mod Standing
+pub mod MarkLaws

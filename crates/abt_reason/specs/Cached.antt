@@ -1,11 +1,13 @@
 -- What is kept for each value of an agent's domain, and what it stands for.
-use Rattle.std.specs.Prelude.{◌≡◌, ◌≢◌, ℕ, ◌<◌, ◌≤◌, Bool, List, [], ◌∷◌, ◌++◌, length, slice_index_or, Option, Some, None}
+use Rattle.std.specs.Prelude.{◌≡◌, ◌≢◌, ℕ, ◌<◌, Bool, true, List, [], ◌∷◌, ◌++◌, length, Option}
 use Rattle.dcsp_domain.specs.Sets.{IsRising}
 use Rattle.dcsp_defs.specs.Csp.{Known, domain}
 use Rattle.dcsp_problem.specs.Problems.{Contents, csp_of}
 use Rattle.dcsp_problem.specs.Index.{owned_rules}
 use Rattle.abt_store.specs.declared.Recorded.{Recorded}
-use Rattle.abt_reason.specs.Grids.{marks, IsGrid}
+use Rattle.dcsp_row.specs.declared.marks.Marks.{Marks}
+use Rattle.dcsp_row.specs.Marks.{is_row, FitsSize}
+use Rattle.abt_reason.specs.Grids.{marks, rows_of, AreSized, HaveRoom, IsGrid}
 use Rattle.abt_reason.specs.declared.named.Naming.{Naming}
 use Rattle.abt_reason.specs.Named.{ListsScopes, RisesByVariable}
 use Rattle.abt_reason.specs.Causes.{known_at, is_false}
@@ -63,17 +65,28 @@ pub record StoodWithoutLast (r : Cached) (known : Known) (items : List Recorded)
   pub stood : StandsFor r known items_before
   pub added : items ≡ items_before ++ last ∷ []
 
--- a row for each owned rule with its counts and firsts, the variables of their scopes in order, and room for a row
-pub record AreRuleLists (p : Contents) (agent : ℕ) (rows : List (List Bool)) (counts : List ℕ) (firsts : List (Option ℕ)) (namings : List Naming) (row : List Bool) : Type 0 where
+-- for each owned rule the marks of the values that it rules out, with counts and firsts; those of a rule that need not rule out one span are bits
+pub record AreRows (p : Contents) (agent : ℕ) (rows : List Marks) (counts : List ℕ) (firsts : List (Option ℕ)) : Type 0 where
   pub each_rule : length rows ≡ rules_of p agent
-  pub grid : IsGrid rows (size_of p agent) counts firsts
+  pub grid : IsGrid (rows_of (size_of p agent) rows) (size_of p agent) counts firsts
+  pub sized : AreSized (size_of p agent) rows
+  pub has_room : HaveRoom p agent (owned_rules p agent) rows
+
+-- the bits of one row
+abbrev pub IsRoom : ℕ → Marks → Type 0
+IsRoom values room = FitsSize values room × (is_row room ≡ true)
+
+-- the marks of each owned rule, the variables of their scopes in order, and room for the bits of a row
+pub record AreRuleLists (p : Contents) (agent : ℕ) (rows : List Marks) (counts : List ℕ) (firsts : List (Option ℕ)) (namings : List Naming) (room : Marks) : Type 0 where
+  pub are_rows : AreRows p agent rows counts firsts
   pub listed : ListsScopes p (owned_rules p agent) namings (rules_of p agent)
   pub rising : RisesByVariable namings
-  pub room : length row ≡ size_of p agent
+  pub has_room : IsRoom (size_of p agent) room
 
 -- what every cache is
-pub record IsCache (r : Cached) (counts : List ℕ) (firsts : List (Option ℕ)) (namings : List Naming) (row : List Bool) : Type 0 where
+pub record IsCache (r : Cached) (rows : List Marks) (counts : List ℕ) (firsts : List (Option ℕ)) (namings : List Naming) (room : Marks) : Type 0 where
   pub agent_exists : r.agent < length r.problem.domains
   pub rising : IsRising (domain (csp_of r.problem) r.agent)
-  pub for_rules : AreRuleLists r.problem r.agent r.rows counts firsts namings row
+  pub rows_are : r.rows ≡ rows_of (size_of r.problem r.agent) rows
+  pub for_rules : AreRuleLists r.problem r.agent rows counts firsts namings room
   pub kept : length r.steps ≡ size_of r.problem r.agent

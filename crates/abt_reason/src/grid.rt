@@ -1,31 +1,45 @@
-//! For each rule a row that tells which values it rules out; for each value how many rules do, and the first of them.
+//! For each rule the values that it rules out; for each value how many rules do, and the first of them.
 
-ghost use Rattle.std.specs.Prelude.{◌≡◌, ◌≢◌, ◌<◌, ◌≤◌, ◌^◌, ℕ, Bool, IfOk, length, true, false, slice_index_or};
+ghost use Rattle.std.specs.Prelude.{◌≡◌, ◌≢◌, ◌<◌, ◌≤◌, ◌+◌, ◌^◌, ℕ, Bool, All, IfOk, IsTrue, None, length, true, false, slice_index_or, ◌||◌};
+ghost use Rattle.dcsp_problem.specs.Problems.{rule_at};
+ghost use Rattle.dcsp_row.specs.Easy.{has_span};
+ghost use Rattle.dcsp_row.specs.Marks.{has_room_for, is_marked, is_row, FitsSize};
 ghost use Rattle.abt_reason.specs.Firsts.{IsFirst};
-ghost use Rattle.abt_reason.specs.Grids.{row_at, marks, count_of, IsGrid};
+ghost use Rattle.abt_reason.specs.Grids.{is_marked_at, marks_at, mixed_rows, rows_of, AreSized, HaveRoom, IsGrid};
 
 use dcsp_list::Memory;
-use dcsp_row::Row;
+use dcsp_problem::Problem;
+use dcsp_row::{Marks, Row, Span, has_span};
 use std::alloc::Global;
 
 /// For each rule the values that it rules out.
 #[derive(Drop)]
 pub struct RuledOut {
-    pub rows: Vec<Row>,
-    /// For each value how many rows mark it.
+    /// A rule whose values always stand in one span of the domain has no bits.
+    pub rows: Vec<Marks>,
+    /// For each value how many rules rule it out.
     pub counts: Vec<u32>,
-    /// For each value the first row that marks it.
+    /// For each value the first rule that rules it out.
     pub firsts: Vec<Option<u32>>,
 }
 
 impl RuledOut {
-    /// So many rules that rule nothing out.
-    pub fn new(alloc: Global, rules: usize, values: usize) -> Result<RuledOut, Memory>
-        requires { rules < 2 ^ 32 }
-        ensures rules { IfOk result (λ grid. length grid.rows.items ≡ rules) }
-        ensures grid { IfOk result (λ grid. IsGrid grid.rows.items values grid.counts.items grid.firsts.items) }
+    /// These rules of an agent with so many values, as if they ruled nothing out.
+    pub fn new(
+        alloc: Global,
+        problem: &Problem,
+        rules: &[u32],
+        agent: u32,
+        values: usize,
+    ) -> Result<RuledOut, Memory>
+        requires few { length rules.now < 2 ^ 32 }
+        requires rules { All (λ rule. rule < length problem.now.rules) rules.now }
+        ensures rules { IfOk result (λ grid. length grid.rows.items ≡ length rules.now) }
+        ensures grid { IfOk result (λ grid. IsGrid (rows_of values grid.rows.items) values grid.counts.items grid.firsts.items) }
+        ensures sized { IfOk result (λ grid. AreSized values grid.rows.items) }
+        ensures room { IfOk result (λ grid. HaveRoom problem.now agent rules.now grid.rows.items) }
     {
-        let rows = empty_rows(alloc, rules, values)?;
+        let rows = empty_rows(alloc, problem, rules, agent, values)?;
         let counts = no_counts(alloc, values)?;
         let firsts = no_firsts(alloc, values)?;
         Ok(RuledOut {
@@ -37,37 +51,42 @@ impl RuledOut {
 
     /// Puts what the rule rules out in place of what it ruled out. Only values for which that changes
     /// are touched.
-    pub fn replace(&mut self, place: usize, row: &Row)
+    pub fn replace(&mut self, place: usize, values: usize, new: &Marks)
         requires place { place < length self.old.rows.items }
-        requires grid { IsGrid self.old.rows.items (length row.now) self.old.counts.items self.old.firsts.items }
-        ensures grid { IsGrid self.new.rows.items (length row.now) self.new.counts.items self.new.firsts.items }
+        requires grid { IsGrid (rows_of values self.old.rows.items) values self.old.counts.items self.old.firsts.items }
+        requires sized { AreSized values self.old.rows.items }
+        requires size { FitsSize values new.now }
+        requires room { IsTrue (has_room_for (marks_at self.old.rows.items place) new.now) }
+        ensures grid { IsGrid (rows_of values self.new.rows.items) values self.new.counts.items self.new.firsts.items }
+        ensures sized { AreSized values self.new.rows.items }
         ensures rules { length self.new.rows.items ≡ length self.old.rows.items }
-        ensures replaced { (value : ℕ) → value < length row.now → marks self.new.rows.items value place ≡ slice_index_or row.now value false }
-        ensures others { (other value : ℕ) → other ≢ place → marks self.new.rows.items value other ≡ marks self.old.rows.items value other }
+        ensures replaced { (value : ℕ) → value < values → is_marked_at self.new.rows.items place value ≡ is_marked new.now value }
+        ensures row { is_row (marks_at self.new.rows.items place) ≡ is_row (marks_at self.old.rows.items place) }
+        ensures others { (other : ℕ) → other ≢ place → marks_at self.new.rows.items other ≡ marks_at self.old.rows.items other }
     {
         let mut from = 0;
-        while let Some(value) = row.next_change(&self.rows[place], from) {
-            self.set(place, value, row);
+        while let Some(value) = new.next_change(&self.rows[place], values, from) {
+            self.count(place, values, value, new);
             from = value + 1;
         }
+        self.rows[place].copy_from(values, new);
     }
 
-    /// Marks the value for the rule, or takes its mark off, as this row says.
-    fn set(&mut self, place: usize, value: usize, row: &Row)
+    /// Takes a value's new mark for a rule into the counts and firsts, where those of the values before
+    /// are taken in.
+    fn count(&mut self, place: usize, values: usize, value: usize, new: &Marks)
         requires place { place < length self.old.rows.items }
-        requires value { value < length row.now }
-        requires grid { IsGrid self.old.rows.items (length row.now) self.old.counts.items self.old.firsts.items }
-        ensures grid { IsGrid self.new.rows.items (length row.now) self.new.counts.items self.new.firsts.items }
-        ensures rules { length self.new.rows.items ≡ length self.old.rows.items }
-        ensures marked { marks self.new.rows.items value place ≡ slice_index_or row.now value false }
-        ensures beside { (other : ℕ) → other ≢ value → marks self.new.rows.items other place ≡ marks self.old.rows.items other place }
-        ensures others { (other k : ℕ) → other ≢ place → marks self.new.rows.items k other ≡ marks self.old.rows.items k other }
+        requires value { value < values }
+        requires grid { IsGrid (mixed_rows values self.old.rows.items place new.now value) values self.old.counts.items self.old.firsts.items }
+        requires sized { AreSized values self.old.rows.items }
+        requires size { FitsSize values new.now }
+        ensures grid { IsGrid (mixed_rows values self.new.rows.items place new.now (value + 1)) values self.new.counts.items self.new.firsts.items }
+        ensures rows { self.new.rows.items ≡ self.old.rows.items }
     {
-        let mark = row.has(value);
-        if mark == self.rows[place].has(value) {
+        let mark = new.has(values, value);
+        if mark == self.rows[place].has(values, value) {
             return;
         }
-        self.rows[place].put(value, mark);
         if mark {
             self.counts[value] += 1;
             self.firsts[value] = with_place(self.firsts[value], place as u32);
@@ -75,7 +94,7 @@ impl RuledOut {
             self.counts[value] -= 1;
             let count = self.counts[value];
             let first = self.firsts[value];
-            self.firsts[value] = first_without(&self.rows, value, place, count, first);
+            self.firsts[value] = first_without(&self.rows, values, value, place, count, first);
         }
     }
 }
@@ -90,9 +109,10 @@ fn with_place(first: Option<u32>, place: u32) -> Option<u32>
     }
 }
 
-/// The first row that marks the value, where the one at a place no longer does, and so many do.
+/// The first rule that rules the value out, where the one at a place no longer does, and so many do.
 fn first_without(
-    rows: &[Row],
+    rows: &[Marks],
+    values: usize,
     value: usize,
     place: usize,
     count: u32,
@@ -100,47 +120,81 @@ fn first_without(
 ) -> Option<u32>
     requires few { length rows.now < 2 ^ 32 }
     requires place { place < length rows.now }
-    requires value { (k : ℕ) → k < length rows.now → value < length (row_at rows.now k) }
-    requires count { count ≡ count_of rows.now value }
-    ensures { (p : ℕ → Bool) → IsFirst p (length rows.now) first → marks rows.now value place ≡ false → ((j : ℕ) → j ≢ place → p j ≡ marks rows.now value j) → IsFirst (marks rows.now value) (length rows.now) result }
+    requires value { value < values }
+    requires sized { AreSized values rows.now }
+    ensures { (p q : ℕ → Bool) → IsFirst p (length rows.now) first → q place ≡ false → ((j : ℕ) → j ≢ place → p j ≡ q j) → ((j : ℕ) → place < j → j < length rows.now → q j ≡ is_marked_at rows.now j value) → (count ≡ 0 → (j : ℕ) → j < length rows.now → q j ≡ false) → IsFirst q (length rows.now) result }
 {
     if first == Some(place as u32) {
-        next_marking(rows, value, place, count)
+        next_marking(rows, values, value, place, count)
     } else {
         first
     }
 }
 
-/// The first row after a place that marks the value, where so many rows do.
-fn next_marking(rows: &[Row], value: usize, place: usize, count: u32) -> Option<u32>
+/// The first rule after a place that rules the value out, where so many rules do.
+fn next_marking(
+    rows: &[Marks],
+    values: usize,
+    value: usize,
+    place: usize,
+    count: u32,
+) -> Option<u32>
     requires few { length rows.now < 2 ^ 32 }
     requires place { place < length rows.now }
-    requires value { (k : ℕ) → k < length rows.now → value < length (row_at rows.now k) }
-    requires count { count ≡ count_of rows.now value }
-    ensures { ((j : ℕ) → j ≤ place → marks rows.now value j ≡ false) → IsFirst (marks rows.now value) (length rows.now) result }
+    requires value { value < values }
+    requires sized { AreSized values rows.now }
+    ensures { (q : ℕ → Bool) → ((j : ℕ) → j ≤ place → q j ≡ false) → ((j : ℕ) → place < j → j < length rows.now → q j ≡ is_marked_at rows.now j value) → (count ≡ 0 → (j : ℕ) → j < length rows.now → q j ≡ false) → IsFirst q (length rows.now) result }
 {
     if count == 0 {
         return None;
     }
     for next in place + 1..rows.len() {
-        if rows[next].has(value) {
+        if rows[next].has(values, value) {
             return Some(next as u32);
         }
     }
     None
 }
 
-/// So many rows that mark nothing.
-fn empty_rows(alloc: Global, rules: usize, values: usize) -> Result<Vec<Row>, Memory>
-    ensures rules { IfOk result (λ rows. length rows.items ≡ rules) }
-    ensures size { IfOk result (λ rows. (place : ℕ) → place < rules → length (row_at rows.items place) ≡ values) }
-    ensures none { IfOk result (λ rows. (place value : ℕ) → marks rows.items value place ≡ false) }
+/// For each of these rules marks of no value, as bits only where its values need not stand in one span.
+fn empty_rows(
+    alloc: Global,
+    problem: &Problem,
+    rules: &[u32],
+    agent: u32,
+    values: usize,
+) -> Result<Vec<Marks>, Memory>
+    requires { All (λ rule. rule < length problem.now.rules) rules.now }
+    ensures rules { IfOk result (λ rows. length rows.items ≡ length rules.now) }
+    ensures sized { IfOk result (λ rows. AreSized values rows.items) }
+    ensures none { IfOk result (λ rows. (place value : ℕ) → place < length rows.items → is_marked_at rows.items place value ≡ false) }
+    ensures room { IfOk result (λ rows. HaveRoom problem.now agent rules.now rows.items) }
 {
-    let mut rows = Vec::with_capacity(alloc, rules).map_err(|_| Memory)?;
-    for _rule in 0..rules {
-        rows.push(Row::new(alloc, values)?).map_err(|_| Memory)?;
+    let mut rows = Vec::with_capacity(alloc, rules.len()).map_err(|_| Memory)?;
+    for rule in rules {
+        rows.push(empty_row(alloc, problem, *rule, agent, values)?)
+            .map_err(|_| Memory)?;
     }
     Ok(rows)
+}
+
+/// Marks of no value, as bits only where the rule's values need not stand in one span.
+fn empty_row(
+    alloc: Global,
+    problem: &Problem,
+    rule: u32,
+    agent: u32,
+    values: usize,
+) -> Result<Marks, Memory>
+    requires { rule < length problem.now.rules }
+    ensures sized { IfOk result (FitsSize values) }
+    ensures none { IfOk result (λ marks. (value : ℕ) → is_marked marks value ≡ false) }
+    ensures room { IfOk result (λ marks. IsTrue (has_span agent (rule_at problem.now rule) || is_row marks)) }
+{
+    if has_span(problem, rule, agent) {
+        return Ok(Marks::Span(Span::whole(false)));
+    }
+    Ok(Marks::Row(Row::new(alloc, values)?))
 }
 
 /// No row, for each of so many values.

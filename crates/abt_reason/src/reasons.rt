@@ -30,13 +30,14 @@ pub struct Reasons<'p> {
 }
 
 impl<'p> Model for Reasons<'p> {
-    ghost use Rattle.abt_reason.specs.Cached.{Cached, IsCache};
+    ghost use Rattle.abt_reason.specs.Cached.{size_of, Cached, IsCache};
+    ghost use Rattle.abt_reason.specs.Grids.{rows_of};
 
     ghost Value = { Cached };
 
-    ghost view = { λ r. record { problem = r.problem.now; agent = r.agent; rows = r.rules.ruled_out.rows.items; steps = r.kept.steps.items; count = r.kept.count; own = r.kept.own } };
+    ghost view = { λ r. record { problem = r.problem.now; agent = r.agent; rows = rows_of (size_of r.problem.now r.agent) r.rules.ruled_out.rows.items; steps = r.kept.steps.items; count = r.kept.count; own = r.kept.own } };
 
-    ghost invariant = { λ r. IsCache (record { problem = r.problem.now; agent = r.agent; rows = r.rules.ruled_out.rows.items; steps = r.kept.steps.items; count = r.kept.count; own = r.kept.own }) r.rules.ruled_out.counts.items r.rules.ruled_out.firsts.items r.rules.named.namings.items r.rules.row };
+    ghost invariant = { λ r. IsCache (record { problem = r.problem.now; agent = r.agent; rows = rows_of (size_of r.problem.now r.agent) r.rules.ruled_out.rows.items; steps = r.kept.steps.items; count = r.kept.count; own = r.kept.own }) r.rules.ruled_out.rows.items r.rules.ruled_out.counts.items r.rules.ruled_out.firsts.items r.rules.named.namings.items r.rules.room };
 }
 
 impl<'p> Reasons<'p> {

@@ -1,6 +1,6 @@
 -- Values of domains, and marks for them.
-use Rattle.std.proofs.Common.{◌≡◌, ◌≢◌, ℕ, ◌+◌, ◌<◌, arith, set, ◌==◌, cond, Bool, false, List, length, get_or, Option, Some, ℤ, sym, ap, subst, ◌∙◌, inl, inr}
-use Rattle.std.specs.Prelude.{pos, slice_get, unwrap_or}
+use Rattle.std.proofs.Common.{◌≡◌, ℕ, ◌+◌, ◌<◌, arith, set, cond, Bool, false, List, length, get_or, Some, ℤ, sym, ap, subst, ◌∙◌, inl, inr}
+use Rattle.std.specs.Prelude.{slice_get, unwrap_or}
 use Rattle.std.proofs.lemmas.Bool.{cases_eq}
 use Rattle.std.proofs.lemmas.List.{length-set, get_or-set_same, get_or-set_other}
 use Rattle.std.proofs.lemmas.Bool.Decides.{eqb_tells}

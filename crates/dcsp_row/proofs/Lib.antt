@@ -4,3 +4,4 @@ pub mod RowLaws
 pub mod LineLaws
 pub mod WordLaws
 pub mod CutLaws
+mod EasyLaws

@@ -1,14 +1,14 @@
 -- Bits at which two words differ, and words with the lowest bits set.
-use Rattle.std.proofs.Common.{◌≡◌, ◌≢◌, ℕ, ◌+◌, ◌-◌, ◌*◌, ◌/◌, ◌%◌, ◌^◌, ◌<◌, ◌≤◌, ◌==◌, ◌⊎◌, Bool, true, false, not, List, length, get_or, set, nat_lt, refl, sym, ap, ◌∙◌, arith, rules, inl, inr, w64, Option, Some, None, IfSome}
+use Rattle.std.proofs.Common.{◌≡◌, ◌&&◌, ℕ, min, ◌+◌, ◌-◌, ◌*◌, ◌/◌, ◌%◌, ◌^◌, ◌<◌, ◌≤◌, ◌==◌, Bool, not, List, length, get_or, set, nat_lt, sym, ap, ◌∙◌, arith, rules, inl, inr, w64, Option, Some, None, IfSome}
 use Rattle.std.specs.Int.{bit_at, bit_not, trailing_zeros}
-use Rattle.std.specs.Int.RustNames.{bit_xor}
+use Rattle.std.specs.Int.RustNames.{bit_and, bit_xor}
 use Rattle.std.proofs.lemmas.Bool.{cases_eq, cases_lt}
 use Rattle.std.proofs.lemmas.Bool.Decides.{nat_tests}
 use Rattle.std.proofs.lemmas.List.{get_or-set_same, get_or-set_other}
 use Rattle.std.proofs.lemmas.Nat.{shr_split, mod_below, xor_lt}
 use Rattle.std.proofs.Math.Nat.{div-le_self}
-use Rattle.std.proofs.lemmas.Nat.Bits.{bit_at_xor, bit_at-lt, bit_at-zero, bit_at-trailing_zeros, bit_at_cat_high, bit_at_above, bit_at_ones, bit_at_ones_above, bit_at_not}
-use Rattle.dcsp_row.specs.Bits.{has_bit, is_on_side}
+use Rattle.std.proofs.lemmas.Nat.Bits.{bit_at_and, bit_at_xor, bit_at-lt, bit_at-zero, bit_at-trailing_zeros, bit_at_cat_high, bit_at_above, bit_at_ones, bit_at_ones_above, bit_at_not}
+use Rattle.dcsp_row.specs.Bits.{has_bit}
 
 some_power : (k : ℕ) → 0 < 2 ^ k
 some_power k = search rules
@@ -71,14 +71,26 @@ other_bit n bit fits l = ap (λ b. b == 1) (bit_at_not w64 n bit fits l) ∙ by_
     | inr ne ↦ let one : b ≡ 1 = omega (arith, m, ne) in ap (λ x. (1 - x) == 1) one ∙ sym (ap (λ x. not (x == 1)) one)
   ]
 
+-- the bits that two words share
+pub shared_bit : (a b bit : ℕ) → (bit_at (bit_and a b) bit == 1) ≡ ((bit_at a bit == 1) && (bit_at b bit == 1))
+shared_bit a b bit = ap (λ n. n == 1) (bit_at_and a b bit) ∙ by_bits (bit_at a bit) (bit_at b bit) (bit_at-lt a bit) (bit_at-lt b bit) where
+  by_bits : (x y : ℕ) → x < 2 → y < 2 → (min x y == 1) ≡ ((x == 1) && (y == 1))
+  by_bits x y l m = elim (cases_eq x 0) [
+    | inl zero ↦ let least : min x y ≡ 0 = omega (arith, zero) in ap (λ n. n == 1) least ∙ sym (ap (λ n. (n == 1) && (y == 1)) zero)
+    | inr some ↦
+        let one : x ≡ 1 = omega (arith, l, some) in
+        let least : min x y ≡ y = omega (arith, one, m) in
+        ap (λ n. n == 1) least ∙ sym (ap (λ n. (n == 1) && (y == 1)) one)
+  ]
+
 -- one block more has its bits
-pub block_more : (words : List ℕ) (block place word : ℕ) (below : Bool) → block < length words → ((bit : ℕ) → bit < 64 → (bit_at word bit == 1) ≡ is_on_side place below (block * 64 + bit))
-    → ((j : ℕ) → j / 64 < block → has_bit words j ≡ is_on_side place below j) → (k : ℕ) → k / 64 < block + 1 → has_bit (set words block word) k ≡ is_on_side place below k
-block_more words block place word below inside bits before k l = elim (cases_eq (k / 64) block) [
+pub block_more : (words : List ℕ) (block word : ℕ) (test : ℕ → Bool) → block < length words → ((bit : ℕ) → bit < 64 → (bit_at word bit == 1) ≡ test (block * 64 + bit))
+    → ((j : ℕ) → j / 64 < block → has_bit words j ≡ test j) → (k : ℕ) → k / 64 < block + 1 → has_bit (set words block word) k ≡ test k
+block_more words block word test inside bits before k l = elim (cases_eq (k / 64) block) [
   | inl at ↦
       let all : block * 64 + k % 64 ≡ k = omega (arith, at) in
       ap (λ n. bit_at (get_or (set words block word) n 0) (k % 64) == 1) at ∙ ap (λ w. bit_at w (k % 64) == 1) (get_or-set_same words block word 0 inside)
-      ∙ bits (k % 64) (omega arith) ∙ ap (is_on_side place below) all
+      ∙ bits (k % 64) (omega arith) ∙ ap test all
   | inr other ↦ ap (λ w. bit_at w (k % 64) == 1) (get_or-set_other words block (k / 64) word 0 other) ∙ before k (omega (arith, l, other))
 ]
 
@@ -86,13 +98,16 @@ block_more words block place word below inside bits before k l = elim (cases_eq 
 pub rest_fits : (a b k : ℕ) → a < 2 ^ 64 → b < 2 ^ 64 → bit_xor a b / 2 ^ k < 2 ^ 64
 rest_fits a b k l m = let all = xor_lt 64 a b l m in let less = div-le_self (bit_xor a b) (2 ^ k) in omega (arith, all, less)
 
--- the marks of a block up to a bit are the same where the bits are
-pub same_in_block : (words others : List ℕ) (block mine theirs first stop from : ℕ) → mine ≡ get_or words block 0 → theirs ≡ get_or others block 0 → ((bit : ℕ) → first ≤ bit → bit < stop → bit_at mine bit ≡ bit_at theirs bit)
-    → ((bit : ℕ) → from ≤ block * 64 + bit → first ≤ bit) → (k : ℕ) → from ≤ k → k / 64 ≡ block → k % 64 < stop → has_bit words k ≡ has_bit others k
-same_in_block words others block mine theirs first stop from e f same skipped k l at below =
-    let all : from ≤ block * 64 + k % 64 = omega (arith, l, at) in
-    ap (λ n. bit_at (get_or words n 0) (k % 64) == 1) at ∙ ap (λ w. bit_at w (k % 64) == 1) (sym e) ∙ ap (λ b. b == 1) (same (k % 64) (skipped (k % 64) all) below)
-    ∙ ap (λ w. bit_at w (k % 64) == 1) f ∙ sym (ap (λ n. bit_at (get_or others n 0) (k % 64) == 1) at)
+-- two tests agree in a block up to a bit where the bits of its words do
+pub same_in_block : (test other : ℕ → Bool) (size block mine theirs first stop from : ℕ) → ((bit : ℕ) → bit < 64 → block * 64 + bit < size → (bit_at mine bit == 1) ≡ test (block * 64 + bit))
+    → ((bit : ℕ) → bit < 64 → block * 64 + bit < size → (bit_at theirs bit == 1) ≡ other (block * 64 + bit)) → ((bit : ℕ) → first ≤ bit → bit < stop → bit_at mine bit ≡ bit_at theirs bit)
+    → ((bit : ℕ) → from ≤ block * 64 + bit → first ≤ bit) → (k : ℕ) → from ≤ k → k < size → k / 64 ≡ block → k % 64 < stop → test k ≡ other k
+same_in_block test other size block mine theirs first stop from e f same skipped k l within at below =
+    let all : block * 64 + k % 64 ≡ k = omega (arith, at) in
+    let after : from ≤ block * 64 + k % 64 = omega (arith, l, all) in
+    let inside : block * 64 + k % 64 < size = omega (arith, within, all) in
+    let low : k % 64 < 64 = omega arith in
+    sym (ap test all) ∙ sym (e (k % 64) low inside) ∙ ap (λ b. b == 1) (same (k % 64) (skipped (k % 64) after) below) ∙ f (k % 64) low inside ∙ ap other all
 
 -- the place that was found is not before the one from which it was looked for
 pub found_after : (result : Option ℕ) (at size from all : ℕ) → from ≤ at → size ≡ all → IfSome result (λ place. (place ≡ at) × (place < size)) → IfSome result (λ place. (from ≤ place) × (place < all))

@@ -1,5 +1,5 @@
 -- Marks as bits.
-use Rattle.std.specs.Prelude.{ℕ, ◌/◌, ◌%◌, ◌==◌, Bool, not, List, map, nat_lt, slice_index_or, if◌then◌else◌}
+use Rattle.std.specs.Prelude.{ℕ, ◌/◌, ◌%◌, ◌==◌, Bool, List, map, slice_index_or}
 use Rattle.std.specs.Int.{bit_at}
 use Rattle.std.specs.List.{range_with_len}
 
@@ -10,7 +10,3 @@ has_bit words place = bit_at (slice_index_or words (place / 64) 0) (place % 64) 
 -- the marks of so many places
 abbrev pub marks_of : ℕ → List ℕ → List Bool
 marks_of size words = map (has_bit words) (range_with_len 0 size)
-
--- whether a number is below this one, or is not
-abbrev pub is_on_side : ℕ → Bool → ℕ → Bool
-is_on_side place below k = if below then nat_lt k place else not (nat_lt k place)

@@ -1,6 +1,7 @@
 -- Sets of numbers that are one number, or all below one, or all others than these.
-use Rattle.std.specs.Prelude.{ℕ, ℤ, Bool, false, not, ◌==◌, Option, Some, None, int_lt, if◌then◌else◌}
+use Rattle.std.specs.Prelude.{ℕ, ◌+◌, ◌^◌, ℤ, Bool, not, int_lt, if◌then◌else◌}
 use Rattle.std.specs.Ordering.{int_eq}
+use Rattle.dcsp_linear.specs.Sums.{widest}
 use Rattle.dcsp_row.specs.declared.cut.Part.{Part}
 use Rattle.dcsp_row.specs.declared.cut.Part.TheVariants.{Only, Below}
 use Rattle.dcsp_row.specs.declared.cut.Cut.{Cut}
@@ -14,7 +15,11 @@ is_of (Below bound) x = int_lt x bound
 abbrev pub is_in : Cut → ℤ → Bool
 is_in cut x = if cut.outside then not (is_of cut.part x) else is_of cut.part x
 
--- whether a number is the place, if there is one
-abbrev pub is_place : Option ℕ → ℕ → Bool
-is_place None k = false
-is_place (Some place) k = k == place
+-- the number at which a part ends
+abbrev pub number_of : Part → ℤ
+number_of (Only value) = value
+number_of (Below bound) = bound
+
+-- the greatest absolute value of such a number
+abbrev pub farthest : ℕ
+farthest = widest + 2 ^ 64

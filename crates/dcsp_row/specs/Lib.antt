@@ -2,3 +2,6 @@ pub mod Rows
 pub mod Bits
 pub mod Lines
 pub mod Cuts
+pub mod Spans
+pub mod Easy
+pub mod Marks

@@ -1,5 +1,5 @@
 -- Sums in which one variable is left open.
-use Rattle.std.specs.Prelude.{◌≡◌, ℕ, ◌+◌, ◌*◌, ◌≤◌, ℤ, pos, ◌+ℤ◌, ◌*ℤ◌, Bool, not, Option, Some, None, unsigned_abs, unwrap_or}
+use Rattle.std.specs.Prelude.{◌≡◌, ℕ, ◌+◌, ◌*◌, ◌≤◌, ℤ, pos, ◌+ℤ◌, ◌*ℤ◌, Bool, true, false, not, List, [], ◌∷◌, Option, Some, None, unsigned_abs, unwrap_or}
 use Rattle.dcsp_linear.specs.declared.Rel.{Rel}
 use Rattle.dcsp_linear.specs.Sums.{stands}
 use Rattle.dcsp_problem.specs.Rules.{is_told}
@@ -34,6 +34,17 @@ abbrev pub told_at : Told → ℤ → Option ℤ
 told_at Untold x = None
 told_at (By value) x = Some value
 told_at ByOwn x = Some x
+
+-- whether it is told by something else than the open variable, or by nothing
+abbrev pub is_known : Told → Bool
+is_known Untold = true
+is_known (By value) = true
+is_known ByOwn = false
+
+-- the coefficient of a term that is the open variable, which has no value
+abbrev pub open_coef : ℤ → Option ℤ → List ℤ
+open_coef coef None = coef ∷ []
+open_coef coef (Some value) = []
 
 -- whether a sum with an open variable is false where that has this value: it stands so to the total, or is told not to
 abbrev pub is_off : Rel → Line → Option ℤ → Told → ℤ → Bool

@@ -1,5 +1,5 @@
 -- Which values of a variable a rule rules out.
-use Rattle.std.specs.Prelude.{◌≡◌, ℕ, ◌<◌, ℤ, pos, Bool, true, false, not, List, length, slice_index_or, int_le, int_lt, unwrap_or, Option, ◌≤◌}
+use Rattle.std.specs.Prelude.{◌≡◌, ℕ, ◌<◌, ℤ, pos, Bool, false, not, List, length, slice_index_or, int_le, int_lt, unwrap_or, Option, ◌≤◌}
 use Rattle.std.specs.Ordering.{int_eq}
 use Rattle.dcsp_defs.specs.Csp.{Known, domain, filled, is_violated, with_value}
 use Rattle.dcsp_problem.specs.declared.rule.Rule.{Rule}
@@ -28,9 +28,13 @@ is_ruled_out p rule var known value = is_violated (with_value var value known) (
 abbrev pub IsRow : Contents → ℕ → ℕ → Known → List Bool → Type 0
 IsRow p rule var known row = MarksWhere (is_ruled_out p rule var known) (domain (csp_of p) var) row
 
--- the row marks those of these values of the variable at which the rule is false, where what is unknown counts as 0
+-- whether a rule is false at this value of the variable, where what is unknown counts as 0
+abbrev pub is_false : Rule → ℕ → Known → ℤ → Bool
+is_false rule var known value = not (rule_truth rule (filled (with_value var value known)))
+
+-- the row marks those of these values of the variable at which the rule is false
 abbrev pub TellsFalse : Rule → ℕ → List ℤ → Known → List Bool → Type 0
-TellsFalse rule var values known row = MarksWhere (λ value. not (rule_truth rule (filled (with_value var value known)))) values row
+TellsFalse rule var values known row = MarksWhere (is_false rule var known) values row
 
 -- each of these values of the variable lets the sums that a rule makes fit
 abbrev pub FitAtEach : (ℤ → ℕ) → ℕ → List ℤ → Type 0

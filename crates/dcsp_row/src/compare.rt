@@ -1,13 +1,15 @@
 //! Comparisons of two numbers.
 
-ghost use Rattle.std.specs.Prelude.{◌≡◌, ℤ, Bool, List, IfSome, length, not};
+ghost use Rattle.std.specs.Prelude.{◌≡◌, ◌<◌, ◌≤◌, ℤ, Bool, List, IfSome, is_some, not, unsigned_abs};
 ghost use Rattle.dcsp_meaning.specs.Table.{truth};
 ghost use Rattle.dcsp_meaning.specs.Words.{argument};
-ghost use Rattle.dcsp_row.specs.Rows.{compares, is_missed, MarksWhere};
-ghost use Rattle.dcsp_row.specs.Cuts.{is_in};
+ghost use Rattle.dcsp_row.specs.Rows.{compares, is_missed};
+ghost use Rattle.dcsp_row.specs.Cuts.{is_in, number_of, farthest};
+ghost use Rattle.dcsp_row.specs.Easy.{is_comparison};
+ghost use Rattle.dcsp_row.specs.Spans.{SpansWhere};
 
-use crate::cut::{Cut, Part, fill_cut};
-use crate::row::Row;
+use crate::cut::{Cut, Part, span_in};
+use crate::span::Span;
 use dcsp_domain::Domain;
 use dcsp_meaning::Kind;
 
@@ -22,7 +24,8 @@ pub enum Comparison {
 
 /// The comparison that a constraint of this kind makes, if it makes one.
 pub fn comparison_of(kind: Kind) -> Option<Comparison>
-    ensures { IfSome result (λ comparison. (scalars first second : List ℤ) → (member : ℤ → Bool) → truth kind scalars first second member ≡ compares comparison (argument scalars 0) (argument scalars 1)) }
+    ensures some { is_some result ≡ is_comparison kind }
+    ensures compares { IfSome result (λ comparison. (scalars first second : List ℤ) → (member : ℤ → Bool) → truth kind scalars first second member ≡ compares comparison (argument scalars 0) (argument scalars 1)) }
 {
     match kind {
         Kind::IntEq => Some(Comparison::Equal),
@@ -45,76 +48,53 @@ fn compares(comparison: Comparison, first: i64, second: i64) -> bool
     }
 }
 
-/// The values for a missing number at which two numbers do not compare so, where exactly one is missing.
-pub fn missed_where(comparison: Comparison, first: Option<i64>, second: Option<i64>) -> Option<Cut>
-    ensures { IfSome result (λ cut. (x : ℤ) → is_in cut x ≡ is_missed comparison first second x) }
-{
-    match first {
-        None => missed_before(comparison, second?),
-        Some(first) => match second {
-            None => missed_after(comparison, first),
-            Some(_) => None,
-        },
-    }
-}
-
 /// The numbers that do not compare so to this one.
-pub fn missed_before(comparison: Comparison, second: i64) -> Option<Cut>
-    ensures { IfSome result (λ cut. (x : ℤ) → is_in cut x ≡ not (compares comparison x second)) }
+pub fn missed_before(comparison: Comparison, second: i128) -> Cut
+    requires { unsigned_abs second < farthest }
+    ensures cut { (x : ℤ) → is_in result x ≡ not (compares comparison x second) }
+    ensures number { unsigned_abs (number_of result.part) ≤ farthest }
 {
     let (part, outside) = match comparison {
         Comparison::Equal => (Part::Only(second), true),
         Comparison::Differ => (Part::Only(second), false),
-        Comparison::AtMost => (Part::Below(second.checked_add(1)?), true),
+        Comparison::AtMost => (Part::Below(second + 1), true),
         Comparison::Below => (Part::Below(second), true),
     };
-    Some(Cut { part, outside })
+    Cut { part, outside }
 }
 
 /// The numbers to which this one does not compare so.
-pub fn missed_after(comparison: Comparison, first: i64) -> Option<Cut>
-    ensures { IfSome result (λ cut. (x : ℤ) → is_in cut x ≡ not (compares comparison first x)) }
+pub fn missed_after(comparison: Comparison, first: i128) -> Cut
+    requires { unsigned_abs first < farthest }
+    ensures cut { (x : ℤ) → is_in result x ≡ not (compares comparison first x) }
+    ensures number { unsigned_abs (number_of result.part) ≤ farthest }
 {
     let (part, outside) = match comparison {
         Comparison::Equal => (Part::Only(first), true),
         Comparison::Differ => (Part::Only(first), false),
         Comparison::AtMost => (Part::Below(first), false),
-        Comparison::Below => (Part::Below(first.checked_add(1)?), false),
+        Comparison::Below => (Part::Below(first + 1), false),
     };
-    Some(Cut { part, outside })
+    Cut { part, outside }
 }
 
-/// For each of these values whether the numbers do not compare so, where a missing one is this value.
-pub fn fill_compared(
+/// The places of those of these values at which two numbers do not compare so, where a missing one is the value.
+pub fn missed_span(
     comparison: Comparison,
     first: Option<i64>,
     second: Option<i64>,
     domain: &Domain,
-    row: &mut Row,
-)
-    requires { length row.old ≡ length domain.now }
-    ensures { MarksWhere (is_missed comparison first second) domain.now row.new }
+) -> Span
+    ensures { SpansWhere (is_missed comparison first second) domain.now result }
 {
-    match missed_where(comparison, first, second) {
-        Some(cut) => fill_cut(cut, domain, row),
-        None => compare_each(comparison, first, second, domain, row),
-    }
-}
-
-/// The same by a comparison at each value.
-fn compare_each(
-    comparison: Comparison,
-    first: Option<i64>,
-    second: Option<i64>,
-    domain: &Domain,
-    row: &mut Row,
-)
-    requires { length row.old ≡ length domain.now }
-    ensures { MarksWhere (is_missed comparison first second) domain.now row.new }
-{
-    for place in 0..domain.len() {
-        let value = domain.value(place);
-        let holds = compares(comparison, first.unwrap_or(value), second.unwrap_or(value));
-        row.put(place, !holds);
+    match first {
+        Some(first) => match second {
+            Some(second) => Span::whole(!compares(comparison, first, second)),
+            None => span_in(missed_after(comparison, i128::from(first)), domain),
+        },
+        None => match second {
+            Some(second) => span_in(missed_before(comparison, i128::from(second)), domain),
+            None => Span::whole(!compares(comparison, 0, 0)),
+        },
     }
 }

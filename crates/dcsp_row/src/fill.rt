@@ -1,22 +1,98 @@
-//! The row of a rule.
+//! What a rule rules out.
 
-ghost use Rattle.std.specs.Prelude.{◌≡◌, ◌<◌, ◌≤◌, ℕ, length, false, slice_index_or, IsTrue};
+ghost use Rattle.std.specs.Prelude.{◌≡◌, ◌<◌, ◌≤◌, ℕ, length, false, slice_index_or, IfSome, IsTrue, is_some, not};
 ghost use Rattle.dcsp_defs.specs.Csp.{domain};
-ghost use Rattle.dcsp_problem.specs.Problems.{csp_of, AreInDomains};
+ghost use Rattle.dcsp_problem.specs.Problems.{csp_of, rule_at, AreInDomains};
 ghost use Rattle.dcsp_linear.specs.Sums.{widest};
 ghost use Rattle.dcsp_defs.specs.Csp.{filled, with_value};
 ghost use Rattle.dcsp_problem.specs.Rules.{has_shape};
 ghost use Rattle.dcsp_problem.specs.Widths.{rule_sizes};
-ghost use Rattle.dcsp_row.specs.Rows.{IsRow, TellsFalse, FitAtEach};
+ghost use Rattle.dcsp_row.specs.Easy.{has_span, is_plain};
+ghost use Rattle.dcsp_row.specs.Rows.{is_false, is_ruled_out, IsRow, TellsFalse, FitAtEach};
+ghost use Rattle.dcsp_row.specs.Spans.{SpansWhere};
 
-use crate::compare::{comparison_of, fill_compared};
+use crate::compare::{comparison_of, missed_span};
 use crate::general::try_each;
 use crate::known::{known_value, knows_others};
 use crate::line::line_of;
 use crate::row::Row;
-use crate::sums::{fill_sum, told_by};
+use crate::span::Span;
+use crate::sums::{fill_sum, off_span, told_by};
 use dcsp_domain::Domain;
 use dcsp_problem::{Lookup, Problem, Rule};
+
+/// The values of the variable at which the rule is violated under these and the look-up's, as a span of
+/// its domain; `None` only where the rule is not one that always has a span.
+pub fn span_of<L: Lookup>(problem: &Problem, rule: u32, var: u32, lookup: &L) -> Option<Span>
+    requires rule { rule < length problem.now.rules }
+    requires var { var < length problem.now.domains }
+    requires known { AreInDomains (csp_of problem.now) (L.values lookup.now) }
+    ensures span { IfSome result (SpansWhere (is_ruled_out problem.now rule var (L.values lookup.now)) (domain (csp_of problem.now) var)) }
+    ensures some { IsTrue (has_span var (rule_at problem.now rule)) → IsTrue (is_some result) }
+{
+    if !knows_others(problem.scope(rule), var, lookup) {
+        return Some(Span::whole(false));
+    }
+    let _variables = problem.vars();
+    span_of_rule(problem.rule(rule), problem.domain(var), var, lookup)
+}
+
+/// The values at which the rule is false, if it has a span.
+fn span_of_rule<L: Lookup>(rule: &Rule, domain: &Domain, var: u32, lookup: &L) -> Option<Span>
+    requires shape { IsTrue (has_shape rule.now) }
+    requires narrow { FitAtEach (λ x. rule_sizes rule.now (filled (with_value var x (L.values lookup.now)))) widest domain.now }
+    ensures span { IfSome result (SpansWhere (is_false rule.now var (L.values lookup.now)) domain.now) }
+    ensures some { IsTrue (has_span var rule.now) → IsTrue (is_some result) }
+{
+    match span_of_comparison(rule, domain, var, lookup) {
+        Some(span) => Some(span),
+        None => span_of_sum(rule, domain, var, lookup),
+    }
+}
+
+/// The same of a comparison of two numbers.
+fn span_of_comparison<L: Lookup>(rule: &Rule, domain: &Domain, var: u32, lookup: &L) -> Option<Span>
+    requires { IsTrue (has_shape rule.now) }
+    ensures span { IfSome result (SpansWhere (is_false rule.now var (L.values lookup.now)) domain.now) }
+    ensures some { IsTrue (is_plain rule.now) → IsTrue (has_span var rule.now) → IsTrue (is_some result) }
+{
+    let Rule::Plain { kind, scalars, .. } = rule else {
+        return None;
+    };
+    let comparison = comparison_of(*kind)?;
+    let [first, second] = scalars.items() else {
+        return None;
+    };
+    let first = known_value(*first, var, lookup);
+    let second = known_value(*second, var, lookup);
+    Some(missed_span(comparison, first, second, domain))
+}
+
+/// The same of a sum.
+fn span_of_sum<L: Lookup>(rule: &Rule, domain: &Domain, var: u32, lookup: &L) -> Option<Span>
+    requires shape { IsTrue (has_shape rule.now) }
+    requires narrow { FitAtEach (λ x. rule_sizes rule.now (filled (with_value var x (L.values lookup.now)))) widest domain.now }
+    ensures span { IfSome result (SpansWhere (is_false rule.now var (L.values lookup.now)) domain.now) }
+    ensures some { IsTrue (not (is_plain rule.now)) → IsTrue (has_span var rule.now) → IsTrue (is_some result) }
+{
+    let Rule::Sum {
+        rel,
+        coefs,
+        terms,
+        total,
+        truth,
+    } = rule
+    else {
+        return None;
+    };
+    if domain.is_empty() {
+        return Some(Span::whole(false));
+    }
+    let line = line_of(coefs.items(), terms.items(), domain, var, lookup)?;
+    let total = known_value(*total, var, lookup);
+    let told = told_by(*truth, var, lookup);
+    off_span(*rel, line, total, told, domain)
+}
 
 /// For each value of the variable whether the rule is violated under this value and the look-up's.
 pub fn fill_row<L: Lookup>(problem: &Problem, rule: u32, var: u32, lookup: &L, row: &mut Row)
@@ -27,57 +103,17 @@ pub fn fill_row<L: Lookup>(problem: &Problem, rule: u32, var: u32, lookup: &L, r
     ensures { IsRow problem.now rule var (L.values lookup.now) row.new }
 {
     if !knows_others(problem.scope(rule), var, lookup) {
-        row.mark_side(0, true);
+        row.mark_span(Span::whole(false));
         return;
     }
     let _variables = problem.vars();
-    if !fill_fast(problem.rule(rule), problem.domain(var), var, lookup, row) {
+    if !fill_linear(problem.rule(rule), problem.domain(var), var, lookup, row) {
         try_each(problem, rule, var, lookup, row);
     }
 }
 
-/// For each value of the variable whether the rule is false, if there is a fast way for it.
-fn fill_fast<L: Lookup>(rule: &Rule, domain: &Domain, var: u32, lookup: &L, row: &mut Row) -> bool
-    requires size { length row.old ≡ length domain.now }
-    requires shape { IsTrue (has_shape rule.now) }
-    requires narrow { FitAtEach (λ x. rule_sizes rule.now (filled (with_value var x (L.values lookup.now)))) widest domain.now }
-    ensures size { length row.new ≡ length domain.now }
-    ensures tells { IsTrue result → TellsFalse rule.now var domain.now (L.values lookup.now) row.new }
-{
-    if fill_comparison(rule, domain, var, lookup, row) {
-        return true;
-    }
-    fill_linear(rule, domain, var, lookup, row)
-}
-
-/// The same of a comparison of two numbers.
-fn fill_comparison<L: Lookup>(
-    rule: &Rule,
-    domain: &Domain,
-    var: u32,
-    lookup: &L,
-    row: &mut Row,
-) -> bool
-    requires { length row.old ≡ length domain.now }
-    ensures size { length row.new ≡ length domain.now }
-    ensures tells { IsTrue result → TellsFalse rule.now var domain.now (L.values lookup.now) row.new }
-{
-    let Rule::Plain { kind, scalars, .. } = rule else {
-        return false;
-    };
-    let Some(comparison) = comparison_of(*kind) else {
-        return false;
-    };
-    let [first, second] = scalars.items() else {
-        return false;
-    };
-    let first = known_value(*first, var, lookup);
-    let second = known_value(*second, var, lookup);
-    fill_compared(comparison, first, second, domain, row);
-    true
-}
-
-/// The same of a sum with the variable in one of its terms at most.
+/// For each value of the variable whether the rule is false, if it is a sum with the variable in one of its
+/// terms at most.
 fn fill_linear<L: Lookup>(rule: &Rule, domain: &Domain, var: u32, lookup: &L, row: &mut Row) -> bool
     requires size { length row.old ≡ length domain.now }
     requires shape { IsTrue (has_shape rule.now) }

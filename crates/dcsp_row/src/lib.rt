@@ -5,12 +5,19 @@
 
 mod compare;
 mod cut;
+mod easy;
 mod fill;
 mod general;
 mod known;
 mod line;
+mod marks;
 mod row;
+mod span;
 mod sums;
+mod word;
 
-pub use fill::fill_row;
+pub use easy::has_span;
+pub use fill::{fill_row, span_of};
+pub use marks::Marks;
 pub use row::Row;
+pub use span::Span;

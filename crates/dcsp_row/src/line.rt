@@ -1,11 +1,12 @@
 //! Sums in which one variable is left open.
 
-ghost use Rattle.std.specs.Prelude.{◌≡◌, ◌+◌, ◌*◌, ◌<◌, ◌≤◌, ◌+ℤ◌, ◌*ℤ◌, ℕ, ℤ, IfSome, length, unsigned_abs, sum_by};
+ghost use Rattle.std.specs.Prelude.{◌≡◌, ◌+◌, ◌*◌, ◌<◌, ◌≤◌, ◌+ℤ◌, ◌*ℤ◌, ◌++◌, ℕ, ℤ, IfSome, IsNone, length, option_to_list, unsigned_abs, sum_by};
 ghost use Rattle.dcsp_linear.specs.Sums.{sum_of, size_of, stands, widest};
 ghost use Rattle.dcsp_defs.specs.Csp.{filled, with_value};
 ghost use Rattle.dcsp_problem.specs.Rules.{weighted};
 ghost use Rattle.dcsp_row.specs.Rows.{FitAtEach};
-ghost use Rattle.dcsp_row.specs.Lines.{line_at, line_size, AddsTerm};
+ghost use Rattle.dcsp_row.specs.Easy.{own_coefs};
+ghost use Rattle.dcsp_row.specs.Lines.{line_at, line_size, open_coef, AddsTerm};
 
 use crate::known::known_value;
 use dcsp_domain::Domain;
@@ -32,6 +33,8 @@ pub fn line_of<L: Lookup>(
     requires narrow { FitAtEach (λ x. sum_by size_of (weighted (filled (with_value var x (L.values lookup.now))) coefs.now terms.now)) widest domain.now }
     ensures sum { IfSome result (λ line. (x : ℤ) → line_at line x ≡ sum_of (weighted (filled (with_value var x (L.values lookup.now))) coefs.now terms.now)) }
     ensures size { IfSome result (λ line. FitAtEach (line_size line) widest domain.now) }
+    ensures own { IfSome result (λ line. option_to_list line.own ≡ own_coefs var coefs.now terms.now) }
+    ensures many { IsNone result → 1 < length (own_coefs var coefs.now terms.now) }
 {
     let mut line = Line { base: 0, own: None };
     for place in 0..coefs.len() {
@@ -47,7 +50,9 @@ pub fn line_of<L: Lookup>(
 /// The line with one term more.
 fn with_term(line: Line, coef: i64, value: Option<i64>) -> Option<Line>
     requires { IfSome value (λ v. unsigned_abs line.base + unsigned_abs coef * unsigned_abs v ≤ widest) }
-    ensures { IfSome result (λ next. (x : ℤ) → AddsTerm line next coef value x) }
+    ensures adds { IfSome result (λ next. (x : ℤ) → AddsTerm line next coef value x) }
+    ensures own { IfSome result (λ next. option_to_list next.own ≡ option_to_list line.own ++ open_coef coef value) }
+    ensures many { IsNone result → 1 < length (option_to_list line.own ++ open_coef coef value) }
 {
     match value {
         Some(value) => Some(Line {

@@ -2,14 +2,14 @@
 
 ghost use Rattle.std.specs.Prelude.{◌≡◌, ◌≢◌, ◌<◌, ◌≤◌, ◌+◌, ◌*◌, ◌/◌, ◌==◌, ℕ, IfOk, IfSome, false, length, nat_lt, slice_index_or, slice_set, unwrap_or};
 ghost use Rattle.std.specs.Int.{bit_at};
-ghost use Rattle.dcsp_row.specs.Bits.{has_bit, is_on_side};
+ghost use Rattle.dcsp_row.specs.Bits.{has_bit};
+ghost use Rattle.dcsp_row.specs.Spans.{is_within};
 
+use crate::span::Span;
+use crate::word::{BLOCK, with_bit};
 use dcsp_list::Memory;
 use std::alloc::Global;
 use std::marker::Model;
-
-/// How many places a block has: those of one word.
-const BLOCK: usize = 64;
 
 /// For each of so many places, counted from 0, whether it is marked.
 #[derive(Drop)]
@@ -64,113 +64,46 @@ impl Row {
         *word = with_bit(*word, place % BLOCK, mark);
     }
 
-    /// Marks exactly the places below this one, or exactly the others.
-    pub fn mark_side(&mut self, place: usize, below: bool)
+    /// Marks exactly the places of the span.
+    pub fn mark_span(&mut self, span: Span)
         ensures size { length self.new ≡ length self.old }
-        ensures marks { (k : ℕ) → k < length self.new → slice_index_or self.new k false ≡ is_on_side place below k }
+        ensures marks { (k : ℕ) → k < length self.new → slice_index_or self.new k false ≡ is_within span k }
     {
-        fill_side(&mut self.words, place, below);
+        fill_span(&mut self.words, span);
     }
 
-    /// The first place, from this one on, that one row marks and the other does not; `None` where
-    /// they are the same from there on.
-    pub fn next_change(&self, other: &Row, from: usize) -> Option<usize>
-        requires { length other.now ≡ length self.now }
-        ensures within { IfSome result (λ place. (from ≤ place) × (place < length self.now)) }
-        ensures same { (k : ℕ) → from ≤ k → k < unwrap_or result (length self.now) → slice_index_or self.now k false ≡ slice_index_or other.now k false }
+    /// Marks exactly what the other row marks.
+    pub fn copy_from(&mut self, other: &Row)
+        requires { length other.now ≡ length self.old }
+        ensures { self.new ≡ other.now }
     {
-        for block in from / BLOCK..self.size / BLOCK + 1 {
-            let mine = word_of(&self.words, block);
-            let theirs = word_of(&other.words, block);
-            if let Some(bit) = next_bit(mine, theirs, first_bit(block, from)) {
-                return within(block, bit, self.size);
-            }
-        }
-        None
+        copy_words(&mut self.words, &other.words);
+    }
+
+    /// The word of a block in which the bits of its marked places are set.
+    pub fn word(&self, block: usize) -> u64
+        ensures { (bit : ℕ) → bit < 64 → block * 64 + bit < length self.now → (bit_at result bit == 1) ≡ slice_index_or self.now (block * 64 + bit) false }
+    {
+        word_of(&self.words, block)
     }
 }
 
-/// The first bit of a block whose place is not before this one.
-fn first_bit(block: usize, from: usize) -> usize
-    requires { from / 64 ≤ block }
-    ensures within { result < 64 }
-    ensures from { from ≤ block * 64 + result }
-    ensures first { (bit : ℕ) → from ≤ block * 64 + bit → result ≤ bit }
-{
-    if block == from / BLOCK {
-        from % BLOCK
-    } else {
-        0
-    }
-}
-
-/// The place of a bit in a block, if there are more places.
-fn within(block: usize, bit: usize, size: usize) -> Option<usize>
-    requires { block * 64 ≤ size }
-    ensures is { IfSome result (λ place. (place ≡ block * 64 + bit) × (place < size)) }
-    ensures before { (k : ℕ) → k < unwrap_or result size → (k < size) × (k < block * 64 + bit) }
-{
-    let first = block * BLOCK;
-    if bit < size - first {
-        Some(first + bit)
-    } else {
-        None
-    }
-}
-
-/// The first bit, from this one on, at which two words differ.
-fn next_bit(one: u64, other: u64, from: usize) -> Option<usize>
-    requires { from < 64 }
-    ensures within { IfSome result (λ bit. (from ≤ bit) × (bit < 64)) }
-    ensures same { (bit : ℕ) → from ≤ bit → bit < unwrap_or result 64 → bit_at one bit ≡ bit_at other bit }
-{
-    let rest = (one ^ other) >> from;
-    if rest == 0 {
-        None
-    } else {
-        Some(from + rest.trailing_zeros() as usize)
-    }
-}
-
-/// Sets exactly the bits of the places below this one, or exactly the others.
-fn fill_side(words: &mut [u64], place: usize, below: bool)
-    ensures { (k : ℕ) → k / 64 < length words.new → has_bit words.new k ≡ is_on_side place below k }
+/// Sets exactly the bits of the span's places.
+fn fill_span(words: &mut [u64], span: Span)
+    ensures { (k : ℕ) → k / 64 < length words.new → has_bit words.new k ≡ is_within span k }
 {
     for block in 0..words.len() {
-        words[block] = side_word(block, place, below);
+        words[block] = span.word(block);
     }
 }
 
-/// The word of a block in which the bits of the places below this one are set, or those of the others.
-fn side_word(block: usize, place: usize, below: bool) -> u64
-    ensures { (bit : ℕ) → bit < 64 → (bit_at result bit == 1) ≡ is_on_side place below (block * 64 + bit) }
+/// Puts the other words in the place of these.
+fn copy_words(words: &mut [u64], others: &[u64])
+    ensures { (block : ℕ) → block < length words.new → slice_index_or words.new block 0 ≡ slice_index_or others.now block 0 }
 {
-    let low = low_word(block, place);
-    if below { low } else { !low }
-}
-
-/// The word of a block in which the bits of the places below this one are set.
-fn low_word(block: usize, place: usize) -> u64
-    ensures { (bit : ℕ) → bit < 64 → (bit_at result bit == 1) ≡ nat_lt (block * 64 + bit) place }
-{
-    let last = place / BLOCK;
-    if block < last {
-        u64::MAX
-    } else if block == last {
-        (1 << place % BLOCK) - 1
-    } else {
-        0
+    for block in 0..words.len() {
+        words[block] = word_of(others, block);
     }
-}
-
-/// The word with this bit set, or not.
-fn with_bit(word: u64, bit: usize, mark: bool) -> u64
-    requires { bit < 64 }
-    ensures here { (bit_at result bit == 1) ≡ mark }
-    ensures others { (other : ℕ) → other < 64 → other ≢ bit → bit_at result other ≡ bit_at word other }
-{
-    let mask = 1u64 << bit;
-    if mark { word | mask } else { word & !mask }
 }
 
 /// So many words without a bit.

@@ -1,19 +1,21 @@
 //! Rows of sums.
 
-ghost use Rattle.std.specs.Prelude.{◌≡◌, ◌<◌, ◌≤◌, ℕ, ℤ, IfSome, length, false, not, slice_index_or, unsigned_abs, unwrap_or};
+ghost use Rattle.std.specs.Prelude.{◌≡◌, ◌<◌, ◌≤◌, ℕ, ℤ, IfSome, IsTrue, is_some, length, false, not, option_to_list, slice_index_or, unsigned_abs, unwrap_or};
 ghost use Rattle.std.specs.Option.{option_map};
 ghost use Rattle.dcsp_linear.specs.Sums.{stands, widest};
 ghost use Rattle.dcsp_defs.specs.Csp.{filled, with_value};
 ghost use Rattle.dcsp_problem.specs.Rules.{is_told, value_under};
 ghost use Rattle.dcsp_row.specs.Rows.{compares, own_at, MarksWhere, FitAtEach};
-ghost use Rattle.dcsp_row.specs.Lines.{line_at, line_size, told_at, is_off};
-ghost use Rattle.dcsp_row.specs.Cuts.{is_in};
+ghost use Rattle.dcsp_row.specs.Easy.{is_truth, is_unit};
+ghost use Rattle.dcsp_row.specs.Lines.{line_at, line_size, told_at, is_known, is_off};
+ghost use Rattle.dcsp_row.specs.Spans.{SpansWhere};
 
 use crate::compare::{Comparison, missed_after, missed_before};
-use crate::cut::{Cut, fill_cut};
+use crate::cut::span_in;
 use crate::known::known_value;
 use crate::line::{Line, stands, sum_at};
 use crate::row::Row;
+use crate::span::Span;
 use dcsp_domain::Domain;
 use dcsp_linear::Rel;
 use dcsp_problem::{Lookup, Term};
@@ -31,7 +33,8 @@ pub enum Told {
 
 /// What tells the truth of a sum, where this variable is open.
 pub fn told_by<L: Lookup>(truth: Option<Term>, var: u32, lookup: &L) -> Told
-    ensures { (x : ℤ) → option_map (value_under (filled (with_value var x (L.values lookup.now)))) truth ≡ told_at result x }
+    ensures told { (x : ℤ) → option_map (value_under (filled (with_value var x (L.values lookup.now)))) truth ≡ told_at result x }
+    ensures known { is_known result ≡ not (is_truth var truth) }
 {
     match truth {
         None => Told::Untold,
@@ -42,42 +45,46 @@ pub fn told_by<L: Lookup>(truth: Option<Term>, var: u32, lookup: &L) -> Told
     }
 }
 
-/// The values at which the sum is false, where they are easily told.
-pub fn off_where(rel: Rel, line: Line, total: Option<i64>, told: Told) -> Option<Cut>
+/// The places of those of these values at which the sum is false, where the open variable is added or taken
+/// away once at most, and tells neither total nor truth.
+pub fn off_span(
+    rel: Rel,
+    line: Line,
+    total: Option<i64>,
+    told: Told,
+    domain: &Domain,
+) -> Option<Span>
     requires { unsigned_abs line.base ≤ widest }
-    ensures { IfSome result (λ cut. (x : ℤ) → is_in cut x ≡ is_off rel line total told x) }
+    ensures off { IfSome result (SpansWhere (is_off rel line total told) domain.now) }
+    ensures some { IsTrue (is_unit (option_to_list line.own)) → IsTrue (is_some total) → IsTrue (is_known told) → IsTrue (is_some result) }
 {
-    let cut = missed_where(rel, line, total?)?;
+    let missed = missed_line(rel, line, total?, domain)?;
     match told {
-        Told::Untold => Some(cut),
-        Told::By(truth) => Some(if truth == 1 { cut } else { cut.others() }),
+        Told::Untold => Some(missed),
+        Told::By(truth) => Some(if truth == 1 { missed } else { missed.others() }),
         Told::ByOwn => None,
     }
 }
 
-/// The values at which the sum does not stand so to the total, where the open variable is added or
-/// taken away once.
-fn missed_where(rel: Rel, line: Line, total: i64) -> Option<Cut>
+/// The places of those of these values at which the sum does not stand so to the total, where the open
+/// variable is added or taken away once at most.
+fn missed_line(rel: Rel, line: Line, total: i64, domain: &Domain) -> Option<Span>
     requires { unsigned_abs line.base ≤ widest }
-    ensures { IfSome result (λ cut. (x : ℤ) → is_in cut x ≡ not (stands rel (line_at line x) total)) }
+    ensures missed { IfSome result (SpansWhere (λ x. not (stands rel (line_at line x) total)) domain.now) }
+    ensures some { IsTrue (is_unit (option_to_list line.own)) → IsTrue (is_some result) }
 {
+    let Some(coef) = line.own else {
+        return Some(Span::whole(!stands(rel, line.base, total)));
+    };
     let comparison = comparison_in(rel);
     let total = i128::from(total);
-    let coef = line.own?;
     if coef == 1 {
-        missed_before(comparison, narrowed(total - line.base)?)
+        Some(span_in(missed_before(comparison, total - line.base), domain))
     } else if coef == -1 {
-        missed_after(comparison, narrowed(line.base - total)?)
+        Some(span_in(missed_after(comparison, line.base - total), domain))
     } else {
         None
     }
-}
-
-/// The number in 64 bits, if it fits.
-fn narrowed(number: i128) -> Option<i64>
-    ensures { IfSome result (λ narrow. narrow ≡ number) }
-{
-    i64::try_from(number).ok()
 }
 
 /// The comparison of a sum with its total.
@@ -100,19 +107,6 @@ pub fn fill_sum(
     domain: &Domain,
     row: &mut Row,
 )
-    requires some { 0 < length domain.now }
-    requires size { length row.old ≡ length domain.now }
-    requires narrow { FitAtEach (line_size line) widest domain.now }
-    ensures { MarksWhere (is_off rel line total told) domain.now row.new }
-{
-    match off_where(rel, line, total, told) {
-        Some(cut) => fill_cut(cut, domain, row),
-        None => add_each(rel, line, total, told, domain, row),
-    }
-}
-
-/// The same by the sum at each value.
-fn add_each(rel: Rel, line: Line, total: Option<i64>, told: Told, domain: &Domain, row: &mut Row)
     requires size { length row.old ≡ length domain.now }
     requires narrow { FitAtEach (line_size line) widest domain.now }
     ensures { MarksWhere (is_off rel line total told) domain.now row.new }

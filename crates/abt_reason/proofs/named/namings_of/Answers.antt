@@ -1,5 +1,4 @@
-use Rattle.std.proofs.Common.{◌≡◌, ◌∙◌, ap, sym, subst, List, ℕ, ◌++◌, map, arith, length}
-use Rattle.abt_reason.specs.declared.named.Naming.{Naming}
+use Rattle.std.proofs.Common.{◌≡◌, ◌∙◌, ap, subst, List, ℕ, ◌++◌, map, arith, length}
 use Rattle.abt_reason.specs.Named.{naming, ListsScopes}
 use Rattle.abt_reason.proofs.NamedLaws.{one_listed}
 use Rattle.abt_reason.proofs.named.namings_of.Goals as goal

@@ -1,14 +1,13 @@
-use Rattle.std.proofs.Common.{◌≡◌, ℕ, ◌<◌, length}
+use Rattle.std.proofs.Common.{ℕ, ◌<◌}
 use Rattle.abt_defs.specs.Agents.{values_in}
 use Rattle.abt_view.specs.Views.{view_of}
-use Rattle.abt_reason.specs.Grids.{IsGrid}
-use Rattle.abt_reason.specs.Cached.{size_of, rules_of, IsRightAt}
+use Rattle.abt_reason.specs.Grids.{rows_of}
+use Rattle.abt_reason.specs.Cached.{size_of, AreRows, IsRightAt, IsRoom}
 use Rattle.abt_reason.proofs.rules.refresh_all.Given as goal
 
 abbrev pub invariant-loop-place : goal.invariant-loop-place
 invariant-loop-place l = record {
-  room : length l.row ≡ size_of l.problem l.agent;
-  each_rule : length l.ruled_out.rows.items ≡ rules_of l.problem l.agent;
-  grid : IsGrid l.ruled_out.rows.items (size_of l.problem l.agent) l.ruled_out.counts.items l.ruled_out.firsts.items;
-  right : (place : ℕ) → place < l.place → IsRightAt l.problem l.agent (values_in (view_of l.view)) l.ruled_out.rows.items place;
+  room : IsRoom (size_of l.problem l.agent) l.room;
+  rows : AreRows l.problem l.agent l.ruled_out.rows.items l.ruled_out.counts.items l.ruled_out.firsts.items;
+  right : (place : ℕ) → place < l.place → IsRightAt l.problem l.agent (values_in (view_of l.view)) (rows_of (size_of l.problem l.agent) l.ruled_out.rows.items) place;
 }

@@ -1,4 +1,4 @@
-use Rattle.std.proofs.Common.{◌≢◌, ◌≡◌, ◌∙◌, ap, sym, subst, ℕ, List, Bool, ◌<◌, arith, length, below_more, get_or, inl, inr}
+use Rattle.std.proofs.Common.{◌≢◌, ◌≡◌, ◌∙◌, sym, subst, ℕ, List, Bool, below_more, get_or, inl, inr}
 use Rattle.std.proofs.lemmas.Bool.{cases_eq}
 use Rattle.abt_defs.specs.Agents.{values_in}
 use Rattle.abt_view.specs.Views.{view_of}
@@ -7,7 +7,7 @@ use Rattle.dcsp_defs.specs.Csp.{Known}
 use Rattle.std.proofs.lemmas.List.{get_or_default}
 use Rattle.abt_reason.specs.declared.named.Naming.{Naming}
 use Rattle.abt_reason.specs.Named.{naming}
-use Rattle.abt_reason.specs.Grids.{marks}
+use Rattle.abt_reason.specs.Grids.{marks, rows_of}
 use Rattle.abt_reason.specs.Cached.{IsRightAt, size_of}
 use Rattle.abt_reason.proofs.rules.refresh_each.Goals as goal
 
@@ -29,14 +29,14 @@ loop-naming-preserved c =
     let known = values_in (view_of c.args.view.now) in
     let namings = c.args.namings.now in
     let k = c.loop-naming.naming-index in
+    let new = rows_of (size_of p agent) c.refresh.new.ruled_out.rows.items in
     let here = (get_or namings k no_naming).place in
-    let step = one_right p agent known c.loop-naming.ruled_out.rows.items c.refresh.new.ruled_out.rows.items here c.refresh.ensures.right c.refresh.ensures.others in
+    let step = one_right p agent known (rows_of (size_of p agent) c.loop-naming.ruled_out.rows.items) new here c.refresh.ensures.right c.refresh.ensures.others in
     record {
       room = c.refresh.ensures.room;
-      each_rule = c.refresh.ensures.rows;
-      grid = c.refresh.ensures.grid;
+      rows = c.refresh.ensures.rows;
       kept = λ j was. step j (c.loop-naming.invariant.kept j was);
-      right = λ n d below. below_more (λ n. IsRightAt p agent known c.refresh.new.ruled_out.rows.items (get_or namings n d).place) k
+      right = λ n d below. below_more (λ n. IsRightAt p agent known new (get_or namings n d).place) k
           (λ n before. step (get_or namings n d).place (c.loop-naming.invariant.right n d before))
-          (subst (λ (x : Naming). IsRightAt p agent known c.refresh.new.ruled_out.rows.items x.place) (get_or_default namings k no_naming d c.loop-naming-test.true) c.refresh.ensures.right) n below;
+          (subst (λ (x : Naming). IsRightAt p agent known new x.place) (get_or_default namings k no_naming d c.loop-naming-test.true) c.refresh.ensures.right) n below;
     }

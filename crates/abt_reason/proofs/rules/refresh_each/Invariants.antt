@@ -1,16 +1,15 @@
-use Rattle.std.proofs.Common.{◌≡◌, ℕ, ◌<◌, length, get_or}
+use Rattle.std.proofs.Common.{ℕ, ◌<◌, get_or}
 use Rattle.abt_defs.specs.Agents.{values_in}
 use Rattle.abt_view.specs.Views.{view_of}
 use Rattle.abt_reason.specs.declared.named.Naming.{Naming}
-use Rattle.abt_reason.specs.Grids.{IsGrid}
-use Rattle.abt_reason.specs.Cached.{size_of, rules_of, IsRightAt}
+use Rattle.abt_reason.specs.Grids.{rows_of}
+use Rattle.abt_reason.specs.Cached.{size_of, AreRows, IsRightAt, IsRoom}
 use Rattle.abt_reason.proofs.rules.refresh_each.Given as goal
 
 abbrev pub invariant-loop-naming : goal.invariant-loop-naming
 invariant-loop-naming l = record {
-  room : length l.row ≡ size_of l.problem l.agent;
-  each_rule : length l.ruled_out.rows.items ≡ rules_of l.problem l.agent;
-  grid : IsGrid l.ruled_out.rows.items (size_of l.problem l.agent) l.ruled_out.counts.items l.ruled_out.firsts.items;
-  kept : (place : ℕ) → IsRightAt l.problem l.agent (values_in (view_of l.view)) l.initial.ruled_out.rows.items place → IsRightAt l.problem l.agent (values_in (view_of l.view)) l.ruled_out.rows.items place;
-  right : (n : ℕ) (d : Naming) → n < l.naming-index → IsRightAt l.problem l.agent (values_in (view_of l.view)) l.ruled_out.rows.items (get_or l.namings n d).place;
+  room : IsRoom (size_of l.problem l.agent) l.room;
+  rows : AreRows l.problem l.agent l.ruled_out.rows.items l.ruled_out.counts.items l.ruled_out.firsts.items;
+  kept : (place : ℕ) → IsRightAt l.problem l.agent (values_in (view_of l.view)) (rows_of (size_of l.problem l.agent) l.initial.ruled_out.rows.items) place → IsRightAt l.problem l.agent (values_in (view_of l.view)) (rows_of (size_of l.problem l.agent) l.ruled_out.rows.items) place;
+  right : (n : ℕ) (d : Naming) → n < l.naming-index → IsRightAt l.problem l.agent (values_in (view_of l.view)) (rows_of (size_of l.problem l.agent) l.ruled_out.rows.items) (get_or l.namings n d).place;
 }

@@ -1,4 +1,4 @@
-use Rattle.std.proofs.Common.{◌≡◌, ◌<◌, ◌≤◌, false, length, arith, ◌∙◌, ap, sym, subst, ℕ, ℤ, List, Bool}
+use Rattle.std.proofs.Common.{◌<◌, ◌≤◌, length, arith, ◌∙◌, ap, sym, subst, ℤ, List}
 use Rattle.dcsp_defs.specs.Csp.{domain, filled, with_value}
 use Rattle.dcsp_problem.specs.declared.rule.Rule.{Rule}
 use Rattle.dcsp_problem.specs.Rules.{no_rule}
@@ -10,27 +10,26 @@ use Rattle.dcsp_problem.proofs.RisingNumbers.{In-get_or}
 use Rattle.dcsp_problem.proofs.Narrow.{narrow_of_known}
 use Rattle.dcsp_row.specs.Rows.{own_at, TellsFalse}
 use Rattle.dcsp_row.proofs.Domains.{get_or_found, own_in_domains}
-use Rattle.dcsp_row.proofs.CutLaws.{base_mark}
 use Rattle.dcsp_row.proofs.RowLaws.{not_known, all_known, scope_within}
 use Rattle.dcsp_row.proofs.fill.fill_row.Goals as goal
 
 pub returns-then-not-knows_others : goal.returns-then-not-knows_others
 returns-then-not-knows_others g c = (
-  c.mark_side.ensures.size ∙ c.requires.size,
+  c.mark_span.ensures.size ∙ c.requires.size,
   λ place within.
       let value = own_at (domain (csp_of c.args.problem.now) c.args.var) place in
-      let here : place < length c.mark_side.new.self = omega (arith, within, c.mark_side.ensures.size, c.requires.size) in
-      c.mark_side.ensures.marks place here ∙ base_mark false place ∙ not_known (with_value c.args.var value (g.L.Lookup.values c.args.lookup.now)) (constraint_at c.args.problem.now c.args.rule) c.scope.result.now c.knows_others.result c.scope.ensures.scope
+      let here : place < length c.mark_span.new.self = omega (arith, within, c.mark_span.ensures.size, c.requires.size) in
+      c.mark_span.ensures.marks place here ∙ c.whole.ensures place ∙ not_known (with_value c.args.var value (g.L.Lookup.values c.args.lookup.now)) (constraint_at c.args.problem.now c.args.rule) c.scope.result.now c.knows_others.result c.scope.ensures.scope
       (c.knows_others.ensures value) c.if-not-knows_others.true,
 )
 
-pub returns-else-not-fill_fast : goal.returns-else-not-fill_fast
-returns-else-not-fill_fast g c =
+pub returns-else-not-fill_linear : goal.returns-else-not-fill_linear
+returns-else-not-fill_linear g c =
     let p = c.args.problem.now in
     let var = c.args.var in
     let known = g.L.Lookup.values c.args.lookup.now in
-    let row = c.fill_fast.new.row in
-    let tells = c.fill_fast.ensures.tells c.if-not-fill_fast.false in
+    let row = c.fill_linear.new.row in
+    let tells = c.fill_linear.ensures.tells c.if-not-fill_linear.false in
     let here = subst (λ (values : List ℤ). TellsFalse c.rule.result.now var values known row) c.domain.ensures tells in
     let told = subst (λ (rule : Rule). TellsFalse rule var (domain (csp_of p) var) known row) (sym (get_or_found p.rules c.args.rule c.rule.result.now no_rule c.rule.ensures)) here in (
       told.0,
@@ -39,8 +38,8 @@ returns-else-not-fill_fast g c =
           told.1 place within ∙ all_known (with_value var value known) (constraint_at p c.args.rule) c.scope.result.now c.knows_others.result c.scope.ensures.scope (c.knows_others.ensures value) c.if-not-knows_others.false,
     )
 
-pub fill_fast-requires-clause-narrow : goal.fill_fast-requires-clause-narrow
-fill_fast-requires-clause-narrow g c = λ k within.
+pub fill_linear-requires-clause-narrow : goal.fill_linear-requires-clause-narrow
+fill_linear-requires-clause-narrow g c = λ k within.
     let p = c.args.problem.now in
     let var = c.args.var in
     let values = domain (csp_of p) var in

@@ -1,4 +1,4 @@
-use Rattle.std.proofs.Common.{◌≡◌, ◌≤◌, ap, sym, subst, arith, length, get_or, List, All, Contains}
+use Rattle.std.proofs.Common.{sym, subst, arith, List, All, Contains}
 use Rattle.std.specs.List.{slice_range}
 use Rattle.abt_reason.specs.declared.named.Naming.{Naming}
 use Rattle.abt_reason.specs.Named.{naming}

@@ -1,13 +1,12 @@
-use Rattle.std.proofs.Common.{◌≡◌, ◌<◌, ◌∙◌, ap, sym, subst, length, get_or, ℕ, List, Bool, true, false, refl}
+use Rattle.std.proofs.Common.{◌≡◌, ◌<◌, ◌∙◌, subst, get_or, true, false, refl}
 use Rattle.abt_defs.specs.Agents.{values_in, is_among}
 use Rattle.abt_view.specs.Views.{view_of}
-use Rattle.dcsp_defs.specs.Words.{In}
 use Rattle.dcsp_problem.specs.Problems.{constraint_at}
 use Rattle.dcsp_problem.specs.Index.{owned_rules}
-use Rattle.dcsp_problem.proofs.RisingNumbers.{In-get_or}
 use Rattle.abt_reason.specs.declared.named.Naming.{Naming}
 use Rattle.abt_reason.specs.Named.{naming}
-use Rattle.abt_reason.specs.Cached.{IsRightAt, rules_of}
+use Rattle.abt_reason.specs.Cached.{IsRightAt, rules_of, size_of}
+use Rattle.abt_reason.specs.Grids.{rows_of}
 use Rattle.abt_reason.proofs.ChangedLaws.{same_without}
 use Rattle.std.proofs.lemmas.List.{get_or_default}
 use Rattle.abt_reason.proofs.rules.FirstRules.after_view.Goals as goal
@@ -27,7 +26,7 @@ returns-clause-kept c = λ place within.
     let s = c.requires.stood in
     let known = values_in (view_of c.args.view.now) in
     let listed = c.requires.lists.listed in
-    let now = c.refresh_each.new.ruled_out.rows.items in
+    let now = rows_of (size_of p agent) c.refresh_each.new.ruled_out.rows.items in
     let without : is_among var (constraint_at p (get_or (owned_rules p agent) place 0)).scope ≡ false → IsRightAt p agent known now place =
     λ free. c.refresh_each.ensures.kept place (λ k l. s.stood place within k l ∙ same_without p agent var s.known_before known k place (listed.constraints place within) free s.others) in
     let with_it : is_among var (constraint_at p (get_or (owned_rules p agent) place 0)).scope ≡ true → IsRightAt p agent known now place =

@@ -1,0 +1,57 @@
+use Rattle.std.proofs.Common.{◌≡◌, ◌≢◌, ◌<◌, ◌+◌, ◌-◌, ◌∙◌, ap, sym, subst, false, length, arith, ℕ, Bool, List}
+use Rattle.std.proofs.lemmas.List.{get_or_default}
+use Rattle.dcsp_row.specs.declared.marks.Marks.{Marks}
+use Rattle.dcsp_row.specs.Marks.{is_marked}
+use Rattle.abt_reason.specs.Firsts.{IsFirst}
+use Rattle.abt_reason.specs.Grids.{count_of, is_marked_at, no_marks}
+use Rattle.abt_reason.proofs.CountLaws.{stays, adds, takes, small, is_mark, is_other, is_kept, first_was, none_left, kept, read_back, after}
+use Rattle.abt_reason.proofs.grid.RuledOut.count.Goals as goal
+
+pub returns-then-mark-has-clause-grid : goal.returns-then-mark-has-clause-grid
+returns-then-mark-has-clause-grid c =
+    let had = c.has.ensures ∙ ap (λ m. is_marked m c.args.value) (c.index.ensures ∙ get_or_default c.args.self.now.rows.items c.args.place c.index.result.now no_marks c.requires.place) in
+    stays c.args.values c.args.self.now.rows.items c.args.place c.args.new.now c.args.value c.requires.place c.requires.value c.args.self.now.counts.items c.args.self.now.firsts.items c.requires.grid c.has-mark.result c.has.result c.has-mark.ensures had c.if-mark-has.true
+
+pub overflow_add-index_mut : goal.overflow_add-index_mut
+overflow_add-index_mut c =
+    let had = c.has.ensures ∙ ap (λ m. is_marked m c.args.value) (c.index.ensures ∙ get_or_default c.args.self.now.rows.items c.args.place c.index.result.now no_marks c.requires.place) in
+    let e = adds c.args.values c.args.self.now.rows.items c.args.place c.args.new.now c.args.value c.requires.place c.requires.value c.args.self.now.counts.items c.args.self.now.firsts.items c.requires.grid c.has-mark.result c.has.result c.has-mark.ensures had c.if-mark-has.false c.if-mark.true c.index_mut.result.now c.index_mut.ensures.value in
+    let most = small c.args.values c.args.self.now.rows.items c.args.place c.args.new.now c.args.value c.requires.place c.requires.value c.args.self.now.counts.items c.args.self.now.firsts.items c.requires.grid c.has-mark.result c.has.result c.has-mark.ensures had in
+    omega (arith, e, most, c.requires.grid.few)
+
+pub overflow_sub-index_mut : goal.overflow_sub-index_mut
+overflow_sub-index_mut c =
+    let had = c.has.ensures ∙ ap (λ m. is_marked m c.args.value) (c.index.ensures ∙ get_or_default c.args.self.now.rows.items c.args.place c.index.result.now no_marks c.requires.place) in
+    let e = takes c.args.values c.args.self.now.rows.items c.args.place c.args.new.now c.args.value c.requires.place c.requires.value c.args.self.now.counts.items c.args.self.now.firsts.items c.requires.grid c.has-mark.result c.has.result c.has-mark.ensures had c.if-mark-has.false c.if-mark.false c.index_mut-else-mark.result.now c.index_mut-else-mark.ensures.value in
+    omega (arith, e)
+
+pub returns-then-mark-clause-grid : goal.returns-then-mark-clause-grid
+returns-then-mark-clause-grid c =
+    let had = c.has.ensures ∙ ap (λ m. is_marked m c.args.value) (c.index.ensures ∙ get_or_default c.args.self.now.rows.items c.args.place c.index.result.now no_marks c.requires.place) in
+    let rows = c.args.self.now.rows.items in
+    let value = c.args.value in
+    let e = adds c.args.values c.args.self.now.rows.items c.args.place c.args.new.now c.args.value c.requires.place c.requires.value c.args.self.now.counts.items c.args.self.now.firsts.items c.requires.grid c.has-mark.result c.has.result c.has-mark.ensures had c.if-mark-has.false c.if-mark.true c.index_mut.result.now c.index_mut.ensures.value in
+    let was = first_was c.args.values c.args.self.now.rows.items c.args.place c.args.new.now c.args.value c.requires.place c.requires.value c.args.self.now.counts.items c.args.self.now.firsts.items c.requires.grid c.has-mark.result c.has.result c.has-mark.ensures had c.index-then-mark.result.now c.index-then-mark.ensures in
+    let on = is_mark c.args.values c.args.self.now.rows.items c.args.place c.args.new.now c.args.value c.requires.place c.requires.value c.args.self.now.counts.items c.args.self.now.firsts.items c.requires.grid c.has-mark.result c.has.result c.has-mark.ensures had ∙ c.if-mark.true in
+    let same = is_other c.args.values c.args.self.now.rows.items c.args.place c.args.new.now c.args.value c.requires.place c.requires.value c.args.self.now.counts.items c.args.self.now.firsts.items c.requires.grid c.has-mark.result c.has.result c.has-mark.ensures had in
+    kept c.args.values c.args.self.now.rows.items c.args.place c.args.new.now c.args.value c.requires.place c.requires.value c.args.self.now.counts.items c.args.self.now.firsts.items c.requires.grid c.has-mark.result c.has.result c.has-mark.ensures had (c.index_mut.result.now + 1) c.with_place.result e
+    (c.with_place.ensures _ _ (length rows) was c.requires.place on same)
+
+pub returns-else-mark-clause-grid : goal.returns-else-mark-clause-grid
+returns-else-mark-clause-grid c =
+    let had = c.has.ensures ∙ ap (λ m. is_marked m c.args.value) (c.index.ensures ∙ get_or_default c.args.self.now.rows.items c.args.place c.index.result.now no_marks c.requires.place) in
+    let rows = c.args.self.now.rows.items in
+    let e = takes c.args.values c.args.self.now.rows.items c.args.place c.args.new.now c.args.value c.requires.place c.requires.value c.args.self.now.counts.items c.args.self.now.firsts.items c.requires.grid c.has-mark.result c.has.result c.has-mark.ensures had c.if-mark-has.false c.if-mark.false c.index_mut-else-mark.result.now c.index_mut-else-mark.ensures.value in
+    let was = first_was c.args.values c.args.self.now.rows.items c.args.place c.args.new.now c.args.value c.requires.place c.requires.value c.args.self.now.counts.items c.args.self.now.firsts.items c.requires.grid c.has-mark.result c.has.result c.has-mark.ensures had c.index-first.result.now c.index-first.ensures in
+    let off = is_mark c.args.values c.args.self.now.rows.items c.args.place c.args.new.now c.args.value c.requires.place c.requires.value c.args.self.now.counts.items c.args.self.now.firsts.items c.requires.grid c.has-mark.result c.has.result c.has-mark.ensures had ∙ c.if-mark.false in
+    let same = is_other c.args.values c.args.self.now.rows.items c.args.place c.args.new.now c.args.value c.requires.place c.requires.value c.args.self.now.counts.items c.args.self.now.firsts.items c.requires.grid c.has-mark.result c.has.result c.has-mark.ensures had in
+    let left = c.index_mut-else-mark.result.now - 1 in
+    let count : left ≡ count_of (after c.args.values c.args.self.now.rows.items c.args.place c.args.new.now c.args.value c.requires.place c.requires.value c.args.self.now.counts.items c.args.self.now.firsts.items c.requires.grid c.has-mark.result c.has.result c.has-mark.ensures had) c.args.value = omega (arith, e) in
+    let back = read_back c.args.values c.args.self.now.rows.items c.args.place c.args.new.now c.args.value c.requires.place c.requires.value c.args.self.now.counts.items c.args.self.now.firsts.items c.requires.grid c.has-mark.result c.has.result c.has-mark.ensures had left c.index-count.result.now c.index-count.ensures in
+    let found = subst (λ (rs : List Marks). (p q : ℕ → Bool) → IsFirst p (length rs) c.index-first.result.now → q c.args.place ≡ false → ((j : ℕ) → j ≢ c.args.place → p j ≡ q j)
+    → ((j : ℕ) → c.args.place < j → j < length rs → q j ≡ is_marked_at rs j c.args.value) → (c.index-count.result.now ≡ 0 → (j : ℕ) → j < length rs → q j ≡ false) → IsFirst q (length rs) c.first_without.result)
+    c.deref.ensures.value c.first_without.ensures in
+    kept c.args.values c.args.self.now.rows.items c.args.place c.args.new.now c.args.value c.requires.place c.requires.value c.args.self.now.counts.items c.args.self.now.firsts.items c.requires.grid c.has-mark.result c.has.result c.has-mark.ensures had left c.first_without.result count
+    (found _ _ was off same
+    (λ j past l. let apart : j ≢ c.args.place = omega (arith, past) in is_kept c.args.values c.args.self.now.rows.items c.args.place c.args.new.now c.args.value c.requires.place c.requires.value c.args.self.now.counts.items c.args.self.now.firsts.items c.requires.grid c.has-mark.result c.has.result c.has-mark.ensures had j apart l)
+    (λ none. none_left c.args.values c.args.self.now.rows.items c.args.place c.args.new.now c.args.value c.requires.place c.requires.value c.args.self.now.counts.items c.args.self.now.firsts.items c.requires.grid c.has-mark.result c.has.result c.has-mark.ensures had left count (sym back ∙ none)))

@@ -1,0 +1,24 @@
+use Rattle.std.proofs.Common.{◌≡◌, ◌≢◌, ◌∙◌, ap, sym, ℤ, pos, Option, Some, rules, not, of_z, w64, SFits}
+use Rattle.std.proofs.lemmas.Int.{to_z-of_z}
+use Rattle.std.specs.Prelude.{unwrap_or}
+use Rattle.dcsp_linear.specs.Sums.{stands}
+use Rattle.dcsp_problem.specs.Rules.{is_told}
+use Rattle.dcsp_row.specs.declared.sums.Told.{Told}
+use Rattle.dcsp_row.specs.Lines.{line_at, told_at}
+use Rattle.dcsp_row.specs.Rows.{own_at}
+use Rattle.dcsp_row.proofs.CutLaws.{told_false}
+use Rattle.dcsp_row.proofs.sums.off_span.Goals as goal
+
+pub returns-else-truth-eq1-clause-off : goal.returns-else-truth-eq1-clause-off
+returns-else-truth-eq1-clause-off c = λ k l.
+    let rel = c.args.rel in
+    let line = c.args.line in
+    let truth = c.in-By.truth in
+    let x = own_at c.args.domain.now k in
+    let other : truth ≢ pos 1 = λ e. c.if-truth-eq1.false (ap (of_z w64) e) in
+    let total : c.args.total ≡ Some c.in_ok-total.field-0 = search rules in
+    let fits : SFits w64 c.in_ok-total.field-0 = search rules in
+    let missed = simp to_z-of_z at c.in_ok-missed.ensures.missed in
+    c.others.ensures k ∙ ap not (missed k l) ∙ told_false (stands rel (line_at line x) c.in_ok-total.field-0) truth other
+    ∙ sym (ap (λ (o : Option ℤ). not (is_told (Some truth) (stands rel (line_at line x) (unwrap_or o x)))) total)
+    ∙ sym (ap (λ (t : Told). not (is_told (told_at t x) (stands rel (line_at line x) (unwrap_or c.args.total x)))) c.in-By.is)

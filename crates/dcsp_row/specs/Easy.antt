@@ -1,0 +1,50 @@
+-- Rules that rule out one run of values, or all values outside one, whatever is known.
+use Rattle.std.specs.Prelude.{ℕ, ◌==◌, ◌&&◌, ◌||◌, ℤ, pos, negsuc, Bool, true, false, not, List, [], ◌∷◌, Option, Some, None, if◌then◌else◌}
+use Rattle.std.specs.Ordering.{int_eq}
+use Rattle.dcsp_meaning.specs.declared.kinds.Kind.{Kind}
+use Rattle.dcsp_meaning.specs.declared.kinds.Kind.TheVariants.{IntEq, IntNe, IntLe, IntLt}
+use Rattle.dcsp_problem.specs.declared.rule.Term.{Term}
+use Rattle.dcsp_problem.specs.declared.rule.Term.TheVariants.{Const, Var}
+use Rattle.dcsp_problem.specs.declared.rule.Rule.{Rule}
+use Rattle.dcsp_problem.specs.declared.rule.Rule.TheVariants.{Plain, Sum}
+
+-- whether a constraint compares two numbers
+abbrev pub is_comparison : Kind → Bool
+is_comparison IntEq = true
+is_comparison IntNe = true
+is_comparison IntLe = true
+is_comparison IntLt = true
+is_comparison other = false
+
+-- whether the rule is no sum
+abbrev pub is_plain : Rule → Bool
+is_plain (Plain kind scalars first second members) = true
+is_plain (Sum rel coefs terms total truth) = false
+
+-- whether the term is the variable
+abbrev pub is_variable : ℕ → Term → Bool
+is_variable var (Const value) = false
+is_variable var (Var other) = other == var
+
+-- whether it is the variable whose value tells the truth of a sum
+abbrev pub is_truth : ℕ → Option Term → Bool
+is_truth var None = false
+is_truth var (Some term) = is_variable var term
+
+-- the coefficients of the variable among the terms of a sum
+abbrev pub own_coefs : ℕ → List ℤ → List Term → List ℤ
+own_coefs var [] terms = []
+own_coefs var (coef ∷ coefs) [] = []
+own_coefs var (coef ∷ coefs) (term ∷ terms) = if is_variable var term then coef ∷ own_coefs var coefs terms else own_coefs var coefs terms
+
+-- whether these are none, or one that is 1 or -1
+abbrev pub is_unit : List ℤ → Bool
+is_unit [] = true
+is_unit (coef ∷ []) = int_eq coef (pos 1) || int_eq coef (negsuc 0)
+is_unit (first ∷ second ∷ others) = false
+
+-- whether the rule compares two numbers, or is a sum to which the variable is added once, from which it is taken once, or in which it is not, and whose
+-- total and truth are not told by the variable
+abbrev pub has_span : ℕ → Rule → Bool
+has_span var (Plain kind scalars first second members) = is_comparison kind
+has_span var (Sum rel coefs terms total truth) = is_unit (own_coefs var coefs terms) && (not (is_variable var total) && not (is_truth var truth))

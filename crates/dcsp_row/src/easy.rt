@@ -1,0 +1,81 @@
+//! Rules that rule out one run of values, or all values outside one, whatever is known.
+
+ghost use Rattle.std.specs.Prelude.{◌≡◌, ◌<◌, IsTrue, length};
+ghost use Rattle.dcsp_problem.specs.Problems.{rule_at};
+ghost use Rattle.dcsp_problem.specs.Rules.{has_shape};
+ghost use Rattle.dcsp_row.specs.Easy.{has_span, is_truth, is_unit, is_variable, own_coefs};
+
+use crate::compare::comparison_of;
+use dcsp_problem::{Problem, Rule, Term};
+
+/// Whether the values of the variable that the rule rules out are always a run of its domain, or all values
+/// outside one.
+pub fn has_span(problem: &Problem, rule: u32, var: u32) -> bool
+    requires { rule < length problem.now.rules }
+    ensures { result ≡ has_span var (rule_at problem.now rule) }
+{
+    let _variables = problem.vars();
+    is_easy(problem.rule(rule), var)
+}
+
+/// The same of the rule itself.
+fn is_easy(rule: &Rule, var: u32) -> bool
+    requires { IsTrue (has_shape rule.now) }
+    ensures { result ≡ has_span var rule.now }
+{
+    match rule {
+        Rule::Plain { kind, .. } => comparison_of(*kind).is_some(),
+        Rule::Sum {
+            coefs,
+            terms,
+            total,
+            truth,
+            ..
+        } => {
+            is_unit_in(coefs.items(), terms.items(), var)
+                && !is_variable(*total, var)
+                && !is_truth(*truth, var)
+        }
+    }
+}
+
+/// Whether the variable is none of the terms, or one with the coefficient 1 or -1.
+fn is_unit_in(coefs: &[i64], terms: &[Term], var: u32) -> bool
+    requires { length coefs.now ≡ length terms.now }
+    ensures { result ≡ is_unit (own_coefs var coefs.now terms.now) }
+{
+    let mut found = None;
+    for place in 0..coefs.len() {
+        if !is_variable(terms[place], var) {
+            continue;
+        }
+        if found.is_some() {
+            return false;
+        }
+        found = Some(coefs[place]);
+    }
+    match found {
+        Some(coef) => coef == 1 || coef == -1,
+        None => true,
+    }
+}
+
+/// Whether it is the variable that tells the truth of a sum.
+fn is_truth(truth: Option<Term>, var: u32) -> bool
+    ensures { result ≡ is_truth var truth }
+{
+    match truth {
+        Some(term) => is_variable(term, var),
+        None => false,
+    }
+}
+
+/// Whether the term is the variable.
+pub fn is_variable(term: Term, var: u32) -> bool
+    ensures { result ≡ is_variable var term }
+{
+    match term {
+        Term::Const(_) => false,
+        Term::Var(other) => other == var,
+    }
+}

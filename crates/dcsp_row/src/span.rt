@@ -1,0 +1,62 @@
+//! Runs of places, and all places outside them.
+
+ghost use Rattle.std.specs.Prelude.{◌≡◌, ◌<◌, ◌+◌, ◌*◌, ◌==◌, ℕ, not};
+ghost use Rattle.std.specs.Int.{bit_at};
+ghost use Rattle.dcsp_row.specs.Spans.{is_between, is_within};
+
+use crate::word::low_word;
+
+/// The places from one on that stand before another, or all others.
+#[derive(Clone, Copy, Debug, PartialEq, Eq)]
+pub struct Span {
+    pub from: usize,
+    pub to: usize,
+    pub outside: bool,
+}
+
+impl Span {
+    /// All places, or none.
+    pub fn whole(all: bool) -> Span
+        ensures { (k : ℕ) → is_within result k ≡ all }
+    {
+        Span {
+            from: 0,
+            to: 0,
+            outside: all,
+        }
+    }
+
+    /// The other places.
+    pub fn others(self) -> Span
+        ensures { (k : ℕ) → is_within result k ≡ not (is_within self k) }
+    {
+        Span {
+            from: self.from,
+            to: self.to,
+            outside: !self.outside,
+        }
+    }
+
+    /// Whether the place is one of them.
+    pub fn has(self, place: usize) -> bool
+        ensures { result ≡ is_within self place }
+    {
+        let between = self.from <= place && place < self.to;
+        between != self.outside
+    }
+
+    /// The word of a block in which their bits are set.
+    pub fn word(self, block: usize) -> u64
+        ensures { (bit : ℕ) → bit < 64 → (bit_at result bit == 1) ≡ is_within self (block * 64 + bit) }
+    {
+        let between = word_between(self.from, self.to, block);
+        if self.outside { !between } else { between }
+    }
+}
+
+/// The word of a block in which the bits of the places from one on that stand before another are set.
+fn word_between(from: usize, to: usize, block: usize) -> u64
+    ensures { (bit : ℕ) → bit < 64 → (bit_at result bit == 1) ≡ is_between from to (block * 64 + bit) }
+{
+    low_word(block, to) & !low_word(block, from)
+}
