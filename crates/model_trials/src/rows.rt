@@ -7,7 +7,7 @@ use dcsp_linear::Rel;
 use dcsp_problem::{
     Domain, IntList, Kind, Lookup, Members, Problem, ProblemBuilder, Rule, Term, TermList,
 };
-use dcsp_row::{Row, fill_row};
+use dcsp_row::{Marks, Row, Span, fill_row, has_span, span_of};
 use std::alloc::Global;
 use std::process::Abort;
 use std::test::Fail;
@@ -72,7 +72,14 @@ fn expect_ruled_out(
     for place in 0..domain.len() {
         assert_eq!(rt; row.has(place), ruled_out.contains(&domain.value(place)));
     }
-    row.mark_side(0, true);
+    let span = span_of(&problem, 0, 0, &Nothing);
+    assert_eq!(rt; has_span(&problem, 0, 0), span.is_some());
+    if let Some(span) = span {
+        for place in 0..domain.len() {
+            assert_eq!(rt; span.has(place), row.has(place));
+        }
+    }
+    row.mark_span(Span::whole(false));
     for place in 0..row.len() {
         assert!(rt; !row.has(place));
     }
@@ -85,6 +92,18 @@ fn rows_of_one_variable(rt: HostRuntime) -> Result<(), Fail> {
     expect_ruled_out(&rt, alloc, compared(alloc, Kind::IntNe, 65)?, &[65])?;
     expect_ruled_out(&rt, alloc, compared(alloc, Kind::IntLe, 68)?, &[69, 70])?;
     expect_ruled_out(&rt, alloc, compared(alloc, Kind::IntLt, 70)?, &[70])?;
+    expect_ruled_out(
+        &rt,
+        alloc,
+        summed(alloc, Rel::AtMost, 1, Term::Const(3), 72)?,
+        &[70],
+    )?;
+    expect_ruled_out(
+        &rt,
+        alloc,
+        summed(alloc, Rel::AtMost, -1, Term::Const(3), 2)?,
+        &[0],
+    )?;
     expect_ruled_out(
         &rt,
         alloc,
@@ -103,16 +122,33 @@ fn rows_of_one_variable(rt: HostRuntime) -> Result<(), Fail> {
 #[test]
 fn changes_are_found(rt: HostRuntime) -> Result<(), Fail> {
     let mut row = Row::new(rt.alloc(), 130).expect(&rt, "memory");
-    let other = Row::new(rt.alloc(), 130).expect(&rt, "memory");
-    assert!(rt; row.next_change(&other, 0).is_none());
     row.put(64, true);
     row.put(129, true);
-    assert!(rt; row.next_change(&other, 0) == Some(64));
-    assert!(rt; row.next_change(&other, 65) == Some(129));
-    assert!(rt; row.next_change(&other, 130).is_none());
-    row.mark_side(70, false);
-    assert!(rt; row.next_change(&other, 0) == Some(70));
-    row.mark_side(70, true);
-    assert!(rt; row.next_change(&other, 70).is_none());
+    let marks = Marks::Row(row);
+    let none = Marks::Span(Span::whole(false));
+    assert!(rt; marks.next_change(&none, 130, 0) == Some(64));
+    assert!(rt; marks.next_change(&none, 130, 65) == Some(129));
+    assert!(rt; marks.next_change(&none, 130, 130).is_none());
+    assert!(rt; none.next_change(&marks, 130, 0) == Some(64));
+    Ok(())
+}
+
+#[test]
+fn marks_are_copied(rt: HostRuntime) -> Result<(), Fail> {
+    let span = Span {
+        from: 0,
+        to: 70,
+        outside: true,
+    };
+    let high = Marks::Span(span);
+    let mut copy = Marks::Row(Row::new(rt.alloc(), 130).expect(&rt, "memory"));
+    assert!(rt; copy.next_change(&high, 130, 0) == Some(70));
+    copy.copy_from(130, &high);
+    assert!(rt; copy.next_change(&high, 130, 0).is_none());
+    assert!(rt; !copy.has(130, 69));
+    assert!(rt; copy.has(130, 70));
+    copy.copy_from(130, &Marks::Span(span.others()));
+    assert!(rt; copy.has(130, 69));
+    assert!(rt; !copy.has(130, 70));
     Ok(())
 }
