@@ -10,7 +10,7 @@ use crate::deletion::HEAD2;
 use crate::entry::{Entries, Entry};
 use crate::entry_reader::read_entry;
 use crate::log::{LogError, split_line};
-use crate::reader::LineError;
+use crate::reader::{Gathered, LineError};
 use crate::standing::{Place, Standing, Version};
 use crate::writer::{HEAD, TAIL};
 use std::alloc::Global;
@@ -74,7 +74,13 @@ fn after_entry(place: Place, entry: &Entry) -> Place
 }
 
 /// After a line that is neither the first nor stands after `end`. Its entry is appended.
-fn after_inside(alloc: Global, place: Place, line: &[u8], into: &mut Entries) -> Standing
+fn after_inside(
+    alloc: Global,
+    gathered: &mut Gathered,
+    place: Place,
+    line: &[u8],
+    into: &mut Entries,
+) -> Standing
     requires whole { IsLine line.now }
     requires room { IsWithin (Standing.Inside place) (2 ^ 63) }
     ensures stands { Follows (Standing.Inside place) result line.now into.old into.new }
@@ -83,7 +89,7 @@ fn after_inside(alloc: Global, place: Place, line: &[u8], into: &mut Entries) ->
     if line == TAIL {
         return Standing::Ended(place.line + 1);
     }
-    match read_entry(alloc, place.version, place.step, line) {
+    match read_entry(alloc, gathered, place.version, place.step, line) {
         Ok(entry) => {
             let next = after_entry(place, &entry);
             match into.push(entry) {
@@ -97,7 +103,13 @@ fn after_inside(alloc: Global, place: Place, line: &[u8], into: &mut Entries) ->
 }
 
 /// After a line with its line feed. Its entry, if it has one, is appended.
-fn after_line(alloc: Global, standing: Standing, line: &[u8], into: &mut Entries) -> Standing
+fn after_line(
+    alloc: Global,
+    gathered: &mut Gathered,
+    standing: Standing,
+    line: &[u8],
+    into: &mut Entries,
+) -> Standing
     requires whole { IsLine line.now }
     requires room { IsWithin standing (2 ^ 63) }
     ensures stands { Follows standing result line.now into.old into.new }
@@ -105,14 +117,14 @@ fn after_line(alloc: Global, standing: Standing, line: &[u8], into: &mut Entries
 {
     match standing {
         Standing::Start => after_head(line),
-        Standing::Inside(place) => after_inside(alloc, place, line, into),
+        Standing::Inside(place) => after_inside(alloc, gathered, place, line, into),
         Standing::Ended(number) => Standing::Refused(LogError::Line { number }),
         Standing::Refused(error) => Standing::Refused(error),
     }
 }
 
 /// Takes a piece that ends with its only line feed.
-fn take_line(body: &mut Body, line: &[u8], into: &mut Entries)
+fn take_line(body: &mut Body, gathered: &mut Gathered, line: &[u8], into: &mut Entries)
     requires whole { IsLine line.now }
     requires sound { IsSound (kept body.old) }
     requires room { body.old.fed + length line.now ≤ 2 ^ 63 }
@@ -126,11 +138,11 @@ fn take_line(body: &mut Body, line: &[u8], into: &mut Entries)
     }
     // Only a line that two pieces share is joined.
     if body.part.is_empty() {
-        body.standing = after_line(alloc, body.standing, line, into);
+        body.standing = after_line(alloc, gathered, body.standing, line, into);
         return;
     }
     body.standing = match body.part.extend_from_slice(line) {
-        Ok(()) => after_line(alloc, body.standing, &body.part, into),
+        Ok(()) => after_line(alloc, gathered, body.standing, &body.part, into),
         Err(_) => Standing::Refused(LogError::Memory),
     };
     body.part.clear();
@@ -162,7 +174,7 @@ fn take_part(body: &mut Body, part: &[u8])
 }
 
 /// Takes a piece. The entries of the lines that it completes are appended.
-pub fn take_piece(body: &mut Body, piece: &[u8], into: &mut Entries)
+pub fn take_piece(body: &mut Body, gathered: &mut Gathered, piece: &[u8], into: &mut Entries)
     requires sound { IsSound (kept body.old) }
     requires room { body.old.fed + length piece.now ≤ 2 ^ 63 }
     ensures feeds { Feeds (kept body.old) (kept body.new) piece.now into.old into.new }
@@ -170,7 +182,7 @@ pub fn take_piece(body: &mut Body, piece: &[u8], into: &mut Entries)
 {
     let mut rest = piece;
     while let Some((line, others)) = split_line(rest) {
-        take_line(body, line, into);
+        take_line(body, gathered, line, into);
         rest = others;
     }
     take_part(body, rest);

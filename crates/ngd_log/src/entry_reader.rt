@@ -5,7 +5,7 @@ ghost use Rattle.ngd_log.specs.EntryReading.{numbers_at, rises_after, deletion_a
 
 use crate::entry::{Entry, NumberList};
 use crate::field::{after, step_number_at};
-use crate::reader::{LineError, is_line_feed, step_of};
+use crate::reader::{Gathered, LineError, is_line_feed, step_of};
 use crate::standing::Version;
 use std::alloc::Global;
 
@@ -59,10 +59,10 @@ fn deletion_at(alloc: Global, bytes: &[u8]) -> Result<NumberList, LineError>
 
 /// The step of a whole line, which has this number, as an entry.
 #[tactic(auto, unfolding(crate::specs::EntryReading::step_entry))]
-fn step_entry(alloc: Global, number: u64, line: &[u8]) -> Result<Entry, LineError>
+fn step_entry(gathered: &mut Gathered, number: u64, line: &[u8]) -> Result<Entry, LineError>
     ensures { Gives (λ x. x) result (step_entry number line.now) }
 {
-    let step = step_of(alloc, number, line)?;
+    let step = step_of(gathered, number, line)?;
     Ok(Entry::Step(step))
 }
 
@@ -70,6 +70,7 @@ fn step_entry(alloc: Global, number: u64, line: &[u8]) -> Result<Entry, LineErro
 #[tactic(auto, unfolding(crate::specs::EntryReading::entry_of))]
 pub(crate) fn read_entry(
     alloc: Global,
+    gathered: &mut Gathered,
     version: Version,
     number: u64,
     line: &[u8],
@@ -77,13 +78,13 @@ pub(crate) fn read_entry(
     ensures { Gives (λ x. x) result (entry_of version number line.now) }
 {
     match version {
-        Version::One => step_entry(alloc, number, line),
+        Version::One => step_entry(gathered, number, line),
         Version::Two => match after(b"d", line) {
             Some(rest) => {
                 let numbers = deletion_at(alloc, rest)?;
                 Ok(Entry::Delete(numbers))
             }
-            None => step_entry(alloc, number, line),
+            None => step_entry(gathered, number, line),
         },
     }
 }

@@ -14,6 +14,9 @@ pub(crate) const RULES: u32 = 262_144;
 /// The greatest number of a step.
 const STEPS: u64 = 1 << 62;
 
+/// Below this a number with one digit more has 64 bits too.
+const SHORT: u64 = u64::MAX / 10;
+
 /// What stands after this text, where the bytes begin with it.
 pub fn after<'t>(text: &[u8], bytes: &'t [u8]) -> Option<&'t [u8]>
     ensures reads { Reads (λ x. x.now) result (after text.now bytes.now) }
@@ -34,7 +37,12 @@ fn digits_at(bytes: &[u8]) -> Option<(u64, &[u8])>
         if !byte.is_ascii_digit() {
             break;
         }
-        number = number.checked_mul(10)?.checked_add(u64::from(byte - b'0'))?;
+        let digit = u64::from(byte - b'0');
+        number = if number < SHORT {
+            number * 10 + digit
+        } else {
+            number.checked_mul(10)?.checked_add(digit)?
+        };
         rest = others;
     }
     Some((number, rest))

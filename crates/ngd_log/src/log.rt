@@ -4,7 +4,7 @@ ghost use Rattle.dcsp_defs.specs.declared.Step.{Step};
 ghost use Rattle.ngd_log.specs.Logs.{lines, HasNoLineFeed, IsLine, IsLogOf, IsFirstBad, LogOrBadLine, LogsDiffer, AreWritable, NextLine, IsUnlessMemory, IsCause};
 
 use crate::derivation::Derivation;
-use crate::reader::{LineError, read_step};
+use crate::reader::{Gathered, LineError, read_step};
 use crate::writer::{HEAD, TAIL};
 use std::alloc::Global;
 
@@ -42,6 +42,7 @@ fn log_of(alloc: Global, text: &[u8]) -> Result<Derivation, LogError>
         return Err(LogError::Line { number: 1 });
     }
     let mut derivation = Derivation::new(alloc);
+    let mut gathered = Gathered::new(alloc);
     let mut rest = others;
     while let Some((line, others)) = split_line(rest) {
         let number = derivation.len() + 1;
@@ -51,7 +52,7 @@ fn log_of(alloc: Global, text: &[u8]) -> Result<Derivation, LogError>
             }
             return Err(LogError::Line { number: number + 2 });
         }
-        match read_step(alloc, number, line) {
+        match read_step(&mut gathered, number, line) {
             Ok(step) => {
                 if derivation.push(step).is_err() {
                     return Err(LogError::Memory);

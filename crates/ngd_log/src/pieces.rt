@@ -8,6 +8,7 @@ ghost use Rattle.ngd_log.specs.Pieces.{refusal_of, Tells, joined, IsFed, Complet
 use crate::body::{Body, take_piece};
 use crate::entry::Entries;
 use crate::log::LogError;
+use crate::reader::Gathered;
 use crate::standing::Standing;
 use std::alloc::Global;
 use std::marker::Model;
@@ -19,6 +20,7 @@ use std::marker::Model;
 #[derive(Drop)]
 pub struct LogReader {
     body: Body,
+    gathered: Gathered,
 }
 
 impl Model for LogReader {
@@ -42,6 +44,7 @@ impl LogReader {
                 part: Vec::new(alloc),
                 fed: 0,
             },
+            gathered: Gathered::new(alloc),
         }
     }
 
@@ -62,7 +65,7 @@ impl LogReader {
         ensures stands { Tells (refusal_of self.new.standing) result }
         ensures again { IfSome (refusal_of self.old.standing) (λ error. result ≡ Err error) }
     {
-        take_piece(&mut self.body, piece, into);
+        take_piece(&mut self.body, &mut self.gathered, piece, into);
         self.body.standing.answer()
     }
 

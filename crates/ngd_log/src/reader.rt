@@ -34,23 +34,47 @@ impl<T: Drop> From<(T, dcsp_list::Memory)> for LineError {
     }
 }
 
-/// An empty list, with room for an item behind each of these bytes and one more.
-fn list_for<T>(alloc: Global, byte: u8, bytes: &[u8]) -> Result<Vec<T>, LineError>
-    ensures empty { IfOk result (λ list. list.items ≡ []) }
+/// Where the pairs and the reasons of a line are gathered, line after line, before their lists are made as long as
+/// they are.
+#[derive(Drop)]
+pub struct Gathered {
+    alloc: Global,
+    pairs: Vec<Pair>,
+    reasons: Vec<Reason>,
+}
+
+impl Gathered {
+    /// Nothing is gathered. It takes no memory.
+    pub fn new(alloc: Global) -> Gathered {
+        Gathered {
+            alloc,
+            pairs: Vec::new(alloc),
+            reasons: Vec::new(alloc),
+        }
+    }
+}
+
+/// A list of these items.
+fn list_of<T: Copy>(alloc: Global, items: &[T]) -> Result<Vec<T>, LineError>
+    ensures items { IfOk result (λ list. list.items ≡ items.now) }
     ensures memory { IfErr result (λ e. e ≡ OutOfMemory) }
 {
-    let count = bytes.iter().filter(|next| **next == byte).count();
-    match Vec::with_capacity(alloc, count.saturating_add(1)) {
+    match Vec::from_slice(alloc, items) {
         Ok(list) => Ok(list),
         Err(_) => Err(LineError::Memory),
     }
 }
 
 /// The pairs after this first one, each behind a comma.
-fn pairs_from(alloc: Global, first: Pair, bytes: &[u8]) -> Result<(Vec<Pair>, &[u8]), LineError>
+fn pairs_from<'t>(
+    alloc: Global,
+    pairs: &mut Vec<Pair>,
+    first: Pair,
+    bytes: &'t [u8],
+) -> Result<(Vec<Pair>, &'t [u8]), LineError>
     ensures { Gives (λ x. (x.0.items, x.1.now)) result (pairs_from first bytes.now) }
 {
-    let mut pairs = list_for(alloc, b',', bytes)?;
+    pairs.clear();
     pairs.push(first)?;
     let mut rest = bytes;
     while let Some(next) = after(b",", rest) {
@@ -60,12 +84,17 @@ fn pairs_from(alloc: Global, first: Pair, bytes: &[u8]) -> Result<(Vec<Pair>, &[
         pairs.push(pair)?;
         rest = others;
     }
-    Ok((pairs, rest))
+    let list = list_of(alloc, pairs)?;
+    Ok((list, rest))
 }
 
 /// The pairs in brackets.
 #[tactic(auto, unfolding(crate::specs::Reading::pairs_at, crate::specs::Reading::pairs_before))]
-fn pairs_at(alloc: Global, bytes: &[u8]) -> Result<(Vec<Pair>, &[u8]), LineError>
+fn pairs_at<'t>(
+    alloc: Global,
+    pairs: &mut Vec<Pair>,
+    bytes: &'t [u8],
+) -> Result<(Vec<Pair>, &'t [u8]), LineError>
     ensures { Gives (λ x. (x.0.items, x.1.now)) result (pairs_at bytes.now) }
 {
     let rest = after(b"[", bytes).ok_or(LineError::Bad)?;
@@ -73,16 +102,20 @@ fn pairs_at(alloc: Global, bytes: &[u8]) -> Result<(Vec<Pair>, &[u8]), LineError
         return Ok((Vec::new(alloc), rest));
     }
     let (first, rest) = pair_at(rest).ok_or(LineError::Bad)?;
-    let (pairs, rest) = pairs_from(alloc, first, rest)?;
+    let (list, rest) = pairs_from(alloc, pairs, first, rest)?;
     let rest = after(b"]", rest).ok_or(LineError::Bad)?;
-    Ok((pairs, rest))
+    Ok((list, rest))
 }
 
 /// The reasons, each behind a space.
-fn reasons_at(alloc: Global, bytes: &[u8]) -> Result<(ReasonList, &[u8]), LineError>
+fn reasons_at<'t>(
+    alloc: Global,
+    reasons: &mut Vec<Reason>,
+    bytes: &'t [u8],
+) -> Result<(ReasonList, &'t [u8]), LineError>
     ensures { Gives (λ x. (x.0, x.1.now)) result (reasons_at bytes.now) }
 {
-    let mut reasons = ReasonList::from_vec(list_for(alloc, b' ', bytes)?);
+    reasons.clear();
     let mut rest = bytes;
     while let Some(next) = after(b" ", rest) {
         let Some((reason, others)) = reason_at(next) else {
@@ -91,7 +124,8 @@ fn reasons_at(alloc: Global, bytes: &[u8]) -> Result<(ReasonList, &[u8]), LineEr
         reasons.push(reason)?;
         rest = others;
     }
-    Ok((reasons, rest))
+    let list = list_of(alloc, reasons)?;
+    Ok((ReasonList::from_vec(list), rest))
 }
 
 /// The nogood of these pairs, where they rise.
@@ -113,15 +147,15 @@ pub(crate) fn is_line_feed(bytes: &[u8]) -> bool
 
 /// The step of a line with a variable, whose rest after the number this is.
 #[tactic(auto, unfolding(crate::specs::Reading::variable_step))]
-fn variable_step(alloc: Global, bytes: &[u8]) -> Result<Step, LineError>
+fn variable_step(gathered: &mut Gathered, bytes: &[u8]) -> Result<Step, LineError>
     ensures { Gives (λ x. x) result (variable_step bytes.now) }
 {
     let rest = after(b"v", bytes).ok_or(LineError::Bad)?;
     let (variable, rest) = counted_at(rest, VARIABLES).ok_or(LineError::Bad)?;
     let rest = after(b" ", rest).ok_or(LineError::Bad)?;
-    let (pairs, rest) = pairs_at(alloc, rest)?;
+    let (pairs, rest) = pairs_at(gathered.alloc, &mut gathered.pairs, rest)?;
     let rest = after(b" <-", rest).ok_or(LineError::Bad)?;
-    let (reasons, rest) = reasons_at(alloc, rest)?;
+    let (reasons, rest) = reasons_at(gathered.alloc, &mut gathered.reasons, rest)?;
     let nogood = nogood_of(pairs)?;
     if !is_line_feed(rest) {
         return Err(LineError::Bad);
@@ -153,16 +187,16 @@ fn rule_step(alloc: Global, bytes: &[u8]) -> Result<Step, LineError>
 }
 
 /// The step of a whole line with its line feed, where it has this number.
-pub fn read_step(alloc: Global, number: u64, line: &[u8]) -> Result<Step, LineError>
+pub fn read_step(gathered: &mut Gathered, number: u64, line: &[u8]) -> Result<Step, LineError>
     ensures step { IfOk result (λ step. IsStepLine number line.now step) }
     ensures bad { IsErrOf result LineError.Bad → (step : DerivationStep) → IsStepLine number line.now step → ⊥ }
 {
-    step_of(alloc, number, line)
+    step_of(gathered, number, line)
 }
 
 /// The step of a whole line, which has this number.
 #[tactic(auto, unfolding(crate::specs::Reading::step_of))]
-pub(crate) fn step_of(alloc: Global, number: u64, line: &[u8]) -> Result<Step, LineError>
+pub(crate) fn step_of(gathered: &mut Gathered, number: u64, line: &[u8]) -> Result<Step, LineError>
     ensures { Gives (λ x. x) result (step_of number line.now) }
 {
     let (found, rest) = step_number_at(line).ok_or(LineError::Bad)?;
@@ -171,7 +205,7 @@ pub(crate) fn step_of(alloc: Global, number: u64, line: &[u8]) -> Result<Step, L
         return Err(LineError::Bad);
     }
     match after(b"- [] <- c", rest) {
-        Some(rest) => rule_step(alloc, rest),
-        None => variable_step(alloc, rest),
+        Some(rest) => rule_step(gathered.alloc, rest),
+        None => variable_step(gathered, rest),
     }
 }

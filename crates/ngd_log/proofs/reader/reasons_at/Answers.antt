@@ -1,4 +1,4 @@
-use Rattle.std.proofs.Common.{◌≡◌, ◌-◌, ◌++◌, ◌∷◌, [], length, arith, codes}
+use Rattle.std.proofs.Common.{◌≡◌, ◌-◌, ◌++◌, ◌∷◌, [], length, arith, codes, ◌∙◌}
 use Rattle.std.proofs.lemmas.List.{length_push}
 use Rattle.ngd_log.specs.Reading.{reason_at, reasons_at}
 use Rattle.ngd_log.proofs.Items.{goes_on, fails_on, is_done}
@@ -7,13 +7,14 @@ use Rattle.ngd_log.proofs.reader.reasons_at.Goals as goal
 pub returns-in_default-reason_at : goal.returns-in_default-reason_at
 returns-in_default-reason_at c =
     let l = c.loop-next in
-    fails_on (codes " ") reason_at l.reasons (length c.args.bytes.now - length l.reasons - 1) (length c.args.bytes.now - length l.reasons) l.rest.now c.in-Some.next.now (reasons_at c.args.bytes.now)
+    fails_on (codes " ") reason_at l.reasons.items (length c.args.bytes.now - length l.reasons.items - 1) (length c.args.bytes.now - length l.reasons.items) l.rest.now c.in-Some.next.now (reasons_at c.args.bytes.now)
     (let s = c.in-Some.ensures.shorter in let r = l.invariant.room in omega arith) c.in-Some.ensures.reads c.in_default-reason_at.ensures.reads l.invariant.same
 
 pub returns : goal.returns
 returns c =
     let l = c.loop-next in
-    is_done (codes " ") reason_at l.reasons (length c.args.bytes.now - length l.reasons) l.rest.now (reasons_at c.args.bytes.now) c.in_default.ensures.reads l.invariant.same
+    let all : c.from_vec.result ≡ l.reasons.items = c.from_vec.ensures ∙ (c.in_ok-list.ensures.items ∙ c.deref.ensures.value) in
+    rw all (is_done (codes " ") reason_at l.reasons.items (length c.args.bytes.now - length l.reasons.items) l.rest.now (reasons_at c.args.bytes.now) c.in_default.ensures.reads l.invariant.same)
 
 pub loop-next-preserved : goal.loop-next-preserved
 loop-next-preserved c =
@@ -22,11 +23,11 @@ loop-next-preserved c =
     let s = c.in-Some.ensures.shorter in
     let t = c.in-Some-reason_at.ensures.shorter in
     let r = l.invariant.room in
-    let n = length_push l.reasons x in
-    let pushed : c.push.new.self ≡ l.reasons ++ x ∷ [] = c.in_ok-push.ensures.ok in
-    let left : length c.args.bytes.now - length c.push.new.self ≡ length c.args.bytes.now - length l.reasons - 1 = rw pushed (omega arith) in
+    let n = length_push l.reasons.items x in
+    let pushed : c.push.new.self.items ≡ l.reasons.items ++ x ∷ [] = c.in_ok-push.ensures.items in
+    let left : length c.args.bytes.now - length c.push.new.self.items ≡ length c.args.bytes.now - length l.reasons.items - 1 = rw pushed (omega arith) in
     record {
-      same = rw (left, pushed) (goes_on (codes " ") reason_at l.reasons (length c.args.bytes.now - length l.reasons - 1) (length c.args.bytes.now - length l.reasons) l.rest.now c.in-Some.next.now x c.in-Some-reason_at.others.now (reasons_at c.args.bytes.now)
+      same = rw (left, pushed) (goes_on (codes " ") reason_at l.reasons.items (length c.args.bytes.now - length l.reasons.items - 1) (length c.args.bytes.now - length l.reasons.items) l.rest.now c.in-Some.next.now x c.in-Some-reason_at.others.now (reasons_at c.args.bytes.now)
           (omega arith) c.in-Some.ensures.reads c.in-Some-reason_at.ensures.reads l.invariant.same);
       room = rw pushed (omega arith);
     }
