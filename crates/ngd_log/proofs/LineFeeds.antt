@@ -1,5 +1,5 @@
 -- The lines of a text.
-use Rattle.std.proofs.Common.{◌≡◌, ℕ, suc, ◌+◌, ◌<◌, ◌^◌, true, false, cond, eqb, List, [], ◌∷◌, ◌++◌, length, take, drop, get_or, Option, Some, None, ℤ, pos, negsuc, FitsSigned, inl, inr, refl, sym, ap, subst, ◌∙◌, append_assoc, arith}
+use Rattle.std.proofs.Common.{◌≡◌, ℕ, zero, suc, ◌+◌, ◌<◌, ◌^◌, Bool, true, false, ◌||◌, cond, eqb, List, [], ◌∷◌, ◌++◌, length, take, drop, get_or, Option, Some, None, ℤ, pos, negsuc, FitsSigned, inl, inr, refl, sym, ap, subst, ◌∙◌, append_assoc, arith}
 use Rattle.std.specs.Prelude.{codes, decimal, flat_map}
 use Rattle.std.specs.Int.{w64}
 use Rattle.std.specs.List.{AllByRecursion, concat}
@@ -149,6 +149,17 @@ line_has_feed line is h = in_body is.body (subst HasNoLineFeed is.same h)
     in_body : (body : List ℕ) → HasNoLineFeed (body ++ codes "\n") → ⊥
     in_body [] k = let e : true ≡ false = k.0 in cc
     in_body (b ∷ body) k = in_body body k.1
+
+-- no line feed up to a place, and none in so many bytes from there on
+pub plain_more : (text : List ℕ) (i n : ℕ) → HasNoLineFeed (take i text) → HasNoLineFeed (take n (drop i text)) → HasNoLineFeed (take (i + n) text)
+plain_more text zero n h k = let e : 0 + n ≡ n = omega arith in rw e k
+plain_more [] (suc i) n h k = let e : suc i + n ≡ suc (i + n) = omega arith in rw e tt
+plain_more (b ∷ text) (suc i) n h k = let e : suc i + n ≡ suc (i + n) = omega arith in rw e (h.0, plain_more text i n h.1 k)
+
+-- one byte more is no line feed
+pub plain_next : (bytes : List ℕ) (i : ℕ) (found : Bool) → i < length bytes → (found ≡ false → HasNoLineFeed (take i bytes)) → (found || eqb (get_or bytes i 0) 10) ≡ false → HasNoLineFeed (take (i + 1) bytes)
+plain_next bytes i true lt h e = absurd (false≢true (sym e))
+plain_next bytes i false lt h e = rw (take_more bytes i 0 lt) (both (take i bytes) (get_or bytes i 0 ∷ []) (h refl) (e, tt))
 
 -- a text up to its first line feed, and what follows it
 pub lines_split : (text : List ℕ) (at : ℕ) → at < length text → get_or text at 0 ≡ 10 → HasNoLineFeed (take at text) → lines text ≡ take (at + 1) text ∷ lines (drop (at + 1) text)

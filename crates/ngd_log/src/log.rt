@@ -1,5 +1,5 @@
 //! Reading a log.
-ghost use Rattle.std.specs.Prelude.{◌≡◌, ℕ, ◌+◌, ◌<◌, ◌∷◌, ◌++◌, List, length, IfOk, IfErr, IfSome, IfNone, IsErrOf, Ok, Err};
+ghost use Rattle.std.specs.Prelude.{◌≡◌, ℕ, ◌+◌, ◌<◌, ◌≤◌, ◌∷◌, ◌++◌, false, List, length, take, IfOk, IfErr, IfSome, IfNone, IsErrOf, Ok, Err};
 ghost use Rattle.dcsp_defs.specs.declared.Step.{Step};
 ghost use Rattle.ngd_log.specs.Logs.{lines, HasNoLineFeed, IsLine, IsLogOf, IsFirstBad, LogOrBadLine, LogsDiffer, AreWritable, NextLine, IsUnlessMemory, IsCause};
 
@@ -75,12 +75,41 @@ pub(crate) fn split_line(text: &[u8]) -> Option<(&[u8], &[u8])>
     ensures whole { IfSome result (λ x. IsLine x.0.now) }
     ensures none { IfNone result (HasNoLineFeed text.now) }
 {
-    for (at, byte) in text.iter().enumerate() {
-        if *byte == b'\n' {
+    for at in plain_front(text)..text.len() {
+        if text[at] == b'\n' {
             return Some(text.split_at(at + 1));
         }
     }
     None
+}
+
+/// How many bytes are looked at together.
+const BLOCK: usize = 16;
+
+/// The first line feed is not among so many bytes at the front, which are whole blocks.
+fn plain_front(text: &[u8]) -> usize
+    ensures within { result ≤ length text.now }
+    ensures plain { HasNoLineFeed (take result text.now) }
+{
+    let mut front = 0;
+    while text.len() - front >= BLOCK {
+        if has_line_feed(&text[front..front + BLOCK]) {
+            return front;
+        }
+        front += BLOCK;
+    }
+    front
+}
+
+/// Whether a line feed is among the bytes. Each of them is looked at, since that is done many at a time.
+fn has_line_feed(bytes: &[u8]) -> bool
+    ensures { result ≡ false → HasNoLineFeed bytes.now }
+{
+    let mut found = false;
+    for byte in bytes {
+        found |= *byte == b'\n';
+    }
+    found
 }
 
 /// Different derivations have different logs, and no log begins another.
