@@ -4,3 +4,4 @@ pub mod Findings
 pub mod Tables
 pub mod Texts
 pub mod GroupLaws
+pub mod ChainLaws

@@ -1,10 +1,8 @@
 -- Tables that are changed one by one, and the entries so far.
-use Rattle.std.proofs.Common.{◌≡◌, ℕ, zero, suc, ◌+◌, ◌-◌, ◌<◌, ◌≤◌, Bool, true, false, cond, ◌||◌, eqb, ltb, List, [], ◌∷◌, ◌++◌, length, take, drop, get_or, max, inl, inr, refl, sym, ap, ◌∙◌, append_assoc, arith}
+use Rattle.std.proofs.Common.{◌≡◌, ℕ, zero, suc, ◌+◌, ◌<◌, ◌≤◌, Bool, true, false, cond, ◌||◌, ltb, List, [], ◌∷◌, ◌++◌, length, take, drop, get_or, max, refl, sym, ap, ◌∙◌, append_assoc, arith}
 use Rattle.std.specs.List.{filter}
 use Rattle.std.proofs.Math.Nat.{le-max_left, max-eq_right}
-use Rattle.std.proofs.lemmas.Bool.{cases_eq, eq-eqb, ne_eqb}
-use Rattle.std.proofs.lemmas.List.{take_more, append-nil}
-use Rattle.std.proofs.lemmas.List.Elements.{filter-append}
+use Rattle.std.proofs.lemmas.List.{take_more}
 use Rattle.dcsp_defs.specs.declared.Reason.{Reason}
 use Rattle.dcsp_defs.specs.declared.Step.{Step}
 use Rattle.ngd_log.specs.declared.entry.Entry.{Entry}
@@ -63,28 +61,6 @@ pub taken : {X : Type 0} (xs : List X) (n : ℕ) → n ≤ length xs → length 
 taken xs zero le = refl
 taken [] (suc n) le = absurd (omega (arith, le))
 taken (x ∷ xs) (suc n) le = ap suc (taken xs n (omega (arith, le)))
-
--- ---- groups
-
--- a group with one number more
-pub group_more : (ends : List ℕ) (place k e : ℕ) (old new : List ℕ) → e ≡ get_or ends place 0 → 0 < e → old ≡ filter (λ number. eqb (get_or ends (number - 1) 0) (k + 1)) (numbers place)
-    → (k ≡ e - 1 → new ≡ old ++ (place + 1) ∷ []) → ((k ≡ e - 1 → ⊥) → new ≡ old) → new ≡ filter (λ number. eqb (get_or ends (number - 1) 0) (k + 1)) (numbers (place + 1))
-group_more ends place k e old new is some so_far here other =
-    let next : place + 1 ≡ suc place = omega arith in
-    let back : suc place - 1 ≡ place = omega arith in
-    let all : filter p (numbers (place + 1)) ≡ filter p (numbers place) ++ filter p (suc place ∷ []) = ap (λ (n : ℕ). filter p (numbers n)) next ∙ filter-append p (numbers place) (suc place ∷ []) in
-    let tested : p (suc place) ≡ eqb e (k + 1) = ap (λ (n : ℕ). eqb (get_or ends n 0) (k + 1)) back ∙ ap (λ (n : ℕ). eqb n (k + 1)) (sym is) in
-    elim (cases_eq k (e - 1)) [
-      | inl same ↦
-          let yes : p (suc place) ≡ true = tested ∙ eq-eqb e (k + 1) (omega (arith, same, some)) in
-          here same ∙ ap (λ (ns : List ℕ). ns ++ (place + 1) ∷ []) so_far ∙ ap (λ (n : ℕ). filter p (numbers place) ++ n ∷ []) next ∙ sym (all ∙ ap (λ (b : Bool). filter p (numbers place) ++ cond b (suc place ∷ []) []) yes)
-      | inr not_same ↦
-          let no_pick : p (suc place) ≡ false = tested ∙ ne_eqb e (k + 1) (λ f. not_same (omega (arith, f))) in
-          other not_same ∙ so_far ∙ sym (all ∙ ap (λ (b : Bool). filter p (numbers place) ++ cond b (suc place ∷ []) []) no_pick ∙ append-nil (filter p (numbers place)))
-    ]
-  where
-    p : ℕ → Bool
-    p number = eqb (get_or ends (number - 1) 0) (k + 1)
 
 -- ---- entries
 

@@ -51,3 +51,8 @@ have_text steps w =
     let few = w.count in
     let same = ap length (steps_from steps 1 steps) in
     record { count = omega (arith, few, same); each = written_from steps 1 steps few w.each }
+
+-- a deletion of the steps that end at one of them can be written
+pub ending_writable : (steps : List Step) (k : ℕ) → AreWritable steps → AllByRecursion (IsWritableEntry Two) (as_deletion (ending steps k))
+ending_writable steps k w =
+    written_deletion (ending steps k) (picked_rise (λ n. eqb (end_of steps n) k) (numbers (length steps)) (numbers_rise (length steps))) (ending_steps steps k w.count)

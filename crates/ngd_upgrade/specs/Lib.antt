@@ -1,1 +1,2 @@
 pub mod Upgrade
+pub mod Endings

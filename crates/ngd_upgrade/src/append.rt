@@ -1,23 +1,23 @@
 //! Appending the entries.
-ghost use Rattle.std.specs.Prelude.{◌≡◌, ◌≢◌, ℕ, ◌+◌, ◌<◌, [], ◌∷◌, ◌++◌, length, slice_index_or, OnOk, IfOk};
-ghost use Rattle.ngd_upgrade.specs.Upgrade.{ending, as_deletion, upgraded, deleted_count};
+ghost use Rattle.std.specs.Prelude.{◌≡◌, ℕ, ◌+◌, ◌<◌, [], ◌∷◌, ◌++◌, List, length, slice_index_or, OnOk, IfOk};
+ghost use Rattle.ngd_upgrade.specs.Upgrade.{as_deletion, upgraded, deleted_count};
+ghost use Rattle.ngd_upgrade.specs.Endings.{Follows, AreEndings};
 
-use crate::groups::take;
+use crate::endings::Endings;
 use dcsp_defs::{ReasonList, Step};
 use dcsp_list::Memory;
 use ngd_log::{Entries, Entry, NumberList};
 use std::alloc::Global;
 
-/// Appends the steps in order, and after each but the last a deletion of its group, if there is one. It
-/// answers how many numbers the deletions have.
+/// Appends the steps in order, and after each but the last a deletion of those that end there, if there are any.
+/// It answers how many numbers the deletions have.
 pub fn append_all(
     alloc: Global,
     steps: &[Step],
-    groups: &mut [NumberList],
+    endings: &Endings,
     into: &mut Entries,
 ) -> Result<u64, Memory>
-    requires count { length groups.old ≡ length steps.now }
-    requires each { (k : ℕ) → k < length steps.now → slice_index_or groups.old k [] ≡ ending steps.now (k + 1) }
+    requires { AreEndings steps.now endings.now }
     ensures entries { OnOk result (into.new ≡ into.old ++ upgraded steps.now) }
     ensures deleted { IfOk result (λ deleted. deleted ≡ deleted_count (upgraded steps.now)) }
 {
@@ -27,27 +27,29 @@ pub fn append_all(
     let mut deleted = 0;
     for (place, step) in front.iter().enumerate() {
         push(into, Entry::Step(copy_of(alloc, step)?))?;
-        deleted += push_group(alloc, groups, place, into)?;
+        deleted += push_endings(alloc, endings, place, into)?;
     }
     push(into, Entry::Step(copy_of(alloc, last)?))?;
     Ok(deleted)
 }
 
-/// Appends a deletion of the group at a place, if it has a number. It answers how many it has.
-fn push_group(
+/// Appends a deletion of the steps that end at the step at a place, if there are any. It answers how many there are.
+fn push_endings(
     alloc: Global,
-    groups: &mut [NumberList],
+    endings: &Endings,
     place: usize,
     into: &mut Entries,
 ) -> Result<u64, Memory>
-    requires { place < length groups.old }
-    ensures entries { OnOk result (into.new ≡ into.old ++ as_deletion (slice_index_or groups.old place [])) }
-    ensures deleted { IfOk result (λ deleted. deleted ≡ length (slice_index_or groups.old place [])) }
-    ensures others { (k : ℕ) → k ≢ place → slice_index_or groups.new k [] ≡ slice_index_or groups.old k [] }
+    requires { place < length endings.now.firsts }
+    ensures entries { (numbers : List ℕ) → Follows endings.now.nexts (slice_index_or endings.now.firsts place 0) numbers
+        → OnOk result (into.new ≡ into.old ++ as_deletion numbers) }
+    ensures deleted { (numbers : List ℕ) → Follows endings.now.nexts (slice_index_or endings.now.firsts place 0) numbers
+        → IfOk result (λ deleted. deleted ≡ length numbers) }
 {
-    let group = take(alloc, groups, place);
-    let deleted = group.len() as u64;
-    push_deletion(group, into)?;
+    let mut numbers = Vec::new(alloc);
+    endings.add_numbers(place, &mut numbers)?;
+    let deleted = numbers.len() as u64;
+    push_deletion(NumberList::from_vec(numbers), into)?;
     Ok(deleted)
 }
 

@@ -5,8 +5,8 @@
 #![tactic(auto)]
 
 mod append;
+mod endings;
 mod ends;
-mod groups;
 
 ghost use Rattle.std.specs.Prelude.{◌≡◌, ◌++◌, ◌↔◌, List, OnOk, IfOk};
 ghost use Rattle.dcsp_defs.specs.Csp.{Csp};
@@ -19,8 +19,7 @@ ghost use Rattle.ngd_check.specs.Findings.{IsFinding, IsFindingOf};
 ghost use Rattle.ngd_upgrade.specs.Upgrade.{upgraded, deleted_count};
 
 use append::append_all;
-use ends::ends_of;
-use groups::groups_of;
+pub use endings::Endings;
 use ngd_log::{Derivation, Entries, Memory};
 use std::alloc::Global;
 
@@ -35,10 +34,8 @@ pub fn upgraded(alloc: Global, derivation: &Derivation, into: &mut Entries) -> R
     ensures finding { (p : Csp) (finding : AFinding) → IsFinding p derivation.now finding ↔ IsFindingOf p (upgraded derivation.now) finding }
     ensures writable { AreWritable derivation.now → HaveText Version.Two (upgraded derivation.now) }
 {
-    let steps = derivation.steps();
-    let ends = ends_of(alloc, steps)?;
-    let mut groups = groups_of(alloc, &ends)?;
-    append_all(alloc, steps, &mut groups, into)
+    let endings = Endings::of(alloc, derivation)?;
+    append_all(alloc, derivation.steps(), &endings, into)
 }
 
 /// A derivation and its entries with deletions have the same finding, for every problem.
