@@ -11,3 +11,4 @@ pub mod Shorter
 pub mod CoreComing
 pub mod CoreFiles
 pub mod CoreFound
+pub mod Deleting

@@ -1,7 +1,6 @@
 -- Entries that are written line by line.
-use Rattle.std.proofs.Common.{◌≡◌, ℕ, ◌+◌, ◌<◌, ◌≤◌, ◌^◌, List, [], ◌∷◌, ◌++◌, length, Result, Ok, Err, refl, sym, ap, subst, ◌∙◌, arith}
+use Rattle.std.proofs.Common.{◌≡◌, ℕ, List, [], ◌∷◌, ◌++◌, length, Result, Ok, Err, refl, sym, ap, subst, ◌∙◌}
 use Rattle.std.specs.Prelude.{IsErr, IsErrAnd, Contains}
-use Rattle.std.specs.List.{AllByRecursion}
 use Rattle.std.proofs.lemmas.List.{map-append}
 use Rattle.std.proofs.lemmas.List.Elements.{Contains-push}
 use Rattle.dcsp_defs.specs.declared.Step.{Step}
@@ -13,10 +12,8 @@ use Rattle.dcsp_script.specs.Left.{HasLeft}
 use Rattle.dcsp_script.proofs.Ways.{did_nothing}
 use Rattle.dcsp_script.proofs.Lines.{then_rest, then_stopped}
 use Rattle.ngd_log.specs.declared.entry.Entry.{Entry}
-use Rattle.ngd_log.specs.declared.entry.Entry.TheVariants.{Step as A_step, Delete}
 use Rattle.ngd_log.specs.declared.standing.Version.TheVariants.{Two}
-use Rattle.ngd_log.specs.Entries.{steps_of}
-use Rattle.ngd_log.specs.EntryTexts.{entry_line, next_number, entry_lines, text_lines, IsNumbered, IsWritableEntry, HaveText}
+use Rattle.ngd_log.specs.EntryTexts.{text_lines}
 use Rattle.ngd_upgrade.specs.Upgrade.{upgraded, deleted_count}
 use Rattle.abt_logs.specs.UpgradePromise.{appends, file_script, counts_text, upgrade_text, upgrade_script}
 
@@ -32,42 +29,6 @@ left_memory {rest = rest} (Err y) is h = rw is.1 (record { ended = record { star
 -- a name was created
 pub created_here : (before : List (List ℕ)) {now : List (List ℕ)} (name : List ℕ) → now ≡ before ++ name ∷ [] → Contains now name
 created_here before name e = rw e (Contains-push before name)
-
--- these entries are left, and the next step among them has this number
-pub record HaveRest (number : ℕ) (entries : List Entry) : Type 0 where
-  pub positive : 0 < number
-  pub room : number + length (steps_of entries) ≤ 2 ^ 62 + 1
-  pub each : AllByRecursion (IsWritableEntry Two) entries
-
-pub all_rest : (entries : List Entry) → HaveText Two entries → HaveRest 1 entries
-all_rest entries h = record { positive = omega arith; room = (let c = h.count in omega (arith, c)); each = h.each }
-
-module _ (number : ℕ) where
-  rest_numbered : (entry : Entry) (rest : List Entry) → HaveRest number (entry ∷ rest) → IsNumbered number entry
-  rest_numbered (A_step step) rest h = record { positive = h.positive; bounded = (let r = h.room in omega (arith, r)) }
-  rest_numbered (Delete numbers) rest h = tt
-
-  rest_later : (entry : Entry) (rest : List Entry) → HaveRest number (entry ∷ rest) → HaveRest (next_number number entry) rest
-  rest_later (A_step step) rest h = record { positive = omega arith; room = (let r = h.room in omega (arith, r)); each = h.each.1 }
-  rest_later (Delete numbers) rest h = record { positive = h.positive; room = h.room; each = h.each.1 }
-
-  module _ (entry : Entry) (entries rest : List Entry) (is : entries ≡ entry ∷ rest) where
-    pub first_numbered : HaveRest number entries → IsNumbered number entry
-    first_numbered h = rest_numbered entry rest (subst (HaveRest number) is h)
-
-    pub first_writable : HaveRest number entries → IsWritableEntry Two entry
-    first_writable h = (subst (HaveRest number) is h).each.0
-
-    pub later_rest : (next : ℕ) → next ≡ next_number number entry → HaveRest number entries → HaveRest next rest
-    later_rest next e h = subst (λ n. HaveRest n rest) (sym e) (rest_later entry rest (subst (HaveRest number) is h))
-
-    -- the lines that are left begin with that of the entry
-    pub lines_left : (name line : List ℕ) (next : ℕ) → line ≡ entry_line number entry → next ≡ next_number number entry → appends name (entry_lines number entries) ≡ Append name line ∷ appends name (entry_lines next rest)
-    lines_left name line next e f = ap (λ es. appends name (entry_lines number es)) is ∙ ap (λ l. Append name l ∷ appends name (entry_lines (next_number number entry) rest)) (sym e) ∙ ap (λ n. Append name line ∷ appends name (entry_lines n rest)) (sym f)
-
--- no line is left
-pub lines_done : (name : List ℕ) (number : ℕ) (entries : List Entry) → entries ≡ [] → appends name (entry_lines number entries) ≡ []
-lines_done name number entries e = ap (λ es. appends name (entry_lines number es)) e
 
 -- the last line goes last
 pub appends_last : (name : List ℕ) (lines : List (List ℕ)) (last : List ℕ) → appends name (lines ++ last ∷ []) ≡ appends name lines ++ Append name last ∷ []

@@ -43,19 +43,20 @@ fn append_steps<F: Folder>(
         (outside (F.place folder.old) out) (outside (F.place folder.new) out) result }
     ensures created { (F.place folder.new).created ≡ (F.place folder.old).created }
 {
+    let mut line = Vec::new(alloc);
     for (place, step) in steps.iter().enumerate() {
-        append_step(alloc, folder, name, place as u64 + 1, step)?;
+        append_step(folder, name, place as u64 + 1, step, &mut line)?;
     }
     Ok(())
 }
 
-/// Appends the line of the step with this number.
-fn append_step<F: Folder>(
-    alloc: Global,
+/// Appends the line of the step with this number. It is made in `line`.
+pub fn append_step<F: Folder>(
     folder: &mut F,
     name: &str,
     number: u64,
     step: &Step,
+    line: &mut Vec<u8>,
 ) -> Result<(), Stop>
     requires created { Contains (F.place folder.old).created name.now }
     requires number { IsStepNumber number }
@@ -64,9 +65,9 @@ fn append_step<F: Folder>(
         (outside (F.place folder.old) out) (outside (F.place folder.new) out) result }
     ensures created { (F.place folder.new).created ≡ (F.place folder.old).created }
 {
-    let mut line = Vec::new(alloc);
-    match write_step(number, step, &mut line) {
-        Ok(()) => append(folder, name, &line),
+    line.clear();
+    match write_step(number, step, line) {
+        Ok(()) => append(folder, name, line),
         Err(_) => Err(Stop::Memory),
     }
 }

@@ -10,14 +10,14 @@ ghost use Rattle.abt_input.specs.Errors.{way_of};
 ghost use Rattle.abt_logs.specs.UpgradePromise.{counts_text, upgrade_script, upgrade_promise};
 ghost use Rattle.abt_logs.specs.Upgrading.{HoldsUpgrade};
 
-use crate::entries::write_entries;
+use crate::entries::write_upgraded;
 use abt_input::{CommandError, read_derivation};
 use abt_promise::Status;
 use dcsp_outside::{Folder, Sink};
 use dcsp_script::{Stop, put};
 use itoa::Buffer;
-use ngd_log::{Derivation, Entries};
-use ngd_upgrade::upgraded;
+use ngd_log::Derivation;
+use ngd_upgrade::Endings;
 use std::alloc::{AllocError, Global};
 
 /// Writes the log, which is of version 1, under the new name as one of version 2: its steps in order, and after each
@@ -53,11 +53,10 @@ fn upgrade<F: Folder, S: Sink>(
         (outside (F.place folder.old) (S.stream out.old))
         (outside (F.place folder.new) (S.stream out.new)) result }
 {
-    let mut entries = Entries::new(alloc);
-    let Ok(deleted) = upgraded(alloc, steps, &mut entries) else {
+    let Ok(endings) = Endings::of(alloc, steps) else {
         return Err(Stop::Memory);
     };
-    write_entries(alloc, folder, new, &mut entries)?;
+    let deleted = write_upgraded(alloc, folder, new, steps.steps(), &endings)?;
     tell(alloc, steps.len(), deleted, out)
 }
 

@@ -6,4 +6,4 @@ use Rattle.abt_logs.proofs.steps.append_step.Goals as goal
 
 pub returns-in-Ok-clause-wrote : goal.returns-in-Ok-clause-wrote
 returns-in-Ok-clause-wrote g c = λ out.
-    wrote_as (ap (λ (bytes : List ℕ). Append c.args.name.now bytes ∷ []) (c.deref.ensures.value ∙ c.in-Ok.ensures.ok ∙ ap (λ (bytes : List ℕ). bytes ++ step_line c.args.number c.args.step.now) c.new-line.ensures.items)) (c.append.ensures.wrote out)
+    wrote_as (ap (λ (bytes : List ℕ). Append c.args.name.now bytes ∷ []) (c.deref.ensures.value ∙ c.in-Ok.ensures.ok ∙ ap (λ (bytes : List ℕ). bytes ++ step_line c.args.number c.args.step.now) c.clear.ensures.items)) (c.append.ensures.wrote out)
