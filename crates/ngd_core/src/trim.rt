@@ -58,7 +58,8 @@ fn renumbered_reasons(
 ) -> Result<ReasonList, Memory>
     ensures { IfOk result (λ new. new ≡ map (renumbered_reason (number_in numbers.now)) reasons.now) }
 {
-    let mut new = ReasonList::new(alloc);
+    let room = Vec::with_capacity(alloc, reasons.len()).map_err(|_| Memory)?;
+    let mut new = ReasonList::from_vec(room);
     for reason in reasons {
         let reason = match *reason {
             Reason::Rule(rule) => Reason::Rule(rule),
