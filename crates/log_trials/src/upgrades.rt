@@ -1,7 +1,7 @@
 //! Derivations as entries, with deletions.
 
 use ngd_log::{Entries, Entry, read_log};
-use ngd_upgrade::upgraded;
+use ngd_upgrade::{Endings, upgraded};
 use std::alloc::Global;
 use std::process::Abort;
 
@@ -40,4 +40,25 @@ fn deletes_after_the_last_citing_step(rt: HostRuntime) {
     expect_upgraded(&rt, alloc, TRIANGLE, 2, b"ss1ss3s");
     let text = b"ngd 1\n1 v1 [] <-\n2 v1 [] <- n2 n9\n3 v1 [] <- n4 n1 n1\n4 v1 [] <-\nend\n";
     expect_upgraded(&rt, alloc, text, 3, b"ss2s1s");
+}
+
+/// For each step of the text's derivation, the numbers of the steps that end there.
+fn expect_endings(rt: &impl Abort, alloc: Global, text: &[u8], expected: &[&[u64]]) {
+    let derivation = read_log(alloc, text).ok().expect(rt, "a log");
+    let endings = Endings::of(alloc, &derivation).ok().expect(rt, "endings");
+    assert!(rt; derivation.len() == expected.len() as u64);
+    for (place, numbers) in expected.iter().enumerate() {
+        let mut told = Vec::new(alloc);
+        assert!(rt; endings.add_numbers(place, &mut told).is_ok());
+        assert!(rt; told.as_slice() == *numbers, "{place}");
+    }
+}
+
+#[test]
+fn tells_the_steps_that_end_at_each(rt: HostRuntime) {
+    let alloc = rt.alloc();
+    expect_endings(&rt, alloc, b"ngd 1\nend\n", &[]);
+    expect_endings(&rt, alloc, TRIANGLE, &[&[], &[1], &[], &[3], &[2, 4, 5]]);
+    let text = b"ngd 1\n1 v1 [] <-\n2 v1 [] <- n2 n9\n3 v1 [] <- n4 n1 n1\n4 v1 [] <-\nend\n";
+    expect_endings(&rt, alloc, text, &[&[], &[2], &[1, 3], &[4]]);
 }
