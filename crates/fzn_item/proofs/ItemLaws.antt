@@ -11,6 +11,8 @@ use Rattle.fzn_item.specs.declared.item.Item.{Item}
 use Rattle.fzn_item.specs.declared.item.Item.TheVariants as item
 use Rattle.fzn_item.specs.declared.item.Expr.{Expr}
 use Rattle.fzn_item.specs.declared.item.Marked.{Marked}
+use Rattle.fzn_item.specs.declared.item.ItemError.{ItemError}
+use Rattle.fzn_item.specs.declared.item.ItemError.TheVariants as errors
 use Rattle.fzn_item.specs.declared.item.Goal.{Goal}
 use Rattle.fzn_item.specs.declared.item.Goal.TheVariants as goals
 use Rattle.fzn_item.specs.declared.single.Stop.{Stop}
@@ -18,7 +20,7 @@ use Rattle.fzn_item.specs.Productions.{Production, Gives, ◌>>=◌, IsAny, IsMa
 use Rattle.fzn_item.specs.Readers.{Reads}
 use Rattle.fzn_item.specs.Exprs.{IsExpr, IsLastExpr}
 use Rattle.fzn_item.specs.Marks.{AreAnnotations}
-use Rattle.fzn_item.specs.Items.{ToSemicolon, IsConstraint, GoalAfter, IsGoal, IsSolve, ItemAfter, IsItem, AreItemsTo, IsUnread}
+use Rattle.fzn_item.specs.Items.{ToSemicolon, IsConstraint, GoalAfter, IsGoal, IsSolve, ItemAfter, IsItem, AreItemsTo, IsUnread, GivesNext, Answers}
 use Rattle.fzn_item.proofs.Combining.{IsUnique, one_unique, gives_unique, then_unique, fails_first, fails_then, fails_after, reads_then, reads_after, refused_first}
 use Rattle.fzn_item.proofs.ExprLaws.{arguments_unique, last_unique, nothing_unique, any_unique}
 use Rattle.fzn_item.proofs.MarkLaws.{annotations_unique}
@@ -154,6 +156,11 @@ unread text ts is rest first tail same before fails = record {
   fails = subst (λ x. Fails (IsItem text) x) same fails;
   place = refl;
 }
+
+-- where items are read and the next is refused, so are all
+pub next_refused : (text : List ℕ) (ts : List Token) (is : List Item) (rest : List Token) (e : ItemError) → AreItemsTo text ts is rest → GivesNext text rest (Err e) → Answers text ts (Err e)
+next_refused text ts is rest (errors.Syntax at) before next = subst (IsUnread text ts) (sym next.place) (unread text ts is rest next.first next.rest next.begins before next.fails)
+next_refused text ts is rest errors.Memory before next = tt
 
 -- the tokens so far have no `;`
 pub record HasNoneSoFar (ts rest : List Token) : Type 0 where

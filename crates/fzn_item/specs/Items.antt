@@ -1,5 +1,6 @@
 -- Items, and lists of them.
-use Rattle.std.specs.Prelude.{◌≡◌, ℕ, ◌⊎◌, List, [], ◌∷◌, Result, Ok, Err}
+use Rattle.std.specs.Prelude.{◌≡◌, ℕ, ◌⊎◌, List, [], ◌∷◌, Option, Some, None, Result, Ok, Err}
+use Rattle.std.specs.Borrow.{Bor}
 use Rattle.fzn_token.specs.declared.token.Token.{Token}
 use Rattle.fzn_token.specs.declared.token.Word.TheVariants as word
 use Rattle.fzn_token.specs.declared.token.Mark.TheVariants as mark
@@ -97,6 +98,26 @@ abbrev pub Answers : List ℕ → List Token → Result (List Item) ItemError �
 Answers text ts (Ok is) = AreItemsTo text ts is []
 Answers text ts (Err (errors.Syntax at)) = IsUnread text ts at
 Answers text ts (Err errors.Memory) = Unit {0}
+
+-- no production reads the item that these tokens begin with, and its first token is at this place
+pub record IsNextUnread (text : List ℕ) (ts : List Token) (at : ℕ) : Type 0 where
+  pub first : Token
+  pub rest : List Token
+  pub begins : ts ≡ first ∷ rest
+  pub fails : Fails (IsItem text) ts
+  pub place : at ≡ first.from
+
+-- the next item of these tokens, and the tokens behind it; none where no token is left; or the place of an item that is not read
+abbrev pub GivesNext : List ℕ → List Token → Result (Option (Item × Bor (List Token))) ItemError → Type 0
+GivesNext text ts (Ok (Some x)) = IsItem text ts x.0 x.1.now
+GivesNext text ts (Ok None) = ts ≡ []
+GivesNext text ts (Err (errors.Syntax at)) = IsNextUnread text ts at
+GivesNext text ts (Err errors.Memory) = Unit {0}
+
+-- these tokens have items, or the first item that is not read
+abbrev pub Checks : List ℕ → List Token → Result (Unit {0}) ItemError → Type 0
+Checks text ts (Ok u) = (is : List Item) × AreItemsTo text ts is []
+Checks text ts (Err e) = Answers text ts (Err e)
 
 -- two answers for one text are the same, want of memory aside
 abbrev pub HasOneAnswer : Type 0

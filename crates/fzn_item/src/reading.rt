@@ -2,7 +2,7 @@
 
 ghost use Rattle.std.specs.Prelude.{◌<◌, ◌≤◌, length, IfOk, IfSome};
 ghost use Rattle.fzn_item.specs.Readers.{Reads, Skips};
-ghost use Rattle.fzn_item.specs.Items.{ToSemicolon, IsConstraint, GoalAfter, IsGoal, IsSolve, ItemAfter, IsItem, Answers, HasOneAnswer, ItemsEndAtSemicolons};
+ghost use Rattle.fzn_item.specs.Items.{ToSemicolon, IsConstraint, GoalAfter, IsGoal, IsSolve, ItemAfter, IsItem, GivesNext, Answers, Checks, HasOneAnswer, ItemsEndAtSemicolons};
 
 use crate::declaration::{array, declaration};
 use crate::expr::{arguments, last_expr};
@@ -22,17 +22,47 @@ pub fn items(alloc: Global, text: &[u8], tokens: &TokenList) -> Result<ItemList,
 {
     let mut list = ItemList::new(alloc);
     let mut rest = tokens.items();
-    while let Some((first, _)) = rest.split_first() {
-        match read_item(alloc, text, rest) {
-            Ok((item, after)) => {
-                list.push(item)?;
-                rest = after;
-            }
-            Err(Stop::Unread) => return Err(ItemError::Syntax { at: first.from }),
-            Err(Stop::Memory) => return Err(ItemError::Memory),
-        }
+    'items: while let Some((item, after)) = next_item(alloc, text, rest)? {
+        list.push(item)?;
+        rest = after;
     }
     Ok(list)
+}
+
+/// The next item of these tokens and the tokens behind it; `None` where no token is left.
+///
+/// `Syntax` comes exactly where no production reads the item, and names its first byte. So items can be taken
+/// one after another, each let go before the next.
+pub fn next_item<'t>(
+    alloc: Global,
+    text: &[u8],
+    tokens: &'t [Token],
+) -> Result<Option<(Item, &'t [Token])>, ItemError>
+    ensures gives { GivesNext text.now tokens.now result }
+    ensures shorter { IfOk result (λ next. IfSome next (λ x. length x.1.now < length tokens.now)) }
+{
+    let Some((first, _)) = tokens.split_first() else {
+        return Ok(None);
+    };
+    match read_item(alloc, text, tokens) {
+        Ok((item, rest)) => Ok(Some((item, rest))),
+        Err(Stop::Unread) => Err(ItemError::Syntax { at: first.from }),
+        Err(Stop::Memory) => Err(ItemError::Memory),
+    }
+}
+
+/// Reads the items of these tokens and lets each go, to see that there is none that no production reads.
+///
+/// `Syntax` comes as where their items are asked for.
+pub fn check_items(alloc: Global, text: &[u8], tokens: &[Token]) -> Result<(), ItemError>
+    ensures { Checks text.now tokens.now result }
+{
+    let mut rest = tokens;
+    'items: while let Some((item, after)) = next_item(alloc, text, rest)? {
+        drop(item);
+        rest = after;
+    }
+    Ok(())
 }
 
 /// Tokens have one list of items or one refusal, want of memory aside.
