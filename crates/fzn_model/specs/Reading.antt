@@ -10,13 +10,15 @@ use Rattle.fzn_scope.specs.Checks.{Stops}
 use Rattle.fzn_scope.specs.Known.{AreKnown}
 use Rattle.fzn_model.specs.declared.resolver.Resolver.{Resolver}
 use Rattle.fzn_token.specs.declared.token.Token.{Token}
-use Rattle.fzn_token.specs.Reading as lexing
 use Rattle.fzn_item.specs.declared.item.Item.{Item}
+use Rattle.fzn_item.specs.declared.item.ItemError.TheVariants as syntactic
 use Rattle.fzn_item.specs.Items as parsing
+use Rattle.dcsp_problem.specs.Problems.{Contents}
 use Rattle.fzn_model.specs.declared.model.ModelError.{ModelError}
 use Rattle.fzn_model.specs.declared.model.ModelError.TheVariants as refused
 use Rattle.fzn_model.specs.Declarations.{SoFar}
-use Rattle.fzn_model.specs.Models.{IsLexical, IsUnread}
+use Rattle.fzn_model.specs.Items.{resolved}
+use Rattle.fzn_model.specs.Models.{stop_error, answer_of}
 
 -- a call that changes something into this does what is meant, unless memory ran out
 abbrev pub Leaves : {A X : Type 0} → X → Result A Stop → Result X Refusal → Type 0
@@ -45,7 +47,21 @@ many = 2 ^ 63
 abbrev pub at_most_many : ℕ → ℕ
 at_most_many n = if nat_lt many n then many else n
 
--- what the items of a text are: its tokens' items, or the first refusal of either
-abbrev pub IsItemised : List ℕ → Result (List Item) ModelError → Type 0
-IsItemised text (Ok is) = (ts : List Token) × lexing.Answers text (Ok ts) × parsing.Answers text ts (Ok is)
-IsItemised text (Err e) = (e ≡ refused.Memory) ⊎ (IsLexical text (Err e) ⊎ IsUnread text (Err e))
+-- no production reads an item of these tokens
+abbrev pub IsUnreadAmong : List ℕ → List Token → ModelError → Type 0
+IsUnreadAmong text ts e = (at : ℕ) × (e ≡ refused.Syntax at) × parsing.Answers text ts (Err (syntactic.Syntax at))
+
+-- the answer for the tokens of a text: the first of their items that no production reads, or what their items mean
+abbrev pub AnswersItems : List ℕ → List Token → Result Contents ModelError → Type 0
+AnswersItems text ts result =
+    (result ≡ Err refused.Memory)
+    ⊎ ((e : ModelError) × (result ≡ Err e) × IsUnreadAmong text ts e)
+    ⊎ ((items : List Item) × (result ≡ answer_of (resolved text items)) × parsing.Answers text ts (Ok items))
+
+-- why a text is refused at whose items resolution stopped so, with these tokens behind them: the first of their items that no
+-- production reads, or else what resolution stopped with
+abbrev pub RefusesWith : List ℕ → List Token → Stop → ModelError → Type 0
+RefusesWith text rest stop e =
+    (e ≡ refused.Memory)
+    ⊎ IsUnreadAmong text rest e
+    ⊎ ((items : List Item) × (e ≡ stop_error stop) × parsing.Answers text rest (Ok items))

@@ -10,6 +10,7 @@ mod array;
 mod building;
 mod declaration;
 mod goal;
+mod in_turn;
 mod laws;
 mod model;
 mod output;

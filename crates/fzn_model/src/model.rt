@@ -2,11 +2,10 @@
 
 ghost use Rattle.std.specs.Prelude.{◌≤◌, length};
 ghost use Rattle.fzn_model.specs.Models.{AnswersOrLacks};
-ghost use Rattle.fzn_model.specs.Reading.{IsItemised};
 
-use crate::resolver::resolved;
+use crate::in_turn::resolved;
 use dcsp_problem::{Problem, Which};
-use fzn_item::{ItemError, ItemList, items};
+use fzn_item::ItemError;
 use fzn_scope::{Refusal, Stop};
 use fzn_token::{LexError, tokens};
 use std::alloc::Global;
@@ -117,15 +116,6 @@ pub fn problem_of(alloc: Global, text: &[u8]) -> Result<Problem, ModelError>
     requires { length text.now ≤ 16777216 }
     ensures { AnswersOrLacks text.now result }
 {
-    let items = items_of(alloc, text)?;
-    Ok(resolved(alloc, text, items.items())?)
-}
-
-/// The items of a text. Its tokens are let go.
-fn items_of(alloc: Global, text: &[u8]) -> Result<ItemList, ModelError>
-    requires { length text.now ≤ 16777216 }
-    ensures { IsItemised text.now result }
-{
     let tokens = tokens(alloc, text)?;
-    Ok(items(alloc, text, &tokens)?)
+    resolved(alloc, text, tokens.items())
 }

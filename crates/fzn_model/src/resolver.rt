@@ -1,10 +1,10 @@
-//! From items to the problem: the items are taken in order, and the first refusal decides.
+//! What one item adds to the names and to the problem, or its refusal.
 
 ghost use Rattle.std.specs.Prelude.{◌≡◌, ◌≤◌, ◌<◌, ◌+◌, true, false, length, OnOk, None};
 ghost use Rattle.fzn_scope.specs.Checks.{Gives};
 ghost use Rattle.fzn_scope.specs.Names.{declared_as};
 ghost use Rattle.fzn_model.specs.Declarations.{is_late, declaration, parameter, variable, array};
-ghost use Rattle.fzn_model.specs.Items.{start, declare, declared_by, constraint, solve, predicate, after, finished, resolved};
+ghost use Rattle.fzn_model.specs.Items.{start, declare, declared_by, constraint, solve, predicate, after, finished};
 ghost use Rattle.fzn_model.specs.Reading.{Leaves, so_far, IsSound};
 
 use crate::array::{add_members, check_element, elements, within};
@@ -40,7 +40,8 @@ struct Declaration<'i, 't> {
 }
 
 impl<'t> Resolver<'t> {
-    fn new(alloc: Global) -> Resolver<'t>
+    /// Before the first item.
+    pub(crate) fn new(alloc: Global) -> Resolver<'t>
         ensures { so_far result ≡ start }
     {
         Resolver {
@@ -330,7 +331,7 @@ impl<'t> Resolver<'t> {
     }
 
     /// The next item.
-    fn take(&mut self, alloc: Global, text: &'t [u8], item: &Item) -> Result<(), Stop>
+    pub(crate) fn take(&mut self, alloc: Global, text: &'t [u8], item: &Item) -> Result<(), Stop>
         requires sound { IsSound (so_far self.old) }
         requires few { length self.old.builder.outputs < 16777216 }
         ensures is { Leaves (so_far self.new) result (after text.now (so_far self.old) item.now) }
@@ -373,7 +374,7 @@ impl<'t> Resolver<'t> {
     }
 
     /// The problem, if there was a solve item.
-    fn finish(self) -> Result<Problem, Stop>
+    pub(crate) fn finish(self) -> Result<Problem, Stop>
         ensures { Gives result (finished (so_far self.entry)) }
     {
         if !self.solved {
@@ -381,17 +382,4 @@ impl<'t> Resolver<'t> {
         }
         Ok(self.builder.finish()?)
     }
-}
-
-/// The problem of the items of a text, or their first refusal.
-#[tactic(auto, unfolding(crate::specs::Items::resolved))]
-pub(crate) fn resolved(alloc: Global, text: &[u8], items: &[Item]) -> Result<Problem, Stop>
-    requires { length items.now ≤ 16777216 }
-    ensures { Gives result (resolved text.now items.now) }
-{
-    let mut resolver = Resolver::new(alloc);
-    for item in items {
-        resolver.take(alloc, text, item)?;
-    }
-    resolver.finish()
 }

@@ -1,13 +1,15 @@
 use Rattle.std.proofs.Common.{arith}
-use Rattle.fzn_model.proofs.Answers.{refused_before}
-use Rattle.fzn_model.proofs.Counts.{item_count}
+use Rattle.std.proofs.lemmas.Result.{err_from_is_err_and}
+use Rattle.fzn_model.proofs.Answers.{lexically_refused}
+use Rattle.fzn_model.proofs.Counts.{token_count}
 use Rattle.fzn_model.proofs.model.problem_of.Goals as goal
 
-pub returns-in_err-items : goal.returns-in_err-items
-returns-in_err-items c = refused_before c.args.text.now c.in_err-items.field-0.0 c.from_residual.result c.from_residual.ensures c.in_err-items.ensures
+pub returns-in_err-tokens : goal.returns-in_err-tokens
+returns-in_err-tokens c =
+    let p = err_from_is_err_and c.from_residual.result c.from_residual.ensures.1 in
+    rw (p.1, p.2) (lexically_refused c.args.text.now _ c.in_err-tokens.ensures)
 
 pub resolved-requires : goal.resolved-requires
 resolved-requires c =
-    let found = c.in_ok-items.ensures in
-    let few = item_count c.args.text.now found.0 c.in_ok-items.items found.1 found.2 in
-    rw c.items-2.ensures (omega (arith, few, c.requires))
+    let few = token_count c.args.text.now c.in_ok-tokens.tokens c.in_ok-tokens.ensures in
+    rw c.items.ensures (omega (arith, few, c.requires))

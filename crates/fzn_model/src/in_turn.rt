@@ -1,0 +1,45 @@
+//! Items in turn: each is read, resolved and let go before the next is read.
+
+ghost use Rattle.std.specs.Prelude.{◌≤◌, length};
+ghost use Rattle.fzn_model.specs.Reading.{AnswersItems, RefusesWith};
+
+use crate::model::ModelError;
+use crate::resolver::Resolver;
+use dcsp_problem::Problem;
+use fzn_item::{check_items, next_item};
+use fzn_scope::Stop;
+use fzn_token::Token;
+use std::alloc::Global;
+
+/// The problem of the items of these tokens, or their first refusal.
+pub(crate) fn resolved(alloc: Global, text: &[u8], tokens: &[Token]) -> Result<Problem, ModelError>
+    requires { length tokens.now ≤ 16777216 }
+    ensures { AnswersItems text.now tokens.now result }
+{
+    let mut resolver = Resolver::new(alloc);
+    let mut rest = tokens;
+    'items: while let Some((item, after)) = next_item(alloc, text, rest)? {
+        let taken = resolver.take(alloc, text, &item);
+        drop(item);
+        match taken {
+            Ok(()) => rest = after,
+            Err(stop) => return Err(first_refusal(alloc, text, after, stop)),
+        }
+    }
+    Ok(resolver.finish()?)
+}
+
+/// Why a text is refused at whose items resolution stopped so, with these tokens behind them.
+///
+/// An item that no production reads is refused before all that resolution refuses, so items are read on.
+fn first_refusal(alloc: Global, text: &[u8], rest: &[Token], stop: Stop) -> ModelError
+    ensures { RefusesWith text.now rest.now stop result }
+{
+    let Stop::Refused(refusal) = stop else {
+        return ModelError::Memory;
+    };
+    match check_items(alloc, text, rest) {
+        Ok(()) => ModelError::from(refusal),
+        Err(error) => ModelError::from(error),
+    }
+}
