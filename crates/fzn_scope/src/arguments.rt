@@ -1,8 +1,8 @@
 //! From a constraint's arguments to its rule.
 
-ghost use Rattle.std.specs.Prelude.{◌≡◌, ℕ, Ok, All, IfOk, IsTrue, length, map};
+ghost use Rattle.std.specs.Prelude.{◌≡◌, ℕ, Ok, All, IfOk, IfErr, OnOk, IsTrue, length, map};
 ghost use Rattle.dcsp_problem.specs.Rules.{IsTermOf, has_shape, terms_of};
-ghost use Rattle.fzn_scope.specs.Checks.{Gives};
+ghost use Rattle.fzn_scope.specs.Checks.{Gives, Stops};
 ghost use Rattle.fzn_scope.specs.Known.{AreKnown};
 ghost use Rattle.fzn_scope.specs.Rules.{no_arguments, with_argument, arguments_after, constant_of, scalar_at, truth_of, rule_of, lengths_agree, form_at, constraint_rule};
 
@@ -23,30 +23,30 @@ pub struct Arguments {
     pub members: Members,
 }
 
-/// No arguments.
-fn no_arguments(alloc: Global) -> Arguments
-    ensures { result ≡ no_arguments }
+/// No arguments, with room for so many scalars.
+fn no_arguments(alloc: Global, scalars: usize) -> Result<Arguments, Stop>
+    ensures { Gives result (Ok no_arguments) }
 {
-    Arguments {
-        scalars: TermList::new(alloc),
+    Ok(Arguments {
+        scalars: TermList::from_vec(Vec::with_capacity(alloc, scalars)?),
         first: TermList::new(alloc),
         second: TermList::new(alloc),
         members: Members::Listed(IntList::new(alloc)),
-    }
+    })
 }
 
-/// The arguments with one more, at a place that asks for it.
-fn with_argument(
+/// Adds an argument, at a place that asks for it.
+fn add_argument(
     alloc: Global,
     text: &[u8],
     names: &Names<'_>,
-    done: Arguments,
+    done: &mut Arguments,
     place: Place,
     expr: &Expr,
-) -> Result<Arguments, Stop>
-    ensures { Gives result (with_argument text.now names.now done place expr.now) }
+) -> Result<(), Stop>
+    ensures ok { OnOk result (with_argument text.now names.now done.old place expr.now ≡ Ok done.new) }
+    ensures err { IfErr result (λ e. Stops e (with_argument text.now names.now done.old place expr.now)) }
 {
-    let mut done = done;
     match place {
         Place::Scalar { boolean } => {
             let wanted = Wanted {
@@ -65,7 +65,7 @@ fn with_argument(
         }
         Place::Set => done.members = set_of(alloc, text, names, expr)?,
     }
-    Ok(done)
+    Ok(())
 }
 
 /// The arguments at these places, from left to right.
@@ -79,9 +79,9 @@ fn arguments_of(
     requires { length exprs.now ≡ length places.now }
     ensures { Gives result (arguments_after text.now names.now no_arguments places.now exprs.now) }
 {
-    let mut done = no_arguments(alloc);
+    let mut done = no_arguments(alloc, places.len())?;
     for index in 0..exprs.len() {
-        done = with_argument(alloc, text, names, done, places[index], &exprs[index])?;
+        add_argument(alloc, text, names, &mut done, places[index], &exprs[index])?;
     }
     Ok(done)
 }
