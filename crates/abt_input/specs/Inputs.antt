@@ -7,12 +7,12 @@ use Rattle.abt_schedule.specs.Schedules as schedules
 use Rattle.cnf_front.specs.Formulas as formulas
 use Rattle.cnf_front.specs.declared.header.CnfError.{CnfError}
 use Rattle.rup_check.specs.ProofText.{IsProofOf, IsFirstBadLine}
-use Rattle.fzn_model.specs.Models.{Answers}
+use Rattle.fzn_model.specs.Models.{longest_text, Answers}
 use Rattle.fzn_model.specs.declared.model.ModelError.{ModelError}
 
 -- the most bytes of a model
 abbrev pub most_model : ℕ
-most_model = 16777216
+most_model = longest_text
 
 -- the most bytes of a log
 abbrev pub most_log : ℕ

@@ -17,6 +17,10 @@ use Rattle.fzn_model.specs.declared.model.ModelError.{ModelError}
 use Rattle.fzn_model.specs.declared.model.ModelError.TheVariants as errors
 use Rattle.fzn_model.specs.Items.{resolved}
 
+-- the most bytes of a text
+abbrev pub longest_text : ℕ
+longest_text = 16777216
+
 -- the refusal of tokens, as that of a text
 abbrev pub lexical_error : LexError → ModelError
 lexical_error (lexical.Bad at) = errors.Lex at

@@ -1,5 +1,5 @@
 -- What the parts of the reader hold and answer.
-use Rattle.std.specs.Prelude.{◌≡◌, ◌⊎◌, ℕ, ◌^◌, nat_lt, List, length, Result, Ok, Err, if◌then◌else◌}
+use Rattle.std.specs.Prelude.{◌≡◌, ◌⊎◌, ℕ, ℤ, ◌^◌, ◌<◌, nat_lt, Bool, List, length, Option, Result, Ok, Err, if◌then◌else◌}
 use Rattle.fzn_scope.specs.declared.refusal.Refusal.{Refusal}
 use Rattle.fzn_scope.specs.declared.refusal.Refusal.TheVariants as refusal
 use Rattle.fzn_scope.specs.declared.refusal.Stop.{Stop}
@@ -9,6 +9,7 @@ use Rattle.dcsp_problem.specs.declared.limits.BuildError.TheVariants as errors
 use Rattle.fzn_scope.specs.Checks.{Stops}
 use Rattle.fzn_scope.specs.Known.{AreKnown}
 use Rattle.fzn_model.specs.declared.resolver.Resolver.{Resolver}
+use Rattle.fzn_model.specs.declared.resolver.Declaration.{Declaration}
 use Rattle.fzn_token.specs.declared.token.Token.{Token}
 use Rattle.fzn_item.specs.declared.item.Item.{Item}
 use Rattle.fzn_item.specs.declared.item.ItemError.TheVariants as syntactic
@@ -16,9 +17,9 @@ use Rattle.fzn_item.specs.Items as parsing
 use Rattle.dcsp_problem.specs.Problems.{Contents}
 use Rattle.fzn_model.specs.declared.model.ModelError.{ModelError}
 use Rattle.fzn_model.specs.declared.model.ModelError.TheVariants as refused
-use Rattle.fzn_model.specs.Declarations.{SoFar}
-use Rattle.fzn_model.specs.Items.{resolved}
-use Rattle.fzn_model.specs.Models.{stop_error, answer_of}
+use Rattle.fzn_model.specs.Declarations.{SoFar, parameter, variable, array}
+use Rattle.fzn_model.specs.Items.{resolved, declared_by, declare}
+use Rattle.fzn_model.specs.Models.{longest_text, stop_error, answer_of}
 
 -- a call that changes something into this does what is meant, unless memory ran out
 abbrev pub Leaves : {A X : Type 0} → X → Result A Stop → Result X Refusal → Type 0
@@ -38,6 +39,30 @@ so_far r = record { scope = r.names; problem = r.builder; constrained = r.constr
 -- each name stands for terms of variables that exist
 abbrev pub IsSound : SoFar → Type 0
 IsSound s = AreKnown (length s.problem.domains) s.scope
+
+-- there is room for one more output: a text has no more of them than items, and no more items than bytes
+abbrev pub HasRoom : Contents → Type 0
+HasRoom problem = length problem.outputs < longest_text
+
+-- what a parameter's declaration leaves
+abbrev pub parameter_by : List ℕ → SoFar → Declaration → Result SoFar Refusal
+parameter_by text s d = parameter text s d.at d.base.now d.name_at d.name.now d.right.now
+
+-- what a variable's leaves
+abbrev pub variable_by : List ℕ → SoFar → Declaration → Result SoFar Refusal
+variable_by text s d = variable text s d.at d.base.now d.name_at d.name.now d.marked.now d.right.now
+
+-- what an array's leaves, of variables or of parameters
+abbrev pub array_by : List ℕ → SoFar → Bool → ℤ × ℤ → Declaration → Result SoFar Refusal
+array_by text s variable index d = array text s d.at variable index d.base.now d.name_at d.name.now d.marked.now d.right.now
+
+-- what the declaration of a new name leaves
+abbrev pub named_by : List ℕ → SoFar → Bool → Option (ℤ × ℤ) → Declaration → Result SoFar Refusal
+named_by text s variable index d = declared_by text s d.at variable index d.base.now d.name_at d.name.now d.marked.now d.right.now
+
+-- what any declaration leaves
+abbrev pub declare_by : List ℕ → SoFar → Bool → Option (ℤ × ℤ) → Declaration → Result SoFar Refusal
+declare_by text s variable index d = declare text s d.at variable index d.base.now d.name_at d.name.now d.marked.now d.right.now
 
 -- more than any array has elements
 abbrev pub many : ℕ

@@ -1,6 +1,7 @@
 //! Items in turn: each is read, resolved and let go before the next is read.
 
 ghost use Rattle.std.specs.Prelude.{◌≤◌, length};
+ghost use Rattle.fzn_model.specs.Models.{longest_text};
 ghost use Rattle.fzn_model.specs.Reading.{AnswersItems, RefusesWith};
 
 use crate::model::ModelError;
@@ -13,7 +14,7 @@ use std::alloc::Global;
 
 /// The problem of the items of these tokens, or their first refusal.
 pub(crate) fn resolved(alloc: Global, text: &[u8], tokens: &[Token]) -> Result<Problem, ModelError>
-    requires { length tokens.now ≤ 16777216 }
+    requires { length tokens.now ≤ longest_text }
     ensures { AnswersItems text.now tokens.now result }
 {
     let mut resolver = Resolver::new(alloc);

@@ -1,7 +1,7 @@
 //! From a text to its problem.
 
 ghost use Rattle.std.specs.Prelude.{◌≤◌, length};
-ghost use Rattle.fzn_model.specs.Models.{AnswersOrLacks};
+ghost use Rattle.fzn_model.specs.Models.{longest_text, AnswersOrLacks};
 
 use crate::in_turn::resolved;
 use dcsp_problem::{Problem, Which};
@@ -113,7 +113,7 @@ impl From<Stop> for ModelError {
 
 /// The problem of a text of at most 16,777,216 bytes, or its first refusal.
 pub fn problem_of(alloc: Global, text: &[u8]) -> Result<Problem, ModelError>
-    requires { length text.now ≤ 16777216 }
+    requires { length text.now ≤ longest_text }
     ensures { AnswersOrLacks text.now result }
 {
     let tokens = tokens(alloc, text)?;

@@ -6,7 +6,7 @@ ghost use Rattle.dcsp_problem.specs.Rules.{IsTermOf};
 ghost use Rattle.dcsp_problem.specs.Outputs.{range_product, IsOutputOf};
 ghost use Rattle.fzn_model.specs.Building.{with_output};
 ghost use Rattle.fzn_model.specs.Declarations.{is_shaped, variable_output, array_output};
-ghost use Rattle.fzn_model.specs.Reading.{Leaves, at_most_many};
+ghost use Rattle.fzn_model.specs.Reading.{Leaves, HasRoom, at_most_many};
 
 use dcsp_domain::RangeList;
 use dcsp_problem::{BuildError, NameText, Output, ProblemBuilder, Shape, Term, TermList};
@@ -73,7 +73,7 @@ pub(crate) fn add_variable_output(
     marked: &Marked,
 ) -> Result<(), Stop>
     requires number { number < length builder.old.domains }
-    requires few { length builder.old.outputs < 16777216 }
+    requires room { HasRoom builder.old }
     ensures added { Leaves builder.new result (Ok (with_output builder.old (variable_output name.now boolean number marked.now))) }
     ensures domains { OnOk result (builder.new.domains ≡ builder.old.domains) }
     ensures outputs { OnOk result (length builder.new.outputs ≤ length builder.old.outputs + 1) }
@@ -104,7 +104,7 @@ pub(crate) fn add_array_output(
     requires known { All (IsTermOf (length builder.old.domains)) terms.now }
     requires elements { length terms.now ≤ 65536 }
     requires shaped { is_shaped marked.now (length terms.now) ≡ true }
-    requires few { length builder.old.outputs < 16777216 }
+    requires room { HasRoom builder.old }
     ensures added { Leaves builder.new result (Ok (with_output builder.old (array_output name.now true boolean marked.now terms.now))) }
     ensures domains { OnOk result (builder.new.domains ≡ builder.old.domains) }
     ensures outputs { OnOk result (length builder.new.outputs ≤ length builder.old.outputs + 1) }
@@ -126,7 +126,7 @@ pub(crate) fn add_array_output(
 /// Adds what is printed.
 fn add_output(builder: &mut ProblemBuilder, output: Output) -> Result<(), Stop>
     requires fits { IsOutputOf (length builder.old.domains) output }
-    requires few { length builder.old.outputs < 16777216 }
+    requires room { HasRoom builder.old }
     ensures added { Leaves builder.new result (Ok (with_output builder.old (Some output))) }
     ensures domains { OnOk result (builder.new.domains ≡ builder.old.domains) }
     ensures outputs { OnOk result (length builder.new.outputs ≤ length builder.old.outputs + 1) }

@@ -3,9 +3,9 @@
 ghost use Rattle.std.specs.Prelude.{◌≡◌, ◌≤◌, ◌<◌, ◌+◌, true, false, length, OnOk, None};
 ghost use Rattle.fzn_scope.specs.Checks.{Gives};
 ghost use Rattle.fzn_scope.specs.Names.{declared_as};
-ghost use Rattle.fzn_model.specs.Declarations.{is_late, declaration, parameter, variable, array};
-ghost use Rattle.fzn_model.specs.Items.{start, declare, declared_by, constraint, solve, predicate, after, finished};
-ghost use Rattle.fzn_model.specs.Reading.{Leaves, so_far, IsSound};
+ghost use Rattle.fzn_model.specs.Declarations.{is_late, declaration};
+ghost use Rattle.fzn_model.specs.Items.{start, constraint, solve, predicate, after, finished};
+ghost use Rattle.fzn_model.specs.Reading.{Leaves, so_far, IsSound, HasRoom, parameter_by, variable_by, array_by, named_by, declare_by};
 
 use crate::array::{add_members, check_element, elements, within};
 use crate::building::{add_rule, add_variable};
@@ -83,7 +83,7 @@ impl<'t> Resolver<'t> {
     ) -> Result<(), Stop>
         requires new { declared_as self.old.names declaration.name.now ≡ None }
         requires sound { IsSound (so_far self.old) }
-        ensures is { Leaves (so_far self.new) result (parameter text.now (so_far self.old) declaration.entry.at declaration.entry.base.now declaration.entry.name_at declaration.entry.name.now declaration.entry.right.now) }
+        ensures is { Leaves (so_far self.new) result (parameter_by text.now (so_far self.old) declaration.entry) }
         ensures sound { OnOk result (IsSound (so_far self.new)) }
         ensures outputs { OnOk result (length self.new.builder.outputs ≤ length self.old.builder.outputs + 1) }
     {
@@ -111,8 +111,8 @@ impl<'t> Resolver<'t> {
     ) -> Result<(), Stop>
         requires new { declared_as self.old.names declaration.name.now ≡ None }
         requires sound { IsSound (so_far self.old) }
-        requires few { length self.old.builder.outputs < 16777216 }
-        ensures is { Leaves (so_far self.new) result (variable text.now (so_far self.old) declaration.entry.at declaration.entry.base.now declaration.entry.name_at declaration.entry.name.now declaration.entry.marked.now declaration.entry.right.now) }
+        requires room { HasRoom self.old.builder }
+        ensures is { Leaves (so_far self.new) result (variable_by text.now (so_far self.old) declaration.entry) }
         ensures sound { OnOk result (IsSound (so_far self.new)) }
         ensures outputs { OnOk result (length self.new.builder.outputs ≤ length self.old.builder.outputs + 1) }
     {
@@ -146,7 +146,7 @@ impl<'t> Resolver<'t> {
     ) -> Result<(), Stop>
         requires new { declared_as self.old.names declaration.name.now ≡ None }
         requires sound { IsSound (so_far self.old) }
-        ensures is { Leaves (so_far self.new) result (array text.now (so_far self.old) declaration.entry.at false index declaration.entry.base.now declaration.entry.name_at declaration.entry.name.now declaration.entry.marked.now declaration.entry.right.now) }
+        ensures is { Leaves (so_far self.new) result (array_by text.now (so_far self.old) false index declaration.entry) }
         ensures sound { OnOk result (IsSound (so_far self.new)) }
         ensures outputs { OnOk result (length self.new.builder.outputs ≤ length self.old.builder.outputs + 1) }
     {
@@ -182,8 +182,8 @@ impl<'t> Resolver<'t> {
     ) -> Result<(), Stop>
         requires new { declared_as self.old.names declaration.name.now ≡ None }
         requires sound { IsSound (so_far self.old) }
-        requires few { length self.old.builder.outputs < 16777216 }
-        ensures is { Leaves (so_far self.new) result (array text.now (so_far self.old) declaration.entry.at true index declaration.entry.base.now declaration.entry.name_at declaration.entry.name.now declaration.entry.marked.now declaration.entry.right.now) }
+        requires room { HasRoom self.old.builder }
+        ensures is { Leaves (so_far self.new) result (array_by text.now (so_far self.old) true index declaration.entry) }
         ensures sound { OnOk result (IsSound (so_far self.new)) }
         ensures outputs { OnOk result (length self.new.builder.outputs ≤ length self.old.builder.outputs + 1) }
     {
@@ -288,8 +288,8 @@ impl<'t> Resolver<'t> {
     ) -> Result<(), Stop>
         requires new { declared_as self.old.names declaration.name.now ≡ None }
         requires sound { IsSound (so_far self.old) }
-        requires few { length self.old.builder.outputs < 16777216 }
-        ensures is { Leaves (so_far self.new) result (declared_by text.now (so_far self.old) declaration.entry.at variable index declaration.entry.base.now declaration.entry.name_at declaration.entry.name.now declaration.entry.marked.now declaration.entry.right.now) }
+        requires room { HasRoom self.old.builder }
+        ensures is { Leaves (so_far self.new) result (named_by text.now (so_far self.old) variable index declaration.entry) }
         ensures sound { OnOk result (IsSound (so_far self.new)) }
         ensures outputs { OnOk result (length self.new.builder.outputs ≤ length self.old.builder.outputs + 1) }
     {
@@ -321,8 +321,8 @@ impl<'t> Resolver<'t> {
         declaration: Declaration<'_, 't>,
     ) -> Result<(), Stop>
         requires sound { IsSound (so_far self.old) }
-        requires few { length self.old.builder.outputs < 16777216 }
-        ensures is { Leaves (so_far self.new) result (declare text.now (so_far self.old) declaration.entry.at variable index declaration.entry.base.now declaration.entry.name_at declaration.entry.name.now declaration.entry.marked.now declaration.entry.right.now) }
+        requires room { HasRoom self.old.builder }
+        ensures is { Leaves (so_far self.new) result (declare_by text.now (so_far self.old) variable index declaration.entry) }
         ensures sound { OnOk result (IsSound (so_far self.new)) }
         ensures outputs { OnOk result (length self.new.builder.outputs ≤ length self.old.builder.outputs + 1) }
     {
@@ -333,7 +333,7 @@ impl<'t> Resolver<'t> {
     /// The next item.
     pub(crate) fn take(&mut self, alloc: Global, text: &'t [u8], item: &Item) -> Result<(), Stop>
         requires sound { IsSound (so_far self.old) }
-        requires few { length self.old.builder.outputs < 16777216 }
+        requires room { HasRoom self.old.builder }
         ensures is { Leaves (so_far self.new) result (after text.now (so_far self.old) item.now) }
         ensures sound { OnOk result (IsSound (so_far self.new)) }
         ensures outputs { OnOk result (length self.new.builder.outputs ≤ length self.old.builder.outputs + 1) }
