@@ -9,16 +9,18 @@ use crate::resolver::Resolver;
 use dcsp_problem::Problem;
 use fzn_item::{check_items, next_item};
 use fzn_scope::Stop;
-use fzn_token::Token;
+use fzn_token::{Token, TokenList};
 use std::alloc::Global;
 
 /// The problem of the items of these tokens, or their first refusal.
-pub(crate) fn resolved(alloc: Global, text: &[u8], tokens: &[Token]) -> Result<Problem, ModelError>
-    requires { length tokens.now ≤ longest_text }
-    ensures { AnswersItems text.now tokens.now result }
+///
+/// The tokens are let go before the problem is finished, so that its tables do not stand beside them.
+pub(crate) fn resolved(alloc: Global, text: &[u8], tokens: TokenList) -> Result<Problem, ModelError>
+    requires { length tokens ≤ longest_text }
+    ensures { AnswersItems text.now tokens result }
 {
     let mut resolver = Resolver::new(alloc);
-    let mut rest = tokens;
+    let mut rest = tokens.items();
     'items: while let Some((item, after)) = next_item(alloc, text, rest)? {
         let taken = resolver.take(alloc, text, &item);
         drop(item);
@@ -27,6 +29,7 @@ pub(crate) fn resolved(alloc: Global, text: &[u8], tokens: &[Token]) -> Result<P
             Err(stop) => return Err(first_refusal(alloc, text, after, stop)),
         }
     }
+    drop(tokens);
     Ok(resolver.finish()?)
 }
 

@@ -117,5 +117,5 @@ pub fn problem_of(alloc: Global, text: &[u8]) -> Result<Problem, ModelError>
     ensures { AnswersOrLacks text.now result }
 {
     let tokens = tokens(alloc, text)?;
-    resolved(alloc, text, tokens.items())
+    resolved(alloc, text, tokens)
 }

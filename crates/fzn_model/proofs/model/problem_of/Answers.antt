@@ -12,4 +12,4 @@ returns-in_err-tokens c =
 pub resolved-requires : goal.resolved-requires
 resolved-requires c =
     let few = token_count c.args.text.now c.in_ok-tokens.tokens c.in_ok-tokens.ensures in
-    rw c.items.ensures (omega (arith, few, c.requires))
+    omega (arith, few, c.requires)
