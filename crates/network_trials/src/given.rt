@@ -1,74 +1,104 @@
 //! Small problems.
 
-ghost use Rattle.std.specs.Prelude.{◌≡◌, ◌∷◌, [], IfOk, length};
+ghost use Rattle.std.specs.Prelude.{◌≡◌, ◌<◌, ◌+◌, ◌∷◌, [], length, IsTrue};
+ghost use Rattle.dcsp_problem.specs.Rules.{has_shape};
 
 use dcsp_problem::{Domain, IntList, Kind, Members, Problem, ProblemBuilder, Rule, Term, TermList};
 use std::alloc::Global;
-use std::test::Fail;
+use std::process::Abort;
+
+/// Lets a problem go. A value is let go in a function of its own, where nothing else is known: its proof is long
+/// where much is.
+pub fn let_go(_problem: Problem) {}
 
 /// A comparison of two variables.
-pub fn compare(alloc: Global, kind: Kind, first: u32, second: u32) -> Result<Rule, Fail>
-    ensures { IfOk result (λ rule. rule ≡ Rule.Plain kind (Term.Var first ∷ Term.Var second ∷ []) [] [] (Members.Listed [])) }
+fn comparison(rt: &impl Abort, alloc: Global, kind: Kind, first: u32, second: u32) -> Rule
+    ensures { result ≡ Rule.Plain kind (Term.Var first ∷ Term.Var second ∷ []) [] [] (Members.Listed []) }
 {
-    Ok(Rule::Plain {
+    let terms = vec![in alloc; Term::Var(first), Term::Var(second)];
+    Rule::Plain {
         kind,
-        scalars: TermList::from_vec(vec![in alloc; Term::Var(first), Term::Var(second)]?),
+        scalars: TermList::from_vec(terms.expect(rt, "memory")),
         first: TermList::new(alloc),
         second: TermList::new(alloc),
         members: Members::Listed(IntList::new(alloc)),
-    })
+    }
+}
+
+/// Adds the comparison of two variables.
+pub fn add_comparison(
+    rt: &impl Abort,
+    alloc: Global,
+    builder: &mut ProblemBuilder,
+    kind: Kind,
+    first: u32,
+    second: u32,
+)
+    requires first { first < length builder.old.domains }
+    requires second { second < length builder.old.domains }
+    requires shape { IsTrue (has_shape (Rule.Plain kind (Term.Var first ∷ Term.Var second ∷ []) [] [] (Members.Listed []))) }
+    ensures { builder.new.domains ≡ builder.old.domains }
+{
+    let rule = comparison(rt, alloc, kind, first, second);
+    builder.add_rule(rule).expect(rt, "within the limits");
+}
+
+/// Adds a variable with these values.
+pub fn add_variable(
+    rt: &impl Abort,
+    alloc: Global,
+    builder: &mut ProblemBuilder,
+    least: i64,
+    greatest: i64,
+)
+    ensures { length builder.new.domains ≡ length builder.old.domains + 1 }
+{
+    let domain = Domain::range(alloc, least, greatest).expect(rt, "a range");
+    builder.add_var(domain).expect(rt, "within the limits");
 }
 
 /// Two variables that are equal and differ.
-pub fn torn(alloc: Global) -> Result<Problem, Fail>
-    ensures { IfOk result (λ problem. length problem.domains ≡ 2) }
+pub fn torn(rt: &impl Abort, alloc: Global) -> Problem
+    ensures { length result.domains ≡ 2 }
 {
     let mut builder = ProblemBuilder::new(alloc);
-    builder.add_var(Domain::range(alloc, 0, 1)?)?;
-    builder.add_var(Domain::range(alloc, 0, 1)?)?;
-    builder.add_rule(compare(alloc, Kind::IntNe, 0, 1)?)?;
-    builder.add_rule(compare(alloc, Kind::IntEq, 0, 1)?)?;
-    Ok(builder.finish()?)
+    add_variable(rt, alloc, &mut builder, 0, 1);
+    add_variable(rt, alloc, &mut builder, 0, 1);
+    add_comparison(rt, alloc, &mut builder, Kind::IntNe, 0, 1);
+    add_comparison(rt, alloc, &mut builder, Kind::IntEq, 0, 1);
+    builder.finish().expect(rt, "memory")
 }
 
 /// Three variables, with these least and greatest values.
-fn three(alloc: Global, least: [i64; 3], greatest: [i64; 3]) -> Result<ProblemBuilder, Fail>
-    ensures { IfOk result (λ builder. length builder.domains ≡ 3) }
+fn three(rt: &impl Abort, alloc: Global, least: [i64; 3], greatest: [i64; 3]) -> ProblemBuilder
+    ensures { length result.domains ≡ 3 }
 {
     let mut builder = ProblemBuilder::new(alloc);
-    builder.add_var(Domain::range(alloc, least[0], greatest[0])?)?;
-    builder.add_var(Domain::range(alloc, least[1], greatest[1])?)?;
-    builder.add_var(Domain::range(alloc, least[2], greatest[2])?)?;
-    Ok(builder)
+    add_variable(rt, alloc, &mut builder, least[0], greatest[0]);
+    add_variable(rt, alloc, &mut builder, least[1], greatest[1]);
+    add_variable(rt, alloc, &mut builder, least[2], greatest[2]);
+    builder
+}
+
+/// Three variables, with these least and greatest values, of which those of each pair differ.
+pub fn apart(
+    rt: &impl Abort,
+    alloc: Global,
+    least: [i64; 3],
+    greatest: [i64; 3],
+    pairs: &[(u32, u32)],
+) -> Problem
+    ensures { length result.domains ≡ 3 }
+{
+    let mut builder = three(rt, alloc, least, greatest);
+    for pair in pairs {
+        let (first, second) = *pair;
+        assert!(rt; first < 3);
+        assert!(rt; second < 3);
+        add_comparison(rt, alloc, &mut builder, Kind::IntNe, first, second);
+    }
+    builder.finish().expect(rt, "memory")
 }
 
 /// The third variable differs from both others.
-pub fn third_differs(alloc: Global, least: [i64; 3], greatest: [i64; 3]) -> Result<Problem, Fail>
-    ensures { IfOk result (λ problem. length problem.domains ≡ 3) }
-{
-    let mut builder = three(alloc, least, greatest)?;
-    builder.add_rule(compare(alloc, Kind::IntNe, 0, 2)?)?;
-    builder.add_rule(compare(alloc, Kind::IntNe, 1, 2)?)?;
-    Ok(builder.finish()?)
-}
-
-/// Each variable differs from the next one.
-pub fn chain(alloc: Global, least: [i64; 3], greatest: [i64; 3]) -> Result<Problem, Fail>
-    ensures { IfOk result (λ problem. length problem.domains ≡ 3) }
-{
-    let mut builder = three(alloc, least, greatest)?;
-    builder.add_rule(compare(alloc, Kind::IntNe, 0, 1)?)?;
-    builder.add_rule(compare(alloc, Kind::IntNe, 1, 2)?)?;
-    Ok(builder.finish()?)
-}
-
-/// Three variables with two values, all different.
-pub fn triangle(alloc: Global) -> Result<Problem, Fail>
-    ensures { IfOk result (λ problem. length problem.domains ≡ 3) }
-{
-    let mut builder = three(alloc, [0, 0, 0], [1, 1, 1])?;
-    builder.add_rule(compare(alloc, Kind::IntNe, 0, 1)?)?;
-    builder.add_rule(compare(alloc, Kind::IntNe, 0, 2)?)?;
-    builder.add_rule(compare(alloc, Kind::IntNe, 1, 2)?)?;
-    Ok(builder.finish()?)
-}
+pub const THIRD: &[(u32, u32)] = &[(0, 2), (1, 2)];

@@ -2,40 +2,16 @@
 
 ghost use Rattle.std.specs.Prelude.{◌≡◌, length, true};
 
-use crate::given::{chain, third_differs, triangle};
-use abt_network::{Begun, Cargo, Network, Standing};
+use crate::given::{THIRD, apart, let_go};
+use Cargo::{AddLink, Refuse, Tell};
+use abt_network::{Begun, Cargo, Delivery, Network, Standing};
 use dcsp_problem::Problem;
 use std::alloc::Global;
 use std::process::Abort;
-use std::test::Fail;
 
-/// A choice, and the delivery that must follow.
-#[derive(Drop)]
-struct Told {
-    choice: u32,
-    from: u32,
-    to: u32,
-    cargo: Cargo,
-}
-
-/// A value that is told.
-fn ok(choice: u32, from: u32, to: u32, value: i64) -> Told {
-    Told {
-        choice,
-        from,
-        to,
-        cargo: Cargo::Tell { value },
-    }
-}
-
-/// A nogood that is sent.
-fn nogood(choice: u32, from: u32, to: u32, step: u64) -> Told {
-    Told {
-        choice,
-        from,
-        to,
-        cargo: Cargo::Refuse { step },
-    }
+/// The start refuted nothing.
+pub fn expect_running(rt: &impl Abort, begun: Begun) {
+    assert!(rt; matches!(&begun, Begun::Running));
 }
 
 /// The network of the problem, after its start, which refutes nothing.
@@ -45,155 +21,172 @@ pub fn started<'p>(rt: &impl Abort, alloc: Global, problem: &'p Problem) -> Netw
 {
     let mut network = Network::new(alloc, problem).expect(rt, "memory");
     let begun = network.start().expect(rt, "memory");
-    assert!(rt; matches!(&begun, Begun::Running));
+    expect_running(rt, begun);
     network
 }
 
+/// Lets the network go.
+pub fn end(_network: Network<'_>) {}
+
+/// Makes a delivery, while a message is in transit.
+pub fn delivered(rt: &impl Abort, network: &mut Network<'_>, choice: u32) -> Delivery
+    requires { network.old.begun ≡ true }
+    ensures begun { network.new.begun ≡ true }
+    ensures problem { network.new.problem ≡ network.old.problem }
+{
+    assert!(rt; network.state() == Standing::Open);
+    assert!(rt; network.deliveries() < 1_000_000);
+    network.deliver(choice).expect(rt, "memory")
+}
+
+/// A choice, and the delivery that must follow: from whom, to whom, and what the message carries.
+type Told = (u32, u32, u32, Cargo);
+
+/// The delivery is as told.
+fn expect_delivery(rt: &impl Abort, delivery: Delivery, told: Told) {
+    let (_, from, to, cargo) = told;
+    assert_eq!(rt; delivery.from, from);
+    assert_eq!(rt; delivery.to, to);
+    assert!(rt; delivery.cargo == cargo);
+}
+
 /// Makes the deliveries, each of which must be as told.
-fn play(rt: &impl Abort, network: &mut Network, row: &[Told])
+fn play(rt: &impl Abort, network: &mut Network<'_>, rows: &[Told])
     requires { network.old.begun ≡ true }
     ensures { network.new.problem ≡ network.old.problem }
 {
-    for told in row {
-        assert!(rt; matches!(network.state(), Standing::Open));
-        assert!(rt; network.deliveries() < 1000);
-        let delivery = network.deliver(told.choice).expect(rt, "memory");
-        assert_eq!(rt; delivery.from, told.from);
-        assert_eq!(rt; delivery.to, told.to);
-        assert!(rt; delivery.cargo == told.cargo);
+    for told in rows {
+        let delivery = delivered(rt, network, told.0);
+        expect_delivery(rt, delivery, *told);
     }
 }
 
-/// A run: its deliveries, how the network stands after them, how many steps were made, and the values
-/// where nothing was refuted.
+/// A run of three variables of which those of each pair differ: its deliveries, how the network stands after
+/// them, how many steps were made, and the values where nothing was refuted.
 #[derive(Drop)]
-struct Row<'r> {
-    told: &'r [Told],
+struct Run {
+    least: [i64; 3],
+    greatest: [i64; 3],
+    pairs: &'static [(u32, u32)],
+    told: &'static [Told],
     standing: Standing,
     steps: u64,
-    values: [i64; 3],
+    values: Option<[i64; 3]>,
 }
 
-/// Makes the run, which must be as the row says.
-fn check_run(rt: &impl Abort, alloc: Global, problem: &Problem, row: &Row)
-    requires { length problem.now.domains ≡ 3 }
-{
-    let mut network = started(rt, alloc, problem);
-    play(rt, &mut network, row.told);
-    assert!(rt; network.state() == row.standing);
-    assert_eq!(rt; network.deliveries(), row.told.len() as u64);
-    assert_eq!(rt; network.steps(), row.steps);
-    if row.standing == Standing::Quiet {
-        assert_eq!(rt; network.ready(), 0);
-        assert_eq!(rt; network.value(0), Some(row.values[0]));
-        assert_eq!(rt; network.value(1), Some(row.values[1]));
-        assert_eq!(rt; network.value(2), Some(row.values[2]));
+impl Run {
+    /// Makes the run, which must be as it says.
+    fn expect(&self, rt: &impl Abort, alloc: Global) {
+        let problem = apart(rt, alloc, self.least, self.greatest, self.pairs);
+        let mut network = started(rt, alloc, &problem);
+        play(rt, &mut network, self.told);
+        self.expect_end(rt, &network);
+        if let Some(values) = self.values {
+            expect_values(rt, &network, values);
+        }
+        end(network);
+        let_go(problem);
+    }
+
+    /// The network stands as the run says.
+    fn expect_end(&self, rt: &impl Abort, network: &Network<'_>) {
+        assert!(rt; network.state() == self.standing);
+        assert_eq!(rt; network.deliveries(), self.told.len() as u64);
+        assert_eq!(rt; network.steps(), self.steps);
     }
 }
 
-/// A link is asked for, and a value is told anew: nine deliveries.
-fn asks_for_a_link(rt: &impl Abort, alloc: Global) -> Result<(), Fail> {
-    let problem = third_differs(alloc, [0, 1, 0], [1, 1, 1])?;
-    let link = Told {
-        choice: 0,
-        from: 1,
-        to: 0,
-        cargo: Cargo::AddLink,
-    };
-    let told = [
-        ok(0, 0, 2, 0),
-        ok(0, 1, 2, 1),
-        nogood(0, 2, 1, 1),
-        link,
-        ok(0, 0, 1, 0),
-        nogood(0, 1, 0, 2),
-        ok(0, 0, 1, 1),
-        ok(0, 0, 2, 1),
-        ok(0, 1, 2, 1),
-    ];
-    let row = Row {
-        told: &told,
-        standing: Standing::Quiet,
-        steps: 2,
-        values: [1, 1, 0],
-    };
-    check_run(rt, alloc, &problem, &row);
-    Ok(())
+/// Nothing is in transit, and these are the values.
+fn expect_values(rt: &impl Abort, network: &Network<'_>, values: [i64; 3])
+    requires { length network.now.problem.domains ≡ 3 }
+{
+    assert_eq!(rt; network.ready(), 0);
+    assert!(rt; network.value(0) == Some(values[0]));
+    assert!(rt; network.value(1) == Some(values[1]));
+    assert!(rt; network.value(2) == Some(values[2]));
 }
 
-/// The link from the first agent to the third is starved.
-fn starves_a_link(rt: &impl Abort, alloc: Global) -> Result<(), Fail> {
-    let problem = third_differs(alloc, [0, 0, 0], [1, 1, 0])?;
-    let told = [
-        ok(1, 1, 2, 0),
-        nogood(1, 2, 1, 1),
-        ok(1, 1, 2, 1),
-        ok(0, 0, 2, 0),
-        nogood(0, 2, 0, 2),
-        ok(0, 0, 2, 1),
-    ];
-    let row = Row {
-        told: &told,
+const RUNS: [Run; 4] = [
+    // A link is asked for, and a value is told anew: nine deliveries.
+    Run {
+        least: [0, 1, 0],
+        greatest: [1, 1, 1],
+        pairs: THIRD,
+        told: &[
+            (0, 0, 2, Tell { value: 0 }),
+            (0, 1, 2, Tell { value: 1 }),
+            (0, 2, 1, Refuse { step: 1 }),
+            (0, 1, 0, AddLink),
+            (0, 0, 1, Tell { value: 0 }),
+            (0, 1, 0, Refuse { step: 2 }),
+            (0, 0, 1, Tell { value: 1 }),
+            (0, 0, 2, Tell { value: 1 }),
+            (0, 1, 2, Tell { value: 1 }),
+        ],
         standing: Standing::Quiet,
         steps: 2,
-        values: [1, 1, 0],
-    };
-    check_run(rt, alloc, &problem, &row);
-    Ok(())
-}
-
-/// A nogood reaches an agent that waits.
-fn reaches_a_waiting_agent(rt: &impl Abort, alloc: Global) -> Result<(), Fail> {
-    let problem = chain(alloc, [0, 0, 0], [1, 0, 0])?;
-    let told = [
-        ok(0, 0, 1, 0),
-        ok(1, 1, 2, 0),
-        nogood(1, 2, 1, 2),
-        nogood(0, 1, 0, 1),
-        ok(0, 0, 1, 1),
-    ];
-    let row = Row {
-        told: &told,
+        values: Some([1, 1, 0]),
+    },
+    // The link from the first agent to the third is starved.
+    Run {
+        least: [0, 0, 0],
+        greatest: [1, 1, 0],
+        pairs: THIRD,
+        told: &[
+            (1, 1, 2, Tell { value: 0 }),
+            (1, 2, 1, Refuse { step: 1 }),
+            (1, 1, 2, Tell { value: 1 }),
+            (0, 0, 2, Tell { value: 0 }),
+            (0, 2, 0, Refuse { step: 2 }),
+            (0, 0, 2, Tell { value: 1 }),
+        ],
+        standing: Standing::Quiet,
+        steps: 2,
+        values: Some([1, 1, 0]),
+    },
+    // A nogood reaches an agent that waits.
+    Run {
+        least: [0, 0, 0],
+        greatest: [1, 0, 0],
+        pairs: &[(0, 1), (1, 2)],
+        told: &[
+            (0, 0, 1, Tell { value: 0 }),
+            (1, 1, 2, Tell { value: 0 }),
+            (1, 2, 1, Refuse { step: 2 }),
+            (0, 1, 0, Refuse { step: 1 }),
+            (0, 0, 1, Tell { value: 1 }),
+        ],
         standing: Standing::Refuted,
         steps: 3,
-        values: [0, 0, 0],
-    };
-    check_run(rt, alloc, &problem, &row);
-    Ok(())
-}
-
-/// Three variables with two values, all different.
-fn refutes_a_triangle(rt: &impl Abort, alloc: Global) -> Result<(), Fail> {
-    let problem = triangle(alloc)?;
-    let told = [
-        ok(0, 0, 1, 0),
-        ok(0, 0, 2, 0),
-        ok(0, 1, 2, 0),
-        ok(0, 1, 2, 1),
-        nogood(0, 2, 1, 1),
-        nogood(0, 1, 0, 2),
-        ok(0, 0, 1, 1),
-        ok(0, 0, 2, 1),
-        ok(0, 1, 2, 0),
-        nogood(0, 2, 1, 3),
-        nogood(0, 1, 0, 4),
-    ];
-    let row = Row {
-        told: &told,
+        values: None,
+    },
+    // Three variables with two values, all different.
+    Run {
+        least: [0, 0, 0],
+        greatest: [1, 1, 1],
+        pairs: &[(0, 1), (0, 2), (1, 2)],
+        told: &[
+            (0, 0, 1, Tell { value: 0 }),
+            (0, 0, 2, Tell { value: 0 }),
+            (0, 1, 2, Tell { value: 0 }),
+            (0, 1, 2, Tell { value: 1 }),
+            (0, 2, 1, Refuse { step: 1 }),
+            (0, 1, 0, Refuse { step: 2 }),
+            (0, 0, 1, Tell { value: 1 }),
+            (0, 0, 2, Tell { value: 1 }),
+            (0, 1, 2, Tell { value: 0 }),
+            (0, 2, 1, Refuse { step: 3 }),
+            (0, 1, 0, Refuse { step: 4 }),
+        ],
         standing: Standing::Refuted,
         steps: 5,
-        values: [0, 0, 0],
-    };
-    check_run(rt, alloc, &problem, &row);
-    Ok(())
-}
+        values: None,
+    },
+];
 
 #[test]
-fn worked_runs(rt: HostRuntime) -> Result<(), Fail> {
-    let alloc = rt.alloc();
-    asks_for_a_link(&rt, alloc)?;
-    starves_a_link(&rt, alloc)?;
-    reaches_a_waiting_agent(&rt, alloc)?;
-    refutes_a_triangle(&rt, alloc)?;
-    Ok(())
+fn worked_runs(rt: HostRuntime) {
+    for run in &RUNS {
+        run.expect(&rt, rt.alloc());
+    }
 }

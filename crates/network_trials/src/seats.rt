@@ -47,7 +47,7 @@ impl<'p> Seat<'p> {
     {
         let mut agent = Agent::new(alloc, problem, me).expect(rt, "memory");
         let turn = agent.start(out).expect(rt, "memory");
-        assert!(rt; matches!(&turn, Turn::Announced));
+        expect_announced(rt, turn);
         Seat { problem, me, agent }
     }
 
@@ -72,6 +72,11 @@ impl<'p> Seat<'p> {
     pub fn value(&self) -> Option<i64> {
         self.agent.value()
     }
+}
+
+/// The agent took a value.
+fn expect_announced(rt: &impl Abort, turn: Turn) {
+    assert!(rt; matches!(&turn, Turn::Announced));
 }
 
 /// Whether the agent can take the message from this one, before a step with this number.

@@ -1,64 +1,148 @@
 //! Whole runs over a folder in memory.
 
-use crate::given::{third_differs, torn};
-use abt_schedule::{ChoiceList, Seeded, read_schedule};
-use abt_session::{End, Outcome, SessionError, StarvedEnd, run, starve};
+ghost use Rattle.std.specs.Prelude.{◌≤◌};
+
+use crate::given::{THIRD, apart, let_go, torn};
+use abt_schedule::{ChoiceList, Choices, Seeded, read_schedule};
+use abt_session::{End, Outcome, SessionError, Starved, StarvedEnd, run, starve};
 use dcsp_outside::{MemoryFolder, MemorySink};
 use dcsp_problem::Problem;
 use std::alloc::Global;
 use std::process::Abort;
-use std::test::Fail;
 
-#[test]
-fn a_refuted_run(rt: HostRuntime) -> Result<(), Fail> {
-    let alloc = rt.alloc();
-    let problem = torn(alloc)?;
+/// What a run is given and leaves: the folder with its log, what it tells, and the choices that it took.
+#[derive(Drop)]
+struct Outside {
+    folder: MemoryFolder,
+    out: MemorySink,
+    taken: ChoiceList,
+}
+
+impl Outside {
+    /// A folder with a log from before. Calls of the folder and of `out` with these numbers fail, where they
+    /// are not 0.
+    fn new(rt: &impl Abort, alloc: Global, folder: u64, out: u64) -> Outside {
+        Outside {
+            folder: folder_before(rt, alloc, folder),
+            out: sink_failing_at(rt, alloc, out),
+            taken: ChoiceList::new(alloc),
+        }
+    }
+
+    /// Runs the problem over these, under the choices.
+    fn run<C: Choices + Drop>(
+        &mut self,
+        rt: &impl Abort,
+        alloc: Global,
+        problem: &Problem,
+        mut choices: C,
+        most: u64,
+        trace: bool,
+    ) -> Result<Outcome, SessionError> {
+        assert!(rt; most <= 1000);
+        self.run_under(alloc, problem, &mut choices, most, trace)
+    }
+
+    fn run_under<C: Choices>(
+        &mut self,
+        alloc: Global,
+        problem: &Problem,
+        choices: &mut C,
+        most: u64,
+        trace: bool,
+    ) -> Result<Outcome, SessionError>
+        requires { most ≤ 1000 }
+    {
+        run(
+            alloc,
+            problem,
+            choices,
+            most,
+            &mut self.folder,
+            "log",
+            &mut self.out,
+            trace,
+            &mut self.taken,
+            true,
+        )
+    }
+
+    /// Lets these go.
+    fn end(self) {}
+
+    fn expect_log(&self, rt: &impl Abort, log: &[u8]) {
+        assert!(rt; self.folder.file("log").unwrap_or(&[]) == log);
+    }
+}
+
+/// A folder with a log from before, of which this call fails.
+fn folder_before(rt: &impl Abort, alloc: Global, failing: u64) -> MemoryFolder {
     let mut folder = MemoryFolder::new(alloc);
-    folder.place("log", b"before")?;
-    let mut out = MemorySink::new(alloc);
-    let mut taken = ChoiceList::new(alloc);
-    let mut choices = Seeded::new(1);
-    let outcome = run(
-        alloc,
-        &problem,
-        &mut choices,
-        4,
-        &mut folder,
-        "log",
-        &mut out,
-        false,
-        &mut taken,
-        true,
-    )
-    .expect(&rt, "no write fails");
+    folder.place("log", b"before").expect(rt, "memory");
+    folder.fail_at(failing).expect(rt, "memory");
+    folder
+}
+
+/// A sink of which this call fails.
+fn sink_failing_at(rt: &impl Abort, alloc: Global, failing: u64) -> MemorySink {
+    let mut sink = MemorySink::new(alloc);
+    sink.fail_at(failing).expect(rt, "memory");
+    sink
+}
+
+/// The run refuted the problem, with these numbers.
+fn expect_refuted(rt: &impl Abort, outcome: Outcome, deliveries: u64, steps: u64) {
     assert!(rt; matches!(&outcome.end, End::Refuted));
-    assert_eq!(rt; outcome.deliveries, 4);
-    assert_eq!(rt; outcome.steps, 3);
-    assert_eq!(rt;
-        folder.file("log").unwrap_or(&[]),
-        b"ngd 1\n1 v2 [v1=0] <- c1 c2\n2 v2 [v1=1] <- c2 c1\n3 v1 [] <- n1 n2\nend\n".as_slice()
-    );
-    assert_eq!(rt; out.bytes(), b"".as_slice());
-    assert_eq!(rt; taken.choices(), [0u32, 0, 0, 0].as_slice());
-    Ok(())
+    assert_eq!(rt; outcome.deliveries, deliveries);
+    assert_eq!(rt; outcome.steps, steps);
 }
 
 #[test]
-fn a_starved_run(rt: HostRuntime) -> Result<(), Fail> {
+fn a_refuted_run(rt: HostRuntime) {
     let alloc = rt.alloc();
-    let problem = third_differs(alloc, [0, 1, 0], [1, 1, 1])?;
-    let mut taken = ChoiceList::new(alloc);
-    let told = starve(alloc, &problem, 0, 2, 10, &mut taken).expect(&rt, "memory");
-    assert_eq!(rt; told.end, StarvedEnd::Solved);
-    assert_eq!(rt; told.deliveries, 10);
-    assert_eq!(rt;
-        taken.choices(),
-        [1u32, 0, 0, 0, 0, 0, 0, 1, 1, 0].as_slice()
-    );
-    let told = starve(alloc, &problem, 0, 2, 1, &mut taken).expect(&rt, "memory");
-    assert_eq!(rt; told.end, StarvedEnd::Open);
-    assert_eq!(rt; told.deliveries, 1);
-    Ok(())
+    let problem = torn(&rt, alloc);
+    let mut outside = Outside::new(&rt, alloc, 0, 0);
+    let ended = outside.run(&rt, alloc, &problem, Seeded::new(1), 4, false);
+    expect_refuted(&rt, ended.expect(&rt, "no write fails"), 4, 3);
+    let log = b"ngd 1\n1 v2 [v1=0] <- c1 c2\n2 v2 [v1=1] <- c2 c1\n3 v1 [] <- n1 n2\nend\n";
+    outside.expect_log(&rt, log);
+    assert!(rt; outside.out.bytes().is_empty());
+    assert!(rt; outside.taken.choices() == [0u32, 0, 0, 0].as_slice());
+    outside.end();
+    let_go(problem);
+}
+
+/// A run in which the link from the first agent to the third is starved, of at most so many deliveries.
+fn starved(
+    rt: &impl Abort,
+    alloc: Global,
+    problem: &Problem,
+    most: u64,
+    taken: &mut ChoiceList,
+) -> Starved {
+    assert!(rt; most <= 1000);
+    starve(alloc, problem, 0, 2, most, taken).expect(rt, "memory")
+}
+
+/// The run ended so.
+fn expect_starved(rt: &impl Abort, told: &Starved, end: StarvedEnd, deliveries: u64) {
+    assert!(rt; told.end == end);
+    assert_eq!(rt; told.deliveries, deliveries);
+}
+
+#[test]
+fn a_starved_run(rt: HostRuntime) {
+    let alloc = rt.alloc();
+    let problem = apart(&rt, alloc, [0, 1, 0], [1, 1, 1], THIRD);
+    let mut outside = Outside::new(&rt, alloc, 0, 0);
+    let told = starved(&rt, alloc, &problem, 10, &mut outside.taken);
+    expect_starved(&rt, &told, StarvedEnd::Solved, 10);
+    let choices = [1u32, 0, 0, 0, 0, 0, 0, 1, 1, 0];
+    assert!(rt; outside.taken.choices() == choices.as_slice());
+    let told = starved(&rt, alloc, &problem, 1, &mut outside.taken);
+    expect_starved(&rt, &told, StarvedEnd::Open, 1);
+    outside.end();
+    let_go(problem);
 }
 
 /// Choices that are all 0.
@@ -149,68 +233,37 @@ const CASES: [Case; 6] = [
 ];
 
 impl Case {
-    /// Makes the run, over these.
-    fn run(
-        &self,
-        rt: &impl Abort,
-        alloc: Global,
-        problem: &Problem,
-        folder: &mut MemoryFolder,
-        out: &mut MemorySink,
-        taken: &mut ChoiceList,
-    ) -> Result<Outcome, SessionError> {
-        let mut choices = read_schedule(alloc, NAUGHTS).expect(rt, "a schedule");
-        assert!(rt; self.most <= 1000);
-        run(
-            alloc,
-            problem,
-            &mut choices,
-            self.most,
-            folder,
-            "log",
-            out,
-            true,
-            taken,
-            true,
-        )
-    }
-
     /// What the run tells is what the case says.
-    fn expect_end(&self, rt: &impl Abort, ended: &Result<Outcome, SessionError>) {
+    fn expect_end(&self, rt: &impl Abort, ended: Result<Outcome, SessionError>) {
         match ended {
             Ok(outcome) => assert!(rt; Some(outcome.deliveries) == self.made),
-            Err(stop) => assert!(rt; *stop == SessionError::Fault && self.made.is_none()),
+            Err(stop) => assert!(rt; stop == SessionError::Fault && self.made.is_none()),
         }
     }
 
-    /// The run leaves what the case says.
-    fn expect(&self, rt: &impl Abort, alloc: Global, problem: &Problem) {
-        let mut folder = folder_before(rt, alloc, self.folder);
-        let mut out = MemorySink::new(alloc);
-        out.fail_at(self.out).expect(rt, "memory");
-        let mut taken = ChoiceList::new(alloc);
-        let ended = self.run(rt, alloc, problem, &mut folder, &mut out, &mut taken);
-        self.expect_end(rt, &ended);
-        assert_eq!(rt; folder.file("log").unwrap_or(&[]), self.log);
-        assert_eq!(rt; out.bytes(), TRACE.get(..self.told).expect(rt, "a part"));
-        assert_eq!(rt; taken.choices().len(), self.taken);
+    /// What the run leaves is what the case says.
+    fn expect_left(&self, rt: &impl Abort, outside: &Outside) {
+        outside.expect_log(rt, self.log);
+        assert!(rt; outside.out.bytes() == TRACE.get(..self.told).expect(rt, "a part"));
+        assert_eq!(rt; outside.taken.choices().len(), self.taken);
     }
-}
 
-/// A folder with a log from before, of which this call fails.
-fn folder_before(rt: &impl Abort, alloc: Global, failing: u64) -> MemoryFolder {
-    let mut folder = MemoryFolder::new(alloc);
-    folder.place("log", b"before").expect(rt, "memory");
-    folder.fail_at(failing).expect(rt, "memory");
-    folder
+    /// The run does what the case says.
+    fn expect(&self, rt: &impl Abort, alloc: Global, problem: &Problem) {
+        let mut outside = Outside::new(rt, alloc, self.folder, self.out);
+        let choices = read_schedule(alloc, NAUGHTS).expect(rt, "a schedule");
+        let ended = outside.run(rt, alloc, problem, choices, self.most, true);
+        self.expect_end(rt, ended);
+        self.expect_left(rt, &outside);
+        outside.end();
+    }
 }
 
 #[test]
-fn a_run_that_is_traced_and_stopped(rt: HostRuntime) -> Result<(), Fail> {
-    let alloc = rt.alloc();
-    let problem = third_differs(alloc, [0, 1, 0], [1, 1, 1])?;
+fn a_run_that_is_traced_and_stopped(rt: HostRuntime) {
+    let problem = apart(&rt, rt.alloc(), [0, 1, 0], [1, 1, 1], THIRD);
     for case in &CASES {
-        case.expect(&rt, alloc, &problem);
+        case.expect(&rt, rt.alloc(), &problem);
     }
-    Ok(())
+    let_go(problem);
 }

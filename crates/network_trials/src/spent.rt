@@ -3,21 +3,49 @@
 //! Where memory is ample, the runs come to their ends. Where an allocation fails, as each does in its turn by
 //! `tests/hostile.sh`, whatever is asked of them from then on is answered by want of memory.
 
-ghost use Rattle.std.specs.Prelude.{◌≡◌, true};
+ghost use Rattle.std.specs.Prelude.{◌≡◌, true, false};
 
-use crate::given::third_differs;
+use crate::given::{THIRD, apart, let_go};
+use crate::losses;
+use crate::networks::end;
 use abt_lossy::Lossy;
 use abt_network::{Network, Standing};
 use std::process::Abort;
-use std::test::Fail;
+
+/// A start of the spent network lacks memory.
+fn start_lacks(network: &mut Network<'_>) -> bool
+    requires { network.old.spent ≡ true }
+    ensures { network.new.spent ≡ true }
+{
+    network.start().is_err()
+}
+
+/// A delivery of the spent network lacks memory.
+fn delivery_lacks(network: &mut Network<'_>, choice: u32) -> bool
+    requires { network.old.spent ≡ true }
+    ensures { network.new.spent ≡ true }
+{
+    network.deliver(choice).is_err()
+}
 
 /// Whatever is asked of the spent network, it lacks memory.
 fn expect_spent(rt: &impl Abort, network: &mut Network<'_>)
     requires { network.old.spent ≡ true }
 {
-    assert!(rt; network.deliver(0).is_err());
-    assert!(rt; network.start().is_err());
-    assert!(rt; network.deliver(7).is_err());
+    assert!(rt; delivery_lacks(network, 0));
+    assert!(rt; start_lacks(network));
+    assert!(rt; delivery_lacks(network, 7));
+}
+
+/// Makes a delivery while a message is in transit, and tells whether memory ran out.
+fn runs_out(rt: &impl Abort, network: &mut Network<'_>) -> bool
+    requires { network.old.begun ≡ true }
+    ensures spent { result ≡ true → network.new.spent ≡ true }
+    ensures begun { result ≡ false → network.new.begun ≡ true }
+{
+    assert!(rt; network.state() == Standing::Open);
+    assert!(rt; network.deliveries() < 9);
+    network.deliver(0).is_err()
 }
 
 /// Makes deliveries until nothing is in transit, which takes nine, or memory runs out.
@@ -25,9 +53,7 @@ fn deliver_all(rt: &impl Abort, network: &mut Network<'_>)
     requires { network.old.begun ≡ true }
 {
     for _made in 0..9 {
-        assert!(rt; network.state() == Standing::Open);
-        assert!(rt; network.deliveries() < 9);
-        if network.deliver(0).is_err() {
+        if runs_out(rt, network) {
             expect_spent(rt, network);
             return;
         }
@@ -35,29 +61,66 @@ fn deliver_all(rt: &impl Abort, network: &mut Network<'_>)
     assert!(rt; network.state() == Standing::Quiet);
 }
 
-#[test]
-fn a_network_without_memory(rt: HostRuntime) -> Result<(), Fail> {
-    let problem = third_differs(rt.alloc(), [0, 1, 0], [1, 1, 1])?;
-    let Ok(mut network) = Network::new(rt.alloc(), &problem) else {
-        return Ok(());
-    };
-    match network.start() {
-        Ok(_) => deliver_all(&rt, &mut network),
-        Err(_) => expect_spent(&rt, &mut network),
+/// Starts the network, and makes its deliveries.
+fn run_network(rt: &impl Abort, network: &mut Network<'_>)
+    requires { network.old.begun ≡ false }
+{
+    if network.start().is_err() {
+        expect_spent(rt, network);
+    } else {
+        deliver_all(rt, network);
     }
-    Ok(())
+}
+
+#[test]
+fn a_network_without_memory(rt: HostRuntime) {
+    let problem = apart(&rt, rt.alloc(), [0, 1, 0], [1, 1, 1], THIRD);
+    if let Ok(mut network) = Network::new(rt.alloc(), &problem) {
+        run_network(&rt, &mut network);
+        end(network);
+    }
+    let_go(problem);
+}
+
+/// A start of spent agents lacks memory.
+fn medium_start_lacks(medium: &mut Lossy<'_>) -> bool
+    requires { medium.old.spent ≡ true }
+    ensures { medium.new.spent ≡ true }
+{
+    medium.start().is_err()
+}
+
+/// An event of spent agents lacks memory.
+fn event_lacks(medium: &mut Lossy<'_>, word: u32) -> bool
+    requires { medium.old.spent ≡ true }
+    ensures { medium.new.spent ≡ true }
+{
+    medium.event(word).is_err()
 }
 
 /// Whatever is asked of spent agents over the medium, they lack memory.
 fn expect_spent_medium(rt: &impl Abort, medium: &mut Lossy<'_>)
     requires { medium.old.spent ≡ true }
 {
-    assert!(rt; medium.event(0).is_err());
-    assert!(rt; medium.start().is_err());
-    assert!(rt; medium.event(1).is_err());
+    assert!(rt; event_lacks(medium, 0));
+    assert!(rt; medium_start_lacks(medium));
+    assert!(rt; event_lacks(medium, 1));
 }
 
-/// Makes events until all is handed up, or memory runs out: each packet that is sent arrives at once.
+/// Makes an event while something is not yet handed up, and tells whether memory ran out: each packet that is
+/// sent arrives at once.
+fn medium_runs_out(rt: &impl Abort, medium: &mut Lossy<'_>) -> bool
+    requires { medium.old.begun ≡ true }
+    ensures spent { result ≡ true → medium.new.spent ≡ true }
+    ensures begun { result ≡ false → medium.new.begun ≡ true }
+{
+    assert!(rt; medium.state() == Standing::Open);
+    assert!(rt; medium.events() < 100);
+    let word = if medium.pool() == 0 { 0 } else { 1 };
+    medium.event(word).is_err()
+}
+
+/// Makes events until all is handed up, or memory runs out.
 fn make_events(rt: &impl Abort, medium: &mut Lossy<'_>)
     requires { medium.old.begun ≡ true }
 {
@@ -65,10 +128,7 @@ fn make_events(rt: &impl Abort, medium: &mut Lossy<'_>)
         if medium.state() == Standing::Quiet {
             return;
         }
-        assert!(rt; medium.state() == Standing::Open);
-        assert!(rt; medium.events() < 100);
-        let word = if medium.pool() == 0 { 0 } else { 1 };
-        if medium.event(word).is_err() {
+        if medium_runs_out(rt, medium) {
             expect_spent_medium(rt, medium);
             return;
         }
@@ -76,15 +136,23 @@ fn make_events(rt: &impl Abort, medium: &mut Lossy<'_>)
     panic!(rt; "no verdict");
 }
 
-#[test]
-fn a_medium_without_memory(rt: HostRuntime) -> Result<(), Fail> {
-    let problem = third_differs(rt.alloc(), [0, 1, 0], [1, 1, 1])?;
-    let Ok(mut medium) = Lossy::new(rt.alloc(), &problem) else {
-        return Ok(());
-    };
-    match medium.start() {
-        Ok(_) => make_events(&rt, &mut medium),
-        Err(_) => expect_spent_medium(&rt, &mut medium),
+/// Starts the agents, and makes their events.
+fn run_medium(rt: &impl Abort, medium: &mut Lossy<'_>)
+    requires { medium.old.begun ≡ false }
+{
+    if medium.start().is_err() {
+        expect_spent_medium(rt, medium);
+    } else {
+        make_events(rt, medium);
     }
-    Ok(())
+}
+
+#[test]
+fn a_medium_without_memory(rt: HostRuntime) {
+    let problem = apart(&rt, rt.alloc(), [0, 1, 0], [1, 1, 1], THIRD);
+    if let Ok(mut medium) = Lossy::new(rt.alloc(), &problem) {
+        run_medium(&rt, &mut medium);
+        losses::end(medium);
+    }
+    let_go(problem);
 }
