@@ -1,6 +1,6 @@
 //! Models that ask for the least or the greatest value, and checks against better values.
 
-use crate::given::{Case, NO_FILE, PAIR, PAIR_LOG, left_by};
+use crate::given::{Case, NO_FILE, PAIR, PAIR_LOG, expect_line};
 use std::alloc::Global;
 use std::process::Abort;
 
@@ -114,12 +114,16 @@ fn other_lines_look_at_no_aim(rt: HostRuntime) {
         ("r.sch", b"schedule 1\n0\n0\nend\n".as_slice()),
     ];
     let replay = ["replay", "m.fzn", "r.sch", "l.ngd"];
-    let left = left_by(&rt, rt.alloc(), &files, &replay, 0);
-    assert_eq!(rt; left.code, 0);
     let out = b"x = 1;\ny = 2;\n----------\n% deliveries 1\n% steps 0\n% unused 1\n";
-    assert_eq!(rt; left.out.bytes(), out.as_slice());
-    let left = left_by(&rt, rt.alloc(), &files, &["bound", "m.fzn"], 0);
-    assert_eq!(rt; left.out.bytes(), b"bound 6\n".as_slice());
+    let alloc = rt.alloc();
+    expect_line(&rt, alloc, &files, &replay, (0, out, b""));
+    expect_line(
+        &rt,
+        alloc,
+        &files,
+        &["bound", "m.fzn"],
+        (0, b"bound 6\n", b""),
+    );
 }
 
 /// A check of the log against this model with these words at its end.
@@ -137,10 +141,8 @@ impl Trial {
     fn expect(&self, rt: &impl Abort, alloc: Global) {
         let words = ["check", "m.fzn", "l.ngd", "--better", self.bound];
         let files = [("m.fzn", self.model), ("l.ngd", self.log)];
-        let left = left_by(rt, alloc, &files, &words, 0);
-        assert_eq!(rt; left.code, self.code);
-        assert_eq!(rt; left.out.bytes(), self.out);
-        assert_eq!(rt; left.err.bytes(), self.err);
+        let told = (self.code, self.out, self.err);
+        expect_line(rt, alloc, &files, &words, told);
     }
 }
 
@@ -207,47 +209,36 @@ fn checks_against_better_values_are_refused(rt: HostRuntime) {
     }
 }
 
-/// The model with this goal is refused so.
-fn refuses(rt: &impl Abort, alloc: Global, model: &[u8], err: &[u8]) {
-    let files = [("m.fzn", b"".as_slice())];
-    let mut folder = crate::given::folder_of(rt, alloc, &files);
-    folder.place("m.fzn", model).expect(rt, "memory");
-    let left = crate::given::run_over(rt, alloc, folder, &["bound", "m.fzn"]);
-    assert_eq!(rt; left.code, 3);
-    assert_eq!(rt; left.err.bytes(), err);
-}
+/// A model whose goal is refused, and what is said of it.
+type Refused = (&'static [u8], &'static [u8]);
+
+const GOALS: [Refused; 5] = [
+    (
+        b"var 0..1: x;\nsolve minimize z;",
+        b"abt: model: undeclared at 28\n",
+    ),
+    (
+        b"var 0..1: x;\nsolve maximize [x];",
+        b"abt: model: ill-typed at 28\n",
+    ),
+    (
+        b"var bool: x;\nsolve maximize x;",
+        b"abt: model: ill-typed at 28\n",
+    ),
+    (
+        b"var 0..1: x;\nsolve minimize true;",
+        b"abt: model: ill-typed at 28\n",
+    ),
+    (
+        b"var 0..1: x;\nsolve minimize 1..2;",
+        b"abt: model: ill-typed at 28\n",
+    ),
+];
 
 #[test]
 fn goals_are_refused_at_their_expressions(rt: HostRuntime) {
-    let alloc = rt.alloc();
-    refuses(
-        &rt,
-        alloc,
-        b"var 0..1: x;\nsolve minimize z;",
-        b"abt: model: undeclared at 28\n",
-    );
-    refuses(
-        &rt,
-        alloc,
-        b"var 0..1: x;\nsolve maximize [x];",
-        b"abt: model: ill-typed at 28\n",
-    );
-    refuses(
-        &rt,
-        alloc,
-        b"var bool: x;\nsolve maximize x;",
-        b"abt: model: ill-typed at 28\n",
-    );
-    refuses(
-        &rt,
-        alloc,
-        b"var 0..1: x;\nsolve minimize true;",
-        b"abt: model: ill-typed at 28\n",
-    );
-    refuses(
-        &rt,
-        alloc,
-        b"var 0..1: x;\nsolve minimize 1..2;",
-        b"abt: model: ill-typed at 28\n",
-    );
+    for (model, said) in &GOALS {
+        let files = [("m.fzn", *model)];
+        expect_line(&rt, rt.alloc(), &files, &["bound", "m.fzn"], (3, b"", said));
+    }
 }

@@ -1,8 +1,6 @@
 //! The line `check`: what it answers and refuses, and what comes of calls that fail.
 
-use crate::given::{PAIR, PAIR_LOG, folder_of, left_by, words_of};
-use abt_command::run_program;
-use dcsp_outside::MemorySink;
+use crate::given::{Left, PAIR, PAIR_LOG, expect_line, folder_failing, run_with, sink_failing};
 use std::alloc::Global;
 use std::process::Abort;
 
@@ -279,10 +277,9 @@ const CASES: [Case; 17] = [
 fn checks_answer_with_one_line(rt: HostRuntime) {
     for case in &CASES {
         let files = [("m.fzn", case.model), ("m.ngd", case.log)];
-        let left = left_by(&rt, rt.alloc(), &files, &["check", "m.fzn", "m.ngd"], 0);
-        assert_eq!(rt; left.code, case.code);
-        assert_eq!(rt; left.out.bytes(), case.out);
-        assert_eq!(rt; left.err.bytes(), case.err);
+        let words = ["check", "m.fzn", "m.ngd"];
+        let told = (case.code, case.out, case.err);
+        expect_line(&rt, rt.alloc(), &files, &words, told);
     }
 }
 
@@ -374,24 +371,31 @@ const FAILING: [Failing; 8] = [
     },
 ];
 
+/// No call failed.
+fn expect_no_faults(rt: &impl Abort, left: &Left) {
+    assert_eq!(rt; left.folder.faults(), 0);
+    assert_eq!(rt; left.out.faults(), 0);
+    assert_eq!(rt; left.err.faults(), 0);
+}
+
 impl Failing {
+    /// What the check of a log leaves.
+    fn left(&self, rt: &impl Abort, alloc: Global) -> Left {
+        let files = [("m.fzn", self.model), ("m.ngd", PAIR_LOG)];
+        let folder = folder_failing(rt, alloc, &files, self.folder, 0);
+        let out = sink_failing(rt, alloc, self.out, 0);
+        let err = sink_failing(rt, alloc, self.err, 0);
+        run_with(rt, alloc, folder, out, err, &["check", "m.fzn", "m.ngd"])
+    }
+
     /// The check of a log ends so, and none of its calls fails where it ends well.
     fn expect(&self, rt: &impl Abort, alloc: Global) {
-        let words = words_of(rt, alloc, &["check", "m.fzn", "m.ngd"]);
-        let mut folder = folder_of(rt, alloc, &[("m.fzn", self.model), ("m.ngd", PAIR_LOG)]);
-        let mut out = MemorySink::new(alloc);
-        let mut err = MemorySink::new(alloc);
-        folder.fail_at(self.folder).expect(rt, "memory");
-        out.fail_at(self.out).expect(rt, "memory");
-        err.fail_at(self.err).expect(rt, "memory");
-        let code = run_program(alloc, &words, &mut folder, &mut out, &mut err);
-        assert_eq!(rt; code, self.code);
-        assert_eq!(rt; out.bytes(), self.told);
-        assert_eq!(rt; err.bytes(), self.said);
-        if code == 0 {
-            let faults = [folder.faults(), out.faults(), err.faults()];
-            assert_eq!(rt; faults, [0, 0, 0]);
+        let left = self.left(rt, alloc);
+        left.expect(rt, self.code, self.told, self.said);
+        if left.code == 0 {
+            expect_no_faults(rt, &left);
         }
+        left.end();
     }
 }
 

@@ -1,7 +1,8 @@
 //! The lines `cnf`, `rup` and `drill`.
 
-use crate::given::{File, NO_FILE, folder_of, left_by, run_over, words_of};
-use abt_command::run_program;
+use crate::given::{
+    File, Left, NO_FILE, folder_failing, left_by, run_over, run_with, sink_failing,
+};
 use dcsp_outside::MemorySink;
 use std::alloc::Global;
 use std::process::Abort;
@@ -25,6 +26,16 @@ struct Case {
     err: &'static [u8],
     /// The file under `p.rup`, if any bytes are there.
     proof: &'static [u8],
+}
+
+impl Case {
+    /// The line leaves what the case says.
+    fn expect(&self, rt: &impl Abort, alloc: Global) {
+        let left = left_by(rt, alloc, &self.files, self.words, 0);
+        left.expect(rt, self.code, self.out, self.err);
+        left.expect_text(rt, "p.rup", self.proof);
+        left.end();
+    }
 }
 
 const CASES: [Case; 26] = [
@@ -242,11 +253,7 @@ pigeons 5 refuted deliveries 212 steps 77\npigeons 5 verified\n",
 #[test]
 fn formulas_and_drills(rt: HostRuntime) {
     for case in &CASES {
-        let left = left_by(&rt, rt.alloc(), &case.files, case.words, 0);
-        assert_eq!(rt; left.code, case.code);
-        assert_eq!(rt; left.out.bytes(), case.out);
-        assert_eq!(rt; left.err.bytes(), case.err);
-        assert_eq!(rt; left.folder.file("p.rup").unwrap_or(b""), case.proof);
+        case.expect(&rt, rt.alloc());
     }
 }
 
@@ -263,17 +270,19 @@ struct Failing {
 }
 
 impl Failing {
+    /// What the line leaves.
+    fn left(&self, rt: &impl Abort, alloc: Global) -> Left {
+        let folder = folder_failing(rt, alloc, &self.files, self.folder, 0);
+        let out = sink_failing(rt, alloc, self.out, 0);
+        run_with(rt, alloc, folder, out, MemorySink::new(alloc), self.words)
+    }
+
     /// The line ends so.
     fn expect(&self, rt: &impl Abort, alloc: Global) {
-        let words = words_of(rt, alloc, self.words);
-        let mut folder = folder_of(rt, alloc, &self.files);
-        let mut out = MemorySink::new(alloc);
-        let mut err = MemorySink::new(alloc);
-        folder.fail_at(self.folder).expect(rt, "memory");
-        out.fail_at(self.out).expect(rt, "memory");
-        let code = run_program(alloc, &words, &mut folder, &mut out, &mut err);
-        assert_eq!(rt; code, self.code);
-        assert_eq!(rt; folder.file("p.rup"), self.proof);
+        let left = self.left(rt, alloc);
+        assert_eq!(rt; left.code, self.code);
+        left.expect_file(rt, "p.rup", self.proof);
+        left.end();
     }
 }
 
@@ -389,13 +398,15 @@ fn an_answer_comes_after_the_proof(rt: HostRuntime) {
 const EIGHT: &[u8] =
     b"p cnf 3 8\n1 2 3 0\n1 2 -3 0\n1 -2 3 0\n1 -2 -3 0\n-1 2 3 0\n-1 2 -3 0\n-1 -2 3 0\n-1 -2 -3 0\n";
 
-/// The proof that a run from this seed writes is verified.
+/// A run from this seed refutes the formula, and the proof that it writes is verified.
 fn expect_verified(rt: &impl Abort, alloc: Global, seed: &str) {
     let words = ["cnf", "f.cnf", "p.rup", "--seed", seed];
     let left = left_by(rt, alloc, &[("f.cnf", EIGHT)], &words, 0);
     assert_eq!(rt; left.code, 1);
-    let checked = run_over(rt, alloc, left.folder, &["rup", "f.cnf", "p.rup"]);
+    let words = ["rup", "f.cnf", "p.rup"];
+    let checked = run_over(rt, alloc, left.into_folder(), &words);
     assert_eq!(rt; checked.out.bytes(), b"verified\n".as_slice());
+    checked.end();
 }
 
 #[test]

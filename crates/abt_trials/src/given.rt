@@ -1,7 +1,7 @@
 //! What a trial is given, and what came of it.
 
 use abt_command::run_program;
-use dcsp_outside::{MemoryFolder, MemorySink};
+use dcsp_outside::{Folder, MemoryFolder, MemorySink};
 use std::alloc::Global;
 use std::process::Abort;
 
@@ -49,6 +49,26 @@ pub fn folder_of(rt: &impl Abort, alloc: Global, files: &[File]) -> MemoryFolder
     folder
 }
 
+/// A folder with these files, of which this call fails and keeps so many bytes; no call where it is 0.
+pub fn folder_failing(
+    rt: &impl Abort,
+    alloc: Global,
+    files: &[File],
+    call: u64,
+    kept: usize,
+) -> MemoryFolder {
+    let mut folder = folder_of(rt, alloc, files);
+    folder.fail_after(call, kept).expect(rt, "memory");
+    folder
+}
+
+/// A stream of which this call fails and keeps so many bytes; no call where it is 0.
+pub fn sink_failing(rt: &impl Abort, alloc: Global, call: u64, kept: usize) -> MemorySink {
+    let mut sink = MemorySink::new(alloc);
+    sink.fail_after(call, kept).expect(rt, "memory");
+    sink
+}
+
 /// What a trial left.
 #[derive(Drop)]
 pub struct Left {
@@ -59,6 +79,87 @@ pub struct Left {
     pub err: MemorySink,
 }
 
+impl Left {
+    /// The program ended with this number, and put this.
+    pub fn expect(&self, rt: &impl Abort, code: u8, out: &[u8], err: &[u8]) {
+        assert_eq!(rt; self.code, code);
+        assert_eq!(rt; self.out.bytes(), out);
+        assert_eq!(rt; self.err.bytes(), err);
+    }
+
+    /// The file under this name has these bytes, or is not there where they are none.
+    pub fn expect_text(&self, rt: &impl Abort, name: &str, bytes: &[u8]) {
+        assert_eq!(rt; self.folder.file(name).unwrap_or(b""), bytes);
+    }
+
+    /// The file under this name, if it is there.
+    pub fn expect_file(&self, rt: &impl Abort, name: &str, bytes: Option<&[u8]>) {
+        assert_eq!(rt; self.folder.file(name), bytes);
+    }
+
+    /// Two files are alike.
+    pub fn expect_alike(&self, rt: &impl Abort, one: &str, other: &str) {
+        assert!(rt; self.folder.file(one) == self.folder.file(other));
+    }
+
+    /// Lets it go. A value is let go in a function of its own, where nothing else is known: its proof is long
+    /// where much is.
+    pub fn end(self) {}
+
+    /// The folder alone.
+    pub fn into_folder(self) -> MemoryFolder {
+        self.folder
+    }
+}
+
+/// Runs the program over these, and gives the number that it ends with.
+pub fn ended<F: Folder>(
+    alloc: Global,
+    words: &[String],
+    folder: &mut F,
+    out: &mut MemorySink,
+    err: &mut MemorySink,
+) -> u8 {
+    run_program(alloc, words, folder, out, err)
+}
+
+/// Runs the program over these.
+pub fn run_words<F: Folder>(
+    rt: &impl Abort,
+    alloc: Global,
+    words: &[&str],
+    folder: &mut F,
+    out: &mut MemorySink,
+    err: &mut MemorySink,
+) -> u8 {
+    let words = words_of(rt, alloc, words);
+    ended(alloc, &words, folder, out, err)
+}
+
+/// Runs the program over the folder and these streams.
+pub fn run_with(
+    rt: &impl Abort,
+    alloc: Global,
+    mut folder: MemoryFolder,
+    mut out: MemorySink,
+    mut err: MemorySink,
+    words: &[&str],
+) -> Left {
+    let code = run_words(rt, alloc, words, &mut folder, &mut out, &mut err);
+    Left {
+        code,
+        folder,
+        out,
+        err,
+    }
+}
+
+/// Runs the program over a folder, which a trial may have left.
+pub fn run_over(rt: &impl Abort, alloc: Global, folder: MemoryFolder, words: &[&str]) -> Left {
+    let (out, err) = (MemorySink::new(alloc), MemorySink::new(alloc));
+    run_with(rt, alloc, folder, out, err, words)
+}
+
 /// Runs the program. Call number `failing` of the folder fails, and no call where it is 0.
 pub fn left_by(
     rt: &impl Abort,
@@ -67,23 +168,21 @@ pub fn left_by(
     words: &[&str],
     failing: u64,
 ) -> Left {
-    let mut folder = folder_of(rt, alloc, files);
-    folder.fail_at(failing).expect(rt, "memory");
+    let folder = folder_failing(rt, alloc, files, failing, 0);
     run_over(rt, alloc, folder, words)
 }
 
-/// Runs the program over the folder that a trial left.
-pub fn run_over(rt: &impl Abort, alloc: Global, mut folder: MemoryFolder, words: &[&str]) -> Left {
-    let words = words_of(rt, alloc, words);
-    let mut out = MemorySink::new(alloc);
-    let mut err = MemorySink::new(alloc);
-    let code = run_program(alloc, &words, &mut folder, &mut out, &mut err);
-    Left {
-        code,
-        folder,
-        out,
-        err,
-    }
+/// Runs the program over these files; it ends with this number, and puts this.
+pub fn expect_line(
+    rt: &impl Abort,
+    alloc: Global,
+    files: &[File],
+    words: &[&str],
+    (code, out, err): (u8, &[u8], &[u8]),
+) {
+    let left = left_by(rt, alloc, files, words, 0);
+    left.expect(rt, code, out, err);
+    left.end();
 }
 
 /// What came of a line that runs agents.
@@ -104,10 +203,9 @@ impl Case {
     /// The line leaves what the case says.
     pub fn expect(&self, rt: &impl Abort, alloc: Global) {
         let left = left_by(rt, alloc, &self.files, self.words, 0);
-        assert_eq!(rt; left.code, self.code);
-        assert_eq!(rt; left.out.bytes(), self.out);
-        assert_eq!(rt; left.err.bytes(), self.err);
-        assert_eq!(rt; left.folder.file("l.ngd").unwrap_or(b""), self.log);
-        assert_eq!(rt; left.folder.file("r.sch").unwrap_or(b""), self.record);
+        left.expect(rt, self.code, self.out, self.err);
+        left.expect_text(rt, "l.ngd", self.log);
+        left.expect_text(rt, "r.sch", self.record);
+        left.end();
     }
 }

@@ -1,7 +1,8 @@
 //! Each call of the outside fails in turn, on every line of the program.
 
-use crate::given::{File, NO_FILE, PAIR, PAIR_LOG, folder_of, words_of};
-use abt_command::run_program;
+use crate::given::{
+    File, Left, NO_FILE, PAIR, PAIR_LOG, folder_failing, folder_of, run_with, sink_failing,
+};
 use dcsp_outside::{MemoryFolder, MemorySink};
 use std::alloc::Global;
 use std::process::Abort;
@@ -101,57 +102,80 @@ const KEPT: [usize; 3] = [0, 3, usize::MAX];
 /// More calls than a line of the table makes.
 const MANY: u64 = 40;
 
-/// What a line left.
-#[derive(Drop)]
-struct Left {
-    code: u8,
-    folder: MemoryFolder,
-    out: MemorySink,
-    err: MemorySink,
+/// The file under this name is the same in both folders.
+fn is_alike(one: &MemoryFolder, other: &MemoryFolder, name: &str) -> bool {
+    one.file(name) == other.file(name)
 }
+
+/// Lets the folder go.
+fn end(_folder: MemoryFolder) {}
 
 impl Line {
     /// Runs the line. The calls of the folder and of `out` with these numbers fail, where they are not 0,
     /// and keep so many bytes.
     fn run(&self, rt: &impl Abort, alloc: Global, call: u64, put: u64, kept: usize) -> Left {
-        let words = words_of(rt, alloc, self.words);
-        let mut folder = folder_of(rt, alloc, &self.files);
-        let mut out = MemorySink::new(alloc);
-        let mut err = MemorySink::new(alloc);
-        folder.fail_after(call, kept).expect(rt, "memory");
-        out.fail_after(put, kept).expect(rt, "memory");
-        let code = run_program(alloc, &words, &mut folder, &mut out, &mut err);
-        Left {
-            code,
-            folder,
-            out,
-            err,
+        let folder = folder_failing(rt, alloc, &self.files, call, kept);
+        let out = sink_failing(rt, alloc, put, kept);
+        run_with(rt, alloc, folder, out, MemorySink::new(alloc), self.words)
+    }
+
+    /// Of the files that the line creates each is the same in both folders.
+    fn expect_created(&self, rt: &impl Abort, one: &MemoryFolder, other: &MemoryFolder) {
+        for name in self.creates {
+            assert!(rt; is_alike(one, other, name));
         }
     }
 
-    /// The folder before the line.
-    fn given(&self, rt: &impl Abort, alloc: Global) -> MemoryFolder {
-        folder_of(rt, alloc, &self.files)
+    /// Of the files of the line those that it does not create are the same in both folders.
+    fn expect_kept(&self, rt: &impl Abort, one: &MemoryFolder, other: &MemoryFolder) {
+        for (name, _) in &self.files {
+            if !self.creates.contains(name) {
+                assert!(rt; is_alike(one, other, name));
+            }
+        }
+    }
+
+    /// A first call that fails changes no file that the line creates.
+    fn try_first(&self, rt: &impl Abort, alloc: Global) {
+        let given = folder_of(rt, alloc, &self.files);
+        let first = self.run(rt, alloc, 1, 0, 0);
+        self.expect_created(rt, &first.folder, &given);
+        first.end();
+        end(given);
     }
 
     /// Each call of the folder fails in turn.
     fn try_calls(&self, rt: &impl Abort, alloc: Global) {
         let whole = self.run(rt, alloc, 0, 0, 0);
-        let given = self.given(rt, alloc);
-        let first = self.run(rt, alloc, 1, 0, 0);
-        for name in self.creates {
-            assert!(rt; first.folder.file(name) == given.file(name));
-        }
         for call in 1..MANY {
             let before = self.run(rt, alloc, call, 0, 0);
-            if before.code != 6 {
-                assert_eq!(rt; before.code, whole.code);
+            let fails = self.fails(rt, alloc, call, &before, &whole);
+            before.end();
+            if !fails {
+                whole.end();
                 return;
             }
-            assert!(rt; whole.out.bytes().starts_with(before.out.bytes()));
-            self.try_call(rt, alloc, call, &before);
         }
         rt.panic("more calls than a line of the table makes");
+    }
+
+    /// Whether call number `call` of the folder fails, which left `before`. Where it fails it leaves first
+    /// parts; else the line ends as the whole one does.
+    fn fails(
+        &self,
+        rt: &impl Abort,
+        alloc: Global,
+        call: u64,
+        before: &Left,
+        whole: &Left,
+    ) -> bool {
+        if before.code != 6 {
+            assert_eq!(rt; before.code, whole.code);
+            return false;
+        }
+        assert!(rt; whole.out.bytes().starts_with(before.out.bytes()));
+        self.try_call(rt, alloc, call, before);
+        true
     }
 
     /// Call number `call` of the folder fails, and keeps more bytes than the failure that left `before`.
@@ -160,11 +184,25 @@ impl Line {
         for kept in KEPT {
             let left = self.run(rt, alloc, call, 0, kept);
             self.expect_fault(rt, alloc, &left);
-            assert!(rt; left.out.bytes() == before.out.bytes());
-            for name in self.creates {
-                let wanted = cut(before.folder.file(name), after.folder.file(name), kept);
-                assert!(rt; left.folder.file(name) == wanted);
-            }
+            self.expect_cut(rt, &left, before, &after.folder, kept);
+            left.end();
+        }
+        after.end();
+    }
+
+    /// A failing call leaves what was put before it, and of what it would have led to the bytes that it keeps.
+    fn expect_cut(
+        &self,
+        rt: &impl Abort,
+        left: &Left,
+        before: &Left,
+        after: &MemoryFolder,
+        kept: usize,
+    ) {
+        assert!(rt; left.out.bytes() == before.out.bytes());
+        for name in self.creates {
+            let wanted = cut(before.folder.file(name), after.file(name), kept);
+            assert!(rt; left.folder.file(name) == wanted);
         }
     }
 
@@ -173,35 +211,61 @@ impl Line {
         let whole = self.run(rt, alloc, 0, 0, 0);
         for put in 1..MANY {
             let before = self.run(rt, alloc, 0, put, 0);
-            if before.code != 6 {
-                assert!(rt; before.out.bytes() == whole.out.bytes());
+            let fails = self.put_fails(rt, alloc, put, &before, &whole);
+            before.end();
+            if !fails {
+                whole.end();
                 return;
-            }
-            let after = self.run(rt, alloc, 0, put.wrapping_add(1), 0);
-            for kept in KEPT {
-                let left = self.run(rt, alloc, 0, put, kept);
-                self.expect_fault(rt, alloc, &left);
-                let wanted = cut(Some(before.out.bytes()), Some(after.out.bytes()), kept);
-                assert!(rt; Some(left.out.bytes()) == wanted);
-                for name in self.creates {
-                    assert!(rt; left.folder.file(name) == before.folder.file(name));
-                }
             }
         }
         rt.panic("more pieces than a line of the table puts");
+    }
+
+    /// Whether piece number `put` fails, which left `before`. Where it fails it leaves a first part; else all
+    /// is put that the whole line puts.
+    fn put_fails(
+        &self,
+        rt: &impl Abort,
+        alloc: Global,
+        put: u64,
+        before: &Left,
+        whole: &Left,
+    ) -> bool {
+        if before.code != 6 {
+            assert!(rt; before.out.bytes() == whole.out.bytes());
+            return false;
+        }
+        self.try_put(rt, alloc, put, before);
+        true
+    }
+
+    /// Piece number `put` fails, and keeps more bytes than the failure that left `before`.
+    fn try_put(&self, rt: &impl Abort, alloc: Global, put: u64, before: &Left) {
+        let after = self.run(rt, alloc, 0, put.wrapping_add(1), 0);
+        for kept in KEPT {
+            let left = self.run(rt, alloc, 0, put, kept);
+            self.expect_fault(rt, alloc, &left);
+            expect_part(rt, &left, before, &after, kept);
+            self.expect_created(rt, &left.folder, &before.folder);
+            left.end();
+        }
+        after.end();
     }
 
     /// The line was stopped by a fault, which is said on `err`, and what it does not create is as it was.
     fn expect_fault(&self, rt: &impl Abort, alloc: Global, left: &Left) {
         assert_eq!(rt; left.code, 6);
         assert_eq!(rt; left.err.bytes(), b"abt: fault\n".as_slice());
-        let given = self.given(rt, alloc);
-        for (name, _) in &self.files {
-            if !self.creates.contains(name) {
-                assert!(rt; left.folder.file(name) == given.file(name));
-            }
-        }
+        let given = folder_of(rt, alloc, &self.files);
+        self.expect_kept(rt, &left.folder, &given);
+        end(given);
     }
+}
+
+/// A failing piece leaves what was put before it, and of what it would have led to the bytes that it keeps.
+fn expect_part(rt: &impl Abort, left: &Left, before: &Left, after: &Left, kept: usize) {
+    let wanted = cut(Some(before.out.bytes()), Some(after.out.bytes()), kept);
+    assert!(rt; Some(left.out.bytes()) == wanted);
 }
 
 /// What a failing call leaves that would have led from `before` to `after`: where it adds bytes, the first of
@@ -226,6 +290,7 @@ fn cut<'b>(before: Option<&'b [u8]>, after: Option<&'b [u8]>, kept: usize) -> Op
 #[test]
 fn each_call_fails_in_turn(rt: HostRuntime) {
     for line in &LINES {
+        line.try_first(&rt, rt.alloc());
         line.try_calls(&rt, rt.alloc());
         line.try_puts(&rt, rt.alloc());
     }

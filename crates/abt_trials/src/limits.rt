@@ -1,6 +1,6 @@
 //! Each limit is met at its number, and refused one beyond.
 
-use crate::given::{Left, PAIR, folder_of, left_by, run_over};
+use crate::given::{Left, PAIR, expect_line, folder_of, left_by, run_over};
 use dcsp_outside::MemoryFolder;
 use itoa::Buffer;
 use std::alloc::Global;
@@ -48,15 +48,21 @@ fn zeros(rt: &impl Abort, alloc: Global, head: &[u8], count: u32) -> Vec<u8> {
     text
 }
 
+/// The line ended with this number, and said this.
+fn expect_said(rt: &impl Abort, left: Left, code: u8, said: &[u8]) {
+    assert_eq!(rt; left.code, code);
+    assert_eq!(rt; left.err.bytes(), said);
+}
+
 /// A model with this text and this last part must be answered so by `bound`.
 fn expect(rt: &impl Abort, alloc: Global, text: &[u8], last: &[u8], code: u8, said: &[u8]) {
     let mut model = Vec::from_slice(alloc, text).expect(rt, "memory");
     model.extend_from_slice(last).expect(rt, "memory");
     let mut folder = MemoryFolder::new(alloc);
     folder.place("m.fzn", &model).expect(rt, "memory");
+    drop(model);
     let left = run_over(rt, alloc, folder, &["bound", "m.fzn"]);
-    assert_eq!(rt; left.code, code);
-    assert_eq!(rt; left.err.bytes(), said);
+    expect_said(rt, left, code, said);
 }
 
 #[test]
@@ -118,8 +124,7 @@ fn expect_checked(rt: &impl Abort, alloc: Global, text: &[u8], code: u8, said: &
     folder.place("m.fzn", text).expect(rt, "memory");
     folder.place("m.ngd", b"ngd 1\nend\n").expect(rt, "memory");
     let left = run_over(rt, alloc, folder, &["check", "m.fzn", "m.ngd"]);
-    assert_eq!(rt; left.code, code);
-    assert_eq!(rt; left.err.bytes(), said);
+    expect_said(rt, left, code, said);
 }
 
 #[test]
@@ -142,7 +147,14 @@ fn replayed(rt: &impl Abort, alloc: Global, zeros: u32) -> Left {
     schedule.extend_from_slice(b"end\n").expect(rt, "memory");
     let mut folder = folder_of(rt, alloc, &[("m.fzn", PAIR)]);
     folder.place("s.sch", &schedule).expect(rt, "memory");
+    drop(schedule);
     run_over(rt, alloc, folder, &["replay", "m.fzn", "s.sch", "l.ngd"])
+}
+
+/// The line ended with this number, and what it put ends so.
+fn expect_end(rt: &impl Abort, left: Left, code: u8, end: &[u8]) {
+    assert_eq!(rt; left.code, code);
+    assert!(rt; left.out.bytes().ends_with(end));
 }
 
 /// The longest schedule has 67,108,864 bytes.
@@ -150,34 +162,42 @@ fn replayed(rt: &impl Abort, alloc: Global, zeros: u32) -> Left {
 fn lengths_of_schedules(rt: HostRuntime) {
     let alloc = rt.alloc();
     let left = replayed(&rt, alloc, 33_554_423);
-    assert_eq!(rt; left.code, 1);
-    assert!(rt; left.out.bytes().ends_with(b"% unused 33554420\n"));
+    expect_end(&rt, left, 1, b"% unused 33554420\n");
     let left = replayed(&rt, alloc, 33_554_424);
-    assert_eq!(rt; left.code, 4);
-    assert_eq!(rt; left.err.bytes(), b"abt: schedule: too long\n".as_slice());
+    expect_said(&rt, left, 4, b"abt: schedule: too long\n");
 }
 
-/// A run that meets its bound, and one that starves a link.
+/// A run meets its bound.
 #[test]
-fn runs_at_their_worst(rt: HostRuntime) {
+fn a_run_at_its_bound(rt: HostRuntime) {
     let alloc = rt.alloc();
     let model =
         b"var 0..99: x;\nvar 0..99: y;\nconstraint int_ne(x,y);\nconstraint int_eq(x,y);\nsolve satisfy;\n";
     let files = [("m.fzn", model.as_slice())];
-    let left = left_by(&rt, alloc, &files, &["solve", "m.fzn", "l.ngd"], 0);
-    assert_eq!(rt; left.code, 1);
-    let said = b"=====UNSATISFIABLE=====\n% deliveries 200\n% steps 101\n".as_slice();
-    assert_eq!(rt; left.out.bytes(), said);
-    let left = left_by(&rt, alloc, &files, &["bound", "m.fzn"], 0);
-    assert_eq!(rt; left.out.bytes(), b"bound 200\n".as_slice());
-    let files = [("m.fzn", STARVED)];
-    let words = ["starve", "m.fzn", "1", "3", "s.sch"];
-    let left = left_by(&rt, alloc, &files, &words, 0);
-    assert_eq!(rt; left.code, 0);
-    assert_eq!(rt;
-        left.out.bytes(),
-        b"starved solved deliveries 6\n".as_slice()
+    let said = b"=====UNSATISFIABLE=====\n% deliveries 200\n% steps 101\n";
+    expect_line(
+        &rt,
+        alloc,
+        &files,
+        &["solve", "m.fzn", "l.ngd"],
+        (1, said, b""),
     );
-    let choices = b"schedule 1\n1\n1\n1\n0\n0\n0\nend\n".as_slice();
-    assert_eq!(rt; left.folder.file("s.sch"), Some(choices));
+    expect_line(
+        &rt,
+        alloc,
+        &files,
+        &["bound", "m.fzn"],
+        (0, b"bound 200\n", b""),
+    );
+}
+
+/// A run starves a link.
+#[test]
+fn a_run_that_starves(rt: HostRuntime) {
+    let words = ["starve", "m.fzn", "1", "3", "s.sch"];
+    let left = left_by(&rt, rt.alloc(), &[("m.fzn", STARVED)], &words, 0);
+    left.expect(&rt, 0, b"starved solved deliveries 6\n", b"");
+    let choices = b"schedule 1\n1\n1\n1\n0\n0\n0\nend\n";
+    left.expect_file(&rt, "s.sch", Some(choices));
+    left.end();
 }

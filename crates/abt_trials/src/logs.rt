@@ -2,9 +2,8 @@
 
 ghost use Rattle.std.specs.Prelude.{◌≤◌};
 
-use crate::given::{Left, PAIR, left_by, words_of};
-use abt_command::run_program;
-use dcsp_outside::MemorySink;
+use crate::given::{Left, PAIR, PAIR_LOG, expect_line, left_by, run_over};
+use dcsp_outside::MemoryFolder;
 use itoa::Buffer;
 use ngd_log::{Entries, LogError, LogReader};
 use std::alloc::Global;
@@ -20,6 +19,16 @@ struct Case {
     log: &'static [u8],
     code: u8,
     said: &'static [u8],
+}
+
+impl Case {
+    /// The number that the check ends with, and what it puts on `out` and `err`.
+    fn told(&self) -> (u8, &[u8], &[u8]) {
+        match self.code {
+            0 | 1 => (self.code, self.said, b""),
+            _ => (self.code, b"", self.said),
+        }
+    }
 }
 
 const CASES: [Case; 12] = [
@@ -91,29 +100,32 @@ const CASES: [Case; 12] = [
 fn logs_of_both_versions_are_checked(rt: HostRuntime) {
     for case in &CASES {
         let files = [("m.fzn", PAIR), ("l.ngd", case.log)];
-        let left = left_by(&rt, rt.alloc(), &files, &["check", "m.fzn", "l.ngd"], 0);
-        assert_eq!(rt; left.code, case.code);
-        let (said, silent) = match case.code {
-            0 | 1 => (left.out.bytes(), left.err.bytes()),
-            _ => (left.err.bytes(), left.out.bytes()),
-        };
-        assert_eq!(rt; said, case.said);
-        assert_eq!(rt; silent, b"".as_slice());
+        let words = ["check", "m.fzn", "l.ngd"];
+        expect_line(&rt, rt.alloc(), &files, &words, case.told());
     }
 }
 
+/// A folder with the wide pair and the log of a run of it.
+fn logged(rt: &impl Abort, alloc: Global) -> MemoryFolder {
+    let files = [("m.fzn", WIDE_PAIR)];
+    let left = left_by(rt, alloc, &files, &["solve", "m.fzn", "l.ngd"], 0);
+    assert_eq!(rt; left.code, 1);
+    left.into_folder()
+}
+
 /// Checks the log of a run whose folder this is. Call number `failing` of the check fails.
-fn checked(rt: &impl Abort, alloc: Global, left: Left, failing: u64) -> (u8, MemorySink) {
-    let mut folder = left.folder;
+fn checked(rt: &impl Abort, alloc: Global, mut folder: MemoryFolder, failing: u64) -> Left {
     let made: u64 = 205;
     folder
         .fail_at(made.wrapping_add(failing))
         .expect(rt, "memory");
-    let words = words_of(rt, alloc, &["check", "m.fzn", "l.ngd"]);
-    let mut out = MemorySink::new(alloc);
-    let mut err = MemorySink::new(alloc);
-    let code = run_program(alloc, &words, &mut folder, &mut out, &mut err);
-    (code, out)
+    run_over(rt, alloc, folder, &["check", "m.fzn", "l.ngd"])
+}
+
+/// The check ended with this number, and answered unless a call failed.
+fn expect_checked(rt: &impl Abort, left: Left, code: u8) {
+    assert_eq!(rt; left.code, code);
+    assert_eq!(rt; left.out.bytes().is_empty(), code == 6);
 }
 
 /// One call reads the model, and two read the log: the run before makes 205 calls, for the model, the log's
@@ -121,33 +133,38 @@ fn checked(rt: &impl Abort, alloc: Global, left: Left, failing: u64) -> (u8, Mem
 #[test]
 fn a_log_is_read_in_two_pieces(rt: HostRuntime) {
     for (failing, code) in [(1, 6), (2, 6), (3, 6), (4, 0)] {
-        let files = [("m.fzn", WIDE_PAIR)];
-        let left = left_by(&rt, rt.alloc(), &files, &["solve", "m.fzn", "l.ngd"], 0);
-        assert_eq!(rt; left.code, 1);
-        let (ended, out) = checked(&rt, rt.alloc(), left, failing);
-        assert_eq!(rt; ended, code);
-        assert_eq!(rt; out.bytes().is_empty(), code == 6);
+        let folder = logged(&rt, rt.alloc());
+        let left = checked(&rt, rt.alloc(), folder, failing);
+        expect_checked(&rt, left, code);
     }
+}
+
+/// What a check says of so many first bytes of a log.
+fn said_of(count: usize) -> &'static [u8] {
+    match count {
+        0..=5 => b"abt: log: line 1\n",
+        6..=26 => b"abt: log: line 2\n",
+        27..=47 => b"abt: log: line 3\n",
+        48..=64 => b"abt: log: line 4\n",
+        65..=68 => b"abt: log: line 5\n",
+        _ => b"",
+    }
+}
+
+/// So many first bytes of a log were checked, of which all verify, and no fewer.
+fn expect_part(rt: &impl Abort, left: Left, count: usize) {
+    assert_eq!(rt; left.err.bytes(), said_of(count));
+    assert_eq!(rt; left.code == 0, count == 69);
 }
 
 /// Row for row, the first bytes of a log are refused at their first bad line.
 #[test]
 fn first_parts_of_a_log_are_refused(rt: HostRuntime) {
-    let log = b"ngd 1\n1 v2 [v1=0] <- c1 c2\n2 v2 [v1=1] <- c2 c1\n3 v1 [] <- n1 n2\nend\n";
-    for count in 0..=log.len() {
-        let part = log.get(..count).expect(&rt, "a part");
+    for count in 0..=PAIR_LOG.len() {
+        let part = PAIR_LOG.get(..count).expect(&rt, "a part");
         let files = [("m.fzn", PAIR), ("l.ngd", part)];
         let left = left_by(&rt, rt.alloc(), &files, &["check", "m.fzn", "l.ngd"], 0);
-        let said = match count {
-            0..=5 => b"abt: log: line 1\n".as_slice(),
-            6..=26 => b"abt: log: line 2\n".as_slice(),
-            27..=47 => b"abt: log: line 3\n".as_slice(),
-            48..=64 => b"abt: log: line 4\n".as_slice(),
-            65..=68 => b"abt: log: line 5\n".as_slice(),
-            _ => b"".as_slice(),
-        };
-        assert_eq!(rt; left.err.bytes(), said);
-        assert_eq!(rt; left.code == 0, count == 69);
+        expect_part(&rt, left, count);
     }
 }
 
@@ -160,6 +177,14 @@ struct Upgrade {
     err: &'static [u8],
     /// The new log, if any bytes are there.
     new: &'static [u8],
+}
+
+impl Upgrade {
+    /// An upgrade left this.
+    fn expect(&self, rt: &impl Abort, left: Left) {
+        left.expect(rt, self.code, self.out, self.err);
+        left.expect_text(rt, "n.ngd", self.new);
+    }
 }
 
 /// Three variables with two values each, no two alike.
@@ -203,10 +228,7 @@ fn logs_are_upgraded(rt: HostRuntime) {
     for case in &UPGRADES {
         let files = [("l.ngd", case.log)];
         let left = left_by(&rt, rt.alloc(), &files, &["upgrade", "l.ngd", "n.ngd"], 0);
-        assert_eq!(rt; left.code, case.code);
-        assert_eq!(rt; left.out.bytes(), case.out);
-        assert_eq!(rt; left.err.bytes(), case.err);
-        assert_eq!(rt; left.folder.file("n.ngd").unwrap_or(b""), case.new);
+        case.expect(&rt, left);
     }
 }
 
@@ -255,15 +277,31 @@ fn read_in_pieces(alloc: Global, text: &[u8], size: usize) -> (u64, Result<(), L
     (count, reader.finish())
 }
 
+/// So many entries are read of the text in pieces of each of these sizes, and it ends so.
+fn expect_entries(
+    rt: &impl Abort,
+    alloc: Global,
+    text: &[u8],
+    sizes: &[usize],
+    (count, end): (u64, Result<(), LogError>),
+) {
+    for size in sizes {
+        assert!(rt; *size > 0);
+        assert!(rt; read_in_pieces(alloc, text, *size) == (count, end));
+    }
+}
+
 #[test]
 fn a_long_log_is_read_however_it_is_cut(rt: HostRuntime) {
     let alloc = rt.alloc();
     let whole = long_log(&rt, alloc, 100_000, b"end\n");
+    expect_entries(&rt, alloc, &whole, &[1, 7, 65_536], (100_000, Ok(())));
+}
+
+#[test]
+fn a_long_log_without_an_end(rt: HostRuntime) {
+    let alloc = rt.alloc();
     let cut = long_log(&rt, alloc, 100_000, b"100001 v2 [v1=0] <- c1 c2\n");
     let bad = Err(LogError::Line { number: 100_003 });
-    assert_eq!(rt; read_in_pieces(alloc, &whole, 1), (100_000, Ok(())));
-    assert_eq!(rt; read_in_pieces(alloc, &whole, 7), (100_000, Ok(())));
-    assert_eq!(rt; read_in_pieces(alloc, &whole, 65_536), (100_000, Ok(())));
-    assert_eq!(rt; read_in_pieces(alloc, &cut, 7), (100_001, bad));
-    assert_eq!(rt; read_in_pieces(alloc, &cut, 65_536), (100_001, bad));
+    expect_entries(&rt, alloc, &cut, &[7, 65_536], (100_001, bad));
 }

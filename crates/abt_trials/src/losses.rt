@@ -91,10 +91,11 @@ fn lossy_run(rt: &impl Abort, alloc: Global, model: &'static [u8], seed: u32) ->
 fn expect_replayed(rt: &impl Abort, alloc: Global, left: Left) {
     let code = left.code;
     let words = ["replay", "m.fzn", "r.sch", "again.ngd"];
-    let again = run_over(rt, alloc, left.folder, &words);
+    let again = run_over(rt, alloc, left.into_folder(), &words);
     assert_eq!(rt; again.code, code);
     assert!(rt; again.out.bytes().ends_with(b"% unused 0\n"));
-    assert_eq!(rt; again.folder.file("again.ngd"), again.folder.file("l.ngd"));
+    again.expect_alike(rt, "again.ngd", "l.ngd");
+    again.end();
 }
 
 /// Runs over the medium under the events of 200 seeds end with this status, and their records replay.
@@ -113,6 +114,8 @@ fn losses_change_no_verdict(rt: HostRuntime) {
     for model in [PAIR, APART, LINKED] {
         let words = ["solve", "m.fzn", "l.ngd"];
         let reliable = left_by(&rt, rt.alloc(), &[("m.fzn", model)], &words, 0);
-        expect_verdict(&rt, rt.alloc(), model, reliable.code);
+        let code = reliable.code;
+        reliable.end();
+        expect_verdict(&rt, rt.alloc(), model, code);
     }
 }

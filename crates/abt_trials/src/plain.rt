@@ -1,8 +1,8 @@
 //! The lines of one word, and words that are no line.
 
-use crate::given::{PAIR, PAIR_LOG, left_by, words_of};
-use abt_command::{HELP, VERSION, run_program};
-use dcsp_outside::{MemoryFolder, MemorySink};
+use crate::given::{PAIR, PAIR_LOG, expect_line, folder_failing, run_with, sink_failing};
+use abt_command::{HELP, VERSION};
+use dcsp_outside::MemorySink;
 use std::alloc::Global;
 use std::process::Abort;
 
@@ -57,17 +57,12 @@ const CASES: [Case; 5] = [
 impl Case {
     /// The line of the one word ends so, and calls nothing of the folder.
     fn expect(&self, rt: &impl Abort, alloc: Global) {
-        let words = words_of(rt, alloc, &[self.word]);
-        let mut folder = MemoryFolder::new(alloc);
-        let mut out = MemorySink::new(alloc);
-        let mut err = MemorySink::new(alloc);
-        folder.fail_at(1).expect(rt, "memory");
-        out.fail_at(self.failing).expect(rt, "memory");
-        let code = run_program(alloc, &words, &mut folder, &mut out, &mut err);
-        assert_eq!(rt; code, self.code);
-        assert_eq!(rt; out.bytes(), self.out);
-        assert_eq!(rt; err.bytes(), self.err);
-        assert_eq!(rt; folder.faults(), 0);
+        let folder = folder_failing(rt, alloc, &[], 1, 0);
+        let out = sink_failing(rt, alloc, self.failing, 0);
+        let left = run_with(rt, alloc, folder, out, MemorySink::new(alloc), &[self.word]);
+        left.expect(rt, self.code, self.out, self.err);
+        assert_eq!(rt; left.folder.faults(), 0);
+        left.end();
     }
 }
 
@@ -83,17 +78,14 @@ fn one_word_prints_a_text(rt: HostRuntime) {
 #[test]
 fn a_further_word_is_refused(rt: HostRuntime) {
     for first in ["--help", "--version"] {
-        let left = left_by(&rt, rt.alloc(), &[], &[first, "check"], 0);
-        assert_eq!(rt; left.code, 2);
-        assert_eq!(rt; left.out.bytes(), b"".as_slice());
+        let told: (u8, &[u8], &[u8]) = (2, b"", b"abt: bad words\n");
+        expect_line(&rt, rt.alloc(), &[], &[first, "check"], told);
     }
 }
 
 #[test]
 fn equal_names_are_refused(rt: HostRuntime) {
     let files = [("m.fzn", PAIR), ("m.ngd", PAIR_LOG)];
-    let left = left_by(&rt, rt.alloc(), &files, &["check", "m.fzn", "m.fzn"], 0);
-    assert_eq!(rt; left.code, 2);
-    assert_eq!(rt; left.out.bytes(), b"".as_slice());
-    assert_eq!(rt; left.err.bytes(), b"abt: bad words\n".as_slice());
+    let told: (u8, &[u8], &[u8]) = (2, b"", b"abt: bad words\n");
+    expect_line(&rt, rt.alloc(), &files, &["check", "m.fzn", "m.fzn"], told);
 }

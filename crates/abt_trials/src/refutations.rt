@@ -1,6 +1,6 @@
 //! Formulas through `cnf` and `rup`: those without a model, and the least formulas and proofs.
 
-use crate::given::{Left, left_by, run_over};
+use crate::given::{expect_line, run_over};
 use dcsp_outside::MemoryFolder;
 use itoa::Buffer;
 use std::alloc::Global;
@@ -58,21 +58,22 @@ const PARITY: &[u8] = b"p cnf 12 30\n1 -5 0\n-1 5 0\n\
 3 10 -11 0\n3 -10 11 0\n-3 10 11 0\n-3 -10 -11 0\n\
 4 11 -12 0\n4 -11 12 0\n-4 11 12 0\n-4 -11 -12 0\n8 12 0\n-8 -12 0\n";
 
-/// What a trial left must be this.
-fn expect_left(rt: &impl Abort, left: &Left, code: u8, out: &[u8]) {
-    assert_eq!(rt; left.code, code);
-    assert_eq!(rt; left.out.bytes(), out);
-    assert_eq!(rt; left.err.bytes(), b"".as_slice());
+/// A folder with this formula.
+fn folder_with(rt: &impl Abort, alloc: Global, cnf: &[u8]) -> MemoryFolder {
+    let mut folder = MemoryFolder::new(alloc);
+    folder.place("f.cnf", cnf).expect(rt, "memory");
+    folder
 }
 
 /// `cnf` must refute the formula and put this, and `rup` must accept the proof that it wrote.
 fn expect_refuted(rt: &impl Abort, alloc: Global, cnf: &[u8], out: &[u8]) {
-    let mut folder = MemoryFolder::new(alloc);
-    folder.place("f.cnf", cnf).expect(rt, "memory");
+    let folder = folder_with(rt, alloc, cnf);
     let left = run_over(rt, alloc, folder, &["cnf", "f.cnf", "p.rup"]);
-    expect_left(rt, &left, 1, out);
-    let left = run_over(rt, alloc, left.folder, &["rup", "f.cnf", "p.rup"]);
-    expect_left(rt, &left, 0, b"verified\n");
+    left.expect(rt, 1, out, b"");
+    let folder = left.into_folder();
+    let left = run_over(rt, alloc, folder, &["rup", "f.cnf", "p.rup"]);
+    left.expect(rt, 0, b"verified\n", b"");
+    left.end();
 }
 
 #[test]
@@ -138,8 +139,8 @@ const FORMULAS: [Formula; 5] = [
 fn least_formulas(rt: HostRuntime) {
     for formula in &FORMULAS {
         let files = [("f.cnf", formula.cnf)];
-        let left = left_by(&rt, rt.alloc(), &files, &["cnf", "f.cnf", "p.rup"], 0);
-        expect_left(&rt, &left, formula.code, formula.out);
+        let told: (u8, &[u8], &[u8]) = (formula.code, formula.out, b"");
+        expect_line(&rt, rt.alloc(), &files, &["cnf", "f.cnf", "p.rup"], told);
     }
 }
 
@@ -238,8 +239,8 @@ const PROOFS: [Proof; 11] = [
 fn least_proofs(rt: HostRuntime) {
     for proof in &PROOFS {
         let files = [("f.cnf", proof.cnf), ("p.rup", proof.proof)];
-        let left = left_by(&rt, rt.alloc(), &files, &["rup", "f.cnf", "p.rup"], 0);
-        expect_left(&rt, &left, proof.code, proof.out);
+        let told: (u8, &[u8], &[u8]) = (proof.code, proof.out, b"");
+        expect_line(&rt, rt.alloc(), &files, &["rup", "f.cnf", "p.rup"], told);
     }
 }
 
@@ -261,13 +262,12 @@ fn expect_many(
     let mut text = Vec::from_slice(alloc, b"p cnf 1 0\n").expect(rt, "memory");
     add_many(rt, &mut text, piece, count);
     text.extend_from_slice(end).expect(rt, "memory");
-    let mut folder = MemoryFolder::new(alloc);
-    folder.place("f.cnf", &text).expect(rt, "memory");
+    let mut folder = folder_with(rt, alloc, &text);
+    drop(text);
     folder.place("p.rup", b"").expect(rt, "memory");
     let left = run_over(rt, alloc, folder, &["rup", "f.cnf", "p.rup"]);
-    assert_eq!(rt; left.code, code);
-    assert_eq!(rt; left.out.bytes(), out);
-    assert_eq!(rt; left.err.bytes(), err);
+    left.expect(rt, code, out, err);
+    left.end();
 }
 
 /// What `rup` answers on a formula that it reads.

@@ -1,10 +1,11 @@
 //! The lines `solve` and `replay`.
 
 use crate::given::{
-    APART, Case, LINKED, NO_FILE, PAIR, PAIR_LOG, folder_of, left_by, run_over, words_of,
+    APART, Case, LINKED, Left, NO_FILE, PAIR, PAIR_LOG, folder_failing, folder_of, left_by,
+    run_over, run_with, sink_failing,
 };
-use abt_command::run_program;
 use dcsp_outside::MemorySink;
+use std::process::Abort;
 
 const PAIR_TRACE: &[u8] =
     b"% 1 v1>v2 ok 0\n% 2 v2>v1 nogood 1\n% 3 v1>v2 ok 1\n% 4 v2>v1 nogood 2\n\
@@ -192,6 +193,15 @@ struct Stopped {
     record: &'static [u8],
 }
 
+impl Stopped {
+    /// A run that was stopped left this.
+    fn expect(&self, rt: &impl Abort, left: Left) {
+        left.expect(rt, 6, self.out, b"abt: fault\n");
+        left.expect_text(rt, "l.ngd", self.log);
+        left.expect_text(rt, "r.sch", self.record);
+    }
+}
+
 /// The calls: the model, the log's creation and head, three steps and the log's end, the record's creation and text.
 const STOPPED: [Stopped; 9] = [
     Stopped {
@@ -256,62 +266,63 @@ fn each_call_of_a_run_fails_in_turn(rt: HostRuntime) {
         let words = ["solve", "m.fzn", "l.ngd", "--record", "r.sch", "--trace"];
         let files = [("m.fzn", PAIR), NO_FILE];
         let left = left_by(&rt, rt.alloc(), &files, &words, case.failing);
-        assert_eq!(rt; left.code, 6);
-        assert_eq!(rt; left.out.bytes(), case.out);
-        assert_eq!(rt; left.err.bytes(), b"abt: fault\n".as_slice());
-        assert_eq!(rt; left.folder.file("l.ngd").unwrap_or(b""), case.log);
-        assert_eq!(rt; left.folder.file("r.sch").unwrap_or(b""), case.record);
+        case.expect(&rt, left);
     }
 }
 
 /// An append that fails may leave first bytes of its piece.
 #[test]
 fn a_failing_append_leaves_first_bytes(rt: HostRuntime) {
-    let mut folder = folder_of(&rt, rt.alloc(), &[("m.fzn", PAIR)]);
-    folder.fail_after(4, 5).expect(&rt, "memory");
-    let words = words_of(&rt, rt.alloc(), &["solve", "m.fzn", "l.ngd"]);
-    let mut out = MemorySink::new(rt.alloc());
-    let mut err = MemorySink::new(rt.alloc());
-    let code = run_program(rt.alloc(), &words, &mut folder, &mut out, &mut err);
-    assert_eq!(rt; code, 6);
-    assert_eq!(rt; folder.file("l.ngd"), Some(b"ngd 1\n1 v2 ".as_slice()));
-    assert_eq!(rt; out.bytes(), b"".as_slice());
+    let folder = folder_failing(&rt, rt.alloc(), &[("m.fzn", PAIR)], 4, 5);
+    let left = run_over(&rt, rt.alloc(), folder, &["solve", "m.fzn", "l.ngd"]);
+    left.expect(&rt, 6, b"", b"abt: fault\n");
+    left.expect_file(&rt, "l.ngd", Some(b"ngd 1\n1 v2 "));
+    left.end();
 }
 
 /// A stream that fails at its first piece, and keeps some bytes of it.
 #[test]
 fn a_stream_fails(rt: HostRuntime) {
-    let mut folder = folder_of(&rt, rt.alloc(), &[("m.fzn", PAIR)]);
-    let words = words_of(&rt, rt.alloc(), &["solve", "m.fzn", "l.ngd"]);
-    let mut out = MemorySink::new(rt.alloc());
-    let mut err = MemorySink::new(rt.alloc());
-    out.fail_after(1, 3).expect(&rt, "memory");
-    let code = run_program(rt.alloc(), &words, &mut folder, &mut out, &mut err);
-    assert_eq!(rt; code, 6);
-    assert_eq!(rt; out.bytes(), b"===".as_slice());
-    assert_eq!(rt; folder.file("l.ngd"), Some(PAIR_LOG));
-    let none = words_of(&rt, rt.alloc(), &[]);
-    let mut err = MemorySink::new(rt.alloc());
-    err.fail_at(1).expect(&rt, "memory");
-    let code = run_program(rt.alloc(), &none, &mut folder, &mut out, &mut err);
-    assert_eq!(rt; code, 2);
-    assert_eq!(rt; err.bytes(), b"".as_slice());
+    let alloc = rt.alloc();
+    let folder = folder_of(&rt, alloc, &[("m.fzn", PAIR)]);
+    let out = sink_failing(&rt, alloc, 1, 3);
+    let words = ["solve", "m.fzn", "l.ngd"];
+    let left = run_with(&rt, alloc, folder, out, MemorySink::new(alloc), &words);
+    left.expect(&rt, 6, b"===", b"abt: fault\n");
+    left.expect_file(&rt, "l.ngd", Some(PAIR_LOG));
+    left.end();
+}
+
+/// The stream for what is said fails at its first piece.
+#[test]
+fn a_stream_of_refusals_fails(rt: HostRuntime) {
+    let alloc = rt.alloc();
+    let folder = folder_of(&rt, alloc, &[]);
+    let err = sink_failing(&rt, alloc, 1, 0);
+    let left = run_with(&rt, alloc, folder, MemorySink::new(alloc), err, &[]);
+    left.expect(&rt, 2, b"", b"");
+    left.end();
+}
+
+/// The replay answered as the run, whose number and answer these are, and wrote its log.
+fn expect_replayed(rt: &impl Abort, again: Left, code: u8, out: &[u8]) {
+    assert_eq!(rt; again.code, code);
+    assert!(rt; again.out.bytes().starts_with(out));
+    assert!(rt; again.out.bytes().ends_with(b"% unused 0\n"));
+    again.expect_alike(rt, "again.ngd", "l.ngd");
+    again.end();
 }
 
 /// A record, replayed, gives the same answer and log.
 #[test]
 fn a_record_is_replayed(rt: HostRuntime) {
     for model in [PAIR, APART, LINKED] {
-        let files = [("m.fzn", model), NO_FILE];
         let words = [
             "solve", "m.fzn", "l.ngd", "--record", "r.sch", "--seed", "5",
         ];
-        let first = left_by(&rt, rt.alloc(), &files, &words, 0);
+        let first = left_by(&rt, rt.alloc(), &[("m.fzn", model)], &words, 0);
         let words = ["replay", "m.fzn", "r.sch", "again.ngd"];
         let again = run_over(&rt, rt.alloc(), first.folder, &words);
-        assert_eq!(rt; again.code, first.code);
-        assert!(rt; again.out.bytes().starts_with(first.out.bytes()));
-        assert!(rt; again.out.bytes().ends_with(b"% unused 0\n"));
-        assert_eq!(rt; again.folder.file("again.ngd"), again.folder.file("l.ngd"));
+        expect_replayed(&rt, again, first.code, first.out.bytes());
     }
 }

@@ -1,8 +1,9 @@
 //! Memory that runs out in the folder.
 
-use crate::given::words_of;
-use abt_command::run_program;
+use crate::given::run_words;
 use dcsp_outside::{Fetched, Folder, FolderError, MemorySink, Piece};
+use std::alloc::Global;
+use std::process::Abort;
 
 /// A folder that wants memory at each call, and tells nothing of what it holds. One name counts as created,
 /// so that there is one to which bytes may be appended.
@@ -48,29 +49,39 @@ impl Folder for WantingFolder {
     }
 }
 
+const LINES: [&[&str]; 10] = [
+    &["check", "m.fzn", "m.ngd"],
+    &["solve", "m.fzn", "m.ngd"],
+    &["replay", "m.fzn", "m.sch", "m.ngd"],
+    &["bound", "m.fzn"],
+    &["upgrade", "l.ngd", "n.ngd"],
+    &["core", "m.fzn", "l.ngd", "t.ngd"],
+    &["starve", "m.fzn", "1", "2", "s.sch"],
+    &["lossy", "m.fzn", "l.ngd", "5", "0"],
+    &["rup", "f.cnf", "p.rup"],
+    &["cnf", "f.cnf", "p.rup"],
+];
+
+/// The stream holds this.
+fn expect_put(rt: &impl Abort, sink: MemorySink, bytes: &[u8]) {
+    assert_eq!(rt; sink.bytes(), bytes);
+}
+
+/// The line makes one call of the folder, which wants memory, and says so.
+fn expect_wanting(rt: &impl Abort, alloc: Global, line: &[&str]) {
+    let mut folder = WantingFolder { calls: 0 };
+    let mut out = MemorySink::new(alloc);
+    let mut err = MemorySink::new(alloc);
+    let code = run_words(rt, alloc, line, &mut folder, &mut out, &mut err);
+    assert_eq!(rt; code, 7);
+    assert_eq!(rt; folder.calls, 1);
+    expect_put(rt, out, b"");
+    expect_put(rt, err, b"abt: memory\n");
+}
+
 #[test]
 fn want_of_memory_ends_with_7(rt: HostRuntime) {
-    let lines: [&[&str]; 10] = [
-        &["check", "m.fzn", "m.ngd"],
-        &["solve", "m.fzn", "m.ngd"],
-        &["replay", "m.fzn", "m.sch", "m.ngd"],
-        &["bound", "m.fzn"],
-        &["upgrade", "l.ngd", "n.ngd"],
-        &["core", "m.fzn", "l.ngd", "t.ngd"],
-        &["starve", "m.fzn", "1", "2", "s.sch"],
-        &["lossy", "m.fzn", "l.ngd", "5", "0"],
-        &["rup", "f.cnf", "p.rup"],
-        &["cnf", "f.cnf", "p.rup"],
-    ];
-    for line in lines {
-        let words = words_of(&rt, rt.alloc(), line);
-        let mut folder = WantingFolder { calls: 0 };
-        let mut out = MemorySink::new(rt.alloc());
-        let mut err = MemorySink::new(rt.alloc());
-        let code = run_program(rt.alloc(), &words, &mut folder, &mut out, &mut err);
-        assert_eq!(rt; code, 7);
-        assert_eq!(rt; folder.calls, 1);
-        assert_eq!(rt; out.bytes(), b"".as_slice());
-        assert_eq!(rt; err.bytes(), b"abt: memory\n".as_slice());
+    for line in LINES {
+        expect_wanting(&rt, rt.alloc(), line);
     }
 }
