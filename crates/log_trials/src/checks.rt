@@ -1,12 +1,16 @@
 //! The smallest problem, and derivations for it.
 
-use crate::given::{derivation_of, smallest};
+use crate::given::{derivation_of, let_go, let_steps_go, smallest};
 use dcsp_problem::Problem;
 use ngd_check::{Checker, Finding, check};
-use ngd_log::{Entry, NumberList, ReasonList, Step};
+use ngd_log::{Derivation, Entry, NumberList, ReasonList, Step};
 use std::alloc::Global;
 use std::process::Abort;
-use std::test::Fail;
+
+/// What the check of the derivation finds.
+fn found(problem: &Problem, derivation: &Derivation) -> Finding {
+    check(problem, derivation)
+}
 
 /// The check of these steps finds this.
 fn expect_finding(
@@ -17,40 +21,43 @@ fn expect_finding(
     finding: Finding,
 ) {
     let derivation = derivation_of(rt, alloc, steps);
-    assert_eq!(rt; check(problem, &derivation), finding, "{steps}");
+    assert_eq!(rt; found(problem, &derivation), finding, "{steps}");
+    let_steps_go(derivation);
 }
 
+const FINDINGS: [(&str, Finding); 8] = [
+    (
+        "1 v2 [v1=0] <- c1 c2\n2 v2 [v1=1] <- c2 c1\n3 v1 [] <- n1 n2\n",
+        Finding::Verified,
+    ),
+    (
+        "1 v2 [v1=0] <- c1 c2\n2 v2 [v1=1] <- c2 c1\n",
+        Finding::NotEmpty,
+    ),
+    ("", Finding::NotEmpty),
+    (
+        "1 v2 [v1=0] <- c1\n2 v2 [v1=1] <- c2 c1\n3 v1 [] <- n1 n2\n",
+        Finding::BadStep { step: 1 },
+    ),
+    (
+        "1 v2 [v1=0] <- c1 c2\n2 v2 [v1=0] <- c2 c1\n3 v1 [] <- n1 n2\n",
+        Finding::BadStep { step: 2 },
+    ),
+    (
+        "1 v2 [v1=0] <- c1 c2\n2 v2 [v1=1] <- c2 c1\n3 v1 [] <- n1\n",
+        Finding::BadStep { step: 3 },
+    ),
+    ("1 v1 [] <- n1 n1\n", Finding::BadStep { step: 1 }),
+    ("1 - [] <- c1\n", Finding::BadStep { step: 1 }),
+];
+
 #[test]
-fn finds(rt: HostRuntime) -> Result<(), Fail> {
-    let problem = smallest(rt.alloc())?;
-    for (steps, finding) in [
-        (
-            "1 v2 [v1=0] <- c1 c2\n2 v2 [v1=1] <- c2 c1\n3 v1 [] <- n1 n2\n",
-            Finding::Verified,
-        ),
-        (
-            "1 v2 [v1=0] <- c1 c2\n2 v2 [v1=1] <- c2 c1\n",
-            Finding::NotEmpty,
-        ),
-        ("", Finding::NotEmpty),
-        (
-            "1 v2 [v1=0] <- c1\n2 v2 [v1=1] <- c2 c1\n3 v1 [] <- n1 n2\n",
-            Finding::BadStep { step: 1 },
-        ),
-        (
-            "1 v2 [v1=0] <- c1 c2\n2 v2 [v1=0] <- c2 c1\n3 v1 [] <- n1 n2\n",
-            Finding::BadStep { step: 2 },
-        ),
-        (
-            "1 v2 [v1=0] <- c1 c2\n2 v2 [v1=1] <- c2 c1\n3 v1 [] <- n1\n",
-            Finding::BadStep { step: 3 },
-        ),
-        ("1 v1 [] <- n1 n1\n", Finding::BadStep { step: 1 }),
-        ("1 - [] <- c1\n", Finding::BadStep { step: 1 }),
-    ] {
-        expect_finding(&rt, rt.alloc(), &problem, steps, finding);
+fn finds(rt: HostRuntime) {
+    let problem = smallest(&rt, rt.alloc());
+    for (steps, finding) in &FINDINGS {
+        expect_finding(&rt, rt.alloc(), &problem, steps, *finding);
     }
-    Ok(())
+    let_go(problem);
 }
 
 /// What comes next in a list of entries.
@@ -85,6 +92,16 @@ fn entry_of(rt: &impl Abort, alloc: Global, steps: &[Step], next: Next) -> Entry
     }
 }
 
+/// The checker takes the entry.
+fn take(rt: &impl Abort, checker: &mut Checker<'_>, entry: Entry) {
+    assert!(rt; checker.take(&entry).is_ok());
+}
+
+/// What the checker finds.
+fn ended(checker: Checker<'_>) -> Finding {
+    checker.finding()
+}
+
 /// A checker that takes these entries finds this.
 fn expect_of_entries(
     rt: &impl Abort,
@@ -97,9 +114,9 @@ fn expect_of_entries(
     let mut checker = Checker::new(alloc, problem);
     for next in list {
         let entry = entry_of(rt, alloc, steps, *next);
-        assert!(rt; checker.take(&entry).is_ok());
+        take(rt, &mut checker, entry);
     }
-    assert_eq!(rt; checker.finding(), finding, "{list:?}");
+    assert_eq!(rt; ended(checker), finding, "{list:?}");
 }
 
 const STEPS: &str = "1 v2 [v1=0] <- c1 c2
@@ -108,40 +125,44 @@ const STEPS: &str = "1 v2 [v1=0] <- c1 c2
 4 v1 [] <- n2 n3
 ";
 
+const LISTS: [(&[Next], Finding); 9] = [
+    (&[Take(0), Take(1), Take(2)], Finding::Verified),
+    (
+        &[Take(0), Take(0), Delete(1), Take(1), Take(3)],
+        Finding::Verified,
+    ),
+    (&[Take(0), Take(1), Take(2), Delete(3)], Finding::Verified),
+    (&[], Finding::NotEmpty),
+    (&[Take(0), Take(1), Delete(2)], Finding::NotEmpty),
+    (
+        &[Take(0), Take(1), Delete(1), Take(2), Delete(9)],
+        Finding::BadStep { step: 3 },
+    ),
+    (
+        &[Take(0), Delete(1), Delete(1), Take(2)],
+        Finding::BadDeletion { after: 1 },
+    ),
+    (
+        &[Take(0), Take(1), Delete(3), Take(2)],
+        Finding::BadDeletion { after: 2 },
+    ),
+    (&[Delete(1), Take(0)], Finding::BadDeletion { after: 0 }),
+];
+
 #[test]
-fn finds_of_entries(rt: HostRuntime) -> Result<(), Fail> {
-    let problem = smallest(rt.alloc())?;
+fn finds_of_entries(rt: HostRuntime) {
+    let problem = smallest(&rt, rt.alloc());
     let derivation = derivation_of(&rt, rt.alloc(), STEPS);
-    for (list, finding) in [
-        ([Take(0), Take(1), Take(2)].as_slice(), Finding::Verified),
-        (
-            [Take(0), Take(0), Delete(1), Take(1), Take(3)].as_slice(),
-            Finding::Verified,
-        ),
-        (
-            [Take(0), Take(1), Take(2), Delete(3)].as_slice(),
-            Finding::Verified,
-        ),
-        ([].as_slice(), Finding::NotEmpty),
-        ([Take(0), Take(1), Delete(2)].as_slice(), Finding::NotEmpty),
-        (
-            [Take(0), Take(1), Delete(1), Take(2), Delete(9)].as_slice(),
-            Finding::BadStep { step: 3 },
-        ),
-        (
-            [Take(0), Delete(1), Delete(1), Take(2)].as_slice(),
-            Finding::BadDeletion { after: 1 },
-        ),
-        (
-            [Take(0), Take(1), Delete(3), Take(2)].as_slice(),
-            Finding::BadDeletion { after: 2 },
-        ),
-        (
-            [Delete(1), Take(0)].as_slice(),
-            Finding::BadDeletion { after: 0 },
-        ),
-    ] {
-        expect_of_entries(&rt, rt.alloc(), &problem, derivation.steps(), list, finding);
+    for (list, finding) in &LISTS {
+        expect_of_entries(
+            &rt,
+            rt.alloc(),
+            &problem,
+            derivation.steps(),
+            list,
+            *finding,
+        );
     }
-    Ok(())
+    let_steps_go(derivation);
+    let_go(problem);
 }

@@ -1,6 +1,6 @@
 //! Trials of formulas as texts, as problems and as clauses.
 
-ghost use Rattle.std.specs.Prelude.{IfOk, All};
+ghost use Rattle.std.specs.Prelude.{◌≤◌, IfOk, All, length};
 ghost use Rattle.cnf_front.specs.Clauses.{IsClauseRule};
 
 use cnf_front::{CnfError, cnf_of, formula_of, write_clause};
@@ -8,6 +8,7 @@ use dcsp_nogood::{Nogood, Pair};
 use dcsp_problem::{Problem, Which};
 use rup_check::{ClauseList, Rup, check_rup, read_proof};
 use std::alloc::Global;
+use std::process::Abort;
 use std::test::Fail;
 
 /// The problem of a short text.
@@ -20,61 +21,80 @@ fn read(alloc: Global, text: &[u8]) -> Result<Problem, CnfError>
     cnf_of(alloc, text)
 }
 
-/// The number of variables, and the answer on a proof.
-fn answer(alloc: Global, text: &[u8], proof: &[u8]) -> Result<(u32, Rup), Fail> {
-    let Ok(problem) = read(alloc, text) else {
-        return Err("a problem".into());
-    };
-    if problem.rules() > 1000 {
-        return Err("a small problem".into());
-    }
+/// The clauses of the problem of formula.
+fn clauses(rt: &impl Abort, alloc: Global, problem: &Problem) -> ClauseList
+    requires { All IsClauseRule problem.now.rules }
+{
+    assert!(rt; problem.rules() <= 1000);
     let mut formula = ClauseList::new(alloc);
-    formula_of(alloc, &problem, &mut formula)
-        .ok()
-        .ok_or("a formula")?;
-    let proof = read_proof(alloc, proof).ok().ok_or("a proof")?;
-    let answer = check_rup(alloc, &formula, &proof).ok().ok_or("memory")?;
-    Ok((problem.vars(), answer))
+    formula_of(alloc, problem, &mut formula).expect(rt, "memory");
+    formula
 }
 
+/// The answer on a proof.
+fn verdict(rt: &impl Abort, alloc: Global, formula: ClauseList, proof: ClauseList) -> Rup {
+    check_rup(alloc, &formula, &proof).expect(rt, "memory")
+}
+
+/// A formula, a proof, the number of variables, and the answer on the proof.
+type Row = (&'static [u8], &'static [u8], u32, Rup);
+
+const ROWS: [Row; 7] = [
+    (
+        b"p cnf 2 4\n1 2 0\n1 -2 0\n-1 2 0\n-1 -2 0\n",
+        b"1 0\n-1 0\n0\n",
+        2,
+        Rup::Verified,
+    ),
+    (
+        b"p cnf 2 1\n1 2 0\n",
+        b"1 0\n0\n",
+        2,
+        Rup::BadClause { number: 1 },
+    ),
+    (b"p cnf 1 1\n0", b"0\n", 1, Rup::Verified),
+    (b"p cnf 1 2\n1 1 0\n-1 -1 0\n", b"0\n", 1, Rup::Verified),
+    (b"p cnf 0 0", b"", 0, Rup::NotEmpty),
+    (
+        b"cnf\np cnf 1 9\nc 5\n 1\r\n0\t-01 % x",
+        b"0\n",
+        1,
+        Rup::Verified,
+    ),
+    (
+        b"p cnf 4096 1\n4096 -4096\n",
+        b"4096 0\n",
+        4096,
+        Rup::BadClause { number: 1 },
+    ),
+];
+
+/// The formula has so many variables, and this is the answer on the proof.
+fn expect_row(rt: &impl Abort, alloc: Global, row: &Row) {
+    let problem = read(alloc, row.0).expect(rt, "a problem");
+    assert_eq!(rt; problem.vars(), row.2);
+    let formula = clauses(rt, alloc, &problem);
+    end(problem);
+    let proof = read_proof(alloc, row.1).expect(rt, "a proof");
+    assert_eq!(rt; verdict(rt, alloc, formula, proof), row.3);
+}
+
+/// Lets the problem go.
+fn end(_problem: Problem) {}
+
 #[test]
-fn reads(rt: HostRuntime) -> Result<(), Fail> {
-    for (text, proof, wanted) in [
-        (
-            b"p cnf 2 4\n1 2 0\n1 -2 0\n-1 2 0\n-1 -2 0\n".as_slice(),
-            b"1 0\n-1 0\n0\n".as_slice(),
-            (2, Rup::Verified),
-        ),
-        (
-            b"p cnf 2 1\n1 2 0\n".as_slice(),
-            b"1 0\n0\n".as_slice(),
-            (2, Rup::BadClause { number: 1 }),
-        ),
-        (
-            b"p cnf 1 1\n0".as_slice(),
-            b"0\n".as_slice(),
-            (1, Rup::Verified),
-        ),
-        (
-            b"p cnf 1 2\n1 1 0\n-1 -1 0\n".as_slice(),
-            b"0\n".as_slice(),
-            (1, Rup::Verified),
-        ),
-        (b"p cnf 0 0".as_slice(), b"".as_slice(), (0, Rup::NotEmpty)),
-        (
-            b"cnf\np cnf 1 9\nc 5\n 1\r\n0\t-01 % x".as_slice(),
-            b"0\n".as_slice(),
-            (1, Rup::Verified),
-        ),
-        (
-            b"p cnf 4096 1\n4096 -4096\n".as_slice(),
-            b"4096 0\n".as_slice(),
-            (4096, Rup::BadClause { number: 1 }),
-        ),
-    ] {
-        assert_eq!(rt; answer(rt.alloc(), text, proof)?, wanted);
+fn reads(rt: HostRuntime) {
+    for row in &ROWS {
+        expect_row(&rt, rt.alloc(), row);
     }
-    Ok(())
+}
+
+/// The text is no formula, for this reason.
+fn expect_refused(rt: &impl Abort, alloc: Global, text: &[u8], error: CnfError) {
+    match read(alloc, text) {
+        Ok(_) => panic!(rt; "{text:?}"),
+        Err(found) => assert_eq!(rt; found, error),
+    }
 }
 
 #[test]
@@ -122,10 +142,7 @@ fn names_the_place_of_a_syntax_error(rt: HostRuntime) {
         (b"p cnf 1 1\n 1 c 0".as_slice(), 13),
         (b"p cnf 2 1\nc x\n3".as_slice(), 14),
     ] {
-        match read(rt.alloc(), text) {
-            Ok(_) => panic!(rt; "place {place}"),
-            Err(error) => assert_eq!(rt; error, CnfError::Syntax { at: place }),
-        }
+        expect_refused(&rt, rt.alloc(), text, CnfError::Syntax { at: place });
     }
 }
 
@@ -138,17 +155,13 @@ fn names_a_limit(rt: HostRuntime) {
             18_446_744_073_709_551_615,
         ),
     ] {
-        match read(rt.alloc(), text) {
-            Ok(_) => panic!(rt; "count {count}"),
-            Err(error) => assert_eq!(rt;
-                error,
-                CnfError::Limit {
-                    which: Which::Variables,
-                    count,
-                    at: 6
-                }
-            ),
-        }
+        let which = Which::Variables;
+        let error = CnfError::Limit {
+            which,
+            count,
+            at: 6,
+        };
+        expect_refused(&rt, rt.alloc(), text, error);
     }
 }
 

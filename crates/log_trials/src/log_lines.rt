@@ -1,5 +1,6 @@
 //! Upgrades and cores, over a folder in memory.
 
+use crate::given::Outside;
 use abt_input::CommandError;
 use abt_logs::{CoreLine, run_core, run_upgrade};
 use abt_promise::Status;
@@ -94,18 +95,25 @@ const CASES: [Case; 8] = [
     },
 ];
 
+/// What comes of upgrading a log.
+fn upgraded(
+    alloc: Global,
+    folder: &mut MemoryFolder,
+    out: &mut MemorySink,
+) -> Result<Status, CommandError> {
+    run_upgrade(alloc, folder, "old.ngd", "new.ngd", out)
+}
+
 impl Case {
     /// The upgrade comes to this.
     fn expect(&self, rt: &impl Abort, alloc: Global) {
-        let mut folder = MemoryFolder::new(alloc);
-        folder.place("old.ngd", self.log).expect(rt, "memory");
-        folder.fail_at(self.folder).expect(rt, "memory");
-        let mut out = MemorySink::new(alloc);
-        out.fail_at(self.out).expect(rt, "memory");
-        let came = run_upgrade(alloc, &mut folder, "old.ngd", "new.ngd", &mut out);
-        assert_eq!(rt; came, self.came);
-        assert_eq!(rt; folder.file("new.ngd"), self.new);
-        assert_eq!(rt; out.bytes(), self.told);
+        let failing = (self.folder, self.out);
+        let mut outside = Outside::with_file(rt, alloc, ("old.ngd", self.log), failing);
+        let came = upgraded(alloc, &mut outside.folder, &mut outside.out);
+        assert!(rt; came == self.came);
+        outside.expect_file(rt, "new.ngd", self.new);
+        outside.expect_told(rt, self.told);
+        outside.end();
     }
 }
 
@@ -124,67 +132,69 @@ const PAIR_MODEL: &[u8] =
 const CHAIN_MODEL: &[u8] =
     b"var 0..1: x;\nvar 0..0: y;\nvar 0..0: z;\nconstraint int_ne(x,y);\nconstraint int_ne(y,z);\nsolve satisfy;\n";
 
-/// What trimming a log came to, and the folder and `out` after it.
-#[derive(Drop)]
-struct Trimmed {
-    came: Result<Status, CommandError>,
-    folder: MemoryFolder,
-    out: MemorySink,
-}
-
-fn trim(rt: &impl Abort, alloc: Global, model: &[u8], log: &[u8]) -> Trimmed {
-    let mut folder = MemoryFolder::new(alloc);
-    folder.place("a.fzn", model).expect(rt, "memory");
-    folder.place("old.ngd", log).expect(rt, "memory");
-    let mut out = MemorySink::new(alloc);
+/// What comes of trimming a log.
+fn trimmed(
+    alloc: Global,
+    folder: &mut MemoryFolder,
+    out: &mut MemorySink,
+) -> Result<Status, CommandError> {
     let line = CoreLine {
         model: "a.fzn",
         log: "old.ngd",
         trimmed: "new.ngd",
     };
-    let came = run_core(alloc, &mut folder, line, &mut out);
-    Trimmed { came, folder, out }
+    run_core(alloc, folder, line, out)
 }
 
-impl Trimmed {
-    /// It came to this status, with this new log and this on `out`.
-    fn expect(&self, rt: &impl Abort, status: Status, new: Option<&[u8]>, told: &[u8]) {
-        assert_eq!(rt; self.came, Ok(status));
-        assert_eq!(rt; self.folder.file("new.ngd"), new);
-        assert_eq!(rt; self.out.bytes(), told);
-    }
+/// Trimming a log of the model comes to this status, with this new log and this on `out`.
+fn expect_trimmed(
+    rt: &impl Abort,
+    alloc: Global,
+    (model, log): (&[u8], &[u8]),
+    status: Status,
+    new: Option<&[u8]>,
+    told: &[u8],
+) {
+    let mut outside = Outside::with_file(rt, alloc, ("a.fzn", model), (0, 0));
+    outside.folder.place("old.ngd", log).expect(rt, "memory");
+    let came = trimmed(alloc, &mut outside.folder, &mut outside.out);
+    assert!(rt; came == Ok(status));
+    outside.expect_file(rt, "new.ngd", new);
+    outside.expect_told(rt, told);
+    outside.end();
 }
 
 #[test]
 fn trims_logs(rt: HostRuntime) {
     let log = b"ngd 1\n1 v2 [v1=0] <- c1\n2 v3 [v2=0] <- c2\n3 v2 [] <- n2\nend\n";
-    let chain = trim(&rt, rt.alloc(), CHAIN_MODEL, log);
     let new = b"ngd 1\n1 v3 [v2=0] <- c2\n2 v2 [] <- n1\nend\n";
     let told = b"c2\n% rules 1 of 2\n% steps 2 of 3\n";
-    chain.expect(&rt, Status::Good, Some(new), told);
+    let given: (&[u8], &[u8]) = (CHAIN_MODEL, log);
+    expect_trimmed(&rt, rt.alloc(), given, Status::Good, Some(new), told);
 }
 
 #[test]
 fn trims_nothing_from_one_step(rt: HostRuntime) {
     let model = b"var 5..3: x;\nsolve satisfy;\n";
     let log = b"ngd 1\n1 v1 [] <-\nend\n";
-    let empty = trim(&rt, rt.alloc(), model, log);
     let told = b"% rules 0 of 0\n% steps 1 of 1\n";
-    empty.expect(&rt, Status::Good, Some(log), told);
+    let given: (&[u8], &[u8]) = (model, log);
+    expect_trimmed(&rt, rt.alloc(), given, Status::Good, Some(log), told);
 }
 
 #[test]
 fn trims_logs_with_deletions(rt: HostRuntime) {
     let log =
         b"ngd 2\n1 v2 [v1=0] <- c1 c2\n2 v2 [v1=0] <- c1 c2\nd 1\n3 v2 [v1=1] <- c2 c1\n4 v1 [] <- n2 n3\nend\n";
-    let pair = trim(&rt, rt.alloc(), PAIR_MODEL, log);
     let told = b"c1\nc2\n% rules 2 of 2\n% steps 3 of 4\n";
-    pair.expect(&rt, Status::Good, Some(PAIR), told);
+    let given: (&[u8], &[u8]) = (PAIR_MODEL, log);
+    expect_trimmed(&rt, rt.alloc(), given, Status::Good, Some(PAIR), told);
 }
 
 #[test]
 fn rejects_logs(rt: HostRuntime) {
     let log = b"ngd 1\n1 v2 [v1=0] <- c1 c2\n2 v2 [v1=1] <- c2 c1\nend\n";
-    let open = trim(&rt, rt.alloc(), PAIR_MODEL, log);
-    open.expect(&rt, Status::No, None, b"rejected not empty\n");
+    let given: (&[u8], &[u8]) = (PAIR_MODEL, log);
+    let told = b"rejected not empty\n";
+    expect_trimmed(&rt, rt.alloc(), given, Status::No, None, told);
 }

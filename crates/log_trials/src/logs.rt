@@ -221,32 +221,53 @@ fn expect_step(rt: &impl Abort, entries: &mut Entries, reasons: usize) {
     assert!(rt; entries.take_first().is_none());
 }
 
+/// Nothing is left.
+fn expect_none(rt: &impl Abort, entries: &mut Entries) {
+    assert!(rt; entries.take_first().is_none());
+}
+
+/// Lets the reader go.
+fn end_reader(_reader: LogReader) {}
+
+/// Lets the entries go.
+fn end_entries(_entries: Entries) {}
+
 #[test]
 fn reads_in_two_pieces(rt: HostRuntime) {
     let mut reader = LogReader::new(rt.alloc());
     let mut entries = Entries::new(rt.alloc());
-    expect_fed(
-        &rt,
-        &mut reader,
-        b"ngd 1\n1 v2 [v1=0] <- c1 ",
-        &mut entries,
-        Ok(()),
-    );
-    assert!(rt; entries.take_first().is_none());
+    let piece = b"ngd 1\n1 v2 [v1=0] <- c1 ";
+    expect_fed(&rt, &mut reader, piece, &mut entries, Ok(()));
+    expect_none(&rt, &mut entries);
     expect_end(&rt, &reader, Err(LogError::Line { number: 2 }));
     expect_fed(&rt, &mut reader, b"c2\n", &mut entries, Ok(()));
     expect_step(&rt, &mut entries, 2);
+    end_reader(reader);
+    end_entries(entries);
+}
+
+/// Byte by byte the text is fed.
+fn feed_bytes(rt: &impl Abort, reader: &mut LogReader, text: &[u8], entries: &mut Entries)
+    requires { reader.old.fed ≡ 0 }
+{
+    for byte in text {
+        expect_fed(rt, reader, &[*byte], entries, Ok(()));
+    }
+}
+
+/// The entries are so many steps and deletions.
+fn expect_counts(rt: &impl Abort, entries: Entries, steps: u64, deletions: u64) {
+    assert_eq!(rt; counts(entries), (steps, deletions));
 }
 
 /// Byte by byte the text is read as a log of so many steps and deletions.
 fn expect_entries(rt: &impl Abort, alloc: Global, text: &[u8], steps: u64, deletions: u64) {
     let mut reader = LogReader::new(alloc);
     let mut entries = Entries::new(alloc);
-    for byte in text {
-        assert_eq!(rt; reader.feed(&[*byte], &mut entries), Ok(()));
-    }
-    assert_eq!(rt; reader.finish(), Ok(()));
-    assert_eq!(rt; counts(entries), (steps, deletions));
+    feed_bytes(rt, &mut reader, text, &mut entries);
+    expect_end(rt, &reader, Ok(()));
+    expect_counts(rt, entries, steps, deletions);
+    end_reader(reader);
 }
 
 #[test]
@@ -264,14 +285,22 @@ fn reads_byte_by_byte(rt: HostRuntime) {
     );
 }
 
+/// The whole text is fed, whatever the answer.
+fn feed_all(reader: &mut LogReader, text: &[u8], entries: &mut Entries)
+    requires { reader.old.fed + length text.now ≤ 2 ^ 63 }
+{
+    let _told = reader.feed(text, entries);
+}
+
 /// The text is no log of version 2: this line is its first bad one, and so many steps stand before it.
 fn expect_bad_entry(rt: &impl Abort, alloc: Global, text: &[u8], number: u64, steps: u64) {
     assert!(rt; text.len() < 1000);
     let mut reader = LogReader::new(alloc);
     let mut entries = Entries::new(alloc);
-    let _told = reader.feed(text, &mut entries);
-    assert_eq!(rt; reader.finish(), Err(LogError::Line { number }), "{text:?}");
+    feed_all(&mut reader, text, &mut entries);
+    expect_end(rt, &reader, Err(LogError::Line { number }));
     assert_eq!(rt; counts(entries).0, steps);
+    end_reader(reader);
 }
 
 #[test]
@@ -309,7 +338,9 @@ fn a_refusal_stands(rt: HostRuntime) {
     expect_fed(&rt, &mut reader, b"\n1", &mut entries, bad);
     expect_fed(&rt, &mut reader, b" v1 [] <-\nend\n", &mut entries, bad);
     expect_end(&rt, &reader, bad);
-    assert!(rt; entries.take_first().is_none());
+    expect_none(&rt, &mut entries);
+    end_reader(reader);
+    end_entries(entries);
 }
 
 #[test]

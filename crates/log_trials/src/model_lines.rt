@@ -1,5 +1,6 @@
 //! Bounds and generated models, over a folder in memory.
 
+use crate::given::Outside;
 use abt_input::CommandError;
 use abt_models::{run_bound, run_colouring, run_queens};
 use abt_promise::Status;
@@ -65,6 +66,15 @@ const CASES: [Case; 5] = [
     },
 ];
 
+/// What comes of telling a bound.
+fn bound(
+    alloc: Global,
+    folder: &mut MemoryFolder,
+    out: &mut MemorySink,
+) -> Result<Status, CommandError> {
+    run_bound(alloc, folder, "m.fzn", out)
+}
+
 /// Telling the bound of this model comes to this, where these calls of the folder and of `out` fail.
 fn expect_bound(
     rt: &impl Abort,
@@ -74,13 +84,10 @@ fn expect_bound(
     came: Result<Status, CommandError>,
     told: &[u8],
 ) {
-    let mut folder = MemoryFolder::new(alloc);
-    folder.place("m.fzn", model).expect(rt, "memory");
-    folder.fail_at(failing.0).expect(rt, "memory");
-    let mut out = MemorySink::new(alloc);
-    out.fail_at(failing.1).expect(rt, "memory");
-    assert_eq!(rt; run_bound(alloc, &mut folder, "m.fzn", &mut out), came);
-    assert_eq!(rt; out.bytes(), told);
+    let mut outside = Outside::with_file(rt, alloc, ("m.fzn", model), failing);
+    assert!(rt; bound(alloc, &mut outside.folder, &mut outside.out) == came);
+    outside.expect_told(rt, told);
+    outside.end();
 }
 
 #[test]
@@ -102,15 +109,17 @@ fn tells_bounds_of_generated_models(rt: HostRuntime) -> Result<(), Fail> {
     Ok(())
 }
 
+/// The stream holds this.
+fn expect_put(rt: &impl Abort, out: MemorySink, text: &str) {
+    assert_eq!(rt; out.bytes(), text.as_bytes());
+}
+
 #[test]
 fn prints_generated_models(rt: HostRuntime) {
     let mut out = MemorySink::new(rt.alloc());
-    assert_eq!(rt; run_queens(rt.alloc(), 1, &mut out), Ok(Status::Good));
-    assert_eq!(rt;
-        run_colouring(rt.alloc(), 1, 3, 5, &mut out),
-        Ok(Status::Good)
-    );
+    assert!(rt; run_queens(rt.alloc(), 1, &mut out) == Ok(Status::Good));
+    assert!(rt; run_colouring(rt.alloc(), 1, 3, 5, &mut out) == Ok(Status::Good));
     let text =
         "var 1..1: q1;\narray [1..1] of var int: q :: output_array([1..1]) = [q1];\nsolve satisfy;\nvar 1..3: c1;\narray [1..1] of var int: c :: output_array([1..1]) = [c1];\nsolve satisfy;\n";
-    assert_eq!(rt; out.bytes(), text.as_bytes());
+    expect_put(&rt, out, text);
 }

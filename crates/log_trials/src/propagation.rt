@@ -3,25 +3,25 @@
 use rup_check::{ClauseList, ProofError, Rup, check_rup, read_proof};
 use std::alloc::Global;
 use std::process::Abort;
-use std::test::Fail;
 
 /// The clauses of all signs over two variables.
 const SQUARE: &[u8] = b"1 2 0\n1 -2 0\n-1 2 0\n-1 -2 0\n";
 
-/// The answer on a proof, where formula and proof stand in lines.
-fn answer(alloc: Global, formula: &[u8], proof: &[u8]) -> Result<Rup, Fail> {
-    let formula = read_proof(alloc, formula).ok().ok_or("the formula")?;
-    let proof = read_proof(alloc, proof).ok().ok_or("the proof")?;
-    let answer = check_rup(alloc, &formula, &proof).ok().ok_or("memory")?;
-    Ok(answer)
+/// The clauses of these lines.
+fn clauses(rt: &impl Abort, alloc: Global, text: &[u8]) -> ClauseList {
+    read_proof(alloc, text).expect(rt, "clauses")
+}
+
+/// The answer on a proof.
+fn answer(rt: &impl Abort, alloc: Global, formula: ClauseList, proof: ClauseList) -> Rup {
+    check_rup(alloc, &formula, &proof).expect(rt, "memory")
 }
 
 /// The answer on a proof, where formula and proof stand in lines, must be this one.
 fn expect_answer(rt: &impl Abort, alloc: Global, formula: &[u8], proof: &[u8], wanted: Rup) {
-    match answer(alloc, formula, proof) {
-        Ok(found) => assert_eq!(rt; found, wanted),
-        Err(_) => panic!(rt; "no answer"),
-    }
+    let formula = clauses(rt, alloc, formula);
+    let proof = clauses(rt, alloc, proof);
+    assert_eq!(rt; answer(rt, alloc, formula, proof), wanted);
 }
 
 #[test]

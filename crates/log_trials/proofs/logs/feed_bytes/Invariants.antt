@@ -1,5 +1,5 @@
 use Rattle.std.proofs.Common.{◌≡◌}
-use Rattle.log_trials.proofs.logs.expect_entries.Given as goal
+use Rattle.log_trials.proofs.logs.feed_bytes.Given as goal
 
 -- so many bytes were fed
 abbrev pub invariant-loop-byte : goal.invariant-loop-byte
