@@ -1,8 +1,10 @@
 //! Worked rows over a variable with the values from 0 to 70.
 
-ghost use Rattle.std.specs.Prelude.{◌≡◌, None, Some, [], ◌∷◌, pos, All, IfOk, IsTrue};
+ghost use Rattle.std.specs.Prelude.{◌≡◌, None, Some, [], ◌∷◌, pos, All, IsTrue};
 ghost use Rattle.dcsp_problem.specs.Rules.{IsTermOf, has_shape, terms_of};
+ghost use Rattle.dcsp_row.specs.Marks.{FitsSize};
 
+use crate::problems::let_go;
 use dcsp_linear::Rel;
 use dcsp_problem::{
     Domain, IntList, Kind, Lookup, Members, Problem, ProblemBuilder, Rule, Term, TermList,
@@ -10,7 +12,6 @@ use dcsp_problem::{
 use dcsp_row::{Marks, Row, Span, fill_row, has_span, span_of};
 use std::alloc::Global;
 use std::process::Abort;
-use std::test::Fail;
 
 /// No variable has a value.
 #[derive(Drop)]
@@ -25,130 +26,164 @@ impl Lookup for Nothing {
 }
 
 /// A comparison of the variable with a number.
-fn compared(alloc: Global, kind: Kind, number: i64) -> Result<Rule, Fail>
-    ensures { IfOk result (λ rule. rule ≡ Rule.Plain kind (Term.Var 0 ∷ Term.Const number ∷ []) [] [] (Members.Listed [])) }
+fn compared(rt: &impl Abort, alloc: Global, kind: Kind, number: i64) -> Rule
+    ensures { result ≡ Rule.Plain kind (Term.Var 0 ∷ Term.Const number ∷ []) [] [] (Members.Listed []) }
 {
-    Ok(Rule::Plain {
+    let terms = vec![in alloc; Term::Var(0), Term::Const(number)];
+    Rule::Plain {
         kind,
-        scalars: TermList::from_vec(vec![in alloc; Term::Var(0), Term::Const(number)]?),
+        scalars: TermList::from_vec(terms.expect(rt, "memory")),
         first: TermList::new(alloc),
         second: TermList::new(alloc),
         members: Members::Listed(IntList::new(alloc)),
-    })
+    }
 }
 
 /// A sum of so many times the variable and a second term.
-fn summed(alloc: Global, rel: Rel, coef: i64, second: Term, total: i64) -> Result<Rule, Fail>
-    ensures { IfOk result (λ rule. rule ≡ Rule.Sum rel (coef ∷ pos 1 ∷ []) (Term.Var 0 ∷ second ∷ []) (Term.Const total) None) }
+fn summed(rt: &impl Abort, alloc: Global, rel: Rel, coef: i64, second: Term, total: i64) -> Rule
+    ensures { result ≡ Rule.Sum rel (coef ∷ pos 1 ∷ []) (Term.Var 0 ∷ second ∷ []) (Term.Const total) None }
 {
-    Ok(Rule::Sum {
+    let coefs = vec![in alloc; coef, 1].expect(rt, "memory");
+    let terms = vec![in alloc; Term::Var(0), second].expect(rt, "memory");
+    Rule::Sum {
         rel,
-        coefs: IntList::from_vec(vec![in alloc; coef, 1]?),
-        terms: TermList::from_vec(vec![in alloc; Term::Var(0), second]?),
+        coefs: IntList::from_vec(coefs),
+        terms: TermList::from_vec(terms),
         total: Term::Const(total),
         truth: None,
-    })
+    }
 }
 
-/// The rule must rule out these values, and no other.
-fn expect_ruled_out(
-    rt: &impl Abort,
-    alloc: Global,
-    rule: Rule,
-    ruled_out: &[i64],
-) -> Result<(), Fail>
+/// The variable, and the rule.
+fn problem_with(rt: &impl Abort, alloc: Global, rule: Rule) -> Problem
     requires known { All (IsTermOf 1) (terms_of rule) }
     requires shape { IsTrue (has_shape rule) }
 {
     let mut builder = ProblemBuilder::new(alloc);
-    builder.add_var(Domain::range(alloc, 0, 70)?)?;
-    builder.add_rule(rule)?;
-    let problem = builder.finish()?;
+    let domain = Domain::range(alloc, 0, 70).expect(rt, "a range");
+    builder.add_var(domain).expect(rt, "within the limits");
+    builder.add_rule(rule).expect(rt, "within the limits");
+    builder.finish().expect(rt, "memory")
+}
+
+/// Which values of the variable the rule rules out.
+fn filled(rt: &impl Abort, alloc: Global, problem: &Problem) -> Row {
     assert!(rt; problem.vars() == 1);
     assert!(rt; problem.rules() == 1);
+    let mut row = Row::new(alloc, problem.domain(0).len()).expect(rt, "memory");
+    fill_row(problem, 0, 0, &Nothing, &mut row);
+    row
+}
+
+/// The row has these values of the variable, and no other.
+fn expect_has(rt: &impl Abort, problem: &Problem, row: &Row, values: &[i64]) {
+    assert!(rt; problem.vars() == 1);
     let domain = problem.domain(0);
-    let mut row = Row::new(alloc, domain.len()).expect(rt, "memory");
-    fill_row(&problem, 0, 0, &Nothing, &mut row);
+    assert!(rt; row.len() == domain.len());
     for place in 0..domain.len() {
-        assert_eq!(rt; row.has(place), ruled_out.contains(&domain.value(place)));
+        assert!(rt; row.has(place) == values.contains(&domain.value(place)));
     }
-    let span = span_of(&problem, 0, 0, &Nothing);
-    assert_eq!(rt; has_span(&problem, 0, 0), span.is_some());
+}
+
+/// Where the rule has a span, that has the places that the row marks.
+fn expect_span(rt: &impl Abort, problem: &Problem, row: &Row) {
+    assert!(rt; problem.vars() == 1);
+    assert!(rt; problem.rules() == 1);
+    let span = span_of(problem, 0, 0, &Nothing);
+    assert!(rt; has_span(problem, 0, 0) == span.is_some());
     if let Some(span) = span {
-        for place in 0..domain.len() {
-            assert_eq!(rt; span.has(place), row.has(place));
+        for place in 0..row.len() {
+            assert!(rt; row.has(place) == span.has(place));
         }
     }
+}
+
+/// Nothing of the row is marked once exactly the places of no span are.
+fn expect_empty(rt: &impl Abort, mut row: Row) {
     row.mark_span(Span::whole(false));
     for place in 0..row.len() {
         assert!(rt; !row.has(place));
     }
-    Ok(())
+}
+
+/// The rule must rule out these values, and no other.
+fn expect_ruled_out(rt: &impl Abort, alloc: Global, rule: Rule, ruled_out: &[i64])
+    requires known { All (IsTermOf 1) (terms_of rule) }
+    requires shape { IsTrue (has_shape rule) }
+{
+    let problem = problem_with(rt, alloc, rule);
+    let row = filled(rt, alloc, &problem);
+    expect_has(rt, &problem, &row, ruled_out);
+    expect_span(rt, &problem, &row);
+    let_go(problem);
+    expect_empty(rt, row);
 }
 
 #[test]
-fn rows_of_one_variable(rt: HostRuntime) -> Result<(), Fail> {
+fn rows_of_comparisons(rt: HostRuntime) {
     let alloc = rt.alloc();
-    expect_ruled_out(&rt, alloc, compared(alloc, Kind::IntNe, 65)?, &[65])?;
-    expect_ruled_out(&rt, alloc, compared(alloc, Kind::IntLe, 68)?, &[69, 70])?;
-    expect_ruled_out(&rt, alloc, compared(alloc, Kind::IntLt, 70)?, &[70])?;
-    expect_ruled_out(
-        &rt,
-        alloc,
-        summed(alloc, Rel::AtMost, 1, Term::Const(3), 72)?,
-        &[70],
-    )?;
-    expect_ruled_out(
-        &rt,
-        alloc,
-        summed(alloc, Rel::AtMost, -1, Term::Const(3), 2)?,
-        &[0],
-    )?;
-    expect_ruled_out(
-        &rt,
-        alloc,
-        summed(alloc, Rel::AtMost, 2, Term::Const(3), 140)?,
-        &[69, 70],
-    )?;
-    expect_ruled_out(
-        &rt,
-        alloc,
-        summed(alloc, Rel::Differ, 1, Term::Var(0), 128)?,
-        &[64],
-    )?;
-    Ok(())
+    let rule = compared(&rt, alloc, Kind::IntNe, 65);
+    expect_ruled_out(&rt, alloc, rule, &[65]);
+    let rule = compared(&rt, alloc, Kind::IntLe, 68);
+    expect_ruled_out(&rt, alloc, rule, &[69, 70]);
+    let rule = compared(&rt, alloc, Kind::IntLt, 70);
+    expect_ruled_out(&rt, alloc, rule, &[70]);
 }
 
 #[test]
-fn changes_are_found(rt: HostRuntime) -> Result<(), Fail> {
+fn rows_of_sums(rt: HostRuntime) {
+    let alloc = rt.alloc();
+    let rule = summed(&rt, alloc, Rel::AtMost, 1, Term::Const(3), 72);
+    expect_ruled_out(&rt, alloc, rule, &[70]);
+    let rule = summed(&rt, alloc, Rel::AtMost, -1, Term::Const(3), 2);
+    expect_ruled_out(&rt, alloc, rule, &[0]);
+    let rule = summed(&rt, alloc, Rel::AtMost, 2, Term::Const(3), 140);
+    expect_ruled_out(&rt, alloc, rule, &[69, 70]);
+    let rule = summed(&rt, alloc, Rel::Differ, 1, Term::Var(0), 128);
+    expect_ruled_out(&rt, alloc, rule, &[64]);
+}
+
+/// From a place on the first of 130 places that one marks and the other does not is this one.
+fn expect_change(rt: &impl Abort, marks: &Marks, other: &Marks, from: usize, change: Option<usize>)
+    requires marks { FitsSize 130 marks.now }
+    requires other { FitsSize 130 other.now }
+{
+    assert!(rt; marks.next_change(other, 130, from) == change);
+}
+
+/// Lets both go.
+fn end(_marks: Marks, _other: Marks) {}
+
+#[test]
+fn changes_are_found(rt: HostRuntime) {
     let mut row = Row::new(rt.alloc(), 130).expect(&rt, "memory");
     row.put(64, true);
     row.put(129, true);
     let marks = Marks::Row(row);
     let none = Marks::Span(Span::whole(false));
-    assert!(rt; marks.next_change(&none, 130, 0) == Some(64));
-    assert!(rt; marks.next_change(&none, 130, 65) == Some(129));
-    assert!(rt; marks.next_change(&none, 130, 130).is_none());
-    assert!(rt; none.next_change(&marks, 130, 0) == Some(64));
-    Ok(())
+    expect_change(&rt, &marks, &none, 0, Some(64));
+    expect_change(&rt, &marks, &none, 65, Some(129));
+    expect_change(&rt, &marks, &none, 130, None);
+    expect_change(&rt, &none, &marks, 0, Some(64));
+    end(marks, none);
 }
 
 #[test]
-fn marks_are_copied(rt: HostRuntime) -> Result<(), Fail> {
+fn marks_are_copied(rt: HostRuntime) {
     let span = Span {
         from: 0,
         to: 70,
         outside: true,
     };
+    let row = Row::new(rt.alloc(), 130).expect(&rt, "memory");
+    let mut copy = Marks::Row(row);
     let high = Marks::Span(span);
-    let mut copy = Marks::Row(Row::new(rt.alloc(), 130).expect(&rt, "memory"));
-    assert!(rt; copy.next_change(&high, 130, 0) == Some(70));
+    let low = Marks::Span(span.others());
     copy.copy_from(130, &high);
-    assert!(rt; copy.next_change(&high, 130, 0).is_none());
-    assert!(rt; !copy.has(130, 69));
-    assert!(rt; copy.has(130, 70));
-    copy.copy_from(130, &Marks::Span(span.others()));
-    assert!(rt; copy.has(130, 69));
-    assert!(rt; !copy.has(130, 70));
-    Ok(())
+    expect_change(&rt, &copy, &high, 0, None);
+    expect_change(&rt, &copy, &low, 69, Some(69));
+    copy.copy_from(130, &low);
+    expect_change(&rt, &copy, &low, 0, None);
+    expect_change(&rt, &copy, &high, 70, Some(70));
+    end(copy, high);
 }
