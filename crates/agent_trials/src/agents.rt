@@ -1,41 +1,39 @@
 //! Agents of the smallest problem without a solution.
 
-ghost use Rattle.std.specs.Prelude.{◌≡◌, ◌<◌, ◌∷◌, [], IfOk, length, true};
+ghost use Rattle.std.specs.Prelude.{◌≡◌, ◌<◌, ◌∷◌, [], length, true};
 ghost use Rattle.dcsp_defs.specs.Words.{In};
 ghost use Rattle.dcsp_defs.specs.Csp.{domain};
 ghost use Rattle.dcsp_problem.specs.Problems.{csp_of};
 ghost use Rattle.abt_agent.specs.States.{IsFit};
 
-use crate::given::between;
+use crate::given::{add_between, add_variable, let_go};
 use abt_agent::{Agent, Turn};
 use abt_message::{Message, Outbox, Sent, StampList};
 use dcsp_defs::Reason;
 use dcsp_nogood::{Nogood, Pair};
-use dcsp_problem::{Domain, Kind, Problem, ProblemBuilder};
+use dcsp_problem::{Kind, Problem, ProblemBuilder};
 use std::alloc::Global;
 use std::process::Abort;
-use std::test::Fail;
-
-/// Adds that the first two variables differ and are equal.
-fn add_rules(builder: &mut ProblemBuilder, alloc: Global) -> Result<(), Fail>
-    requires { length builder.old.domains ≡ 2 }
-    ensures { builder.new.domains ≡ builder.old.domains }
-{
-    builder.add_rule(between(alloc, Kind::IntNe, 0, 1)?)?;
-    builder.add_rule(between(alloc, Kind::IntEq, 0, 1)?)?;
-    Ok(())
-}
 
 /// Two variables with the values 0 and 1, which differ and are equal.
-fn smallest(alloc: Global) -> Result<Problem, Fail>
-    ensures { IfOk result (λ problem. length problem.domains ≡ 2) }
+fn smallest(rt: &impl Abort, alloc: Global) -> Problem
+    ensures { length result.domains ≡ 2 }
 {
     let mut builder = ProblemBuilder::new(alloc);
-    builder.add_var(Domain::range(alloc, 0, 1)?)?;
-    builder.add_var(Domain::range(alloc, 0, 1)?)?;
-    add_rules(&mut builder, alloc)?;
-    Ok(builder.finish()?)
+    add_variable(rt, alloc, &mut builder, 1);
+    add_variable(rt, alloc, &mut builder, 1);
+    add_between(rt, alloc, &mut builder, Kind::IntNe, 0, 1);
+    add_between(rt, alloc, &mut builder, Kind::IntEq, 0, 1);
+    builder.finish().expect(rt, "memory")
 }
+
+/// The agent took a value.
+fn expect_announced(rt: &impl Abort, turn: Turn) {
+    assert!(rt; matches!(&turn, Turn::Announced));
+}
+
+/// Lets the agent and its messages go.
+fn end(_agent: Agent<'_>, _out: Outbox) {}
 
 /// The agent of a variable, which has started.
 fn started<'p>(
@@ -51,7 +49,7 @@ fn started<'p>(
 {
     let mut agent = Agent::new(alloc, problem, agent).expect(rt, "memory");
     let turn = agent.start(out).expect(rt, "memory");
-    assert!(rt; matches!(&turn, Turn::Announced));
+    expect_announced(rt, turn);
     agent
 }
 
@@ -121,8 +119,8 @@ fn expect_reasons(rt: &impl Abort, found: &[Reason], reasons: &[Reason]) {
 }
 
 /// The turn derived that the first variable has not the value 0, by both rules.
-fn expect_derived(rt: &impl Abort, turn: &Turn) {
-    match turn {
+fn expect_derived(rt: &impl Abort, turn: Turn) {
+    match &turn {
         Turn::Derived(step) => {
             assert!(rt; step.variable == Some(1));
             expect_pairs(rt, &step.nogood, &[Pair { var: 0, value: 0 }]);
@@ -168,10 +166,9 @@ fn expect_told(rt: &impl Abort, out: &mut Outbox) {
     assert!(rt; out.is_empty());
 }
 
-/// Nothing came of the turn.
-fn expect_quiet(rt: &impl Abort, turn: &Turn, out: &Outbox) {
-    assert!(rt; matches!(turn, Turn::Quiet));
-    assert!(rt; out.is_empty());
+/// The agent did nothing in the turn.
+fn expect_quiet(rt: &impl Abort, turn: Turn) {
+    assert!(rt; matches!(&turn, Turn::Quiet));
 }
 
 /// Hands the second variable's agent the value 0 of the first variable.
@@ -212,21 +209,38 @@ fn hand_nogood(
     handed(rt, problem, agent, own, out)
 }
 
+/// The second variable's agent derives a nogood of the first one's value, and waits.
+fn expect_waits(
+    rt: &impl Abort,
+    alloc: Global,
+    problem: &Problem,
+    agent: &mut Agent,
+    out: &mut Outbox,
+)
+    requires two { length problem.now.domains ≡ 2 }
+    requires problem { agent.old.problem ≡ problem.now }
+    requires me { agent.old.me ≡ 1 }
+{
+    let derived = hand_value(rt, problem, agent, out);
+    expect_derived(rt, derived);
+    assert!(rt; agent.waits());
+    expect_refused(rt, out);
+    let quiet = hand_nogood(rt, alloc, problem, agent, out);
+    expect_quiet(rt, quiet);
+    assert!(rt; out.is_empty());
+}
+
 #[test]
-fn derives_and_waits(rt: HostRuntime) -> Result<(), Fail> {
+fn derives_and_waits(rt: HostRuntime) {
     let alloc = rt.alloc();
-    let problem = smallest(alloc)?;
+    let problem = smallest(&rt, alloc);
     let mut out = Outbox::new(alloc);
     let mut agent = started(&rt, alloc, &problem, 1, &mut out);
     assert!(rt; out.is_empty());
     assert_eq!(rt; agent.value(), Some(0));
-    let derived = hand_value(&rt, &problem, &mut agent, &mut out);
-    expect_derived(&rt, &derived);
-    assert!(rt; agent.waits());
-    expect_refused(&rt, &mut out);
-    let quiet = hand_nogood(&rt, alloc, &problem, &mut agent, &mut out);
-    expect_quiet(&rt, &quiet, &out);
-    Ok(())
+    expect_waits(&rt, alloc, &problem, &mut agent, &mut out);
+    end(agent, out);
+    let_go(problem);
 }
 
 /// Hands the first variable's agent the second one's wish for a link.
@@ -243,16 +257,22 @@ fn hand_request(rt: &impl Abort, problem: &Problem, agent: &mut Agent, out: &mut
     handed(rt, problem, agent, request, out)
 }
 
-#[test]
-fn answers_a_link_request(rt: HostRuntime) -> Result<(), Fail> {
-    let alloc = rt.alloc();
-    let problem = smallest(alloc)?;
-    let mut out = Outbox::new(alloc);
-    let mut agent = started(&rt, alloc, &problem, 0, &mut out);
+/// The one message is taken out.
+fn expect_one(rt: &impl Abort, out: &mut Outbox) {
     assert!(rt; out.take_first().is_some());
     assert!(rt; out.is_empty());
+}
+
+#[test]
+fn answers_a_link_request(rt: HostRuntime) {
+    let alloc = rt.alloc();
+    let problem = smallest(&rt, alloc);
+    let mut out = Outbox::new(alloc);
+    let mut agent = started(&rt, alloc, &problem, 0, &mut out);
+    expect_one(&rt, &mut out);
     let quiet = hand_request(&rt, &problem, &mut agent, &mut out);
-    assert!(rt; matches!(&quiet, Turn::Quiet));
+    expect_quiet(&rt, quiet);
     expect_told(&rt, &mut out);
-    Ok(())
+    end(agent, out);
+    let_go(problem);
 }

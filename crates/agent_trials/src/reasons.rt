@@ -1,6 +1,6 @@
 //! The kept reasons, beside the plain search.
 
-ghost use Rattle.std.specs.Prelude.{◌≡◌, ◌<◌, ℕ, None, [], ◌∷◌, IfOk, length};
+ghost use Rattle.std.specs.Prelude.{◌≡◌, ◌<◌, ℕ, None, [], ◌∷◌, length};
 ghost use Rattle.dcsp_nogood.specs.Pairs.{pair_of};
 ghost use Rattle.abt_defs.specs.Agents.{values_in};
 ghost use Rattle.abt_view.specs.Views.{view_of};
@@ -8,7 +8,7 @@ ghost use Rattle.dcsp_problem.specs.Problems.{csp_of, AreInDomains};
 ghost use Rattle.abt_reason.specs.Cached.{StandsFor};
 ghost use Rattle.abt_reason.specs.Kept.{own_at};
 
-use crate::given::between;
+use crate::given::{add_between, add_variable, let_go, let_store_go};
 use abt_reason::{Reason, Reasons, first_violated};
 use abt_store::Store;
 use abt_view::View;
@@ -16,7 +16,6 @@ use dcsp_nogood::{Nogood, Pair};
 use dcsp_problem::{Domain, Kind, Problem, ProblemBuilder};
 use std::alloc::Global;
 use std::process::Abort;
-use std::test::Fail;
 
 fn pair(var: u32, value: i64) -> Pair {
     Pair { var, value }
@@ -34,15 +33,18 @@ fn own_pair(agent: u32, domain: &Domain, place: usize) -> Pair
 }
 
 /// Variables with the values from 0 to these, and no rules.
-fn free(alloc: Global, highest: &[i64]) -> Result<Problem, Fail>
-    ensures { IfOk result (λ problem. length problem.domains ≡ length highest.now) }
+fn free(rt: &impl Abort, alloc: Global, highest: &[i64]) -> Problem
+    ensures { length result.domains ≡ length highest.now }
 {
     let mut builder = ProblemBuilder::new(alloc);
     for high in highest {
-        builder.add_var(Domain::range(alloc, 0, *high)?)?;
+        add_variable(rt, alloc, &mut builder, *high);
     }
-    Ok(builder.finish()?)
+    builder.finish().expect(rt, "memory")
 }
+
+/// Lets the reasons and the view go.
+fn end(_reasons: Reasons<'_>, _view: View) {}
 
 /// A view of nothing, with room for two agents.
 fn blank(rt: &impl Abort, alloc: Global) -> View
@@ -113,9 +115,14 @@ fn expect_first(
     assert_eq!(rt; reasons.first(place), reason);
 }
 
+/// The nogoods that name the variable have these places.
+fn expect_naming(rt: &impl Abort, store: &Store, var: u32, places: &[u64]) {
+    assert!(rt; store.naming(var) == places);
+}
+
 #[test]
-fn tells_the_step_of_each_value(rt: HostRuntime) -> Result<(), Fail> {
-    let problem = free(rt.alloc(), &[2])?;
+fn tells_the_step_of_each_value(rt: HostRuntime) {
+    let problem = free(&rt, rt.alloc(), &[2]);
     let view = blank(&rt, rt.alloc());
     let mut store = Store::new(rt.alloc());
     let mut reasons = fresh(&rt, rt.alloc(), &problem, 0, &view, &store);
@@ -141,9 +148,11 @@ fn tells_the_step_of_each_value(rt: HostRuntime) -> Result<(), Fail> {
     expect_first(&rt, &problem, 0, &reasons, 0, Some(Reason::Earlier(9)));
     expect_first(&rt, &problem, 0, &reasons, 1, Some(Reason::Earlier(4)));
     expect_first(&rt, &problem, 0, &reasons, 2, None);
-    assert_eq!(rt; store.naming(0), [0, 1].as_slice());
-    assert_eq!(rt; store.naming(1), [].as_slice());
-    Ok(())
+    expect_naming(&rt, &store, 0, &[0, 1]);
+    expect_naming(&rt, &store, 1, &[]);
+    end(reasons, view);
+    let_store_go(store);
+    let_go(problem);
 }
 
 /// Takes in a view of nothing so many times more.
@@ -205,29 +214,31 @@ fn expect_each(rt: &impl Abort, problem: &Problem, reasons: &Reasons, values: us
 }
 
 #[test]
-fn tells_many_steps(rt: HostRuntime) -> Result<(), Fail> {
-    let problem = free(rt.alloc(), &[0, 65535])?;
+fn tells_many_steps(rt: HostRuntime) {
+    let problem = free(&rt, rt.alloc(), &[0, 65535]);
     let view = blank(&rt, rt.alloc());
     let mut store = Store::new(rt.alloc());
     let mut reasons = fresh(&rt, rt.alloc(), &problem, 1, &view, &store);
     record_each(&rt, rt.alloc(), &mut reasons, &view, &mut store, 65536);
     look_again(&mut reasons, 1000, &view, &store);
     expect_each(&rt, &problem, &reasons, 65536);
-    assert_eq!(rt; store.naming(0), [].as_slice());
-    Ok(())
+    expect_naming(&rt, &store, 0, &[]);
+    end(reasons, view);
+    let_store_go(store);
+    let_go(problem);
 }
 
 /// Three variables with the values from 0 to 3; the last is neither of the others.
-fn triangle(alloc: Global) -> Result<Problem, Fail>
-    ensures { IfOk result (λ problem. length problem.domains ≡ 3) }
+fn triangle(rt: &impl Abort, alloc: Global) -> Problem
+    ensures { length result.domains ≡ 3 }
 {
     let mut builder = ProblemBuilder::new(alloc);
-    builder.add_var(Domain::range(alloc, 0, 3)?)?;
-    builder.add_var(Domain::range(alloc, 0, 3)?)?;
-    builder.add_var(Domain::range(alloc, 0, 3)?)?;
-    builder.add_rule(between(alloc, Kind::IntNe, 0, 2)?)?;
-    builder.add_rule(between(alloc, Kind::IntNe, 2, 1)?)?;
-    Ok(builder.finish()?)
+    add_variable(rt, alloc, &mut builder, 3);
+    add_variable(rt, alloc, &mut builder, 3);
+    add_variable(rt, alloc, &mut builder, 3);
+    add_between(rt, alloc, &mut builder, Kind::IntNe, 0, 2);
+    add_between(rt, alloc, &mut builder, Kind::IntNe, 2, 1);
+    builder.finish().expect(rt, "memory")
 }
 
 /// A value at a place of a domain is told by an agent above.
@@ -353,8 +364,8 @@ fn drive(
 }
 
 #[test]
-fn equals_the_search(rt: HostRuntime) -> Result<(), Fail> {
-    let problem = triangle(rt.alloc())?;
+fn equals_the_search(rt: HostRuntime) {
+    let problem = triangle(&rt, rt.alloc());
     let mut view = blank(&rt, rt.alloc());
     let mut store = Store::new(rt.alloc());
     let mut reasons = fresh(&rt, rt.alloc(), &problem, 2, &view, &store);
@@ -367,5 +378,7 @@ fn equals_the_search(rt: HostRuntime) -> Result<(), Fail> {
         &mut store,
         400,
     );
-    Ok(())
+    end(reasons, view);
+    let_store_go(store);
+    let_go(problem);
 }

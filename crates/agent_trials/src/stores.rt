@@ -1,10 +1,10 @@
 //! The nogoods that an agent keeps.
 
+use crate::given::let_store_go;
 use abt_store::Store;
 use dcsp_nogood::{Nogood, Pair};
 use std::alloc::Global;
 use std::process::Abort;
-use std::test::Fail;
 
 fn pair(var: u32, value: i64) -> Pair {
     Pair { var, value }
@@ -26,21 +26,26 @@ fn expect_steps(rt: &impl Abort, store: &Store, steps: &[u64]) {
     }
 }
 
+/// The items that name the variable have these places.
+fn expect_naming(rt: &impl Abort, store: &Store, var: u32, places: &[u64]) {
+    assert!(rt; store.naming(var) == places);
+}
+
 #[test]
-fn keeps_one_for_each_value(rt: HostRuntime) -> Result<(), Fail> {
+fn keeps_one_for_each_value(rt: HostRuntime) {
     let mut store = Store::new(rt.alloc());
     keep(&rt, rt.alloc(), &mut store, &[pair(0, 1)], 4);
     assert!(rt; store.rules_out(1));
     assert!(rt; !store.rules_out(0));
     keep(&rt, rt.alloc(), &mut store, &[pair(0, 0)], 9);
     expect_steps(&rt, &store, &[4, 9]);
-    assert_eq!(rt; store.naming(0), [0, 1].as_slice());
-    assert_eq!(rt; store.naming(1), [].as_slice());
-    Ok(())
+    expect_naming(&rt, &store, 0, &[0, 1]);
+    expect_naming(&rt, &store, 1, &[]);
+    let_store_go(store);
 }
 
 #[test]
-fn forgets_what_differs(rt: HostRuntime) -> Result<(), Fail> {
+fn forgets_what_differs(rt: HostRuntime) {
     let mut store = Store::new(rt.alloc());
     keep(&rt, rt.alloc(), &mut store, &[pair(0, 5), pair(3, 1)], 1);
     keep(&rt, rt.alloc(), &mut store, &[pair(1, 6), pair(3, 2)], 2);
@@ -54,15 +59,15 @@ fn forgets_what_differs(rt: HostRuntime) -> Result<(), Fail> {
     keep(&rt, rt.alloc(), &mut store, &[pair(0, 7), pair(3, 4)], 4);
     store.forget(2, 0);
     expect_steps(&rt, &store, &[1, 2, 3, 4]);
-    assert_eq!(rt; store.naming(1), [1, 2].as_slice());
+    expect_naming(&rt, &store, 1, &[1, 2]);
     store.forget(0, 7);
     expect_steps(&rt, &store, &[2, 4]);
-    assert_eq!(rt; store.naming(0), [1].as_slice());
-    assert_eq!(rt; store.naming(1), [0].as_slice());
-    assert_eq!(rt; store.naming(3), [0, 1].as_slice());
+    expect_naming(&rt, &store, 0, &[1]);
+    expect_naming(&rt, &store, 1, &[0]);
+    expect_naming(&rt, &store, 3, &[0, 1]);
     assert!(rt; store.rules_out(2));
     assert!(rt; !store.rules_out(3));
     keep(&rt, rt.alloc(), &mut store, &[pair(3, 3)], 5);
     expect_steps(&rt, &store, &[2, 4, 5]);
-    Ok(())
+    let_store_go(store);
 }
