@@ -102,10 +102,15 @@ impl<'p> Driver<'p> {
             return None;
         }
         let turn = self.agent.receive(from, message, step, &mut self.out).ok()?;
+        self.count(turn);
+        Some(())
+    }
+
+    /// Counts what came of a message, and empties what the agent sends.
+    fn count(&mut self, turn: Turn) {
         self.counts.received = self.counts.received.saturating_add(1);
         self.counts.steps = self.counts.steps.saturating_add(steps_in(&turn));
         self.counts.sent = self.counts.sent.saturating_add(emptied(&mut self.out));
-        Some(())
     }
 
     /// Tells the agent the value of a higher one. `None` is also a pair that is no such value, and a stamp of 0.

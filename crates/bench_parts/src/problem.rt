@@ -52,15 +52,35 @@ fn add_rule(alloc: Global, builder: &mut ProblemBuilder, first: u32, second: u32
     Some(())
 }
 
+/// Adds that the agent's variable differs from each other one.
+fn add_rules(alloc: Global, builder: &mut ProblemBuilder) -> Option<()>
+    requires { length builder.old.domains ≡ VARIABLES }
+    ensures { OnSome result (length builder.new.domains ≡ VARIABLES) }
+{
+    for higher in 0..AGENT {
+        add_rule(alloc, builder, higher, AGENT)?;
+    }
+    add_rule(alloc, builder, AGENT, AGENT + 1)
+}
+
+/// Adds the variables and the rules.
+fn add_all(alloc: Global, builder: &mut ProblemBuilder) -> Option<()>
+    requires { builder.old.domains ≡ [] }
+    ensures { OnSome result (length builder.new.domains ≡ VARIABLES) }
+{
+    add_variables(alloc, builder)?;
+    add_rules(alloc, builder)
+}
+
 /// The variables, of which the agent's differs from each other one.
 pub fn built(alloc: Global) -> Option<Problem>
     ensures { IfSome result (λ problem. length problem.domains ≡ VARIABLES) }
 {
     let mut builder = ProblemBuilder::new(alloc);
-    add_variables(alloc, &mut builder)?;
-    for higher in 0..AGENT {
-        add_rule(alloc, &mut builder, higher, AGENT)?;
-    }
-    add_rule(alloc, &mut builder, AGENT, AGENT + 1)?;
+    add_all(alloc, &mut builder)?;
     builder.finish().ok()
 }
+
+/// Lets the problem go. It is let go in a function of its own, where nothing else is known: its proof is long
+/// where much is.
+pub fn let_go(_problem: Problem) {}

@@ -24,12 +24,8 @@ fn value_at(message: u32) -> i64 {
     i64::from(value as u16)
 }
 
-/// Values of the higher agents in turn; every tenth message is a nogood instead, of a value last told and one of
-/// the agent's own, if there is one last told.
-pub fn mixed(alloc: Global, problem: &Problem, messages: u32) -> Option<Counts>
-    requires { length problem.now.domains ≡ VARIABLES }
-{
-    let mut driver = Driver::new(alloc, problem)?;
+/// Hands the agent such messages as `mixed` says.
+fn mix(driver: &mut Driver<'_>, messages: u32) -> Option<()> {
     let mut told: [Option<Told>; HIGHER] = [None; HIGHER];
     for message in 0..messages {
         let step = u64::from(message) + 1;
@@ -52,18 +48,21 @@ pub fn mixed(alloc: Global, problem: &Problem, messages: u32) -> Option<Counts>
             }
         }
     }
+    Some(())
+}
+
+/// Values of the higher agents in turn; every tenth message is a nogood instead, of a value last told and one of
+/// the agent's own, if there is one last told.
+pub fn mixed(alloc: Global, problem: &Problem, messages: u32) -> Option<Counts>
+    requires { length problem.now.domains ≡ VARIABLES }
+{
+    let mut driver = Driver::new(alloc, problem)?;
+    mix(&mut driver, messages)?;
     Some(driver.counts())
 }
 
-/// So many nogoods which name the highest agent alone beside the agent itself, then values of the other agents,
-/// which leave the agent's own free. `None` is also more nogoods than 900.
-pub fn quiet(alloc: Global, problem: &Problem, messages: u32, kept: u32) -> Option<Counts>
-    requires { length problem.now.domains ≡ VARIABLES }
-{
-    if kept > MOST_KEPT {
-        return None;
-    }
-    let mut driver = Driver::new(alloc, problem)?;
+/// Hands the agent so many nogoods and then so many values, as `quiet` says.
+fn keep_and_tell(driver: &mut Driver<'_>, messages: u32, kept: u32) -> Option<()> {
     let highest = Pair { var: 0, value: 0 };
     driver.tell(highest, 1, 1)?;
     for own in 0..kept {
@@ -77,5 +76,18 @@ pub fn quiet(alloc: Global, problem: &Problem, messages: u32, kept: u32) -> Opti
         };
         driver.tell(pair, stamp, stamp)?;
     }
+    Some(())
+}
+
+/// So many nogoods which name the highest agent alone beside the agent itself, then values of the other agents,
+/// which leave the agent's own free. `None` is also more nogoods than 900.
+pub fn quiet(alloc: Global, problem: &Problem, messages: u32, kept: u32) -> Option<Counts>
+    requires { length problem.now.domains ≡ VARIABLES }
+{
+    if kept > MOST_KEPT {
+        return None;
+    }
+    let mut driver = Driver::new(alloc, problem)?;
+    keep_and_tell(&mut driver, messages, kept)?;
     Some(driver.counts())
 }

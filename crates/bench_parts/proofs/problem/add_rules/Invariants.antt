@@ -1,5 +1,5 @@
 use Rattle.std.proofs.Common.{◌≡◌, length}
-use Rattle.bench_parts.proofs.problem.built.Given as goal
+use Rattle.bench_parts.proofs.problem.add_rules.Given as goal
 
 abbrev pub invariant-loop-higher : goal.invariant-loop-higher
 invariant-loop-higher l = length l.builder.domains ≡ 52

@@ -1,5 +1,5 @@
 use Rattle.std.proofs.Common.{◌≡◌, true}
-use Rattle.bench_parts.proofs.network.run_network.Given as goal
+use Rattle.bench_parts.proofs.network.run.Given as goal
 
 abbrev pub invariant-loop-made : goal.invariant-loop-made
 invariant-loop-made l = l.network.begun ≡ true
