@@ -6,6 +6,8 @@ ghost use Rattle.dcsp_script.specs.Ways.{Wrote};
 
 use dcsp_outside::{Folder, MemoryFolder, MemorySink, Sink};
 use dcsp_script::{Stop, append, create, put};
+use std::alloc::Global;
+use std::process::Abort;
 
 /// Adds the note to the log, and then puts it on `out`.
 fn write_note<F: Folder, S: Sink>(
@@ -69,6 +71,36 @@ struct Case {
     told: &'static [u8],
 }
 
+/// A folder with a log from before, of which this call fails.
+fn folder_failing(rt: &impl Abort, alloc: Global, call: u64) -> MemoryFolder {
+    let mut folder = MemoryFolder::new(alloc);
+    folder.place("log", b"before").expect(rt, "memory");
+    folder.fail_at(call).expect(rt, "memory");
+    folder
+}
+
+/// What comes of writing the log.
+fn written(folder: &mut MemoryFolder, out: &mut MemorySink, notes: &[Vec<u8>]) -> Result<(), Stop> {
+    write_log(folder, out, "log", notes)
+}
+
+impl Case {
+    /// The log is written as the case says.
+    fn expect(&self, rt: &impl Abort, alloc: Global, notes: &[Vec<u8>]) {
+        let mut folder = folder_failing(rt, alloc, self.folder);
+        let mut out = MemorySink::new(alloc);
+        out.fail_at(self.out).expect(rt, "memory");
+        assert!(rt; written(&mut folder, &mut out, notes) == self.came);
+        self.expect_left(rt, folder, out);
+    }
+
+    /// The log and `out` are as the case says.
+    fn expect_left(&self, rt: &impl Abort, folder: MemoryFolder, out: MemorySink) {
+        assert_eq!(rt; folder.file("log").unwrap_or(&[]), self.log);
+        assert_eq!(rt; out.bytes(), self.told);
+    }
+}
+
 const CASES: [Case; 6] = [
     Case {
         folder: 9,
@@ -122,13 +154,6 @@ fn a_script_stops_where_a_write_fails(rt: HostRuntime) {
         notes.push(note).expect(&rt, "memory");
     }
     for case in &CASES {
-        let mut folder = MemoryFolder::new(rt.alloc());
-        folder.place("log", b"before").expect(&rt, "memory");
-        folder.fail_at(case.folder).expect(&rt, "memory");
-        let mut out = MemorySink::new(rt.alloc());
-        out.fail_at(case.out).expect(&rt, "memory");
-        assert_eq!(rt; write_log(&mut folder, &mut out, "log", &notes), case.came);
-        assert_eq!(rt; folder.file("log").unwrap_or(&[]), case.log);
-        assert_eq!(rt; out.bytes(), case.told);
+        case.expect(&rt, rt.alloc(), &notes);
     }
 }
