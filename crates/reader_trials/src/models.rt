@@ -19,242 +19,203 @@ fn expect_refused(rt: &impl Abort, alloc: Global, text: &[u8], error: ModelError
     assert_eq!(rt; refusal(rt, alloc, text), Some(error));
 }
 
+/// A text that has no problem, and why.
+type Refused = (&'static [u8], ModelError);
+
+/// Each of these texts has no problem, for its reason.
+fn expect_all_refused(rt: &impl Abort, alloc: Global, rows: &[Refused]) {
+    for (text, error) in rows {
+        expect_refused(rt, alloc, text, *error);
+    }
+}
+
 /// The text has a problem.
 fn expect_accepted(rt: &impl Abort, alloc: Global, text: &[u8]) {
     assert_eq!(rt; refusal(rt, alloc, text), None);
 }
 
-#[test]
-fn tells_the_first_refusal(rt: HostRuntime) {
-    let alloc = rt.alloc();
-    expect_refused(
-        &rt,
-        alloc,
+const TELLS_THE_FIRST_REFUSAL: &[Refused] = &[
+    (
         b"var int: x;\nsolve satisfy;\n",
         ModelError::Unbounded { at: 0 },
-    );
-    expect_refused(
-        &rt,
-        alloc,
+    ),
+    (
         b"var 0.0..1.0: f;\nsolve satisfy;\n",
         ModelError::Unsupported { at: 0 },
-    );
-    expect_refused(
-        &rt,
-        alloc,
+    ),
+    (
         b"var 0..1: x;\nconstraint int_pow(x,x,x);\nsolve satisfy;\n",
         ModelError::UnknownConstraint { at: 24 },
-    );
-    expect_refused(
-        &rt,
-        alloc,
+    ),
+    (
         b"var 0..1: x;\nconstraint int_ne(x,y);\nvar 0..1: y;\nsolve satisfy;\n",
         ModelError::Undeclared { at: 33 },
-    );
-    expect_refused(
-        &rt,
-        alloc,
+    ),
+    (
         b"var 0..1: x;\narray [1..2] of var int: a :: output_array([1..3]) = [x,x];\nsolve satisfy;\n",
         ModelError::OutputShape { at: 38 },
-    );
-    expect_refused(
-        &rt,
-        alloc,
+    ),
+    (
         b"var 0..1: x;\nvar 0..1: x;\nsolve satisfy;\n",
         ModelError::Duplicate { at: 23 },
-    );
-    expect_refused(
-        &rt,
-        alloc,
+    ),
+    (
         b"var bool: b;\nconstraint int_ne(b,1);\nsolve satisfy;\n",
         ModelError::IllTyped { at: 31 },
-    );
-}
+    ),
+];
 
 #[test]
-fn tells_places_and_limits(rt: HostRuntime) {
-    let alloc = rt.alloc();
-    expect_refused(
-        &rt,
-        alloc,
+fn tells_the_first_refusal(rt: HostRuntime) {
+    expect_all_refused(&rt, rt.alloc(), TELLS_THE_FIRST_REFUSAL);
+}
+
+const TELLS_PLACES_AND_LIMITS: &[Refused] = &[
+    (
         b"int: k = 9223372036854775808;\nsolve satisfy;\n",
         ModelError::IntRange { at: 9 },
-    );
-    expect_refused(
-        &rt,
-        alloc,
+    ),
+    (
         b"solve satisfy;\nvar 0..1: x;\n",
         ModelError::Misplaced { at: 15 },
-    );
-    expect_refused(&rt, alloc, b"", ModelError::NoSolve);
-    expect_refused(
-        &rt,
-        alloc,
+    ),
+    (b"", ModelError::NoSolve),
+    (
         b"var 0..1: x;\nsolve satisfy",
         ModelError::Syntax { at: 13 },
-    );
-    expect_refused(
-        &rt,
-        alloc,
+    ),
+    (
         b"var 0..1: \xc3\xa9;\nsolve satisfy;\n",
         ModelError::Lex { at: 10 },
-    );
-    expect_refused(
-        &rt,
-        alloc,
+    ),
+    (
         b"var 0..65536: x;\nsolve satisfy;\n",
         ModelError::Limit {
             which: Which::DomainSize,
             count: 65_537,
             at: 0,
         },
-    );
-    expect_refused(
-        &rt,
-        alloc,
+    ),
+    (
         b"var -9223372036854775808..-9223372036854775808: x;\nconstraint int_lin_le([-9223372036854775808],[x],1);\nsolve satisfy;\n",
         ModelError::WideSum { at: 62 },
-    );
-}
+    ),
+];
 
 #[test]
-fn looks_at_names_and_types_first(rt: HostRuntime) {
-    let alloc = rt.alloc();
+fn tells_places_and_limits(rt: HostRuntime) {
+    expect_all_refused(&rt, rt.alloc(), TELLS_PLACES_AND_LIMITS);
+}
+
+const LOOKS_AT_NAMES_AND_TYPES_FIRST: &[Refused] = &[
     // A parameter is found twice as a variable is.
-    expect_refused(
-        &rt,
-        alloc,
+    (
         b"int: k = 1;\nvar 0..1: k;\nsolve satisfy;\n",
         ModelError::Duplicate { at: 22 },
-    );
+    ),
     // The name is looked at before the type.
-    expect_refused(
-        &rt,
-        alloc,
+    (
         b"var 0..1: x;\nvar int: x;\nsolve satisfy;\n",
         ModelError::Duplicate { at: 22 },
-    );
+    ),
     // The type is looked at before the right side.
-    expect_refused(
-        &rt,
-        alloc,
+    (
         b"var int: x = y;\nsolve satisfy;\n",
         ModelError::Unbounded { at: 0 },
-    );
-    expect_refused(
-        &rt,
-        alloc,
+    ),
+    (
         b"var 0..65536: x = y;\nsolve satisfy;\n",
         ModelError::Limit {
             which: Which::DomainSize,
             count: 65_537,
             at: 0,
         },
-    );
-    expect_refused(
-        &rt,
-        alloc,
+    ),
+    (
         b"var 0..1: x = y;\nsolve satisfy;\n",
         ModelError::Undeclared { at: 14 },
-    );
-    expect_refused(
-        &rt,
-        alloc,
+    ),
+    (
         b"float: f = 1.5;\nsolve satisfy;\n",
         ModelError::Unsupported { at: 0 },
-    );
-    expect_refused(
-        &rt,
-        alloc,
+    ),
+    (
         b"var set of 1..3: s;\nsolve satisfy;\n",
         ModelError::Unsupported { at: 0 },
-    );
-    expect_refused(
-        &rt,
-        alloc,
+    ),
+    (
         b"array [1..1] of set of int: s = [{1}];\nsolve satisfy;\n",
         ModelError::Unsupported { at: 0 },
-    );
+    ),
+];
+
+#[test]
+fn looks_at_names_and_types_first(rt: HostRuntime) {
+    expect_all_refused(&rt, rt.alloc(), LOOKS_AT_NAMES_AND_TYPES_FIRST);
 }
+
+const LOOKS_AT_INDEXES_AND_SORTS_FIRST: &[Refused] = &[
+    // The right side's form, the index, then the elements.
+    (
+        b"array [1..2] of int: a = 5;\nsolve satisfy;\n",
+        ModelError::IllTyped { at: 25 },
+    ),
+    (
+        b"array [1..2] of int: a = [z];\nsolve satisfy;\n",
+        ModelError::IllTyped { at: 21 },
+    ),
+    (
+        b"array [1..1] of int: a = [z];\nsolve satisfy;\n",
+        ModelError::Undeclared { at: 26 },
+    ),
+    (
+        b"array [0..-1] of int: a = [];\nsolve satisfy;\n",
+        ModelError::IllTyped { at: 22 },
+    ),
+    // The index of a named array before its sort, and its sort before its elements.
+    (
+        b"array [1..0] of var int: a = [];\narray [1..1] of int: b = a;\nsolve satisfy;\n",
+        ModelError::IllTyped { at: 54 },
+    ),
+    (
+        b"array [1..0] of var int: a = [];\narray [1..0] of int: b = a;\nsolve satisfy;\n",
+        ModelError::IllTyped { at: 58 },
+    ),
+];
 
 #[test]
 fn looks_at_indexes_and_sorts_first(rt: HostRuntime) {
-    let alloc = rt.alloc();
-    // The right side's form, the index, then the elements.
-    expect_refused(
-        &rt,
-        alloc,
-        b"array [1..2] of int: a = 5;\nsolve satisfy;\n",
-        ModelError::IllTyped { at: 25 },
-    );
-    expect_refused(
-        &rt,
-        alloc,
-        b"array [1..2] of int: a = [z];\nsolve satisfy;\n",
-        ModelError::IllTyped { at: 21 },
-    );
-    expect_refused(
-        &rt,
-        alloc,
-        b"array [1..1] of int: a = [z];\nsolve satisfy;\n",
-        ModelError::Undeclared { at: 26 },
-    );
-    expect_refused(
-        &rt,
-        alloc,
-        b"array [0..-1] of int: a = [];\nsolve satisfy;\n",
-        ModelError::IllTyped { at: 22 },
-    );
-    // The index of a named array before its sort, and its sort before its elements.
-    expect_refused(
-        &rt,
-        alloc,
-        b"array [1..0] of var int: a = [];\narray [1..1] of int: b = a;\nsolve satisfy;\n",
-        ModelError::IllTyped { at: 54 },
-    );
-    expect_refused(
-        &rt,
-        alloc,
-        b"array [1..0] of var int: a = [];\narray [1..0] of int: b = a;\nsolve satisfy;\n",
-        ModelError::IllTyped { at: 58 },
-    );
+    expect_all_refused(&rt, rt.alloc(), LOOKS_AT_INDEXES_AND_SORTS_FIRST);
 }
+
+const LOOKS_AT_THE_ORDER_OF_ITEMS_AND_ARGUMENTS: &[Refused] = &[
+    // A parameter after a constraint, and a second solve item.
+    (
+        b"constraint int_le(0,0);\nint: k = 1;\nsolve satisfy;\n",
+        ModelError::Misplaced { at: 24 },
+    ),
+    (
+        b"solve satisfy;\nsolve satisfy;\n",
+        ModelError::Misplaced { at: 15 },
+    ),
+    // The number of arguments, then the arguments, then the lengths.
+    (
+        b"constraint int_le(z);\nsolve satisfy;\n",
+        ModelError::IllTyped { at: 11 },
+    ),
+    (
+        b"constraint int_lin_eq([1],[z,z],0);\nsolve satisfy;\n",
+        ModelError::Undeclared { at: 27 },
+    ),
+    (
+        b"constraint int_lin_eq([1],[2,3],0);\nsolve satisfy;\n",
+        ModelError::IllTyped { at: 11 },
+    ),
+];
 
 #[test]
 fn looks_at_the_order_of_items_and_arguments(rt: HostRuntime) {
-    let alloc = rt.alloc();
-    // A parameter after a constraint, and a second solve item.
-    expect_refused(
-        &rt,
-        alloc,
-        b"constraint int_le(0,0);\nint: k = 1;\nsolve satisfy;\n",
-        ModelError::Misplaced { at: 24 },
-    );
-    expect_refused(
-        &rt,
-        alloc,
-        b"solve satisfy;\nsolve satisfy;\n",
-        ModelError::Misplaced { at: 15 },
-    );
-    // The number of arguments, then the arguments, then the lengths.
-    expect_refused(
-        &rt,
-        alloc,
-        b"constraint int_le(z);\nsolve satisfy;\n",
-        ModelError::IllTyped { at: 11 },
-    );
-    expect_refused(
-        &rt,
-        alloc,
-        b"constraint int_lin_eq([1],[z,z],0);\nsolve satisfy;\n",
-        ModelError::Undeclared { at: 27 },
-    );
-    expect_refused(
-        &rt,
-        alloc,
-        b"constraint int_lin_eq([1],[2,3],0);\nsolve satisfy;\n",
-        ModelError::IllTyped { at: 11 },
-    );
+    expect_all_refused(&rt, rt.alloc(), LOOKS_AT_THE_ORDER_OF_ITEMS_AND_ARGUMENTS);
 }
 
 #[test]
@@ -514,32 +475,24 @@ fn reads_what_is_wanted(rt: HostRuntime) {
     );
 }
 
-#[test]
-fn refuses_goals_without_an_integer(rt: HostRuntime) {
-    let alloc = rt.alloc();
-    expect_refused(
-        &rt,
-        alloc,
+const REFUSES_GOALS_WITHOUT_AN_INTEGER: &[Refused] = &[
+    (
         b"var 0..1: x;\nsolve minimize z;\n",
         ModelError::Undeclared { at: 28 },
-    );
-    expect_refused(
-        &rt,
-        alloc,
+    ),
+    (
         b"var bool: b;\nsolve maximize b;\n",
         ModelError::IllTyped { at: 28 },
-    );
-    expect_refused(
-        &rt,
-        alloc,
-        b"solve minimize [1];\n",
-        ModelError::IllTyped { at: 15 },
-    );
+    ),
+    (b"solve minimize [1];\n", ModelError::IllTyped { at: 15 }),
     // A second solve item is looked at no further.
-    expect_refused(
-        &rt,
-        alloc,
+    (
         b"solve satisfy;\nsolve minimize z;\n",
         ModelError::Misplaced { at: 15 },
-    );
+    ),
+];
+
+#[test]
+fn refuses_goals_without_an_integer(rt: HostRuntime) {
+    expect_all_refused(&rt, rt.alloc(), REFUSES_GOALS_WITHOUT_AN_INTEGER);
 }

@@ -95,6 +95,16 @@ fn expect_refused(rt: &impl Abort, alloc: Global, text: &[u8], refusal: Refusal)
     );
 }
 
+/// A constraint that is refused, and why.
+type Refused = (&'static [u8], Refusal);
+
+/// Each of these constraints is refused for its reason.
+fn expect_all_refused(rt: &impl Abort, alloc: Global, rows: &[Refused]) {
+    for (text, refusal) in rows {
+        expect_refused(rt, alloc, text, *refusal);
+    }
+}
+
 #[test]
 fn constraints_with_a_rule(rt: HostRuntime) {
     let alloc = rt.alloc();
@@ -114,134 +124,64 @@ fn constraints_with_a_rule(rt: HostRuntime) {
     expect_rule(&rt, alloc, b"constraint bool_lin_le([2],bs,x);");
 }
 
-#[test]
-fn scalars_and_their_refusals(rt: HostRuntime) {
-    let alloc = rt.alloc();
-    expect_refused(
-        &rt,
-        alloc,
+const SCALARS_AND_THEIR_REFUSALS: &[Refused] = &[
+    (
         b"constraint int_nq(q);",
         Refusal::UnknownConstraint { at: 11 },
-    );
-    expect_refused(
-        &rt,
-        alloc,
-        b"constraint int_ne(q);",
-        Refusal::IllTyped { at: 11 },
-    );
-    expect_refused(
-        &rt,
-        alloc,
-        b"constraint int_ne(q,b);",
-        Refusal::Undeclared { at: 18 },
-    );
-    expect_refused(
-        &rt,
-        alloc,
-        b"constraint int_ne(b,q);",
-        Refusal::IllTyped { at: 18 },
-    );
-    expect_refused(
-        &rt,
-        alloc,
-        b"constraint int_ne(x,true);",
-        Refusal::IllTyped { at: 20 },
-    );
-    expect_refused(
-        &rt,
-        alloc,
-        b"constraint int_ne(2.5,1);",
-        Refusal::IllTyped { at: 18 },
-    );
-    expect_refused(
-        &rt,
-        alloc,
-        b"constraint int_ne(xs,1);",
-        Refusal::IllTyped { at: 18 },
-    );
-    expect_refused(
-        &rt,
-        alloc,
-        b"constraint int_ne([q],1);",
-        Refusal::IllTyped { at: 18 },
-    );
-    expect_refused(
-        &rt,
-        alloc,
-        b"constraint int_ne(s,1);",
-        Refusal::IllTyped { at: 18 },
-    );
-    expect_refused(
-        &rt,
-        alloc,
-        b"constraint bool_eq(b,1);",
-        Refusal::IllTyped { at: 21 },
-    );
-    expect_refused(
-        &rt,
-        alloc,
-        b"constraint bool_xor(b);",
-        Refusal::IllTyped { at: 11 },
-    );
+    ),
+    (b"constraint int_ne(q);", Refusal::IllTyped { at: 11 }),
+    (b"constraint int_ne(q,b);", Refusal::Undeclared { at: 18 }),
+    (b"constraint int_ne(b,q);", Refusal::IllTyped { at: 18 }),
+    (b"constraint int_ne(x,true);", Refusal::IllTyped { at: 20 }),
+    (b"constraint int_ne(2.5,1);", Refusal::IllTyped { at: 18 }),
+    (b"constraint int_ne(xs,1);", Refusal::IllTyped { at: 18 }),
+    (b"constraint int_ne([q],1);", Refusal::IllTyped { at: 18 }),
+    (b"constraint int_ne(s,1);", Refusal::IllTyped { at: 18 }),
+    (b"constraint bool_eq(b,1);", Refusal::IllTyped { at: 21 }),
+    (b"constraint bool_xor(b);", Refusal::IllTyped { at: 11 }),
+];
+
+#[test]
+fn scalars_and_their_refusals(rt: HostRuntime) {
+    expect_all_refused(&rt, rt.alloc(), SCALARS_AND_THEIR_REFUSALS);
 }
+
+const LISTS_AND_SETS_AND_THEIR_REFUSALS: &[Refused] = &[
+    (b"constraint set_in(x,n);", Refusal::IllTyped { at: 20 }),
+    (b"constraint set_in(x,[1]);", Refusal::IllTyped { at: 20 }),
+    (
+        b"constraint fzn_all_different_int([x,q,b]);",
+        Refusal::Undeclared { at: 36 },
+    ),
+    (
+        b"constraint fzn_all_different_int(x);",
+        Refusal::IllTyped { at: 33 },
+    ),
+    (
+        b"constraint int_lin_eq(xs,xs,3);",
+        Refusal::IllTyped { at: 22 },
+    ),
+    (
+        b"constraint int_lin_eq(vs,[x],3);",
+        Refusal::IllTyped { at: 22 },
+    ),
+    (
+        b"constraint int_lin_eq([1,x],[q],3);",
+        Refusal::IllTyped { at: 25 },
+    ),
+    (
+        b"constraint int_lin_eq(cs,[x],3);",
+        Refusal::IllTyped { at: 11 },
+    ),
+    (
+        b"constraint int_lin_eq(cs,[x],q);",
+        Refusal::Undeclared { at: 29 },
+    ),
+];
 
 #[test]
 fn lists_and_sets_and_their_refusals(rt: HostRuntime) {
-    let alloc = rt.alloc();
-    expect_refused(
-        &rt,
-        alloc,
-        b"constraint set_in(x,n);",
-        Refusal::IllTyped { at: 20 },
-    );
-    expect_refused(
-        &rt,
-        alloc,
-        b"constraint set_in(x,[1]);",
-        Refusal::IllTyped { at: 20 },
-    );
-    expect_refused(
-        &rt,
-        alloc,
-        b"constraint fzn_all_different_int([x,q,b]);",
-        Refusal::Undeclared { at: 36 },
-    );
-    expect_refused(
-        &rt,
-        alloc,
-        b"constraint fzn_all_different_int(x);",
-        Refusal::IllTyped { at: 33 },
-    );
-    expect_refused(
-        &rt,
-        alloc,
-        b"constraint int_lin_eq(xs,xs,3);",
-        Refusal::IllTyped { at: 22 },
-    );
-    expect_refused(
-        &rt,
-        alloc,
-        b"constraint int_lin_eq(vs,[x],3);",
-        Refusal::IllTyped { at: 22 },
-    );
-    expect_refused(
-        &rt,
-        alloc,
-        b"constraint int_lin_eq([1,x],[q],3);",
-        Refusal::IllTyped { at: 25 },
-    );
-    expect_refused(
-        &rt,
-        alloc,
-        b"constraint int_lin_eq(cs,[x],3);",
-        Refusal::IllTyped { at: 11 },
-    );
-    expect_refused(
-        &rt,
-        alloc,
-        b"constraint int_lin_eq(cs,[x],q);",
-        Refusal::Undeclared { at: 29 },
-    );
+    expect_all_refused(&rt, rt.alloc(), LISTS_AND_SETS_AND_THEIR_REFUSALS);
 }
 
 fn expect_numbers(rt: &impl Abort, found: &[i64], numbers: &[i64]) {
