@@ -1,9 +1,9 @@
 -- Sets of numbers, and comparisons by them.
-use Rattle.std.proofs.Common.{◌≡◌, ◌≢◌, ℕ, ◌+◌, ◌<◌, ◌≤◌, Bool, true, false, not, List, length, ℤ, pos, negsuc, ◌+ℤ◌, ◌-ℤ◌, ◌*ℤ◌, Some, refl, sym, ap, ◌∙◌, arith, inl, inr}
+use Rattle.std.proofs.Common.{◌≡◌, ◌≢◌, ℕ, nat_lt, ◌+◌, ◌-◌, ◌<◌, ◌≤◌, Bool, true, false, not, List, length, ℤ, pos, negsuc, ◌+ℤ◌, ◌-ℤ◌, ◌*ℤ◌, Some, refl, sym, ap, ◌∙◌, arith, inl, inr}
 use Rattle.std.specs.Prelude.{int_le, int_lt, ◌<ℤ◌}
 use Rattle.std.specs.Ordering.{int_eq}
-use Rattle.std.proofs.lemmas.Bool.{cases_eq}
-use Rattle.std.proofs.lemmas.Bool.Decides.{Decides-int_eq}
+use Rattle.std.proofs.lemmas.Bool.{cases_eq, cases_lt}
+use Rattle.std.proofs.lemmas.Bool.Decides.{Decides-int_eq, nat_tests}
 use Rattle.std.proofs.lemmas.Int.{ints}
 use Rattle.dcsp_domain.specs.Sets.{IsRising}
 use Rattle.dcsp_row.specs.declared.compare.Comparison.{Comparison}
@@ -61,6 +61,31 @@ pub above_all : (values : List ℤ) → IsRising values → (middle : ℕ) → (
 above_all values up middle bound here k l within = elim (cases_eq k middle) [
   | inl same ↦ ap (λ n. int_lt (own_at values n) bound) same ∙ here
   | inr apart ↦ above_is_more (own_at values middle) (own_at values k) bound (up middle k (pos 0) (omega (arith, l, apart)) within) here
+]
+
+-- none is, where the first is not
+pub none_below : (values : List ℤ) → IsRising values → (bound : ℤ) → int_lt (own_at values 0) bound ≡ false → (k : ℕ) → k < length values → int_lt (own_at values k) bound ≡ nat_lt k 0
+none_below values up bound first k l = above_all values up 0 bound first k (omega arith) l ∙ grind (arith, nat_tests)
+
+-- all are, where the last is
+pub all_below : (values : List ℤ) → IsRising values → (bound : ℤ) (count : ℕ) → 0 < count → count ≡ length values → int_lt (own_at values (count - 1)) bound ≡ true → (k : ℕ) → k < length values → int_lt (own_at values k) bound ≡ nat_lt k count
+all_below values up bound count some all last k l =
+    let within : count - 1 < length values = omega (arith, some, all) in
+    let before : k < count - 1 + 1 = omega (arith, l, all) in
+    let below : k < count = omega (arith, l, all) in
+    below_all values up (count - 1) within bound last k before ∙ grind (arith, nat_tests)
+
+not_itself : (x bound : ℤ) → x ≡ bound → int_lt x bound ≡ false
+not_itself x bound e = grind (arith, ints, e)
+
+less_than : (x y bound : ℤ) → x <ℤ y → y ≡ bound → int_lt x bound ≡ true
+less_than x y bound l e = grind (arith, ints, l, e)
+
+-- those before the bound itself are
+pub before_bound : (values : List ℤ) → IsRising values → (bound : ℤ) (count : ℕ) → count < length values → own_at values count ≡ bound → (k : ℕ) → k < length values → int_lt (own_at values k) bound ≡ nat_lt k count
+before_bound values up bound count within is k l = elim (cases_lt k count) [
+  | inl before ↦ less_than (own_at values k) (own_at values count) bound (up k count (pos 0) before within) is ∙ grind (arith, nat_tests)
+  | inr past ↦ above_all values up count bound (not_itself (own_at values count) bound is) k past l ∙ grind (arith, nat_tests)
 ]
 
 -- a sum to which the open variable is added once, or from which it is taken away once

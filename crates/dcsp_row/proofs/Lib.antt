@@ -5,3 +5,4 @@ pub mod LineLaws
 pub mod WordLaws
 pub mod CutLaws
 mod EasyLaws
+mod SpanLaws

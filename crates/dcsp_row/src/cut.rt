@@ -1,6 +1,6 @@
 //! Sets of numbers that are one number, or all below one, or all others than these.
 
-ghost use Rattle.std.specs.Prelude.{◌≡◌, ◌<◌, ◌≤◌, ℕ, ℤ, int_lt, length, nat_lt, not, unsigned_abs};
+ghost use Rattle.std.specs.Prelude.{◌≡◌, ◌<◌, ◌≤◌, ℕ, ℤ, IfSome, int_lt, length, nat_lt, not, unsigned_abs};
 ghost use Rattle.dcsp_row.specs.Cuts.{is_in, is_of, number_of, farthest};
 ghost use Rattle.dcsp_row.specs.Rows.{own_at};
 ghost use Rattle.dcsp_row.specs.Spans.{SpansWhere};
@@ -49,6 +49,38 @@ fn span_of(part: Part, domain: &Domain) -> Span
 
 /// How many of these values are below the bound.
 fn count_below(domain: &Domain, bound: i128) -> usize
+    ensures { (k : ℕ) → k < length domain.now → int_lt (own_at domain.now k) bound ≡ nat_lt k result }
+{
+    match count_without_gap(domain, bound) {
+        Some(count) => count,
+        None => count_by_halves(domain, bound),
+    }
+}
+
+/// How many of these values are below the bound, where all or none are, or no value is missing below it.
+fn count_without_gap(domain: &Domain, bound: i128) -> Option<usize>
+    ensures { IfSome result (λ count. (k : ℕ) → k < length domain.now → int_lt (own_at domain.now k) bound ≡ nat_lt k count) }
+{
+    let len = domain.len();
+    if len == 0 {
+        return Some(0);
+    }
+    if bound <= i128::from(domain.value(0)) {
+        return Some(0);
+    }
+    if i128::from(domain.value(len - 1)) < bound {
+        return Some(len);
+    }
+    let count = usize::try_from(bound - i128::from(domain.value(0))).ok()?;
+    if count < len && i128::from(domain.value(count)) == bound {
+        Some(count)
+    } else {
+        None
+    }
+}
+
+/// How many of these values are below the bound, by binary search.
+fn count_by_halves(domain: &Domain, bound: i128) -> usize
     ensures { (k : ℕ) → k < length domain.now → int_lt (own_at domain.now k) bound ≡ nat_lt k result }
 {
     let mut low = 0;

@@ -58,6 +58,11 @@ impl Marks {
         ensures within { IfSome result (λ place. (from ≤ place) × (place < size)) }
         ensures same { (k : ℕ) → from ≤ k → k < unwrap_or result size → is_marked self.now k ≡ is_marked other.now k }
     {
+        if let Marks::Span(mine) = self {
+            if let Marks::Span(theirs) = other {
+                return mine.next_change(*theirs, size, from);
+            }
+        }
         for block in from / BLOCK..size / BLOCK + 1 {
             let mine = self.word(size, block);
             let theirs = other.word(size, block);

@@ -1,6 +1,6 @@
 //! Runs of places, and all places outside them.
 
-ghost use Rattle.std.specs.Prelude.{◌≡◌, ◌<◌, ◌+◌, ◌*◌, ◌==◌, ℕ, not};
+ghost use Rattle.std.specs.Prelude.{◌≡◌, ◌<◌, ◌≤◌, ◌+◌, ◌*◌, ◌==◌, ℕ, IfSome, not, unwrap_or};
 ghost use Rattle.std.specs.Int.{bit_at};
 ghost use Rattle.dcsp_row.specs.Spans.{is_between, is_within};
 
@@ -45,6 +45,23 @@ impl Span {
         between != self.outside
     }
 
+    /// The first of so many places, from this one on, that one of the spans has and the other does not;
+    /// `None` where they have the same from there on. It looks at their ends alone.
+    pub fn next_change(self, other: Span, size: usize, from: usize) -> Option<usize>
+        ensures within { IfSome result (λ place. (from ≤ place) × (place < size)) }
+        ensures same { (k : ℕ) → from ≤ k → k < unwrap_or result size → is_within self k ≡ is_within other k }
+    {
+        let mut at = from;
+        while at < size {
+            if self.has(at) != other.has(at) {
+                return Some(at);
+            }
+            let end = cut(cut(size, at, self.from), at, self.to);
+            at = cut(cut(end, at, other.from), at, other.to);
+        }
+        None
+    }
+
     /// The word of a block in which their bits are set.
     pub fn word(self, block: usize) -> u64
         ensures { (bit : ℕ) → bit < 64 → (bit_at result bit == 1) ≡ is_within self (block * 64 + bit) }
@@ -59,4 +76,18 @@ fn word_between(from: usize, to: usize, block: usize) -> u64
     ensures { (bit : ℕ) → bit < 64 → (bit_at result bit == 1) ≡ is_between from to (block * 64 + bit) }
 {
     low_word(block, to) & !low_word(block, from)
+}
+
+/// The end, or this place if it comes before the end and after the other one.
+fn cut(end: usize, after: usize, place: usize) -> usize
+    requires { after < end }
+    ensures later { after < result }
+    ensures most { result ≤ end }
+    ensures cut { after < place → result ≤ place }
+{
+    if after < place && place < end {
+        place
+    } else {
+        end
+    }
 }

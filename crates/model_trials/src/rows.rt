@@ -165,7 +165,17 @@ fn changes_are_found(rt: HostRuntime) {
     expect_change(&rt, &marks, &none, 65, Some(129));
     expect_change(&rt, &marks, &none, 130, None);
     expect_change(&rt, &none, &marks, 0, Some(64));
+    let run = Marks::Span(Span {
+        from: 64,
+        to: 66,
+        outside: false,
+    });
+    expect_change(&rt, &run, &none, 0, Some(64));
+    expect_change(&rt, &run, &none, 65, Some(65));
+    expect_change(&rt, &run, &none, 66, None);
+    expect_change(&rt, &run, &marks, 0, Some(65));
     end(marks, none);
+    end(run, Marks::Span(Span::whole(true)));
 }
 
 #[test]

@@ -23,7 +23,7 @@ pub loop-block-preserved : goal.loop-block-preserved
 loop-block-preserved c = λ k l within below.
     let block = c.loop-block.block in
     elim (cases_eq (k / 64) block) [
-      | inl at ↦ same_in_block (is_marked c.args.self.now) (is_marked c.args.other.now) c.args.size block c.word-mine.result c.word-theirs.result c.first_bit.result 64 c.args.from c.word-mine.ensures c.word-theirs.ensures c.in_default.ensures.same c.first_bit.ensures.first k l within at (omega arith)
+      | inl at ↦ same_in_block (is_marked c.args.self.now) (is_marked c.args.other.now) c.args.size block c.word-mine.result c.word-theirs.result c.first_bit.result 64 c.args.from c.word-mine.ensures c.word-theirs.ensures c.in_default-next_bit.ensures.same c.first_bit.ensures.first k l within at (omega arith)
       | inr other ↦ c.loop-block.invariant k l within (omega (arith, below, other))
     ]
 

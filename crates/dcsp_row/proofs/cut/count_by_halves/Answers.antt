@@ -4,7 +4,7 @@ use Rattle.std.specs.Prelude.{int_lt, pos}
 use Rattle.std.proofs.lemmas.Int.{ints, to_z-of_z}
 use Rattle.dcsp_row.proofs.Domains.{get_or_found}
 use Rattle.dcsp_row.proofs.CutLaws.{below_all, above_all}
-use Rattle.dcsp_row.proofs.cut.count_below.Goals as goal
+use Rattle.dcsp_row.proofs.cut.count_by_halves.Goals as goal
 
 pub loop-low-preserved-then-from-bound : goal.loop-low-preserved-then-from-bound
 loop-low-preserved-then-from-bound c =

@@ -1,7 +1,7 @@
 use Rattle.std.proofs.Common.{◌≡◌, ℕ, ◌<◌, ◌≤◌, ◌-◌, true, false, length}
 use Rattle.std.specs.Prelude.{int_lt}
 use Rattle.dcsp_row.specs.Rows.{own_at}
-use Rattle.dcsp_row.proofs.cut.count_below.Given as goal
+use Rattle.dcsp_row.proofs.cut.count_by_halves.Given as goal
 
 abbrev pub invariant-loop-low : goal.invariant-loop-low
 invariant-loop-low l = record {
