@@ -1,8 +1,11 @@
 pub mod Adds
 mod Blocks
 pub mod LinkLaws
+mod Numbered
+mod Openings
 pub mod Ranks
 mod Rows
 mod Tables
+mod Shorter
 pub mod Takes
 pub mod Walks

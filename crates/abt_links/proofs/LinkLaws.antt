@@ -192,7 +192,7 @@ pos_suc l n = elim (cases_lt l n) [
       cond-false (ltb (1 + l) (suc n)) (Some (1 + l)) None a ∙ sym (ap (option_map suc) (cond-false (ltb l n) (Some l) None b))
 ]
 
-pos_cons : (p : ℕ × ℕ → Bool) (x : ℕ × ℕ) (xs : List (ℕ × ℕ)) → position p (x ∷ xs) ≡ cond (p x) (Some 0) (option_map suc (position p xs))
+pub pos_cons : (p : ℕ × ℕ → Bool) (x : ℕ × ℕ) (xs : List (ℕ × ℕ)) → position p (x ∷ xs) ≡ cond (p x) (Some 0) (option_map suc (position p xs))
 pos_cons p x xs = elim (cases_Bool (p x)) [
   | inl holds ↦ rw holds (cond-true (ltb 0 (suc (length xs))) (Some 0) None (lt-ltb 0 (suc (length xs)) (omega arith)))
   | inr fails ↦ rw fails (pos_suc (position_or_len p xs) (length xs))
@@ -265,17 +265,3 @@ pair-whole t ready from to whole sender receiver = record {
   ];
   filled = λ k i. whole.filled k i ∙ ap (λ l. not (is_empty l)) (sym (pair-links t from to whole.long k i));
 }
-
--- a pair that is not among them
-pub is_absent : (p : ℕ × ℕ → Bool) (xs : List (ℕ × ℕ)) → is_some (position p xs) ≡ false → list_any p xs ≡ false
-is_absent p xs h = none_any p xs (none_is (position p xs) h)
-  where
-    none_is : (o : Option ℕ) → is_some o ≡ false → o ≡ None
-    none_is None h = refl
-    none_is (Some e) h = cc
-
-pub insert_absent : (from to : ℕ) (xs now : List (ℕ × ℕ)) → xs ≡ now → is_some (position (is_pair from to) now) ≡ false
-    → cond (list_any (is_pair from to) xs) xs (xs ++ (from, to) ∷ []) ≡ now ++ (from, to) ∷ []
-insert_absent from to xs now same absent =
-    let fails : list_any (is_pair from to) xs ≡ false = ap (list_any (is_pair from to)) same ∙ is_absent (is_pair from to) now absent in
-    cond-false (list_any (is_pair from to) xs) xs (xs ++ (from, to) ∷ []) fails ∙ ap (λ l. l ++ (from, to) ∷ []) same

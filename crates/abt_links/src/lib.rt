@@ -11,6 +11,7 @@ mod links;
 mod opened;
 mod pair_set;
 mod queues;
+mod receivers;
 mod row;
 mod sums;
 

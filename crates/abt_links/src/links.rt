@@ -23,8 +23,8 @@ pub struct Carried {
 /// out. A list that has a message is ready; ready lists are numbered from 0, by sender and then by
 /// receiver.
 ///
-/// Only `new`, `open_pair` and `send` take memory: the bits of a `PairSet`, a key in an index and 12
-/// bytes for each pair that was opened, and one entry of a slab for each message.
+/// Only `new`, `open_pair` and `send` take memory: the bits of a `PairSet`, 28 bytes for each pair that was
+/// opened, and one entry of a slab for each message.
 #[derive(Drop)]
 pub struct Links {
     agents: u32,
@@ -73,10 +73,10 @@ impl Links {
         if self.opened.find(from, to).is_some() {
             return Ok(());
         }
-        self.opened.add(from, to)?;
-        if let Err(_) = self.queues.open() {
-            self.opened.drop_last();
-            return Err(Memory);
+        self.queues.open()?;
+        if let Err(memory) = self.opened.add(from, to) {
+            self.queues.close_last();
+            return Err(memory);
         }
         Ok(())
     }

@@ -1,26 +1,33 @@
 //! The pairs that were opened.
 
-ghost use Rattle.std.specs.Prelude.{◌≡◌, [], ◌∷◌, ◌++◌, length, OnErr, OnOk, Some, position, take, ◌-◌, IsNone, IsSome};
+ghost use Rattle.std.specs.Prelude.{◌≡◌, ◌<◌, ℕ, [], ◌∷◌, ◌++◌, length, OnErr, OnOk, Some, position, IsNone, IsSome};
 ghost use Rattle.abt_links.specs.Transit.{is_pair};
+ghost use Rattle.abt_links.specs.Opened.{receivers_of};
 
+use crate::receivers::Receivers;
 use dcsp_list::Memory;
-use indexmap::IndexSet;
 use std::alloc::Global;
 use std::marker::Model;
 
 /// Pairs of a sender and a receiver, in the order of their opening.
+///
+/// Beside them stand the receivers of each sender, by which a pair is found.
 #[derive(Drop)]
 pub(crate) struct Opened {
-    pairs: IndexSet<(u32, u32)>,
+    alloc: Global,
+    pairs: Vec<(u32, u32)>,
+    senders: Vec<Receivers>,
 }
 
 impl Model for Opened {
     ghost use Rattle.std.specs.Prelude.{List, ℕ};
-    ghost use Rattle.indexmap.specs.IndexSet.{keys};
+    ghost use Rattle.abt_links.specs.Opened.{AreNumbered};
 
     ghost Value = { List (ℕ × ℕ) };
 
-    ghost view = { λ o. keys o.pairs };
+    ghost view = { λ o. o.pairs.items };
+
+    ghost invariant = { λ o. AreNumbered o.pairs.items o.senders.items };
 }
 
 impl Opened {
@@ -29,7 +36,9 @@ impl Opened {
         ensures { result ≡ [] }
     {
         Opened {
-            pairs: IndexSet::new(alloc),
+            alloc,
+            pairs: Vec::new(alloc),
+            senders: Vec::new(alloc),
         }
     }
 
@@ -37,7 +46,9 @@ impl Opened {
     pub(crate) fn find(&self, from: u32, to: u32) -> Option<usize>
         ensures { result ≡ position (is_pair from to) self.now }
     {
-        self.pairs.get_index_of(&(from, to))
+        let receivers = self.senders.get(from as usize)?;
+        let number = receivers.number(to)?;
+        Some(number as usize)
     }
 
     /// The number of a pair that was opened.
@@ -54,16 +65,28 @@ impl Opened {
         ensures ok { OnOk result (self.new ≡ self.old ++ (from, to) ∷ []) }
         ensures err { OnErr result (self.new ≡ self.old) }
     {
-        if let Err(_) = self.pairs.insert((from, to)) {
+        let Ok(number) = u32::try_from(self.pairs.len()) else {
             return Err(Memory);
-        }
+        };
+        let Ok(()) = self.pairs.reserve(1) else {
+            return Err(Memory);
+        };
+        reach(&mut self.senders, self.alloc, from)?;
+        self.senders[from as usize].add(to, number)?;
+        self.pairs.push_reserved((from, to));
         Ok(())
     }
+}
 
-    /// Takes out the pair that was added last.
-    pub(crate) fn drop_last(&mut self)
-        ensures { self.new ≡ take (length self.old - 1) self.old }
-    {
-        self.pairs.pop();
+/// Makes room for the receivers of a sender.
+fn reach(senders: &mut Vec<Receivers>, alloc: Global, from: u32) -> Result<(), Memory>
+    ensures room { OnOk result (from < length senders.new.items) }
+    ensures same { (k : ℕ) → receivers_of senders.new.items k ≡ receivers_of senders.old.items k }
+{
+    while senders.len() <= from as usize {
+        let Ok(()) = senders.push(Receivers::new(alloc)) else {
+            return Err(Memory);
+        };
     }
+    Ok(())
 }

@@ -1,6 +1,6 @@
 //! Lists of messages, first in and first out, that share one store.
 
-ghost use Rattle.std.specs.Prelude.{◌≡◌, ◌≢◌, ◌<◌, [], ◌∷◌, ◌++◌, length, IfErr, IfOk, OnErr, OnOk, sum_by, slice_index_or, slice_set, IsTrue, ◌↔◌, List};
+ghost use Rattle.std.specs.Prelude.{◌≡◌, ◌≢◌, ◌<◌, [], ◌∷◌, ◌++◌, ◌-◌, length, take, IfErr, IfOk, OnErr, OnOk, sum_by, slice_index_or, slice_set, IsTrue, ◌↔◌, List};
 ghost use Rattle.abt_message.specs.declared.Message.{Message as TheMessage};
 ghost use Rattle.slab.specs.Slab.{ContainsKey, HasRoomFor};
 ghost use Rattle.abt_links.specs.Chains.{IsLinked, IsAdded, IsTaken};
@@ -76,6 +76,15 @@ impl Queues {
             return Err(Memory);
         }
         Ok(())
+    }
+
+    /// Takes out the last list, which is empty.
+    pub(crate) fn close_last(&mut self)
+        requires some { 0 < length self.old }
+        requires empty { slice_index_or self.old (length self.old - 1) [] ≡ [] }
+        ensures { self.new ≡ take (length self.old - 1) self.old }
+    {
+        self.ends.pop();
     }
 
     /// Puts a message last on a list. A refusal hands it back and changes nothing.

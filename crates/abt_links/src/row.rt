@@ -129,14 +129,14 @@ fn nth_bit(word: u64, rest: u32) -> u32
     ensures before { rank (λ i. bit_at word i == 1) result ≡ rest }
 {
     let mut left = rest;
-    for bit in 0..64u32 {
-        if (word >> bit) & 1 == 0 {
-            continue;
-        }
+    let mut from = 0;
+    while from < 64 {
+        let bit = from + (word >> from).trailing_zeros();
         if left == 0 {
             return bit;
         }
         left -= 1;
+        from = bit + 1;
     }
     unreachable!()
 }

@@ -13,10 +13,10 @@ use Rattle.law_generated.proofs.Whole.{lines_have_problem}
 
 -- ---- lines with and without an array
 
-with_array : (high n : ℕ) (constraints : List Line) → variables high n ++ Print n ∷ constraints ++ Solve ∷ [] ≡ all_lines high n (Print n ∷ []) constraints
+pub with_array : (high n : ℕ) (constraints : List Line) → variables high n ++ Print n ∷ constraints ++ Solve ∷ [] ≡ all_lines high n (Print n ∷ []) constraints
 with_array high n constraints = append_assoc (variables high n) (Print n ∷ constraints) (Solve ∷ [])
 
-without_array : (high n : ℕ) (constraints : List Line) → variables high n ++ constraints ++ Solve ∷ [] ≡ all_lines high n [] constraints
+pub without_array : (high n : ℕ) (constraints : List Line) → variables high n ++ constraints ++ Solve ∷ [] ≡ all_lines high n [] constraints
 without_array high n constraints = append_assoc (variables high n) constraints (Solve ∷ [])
 
 resolve : (letter : List ℕ) (high n : ℕ) (printed constraints lines : List Line) → lines ≡ all_lines high n printed constraints → AreWithin high n printed constraints → Resolve letter lines
@@ -35,18 +35,23 @@ queens_constrained n (first, second) small h =
     let near : second - first < 2 ^ 32 = omega (arith, high, small) in
     (among, ((among, near), ((among, near), tt)))
 
-queens_within : (n : ℕ) → n ≤ 200 → AreWithin n n (Print n ∷ []) (flat_map queens_apart (pairs n))
-queens_within n small =
+pub queens_few : (n : ℕ) → n ≤ 200 → length (flat_map queens_apart (pairs n)) ≤ 120000
+queens_few n small =
     let square : n * n ≤ 200 * 200 = mul-le-mul small small in
     let count = few_pairs n in
     let few = few_in_all queens_apart 3 (pairs n) (all_weaker (IsPair n) (λ pair. length (queens_apart pair) ≤ 3) (pairs n) (λ pair h. omega arith) (are_pairs n)) in
+    omega (arith, few, count, square)
+
+pub queens_within : (n : ℕ) → n ≤ 200 → AreWithin n n (Print n ∷ []) (flat_map queens_apart (pairs n))
+queens_within n small =
+    let square : n * n ≤ 200 * 200 = mul-le-mul small small in
     record {
       array = inr refl;
       constrained = all_flat_map (IsConstraint n) queens_apart (pairs n) (all_weaker (IsPair n) (λ pair. AllByRecursion (IsConstraint n) (queens_apart pair)) (pairs n) (λ pair h. queens_constrained n pair (omega (arith, small)) h) (are_pairs n));
       variables = omega (arith, small);
       values = omega (arith, small);
       all_values = omega (arith, square);
-      rules = omega (arith, few, count, square);
+      rules = omega (arith, queens_few n small);
     }
 
 queens_resolve : (n : ℕ) → n ≤ 200 → Resolve (codes "q") (queens n)
@@ -66,19 +71,23 @@ one_edge word (first, second) = chosen (word % 4 == 0) where
   chosen true = omega arith
   chosen false = omega arith
 
-colouring_within : (n k : ℕ) (words : ℕ → ℕ) → n ≤ 200 → k ≤ 16 → AreWithin k n (Print n ∷ []) (lines_with_words edge words (pairs n))
-colouring_within n k words small low =
+pub colouring_few : (n : ℕ) (words : ℕ → ℕ) → n ≤ 200 → length (lines_with_words edge words (pairs n)) ≤ 120000
+colouring_few n words small =
     let square : n * n ≤ 200 * 200 = mul-le-mul small small in
-    let values : n * k ≤ 200 * 16 = mul-le-mul small low in
     let count = few_pairs n in
     let few = few_words edge words (pairs n) one_edge in
+    omega (arith, few, count, square)
+
+pub colouring_within : (n k : ℕ) (words : ℕ → ℕ) → n ≤ 200 → k ≤ 16 → AreWithin k n (Print n ∷ []) (lines_with_words edge words (pairs n))
+colouring_within n k words small low =
+    let values : n * k ≤ 200 * 16 = mul-le-mul small low in
     record {
       array = inr refl;
       constrained = all_words (IsPair n) (IsConstraint n) edge words (pairs n) (edge_constrained n) (are_pairs n);
       variables = omega (arith, small);
       values = omega (arith, low);
       all_values = omega (arith, values);
-      rules = omega (arith, few, count, square);
+      rules = omega (arith, colouring_few n words small);
     }
 
 colouring_resolves : (n k : ℕ) (words : ℕ → ℕ) → n ≤ 200 → k ≤ 16 → Resolve (codes "c") (colouring n k words)
@@ -94,18 +103,22 @@ neighbour_constrained n word node h =
     let rest : word % (node - 1) < node - 1 = mod-lt word (omega (arith, low)) in
     ((omega arith, omega (arith, rest, high), omega (arith, low), high), tt)
 
-sparse_within : (n : ℕ) (words : ℕ → ℕ) → n ≤ 4096 → AreWithin 4 n (Print n ∷ []) (lines_with_words neighbour words (flat_map thrice (range_with_len 2 (n - 1))))
-sparse_within n words small =
+pub sparse_few : (n : ℕ) (words : ℕ → ℕ) → n ≤ 4096 → length (lines_with_words neighbour words (flat_map thrice (range_with_len 2 (n - 1)))) ≤ 120000
+sparse_few n words small =
     let nodes = few_in_all thrice 3 (range_with_len 2 (n - 1)) (all_range (λ node. length (thrice node) ≤ 3) 2 (n - 1) (λ node l r. omega arith)) in
     let count = length-range_with_len 2 (n - 1) in
     let few = few_words neighbour words (flat_map thrice (range_with_len 2 (n - 1))) (λ word node. omega arith) in
+    omega (arith, few, nodes, count, small)
+
+pub sparse_within : (n : ℕ) (words : ℕ → ℕ) → n ≤ 4096 → AreWithin 4 n (Print n ∷ []) (lines_with_words neighbour words (flat_map thrice (range_with_len 2 (n - 1))))
+sparse_within n words small =
     record {
       array = inr refl;
       constrained = all_words (IsLater n) (IsConstraint n) neighbour words (flat_map thrice (range_with_len 2 (n - 1))) (neighbour_constrained n) (are_later n);
       variables = small;
       values = omega arith;
       all_values = omega (arith, small);
-      rules = omega (arith, few, nodes, count, small);
+      rules = omega (arith, sparse_few n words small);
     }
 
 sparse_resolves : (n : ℕ) (words : ℕ → ℕ) → n ≤ 4096 → Resolve (codes "c") (sparse n words)
@@ -122,20 +135,24 @@ pigeons_constrained n (first, second) h =
     let high = h.2 in
     ((low, omega (arith, rising, high), omega (arith, low, rising), high), tt)
 
-pigeons_within : (n : ℕ) → n ≤ 200 → AreWithin (n - 1) n [] (flat_map pigeons_apart (pairs n))
-pigeons_within n small =
+pub pigeons_few : (n : ℕ) → n ≤ 200 → length (flat_map pigeons_apart (pairs n)) ≤ 120000
+pigeons_few n small =
     let square : n * n ≤ 200 * 200 = mul-le-mul small small in
-    let less : n - 1 ≤ 200 = omega (arith, small) in
-    let values : n * (n - 1) ≤ 200 * 200 = mul-le-mul small less in
     let count = few_pairs n in
     let few = few_in_all pigeons_apart 1 (pairs n) (all_weaker (IsPair n) (λ pair. length (pigeons_apart pair) ≤ 1) (pairs n) (λ pair h. omega arith) (are_pairs n)) in
+    omega (arith, few, count, square)
+
+pub pigeons_within : (n : ℕ) → n ≤ 200 → AreWithin (n - 1) n [] (flat_map pigeons_apart (pairs n))
+pigeons_within n small =
+    let less : n - 1 ≤ 200 = omega (arith, small) in
+    let values : n * (n - 1) ≤ 200 * 200 = mul-le-mul small less in
     record {
       array = inl refl;
       constrained = all_flat_map (IsConstraint n) pigeons_apart (pairs n) (all_weaker (IsPair n) (λ pair. AllByRecursion (IsConstraint n) (pigeons_apart pair)) (pairs n) (pigeons_constrained n) (are_pairs n));
       variables = omega (arith, small);
       values = omega (arith, small);
       all_values = omega (arith, values);
-      rules = omega (arith, few, count, square);
+      rules = omega (arith, pigeons_few n small);
     }
 
 pigeons_resolve : (n : ℕ) → n ≤ 200 → Resolve (codes "p") (pigeons n)

@@ -8,3 +8,4 @@ pub mod Lists
 pub mod Pairs
 pub mod Generators
 pub mod Texts
+pub mod Lengths

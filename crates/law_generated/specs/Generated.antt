@@ -1,10 +1,10 @@
 -- Generated texts have problems: those that their lines say.
-use Rattle.std.specs.Prelude.{◌≡◌, ℕ, ◌≤◌, List, Ok, codes}
+use Rattle.std.specs.Prelude.{◌≡◌, ℕ, ◌≤◌, List, Ok, codes, length}
 use Rattle.dcsp_gen.specs.Problems.{queens_text, colouring_text, sparse_text, pigeons_text}
 use Rattle.dcsp_problem.specs.Problems.{Contents}
 use Rattle.fzn_item.specs.declared.item.Item.{Item}
 use Rattle.fzn_model.specs.Items.{resolved}
-use Rattle.fzn_model.specs.Models.{Answers}
+use Rattle.fzn_model.specs.Models.{longest_text, Answers}
 use Rattle.law_generated_items.specs.Lines.{Line, queens, colouring, sparse, pigeons}
 use Rattle.law_generated_items.specs.Says.{AreSaid}
 use Rattle.law_generated.specs.Problems.{problem_of}
@@ -35,6 +35,13 @@ SparseHasProblem = (n : ℕ) (words : ℕ → ℕ) → 1 ≤ n → n ≤ 4096 �
 -- So has that of n pigeons.
 abbrev pub PigeonsHaveProblem : Type 0
 PigeonsHaveProblem = (n : ℕ) → 2 ≤ n → n ≤ 200 → Answers (pigeons_text n) (Ok (problem_of (codes "p") (pigeons n)))
+
+-- No generated text is too long for a model.
+pub record AreShort : Type 0 where
+  pub queens_are : (n : ℕ) → 1 ≤ n → n ≤ 200 → length (queens_text n) ≤ longest_text
+  pub colouring_is : (n k : ℕ) (words : ℕ → ℕ) → 1 ≤ n → n ≤ 200 → 1 ≤ k → k ≤ 16 → length (colouring_text n k words) ≤ longest_text
+  pub sparse_is : (n : ℕ) (words : ℕ → ℕ) → 1 ≤ n → n ≤ 4096 → length (sparse_text n words) ≤ longest_text
+  pub pigeons_are : (n : ℕ) → 2 ≤ n → n ≤ 200 → length (pigeons_text n) ≤ longest_text
 
 -- the text has a problem
 abbrev pub HasProblem : List ℕ → Type 0

@@ -2,7 +2,7 @@
 #![tactic(auto)]
 
 ghost use Rattle.dcsp_gen.specs.Problems.{pigeons_text, queens_text, sparse_text};
-ghost use Rattle.law_generated.specs.Generated.{ColouringHasProblem, GeneratedLinesResolve, HasProblem, PigeonsHaveProblem, QueensHaveProblem, SparseHasProblem};
+ghost use Rattle.law_generated.specs.Generated.{AreShort, ColouringHasProblem, GeneratedLinesResolve, HasProblem, PigeonsHaveProblem, QueensHaveProblem, SparseHasProblem};
 ghost use Rattle.law_generated.specs.Problems.{LinesHaveProblem, LinesSayProblem};
 ghost use Rattle.std.specs.Prelude.{ℕ};
 
@@ -18,12 +18,14 @@ pub fn generated_lines_resolve()
     ensures { GeneratedLinesResolve }
 {}
 
-/// Each text that a generator makes is accepted, whatever the words: it has the problem of its lines.
+/// Each text that a generator makes is accepted, whatever the words: it is short enough, and has the problem
+/// of its lines.
 pub fn generated_texts_have_problems()
     ensures queens { QueensHaveProblem }
     ensures colouring { ColouringHasProblem }
     ensures sparse { SparseHasProblem }
     ensures pigeons { PigeonsHaveProblem }
+    ensures short { AreShort }
 {}
 
 /// Six queens, five pigeons, and a sparse graph of 500 nodes with any words.

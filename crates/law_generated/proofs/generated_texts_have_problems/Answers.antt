@@ -1,3 +1,4 @@
+use Rattle.law_generated.proofs.Lengths.{are_short}
 use Rattle.law_generated.proofs.Texts.{queens_have_problem, colouring_has_problem, sparse_has_problem, pigeons_have_problem}
 use Rattle.law_generated.proofs.generated_texts_have_problems.Goals as goal
 
@@ -7,4 +8,5 @@ returns c = record {
   colouring = colouring_has_problem;
   sparse = sparse_has_problem;
   pigeons = pigeons_have_problem;
+  short = are_short;
 }
