@@ -1,6 +1,6 @@
 -- What the code finds is what the definitions say.
 use Rattle.std.proofs.Common.{◌≡◌, ℕ, ◌+◌, ◌<◌, Bool, true, false, cond, not, ◌||◌, ◌==◌, List, [], ◌∷◌, ◌++◌, length, map, filter, find, take, drop, get_or, slice_get, Option, Some, None, ℤ, is_some, option_map, option_to_list, refl, sym, ap, subst, ◌∙◌, arith, inl, inr}
-use Rattle.std.specs.Prelude.{All, filter_map, slice_index_or, pos, unwrap_or}
+use Rattle.std.specs.Prelude.{All, filter_map, slice_index_or, pos, unwrap_or, if◌then◌else◌}
 use Rattle.std.specs.Option.{option_or}
 use Rattle.std.specs.List.{list_any, cons_option, enumerate_from}
 use Rattle.std.proofs.lemmas.List.{get_or_at, append_assoc, length_push, at_drop_more, take_more, get_or_default}
@@ -31,8 +31,8 @@ use Rattle.abt_agent.specs.Bodies.{agent_of}
 use Rattle.abt_reason.specs.Causes.{reason_for, value_at}
 use Rattle.abt_agent.specs.declared.search.Cause.{Cause}
 use Rattle.abt_agent.specs.declared.search.Cause.TheVariants.{OwnedRule, KeptNogood}
-use Rattle.abt_agent.specs.Causes.{first_rule, first_kept, first_against, cause_for, causes_for, least_free, item_at, no_record, IsCause, blames_one, blames, told_if}
-use Rattle.abt_agent.proofs.Lists.{one, plain-with_stamps, map_below}
+use Rattle.abt_agent.specs.Causes.{first_rule, first_kept, first_against, cause_for, causes_for, least_free, item_at, no_record, IsCause, blames_one, blames, told_of}
+use Rattle.abt_agent.proofs.Lists.{one, plain-with_stamps, map_below, mapped_filter}
 
 -- ---- values of domains
 
@@ -231,21 +231,20 @@ module _ (p : Contents) (i : ℕ) (view : View) (kept : List Recorded) where
   abbrev pub found : List Cause
   found = causes_for p i (values_in view) kept (domain (csp_of p) i)
 
-  pub blamed_is : (k : ℕ) → blamed (csp_of p) i view (records_of kept) k ≡ told_if (blames p kept found k) view k
+  blamed_is : (k : ℕ) → blamed (csp_of p) i view (records_of kept) k ≡ (if blames p kept found k then told_of view k else None)
   blamed_is k =
-      ap (λ b. told_if b view k) (
+      ap (λ b. if b then told_of view k else None) (
       ap (list_any (λ (x : Item). is_among k x.variables)) (causes_are p i (values_in view) kept)
       ∙ any-map (λ (x : Item). is_among k x.variables) (item_at p kept) found)
 
   pub reasons_are : map (λ (x : Item). x.reason) (causes (csp_of p) i (values_in view) (records_of kept)) ≡ map (λ (x : Cause). (item_at p kept x).reason) found
   reasons_are = ap (map (λ (x : Item). x.reason)) (causes_are p i (values_in view) kept) ∙ map-map (λ (x : Item). x.reason) (item_at p kept) found
 
-  -- what is gathered by the marks is what the definitions derive
-  pub derived_is : (mark : ℕ → Bool) → ((k : ℕ) → k < i → mark k ≡ blames p kept found k)
-      → filter_map (λ k. told_if (mark k) view k) (below i) ≡ derived (csp_of p) i view (records_of kept)
-  derived_is mark h =
-      map_below (λ k. told_if (mark k) view k) (blamed (csp_of p) i view (records_of kept)) i
-      (λ k l. ap (λ b. told_if b view k) (h k l) ∙ sym (blamed_is k))
+  -- what is gathered of the agents that are blamed is what the definitions derive
+  pub derived_is : filter_map (told_of view) (filter (blames p kept found) (below i)) ≡ derived (csp_of p) i view (records_of kept)
+  derived_is =
+      mapped_filter (told_of view) (blames p kept found) (below i)
+      ∙ map_below (λ k. if blames p kept found k then told_of view k else None) (blamed (csp_of p) i view (records_of kept)) i (λ k l. sym (blamed_is k))
 
   -- the step of the code is the step of the definitions
   pub step_is : (nogood : List Pair) (stamps : List ℕ) (reasons : List Reason) → with_stamps nogood stamps ≡ derived (csp_of p) i view (records_of kept)

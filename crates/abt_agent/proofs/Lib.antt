@@ -2,6 +2,7 @@ pub mod Lists
 pub mod Rising
 pub mod Posting
 pub mod Causes
+mod Blamed
 pub mod GivesUp
 pub mod Takes
 pub mod Learns

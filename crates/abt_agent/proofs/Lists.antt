@@ -59,3 +59,16 @@ map_below {X} f g (suc n) h =
     ∙ ap (λ (z : List X). z ++ cons_option (f n) []) (map_below f g n (λ k l. h k (omega arith)))
     ∙ ap (λ (o : Option X). filter_map g (below n) ++ cons_option o []) (h n (omega arith))
     ∙ sym (filter_map-append g (below n) (n ∷ []))
+
+-- what is made of those that pass a test
+pub mapped_filter : {X : Type 0} → (f : ℕ → Option X) (q : ℕ → Bool) (xs : List ℕ) → filter_map f (filter q xs) ≡ filter_map (λ k. cond (q k) (f k) None) xs
+mapped_filter f q [] = refl
+mapped_filter {X} f q (x ∷ xs) =
+    elim (q x) as (λ b. filter_map f (cond b (x ∷ filter q xs) (filter q xs)) ≡ cons_option (cond b (f x) None) (filter_map (λ k. cond (q k) (f k) None) xs)) [
+      | true ↦ ap (cons_option (f x)) (mapped_filter f q xs)
+      | false ↦ mapped_filter f q xs
+    ]
+
+-- what is made of the first of a list, and of one more
+pub mapped_more : {X : Type 0} → (f : ℕ → Option X) (xs : List ℕ) (k d : ℕ) → k < length xs → filter_map f (take (k + 1) xs) ≡ filter_map f (take k xs) ++ option_to_list (f (get_or xs k d))
+mapped_more {X} f xs k d within = ap (filter_map f) (take_more xs k d within) ∙ filter_map-append f (take k xs) (get_or xs k d ∷ []) ∙ ap (λ (z : List X). filter_map f (take k xs) ++ z) (one (f (get_or xs k d)))

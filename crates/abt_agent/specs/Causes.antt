@@ -1,5 +1,5 @@
 -- The first item that rules a value out, as the code finds it.
-use Rattle.std.specs.Prelude.{ℕ, ◌+◌, ◌<◌, length, ℤ, Bool, List, [], ◌∷◌, find, filter_map, Option, Some, None, is_some, not, slice_index_or, if◌then◌else◌}
+use Rattle.std.specs.Prelude.{◌≡◌, ℕ, ◌+◌, ◌<◌, ◌||◌, length, ℤ, Bool, List, [], ◌∷◌, find, filter_map, Option, Some, None, is_some, not, slice_index_or, if◌then◌else◌}
 use Rattle.std.specs.List.{list_any}
 use Rattle.std.specs.Option.{option_or}
 use Rattle.dcsp_defs.specs.Csp.{Known, is_violated, agrees, with_value}
@@ -11,7 +11,6 @@ use Rattle.abt_store.specs.declared.Recorded.{Recorded}
 use Rattle.abt_store.specs.Stores.{is_against, record_of}
 use Rattle.abt_agent.specs.declared.search.Cause.{Cause}
 use Rattle.abt_agent.specs.declared.search.Cause.TheVariants.{OwnedRule, KeptNogood}
-use Rattle.abt_agent.specs.States.{marked}
 
 -- the first of the rules with these numbers that is false
 abbrev pub first_rule : Contents → Known → List ℕ → Option Cause
@@ -66,10 +65,10 @@ blames_one p kept x k = is_among k (item_at p kept x).variables
 abbrev pub blames : Contents → List Recorded → List Cause → ℕ → Bool
 blames p kept all k = list_any (λ (x : Cause). blames_one p kept x k) all
 
--- what the view has of k, where k is marked
-abbrev pub told_if : Bool → View → ℕ → Option (ℕ × Stamped)
-told_if mark view k = if mark then pair_at k (view k) else None
+-- what the view has of k
+abbrev pub told_of : View → ℕ → Option (ℕ × Stamped)
+told_of view k = pair_at k (view k)
 
--- what the view has of k, where the table marks k
-abbrev pub told_at : List Bool → View → ℕ → Option (ℕ × Stamped)
-told_at marks view k = told_if (marked marks k) view k
+-- a list of agents names those that it named, and those that pass the test
+abbrev pub AddsNames : List ℕ → List ℕ → (ℕ → Bool) → Type 0
+AddsNames old new test = (k : ℕ) → is_among k new ≡ (is_among k old || test k)

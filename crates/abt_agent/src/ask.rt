@@ -21,7 +21,10 @@ pub fn push_if(out: &mut Outbox, wanted: bool, to: u32, message: Message) -> Res
     ensures { OnOk result (Posts out.old out.new (if wanted then (to, message_of message) ∷ [] else [])) }
 {
     if wanted {
-        out.push(Sent { to, message }).map_err(|_| Memory)
+        match out.push(Sent { to, message }) {
+            Ok(()) => Ok(()),
+            Err(_) => Err(Memory),
+        }
     } else {
         Ok(())
     }

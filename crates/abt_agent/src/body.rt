@@ -73,7 +73,9 @@ fn named_by(
     ensures size { IfOk result (λ marks. length marks.items ≡ count) }
     ensures marks { IfOk result (λ marks. (k : ℕ) → k < count → marked marks.items k ≡ names_any problem.now k rules.now) }
 {
-    let mut marks = vec![in alloc; false; count as usize].map_err(|_| Memory)?;
+    let Ok(mut marks) = vec![in alloc; false; count as usize] else {
+        return Err(Memory);
+    };
     mark_scopes(&mut marks, problem, rules);
     Ok(marks)
 }
@@ -94,5 +96,8 @@ fn first_tells(alloc: Global, problem: &Problem, me: u32) -> Result<Vec<u32>, Me
     ensures { IfOk result (λ tells. tells.items ≡ lower_owners (csp_of problem.now) me) }
 {
     let lower = problem.lower_owners(me);
-    Vec::from_slice(alloc, lower).map_err(|_| Memory)
+    match Vec::from_slice(alloc, lower) {
+        Ok(made) => Ok(made),
+        Err(_) => Err(Memory),
+    }
 }

@@ -13,6 +13,7 @@ mod body;
 mod knowledge;
 mod learn;
 mod marks;
+mod names;
 mod receive;
 mod refusal;
 mod search;

@@ -1,6 +1,6 @@
 //! The step that says why an agent has no value left.
 
-ghost use Rattle.std.specs.Prelude.{◌≡◌, ◌<◌, ◌∷◌, ◌++◌, [], ◌&&◌, ℕ, All, IfOk, OnOk, false, filter_map, length, map, nat_lt, option_to_list, ◌||◌};
+ghost use Rattle.std.specs.Prelude.{◌≡◌, ◌<◌, ◌∷◌, ◌++◌, [], ◌&&◌, All, IfOk, OnOk, filter, filter_map, length, map, nat_lt, option_to_list};
 ghost use Rattle.std.specs.Option.{ForSome};
 ghost use Rattle.dcsp_defs.specs.Words.{below};
 ghost use Rattle.dcsp_defs.specs.Csp.{domain};
@@ -11,11 +11,10 @@ ghost use Rattle.abt_store.specs.Stores.{records_of};
 ghost use Rattle.abt_view.specs.Views.{stamped_in, view_of};
 ghost use Rattle.abt_agent.specs.Bodies.{AreProper, IsInStep};
 ghost use Rattle.abt_agent.specs.Outgoing.{ArePositive, AreStampsOf, IsStampedView};
-ghost use Rattle.abt_agent.specs.States.{marked};
-ghost use Rattle.abt_agent.specs.Causes.{blames, blames_one, item_at, told_at, told_if, IsCause};
+ghost use Rattle.abt_agent.specs.Causes.{blames, blames_one, item_at, told_of, AddsNames, IsCause};
 
 use crate::knowledge::Knowledge;
-use crate::marks::{mark_pairs, mark_variables};
+use crate::names::{add_pairs, add_variables};
 use crate::search::Cause;
 use abt_message::StampList;
 use abt_view::Told;
@@ -49,8 +48,8 @@ impl<'p> Knowledge<'p> {
         ensures stamped { IfOk result (λ refusal. AreStampsOf refusal.step.nogood refusal.stamps) }
     {
         let causes = self.causes()?;
-        let marks = self.blame(&causes)?;
-        let Basis { nogood, stamps } = self.gather(&marks)?;
+        let blamed = self.blamed(&causes)?;
+        let Basis { nogood, stamps } = self.gather(&blamed)?;
         let reasons = self.reasons_of(&causes)?;
         let step = Step {
             variable: Some(self.me),
@@ -60,76 +59,73 @@ impl<'p> Knowledge<'p> {
         Ok(Refusal { step, stamps })
     }
 
-    /// Marks the higher agents that some of the causes name.
-    fn blame(&self, causes: &[Cause]) -> Result<Vec<bool>, Memory>
+    /// The higher agents that some of the causes name, rising.
+    fn blamed(&self, causes: &[Cause]) -> Result<Vec<u32>, Memory>
         requires { All (IsCause self.now.problem.now self.now.store) causes.now }
-        ensures marks { IfOk result (λ marks. (k : ℕ) → k < self.now.me → marked marks.items k ≡ blames self.now.problem.now self.now.store causes.now k) }
-        ensures size { IfOk result (λ marks. length marks.items ≡ self.now.me) }
+        ensures { IfOk result (λ names. names.items ≡ filter (blames self.now.problem.now self.now.store causes.now) (below self.now.me)) }
     {
-        let mut marks = vec![in self.alloc; false; self.me as usize].map_err(|_| Memory)?;
-        self.mark_all(&mut marks, causes);
-        Ok(marks)
+        let Ok(mut names) = Vec::with_capacity(self.alloc, causes.len()) else {
+            return Err(Memory);
+        };
+        self.name_all(&mut names, causes)?;
+        names.sort_unstable();
+        names.dedup();
+        Ok(names)
     }
 
-    /// Marks what some of the causes name.
-    fn mark_all(&self, marks: &mut [bool], causes: &[Cause])
+    /// Adds the higher agents that the causes name.
+    fn name_all(&self, names: &mut Vec<u32>, causes: &[Cause]) -> Result<(), Memory>
         requires { All (IsCause self.now.problem.now self.now.store) causes.now }
-        ensures { (k : ℕ) → marked marks.new k ≡ (marked marks.old k || (nat_lt k (length marks.old) && blames self.now.problem.now self.now.store causes.now k)) }
+        ensures { OnOk result (AddsNames names.old.items names.new.items (λ k. nat_lt k self.now.me && blames self.now.problem.now self.now.store causes.now k)) }
     {
         for cause in causes {
-            self.mark_named(marks, *cause);
+            self.name_one(names, *cause)?;
         }
+        Ok(())
     }
 
-    /// Marks what the cause names.
-    fn mark_named(&self, marks: &mut [bool], cause: Cause)
+    /// Adds the higher agents that the cause names.
+    fn name_one(&self, names: &mut Vec<u32>, cause: Cause) -> Result<(), Memory>
         requires { IsCause self.now.problem.now self.now.store cause }
-        ensures { (k : ℕ) → marked marks.new k ≡ (marked marks.old k || (nat_lt k (length marks.old) && blames_one self.now.problem.now self.now.store cause k)) }
+        ensures { OnOk result (AddsNames names.old.items names.new.items (λ k. nat_lt k self.now.me && blames_one self.now.problem.now self.now.store cause k)) }
     {
         match cause {
-            Cause::OwnedRule(rule) => mark_variables(marks, self.problem.scope(rule)),
+            Cause::OwnedRule(rule) => add_variables(names, self.me, self.problem.scope(rule)),
             Cause::KeptNogood(place) => {
-                mark_pairs(marks, self.store.items()[place].nogood.pairs());
+                add_pairs(names, self.me, self.store.items()[place].nogood.pairs())
             }
         }
     }
 
-    /// What the view has of the marked agents, rising.
-    fn gather(&self, marks: &[bool]) -> Result<Basis, Memory>
-        requires size { length marks.now ≡ self.now.me }
-        requires stamps { IsStampedView (view_of self.now.view) }
-        ensures told { IfOk result (λ basis. with_stamps basis.nogood basis.stamps ≡ filter_map (told_at marks.now (view_of self.now.view)) (below self.now.me)) }
+    /// What the view has of these agents, in order.
+    fn gather(&self, agents: &[u32]) -> Result<Basis, Memory>
+        requires { IsStampedView (view_of self.now.view) }
+        ensures told { IfOk result (λ basis. with_stamps basis.nogood basis.stamps ≡ filter_map (told_of (view_of self.now.view)) agents.now) }
         ensures stamped { IfOk result (λ basis. AreStampsOf basis.nogood basis.stamps) }
     {
-        let count = count_marks(marks);
-        let mut pairs = Vec::with_capacity(self.alloc, count).map_err(|_| Memory)?;
-        let mut stamps = room_for_stamps(self.alloc, count)?;
-        for var in 0..self.me {
-            add_told(
-                &mut pairs,
-                &mut stamps,
-                var,
-                self.told_if(marks[var as usize], var),
-            )?;
+        let Ok(mut pairs) = Vec::with_capacity(self.alloc, agents.len()) else {
+            return Err(Memory);
+        };
+        let mut stamps = room_for_stamps(self.alloc, agents.len())?;
+        for var in agents {
+            add_told(&mut pairs, &mut stamps, *var, self.told(*var))?;
         }
-        // The pairs rise, so nothing refuses.
-        let nogood = Nogood::from_vec(pairs).map_err(|_| Memory)?;
+        // The agents rise, so nothing refuses.
+        let Ok(nogood) = Nogood::from_vec(pairs) else {
+            return Err(Memory);
+        };
         Ok(Basis { nogood, stamps })
     }
 
-    /// What the view has of the agent, if it is marked.
-    fn told_if(&self, is_marked: bool, var: u32) -> Option<Told>
+    /// What the view has of the agent.
+    fn told(&self, var: u32) -> Option<Told>
         requires { IsStampedView (view_of self.now.view) }
-        ensures told { pair_at var (stamped_in result) ≡ told_if is_marked (view_of self.now.view) var }
+        ensures told { pair_at var (stamped_in result) ≡ told_of (view_of self.now.view) var }
         ensures stamped { ForSome result (λ told. 0 < told.stamp) }
     {
-        if is_marked {
-            let value = self.view.value_of(var)?;
-            let stamp = self.view.stamp_of(var)?;
-            Some(Told { value, stamp })
-        } else {
-            None
-        }
+        let value = self.view.value_of(var)?;
+        let stamp = self.view.stamp_of(var)?;
+        Some(Told { value, stamp })
     }
 
     /// What a step cites for the cause.
@@ -148,24 +144,25 @@ impl<'p> Knowledge<'p> {
         requires { All (IsCause self.now.problem.now self.now.store) causes.now }
         ensures { IfOk result (λ reasons. reasons ≡ map (λ x. (item_at self.now.problem.now self.now.store x).reason) causes.now) }
     {
-        let mut reasons = Vec::with_capacity(self.alloc, causes.len()).map_err(|_| Memory)?;
+        let Ok(mut reasons) = Vec::with_capacity(self.alloc, causes.len()) else {
+            return Err(Memory);
+        };
         for cause in causes {
-            reasons.push(self.reason_of(*cause)).map_err(|_| Memory)?;
+            let Ok(()) = reasons.push(self.reason_of(*cause)) else {
+                return Err(Memory);
+            };
         }
         Ok(ReasonList::from_vec(reasons))
     }
-}
-
-/// How many agents are marked.
-fn count_marks(marks: &[bool]) -> usize {
-    marks.iter().filter(|mark| **mark).count()
 }
 
 /// No stamp, with room for so many.
 fn room_for_stamps(alloc: Global, count: usize) -> Result<StampList, Memory>
     ensures { IfOk result (λ stamps. stamps ≡ []) }
 {
-    let stamps = Vec::with_capacity(alloc, count).map_err(|_| Memory)?;
+    let Ok(stamps) = Vec::with_capacity(alloc, count) else {
+        return Err(Memory);
+    };
     Ok(StampList::from_vec(stamps))
 }
 

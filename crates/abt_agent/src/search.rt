@@ -89,7 +89,9 @@ impl<'p> Knowledge<'p> {
         ensures valid { IfOk result (λ all. All (IsCause self.now.problem.now self.now.store) all.items) }
     {
         let values = self.problem.domain(self.me).len();
-        let mut all = Vec::with_capacity(self.alloc, values).map_err(|_| Memory)?;
+        let Ok(mut all) = Vec::with_capacity(self.alloc, values) else {
+            return Err(Memory);
+        };
         for place in 0..values {
             add_cause(&mut all, self.cause_at(place))?;
         }

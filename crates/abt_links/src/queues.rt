@@ -150,7 +150,10 @@ fn make_room(cells: &mut Slab<Cell>) -> Result<(), Memory>
     if cells.len() < cells.capacity() {
         return Ok(());
     }
-    cells.reserve_exact(cells.len() / 2 + 1).map_err(|_| Memory)
+    match cells.reserve_exact(cells.len() / 2 + 1) {
+        Ok(()) => Ok(()),
+        Err(_) => Err(Memory),
+    }
 }
 
 /// Stores a message behind the last one of a list. A refusal hands it back.

@@ -35,7 +35,10 @@ impl ChoiceList {
         ensures ok { OnOk result (self.new ≡ self.old ++ choice ∷ []) }
         ensures err { OnErr result (self.new ≡ self.old) }
     {
-        self.choices.push(choice).map_err(|_| Memory)
+        match self.choices.push(choice) {
+            Ok(()) => Ok(()),
+            Err(_) => Err(Memory),
+        }
     }
 
     /// The choices in order.

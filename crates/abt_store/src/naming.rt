@@ -40,7 +40,9 @@ fn add_lists(alloc: Global, lists: &mut Vec<PlaceList>, count: usize) -> Result<
     ensures count { OnOk result (count ≤ vec_len lists.new) }
 {
     while lists.len() < count {
-        lists.push(PlaceList::new(alloc)).map_err(|_| Memory)?;
+        let Ok(()) = lists.push(PlaceList::new(alloc)) else {
+            return Err(Memory);
+        };
     }
     Ok(())
 }

@@ -38,7 +38,10 @@ impl PlaceList {
         ensures capacity { self.old.capacity ≤ self.new.capacity }
         ensures room { OnOk result (length self.new.items < self.new.capacity) }
     {
-        self.places.reserve(1).map_err(|_| Memory)
+        match self.places.reserve(1) {
+            Ok(()) => Ok(()),
+            Err(_) => Err(Memory),
+        }
     }
 
     /// Adds a place at the end, for which there is room.

@@ -168,7 +168,9 @@ fn numbers_below(alloc: Global, numbers: &[i64], bound: i64) -> Result<Vec<i64>,
     let mut kept = Vec::new(alloc);
     for number in numbers {
         if *number < bound {
-            kept.push(*number).map_err(|_| Memory)?;
+            let Ok(()) = kept.push(*number) else {
+                return Err(Memory);
+            };
         }
     }
     Ok(kept)
@@ -181,7 +183,9 @@ fn numbers_above(alloc: Global, numbers: &[i64], bound: i64) -> Result<Vec<i64>,
     let mut kept = Vec::new(alloc);
     for number in numbers {
         if bound < *number {
-            kept.push(*number).map_err(|_| Memory)?;
+            let Ok(()) = kept.push(*number) else {
+                return Err(Memory);
+            };
         }
     }
     Ok(kept)

@@ -1,4 +1,4 @@
-use Rattle.std.proofs.Common.{◌≡◌, None, Some, sym, ap, ◌∙◌, rules, w64, SFits}
+use Rattle.std.proofs.Common.{sym, ap, ◌∙◌, rules, w64, SFits}
 use Rattle.std.specs.Option.{option_map}
 use Rattle.std.proofs.lemmas.Int.{to_z-of_z}
 use Rattle.abt_store.specs.Stores.{place_against}

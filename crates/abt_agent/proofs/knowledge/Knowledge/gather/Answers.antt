@@ -1,13 +1,13 @@
 use Rattle.abt_view.specs.Views.{view_of}
-use Rattle.abt_agent.specs.Causes.{told_at}
-use Rattle.abt_agent.proofs.Lists.{told_more}
+use Rattle.abt_agent.specs.Causes.{told_of}
+use Rattle.abt_agent.proofs.Lists.{mapped_more}
 use Rattle.abt_agent.proofs.knowledge.Knowledge.gather.Goals as goal
 
 pub loop-var-preserved : goal.loop-var-preserved
 loop-var-preserved c =
-    let more = told_more (told_at c.args.marks.now (view_of c.args.self.now.view)) c.loop-var.var in
+    let more = mapped_more (told_of (view_of c.args.self.now.view)) c.args.agents.now c.loop-var.var-index 0 c.loop-var-test.true in
     record {
-      told = cc (c.in_ok-add_told.ensures.told, c.loop-var.invariant.told, c.told_if.ensures.told, more);
+      told = cc (c.in_ok-add_told.ensures.told, c.loop-var.invariant.told, c.told.ensures.told, more);
       size = c.in_ok-add_told.ensures.size;
       positive = c.in_ok-add_told.ensures.positive;
     }

@@ -1,17 +1,20 @@
-use Rattle.std.proofs.Common.{ap, ◌∙◌, map}
+use Rattle.std.proofs.Common.{ap, ◌∙◌, map, filter}
+use Rattle.std.specs.Prelude.{filter_map}
+use Rattle.dcsp_defs.specs.Words.{below}
 use Rattle.abt_view.specs.Views.{view_of}
-use Rattle.abt_agent.specs.States.{marked}
-use Rattle.abt_agent.specs.Causes.{blames, item_at}
+use Rattle.abt_agent.specs.Causes.{blames, item_at, told_of}
 use Rattle.abt_agent.proofs.Causes.{derived_is, step_is}
 use Rattle.abt_agent.proofs.knowledge.Knowledge.refuse.Goals as goal
 
 pub returns-clause-pairs : goal.returns-clause-pairs
 returns-clause-pairs c =
     let p = c.args.self.now.problem.now in
+    let me = c.args.self.now.me in
+    let view = view_of c.args.self.now.view in
     let kept = c.args.self.now.store in
-    c.in_ok-nogood.ensures.told ∙ derived_is p c.args.self.now.me (view_of c.args.self.now.view) kept (marked c.deref-2.result.now) (λ k l.
-    ap (λ z. marked z k) c.deref-2.ensures.value ∙ c.in_ok-marks.ensures.marks k l
-    ∙ ap (λ z. blames p kept z k) (c.deref.ensures.value ∙ c.in_ok-causes.ensures.causes))
+    c.in_ok-nogood.ensures.told ∙ ap (filter_map (told_of view)) (c.deref-2.ensures.value ∙ c.in_ok-blamed.ensures)
+    ∙ ap (λ z. filter_map (told_of view) (filter (blames p kept z) (below me))) (c.deref.ensures.value ∙ c.in_ok-causes.ensures.causes)
+    ∙ derived_is p me view kept
 
 pub returns-clause-step : goal.returns-clause-step
 returns-clause-step c =
