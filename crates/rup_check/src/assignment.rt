@@ -27,7 +27,9 @@ impl Assignment {
         ensures assigned { IfOk result (λ a. IsAssignment a.marks.items a.trail.items) }
         ensures empty { IfOk result (λ a. a.trail.items ≡ []) }
     {
-        let marks = vec![in alloc; false; 8192].map_err(|_| Memory)?;
+        let Ok(marks) = vec![in alloc; false; 8192] else {
+            return Err(Memory);
+        };
         Ok(Assignment {
             marks,
             trail: Vec::new(alloc),
@@ -59,7 +61,9 @@ impl Assignment {
         ensures trail { OnOk result (self.new.trail.items ≡ self.old.trail.items ++ literal ∷ []) }
         ensures assigned { OnOk result (IsAssignment self.new.marks.items self.new.trail.items) }
     {
-        self.trail.push(literal).map_err(|_| Memory)?;
+        let Ok(()) = self.trail.push(literal) else {
+            return Err(Memory);
+        };
         self.marks[literal as usize] = true;
         Ok(())
     }

@@ -101,7 +101,9 @@ fn add_places(places: &mut Vec<u16>, numbers: &[i32]) -> Result<(), Memory>
     ensures err { OnErr result (Extends places.old.items places.new.items) }
 {
     for number in numbers {
-        places.push(place_of(*number)).map_err(|_| Memory)?;
+        let Ok(()) = places.push(place_of(*number)) else {
+            return Err(Memory);
+        };
     }
     Ok(())
 }

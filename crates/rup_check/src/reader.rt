@@ -85,7 +85,10 @@ fn read_clause<'t>(text: &'t [u8], clause: &mut Vec<i32>) -> Result<Option<&'t [
 fn add_literal(clause: &mut Vec<i32>, literal: i32) -> Result<(), Memory>
     ensures { OnOk result (clause.new.items ≡ clause.old.items ++ literal ∷ []) }
 {
-    clause.push(literal).map_err(|_| Memory)
+    match clause.push(literal) {
+        Ok(()) => Ok(()),
+        Err(_) => Err(Memory),
+    }
 }
 
 /// What stands after `0` and a line feed.

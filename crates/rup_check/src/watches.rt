@@ -71,7 +71,10 @@ impl Watches {
             first: 0,
             second: 0,
         };
-        self.pairs.push(none).map_err(|_| Memory)
+        match self.pairs.push(none) {
+            Ok(()) => Ok(()),
+            Err(_) => Err(Memory),
+        }
     }
 
     /// Adds a clause that watches two literals.
@@ -83,10 +86,15 @@ impl Watches {
         ensures lists { OnOk result (AreListed self.old.lists.items self.new.lists.items pair (length self.old.pairs.items)) }
         ensures refuted { self.new.refuted ≡ self.old.refuted }
     {
-        let number = u32::try_from(self.pairs.len()).map_err(|_| Memory)?;
+        let Ok(number) = u32::try_from(self.pairs.len()) else {
+            return Err(Memory);
+        };
         push_to(&mut self.lists, pair.first, number)?;
         push_to(&mut self.lists, pair.second, number)?;
-        self.pairs.push(pair).map_err(|_| Memory)
+        match self.pairs.push(pair) {
+            Ok(()) => Ok(()),
+            Err(_) => Err(Memory),
+        }
     }
 }
 
@@ -130,7 +138,9 @@ fn empty_lists(alloc: Global) -> Result<Vec<ItemList<u32>>, Memory>
 {
     let mut lists = Vec::new(alloc);
     for _place in 0..8192u16 {
-        lists.push(ItemList::new(alloc)).map_err(|_| Memory)?;
+        let Ok(()) = lists.push(ItemList::new(alloc)) else {
+            return Err(Memory);
+        };
     }
     Ok(lists)
 }
