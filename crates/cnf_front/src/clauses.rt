@@ -195,5 +195,8 @@ fn add_term(terms: &mut TermList, term: Term) -> Result<(), CnfError>
     ensures added { OnOk result (terms.new ≡ terms.old ++ term ∷ []) }
     ensures refusal { IfErr result (λ e. e ≡ CnfError.Memory) }
 {
-    terms.push(term).map_err(|_| CnfError::Memory)
+    match terms.push(term) {
+        Ok(()) => Ok(()),
+        Err(_) => Err(CnfError::Memory),
+    }
 }

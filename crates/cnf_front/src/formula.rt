@@ -90,5 +90,8 @@ fn number_of(term: Term, variables: u32) -> i32
 fn add_literal(clause: &mut Vec<i32>, literal: i32) -> Result<(), Memory>
     ensures { OnOk result (clause.new.items ≡ clause.old.items ++ literal ∷ []) }
 {
-    clause.push(literal).map_err(|_| Memory)
+    match clause.push(literal) {
+        Ok(()) => Ok(()),
+        Err(_) => Err(Memory),
+    }
 }

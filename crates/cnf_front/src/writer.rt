@@ -20,8 +20,11 @@ pub fn write_clause(nogood: &Nogood, into: &mut Vec<u8>) -> Result<(), Memory>
 {
     // The line is made apart, so that a refusal in its middle leaves nothing of it.
     let alloc = *into.allocator();
-    match line_of(alloc, nogood.pairs()) {
-        Ok(line) => into.extend_from_slice(&line).map_err(|_| Memory),
+    let Ok(line) = line_of(alloc, nogood.pairs()) else {
+        return Err(Memory);
+    };
+    match into.extend_from_slice(&line) {
+        Ok(()) => Ok(()),
         Err(_) => Err(Memory),
     }
 }
