@@ -1,5 +1,5 @@
 -- Between its ends a span has all places or none.
-use Rattle.std.proofs.Common.{◌≡◌, ℕ, ◌<◌, ◌≤◌, Bool, true, false, not, refl, ◌&&◌, cond, nat_lt, ap, ◌∙◌, arith, inl, inr}
+use Rattle.std.proofs.Common.{◌≡◌, ◌≢◌, ℕ, ◌<◌, ◌≤◌, Bool, true, false, not, refl, ◌&&◌, cond, nat_lt, ap, ◌∙◌, arith, inl, inr}
 use mathlib.Core.Bool.{beq}
 use Rattle.std.proofs.lemmas.Bool.{cases_lt}
 use Rattle.std.proofs.lemmas.Bool.Decides.{nat_tests}
@@ -27,3 +27,9 @@ alike true true e = refl
 alike false false e = refl
 alike true false e = absurd (let clash : true ≡ false = e in cc)
 alike false true e = absurd (let clash : true ≡ false = e in cc)
+
+pub unlike : (a b : Bool) → not (beq a b) ≡ true → a ≢ b
+unlike true true e = absurd (let clash : false ≡ true = e in cc)
+unlike false false e = absurd (let clash : false ≡ true = e in cc)
+unlike true false e = λ same. cc
+unlike false true e = λ same. cc

@@ -1,5 +1,5 @@
 -- Bits at which two words differ, and words with the lowest bits set.
-use Rattle.std.proofs.Common.{◌≡◌, ◌&&◌, ℕ, min, ◌+◌, ◌-◌, ◌*◌, ◌/◌, ◌%◌, ◌^◌, ◌<◌, ◌≤◌, ◌==◌, Bool, not, List, length, get_or, set, nat_lt, sym, ap, ◌∙◌, arith, rules, inl, inr, w64, Option, Some, None, IfSome}
+use Rattle.std.proofs.Common.{◌≡◌, ◌≢◌, ◌&&◌, ℕ, min, ◌+◌, ◌-◌, ◌*◌, ◌/◌, ◌%◌, ◌^◌, ◌<◌, ◌≤◌, ◌==◌, Bool, not, List, length, get_or, set, nat_lt, sym, ap, ◌∙◌, arith, rules, inl, inr, w64, Option, Some, None, IfSome}
 use Rattle.std.specs.Int.{bit_at, bit_not, trailing_zeros}
 use Rattle.std.specs.Int.RustNames.{bit_and, bit_xor}
 use Rattle.std.proofs.lemmas.Bool.{cases_eq, cases_lt}
@@ -34,16 +34,26 @@ left_from a b k rest low_zeros i e f some fits l m =
     let below = (bit_at-trailing_zeros w64 rest some fits).2 (i - k) (omega (arith, l, m, f)) in
     same_bit a b i (shifted (bit_xor a b) k i l ∙ ap (λ n. bit_at n (i - k)) (sym e) ∙ below)
 
--- that bit is one of the word
+-- that bit is set
+lowest_left : (n k rest low_zeros : ℕ) → rest ≡ n / 2 ^ k → low_zeros ≡ trailing_zeros w64 rest → 0 < rest → rest < 2 ^ 64 → bit_at n (k + low_zeros) ≡ 1
+lowest_left n k rest low_zeros e f some fits =
+    let here : k + low_zeros - k ≡ trailing_zeros w64 rest = omega (arith, f) in
+    shifted n k (k + low_zeros) (omega arith) ∙ ap (bit_at (n / 2 ^ k)) here ∙ ap (λ m. bit_at m (trailing_zeros w64 rest)) (sym e) ∙ (bit_at-trailing_zeros w64 rest some fits).1
+
+-- it is one of the word
 pub bit_left : (n k rest low_zeros : ℕ) → rest ≡ n / 2 ^ k → low_zeros ≡ trailing_zeros w64 rest → 0 < rest → rest < 2 ^ 64 → n < 2 ^ 64 → k + low_zeros < 64
 bit_left n k rest low_zeros e f some fits small = elim (cases_lt (k + low_zeros) 64) [
   | inl within ↦ within
-  | inr past ↦
-      let one = (bit_at-trailing_zeros w64 rest some fits).1 in
-      let here : k + low_zeros - k ≡ trailing_zeros w64 rest = omega (arith, f) in
-      let is : bit_at n (k + low_zeros) ≡ 1 = shifted n k (k + low_zeros) (omega arith) ∙ ap (bit_at (n / 2 ^ k)) here ∙ ap (λ m. bit_at m (trailing_zeros w64 rest)) (sym e) ∙ one in
-      absurd (omega (arith, is, bit_at_above n 64 (k + low_zeros) small past))
+  | inr past ↦ absurd (omega (arith, lowest_left n k rest low_zeros e f some fits, bit_at_above n 64 (k + low_zeros) small past))
 ]
+
+odd_sum : (a b : ℕ) → (a + b) % 2 ≡ 1 → a ≢ b
+odd_sum a b e same = omega (arith, e, same)
+
+-- and the words differ there
+pub left_differs : (a b k rest low_zeros : ℕ) → rest ≡ bit_xor a b / 2 ^ k → low_zeros ≡ trailing_zeros w64 rest → 0 < rest → rest < 2 ^ 64 → bit_at a (k + low_zeros) ≢ bit_at b (k + low_zeros)
+left_differs a b k rest low_zeros e f some fits =
+    odd_sum (bit_at a (k + low_zeros)) (bit_at b (k + low_zeros)) (sym (bit_at_xor a b (k + low_zeros)) ∙ lowest_left (bit_xor a b) k rest low_zeros e f some fits)
 
 -- words in which the bits of the places below one are set
 pub all_low : (block bit place : ℕ) → bit < 64 → block < place / 64 → (bit_at (2 ^ 64 - 1) bit == 1) ≡ nat_lt (block * 64 + bit) place
@@ -113,3 +123,14 @@ same_in_block test other size block mine theirs first stop from e f same skipped
 pub found_after : (result : Option ℕ) (at size from all : ℕ) → from ≤ at → size ≡ all → IfSome result (λ place. (place ≡ at) × (place < size)) → IfSome result (λ place. (from ≤ place) × (place < all))
 found_after None at size from all l e h = h
 found_after (Some place) at size from all l e h = (omega (arith, h.0, l), omega (arith, h.1, e))
+
+same_ones : (x y : ℕ) → x < 2 → y < 2 → (x == 1) ≡ (y == 1) → x ≡ y
+same_ones x y l m e = grind (arith, nat_tests)
+
+-- two tests differ at the place that was found, where the bits of their words do
+pub differs_there : (test other : ℕ → Bool) (result : Option ℕ) (at size mine theirs bit : ℕ) → (at < size → (bit_at mine bit == 1) ≡ test at) → (at < size → (bit_at theirs bit == 1) ≡ other at)
+    → bit_at mine bit ≢ bit_at theirs bit → IfSome result (λ place. (place ≡ at) × (place < size)) → IfSome result (λ place. test place ≢ other place)
+differs_there test other None at size mine theirs bit e f apart h = h
+differs_there test other (Some place) at size mine theirs bit e f apart h = λ same.
+    let inside : at < size = omega (arith, h.0, h.1) in
+    apart (same_ones (bit_at mine bit) (bit_at theirs bit) (bit_at-lt mine bit) (bit_at-lt theirs bit) (e inside ∙ sym (ap test h.0) ∙ same ∙ ap other h.0 ∙ sym (f inside)))

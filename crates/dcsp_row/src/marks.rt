@@ -1,6 +1,6 @@
 //! Marks of places, as a span or as bits.
 
-ghost use Rattle.std.specs.Prelude.{◌≡◌, ◌<◌, ◌≤◌, ◌+◌, ◌*◌, ◌/◌, ◌==◌, ℕ, IfSome, IsTrue, unwrap_or};
+ghost use Rattle.std.specs.Prelude.{◌≡◌, ◌≢◌, ◌<◌, ◌≤◌, ◌+◌, ◌*◌, ◌/◌, ◌==◌, ℕ, IfSome, IsTrue, unwrap_or};
 ghost use Rattle.std.specs.Int.{bit_at};
 ghost use Rattle.dcsp_row.specs.Marks.{has_room_for, is_marked, is_row, FitsSize};
 
@@ -57,6 +57,7 @@ impl Marks {
         requires other { FitsSize size other.now }
         ensures within { IfSome result (λ place. (from ≤ place) × (place < size)) }
         ensures same { (k : ℕ) → from ≤ k → k < unwrap_or result size → is_marked self.now k ≡ is_marked other.now k }
+        ensures differs { IfSome result (λ place. is_marked self.now place ≢ is_marked other.now place) }
     {
         if let Marks::Span(mine) = self {
             if let Marks::Span(theirs) = other {

@@ -1,6 +1,6 @@
 //! Runs of places, and all places outside them.
 
-ghost use Rattle.std.specs.Prelude.{◌≡◌, ◌<◌, ◌≤◌, ◌+◌, ◌*◌, ◌==◌, ℕ, IfSome, not, unwrap_or};
+ghost use Rattle.std.specs.Prelude.{◌≡◌, ◌≢◌, ◌<◌, ◌≤◌, ◌+◌, ◌*◌, ◌==◌, ℕ, IfSome, not, unwrap_or};
 ghost use Rattle.std.specs.Int.{bit_at};
 ghost use Rattle.dcsp_row.specs.Spans.{is_between, is_within};
 
@@ -50,6 +50,7 @@ impl Span {
     pub fn next_change(self, other: Span, size: usize, from: usize) -> Option<usize>
         ensures within { IfSome result (λ place. (from ≤ place) × (place < size)) }
         ensures same { (k : ℕ) → from ≤ k → k < unwrap_or result size → is_within self k ≡ is_within other k }
+        ensures differs { IfSome result (λ place. is_within self place ≢ is_within other place) }
     {
         let mut at = from;
         while at < size {

@@ -39,6 +39,7 @@ pub fn next_bit(one: u64, other: u64, from: usize) -> Option<usize>
     requires { from < 64 }
     ensures within { IfSome result (λ bit. (from ≤ bit) × (bit < 64)) }
     ensures same { (bit : ℕ) → from ≤ bit → bit < unwrap_or result 64 → bit_at one bit ≡ bit_at other bit }
+    ensures differs { IfSome result (λ bit. bit_at one bit ≢ bit_at other bit) }
 {
     let rest = (one ^ other) >> from;
     if rest == 0 {

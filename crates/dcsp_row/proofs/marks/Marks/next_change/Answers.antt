@@ -1,7 +1,7 @@
 use Rattle.std.proofs.Common.{◌≤◌, ◌+◌, ◌*◌, ◌/◌, arith, inl, inr, refl}
 use Rattle.std.proofs.lemmas.Bool.{cases_eq}
 use Rattle.dcsp_row.specs.Marks.{is_marked}
-use Rattle.dcsp_row.proofs.WordLaws.{same_in_block, found_after}
+use Rattle.dcsp_row.proofs.WordLaws.{same_in_block, found_after, differs_there}
 use Rattle.dcsp_row.proofs.marks.Marks.next_change.Goals as goal
 
 pub returns-in-Some-clause-within : goal.returns-in-Some-clause-within
@@ -29,3 +29,9 @@ loop-block-preserved c = λ k l within below.
 
 pub returns-clause-same : goal.returns-clause-same
 returns-clause-same c = λ k l m. c.loop-block.invariant k l m (omega (arith, m, c.loop-block-test.false))
+
+pub returns-in-Some-clause-differs : goal.returns-in-Some-clause-differs
+returns-in-Some-clause-differs c =
+    let within = c.in-Some.ensures.within.1 in
+    differs_there (is_marked c.args.self.now) (is_marked c.args.other.now) c.within.result (c.loop-block.block * 64 + c.in-Some.bit) c.args.size c.word-mine.result c.word-theirs.result c.in-Some.bit
+    (c.word-mine.ensures c.in-Some.bit within) (c.word-theirs.ensures c.in-Some.bit within) c.in-Some.ensures.differs c.within.ensures.is
