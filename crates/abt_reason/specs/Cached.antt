@@ -35,6 +35,10 @@ rules_of p agent = length (owned_rules p agent)
 abbrev pub IsRightAt : Contents → ℕ → Known → List (List Bool) → ℕ → Type 0
 IsRightAt p agent known rows place = (k : ℕ) → k < size_of p agent → marks rows k place ≡ is_false p agent (known_at p agent known k) place
 
+-- each row that was right is right
+abbrev pub StaysRight : Contents → ℕ → Known → List Marks → List Marks → Type 0
+StaysRight p agent known old new = (place : ℕ) → IsRightAt p agent known (rows_of (size_of p agent) old) place → IsRightAt p agent known (rows_of (size_of p agent) new) place
+
 -- the row of each owned rule does
 abbrev pub KeepsRows : Contents → ℕ → Known → List (List Bool) → Type 0
 KeepsRows p agent known rows = (place : ℕ) → place < rules_of p agent → IsRightAt p agent known rows place

@@ -5,7 +5,7 @@ ghost use Rattle.dcsp_problem.specs.Problems.{rule_at};
 ghost use Rattle.dcsp_row.specs.Easy.{has_span};
 ghost use Rattle.dcsp_row.specs.Marks.{has_room_for, is_marked, is_row, FitsSize};
 ghost use Rattle.abt_reason.specs.Firsts.{IsFirst};
-ghost use Rattle.abt_reason.specs.Grids.{is_marked_at, marks_at, mixed_rows, rows_of, AreSized, HaveRoom, IsGrid};
+ghost use Rattle.abt_reason.specs.Grids.{marks_at, is_marked_at, mixed_rows, rows_of, AreMarksBehind, AreSized, HaveRoom, IsGrid, NoneIfUncounted};
 
 use dcsp_list::Memory;
 use dcsp_problem::Problem;
@@ -122,7 +122,7 @@ fn first_without(
     requires place { place < length rows.now }
     requires value { value < values }
     requires sized { AreSized values rows.now }
-    ensures { (p q : ℕ → Bool) → IsFirst p (length rows.now) first → q place ≡ false → ((j : ℕ) → j ≢ place → p j ≡ q j) → ((j : ℕ) → place < j → j < length rows.now → q j ≡ is_marked_at rows.now j value) → (count ≡ 0 → (j : ℕ) → j < length rows.now → q j ≡ false) → IsFirst q (length rows.now) result }
+    ensures { (p q : ℕ → Bool) → IsFirst p (length rows.now) first → q place ≡ false → ((j : ℕ) → j ≢ place → p j ≡ q j) → AreMarksBehind rows.now value place q → NoneIfUncounted count rows.now q → IsFirst q (length rows.now) result }
 {
     if first == Some(place as u32) {
         next_marking(rows, values, value, place, count)
@@ -143,7 +143,7 @@ fn next_marking(
     requires place { place < length rows.now }
     requires value { value < values }
     requires sized { AreSized values rows.now }
-    ensures { (q : ℕ → Bool) → ((j : ℕ) → j ≤ place → q j ≡ false) → ((j : ℕ) → place < j → j < length rows.now → q j ≡ is_marked_at rows.now j value) → (count ≡ 0 → (j : ℕ) → j < length rows.now → q j ≡ false) → IsFirst q (length rows.now) result }
+    ensures { (q : ℕ → Bool) → ((j : ℕ) → j ≤ place → q j ≡ false) → AreMarksBehind rows.now value place q → NoneIfUncounted count rows.now q → IsFirst q (length rows.now) result }
 {
     if count == 0 {
         return None;

@@ -9,7 +9,7 @@ ghost use Rattle.dcsp_row.specs.Rows.{is_ruled_out, own_at};
 ghost use Rattle.abt_view.specs.Views.{view_of};
 ghost use Rattle.abt_reason.specs.declared.named.Naming.{Naming as TheNaming};
 ghost use Rattle.abt_reason.specs.Grids.{marks, rows_of};
-ghost use Rattle.abt_reason.specs.Cached.{size_of, rules_of, AreRows, AreRuleLists, IsRightAt, IsRoom, KeepsRows, RowsStoodBefore};
+ghost use Rattle.abt_reason.specs.Cached.{size_of, rules_of, AreRows, AreRuleLists, IsRightAt, IsRoom, KeepsRows, RowsStoodBefore, StaysRight};
 
 use crate::grid::RuledOut;
 use crate::named::{NamedIn, Naming};
@@ -109,7 +109,7 @@ fn refresh_each(
     requires rows { AreRows problem.now agent ruled_out.old.rows.items ruled_out.old.counts.items ruled_out.old.firsts.items }
     ensures room { IsRoom (size_of problem.now agent) room.new }
     ensures rows { AreRows problem.now agent ruled_out.new.rows.items ruled_out.new.counts.items ruled_out.new.firsts.items }
-    ensures kept { (place : ℕ) → IsRightAt problem.now agent (values_in (view_of view.now)) (rows_of (size_of problem.now agent) ruled_out.old.rows.items) place → IsRightAt problem.now agent (values_in (view_of view.now)) (rows_of (size_of problem.now agent) ruled_out.new.rows.items) place }
+    ensures kept { StaysRight problem.now agent (values_in (view_of view.now)) ruled_out.old.rows.items ruled_out.new.rows.items }
     ensures right { All (λ (n : TheNaming). IsRightAt problem.now agent (values_in (view_of view.now)) (rows_of (size_of problem.now agent) ruled_out.new.rows.items) n.place) namings.now }
 {
     for naming in namings {
