@@ -3,15 +3,11 @@ use Rattle.std.proofs.Common.{◌≡◌, ◌∙◌, ℕ, zero, suc, ◌<◌, ◌
 use Rattle.std.specs.Prelude.{slice_set, slice_index_or}
 use Rattle.std.proofs.lemmas.List.{length-set}
 use Rattle.dcsp_domain.proofs.Domains.{length_filter}
-use Rattle.dcsp_defs.specs.Words.{below}
 use Rattle.dcsp_defs.specs.Csp.{Csp, IsCsp}
-use Rattle.dcsp_problem.specs.Rules.{scope_of}
 use Rattle.dcsp_problem.specs.Problems.{Contents, constraint_of, csp_of}
 use Rattle.dcsp_problem.specs.WellFormed.{IsProblem}
-use Rattle.dcsp_problem.specs.Index.{member_set, owned_rules}
-use Rattle.dcsp_problem.specs.Lower.{lower_owners}
 use Rattle.dcsp_problem.specs.Aims.{aimed_at, is_better, narrowed_domains, narrowed_at, narrowed}
-use Rattle.dcsp_problem.proofs.Narrowed.{is_indexed_narrowed, aimed_below}
+use Rattle.dcsp_problem.proofs.Narrowed.{is_problem_narrowed, aimed_below}
 use Rattle.abt_defs.specs.Bound.{message_bound}
 use Rattle.abt_optimum.specs.Rounds.{round_problem}
 use Rattle.abt_best.proofs.Bounds.{AreNoLonger, bound_smaller}
@@ -30,10 +26,7 @@ no_longer test (d ∷ ds) (suc var) (suc i) = no_longer test ds var i
 module _ (p : Contents) (bound : ℤ) (h : IsProblem p) where
   narrowed_problem : (o : Option ℕ) → aimed_at p.aim ≡ o → IsProblem (narrowed_at o p bound)
   narrowed_problem None e = h
-  narrowed_problem (Some var) e =
-      let known = aimed_below (length p.domains) p.aim var h.aim e in
-      (is_indexed_narrowed p bound var (narrowed_domains p.aim bound var p.domains) (map (scope_of (length p.domains)) p.rules) (map member_set p.rules) (map (owned_rules p) (below (length p.domains))) (map (lower_owners (csp_of p)) (below (length p.domains)))
-      known refl (record { problem = h; each_scope = refl; each_set = refl; each_owned = refl; each_lower = refl })).problem
+  narrowed_problem (Some var) e = is_problem_narrowed p bound var (aimed_below (length p.domains) p.aim var h.aim e) h
 
   narrowed_bound : (o : Option ℕ) → message_bound (csp_of (narrowed_at o p bound)) ≤ message_bound (csp_of p)
   narrowed_bound None = omega arith

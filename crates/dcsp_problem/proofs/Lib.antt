@@ -8,6 +8,9 @@ pub mod OwnerLists
 pub mod Violations
 pub mod Reading
 pub mod MemberLaws
+pub mod PairLaws
+pub mod PartLaws
+pub mod FormLaws
 pub mod Narrow
 pub mod Narrowed
 pub mod PieceLaws

@@ -1,5 +1,5 @@
 -- The later owners over each variable, as the code collects them.
-use Rattle.std.proofs.Common.{◌≡◌, ℕ, zero, suc, ◌+◌, ◌-◌, ◌<◌, ◌≤◌, Bool, true, false, cond, not, ◌&&◌, ◌||◌, List, [], ◌∷◌, ◌++◌, map, filter, length, get_or, set, take, refl, sym, ap, ◌∙◌, arith, rules, inl, inr, ◌⊎◌, subst}
+use Rattle.std.proofs.Common.{◌≡◌, ℕ, zero, suc, ◌+◌, ◌<◌, ◌≤◌, Bool, true, false, ◌&&◌, ◌||◌, List, [], ◌∷◌, ◌++◌, map, filter, length, get_or, set, take, refl, sym, ap, ◌∙◌, arith, inl, inr, subst}
 use Rattle.std.specs.Prelude.{All, IfSome, IsPermutation, ◌==◌, nat_lt, Option, Some, None}
 use Rattle.std.specs.List.{list_any}
 use Rattle.std.specs.List.Retain.{IsFiltered, DiffersFromLast}
@@ -10,14 +10,13 @@ use Rattle.std.proofs.lemmas.List.{map-append, take_more, take_all, get_or-set_s
 use Rattle.std.proofs.lemmas.List.Folds.{list_any-append}
 use Rattle.std.proofs.lemmas.List.Elements.{All-contains}
 use Rattle.dcsp_defs.specs.Words.{In, below, is_number}
-use Rattle.dcsp_defs.specs.Csp.{Constraint}
 use Rattle.dcsp_defs.proofs.Lists.{In-filter, below-In, list_any-In, In-list_any, and_left}
 use Rattle.dcsp_problem.specs.declared.rule.Rule.{Rule}
 use Rattle.dcsp_problem.specs.Rules.{scope_of}
 use Rattle.dcsp_problem.specs.Problems.{Contents, constraint_of, csp_of}
 use Rattle.dcsp_problem.specs.Owners.{last_of}
 use Rattle.dcsp_problem.specs.Lower.{is_among, set_below, joins, lower_owners, ends_after, lower_among, Adds}
-use Rattle.dcsp_problem.proofs.OwnerLists.{map_below, length-map_below, get_or-map_below}
+use Rattle.dcsp_problem.proofs.OwnerLists.{map_below, get_or-map_below}
 use Rattle.dcsp_problem.proofs.Reading.{last_inside}
 use Rattle.dcsp_problem.proofs.RisingNumbers.{In-get_or, In-filter_below, rising-filter_below, same_members, rising-sorted_set, In-sorted_set, In-from_sorted_set, Contains-In}
 

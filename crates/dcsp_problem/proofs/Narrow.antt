@@ -22,7 +22,8 @@ narrow_rule p values k ok l all =
     let width : rule_width p.domains (rule_at p k) ≤ WIDEST = All-get_or (λ rule. rule_width p.domains rule ≤ WIDEST) p.rules k no_rule l ok.narrow_sums in
     omega arith
 
-a_rule : (p : Contents) (k : ℕ) → IsProblem p → k < length p.rules → IsRuleOf (length p.domains) (rule_at p k)
+-- a rule of a problem is a rule
+pub a_rule : (p : Contents) (k : ℕ) → IsProblem p → k < length p.rules → IsRuleOf (length p.domains) (rule_at p k)
 a_rule p k ok l = All-get_or (IsRuleOf (length p.domains)) p.rules k no_rule l ok.rules
 
 -- a value that is kept is in the domain

@@ -1,5 +1,5 @@
 -- A problem of whose domains one is cut down is a problem, and what is kept beside it stays as it is.
-use Rattle.std.proofs.Common.{◌≡◌, ℕ, zero, suc, ◌+◌, ◌*◌, ◌<◌, ◌≤◌, Bool, true, false, cond, eqb, max, List, [], ◌∷◌, map, length, get_or, set, filter, zip, refl, sym, ap, ◌∙◌, arith, subst, inl, inr}
+use Rattle.std.proofs.Common.{◌≡◌, ℕ, zero, suc, ◌+◌, ◌*◌, ◌<◌, ◌≤◌, Bool, true, false, cond, max, List, [], ◌∷◌, map, length, get_or, filter, zip, refl, sym, ap, ◌∙◌, arith, subst}
 use Rattle.std.specs.Prelude.{ℤ, nat_lt, ◌&&◌, All, unsigned_abs, sum_by, slice_set, slice_index_or, Option, Some}
 use Rattle.std.specs.List.{list_any}
 use Rattle.std.proofs.lemmas.List.{length-set}
@@ -15,11 +15,11 @@ use Rattle.dcsp_problem.specs.declared.rule.Term.{Term}
 use Rattle.dcsp_problem.specs.declared.rule.Term.TheVariants.{Const, Var}
 use Rattle.dcsp_problem.specs.declared.rule.Rule.{Rule}
 use Rattle.dcsp_problem.specs.declared.rule.Rule.TheVariants.{Plain, Sum}
-use Rattle.dcsp_problem.specs.declared.output.Output.{Output}
 use Rattle.dcsp_problem.specs.Rules.{IsRuleOf, IsAimOf, scope_of}
 use Rattle.dcsp_problem.specs.Outputs.{IsOutputOf}
 use Rattle.dcsp_problem.specs.Widths.{greatest_among, greatest_of, rule_width}
-use Rattle.dcsp_problem.specs.Problems.{Contents, constraint_of, csp_of, value_count}
+use Rattle.dcsp_problem.specs.Problems.{Contents, constraint_of}
+use Rattle.dcsp_problem.specs.declared.form.Form.{Form}
 use Rattle.dcsp_problem.specs.Index.{IsIndexed}
 use Rattle.dcsp_problem.specs.Lower.{joins}
 use Rattle.dcsp_problem.specs.WellFormed.{IsProblem}
@@ -117,6 +117,10 @@ is_problem_cut test var p l h =
       narrow_sums = narrow_sums_cut test var p.domains p.rules h.narrow_sums;
     }
 
+-- the problem that an aim is narrowed to is a problem
+pub is_problem_narrowed : (p : Contents) (bound : ℤ) (var : ℕ) → var < length p.domains → IsProblem p → IsProblem (record p { domains = narrowed_domains p.aim bound var p.domains })
+is_problem_narrowed p bound var l h = is_problem_cut (is_better p.aim bound) var p l h
+
 -- what a variable owns, and who owns a rule over it, told by the number of variables and the rules
 abbrev owned_of : ℕ → List Rule → ℕ → List ℕ
 owned_of n rules var = map (λ (x : ℕ × Constraint). x.0) (owned (record { domains = []; constraints = map (constraint_of n) rules }) var)
@@ -124,22 +128,22 @@ owned_of n rules var = map (λ (x : ℕ × Constraint). x.0) (owned (record { do
 abbrev lower_of : ℕ → List Rule → ℕ → List ℕ
 lower_of n rules var = filter (λ owner. nat_lt var owner && list_any (joins owner var) (map (constraint_of n) rules)) (below n)
 
-pub is_indexed_cut : (test : ℤ → Bool) (var : ℕ) (p : Contents) (scopes : List (List ℕ)) (sets : List (List ℤ)) (by_owner lower : List (List ℕ)) → var < length p.domains → IsIndexed p scopes sets by_owner lower → IsIndexed (cut_problem test var p) scopes sets by_owner lower
-is_indexed_cut test var p scopes sets by_owner lower l h =
+pub is_indexed_cut : (test : ℤ → Bool) (var : ℕ) (p : Contents) (scopes : List (List ℕ)) (forms : List Form) (by_owner lower : List (List ℕ)) → var < length p.domains → IsIndexed p scopes forms by_owner lower → IsIndexed (cut_problem test var p) scopes forms by_owner lower
+is_indexed_cut test var p scopes forms by_owner lower l h =
     let same = sym (length-set p.domains var (filter test (slice_index_or p.domains var []))) in
     record {
       problem = is_problem_cut test var p l h.problem;
       each_scope = h.each_scope ∙ ap (λ (n : ℕ). map (scope_of n) p.rules) same;
-      each_set = h.each_set;
+      each_form = h.each_form;
       each_owned = h.each_owned ∙ ap (λ (n : ℕ). map (owned_of n p.rules) (below n)) same;
       each_lower = h.each_lower ∙ ap (λ (n : ℕ). map (lower_of n p.rules) (below n)) same;
     }
 
 -- the same of the problem that an aim is narrowed to
-pub is_indexed_narrowed : (p : Contents) (bound : ℤ) (var : ℕ) (domains : List (List ℤ)) (scopes : List (List ℕ)) (sets : List (List ℤ)) (by_owner lower : List (List ℕ)) → var < length p.domains → domains ≡ narrowed_domains p.aim bound var p.domains
-    → IsIndexed p scopes sets by_owner lower → IsIndexed (record p { domains = domains }) scopes sets by_owner lower
-is_indexed_narrowed p bound var domains scopes sets by_owner lower l is h =
-    subst (λ (z : List (List ℤ)). IsIndexed (record p { domains = z }) scopes sets by_owner lower) (sym is) (is_indexed_cut (is_better p.aim bound) var p scopes sets by_owner lower l h)
+pub is_indexed_narrowed : (p : Contents) (bound : ℤ) (var : ℕ) (domains : List (List ℤ)) (scopes : List (List ℕ)) (forms : List Form) (by_owner lower : List (List ℕ)) → var < length p.domains → domains ≡ narrowed_domains p.aim bound var p.domains
+    → IsIndexed p scopes forms by_owner lower → IsIndexed (record p { domains = domains }) scopes forms by_owner lower
+is_indexed_narrowed p bound var domains scopes forms by_owner lower l is h =
+    subst (λ (z : List (List ℤ)). IsIndexed (record p { domains = z }) scopes forms by_owner lower) (sym is) (is_indexed_cut (is_better p.aim bound) var p scopes forms by_owner lower l h)
 
 -- an aim at a variable is at one of the problem's
 pub aimed_below : (n : ℕ) (aim : Aim) (var : ℕ) → IsAimOf n aim → aimed_at aim ≡ Some var → var < n

@@ -4,7 +4,7 @@ use Rattle.std.specs.Prelude.{ℤ, pos, All, Option, Some, None, IfSome, slice_g
 use Rattle.std.specs.Option.{option_to_list}
 use Rattle.std.proofs.lemmas.List.{append_assoc, take_more, get_or_default, get_or-map, length-map}
 use Rattle.std.proofs.lemmas.List.Elements.{filter_map-append, All-get_or, All-tail, All-head}
-use Rattle.std.proofs.lemmas.Option.{unwrap_or-slice_get}
+use Rattle.std.proofs.lemmas.Option.{unwrap_or-slice_get, get_or_from_slice_get}
 use Rattle.dcsp_defs.specs.Csp.{IsConstraint, filled}
 use Rattle.dcsp_problem.specs.declared.rule.Term.{Term}
 use Rattle.dcsp_problem.specs.declared.rule.Rule.{Rule}
@@ -68,6 +68,9 @@ variables_of_told none one two three terms total told e f g h =
 -- the rule that stands at a number
 pub rule_is : (p : Contents) (k : ℕ) (rule : Rule) → k < length p.rules → rule ≡ get_or p.rules k rule → rule ≡ rule_at p k
 rule_is p k rule l e = e ∙ get_or_default p.rules k rule no_rule l
+
+pub rule_read : (p : Contents) (k : ℕ) (rule : Rule) → slice_get p.rules k ≡ Some rule → rule ≡ rule_at p k
+rule_read p k rule e = sym (get_or_from_slice_get p.rules k rule no_rule e)
 
 -- the scope that stands at a number
 pub scope_is : (p : Contents) (scopes : List (List ℕ)) (k : ℕ) (scope : List ℕ) → scopes ≡ map (scope_of (length p.domains)) p.rules → k < length p.rules → scope ≡ get_or scopes k scope

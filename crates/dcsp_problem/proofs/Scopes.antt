@@ -18,7 +18,7 @@ use Rattle.dcsp_problem.proofs.RisingNumbers.{In-filter_below, rising-filter_bel
 mentioned : (rule : Rule) (v : ℕ) → In v (variables_of rule) → mentions rule v ≡ true
 mentioned rule v i = list_any-In (λ w. w == v) v (variables_of rule) i ((Decides-eqb v v).1 refl)
 
-from_mentioned : (rule : Rule) (v : ℕ) → mentions rule v ≡ true → In v (variables_of rule)
+pub from_mentioned : (rule : Rule) (v : ℕ) → mentions rule v ≡ true → In v (variables_of rule)
 from_mentioned rule v h =
     let found = In-list_any (λ w. w == v) (variables_of rule) h in
     subst (λ (z : ℕ). In z (variables_of rule)) ((Decides-eqb found.0 v).0 found.2) found.1

@@ -1,10 +1,11 @@
 -- Widths: which stay as they are, where a greatest absolute value stands, and that no sum is greater.
-use Rattle.std.proofs.Common.{◌≡◌, ℕ, ◌+◌, ◌-◌, ◌*◌, ◌<◌, ◌≤◌, true, max, List, [], ◌∷◌, ◌++◌, map, zip, length, get_or, refl, sym, ap, ◌∙◌, arith, inl, inr, subst}
-use Rattle.std.specs.Prelude.{ℤ, ◌<ℤ◌, ◌≤ℤ◌, unsigned_abs, slice_get, slice_index_or, sum_by, All, Option, Some}
+use Rattle.std.proofs.Common.{◌≡◌, ℕ, ◌+◌, ◌-◌, ◌*◌, ◌<◌, ◌≤◌, true, false, max, nat_lt, drop, List, [], ◌∷◌, ◌++◌, map, zip, length, get_or, refl, sym, ap, ◌∙◌, arith, inl, inr, subst}
+use Rattle.std.specs.Prelude.{ℤ, pos, ◌<ℤ◌, ◌≤ℤ◌, unsigned_abs, slice_get, slice_index_or, sum_by, All, Option, Some}
 use Rattle.std.specs.Option.{option_to_list}
 use Rattle.std.proofs.lemmas.Int.{ints}
 use Rattle.std.proofs.lemmas.Nat.{mul-le}
-use Rattle.std.proofs.lemmas.List.{get_or_append_left}
+use Rattle.std.proofs.lemmas.Bool.Decides.{nat_tests}
+use Rattle.std.proofs.lemmas.List.{get_or_append_left, get_or-map, length-map}
 use Rattle.std.proofs.lemmas.List.Elements.{All-head, All-tail, All-cons, All-contains}
 use Rattle.std.proofs.lemmas.List.Sums.{sum_by-cons}
 use Rattle.std.proofs.lemmas.Option.{get_or_from_slice_get}
@@ -12,6 +13,7 @@ use Rattle.dcsp_domain.specs.Sets.{IsRising, has}
 use Rattle.dcsp_domain.proofs.Rising.{Rises, rises_from_rising, has_cases, has_first}
 use Rattle.dcsp_linear.specs.Sums.{size_of as product_size, greatest_size}
 use Rattle.dcsp_linear.specs.declared.TheConstants.{WIDEST}
+use Rattle.dcsp_linear.proofs.Steps.{greatest-drop}
 use Rattle.dcsp_defs.specs.Words.{In}
 use Rattle.dcsp_defs.specs.Csp.{Assignment}
 use Rattle.dcsp_defs.proofs.Lists.{In-left, In-right}
@@ -141,3 +143,18 @@ sizes_within domains values (Sum rel coefs terms total told) h =
     let rest : OfEach P (total ∷ option_to_list told) = of_right P terms (total ∷ option_to_list told) h in
     let last = value_within domains values total (of_first P total (option_to_list told) rest) in
     omega arith
+
+-- one product more of a width
+pub width_here : (domains : List (List ℤ)) (coefs : List ℤ) (terms : List Term) (k : ℕ) (d : Term) → length coefs ≡ length terms → k < length coefs
+    → sum_by greatest_size (drop k (zip coefs (map (greatest_of domains) terms))) ≡ unsigned_abs (get_or coefs k (pos 0)) * greatest_of domains (get_or terms k d) + sum_by greatest_size (drop (k + 1) (zip coefs (map (greatest_of domains) terms)))
+width_here domains coefs terms k d shape here =
+    let greatest = map (greatest_of domains) terms in
+    let inside : k < length terms = omega (arith, here, shape) in
+    greatest-drop coefs greatest k here (omega (arith, inside, length-map terms (greatest_of domains)))
+    ∙ ap (λ g. unsigned_abs (get_or coefs k (pos 0)) * g + sum_by greatest_size (drop (k + 1) (zip coefs greatest))) (get_or-map (greatest_of domains) terms k d 0 inside)
+
+pub is_wider : (width bound : ℕ) → bound < width → true ≡ nat_lt bound width
+is_wider width bound h = grind (arith, nat_tests)
+
+pub is_narrower : (width bound : ℕ) → width ≤ bound → false ≡ nat_lt bound width
+is_narrower width bound h = grind (arith, nat_tests)

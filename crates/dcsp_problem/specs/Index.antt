@@ -1,12 +1,10 @@
 -- What is kept beside a problem's contents.
-use Rattle.std.specs.Prelude.{◌≡◌, ℕ, ℤ, Bool, ◌&&◌, List, map, length, int_le}
-use Rattle.dcsp_domain.specs.Sets.{has, set_of}
+use Rattle.std.specs.Prelude.{◌≡◌, ℕ, List, map, length}
 use Rattle.dcsp_defs.specs.Words.{below}
 use Rattle.dcsp_defs.specs.Csp.{Constraint, owned}
-use Rattle.dcsp_problem.specs.declared.rule.Members.{Members}
-use Rattle.dcsp_problem.specs.declared.rule.Members.TheVariants.{Between, Listed}
-use Rattle.dcsp_problem.specs.declared.rule.Rule.{Rule}
-use Rattle.dcsp_problem.specs.Rules.{scope_of, listed_of}
+use Rattle.dcsp_problem.specs.declared.form.Form.{Form}
+use Rattle.dcsp_problem.specs.Rules.{scope_of}
+use Rattle.dcsp_problem.specs.Forms.{AreForms}
 use Rattle.dcsp_problem.specs.Problems.{Contents, csp_of, value_count, term_count}
 use Rattle.dcsp_problem.specs.Lower.{lower_owners}
 use Rattle.dcsp_problem.specs.WellFormed.{IsProblem}
@@ -15,20 +13,11 @@ use Rattle.dcsp_problem.specs.WellFormed.{IsProblem}
 abbrev pub owned_rules : Contents → ℕ → List ℕ
 owned_rules p var = map (λ (x : ℕ × Constraint). x.0) (owned (csp_of p) var)
 
--- the distinct values that a rule lists as members, rising
-abbrev pub member_set : Rule → List ℤ
-member_set rule = set_of (listed_of rule)
-
--- whether the number is a member, where those that are listed stand in this set
-abbrev pub is_found_in : Members → List ℤ → ℤ → Bool
-is_found_in (Between low high) set value = int_le low value && int_le value high
-is_found_in (Listed values) set value = has set value
-
--- beside a problem's contents stand the scope of each rule, the set of its listed members, the rules that each variable owns, and the later variables that own a rule over it
-pub record IsIndexed (p : Contents) (scopes : List (List ℕ)) (sets : List (List ℤ)) (by_owner lower : List (List ℕ)) : Type 0 where
+-- beside a problem's contents stand the scope of each rule, its form, the rules that each variable owns, and the later variables that own a rule over it
+pub record IsIndexed (p : Contents) (scopes : List (List ℕ)) (forms : List Form) (by_owner lower : List (List ℕ)) : Type 0 where
   pub problem : IsProblem p
   pub each_scope : scopes ≡ map (scope_of (length p.domains)) p.rules
-  pub each_set : sets ≡ map member_set p.rules
+  pub each_form : AreForms forms p.rules
   pub each_owned : by_owner ≡ map (owned_rules p) (below (length p.domains))
   pub each_lower : lower ≡ map (lower_owners (csp_of p)) (below (length p.domains))
 

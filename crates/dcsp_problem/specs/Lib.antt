@@ -6,6 +6,9 @@ pub mod Aims
 pub mod Limits
 pub mod Outputs
 pub mod WellFormed
+pub mod Pairs
+pub mod Parts
+pub mod Forms
 pub mod Index
 pub mod Owners
 pub mod Lower

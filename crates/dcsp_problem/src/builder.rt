@@ -7,10 +7,10 @@ ghost use Rattle.dcsp_problem.specs.Outputs.{IsOutputOf};
 ghost use Rattle.dcsp_problem.specs.Limits.{first_past, list_counts, variable_refusal, rule_refusal, Refuses};
 
 use crate::aim::Aim;
+use crate::form::forms_of;
 use crate::index::owned_lists;
 use crate::limits::{BuildError, Which, within};
 use crate::lower::lower_table;
-use crate::members::member_sets;
 use crate::output::Output;
 use crate::problem::{Problem, Shared, Tables};
 use crate::rule::{Members, Rule};
@@ -97,7 +97,7 @@ impl ProblemBuilder {
         ensures refusal { Refuses (rule_refusal self.old rule) result }
         ensures err { OnErr result (self.new ≡ self.old) }
     {
-        within_width(self.alloc, &self.domains, &rule)?;
+        within_width(&self.domains, &rule)?;
         let number = self.rules.len();
         let added = count_terms(&rule)?;
         within(Which::Rules, number + 1)?;
@@ -134,13 +134,13 @@ impl ProblemBuilder {
         ensures { IfOk result (λ problem. problem ≡ self) }
     {
         let scopes = NumberTable::of_scopes(self.alloc, &self.rules)?;
-        let sets = member_sets(self.alloc, &self.rules)?;
+        let forms = forms_of(self.alloc, &self.rules)?;
         let owners = owned_lists(self.alloc, &scopes, self.domains.len())?;
         let owned = NumberTable::of_lists(self.alloc, &owners)?;
         let lower = lower_table(self.alloc, &scopes, self.domains.len())?;
         let tables = Tables {
             scopes,
-            sets,
+            forms,
             owned,
             lower,
         };

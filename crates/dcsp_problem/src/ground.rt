@@ -1,15 +1,16 @@
 //! Rules under the values that a look-up gives.
 
-ghost use Rattle.std.specs.Prelude.{◌≡◌, ◌≤◌, map, IsTrue};
+ghost use Rattle.std.specs.Prelude.{◌≡◌, ◌≤◌, map, IfSome, IsTrue};
 ghost use Rattle.std.specs.Option.{option_map};
 ghost use Rattle.dcsp_defs.specs.Csp.{filled};
 ghost use Rattle.dcsp_linear.specs.Sums.{widest};
-ghost use Rattle.dcsp_problem.specs.Rules.{value_under, rule_truth, has_shape, weighted, is_told};
+ghost use Rattle.dcsp_problem.specs.Rules.{value_under, has_shape, weighted, is_told};
 ghost use Rattle.dcsp_problem.specs.Widths.{rule_sizes};
-ghost use Rattle.dcsp_problem.specs.Index.{member_set, is_found_in};
+ghost use Rattle.dcsp_problem.specs.Pairs.{IsSmall};
+ghost use Rattle.dcsp_problem.specs.Forms.{form_has, form_truth, found_truth, is_found_by, pair_in};
 
+use crate::form::Form;
 use crate::lookup::Lookup;
-use crate::members::MemberSet;
 use crate::rule::{Members, Rule, Term};
 use dcsp_linear::{Rel, Weighted, sum_holds};
 use dcsp_meaning::{Ground, holds};
@@ -20,8 +21,8 @@ struct GroundTerms<'a, L> {
     first: &'a [Term],
     second: &'a [Term],
     members: &'a Members,
-    /// The set of the listed members.
-    set: &'a MemberSet,
+    /// It finds the listed members.
+    form: &'a Form,
     lookup: &'a L,
 }
 
@@ -32,7 +33,7 @@ impl<L> Drop for GroundTerms<'_, L> {
             first: _,
             second: _,
             members: _,
-            set: _,
+            form: _,
             lookup: _,
         } = self;
     }
@@ -45,7 +46,7 @@ impl<'a, L: Lookup> Ground for GroundTerms<'a, L> {
 
     ghost second_values = { λ g. map (value_under (filled (L.values g.lookup.now))) g.second.now };
 
-    ghost is_member = { λ g. is_found_in g.members.now g.set.now };
+    ghost is_member = { λ g. is_found_by (form_has g.form.now) g.members.now };
 
     fn scalars(&self) -> usize {
         self.scalars.len()
@@ -74,7 +75,7 @@ impl<'a, L: Lookup> Ground for GroundTerms<'a, L> {
     fn member(&self, value: i64) -> bool {
         match self.members {
             Members::Between { low, high } => *low <= value && value <= *high,
-            Members::Listed(_) => self.set.contains(value),
+            Members::Listed(_) => self.form.has(value),
         }
     }
 }
@@ -124,12 +125,24 @@ fn value_of_term<L: Lookup>(term: Term, lookup: &L) -> i64
 
 /// Whether the rule is true under the values that the look-up gives; a variable without a value counts as 0.
 ///
-/// The set is that of the rule's listed members.
-pub fn is_true_under<L: Lookup>(rule: &Rule, set: &MemberSet, lookup: &L) -> bool
+/// It looks at the form alone where that is a pair.
+pub fn is_true_under<L: Lookup>(rule: &Rule, form: &Form, lookup: &L) -> bool
     requires shape { IsTrue (has_shape rule.now) }
-    requires set { set.now ≡ member_set rule.now }
+    requires small { IfSome (pair_in form.now) IsSmall }
     requires narrow { rule_sizes rule.now (filled (L.values lookup.now)) ≤ widest }
-    ensures { result ≡ rule_truth rule.now (filled (L.values lookup.now)) }
+    ensures { result ≡ form_truth form.now rule.now (filled (L.values lookup.now)) }
+{
+    match form.pair() {
+        Some(pair) => pair.is_true_under(lookup),
+        None => is_found_true(rule, form, lookup),
+    }
+}
+
+/// The same by the rule itself, whose listed members the form finds.
+fn is_found_true<L: Lookup>(rule: &Rule, form: &Form, lookup: &L) -> bool
+    requires shape { IsTrue (has_shape rule.now) }
+    requires narrow { rule_sizes rule.now (filled (L.values lookup.now)) ≤ widest }
+    ensures { result ≡ found_truth (form_has form.now) rule.now (filled (L.values lookup.now)) }
 {
     match rule {
         Rule::Plain {
@@ -144,7 +157,7 @@ pub fn is_true_under<L: Lookup>(rule: &Rule, set: &MemberSet, lookup: &L) -> boo
                 first: first.items(),
                 second: second.items(),
                 members,
-                set,
+                form,
                 lookup,
             };
             holds(*kind, &ground)

@@ -9,6 +9,7 @@
 
 mod aim;
 mod builder;
+mod form;
 mod ground;
 mod index;
 mod limits;
@@ -16,6 +17,8 @@ mod lookup;
 mod lower;
 mod members;
 mod output;
+mod pair;
+mod parts;
 mod problem;
 mod rule;
 mod table;
@@ -29,5 +32,6 @@ pub use dcsp_meaning::Kind;
 pub use limits::{BuildError, Which};
 pub use lookup::Lookup;
 pub use output::{NameText, Output, Shape};
+pub use pair::Pair;
 pub use problem::Problem;
 pub use rule::{Members, Rule, Term, TermList};

@@ -1,13 +1,9 @@
-//! The distinct values that each rule lists as members.
+//! The distinct values that a rule lists as members.
 
-ghost use Rattle.std.specs.Prelude.{◌≡◌, map, IfOk};
+ghost use Rattle.std.specs.Prelude.{◌≡◌, IfOk};
 ghost use Rattle.dcsp_domain.specs.Sets.{has, set_of};
-ghost use Rattle.dcsp_problem.specs.Members.{values_of};
-ghost use Rattle.dcsp_problem.specs.Index.{member_set};
 
-use crate::rule::{Members, Rule};
 use dcsp_domain::sorted_set;
-use dcsp_list::Memory;
 use std::alloc::{AllocError, Global};
 use std::marker::Model;
 
@@ -42,37 +38,5 @@ impl MemberSet {
         ensures { result ≡ has self.now value }
     {
         self.values.binary_search(&value).is_ok()
-    }
-}
-
-/// The set of each rule's listed members.
-pub fn member_sets(alloc: Global, rules: &[Rule]) -> Result<Vec<MemberSet>, Memory>
-    ensures { IfOk result (λ sets. sets.items ≡ map member_set rules.now) }
-{
-    let mut sets = Vec::new(alloc);
-    for rule in rules {
-        let set = member_set(alloc, rule).map_err(|_| Memory)?;
-        sets.push(set).map_err(|_| Memory)?;
-    }
-    Ok(sets)
-}
-
-/// The set of the rule's listed members; the empty one where it lists none.
-fn member_set(alloc: Global, rule: &Rule) -> Result<MemberSet, AllocError>
-    ensures { IfOk result (λ set. set ≡ member_set rule.now) }
-{
-    match rule {
-        Rule::Plain { members, .. } => set_of_members(alloc, members),
-        Rule::Sum { .. } => MemberSet::new(alloc, &[]),
-    }
-}
-
-/// The set of the members, if they are listed; the empty one otherwise.
-fn set_of_members(alloc: Global, members: &Members) -> Result<MemberSet, AllocError>
-    ensures { IfOk result (λ set. set ≡ set_of (values_of members.now)) }
-{
-    match members {
-        Members::Between { .. } => MemberSet::new(alloc, &[]),
-        Members::Listed(values) => MemberSet::new(alloc, values.items()),
     }
 }

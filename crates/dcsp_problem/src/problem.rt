@@ -1,21 +1,24 @@
 //! Problems as they stand once they are built.
 
-ghost use Rattle.std.specs.Prelude.{◌≡◌, ◌≤◌, ◌<◌, ℕ, ℤ, pos, List, length, All, Some, is_some, true, slice_get, slice_index_or, IfOk, IsSome, filter};
+ghost use Rattle.std.specs.Prelude.{◌≡◌, ◌≤◌, ◌<◌, ℕ, ℤ, pos, List, length, All, Some, is_some, true, slice_get, slice_index_or, IfOk, IfSome, IsSome, IsTrue, filter};
 ghost use Rattle.std.specs.List.{list_all};
 ghost use Rattle.dcsp_domain.specs.Sets.{has};
 ghost use Rattle.dcsp_defs.specs.Csp.{domain, owner, is_violated, IsConstraint, IsCsp};
-ghost use Rattle.dcsp_problem.specs.Problems.{csp_of, constraint_at, within_domains, AreInDomains};
+ghost use Rattle.dcsp_problem.specs.Problems.{csp_of, constraint_at, rule_at, within_domains, AreInDomains};
 ghost use Rattle.dcsp_problem.specs.WellFormed.{IsProblem};
 ghost use Rattle.dcsp_problem.specs.Rules.{IsAimOf};
 ghost use Rattle.dcsp_problem.specs.Aims.{aimed_at, is_better, narrowed_domains, narrowed};
+ghost use Rattle.dcsp_problem.specs.Pairs.{compares_variable, IsPairOf};
+ghost use Rattle.dcsp_problem.specs.Forms.{IsFormOf};
 ghost use Rattle.dcsp_problem.specs.Index.{IsIndexed, owned_rules};
 ghost use Rattle.dcsp_problem.specs.Lower.{lower_owners};
 
 use crate::aim::Aim;
+use crate::form::Form;
 use crate::ground::is_true_under;
 use crate::lookup::{Assigned, Lookup};
-use crate::members::MemberSet;
 use crate::output::Output;
+use crate::pair::Pair;
 use crate::rule::Rule;
 use crate::table::NumberTable;
 use dcsp_domain::Domain;
@@ -46,8 +49,8 @@ pub struct Shared {
 pub struct Tables {
     /// The scope of each rule.
     pub scopes: NumberTable,
-    /// The set of each rule's listed members.
-    pub sets: Vec<MemberSet>,
+    /// The form of each rule.
+    pub forms: Vec<Form>,
     /// The rules that each variable owns.
     pub owned: NumberTable,
     /// The later variables that own a rule over each variable.
@@ -62,7 +65,7 @@ impl Model for Problem {
 
     ghost view = { λ p. record { domains = p.domains.items; rules = p.shared.value.rules.items; outputs = p.shared.value.outputs.items; aim = p.aim } };
 
-    ghost invariant = { λ p. IsIndexed (record { domains = p.domains.items; rules = p.shared.value.rules.items; outputs = p.shared.value.outputs.items; aim = p.aim }) p.shared.value.tables.scopes p.shared.value.tables.sets.items p.shared.value.tables.owned p.shared.value.tables.lower };
+    ghost invariant = { λ p. IsIndexed (record { domains = p.domains.items; rules = p.shared.value.rules.items; outputs = p.shared.value.outputs.items; aim = p.aim }) p.shared.value.tables.scopes p.shared.value.tables.forms.items p.shared.value.tables.owned p.shared.value.tables.lower };
 }
 
 impl Problem {
@@ -73,7 +76,7 @@ impl Problem {
         aim: Aim,
         shared: Shared,
     ) -> Result<Problem, Memory>
-        requires { IsIndexed (record { domains = domains.items; rules = shared.rules.items; outputs = shared.outputs.items; aim = aim }) shared.tables.scopes shared.tables.sets.items shared.tables.owned shared.tables.lower }
+        requires { IsIndexed (record { domains = domains.items; rules = shared.rules.items; outputs = shared.outputs.items; aim = aim }) shared.tables.scopes shared.tables.forms.items shared.tables.owned shared.tables.lower }
         ensures { IfOk result (λ problem. problem ≡ record { domains = domains.items; rules = shared.rules.items; outputs = shared.outputs.items; aim = aim }) }
     {
         match Rc::new(alloc, shared) {
@@ -119,6 +122,26 @@ impl Problem {
         ensures { slice_get self.now.rules number ≡ Some result.now }
     {
         &self.shared.rules[number as usize]
+    }
+
+    /// The rule as a relation of its variables, if it is one: what is true where this is, and over which variables.
+    ///
+    /// There is one of each comparison of two numbers of which at least one is a variable.
+    pub fn pair(&self, rule: u32) -> Option<Pair>
+        requires { rule < length self.now.rules }
+        ensures pair { IfSome result (λ pair. IsPairOf pair (rule_at self.now rule)) }
+        ensures some { IsTrue (compares_variable (rule_at self.now rule)) → IsSome result }
+    {
+        self.form(rule).pair()
+    }
+
+    /// The form of a rule.
+    fn form(&self, rule: u32) -> &Form
+        requires { rule < length self.now.rules }
+        ensures form { IsFormOf result.now (rule_at self.now rule) }
+        ensures problem { IsProblem self.now }
+    {
+        &self.shared.tables.forms[rule as usize]
     }
 
     /// The number of outputs.
@@ -207,9 +230,7 @@ impl Problem {
         requires in_domains { (var : ℕ) → var < length self.now.domains → has (domain (csp_of self.now) var) (slice_index_or values.now var (pos 0)) ≡ true }
         ensures { result ≡ (constraint_at self.now rule).test (λ var. slice_index_or values.now var (pos 0)) }
     {
-        let set = &self.shared.tables.sets[rule as usize];
-        let rule = &self.shared.rules[rule as usize];
-        is_true_under(rule, set, &Assigned { values })
+        is_true_under(self.rule(rule), self.form(rule), &Assigned { values })
     }
 
     /// Whether the look-up gives each variable of a rule's scope a value of that variable's domain, and the
@@ -231,6 +252,9 @@ impl Problem {
         requires domains { AreInDomains (csp_of self.now) (L.values lookup.now) }
         ensures { result ≡ is_violated (L.values lookup.now) (constraint_at self.now rule) }
     {
+        if let Some(pair) = self.form(rule).pair() {
+            return pair.is_missed(lookup);
+        }
         if !self.gives_scope(rule, lookup) {
             return false;
         }
@@ -244,9 +268,7 @@ impl Problem {
         requires constraint { IsConstraint (csp_of self.now) (constraint_at self.now rule) }
         ensures { result ≡ is_violated (within_domains (csp_of self.now) (L.values lookup.now)) (constraint_at self.now rule) }
     {
-        let set = &self.shared.tables.sets[rule as usize];
-        let rule = &self.shared.rules[rule as usize];
-        !is_true_under(rule, set, lookup)
+        !is_true_under(self.rule(rule), self.form(rule), lookup)
     }
 
     /// Whether the look-up, which gives values of domains alone, gives each variable of a rule's scope one.

@@ -1,7 +1,7 @@
 //! How wide a rule's sum may become.
 
-ghost use Rattle.std.specs.Prelude.{◌≡◌, map, length, All, IsTrue, IfOk, nat_lt, Some, None, if◌then◌else◌};
-ghost use Rattle.dcsp_linear.specs.Sums.{widest};
+ghost use Rattle.std.specs.Prelude.{◌≡◌, ◌≤◌, ◌+◌, ◌*◌, map, length, All, IsTrue, nat_lt, unsigned_abs, Some, None, if◌then◌else◌};
+ghost use Rattle.dcsp_linear.specs.Sums.{widest, width_of};
 ghost use Rattle.dcsp_problem.specs.Rules.{IsTermOf, terms_of, has_shape};
 ghost use Rattle.dcsp_problem.specs.Widths.{greatest_among, greatest_of, rule_width};
 ghost use Rattle.dcsp_problem.specs.Limits.{Refuses};
@@ -9,11 +9,10 @@ ghost use Rattle.dcsp_problem.specs.Limits.{Refuses};
 use crate::limits::BuildError;
 use crate::rule::{Rule, Term};
 use dcsp_domain::Domain;
-use dcsp_linear::width;
-use std::alloc::{AllocError, Global};
+use dcsp_linear::WIDEST;
 
 /// Refuses a rule whose sum is too wide over these domains.
-pub fn within_width(alloc: Global, domains: &[Domain], rule: &Rule) -> Result<(), BuildError>
+pub fn within_width(domains: &[Domain], rule: &Rule) -> Result<(), BuildError>
     requires known { All (IsTermOf (length domains.now)) (terms_of rule.now) }
     requires shape { IsTrue (has_shape rule.now) }
     ensures { Refuses (if nat_lt widest (rule_width domains.now rule.now) then Some BuildError.WideSum else None) result }
@@ -26,26 +25,38 @@ pub fn within_width(alloc: Global, domains: &[Domain], rule: &Rule) -> Result<()
             total,
             ..
         } => {
-            let greatest = greatest_list(alloc, domains, terms.items())?;
             let total = greatest_of(domains, *total);
-            match width(coefs.items(), &greatest, total) {
-                Some(_) => Ok(()),
-                None => Err(BuildError::WideSum),
+            if is_wide(domains, coefs.items(), terms.items(), total) {
+                return Err(BuildError::WideSum);
             }
+            Ok(())
         }
     }
 }
 
-/// The greatest absolute value of each term.
-fn greatest_list(alloc: Global, domains: &[Domain], terms: &[Term]) -> Result<Vec<u64>, AllocError>
-    requires { All (IsTermOf (length domains.now)) terms.now }
-    ensures { IfOk result (λ greatest. greatest.items ≡ map (greatest_of domains.now) terms.now) }
+/// Whether a sum's width is above the greatest that is allowed.
+fn is_wide(domains: &[Domain], coefs: &[i64], terms: &[Term], total: u64) -> bool
+    requires known { All (IsTermOf (length domains.now)) terms.now }
+    requires shape { length coefs.now ≡ length terms.now }
+    ensures { result ≡ nat_lt widest (width_of coefs.now (map (greatest_of domains.now) terms.now) total) }
 {
-    let mut greatest = Vec::with_capacity(alloc, terms.len())?;
-    for term in terms {
-        greatest.push(greatest_of(domains, *term))?;
+    let mut width = u128::from(total);
+    for place in 0..coefs.len() {
+        let greatest = greatest_of(domains, terms[place]);
+        width = plus_greatest(width, coefs[place], greatest);
+        if width > WIDEST {
+            return true;
+        }
     }
-    Ok(greatest)
+    false
+}
+
+/// The width with one term more.
+fn plus_greatest(width: u128, coef: i64, greatest: u64) -> u128
+    requires { width ≤ widest }
+    ensures { result ≡ width + unsigned_abs coef * greatest }
+{
+    width + u128::from(coef.unsigned_abs()) * u128::from(greatest)
 }
 
 /// The greatest absolute value of a term: of a constant its own, of a variable the greatest over its domain.

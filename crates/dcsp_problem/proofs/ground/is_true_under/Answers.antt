@@ -1,8 +1,16 @@
-use Rattle.std.proofs.Common.{rules}
-use Rattle.dcsp_problem.proofs.MemberLaws.{found_is}
+use Rattle.std.proofs.Common.{◌∙◌, sym, ap}
+use Rattle.std.specs.Prelude.{Option}
+use Rattle.dcsp_defs.specs.Csp.{filled}
+use Rattle.dcsp_problem.specs.declared.pair.Pair.{Pair}
+use Rattle.dcsp_problem.specs.Forms.{form_has, pair_or_truth}
 use Rattle.dcsp_problem.proofs.ground.is_true_under.Goals as goal
 
-pub returns-in-Plain : goal.returns-in-Plain
-returns-in-Plain g c =
-    let set = rw c.in-Plain.is at c.requires.set in
-    rw (c.in-Plain.is, ← found_is c.in-Plain.members c.args.set.now set) (search rules)
+pub returns-in-Some : goal.returns-in-Some
+returns-in-Some g c =
+    let values = filled (g.L.Lookup.values c.args.lookup.now) in
+    c.is_true_under.ensures ∙ sym (ap (λ (o : Option Pair). pair_or_truth o (form_has c.args.form.now) c.args.rule.now values) (sym c.pair.ensures ∙ c.in-Some.is))
+
+pub returns-in-None : goal.returns-in-None
+returns-in-None g c =
+    let values = filled (g.L.Lookup.values c.args.lookup.now) in
+    c.is_found_true.ensures ∙ sym (ap (λ (o : Option Pair). pair_or_truth o (form_has c.args.form.now) c.args.rule.now values) (sym c.pair.ensures ∙ c.in-None.is))

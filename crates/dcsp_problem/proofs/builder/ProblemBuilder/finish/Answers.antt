@@ -1,10 +1,10 @@
 use Rattle.std.proofs.Common.{◌≡◌, ℕ, List, map, arith, ap, length, ◌∙◌, sym, subst}
-use Rattle.std.specs.Prelude.{All}
+use Rattle.std.specs.Prelude.{All, IsTrue}
 use Rattle.dcsp_defs.specs.Words.{below}
 use Rattle.dcsp_problem.specs.declared.rule.Rule.{Rule}
-use Rattle.dcsp_problem.specs.Rules.{IsRuleOf, scope_of}
+use Rattle.dcsp_problem.specs.Rules.{IsRuleOf, has_shape, scope_of}
 use Rattle.dcsp_problem.specs.Problems.{Contents}
-use Rattle.dcsp_problem.specs.Index.{member_set}
+use Rattle.dcsp_problem.specs.Forms.{AreForms}
 use Rattle.dcsp_problem.specs.Owners.{owned_among}
 use Rattle.dcsp_problem.specs.Lower.{lower_among}
 use Rattle.dcsp_problem.proofs.OwnerLists.{owned_lists_are}
@@ -16,6 +16,9 @@ use Rattle.dcsp_problem.proofs.builder.ProblemBuilder.finish.Goals as goal
 made_scopes : (variables : ℕ) (given rules : List Rule) (scopes : List (List ℕ)) → given ≡ rules → ((n : ℕ) → All (IsRuleOf n) given → scopes ≡ map (scope_of n) given) → All (IsRuleOf variables) rules → scopes ≡ map (scope_of variables) rules
 made_scopes variables given rules scopes same made all =
     made variables (subst (λ (z : List Rule). All (IsRuleOf variables) z) (sym same) all) ∙ ap (λ (z : List Rule). map (scope_of variables) z) same
+
+pub forms_of-requires : goal.forms_of-requires
+forms_of-requires c = subst (λ (z : List Rule). All (λ rule. IsTrue (has_shape rule)) z) (sym c.deref-2.ensures.value) (λ k d l. (c.self.invariant.problem.rules k d l).shape)
 
 pub owned_lists-requires-clause-few : goal.owned_lists-requires-clause-few
 owned_lists-requires-clause-few c =
@@ -47,4 +50,4 @@ from_parts-requires c =
     c.in_ok-owned.ensures ∙ c.deref-3.ensures.value ∙ c.in_ok-owners.ensures ∙ ap (λ (z : ℕ). map (owned_among c.in_ok-scopes.scopes) (below z)) many in
     let made_lower : c.in_ok-lower.lower ≡ map (lower_among c.in_ok-scopes.scopes (length p.domains)) (below (length p.domains)) =
     c.in_ok-lower.ensures ∙ ap (λ (z : ℕ). map (lower_among c.in_ok-scopes.scopes z) (below z)) many_lower in
-    record { problem = c.self.invariant.problem; each_scope = is; each_set = c.in_ok-sets.ensures ∙ ap (λ (z : List Rule). map member_set z) c.deref-2.ensures.value; each_owned = owned_lists_are p c.in_ok-scopes.scopes c.in_ok-owned.owned is made; each_lower = lower_lists_are p c.in_ok-scopes.scopes c.in_ok-lower.lower is made_lower }
+    record { problem = c.self.invariant.problem; each_scope = is; each_form = subst (λ (z : List Rule). AreForms c.in_ok-forms.forms.items z) c.deref-2.ensures.value c.in_ok-forms.ensures; each_owned = owned_lists_are p c.in_ok-scopes.scopes c.in_ok-owned.owned is made; each_lower = lower_lists_are p c.in_ok-scopes.scopes c.in_ok-lower.lower is made_lower }

@@ -1,5 +1,4 @@
-use Rattle.std.proofs.Common.{◌≡◌, ◌∙◌, ◌≤◌, ◌<◌, ◌+◌, ◌-◌, ℕ, arith, ap, length, sym}
-use Rattle.dcsp_problem.specs.Pieces.{pieces}
+use Rattle.std.proofs.Common.{arith, ap, length}
 use Rattle.dcsp_problem.proofs.PieceLaws.{place_there, bounds_are, piece_read}
 use Rattle.dcsp_problem.proofs.table.NumberTable.list.Goals as goal
 

@@ -1,4 +1,4 @@
-use Rattle.std.proofs.Common.{◌≡◌, ◌∙◌, ◌<◌, ℕ, List, [], ◌∷◌, ◌++◌, take, arith, ap, length, sym}
+use Rattle.std.proofs.Common.{◌∙◌, ◌<◌, ℕ, List, [], ◌∷◌, ◌++◌, take, arith, ap, length, sym}
 use Rattle.std.proofs.lemmas.List.{take_all, take_more}
 use Rattle.dcsp_problem.proofs.table.NumberTable.of_lists.Goals as goal
 
