@@ -13,5 +13,5 @@ returns-then-is_small c =
     let total_fits : SFits w128 c.args.parts.total = search rules in
     let was : c.args.parts.first ≡ Some first = search rules in
     let small = simp to_z-of_z at c.is_small.ensures in
-    rw (to_z-of_z w64 first.coef first_fits, to_z-of_z w64 other.coef other_fits, to_z-of_z w128 c.args.parts.total total_fits)
+    simp to_z-of_z
     (parts_pair c.args.rel c.args.parts first other was c.unwrap_or-second.ensures (small c.if-is_small.true))
