@@ -19,11 +19,10 @@ use Rattle.abt_promise.specs.Runs.{CameIn}
 use Rattle.abt_promise.proofs.Coming.{way_with, came_wrote}
 use Rattle.abt_input.specs.declared.error.CommandError.{CommandError}
 use Rattle.abt_input.specs.declared.error.CommandError.TheVariants.{ModelLong, ModelRefused, NoAim, LogLong, LogLine, ScheduleLong, ScheduleLine, Clauses, Fault, Memory}
-use Rattle.abt_input.specs.Inputs.{IsModelOf}
 use Rattle.abt_input.specs.Errors.{stop_error, way_of}
 use Rattle.abt_input.specs.Files.{UnlessFault}
 use Rattle.abt_input.proofs.Files.{some_bytes}
-use Rattle.abt_check.specs.Taking.{Taking, taking_of, IsTaken, IsTakenOf}
+use Rattle.abt_check.specs.Taking.{Taking, IsTakenOf}
 use Rattle.abt_check.specs.Checks.{IsOutcomeOfLog, IsLogFound, IsOutcome, IsFoundIn, FetchesFailed, IsRefutedBy, finding_status, finding_text}
 use Rattle.abt_check.specs.CheckReports.{bad_model, bad_log, found, check_promise}
 use Rattle.abt_check.proofs.Taken.{IsOfModel}

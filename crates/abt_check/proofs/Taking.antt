@@ -1,6 +1,6 @@
 -- Entries and pieces that a check takes.
 use Rattle.std.proofs.Common.{◌≡◌, ℕ, ◌+◌, ◌<◌, ◌≤◌, true, List, [], ◌∷◌, ◌++◌, length, take, drop, Option, Some, None, Result, Ok, Err, refl, sym, ap, subst, ◌∙◌, append_assoc, arith}
-use Rattle.std.specs.Prelude.{IfSome, OnOk, IsErrOf}
+use Rattle.std.specs.Prelude.{IfSome, OnOk}
 use Rattle.std.proofs.Math.Seq.{drop-append_seam}
 use Rattle.std.proofs.lemmas.List.{append-nil, length-append, take-append-drop}
 use Rattle.dcsp_defs.specs.declared.Step.{Step}
@@ -8,11 +8,9 @@ use Rattle.dcsp_outside.specs.Outside.{IsPrefixOf, FetchesPiece, AddsPiece, byte
 use Rattle.dcsp_outside.specs.declared.folder.Piece.{Piece}
 use Rattle.dcsp_outside.specs.declared.folder.Piece.TheVariants.{Part, End}
 use Rattle.ngd_log.specs.declared.entry.Entry.{Entry}
-use Rattle.ngd_log.specs.declared.log.LogError.{LogError}
-use Rattle.ngd_log.specs.declared.log.LogError.TheVariants.{Line, Memory}
 use Rattle.ngd_log.specs.declared.entry.Entry.TheVariants.{Step as A_step, Delete}
 use Rattle.ngd_log.specs.EntryReading.{good_entries}
-use Rattle.ngd_log.specs.Pieces.{IsFed, Completes}
+use Rattle.ngd_log.specs.Pieces.{IsFed, TakesFront, Completes}
 use Rattle.ngd_check.specs.Entries.{steps_of}
 use Rattle.ngd_check.specs.Progress.{HasTaken}
 use Rattle.dcsp_script.specs.declared.stop.Stop.{Stop}
@@ -33,15 +31,6 @@ steps_after (Delete ns ∷ xs) ys = steps_after xs ys
 pub same_task : (a b c : LogCheck) → HasSameTask a b → HasSameTask b c → HasSameTask a c
 same_task a b c h k = record { problem = k.problem ∙ h.problem; keeps = k.keeps ∙ h.keeps }
 
-pub gone_on : (a b c : LogCheck) (xs ys : List Entry) → HasGoneOn a b xs → HasGoneOn b c ys → HasGoneOn a c (xs ++ ys)
-gone_on a b c xs ys h k = record {
-  task = same_task a b c h.task k.task;
-  reader = k.reader ∙ h.reader;
-  taken = λ before t. subst (λ es. HasTaken es c.checker) (append_assoc before xs ys) (k.taken (before ++ xs) (h.taken before t));
-  kept = λ e.
-      k.kept (h.task.keeps ∙ e) ∙ ap (λ s. s ++ steps_of ys) (h.kept e) ∙ append_assoc a.steps (steps_of xs) (steps_of ys) ∙ ap (λ s. a.steps ++ s) (sym (steps_after xs ys));
-}
-
 pub gone_nowhere : (a : LogCheck) → HasGoneOn a a []
 gone_nowhere a = record {
   task = record { problem = refl; keeps = refl };
@@ -49,18 +38,6 @@ gone_nowhere a = record {
   taken = λ before t. subst (λ es. HasTaken es a.checker) (sym (append-nil before)) t;
   kept = λ e. sym (append-nil a.steps);
 }
-
--- one entry more
-pub front_more : (a b c : LogCheck) (entries others rest : List Entry) (entry : Entry) → HasTakenFront a b entries others → others ≡ entry ∷ rest → HasGoneOn b c (entry ∷ []) → HasTakenFront a c entries rest
-front_more a b c entries others rest entry h e k = record {
-  front = h.front ++ entry ∷ [];
-  parts = h.parts ∙ ap (λ x. h.front ++ x) e ∙ sym (append_assoc h.front (entry ∷ []) rest);
-  gone_on = gone_on a b c h.front (entry ∷ []) h.gone_on k;
-}
-
--- none is left
-pub front_whole : (a b : LogCheck) (entries others : List Entry) → HasTakenFront a b entries others → others ≡ [] → HasGoneOn a b entries
-front_whole a b entries others h e = subst (λ es. HasGoneOn a b es) (sym (h.parts ∙ ap (λ x. h.front ++ x) e ∙ append-nil h.front)) h.gone_on
 
 -- ---- pieces
 
@@ -77,11 +54,44 @@ piece_come old mid new text piece entries keeps checker steps fed completes on h
           on.kept (keeps ∙ was) ∙ ap (λ s. s ++ steps_of entries) (steps ∙ h.kept was) ∙ sym (steps_after (good_entries text) entries) ∙ ap steps_of all;
     }
 
--- what holds after success holds where memory was not wanted, since a bad line leaves it too
-pub unless_memory : (r : Result (Unit {0}) LogError) (P : Type 0) → (r ≡ Err Memory → ⊥) → OnOk r P → ((number : ℕ) → IsErrOf r (Line number) → P) → P
-unless_memory (Ok x) P n ok line = ok
-unless_memory (Err (Line number)) P n ok line = line number refl
-unless_memory (Err Memory) P n ok line = absurd (n refl)
+-- no byte has come
+pub front_none : (a : LogCheck) (piece : List ℕ) → HasTakenFront a a piece piece
+front_none a piece = record {
+  front = [];
+  parts = refl;
+  task = record { problem = refl; keeps = refl };
+  counted = omega arith;
+  come = λ text h. subst (λ t. HasCome a t) (sym (append-nil text)) h;
+}
+
+-- the reader took more, and the check took what it lends
+pub front_more : (a b mid c : LogCheck) (piece rest others : List ℕ) → HasTakenFront a b piece rest → HasSameTask b mid → mid.checker ≡ b.checker → mid.steps ≡ b.steps
+    → TakesFront b.reader mid.reader rest others → HasGoneOn mid c mid.reader.lent → HasTakenFront a c piece others
+front_more a b mid c piece rest others h task checker steps t on = record {
+  front = h.front ++ t.front;
+  parts = h.parts ∙ ap (λ p. h.front ++ p) t.parts ∙ sym (append_assoc h.front t.front others);
+  task = same_task a mid c (same_task a b mid h.task task) on.task;
+  counted = (let m = h.counted in let n = t.counted in let l = length-append h.front t.front in let r : c.reader.fed ≡ mid.reader.fed = ap (λ k. k.fed) on.reader in omega (arith, m, n, l, r));
+  come = λ text come.
+      let before = h.come text come in
+      let at = text ++ h.front in
+      let completes : Completes at t.front [] mid.reader.lent = record { appended = mid.reader.lent; same = refl; entries = t.entries at before.fed } in
+      subst (λ p. HasCome c p) (append_assoc text h.front t.front)
+      (piece_come b mid c at t.front mid.reader.lent task.keeps checker steps (t.fed at before.fed) completes on before);
+}
+
+-- the reader took the rest, which lends nothing
+pub front_whole : (a b mid : LogCheck) (piece rest : List ℕ) → HasTakenFront a b piece rest → HasSameTask b mid → mid.checker ≡ b.checker → mid.steps ≡ b.steps
+    → TakesFront b.reader mid.reader rest [] → mid.reader.lent ≡ [] → HasTakenFront a mid piece []
+front_whole a b mid piece rest h task checker steps t none = front_more a b mid mid piece rest [] h task checker steps t (subst (λ es. HasGoneOn mid mid es) (sym none) (gone_nowhere mid))
+
+-- all of the piece has come
+pub front_come : (a b : LogCheck) (piece : List ℕ) → HasTakenFront a b piece [] → (text : List ℕ) → HasCome a text → HasCome b (text ++ piece)
+front_come a b piece h text come = subst (λ p. HasCome b (text ++ p)) (sym (h.parts ∙ append-nil h.front)) (h.come text come)
+
+-- how many bytes come with the rest
+pub front_room : (a b : LogCheck) (piece rest : List ℕ) → HasTakenFront a b piece rest → b.reader.fed + length rest ≡ a.reader.fed + length piece
+front_room a b piece rest h = let m = h.counted in let n = ap length h.parts in let l = length-append h.front rest in omega (arith, m, n, l)
 
 pub on_ok : {T E A B : Type 0} (r : Result T E) → OnOk r A → (A → B) → OnOk r B
 on_ok (Ok x) a f = f a

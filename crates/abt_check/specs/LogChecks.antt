@@ -31,17 +31,19 @@ pub record HasGoneOn (old new : LogCheck) (entries : List Entry) : Type 0 where
   pub taken : (before : List Entry) → HasTaken before old.checker → HasTaken (before ++ entries) new.checker
   pub kept : old.keeps ≡ true → new.steps ≡ old.steps ++ steps_of entries
 
--- the first of the entries were taken, and the others wait
-pub record HasTakenFront (old new : LogCheck) (entries others : List Entry) : Type 0 where
-  pub front : List Entry
-  pub parts : entries ≡ front ++ others
-  pub gone_on : HasGoneOn old new front
-
 -- the text has come: it was read, the entries of its good lines were checked, and their steps are kept where steps are
 pub record HasCome (check : LogCheck) (text : List ℕ) : Type 0 where
   pub fed : IsFed check.reader text
   pub taken : HasTaken (good_entries text) check.checker
   pub kept : check.keeps ≡ true → check.steps ≡ steps_of (good_entries text)
+
+-- the front of a piece has come, and the rest waits
+pub record HasTakenFront (old new : LogCheck) (piece rest : List ℕ) : Type 0 where
+  pub front : List ℕ
+  pub parts : piece ≡ front ++ rest
+  pub task : HasSameTask old new
+  pub counted : new.reader.fed ≡ old.reader.fed + length front
+  pub come : (text : List ℕ) → HasCome old text → HasCome new (text ++ front)
 
 -- as many bytes have come; where the folder tells its files, they are the first of the name's
 pub record StandsAt (files : Option (List ℕ → Option (List ℕ))) (name : List ℕ) (from : ℕ) (check : LogCheck) : Type 0 where

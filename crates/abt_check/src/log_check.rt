@@ -1,9 +1,9 @@
 //! A log that is checked as its pieces come.
 
-ghost use Rattle.std.specs.Prelude.{◌≡◌, ℕ, ◌+◌, ◌++◌, ◌∷◌, [], ◌^◌, ◌≤◌, true, List, length, OnOk, Ok, Err};
+ghost use Rattle.std.specs.Prelude.{◌≡◌, ℕ, ◌+◌, ◌++◌, ◌∷◌, [], ◌^◌, ◌≤◌, true, List, length, Some, OnOk, Ok, Err};
 ghost use Rattle.dcsp_defs.specs.Csp.{HasNoSolution};
 ghost use Rattle.dcsp_problem.specs.Problems.{csp_of};
-ghost use Rattle.ngd_log.specs.declared.entry.Entry.{Entry as AnEntry};
+ghost use Rattle.ngd_log.specs.Lent.{lent_entries};
 ghost use Rattle.ngd_check.specs.Entries.{steps_of};
 ghost use Rattle.abt_input.specs.Inputs.{most_log};
 ghost use Rattle.abt_check.specs.Checks.{IsOutcomeOfLog};
@@ -13,7 +13,7 @@ use abt_input::CommandError;
 use dcsp_list::Memory;
 use dcsp_problem::Problem;
 use ngd_check::{Checker, Finding};
-use ngd_log::{Derivation, Entries, Entry, LogError, LogReader};
+use ngd_log::{Derivation, Lent, LogError, LogReader, Step};
 use std::alloc::Global;
 
 /// A log of either version that is checked as its pieces come. Neither its text nor its entries are kept.
@@ -37,14 +37,20 @@ pub struct Checked {
     pub steps: Derivation,
 }
 
-/// Keeps the entry where it is a step.
-fn keep_step(steps: &mut Derivation, entry: Entry) -> Result<(), Memory>
-    ensures { OnOk result (steps.new ≡ steps.old ++ steps_of (entry ∷ [])) }
+/// Keeps a copy of the entry where it is a step.
+fn keep_step(alloc: Global, steps: &mut Derivation, entry: &Lent<'_>) -> Result<(), Memory>
+    ensures { OnOk result (steps.new ≡ steps.old ++ steps_of (lent_entries (Some entry.now))) }
 {
     match entry {
-        Entry::Step(step) => steps.push(step).map_err(|_| Memory),
-        Entry::Delete(_) => Ok(()),
+        Lent::Step(step) => push_step(steps, step.copy(alloc)?),
+        Lent::Delete(_) => Ok(()),
     }
+}
+
+fn push_step(steps: &mut Derivation, step: Step) -> Result<(), Memory>
+    ensures { OnOk result (steps.new ≡ steps.old ++ step ∷ []) }
+{
+    steps.push(step).map_err(|_| Memory)
 }
 
 impl<'p> LogCheck<'p> {
@@ -63,24 +69,18 @@ impl<'p> LogCheck<'p> {
         }
     }
 
-    fn take_entry(&mut self, entry: Entry) -> Result<(), Memory>
-        ensures { OnOk result (HasGoneOn self.old self.new (entry ∷ [])) }
+    /// Takes the entry that the reader lends, if there is one.
+    fn take_lent(&mut self) -> Result<(), Memory>
+        ensures { OnOk result (HasGoneOn self.old self.new self.old.reader.lent) }
     {
+        let Some(entry) = self.reader.lent() else {
+            return Ok(());
+        };
         self.checker.take(&entry)?;
         if !self.keeps {
             return Ok(());
         }
-        keep_step(&mut self.steps, entry)
-    }
-
-    /// Takes the entries in order.
-    fn take_entries(&mut self, entries: &mut Entries) -> Result<(), Memory>
-        ensures { OnOk result (HasGoneOn self.old self.new entries.old) }
-    {
-        while let Some(entry) = entries.take_first() {
-            self.take_entry(entry)?;
-        }
-        Ok(())
+        keep_step(self.alloc, &mut self.steps, &entry)
     }
 
     /// Takes the next piece of the log, and checks the entries of the lines that it completes.
@@ -91,11 +91,12 @@ impl<'p> LogCheck<'p> {
         ensures task { OnOk result (HasSameTask self.old self.new) }
         ensures come { (text : List ℕ) → HasCome self.old text → OnOk result (HasCome self.new (text ++ piece.now)) }
     {
-        let mut entries = Entries::new(self.alloc);
-        match self.reader.feed(piece, &mut entries) {
-            Ok(()) | Err(LogError::Line { .. }) => self.take_entries(&mut entries),
-            Err(LogError::Memory) => Err(Memory),
+        let mut rest = piece;
+        while let Some(others) = self.reader.take_line(rest)? {
+            self.take_lent()?;
+            rest = others;
         }
+        Ok(())
     }
 
     /// What is found of the log that has come.

@@ -3,7 +3,7 @@
 use crate::given::{derivation_of, let_go, let_steps_go, smallest};
 use dcsp_problem::Problem;
 use ngd_check::{Checker, Finding, check};
-use ngd_log::{Derivation, Entry, NumberList, ReasonList, Step};
+use ngd_log::{Derivation, Lent, LentStep, Step};
 use std::alloc::Global;
 use std::process::Abort;
 
@@ -63,38 +63,22 @@ fn finds(rt: HostRuntime) {
 /// What comes next in a list of entries.
 #[derive(Clone, Copy, Debug)]
 enum Next {
-    /// A copy of the step at this place.
+    /// The step at this place.
     Take(usize),
     Delete(u64),
 }
 
 use Next::{Delete, Take};
 
-fn copy_of(rt: &impl Abort, alloc: Global, step: &Step) -> Step {
-    let reasons = Vec::from_slice(alloc, step.reasons.items()).expect(rt, "memory");
-    Step {
-        variable: step.variable,
-        nogood: step.nogood.copy(alloc).expect(rt, "memory"),
-        reasons: ReasonList::from_vec(reasons),
-    }
-}
-
-fn entry_of(rt: &impl Abort, alloc: Global, steps: &[Step], next: Next) -> Entry {
+/// The checker takes what comes next.
+fn take(rt: &impl Abort, checker: &mut Checker<'_>, steps: &[Step], next: Next) {
     match next {
         Take(place) => {
             let step = steps.get(place).expect(rt, "a step");
-            Entry::Step(copy_of(rt, alloc, step))
+            assert!(rt; checker.take(&Lent::Step(LentStep::of(step))).is_ok());
         }
-        Delete(number) => {
-            let numbers = vec![in alloc; number].expect(rt, "memory");
-            Entry::Delete(NumberList::from_vec(numbers))
-        }
+        Delete(number) => assert!(rt; checker.take(&Lent::Delete(&[number])).is_ok()),
     }
-}
-
-/// The checker takes the entry.
-fn take(rt: &impl Abort, checker: &mut Checker<'_>, entry: Entry) {
-    assert!(rt; checker.take(&entry).is_ok());
 }
 
 /// What the checker finds.
@@ -113,8 +97,7 @@ fn expect_of_entries(
 ) {
     let mut checker = Checker::new(alloc, problem);
     for next in list {
-        let entry = entry_of(rt, alloc, steps, *next);
-        take(rt, &mut checker, entry);
+        take(rt, &mut checker, steps, *next);
     }
     assert_eq!(rt; ended(checker), finding, "{list:?}");
 }

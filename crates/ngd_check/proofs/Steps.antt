@@ -5,6 +5,9 @@ use Rattle.std.proofs.lemmas.Bool.Decides.{eqb_tells}
 use Rattle.dcsp_defs.specs.declared.Step.{Step}
 use Rattle.dcsp_defs.specs.Csp.{Nogood, IsCsp, HasNoSolution}
 use Rattle.dcsp_problem.specs.Problems.{csp_of}
+use Rattle.ngd_log.specs.declared.lent.Lent.{Lent}
+use Rattle.ngd_log.specs.declared.lent.Lent.TheVariants as lents
+use Rattle.ngd_log.specs.Lent.{lent_entries}
 use Rattle.ngd_log.specs.declared.entry.Entry.{Entry}
 use Rattle.ngd_log.specs.declared.entry.Entry.TheVariants.{Step as A_step, Delete}
 use Rattle.ngd_check.specs.declared.Finding.{Finding}
@@ -36,6 +39,11 @@ progress_stays q f es more found h =
     let M : Option Finding → Type 0 = λ o. MatchOption o (HasTakenRight (csp_of q.problem) es q.kept q.ends_empty) (IsWrongAt (csp_of q.problem) es) in
     let N : Option Finding → Type 0 = λ o. MatchOption o (HasTakenRight (csp_of q.problem) (es ++ more ∷ []) q.kept q.ends_empty) (IsWrongAt (csp_of q.problem) (es ++ more ∷ [])) in
     subst N (sym found) (wrong_stays (csp_of q.problem) es more f (subst M found h))
+
+-- the same of an entry that is lent
+pub progress_stays_lent : (q : Progress) (f : Finding) (es : List Entry) (more : Lent) → q.wrong ≡ Some f → HasTaken es q → HasTaken (es ++ lent_entries (Some more)) q
+progress_stays_lent q f es (lents.Step step) found h = progress_stays q f es (A_step step) found h
+progress_stays_lent q f es (lents.Delete numbers) found h = progress_stays q f es (Delete numbers.now) found h
 
 -- right entries that end in the empty nogood leave no solution
 pub progress_refutes : (q : Progress) (es : List Entry) → IsCsp (csp_of q.problem) → HasTaken es q → q.wrong ≡ None → q.ends_empty ≡ true → HasNoSolution (csp_of q.problem)

@@ -1,10 +1,11 @@
 //! A checker of entries that come one by one.
 
-ghost use Rattle.std.specs.Prelude.{◌≡◌, ◌↔◌, IsTrue, IfOk, [], ◌∷◌, ◌++◌, None, List, OnOk, OnErr};
+ghost use Rattle.std.specs.Prelude.{◌≡◌, ◌↔◌, IsTrue, IfOk, [], ◌∷◌, ◌++◌, None, Some, List, OnOk, OnErr};
 ghost use Rattle.dcsp_defs.specs.Csp.{HasNoSolution};
 ghost use Rattle.dcsp_problem.specs.Problems.{csp_of};
 ghost use Rattle.ngd_log.specs.declared.entry.Entry.{Entry};
 ghost use Rattle.ngd_log.specs.declared.entry.Entry.TheVariants.{Step as A_step, Delete};
+ghost use Rattle.ngd_log.specs.Lent.{lent_entries};
 ghost use Rattle.ngd_check.specs.Findings.{IsFindingOf};
 ghost use Rattle.ngd_check.specs.Citing.{IsRightCiting};
 ghost use Rattle.ngd_check.specs.Places.{ArePlaced};
@@ -19,7 +20,7 @@ use crate::present::Present;
 use crate::step::is_right_by;
 use dcsp_list::Memory;
 use dcsp_problem::Problem;
-use ngd_log::{Entry, Step};
+use ngd_log::{Lent, LentStep};
 use std::alloc::Global;
 use std::marker::Model;
 
@@ -68,25 +69,26 @@ impl<'p> Checker<'p> {
         }
     }
 
-    /// Takes the next entry. A refusal, which is for want of memory alone, leaves the checker as it was.
-    pub fn take(&mut self, entry: &Entry) -> Result<(), Memory>
+    /// Takes the next entry, of which it keeps what it needs. A refusal, which is for want of memory alone, leaves
+    /// the checker as it was.
+    pub fn take(&mut self, entry: &Lent<'_>) -> Result<(), Memory>
         ensures problem { self.new.problem ≡ self.old.problem }
-        ensures taken { (entries : List Entry) → HasTaken entries self.old → OnOk result (HasTaken (entries ++ entry.now ∷ []) self.new) }
+        ensures taken { (entries : List Entry) → HasTaken entries self.old → OnOk result (HasTaken (entries ++ lent_entries (Some entry.now)) self.new) }
         ensures err { OnErr result (self.new ≡ self.old) }
     {
         if self.wrong.is_some() {
             return Ok(());
         }
         match entry {
-            Entry::Step(step) => self.take_step(step),
-            Entry::Delete(numbers) => {
-                self.take_deletion(numbers.items());
+            Lent::Step(step) => self.take_step(step),
+            Lent::Delete(numbers) => {
+                self.take_deletion(numbers);
                 Ok(())
             }
         }
     }
 
-    fn take_step(&mut self, step: &Step) -> Result<(), Memory>
+    fn take_step(&mut self, step: &LentStep<'_>) -> Result<(), Memory>
         requires { self.old.wrong ≡ None }
         ensures problem { self.new.problem ≡ self.old.problem }
         ensures taken { (entries : List Entry) → HasTaken entries self.old → OnOk result (HasTaken (entries ++ A_step step.now ∷ []) self.new) }
@@ -95,7 +97,7 @@ impl<'p> Checker<'p> {
         let right = is_right_after(&self.kept, &mut self.present, &mut self.placed, step)?;
         if right {
             self.kept.push(&self.placed)?;
-            self.ends_empty = step.nogood.pairs().is_empty();
+            self.ends_empty = step.pairs().is_empty();
         } else {
             self.wrong = Some(Finding::BadStep {
                 step: self.kept.len() + 1,
@@ -142,7 +144,7 @@ fn is_right_after(
     kept: &Kept,
     present: &mut Present,
     placed: &mut Vec<Placed>,
-    step: &Step,
+    step: &LentStep<'_>,
 ) -> Result<bool, Memory>
     requires { IsClear present.old }
     ensures right { IfOk result (λ right. IsTrue right ↔ IsRightCiting (csp_of kept.now.problem) (kept_at kept.now.nogoods) step.now) }
@@ -150,7 +152,7 @@ fn is_right_after(
     ensures clear { IsClear present.new }
 {
     let problem = kept.problem();
-    if !place_each(problem, step.nogood.pairs(), placed)? {
+    if !place_each(problem, step.pairs(), placed)? {
         return Ok(false);
     }
     is_right_by(problem, kept, present, step)

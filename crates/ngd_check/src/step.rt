@@ -17,7 +17,7 @@ use crate::present::Present;
 use dcsp_list::Memory;
 use dcsp_nogood::Pair;
 use dcsp_problem::{Lookup, Problem};
-use ngd_log::{Reason, Step};
+use ngd_log::{LentStep, Reason, Step};
 
 /// Whether the step is right. The problem has so many variables.
 pub fn is_right<C: Cites>(problem: &Problem, vars: u32, nogoods: &C, step: &Step) -> bool
@@ -30,7 +30,7 @@ pub fn is_right<C: Cites>(problem: &Problem, vars: u32, nogoods: &C, step: &Step
     let known = Searched {
         nogood: &step.nogood,
     };
-    is_right_known(problem, vars, nogoods, &known, step)
+    is_right_known(problem, vars, nogoods, &known, &LentStep::of(step))
 }
 
 /// The same of a step whose pairs are those of variables of the problem and values of their domains, and are
@@ -40,14 +40,14 @@ pub fn is_right_known<C: Cites, L: Lookup>(
     vars: u32,
     nogoods: &C,
     known: &L,
-    step: &Step,
+    step: &LentStep<'_>,
 ) -> bool
     requires vars { vars ≡ length problem.now.domains }
     requires pairs { All (IsKnownPair (csp_of problem.now)) step.now.nogood }
     requires known { L.values known.now ≡ value_at step.now.nogood }
     ensures { IsTrue result ↔ IsRightCiting (csp_of problem.now) (C.cited nogoods.now) step.now }
 {
-    match step.variable {
+    match step.variable() {
         Some(var) => is_right_at(problem, vars, nogoods, known, var, step),
         None => is_right_nowhere(problem, step),
     }
@@ -58,7 +58,7 @@ pub fn is_right_by<C: Cites>(
     problem: &Problem,
     nogoods: &C,
     present: &mut Present,
-    step: &Step,
+    step: &LentStep<'_>,
 ) -> Result<bool, Memory>
     requires pairs { All (IsKnownPair (csp_of problem.now)) step.now.nogood }
     requires clear { IsClear present.old }
@@ -67,9 +67,9 @@ pub fn is_right_by<C: Cites>(
 {
     let vars = problem.vars();
     present.make_ready(vars)?;
-    present.take_in(step.nogood.pairs());
+    present.take_in(step.pairs());
     let right = is_right_known(problem, vars, nogoods, present, step);
-    present.clear(step.nogood.pairs());
+    present.clear(step.pairs());
     Ok(right)
 }
 
@@ -79,7 +79,7 @@ fn is_right_at<C: Cites, L: Lookup>(
     nogoods: &C,
     known: &L,
     var: u32,
-    step: &Step,
+    step: &LentStep<'_>,
 ) -> bool
     requires vars { vars ≡ length problem.now.domains }
     requires pairs { All (IsKnownPair (csp_of problem.now)) step.now.nogood }
@@ -87,14 +87,14 @@ fn is_right_at<C: Cites, L: Lookup>(
     ensures { IsTrue result ↔ IsRightAtCiting (csp_of problem.now) (C.cited nogoods.now) var step.now }
 {
     // The pairs of a nogood rise, whatever is asked of them.
-    let _pairs = step.nogood.pairs();
+    let _pairs = step.pairs();
     if var >= vars {
         return false;
     }
     if known.value_of(var).is_some() {
         return false;
     }
-    are_reasons(problem, nogoods, known, var, step.reasons.items())
+    are_reasons(problem, nogoods, known, var, step.reasons())
 }
 
 /// Whether each pair names a variable of the problem and a value of its domain.
@@ -166,12 +166,11 @@ fn is_reason<C: Cites, L: Lookup>(
 }
 
 /// Whether the step has no variable and rests on a rule without variables that is false.
-fn is_right_nowhere(problem: &Problem, step: &Step) -> bool
+fn is_right_nowhere(problem: &Problem, step: &LentStep<'_>) -> bool
     ensures { IsTrue result ↔ IsRightNowhere (csp_of problem.now) step.now }
 {
-    match step.reasons.items() {
-        [Reason::Rule(number)] => step.nogood.pairs().is_empty()
-            && is_false_alone(problem, *number),
+    match step.reasons() {
+        [Reason::Rule(number)] => step.pairs().is_empty() && is_false_alone(problem, *number),
         _ => false,
     }
 }

@@ -13,7 +13,7 @@ use Rattle.ngd_log.specs.Logs.{lines, HasNoLineFeed, IsLine}
 use Rattle.ngd_log.specs.Entries.{steps_of}
 use Rattle.ngd_log.specs.EntryTexts.{head, entries_text, HaveText, IsLogOfEntries, IsFirstBadLine}
 use Rattle.ngd_log.specs.EntryReading.{good_entries}
-use Rattle.ngd_log.specs.Pieces.{Kept, refusal_of, fault_of, Tells, open_text, IsStuck, IsAt, IsFed, Feeds, Completes, GoesOn, IsWhole, IsRefused}
+use Rattle.ngd_log.specs.Pieces.{Kept, refusal_of, fault_of, Tells, open_text, IsStuck, IsAt, IsFed, Feeds, TakesFront, Completes, GoesOn, IsWhole, IsRefused}
 use Rattle.ngd_log.proofs.LogLines.{tail, cons_head}
 use Rattle.ngd_log.proofs.LineFeeds.{lines_plain, line_has_feed, lines_after, no_lines}
 use Rattle.ngd_log.proofs.EntryLines.{head-IsLine, entry_line-IsLine, front_lines, lines_of_front, lines_of_text, entry_none}
@@ -317,3 +317,17 @@ read_more old new r text piece xs ys h fed t again ok line = record { fed = fed;
     completes n (Ok x) e = (subst (λ (s : Result (Unit {0}) LogError). OnOk s ((text : List ℕ) → IsFed old text → Completes text piece xs ys)) e ok) text h.fed
     completes n (Err (Line number)) e = line number e text h.fed
     completes n (Err Memory) e = absurd (n (tells_err (refusal_of new.standing) r Memory t e))
+
+-- the front of a piece with what it lends, where memory did not run out
+pub takes_front : (old new : Kept) (piece front rest : List ℕ) → piece ≡ front ++ rest → Feeds old new front [] new.lent → (new.standing ≡ Refused Memory → ⊥) → TakesFront old new piece rest
+takes_front old new piece front rest e h enough = record {
+  front = front;
+  parts = e;
+  counted = h.fed;
+  fed = λ text f. feed_fed old new text front [] new.lent h f;
+  entries = λ text f. let c = feed_completes old new text front [] new.lent h enough f in ap (λ (es : List Entry). good_entries text ++ es) c.same ∙ c.entries;
+}
+
+-- all of a piece, which lends nothing
+pub takes_part : (old new : Kept) (piece : List ℕ) → new.lent ≡ [] → ((entries : List Entry) → Feeds old new piece entries entries) → (new.standing ≡ Refused Memory → ⊥) → TakesFront old new piece []
+takes_part old new piece none h enough = takes_front old new piece piece [] (sym (append-nil piece)) (subst (λ (es : List Entry). Feeds old new piece [] es) (sym none) (h [])) enough

@@ -1,9 +1,11 @@
 -- The test of a rising list of pairs.
-use Rattle.std.proofs.Common.{◌≡◌, ℕ, zero, suc, ◌+◌, ◌-◌, ◌<◌, true, false, List, [], ◌∷◌, Some, None, cond, refl, arith}
+use Rattle.std.proofs.Common.{◌≡◌, ℕ, zero, suc, ◌+◌, ◌<◌, Bool, true, false, ◌&&◌, nat_lt, List, [], ◌∷◌, Some, None, cond, refl, sym, ap, arith, ◌-◌, ◌≤◌, length, take, drop}
 use Rattle.std.proofs.lemmas.Bool.{ltb-true, lt-ltb}
 use Rattle.dcsp_defs.proofs.Lists.{and_left, and_right, and_both}
 use Rattle.dcsp_nogood.specs.declared.Pair.{Pair}
-use Rattle.dcsp_nogood.specs.Pairs.{IsRising, IsFirstFall}
+use Rattle.std.specs.Prelude.{slice_index_or}
+use Rattle.std.proofs.lemmas.List.{take_all}
+use Rattle.dcsp_nogood.specs.Pairs.{no_pair, IsRising}
 use Rattle.ngd_log.specs.Reading.{rises, nogood_of}
 
 -- pairs that pass the test rise
@@ -28,17 +30,22 @@ IsRising-rises (y ∷ z ∷ ys) h =
 pub nogood_of-rising : (ys : List Pair) → IsRising ys → nogood_of ys ≡ Some ys
 nogood_of-rising ys h = rw (IsRising-rises ys h) refl
 
--- and pairs that fall are none
-pub nogood_of-fall : (ys : List Pair) (place : ℕ) → IsFirstFall ys place → nogood_of ys ≡ None
-nogood_of-fall ys place f =
-    (elim (rises ys) as (λ b. rises ys ≡ b → cond b (Some ys) None ≡ None) [
-      | true ↦ λ e.
-          let k : place - 1 + 1 ≡ place = let p = f.not_first in omega arith in
-          let up = rises-IsRising ys e (place - 1) (let w = f.within in omega arith) in
-          let down = f.falls in
-          absurd (omega (arith, rw k at up))
-      | false ↦ λ e. refl
-    ]) refl
+-- whether the pairs rise after a variable
+abbrev pub rises_after : ℕ → List Pair → Bool
+rises_after last [] = true
+rises_after last (y ∷ ys) = nat_lt last y.var && rises_after y.var ys
+
+-- after a first pair the others rise so
+pub rises-after : (y : Pair) (ys : List Pair) → rises (y ∷ ys) ≡ rises_after y.var ys
+rises-after y [] = refl
+rises-after y (z ∷ ys) = ap (λ b. nat_lt y.var z.var && b) (rises-after z ys)
+
+-- the same of the parts of a list
+pub rises-parts : (ys : List Pair) → 1 ≤ length ys → rises_after (slice_index_or ys 0 no_pair).var (drop 0 (take (length ys - 1) (drop 1 ys))) ≡ rises ys
+rises-parts [] h = absurd (omega arith)
+rises-parts (y ∷ zs) h =
+    let e : take (length (y ∷ zs) - 1) zs ≡ zs = take_all (length (y ∷ zs) - 1) zs (omega arith) in
+    rw e (sym (rises-after y zs))
 
 -- what is a nogood rises
 pub nogood_of-rises : (ys nogood : List Pair) → nogood_of ys ≡ Some nogood → (ys ≡ nogood) × IsRising ys

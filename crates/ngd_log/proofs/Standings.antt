@@ -1,7 +1,7 @@
 -- Where a reader stands after a line and after a piece.
-use Rattle.std.proofs.Common.{◌≡◌, ℕ, ◌+◌, ◌<◌, ◌≤◌, List, [], ◌∷◌, ◌++◌, length, Some, None, inl, inr, refl, sym, ap, subst, ◌∙◌, append_assoc, arith}
+use Rattle.std.proofs.Common.{◌≡◌, ◌≢◌, ℕ, ◌+◌, ◌<◌, ◌≤◌, List, [], ◌∷◌, ◌++◌, length, Some, None, inl, inr, refl, sym, ap, subst, ◌∙◌, append_assoc, arith}
 use Rattle.std.specs.Prelude.{codes}
-use Rattle.std.specs.List.{concat}
+use Rattle.std.specs.List.{AllByRecursion, concat}
 use Rattle.std.proofs.lemmas.List.{append-nil, length-append, length_push}
 use Rattle.std.proofs.lemmas.List.Folds.{concat-append}
 use Rattle.ngd_log.specs.declared.entry.Entry.{Entry}
@@ -14,9 +14,13 @@ use Rattle.ngd_log.specs.declared.standing.Standing.{Standing}
 use Rattle.ngd_log.specs.declared.standing.Standing.TheVariants.{Start, Inside, Ended, Refused}
 use Rattle.ngd_log.specs.Logs.{HasNoLineFeed, IsLine}
 use Rattle.ngd_log.specs.Entries.{steps_of}
-use Rattle.ngd_log.specs.EntryTexts.{next_number, head, entries_text, IsEntryLine}
+use Rattle.ngd_log.specs.declared.standing.Kind.{Kind}
+use Rattle.ngd_log.specs.declared.standing.Kind.TheVariants as kinds
+use Rattle.ngd_log.specs.declared.reader.Gathered.{Gathered}
+use Rattle.ngd_log.specs.EntryTexts.{next_number, head, entries_text, IsEntryLine, IsWritableEntry}
+use Rattle.ngd_log.specs.Lent.{entry_in, RisesIn}
 use Rattle.ngd_log.specs.EntryReading.{entry_of, version_of}
-use Rattle.ngd_log.specs.Pieces.{Kept, open_text, IsEnded, IsStuck, Stands, IsPart, IsAt, IsWithin, IsSound, Feeds, FeedsFront, Follows}
+use Rattle.ngd_log.specs.Pieces.{Kept, open_text, IsEnded, IsStuck, Stands, IsPart, IsAt, IsWithin, IsNextPlace, IsSound, IsLentAlone, Feeds, FeedsFront, Follows}
 use Rattle.ngd_log.proofs.LogLines.{tail}
 use Rattle.ngd_log.proofs.LineFeeds.{both}
 use Rattle.ngd_log.proofs.EntryLines.{no_entries, HaveText-push, steps_of-append, front_lines, entry_takes}
@@ -120,6 +124,20 @@ after_entry place next line entry xs ys read more same_version same_step same_li
         line = (let k = h.line in omega (arith, same_line, k, l));
       };
 }
+
+-- the line of an entry that was read
+pub after_kind : (place next : Place) (line : List ℕ) (kind : Kind) (g : Gathered) → entry_of place.version place.step line ≡ Some (entry_in kind g) → IsNextPlace place kind next → Follows (Inside place) (Inside next) line [] (entry_in kind g ∷ [])
+after_kind place next line kinds.Step g read n = after_entry place next line (entry_in kinds.Step g) [] (entry_in kinds.Step g ∷ []) read refl n.version n.step n.line
+after_kind place next line kinds.Delete g read n = after_entry place next line (entry_in kinds.Delete g) [] (entry_in kinds.Delete g ∷ []) read refl n.version n.step n.line
+
+-- the pairs of an entry that can stand in a text rise
+rises_in : (v : Version) (entry : Entry) → IsWritableEntry v entry → RisesIn entry
+rises_in v (A_step step) w = w.rising
+rises_in v (Delete ns) w = tt
+
+-- the pairs of an entry that was read rise
+pub rising_read : (place : Place) (line : List ℕ) (entry : Entry) → entry_of place.version place.step line ≡ Some entry → AllByRecursion RisesIn (entry ∷ [])
+rising_read place line entry read = (rises_in place.version entry (entry_takes place.version place.step line entry read).writable, tt)
 
 -- another line
 pub after_bad : (place : Place) (line : List ℕ) (xs : List Entry) → entry_of place.version place.step line ≡ None → (line ≡ tail → ⊥) → IsLine line → Follows (Inside place) (Refused (Line place.line)) line xs xs
@@ -246,6 +264,14 @@ feeds_both a b c p q xs ys zs f g = record {
   stays = λ error e. g.stays error (f.stays error e);
 }
 
+-- a line whose entry is handed on
+pub feeds_on : (old new : Kept) (line : List ℕ) (xs ys : List Entry) → ys ≡ xs ++ new.lent → Feeds old new line [] new.lent → Feeds old new line xs ys
+feeds_on old new line xs ys e h = record { appended = new.lent; same = e; fed = h.fed; stands = λ text entries a. subst (λ (es : List Entry). IsAt new.standing new.part (text ++ line) (entries ++ es)) (sym h.same) (h.stands text entries a); stays = h.stays }
+
+-- a line whose entry is lost for want of memory
+pub feeds_lost : (old mid new : Kept) (line : List ℕ) (xs : List Entry) → mid.lent ≢ [] → IsLentAlone old mid → Feeds old mid line [] mid.lent → new.standing ≡ Refused Memory → new.part ≡ mid.part → new.fed ≡ mid.fed → Feeds old new line xs xs
+feeds_lost old mid new line xs some alone h t p f = feeds_memory old new line xs (λ error e. some (alone.going error e)) t (p ∙ alone.whole some) (f ∙ h.fed)
+
 -- the front of a piece before the first line
 pub front_none : (a : Kept) (piece : List ℕ) (xs : List Entry) → FeedsFront a a piece piece xs xs
 front_none a piece xs = record { front = []; parts = refl; feeds = feeds_nothing a a [] xs refl refl (omega arith) refl }
@@ -284,5 +310,5 @@ pub joined_line : (part line joined : List ℕ) → joined ≡ part ++ line → 
 joined_line part line joined e plain is = record { body = part ++ is.body; plain = both part is.body plain is.plain; same = e ∙ ap (λ (t : List ℕ). part ++ t) is.same ∙ sym (append_assoc part is.body (codes "\n")) }
 
 -- after a line
-pub sound_line : (new : Kept) (fed : ℕ) (line : List ℕ) → IsLine line → IsWithin new.standing (fed + 1) → new.fed ≡ fed + length line → new.part ≡ [] → IsSound new
-sound_line new fed line is h f p = let s = line_some line is in record { within = within_more new.standing (fed + 1) new.fed (omega arith) h; plain = rw p tt }
+pub sound_line : (new : Kept) (fed : ℕ) (line : List ℕ) → IsLine line → IsWithin new.standing (fed + 1) → new.fed ≡ fed + length line → new.part ≡ [] → AllByRecursion RisesIn new.lent → IsSound new
+sound_line new fed line is h f p r = let s = line_some line is in record { within = within_more new.standing (fed + 1) new.fed (omega arith) h; plain = rw p tt; rising = r }

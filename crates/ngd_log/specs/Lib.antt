@@ -4,4 +4,5 @@ pub mod Reading
 pub mod Entries
 pub mod EntryTexts
 pub mod EntryReading
+pub mod Lent
 pub mod Pieces

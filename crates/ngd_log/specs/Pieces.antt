@@ -1,16 +1,18 @@
 -- A log that is read in pieces: what the reader stands for, when it refuses, and what it appends.
-use Rattle.std.specs.Prelude.{◌≡◌, ℕ, ◌+◌, ◌-◌, ◌<◌, ◌≤◌, ◌⊎◌, List, [], ◌∷◌, ◌++◌, length, codes, flat_map, slice_get, Vec, Option, Some, None, IsSomeAnd, Result, Err, IsOk}
-use Rattle.std.specs.List.{concat}
+use Rattle.std.specs.Prelude.{◌≡◌, ◌≢◌, if◌then◌else◌, ℕ, ◌+◌, ◌-◌, ◌<◌, ◌≤◌, ◌⊎◌, List, [], ◌∷◌, ◌++◌, length, codes, flat_map, slice_get, Vec, Option, Some, None, IsSomeAnd, Result, Err, IsOk}
+use Rattle.std.specs.List.{AllByRecursion, concat}
 use Rattle.ngd_log.specs.declared.entry.Entry.{Entry}
 use Rattle.ngd_log.specs.declared.log.LogError.{LogError}
 use Rattle.ngd_log.specs.declared.log.LogError.TheVariants.{Line, Memory}
 use Rattle.ngd_log.specs.declared.body.Body.{Body}
 use Rattle.ngd_log.specs.declared.standing.Version.{Version}
+use Rattle.ngd_log.specs.declared.standing.Kind.{Kind}
 use Rattle.ngd_log.specs.declared.standing.Place.{Place}
 use Rattle.ngd_log.specs.declared.standing.Standing.{Standing}
 use Rattle.ngd_log.specs.declared.standing.Standing.TheVariants.{Start, Inside, Ended, Refused}
 use Rattle.ngd_log.specs.Logs.{lines, HasNoLineFeed, IsLine}
 use Rattle.ngd_log.specs.Entries.{steps_of}
+use Rattle.ngd_log.specs.Lent.{is_step, lent_in, RisesIn}
 use Rattle.ngd_log.specs.EntryTexts.{head, entry_lines, entries_text, HaveText, IsTextOf, IsLogOfEntries, IsEntryLine, IsFirstBadLine}
 use Rattle.ngd_log.specs.EntryReading.{entry_of, good_entries, version_of}
 
@@ -18,15 +20,16 @@ use Rattle.ngd_log.specs.EntryReading.{entry_of, good_entries, version_of}
 abbrev pub joined : {Z : Type 0} → List (Vec ℕ Z) → List ℕ
 joined pieces = flat_map (λ piece. piece.items) pieces
 
--- what a reader keeps: where it stands after the whole lines, the bytes after the last line feed, and how many bytes were fed
+-- what a reader keeps: where it stands after the whole lines, the bytes after the last line feed, how many bytes were fed, and the entry of the line taken last, if it has one
 pub record Kept : Type 0 where
   pub standing : Standing
   pub part : List ℕ
   pub fed : ℕ
+  pub lent : List Entry
 
 -- the same, of the reader's fields
 abbrev pub kept : Body → Kept
-kept body = record { standing = body.standing; part = body.part.items; fed = body.fed }
+kept body = record { standing = body.standing; part = body.part.items; fed = body.fed; lent = lent_in body.kind body.gathered }
 
 -- the refusal that stands
 abbrev pub refusal_of : Standing → Option LogError
@@ -134,10 +137,22 @@ IsWithin (Inside place) fed = (place.step < place.line) × (place.line ≤ fed +
 IsWithin (Ended number) fed = number ≤ fed + 1
 IsWithin (Refused error) fed = Unit {0}
 
--- what holds of each reader: the bytes at hand have no line feed
+-- what holds of each reader: the bytes at hand have no line feed, and the pairs of a step that is lent rise
 pub record IsSound (reader : Kept) : Type 0 where
   pub within : IsWithin reader.standing reader.fed
   pub plain : HasNoLineFeed reader.part
+  pub rising : AllByRecursion RisesIn reader.lent
+
+-- an entry is lent only where no refusal stood, and after it no bytes are at hand
+pub record IsLentAlone (old new : Kept) : Type 0 where
+  pub going : (error : LogError) → old.standing ≡ Refused error → new.lent ≡ []
+  pub whole : new.lent ≢ [] → new.part ≡ []
+
+-- the place after the line of an entry of this kind
+pub record IsNextPlace (place : Place) (kind : Kind) (next : Place) : Type 0 where
+  pub version : next.version ≡ place.version
+  pub step : next.step ≡ (if is_step kind then place.step + 1 else place.step)
+  pub line : next.line ≡ place.line + 1
 
 -- a call took this piece: it appended entries, and wherever the reader stood, it stands where the text with the piece leads; a refusal stays
 pub record Feeds (old new : Kept) (piece : List ℕ) (before after : List Entry) : Type 0 where
@@ -158,6 +173,14 @@ pub record Follows (old new : Standing) (line : List ℕ) (before after : List E
   pub appended : List Entry
   pub same : after ≡ before ++ appended
   pub stands : (text : List ℕ) (entries : List Entry) → Stands old text entries → Stands new (text ++ line) (entries ++ appended)
+
+-- a call took the front of a piece, which leaves this rest, and lends the entry of the line that the front completes, if it completes one
+pub record TakesFront (old new : Kept) (piece rest : List ℕ) : Type 0 where
+  pub front : List ℕ
+  pub parts : piece ≡ front ++ rest
+  pub counted : new.fed ≡ old.fed + length front
+  pub fed : (text : List ℕ) → IsFed old text → IsFed new (text ++ front)
+  pub entries : (text : List ℕ) → IsFed old text → good_entries text ++ new.lent ≡ good_entries (text ++ front)
 
 -- what was appended are the entries of the lines that the piece completes
 pub record Completes (text piece : List ℕ) (before after : List Entry) : Type 0 where

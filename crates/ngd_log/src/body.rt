@@ -1,19 +1,20 @@
 //! What a reader of a log keeps between pieces, and how it takes a line and a piece.
-ghost use Rattle.std.specs.Prelude.{◌≡◌, ℕ, ◌+◌, ◌≤◌, ◌^◌, List, length};
+ghost use Rattle.std.specs.Prelude.{◌≡◌, ◌≢◌, None, ℕ, ◌+◌, ◌≤◌, ◌^◌, [], ◌++◌, List, length, OnOk, OnErr};
+ghost use Rattle.std.specs.List.{AllByRecursion};
 ghost use Rattle.ngd_log.specs.declared.entry.Entry.{Entry as AnEntry};
-ghost use Rattle.ngd_log.specs.EntryTexts.{next_number};
 ghost use Rattle.ngd_log.specs.EntryReading.{version_of};
+ghost use Rattle.ngd_log.specs.Lent.{lent_in, RisesIn};
 ghost use Rattle.ngd_log.specs.Logs.{IsLine, HasNoLineFeed};
-ghost use Rattle.ngd_log.specs.Pieces.{kept, Feeds, Follows, IsWithin, IsSound};
+ghost use Rattle.ngd_log.specs.Pieces.{kept, Feeds, Follows, IsNextPlace, IsWithin, IsSound, IsLentAlone};
 
 use crate::deletion::HEAD2;
-use crate::entry::{Entries, Entry};
-use crate::entry_reader::read_entry;
+use crate::entry::Entries;
+use crate::entry_reader::{owned_entry, read_entry};
 use crate::log::{LogError, split_line};
 use crate::reader::{Gathered, LineError};
-use crate::standing::{Place, Standing, Version};
+use crate::standing::{Kind, Place, Standing, Version};
 use crate::writer::{HEAD, TAIL};
-use std::alloc::Global;
+use dcsp_list::Memory;
 
 /// What a reader of a log keeps.
 #[derive(Drop)]
@@ -24,6 +25,17 @@ pub struct Body {
     pub part: Vec<u8>,
     /// The number of bytes that it was fed.
     pub fed: u64,
+    /// What the line read last is, where it is the line of an entry.
+    pub kind: Option<Kind>,
+    /// What the line read last says.
+    pub gathered: Gathered,
+}
+
+/// Where a reader stands after a line, and what the line is.
+#[derive(Clone, Copy)]
+struct After {
+    standing: Standing,
+    kind: Option<Kind>,
 }
 
 /// The version of a log with this first line.
@@ -55,16 +67,14 @@ fn after_head(line: &[u8]) -> Standing
     }
 }
 
-/// After the line of this entry.
-fn after_entry(place: Place, entry: &Entry) -> Place
+/// After the line of an entry of this kind.
+fn after_entry(place: Place, kind: Kind) -> Place
     requires { IsWithin (Standing.Inside place) (2 ^ 63) }
-    ensures version { result.version ≡ place.version }
-    ensures step { result.step ≡ next_number place.step entry.now }
-    ensures line { result.line ≡ place.line + 1 }
+    ensures { IsNextPlace place kind result }
 {
-    let step = match entry {
-        Entry::Step(_) => place.step + 1,
-        Entry::Delete(_) => place.step,
+    let step = match kind {
+        Kind::Step => place.step + 1,
+        Kind::Delete => place.step,
     };
     Place {
         version: place.version,
@@ -73,90 +83,105 @@ fn after_entry(place: Place, entry: &Entry) -> Place
     }
 }
 
-/// After a line that is neither the first nor stands after `end`. Its entry is appended.
-fn after_inside(
-    alloc: Global,
-    gathered: &mut Gathered,
-    place: Place,
-    line: &[u8],
-    into: &mut Entries,
-) -> Standing
+/// Reads a line that is neither the first nor stands after `end`.
+fn after_inside(gathered: &mut Gathered, place: Place, line: &[u8]) -> After
     requires whole { IsLine line.now }
     requires room { IsWithin (Standing.Inside place) (2 ^ 63) }
-    ensures stands { Follows (Standing.Inside place) result line.now into.old into.new }
-    ensures within { (fed : ℕ) → IsWithin (Standing.Inside place) fed → IsWithin result (fed + 1) }
+    ensures stands { Follows (Standing.Inside place) result.standing line.now [] (lent_in result.kind gathered.new) }
+    ensures rising { AllByRecursion RisesIn (lent_in result.kind gathered.new) }
+    ensures within { (fed : ℕ) → IsWithin (Standing.Inside place) fed → IsWithin result.standing (fed + 1) }
 {
     if line == TAIL {
-        return Standing::Ended(place.line + 1);
+        return After {
+            standing: Standing::Ended(place.line + 1),
+            kind: None,
+        };
     }
-    match read_entry(alloc, gathered, place.version, place.step, line) {
-        Ok(entry) => {
-            let next = after_entry(place, &entry);
-            match into.push(entry) {
-                Ok(()) => Standing::Inside(next),
-                Err(_) => Standing::Refused(LogError::Memory),
-            }
-        }
-        Err(LineError::Bad) => Standing::Refused(LogError::Line { number: place.line }),
-        Err(LineError::Memory) => Standing::Refused(LogError::Memory),
+    match read_entry(gathered, place.version, place.step, line) {
+        Ok(kind) => After {
+            standing: Standing::Inside(after_entry(place, kind)),
+            kind: Some(kind),
+        },
+        Err(LineError::Bad) => After {
+            standing: Standing::Refused(LogError::Line { number: place.line }),
+            kind: None,
+        },
+        Err(LineError::Memory) => After {
+            standing: Standing::Refused(LogError::Memory),
+            kind: None,
+        },
     }
 }
 
-/// After a line with its line feed. Its entry, if it has one, is appended.
-fn after_line(
-    alloc: Global,
-    gathered: &mut Gathered,
-    standing: Standing,
-    line: &[u8],
-    into: &mut Entries,
-) -> Standing
+/// Reads a line with its line feed.
+fn after_line(gathered: &mut Gathered, standing: Standing, line: &[u8]) -> After
     requires whole { IsLine line.now }
     requires room { IsWithin standing (2 ^ 63) }
-    ensures stands { Follows standing result line.now into.old into.new }
-    ensures within { (fed : ℕ) → IsWithin standing fed → IsWithin result (fed + 1) }
+    ensures stands { Follows standing result.standing line.now [] (lent_in result.kind gathered.new) }
+    ensures rising { AllByRecursion RisesIn (lent_in result.kind gathered.new) }
+    ensures within { (fed : ℕ) → IsWithin standing fed → IsWithin result.standing (fed + 1) }
 {
     match standing {
-        Standing::Start => after_head(line),
-        Standing::Inside(place) => after_inside(alloc, gathered, place, line, into),
-        Standing::Ended(number) => Standing::Refused(LogError::Line { number }),
-        Standing::Refused(error) => Standing::Refused(error),
+        Standing::Start => After {
+            standing: after_head(line),
+            kind: None,
+        },
+        Standing::Inside(place) => after_inside(gathered, place, line),
+        Standing::Ended(number) => After {
+            standing: Standing::Refused(LogError::Line { number }),
+            kind: None,
+        },
+        Standing::Refused(error) => After {
+            standing: Standing::Refused(error),
+            kind: None,
+        },
     }
 }
 
-/// Takes a piece that ends with its only line feed.
-fn take_line(body: &mut Body, gathered: &mut Gathered, line: &[u8], into: &mut Entries)
+/// Takes a piece that ends with its only line feed, and lends what it is the line of.
+pub fn take_line(body: &mut Body, line: &[u8])
     requires whole { IsLine line.now }
     requires sound { IsSound (kept body.old) }
     requires room { body.old.fed + length line.now ≤ 2 ^ 63 }
-    ensures feeds { Feeds (kept body.old) (kept body.new) line.now into.old into.new }
+    ensures feeds { Feeds (kept body.old) (kept body.new) line.now [] (kept body.new).lent }
+    ensures lent { IsLentAlone (kept body.old) (kept body.new) }
     ensures sound { IsSound (kept body.new) }
 {
-    let alloc = *body.part.allocator();
     body.fed += line.len() as u64;
+    body.kind = None;
     if let Standing::Refused(_) = body.standing {
         return;
     }
     // Only a line that two pieces share is joined.
     if body.part.is_empty() {
-        body.standing = after_line(alloc, gathered, body.standing, line, into);
+        let after = after_line(&mut body.gathered, body.standing, line);
+        body.standing = after.standing;
+        body.kind = after.kind;
         return;
     }
-    body.standing = match body.part.extend_from_slice(line) {
-        Ok(()) => after_line(alloc, gathered, body.standing, &body.part, into),
-        Err(_) => Standing::Refused(LogError::Memory),
+    let after = match body.part.extend_from_slice(line) {
+        Ok(()) => after_line(&mut body.gathered, body.standing, &body.part),
+        Err(_) => After {
+            standing: Standing::Refused(LogError::Memory),
+            kind: None,
+        },
     };
+    body.standing = after.standing;
+    body.kind = after.kind;
     body.part.clear();
 }
 
 /// Takes a piece without a line feed.
-fn take_part(body: &mut Body, part: &[u8])
+pub fn take_part(body: &mut Body, part: &[u8])
     requires plain { HasNoLineFeed part.now }
     requires sound { IsSound (kept body.old) }
     requires room { body.old.fed + length part.now ≤ 2 ^ 63 }
     ensures feeds { (entries : List AnEntry) → Feeds (kept body.old) (kept body.new) part.now entries entries }
+    ensures lent { (kept body.new).lent ≡ [] }
     ensures sound { IsSound (kept body.new) }
 {
     body.fed += part.len() as u64;
+    body.kind = None;
     match body.standing {
         Standing::Start | Standing::Inside(_) => {
             if body.part.extend_from_slice(part).is_err() {
@@ -173,8 +198,40 @@ fn take_part(body: &mut Body, part: &[u8])
     }
 }
 
+/// Appends what is lent, in lists of its own.
+fn append_lent(body: &Body, into: &mut Entries) -> Result<(), Memory>
+    ensures ok { OnOk result (into.new ≡ into.old ++ (kept body.now).lent) }
+    ensures err { OnErr result (into.new ≡ into.old) }
+    ensures some { OnErr result ((kept body.now).lent ≢ []) }
+{
+    let Some(kind) = body.kind else {
+        return Ok(());
+    };
+    let alloc = *body.part.allocator();
+    let entry = owned_entry(alloc, kind, &body.gathered)?;
+    match into.push(entry) {
+        Ok(()) => Ok(()),
+        Err((_, memory)) => Err(memory),
+    }
+}
+
+/// Takes a piece that ends with its only line feed. Its entry, if it is the line of one, is appended.
+fn append_line(body: &mut Body, line: &[u8], into: &mut Entries)
+    requires whole { IsLine line.now }
+    requires sound { IsSound (kept body.old) }
+    requires room { body.old.fed + length line.now ≤ 2 ^ 63 }
+    ensures feeds { Feeds (kept body.old) (kept body.new) line.now into.old into.new }
+    ensures sound { IsSound (kept body.new) }
+{
+    take_line(body, line);
+    let Err(_) = append_lent(body, into) else {
+        return;
+    };
+    body.standing = Standing::Refused(LogError::Memory);
+}
+
 /// Takes a piece. The entries of the lines that it completes are appended.
-pub fn take_piece(body: &mut Body, gathered: &mut Gathered, piece: &[u8], into: &mut Entries)
+pub fn take_piece(body: &mut Body, piece: &[u8], into: &mut Entries)
     requires sound { IsSound (kept body.old) }
     requires room { body.old.fed + length piece.now ≤ 2 ^ 63 }
     ensures feeds { Feeds (kept body.old) (kept body.new) piece.now into.old into.new }
@@ -182,7 +239,7 @@ pub fn take_piece(body: &mut Body, gathered: &mut Gathered, piece: &[u8], into: 
 {
     let mut rest = piece;
     while let Some((line, others)) = split_line(rest) {
-        take_line(body, gathered, line, into);
+        append_line(body, line, into);
         rest = others;
     }
     take_part(body, rest);

@@ -1,19 +1,21 @@
 //! Reading the line of an entry.
-ghost use Rattle.std.specs.Prelude.{◌≡◌};
+ghost use Rattle.std.specs.Prelude.{◌≡◌, IfOk};
 ghost use Rattle.ngd_log.specs.Reading.{Gives};
 ghost use Rattle.ngd_log.specs.EntryReading.{numbers_at, rises_after, deletion_at, step_entry, entry_of};
+ghost use Rattle.ngd_log.specs.Lent.{entry_in};
 
 use crate::entry::{Entry, NumberList};
 use crate::field::{after, step_number_at};
-use crate::reader::{Gathered, LineError, is_line_feed, step_of};
-use crate::standing::Version;
+use crate::reader::{Gathered, LineError, is_line_feed, owned_step, step_of};
+use crate::standing::{Kind, Version};
+use dcsp_list::Memory;
 use std::alloc::Global;
 
-/// The numbers, each behind a space.
-fn numbers_at(alloc: Global, bytes: &[u8]) -> Result<(NumberList, &[u8]), LineError>
-    ensures { Gives (λ x. (x.0, x.1.now)) result (numbers_at bytes.now) }
+/// Reads the numbers, each behind a space.
+fn numbers_at<'t>(numbers: &mut Vec<u64>, bytes: &'t [u8]) -> Result<&'t [u8], LineError>
+    ensures { Gives (λ x. (numbers.new.items, x.now)) result (numbers_at bytes.now) }
 {
-    let mut numbers = NumberList::new(alloc);
+    numbers.clear();
     let mut rest = bytes;
     while let Some(next) = after(b" ", rest) {
         let Some((number, others)) = step_number_at(next) else {
@@ -22,7 +24,7 @@ fn numbers_at(alloc: Global, bytes: &[u8]) -> Result<(NumberList, &[u8]), LineEr
         numbers.push(number)?;
         rest = others;
     }
-    Ok((numbers, rest))
+    Ok(rest)
 }
 
 /// Whether each number is above the one before it, and the first above 0.
@@ -39,52 +41,67 @@ fn are_rising(numbers: &[u64]) -> bool
     true
 }
 
-/// The numbers of a deletion, whose line after its `d` this is.
+/// Reads the numbers of a deletion, whose line after its `d` this is.
 #[tactic(auto, unfolding(crate::specs::EntryReading::deletion_at))]
-fn deletion_at(alloc: Global, bytes: &[u8]) -> Result<NumberList, LineError>
-    ensures { Gives (λ x. x) result (deletion_at bytes.now) }
+fn deletion_at(numbers: &mut Vec<u64>, bytes: &[u8]) -> Result<(), LineError>
+    ensures { Gives (λ _. numbers.new.items) result (deletion_at bytes.now) }
 {
-    let (numbers, rest) = numbers_at(alloc, bytes)?;
+    let rest = numbers_at(numbers, bytes)?;
     if numbers.is_empty() {
         return Err(LineError::Bad);
     }
-    if !are_rising(numbers.items()) {
+    if !are_rising(numbers) {
         return Err(LineError::Bad);
     }
     if !is_line_feed(rest) {
         return Err(LineError::Bad);
     }
-    Ok(numbers)
+    Ok(())
 }
 
-/// The step of a whole line, which has this number, as an entry.
+/// Reads the step of a whole line, which has this number.
 #[tactic(auto, unfolding(crate::specs::EntryReading::step_entry))]
-fn step_entry(gathered: &mut Gathered, number: u64, line: &[u8]) -> Result<Entry, LineError>
-    ensures { Gives (λ x. x) result (step_entry number line.now) }
+fn step_entry(gathered: &mut Gathered, number: u64, line: &[u8]) -> Result<Kind, LineError>
+    ensures { Gives (λ kind. entry_in kind gathered.new) result (step_entry number line.now) }
 {
-    let step = step_of(gathered, number, line)?;
-    Ok(Entry::Step(step))
+    step_of(gathered, number, line)?;
+    Ok(Kind::Step)
 }
 
-/// The entry of a whole line in a log of this version, where the next step has this number.
+/// Reads the entry of a whole line in a log of this version, where the next step has this number.
 #[tactic(auto, unfolding(crate::specs::EntryReading::entry_of))]
 pub(crate) fn read_entry(
-    alloc: Global,
     gathered: &mut Gathered,
     version: Version,
     number: u64,
     line: &[u8],
-) -> Result<Entry, LineError>
-    ensures { Gives (λ x. x) result (entry_of version number line.now) }
+) -> Result<Kind, LineError>
+    ensures { Gives (λ kind. entry_in kind gathered.new) result (entry_of version number line.now) }
 {
     match version {
         Version::One => step_entry(gathered, number, line),
         Version::Two => match after(b"d", line) {
             Some(rest) => {
-                let numbers = deletion_at(alloc, rest)?;
-                Ok(Entry::Delete(numbers))
+                deletion_at(&mut gathered.numbers, rest)?;
+                Ok(Kind::Delete)
             }
             None => step_entry(gathered, number, line),
+        },
+    }
+}
+
+/// The entry that was read, in lists of its own.
+pub(crate) fn owned_entry(alloc: Global, kind: Kind, gathered: &Gathered) -> Result<Entry, Memory>
+    ensures { IfOk result (λ entry. entry ≡ entry_in kind gathered.now) }
+{
+    match kind {
+        Kind::Step => match owned_step(alloc, gathered) {
+            Ok(step) => Ok(Entry::Step(step)),
+            Err(_) => Err(Memory),
+        },
+        Kind::Delete => match Vec::from_slice(alloc, &gathered.numbers) {
+            Ok(numbers) => Ok(Entry::Delete(NumberList::from_vec(numbers))),
+            Err(_) => Err(Memory),
         },
     }
 }

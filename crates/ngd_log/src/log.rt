@@ -52,7 +52,7 @@ fn log_of(alloc: Global, text: &[u8]) -> Result<Derivation, LogError>
             }
             return Err(LogError::Line { number: number + 2 });
         }
-        match read_step(&mut gathered, number, line) {
+        match read_step(alloc, &mut gathered, number, line) {
             Ok(step) => {
                 if derivation.push(step).is_err() {
                     return Err(LogError::Memory);

@@ -1,26 +1,28 @@
 //! Reading a log in pieces.
-ghost use Rattle.std.specs.Prelude.{◌≡◌, ◌⊎◌, ◌↔◌, ℕ, ◌+◌, ◌≤◌, ◌^◌, [], ◌++◌, List, length, Some, IfSome, IfOk, OnOk, IsOk, IsErrOf, Err};
+ghost use Rattle.std.specs.Prelude.{◌≡◌, ◌⊎◌, ◌↔◌, ℕ, ◌+◌, ◌<◌, ◌≤◌, ◌^◌, [], ◌++◌, List, length, Some, IfSome, IfNone, IfOk, OnOk, IsOk, IsErrOf, Err};
 ghost use Rattle.ngd_log.specs.declared.entry.Entry.{Entry as AnEntry};
 ghost use Rattle.ngd_log.specs.EntryTexts.{EntriesOrBadLine, TextsDiffer, IsOneAnswer, IsHeadedTwo, IsLogOfEntries, IsFirstBadLine};
 ghost use Rattle.ngd_log.specs.EntryReading.{good_entries};
-ghost use Rattle.ngd_log.specs.Pieces.{refusal_of, Tells, joined, IsFed, Completes, IsRefused, GoodLines};
+ghost use Rattle.ngd_log.specs.Pieces.{refusal_of, Tells, joined, IsFed, TakesFront, Completes, IsRefused, GoodLines};
+ghost use Rattle.ngd_log.specs.Lent.{lent_entries};
 
-use crate::body::{Body, take_piece};
+use crate::body::{Body, take_line, take_part, take_piece};
 use crate::entry::Entries;
-use crate::log::LogError;
+use crate::lent::{Lent, LentStep};
+use crate::log::{LogError, split_line};
 use crate::reader::Gathered;
-use crate::standing::Standing;
+use crate::standing::{Kind, Standing};
+use dcsp_list::Memory;
 use std::alloc::Global;
 use std::marker::Model;
 
 /// Reads a log of either version that comes in pieces, however it is cut.
 ///
-/// It keeps the bytes after the last line feed, and no entries. It keeps the allocator that it was
-/// made with.
+/// It keeps the bytes after the last line feed, and of the entries the one of the line that it took
+/// last, which it lends and whose lists it uses again. It keeps the allocator that it was made with.
 #[derive(Drop)]
 pub struct LogReader {
     body: Body,
-    gathered: Gathered,
 }
 
 impl Model for LogReader {
@@ -43,8 +45,9 @@ impl LogReader {
                 standing: Standing::Start,
                 part: Vec::new(alloc),
                 fed: 0,
+                kind: None,
+                gathered: Gathered::new(alloc),
             },
-            gathered: Gathered::new(alloc),
         }
     }
 
@@ -65,8 +68,48 @@ impl LogReader {
         ensures stands { Tells (refusal_of self.new.standing) result }
         ensures again { IfSome (refusal_of self.old.standing) (λ error. result ≡ Err error) }
     {
-        take_piece(&mut self.body, &mut self.gathered, piece, into);
+        take_piece(&mut self.body, piece, into);
         self.body.standing.answer()
+    }
+
+    /// Takes the front of the next piece of the text up to its first line feed, or all of it where it has none, and
+    /// lends the entry of that line. It answers what is left, and `None` where the piece had no line feed.
+    ///
+    /// The text with this piece has at most 2^63 bytes. A bad line and what follows it lend nothing, and are told by
+    /// `finish`. After `Memory` each later call answers that.
+    pub fn take_line<'t>(&mut self, piece: &'t [u8]) -> Result<Option<&'t [u8]>, Memory>
+        requires { self.old.fed + length piece.now ≤ 2 ^ 63 }
+        ensures line { IfOk result (λ rest. IfSome rest (λ others. TakesFront self.old self.new piece.now others.now)) }
+        ensures shorter { IfOk result (λ rest. IfSome rest (λ others. length others.now < length piece.now)) }
+        ensures part { IfOk result (λ rest. IfNone rest (TakesFront self.old self.new piece.now [])) }
+        ensures silent { IfOk result (λ rest. IfNone rest (self.new.lent ≡ [])) }
+    {
+        let Some((line, others)) = split_line(piece) else {
+            take_part(&mut self.body, piece);
+            self.body.standing.memory()?;
+            return Ok(None);
+        };
+        take_line(&mut self.body, line);
+        self.body.standing.memory()?;
+        Ok(Some(others))
+    }
+
+    /// The entry of the line that was taken last, if it has one.
+    pub fn lent(&self) -> Option<Lent<'_>>
+        ensures { lent_entries result ≡ self.now.lent }
+    {
+        let gathered = &self.body.gathered;
+        let Some(kind) = self.body.kind else {
+            return None;
+        };
+        match kind {
+            Kind::Step => Some(Lent::Step(LentStep {
+                variable: gathered.variable,
+                pairs: &gathered.pairs,
+                reasons: &gathered.reasons,
+            })),
+            Kind::Delete => Some(Lent::Delete(&gathered.numbers)),
+        }
     }
 
     /// Whether the text that was fed is a log of either version. It takes no memory.

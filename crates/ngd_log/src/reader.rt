@@ -3,7 +3,8 @@ ghost use Rattle.std.specs.Prelude.{◌≡◌, ℕ, [], IfOk, IfErr, IsErrOf};
 ghost use Rattle.ngd_log.specs.declared.reader.LineError.TheVariants.{Memory as OutOfMemory};
 ghost use Rattle.dcsp_defs.specs.declared.Step.{Step as DerivationStep};
 ghost use Rattle.ngd_log.specs.StepText.{IsStepLine};
-ghost use Rattle.ngd_log.specs.Reading.{Gives, pairs_from, pairs_at, reasons_at, nogood_of, is_line_feed, variable_step, rule_step, step_of};
+ghost use Rattle.ngd_log.specs.Reading.{Gives, pairs_from, pairs_at, reasons_at, rises, is_line_feed, variable_step, rule_step, step_of};
+ghost use Rattle.ngd_log.specs.Lent.{step_in};
 
 use crate::field::{RULES, VARIABLES, after, counted_at, pair_at, reason_at, step_number_at};
 use dcsp_defs::{Reason, ReasonList, Step};
@@ -34,45 +35,38 @@ impl<T: Drop> From<(T, dcsp_list::Memory)> for LineError {
     }
 }
 
-/// Where the pairs and the reasons of a line are gathered, line after line, before their lists are made as long as
-/// they are.
+/// What a line says, which is read into the same lists as the line before it.
 #[derive(Drop)]
 pub struct Gathered {
-    alloc: Global,
-    pairs: Vec<Pair>,
-    reasons: Vec<Reason>,
+    /// The variable of a step.
+    pub variable: Option<u32>,
+    /// The pairs of a step.
+    pub pairs: Vec<Pair>,
+    /// The reasons of a step.
+    pub reasons: Vec<Reason>,
+    /// The numbers of a deletion.
+    pub numbers: Vec<u64>,
 }
 
 impl Gathered {
     /// Nothing is gathered. It takes no memory.
     pub fn new(alloc: Global) -> Gathered {
         Gathered {
-            alloc,
+            variable: None,
             pairs: Vec::new(alloc),
             reasons: Vec::new(alloc),
+            numbers: Vec::new(alloc),
         }
     }
 }
 
-/// A list of these items.
-fn list_of<T: Copy>(alloc: Global, items: &[T]) -> Result<Vec<T>, LineError>
-    ensures items { IfOk result (λ list. list.items ≡ items.now) }
-    ensures memory { IfErr result (λ e. e ≡ OutOfMemory) }
-{
-    match Vec::from_slice(alloc, items) {
-        Ok(list) => Ok(list),
-        Err(_) => Err(LineError::Memory),
-    }
-}
-
-/// The pairs after this first one, each behind a comma.
+/// Reads the pairs after this first one, each behind a comma.
 fn pairs_from<'t>(
-    alloc: Global,
     pairs: &mut Vec<Pair>,
     first: Pair,
     bytes: &'t [u8],
-) -> Result<(Vec<Pair>, &'t [u8]), LineError>
-    ensures { Gives (λ x. (x.0.items, x.1.now)) result (pairs_from first bytes.now) }
+) -> Result<&'t [u8], LineError>
+    ensures { Gives (λ x. (pairs.new.items, x.now)) result (pairs_from first bytes.now) }
 {
     pairs.clear();
     pairs.push(first)?;
@@ -84,36 +78,28 @@ fn pairs_from<'t>(
         pairs.push(pair)?;
         rest = others;
     }
-    let list = list_of(alloc, pairs)?;
-    Ok((list, rest))
+    Ok(rest)
 }
 
-/// The pairs in brackets.
+/// Reads the pairs in brackets.
 #[tactic(auto, unfolding(crate::specs::Reading::pairs_at, crate::specs::Reading::pairs_before))]
-fn pairs_at<'t>(
-    alloc: Global,
-    pairs: &mut Vec<Pair>,
-    bytes: &'t [u8],
-) -> Result<(Vec<Pair>, &'t [u8]), LineError>
-    ensures { Gives (λ x. (x.0.items, x.1.now)) result (pairs_at bytes.now) }
+fn pairs_at<'t>(pairs: &mut Vec<Pair>, bytes: &'t [u8]) -> Result<&'t [u8], LineError>
+    ensures { Gives (λ x. (pairs.new.items, x.now)) result (pairs_at bytes.now) }
 {
     let rest = after(b"[", bytes).ok_or(LineError::Bad)?;
     if let Some(rest) = after(b"]", rest) {
-        return Ok((Vec::new(alloc), rest));
+        pairs.clear();
+        return Ok(rest);
     }
     let (first, rest) = pair_at(rest).ok_or(LineError::Bad)?;
-    let (list, rest) = pairs_from(alloc, pairs, first, rest)?;
+    let rest = pairs_from(pairs, first, rest)?;
     let rest = after(b"]", rest).ok_or(LineError::Bad)?;
-    Ok((list, rest))
+    Ok(rest)
 }
 
-/// The reasons, each behind a space.
-fn reasons_at<'t>(
-    alloc: Global,
-    reasons: &mut Vec<Reason>,
-    bytes: &'t [u8],
-) -> Result<(ReasonList, &'t [u8]), LineError>
-    ensures { Gives (λ x. (x.0, x.1.now)) result (reasons_at bytes.now) }
+/// Reads the reasons, each behind a space.
+fn reasons_at<'t>(reasons: &mut Vec<Reason>, bytes: &'t [u8]) -> Result<&'t [u8], LineError>
+    ensures { Gives (λ x. (reasons.new.items, x.now)) result (reasons_at bytes.now) }
 {
     reasons.clear();
     let mut rest = bytes;
@@ -124,18 +110,24 @@ fn reasons_at<'t>(
         reasons.push(reason)?;
         rest = others;
     }
-    let list = list_of(alloc, reasons)?;
-    Ok((ReasonList::from_vec(list), rest))
+    Ok(rest)
 }
 
-/// The nogood of these pairs, where they rise.
-fn nogood_of(pairs: Vec<Pair>) -> Result<Nogood, LineError>
-    ensures { Gives (λ x. x) result (nogood_of pairs.items) }
+/// Whether each pair's variable is above the one before it.
+fn are_rising(pairs: &[Pair]) -> bool
+    ensures { result ≡ rises pairs.now }
 {
-    match Nogood::from_vec(pairs) {
-        Ok(nogood) => Ok(nogood),
-        Err(_) => Err(LineError::Bad),
+    let [first, others @ ..] = pairs else {
+        return true;
+    };
+    let mut last = first.var;
+    for pair in others {
+        if pair.var <= last {
+            return false;
+        }
+        last = pair.var;
     }
+    true
 }
 
 /// Whether this is one line feed.
@@ -145,59 +137,47 @@ pub(crate) fn is_line_feed(bytes: &[u8]) -> bool
     matches!(bytes, [b'\n'])
 }
 
-/// The step of a line with a variable, whose rest after the number this is.
+/// Reads the step of a line with a variable, whose rest after the number this is.
 #[tactic(auto, unfolding(crate::specs::Reading::variable_step))]
-fn variable_step(gathered: &mut Gathered, bytes: &[u8]) -> Result<Step, LineError>
-    ensures { Gives (λ x. x) result (variable_step bytes.now) }
+fn variable_step(gathered: &mut Gathered, bytes: &[u8]) -> Result<(), LineError>
+    ensures { Gives (λ _. step_in gathered.new) result (variable_step bytes.now) }
 {
     let rest = after(b"v", bytes).ok_or(LineError::Bad)?;
     let (variable, rest) = counted_at(rest, VARIABLES).ok_or(LineError::Bad)?;
     let rest = after(b" ", rest).ok_or(LineError::Bad)?;
-    let (pairs, rest) = pairs_at(gathered.alloc, &mut gathered.pairs, rest)?;
+    let rest = pairs_at(&mut gathered.pairs, rest)?;
     let rest = after(b" <-", rest).ok_or(LineError::Bad)?;
-    let (reasons, rest) = reasons_at(gathered.alloc, &mut gathered.reasons, rest)?;
-    let nogood = nogood_of(pairs)?;
+    let rest = reasons_at(&mut gathered.reasons, rest)?;
+    if !are_rising(&gathered.pairs) {
+        return Err(LineError::Bad);
+    }
     if !is_line_feed(rest) {
         return Err(LineError::Bad);
     }
-    Ok(Step {
-        variable: Some(variable),
-        nogood,
-        reasons,
-    })
+    gathered.variable = Some(variable);
+    Ok(())
 }
 
-/// The step of a line without a variable, whose rest after `- [] <- c` this is.
+/// Reads the step of a line without a variable, whose rest after `- [] <- c` this is.
 #[tactic(auto, unfolding(crate::specs::Reading::rule_step))]
-fn rule_step(alloc: Global, bytes: &[u8]) -> Result<Step, LineError>
-    ensures { Gives (λ x. x) result (rule_step bytes.now) }
+fn rule_step(gathered: &mut Gathered, bytes: &[u8]) -> Result<(), LineError>
+    ensures { Gives (λ _. step_in gathered.new) result (rule_step bytes.now) }
 {
     let (rule, rest) = counted_at(bytes, RULES).ok_or(LineError::Bad)?;
     if !is_line_feed(rest) {
         return Err(LineError::Bad);
     }
-    let mut reasons = ReasonList::new(alloc);
-    reasons.push(Reason::Rule(rule))?;
-    let nogood = nogood_of(Vec::new(alloc))?;
-    Ok(Step {
-        variable: None,
-        nogood,
-        reasons,
-    })
+    gathered.variable = None;
+    gathered.pairs.clear();
+    gathered.reasons.clear();
+    gathered.reasons.push(Reason::Rule(rule))?;
+    Ok(())
 }
 
-/// The step of a whole line with its line feed, where it has this number.
-pub fn read_step(gathered: &mut Gathered, number: u64, line: &[u8]) -> Result<Step, LineError>
-    ensures step { IfOk result (λ step. IsStepLine number line.now step) }
-    ensures bad { IsErrOf result LineError.Bad → (step : DerivationStep) → IsStepLine number line.now step → ⊥ }
-{
-    step_of(gathered, number, line)
-}
-
-/// The step of a whole line, which has this number.
+/// Reads the step of a whole line, which has this number.
 #[tactic(auto, unfolding(crate::specs::Reading::step_of))]
-pub(crate) fn step_of(gathered: &mut Gathered, number: u64, line: &[u8]) -> Result<Step, LineError>
-    ensures { Gives (λ x. x) result (step_of number line.now) }
+pub(crate) fn step_of(gathered: &mut Gathered, number: u64, line: &[u8]) -> Result<(), LineError>
+    ensures { Gives (λ _. step_in gathered.new) result (step_of number line.now) }
 {
     let (found, rest) = step_number_at(line).ok_or(LineError::Bad)?;
     let rest = after(b" ", rest).ok_or(LineError::Bad)?;
@@ -205,7 +185,42 @@ pub(crate) fn step_of(gathered: &mut Gathered, number: u64, line: &[u8]) -> Resu
         return Err(LineError::Bad);
     }
     match after(b"- [] <- c", rest) {
-        Some(rest) => rule_step(gathered.alloc, rest),
+        Some(rest) => rule_step(gathered, rest),
         None => variable_step(gathered, rest),
+    }
+}
+
+/// The step of a whole line with its line feed, where it has this number. Its lists are its own.
+pub fn read_step(
+    alloc: Global,
+    gathered: &mut Gathered,
+    number: u64,
+    line: &[u8],
+) -> Result<Step, LineError>
+    ensures step { IfOk result (λ step. IsStepLine number line.now step) }
+    ensures bad { IsErrOf result LineError.Bad → (step : DerivationStep) → IsStepLine number line.now step → ⊥ }
+{
+    match step_of(gathered, number, line) {
+        Ok(()) => owned_step(alloc, gathered),
+        Err(error) => Err(error),
+    }
+}
+
+/// The step that was read, in lists of its own, which are as long as they have to be.
+pub(crate) fn owned_step(alloc: Global, gathered: &Gathered) -> Result<Step, LineError>
+    ensures step { IfOk result (λ step. step ≡ step_in gathered.now) }
+    ensures memory { IfErr result (λ error. error ≡ OutOfMemory) }
+{
+    let nogood = match Nogood::from_pairs(alloc, &gathered.pairs) {
+        Ok(nogood) => nogood,
+        Err(_) => return Err(LineError::Memory),
+    };
+    match Vec::from_slice(alloc, &gathered.reasons) {
+        Ok(reasons) => Ok(Step {
+            variable: gathered.variable,
+            nogood,
+            reasons: ReasonList::from_vec(reasons),
+        }),
+        Err(_) => Err(LineError::Memory),
     }
 }

@@ -1,8 +1,10 @@
 //! Versions of logs, and where a reader of a log stands.
 
+ghost use Rattle.std.specs.Prelude.{◌≡◌, OnOk};
 ghost use Rattle.ngd_log.specs.Pieces.{refusal_of, fault_of, Tells};
 
 use crate::log::LogError;
+use dcsp_list::Memory;
 
 /// The version of a log.
 #[derive(Clone, Copy, Debug, PartialEq, Eq)]
@@ -11,6 +13,15 @@ pub enum Version {
     One,
     /// It may have deletions, and its first line is `ngd 2`.
     Two,
+}
+
+/// What an entry is.
+#[derive(Clone, Copy, Debug, PartialEq, Eq)]
+pub enum Kind {
+    /// A step.
+    Step,
+    /// A deletion.
+    Delete,
 }
 
 /// After whole lines of a log.
@@ -43,6 +54,16 @@ impl Standing {
     {
         match self {
             Standing::Refused(error) => Err(error),
+            _ => Ok(()),
+        }
+    }
+
+    /// The refusal for want of memory, if that stands.
+    pub fn memory(self) -> Result<(), Memory>
+        ensures { OnOk result (self ≡ Standing.Refused LogError.Memory → ⊥) }
+    {
+        match self {
+            Standing::Refused(LogError::Memory) => Err(Memory),
             _ => Ok(()),
         }
     }

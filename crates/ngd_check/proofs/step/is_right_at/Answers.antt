@@ -27,7 +27,7 @@ returns g c =
         rising = c.pairs-pairs.ensures.rising;
         pairs = all_in _ _ c.requires.pairs;
         other = none_of (value_at nogood c.args.var) (ap is_some here ∙ (sym c.is_some.ensures ∙ c.if-is_some.false));
-        reasons = let z = subst (λ (f : Known). AllZip (R f) (domain p c.args.var) c.items.result.now) c.requires.known (c.are_reasons.ensures.0 t) in rw c.items.ensures at z;
+        reasons = let z = subst (λ (f : Known). AllZip (R f) (domain p c.args.var) c.reasons.result.now) c.requires.known (c.are_reasons.ensures.0 t) in rw c.reasons.ensures at z;
       },
-      λ h. c.are_reasons.ensures.1 (subst (λ (f : Known). AllZip (R f) (domain p c.args.var) c.items.result.now) (sym c.requires.known) (rw c.items.ensures h.reasons)),
+      λ h. c.are_reasons.ensures.1 (subst (λ (f : Known). AllZip (R f) (domain p c.args.var) c.reasons.result.now) (sym c.requires.known) (rw c.reasons.ensures h.reasons)),
     )

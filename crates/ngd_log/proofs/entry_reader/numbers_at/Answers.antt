@@ -8,13 +8,13 @@ use Rattle.ngd_log.proofs.entry_reader.numbers_at.Goals as goal
 pub returns-in_default-step_number_at : goal.returns-in_default-step_number_at
 returns-in_default-step_number_at c =
     let l = c.loop-next in
-    fails_on (codes " ") step_number_at l.numbers (length c.args.bytes.now - length l.numbers - 1) (length c.args.bytes.now - length l.numbers) l.rest.now c.in-Some.next.now (numbers_at c.args.bytes.now)
+    fails_on (codes " ") step_number_at l.numbers.items (length c.args.bytes.now - length l.numbers.items - 1) (length c.args.bytes.now - length l.numbers.items) l.rest.now c.in-Some.next.now (numbers_at c.args.bytes.now)
     (let s = c.in-Some.ensures.shorter in let r = l.invariant.room in omega arith) c.in-Some.ensures.reads c.in_default-step_number_at.ensures.reads l.invariant.same
 
 pub returns : goal.returns
 returns c =
     let l = c.loop-next in
-    is_done (codes " ") step_number_at l.numbers (length c.args.bytes.now - length l.numbers) l.rest.now (numbers_at c.args.bytes.now) c.in_default.ensures.reads l.invariant.same
+    is_done (codes " ") step_number_at l.numbers.items (length c.args.bytes.now - length l.numbers.items) l.rest.now (numbers_at c.args.bytes.now) c.in_default.ensures.reads l.invariant.same
 
 pub loop-next-preserved : goal.loop-next-preserved
 loop-next-preserved c =
@@ -23,11 +23,11 @@ loop-next-preserved c =
     let s = c.in-Some.ensures.shorter in
     let t = c.in-Some-step_number_at.ensures.shorter in
     let r = l.invariant.room in
-    let n = length_push l.numbers x in
-    let pushed : c.push.new.self ≡ l.numbers ++ x ∷ [] = c.in_ok-push.ensures.ok in
-    let left : length c.args.bytes.now - length c.push.new.self ≡ length c.args.bytes.now - length l.numbers - 1 = rw pushed (omega arith) in
+    let n = length_push l.numbers.items x in
+    let pushed : c.push.new.self.items ≡ l.numbers.items ++ x ∷ [] = c.in_ok-push.ensures.items in
+    let left : length c.args.bytes.now - length c.push.new.self.items ≡ length c.args.bytes.now - length l.numbers.items - 1 = rw pushed (omega arith) in
     record {
-      same = rw (left, pushed) (goes_on (codes " ") step_number_at l.numbers (length c.args.bytes.now - length l.numbers - 1) (length c.args.bytes.now - length l.numbers) l.rest.now c.in-Some.next.now x c.in-Some-step_number_at.others.now (numbers_at c.args.bytes.now)
+      same = rw (left, pushed) (goes_on (codes " ") step_number_at l.numbers.items (length c.args.bytes.now - length l.numbers.items - 1) (length c.args.bytes.now - length l.numbers.items) l.rest.now c.in-Some.next.now x c.in-Some-step_number_at.others.now (numbers_at c.args.bytes.now)
           (omega arith) c.in-Some.ensures.reads c.in-Some-step_number_at.ensures.reads l.invariant.same);
       room = rw pushed (omega arith);
     }

@@ -8,8 +8,8 @@ use Rattle.ngd_log.proofs.entry_reader.numbers_at.Given as goal
 -- the numbers so far and those of the rest are those of all the bytes
 abbrev pub invariant-loop-next : goal.invariant-loop-next
 invariant-loop-next l = record {
-  same : with_front l.numbers (items_at (codes " ") step_number_at (length l.bytes - length l.numbers) l.rest) ≡ numbers_at l.bytes;
-  room : length l.numbers + length l.rest ≤ length l.bytes;
+  same : with_front l.numbers.items (items_at (codes " ") step_number_at (length l.bytes - length l.numbers.items) l.rest) ≡ numbers_at l.bytes;
+  room : length l.numbers.items + length l.rest ≤ length l.bytes;
 }
 
 abbrev pub decreases-loop-next : goal.decreases-loop-next

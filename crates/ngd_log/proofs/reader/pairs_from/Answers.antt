@@ -1,4 +1,4 @@
-use Rattle.std.proofs.Common.{◌≡◌, ◌+◌, ◌-◌, ◌++◌, ◌∷◌, [], length, arith, codes, ◌∙◌}
+use Rattle.std.proofs.Common.{◌≡◌, ◌+◌, ◌-◌, ◌++◌, ◌∷◌, [], length, arith, codes}
 use Rattle.std.proofs.lemmas.List.{length_push}
 use Rattle.ngd_log.specs.Reading.{pair_at, pairs_from}
 use Rattle.ngd_log.proofs.Items.{goes_on, fails_on, is_done}
@@ -13,8 +13,7 @@ returns-in_default-pair_at c =
 pub returns : goal.returns
 returns c =
     let l = c.loop-next in
-    let all : c.in_ok-list.list.items ≡ l.pairs.items = c.in_ok-list.ensures.items ∙ c.deref.ensures.value in
-    rw all (is_done (codes ",") pair_at l.pairs.items (length c.args.bytes.now + 1 - length l.pairs.items) l.rest.now (pairs_from c.args.first c.args.bytes.now) c.in_default.ensures.reads l.invariant.same)
+    is_done (codes ",") pair_at l.pairs.items (length c.args.bytes.now + 1 - length l.pairs.items) l.rest.now (pairs_from c.args.first c.args.bytes.now) c.in_default.ensures.reads l.invariant.same
 
 pub loop-next-preserved : goal.loop-next-preserved
 loop-next-preserved c =

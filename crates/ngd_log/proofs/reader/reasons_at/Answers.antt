@@ -1,4 +1,4 @@
-use Rattle.std.proofs.Common.{◌≡◌, ◌-◌, ◌++◌, ◌∷◌, [], length, arith, codes, ◌∙◌}
+use Rattle.std.proofs.Common.{◌≡◌, ◌-◌, ◌++◌, ◌∷◌, [], length, arith, codes}
 use Rattle.std.proofs.lemmas.List.{length_push}
 use Rattle.ngd_log.specs.Reading.{reason_at, reasons_at}
 use Rattle.ngd_log.proofs.Items.{goes_on, fails_on, is_done}
@@ -13,8 +13,7 @@ returns-in_default-reason_at c =
 pub returns : goal.returns
 returns c =
     let l = c.loop-next in
-    let all : c.from_vec.result ≡ l.reasons.items = c.from_vec.ensures ∙ (c.in_ok-list.ensures.items ∙ c.deref.ensures.value) in
-    rw all (is_done (codes " ") reason_at l.reasons.items (length c.args.bytes.now - length l.reasons.items) l.rest.now (reasons_at c.args.bytes.now) c.in_default.ensures.reads l.invariant.same)
+    is_done (codes " ") reason_at l.reasons.items (length c.args.bytes.now - length l.reasons.items) l.rest.now (reasons_at c.args.bytes.now) c.in_default.ensures.reads l.invariant.same
 
 pub loop-next-preserved : goal.loop-next-preserved
 loop-next-preserved c =

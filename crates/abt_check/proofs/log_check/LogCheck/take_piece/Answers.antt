@@ -1,12 +1,34 @@
-use Rattle.std.proofs.Common.{◌≡◌, Err, refl, rules, subst}
-use Rattle.ngd_log.specs.declared.log.LogError.TheVariants.{Memory}
-use Rattle.ngd_log.specs.Pieces.{Completes}
-use Rattle.abt_check.proofs.Taking.{unless_memory, on_ok, piece_come}
+use Rattle.std.proofs.Common.{refl, arith}
+use Rattle.abt_check.specs.declared.log_check.LogCheck.{LogCheck}
+use Rattle.abt_check.proofs.Taking.{front_none, front_more, front_whole, front_come, front_room}
 use Rattle.abt_check.proofs.log_check.LogCheck.take_piece.Goals as goal
 
-pub returns-in-Ok-clause-come : goal.returns-in-Ok-clause-come
-returns-in-Ok-clause-come c = λ text h.
-    let enough : c.feed.result ≡ Err Memory → ⊥ = search rules in
-    let read = unless_memory c.feed.result _ enough c.feed.ensures.entries c.feed.ensures.before_line text h.fed in
-    let completes = subst (λ before. Completes text c.args.piece.now before c.feed.new.into) c.new-entries.ensures read in
-    on_ok c.take_entries.result c.take_entries.ensures (λ on. piece_come c.args.self.now _ c.take_entries.new.self text c.args.piece.now c.feed.new.into refl refl refl (c.feed.ensures.fed text h.fed) completes on h)
+pub loop-others-init : goal.loop-others-init
+loop-others-init c = front_none c.args.self.now c.args.piece.now
+
+pub take_line-requires : goal.take_line-requires
+take_line-requires c =
+    let same = front_room c.args.self.now c.loop-others.self c.args.piece.now c.loop-others.rest.now c.loop-others.invariant in
+    let room = c.requires in
+    omega (arith, same, room)
+
+pub loop-others-preserved : goal.loop-others-preserved
+loop-others-preserved c =
+    let b = c.loop-others.self in
+    let mid : LogCheck = record { alloc = b.alloc; reader = c.take_line.new.self; checker = b.checker; keeps = b.keeps; steps = b.steps } in
+    front_more c.args.self.now b mid c.take_lent.new.self c.args.piece.now c.loop-others.rest.now c.in-Some.others.now c.loop-others.invariant (record { problem = refl; keeps = refl }) refl refl
+    (rw c.in-Some.is at c.in_ok-others.ensures.line) c.in_ok-take_lent.ensures
+
+pub returns-clause-task : goal.returns-clause-task
+returns-clause-task c =
+    let b = c.loop-others.self in
+    let mid : LogCheck = record { alloc = b.alloc; reader = c.take_line.new.self; checker = b.checker; keeps = b.keeps; steps = b.steps } in
+    (front_whole c.args.self.now b mid c.args.piece.now c.loop-others.rest.now c.loop-others.invariant (record { problem = refl; keeps = refl }) refl refl
+    (rw c.in_default.is at c.in_ok-others.ensures.part) (rw c.in_default.is at c.in_ok-others.ensures.silent)).task
+
+pub returns-clause-come : goal.returns-clause-come
+returns-clause-come c = λ text h.
+    let b = c.loop-others.self in
+    let mid : LogCheck = record { alloc = b.alloc; reader = c.take_line.new.self; checker = b.checker; keeps = b.keeps; steps = b.steps } in
+    front_come c.args.self.now mid c.args.piece.now (front_whole c.args.self.now b mid c.args.piece.now c.loop-others.rest.now c.loop-others.invariant (record { problem = refl; keeps = refl }) refl refl
+    (rw c.in_default.is at c.in_ok-others.ensures.part) (rw c.in_default.is at c.in_ok-others.ensures.silent)) text h

@@ -1,9 +1,9 @@
 use Rattle.std.proofs.Common.{sym, ap, ◌∙◌}
 use Rattle.ngd_check.specs.Progress.{Progress}
-use Rattle.ngd_check.proofs.Steps.{progress_stays, found_some}
+use Rattle.ngd_check.proofs.Steps.{progress_stays_lent, found_some}
 use Rattle.ngd_check.proofs.checker.Checker.take.Goals as goal
 
 pub returns-then-is_some-clause-taken : goal.returns-then-is_some-clause-taken
 returns-then-is_some-clause-taken c entries h =
     let found = found_some c.self.inside.wrong (sym c.is_some.ensures ∙ c.if-is_some.true) in
-    progress_stays c.args.self.now found.0 entries c.args.entry.now (sym (ap (λ (q : Progress). q.wrong) c.self.view_is) ∙ found.1) h
+    progress_stays_lent c.args.self.now found.0 entries c.args.entry.now (sym (ap (λ (q : Progress). q.wrong) c.self.view_is) ∙ found.1) h

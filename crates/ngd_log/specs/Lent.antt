@@ -1,0 +1,42 @@
+-- What a reader lends of the line that it read last.
+use Rattle.std.specs.Prelude.{Bool, true, false, List, [], ◌∷◌, Option, Some, None}
+use Rattle.std.specs.List.{AllByRecursion}
+use Rattle.dcsp_nogood.specs.Pairs.{IsRising}
+use Rattle.dcsp_defs.specs.declared.Step.{Step}
+use Rattle.ngd_log.specs.declared.reader.Gathered.{Gathered}
+use Rattle.ngd_log.specs.declared.standing.Kind.{Kind}
+use Rattle.ngd_log.specs.declared.standing.Kind.TheVariants as kinds
+use Rattle.ngd_log.specs.declared.lent.Lent.{Lent}
+use Rattle.ngd_log.specs.declared.lent.Lent.TheVariants as lents
+use Rattle.ngd_log.specs.declared.entry.Entry.{Entry}
+use Rattle.ngd_log.specs.declared.entry.Entry.TheVariants.{Step as A_step, Delete}
+
+-- whether this is a step
+abbrev pub is_step : Kind → Bool
+is_step kinds.Step = true
+is_step kinds.Delete = false
+
+-- the step of these parts
+abbrev pub step_in : Gathered → Step
+step_in gathered = record { variable = gathered.variable; nogood = gathered.pairs.items; reasons = gathered.reasons.items }
+
+-- the entry of these parts
+abbrev pub entry_in : Kind → Gathered → Entry
+entry_in kinds.Step gathered = A_step (step_in gathered)
+entry_in kinds.Delete gathered = Delete gathered.numbers.items
+
+-- the same where there is one
+abbrev pub lent_in : Option Kind → Gathered → List Entry
+lent_in None gathered = []
+lent_in (Some kind) gathered = entry_in kind gathered ∷ []
+
+-- the pairs of a step rise
+abbrev pub RisesIn : Entry → Type 0
+RisesIn (A_step step) = IsRising step.nogood
+RisesIn (Delete numbers) = Unit {0}
+
+-- the entry that is lent, if there is one
+abbrev pub lent_entries : Option Lent → List Entry
+lent_entries None = []
+lent_entries (Some (lents.Step step)) = A_step step ∷ []
+lent_entries (Some (lents.Delete numbers)) = Delete numbers.now ∷ []
