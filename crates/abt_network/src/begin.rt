@@ -52,9 +52,13 @@ fn first_false(problem: &Problem) -> Option<u32>
 fn step_of_rule(alloc: Global, rule: u32) -> Result<Step, Memory>
     ensures { IfOk result (IsRuleStep rule) }
 {
-    let nogood = Nogood::from_pairs(alloc, &[]).map_err(|_| Memory)?;
+    let Ok(nogood) = Nogood::from_pairs(alloc, &[]) else {
+        return Err(Memory);
+    };
     let mut reasons = ReasonList::new(alloc);
-    reasons.push(Reason::Rule(rule)).map_err(|_| Memory)?;
+    let Ok(()) = reasons.push(Reason::Rule(rule)) else {
+        return Err(Memory);
+    };
     Ok(Step {
         variable: None,
         nogood,

@@ -56,7 +56,9 @@ pub fn forms_of(alloc: Global, rules: &[Rule]) -> Result<Vec<Form>, Memory>
     };
     for rule in rules {
         let form = form_of(alloc, rule)?;
-        forms.push(form).map_err(|_| Memory)?;
+        let Ok(()) = forms.push(form) else {
+            return Err(Memory);
+        };
     }
     Ok(forms)
 }

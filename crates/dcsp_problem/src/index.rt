@@ -112,7 +112,9 @@ pub fn owned_lists(
     requires inside { All (λ scope. All (λ v. v < variables) scope) scopes.now }
     ensures { IfOk result (λ owned. owned.items ≡ map (owned_among scopes.now) (below variables)) }
 {
-    let mut owned = empty_lists(alloc, variables).map_err(|_| Memory)?;
+    let Ok(mut owned) = empty_lists(alloc, variables) else {
+        return Err(Memory);
+    };
     for rule in 0..scopes.len() {
         let owner = scopes.list(rule).last().copied();
         push_owned(&mut owned, owner, rule as u32)?;
@@ -140,5 +142,8 @@ fn push_owned(owned: &mut Vec<NumberList>, owner: Option<u32>, rule: u32) -> Res
         return Ok(());
     };
     let list = &mut owned[owner as usize];
-    list.push(rule).map_err(|_| Memory)
+    match list.push(rule) {
+        Ok(()) => Ok(()),
+        Err(_) => Err(Memory),
+    }
 }

@@ -19,7 +19,9 @@ pub fn lower_table(
     requires { All (λ scope. All (λ v. v < variables) scope) scopes.now }
     ensures { IfOk result (λ table. table ≡ map (lower_among scopes.now variables) (below variables)) }
 {
-    let mut owners = empty_lists(alloc, variables).map_err(|_| Memory)?;
+    let Ok(mut owners) = empty_lists(alloc, variables) else {
+        return Err(Memory);
+    };
     for rule in 0..scopes.len() {
         push_scope(&mut owners, scopes.list(rule))?;
     }
@@ -57,5 +59,8 @@ fn push_owner(owners: &mut Vec<NumberList>, var: u32, owner: u32) -> Result<(), 
         return Ok(());
     }
     let list = &mut owners[var as usize];
-    list.push(owner).map_err(|_| Memory)
+    match list.push(owner) {
+        Ok(()) => Ok(()),
+        Err(_) => Err(Memory),
+    }
 }

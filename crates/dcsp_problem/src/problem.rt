@@ -348,7 +348,9 @@ fn copied_domains(domains: &Vec<Domain>) -> Result<Vec<Domain>, Memory>
     };
     for domain in domains {
         let copy = domain.copied()?;
-        copies.push(copy).map_err(|_| Memory)?;
+        let Ok(()) = copies.push(copy) else {
+            return Err(Memory);
+        };
     }
     Ok(copies)
 }

@@ -36,7 +36,9 @@ impl NumberTable {
         ensures { IfOk result (λ table. (n : ℕ) → All (λ list. All (λ x. x < n) list) lists.now → table ≡ map (set_below n) lists.now) }
     {
         let mut numbers = Vec::new(alloc);
-        let mut places = vec![in alloc; 0].map_err(|_| Memory)?;
+        let Ok(mut places) = vec![in alloc; 0] else {
+            return Err(Memory);
+        };
         for list in lists {
             let Ok(set) = rising_set(alloc, list.items()) else {
                 return Err(Memory);
@@ -51,7 +53,9 @@ impl NumberTable {
         ensures { IfOk result (λ table. table ≡ lists.now) }
     {
         let mut numbers = Vec::new(alloc);
-        let mut places = vec![in alloc; 0].map_err(|_| Memory)?;
+        let Ok(mut places) = vec![in alloc; 0] else {
+            return Err(Memory);
+        };
         for list in lists {
             push_list(&mut numbers, &mut places, list.items())?;
         }
@@ -63,7 +67,9 @@ impl NumberTable {
         ensures { IfOk result (λ table. (variables : ℕ) → All (IsRuleOf variables) rules.now → table ≡ map (scope_of variables) rules.now) }
     {
         let mut numbers = Vec::new(alloc);
-        let mut places = vec![in alloc; 0].map_err(|_| Memory)?;
+        let Ok(mut places) = vec![in alloc; 0] else {
+            return Err(Memory);
+        };
         for rule in rules {
             let Ok(scope) = scope_list(alloc, rule) else {
                 return Err(Memory);

@@ -16,7 +16,7 @@ loop-rule-preserved c = record {
       let mine = subst (λ (z : Rule). IsRuleOf n z) (sym c.rule-item.is) (all i rule within) in
       c.in_ok-push_list.ensures.list
       ∙ ap (λ (z : List (List ℕ)). z ++ c.deref.result.now ∷ []) (c.loop-rule.invariant.made n all)
-      ∙ ap (λ (z : List ℕ). map (scope_of n) (take i rules) ++ z ∷ []) (c.deref.ensures.value ∙ c.in-Ok.ensures n mine ∙ ap (λ (z : Rule). scope_of n z) c.rule-item.is)
+      ∙ ap (λ (z : List ℕ). map (scope_of n) (take i rules) ++ z ∷ []) (c.deref.ensures.value ∙ c.in-Ok-scope_list.ensures n mine ∙ ap (λ (z : Rule). scope_of n z) c.rule-item.is)
       ∙ changed_more (scope_of n) rules i rule within;
 }
 
