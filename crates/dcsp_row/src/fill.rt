@@ -1,6 +1,6 @@
 //! What a rule rules out.
 
-ghost use Rattle.std.specs.Prelude.{◌≡◌, ◌<◌, ◌≤◌, ℕ, length, false, slice_index_or, IfSome, IsTrue, is_some, not};
+ghost use Rattle.std.specs.Prelude.{◌≡◌, ◌<◌, ◌≤◌, ℤ, length, IfSome, IsTrue, is_some, not};
 ghost use Rattle.dcsp_defs.specs.Csp.{domain};
 ghost use Rattle.dcsp_problem.specs.Problems.{csp_of, rule_at, AreInDomains};
 ghost use Rattle.dcsp_linear.specs.Sums.{widest};
@@ -8,6 +8,7 @@ ghost use Rattle.dcsp_defs.specs.Csp.{filled, with_value};
 ghost use Rattle.dcsp_problem.specs.Rules.{has_shape};
 ghost use Rattle.dcsp_problem.specs.Widths.{rule_sizes};
 ghost use Rattle.dcsp_row.specs.Easy.{has_span, is_plain};
+ghost use Rattle.dcsp_row.specs.Lines.{is_line, is_off, line_size};
 ghost use Rattle.dcsp_row.specs.Rows.{is_false, is_ruled_out, IsRow, TellsFalse, FitAtEach};
 ghost use Rattle.dcsp_row.specs.Spans.{SpansWhere};
 
@@ -17,7 +18,7 @@ use crate::known::{known_value, knows_others};
 use crate::line::line_of;
 use crate::row::Row;
 use crate::span::Span;
-use crate::sums::{fill_sum, off_span, told_by};
+use crate::sums::{Opened, fill_sum, off_span, told_by};
 use dcsp_domain::Domain;
 use dcsp_problem::{Lookup, Problem, Rule};
 
@@ -75,23 +76,11 @@ fn span_of_sum<L: Lookup>(rule: &Rule, domain: &Domain, var: u32, lookup: &L) ->
     ensures span { IfSome result (SpansWhere (is_false rule.now var (L.values lookup.now)) domain.now) }
     ensures some { IsTrue (not (is_plain rule.now)) → IsTrue (has_span var rule.now) → IsTrue (is_some result) }
 {
-    let Rule::Sum {
-        rel,
-        coefs,
-        terms,
-        total,
-        truth,
-    } = rule
-    else {
-        return None;
-    };
     if domain.is_empty() {
         return Some(Span::whole(false));
     }
-    let line = line_of(coefs.items(), terms.items(), domain, var, lookup)?;
-    let total = known_value(*total, var, lookup);
-    let told = told_by(*truth, var, lookup);
-    off_span(*rel, line, total, told, domain)
+    let opened = open_sum(rule, domain, var, lookup)?;
+    off_span(opened, domain)
 }
 
 /// For each value of the variable whether the rule is violated under this value and the look-up's.
@@ -121,6 +110,27 @@ fn fill_linear<L: Lookup>(rule: &Rule, domain: &Domain, var: u32, lookup: &L, ro
     ensures size { length row.new ≡ length domain.now }
     ensures tells { IsTrue result → TellsFalse rule.now var domain.now (L.values lookup.now) row.new }
 {
+    if domain.is_empty() {
+        return false;
+    }
+    match open_sum(rule, domain, var, lookup) {
+        None => false,
+        Some(opened) => {
+            fill_sum(opened, domain, row);
+            true
+        }
+    }
+}
+
+/// The sum with the variable open, if the rule is one with the variable in one of its terms at most.
+fn open_sum<L: Lookup>(rule: &Rule, domain: &Domain, var: u32, lookup: &L) -> Option<Opened>
+    requires shape { IsTrue (has_shape rule.now) }
+    requires some { 0 < length domain.now }
+    requires narrow { FitAtEach (λ x. rule_sizes rule.now (filled (with_value var x (L.values lookup.now)))) widest domain.now }
+    ensures off { IfSome result (λ opened. (x : ℤ) → is_off opened x ≡ is_false rule.now var (L.values lookup.now) x) }
+    ensures fits { IfSome result (λ opened. FitAtEach (line_size opened.line) widest domain.now) }
+    ensures some { IsTrue (not (is_plain rule.now)) → IsTrue (has_span var rule.now) → IsTrue (is_line result) }
+{
     let Rule::Sum {
         rel,
         coefs,
@@ -129,16 +139,15 @@ fn fill_linear<L: Lookup>(rule: &Rule, domain: &Domain, var: u32, lookup: &L, ro
         truth,
     } = rule
     else {
-        return false;
+        return None;
     };
-    if domain.is_empty() {
-        return false;
-    }
-    let Some(line) = line_of(coefs.items(), terms.items(), domain, var, lookup) else {
-        return false;
-    };
+    let line = line_of(coefs.items(), terms.items(), domain, var, lookup)?;
     let total = known_value(*total, var, lookup);
     let told = told_by(*truth, var, lookup);
-    fill_sum(*rel, line, total, told, domain, row);
-    true
+    Some(Opened {
+        rel: *rel,
+        line,
+        total,
+        told,
+    })
 }

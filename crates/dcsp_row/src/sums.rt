@@ -1,13 +1,13 @@
 //! Rows of sums.
 
-ghost use Rattle.std.specs.Prelude.{◌≡◌, ◌<◌, ◌≤◌, ℕ, ℤ, IfSome, IsTrue, is_some, length, false, not, option_to_list, slice_index_or, unsigned_abs, unwrap_or};
+ghost use Rattle.std.specs.Prelude.{◌≡◌, ◌<◌, ◌≤◌, ℤ, Some, IfSome, IsTrue, is_some, length, false, not, option_to_list, slice_index_or, unsigned_abs, unwrap_or};
 ghost use Rattle.std.specs.Option.{option_map};
 ghost use Rattle.dcsp_linear.specs.Sums.{stands, widest};
 ghost use Rattle.dcsp_defs.specs.Csp.{filled, with_value};
 ghost use Rattle.dcsp_problem.specs.Rules.{is_told, value_under};
 ghost use Rattle.dcsp_row.specs.Rows.{compares, own_at, MarksWhere, FitAtEach};
 ghost use Rattle.dcsp_row.specs.Easy.{is_truth, is_unit};
-ghost use Rattle.dcsp_row.specs.Lines.{line_at, line_size, told_at, is_known, is_off};
+ghost use Rattle.dcsp_row.specs.Lines.{is_known, is_line, is_off, line_at, line_size, told_at};
 ghost use Rattle.dcsp_row.specs.Spans.{SpansWhere};
 
 use crate::compare::{Comparison, missed_after, missed_before};
@@ -31,6 +31,16 @@ pub enum Told {
     ByOwn,
 }
 
+/// A sum with one variable open.
+#[derive(Clone, Copy)]
+pub struct Opened {
+    pub rel: Rel,
+    pub line: Line,
+    /// `None` where it is the open variable.
+    pub total: Option<i64>,
+    pub told: Told,
+}
+
 /// What tells the truth of a sum, where this variable is open.
 pub fn told_by<L: Lookup>(truth: Option<Term>, var: u32, lookup: &L) -> Told
     ensures told { (x : ℤ) → option_map (value_under (filled (with_value var x (L.values lookup.now)))) truth ≡ told_at result x }
@@ -47,19 +57,14 @@ pub fn told_by<L: Lookup>(truth: Option<Term>, var: u32, lookup: &L) -> Told
 
 /// The places of those of these values at which the sum is false, where the open variable is added or taken
 /// away once at most, and tells neither total nor truth.
-pub fn off_span(
-    rel: Rel,
-    line: Line,
-    total: Option<i64>,
-    told: Told,
-    domain: &Domain,
-) -> Option<Span>
-    requires { unsigned_abs line.base ≤ widest }
-    ensures off { IfSome result (SpansWhere (is_off rel line total told) domain.now) }
-    ensures some { IsTrue (is_unit (option_to_list line.own)) → IsTrue (is_some total) → IsTrue (is_known told) → IsTrue (is_some result) }
+pub fn off_span(opened: Opened, domain: &Domain) -> Option<Span>
+    requires { unsigned_abs opened.line.base ≤ widest }
+    ensures off { IfSome result (SpansWhere (is_off opened) domain.now) }
+    ensures some { IsTrue (is_line (Some opened)) → IsTrue (is_some result) }
 {
-    let missed = missed_line(rel, line, total?, domain)?;
-    match told {
+    let total = opened.total?;
+    let missed = missed_line(opened.rel, opened.line, total, domain)?;
+    match opened.told {
         Told::Untold => Some(missed),
         Told::By(truth) => Some(if truth == 1 { missed } else { missed.others() }),
         Told::ByOwn => None,
@@ -99,41 +104,27 @@ fn comparison_in(rel: Rel) -> Comparison
 }
 
 /// For each of these values whether the sum is false.
-pub fn fill_sum(
-    rel: Rel,
-    line: Line,
-    total: Option<i64>,
-    told: Told,
-    domain: &Domain,
-    row: &mut Row,
-)
+pub fn fill_sum(opened: Opened, domain: &Domain, row: &mut Row)
     requires size { length row.old ≡ length domain.now }
-    requires narrow { FitAtEach (line_size line) widest domain.now }
-    ensures { MarksWhere (is_off rel line total told) domain.now row.new }
+    requires narrow { FitAtEach (line_size opened.line) widest domain.now }
+    ensures { MarksWhere (is_off opened) domain.now row.new }
 {
     for place in 0..domain.len() {
-        let holds = holds_at(rel, line, total, told, domain, place);
+        let holds = holds_at(opened, domain, place);
         row.put(place, !holds);
     }
 }
 
 /// Whether the sum is true at the value at a place.
-fn holds_at(
-    rel: Rel,
-    line: Line,
-    total: Option<i64>,
-    told: Told,
-    domain: &Domain,
-    place: usize,
-) -> bool
+fn holds_at(opened: Opened, domain: &Domain, place: usize) -> bool
     requires place { place < length domain.now }
-    requires narrow { line_size line (own_at domain.now place) ≤ widest }
-    ensures { result ≡ is_told (told_at told (own_at domain.now place)) (stands rel (line_at line (own_at domain.now place)) (unwrap_or total (own_at domain.now place))) }
+    requires narrow { line_size opened.line (own_at domain.now place) ≤ widest }
+    ensures { result ≡ is_told (told_at opened.told (own_at domain.now place)) (stands opened.rel (line_at opened.line (own_at domain.now place)) (unwrap_or opened.total (own_at domain.now place))) }
 {
     let value = domain.value(place);
-    let sum = sum_at(line, value);
-    let total = total.unwrap_or(value);
-    is_told(told, value, stands(rel, sum, total))
+    let sum = sum_at(opened.line, value);
+    let total = opened.total.unwrap_or(value);
+    is_told(opened.told, value, stands(opened.rel, sum, total))
 }
 
 /// The truth itself, or whether it is told rightly where the open variable has this value.

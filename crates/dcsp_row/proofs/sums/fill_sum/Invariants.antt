@@ -3,4 +3,4 @@ use Rattle.dcsp_row.specs.Lines.{is_off}
 use Rattle.dcsp_row.proofs.sums.fill_sum.Given as goal
 
 abbrev pub invariant-loop-place : goal.invariant-loop-place
-invariant-loop-place l = MarksBelow (is_off l.rel l.line l.total l.told) l.domain l.place l.row
+invariant-loop-place l = MarksBelow (is_off l.opened) l.domain l.place l.row

@@ -11,14 +11,14 @@ use Rattle.dcsp_row.proofs.sums.off_span.Goals as goal
 
 pub returns-else-truth-eq1-clause-off : goal.returns-else-truth-eq1-clause-off
 returns-else-truth-eq1-clause-off c = λ k l.
-    let rel = c.args.rel in
-    let line = c.args.line in
+    let rel = c.args.opened.rel in
+    let line = c.args.opened.line in
     let truth = c.in-By.truth in
     let x = own_at c.args.domain.now k in
     let other : truth ≢ pos 1 = λ e. c.if-truth-eq1.false (ap (of_z w64) e) in
-    let total : c.args.total ≡ Some c.in_ok-total.field-0 = search rules in
-    let fits : SFits w64 c.in_ok-total.field-0 = search rules in
+    let total : c.args.opened.total ≡ Some c.in_ok-total.total = search rules in
+    let fits : SFits w64 c.in_ok-total.total = search rules in
     let missed = simp to_z-of_z at c.in_ok-missed.ensures.missed in
-    c.others.ensures k ∙ ap not (missed k l) ∙ told_false (stands rel (line_at line x) c.in_ok-total.field-0) truth other
+    c.others.ensures k ∙ ap not (missed k l) ∙ told_false (stands rel (line_at line x) c.in_ok-total.total) truth other
     ∙ sym (ap (λ (o : Option ℤ). not (is_told (Some truth) (stands rel (line_at line x) (unwrap_or o x)))) total)
-    ∙ sym (ap (λ (t : Told). not (is_told (told_at t x) (stands rel (line_at line x) (unwrap_or c.args.total x)))) c.in-By.is)
+    ∙ sym (ap (λ (t : Told). not (is_told (told_at t x) (stands rel (line_at line x) (unwrap_or c.args.opened.total x)))) c.in-By.is)
