@@ -1,5 +1,5 @@
--- No form within an item has a `;`.
-use Rattle.std.proofs.Common.{◌≡◌, ℕ, zero, suc, List, [], ◌∷◌, sym, ◌∙◌, ap, subst, ⊎_elim, inr}
+-- No form within an item has a `;`, or looks behind the next one.
+use Rattle.std.proofs.Common.{◌≡◌, ◌⊎◌, ℕ, zero, suc, List, [], ◌∷◌, Option, Some, None, refl, sym, ◌∙◌, ap, subst, inl, inr}
 use Rattle.fzn_token.specs.declared.token.Token.{Token}
 use Rattle.fzn_token.specs.declared.token.Mark.{Mark}
 use Rattle.fzn_token.specs.declared.token.Mark.TheVariants as mark
@@ -14,66 +14,105 @@ use Rattle.fzn_item.specs.Exprs.{AtomAfter, IsAtom, IsExpr}
 use Rattle.fzn_item.specs.Annotations.{Arguments, NumberAfter, IsNumber, InnerAfter, IsInner}
 use Rattle.fzn_item.specs.Marks.{called, IsRange, IsRangeArgument, IsOtherArgument, MarkedEnd, IsMarkedAnnotation, AreAnnotations, none, more as one_more}
 use Rattle.fzn_item.specs.Elements.{SetAfter, IsSetElement, BaseAfter, IsBase, ElementAfter, IsElement}
-use Rattle.fzn_item.specs.Items.{ToSemicolon}
 
--- a form of R goes no further than the first `;`
+-- what stands behind a `;` in two lists, where they have one
+abbrev pub Behind : Type 0
+Behind = Option (List Token × List Token)
+
+-- two lists have the same tokens up to the first `;`, behind which these stand; or they are the same, without a `;`
+abbrev pub Alike : List Token → List Token → Behind → Type 0
+Alike [] [] e = e ≡ None
+Alike [] (u ∷ us) e = ⊥
+Alike (t ∷ ts) [] e = ⊥
+Alike (t ∷ ts) (u ∷ us) e = (t ≡ u) × (((t.kind ≡ kind.Mark mark.Semicolon) × (e ≡ Some (ts, us))) ⊎ ((t.kind ≡ kind.Mark mark.Semicolon → ⊥) × Alike ts us e))
+
+-- a form of R is read before the first `;` alone, whatever stands behind it
 abbrev pub Stays : {V : Type 0} → Production V → Type 0
-Stays R = (ts : List Token) (v : _) (rest : List Token) → R ts v rest → (end : List Token) → ToSemicolon rest tt end → ToSemicolon ts tt end
+Stays R = (ts us : List Token) (e : Behind) (v : _) (rest : List Token) → Alike ts us e → R ts v rest → (next : List Token) × R us v next × Alike rest next e
 
 -- another token than `;`
 pub one_stays : (k : TokenKind) → (k ≡ kind.Mark mark.Semicolon → ⊥) → Stays (OneOf k)
-one_stays k differs [] t rest p end q = absurd p
-one_stays k differs (u ∷ us) t rest p end q = inr ((λ e. differs (sym p.0 ∙ e)), subst (λ x. ToSemicolon x tt end) p.2 q)
+one_stays k differs [] us e v rest alike p = absurd p
+one_stays k differs (t ∷ ts) [] e v rest alike p = absurd alike
+one_stays k differs (t ∷ ts) (u ∷ us) e v rest alike p = elim alike.1 [
+  | inl here ↦ absurd (differs (sym p.0 ∙ here.0))
+  | inr past ↦ (us, (ap (λ x. x.kind) (sym alike.0) ∙ p.0, p.1 ∙ alike.0, refl), subst (λ x. Alike x us e) (sym p.2) past.1)
+]
 
 -- an integer
 integer_stays : Stays IsInteger
-integer_stays [] v rest p end q = absurd p
-integer_stays (u ∷ us) v rest p end q = inr ((λ e. let clash : kind.Whole v ≡ kind.Mark mark.Semicolon = sym p.0 ∙ e in cc), subst (λ x. ToSemicolon x tt end) p.1 q)
+integer_stays [] us e v rest alike p = absurd p
+integer_stays (t ∷ ts) [] e v rest alike p = absurd alike
+integer_stays (t ∷ ts) (u ∷ us) e v rest alike p = elim alike.1 [
+  | inl here ↦ absurd (let clash : kind.Whole v ≡ kind.Mark mark.Semicolon = sym p.0 ∙ here.0 in cc)
+  | inr past ↦ (us, (ap (λ x. x.kind) (sym alike.0) ∙ p.0, refl), subst (λ x. Alike x us e) (sym p.1) past.1)
+]
 
 -- two productions in turn
 pub then_stays : {A B : Type 0} (R : Production A) (S : A → Production B) → Stays R → ((a : A) → Stays (S a)) → Stays (R >>= S)
-then_stays R S first second ts v rest p end q = first ts p.0 p.1 p.2 end (second p.0 p.1 v rest p.3 end q)
+then_stays R S first second ts us e v rest alike p =
+    let f = first ts us e p.0 p.1 alike p.2 in
+    let g = second p.0 p.1 f.0 e v rest f.2 p.3 in
+    (g.0, (p.0, f.0, f.1, g.1), g.2)
 
 -- one of two productions
 or_stays : {V : Type 0} (R S : Production V) → Stays R → Stays S → Stays (Or R S)
-or_stays R S first second ts v rest p end q = ⊎_elim (λ a. first ts v rest a end q) (λ b. second ts v rest b end q) p
+or_stays R S first second ts us e v rest alike p = elim p [
+  | inl r ↦ let f = first ts us e v rest alike r in (f.0, inl f.1, f.2)
+  | inr s ↦ let f = second ts us e v rest alike s in (f.0, inr f.1, f.2)
+]
 
 -- nothing
 pub gives_stays : {V : Type 0} (x : V) → Stays (Gives x)
-gives_stays x ts v rest p end q = subst (λ y. ToSemicolon y tt end) p.1 q
+gives_stays x ts us e v rest alike p = (us, (p.0, refl), subst (λ y. Alike y us e) (sym p.1) alike)
 
 -- no form
 pub nothing_stays : {V : Type 0} → Stays {V = V} Nothing
-nothing_stays ts v rest p end q = absurd p
+nothing_stays ts us e v rest alike p = absurd p
 
 -- the look-ahead
 not_next_stays : (m : Mark) → Stays (IsNotNext m)
-not_next_stays m ts v rest p end q = subst (λ y. ToSemicolon y tt end) p.0 q
+not_next_stays m ts us e v rest alike p = (us, (refl, no_head ts us alike p.1), subst (λ y. Alike y us e) (sym p.0) alike) where
+  -- another first token stays another
+  no_head : (ts us : List Token) → Alike ts us e → Fails (OneOf (kind.Mark m)) ts → Fails (OneOf (kind.Mark m)) us
+  no_head [] [] alike fails t rest q = q
+  no_head [] (u ∷ us) alike fails t rest q = alike
+  no_head (t ∷ ts) [] alike fails v rest q = q
+  no_head (t ∷ ts) (u ∷ us) alike fails v rest q = fails t ts (ap (λ x. x.kind) alike.0 ∙ q.0, refl, refl)
 
 -- a first token, and what follows it by its kind, where nothing follows a `;`
 pub first_stays : {V : Type 0} (After : Token → Production V) → ((t : Token) → Stays (After t)) → ((t : Token) → t.kind ≡ kind.Mark mark.Semicolon → (ts : List Token) → Fails (After t) ts) → Stays (IsAny >>= After)
-first_stays After stays fails [] v rest p end q = absurd p.2
-first_stays After stays fails (u ∷ us) v rest p end q = inr (
-  (λ e. fails p.0 (ap (λ t. t.kind) p.2.0 ∙ e) p.1 v rest p.3),
-  subst (λ x. ToSemicolon x tt end) p.2.1 (stays p.0 p.1 v rest p.3 end q),
-)
+first_stays After stays fails [] us e v rest alike p = absurd p.2
+first_stays After stays fails (t ∷ ts) [] e v rest alike p = absurd alike
+first_stays After stays fails (t ∷ ts) (u ∷ us) e v rest alike p = elim alike.1 [
+  | inl here ↦ absurd (fails p.0 (ap (λ x. x.kind) p.2.0 ∙ here.0) p.1 v rest p.3)
+  | inr past ↦
+      let f = stays p.0 p.1 us e v rest (subst (λ x. Alike x us e) (sym p.2.1) past.1) p.3 in
+      (f.0, (p.0, us, (p.2.0 ∙ alike.0, refl), f.1), f.2)
+]
 
 -- forms with commas between
-separated_stays : {V : Type 0} (R : Production V) (close : Mark) → (kind.Mark close ≡ kind.Mark mark.Semicolon → ⊥) → Stays R → (ts : List Token) (vs : List V) (rest : List Token) → IsSeparated R close ts vs rest → (end : List Token) → ToSemicolon rest tt end → ToSemicolon ts tt end
-separated_stays R close differs stays ts vs rest (last {middle = m} {v = w} t a b) end q = stays ts w m a end (one_stays (kind.Mark close) differs m t rest b end q)
-separated_stays R close differs stays ts vs rest (more {middle = m} {next = n} {v = w} {vs = ws} t a b c) end q =
-    stays ts w m a end (one_stays (kind.Mark mark.Comma) (λ e. cc) m t n b end (separated_stays R close differs stays n ws rest c end q))
+separated_stays : {V : Type 0} (R : Production V) (close : Mark) → (kind.Mark close ≡ kind.Mark mark.Semicolon → ⊥) → Stays R → Stays (IsSeparated R close)
+separated_stays R close differs stays ts us e vs rest alike (last {middle = m} {v = w} t a b) =
+    let f = stays ts us e w m alike a in
+    let g = one_stays (kind.Mark close) differs m f.0 e t rest f.2 b in
+    (g.0, last t f.1 g.1, g.2)
+separated_stays R close differs stays ts us e vs rest alike (more {middle = m} {next = n} {v = w} {vs = ws} t a b c) =
+    let f = stays ts us e w m alike a in
+    let g = one_stays (kind.Mark mark.Comma) (λ e. cc) m f.0 e t n f.2 b in
+    let h = separated_stays R close differs stays n g.0 e ws rest g.2 c in
+    (h.0, more t f.1 g.1 h.1, h.2)
 
 -- a list of forms
 pub list_stays : {V : Type 0} (R : Production V) (close : Mark) → (kind.Mark close ≡ kind.Mark mark.Semicolon → ⊥) → Stays R → Stays (IsListOf R close)
-list_stays R close differs stays ts vs rest p end q = ⊎_elim
-    (λ empty. one_stays (kind.Mark close) differs ts empty.1 rest empty.2 end q)
-    (λ some. separated_stays R close differs stays ts vs rest some end q)
-    p
+list_stays R close differs stays ts us e vs rest alike p = elim p [
+  | inl empty ↦ let f = one_stays (kind.Mark close) differs ts us e empty.1 rest alike empty.2 in (f.0, inl (empty.0, empty.1, f.1), f.2)
+  | inr some ↦ let f = separated_stays R close differs stays ts us e vs rest alike some in (f.0, inr f.1, f.2)
+]
 
 -- a list of forms whose values are not looked at
 any_list_stays : (R : Production (Unit {0})) (close : Mark) → (kind.Mark close ≡ kind.Mark mark.Semicolon → ⊥) → Stays R → Stays (IsAnyList R close)
-any_list_stays R close differs stays ts v rest p end q = list_stays R close differs stays ts p.0 rest p.1 end q
+any_list_stays R close differs stays ts us e v rest alike p = let f = list_stays R close differs stays ts us e p.0 rest alike p.1 in (f.0, (p.0, f.1), f.2)
 
 -- a listed set, after its `{`
 members_stay : Stays (IsListOf IsInteger mark.CloseBrace)
@@ -166,9 +205,28 @@ range_argument_stays = then_stays _ _ (one_stays (kind.Mark mark.OpenParen) (λ 
 inside_stays : Stays (Arguments (IsInner 199))
 inside_stays = parentheses_stay (IsInner 199) (inner_stays 199)
 
+-- the other way about
+abbrev pub turned : Behind → Behind
+turned None = None
+turned (Some pair) = Some (pair.1, pair.0)
+
+pub alike_turned : (ts us : List Token) (e : Behind) → Alike ts us e → Alike us ts (turned e)
+alike_turned [] [] e alike = ap turned alike
+alike_turned [] (u ∷ us) e alike = alike
+alike_turned (t ∷ ts) [] e alike = alike
+alike_turned (t ∷ ts) (u ∷ us) e alike = (
+  sym alike.0,
+  elim alike.1 [
+    | inl here ↦ inl (ap (λ x. x.kind) (sym alike.0) ∙ here.0, ap turned here.1)
+    | inr past ↦ inr ((λ is. past.0 (ap (λ x. x.kind) alike.0 ∙ is)), alike_turned ts us e past.1)
+  ],
+)
+
 -- another argument
 other_argument_stays : Stays IsOtherArgument
-other_argument_stays ts v rest p end q = inside_stays ts v rest p.1 end q
+other_argument_stays ts us e v rest alike p =
+    let f = inside_stays ts us e v rest alike p.1 in
+    (f.0, ((λ ranges end q. let g = range_argument_stays us ts (turned e) ranges end (alike_turned ts us e alike) q in p.0 ranges g.0 g.1), f.1), f.2)
 
 -- what follows an annotation's name, with its mark
 marked_end_stays : (c : Called) → Stays (MarkedEnd c)
@@ -186,9 +244,12 @@ annotation_stays text = then_stays _ _ (one_stays kind.Name (λ e. cc)) (λ call
 
 -- annotations
 pub annotations_stay : (text : List ℕ) → Stays (AreAnnotations text)
-annotations_stay text ts v rest (none a p) end q = subst (λ y. ToSemicolon y tt end) p.0 q
-annotations_stay text ts v rest (one_more t middle next m n a b c d) end q =
-    one_stays (kind.Mark mark.ColonColon) (λ e. cc) ts t middle b end (annotation_stays text middle m next c end (annotations_stay text next n rest d end q))
+annotations_stay text ts us e v rest alike (none a p) = let f = not_next_stays mark.ColonColon ts us e tt rest alike p in (f.0, none a f.1, f.2)
+annotations_stay text ts us e v rest alike (one_more t middle next m n a b c d) =
+    let f = one_stays (kind.Mark mark.ColonColon) (λ e. cc) ts us e t middle alike b in
+    let g = annotation_stays text middle f.0 e m next f.2 c in
+    let h = annotations_stay text next g.0 e n rest g.2 d in
+    (h.0, one_more {rest = h.0} t f.0 g.0 m n a f.1 g.1 h.1, h.2)
 
 -- what follows the first token behind `set of`
 set_after_stays : (k : TokenKind) → Stays (SetAfter k)

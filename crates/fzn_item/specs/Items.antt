@@ -1,5 +1,5 @@
 -- Items, and lists of them.
-use Rattle.std.specs.Prelude.{◌≡◌, ℕ, ◌⊎◌, List, [], ◌∷◌, Option, Some, None, Result, Ok, Err}
+use Rattle.std.specs.Prelude.{◌≡◌, ℕ, ◌⊎◌, List, [], ◌∷◌, ◌++◌, Option, Some, None, Result, Ok, Err}
 use Rattle.std.specs.Borrow.{Bor}
 use Rattle.fzn_token.specs.declared.token.Token.{Token}
 use Rattle.fzn_token.specs.declared.token.Word.TheVariants as word
@@ -114,11 +114,6 @@ GivesNext text ts (Ok None) = ts ≡ []
 GivesNext text ts (Err (errors.Syntax at)) = IsNextUnread text ts at
 GivesNext text ts (Err errors.Memory) = Unit {0}
 
--- these tokens have items, or the first item that is not read
-abbrev pub Checks : List ℕ → List Token → Result (Unit {0}) ItemError → Type 0
-Checks text ts (Ok u) = (is : List Item) × AreItemsTo text ts is []
-Checks text ts (Err e) = Answers text ts (Err e)
-
 -- two answers for one text are the same, want of memory aside
 abbrev pub HasOneAnswer : Type 0
 HasOneAnswer = (text : List ℕ) (ts : List Token) (a b : Result (List Item) ItemError) → Answers text ts a → Answers text ts b → (a ≡ Err errors.Memory → ⊥) → (b ≡ Err errors.Memory → ⊥) → a ≡ b
@@ -126,3 +121,11 @@ HasOneAnswer = (text : List ℕ) (ts : List Token) (a b : Result (List Item) Ite
 -- an item is the tokens up to the first `;` and with it: reading on is reading the pieces that are cut after each `;`
 abbrev pub ItemsEndAtSemicolons : Type 0
 ItemsEndAtSemicolons = (text : List ℕ) (ts : List Token) (i : Item) (rest : List Token) → IsItem text ts i rest → ToSemicolon ts tt rest
+
+-- what is read as an item stays read, whatever follows
+abbrev pub ItemsStayRead : Type 0
+ItemsStayRead = (text : List ℕ) (ts : List Token) (i : Item) (rest more : List Token) → IsItem text ts i rest → IsItem text (ts ++ more) i (rest ++ more)
+
+-- what is read as no item, and has a `;`, is none, whatever follows
+abbrev pub RefusalsStay : Type 0
+RefusalsStay = (text : List ℕ) (ts end more : List Token) → ToSemicolon ts tt end → Fails (IsItem text) ts → Fails (IsItem text) (ts ++ more)

@@ -17,4 +17,4 @@ mod single;
 pub use dcsp_domain::{IntList, RangeList};
 pub use dcsp_list::Memory;
 pub use item::{Atom, AtomList, Base, Expr, ExprList, Goal, Item, ItemError, ItemList, Marked};
-pub use reading::{check_items, items, items_end_at_semicolons, next_item, one_answer};
+pub use reading::{items, items_end_at_semicolons, items_stay_read, next_item, one_answer};

@@ -2,7 +2,7 @@
 
 ghost use Rattle.std.specs.Prelude.{◌<◌, ◌≤◌, length, IfOk, IfSome};
 ghost use Rattle.fzn_item.specs.Readers.{Reads, Skips};
-ghost use Rattle.fzn_item.specs.Items.{ToSemicolon, IsConstraint, GoalAfter, IsGoal, IsSolve, ItemAfter, IsItem, GivesNext, Answers, Checks, HasOneAnswer, ItemsEndAtSemicolons};
+ghost use Rattle.fzn_item.specs.Items.{ToSemicolon, IsConstraint, GoalAfter, IsGoal, IsSolve, ItemAfter, IsItem, GivesNext, Answers, HasOneAnswer, ItemsEndAtSemicolons, ItemsStayRead, RefusalsStay};
 
 use crate::declaration::{array, declaration};
 use crate::expr::{arguments, last_expr};
@@ -51,20 +51,6 @@ pub fn next_item<'t>(
     }
 }
 
-/// Reads the items of these tokens and lets each go, to see that there is none that no production reads.
-///
-/// `Syntax` comes as where their items are asked for.
-pub fn check_items(alloc: Global, text: &[u8], tokens: &[Token]) -> Result<(), ItemError>
-    ensures { Checks text.now tokens.now result }
-{
-    let mut rest = tokens;
-    'items: while let Some((item, after)) = next_item(alloc, text, rest)? {
-        drop(item);
-        rest = after;
-    }
-    Ok(())
-}
-
 /// Tokens have one list of items or one refusal, want of memory aside.
 pub fn one_answer()
     ensures { HasOneAnswer }
@@ -74,6 +60,13 @@ pub fn one_answer()
 /// after each `;`.
 pub fn items_end_at_semicolons()
     ensures { ItemsEndAtSemicolons }
+{}
+
+/// What stands behind the first `;` changes nothing of what is read before it, so that items can be read
+/// from the tokens up to the next `;` alone.
+pub fn items_stay_read()
+    ensures items { ItemsStayRead }
+    ensures refusals { RefusalsStay }
 {}
 
 /// An item.

@@ -2,5 +2,4 @@ pub mod First
 pub mod Counts
 pub mod Once
 pub mod Sound
-pub mod Answers
 pub mod Turns

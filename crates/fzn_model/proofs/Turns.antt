@@ -1,113 +1,201 @@
 -- Items that are read and resolved one after another, and what they leave of the answer.
-use Rattle.std.proofs.Common.{◌≡◌, ℕ, ◌+◌, ◌≤◌, ◌<◌, inl, inr, List, [], ◌∷◌, ◌++◌, length, Option, Some, None, Result, Ok, Err, refl, sym, subst, ap, ◌∙◌, arith}
-use Rattle.std.specs.Borrow.{Bor}
+use Rattle.std.proofs.Common.{◌≡◌, ℕ, ◌+◌, ◌≤◌, ◌<◌, inl, inr, List, [], ◌∷◌, ◌++◌, length, Result, Ok, Err, refl, sym, subst, ap, ◌∙◌, arith, append_assoc, append-nil, length-append}
 use Rattle.fzn_token.specs.declared.token.Token.{Token}
+use Rattle.fzn_token.specs.declared.token.LexError.{LexError}
+use Rattle.fzn_token.specs.declared.token.LexError.TheVariants as lexical
+use Rattle.fzn_token.specs.declared.reader.TokenReader.{TokenReader}
+use Rattle.fzn_token.specs.Tokens.{AreTokens}
+use Rattle.fzn_token.specs.Reading as lexing
+use Rattle.fzn_token.specs.Reading.{IsBehind, IsAtEnd, IsPiece, IsOpen, EndsPiece, ReadsOn, Refuses}
+use Rattle.fzn_token.proofs.Joining.{reads_all}
 use Rattle.fzn_item.specs.declared.item.Item.{Item}
 use Rattle.fzn_item.specs.declared.item.ItemError.{ItemError}
 use Rattle.fzn_item.specs.declared.item.ItemError.TheVariants as syntactic
-use Rattle.fzn_item.specs.Items.{IsItem, AreItemsTo, IsUnread, GivesNext}
-use Rattle.fzn_item.proofs.ItemLaws.{items_push, next_refused}
+use Rattle.fzn_item.specs.Productions.{Fails}
+use Rattle.fzn_item.specs.Items.{ToSemicolon, IsItem, AreItemsTo, GivesNext}
+use Rattle.fzn_item.proofs.ItemLaws.{items_push}
+use Rattle.fzn_item.proofs.Endings.{items_end_law, items_stay_law, refusals_stay_law}
 use Rattle.dcsp_problem.specs.Problems.{Contents}
 use Rattle.fzn_scope.specs.declared.refusal.Refusal.{Refusal}
 use Rattle.fzn_scope.specs.declared.refusal.Stop.{Stop}
 use Rattle.fzn_scope.specs.declared.refusal.Stop.TheVariants as stop
-use Rattle.fzn_scope.specs.Checks.{◌>>=◌, Stops}
+use Rattle.fzn_scope.specs.Checks.{◌>>=◌, Gives}
 use Rattle.fzn_model.specs.declared.model.ModelError.{ModelError}
-use Rattle.fzn_model.specs.declared.model.ModelError.TheVariants as refused
 use Rattle.fzn_model.specs.Declarations.{SoFar}
 use Rattle.fzn_model.specs.Items.{start, after, after_all, finished, resolved}
-use Rattle.fzn_model.specs.Models.{error_of, syntactic_error, stop_error, answer_of}
-use Rattle.fzn_model.specs.Reading.{IsSound, AnswersItems, RefusesWith}
+use Rattle.fzn_model.specs.Models.{longest_text, lexical_error, syntactic_error, error_of, stop_error, answer_of, AnswersOrLacks}
+use Rattle.fzn_model.specs.Reading.{problem_given, IsSoundGiven, prints, AreAllTaken, LeavesUnread}
+use Rattle.fzn_model.proofs.Counts.{tokens_so_far}
 
--- some items, and then others
-items_join : (text : List ℕ) (ts : List Token) (is : List Item) (middle : List Token) (js : List Item) (rest : List Token) → AreItemsTo text ts is middle → AreItemsTo text middle js rest → AreItemsTo text ts (is ++ js) rest
-items_join text ts [] middle js rest before more = subst (λ x. AreItemsTo text x js rest) (sym before) more
-items_join text ts (i ∷ is) middle js rest before more = (before.0, before.1, items_join text before.0 is middle js rest before.2 more)
+-- what is read as items stays read, whatever follows
+items_extend : (text : List ℕ) (ts : List Token) (is : List Item) (rest more : List Token) → AreItemsTo text ts is rest → AreItemsTo text (ts ++ more) is (rest ++ more)
+items_extend text ts [] rest more read = ap (λ x. x ++ more) read
+items_extend text ts (i ∷ is) rest more read = (read.0 ++ more, items_stay_law text ts i read.0 more read.1, items_extend text read.0 is rest more read.2)
 
--- some items, and then the first that is not read
-unread_join : (text : List ℕ) (ts : List Token) (is : List Item) (middle : List Token) (at : ℕ) → AreItemsTo text ts is middle → IsUnread text middle at → IsUnread text ts at
-unread_join text ts is middle at before unread = record {
-  items = is ++ unread.items;
-  first = unread.first;
-  rest = unread.rest;
-  before = items_join text ts is middle unread.items (unread.first ∷ unread.rest) before unread.before;
-  fails = unread.fails;
-  place = unread.place;
-}
+-- two checks in turn that agree
+bind_same : {A B C : Type 0} (x : Result A Refusal) (f : A → Result C Refusal) (g : A → Result B Refusal) (h : B → Result C Refusal) → ((a : A) → f a ≡ (g a >>= h)) → (x >>= f) ≡ ((x >>= g) >>= h)
+bind_same (Ok a) f g h each = each a
+bind_same (Err e) f g h each = refl
 
--- a check that passed, and then the next that did
-bind_ok : {A B : Type 0} (x : Result A Refusal) (f : A → Result B Refusal) (b : B) → (x >>= f) ≡ Ok b → (a : A) × (x ≡ Ok a) × (f a ≡ Ok b)
-bind_ok (Ok a) f b e = (a, refl, e)
-bind_ok (Err r) f b e = absurd cc
+-- a check, and nothing behind it
+bind_last : {A : Type 0} (x : Result A Refusal) → (x >>= Ok) ≡ x
+bind_last (Ok a) = refl
+bind_last (Err e) = refl
 
--- after some items, the others are taken
-after_join : (text : List ℕ) (s t : SoFar) (is js : List Item) → after_all text s is ≡ Ok t → after_all text s (is ++ js) ≡ after_all text t js
-after_join text s t [] js e = let same : s ≡ t = cc in ap (λ x. after_all text x js) same
-after_join text s t (i ∷ is) js e =
-    let h = bind_ok (after text s i) (λ next. after_all text next is) t e in
-    rw h.1 (after_join text h.0 t is js h.2)
+-- after some items one more is taken
+after_push : (text : List ℕ) (s : SoFar) (is : List Item) (i : Item) → after_all text s (is ++ i ∷ []) ≡ (after_all text s is >>= (λ t. after text t i))
+after_push text s [] i = bind_last (after text s i)
+after_push text s (j ∷ is) i = bind_same (after text s j) _ (λ t. after_all text t is) (λ t. after text t i) (λ t. after_push text t is i)
 
--- items were read and resolved, and these tokens are left. Each item has a token and prints at most one thing
-pub record IsResolvedTo (text : List ℕ) (ts rest : List Token) (s : SoFar) : Type 0 where
+-- items were read and resolved, or refused, and the reader is behind their tokens. Each item has a token and prints at most one thing
+pub record IsTakenTo (text : List ℕ) (reader : TokenReader) (given : Result SoFar Refusal) : Type 0 where
+  pub tokens : List Token
   pub items : List Item
-  pub read : AreItemsTo text ts items rest
-  pub resolved : after_all text start items ≡ Ok s
-  pub sound : IsSound s
-  pub few : length s.problem.outputs + length rest ≤ length ts
+  pub behind : IsBehind text reader tokens
+  pub read : AreItemsTo text tokens items []
+  pub resolved : after_all text start items ≡ given
+  pub sound : IsSoundGiven given
+  pub few : prints given ≤ length tokens
+
+-- a piece goes on to its `;`
+piece_ends : (us : List Token) → IsPiece us → ToSemicolon us tt []
+piece_ends [] p = absurd p
+piece_ends (t ∷ ts) p = elim p [ inl here ↦ inl (here.0, sym here.1) | inr past ↦ inr (past.0, piece_ends ts past.1) ]
+
+-- without a `;` there is none
+open_never_ends : (us rest : List Token) → IsOpen us → ToSemicolon us tt rest → ⊥
+open_never_ends [] rest p q = q
+open_never_ends (t ∷ ts) rest p q = elim q [ inl here ↦ p.0 here.0 | inr past ↦ open_never_ends ts rest p.1 past.1 ]
+
+-- behind a piece's `;` is nothing
+piece_whole : (us rest : List Token) → IsPiece us → ToSemicolon us tt rest → rest ≡ []
+piece_whole [] rest p q = absurd p
+piece_whole (t ∷ ts) rest p q = elim p [
+  | inl here ↦ elim q [ inl now ↦ now.1 ∙ here.1 | inr later ↦ absurd (later.0 here.0) ]
+  | inr past ↦ elim q [ inl now ↦ absurd (past.0 now.0) | inr later ↦ piece_whole ts rest past.1 later.1 ]
+]
+
+-- a piece that has an item is that item's tokens
+item_whole : (text : List ℕ) (next : TokenReader) (us : List Token) (i : Item) (rest : List Token) → EndsPiece next us → IsItem text us i rest → rest ≡ []
+item_whole text next us i rest ends one = elim ends [
+  | inl piece ↦ piece_whole us rest piece (items_end_law text us i rest one)
+  | inr last ↦ absurd (open_never_ends us rest last.0 (items_end_law text us i rest one))
+]
+
+-- an item has a token
+item_some : (text : List ℕ) (us : List Token) (i : Item) (rest : List Token) → IsItem text us i rest → 1 ≤ length us
+item_some text [] i rest one = absurd one.2
+item_some text (u ∷ us) i rest one = omega arith
+
+-- tokens that are added
+more_tokens : (ts us : List Token) → 1 ≤ length us → length ts + 1 ≤ length (ts ++ us)
+more_tokens ts us some = let both = length-append ts us in omega (arith, both, some)
+
+-- there is room for what one item more prints
+pub room_for_one : (text : List ℕ) (reader next : TokenReader) (given : Result SoFar Refusal) (us : List Token) (i : Item) (rest : List Token) → IsTakenTo text reader given → ReadsOn reader us next → IsItem text us i rest → length text ≤ longest_text → prints given < longest_text
+room_for_one text reader next given us i rest so_far reads one short =
+    let more = more_tokens so_far.tokens us (item_some text us i rest one) in
+    let few = so_far.few in
+    let within = tokens_so_far text (so_far.tokens ++ us) next.at (reads text so_far.tokens so_far.behind).so_far in
+    omega (arith, more, few, within, short)
 
 -- one item more
-pub one_more : (text : List ℕ) (ts rest : List Token) (s : SoFar) (i : Item) (behind : List Token) (t : SoFar) → IsResolvedTo text ts rest s → IsItem text rest i behind → length behind < length rest
-    → after text s i ≡ Ok t → IsSound t → length t.problem.outputs ≤ length s.problem.outputs + 1 → IsResolvedTo text ts behind t
-one_more text ts rest s i behind t so_far one shorter taken sound few = record {
+pub one_more : (text : List ℕ) (reader next : TokenReader) (given later : Result SoFar Refusal) (us : List Token) (i : Item) (rest : List Token) → IsTakenTo text reader given → ReadsOn reader us next → EndsPiece next us → IsItem text us i rest
+    → later ≡ (given >>= (λ s. after text s i)) → IsSoundGiven later → prints later ≤ prints given + 1 → IsTakenTo text next later
+one_more text reader next given later us i rest so_far reads ends one taken sound few = record {
+  tokens = so_far.tokens ++ us;
   items = so_far.items ++ i ∷ [];
-  read = items_push text ts so_far.items rest i behind so_far.read one;
-  resolved = after_join text start s so_far.items (i ∷ []) so_far.resolved ∙ rw taken refl;
+  behind = reads text so_far.tokens so_far.behind;
+  read = items_push text (so_far.tokens ++ us) so_far.items us i [] (items_extend text so_far.tokens so_far.items [] us so_far.read) (subst (IsItem text us i) (item_whole text next us i rest ends one) one);
+  resolved = after_push text start so_far.items i ∙ ap (λ x. x >>= (λ s. after text s i)) so_far.resolved ∙ sym taken;
   sound = sound;
-  few = (let before = so_far.few in omega (arith, before, shorter, few));
+  few = (let more = more_tokens so_far.tokens us (item_some text us i rest one) in let before = so_far.few in omega (arith, more, before, few));
 }
 
--- no production reads the next item
-pub next_unread : (text : List ℕ) (ts rest : List Token) (s : SoFar) (e : ItemError) → IsResolvedTo text ts rest s → GivesNext text rest (Err e) → AnswersItems text ts (Err (syntactic_error e))
-next_unread text ts rest s (syntactic.Syntax at) so_far next = inr (inl (refused.Syntax at, refl, (at, refl, next_refused text ts so_far.items rest (syntactic.Syntax at) so_far.read next)))
-next_unread text ts rest s syntactic.Memory so_far next = inl refl
+-- a text that is refused for its tokens
+lexically_refused : (text : List ℕ) (e : LexError) → lexing.Answers text (Err e) → AnswersOrLacks text (Err (lexical_error e))
+lexically_refused text (lexical.Bad at) h = inr (inl (at, inl (refl, h)))
+lexically_refused text (lexical.IntRange at) h = inr (inl (at, inr (refl, h)))
+lexically_refused text lexical.Memory h = inl refl
 
--- resolution stopped at the next item
-pub next_stops : (text : List ℕ) (ts rest : List Token) (s : SoFar) (i : Item) (behind : List Token) (e : Stop) (error : ModelError) → IsResolvedTo text ts rest s → IsItem text rest i behind
-    → Stops e (after text s i) → RefusesWith text behind e error → AnswersItems text ts (Err error)
-unfolding resolved
-next_stops text ts rest s i behind stop.Memory error so_far one stops is = elim is [
-  | inl memory ↦ inl (ap Err memory)
-  | inr other ↦ elim other [
-    | inl u ↦ inr (inl (error, refl, (u.0, u.1, unread_join text ts (so_far.items ++ i ∷ []) behind u.0 (items_push text ts so_far.items rest i behind so_far.read one) u.2)))
-    | inr r ↦ inl (ap Err r.1)
-  ]
-]
-next_stops text ts rest s i behind (stop.Refused refusal) error so_far one stops is = elim is [
-  | inl memory ↦ inl (ap Err memory)
-  | inr other ↦ elim other [
-    | inl u ↦ inr (inl (error, refl, (u.0, u.1, unread_join text ts (so_far.items ++ i ∷ []) behind u.0 (items_push text ts so_far.items rest i behind so_far.read one) u.2)))
-    | inr r ↦
-        let taken : after_all text start (so_far.items ++ i ∷ r.0) ≡ Err refusal = after_join text start s so_far.items (i ∷ r.0) so_far.resolved ∙ rw stops refl in
-        inr (inr (so_far.items ++ i ∷ r.0, ap Err r.1 ∙ rw taken refl, items_join text ts so_far.items rest (i ∷ r.0) [] so_far.read (behind, one, r.2)))
-  ]
+-- the next tokens are refused
+pub next_refused : (text : List ℕ) (reader : TokenReader) (given : Result SoFar Refusal) (e : LexError) → IsTakenTo text reader given → Refuses reader e → AnswersOrLacks text (Err (lexical_error e))
+next_refused text reader given e so_far refuses = lexically_refused text e (refuses text so_far.tokens so_far.behind)
+
+-- the next item is read by no production
+pub next_unread : (text : List ℕ) (reader next : TokenReader) (given : Result SoFar Refusal) (us : List Token) (error : ItemError) (e : ModelError) → IsTakenTo text reader given → ReadsOn reader us next → EndsPiece next us
+    → GivesNext text us (Err error) → LeavesUnread next error e → AnswersOrLacks text (Err e)
+next_unread text reader next given us error e so_far reads ends unread leaves = elim leaves [
+  | inl refused ↦ subst (λ x. AnswersOrLacks text (Err x)) (sym refused.2) (lexically_refused text refused.0 (refused.1 text (so_far.tokens ++ us) (reads text so_far.tokens so_far.behind)))
+  | inr rest ↦ subst (λ x. AnswersOrLacks text (Err x)) (sym rest.1) (by_error error unread rest.0.0 (rest.0.1 text (so_far.tokens ++ us) (reads text so_far.tokens so_far.behind)))
+] where
+  -- by what the item is refused for, where these tokens are left
+  by_error : (error : ItemError) → GivesNext text us (Err error) → (left : List Token) → AreTokens text ((so_far.tokens ++ us) ++ left) → AnswersOrLacks text (Err (syntactic_error error))
+  by_error syntactic.Memory unread left lexed = inl refl
+  by_error (syntactic.Syntax at) unread left lexed = inr (inr (inl (elim ends [
+    | inl piece ↦ record {
+      tokens = (so_far.tokens ++ us) ++ left;
+      at = at;
+      lexed = lexed;
+      unread = record {
+        items = so_far.items;
+        first = unread.first;
+        rest = unread.rest ++ left;
+        before = subst (λ x. AreItemsTo text x so_far.items (unread.first ∷ (unread.rest ++ left))) (sym (append_assoc so_far.tokens us left)) (subst (λ x. AreItemsTo text (so_far.tokens ++ (us ++ left)) so_far.items (x ++ left)) unread.begins (items_extend text so_far.tokens so_far.items [] (us ++ left) so_far.read));
+        fails = subst (λ x. Fails (IsItem text) (x ++ left)) unread.begins (refusals_stay_law text us [] left (piece_ends us piece) unread.fails);
+        place = unread.place;
+      };
+      result_is = refl;
+    }
+    | inr last ↦ record {
+      tokens = so_far.tokens ++ us;
+      at = at;
+      lexed = reads_all reader us next reads last.1 text so_far.tokens so_far.behind;
+      unread = record {
+        items = so_far.items;
+        first = unread.first;
+        rest = unread.rest;
+        before = subst (AreItemsTo text (so_far.tokens ++ us) so_far.items) unread.begins (items_extend text so_far.tokens so_far.items [] us so_far.read);
+        fails = subst (Fails (IsItem text)) unread.begins unread.fails;
+        place = unread.place;
+      };
+      result_is = refl;
+    }
+  ])))
+
+-- no token is left
+last_piece : (text : List ℕ) (reader next : TokenReader) (given : Result SoFar Refusal) (us : List Token) (so_far : IsTakenTo text reader given) → ReadsOn reader us next → EndsPiece next us → us ≡ [] → AreTokens text so_far.tokens
+last_piece text reader next given us so_far reads ends none = elim (subst (EndsPiece next) none ends) [
+  | inl piece ↦ absurd piece
+  | inr last ↦ subst (AreTokens text) (append-nil so_far.tokens) (reads_all reader [] next (subst (λ x. ReadsOn reader x next) none reads) last.1 text so_far.tokens so_far.behind)
 ]
 
--- no item is left
-pub all_taken : (text : List ℕ) (ts rest : List Token) (s : SoFar) → IsResolvedTo text ts rest s → rest ≡ [] → (result : Result Contents ModelError) → result ≡ answer_of (finished s) → AnswersItems text ts result
+-- all items are taken
+pub all_taken : (text : List ℕ) (reader next : TokenReader) (given : Result SoFar Refusal) (us : List Token) → IsTakenTo text reader given → ReadsOn reader us next → EndsPiece next us → us ≡ [] → AreAllTaken text given
+all_taken text reader next given us so_far reads ends none = record {
+  tokens = so_far.tokens;
+  items = so_far.items;
+  lexed = last_piece text reader next given us so_far reads ends none;
+  read = so_far.read;
+  resolved = so_far.resolved;
+}
+
+-- what all items gave is their answer
+answered : (text : List ℕ) (given : Result SoFar Refusal) (result : Result Contents ModelError) → AreAllTaken text given → result ≡ answer_of (problem_given given) → AnswersOrLacks text result
 unfolding resolved
-all_taken text ts rest s so_far ends result is =
-    inr (inr (so_far.items, is ∙ rw so_far.resolved refl, subst (AreItemsTo text ts so_far.items) ends so_far.read))
+answered text given result all is = inr (inr (inr (record {
+  tokens = all.tokens;
+  items = all.items;
+  lexed = all.lexed;
+  read = all.read;
+  result_is = is ∙ ap (λ x. answer_of (x >>= finished)) (sym all.resolved);
+})))
 
 -- the problem of all items
-pub finished_ok : (text : List ℕ) (ts rest : List Token) (s : SoFar) (problem : Contents) → IsResolvedTo text ts rest s → rest ≡ [] → finished s ≡ Ok problem → AnswersItems text ts (Ok problem)
-finished_ok text ts rest s problem so_far ends is = all_taken text ts rest s so_far ends (Ok problem) (rw is refl)
+pub finished_ok : (text : List ℕ) (given : Result SoFar Refusal) (problem : Contents) → AreAllTaken text given → Gives (Ok problem) (problem_given given) → AnswersOrLacks text (Ok problem)
+finished_ok text given problem all is = answered text given (Ok problem) all (ap answer_of (sym is))
 
 -- there is no problem of all items
-pub finished_err : (text : List ℕ) (ts rest : List Token) (s : SoFar) (e : Stop) → IsResolvedTo text ts rest s → rest ≡ [] → Stops e (finished s) → AnswersItems text ts (Err (stop_error e))
-finished_err text ts rest s (stop.Refused refusal) so_far ends is = all_taken text ts rest s so_far ends (Err (error_of refusal)) (rw is refl)
-finished_err text ts rest s stop.Memory so_far ends is = inl refl
-
--- no next item, and so no token
-pub none_left : (text : List ℕ) (ts : List Token) (next : Option (Item × Bor (List Token))) → GivesNext text ts (Ok next) → ((x : Item × Bor (List Token)) → next ≡ Some x → ⊥) → ts ≡ []
-none_left text ts None gives none = gives
-none_left text ts (Some x) gives none = absurd (none x refl)
+pub finished_err : (text : List ℕ) (given : Result SoFar Refusal) (e : Stop) → AreAllTaken text given → Gives {X = Contents} (Err e) (problem_given given) → AnswersOrLacks text (Err (stop_error e))
+finished_err text given (stop.Refused refusal) all is = answered text given (Err (error_of refusal)) all (ap answer_of (sym is))
+finished_err text given stop.Memory all is = inl refl

@@ -1,25 +1,29 @@
 -- What the parts of the reader hold and answer.
-use Rattle.std.specs.Prelude.{◌≡◌, ◌⊎◌, ℕ, ℤ, ◌^◌, ◌<◌, nat_lt, Bool, List, length, Option, Result, Ok, Err, if◌then◌else◌}
+use Rattle.std.specs.Prelude.{◌≡◌, ◌⊎◌, ℕ, ℤ, ◌^◌, ◌<◌, nat_lt, Bool, List, length, Option, Some, None, Result, Ok, Err, if◌then◌else◌}
 use Rattle.fzn_scope.specs.declared.refusal.Refusal.{Refusal}
 use Rattle.fzn_scope.specs.declared.refusal.Refusal.TheVariants as refusal
 use Rattle.fzn_scope.specs.declared.refusal.Stop.{Stop}
 use Rattle.fzn_scope.specs.declared.refusal.Stop.TheVariants as stop
 use Rattle.dcsp_problem.specs.declared.limits.BuildError.{BuildError}
 use Rattle.dcsp_problem.specs.declared.limits.BuildError.TheVariants as errors
-use Rattle.fzn_scope.specs.Checks.{Stops}
+use Rattle.fzn_scope.specs.Checks.{◌>>=◌, Stops}
 use Rattle.fzn_scope.specs.Known.{AreKnown}
 use Rattle.fzn_model.specs.declared.resolver.Resolver.{Resolver}
 use Rattle.fzn_model.specs.declared.resolver.Declaration.{Declaration}
+use Rattle.fzn_model.specs.declared.in_turn.Taken.{Taken}
+use Rattle.fzn_token.specs.declared.token.LexError.{LexError}
 use Rattle.fzn_token.specs.declared.token.Token.{Token}
-use Rattle.fzn_item.specs.declared.item.Item.{Item}
-use Rattle.fzn_item.specs.declared.item.ItemError.TheVariants as syntactic
+use Rattle.fzn_token.specs.Reading as lexing
 use Rattle.fzn_item.specs.Items as parsing
+use Rattle.fzn_token.specs.declared.reader.TokenReader.{TokenReader}
+use Rattle.fzn_token.specs.Reading.{Refuses, TakesRest}
+use Rattle.fzn_item.specs.declared.item.Item.{Item}
+use Rattle.fzn_item.specs.declared.item.ItemError.{ItemError}
 use Rattle.dcsp_problem.specs.Problems.{Contents}
 use Rattle.fzn_model.specs.declared.model.ModelError.{ModelError}
-use Rattle.fzn_model.specs.declared.model.ModelError.TheVariants as refused
 use Rattle.fzn_model.specs.Declarations.{SoFar, parameter, variable, array}
-use Rattle.fzn_model.specs.Items.{resolved, declared_by, declare}
-use Rattle.fzn_model.specs.Models.{longest_text, stop_error, answer_of}
+use Rattle.fzn_model.specs.Items.{declared_by, declare, start, after, after_all, finished}
+use Rattle.fzn_model.specs.Models.{longest_text, lexical_error, syntactic_error}
 
 -- a call that changes something into this does what is meant, unless memory ran out
 abbrev pub Leaves : {A X : Type 0} → X → Result A Stop → Result X Refusal → Type 0
@@ -72,21 +76,43 @@ many = 2 ^ 63
 abbrev pub at_most_many : ℕ → ℕ
 at_most_many n = if nat_lt many n then many else n
 
--- no production reads an item of these tokens
-abbrev pub IsUnreadAmong : List ℕ → List Token → ModelError → Type 0
-IsUnreadAmong text ts e = (at : ℕ) × (e ≡ refused.Syntax at) × parsing.Answers text ts (Err (syntactic.Syntax at))
+-- what the items so far gave, where this refusal was the first of them, or none
+abbrev pub given_or : Option Refusal → SoFar → Result SoFar Refusal
+given_or None s = Ok s
+given_or (Some refusal) s = Err refusal
 
--- the answer for the tokens of a text: the first of their items that no production reads, or what their items mean
-abbrev pub AnswersItems : List ℕ → List Token → Result Contents ModelError → Type 0
-AnswersItems text ts result =
-    (result ≡ Err refused.Memory)
-    ⊎ ((e : ModelError) × (result ≡ Err e) × IsUnreadAmong text ts e)
-    ⊎ ((items : List Item) × (result ≡ answer_of (resolved text items)) × parsing.Answers text ts (Ok items))
+-- what the items so far gave, or the first refusal among them
+abbrev pub gave : Taken → Result SoFar Refusal
+gave taken = given_or taken.refused (so_far taken.resolver)
 
--- why a text is refused at whose items resolution stopped so, with these tokens behind them: the first of their items that no
--- production reads, or else what resolution stopped with
-abbrev pub RefusesWith : List ℕ → List Token → Stop → ModelError → Type 0
-RefusesWith text rest stop e =
-    (e ≡ refused.Memory)
-    ⊎ IsUnreadAmong text rest e
-    ⊎ ((items : List Item) × (e ≡ stop_error stop) × parsing.Answers text rest (Ok items))
+-- one item more, behind what the items so far gave
+abbrev pub then_item : List ℕ → Result SoFar Refusal → Item → Result SoFar Refusal
+then_item text given i = given >>= (λ s. after text s i)
+
+-- the problem that the items gave
+abbrev pub problem_given : Result SoFar Refusal → Result Contents Refusal
+problem_given given = given >>= finished
+
+-- its names stand for terms of variables that exist
+abbrev pub IsSoundGiven : Result SoFar Refusal → Type 0
+IsSoundGiven (Ok s) = IsSound s
+IsSoundGiven (Err refusal) = Unit {0}
+
+-- how many outputs it has
+abbrev pub prints : Result SoFar Refusal → ℕ
+prints (Ok s) = length s.problem.outputs
+prints (Err refusal) = 0
+
+-- all items of the text were taken, and this is what they gave
+pub record AreAllTaken (text : List ℕ) (given : Result SoFar Refusal) : Type 0 where
+  pub tokens : List Token
+  pub items : List Item
+  pub lexed : lexing.Answers text (Ok tokens)
+  pub read : parsing.Answers text tokens (Ok items)
+  pub resolved : after_all text start items ≡ given
+
+-- why a text is refused whose next item is refused so, behind the tokens that were read: a token that is left, or else the item
+abbrev pub LeavesUnread : TokenReader → ItemError → ModelError → Type 0
+LeavesUnread reader error e =
+    ((refusal : LexError) × Refuses reader refusal × (e ≡ lexical_error refusal))
+    ⊎ (TakesRest reader (Ok tt) × (e ≡ syntactic_error error))

@@ -1,49 +1,113 @@
-//! Items in turn: each is read, resolved and let go before the next is read.
+//! From a text to its problem: each item is read, resolved and let go before the tokens of the next are read.
 
-ghost use Rattle.std.specs.Prelude.{◌≤◌, length};
-ghost use Rattle.fzn_model.specs.Models.{longest_text};
-ghost use Rattle.fzn_model.specs.Reading.{AnswersItems, RefusesWith};
+ghost use Rattle.std.specs.Prelude.{◌≡◌, ◌≤◌, ◌<◌, ◌+◌, length, OnOk, IfErr, Ok, Err};
+ghost use Rattle.fzn_scope.specs.Checks.{Gives};
+ghost use Rattle.fzn_model.specs.Items.{start};
+ghost use Rattle.fzn_model.specs.Models.{longest_text, AnswersOrLacks};
+ghost use Rattle.fzn_model.specs.Reading.{gave, then_item, problem_given, IsSoundGiven, prints, AreAllTaken, LeavesUnread};
 
 use crate::model::ModelError;
 use crate::resolver::Resolver;
+use dcsp_list::Memory;
 use dcsp_problem::Problem;
-use fzn_item::{check_items, next_item};
-use fzn_scope::Stop;
-use fzn_token::{Token, TokenList};
+use fzn_item::{Item, ItemError, next_item};
+use fzn_scope::{Refusal, Stop};
+use fzn_token::TokenReader;
 use std::alloc::Global;
 
-/// The problem of the items of these tokens, or their first refusal.
+/// The problem of a text of at most 16,777,216 bytes, or its first refusal.
 ///
-/// The tokens are let go before the problem is finished, so that its tables do not stand beside them.
-pub(crate) fn resolved(alloc: Global, text: &[u8], tokens: TokenList) -> Result<Problem, ModelError>
-    requires { length tokens ≤ longest_text }
-    ensures { AnswersItems text.now tokens result }
+/// The tokens up to the next `;` are read into one buffer, and their item is resolved and let go before the next.
+pub fn problem_of(alloc: Global, text: &[u8]) -> Result<Problem, ModelError>
+    requires { length text.now ≤ longest_text }
+    ensures { AnswersOrLacks text.now result }
 {
-    let mut resolver = Resolver::new(alloc);
-    let mut rest = tokens.items();
-    'items: while let Some((item, after)) = next_item(alloc, text, rest)? {
-        let taken = resolver.take(alloc, text, &item);
-        drop(item);
-        match taken {
-            Ok(()) => rest = after,
-            Err(stop) => return Err(first_refusal(alloc, text, after, stop)),
-        }
-    }
-    drop(tokens);
-    Ok(resolver.finish()?)
+    let mut taken = Taken::new(alloc);
+    taken.take_all(alloc, text)?;
+    Ok(taken.finish()?)
 }
 
-/// Why a text is refused at whose items resolution stopped so, with these tokens behind them.
+/// Why a text is refused whose next item is read by no production.
 ///
-/// An item that no production reads is refused before all that resolution refuses, so items are read on.
-fn first_refusal(alloc: Global, text: &[u8], rest: &[Token], stop: Stop) -> ModelError
-    ensures { RefusesWith text.now rest.now stop result }
+/// A refusal of a token comes before all that items are refused for, so the tokens behind are read on.
+fn unread(mut reader: TokenReader<'_>, error: ItemError) -> ModelError
+    ensures { LeavesUnread reader.entry error result }
 {
-    let Stop::Refused(refusal) = stop else {
-        return ModelError::Memory;
-    };
-    match check_items(alloc, text, rest) {
-        Ok(()) => ModelError::from(refusal),
-        Err(error) => ModelError::from(error),
+    match reader.check_rest() {
+        Ok(()) => ModelError::from(error),
+        Err(refused) => ModelError::from(refused),
+    }
+}
+
+/// What the items so far gave, or the first refusal among them.
+#[derive(Drop)]
+struct Taken<'t> {
+    resolver: Resolver<'t>,
+    refused: Option<Refusal>,
+}
+
+impl<'t> Taken<'t> {
+    /// Before the first item.
+    fn new(alloc: Global) -> Taken<'t>
+        ensures { gave result ≡ Ok start }
+    {
+        Taken {
+            resolver: Resolver::new(alloc),
+            refused: None,
+        }
+    }
+
+    /// All items of a text.
+    fn take_all(&mut self, alloc: Global, text: &'t [u8]) -> Result<(), ModelError>
+        requires short { length text.now ≤ longest_text }
+        requires fresh { gave self.old ≡ Ok start }
+        ensures ok { OnOk result (AreAllTaken text.now (gave self.new)) }
+        ensures err { IfErr result (λ e. AnswersOrLacks text.now (Err e)) }
+    {
+        let mut reader = TokenReader::new(text);
+        let mut piece = Vec::new(alloc);
+        'items: loop {
+            reader.next_piece(&mut piece)?;
+            match next_item(alloc, text, &piece) {
+                Ok(Some((item, _behind))) => {
+                    let done = self.take(alloc, text, &item);
+                    drop(item);
+                    done?;
+                }
+                Ok(None) => return Ok(()),
+                Err(error) => return Err(unread(reader, error)),
+            }
+        }
+    }
+
+    /// One item more, which changes nothing after a refusal.
+    fn take(&mut self, alloc: Global, text: &'t [u8], item: &Item) -> Result<(), Memory>
+        requires sound { IsSoundGiven (gave self.old) }
+        requires room { prints (gave self.old) < longest_text }
+        ensures is { OnOk result (gave self.new ≡ then_item text.now (gave self.old) item.now) }
+        ensures sound { OnOk result (IsSoundGiven (gave self.new)) }
+        ensures prints { OnOk result (prints (gave self.new) ≤ prints (gave self.old) + 1) }
+    {
+        if self.refused.is_some() {
+            return Ok(());
+        }
+        match self.resolver.take(alloc, text, item) {
+            Ok(()) => Ok(()),
+            Err(Stop::Memory) => Err(Memory),
+            Err(Stop::Refused(refusal)) => {
+                self.refused = Some(refusal);
+                Ok(())
+            }
+        }
+    }
+
+    /// The problem of the items.
+    fn finish(self) -> Result<Problem, Stop>
+        ensures { Gives result (problem_given (gave self.entry)) }
+    {
+        match self.refused {
+            Some(refusal) => Err(Stop::Refused(refusal)),
+            None => self.resolver.finish(),
+        }
     }
 }

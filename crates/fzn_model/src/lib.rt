@@ -18,5 +18,6 @@ mod resolver;
 
 pub use dcsp_list::Memory;
 pub use dcsp_problem::{Problem, Which};
+pub use in_turn::problem_of;
 pub use laws::{first_refusal, one_answer};
-pub use model::{ModelError, problem_of};
+pub use model::ModelError;

@@ -1,14 +1,10 @@
-//! From a text to its problem.
+//! Why a text has no problem.
 
-ghost use Rattle.std.specs.Prelude.{◌≤◌, length};
-ghost use Rattle.fzn_model.specs.Models.{longest_text, AnswersOrLacks};
-
-use crate::in_turn::resolved;
-use dcsp_problem::{Problem, Which};
+use dcsp_list::Memory;
+use dcsp_problem::Which;
 use fzn_item::ItemError;
 use fzn_scope::{Refusal, Stop};
-use fzn_token::{LexError, tokens};
-use std::alloc::Global;
+use fzn_token::LexError;
 
 /// Why a text has no problem. `at` is a place in the text, counted in bytes from 0.
 #[derive(Clone, Copy, Debug, PartialEq, Eq)]
@@ -111,11 +107,13 @@ impl From<Stop> for ModelError {
     }
 }
 
-/// The problem of a text of at most 16,777,216 bytes, or its first refusal.
-pub fn problem_of(alloc: Global, text: &[u8]) -> Result<Problem, ModelError>
-    requires { length text.now ≤ longest_text }
-    ensures { AnswersOrLacks text.now result }
-{
-    let tokens = tokens(alloc, text)?;
-    resolved(alloc, text, tokens)
+impl From<Memory> for ModelError {
+    ghost use Rattle.std.specs.Prelude.{◌≡◌};
+    ghost use Rattle.fzn_model.specs.declared.model.ModelError.TheVariants as errors;
+
+    ghost from_gives = { λ _ e. e ≡ errors.Memory };
+
+    fn from(_: Memory) -> ModelError {
+        ModelError::Memory
+    }
 }

@@ -13,5 +13,6 @@ pub mod Extents
 pub mod LongestNumbers
 pub mod LongestMarks
 pub mod SoFar
+pub mod Joining
 pub mod OneKind
 pub mod OneAnswer

@@ -6,13 +6,7 @@ use Rattle.fzn_token.specs.declared.token.Token.{Token}
 use Rattle.fzn_token.specs.declared.token.TokenKind.TheVariants as kind
 use Rattle.fzn_token.specs.Gaps.{IsGap}
 use Rattle.fzn_token.specs.Tokens.{IsToken, IsLongest, NothingBegins, AreTokensTo, AreTokens}
-use Rattle.fzn_token.specs.Reading.{IsReached, Reads, Answers}
-
--- these tokens and a gap reach place at
-pub record AreSoFar (text : List ℕ) (ts : List Token) (at : ℕ) : Type 0 where
-  pub end : ℕ
-  pub before : AreTokensTo text 0 ts end
-  pub gap : IsGap text end at
+use Rattle.fzn_token.specs.Reading.{AreSoFar, IsReached, Reads, Answers}
 
 -- after the first gap no token is read
 pub none_so_far : {text : List ℕ} {at : ℕ} → IsGap text 0 at → AreSoFar text [] at

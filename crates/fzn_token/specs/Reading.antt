@@ -1,5 +1,5 @@
 -- What readers of tokens answer.
-use Rattle.std.specs.Prelude.{◌≡◌, ℕ, ℤ, ◌<◌, List, length, Result, Ok, Err, FitsSigned}
+use Rattle.std.specs.Prelude.{◌≡◌, ◌≤◌, ◌⊎◌, ◌-◌, ℕ, ℤ, ◌<◌, List, [], ◌∷◌, ◌++◌, length, Option, Some, None, Result, Ok, Err, FitsSigned}
 use Rattle.std.specs.Int.{w64}
 use Rattle.fzn_token.specs.Gaps.{IsGap}
 use Rattle.fzn_token.specs.Tokens.{IsLongest, NothingBegins, IsToken, AreTokensTo, AreTokens}
@@ -7,6 +7,14 @@ use Rattle.fzn_token.specs.declared.token.TokenKind.TheVariants as kind
 use Rattle.fzn_token.specs.declared.token.Token.{Token}
 use Rattle.fzn_token.specs.declared.token.LexError.{LexError}
 use Rattle.fzn_token.specs.declared.token.LexError.TheVariants as errors
+use Rattle.fzn_token.specs.declared.token.Mark.TheVariants as mark
+use Rattle.fzn_token.specs.declared.reader.TokenReader.{TokenReader}
+
+-- these tokens and a gap lead to place at
+pub record AreSoFar (text : List ℕ) (ts : List Token) (at : ℕ) : Type 0 where
+  pub end : ℕ
+  pub before : AreTokensTo text 0 ts end
+  pub gap : IsGap text end at
 
 -- place at comes after some tokens and a gap, and before the text's end
 pub record IsReached (text : List ℕ) (at : ℕ) : Type 0 where
@@ -46,3 +54,54 @@ Reads text i (Err errors.Memory) = ⊥
 -- two answers for one text are the same, want of memory aside
 abbrev pub HasOneAnswer : Type 0
 HasOneAnswer = (text : List ℕ) (a b : Result (List Token) LexError) → Answers text a → Answers text b → (a ≡ Err errors.Memory → ⊥) → (b ≡ Err errors.Memory → ⊥) → a ≡ b
+
+-- the reader has read these tokens of this text, and the gap behind them
+pub record IsBehind (text : List ℕ) (reader : TokenReader) (ts : List Token) : Type 0 where
+  pub same : reader.text.now ≡ text
+  pub so_far : AreSoFar text ts reader.at
+
+-- how many bytes are not read yet
+abbrev pub left : TokenReader → ℕ
+left reader = length reader.text.now - reader.at
+
+-- the whole text is read
+abbrev pub IsAtEnd : TokenReader → Type 0
+IsAtEnd reader = length reader.text.now ≤ reader.at
+
+-- from the one reader to the other these tokens are read: the tokens so far and these are those of the text read so far
+abbrev pub ReadsOn : TokenReader → List Token → TokenReader → Type 0
+ReadsOn old us new = (text : List ℕ) (ts : List Token) → IsBehind text old ts → IsBehind text new (ts ++ us)
+
+-- the text is refused so
+abbrev pub Refuses : TokenReader → LexError → Type 0
+Refuses old e = (text : List ℕ) (ts : List Token) → IsBehind text old ts → Answers text (Err e)
+
+-- the next token is read; or there is none; or the text is refused
+abbrev pub TakesOne : TokenReader → TokenReader → Result (Option Token) LexError → Type 0
+TakesOne old new (Ok (Some t)) = ReadsOn old (t ∷ []) new × (left new < left old)
+TakesOne old new (Ok None) = (new ≡ old) × IsAtEnd new
+TakesOne old new (Err e) = Refuses old e
+
+-- these tokens are read, or the text is refused
+abbrev pub TakesPiece : TokenReader → TokenReader → List Token → Result (Unit {0}) LexError → Type 0
+TakesPiece old new us (Ok u) = ReadsOn old us new
+TakesPiece old new us (Err e) = Refuses old e
+
+-- the tokens that are left are read, or the text is refused
+abbrev pub TakesRest : TokenReader → Result (Unit {0}) LexError → Type 0
+TakesRest old (Ok u) = (us : List Token) × ((text : List ℕ) (ts : List Token) → IsBehind text old ts → AreTokens text (ts ++ us))
+TakesRest old (Err e) = Refuses old e
+
+-- one of these tokens is a `;`, and it is the last
+abbrev pub IsPiece : List Token → Type 0
+IsPiece [] = ⊥
+IsPiece (t ∷ ts) = ((t.kind ≡ kind.Mark mark.Semicolon) × (ts ≡ [])) ⊎ ((t.kind ≡ kind.Mark mark.Semicolon → ⊥) × IsPiece ts)
+
+-- none of these tokens is a `;`
+abbrev pub IsOpen : List Token → Type 0
+IsOpen [] = Unit {0}
+IsOpen (t ∷ ts) = (t.kind ≡ kind.Mark mark.Semicolon → ⊥) × IsOpen ts
+
+-- what was read ends with the first `;`, or has none and ends with the text
+abbrev pub EndsPiece : TokenReader → List Token → Type 0
+EndsPiece new us = IsPiece us ⊎ (IsOpen us × IsAtEnd new)

@@ -4,11 +4,11 @@ ghost use Rattle.std.specs.Prelude.{◌≡◌, ◌<◌, ◌≤◌, length};
 ghost use Rattle.fzn_token.specs.Reading.{Reads, Answers, HasOneAnswer};
 
 use crate::bytes::{is_digit, is_letter};
-use crate::gap::gap_end;
 use crate::mark::mark_token;
 use crate::name::name_token;
 use crate::number::number_token;
 use crate::quoted::text_token;
+use crate::reader::TokenReader;
 use crate::token::{LexError, Token, TokenList};
 use std::alloc::Global;
 
@@ -23,11 +23,9 @@ pub fn tokens(alloc: Global, text: &[u8]) -> Result<TokenList, LexError>
     ensures { Answers text.now result }
 {
     let mut list = TokenList::new(alloc);
-    let mut at = gap_end(text, 0);
-    while at < text.len() {
-        let token = token_at(text, at)?;
+    let mut reader = TokenReader::new(text);
+    while let Some(token) = reader.next_token()? {
         list.push(token)?;
-        at = gap_end(text, token.to as usize);
     }
     Ok(list)
 }
@@ -38,7 +36,7 @@ pub fn one_answer()
 {}
 
 /// The longest token that begins here.
-fn token_at(text: &[u8], at: usize) -> Result<Token, LexError>
+pub(crate) fn token_at(text: &[u8], at: usize) -> Result<Token, LexError>
     requires small { length text.now ≤ 16777216 }
     requires within { at < length text.now }
     ensures { Reads text.now at result }

@@ -13,9 +13,12 @@ mod lexer;
 mod mark;
 mod name;
 mod number;
+mod pieces;
 mod quoted;
+mod reader;
 mod token;
 
 pub use dcsp_list::Memory;
 pub use lexer::{one_answer, tokens};
+pub use reader::TokenReader;
 pub use token::{LexError, Mark, Token, TokenKind, TokenList, Word};

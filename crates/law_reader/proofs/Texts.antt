@@ -4,9 +4,9 @@ use Rattle.std.proofs.lemmas.Bool.{cases_lt}
 use Rattle.fzn_token.specs.declared.token.Token.{Token}
 use Rattle.fzn_token.specs.declared.token.LexError.{LexError}
 use Rattle.fzn_token.specs.declared.token.LexError.TheVariants as errors
-use Rattle.fzn_token.specs.Reading.{Reads}
+use Rattle.fzn_token.specs.Reading.{AreSoFar, Reads}
 use Rattle.fzn_token.proofs.Extents.{extent}
-use Rattle.fzn_token.proofs.SoFar.{AreSoFar, none_so_far, push_so_far, all_read, refused}
+use Rattle.fzn_token.proofs.SoFar.{none_so_far, push_so_far, all_read, refused}
 use Rattle.law_reader.specs.Answered.{HasTokens, TextsHaveTokens}
 use Rattle.law_reader.proofs.Searches.{gap_at}
 use Rattle.law_reader.proofs.Places.{token_read}

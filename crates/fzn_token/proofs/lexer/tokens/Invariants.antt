@@ -1,9 +1,8 @@
-use Rattle.std.proofs.Common.{length, ◌-◌}
-use Rattle.fzn_token.proofs.SoFar.{AreSoFar}
+use Rattle.fzn_token.specs.Reading.{IsBehind, left}
 use Rattle.fzn_token.proofs.lexer.tokens.Given as goal
 
-abbrev pub invariant-loop-at : goal.invariant-loop-at
-invariant-loop-at l = AreSoFar l.text l.list l.at
+abbrev pub invariant-loop-list : goal.invariant-loop-list
+invariant-loop-list l = IsBehind l.text l.reader l.list
 
-abbrev pub decreases-loop-at : goal.decreases-loop-at
-decreases-loop-at l = length l.text - l.at
+abbrev pub decreases-loop-list : goal.decreases-loop-list
+decreases-loop-list l = left l.reader
