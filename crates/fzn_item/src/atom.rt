@@ -1,25 +1,39 @@
 //! Atoms.
 
-ghost use Rattle.std.specs.Prelude.{◌<◌, ◌≤◌, length, IfOk};
-ghost use Rattle.fzn_token.specs.declared.token.Mark.TheVariants as mark;
-ghost use Rattle.fzn_item.specs.Productions.{IsInteger, IsListOf};
+ghost use Rattle.std.specs.Prelude.{◌≤◌, length, IfOk};
 ghost use Rattle.fzn_item.specs.Readers.{Reads};
-ghost use Rattle.fzn_item.specs.Exprs.{AtomAfter, IsAtom};
+ghost use Rattle.fzn_item.specs.Exprs.{AtomAfter};
 
 use crate::item::Atom;
+use crate::lists::{Form, list_of};
 use crate::single::{Stop, integer, one_of};
-use dcsp_domain::IntList;
 use fzn_token::{Mark, Token, TokenKind, Word};
 use std::alloc::Global;
 
-/// An atom.
-pub(crate) fn read_atom(alloc: Global, tokens: &[Token]) -> Result<(Atom, &[Token]), Stop>
-    ensures reads { Reads IsAtom tokens.now result }
-    ensures shorter { IfOk result (λ x. length x.1.now < length tokens.now) }
-{
-    match tokens.split_first() {
-        Some((first, rest)) => atom_after(alloc, *first, rest),
-        None => Err(Stop::Unread),
+impl Form for Atom {
+    ghost use Rattle.fzn_item.specs.Exprs.{IsAtom};
+
+    ghost form = { IsAtom };
+
+    fn read(alloc: Global, tokens: &[Token]) -> Result<(Atom, &[Token]), Stop> {
+        match tokens.split_first() {
+            Some((first, rest)) => atom_after(alloc, *first, rest),
+            None => Err(Stop::Unread),
+        }
+    }
+}
+
+/// Integers of listed sets.
+impl Form for i64 {
+    ghost use Rattle.fzn_item.specs.Productions.{IsInteger};
+
+    ghost form = { IsInteger };
+
+    fn read(_alloc: Global, tokens: &[Token]) -> Result<(i64, &[Token]), Stop> {
+        match integer(tokens) {
+            Some((value, rest)) => Ok((value, rest)),
+            None => Err(Stop::Unread),
+        }
     }
 }
 
@@ -43,38 +57,11 @@ fn atom_after(alloc: Global, first: Token, tokens: &[Token]) -> Result<(Atom, &[
         TokenKind::Name => Ok((Atom::Name { at, to: first.to }, tokens)),
         TokenKind::Mark(mark) => match mark {
             Mark::OpenBrace => {
-                let (values, rest) = members(alloc, tokens)?;
+                let (values, rest) = list_of::<i64>(alloc, tokens, Mark::CloseBrace)?;
                 Ok((Atom::Listed { at, values }, rest))
             }
             _ => Err(Stop::Unread),
         },
         _ => Err(Stop::Unread),
-    }
-}
-
-/// The integers of a listed set, after its `{`.
-pub(crate) fn members(alloc: Global, tokens: &[Token]) -> Result<(IntList, &[Token]), Stop>
-    ensures reads { Reads (IsListOf IsInteger mark.CloseBrace) tokens.now result }
-    ensures shorter { IfOk result (λ x. length x.1.now < length tokens.now) }
-{
-    let mut list = IntList::new(alloc);
-    if let Some((_, rest)) = one_of(tokens, TokenKind::Mark(Mark::CloseBrace)) {
-        return Ok((list, rest));
-    }
-    let mut rest = tokens;
-    'forms: loop {
-        let Some((value, after)) = integer(rest) else {
-            return Err(Stop::Unread);
-        };
-        list.push(value)?;
-        match one_of(after, TokenKind::Mark(Mark::Comma)) {
-            Some((_, next)) => rest = next,
-            None => {
-                let Some((_, end)) = one_of(after, TokenKind::Mark(Mark::CloseBrace)) else {
-                    return Err(Stop::Unread);
-                };
-                return Ok((list, end));
-            }
-        }
     }
 }

@@ -4,8 +4,8 @@ ghost use Rattle.std.specs.Prelude.{◌<◌, ◌≤◌, ◌≡◌, false, length
 ghost use Rattle.fzn_item.specs.Readers.{Reads};
 ghost use Rattle.fzn_item.specs.Elements.{SetAfter, IsSetElement, BaseAfter, IsBase, ElementAfter, IsElement};
 
-use crate::atom::members;
 use crate::item::Base;
+use crate::lists::list_of;
 use crate::single::{Stop, integer, one_of};
 use fzn_token::{Mark, Token, TokenKind, Word};
 use std::alloc::Global;
@@ -121,7 +121,7 @@ fn base_after(alloc: Global, kind: TokenKind, tokens: &[Token]) -> Result<(Base,
         },
         TokenKind::Mark(mark) => match mark {
             Mark::OpenBrace => {
-                let (values, rest) = members(alloc, tokens)?;
+                let (values, rest) = list_of::<i64>(alloc, tokens, Mark::CloseBrace)?;
                 Ok((Base::Listed(values), rest))
             }
             _ => Err(Stop::Unread),
@@ -157,7 +157,7 @@ fn set_after(alloc: Global, kind: TokenKind, tokens: &[Token]) -> Result<(Base, 
         },
         TokenKind::Mark(mark) => match mark {
             Mark::OpenBrace => {
-                let (_, rest) = members(alloc, tokens)?;
+                let (_, rest) = list_of::<i64>(alloc, tokens, Mark::CloseBrace)?;
                 Ok((Base::Set, rest))
             }
             _ => Err(Stop::Unread),

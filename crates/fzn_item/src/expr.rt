@@ -1,36 +1,36 @@
 //! Expressions.
 
 ghost use Rattle.std.specs.Prelude.{◌<◌, length, IfOk};
-ghost use Rattle.fzn_token.specs.declared.token.Mark.TheVariants as mark;
-ghost use Rattle.fzn_item.specs.Productions.{IsListOf};
 ghost use Rattle.fzn_item.specs.Readers.{Reads};
-ghost use Rattle.fzn_item.specs.Exprs.{IsAtom, IsExpr, IsLastExpr};
+ghost use Rattle.fzn_item.specs.Exprs.{IsLastExpr};
 
-use crate::atom::read_atom;
-use crate::item::{AtomList, Expr, ExprList};
+use crate::item::{Atom, Expr};
+use crate::lists::{Form, list_of};
 use crate::single::{Stop, one_of};
 use fzn_token::{Mark, Token, TokenKind};
 use std::alloc::Global;
 
-/// An expression.
-pub(crate) fn read_expr(alloc: Global, tokens: &[Token]) -> Result<(Expr, &[Token]), Stop>
-    ensures reads { Reads IsExpr tokens.now result }
-    ensures shorter { IfOk result (λ x. length x.1.now < length tokens.now) }
-{
-    match one_of(tokens, TokenKind::Mark(Mark::OpenBracket)) {
-        Some((bracket, rest)) => {
-            let (atoms, rest) = atoms(alloc, rest)?;
-            Ok((
-                Expr::List {
-                    at: bracket.from,
-                    atoms,
-                },
-                rest,
-            ))
-        }
-        None => {
-            let (one, rest) = read_atom(alloc, tokens)?;
-            Ok((Expr::One(one), rest))
+impl Form for Expr {
+    ghost use Rattle.fzn_item.specs.Exprs.{IsExpr};
+
+    ghost form = { IsExpr };
+
+    fn read(alloc: Global, tokens: &[Token]) -> Result<(Expr, &[Token]), Stop> {
+        match one_of(tokens, TokenKind::Mark(Mark::OpenBracket)) {
+            Some((bracket, rest)) => {
+                let (atoms, rest) = list_of::<Atom>(alloc, rest, Mark::CloseBracket)?;
+                Ok((
+                    Expr::List {
+                        at: bracket.from,
+                        atoms,
+                    },
+                    rest,
+                ))
+            }
+            None => {
+                let (one, rest) = Atom::read(alloc, tokens)?;
+                Ok((Expr::One(one), rest))
+            }
         }
     }
 }
@@ -40,59 +40,9 @@ pub(crate) fn last_expr(alloc: Global, tokens: &[Token]) -> Result<(Expr, &[Toke
     ensures reads { Reads IsLastExpr tokens.now result }
     ensures shorter { IfOk result (λ x. length x.1.now < length tokens.now) }
 {
-    let (what, rest) = read_expr(alloc, tokens)?;
+    let (what, rest) = Expr::read(alloc, tokens)?;
     let Some((_, rest)) = one_of(rest, TokenKind::Mark(Mark::Semicolon)) else {
         return Err(Stop::Unread);
     };
     Ok((what, rest))
-}
-
-/// The arguments of a constraint, after their `(`.
-pub(crate) fn arguments(alloc: Global, tokens: &[Token]) -> Result<(ExprList, &[Token]), Stop>
-    ensures reads { Reads (IsListOf IsExpr mark.CloseParen) tokens.now result }
-    ensures shorter { IfOk result (λ x. length x.1.now < length tokens.now) }
-{
-    let mut list = ExprList::new(alloc);
-    if let Some((_, rest)) = one_of(tokens, TokenKind::Mark(Mark::CloseParen)) {
-        return Ok((list, rest));
-    }
-    let mut rest = tokens;
-    'forms: loop {
-        let (value, after) = read_expr(alloc, rest)?;
-        list.push(value)?;
-        match one_of(after, TokenKind::Mark(Mark::Comma)) {
-            Some((_, next)) => rest = next,
-            None => {
-                let Some((_, end)) = one_of(after, TokenKind::Mark(Mark::CloseParen)) else {
-                    return Err(Stop::Unread);
-                };
-                return Ok((list, end));
-            }
-        }
-    }
-}
-
-/// The atoms of a list, after its `[`.
-fn atoms(alloc: Global, tokens: &[Token]) -> Result<(AtomList, &[Token]), Stop>
-    ensures reads { Reads (IsListOf IsAtom mark.CloseBracket) tokens.now result }
-    ensures shorter { IfOk result (λ x. length x.1.now < length tokens.now) }
-{
-    let mut list = AtomList::new(alloc);
-    if let Some((_, rest)) = one_of(tokens, TokenKind::Mark(Mark::CloseBracket)) {
-        return Ok((list, rest));
-    }
-    let mut rest = tokens;
-    'forms: loop {
-        let (value, after) = read_atom(alloc, rest)?;
-        list.push(value)?;
-        match one_of(after, TokenKind::Mark(Mark::Comma)) {
-            Some((_, next)) => rest = next,
-            None => {
-                let Some((_, end)) = one_of(after, TokenKind::Mark(Mark::CloseBracket)) else {
-                    return Err(Stop::Unread);
-                };
-                return Ok((list, end));
-            }
-        }
-    }
 }

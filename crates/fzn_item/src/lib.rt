@@ -10,6 +10,7 @@ mod declaration;
 mod element;
 mod expr;
 mod item;
+mod lists;
 mod marking;
 mod reading;
 mod single;

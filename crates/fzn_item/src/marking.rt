@@ -2,13 +2,12 @@
 
 ghost use Rattle.std.specs.Prelude.{◌≡◌, ◌<◌, ◌≤◌, ◌+◌, length, IfOk, IfSome, FitsSigned};
 ghost use Rattle.std.specs.Int.{w64};
-ghost use Rattle.fzn_token.specs.declared.token.Mark.TheVariants as mark;
-ghost use Rattle.fzn_item.specs.Productions.{IsListOf};
 ghost use Rattle.fzn_item.specs.Readers.{Reads, Finds};
 ghost use Rattle.fzn_item.specs.Marks.{called, first_mark, IsRange, IsRangeArgument, ArrayEnd, MarkedEnd, IsMarkedAnnotation, AreAnnotations};
 
 use crate::annotation::{annotation_end, inner_list};
 use crate::item::Marked;
+use crate::lists::{Form, list_of};
 use crate::single::{Stop, integer, one_of};
 use dcsp_domain::RangeList;
 use fzn_token::{Mark, Token, TokenKind};
@@ -134,36 +133,23 @@ fn range_argument(alloc: Global, tokens: &[Token]) -> Result<(RangeList, &[Token
     let Some((_, rest)) = one_of(rest, TokenKind::Mark(Mark::OpenBracket)) else {
         return Err(Stop::Unread);
     };
-    let (ranges, rest) = ranges(alloc, rest)?;
+    let (ranges, rest) = list_of::<(i64, i64)>(alloc, rest, Mark::CloseBracket)?;
     let Some((_, rest)) = one_of(rest, TokenKind::Mark(Mark::CloseParen)) else {
         return Err(Stop::Unread);
     };
     Ok((ranges, rest))
 }
 
-/// Ranges with commas between, after their `[`.
-fn ranges(alloc: Global, tokens: &[Token]) -> Result<(RangeList, &[Token]), Stop>
-    ensures reads { Reads (IsListOf IsRange mark.CloseBracket) tokens.now result }
-    ensures shorter { IfOk result (λ x. length x.1.now < length tokens.now) }
-{
-    let mut list = RangeList::new(alloc);
-    if let Some((_, rest)) = one_of(tokens, TokenKind::Mark(Mark::CloseBracket)) {
-        return Ok((list, rest));
-    }
-    let mut rest = tokens;
-    'forms: loop {
-        let Some((value, after)) = range(rest) else {
-            return Err(Stop::Unread);
-        };
-        list.push(value)?;
-        match one_of(after, TokenKind::Mark(Mark::Comma)) {
-            Some((_, next)) => rest = next,
-            None => {
-                let Some((_, end)) = one_of(after, TokenKind::Mark(Mark::CloseBracket)) else {
-                    return Err(Stop::Unread);
-                };
-                return Ok((list, end));
-            }
+/// Ranges of integers.
+impl Form for (i64, i64) {
+    ghost use Rattle.fzn_item.specs.Marks.{IsRange};
+
+    ghost form = { IsRange };
+
+    fn read(_alloc: Global, tokens: &[Token]) -> Result<((i64, i64), &[Token]), Stop> {
+        match range(tokens) {
+            Some((value, rest)) => Ok((value, rest)),
+            None => Err(Stop::Unread),
         }
     }
 }

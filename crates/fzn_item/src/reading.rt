@@ -5,8 +5,9 @@ ghost use Rattle.fzn_item.specs.Readers.{Reads, Skips};
 ghost use Rattle.fzn_item.specs.Items.{ToSemicolon, IsConstraint, GoalAfter, IsGoal, IsSolve, ItemAfter, IsItem, GivesNext, Answers, HasOneAnswer, ItemsEndAtSemicolons, ItemsStayRead, RefusalsStay};
 
 use crate::declaration::{array, declaration};
-use crate::expr::{arguments, last_expr};
-use crate::item::{Goal, Item, ItemError, ItemList};
+use crate::expr::last_expr;
+use crate::item::{Expr, Goal, Item, ItemError, ItemList};
+use crate::lists::list_of;
 use crate::marking::annotations;
 use crate::single::{Stop, one_of};
 use fzn_token::{Mark, Token, TokenKind, TokenList, Word};
@@ -145,7 +146,7 @@ fn constraint<'t>(
     let Some((_, rest)) = one_of(rest, TokenKind::Mark(Mark::OpenParen)) else {
         return Err(Stop::Unread);
     };
-    let (arguments, rest) = arguments(alloc, rest)?;
+    let (arguments, rest) = list_of::<Expr>(alloc, rest, Mark::CloseParen)?;
     let (_, rest) = annotations(alloc, text, rest)?;
     let Some((_, rest)) = one_of(rest, TokenKind::Mark(Mark::Semicolon)) else {
         return Err(Stop::Unread);

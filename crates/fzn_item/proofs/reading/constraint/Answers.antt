@@ -1,5 +1,6 @@
 use Rattle.std.proofs.lemmas.Result.{err_from_is_err_and}
 use Rattle.fzn_item.proofs.ItemLaws.{arguments_refused, annotations_refused, no_semicolon}
+use Rattle.fzn_item.proofs.ExprLaws.{expr_unique}
 use Rattle.fzn_item.proofs.reading.constraint.Goals as goal
 
 pub returns-in_err-arguments-clause-reads : goal.returns-in_err-arguments-clause-reads
@@ -14,3 +15,6 @@ returns-in_err-rest-clause-reads c =
 
 pub returns-in_default-one_of-2-clause-reads : goal.returns-in_default-one_of-2-clause-reads
 returns-in_default-one_of-2-clause-reads c = no_semicolon c.args.text.now c.args.first c.args.tokens.now c.in-Some.rest.now c.in-Some-one_of.rest.now c.in-Some.name _ c.in-Some.ensures.reads c.in-Some-one_of.ensures.reads c.in_ok-arguments.arguments c.in_ok-arguments.rest.now c.in_ok-arguments.ensures.reads _ c.in_ok-rest.rest.now c.in_ok-rest.ensures.reads c.in_default-one_of-2.ensures.reads
+
+pub list_of-requires-clause-unique : goal.list_of-requires-clause-unique
+list_of-requires-clause-unique c = expr_unique
