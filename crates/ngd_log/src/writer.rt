@@ -63,9 +63,17 @@ fn usual_length(step: &Step) -> usize {
     pairs.saturating_add(reasons).saturating_add(32)
 }
 
+/// Appends a number in decimal digits.
 pub(crate) fn push_number(line: &mut Vec<u8>, number: u64) -> Result<(), AllocError>
     ensures { OnOk result (line.new.items ≡ line.old.items ++ decimal number) }
 {
+    // Most numbers of a line have one digit.
+    if number < 10 {
+        return match line.push(b'0' + number as u8) {
+            Ok(()) => Ok(()),
+            Err(_) => Err(AllocError),
+        };
+    }
     line.extend_from_slice(Buffer::new().format(number).as_bytes())
 }
 
