@@ -9,6 +9,7 @@ use Rattle.dcsp_problem.specs.declared.limits.BuildError.TheVariants as errors
 use Rattle.fzn_scope.specs.Checks.{◌>>=◌, Stops}
 use Rattle.fzn_scope.specs.Known.{AreKnown}
 use Rattle.fzn_model.specs.declared.resolver.Resolver.{Resolver}
+use Rattle.fzn_model.specs.declared.resolver.Constraint.{Constraint}
 use Rattle.fzn_model.specs.declared.resolver.Declaration.{Declaration}
 use Rattle.fzn_model.specs.declared.in_turn.Taken.{Taken}
 use Rattle.fzn_token.specs.declared.token.LexError.{LexError}
@@ -22,7 +23,7 @@ use Rattle.fzn_item.specs.declared.item.ItemError.{ItemError}
 use Rattle.dcsp_problem.specs.Problems.{Contents}
 use Rattle.fzn_model.specs.declared.model.ModelError.{ModelError}
 use Rattle.fzn_model.specs.Declarations.{SoFar, parameter, variable, array}
-use Rattle.fzn_model.specs.Items.{declared_by, declare, start, after, after_all, finished}
+use Rattle.fzn_model.specs.Items.{declared_by, declare, constraint, start, after, after_all, finished}
 use Rattle.fzn_model.specs.Models.{longest_text, lexical_error, syntactic_error}
 
 -- a call that changes something into this does what is meant, unless memory ran out
@@ -67,6 +68,10 @@ named_by text s variable index d = declared_by text s d.at variable index d.base
 -- what any declaration leaves
 abbrev pub declare_by : List ℕ → SoFar → Bool → Option (ℤ × ℤ) → Declaration → Result SoFar Refusal
 declare_by text s variable index d = declare text s d.at variable index d.base.now d.name_at d.name.now d.marked.now d.right.now
+
+-- what a constraint leaves
+abbrev pub constraint_by : List ℕ → SoFar → Constraint → Result SoFar Refusal
+constraint_by text s c = constraint text s c.at c.name_at c.name.now c.arguments.now
 
 -- more than any array has elements
 abbrev pub many : ℕ

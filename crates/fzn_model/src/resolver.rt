@@ -4,8 +4,8 @@ ghost use Rattle.std.specs.Prelude.{◌≡◌, ◌≤◌, ◌<◌, ◌+◌, true
 ghost use Rattle.fzn_scope.specs.Checks.{Gives};
 ghost use Rattle.fzn_scope.specs.Names.{declared_as};
 ghost use Rattle.fzn_model.specs.Declarations.{is_late, declaration};
-ghost use Rattle.fzn_model.specs.Items.{start, constraint, solve, predicate, after, finished};
-ghost use Rattle.fzn_model.specs.Reading.{Leaves, so_far, IsSound, HasRoom, parameter_by, variable_by, array_by, named_by, declare_by};
+ghost use Rattle.fzn_model.specs.Items.{start, solve, predicate, after, finished};
+ghost use Rattle.fzn_model.specs.Reading.{Leaves, so_far, IsSound, HasRoom, parameter_by, variable_by, array_by, named_by, declare_by, constraint_by};
 
 use crate::array::{add_members, check_element, elements, within};
 use crate::building::{add_rule, add_variable};
@@ -37,6 +37,15 @@ struct Declaration<'i, 't> {
     name: &'t [u8],
     marked: &'i Marked,
     right: &'i Option<Expr>,
+}
+
+/// A constraint with the name of its relation.
+#[derive(Clone, Copy)]
+struct Constraint<'i, 't> {
+    at: u32,
+    name_at: u32,
+    name: &'t [u8],
+    arguments: &'i [Expr],
 }
 
 impl<'t> Resolver<'t> {
@@ -227,20 +236,23 @@ impl<'t> Resolver<'t> {
         &mut self,
         alloc: Global,
         text: &[u8],
-        at: u32,
-        name_at: u32,
-        name: &[u8],
-        exprs: &[Expr],
+        constraint: Constraint<'_, 't>,
     ) -> Result<(), Stop>
         requires sound { IsSound (so_far self.old) }
-        ensures is { Leaves (so_far self.new) result (constraint text.now (so_far self.old) at name_at name.now exprs.now) }
+        ensures is { Leaves (so_far self.new) result (constraint_by text.now (so_far self.old) constraint.entry) }
         ensures sound { OnOk result (IsSound (so_far self.new)) }
         ensures outputs { OnOk result (length self.new.builder.outputs ≤ length self.old.builder.outputs + 1) }
     {
+        let Constraint {
+            at,
+            name_at,
+            name,
+            arguments,
+        } = constraint;
         if self.solved {
             return Err(Stop::Refused(Refusal::Misplaced { at }));
         }
-        let rule = constraint_rule(alloc, text, &self.names, name_at, name, exprs)?;
+        let rule = constraint_rule(alloc, text, &self.names, name_at, name, arguments)?;
         add_rule(&mut self.builder, name_at, rule)?;
         self.constrained = true;
         Ok(())
@@ -366,8 +378,13 @@ impl<'t> Resolver<'t> {
                 name_to,
                 arguments,
             } => {
-                let name = bytes_at(text, *name_at, *name_to);
-                self.constraint(alloc, text, *at, *name_at, name, arguments.items())
+                let constraint = Constraint {
+                    at: *at,
+                    name_at: *name_at,
+                    name: bytes_at(text, *name_at, *name_to),
+                    arguments: arguments.items(),
+                };
+                self.constraint(alloc, text, constraint)
             }
             Item::Solve { at, goal } => self.solve(text, *at, goal),
         }
