@@ -8,7 +8,10 @@ use Rattle.dcsp_problem.specs.declared.limits.BuildError.{BuildError}
 use Rattle.dcsp_problem.specs.declared.limits.BuildError.TheVariants as errors
 use Rattle.fzn_scope.specs.Checks.{◌>>=◌, Stops}
 use Rattle.fzn_scope.specs.Known.{AreKnown}
+use Rattle.fzn_scope.specs.Names.{Scope}
+use Rattle.dcsp_problem.specs.declared.rule.Term.{Term}
 use Rattle.fzn_model.specs.declared.resolver.Resolver.{Resolver}
+use Rattle.fzn_model.specs.declared.array.Array.{Array}
 use Rattle.fzn_model.specs.declared.resolver.Constraint.{Constraint}
 use Rattle.fzn_model.specs.declared.resolver.Declaration.{Declaration}
 use Rattle.fzn_model.specs.declared.in_turn.Taken.{Taken}
@@ -22,7 +25,7 @@ use Rattle.fzn_item.specs.declared.item.Item.{Item}
 use Rattle.fzn_item.specs.declared.item.ItemError.{ItemError}
 use Rattle.dcsp_problem.specs.Problems.{Contents}
 use Rattle.fzn_model.specs.declared.model.ModelError.{ModelError}
-use Rattle.fzn_model.specs.Declarations.{SoFar, parameter, variable, array}
+use Rattle.fzn_model.specs.Declarations.{SoFar, parameter, variable, elements, array}
 use Rattle.fzn_model.specs.Items.{declared_by, declare, constraint, start, after, after_all, finished}
 use Rattle.fzn_model.specs.Models.{longest_text, lexical_error, syntactic_error}
 
@@ -56,6 +59,10 @@ parameter_by text s d = parameter text s d.at d.base.now d.name_at d.name.now d.
 -- what a variable's leaves
 abbrev pub variable_by : List ℕ → SoFar → Declaration → Result SoFar Refusal
 variable_by text s d = variable text s d.at d.base.now d.name_at d.name.now d.marked.now d.right.now
+
+-- the elements of an array
+abbrev pub elements_by : List ℕ → Scope → Array → Result (List Term) Refusal
+elements_by text scope a = elements text scope a.variable a.base.now a.index a.name_at a.right.now
 
 -- what an array's leaves, of variables or of parameters
 abbrev pub array_by : List ℕ → SoFar → Bool → ℤ × ℤ → Declaration → Result SoFar Refusal

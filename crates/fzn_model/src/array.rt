@@ -6,8 +6,8 @@ ghost use Rattle.dcsp_problem.specs.Limits.{most};
 ghost use Rattle.fzn_scope.specs.Checks.{Gives};
 ghost use Rattle.fzn_scope.specs.Known.{AreKnown};
 ghost use Rattle.fzn_model.specs.Building.{with_rule};
-ghost use Rattle.fzn_model.specs.Declarations.{check_element, element_set, is_index, within, with_member, with_members, elements};
-ghost use Rattle.fzn_model.specs.Reading.{Leaves};
+ghost use Rattle.fzn_model.specs.Declarations.{check_element, element_set, is_index, within, with_member, with_members};
+ghost use Rattle.fzn_model.specs.Reading.{Leaves, elements_by};
 
 use crate::building::add_rule;
 use crate::declaration::is_boolean;
@@ -16,6 +16,16 @@ use dcsp_problem::{Kind, Members, ProblemBuilder, Rule, Term, TermList, Which};
 use fzn_item::{Base, Expr};
 use fzn_scope::{Names, Refusal, Stop, Wanted, count_of, list_of};
 use std::alloc::Global;
+
+/// An array with its right side, as it is declared.
+#[derive(Clone, Copy)]
+pub(crate) struct Array<'i> {
+    pub(crate) variable: bool,
+    pub(crate) base: &'i Base,
+    pub(crate) index: (i64, i64),
+    pub(crate) name_at: u32,
+    pub(crate) right: &'i Expr,
+}
 
 /// Refuses arrays of floats and of sets.
 pub(crate) fn check_element(at: u32, base: &Base) -> Result<(), Refusal>
@@ -55,16 +65,19 @@ pub(crate) fn elements(
     alloc: Global,
     text: &[u8],
     names: &Names<'_>,
-    variable: bool,
-    base: &Base,
-    index: (i64, i64),
-    name_at: u32,
-    expr: &Expr,
+    array: Array<'_>,
 ) -> Result<TermList, Stop>
-    ensures gives { Gives result (elements text.now names.now variable base.now index name_at expr.now) }
+    ensures gives { Gives result (elements_by text.now names.now array.entry) }
     ensures known { IfOk result (λ terms. (variables : ℕ) → AreKnown variables names.now → All (IsTermOf variables) terms) }
 {
-    let count = count_of(text, names, expr)?;
+    let Array {
+        variable,
+        base,
+        index,
+        name_at,
+        right,
+    } = array;
+    let count = count_of(text, names, right)?;
     if !is_index(index, count) {
         return Err(Stop::Refused(Refusal::IllTyped { at: name_at }));
     }
@@ -72,7 +85,7 @@ pub(crate) fn elements(
         boolean: is_boolean(base),
         constant: !variable,
     };
-    list_of(alloc, text, names, wanted, expr)
+    list_of(alloc, text, names, wanted, right)
 }
 
 /// A copy of a set that elements are in, if the element type says one.

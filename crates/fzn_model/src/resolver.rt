@@ -7,7 +7,7 @@ ghost use Rattle.fzn_model.specs.Declarations.{is_late, declaration};
 ghost use Rattle.fzn_model.specs.Items.{start, solve, predicate, after, finished};
 ghost use Rattle.fzn_model.specs.Reading.{Leaves, so_far, IsSound, HasRoom, parameter_by, variable_by, array_by, named_by, declare_by, constraint_by};
 
-use crate::array::{add_members, check_element, elements, within};
+use crate::array::{Array, add_members, check_element, elements, within};
 use crate::building::{add_rule, add_variable};
 use crate::declaration::{add_source, domain_of, is_boolean, right_side, source_of, value_of};
 use crate::goal::aim_of;
@@ -168,8 +168,14 @@ impl<'t> Resolver<'t> {
             ..
         } = declaration;
         check_element(at, base)?;
-        let expr = right_side(name_at, right)?;
-        let terms = elements(alloc, text, &self.names, false, base, index, name_at, expr)?;
+        let array = Array {
+            variable: false,
+            base,
+            index,
+            name_at,
+            right: right_side(name_at, right)?,
+        };
+        let terms = elements(alloc, text, &self.names, array)?;
         within(Which::Elements, terms.len(), name_at)?;
         let value = Declared::Many {
             boolean: is_boolean(base),
@@ -205,8 +211,14 @@ impl<'t> Resolver<'t> {
             right,
         } = declaration;
         check_element(at, base)?;
-        let expr = right_side(name_at, right)?;
-        let terms = elements(alloc, text, &self.names, true, base, index, name_at, expr)?;
+        let array = Array {
+            variable: true,
+            base,
+            index,
+            name_at,
+            right: right_side(name_at, right)?,
+        };
+        let terms = elements(alloc, text, &self.names, array)?;
         if !is_shaped(marked, terms.len()) {
             return Err(Stop::Refused(Refusal::OutputShape { at: name_at }));
         }
