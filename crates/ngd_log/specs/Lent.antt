@@ -1,6 +1,5 @@
 -- What a reader lends of the line that it read last.
 use Rattle.std.specs.Prelude.{Bool, true, false, List, [], ◌∷◌, Option, Some, None}
-use Rattle.std.specs.List.{AllByRecursion}
 use Rattle.dcsp_nogood.specs.Pairs.{IsRising}
 use Rattle.dcsp_defs.specs.declared.Step.{Step}
 use Rattle.ngd_log.specs.declared.reader.Gathered.{Gathered}

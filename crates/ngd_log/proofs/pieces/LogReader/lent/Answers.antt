@@ -1,7 +1,6 @@
-use Rattle.std.proofs.Common.{◌≡◌, ◌∙◌, sym, ap, refl, List, [], ◌∷◌, Some}
+use Rattle.std.proofs.Common.{◌∙◌, sym, ap, List, [], ◌∷◌, Some}
 use Rattle.dcsp_nogood.specs.declared.Pair.{Pair}
 use Rattle.dcsp_defs.specs.declared.Reason.{Reason}
-use Rattle.ngd_log.specs.declared.entry.Entry.{Entry}
 use Rattle.ngd_log.specs.declared.entry.Entry.TheVariants.{Step as A_step, Delete}
 use Rattle.ngd_log.specs.Lent.{lent_in}
 use Rattle.ngd_log.specs.Pieces.{Kept}
