@@ -54,8 +54,8 @@ pub fn width(coefs: &[i64], greatest: &[u64], total: u64) -> Option<u128>
     Some(width)
 }
 
-/// The width with one term more.
-fn plus_greatest(width: u128, coef: i64, greatest: u64) -> u128
+/// The width of a sum with one term more, of which this is the greatest absolute value.
+pub fn plus_greatest(width: u128, coef: i64, greatest: u64) -> u128
     requires { width ≤ widest }
     ensures { result ≡ width + unsigned_abs coef * greatest }
 {

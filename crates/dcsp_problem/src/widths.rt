@@ -1,6 +1,6 @@
 //! How wide a rule's sum may become.
 
-ghost use Rattle.std.specs.Prelude.{◌≡◌, ◌≤◌, ◌+◌, ◌*◌, map, length, All, IsTrue, nat_lt, unsigned_abs, Some, None, if◌then◌else◌};
+ghost use Rattle.std.specs.Prelude.{◌≡◌, map, length, All, IsTrue, nat_lt, Some, None, if◌then◌else◌};
 ghost use Rattle.dcsp_linear.specs.Sums.{widest, width_of};
 ghost use Rattle.dcsp_problem.specs.Rules.{IsTermOf, terms_of, has_shape};
 ghost use Rattle.dcsp_problem.specs.Widths.{greatest_among, greatest_of, rule_width};
@@ -9,7 +9,7 @@ ghost use Rattle.dcsp_problem.specs.Limits.{Refuses};
 use crate::limits::BuildError;
 use crate::rule::{Rule, Term};
 use dcsp_domain::Domain;
-use dcsp_linear::WIDEST;
+use dcsp_linear::{WIDEST, plus_greatest};
 
 /// Refuses a rule whose sum is too wide over these domains.
 pub fn within_width(domains: &[Domain], rule: &Rule) -> Result<(), BuildError>
@@ -49,14 +49,6 @@ fn is_wide(domains: &[Domain], coefs: &[i64], terms: &[Term], total: u64) -> boo
         }
     }
     false
-}
-
-/// The width with one term more.
-fn plus_greatest(width: u128, coef: i64, greatest: u64) -> u128
-    requires { width ≤ widest }
-    ensures { result ≡ width + unsigned_abs coef * greatest }
-{
-    width + u128::from(coef.unsigned_abs()) * u128::from(greatest)
 }
 
 /// The greatest absolute value of a term: of a constant its own, of a variable the greatest over its domain.
