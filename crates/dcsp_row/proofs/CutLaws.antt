@@ -1,10 +1,11 @@
 -- Sets of numbers, and comparisons by them.
-use Rattle.std.proofs.Common.{◌≡◌, ◌≢◌, ℕ, nat_lt, ◌+◌, ◌-◌, ◌<◌, ◌≤◌, Bool, true, false, not, List, length, ℤ, pos, negsuc, ◌+ℤ◌, ◌-ℤ◌, ◌*ℤ◌, Some, refl, sym, ap, ◌∙◌, arith, inl, inr}
-use Rattle.std.specs.Prelude.{int_le, int_lt, ◌<ℤ◌}
+use Rattle.std.proofs.Common.{◌≡◌, ◌≢◌, ℕ, zero, suc, nat_lt, neg_ℤ, Option, None, ◌+◌, ◌-◌, ◌<◌, ◌≤◌, Bool, true, false, not, List, length, ℤ, pos, negsuc, ◌+ℤ◌, ◌-ℤ◌, ◌*ℤ◌, Some, refl, sym, ap, ◌∙◌, arith, inl, inr}
+use Rattle.std.specs.Prelude.{int_le, int_lt, ◌<ℤ◌, ◌≤ℤ◌, unwrap_or}
 use Rattle.std.specs.Ordering.{int_eq}
 use Rattle.std.proofs.lemmas.Bool.{cases_eq, cases_lt}
 use Rattle.std.proofs.lemmas.Bool.Decides.{Decides-int_eq, nat_tests}
 use Rattle.std.proofs.lemmas.Int.{ints}
+use Rattle.std.proofs.Math.IntN.{zero-*ℤ, suc_ℤ-*ℤ, *ℤ-negsuc, *ℤ_comm}
 use Rattle.dcsp_domain.specs.Sets.{IsRising}
 use Rattle.dcsp_row.specs.declared.compare.Comparison.{Comparison}
 use Rattle.dcsp_row.specs.declared.compare.Comparison.TheVariants.{Equal, Differ, AtMost, Below}
@@ -31,17 +32,41 @@ not_below : (x b : ℤ) → int_lt x (b +ℤ pos 1) ≡ not (int_lt b x)
 not_below x b = grind (arith, ints)
 
 -- a term is brought to the other side
-pub added_once : (comparison : Comparison) (base x total : ℤ) → compares comparison x (total -ℤ base) ≡ compares comparison (base +ℤ (pos 1 *ℤ x)) total
-added_once Equal base x total = grind (arith, ints)
-added_once Differ base x total = grind (arith, ints)
-added_once AtMost base x total = grind (arith, ints)
-added_once Below base x total = grind (arith, ints)
+added_once : (comparison : Comparison) (base product total : ℤ) → compares comparison product (total -ℤ base) ≡ compares comparison (base +ℤ product) total
+added_once Equal base product total = grind (arith, ints)
+added_once Differ base product total = grind (arith, ints)
+added_once AtMost base product total = grind (arith, ints)
+added_once Below base product total = grind (arith, ints)
 
-pub taken_once : (comparison : Comparison) (base x total : ℤ) → compares comparison (base -ℤ total) x ≡ compares comparison (base +ℤ (negsuc 0 *ℤ x)) total
-taken_once Equal base x total = grind (arith, ints)
-taken_once Differ base x total = grind (arith, ints)
-taken_once AtMost base x total = grind (arith, ints)
-taken_once Below base x total = grind (arith, ints)
+taken_once : (comparison : Comparison) (base product total : ℤ) → compares comparison (base -ℤ total) product ≡ compares comparison (base +ℤ neg_ℤ product) total
+taken_once Equal base product total = grind (arith, ints)
+taken_once Differ base product total = grind (arith, ints)
+taken_once AtMost base product total = grind (arith, ints)
+taken_once Below base product total = grind (arith, ints)
+
+-- a product grows with its factor
+grows : (n : ℕ) (x y : ℤ) → x ≤ℤ y → (pos n *ℤ x) ≤ℤ (pos n *ℤ y)
+grows zero x y l = let a = zero-*ℤ x in let b = zero-*ℤ y in omega (arith, ints, a, b)
+grows (suc n) x y l =
+    let a : pos (suc n) *ℤ x ≡ (pos n *ℤ x) +ℤ x = suc_ℤ-*ℤ (pos n) x in
+    let b : pos (suc n) *ℤ y ≡ (pos n *ℤ y) +ℤ y = suc_ℤ-*ℤ (pos n) y in
+    let before = grows n x y l in
+    omega (arith, ints, a, b, before)
+
+pub rises : (n : ℕ) → 0 < n → (x y : ℤ) → x <ℤ y → (pos n *ℤ x) <ℤ (pos n *ℤ y)
+rises zero some x y l = absurd (omega arith)
+rises (suc n) some x y l =
+    let a : pos (suc n) *ℤ x ≡ (pos n *ℤ x) +ℤ x = suc_ℤ-*ℤ (pos n) x in
+    let b : pos (suc n) *ℤ y ≡ (pos n *ℤ y) +ℤ y = suc_ℤ-*ℤ (pos n) y in
+    let before = grows n x y (omega (arith, ints, l)) in
+    omega (arith, ints, a, b, before, l)
+
+pub once : (x : ℤ) → pos 1 *ℤ x ≡ x
+once x = let a : pos 1 *ℤ x ≡ (pos 0 *ℤ x) +ℤ x = suc_ℤ-*ℤ (pos 0) x in let b = zero-*ℤ x in omega (arith, ints, a, b)
+
+turned_product : (n : ℕ) (x : ℤ) → neg_ℤ (pos n) *ℤ x ≡ neg_ℤ (pos n *ℤ x)
+turned_product zero x = let none = zero-*ℤ x in omega (arith, ints, none)
+turned_product (suc n) x = *ℤ_comm (negsuc n) x ∙ *ℤ-negsuc x n ∙ ap neg_ℤ (*ℤ_comm x (pos (suc n)))
 
 below_is_less : (x y bound : ℤ) → x <ℤ y → int_lt y bound ≡ true → int_lt x bound ≡ true
 below_is_less x y bound l e = grind (arith, ints)
@@ -49,23 +74,25 @@ below_is_less x y bound l e = grind (arith, ints)
 above_is_more : (x y bound : ℤ) → x <ℤ y → int_lt x bound ≡ false → int_lt y bound ≡ false
 above_is_more x y bound l e = grind (arith, ints)
 
--- up to a value below the bound all are
-pub below_all : (values : List ℤ) → IsRising values → (middle : ℕ) → middle < length values → (bound : ℤ) → int_lt (own_at values middle) bound ≡ true → (k : ℕ) → k < middle + 1 → int_lt (own_at values k) bound ≡ true
-below_all values up middle within bound here k l = elim (cases_eq k middle) [
-  | inl same ↦ ap (λ n. int_lt (own_at values n) bound) same ∙ here
-  | inr apart ↦ below_is_less (own_at values k) (own_at values middle) bound (up k middle (pos 0) (omega (arith, l, apart)) within) here
-]
+-- values by what rises with them
+module _ (g : ℤ → ℤ) (up_by : (x y : ℤ) → x <ℤ y → g x <ℤ g y) (values : List ℤ) (up : IsRising values) where
+  -- up to a value below the bound all are
+  pub below_all : (middle : ℕ) → middle < length values → (bound : ℤ) → int_lt (g (own_at values middle)) bound ≡ true → (k : ℕ) → k < middle + 1 → int_lt (g (own_at values k)) bound ≡ true
+  below_all middle within bound here k l = elim (cases_eq k middle) [
+    | inl same ↦ ap (λ n. int_lt (g (own_at values n)) bound) same ∙ here
+    | inr apart ↦ below_is_less (g (own_at values k)) (g (own_at values middle)) bound (up_by (own_at values k) (own_at values middle) (up k middle (pos 0) (omega (arith, l, apart)) within)) here
+  ]
 
--- and from one on that is not none is
-pub above_all : (values : List ℤ) → IsRising values → (middle : ℕ) → (bound : ℤ) → int_lt (own_at values middle) bound ≡ false → (k : ℕ) → middle ≤ k → k < length values → int_lt (own_at values k) bound ≡ false
-above_all values up middle bound here k l within = elim (cases_eq k middle) [
-  | inl same ↦ ap (λ n. int_lt (own_at values n) bound) same ∙ here
-  | inr apart ↦ above_is_more (own_at values middle) (own_at values k) bound (up middle k (pos 0) (omega (arith, l, apart)) within) here
-]
+  -- and from one on that is not none is
+  pub above_all : (middle : ℕ) → (bound : ℤ) → int_lt (g (own_at values middle)) bound ≡ false → (k : ℕ) → middle ≤ k → k < length values → int_lt (g (own_at values k)) bound ≡ false
+  above_all middle bound here k l within = elim (cases_eq k middle) [
+    | inl same ↦ ap (λ n. int_lt (g (own_at values n)) bound) same ∙ here
+    | inr apart ↦ above_is_more (g (own_at values middle)) (g (own_at values k)) bound (up_by (own_at values middle) (own_at values k) (up middle k (pos 0) (omega (arith, l, apart)) within)) here
+  ]
 
 -- none is, where the first is not
 pub none_below : (values : List ℤ) → IsRising values → (bound : ℤ) → int_lt (own_at values 0) bound ≡ false → (k : ℕ) → k < length values → int_lt (own_at values k) bound ≡ nat_lt k 0
-none_below values up bound first k l = above_all values up 0 bound first k (omega arith) l ∙ grind (arith, nat_tests)
+none_below values up bound first k l = above_all (λ x. x) (λ x y m. m) values up 0 bound first k (omega arith) l ∙ grind (arith, nat_tests)
 
 -- all are, where the last is
 pub all_below : (values : List ℤ) → IsRising values → (bound : ℤ) (count : ℕ) → 0 < count → count ≡ length values → int_lt (own_at values (count - 1)) bound ≡ true → (k : ℕ) → k < length values → int_lt (own_at values k) bound ≡ nat_lt k count
@@ -73,7 +100,7 @@ all_below values up bound count some all last k l =
     let within : count - 1 < length values = omega (arith, some, all) in
     let before : k < count - 1 + 1 = omega (arith, l, all) in
     let below : k < count = omega (arith, l, all) in
-    below_all values up (count - 1) within bound last k before ∙ grind (arith, nat_tests)
+    below_all (λ x. x) (λ x y m. m) values up (count - 1) within bound last k before ∙ grind (arith, nat_tests)
 
 not_itself : (x bound : ℤ) → x ≡ bound → int_lt x bound ≡ false
 not_itself x bound e = grind (arith, ints, e)
@@ -85,20 +112,34 @@ less_than x y bound l e = grind (arith, ints, l, e)
 pub before_bound : (values : List ℤ) → IsRising values → (bound : ℤ) (count : ℕ) → count < length values → own_at values count ≡ bound → (k : ℕ) → k < length values → int_lt (own_at values k) bound ≡ nat_lt k count
 before_bound values up bound count within is k l = elim (cases_lt k count) [
   | inl before ↦ less_than (own_at values k) (own_at values count) bound (up k count (pos 0) before within) is ∙ grind (arith, nat_tests)
-  | inr past ↦ above_all values up count bound (not_itself (own_at values count) bound is) k past l ∙ grind (arith, nat_tests)
+  | inr past ↦ above_all (λ x. x) (λ x y m. m) values up count bound (not_itself (own_at values count) bound is) k past l ∙ grind (arith, nat_tests)
 ]
 
--- a sum to which the open variable is added once, or from which it is taken away once
-module _ (rel : Rel) (comparison : Comparison) (line : Line) (total rest : ℤ) (same : (s t : ℤ) → compares comparison s t ≡ stands rel s t) (cut : Cut) where
-  pub added_off : line.own ≡ Some (pos 1) → rest ≡ total -ℤ line.base → ((x : ℤ) → is_in cut x ≡ not (compares comparison x rest)) → (x : ℤ) → is_in cut x ≡ not (stands rel (line_at line x) total)
-  added_off own is h x =
-      h x ∙ ap (λ r. not (compares comparison x r)) is ∙ ap not (added_once comparison line.base x total ∙ same (line.base +ℤ (pos 1 *ℤ x)) total)
-      ∙ sym (ap (λ o. not (stands rel (line.base +ℤ own_part o x) total)) own)
+-- the product with the open variable, which is none where it is no term
+own_product : (own : Option ℤ) (x : ℤ) → own_part own x ≡ unwrap_or own (pos 0) *ℤ x
+own_product None x = sym (zero-*ℤ x)
+own_product (Some coef) x = refl
 
-  pub taken_off : line.own ≡ Some (negsuc 0) → rest ≡ line.base -ℤ total → ((x : ℤ) → is_in cut x ≡ not (compares comparison rest x)) → (x : ℤ) → is_in cut x ≡ not (stands rel (line_at line x) total)
-  taken_off own is h x =
-      h x ∙ ap (λ r. not (compares comparison r x)) is ∙ ap not (taken_once comparison line.base x total ∙ same (line.base +ℤ (negsuc 0 *ℤ x)) total)
-      ∙ sym (ap (λ o. not (stands rel (line.base +ℤ own_part o x) total)) own)
+-- a sum to which so many times the open variable is added, or from which it is taken away so often
+module _ (rel : Rel) (comparison : Comparison) (line : Line) (total rest coef : ℤ) (same : (s t : ℤ) → compares comparison s t ≡ stands rel s t) (cut : Cut) (factor : ℕ) (own : unwrap_or line.own (pos 0) ≡ coef) where
+  pub added_off : coef ≡ pos factor → rest ≡ total -ℤ line.base → ((y : ℤ) → is_in cut y ≡ not (compares comparison y rest)) → (x : ℤ) → is_in cut (pos factor *ℤ x) ≡ not (stands rel (line_at line x) total)
+  added_off times is h x =
+      let y = pos factor *ℤ x in
+      h y ∙ ap (λ r. not (compares comparison y r)) is ∙ ap not (added_once comparison line.base y total ∙ same (line.base +ℤ y) total)
+      ∙ sym (ap (λ z. not (stands rel (line.base +ℤ z) total)) (own_product line.own x ∙ ap (λ c. c *ℤ x) (own ∙ times)))
+
+  pub taken_off : coef ≡ neg_ℤ (pos factor) → rest ≡ line.base -ℤ total → ((y : ℤ) → is_in cut y ≡ not (compares comparison rest y)) → (x : ℤ) → is_in cut (pos factor *ℤ x) ≡ not (stands rel (line_at line x) total)
+  taken_off times is h x =
+      let y = pos factor *ℤ x in
+      h y ∙ ap (λ r. not (compares comparison r y)) is ∙ ap not (taken_once comparison line.base y total ∙ same (line.base +ℤ neg_ℤ y) total)
+      ∙ sym (ap (λ z. not (stands rel (line.base +ℤ z) total)) (own_product line.own x ∙ ap (λ c. c *ℤ x) (own ∙ times) ∙ turned_product factor x))
+
+-- a sum without it
+pub none_off : (rel : Rel) (line : Line) (total : ℤ) → unwrap_or line.own (pos 0) ≡ pos 0 → (x : ℤ) → stands rel line.base total ≡ stands rel (line_at line x) total
+none_off rel line total own x =
+    let product : own_part line.own x ≡ pos 0 = own_product line.own x ∙ ap (λ c. c *ℤ x) own ∙ zero-*ℤ x in
+    let whole : line.base +ℤ own_part line.own x ≡ line.base = omega (arith, ints, product) in
+    ap (λ z. stands rel z total) (sym whole)
 
 -- a sum that is told to be false
 pub told_false : (holds : Bool) (truth : ℤ) → truth ≢ pos 1 → not (not holds) ≡ not (is_told (Some truth) holds)

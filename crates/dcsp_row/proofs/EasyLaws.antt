@@ -1,11 +1,10 @@
 -- The coefficients of one variable among the terms of a sum.
 use Rattle.std.proofs.Common.{◌≡◌, ℕ, ◌+◌, ◌<◌, ◌≤◌, ℤ, pos, Bool, true, false, not, cond, List, [], ◌∷◌, ◌++◌, length, get_or, drop, Option, Some, None, refl, sym, ap, ◌∙◌, arith, append-nil, append_assoc, length-append}
 use Rattle.std.specs.Prelude.{IfSome, is_some}
-use Rattle.std.specs.Option.{option_to_list}
 use Rattle.std.proofs.lemmas.List.{drop_more}
 use Rattle.std.proofs.Math.ListN.{drop_of_length-le}
 use Rattle.dcsp_problem.specs.declared.rule.Term.{Term}
-use Rattle.dcsp_row.specs.Easy.{is_unit, is_variable, own_coefs}
+use Rattle.dcsp_row.specs.Easy.{is_variable, own_coefs}
 use Rattle.dcsp_row.specs.Lines.{open_coef}
 use Rattle.dcsp_row.specs.declared.span.Span.{Span}
 use Rattle.dcsp_row.specs.Spans.{SpansWhere}
@@ -53,16 +52,6 @@ module _ (var : ℕ) (coefs : List ℤ) (terms : List Term) (k : ℕ) (d : Term)
 -- nothing is left past the end
 pub own_done : (var : ℕ) (coefs : List ℤ) (terms : List Term) (k : ℕ) → length coefs ≤ k → (before : List ℤ) → before ++ own_coefs var (drop k coefs) (drop k terms) ≡ own_coefs var coefs terms → before ≡ own_coefs var coefs terms
 own_done var coefs terms k past before inv = sym (ap (λ cs. before ++ own_coefs var cs (drop k terms)) (drop_of_length-le coefs past) ∙ append-nil before) ∙ inv
-
--- two are no unit
-pub many_no_unit : (cs : List ℤ) → 1 < length cs → is_unit cs ≡ false
-many_no_unit [] l = absurd (omega (arith, l))
-many_no_unit (c ∷ []) l = absurd (omega (arith, l))
-many_no_unit (c ∷ d ∷ cs) l = refl
-
-pub some_long : (found : Option ℤ) → is_some found ≡ true → 0 < length (option_to_list found)
-some_long None e = absurd (let clash : false ≡ true = e in cc)
-some_long (Some coef) e = omega arith
 
 -- a span by one test is one by another that is the same
 pub span_where : (test other : ℤ → Bool) (values : List ℤ) → ((x : ℤ) → test x ≡ other x) → (result : Option Span) → IfSome result (SpansWhere test values) → IfSome result (SpansWhere other values)

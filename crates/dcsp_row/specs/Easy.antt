@@ -1,6 +1,5 @@
 -- Rules that rule out one run of values, or all values outside one, whatever is known.
-use Rattle.std.specs.Prelude.{ℕ, ◌==◌, ◌&&◌, ◌||◌, ℤ, pos, negsuc, Bool, true, false, not, List, [], ◌∷◌, Option, Some, None, if◌then◌else◌}
-use Rattle.std.specs.Ordering.{int_eq}
+use Rattle.std.specs.Prelude.{ℕ, ◌==◌, ◌&&◌, ℤ, Bool, true, false, not, List, [], ◌∷◌, Option, Some, None, if◌then◌else◌, length, nat_lt}
 use Rattle.dcsp_meaning.specs.declared.kinds.Kind.{Kind}
 use Rattle.dcsp_meaning.specs.declared.kinds.Kind.TheVariants.{IntEq, IntNe, IntLe, IntLt}
 use Rattle.dcsp_problem.specs.declared.rule.Term.{Term}
@@ -37,14 +36,11 @@ own_coefs var [] terms = []
 own_coefs var (coef ∷ coefs) [] = []
 own_coefs var (coef ∷ coefs) (term ∷ terms) = if is_variable var term then coef ∷ own_coefs var coefs terms else own_coefs var coefs terms
 
--- whether these are none, or one that is 1 or -1
-abbrev pub is_unit : List ℤ → Bool
-is_unit [] = true
-is_unit (coef ∷ []) = int_eq coef (pos 1) || int_eq coef (negsuc 0)
-is_unit (first ∷ second ∷ others) = false
+-- whether there is one of these at most
+abbrev pub is_once : List ℤ → Bool
+is_once coefs = nat_lt (length coefs) 2
 
--- whether the rule compares two numbers, or is a sum to which the variable is added once, from which it is taken once, or in which it is not, and whose
--- total and truth are not told by the variable
+-- whether the rule compares two numbers, or is a sum in which the variable is one term at most, and whose total and truth are not told by the variable
 abbrev pub has_span : ℕ → Rule → Bool
 has_span var (Plain kind scalars first second members) = is_comparison kind
-has_span var (Sum rel coefs terms total truth) = is_unit (own_coefs var coefs terms) && (not (is_variable var total) && not (is_truth var truth))
+has_span var (Sum rel coefs terms total truth) = is_once (own_coefs var coefs terms) && (not (is_variable var total) && not (is_truth var truth))

@@ -1,9 +1,8 @@
 -- Sums in which one variable is left open.
-use Rattle.std.specs.Prelude.{◌≡◌, ℕ, ◌+◌, ◌*◌, ◌≤◌, ℤ, pos, ◌+ℤ◌, ◌*ℤ◌, Bool, true, false, not, List, [], ◌∷◌, Option, Some, None, ◌&&◌, is_some, option_to_list, unsigned_abs, unwrap_or}
+use Rattle.std.specs.Prelude.{◌≡◌, ℕ, ◌+◌, ◌*◌, ◌≤◌, ℤ, pos, ◌+ℤ◌, ◌*ℤ◌, Bool, true, false, not, List, [], ◌∷◌, Option, Some, None, ◌&&◌, is_some, unsigned_abs, unwrap_or}
 use Rattle.dcsp_linear.specs.Sums.{stands}
 use Rattle.dcsp_problem.specs.Rules.{is_told}
 use Rattle.dcsp_row.specs.declared.line.Line.{Line}
-use Rattle.dcsp_row.specs.Easy.{is_unit}
 use Rattle.dcsp_row.specs.declared.sums.Opened.{Opened}
 use Rattle.dcsp_row.specs.declared.sums.Told.{Told}
 use Rattle.dcsp_row.specs.declared.sums.Told.TheVariants.{Untold, By, ByOwn}
@@ -51,7 +50,7 @@ open_coef coef (Some value) = []
 abbrev pub is_off : Opened → ℤ → Bool
 is_off opened value = not (is_told (told_at opened.told value) (stands opened.rel (line_at opened.line value) (unwrap_or opened.total value)))
 
--- whether there is one in which the variable is added or taken away once at most, and tells neither total nor truth
+-- whether there is one, and the open variable tells neither total nor truth
 abbrev pub is_line : Option Opened → Bool
 is_line None = false
-is_line (Some opened) = is_unit (option_to_list opened.line.own) && (is_some opened.total && is_known opened.told)
+is_line (Some opened) = is_some opened.total && is_known opened.told

@@ -1,6 +1,6 @@
 //! Sets of numbers that are one number, or all below one, or all others than these.
 
-ghost use Rattle.std.specs.Prelude.{◌≡◌, ◌<◌, ◌≤◌, ℕ, ℤ, IfSome, int_lt, length, nat_lt, not, unsigned_abs};
+ghost use Rattle.std.specs.Prelude.{◌≡◌, ◌<◌, ◌≤◌, ◌*ℤ◌, ℕ, ℤ, pos, IfSome, int_lt, length, nat_lt, not, unsigned_abs};
 ghost use Rattle.dcsp_row.specs.Cuts.{is_in, is_of, number_of, farthest};
 ghost use Rattle.dcsp_row.specs.Rows.{own_at};
 ghost use Rattle.dcsp_row.specs.Spans.{SpansWhere};
@@ -27,18 +27,31 @@ pub fn span_in(cut: Cut, domain: &Domain) -> Span
     requires { unsigned_abs (number_of cut.part) ≤ farthest }
     ensures { SpansWhere (is_in cut) domain.now result }
 {
-    let span = span_of(cut.part, domain);
+    product_span(cut, 1, domain)
+}
+
+/// The places of those of these values whose products with the factor are in the cut.
+pub fn product_span(cut: Cut, factor: u64, domain: &Domain) -> Span
+    requires number { unsigned_abs (number_of cut.part) ≤ farthest }
+    requires factor { 0 < factor }
+    ensures { SpansWhere (λ x. is_in cut (pos factor *ℤ x)) domain.now result }
+{
+    let span = span_of(cut.part, factor, domain);
     if cut.outside { span.others() } else { span }
 }
 
-/// The places of those of these values that are of the part.
-fn span_of(part: Part, domain: &Domain) -> Span
-    requires { unsigned_abs (number_of part) ≤ farthest }
-    ensures { SpansWhere (is_of part) domain.now result }
+/// The places of those of these values whose products with the factor are of the part.
+fn span_of(part: Part, factor: u64, domain: &Domain) -> Span
+    requires number { unsigned_abs (number_of part) ≤ farthest }
+    requires factor { 0 < factor }
+    ensures { SpansWhere (λ x. is_of part (pos factor *ℤ x)) domain.now result }
 {
     let (from, to) = match part {
-        Part::Only(value) => (count_below(domain, value), count_below(domain, value + 1)),
-        Part::Below(bound) => (0, count_below(domain, bound)),
+        Part::Only(value) => (
+            count_below(domain, factor, value),
+            count_below(domain, factor, value + 1),
+        ),
+        Part::Below(bound) => (0, count_below(domain, factor, bound)),
     };
     Span {
         from,
@@ -47,14 +60,17 @@ fn span_of(part: Part, domain: &Domain) -> Span
     }
 }
 
-/// How many of these values are below the bound.
-fn count_below(domain: &Domain, bound: i128) -> usize
-    ensures { (k : ℕ) → k < length domain.now → int_lt (own_at domain.now k) bound ≡ nat_lt k result }
+/// How many of these values have a product with the factor below the bound. They are the first ones.
+fn count_below(domain: &Domain, factor: u64, bound: i128) -> usize
+    requires { 0 < factor }
+    ensures { (k : ℕ) → k < length domain.now → int_lt (pos factor *ℤ own_at domain.now k) bound ≡ nat_lt k result }
 {
-    match count_without_gap(domain, bound) {
-        Some(count) => count,
-        None => count_by_halves(domain, bound),
+    if factor == 1 {
+        if let Some(count) = count_without_gap(domain, bound) {
+            return count;
+        }
     }
+    count_by_halves(domain, factor, bound)
 }
 
 /// How many of these values are below the bound, where all or none are, or no value is missing below it.
@@ -79,19 +95,27 @@ fn count_without_gap(domain: &Domain, bound: i128) -> Option<usize>
     }
 }
 
-/// How many of these values are below the bound, by binary search.
-fn count_by_halves(domain: &Domain, bound: i128) -> usize
-    ensures { (k : ℕ) → k < length domain.now → int_lt (own_at domain.now k) bound ≡ nat_lt k result }
+/// How many of these values have a product with the factor below the bound, by binary search.
+fn count_by_halves(domain: &Domain, factor: u64, bound: i128) -> usize
+    requires { 0 < factor }
+    ensures { (k : ℕ) → k < length domain.now → int_lt (pos factor *ℤ own_at domain.now k) bound ≡ nat_lt k result }
 {
     let mut low = 0;
     let mut high = domain.len();
     while low < high {
         let middle = low + (high - low) / 2;
-        if i128::from(domain.value(middle)) < bound {
+        if product(factor, domain.value(middle)) < bound {
             low = middle + 1;
         } else {
             high = middle;
         }
     }
     low
+}
+
+/// The product of the factor and a value.
+fn product(factor: u64, value: i64) -> i128
+    ensures { result ≡ pos factor *ℤ value }
+{
+    i128::from(factor) * i128::from(value)
 }

@@ -3,7 +3,7 @@
 ghost use Rattle.std.specs.Prelude.{◌≡◌, ◌<◌, IsTrue, length};
 ghost use Rattle.dcsp_problem.specs.Problems.{rule_at};
 ghost use Rattle.dcsp_problem.specs.Rules.{has_shape};
-ghost use Rattle.dcsp_row.specs.Easy.{has_span, is_truth, is_unit, is_variable, own_coefs};
+ghost use Rattle.dcsp_row.specs.Easy.{has_span, is_once, is_truth, is_variable, own_coefs};
 
 use crate::compare::comparison_of;
 use dcsp_problem::{Problem, Rule, Term};
@@ -32,32 +32,29 @@ fn is_easy(rule: &Rule, var: u32) -> bool
             truth,
             ..
         } => {
-            is_unit_in(coefs.items(), terms.items(), var)
+            is_once_in(coefs.items(), terms.items(), var)
                 && !is_variable(*total, var)
                 && !is_truth(*truth, var)
         }
     }
 }
 
-/// Whether the variable is none of the terms, or one with the coefficient 1 or -1.
-fn is_unit_in(coefs: &[i64], terms: &[Term], var: u32) -> bool
+/// Whether the variable is at most one of the terms.
+fn is_once_in(coefs: &[i64], terms: &[Term], var: u32) -> bool
     requires { length coefs.now ≡ length terms.now }
-    ensures { result ≡ is_unit (own_coefs var coefs.now terms.now) }
+    ensures { result ≡ is_once (own_coefs var coefs.now terms.now) }
 {
-    let mut found = None;
+    let mut found = false;
     for place in 0..coefs.len() {
         if !is_variable(terms[place], var) {
             continue;
         }
-        if found.is_some() {
+        if found {
             return false;
         }
-        found = Some(coefs[place]);
+        found = true;
     }
-    match found {
-        Some(coef) => coef == 1 || coef == -1,
-        None => true,
-    }
+    true
 }
 
 /// Whether it is the variable that tells the truth of a sum.

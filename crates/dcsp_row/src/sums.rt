@@ -6,12 +6,12 @@ ghost use Rattle.dcsp_linear.specs.Sums.{stands, widest};
 ghost use Rattle.dcsp_defs.specs.Csp.{filled, with_value};
 ghost use Rattle.dcsp_problem.specs.Rules.{is_told, value_under};
 ghost use Rattle.dcsp_row.specs.Rows.{compares, own_at, MarksWhere, FitAtEach};
-ghost use Rattle.dcsp_row.specs.Easy.{is_truth, is_unit};
+ghost use Rattle.dcsp_row.specs.Easy.{is_truth};
 ghost use Rattle.dcsp_row.specs.Lines.{is_known, is_line, is_off, line_at, line_size, told_at};
 ghost use Rattle.dcsp_row.specs.Spans.{SpansWhere};
 
 use crate::compare::{Comparison, missed_after, missed_before};
-use crate::cut::span_in;
+use crate::cut::product_span;
 use crate::known::known_value;
 use crate::line::{Line, stands, sum_at};
 use crate::row::Row;
@@ -55,15 +55,15 @@ pub fn told_by<L: Lookup>(truth: Option<Term>, var: u32, lookup: &L) -> Told
     }
 }
 
-/// The places of those of these values at which the sum is false, where the open variable is added or taken
-/// away once at most, and tells neither total nor truth.
+/// The places of those of these values at which the sum is false, where the open variable tells neither total
+/// nor truth.
 pub fn off_span(opened: Opened, domain: &Domain) -> Option<Span>
     requires { unsigned_abs opened.line.base ≤ widest }
     ensures off { IfSome result (SpansWhere (is_off opened) domain.now) }
     ensures some { IsTrue (is_line (Some opened)) → IsTrue (is_some result) }
 {
     let total = opened.total?;
-    let missed = missed_line(opened.rel, opened.line, total, domain)?;
+    let missed = missed_line(opened.rel, opened.line, total, domain);
     match opened.told {
         Told::Untold => Some(missed),
         Told::By(truth) => Some(if truth == 1 { missed } else { missed.others() }),
@@ -71,24 +71,25 @@ pub fn off_span(opened: Opened, domain: &Domain) -> Option<Span>
     }
 }
 
-/// The places of those of these values at which the sum does not stand so to the total, where the open
-/// variable is added or taken away once at most.
-fn missed_line(rel: Rel, line: Line, total: i64, domain: &Domain) -> Option<Span>
+/// The places of those of these values at which the sum does not stand so to the total.
+fn missed_line(rel: Rel, line: Line, total: i64, domain: &Domain) -> Span
     requires { unsigned_abs line.base ≤ widest }
-    ensures missed { IfSome result (SpansWhere (λ x. not (stands rel (line_at line x) total)) domain.now) }
-    ensures some { IsTrue (is_unit (option_to_list line.own)) → IsTrue (is_some result) }
+    ensures { SpansWhere (λ x. not (stands rel (line_at line x) total)) domain.now result }
 {
-    let Some(coef) = line.own else {
-        return Some(Span::whole(!stands(rel, line.base, total)));
-    };
+    let coef = line.own.unwrap_or(0);
+    let factor = coef.unsigned_abs();
     let comparison = comparison_in(rel);
-    let total = i128::from(total);
-    if coef == 1 {
-        Some(span_in(missed_before(comparison, total - line.base), domain))
-    } else if coef == -1 {
-        Some(span_in(missed_after(comparison, line.base - total), domain))
+    let number = i128::from(total);
+    if coef > 0 {
+        product_span(
+            missed_before(comparison, number - line.base),
+            factor,
+            domain,
+        )
+    } else if coef < 0 {
+        product_span(missed_after(comparison, line.base - number), factor, domain)
     } else {
-        None
+        Span::whole(!stands(rel, line.base, total))
     }
 }
 

@@ -18,7 +18,7 @@ returns-else-truth-eq1-clause-off c = λ k l.
     let other : truth ≢ pos 1 = λ e. c.if-truth-eq1.false (ap (of_z w64) e) in
     let total : c.args.opened.total ≡ Some c.in_ok-total.total = search rules in
     let fits : SFits w64 c.in_ok-total.total = search rules in
-    let missed = simp to_z-of_z at c.in_ok-missed.ensures.missed in
+    let missed = simp to_z-of_z at c.missed_line-missed.ensures in
     c.others.ensures k ∙ ap not (missed k l) ∙ told_false (stands rel (line_at line x) c.in_ok-total.total) truth other
     ∙ sym (ap (λ (o : Option ℤ). not (is_told (Some truth) (stands rel (line_at line x) (unwrap_or o x)))) total)
     ∙ sym (ap (λ (t : Told). not (is_told (told_at t x) (stands rel (line_at line x) (unwrap_or c.args.opened.total x)))) c.in-By.is)
