@@ -13,7 +13,7 @@ use abt_reason::{Reason, Reasons, first_violated};
 use abt_store::Store;
 use abt_view::View;
 use dcsp_nogood::{Nogood, Pair};
-use dcsp_problem::{Domain, Kind, Problem, ProblemBuilder};
+use dcsp_problem::{Domain, IntList, Kind, Problem, ProblemBuilder, Rel, Rule, Term, TermList};
 use std::alloc::Global;
 use std::process::Abort;
 
@@ -228,7 +228,23 @@ fn tells_many_steps(rt: HostRuntime) {
     let_go(problem);
 }
 
-/// Three variables with the values from 0 to 3; the last is neither of the others.
+/// A sum of the first of three variables and the last, with these coefficients.
+fn weighted(rt: &impl Abort, alloc: Global, rel: Rel, coefs: [i64; 2], total: i64) -> Rule
+    ensures { result ≡ Rule.Sum rel coefs (Term.Var 0 ∷ Term.Var 2 ∷ []) (Term.Const total) None }
+{
+    let terms = vec![in alloc; Term::Var(0), Term::Var(2)];
+    let coefs = Vec::from_slice(alloc, &coefs);
+    Rule::Sum {
+        rel,
+        coefs: IntList::from_vec(coefs.expect(rt, "memory")),
+        terms: TermList::from_vec(terms.expect(rt, "memory")),
+        total: Term::Const(total),
+        truth: None,
+    }
+}
+
+/// Three variables with the values from 0 to 3; the last is neither of the others, and twice it is in sums with
+/// the first.
 fn triangle(rt: &impl Abort, alloc: Global) -> Problem
     ensures { length result.domains ≡ 3 }
 {
@@ -238,6 +254,10 @@ fn triangle(rt: &impl Abort, alloc: Global) -> Problem
     add_variable(rt, alloc, &mut builder, 3);
     add_between(rt, alloc, &mut builder, Kind::IntNe, 0, 2);
     add_between(rt, alloc, &mut builder, Kind::IntNe, 2, 1);
+    let at_most = weighted(rt, alloc, Rel::AtMost, [3, -2], 1);
+    builder.add_rule(at_most).expect(rt, "within the limits");
+    let differ = weighted(rt, alloc, Rel::Differ, [1, 2], 5);
+    builder.add_rule(differ).expect(rt, "within the limits");
     builder.finish().expect(rt, "memory")
 }
 
