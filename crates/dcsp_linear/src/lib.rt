@@ -2,7 +2,7 @@
 //! chapter on FlatZinc lists them (`int_lin_eq`, `int_lin_le`, `int_lin_ne` and their kin).
 #![tactic(auto)]
 
-ghost use Rattle.std.specs.Prelude.{◌≡◌, ℕ, ◌+◌, ◌*◌, ◌<◌, ◌≤◌, ℤ, pos, ◌+ℤ◌, ◌*ℤ◌, List, length, slice_index_or, unsigned_abs, Some, None, if◌then◌else◌, nat_le, sum_by};
+ghost use Rattle.std.specs.Prelude.{◌≡◌, ℕ, ◌+◌, ◌*◌, ◌<◌, ◌≤◌, ◌^◌, ℤ, pos, ◌+ℤ◌, ◌*ℤ◌, List, length, slice_index_or, unsigned_abs, Some, None, if◌then◌else◌, nat_le, sum_by};
 ghost use Rattle.dcsp_linear.specs.Sums.{sum_of, stands, size_of, sizes_of, width_of, widest};
 
 /// The greatest width of a sum, 2^126: 128 bits hold such a sum, and each part of it.
@@ -17,6 +17,19 @@ pub enum Rel {
     AtMost,
     /// The sum differs from the total.
     Differ,
+}
+
+impl Rel {
+    /// Whether the sum stands so to the total.
+    pub fn holds(self, sum: i128, total: i128) -> bool
+        ensures { result ≡ stands self sum total }
+    {
+        match self {
+            Rel::Equal => sum == total,
+            Rel::AtMost => sum <= total,
+            Rel::Differ => sum != total,
+        }
+    }
 }
 
 /// The terms of a sum: a coefficient and a value at each place, counted from 0.
@@ -67,13 +80,7 @@ pub fn sum_holds<W: Weighted>(rel: Rel, weighted: &W, total: i64) -> bool
     requires { sizes_of (W.pairs weighted.now) total ≤ widest }
     ensures { result ≡ stands rel (sum_of (W.pairs weighted.now)) total }
 {
-    let sum = sum_of(weighted);
-    let total = i128::from(total);
-    match rel {
-        Rel::Equal => sum == total,
-        Rel::AtMost => sum <= total,
-        Rel::Differ => sum != total,
-    }
+    rel.holds(sum_of(weighted), i128::from(total))
 }
 
 /// The sum of each coefficient times its value.
@@ -88,8 +95,16 @@ fn sum_of<W: Weighted>(weighted: &W) -> i128
     sum
 }
 
+/// The product of a coefficient and a value.
+pub fn product(coef: i64, value: i64) -> i128
+    ensures product { result ≡ coef *ℤ value }
+    ensures size { unsigned_abs coef < 2 ^ 62 → unsigned_abs result ≤ 2 ^ 125 }
+{
+    i128::from(coef) * i128::from(value)
+}
+
 /// The sum with one product more.
-fn plus_product(sum: i128, coef: i64, value: i64) -> i128
+pub fn plus_product(sum: i128, coef: i64, value: i64) -> i128
     requires { unsigned_abs sum + unsigned_abs coef * unsigned_abs value ≤ widest }
     ensures { result ≡ sum +ℤ (coef *ℤ value) }
 {

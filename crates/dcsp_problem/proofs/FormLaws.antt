@@ -1,7 +1,8 @@
 -- What a form tells of its rule.
 use Rattle.std.proofs.Common.{◌≡◌, ℕ, ◌+◌, ◌-◌, ◌<◌, List, [], ◌∷◌, ◌++◌, map, length, get_or, refl, sym, ap, ◌∙◌, arith, inl, inr}
 use Rattle.std.proofs.Math.Path.{fun_ext}
-use Rattle.std.specs.Prelude.{ℤ, Bool, Option, None, IsTrue}
+use Rattle.std.specs.Prelude.{ℤ, Bool, Option, None, IsTrue, IfOk, Result, Ok, Err}
+use Rattle.dcsp_list.specs.declared.Memory.{Memory}
 use Rattle.std.proofs.lemmas.Bool.{cases_eq}
 use Rattle.std.proofs.lemmas.List.{get_or_append_left, get_or-append_right, get_or_default}
 use Rattle.dcsp_domain.specs.Sets.{has, set_of}
@@ -16,7 +17,7 @@ use Rattle.dcsp_problem.specs.declared.form.Form.{Form}
 use Rattle.dcsp_problem.specs.declared.form.Form.TheVariants as form
 use Rattle.dcsp_problem.specs.Members.{is_member, values_of}
 use Rattle.dcsp_problem.specs.Rules.{listed_of, no_rule, value_under}
-use Rattle.dcsp_problem.specs.Pairs.{compares_variable}
+use Rattle.dcsp_problem.specs.Pairs.{compares_variable, IsSmallSum}
 use Rattle.dcsp_problem.specs.Forms.{form_has, is_found_by, pair_in, pair_or_truth, AreForms, IsFormOf, LooksUp}
 
 -- what is found is a member
@@ -37,12 +38,17 @@ looks_plain rule e = looks_up form.Plain rule refl (λ v. sym (ap (λ z. has z v
 pub looks_listed : (rule : Rule) (set : List ℤ) → set ≡ set_of (listed_of rule) → LooksUp rule (form.Listed set)
 looks_listed rule set e = looks_up (form.Listed set) rule refl (λ v. ap (λ z. has z v) e ∙ (set_of_is_set (listed_of rule)).members v)
 
-pub looking_form : (made : Form) (rule : Rule) → (IsTrue (compares_variable rule) → ⊥) → LooksUp rule made → IsFormOf made rule
-looking_form made rule none h = record {
+looking_form : (made : Form) (rule : Rule) → (IsTrue (compares_variable rule) → ⊥) → ((v w : ℕ) → IsSmallSum v w rule → ⊥) → LooksUp rule made → IsFormOf made rule
+looking_form made rule none none_small h = record {
   truth = λ values. ap (λ (o : Option Pair). pair_or_truth o (form_has made) rule values) h.0 ∙ h.1 values;
   pair = rw h.0 tt;
-  some = λ t. absurd (none t);
+  compared = λ t. absurd (none t);
+  summed = λ v w t. absurd (none_small v w t);
 }
+
+pub looking_result : (made : Result Form Memory) (rule : Rule) → (IsTrue (compares_variable rule) → ⊥) → ((v w : ℕ) → IsSmallSum v w rule → ⊥) → IfOk made (LooksUp rule) → IfOk made (λ form. IsFormOf form rule)
+looking_result (Ok form) rule none none_small h = looking_form form rule none none_small h
+looking_result (Err error) rule none none_small h = h
 
 -- one form more
 pub forms_more : (forms : List Form) (rules : List Rule) (i : ℕ) (made : Form) (rule : Rule) → length forms ≡ i → rule ≡ get_or rules i no_rule → IsFormOf made rule

@@ -10,6 +10,7 @@ pub mod Reading
 pub mod MemberLaws
 pub mod PairLaws
 pub mod PartLaws
+pub mod SmallLaws
 pub mod FormLaws
 pub mod Narrow
 pub mod Narrowed

@@ -57,6 +57,9 @@ among_both (x ∷ xs) ys var =
     among_first x (xs ++ ys) var ∙ ap (λ z. is_number (variable_of x) var || z) (among_both xs ys var)
     ∙ sym (or_assoc (is_number (variable_of x) var) (among xs var) (among ys var)) ∙ sym (ap (λ z. z || among ys var) (among_first x xs var))
 
+pub among_last : (terms : List Term) (total : Term) (var : ℕ) → among (terms ++ total ∷ []) var ≡ (among terms var || is_number (variable_of total) var)
+among_last terms total var = among_both terms (total ∷ []) var ∙ ap (λ z. among terms var || z) (among_one total var)
+
 -- one term more
 pub among_more : (terms : List Term) (k : ℕ) (d : Term) (var : ℕ) → k < length terms → among (take (k + 1) terms) var ≡ (among (take k terms) var || is_number (variable_of (get_or terms k d)) var)
 among_more terms k d var l =
@@ -263,6 +266,6 @@ sum_pair pair rel coefs terms total told parts next e sum adds h = rw e (record 
       ∙ stands_moved rel (sum_of (weighted values coefs terms) +ℤ (negsuc 0 *ℤ value_under values total)) (pos 0) (sum_of (weighted values coefs terms)) (value_under values total) (omega (arith, ints));
   variables = λ var.
       h.variables var ∙ adds.variables var ∙ ap (λ z. z || is_number (variable_of total) var) (sum.variables var)
-      ∙ sym (among_both terms (total ∷ []) var ∙ ap (λ z. among terms var || z) (among_one total var));
+      ∙ sym (among_last terms total var);
   small = h.small;
 })

@@ -1,13 +1,14 @@
 -- Rules under the values that a look-up gives.
-use Rattle.std.proofs.Common.{◌≡◌, ℕ, ◌<◌, Bool, true, false, List, [], ◌∷◌, refl, ap, ◌∙◌, inl, inr}
-use Rattle.std.specs.Prelude.{ℤ, pos, Option, Some, None, is_some, unwrap_or, not, ◌&&◌, if◌then◌else◌}
+use Rattle.std.proofs.Common.{◌≡◌, ℕ, ◌<◌, Bool, true, false, List, [], ◌∷◌, refl, sym, ap, subst, ◌∙◌, inl, inr, arith, length}
+use Rattle.std.specs.Prelude.{ℤ, pos, Option, Some, None, is_some, unwrap_or, not, ◌&&◌, if◌then◌else◌, slice_get, slice_index_or}
+use Rattle.std.proofs.lemmas.Option.{get_or_from_slice_get, slice_get-get_or}
 use Rattle.std.specs.List.{list_all}
 use Rattle.std.specs.Ordering.{int_eq}
 use Rattle.std.proofs.lemmas.Bool.Decides.{Decides-int_eq}
 use Rattle.dcsp_domain.specs.Sets.{has}
 use Rattle.dcsp_defs.specs.Words.{In}
 use Rattle.dcsp_defs.specs.Csp.{Csp, Constraint, Known, IsConstraint, domain, count, filled, is_violated}
-use Rattle.dcsp_defs.proofs.Lists.{list_any-In, list_all-In}
+use Rattle.dcsp_defs.proofs.Lists.{list_any-In, In-list_any, In-list_all}
 use Rattle.dcsp_problem.specs.Problems.{value_in, within_domains, AreInDomains}
 
 -- a value of the domain is kept
@@ -33,21 +34,36 @@ violated_same p known c ok all =
     ap (λ z. z && not (c.test (filled (within_domains p known)))) (list_all_same _ _ c.scope (λ v i. ap (λ z. is_some z) (same v i)))
     ∙ ap (λ z. list_all (λ v. is_some (known v)) c.scope && not z) tests
 
--- a value that is kept is the known one
-kept_same : (values : List ℤ) (o : Option ℤ) → is_some (value_in values o) ≡ true → value_in values o ≡ o
-kept_same values None h = refl
-kept_same values (Some v) h = by_test (has values v) h where
-  by_test : (b : Bool) → is_some (if b then Some v else None) ≡ true → (if b then Some v else None) ≡ Some v
-  by_test true h = refl
-  by_test false h = cc
+-- where all values are in the domains, a scope that is known is known within them
+pub scope_within : (p : Csp) (known : Known) (c : Constraint) → IsConstraint p c → AreInDomains p known → list_all (λ v. is_some (known v)) c.scope ≡ true → list_all (λ v. is_some (within_domains p known v)) c.scope ≡ true
+scope_within p known c ok all knows = list_all_same _ _ c.scope (λ v i. ap (λ z. is_some z) (within_same p known all v (ok.inside v i))) ∙ knows
 
--- where each variable of the scope has a value of its domain, the test may read the known values
-pub violated_by_known : (p : Csp) (known : Known) (c : Constraint) → IsConstraint p c → list_all (λ v. is_some (within_domains p known v)) c.scope ≡ true
-    → is_violated (within_domains p known) c ≡ not (c.test (filled known))
-violated_by_known p known c ok all =
-    let tests : c.test (filled (within_domains p known)) ≡ c.test (filled known) =
-    ok.local _ _ (λ v i. ap (λ z. unwrap_or z (pos 0)) (kept_same (domain p v) (known v) (list_all-In (λ w. is_some (within_domains p known w)) v c.scope all i))) in
-    ap (λ z. z && not (c.test (filled (within_domains p known)))) all ∙ ap not tests
+-- what passes a domain's test is in it
+in_domain : (values : List ℤ) (v : ℤ) → has values v ≡ true → In v values
+in_domain values v h =
+    let found = In-list_any (int_eq v) values h in
+    subst (λ z. In z values) (sym ((Decides-int_eq v found.0).0 found.2)) found.1
 
-pub violated_by_unknown : (p : Csp) (known : Known) (c : Constraint) → list_all (λ v. is_some (within_domains p known v)) c.scope ≡ false → is_violated (within_domains p known) c ≡ false
-violated_by_unknown p known c none = ap (λ z. z && not (c.test (filled (within_domains p known)))) none
+-- a value that is kept is in the domain
+kept_in : (values : List ℤ) (o : Option ℤ) (v : ℤ) → value_in values o ≡ Some v → In v values
+kept_in values None v e = absurd (cc)
+kept_in values (Some w) v e = by_test (has values w) refl e where
+  by_test : (b : Bool) → has values w ≡ b → (if b then Some w else None) ≡ Some v → In v values
+  by_test true h e = let same : w ≡ v = cc in subst (λ z. In z values) same (in_domain values w h)
+  by_test false h e = absurd (cc)
+
+-- what is kept of the known values is in the domains
+pub within_are_in : (p : Csp) (known : Known) → AreInDomains p (within_domains p known)
+within_are_in p known var v l e = kept_in (domain p var) (known var) v e
+
+-- a list that has a value of its domain for each variable
+module _ (p : Csp) (values : List ℤ) (as_many : length values ≡ count p) (in_domains : (v : ℕ) → v < count p → has (domain p v) (slice_index_or values v (pos 0)) ≡ true) where
+  pub listed_are_in : AreInDomains p (slice_get values)
+  listed_are_in var v l e = subst (λ z. In z (domain p var)) (get_or_from_slice_get values var v (pos 0) e) (in_domain (domain p var) (slice_index_or values var (pos 0)) (in_domains var l))
+
+  -- violates a constraint exactly where its test fails
+  pub listed_violates : (c : Constraint) → IsConstraint p c → is_violated (slice_get values) c ≡ not (c.test (filled (slice_get values)))
+  listed_violates c ok =
+      ap (λ b. b && not (c.test (filled (slice_get values)))) (In-list_all (λ v. is_some (slice_get values v)) c.scope (λ v i.
+      let inside = ok.inside v i in
+      ap (λ o. is_some o) (slice_get-get_or values v (pos 0) (omega (arith, inside, as_many)))))

@@ -11,7 +11,7 @@ use Rattle.dcsp_problem.specs.declared.pair.Pair.{Pair}
 use Rattle.dcsp_problem.specs.declared.form.Form.{Form}
 use Rattle.dcsp_problem.specs.declared.form.Form.TheVariants as form
 use Rattle.dcsp_problem.specs.Rules.{rule_truth, value_under, no_rule}
-use Rattle.dcsp_problem.specs.Pairs.{compares_variable, pair_truth, IsPairOf}
+use Rattle.dcsp_problem.specs.Pairs.{compares_variable, pair_truth, IsPairOf, IsSmallSum}
 
 -- the pair that a form is, if it is one
 abbrev pub pair_in : Form → Option Pair
@@ -49,11 +49,12 @@ form_truth form rule values = pair_or_truth (pair_in form) (form_has form) rule 
 abbrev pub LooksUp : Rule → Form → Type 0
 LooksUp rule form = (pair_in form ≡ None) × ((values : Assignment) → found_truth (form_has form) rule values ≡ rule_truth rule values)
 
--- the form is true where the rule is; where it is a pair it has the same variables, and where two numbers are compared it is one
+-- the form is true where the rule is; where it is a pair it has the same variables; where two numbers are compared, or the rule is a small sum, it is one
 pub record IsFormOf (form : Form) (rule : Rule) : Type 0 where
   pub truth : (values : Assignment) → form_truth form rule values ≡ rule_truth rule values
   pub pair : IfSome (pair_in form) (λ pair. IsPairOf pair rule)
-  pub some : IsTrue (compares_variable rule) → IsSome (pair_in form)
+  pub compared : IsTrue (compares_variable rule) → IsSome (pair_in form)
+  pub summed : (v w : ℕ) → IsSmallSum v w rule → IsSome (pair_in form)
 
 -- each rule has its form
 pub record AreForms (forms : List Form) (rules : List Rule) : Type 0 where

@@ -1,14 +1,17 @@
 -- Rules over one or two variables, made ready to be tested.
-use Rattle.std.specs.Prelude.{◌≡◌, ℕ, ◌<◌, ◌≤◌, ◌^◌, ◌==◌, ℤ, ◌+ℤ◌, ◌*ℤ◌, Bool, true, false, not, ◌&&◌, ◌||◌, is_some, unsigned_abs}
-use Rattle.std.specs.List.{list_any}
+use Rattle.std.specs.Prelude.{◌≡◌, ℕ, suc, ◌<◌, ◌≤◌, ◌^◌, ◌==◌, ℤ, pos, ◌+ℤ◌, ◌*ℤ◌, Bool, true, false, not, ◌&&◌, ◌||◌, List, [], IsTrue, is_some, sum_by, unsigned_abs}
+use Rattle.std.specs.List.{list_all, list_any}
 use Rattle.dcsp_meaning.specs.declared.kinds.Kind.{Kind}
 use Rattle.dcsp_meaning.specs.declared.kinds.Kind.TheVariants.{IntEq, IntNe, IntLe, IntLt}
 use Rattle.dcsp_linear.specs.Sums.{stands}
 use Rattle.dcsp_defs.specs.Csp.{Assignment, Known, filled}
 use Rattle.dcsp_problem.specs.declared.pair.Pair.{Pair}
+use Rattle.dcsp_problem.specs.declared.rule.Term.{Term}
+use Rattle.dcsp_problem.specs.declared.rule.Term.TheVariants.{Const, Var}
 use Rattle.dcsp_problem.specs.declared.rule.Rule.{Rule}
 use Rattle.dcsp_problem.specs.declared.rule.Rule.TheVariants.{Plain, Sum}
-use Rattle.dcsp_problem.specs.Rules.{variable_of, mentions, rule_truth}
+use Rattle.dcsp_problem.specs.Rules.{variable_of, mentions, rule_truth, terms_of}
+use Rattle.dcsp_problem.specs.Widths.{rule_sizes}
 
 -- the products of a pair's coefficients and two values, added up
 abbrev pub pair_sum : Pair → ℤ → ℤ → ℤ
@@ -37,6 +40,29 @@ pub record IsPairOf (pair : Pair) (rule : Rule) : Type 0 where
   pub truth : (values : Assignment) → pair_truth pair values ≡ rule_truth rule values
   pub variables : (var : ℕ) → is_of_pair pair var ≡ mentions rule var
   pub small : IsSmall pair
+
+-- the coefficients of a sum; another rule has none
+abbrev pub coefs_of : Rule → List ℤ
+coefs_of (Plain kind scalars first second members) = []
+coefs_of (Sum rel coefs terms total told) = coefs
+
+-- whether the rule is a sum whose truth nothing tells
+abbrev pub is_untold : Rule → Bool
+is_untold (Plain kind scalars first second members) = false
+is_untold (Sum rel coefs terms total told) = not (is_some told)
+
+-- whether the term is a constant, or one of these two variables
+abbrev pub is_over : ℕ → ℕ → Term → Bool
+is_over v w (Const value) = true
+is_over v w (Var var) = (var == v) || (var == w)
+
+-- a sum that nothing tells, over one variable or over these two, whose coefficients and constants stay small where their absolute values are added up
+pub record IsSmallSum (v w : ℕ) (rule : Rule) : Type 0 where
+  pub untold : IsTrue (is_untold rule)
+  pub mentioned : IsTrue (mentions rule v)
+  pub over : IsTrue (list_all (is_over v w) (terms_of rule))
+  pub coefs : suc (sum_by unsigned_abs (coefs_of rule)) < 2 ^ 62
+  pub constants : rule_sizes rule (λ var. pos 0) ≤ 2 ^ 65
 
 -- whether a constraint compares two numbers
 abbrev pub is_comparison : Kind → Bool

@@ -1,13 +1,12 @@
 //! Rules under the values that a look-up gives.
 
-ghost use Rattle.std.specs.Prelude.{◌≡◌, ◌≤◌, map, IfSome, IsTrue};
+ghost use Rattle.std.specs.Prelude.{◌≡◌, ◌≤◌, map, IsTrue};
 ghost use Rattle.std.specs.Option.{option_map};
 ghost use Rattle.dcsp_defs.specs.Csp.{filled};
 ghost use Rattle.dcsp_linear.specs.Sums.{widest};
 ghost use Rattle.dcsp_problem.specs.Rules.{value_under, has_shape, weighted, is_told};
 ghost use Rattle.dcsp_problem.specs.Widths.{rule_sizes};
-ghost use Rattle.dcsp_problem.specs.Pairs.{IsSmall};
-ghost use Rattle.dcsp_problem.specs.Forms.{form_has, form_truth, found_truth, is_found_by, pair_in};
+ghost use Rattle.dcsp_problem.specs.Forms.{form_has, found_truth, is_found_by};
 
 use crate::form::Form;
 use crate::lookup::Lookup;
@@ -123,23 +122,9 @@ fn value_of_term<L: Lookup>(term: Term, lookup: &L) -> i64
     }
 }
 
-/// Whether the rule is true under the values that the look-up gives; a variable without a value counts as 0.
-///
-/// It looks at the form alone where that is a pair.
+/// Whether the rule is true under the values that the look-up gives, where the form finds its listed members; a
+/// variable without a value counts as 0.
 pub fn is_true_under<L: Lookup>(rule: &Rule, form: &Form, lookup: &L) -> bool
-    requires shape { IsTrue (has_shape rule.now) }
-    requires small { IfSome (pair_in form.now) IsSmall }
-    requires narrow { rule_sizes rule.now (filled (L.values lookup.now)) ≤ widest }
-    ensures { result ≡ form_truth form.now rule.now (filled (L.values lookup.now)) }
-{
-    match form.pair() {
-        Some(pair) => pair.is_true_under(lookup),
-        None => is_found_true(rule, form, lookup),
-    }
-}
-
-/// The same by the rule itself, whose listed members the form finds.
-fn is_found_true<L: Lookup>(rule: &Rule, form: &Form, lookup: &L) -> bool
     requires shape { IsTrue (has_shape rule.now) }
     requires narrow { rule_sizes rule.now (filled (L.values lookup.now)) ≤ widest }
     ensures { result ≡ found_truth (form_has form.now) rule.now (filled (L.values lookup.now)) }

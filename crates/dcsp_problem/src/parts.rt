@@ -1,17 +1,17 @@
 //! How rules over one or two variables are made ready.
 
-ghost use Rattle.std.specs.Prelude.{◌≡◌, ◌-ℤ◌, ℕ, ℤ, true, Bool, List, IfSome, IsSome, IsTrue, is_some, length};
+ghost use Rattle.std.specs.Prelude.{◌≡◌, ◌+◌, ◌<◌, ◌≤◌, ◌^◌, ◌-ℤ◌, ℕ, ℤ, true, Bool, List, IfSome, IsSome, IsTrue, is_some, length, unsigned_abs};
 ghost use Rattle.dcsp_linear.specs.Sums.{stands};
 ghost use Rattle.dcsp_meaning.specs.Table.{is_shape, truth};
 ghost use Rattle.dcsp_meaning.specs.Words.{argument};
 ghost use Rattle.dcsp_problem.specs.Rules.{has_shape};
 ghost use Rattle.dcsp_problem.specs.declared.rule.Term.{Term};
-ghost use Rattle.dcsp_problem.specs.Pairs.{compares_variable, is_comparison, IsPairOf};
-ghost use Rattle.dcsp_problem.specs.Parts.{AddsPart, AddsTerm, AreOfSum, ComparesTerms, IsPairFrom};
+ghost use Rattle.dcsp_problem.specs.Pairs.{compares_variable, is_comparison, IsPairOf, IsSmallSum};
+ghost use Rattle.dcsp_problem.specs.Parts.{coefs_size, is_free_for, part_size, AddsPart, AddsTerm, AreOfSum, ComparesTerms, IsPairFrom, StaySmall, StaysSmall};
 
-use crate::pair::{Pair, product};
+use crate::pair::Pair;
 use crate::rule::{Rule, Term};
-use dcsp_linear::Rel;
+use dcsp_linear::{Rel, product};
 use dcsp_meaning::Kind;
 
 /// A coefficient and its variable.
@@ -39,11 +39,12 @@ pub struct Compared {
 
 /// The pair that the rule is, if it is one: a comparison, or a sum that nothing tells, over one or two variables.
 ///
-/// Of a sum whose numbers do not fit, added up, there is none.
+/// Of a sum whose numbers are great, added up, there may be none.
 pub fn pair_of(rule: &Rule) -> Option<Pair>
     requires { IsTrue (has_shape rule.now) }
     ensures pair { IfSome result (λ pair. IsPairOf pair rule.now) }
-    ensures some { IsTrue (compares_variable rule.now) → IsSome result }
+    ensures compared { IsTrue (compares_variable rule.now) → IsSome result }
+    ensures summed { (v w : ℕ) → IsSmallSum v w rule.now → IsSome result }
 {
     match rule {
         Rule::Plain { kind, scalars, .. } => {
@@ -127,7 +128,8 @@ fn pair_of_terms(compared: Compared, first: Term, second: Term) -> Option<Pair>
 /// The terms of a sum, added up, if they have two variables at most.
 fn parts_of(coefs: &[i64], terms: &[Term]) -> Option<Parts>
     requires { length coefs.now ≡ length terms.now }
-    ensures { IfSome result (AreOfSum coefs.now terms.now) }
+    ensures sum { IfSome result (AreOfSum coefs.now terms.now) }
+    ensures small { StaySmall coefs.now terms.now result }
 {
     let mut parts = Parts {
         first: None,
@@ -145,7 +147,8 @@ fn parts_of(coefs: &[i64], terms: &[Term]) -> Option<Parts>
 
 /// One term more.
 fn with_term(parts: Parts, coef: i64, term: Term) -> Option<Parts>
-    ensures { IfSome result (AddsTerm parts coef term) }
+    ensures adds { IfSome result (AddsTerm parts coef term) }
+    ensures small { StaysSmall parts coef term result }
 {
     match term {
         Term::Const(value) => {
@@ -162,7 +165,8 @@ fn with_term(parts: Parts, coef: i64, term: Term) -> Option<Parts>
 
 /// A coefficient times a variable more.
 fn with_var(parts: Parts, coef: i64, var: u32) -> Option<Parts>
-    ensures { IfSome result (AddsTerm parts coef (Term.Var var)) }
+    ensures adds { IfSome result (AddsTerm parts coef (Term.Var var)) }
+    ensures small { StaysSmall parts coef (Term.Var var) result }
 {
     match with_part(parts.first, coef, var) {
         Some(first) => Some(Parts {
@@ -183,7 +187,10 @@ fn with_var(parts: Parts, coef: i64, var: u32) -> Option<Parts>
 
 /// The same where no other variable is.
 fn with_part(part: Option<Part>, coef: i64, var: u32) -> Option<Part>
-    ensures { IfSome result (AddsPart part coef var) }
+    ensures adds { IfSome result (AddsPart part coef var) }
+    ensures small { IfSome result (λ next. unsigned_abs next.coef ≤ part_size part + unsigned_abs coef) }
+    ensures free { IfSome result (λ next. (next.var ≡ var) × (is_free_for part var ≡ true)) }
+    ensures some { part_size part + unsigned_abs coef < 2 ^ 62 → is_some result ≡ is_free_for part var }
 {
     match part {
         None => Some(Part { coef, var }),
@@ -199,7 +206,8 @@ fn with_part(part: Option<Part>, coef: i64, var: u32) -> Option<Part>
 
 /// The pair that says how the parts stand to 0, if there is a variable and all numbers fit.
 fn pair_of_parts(rel: Rel, parts: Parts) -> Option<Pair>
-    ensures { IfSome result (IsPairFrom rel parts) }
+    ensures pair { IfSome result (IsPairFrom rel parts) }
+    ensures some { is_some parts.first ≡ true → coefs_size parts < 2 ^ 62 → unsigned_abs parts.total ≤ 2 ^ 65 → IsSome result }
 {
     let first = parts.first?;
     let second = parts.second.unwrap_or(Part {

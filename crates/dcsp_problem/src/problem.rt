@@ -8,7 +8,7 @@ ghost use Rattle.dcsp_problem.specs.Problems.{csp_of, constraint_at, rule_at, wi
 ghost use Rattle.dcsp_problem.specs.WellFormed.{IsProblem};
 ghost use Rattle.dcsp_problem.specs.Rules.{IsAimOf};
 ghost use Rattle.dcsp_problem.specs.Aims.{aimed_at, is_better, narrowed_domains, narrowed};
-ghost use Rattle.dcsp_problem.specs.Pairs.{compares_variable, IsPairOf};
+ghost use Rattle.dcsp_problem.specs.Pairs.{compares_variable, IsPairOf, IsSmallSum};
 ghost use Rattle.dcsp_problem.specs.Forms.{IsFormOf};
 ghost use Rattle.dcsp_problem.specs.Index.{IsIndexed, owned_rules};
 ghost use Rattle.dcsp_problem.specs.Lower.{lower_owners};
@@ -16,7 +16,7 @@ ghost use Rattle.dcsp_problem.specs.Lower.{lower_owners};
 use crate::aim::Aim;
 use crate::form::Form;
 use crate::ground::is_true_under;
-use crate::lookup::{Assigned, Lookup};
+use crate::lookup::{Assigned, Lookup, WithinDomains};
 use crate::output::Output;
 use crate::pair::Pair;
 use crate::rule::Rule;
@@ -126,11 +126,13 @@ impl Problem {
 
     /// The rule as a relation of its variables, if it is one: what is true where this is, and over which variables.
     ///
-    /// There is one of each comparison of two numbers of which at least one is a variable.
+    /// There is one of each comparison of two numbers of which at least one is a variable, and of each sum over one
+    /// or two variables that nothing tells, unless its numbers are great.
     pub fn pair(&self, rule: u32) -> Option<Pair>
         requires { rule < length self.now.rules }
         ensures pair { IfSome result (λ pair. IsPairOf pair (rule_at self.now rule)) }
-        ensures some { IsTrue (compares_variable (rule_at self.now rule)) → IsSome result }
+        ensures compared { IsTrue (compares_variable (rule_at self.now rule)) → IsSome result }
+        ensures summed { (v w : ℕ) → IsSmallSum v w (rule_at self.now rule) → IsSome result }
     {
         self.form(rule).pair()
     }
@@ -230,7 +232,8 @@ impl Problem {
         requires in_domains { (var : ℕ) → var < length self.now.domains → has (domain (csp_of self.now) var) (slice_index_or values.now var (pos 0)) ≡ true }
         ensures { result ≡ (constraint_at self.now rule).test (λ var. slice_index_or values.now var (pos 0)) }
     {
-        is_true_under(self.rule(rule), self.form(rule), &Assigned { values })
+        let _scope = self.scope(rule);
+        !self.violated_within(rule, &Assigned { values })
     }
 
     /// Whether the look-up gives each variable of a rule's scope a value of that variable's domain, and the
@@ -240,10 +243,11 @@ impl Problem {
         ensures in_domains { result ≡ is_violated (within_domains (csp_of self.now) (L.values lookup.now)) (constraint_at self.now rule) }
         ensures known { AreInDomains (csp_of self.now) (L.values lookup.now) → result ≡ is_violated (L.values lookup.now) (constraint_at self.now rule) }
     {
-        if !self.knows_scope(rule, lookup) {
-            return false;
-        }
-        self.is_false(rule, lookup)
+        let within = WithinDomains {
+            domains: &self.domains,
+            lookup,
+        };
+        self.violated_within(rule, &within)
     }
 
     /// The same of a look-up that gives values of their variables' domains alone: it searches no domain.
@@ -252,74 +256,27 @@ impl Problem {
         requires domains { AreInDomains (csp_of self.now) (L.values lookup.now) }
         ensures { result ≡ is_violated (L.values lookup.now) (constraint_at self.now rule) }
     {
-        if let Some(pair) = self.form(rule).pair() {
-            return pair.is_missed(lookup);
-        }
-        if !self.gives_scope(rule, lookup) {
-            return false;
-        }
-        self.is_false(rule, lookup)
-    }
-
-    /// Whether a rule is false under the look-up's values, of which there is one for each variable of its scope.
-    fn is_false<L: Lookup>(&self, rule: u32, lookup: &L) -> bool
-        requires rule { rule < length self.now.rules }
-        requires known { list_all (λ var. is_some (within_domains (csp_of self.now) (L.values lookup.now) var)) (constraint_at self.now rule).scope ≡ true }
-        requires constraint { IsConstraint (csp_of self.now) (constraint_at self.now rule) }
-        ensures { result ≡ is_violated (within_domains (csp_of self.now) (L.values lookup.now)) (constraint_at self.now rule) }
-    {
-        !is_true_under(self.rule(rule), self.form(rule), lookup)
-    }
-
-    /// Whether the look-up, which gives values of domains alone, gives each variable of a rule's scope one.
-    fn gives_scope<L: Lookup>(&self, rule: u32, lookup: &L) -> bool
-        requires rule { rule < length self.now.rules }
-        requires domains { AreInDomains (csp_of self.now) (L.values lookup.now) }
-        ensures known { result ≡ list_all (λ var. is_some (within_domains (csp_of self.now) (L.values lookup.now) var)) (constraint_at self.now rule).scope }
-        ensures constraint { IsConstraint (csp_of self.now) (constraint_at self.now rule) }
-    {
-        let scope = self.scope(rule);
-        for var in scope {
-            if !self.gives(*var, lookup) {
-                return false;
+        let form = self.form(rule);
+        match form.pair() {
+            Some(pair) => pair.is_missed(lookup),
+            None => {
+                self.knows_scope(rule, lookup) && !is_true_under(self.rule(rule), form, lookup)
             }
         }
-        true
     }
 
-    /// Whether the look-up, which gives values of domains alone, gives the variable one.
-    fn gives<L: Lookup>(&self, var: u32, lookup: &L) -> bool
-        requires var { var < length self.now.domains }
-        requires domains { AreInDomains (csp_of self.now) (L.values lookup.now) }
-        ensures { result ≡ is_some (within_domains (csp_of self.now) (L.values lookup.now) var) }
-    {
-        lookup.value_of(var).is_some()
-    }
-
-    /// Whether the look-up gives each variable of a rule's scope a value of its domain.
+    /// Whether the look-up gives each variable of a rule's scope a value.
     fn knows_scope<L: Lookup>(&self, rule: u32, lookup: &L) -> bool
         requires { rule < length self.now.rules }
-        ensures known { result ≡ list_all (λ var. is_some (within_domains (csp_of self.now) (L.values lookup.now) var)) (constraint_at self.now rule).scope }
-        ensures constraint { IsConstraint (csp_of self.now) (constraint_at self.now rule) }
+        ensures { result ≡ list_all (λ var. is_some (L.values lookup.now var)) (constraint_at self.now rule).scope }
     {
         let scope = self.scope(rule);
         for var in scope {
-            if !self.knows(*var, lookup) {
+            if lookup.value_of(*var).is_none() {
                 return false;
             }
         }
         true
-    }
-
-    /// Whether the look-up gives the variable a value of its domain.
-    fn knows<L: Lookup>(&self, var: u32, lookup: &L) -> bool
-        requires { var < length self.now.domains }
-        ensures { result ≡ is_some (within_domains (csp_of self.now) (L.values lookup.now) var) }
-    {
-        match lookup.value_of(var) {
-            None => false,
-            Some(value) => self.domain(var).place_of(value).is_some(),
-        }
     }
 }
 

@@ -7,17 +7,16 @@ use Rattle.std.proofs.lemmas.Bool.Decides.{Decides-int_eq, nat_tests}
 use Rattle.std.proofs.lemmas.Int.{ints}
 use Rattle.std.proofs.Math.IntN.{zero-*ℤ, suc_ℤ-*ℤ, *ℤ-negsuc, *ℤ_comm}
 use Rattle.dcsp_domain.specs.Sets.{IsRising}
-use Rattle.dcsp_row.specs.declared.compare.Comparison.{Comparison}
-use Rattle.dcsp_row.specs.declared.compare.Comparison.TheVariants.{Equal, Differ, AtMost, Below}
 use Rattle.dcsp_row.specs.declared.cut.Cut.{Cut}
 use Rattle.dcsp_linear.specs.declared.Rel.{Rel}
+use Rattle.dcsp_linear.specs.declared.Rel.TheVariants.{Equal, Differ, AtMost}
 use Rattle.dcsp_linear.specs.Sums.{stands}
 use Rattle.dcsp_meaning.specs.Words.{is_one, same}
 use Rattle.dcsp_problem.specs.Rules.{is_told}
 use Rattle.dcsp_row.specs.declared.line.Line.{Line}
 use Rattle.dcsp_row.specs.Lines.{line_at, own_part}
 use Rattle.dcsp_row.specs.Cuts.{is_in}
-use Rattle.dcsp_row.specs.Rows.{compares, own_at}
+use Rattle.dcsp_row.specs.Rows.{own_at}
 
 same_either : (a b : ℤ) → int_eq a b ≡ int_eq b a
 same_either a b = grind (arith, ints)
@@ -32,17 +31,15 @@ not_below : (x b : ℤ) → int_lt x (b +ℤ pos 1) ≡ not (int_lt b x)
 not_below x b = grind (arith, ints)
 
 -- a term is brought to the other side
-added_once : (comparison : Comparison) (base product total : ℤ) → compares comparison product (total -ℤ base) ≡ compares comparison (base +ℤ product) total
+added_once : (rel : Rel) (base product total : ℤ) → stands rel product (total -ℤ base) ≡ stands rel (base +ℤ product) total
 added_once Equal base product total = grind (arith, ints)
 added_once Differ base product total = grind (arith, ints)
 added_once AtMost base product total = grind (arith, ints)
-added_once Below base product total = grind (arith, ints)
 
-taken_once : (comparison : Comparison) (base product total : ℤ) → compares comparison (base -ℤ total) product ≡ compares comparison (base +ℤ neg_ℤ product) total
+taken_once : (rel : Rel) (base product total : ℤ) → stands rel (base -ℤ total) product ≡ stands rel (base +ℤ neg_ℤ product) total
 taken_once Equal base product total = grind (arith, ints)
 taken_once Differ base product total = grind (arith, ints)
 taken_once AtMost base product total = grind (arith, ints)
-taken_once Below base product total = grind (arith, ints)
 
 -- a product grows with its factor
 grows : (n : ℕ) (x y : ℤ) → x ≤ℤ y → (pos n *ℤ x) ≤ℤ (pos n *ℤ y)
@@ -121,17 +118,17 @@ own_product None x = sym (zero-*ℤ x)
 own_product (Some coef) x = refl
 
 -- a sum to which so many times the open variable is added, or from which it is taken away so often
-module _ (rel : Rel) (comparison : Comparison) (line : Line) (total rest coef : ℤ) (same : (s t : ℤ) → compares comparison s t ≡ stands rel s t) (cut : Cut) (factor : ℕ) (own : unwrap_or line.own (pos 0) ≡ coef) where
-  pub added_off : coef ≡ pos factor → rest ≡ total -ℤ line.base → ((y : ℤ) → is_in cut y ≡ not (compares comparison y rest)) → (x : ℤ) → is_in cut (pos factor *ℤ x) ≡ not (stands rel (line_at line x) total)
+module _ (rel : Rel) (line : Line) (total rest coef : ℤ) (cut : Cut) (factor : ℕ) (own : unwrap_or line.own (pos 0) ≡ coef) where
+  pub added_off : coef ≡ pos factor → rest ≡ total -ℤ line.base → ((y : ℤ) → is_in cut y ≡ not (stands rel y rest)) → (x : ℤ) → is_in cut (pos factor *ℤ x) ≡ not (stands rel (line_at line x) total)
   added_off times is h x =
       let y = pos factor *ℤ x in
-      h y ∙ ap (λ r. not (compares comparison y r)) is ∙ ap not (added_once comparison line.base y total ∙ same (line.base +ℤ y) total)
+      h y ∙ ap (λ r. not (stands rel y r)) is ∙ ap not (added_once rel line.base y total)
       ∙ sym (ap (λ z. not (stands rel (line.base +ℤ z) total)) (own_product line.own x ∙ ap (λ c. c *ℤ x) (own ∙ times)))
 
-  pub taken_off : coef ≡ neg_ℤ (pos factor) → rest ≡ line.base -ℤ total → ((y : ℤ) → is_in cut y ≡ not (compares comparison rest y)) → (x : ℤ) → is_in cut (pos factor *ℤ x) ≡ not (stands rel (line_at line x) total)
+  pub taken_off : coef ≡ neg_ℤ (pos factor) → rest ≡ line.base -ℤ total → ((y : ℤ) → is_in cut y ≡ not (stands rel rest y)) → (x : ℤ) → is_in cut (pos factor *ℤ x) ≡ not (stands rel (line_at line x) total)
   taken_off times is h x =
       let y = pos factor *ℤ x in
-      h y ∙ ap (λ r. not (compares comparison r y)) is ∙ ap not (taken_once comparison line.base y total ∙ same (line.base +ℤ neg_ℤ y) total)
+      h y ∙ ap (λ r. not (stands rel r y)) is ∙ ap not (taken_once rel line.base y total)
       ∙ sym (ap (λ z. not (stands rel (line.base +ℤ z) total)) (own_product line.own x ∙ ap (λ c. c *ℤ x) (own ∙ times) ∙ turned_product factor x))
 
 -- a sum without it

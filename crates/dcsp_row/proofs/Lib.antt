@@ -5,4 +5,5 @@ pub mod LineLaws
 pub mod WordLaws
 pub mod CutLaws
 mod EasyLaws
+mod ClosedLaws
 mod SpanLaws

@@ -22,4 +22,4 @@ number_of (Below bound) = bound
 
 -- the greatest absolute value of such a number
 abbrev pub farthest : ℕ
-farthest = widest + 2 ^ 64
+farthest = widest + 2 ^ 66

@@ -1,19 +1,10 @@
 -- Rules that rule out one run of values, or all values outside one, whatever is known.
 use Rattle.std.specs.Prelude.{ℕ, ◌==◌, ◌&&◌, ℤ, Bool, true, false, not, List, [], ◌∷◌, Option, Some, None, if◌then◌else◌, length, nat_lt}
-use Rattle.dcsp_meaning.specs.declared.kinds.Kind.{Kind}
-use Rattle.dcsp_meaning.specs.declared.kinds.Kind.TheVariants.{IntEq, IntNe, IntLe, IntLt}
 use Rattle.dcsp_problem.specs.declared.rule.Term.{Term}
 use Rattle.dcsp_problem.specs.declared.rule.Term.TheVariants.{Const, Var}
 use Rattle.dcsp_problem.specs.declared.rule.Rule.{Rule}
 use Rattle.dcsp_problem.specs.declared.rule.Rule.TheVariants.{Plain, Sum}
-
--- whether a constraint compares two numbers
-abbrev pub is_comparison : Kind → Bool
-is_comparison IntEq = true
-is_comparison IntNe = true
-is_comparison IntLe = true
-is_comparison IntLt = true
-is_comparison other = false
+use Rattle.dcsp_problem.specs.Pairs.{is_comparison}
 
 -- whether the rule is no sum
 abbrev pub is_plain : Rule → Bool

@@ -1,12 +1,9 @@
 -- Which values of a variable a rule rules out.
-use Rattle.std.specs.Prelude.{◌≡◌, ℕ, ◌<◌, ℤ, pos, Bool, false, not, List, length, slice_index_or, int_le, int_lt, unwrap_or, Option, ◌≤◌}
-use Rattle.std.specs.Ordering.{int_eq}
+use Rattle.std.specs.Prelude.{◌≡◌, ℕ, ◌<◌, ℤ, pos, Bool, false, not, List, length, slice_index_or, ◌≤◌}
 use Rattle.dcsp_defs.specs.Csp.{Known, domain, filled, is_violated, with_value}
 use Rattle.dcsp_problem.specs.declared.rule.Rule.{Rule}
 use Rattle.dcsp_problem.specs.Rules.{rule_truth}
 use Rattle.dcsp_problem.specs.Problems.{Contents, csp_of, constraint_at}
-use Rattle.dcsp_row.specs.declared.compare.Comparison.{Comparison}
-use Rattle.dcsp_row.specs.declared.compare.Comparison.TheVariants.{Equal, Differ, AtMost, Below}
 
 -- the value at a place
 abbrev pub own_at : List ℤ → ℕ → ℤ
@@ -39,14 +36,3 @@ TellsFalse rule var values known row = MarksWhere (is_false rule var known) valu
 -- each of these values of the variable lets the sums that a rule makes fit
 abbrev pub FitAtEach : (ℤ → ℕ) → ℕ → List ℤ → Type 0
 FitAtEach size most values = (place : ℕ) → place < length values → size (own_at values place) ≤ most
-
--- how two numbers compare
-abbrev pub compares : Comparison → ℤ → ℤ → Bool
-compares Equal a b = int_eq a b
-compares Differ a b = not (int_eq a b)
-compares AtMost a b = int_le a b
-compares Below a b = int_lt a b
-
--- whether two numbers do not compare so, where a missing one is this value
-abbrev pub is_missed : Comparison → Option ℤ → Option ℤ → ℤ → Bool
-is_missed comparison first second value = not (compares comparison (unwrap_or first value) (unwrap_or second value))

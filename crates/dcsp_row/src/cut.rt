@@ -1,12 +1,14 @@
 //! Sets of numbers that are one number, or all below one, or all others than these.
 
 ghost use Rattle.std.specs.Prelude.{◌≡◌, ◌<◌, ◌≤◌, ◌*ℤ◌, ℕ, ℤ, pos, IfSome, int_lt, length, nat_lt, not, unsigned_abs};
+ghost use Rattle.dcsp_linear.specs.Sums.{stands};
 ghost use Rattle.dcsp_row.specs.Cuts.{is_in, is_of, number_of, farthest};
 ghost use Rattle.dcsp_row.specs.Rows.{own_at};
 ghost use Rattle.dcsp_row.specs.Spans.{SpansWhere};
 
 use crate::span::Span;
 use dcsp_domain::Domain;
+use dcsp_linear::Rel;
 
 /// One number, or all numbers below one.
 #[derive(Clone, Copy)]
@@ -22,12 +24,32 @@ pub struct Cut {
     pub outside: bool,
 }
 
-/// The places of those of these values that are in the cut.
-pub fn span_in(cut: Cut, domain: &Domain) -> Span
-    requires { unsigned_abs (number_of cut.part) ≤ farthest }
-    ensures { SpansWhere (is_in cut) domain.now result }
+/// The numbers that do not stand so to the total.
+pub fn missed_before(rel: Rel, total: i128) -> Cut
+    requires { unsigned_abs total < farthest }
+    ensures cut { (x : ℤ) → is_in result x ≡ not (stands rel x total) }
+    ensures number { unsigned_abs (number_of result.part) ≤ farthest }
 {
-    product_span(cut, 1, domain)
+    let (part, outside) = match rel {
+        Rel::Equal => (Part::Only(total), true),
+        Rel::Differ => (Part::Only(total), false),
+        Rel::AtMost => (Part::Below(total + 1), true),
+    };
+    Cut { part, outside }
+}
+
+/// The numbers to which the sum does not stand so.
+pub fn missed_after(rel: Rel, sum: i128) -> Cut
+    requires { unsigned_abs sum < farthest }
+    ensures cut { (x : ℤ) → is_in result x ≡ not (stands rel sum x) }
+    ensures number { unsigned_abs (number_of result.part) ≤ farthest }
+{
+    let (part, outside) = match rel {
+        Rel::Equal => (Part::Only(sum), true),
+        Rel::Differ => (Part::Only(sum), false),
+        Rel::AtMost => (Part::Below(sum), false),
+    };
+    Cut { part, outside }
 }
 
 /// The places of those of these values whose products with the factor are in the cut.

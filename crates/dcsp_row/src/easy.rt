@@ -2,11 +2,11 @@
 
 ghost use Rattle.std.specs.Prelude.{◌≡◌, ◌<◌, IsTrue, length};
 ghost use Rattle.dcsp_problem.specs.Problems.{rule_at};
+ghost use Rattle.dcsp_problem.specs.Pairs.{is_comparison};
 ghost use Rattle.dcsp_problem.specs.Rules.{has_shape};
 ghost use Rattle.dcsp_row.specs.Easy.{has_span, is_once, is_truth, is_variable, own_coefs};
 
-use crate::compare::comparison_of;
-use dcsp_problem::{Problem, Rule, Term};
+use dcsp_problem::{Kind, Problem, Rule, Term};
 
 /// Whether the values of the variable that the rule rules out are always a run of its domain, or all values
 /// outside one.
@@ -24,7 +24,7 @@ fn is_easy(rule: &Rule, var: u32) -> bool
     ensures { result ≡ has_span var rule.now }
 {
     match rule {
-        Rule::Plain { kind, .. } => comparison_of(*kind).is_some(),
+        Rule::Plain { kind, .. } => is_comparison(*kind),
         Rule::Sum {
             coefs,
             terms,
@@ -36,6 +36,19 @@ fn is_easy(rule: &Rule, var: u32) -> bool
                 && !is_variable(*total, var)
                 && !is_truth(*truth, var)
         }
+    }
+}
+
+/// Whether a constraint of this kind compares two numbers.
+fn is_comparison(kind: Kind) -> bool
+    ensures { result ≡ is_comparison kind }
+{
+    match kind {
+        Kind::IntEq => true,
+        Kind::IntNe => true,
+        Kind::IntLe => true,
+        Kind::IntLt => true,
+        _ => false,
     }
 }
 

@@ -6,21 +6,21 @@ ghost use Rattle.dcsp_problem.specs.Problems.{csp_of, rule_at, AreInDomains};
 ghost use Rattle.dcsp_linear.specs.Sums.{widest};
 ghost use Rattle.dcsp_defs.specs.Csp.{filled, with_value};
 ghost use Rattle.dcsp_problem.specs.Rules.{has_shape};
+ghost use Rattle.dcsp_problem.specs.Pairs.{pair_truth, IsSmall};
 ghost use Rattle.dcsp_problem.specs.Widths.{rule_sizes};
 ghost use Rattle.dcsp_row.specs.Easy.{has_span, is_plain};
 ghost use Rattle.dcsp_row.specs.Lines.{is_line, is_off, line_size};
 ghost use Rattle.dcsp_row.specs.Rows.{is_false, is_ruled_out, IsRow, TellsFalse, FitAtEach};
 ghost use Rattle.dcsp_row.specs.Spans.{SpansWhere};
 
-use crate::compare::{comparison_of, missed_span};
 use crate::general::try_each;
 use crate::known::{known_value, knows_others};
-use crate::line::line_of;
+use crate::line::{line_of, line_of_pair};
 use crate::row::Row;
 use crate::span::Span;
-use crate::sums::{Opened, fill_sum, off_span, told_by};
+use crate::sums::{Opened, fill_sum, missed_line, off_span, told_by};
 use dcsp_domain::Domain;
-use dcsp_problem::{Lookup, Problem, Rule};
+use dcsp_problem::{Lookup, Pair, Problem, Rule};
 
 /// The values of the variable at which the rule is violated under these and the look-up's, as a span of
 /// its domain; `None` only where the rule is not one that always has a span.
@@ -31,45 +31,30 @@ pub fn span_of<L: Lookup>(problem: &Problem, rule: u32, var: u32, lookup: &L) ->
     ensures span { IfSome result (SpansWhere (is_ruled_out problem.now rule var (L.values lookup.now)) (domain (csp_of problem.now) var)) }
     ensures some { IsTrue (has_span var (rule_at problem.now rule)) → IsTrue (is_some result) }
 {
-    if !knows_others(problem.scope(rule), var, lookup) {
+    let scope = problem.scope(rule);
+    if !knows_others(scope, var, lookup) {
         return Some(Span::whole(false));
     }
-    let _variables = problem.vars();
-    span_of_rule(problem.rule(rule), problem.domain(var), var, lookup)
-}
-
-/// The values at which the rule is false, if it has a span.
-fn span_of_rule<L: Lookup>(rule: &Rule, domain: &Domain, var: u32, lookup: &L) -> Option<Span>
-    requires shape { IsTrue (has_shape rule.now) }
-    requires narrow { FitAtEach (λ x. rule_sizes rule.now (filled (with_value var x (L.values lookup.now)))) widest domain.now }
-    ensures span { IfSome result (SpansWhere (is_false rule.now var (L.values lookup.now)) domain.now) }
-    ensures some { IsTrue (has_span var rule.now) → IsTrue (is_some result) }
-{
-    match span_of_comparison(rule, domain, var, lookup) {
-        Some(span) => Some(span),
-        None => span_of_sum(rule, domain, var, lookup),
+    if let Some(pair) = problem.pair(rule) {
+        return Some(span_of_pair(pair, problem.domain(var), var, lookup));
     }
+    if scope.is_empty() {
+        return Some(Span::whole(problem.violated_within(rule, lookup)));
+    }
+    let _variables = problem.vars();
+    span_of_sum(problem.rule(rule), problem.domain(var), var, lookup)
 }
 
-/// The same of a comparison of two numbers.
-fn span_of_comparison<L: Lookup>(rule: &Rule, domain: &Domain, var: u32, lookup: &L) -> Option<Span>
-    requires { IsTrue (has_shape rule.now) }
-    ensures span { IfSome result (SpansWhere (is_false rule.now var (L.values lookup.now)) domain.now) }
-    ensures some { IsTrue (is_plain rule.now) → IsTrue (has_span var rule.now) → IsTrue (is_some result) }
+/// The values at which the pair is false.
+fn span_of_pair<L: Lookup>(pair: Pair, domain: &Domain, var: u32, lookup: &L) -> Span
+    requires { IsSmall pair }
+    ensures { SpansWhere (λ x. not (pair_truth pair (filled (with_value var x (L.values lookup.now))))) domain.now result }
 {
-    let Rule::Plain { kind, scalars, .. } = rule else {
-        return None;
-    };
-    let comparison = comparison_of(*kind)?;
-    let [first, second] = scalars.items() else {
-        return None;
-    };
-    let first = known_value(*first, var, lookup);
-    let second = known_value(*second, var, lookup);
-    Some(missed_span(comparison, first, second, domain))
+    let line = line_of_pair(pair, var, lookup);
+    missed_line(pair.rel, line, pair.total, domain)
 }
 
-/// The same of a sum.
+/// The values at which the rule is false, if it is a sum with the variable in one of its terms at most.
 fn span_of_sum<L: Lookup>(rule: &Rule, domain: &Domain, var: u32, lookup: &L) -> Option<Span>
     requires shape { IsTrue (has_shape rule.now) }
     requires narrow { FitAtEach (λ x. rule_sizes rule.now (filled (with_value var x (L.values lookup.now)))) widest domain.now }

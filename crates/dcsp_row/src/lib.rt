@@ -3,7 +3,6 @@
 //! The values of the other variables are looked up once, and not for each value again.
 #![tactic(auto)]
 
-mod compare;
 mod cut;
 mod easy;
 mod fill;

@@ -1,17 +1,18 @@
 //! Sums in which one variable is left open.
 
-ghost use Rattle.std.specs.Prelude.{◌≡◌, ◌+◌, ◌*◌, ◌<◌, ◌≤◌, ◌+ℤ◌, ◌*ℤ◌, ◌++◌, ℕ, ℤ, IfSome, IsNone, length, option_to_list, unsigned_abs, sum_by};
-ghost use Rattle.dcsp_linear.specs.Sums.{sum_of, size_of, stands, widest};
+ghost use Rattle.std.specs.Prelude.{◌≡◌, ◌+◌, ◌*◌, ◌<◌, ◌≤◌, ◌^◌, ◌+ℤ◌, ◌*ℤ◌, ◌++◌, ℕ, ℤ, IfSome, IsNone, length, option_to_list, unsigned_abs, unwrap_or, sum_by};
+ghost use Rattle.dcsp_linear.specs.Sums.{sum_of, size_of, widest};
 ghost use Rattle.dcsp_defs.specs.Csp.{filled, with_value};
 ghost use Rattle.dcsp_problem.specs.Rules.{weighted};
+ghost use Rattle.dcsp_problem.specs.Pairs.{pair_sum, IsSmall};
 ghost use Rattle.dcsp_row.specs.Rows.{FitAtEach};
 ghost use Rattle.dcsp_row.specs.Easy.{own_coefs};
 ghost use Rattle.dcsp_row.specs.Lines.{line_at, line_size, open_coef, AddsTerm};
 
 use crate::known::known_value;
 use dcsp_domain::Domain;
-use dcsp_linear::Rel;
-use dcsp_problem::{Lookup, Term};
+use dcsp_linear::{plus_product, product};
+use dcsp_problem::{Lookup, Pair, Term};
 
 /// A sum: its known part, and the coefficient of the open variable, if that is among its terms.
 #[derive(Clone, Copy)]
@@ -80,22 +81,29 @@ pub fn sum_at(line: Line, value: i64) -> i128
     }
 }
 
-/// The sum with one product more.
-fn plus_product(sum: i128, coef: i64, value: i64) -> i128
-    requires { unsigned_abs sum + unsigned_abs coef * unsigned_abs value ≤ widest }
-    ensures { result ≡ sum +ℤ (coef *ℤ value) }
+/// A pair's products, added up, where this variable is open.
+pub fn line_of_pair<L: Lookup>(pair: Pair, var: u32, lookup: &L) -> Line
+    requires { IsSmall pair }
+    ensures sum { (x : ℤ) → let values = filled (with_value var x (L.values lookup.now)) in line_at result x ≡ pair_sum pair (values pair.first) (values pair.second) }
+    ensures base { unsigned_abs result.base ≤ widest }
 {
-    sum + i128::from(coef) * i128::from(value)
+    let first = known_value(Term::Var(pair.first), var, lookup);
+    let second = known_value(Term::Var(pair.second), var, lookup);
+    let (base, own) = product_of(pair.first_coef, first);
+    let (more, other) = product_of(pair.second_coef, second);
+    Line {
+        base: base + more,
+        own: Some(own + other),
+    }
 }
 
-/// Whether the sum stands so to the total.
-pub fn stands(rel: Rel, sum: i128, total: i64) -> bool
-    ensures { result ≡ stands rel sum total }
+/// The product of a coefficient and a value; where the value is open, 0 and the coefficient.
+fn product_of(coef: i64, value: Option<i64>) -> (i128, i64)
+    ensures product { (x : ℤ) → result.0 +ℤ (result.1 *ℤ x) ≡ coef *ℤ unwrap_or value x }
+    ensures size { unsigned_abs coef < 2 ^ 62 → (unsigned_abs result.0 ≤ 2 ^ 125) × (unsigned_abs result.1 < 2 ^ 62) }
 {
-    let total = i128::from(total);
-    match rel {
-        Rel::Equal => sum == total,
-        Rel::AtMost => sum <= total,
-        Rel::Differ => sum != total,
+    match value {
+        Some(value) => (product(coef, value), 0),
+        None => (0, coef),
     }
 }

@@ -1,19 +1,18 @@
 //! Rows of sums.
 
-ghost use Rattle.std.specs.Prelude.{◌≡◌, ◌<◌, ◌≤◌, ℤ, Some, IfSome, IsTrue, is_some, length, false, not, option_to_list, slice_index_or, unsigned_abs, unwrap_or};
+ghost use Rattle.std.specs.Prelude.{◌≡◌, ◌<◌, ◌≤◌, ◌^◌, ℤ, Some, IfSome, IsTrue, is_some, length, false, not, option_to_list, slice_index_or, unsigned_abs, unwrap_or};
 ghost use Rattle.std.specs.Option.{option_map};
 ghost use Rattle.dcsp_linear.specs.Sums.{stands, widest};
 ghost use Rattle.dcsp_defs.specs.Csp.{filled, with_value};
 ghost use Rattle.dcsp_problem.specs.Rules.{is_told, value_under};
-ghost use Rattle.dcsp_row.specs.Rows.{compares, own_at, MarksWhere, FitAtEach};
+ghost use Rattle.dcsp_row.specs.Rows.{own_at, MarksWhere, FitAtEach};
 ghost use Rattle.dcsp_row.specs.Easy.{is_truth};
 ghost use Rattle.dcsp_row.specs.Lines.{is_known, is_line, is_off, line_at, line_size, told_at};
 ghost use Rattle.dcsp_row.specs.Spans.{SpansWhere};
 
-use crate::compare::{Comparison, missed_after, missed_before};
-use crate::cut::product_span;
+use crate::cut::{missed_after, missed_before, product_span};
 use crate::known::known_value;
-use crate::line::{Line, stands, sum_at};
+use crate::line::{Line, sum_at};
 use crate::row::Row;
 use crate::span::Span;
 use dcsp_domain::Domain;
@@ -63,7 +62,7 @@ pub fn off_span(opened: Opened, domain: &Domain) -> Option<Span>
     ensures some { IsTrue (is_line (Some opened)) → IsTrue (is_some result) }
 {
     let total = opened.total?;
-    let missed = missed_line(opened.rel, opened.line, total, domain);
+    let missed = missed_line(opened.rel, opened.line, i128::from(total), domain);
     match opened.told {
         Told::Untold => Some(missed),
         Told::By(truth) => Some(if truth == 1 { missed } else { missed.others() }),
@@ -72,35 +71,19 @@ pub fn off_span(opened: Opened, domain: &Domain) -> Option<Span>
 }
 
 /// The places of those of these values at which the sum does not stand so to the total.
-fn missed_line(rel: Rel, line: Line, total: i64, domain: &Domain) -> Span
-    requires { unsigned_abs line.base ≤ widest }
+pub fn missed_line(rel: Rel, line: Line, total: i128, domain: &Domain) -> Span
+    requires base { unsigned_abs line.base ≤ widest }
+    requires total { unsigned_abs total ≤ 2 ^ 65 }
     ensures { SpansWhere (λ x. not (stands rel (line_at line x) total)) domain.now result }
 {
     let coef = line.own.unwrap_or(0);
     let factor = coef.unsigned_abs();
-    let comparison = comparison_in(rel);
-    let number = i128::from(total);
     if coef > 0 {
-        product_span(
-            missed_before(comparison, number - line.base),
-            factor,
-            domain,
-        )
+        product_span(missed_before(rel, total - line.base), factor, domain)
     } else if coef < 0 {
-        product_span(missed_after(comparison, line.base - number), factor, domain)
+        product_span(missed_after(rel, line.base - total), factor, domain)
     } else {
-        Span::whole(!stands(rel, line.base, total))
-    }
-}
-
-/// The comparison of a sum with its total.
-fn comparison_in(rel: Rel) -> Comparison
-    ensures { (sum total : ℤ) → compares result sum total ≡ stands rel sum total }
-{
-    match rel {
-        Rel::Equal => Comparison::Equal,
-        Rel::AtMost => Comparison::AtMost,
-        Rel::Differ => Comparison::Differ,
+        Span::whole(!rel.holds(line.base, total))
     }
 }
 
@@ -125,7 +108,7 @@ fn holds_at(opened: Opened, domain: &Domain, place: usize) -> bool
     let value = domain.value(place);
     let sum = sum_at(opened.line, value);
     let total = opened.total.unwrap_or(value);
-    is_told(opened.told, value, stands(opened.rel, sum, total))
+    is_told(opened.told, value, opened.rel.holds(sum, i128::from(total)))
 }
 
 /// The truth itself, or whether it is told rightly where the open variable has this value.

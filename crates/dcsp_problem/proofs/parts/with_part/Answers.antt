@@ -3,8 +3,8 @@ use Rattle.std.proofs.lemmas.Int.{to_z-of_z}
 use Rattle.dcsp_problem.proofs.PartLaws.{part_more}
 use Rattle.dcsp_problem.proofs.parts.with_part.Goals as goal
 
-pub returns-in_ok-coef-in-Some : goal.returns-in_ok-coef-in-Some
-returns-in_ok-coef-in-Some c =
+pub returns-in_ok-coef-in-Some-clause-adds : goal.returns-in_ok-coef-in-Some-clause-adds
+returns-in_ok-coef-in-Some-clause-adds c =
     let coef = c.in_ok-coef-in-Some.coef in
     let fits : SFits w64 coef = search rules in
     let coef_fits : SFits w64 c.args.coef = c.ranges.coef in

@@ -4,14 +4,14 @@ use Rattle.std.proofs.lemmas.Int.{to_z-of_z}
 use Rattle.dcsp_problem.proofs.PartLaws.{first_added, second_added}
 use Rattle.dcsp_problem.proofs.parts.with_var.Goals as goal
 
-pub returns-in-Some : goal.returns-in-Some
-returns-in-Some c =
+pub returns-in-Some-clause-adds : goal.returns-in-Some-clause-adds
+returns-in-Some-clause-adds c =
     let coef_fits : SFits w64 c.args.coef = c.ranges.coef in
     let total_fits : SFits w128 c.args.parts.total = search rules in
-    rw (to_z-of_z w128 c.args.parts.total total_fits) (first_added c.args.parts c.args.coef c.args.var c.in-Some.first (simp to_z-of_z at c.in-Some.ensures))
+    rw (to_z-of_z w128 c.args.parts.total total_fits) (first_added c.args.parts c.args.coef c.args.var c.in-Some.first (simp to_z-of_z at c.in-Some.ensures.adds))
 
-pub returns-in_ok-second-in-None : goal.returns-in_ok-second-in-None
-returns-in_ok-second-in-None c =
+pub returns-in_ok-second-in-None-clause-adds : goal.returns-in_ok-second-in-None-clause-adds
+returns-in_ok-second-in-None-clause-adds c =
     let coef_fits : SFits w64 c.args.coef = c.ranges.coef in
     let total_fits : SFits w128 c.args.parts.total = search rules in
-    rw (to_z-of_z w128 c.args.parts.total total_fits) (second_added c.args.parts c.args.coef c.args.var c.in_ok-second-in-None.second (simp to_z-of_z at c.in_ok-second-in-None.ensures))
+    rw (to_z-of_z w128 c.args.parts.total total_fits) (second_added c.args.parts c.args.coef c.args.var c.in_ok-second-in-None.second (simp to_z-of_z at c.in_ok-second-in-None.ensures.adds))

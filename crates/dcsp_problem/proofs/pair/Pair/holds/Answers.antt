@@ -34,4 +34,4 @@ returns c =
     let sum_fits : SFits w128 (p +ℤ q) = fits_signed_from_abs w128 (p +ℤ q) (omega (arith, unsigned_abs-add p q, p_small, q_small)) in
     let p_is = simp to_z-of_z at c.product.ensures.product in
     let q_is = simp to_z-of_z at c.product-2.ensures.product in
-    (simp to_z-of_z at c.stands.ensures) ∙ ap (λ z. stands self.rel (z +ℤ q) self.total) p_is ∙ ap (λ z. stands self.rel ((self.first_coef *ℤ c.args.first) +ℤ z) self.total) q_is
+    (simp to_z-of_z at c.holds.ensures) ∙ ap (λ z. stands self.rel (z +ℤ q) self.total) p_is ∙ ap (λ z. stands self.rel ((self.first_coef *ℤ c.args.first) +ℤ z) self.total) q_is

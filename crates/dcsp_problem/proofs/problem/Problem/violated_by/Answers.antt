@@ -1,16 +1,28 @@
-use Rattle.std.proofs.Common.{◌≡◌, false, rules, sym, ◌∙◌}
-use Rattle.dcsp_problem.specs.Problems.{csp_of, constraint_at}
-use Rattle.dcsp_problem.proofs.Violations.{violated_same, violated_by_unknown}
+use Rattle.std.proofs.Common.{◌≡◌, ◌∙◌, List, ℤ, ap, arith, length, subst, sym}
+use Rattle.std.specs.Prelude.{[], slice_index_or}
+use Rattle.dcsp_defs.specs.Csp.{is_violated, IsConstraint}
+use Rattle.dcsp_problem.specs.Problems.{Contents, csp_of, constraint_at, value_in, AreInDomains}
+use Rattle.dcsp_problem.proofs.Reading.{constraint_ok}
+use Rattle.dcsp_problem.proofs.Violations.{violated_same, within_are_in}
 use Rattle.dcsp_problem.proofs.problem.Problem.violated_by.Goals as goal
 
-pub returns-then-not-knows_scope-clause-known : goal.returns-then-not-knows_scope-clause-known
-returns-then-not-knows_scope-clause-known g c = λ all.
-    let p = csp_of c.args.self.now in
+pub violated_within-requires-clause-domains : goal.violated_within-requires-clause-domains
+violated_within-requires-clause-domains g c =
+    let p = c.args.self.now in
     let known = g.L.Lookup.values c.args.lookup.now in
-    let constraint = constraint_at c.args.self.now c.args.rule in
-    let none : c.knows_scope.result ≡ false = search rules in
-    sym (violated_by_unknown p known constraint (sym c.knows_scope.ensures.known ∙ none)) ∙ violated_same p known constraint c.knows_scope.ensures.constraint all
+    let same : p.domains ≡ c.deref.result.now = sym (ap (λ z. z.domains) c.self.view_is) ∙ sym c.deref.ensures.value in
+    subst (λ (ds : List (List ℤ)). AreInDomains (csp_of p) (λ var. value_in (slice_index_or ds var []) (known var))) same (within_are_in (csp_of p) known)
+
+pub returns-clause-in_domains : goal.returns-clause-in_domains
+returns-clause-in_domains g c =
+    let p = c.args.self.now in
+    let known = g.L.Lookup.values c.args.lookup.now in
+    let same : p.domains ≡ c.deref.result.now = sym (ap (λ z. z.domains) c.self.view_is) ∙ sym c.deref.ensures.value in
+    c.violated_within.ensures ∙ sym (ap (λ (ds : List (List ℤ)). is_violated (λ var. value_in (slice_index_or ds var []) (known var)) (constraint_at p c.args.rule)) same)
 
 pub returns-clause-known : goal.returns-clause-known
 returns-clause-known g c = λ all.
-    c.is_false.ensures ∙ violated_same (csp_of c.args.self.now) (g.L.Lookup.values c.args.lookup.now) (constraint_at c.args.self.now c.args.rule) c.knows_scope.ensures.constraint all
+    let p = c.args.self.now in
+    let same = ap (λ z. length z.rules) c.self.view_is in
+    let ok = subst (λ (z : Contents). IsConstraint (csp_of z) (constraint_at z c.args.rule)) c.self.view_is (constraint_ok _ c.args.rule c.self.invariant.problem (omega (arith, same, c.requires))) in
+    returns-clause-in_domains g c ∙ violated_same (csp_of p) (g.L.Lookup.values c.args.lookup.now) (constraint_at p c.args.rule) ok all
