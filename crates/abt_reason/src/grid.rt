@@ -5,12 +5,29 @@ ghost use Rattle.dcsp_problem.specs.Problems.{rule_at};
 ghost use Rattle.dcsp_row.specs.Easy.{has_span};
 ghost use Rattle.dcsp_row.specs.Marks.{has_room_for, is_marked, is_row, FitsSize};
 ghost use Rattle.abt_reason.specs.Firsts.{IsFirst};
-ghost use Rattle.abt_reason.specs.Grids.{marks_at, is_marked_at, mixed_rows, rows_of, AreMarksBehind, AreSized, HaveRoom, IsGrid, NoneIfUncounted};
+ghost use Rattle.abt_reason.specs.Grids.{marks_at, is_marked_at, mixed_rows, rows_of, AreMarksBehind, AreSized, HaveRoom, IsGrid, LosesPlace, NoneIfUncounted, NoneUpTo};
 
 use dcsp_list::Memory;
 use dcsp_problem::Problem;
 use dcsp_row::{Marks, Row, Span, has_span};
 use std::alloc::Global;
+
+/// The rules of an agent with so many values, of which none rules anything out yet.
+#[derive(Clone, Copy)]
+pub struct Unfilled<'a> {
+    pub problem: &'a Problem,
+    pub rules: &'a [u32],
+    pub agent: u32,
+    pub values: usize,
+}
+
+/// One of so many values, and a rule's place.
+#[derive(Clone, Copy)]
+struct Cell {
+    values: usize,
+    value: usize,
+    place: usize,
+}
 
 /// For each rule the values that it rules out.
 #[derive(Drop)]
@@ -25,23 +42,17 @@ pub struct RuledOut {
 
 impl RuledOut {
     /// These rules of an agent with so many values, as if they ruled nothing out.
-    pub fn new(
-        alloc: Global,
-        problem: &Problem,
-        rules: &[u32],
-        agent: u32,
-        values: usize,
-    ) -> Result<RuledOut, Memory>
-        requires few { length rules.now < 2 ^ 32 }
-        requires rules { All (λ rule. rule < length problem.now.rules) rules.now }
-        ensures rules { IfOk result (λ grid. length grid.rows.items ≡ length rules.now) }
-        ensures grid { IfOk result (λ grid. IsGrid (rows_of values grid.rows.items) values grid.counts.items grid.firsts.items) }
-        ensures sized { IfOk result (λ grid. AreSized values grid.rows.items) }
-        ensures room { IfOk result (λ grid. HaveRoom problem.now agent rules.now grid.rows.items) }
+    pub fn new(alloc: Global, empty: &Unfilled) -> Result<RuledOut, Memory>
+        requires few { length empty.now.rules.now < 2 ^ 32 }
+        requires rules { All (λ rule. rule < length empty.now.problem.now.rules) empty.now.rules.now }
+        ensures rules { IfOk result (λ grid. length grid.rows.items ≡ length empty.now.rules.now) }
+        ensures grid { IfOk result (λ grid. IsGrid (rows_of empty.now.values grid.rows.items) empty.now.values grid.counts.items grid.firsts.items) }
+        ensures sized { IfOk result (λ grid. AreSized empty.now.values grid.rows.items) }
+        ensures room { IfOk result (λ grid. HaveRoom empty.now.problem.now empty.now.agent empty.now.rules.now grid.rows.items) }
     {
-        let rows = empty_rows(alloc, problem, rules, agent, values)?;
-        let counts = no_counts(alloc, values)?;
-        let firsts = no_firsts(alloc, values)?;
+        let rows = empty_rows(alloc, empty)?;
+        let counts = no_counts(alloc, empty.values)?;
+        let firsts = no_firsts(alloc, empty.values)?;
         Ok(RuledOut {
             rows,
             counts,
@@ -94,7 +105,12 @@ impl RuledOut {
             self.counts[value] -= 1;
             let count = self.counts[value];
             let first = self.firsts[value];
-            self.firsts[value] = first_without(&self.rows, values, value, place, count, first);
+            let cell = Cell {
+                values,
+                value,
+                place,
+            };
+            self.firsts[value] = first_without(&self.rows, cell, count, first);
         }
     }
 }
@@ -110,46 +126,33 @@ fn with_place(first: Option<u32>, place: u32) -> Option<u32>
 }
 
 /// The first rule that rules the value out, where the one at a place no longer does, and so many do.
-fn first_without(
-    rows: &[Marks],
-    values: usize,
-    value: usize,
-    place: usize,
-    count: u32,
-    first: Option<u32>,
-) -> Option<u32>
+fn first_without(rows: &[Marks], cell: Cell, count: u32, first: Option<u32>) -> Option<u32>
     requires few { length rows.now < 2 ^ 32 }
-    requires place { place < length rows.now }
-    requires value { value < values }
-    requires sized { AreSized values rows.now }
-    ensures { (p q : ℕ → Bool) → IsFirst p (length rows.now) first → q place ≡ false → ((j : ℕ) → j ≢ place → p j ≡ q j) → AreMarksBehind rows.now value place q → NoneIfUncounted count rows.now q → IsFirst q (length rows.now) result }
+    requires place { cell.place < length rows.now }
+    requires value { cell.value < cell.values }
+    requires sized { AreSized cell.values rows.now }
+    ensures { (p q : ℕ → Bool) → LosesPlace cell.place p q → AreMarksBehind rows.now cell.value cell.place q → NoneIfUncounted count rows.now q → IsFirst p (length rows.now) first → IsFirst q (length rows.now) result }
 {
-    if first == Some(place as u32) {
-        next_marking(rows, values, value, place, count)
+    if first == Some(cell.place as u32) {
+        next_marking(rows, cell, count)
     } else {
         first
     }
 }
 
 /// The first rule after a place that rules the value out, where so many rules do.
-fn next_marking(
-    rows: &[Marks],
-    values: usize,
-    value: usize,
-    place: usize,
-    count: u32,
-) -> Option<u32>
+fn next_marking(rows: &[Marks], cell: Cell, count: u32) -> Option<u32>
     requires few { length rows.now < 2 ^ 32 }
-    requires place { place < length rows.now }
-    requires value { value < values }
-    requires sized { AreSized values rows.now }
-    ensures { (q : ℕ → Bool) → ((j : ℕ) → j ≤ place → q j ≡ false) → AreMarksBehind rows.now value place q → NoneIfUncounted count rows.now q → IsFirst q (length rows.now) result }
+    requires place { cell.place < length rows.now }
+    requires value { cell.value < cell.values }
+    requires sized { AreSized cell.values rows.now }
+    ensures { (q : ℕ → Bool) → NoneUpTo cell.place q → AreMarksBehind rows.now cell.value cell.place q → NoneIfUncounted count rows.now q → IsFirst q (length rows.now) result }
 {
     if count == 0 {
         return None;
     }
-    for next in place + 1..rows.len() {
-        if rows[next].has(values, value) {
+    for next in cell.place + 1..rows.len() {
+        if rows[next].has(cell.values, cell.value) {
             return Some(next as u32);
         }
     }
@@ -157,44 +160,36 @@ fn next_marking(
 }
 
 /// For each of these rules marks of no value, as bits only where its values need not stand in one span.
-fn empty_rows(
-    alloc: Global,
-    problem: &Problem,
-    rules: &[u32],
-    agent: u32,
-    values: usize,
-) -> Result<Vec<Marks>, Memory>
-    requires { All (λ rule. rule < length problem.now.rules) rules.now }
-    ensures rules { IfOk result (λ rows. length rows.items ≡ length rules.now) }
-    ensures sized { IfOk result (λ rows. AreSized values rows.items) }
+fn empty_rows(alloc: Global, empty: &Unfilled) -> Result<Vec<Marks>, Memory>
+    requires { All (λ rule. rule < length empty.now.problem.now.rules) empty.now.rules.now }
+    ensures rules { IfOk result (λ rows. length rows.items ≡ length empty.now.rules.now) }
+    ensures sized { IfOk result (λ rows. AreSized empty.now.values rows.items) }
     ensures none { IfOk result (λ rows. (place value : ℕ) → place < length rows.items → is_marked_at rows.items place value ≡ false) }
-    ensures room { IfOk result (λ rows. HaveRoom problem.now agent rules.now rows.items) }
+    ensures room { IfOk result (λ rows. HaveRoom empty.now.problem.now empty.now.agent empty.now.rules.now rows.items) }
 {
-    let mut rows = Vec::with_capacity(alloc, rules.len()).map_err(|_| Memory)?;
-    for rule in rules {
-        rows.push(empty_row(alloc, problem, *rule, agent, values)?)
-            .map_err(|_| Memory)?;
+    let Ok(mut rows) = Vec::with_capacity(alloc, empty.rules.len()) else {
+        return Err(Memory);
+    };
+    for rule in empty.rules {
+        let row = empty_row(alloc, empty, *rule)?;
+        let Ok(()) = rows.push(row) else {
+            return Err(Memory);
+        };
     }
     Ok(rows)
 }
 
 /// Marks of no value, as bits only where the rule's values need not stand in one span.
-fn empty_row(
-    alloc: Global,
-    problem: &Problem,
-    rule: u32,
-    agent: u32,
-    values: usize,
-) -> Result<Marks, Memory>
-    requires { rule < length problem.now.rules }
-    ensures sized { IfOk result (FitsSize values) }
+fn empty_row(alloc: Global, empty: &Unfilled, rule: u32) -> Result<Marks, Memory>
+    requires { rule < length empty.now.problem.now.rules }
+    ensures sized { IfOk result (FitsSize empty.now.values) }
     ensures none { IfOk result (λ marks. (value : ℕ) → is_marked marks value ≡ false) }
-    ensures room { IfOk result (λ marks. IsTrue (has_span agent (rule_at problem.now rule) || is_row marks)) }
+    ensures room { IfOk result (λ marks. IsTrue (has_span empty.now.agent (rule_at empty.now.problem.now rule) || is_row marks)) }
 {
-    if has_span(problem, rule, agent) {
+    if has_span(empty.problem, rule, empty.agent) {
         return Ok(Marks::Span(Span::whole(false)));
     }
-    Ok(Marks::Row(Row::new(alloc, values)?))
+    Ok(Marks::Row(Row::new(alloc, empty.values)?))
 }
 
 /// No row, for each of so many values.
@@ -202,7 +197,10 @@ fn no_firsts(alloc: Global, values: usize) -> Result<Vec<Option<u32>>, Memory>
     ensures size { IfOk result (λ firsts. length firsts.items ≡ values) }
     ensures none { IfOk result (λ firsts. (k : ℕ) → slice_index_or firsts.items k None ≡ None) }
 {
-    vec![in alloc; None; values].map_err(|_| Memory)
+    let Ok(firsts) = vec![in alloc; None; values] else {
+        return Err(Memory);
+    };
+    Ok(firsts)
 }
 
 /// No row, for each of so many values.
@@ -210,5 +208,8 @@ fn no_counts(alloc: Global, values: usize) -> Result<Vec<u32>, Memory>
     ensures size { IfOk result (λ counts. length counts.items ≡ values) }
     ensures none { IfOk result (λ counts. (k : ℕ) → slice_index_or counts.items k 0 ≡ 0) }
 {
-    vec![in alloc; 0; values].map_err(|_| Memory)
+    let Ok(counts) = vec![in alloc; 0; values] else {
+        return Err(Memory);
+    };
+    Ok(counts)
 }

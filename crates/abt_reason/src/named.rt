@@ -72,7 +72,10 @@ fn add_scope(namings: &mut Vec<Naming>, scope: &[u32], place: u32) -> Result<(),
 fn add(namings: &mut Vec<Naming>, naming: Naming) -> Result<(), Memory>
     ensures { OnOk result (namings.new.items ≡ namings.old.items ++ naming ∷ []) }
 {
-    namings.push(naming).map_err(|_| Memory)
+    let Ok(()) = namings.push(naming) else {
+        return Err(Memory);
+    };
+    Ok(())
 }
 
 /// The same in order of variables.

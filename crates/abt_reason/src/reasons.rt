@@ -10,8 +10,9 @@ ghost use Rattle.abt_reason.specs.Causes.{reason_for, value_at};
 ghost use Rattle.abt_reason.specs.Cached.{size_of, StandsFor, StoodBefore, StoodWithoutLast};
 
 use crate::kept::KeptSteps;
-use crate::rules::FirstRules;
+use crate::rules::{FirstRules, Owner};
 use crate::search::earlier;
+use crate::under::Seat;
 use abt_store::Store;
 use abt_view::View;
 use dcsp_defs::Reason;
@@ -68,9 +69,18 @@ impl<'p> Reasons<'p> {
         ensures agent { self.new.agent ≡ self.old.agent }
         ensures stands { StandsFor self.new (values_in (view_of view.now)) store.now }
     {
-        let domain = self.problem.domain(self.agent);
-        self.rules.after_view(self.problem, self.agent, var, view);
-        self.kept.after_view(domain, self.agent, var, view, store);
+        let owner = Owner {
+            problem: self.problem,
+            agent: self.agent,
+            view,
+        };
+        self.rules.after_view(&owner, var);
+        let seat = Seat {
+            domain: self.problem.domain(self.agent),
+            agent: self.agent,
+            view,
+        };
+        self.kept.after_view(&seat, var, store);
     }
 
     /// Takes in that the store has a last item more. It takes no memory.
@@ -80,8 +90,12 @@ impl<'p> Reasons<'p> {
         ensures agent { self.new.agent ≡ self.old.agent }
         ensures stands { StandsFor self.new (values_in (view_of view.now)) store.now }
     {
-        let domain = self.problem.domain(self.agent);
-        self.kept.after_record(domain, self.agent, view, store);
+        let seat = Seat {
+            domain: self.problem.domain(self.agent),
+            agent: self.agent,
+            view,
+        };
+        self.kept.after_record(&seat, store);
     }
 
     /// The reason for the value at a place of the agent's domain; `None` exactly if the value is not

@@ -12,16 +12,16 @@ use Rattle.abt_reason.proofs.grid.empty_rows.Goals as goal
 pub loop-rule-preserved : goal.loop-rule-preserved
 loop-rule-preserved c =
     let rows = c.loop-rule.rows.items in
-    let m = c.in_ok-empty_row.field-0 in
+    let m = c.in_ok-row.row in
     let inv = c.loop-rule.invariant in
-    let has_room = λ (place : ℕ) (x : Marks). IsTrue (has_span c.args.agent (rule_at c.args.problem.now (get_or c.args.rules.now place 0)) || is_row x) in
-    let room = all_pushed has_room rows m inv.room (subst (λ n. has_room n m) (sym inv.size) c.in_ok-empty_row.ensures.room) in
-    let sized = all_pushed (λ place x. FitsSize c.args.values x) rows m inv.sized c.in_ok-empty_row.ensures.sized in
-    let none = all_pushed (λ place x. (value : ℕ) → is_marked x value ≡ false) rows m inv.none c.in_ok-empty_row.ensures.none in
+    let has_room = λ (place : ℕ) (x : Marks). IsTrue (has_span c.args.empty.now.agent (rule_at c.args.empty.now.problem.now (get_or c.args.empty.now.rules.now place 0)) || is_row x) in
+    let room = all_pushed has_room rows m inv.room (subst (λ n. has_room n m) (sym inv.size) c.in_ok-row.ensures.room) in
+    let sized = all_pushed (λ place x. FitsSize c.args.empty.now.values x) rows m inv.sized c.in_ok-row.ensures.sized in
+    let none = all_pushed (λ place x. (value : ℕ) → is_marked x value ≡ false) rows m inv.none c.in_ok-row.ensures.none in
     let pushed : c.push.new.self.items ≡ rows ++ m ∷ [] = search rules in
     record {
       size = ap length pushed ∙ length_push rows m ∙ ap (λ n. n + 1) inv.size;
-      sized = subst (λ (xs : List Marks). (place : ℕ) → place < length xs → FitsSize c.args.values (marks_at xs place)) (sym pushed) sized;
+      sized = subst (λ (xs : List Marks). (place : ℕ) → place < length xs → FitsSize c.args.empty.now.values (marks_at xs place)) (sym pushed) sized;
       none = subst (λ (xs : List Marks). (place : ℕ) → place < length xs → (value : ℕ) → is_marked (marks_at xs place) value ≡ false) (sym pushed) none;
       room = subst (λ (xs : List Marks). (place : ℕ) → place < length xs → has_room place (marks_at xs place)) (sym pushed) room;
     }

@@ -7,7 +7,7 @@ use Rattle.abt_reason.proofs.rules.refresh_all.Given as goal
 
 abbrev pub invariant-loop-place : goal.invariant-loop-place
 invariant-loop-place l = record {
-  room : IsRoom (size_of l.problem l.agent) l.room;
-  rows : AreRows l.problem l.agent l.ruled_out.rows.items l.ruled_out.counts.items l.ruled_out.firsts.items;
-  right : (place : ℕ) → place < l.place → IsRightAt l.problem l.agent (values_in (view_of l.view)) (rows_of (size_of l.problem l.agent) l.ruled_out.rows.items) place;
+  room : IsRoom (size_of l.owner.problem.now l.owner.agent) l.room;
+  rows : AreRows l.owner.problem.now l.owner.agent l.ruled_out.rows.items l.ruled_out.counts.items l.ruled_out.firsts.items;
+  right : (place : ℕ) → place < l.place → IsRightAt l.owner.problem.now l.owner.agent (values_in (view_of l.owner.view.now)) (rows_of (size_of l.owner.problem.now l.owner.agent) l.ruled_out.rows.items) place;
 }

@@ -24,9 +24,9 @@ no_naming = naming 0 0
 
 pub loop-naming-preserved : goal.loop-naming-preserved
 loop-naming-preserved c =
-    let p = c.args.problem.now in
-    let agent = c.args.agent in
-    let known = values_in (view_of c.args.view.now) in
+    let p = c.args.owner.now.problem.now in
+    let agent = c.args.owner.now.agent in
+    let known = values_in (view_of c.args.owner.now.view.now) in
     let namings = c.args.namings.now in
     let k = c.loop-naming.naming-index in
     let new = rows_of (size_of p agent) c.refresh.new.ruled_out.rows.items in

@@ -8,8 +8,8 @@ use Rattle.abt_reason.proofs.rules.refresh_each.Given as goal
 
 abbrev pub invariant-loop-naming : goal.invariant-loop-naming
 invariant-loop-naming l = record {
-  room : IsRoom (size_of l.problem l.agent) l.room;
-  rows : AreRows l.problem l.agent l.ruled_out.rows.items l.ruled_out.counts.items l.ruled_out.firsts.items;
-  kept : (place : ℕ) → IsRightAt l.problem l.agent (values_in (view_of l.view)) (rows_of (size_of l.problem l.agent) l.initial.ruled_out.rows.items) place → IsRightAt l.problem l.agent (values_in (view_of l.view)) (rows_of (size_of l.problem l.agent) l.ruled_out.rows.items) place;
-  right : (n : ℕ) (d : Naming) → n < l.naming-index → IsRightAt l.problem l.agent (values_in (view_of l.view)) (rows_of (size_of l.problem l.agent) l.ruled_out.rows.items) (get_or l.namings n d).place;
+  room : IsRoom (size_of l.owner.problem.now l.owner.agent) l.room;
+  rows : AreRows l.owner.problem.now l.owner.agent l.ruled_out.rows.items l.ruled_out.counts.items l.ruled_out.firsts.items;
+  kept : (place : ℕ) → IsRightAt l.owner.problem.now l.owner.agent (values_in (view_of l.owner.view.now)) (rows_of (size_of l.owner.problem.now l.owner.agent) l.initial.ruled_out.rows.items) place → IsRightAt l.owner.problem.now l.owner.agent (values_in (view_of l.owner.view.now)) (rows_of (size_of l.owner.problem.now l.owner.agent) l.ruled_out.rows.items) place;
+  right : (n : ℕ) (d : Naming) → n < l.naming-index → IsRightAt l.owner.problem.now l.owner.agent (values_in (view_of l.owner.view.now)) (rows_of (size_of l.owner.problem.now l.owner.agent) l.ruled_out.rows.items) (get_or l.namings n d).place;
 }

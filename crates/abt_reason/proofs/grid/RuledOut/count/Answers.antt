@@ -1,9 +1,9 @@
-use Rattle.std.proofs.Common.{◌≡◌, ◌≢◌, ◌<◌, ◌+◌, ◌-◌, ◌∙◌, ap, sym, subst, false, length, arith, ℕ, Bool, List}
+use Rattle.std.proofs.Common.{◌≡◌, ◌≢◌, ◌+◌, ◌-◌, ◌∙◌, ap, sym, subst, length, arith, ℕ, Bool, List}
 use Rattle.std.proofs.lemmas.List.{get_or_default}
 use Rattle.dcsp_row.specs.declared.marks.Marks.{Marks}
 use Rattle.dcsp_row.specs.Marks.{is_marked}
 use Rattle.abt_reason.specs.Firsts.{IsFirst}
-use Rattle.abt_reason.specs.Grids.{count_of, is_marked_at, no_marks}
+use Rattle.abt_reason.specs.Grids.{count_of, no_marks, AreMarksBehind, LosesPlace, NoneIfUncounted}
 use Rattle.abt_reason.proofs.CountLaws.{stays, adds, takes, small, is_mark, is_other, is_kept, first_was, none_left, kept, read_back, after}
 use Rattle.abt_reason.proofs.grid.RuledOut.count.Goals as goal
 
@@ -48,10 +48,9 @@ returns-else-mark-clause-grid c =
     let left = c.index_mut-else-mark.result.now - 1 in
     let count : left ≡ count_of (after c.args.values c.args.self.now.rows.items c.args.place c.args.new.now c.args.value c.requires.place c.requires.value c.args.self.now.counts.items c.args.self.now.firsts.items c.requires.grid c.has-mark.result c.has.result c.has-mark.ensures had) c.args.value = omega (arith, e) in
     let back = read_back c.args.values c.args.self.now.rows.items c.args.place c.args.new.now c.args.value c.requires.place c.requires.value c.args.self.now.counts.items c.args.self.now.firsts.items c.requires.grid c.has-mark.result c.has.result c.has-mark.ensures had left c.index-count.result.now c.index-count.ensures in
-    let found = subst (λ (rs : List Marks). (p q : ℕ → Bool) → IsFirst p (length rs) c.index-first.result.now → q c.args.place ≡ false → ((j : ℕ) → j ≢ c.args.place → p j ≡ q j)
-    → ((j : ℕ) → c.args.place < j → j < length rs → q j ≡ is_marked_at rs j c.args.value) → (c.index-count.result.now ≡ 0 → (j : ℕ) → j < length rs → q j ≡ false) → IsFirst q (length rs) c.first_without.result)
+    let found = subst (λ (rs : List Marks). (p q : ℕ → Bool) → LosesPlace c.args.place p q → AreMarksBehind rs c.args.value c.args.place q → NoneIfUncounted c.index-count.result.now rs q → IsFirst p (length rs) c.index-first.result.now → IsFirst q (length rs) c.first_without.result)
     c.deref.ensures.value c.first_without.ensures in
     kept c.args.values c.args.self.now.rows.items c.args.place c.args.new.now c.args.value c.requires.place c.requires.value c.args.self.now.counts.items c.args.self.now.firsts.items c.requires.grid c.has-mark.result c.has.result c.has-mark.ensures had left c.first_without.result count
-    (found _ _ was off same
+    (found _ _ (off, same)
     (λ j past l. let apart : j ≢ c.args.place = omega (arith, past) in is_kept c.args.values c.args.self.now.rows.items c.args.place c.args.new.now c.args.value c.requires.place c.requires.value c.args.self.now.counts.items c.args.self.now.firsts.items c.requires.grid c.has-mark.result c.has.result c.has-mark.ensures had j apart l)
-    (λ none. none_left c.args.values c.args.self.now.rows.items c.args.place c.args.new.now c.args.value c.requires.place c.requires.value c.args.self.now.counts.items c.args.self.now.firsts.items c.requires.grid c.has-mark.result c.has.result c.has-mark.ensures had left count (sym back ∙ none)))
+    (λ none. none_left c.args.values c.args.self.now.rows.items c.args.place c.args.new.now c.args.value c.requires.place c.requires.value c.args.self.now.counts.items c.args.self.now.firsts.items c.requires.grid c.has-mark.result c.has.result c.has-mark.ensures had left count (sym back ∙ none)) was)

@@ -16,15 +16,15 @@ refresh_each-requires-clause-within c = λ k d inside.
     let found = c.of-namings.ensures.part k d inside in
     let listed = c.requires.lists.listed.within found.0 d found.1 in
     let same = get_or_default c.args.self.now.named.namings.items found.0 d (get_or c.of-namings.result.now k d) found.1 ∙ found.2 in
-    subst (λ (n : Naming). n.place < rules_of c.args.problem.now c.args.agent) same listed
+    subst (λ (n : Naming). n.place < rules_of c.args.owner.now.problem.now c.args.owner.now.agent) same listed
 
 pub returns-clause-kept : goal.returns-clause-kept
 returns-clause-kept c = λ place within.
-    let p = c.args.problem.now in
-    let agent = c.args.agent in
+    let p = c.args.owner.now.problem.now in
+    let agent = c.args.owner.now.agent in
     let var = c.args.var in
     let s = c.requires.stood in
-    let known = values_in (view_of c.args.view.now) in
+    let known = values_in (view_of c.args.owner.now.view.now) in
     let listed = c.requires.lists.listed in
     let now = rows_of (size_of p agent) c.refresh_each.new.ruled_out.rows.items in
     let without : is_among var (constraint_at p (get_or (owned_rules p agent) place 0)).scope ≡ false → IsRightAt p agent known now place =
