@@ -1,5 +1,5 @@
 -- Annotation expressions are read in one way.
-use Rattle.std.proofs.Common.{◌≡◌, ℕ, zero, suc, ◌⊎◌, List, [], ◌∷◌, sym, ◌∙◌, refl, ap, subst, ⊎_elim, inl, Option, Some, None, length, arith}
+use Rattle.std.proofs.Common.{◌≡◌, ℕ, zero, suc, List, [], ◌∷◌, sym, ◌∙◌, refl, ap, subst, ⊎_elim, inl, Option, Some, None, length, arith}
 use Rattle.std.specs.Borrow.{Bor}
 use Rattle.fzn_token.specs.declared.token.Token.{Token}
 use Rattle.fzn_token.specs.declared.token.Mark.{Mark}
@@ -10,6 +10,9 @@ use Rattle.fzn_token.specs.declared.token.TokenKind.TheVariants as kind
 use Rattle.fzn_item.specs.Productions.{Production, IsAny, IsMark, IsAnyList, Fails}
 use Rattle.fzn_item.specs.Readers.{Skips}
 use Rattle.fzn_item.specs.Annotations.{Arguments, RangeEnd, FloatRangeEnd, NumberAfter, IsNumber, InnerAfter, IsInner}
+use Rattle.fzn_item.specs.Skipping.{IsSkipped}
+use Rattle.fzn_item.specs.declared.annotation.Skipped.{Skipped}
+use Rattle.fzn_item.specs.declared.annotation.Skipped.TheVariants as skipped
 use Rattle.fzn_item.proofs.Combining.{IsUnique, one_unique, gives_unique, then_unique, or_unique, fails_then}
 use Rattle.fzn_item.proofs.ListsSoFar.{integer_unique}
 use Rattle.fzn_item.proofs.ExprLaws.{list_unique, not_next_unique, nothing_unique, any_unique}
@@ -125,6 +128,7 @@ parentheses_read R ts inside u None paren fails = λ v end p. ⊎_elim
     p
 parentheses_read R ts inside u (Some end) paren reads = inl (u, inside, paren, reads)
 
--- a parenthesis or bracket that closes is no comma
-pub closes_differ : (close : Mark) → (close ≡ mark.CloseParen) ⊎ (close ≡ mark.CloseBracket) → close ≡ mark.Comma → ⊥
-closes_differ close closes e = ⊎_elim (λ paren. let clash : mark.CloseParen ≡ mark.Comma = sym paren ∙ e in cc) (λ bracket. let clash : mark.CloseBracket ≡ mark.Comma = sym bracket ∙ e in cc) closes
+-- a list's forms are read in one way
+pub skipped_unique : (s : Skipped) → IsUnique (IsSkipped s)
+skipped_unique (skipped.Inner depth) = inner_unique depth
+skipped_unique skipped.Number = number_unique

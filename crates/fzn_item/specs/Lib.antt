@@ -2,6 +2,7 @@ pub mod Productions
 pub mod Readers
 pub mod Exprs
 pub mod Annotations
+pub mod Skipping
 pub mod Marks
 pub mod Elements
 pub mod Declarations

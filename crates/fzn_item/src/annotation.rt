@@ -1,13 +1,23 @@
 //! Annotations that are read and have no effect.
 
-ghost use Rattle.std.specs.Prelude.{◌≡◌, ◌⊎◌, ◌<◌, ◌≤◌, length, IfSome};
+ghost use Rattle.std.specs.Prelude.{◌≢◌, ◌<◌, ◌≤◌, length, IfSome};
 ghost use Rattle.fzn_token.specs.declared.token.Mark.TheVariants as mark;
 ghost use Rattle.fzn_item.specs.Productions.{IsAnyList};
 ghost use Rattle.fzn_item.specs.Readers.{Skips};
 ghost use Rattle.fzn_item.specs.Annotations.{NumberAfter, IsNumber, RangeEnd, FloatRangeEnd, Arguments, IsInner, InnerAfter};
+ghost use Rattle.fzn_item.specs.Skipping.{IsSkipped};
 
 use crate::single::{integer, one_of};
 use fzn_token::{Mark, Token, TokenKind, Word};
+
+/// What stands in a list that is read and has no effect.
+#[derive(Clone, Copy)]
+pub(crate) enum Skipped {
+    /// Annotation expressions of at most this depth.
+    Inner { depth: u32 },
+    /// Integers and floats.
+    Number,
+}
 
 /// What follows an annotation's name, where annotation expressions in it have at most this depth.
 #[cycle(annotations)]
@@ -16,16 +26,16 @@ pub(crate) fn annotation_end(tokens: &[Token], depth: u32) -> Option<&[Token]>
     ensures shorter { IfSome result (λ x. length x.now ≤ length tokens.now) }
 {
     match one_of(tokens, TokenKind::Mark(Mark::OpenParen)) {
-        Some((_, inside)) => inner_list(inside, Mark::CloseParen, depth),
+        Some((_, inside)) => any_list(inside, Mark::CloseParen, Skipped::Inner { depth }),
         None => Some(tokens),
     }
 }
 
-/// Annotation expressions of at most this depth with commas between, and the mark that closes them.
+/// Any number of forms with commas between, and the mark that closes them. Unlike `list_of` it keeps nothing.
 #[cycle(annotations)]
-pub(crate) fn inner_list(tokens: &[Token], close: Mark, depth: u32) -> Option<&[Token]>
-    requires closes { (close ≡ mark.CloseParen) ⊎ (close ≡ mark.CloseBracket) }
-    ensures reads { Skips (IsAnyList (IsInner depth) close) tokens.now result }
+pub(crate) fn any_list(tokens: &[Token], close: Mark, skipped: Skipped) -> Option<&[Token]>
+    requires closes { close ≢ mark.Comma }
+    ensures reads { Skips (IsAnyList (IsSkipped skipped) close) tokens.now result }
     ensures shorter { IfSome result (λ x. length x.now < length tokens.now) }
 {
     if let Some((_, rest)) = one_of(tokens, TokenKind::Mark(close)) {
@@ -33,7 +43,7 @@ pub(crate) fn inner_list(tokens: &[Token], close: Mark, depth: u32) -> Option<&[
     }
     let mut rest = tokens;
     'forms: loop {
-        let Some(after) = inner(rest, depth) else {
+        let Some(after) = form(rest, skipped) else {
             return None;
         };
         match one_of(after, TokenKind::Mark(Mark::Comma)) {
@@ -45,6 +55,18 @@ pub(crate) fn inner_list(tokens: &[Token], close: Mark, depth: u32) -> Option<&[
                 return Some(end);
             }
         }
+    }
+}
+
+/// One form of such a list.
+#[cycle(annotations)]
+fn form(tokens: &[Token], skipped: Skipped) -> Option<&[Token]>
+    ensures reads { Skips (IsSkipped skipped) tokens.now result }
+    ensures shorter { IfSome result (λ x. length x.now < length tokens.now) }
+{
+    match skipped {
+        Skipped::Inner { depth } => inner(tokens, depth),
+        Skipped::Number => number(tokens),
     }
 }
 
@@ -77,8 +99,8 @@ fn inner_after(first: Token, tokens: &[Token], depth: u32) -> Option<&[Token]>
         TokenKind::Float => float_range_end(tokens),
         TokenKind::Text => Some(tokens),
         TokenKind::Mark(mark) => match mark {
-            Mark::OpenBrace => numbers(tokens),
-            Mark::OpenBracket => inner_list(tokens, Mark::CloseBracket, depth),
+            Mark::OpenBrace => any_list(tokens, Mark::CloseBrace, Skipped::Number),
+            Mark::OpenBracket => any_list(tokens, Mark::CloseBracket, Skipped::Inner { depth }),
             _ => None,
         },
         _ => None,
@@ -110,31 +132,6 @@ fn float_range_end(tokens: &[Token]) -> Option<&[Token]>
             None => None,
         },
         None => Some(tokens),
-    }
-}
-
-/// Integers and floats with commas between, after their `{`.
-fn numbers(tokens: &[Token]) -> Option<&[Token]>
-    ensures reads { Skips (IsAnyList IsNumber mark.CloseBrace) tokens.now result }
-    ensures shorter { IfSome result (λ x. length x.now < length tokens.now) }
-{
-    if let Some((_, rest)) = one_of(tokens, TokenKind::Mark(Mark::CloseBrace)) {
-        return Some(rest);
-    }
-    let mut rest = tokens;
-    'forms: loop {
-        let Some(after) = number(rest) else {
-            return None;
-        };
-        match one_of(after, TokenKind::Mark(Mark::Comma)) {
-            Some((_, next)) => rest = next,
-            None => {
-                let Some((_, end)) = one_of(after, TokenKind::Mark(Mark::CloseBrace)) else {
-                    return None;
-                };
-                return Some(end);
-            }
-        }
     }
 }
 

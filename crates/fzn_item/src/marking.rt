@@ -5,7 +5,7 @@ ghost use Rattle.std.specs.Int.{w64};
 ghost use Rattle.fzn_item.specs.Readers.{Reads, Finds};
 ghost use Rattle.fzn_item.specs.Marks.{called, first_mark, IsRange, IsRangeArgument, ArrayEnd, MarkedEnd, IsMarkedAnnotation, AreAnnotations};
 
-use crate::annotation::{annotation_end, inner_list};
+use crate::annotation::{Skipped, annotation_end, any_list};
 use crate::item::Marked;
 use crate::lists::{Form, list_of};
 use crate::single::{Stop, integer, one_of};
@@ -93,10 +93,12 @@ fn marked_end(alloc: Global, called: Called, tokens: &[Token]) -> Result<(Marked
 {
     match called {
         Called::OutputVar => match one_of(tokens, TokenKind::Mark(Mark::OpenParen)) {
-            Some((_, inside)) => match inner_list(inside, Mark::CloseParen, 199) {
-                Some(rest) => Ok((Marked::Nothing, rest)),
-                None => Err(Stop::Unread),
-            },
+            Some((_, inside)) => {
+                match any_list(inside, Mark::CloseParen, Skipped::Inner { depth: 199 }) {
+                    Some(rest) => Ok((Marked::Nothing, rest)),
+                    None => Err(Stop::Unread),
+                }
+            }
             None => Ok((Marked::Variable, tokens)),
         },
         Called::OutputArray => array_end(alloc, tokens),

@@ -1,19 +1,18 @@
 -- What the parts of the reader hold and answer.
-use Rattle.std.specs.Prelude.{◌≡◌, ◌⊎◌, ℕ, ℤ, ◌^◌, ◌<◌, nat_lt, Bool, List, length, Option, Some, None, Result, Ok, Err, if◌then◌else◌}
+use Rattle.std.specs.Prelude.{◌≡◌, ◌⊎◌, ℕ, ℤ, ◌^◌, ◌<◌, nat_lt, not, ◌&&◌, List, length, Option, Some, None, Result, Ok, Err, if◌then◌else◌}
 use Rattle.fzn_scope.specs.declared.refusal.Refusal.{Refusal}
 use Rattle.fzn_scope.specs.declared.refusal.Refusal.TheVariants as refusal
 use Rattle.fzn_scope.specs.declared.refusal.Stop.{Stop}
 use Rattle.fzn_scope.specs.declared.refusal.Stop.TheVariants as stop
 use Rattle.dcsp_problem.specs.declared.limits.BuildError.{BuildError}
 use Rattle.dcsp_problem.specs.declared.limits.BuildError.TheVariants as errors
-use Rattle.fzn_scope.specs.Checks.{◌>>=◌, Stops}
+use Rattle.fzn_scope.specs.Checks.{◌>>=◌, Stops, refused_if}
 use Rattle.fzn_scope.specs.Known.{AreKnown}
 use Rattle.fzn_scope.specs.Names.{Scope}
 use Rattle.dcsp_problem.specs.declared.rule.Term.{Term}
 use Rattle.fzn_model.specs.declared.resolver.Resolver.{Resolver}
-use Rattle.fzn_model.specs.declared.array.Array.{Array}
 use Rattle.fzn_model.specs.declared.resolver.Constraint.{Constraint}
-use Rattle.fzn_model.specs.declared.resolver.Declaration.{Declaration}
+use Rattle.fzn_model.specs.declared.declaration.Declaration.{Declaration}
 use Rattle.fzn_model.specs.declared.in_turn.Taken.{Taken}
 use Rattle.fzn_token.specs.declared.token.LexError.{LexError}
 use Rattle.fzn_token.specs.declared.token.Token.{Token}
@@ -21,11 +20,12 @@ use Rattle.fzn_token.specs.Reading as lexing
 use Rattle.fzn_item.specs.Items as parsing
 use Rattle.fzn_token.specs.declared.reader.TokenReader.{TokenReader}
 use Rattle.fzn_token.specs.Reading.{Refuses, TakesRest}
+use Rattle.fzn_item.specs.declared.item.Expr.{Expr}
 use Rattle.fzn_item.specs.declared.item.Item.{Item}
 use Rattle.fzn_item.specs.declared.item.ItemError.{ItemError}
 use Rattle.dcsp_problem.specs.Problems.{Contents}
 use Rattle.fzn_model.specs.declared.model.ModelError.{ModelError}
-use Rattle.fzn_model.specs.Declarations.{SoFar, parameter, variable, elements, array}
+use Rattle.fzn_model.specs.Declarations.{SoFar, parameter, variable, elements, is_shaped, array}
 use Rattle.fzn_model.specs.Items.{declared_by, declare, constraint, start, after, after_all, finished}
 use Rattle.fzn_model.specs.Models.{longest_text, lexical_error, syntactic_error}
 
@@ -61,20 +61,24 @@ abbrev pub variable_by : List ℕ → SoFar → Declaration → Result SoFar Ref
 variable_by text s d = variable text s d.at d.base.now d.name_at d.name.now d.marked.now d.right.now
 
 -- the elements of an array
-abbrev pub elements_by : List ℕ → Scope → Array → Result (List Term) Refusal
-elements_by text scope a = elements text scope a.variable a.base.now a.index a.name_at a.right.now
+abbrev pub elements_by : List ℕ → Scope → Declaration → ℤ × ℤ → Expr → Result (List Term) Refusal
+elements_by text scope d index right = elements text scope d.variable d.base.now index d.name_at right
+
+-- an array of variables, of so many elements, can be printed as its mark says
+abbrev pub shape_by : Declaration → ℕ → Result (Unit {0}) Refusal
+shape_by d count = refused_if (d.variable && not (is_shaped d.marked.now count)) (refusal.OutputShape d.name_at)
 
 -- what an array's leaves, of variables or of parameters
-abbrev pub array_by : List ℕ → SoFar → Bool → ℤ × ℤ → Declaration → Result SoFar Refusal
-array_by text s variable index d = array text s d.at variable index d.base.now d.name_at d.name.now d.marked.now d.right.now
+abbrev pub array_by : List ℕ → SoFar → ℤ × ℤ → Declaration → Result SoFar Refusal
+array_by text s index d = array text s d.at d.variable index d.base.now d.name_at d.name.now d.marked.now d.right.now
 
 -- what the declaration of a new name leaves
-abbrev pub named_by : List ℕ → SoFar → Bool → Option (ℤ × ℤ) → Declaration → Result SoFar Refusal
-named_by text s variable index d = declared_by text s d.at variable index d.base.now d.name_at d.name.now d.marked.now d.right.now
+abbrev pub named_by : List ℕ → SoFar → Declaration → Result SoFar Refusal
+named_by text s d = declared_by text s d.at d.variable d.index d.base.now d.name_at d.name.now d.marked.now d.right.now
 
 -- what any declaration leaves
-abbrev pub declare_by : List ℕ → SoFar → Bool → Option (ℤ × ℤ) → Declaration → Result SoFar Refusal
-declare_by text s variable index d = declare text s d.at variable index d.base.now d.name_at d.name.now d.marked.now d.right.now
+abbrev pub declare_by : List ℕ → SoFar → Declaration → Result SoFar Refusal
+declare_by text s d = declare text s d.at d.variable d.index d.base.now d.name_at d.name.now d.marked.now d.right.now
 
 -- what a constraint leaves
 abbrev pub constraint_by : List ℕ → SoFar → Constraint → Result SoFar Refusal

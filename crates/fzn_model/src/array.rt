@@ -6,26 +6,16 @@ ghost use Rattle.dcsp_problem.specs.Limits.{most};
 ghost use Rattle.fzn_scope.specs.Checks.{Gives};
 ghost use Rattle.fzn_scope.specs.Known.{AreKnown};
 ghost use Rattle.fzn_model.specs.Building.{with_rule};
-ghost use Rattle.fzn_model.specs.Declarations.{check_element, element_set, is_index, within, with_member, with_members};
+ghost use Rattle.fzn_model.specs.Declarations.{check_element, element_set, is_index, within, with_member, with_set};
 ghost use Rattle.fzn_model.specs.Reading.{Leaves, elements_by};
 
 use crate::building::add_rule;
-use crate::declaration::is_boolean;
+use crate::declaration::{Declaration, is_boolean};
 use dcsp_domain::IntList;
 use dcsp_problem::{Kind, Members, ProblemBuilder, Rule, Term, TermList, Which};
 use fzn_item::{Base, Expr};
-use fzn_scope::{Names, Refusal, Stop, Wanted, count_of, list_of};
+use fzn_scope::{Context, Refusal, Stop, Wanted};
 use std::alloc::Global;
-
-/// An array with its right side, as it is declared.
-#[derive(Clone, Copy)]
-pub(crate) struct Array<'i> {
-    pub(crate) variable: bool,
-    pub(crate) base: &'i Base,
-    pub(crate) index: (i64, i64),
-    pub(crate) name_at: u32,
-    pub(crate) right: &'i Expr,
-}
 
 /// Refuses arrays of floats and of sets.
 pub(crate) fn check_element(at: u32, base: &Base) -> Result<(), Refusal>
@@ -62,30 +52,25 @@ fn is_index(index: (i64, i64), count: usize) -> bool
 /// The elements of an array, as many as its index says, each of the element type.
 #[tactic(auto, unfolding(crate::specs::Declarations::elements))]
 pub(crate) fn elements(
-    alloc: Global,
-    text: &[u8],
-    names: &Names<'_>,
-    array: Array<'_>,
+    context: Context<'_, '_>,
+    declaration: Declaration<'_, '_>,
+    index: (i64, i64),
+    right: &Expr,
 ) -> Result<TermList, Stop>
-    ensures gives { Gives result (elements_by text.now names.now array.entry) }
-    ensures known { IfOk result (λ terms. (variables : ℕ) → AreKnown variables names.now → All (IsTermOf variables) terms) }
+    ensures gives { Gives result (elements_by context.entry.text.now context.entry.names.now declaration.entry index right.now) }
+    ensures known { IfOk result (λ terms. (variables : ℕ) → AreKnown variables context.entry.names.now → All (IsTermOf variables) terms) }
 {
-    let Array {
-        variable,
-        base,
-        index,
-        name_at,
-        right,
-    } = array;
-    let count = count_of(text, names, right)?;
+    let count = context.count_of(right)?;
     if !is_index(index, count) {
-        return Err(Stop::Refused(Refusal::IllTyped { at: name_at }));
+        return Err(Stop::Refused(Refusal::IllTyped {
+            at: declaration.name_at,
+        }));
     }
     let wanted = Wanted {
-        boolean: is_boolean(base),
-        constant: !variable,
+        boolean: is_boolean(declaration.base),
+        constant: !declaration.variable,
     };
-    list_of(alloc, text, names, wanted, right)
+    context.list_of(wanted, right)
 }
 
 /// A copy of a set that elements are in, if the element type says one.
@@ -105,20 +90,19 @@ fn element_set(alloc: Global, base: &Base) -> Result<Option<Members>, Stop>
     }
 }
 
-/// Adds the rule that a term is in the set of the element type, if that says one.
+/// Adds the rule that an element is in the set of its type, if that says one.
 fn add_member(
     alloc: Global,
     builder: &mut ProblemBuilder,
-    at: u32,
-    base: &Base,
+    declaration: Declaration<'_, '_>,
     term: Term,
 ) -> Result<(), Stop>
     requires { IsTermOf (length builder.old.domains) term }
-    ensures added { Leaves builder.new result (with_member at builder.old (element_set base.now) term) }
+    ensures added { Leaves builder.new result (with_member declaration.entry.name_at builder.old (element_set declaration.entry.base.now) term) }
     ensures domains { OnOk result (builder.new.domains ≡ builder.old.domains) }
     ensures outputs { OnOk result (builder.new.outputs ≡ builder.old.outputs) }
 {
-    let Some(members) = element_set(alloc, base)? else {
+    let Some(members) = element_set(alloc, declaration.base)? else {
         return Ok(());
     };
     let rule = Rule::Plain {
@@ -128,24 +112,26 @@ fn add_member(
         second: TermList::new(alloc),
         members,
     };
-    add_rule(builder, at, rule)
+    add_rule(builder, declaration.name_at, rule)
 }
 
-/// Adds the rules that elements are in the set of the element type, in order, if that says one.
+/// Adds the rules that the elements of an array of variables are in the set of their type, in order, if that says one.
 pub(crate) fn add_members(
     alloc: Global,
     builder: &mut ProblemBuilder,
-    at: u32,
-    base: &Base,
+    declaration: Declaration<'_, '_>,
     terms: &[Term],
 ) -> Result<(), Stop>
     requires { All (IsTermOf (length builder.old.domains)) terms.now }
-    ensures added { Leaves builder.new result (with_members at builder.old (element_set base.now) terms.now) }
+    ensures added { Leaves builder.new result (with_set declaration.entry.variable declaration.entry.name_at builder.old (element_set declaration.entry.base.now) terms.now) }
     ensures domains { OnOk result (builder.new.domains ≡ builder.old.domains) }
     ensures outputs { OnOk result (builder.new.outputs ≡ builder.old.outputs) }
 {
+    if !declaration.variable {
+        return Ok(());
+    }
     for term in terms {
-        add_member(alloc, builder, at, base, *term)?;
+        add_member(alloc, builder, declaration, *term)?;
     }
     Ok(())
 }

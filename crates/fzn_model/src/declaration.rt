@@ -12,9 +12,23 @@ ghost use Rattle.fzn_model.specs.Reading.{Leaves};
 use crate::building::add_rule;
 use dcsp_domain::{Domain, DomainError, IntList};
 use dcsp_problem::{Kind, Members, ProblemBuilder, Rule, Term, TermList, Which};
-use fzn_item::{Base, Expr};
-use fzn_scope::{Declared, Names, Refusal, Stop, Wanted, one_of, set_of};
+use fzn_item::{Base, Expr, Marked};
+use fzn_scope::{Context, Declared, Refusal, Stop, Wanted};
 use std::alloc::Global;
+
+/// What a declaration says of its name.
+#[derive(Clone, Copy)]
+pub(crate) struct Declaration<'i, 't> {
+    pub(crate) at: u32,
+    pub(crate) variable: bool,
+    /// The first and the last number of an array's elements.
+    pub(crate) index: Option<(i64, i64)>,
+    pub(crate) base: &'i Base,
+    pub(crate) name_at: u32,
+    pub(crate) name: &'t [u8],
+    pub(crate) marked: &'i Marked,
+    pub(crate) right: &'i Option<Expr>,
+}
 
 /// Whether values are Booleans.
 pub(crate) fn is_boolean(base: &Base) -> bool
@@ -38,35 +52,31 @@ pub(crate) fn right_side(name_at: u32, right: &Option<Expr>) -> Result<&Expr, Re
 }
 
 /// The constant of a right side.
-fn constant(text: &[u8], names: &Names<'_>, boolean: bool, expr: &Expr) -> Result<Declared, Refusal>
-    ensures { result ≡ constant text.now names.now boolean expr.now }
+fn constant(context: Context<'_, '_>, boolean: bool, expr: &Expr) -> Result<Declared, Refusal>
+    ensures { result ≡ constant context.entry.text.now context.entry.names.now boolean expr.now }
 {
     let wanted = Wanted {
         boolean,
         constant: true,
     };
-    let term = one_of(text, names, wanted, expr)?;
+    let term = context.one_of(wanted, expr)?;
     Ok(Declared::One { boolean, term })
 }
 
 /// A parameter's value.
 pub(crate) fn value_of(
-    alloc: Global,
-    text: &[u8],
-    names: &Names<'_>,
+    context: Context<'_, '_>,
     at: u32,
     base: &Base,
     expr: &Expr,
 ) -> Result<Declared, Stop>
-    ensures { Gives result (value_of text.now names.now at base.now expr.now) }
+    ensures { Gives result (value_of context.entry.text.now context.entry.names.now at base.now expr.now) }
 {
     match base {
-        Base::Bool => Ok(constant(text, names, true, expr)?),
-        Base::Int | Base::Range { .. } | Base::Listed(_) => {
-            Ok(constant(text, names, false, expr)?)
-        }
+        Base::Bool => Ok(constant(context, true, expr)?),
+        Base::Int | Base::Range { .. } | Base::Listed(_) => { Ok(constant(context, false, expr)?) }
         Base::Float => Err(Stop::Refused(Refusal::Unsupported { at })),
-        Base::Set => Ok(Declared::Set(set_of(alloc, text, names, expr)?)),
+        Base::Set => Ok(Declared::Set(context.set_of(expr)?)),
     }
 }
 
@@ -118,13 +128,12 @@ fn large(at: u32, count: u128) -> Refusal
 
 /// What a variable is equal to, if it has a right side.
 pub(crate) fn source_of(
-    text: &[u8],
-    names: &Names<'_>,
+    context: Context<'_, '_>,
     boolean: bool,
     right: &Option<Expr>,
 ) -> Result<Option<Term>, Refusal>
-    ensures is { result ≡ source_of text.now names.now boolean right.now }
-    ensures known { IfOk result (λ source. (variables : ℕ) → AreKnown variables names.now → IfSome source (IsTermOf variables)) }
+    ensures is { result ≡ source_of context.entry.text.now context.entry.names.now boolean right.now }
+    ensures known { IfOk result (λ source. (variables : ℕ) → AreKnown variables context.entry.names.now → IfSome source (IsTermOf variables)) }
 {
     let Some(expr) = right else {
         return Ok(None);
@@ -133,7 +142,7 @@ pub(crate) fn source_of(
         boolean,
         constant: false,
     };
-    Ok(Some(one_of(text, names, wanted, expr)?))
+    Ok(Some(context.one_of(wanted, expr)?))
 }
 
 /// Equality of integers or of Booleans.
@@ -143,30 +152,31 @@ fn equality(boolean: bool) -> Kind
     if boolean { Kind::BoolEq } else { Kind::IntEq }
 }
 
-/// Adds the rule that a variable is equal to its right side, if it has one.
-pub(crate) fn add_source(
-    alloc: Global,
-    builder: &mut ProblemBuilder,
-    at: u32,
-    boolean: bool,
-    number: u32,
-    source: Option<Term>,
-) -> Result<(), Stop>
-    requires number { number < length builder.old.domains }
-    requires known { IfSome source (IsTermOf (length builder.old.domains)) }
-    ensures added { Leaves builder.new result (with_source at builder.old boolean number source) }
-    ensures domains { OnOk result (builder.new.domains ≡ builder.old.domains) }
-    ensures outputs { OnOk result (builder.new.outputs ≡ builder.old.outputs) }
-{
-    let Some(source) = source else {
-        return Ok(());
-    };
-    let rule = Rule::Plain {
-        kind: equality(boolean),
-        scalars: TermList::from_vec(vec![in alloc; Term::Var(number), source]?),
-        first: TermList::new(alloc),
-        second: TermList::new(alloc),
-        members: Members::Listed(IntList::new(alloc)),
-    };
-    add_rule(builder, at, rule)
+impl<'i, 't> Declaration<'i, 't> {
+    /// Adds the rule that the variable of this number is equal to its right side, if it has one.
+    pub(crate) fn add_source(
+        self,
+        alloc: Global,
+        builder: &mut ProblemBuilder,
+        number: u32,
+        source: Option<Term>,
+    ) -> Result<(), Stop>
+        requires number { number < length builder.old.domains }
+        requires known { IfSome source (IsTermOf (length builder.old.domains)) }
+        ensures added { Leaves builder.new result (with_source self.entry.name_at builder.old (is_boolean self.entry.base.now) number source) }
+        ensures domains { OnOk result (builder.new.domains ≡ builder.old.domains) }
+        ensures outputs { OnOk result (builder.new.outputs ≡ builder.old.outputs) }
+    {
+        let Some(source) = source else {
+            return Ok(());
+        };
+        let rule = Rule::Plain {
+            kind: equality(is_boolean(self.base)),
+            scalars: TermList::from_vec(vec![in alloc; Term::Var(number), source]?),
+            first: TermList::new(alloc),
+            second: TermList::new(alloc),
+            members: Members::Listed(IntList::new(alloc)),
+        };
+        add_rule(builder, self.name_at, rule)
+    }
 }

@@ -7,7 +7,7 @@ ghost use Rattle.fzn_model.specs.Items.{aim_of};
 
 use dcsp_problem::Aim;
 use fzn_item::Goal;
-use fzn_scope::{Names, Refusal, Wanted, one_of};
+use fzn_scope::{Context, Refusal, Wanted};
 
 /// An integer, constant or not.
 const AN_INTEGER: Wanted = Wanted {
@@ -18,14 +18,14 @@ const AN_INTEGER: Wanted = Wanted {
 /// What a goal wants of a solution: any, or the least or the greatest value of an integer.
 ///
 /// `Undeclared` and `IllTyped` come as at every integer's place, at the first byte of the goal's expression.
-pub(crate) fn aim_of(text: &[u8], names: &Names<'_>, goal: &Goal) -> Result<Aim, Refusal>
-    ensures is { result ≡ aim_of text.now names.now goal.now }
-    ensures known { IfOk result (λ aim. (variables : ℕ) → AreKnown variables names.now →
+pub(crate) fn aim_of(context: Context<'_, '_>, goal: &Goal) -> Result<Aim, Refusal>
+    ensures is { result ≡ aim_of context.entry.text.now context.entry.names.now goal.now }
+    ensures known { IfOk result (λ aim. (variables : ℕ) → AreKnown variables context.entry.names.now →
         IsAimOf variables aim) }
 {
     match goal {
         Goal::Satisfy => Ok(Aim::Satisfy),
-        Goal::Minimize { what, .. } => Ok(Aim::Least(one_of(text, names, AN_INTEGER, what)?)),
-        Goal::Maximize { what, .. } => Ok(Aim::Greatest(one_of(text, names, AN_INTEGER, what)?)),
+        Goal::Minimize { what, .. } => Ok(Aim::Least(context.one_of(AN_INTEGER, what)?)),
+        Goal::Maximize { what, .. } => Ok(Aim::Greatest(context.one_of(AN_INTEGER, what)?)),
     }
 }

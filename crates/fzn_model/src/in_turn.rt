@@ -70,7 +70,7 @@ impl<'t> Taken<'t> {
             reader.next_piece(&mut piece)?;
             match next_item(alloc, text, &piece) {
                 Ok(Some((item, _behind))) => {
-                    let done = self.take(alloc, text, &item);
+                    let done = self.take(text, &item);
                     drop(item);
                     done?;
                 }
@@ -81,7 +81,7 @@ impl<'t> Taken<'t> {
     }
 
     /// One item more, which changes nothing after a refusal.
-    fn take(&mut self, alloc: Global, text: &'t [u8], item: &Item) -> Result<(), Memory>
+    fn take(&mut self, text: &'t [u8], item: &Item) -> Result<(), Memory>
         requires sound { IsSoundGiven (gave self.old) }
         requires room { prints (gave self.old) < longest_text }
         ensures is { OnOk result (gave self.new ≡ then_item text.now (gave self.old) item.now) }
@@ -91,7 +91,7 @@ impl<'t> Taken<'t> {
         if self.refused.is_some() {
             return Ok(());
         }
-        match self.resolver.take(alloc, text, item) {
+        match self.resolver.take(text, item) {
             Ok(()) => Ok(()),
             Err(Stop::Memory) => Err(Memory),
             Err(Stop::Refused(refusal)) => {

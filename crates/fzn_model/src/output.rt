@@ -5,20 +5,21 @@ ghost use Rattle.dcsp_domain.specs.Ranges.{count_between};
 ghost use Rattle.dcsp_problem.specs.Rules.{IsTermOf};
 ghost use Rattle.dcsp_problem.specs.Outputs.{range_product, IsOutputOf};
 ghost use Rattle.fzn_model.specs.Building.{with_output};
-ghost use Rattle.fzn_model.specs.Declarations.{is_shaped, variable_output, array_output};
-ghost use Rattle.fzn_model.specs.Reading.{Leaves, HasRoom, at_most_many};
+ghost use Rattle.fzn_model.specs.Declarations.{is_boolean, is_shaped, variable_output, array_output};
+ghost use Rattle.fzn_model.specs.Reading.{Leaves, HasRoom, at_most_many, shape_by};
 
+use crate::declaration::{Declaration, is_boolean};
 use dcsp_domain::RangeList;
 use dcsp_problem::{BuildError, NameText, Output, ProblemBuilder, Shape, Term, TermList};
 use fzn_item::Marked;
-use fzn_scope::Stop;
+use fzn_scope::{Refusal, Stop};
 use std::alloc::Global;
 
 /// More than any array has elements.
 const MANY: u128 = 1 << 63;
 
 /// Whether an array of so many elements can be printed as its mark says.
-pub(crate) fn is_shaped(marked: &Marked, count: usize) -> bool
+fn is_shaped(marked: &Marked, count: usize) -> bool
     requires { count < 2 ^ 63 }
     ensures { result ≡ is_shaped marked.now count }
 {
@@ -63,28 +64,40 @@ fn times(size: u128, product: u128) -> u128
     if product > MANY { MANY } else { product }
 }
 
-/// Adds what is printed for a variable, if it is marked by `output_var`.
+/// Refuses an array of variables, of so many elements, that cannot be printed as its mark says.
+pub(crate) fn check_shape(declaration: Declaration<'_, '_>, count: usize) -> Result<(), Refusal>
+    requires { count < 2 ^ 63 }
+    ensures is { result ≡ shape_by declaration.entry count }
+    ensures shaped { OnOk result (declaration.entry.variable ≡ true → is_shaped declaration.entry.marked.now count ≡ true) }
+{
+    if declaration.variable && !is_shaped(declaration.marked, count) {
+        return Err(Refusal::OutputShape {
+            at: declaration.name_at,
+        });
+    }
+    Ok(())
+}
+
+/// Adds what is printed for the variable of this number, if it is marked by `output_var`.
 pub(crate) fn add_variable_output(
     alloc: Global,
     builder: &mut ProblemBuilder,
-    name: &[u8],
-    boolean: bool,
+    declaration: Declaration<'_, '_>,
     number: u32,
-    marked: &Marked,
 ) -> Result<(), Stop>
     requires number { number < length builder.old.domains }
     requires room { HasRoom builder.old }
-    ensures added { Leaves builder.new result (Ok (with_output builder.old (variable_output name.now boolean number marked.now))) }
+    ensures added { Leaves builder.new result (Ok (with_output builder.old (variable_output declaration.entry.name.now (is_boolean declaration.entry.base.now) number declaration.entry.marked.now))) }
     ensures domains { OnOk result (builder.new.domains ≡ builder.old.domains) }
     ensures outputs { OnOk result (length builder.new.outputs ≤ length builder.old.outputs + 1) }
 {
-    match marked {
+    match declaration.marked {
         Marked::Nothing | Marked::Ranges(_) | Marked::Wrong => Ok(()),
         Marked::Variable => add_output(
             builder,
             Output {
-                name: NameText::from_vec(Vec::from_slice(alloc, name)?),
-                boolean,
+                name: NameText::from_vec(Vec::from_slice(alloc, declaration.name)?),
+                boolean: is_boolean(declaration.base),
                 shape: Shape::One,
                 terms: TermList::from_vec(vec![in alloc; Term::Var(number)]?),
             },
@@ -92,34 +105,38 @@ pub(crate) fn add_variable_output(
     }
 }
 
-/// Adds what is printed for an array of variables, if it is marked by `output_array`.
+/// Adds what is printed for an array of these elements, if it is of variables and marked by `output_array`.
 pub(crate) fn add_array_output(
     alloc: Global,
     builder: &mut ProblemBuilder,
-    name: &[u8],
-    boolean: bool,
-    marked: &Marked,
+    declaration: Declaration<'_, '_>,
     terms: &[Term],
 ) -> Result<(), Stop>
     requires known { All (IsTermOf (length builder.old.domains)) terms.now }
     requires elements { length terms.now ≤ 65536 }
-    requires shaped { is_shaped marked.now (length terms.now) ≡ true }
+    requires shaped { declaration.variable ≡ true → is_shaped declaration.marked.now (length terms.now) ≡ true }
     requires room { HasRoom builder.old }
-    ensures added { Leaves builder.new result (Ok (with_output builder.old (array_output name.now true boolean marked.now terms.now))) }
+    ensures added { Leaves builder.new result (Ok (with_output builder.old (array_output declaration.entry.name.now declaration.entry.variable (is_boolean declaration.entry.base.now) declaration.entry.marked.now terms.now))) }
     ensures domains { OnOk result (builder.new.domains ≡ builder.old.domains) }
     ensures outputs { OnOk result (length builder.new.outputs ≤ length builder.old.outputs + 1) }
 {
-    match marked {
+    match declaration.marked {
         Marked::Nothing | Marked::Variable | Marked::Wrong => Ok(()),
-        Marked::Ranges(ranges) => add_output(
-            builder,
-            Output {
-                name: NameText::from_vec(Vec::from_slice(alloc, name)?),
-                boolean,
-                shape: Shape::Ranges(RangeList::from_vec(Vec::from_slice(alloc, ranges.items())?)),
-                terms: TermList::from_vec(Vec::from_slice(alloc, terms)?),
-            },
-        ),
+        Marked::Ranges(ranges) => {
+            if !declaration.variable {
+                return Ok(());
+            }
+            let shape = Shape::Ranges(RangeList::from_vec(Vec::from_slice(alloc, ranges.items())?));
+            add_output(
+                builder,
+                Output {
+                    name: NameText::from_vec(Vec::from_slice(alloc, declaration.name)?),
+                    boolean: is_boolean(declaration.base),
+                    shape,
+                    terms: TermList::from_vec(Vec::from_slice(alloc, terms)?),
+                },
+            )
+        }
     }
 }
 

@@ -1,42 +1,32 @@
 //! What one item adds to the names and to the problem, or its refusal.
 
-ghost use Rattle.std.specs.Prelude.{◌≡◌, ◌≤◌, ◌<◌, ◌+◌, true, false, length, OnOk, None};
+ghost use Rattle.std.specs.Prelude.{◌≡◌, ◌≤◌, ◌<◌, ◌+◌, length, OnOk, None};
 ghost use Rattle.fzn_scope.specs.Checks.{Gives};
 ghost use Rattle.fzn_scope.specs.Names.{declared_as};
 ghost use Rattle.fzn_model.specs.Declarations.{is_late, declaration};
 ghost use Rattle.fzn_model.specs.Items.{start, solve, predicate, after, finished};
 ghost use Rattle.fzn_model.specs.Reading.{Leaves, so_far, IsSound, HasRoom, parameter_by, variable_by, array_by, named_by, declare_by, constraint_by};
 
-use crate::array::{Array, add_members, check_element, elements, within};
+use crate::array::{add_members, check_element, elements, within};
 use crate::building::{add_rule, add_variable};
-use crate::declaration::{add_source, domain_of, is_boolean, right_side, source_of, value_of};
+use crate::declaration::{Declaration, domain_of, is_boolean, right_side, source_of, value_of};
 use crate::goal::aim_of;
-use crate::output::{add_array_output, add_variable_output, is_shaped};
+use crate::output::{add_array_output, add_variable_output, check_shape};
 use dcsp_problem::{Problem, ProblemBuilder, Term, Which};
-use fzn_item::{Base, Expr, Goal, Item, Marked};
-use fzn_scope::{Declared, Names, Refusal, Stop, bytes_at, constraint_rule};
+use fzn_item::{Expr, Goal, Item};
+use fzn_scope::{Context, Declared, Names, Refusal, Stop, bytes_at};
 use std::alloc::Global;
 
 /// What the items so far gave.
 #[derive(Drop)]
 pub(crate) struct Resolver<'t> {
+    alloc: Global,
     names: Names<'t>,
     builder: ProblemBuilder,
     /// Whether there was a constraint.
     constrained: bool,
     /// Whether there was a solve item.
     solved: bool,
-}
-
-/// What a declaration says of its name.
-#[derive(Clone, Copy)]
-struct Declaration<'i, 't> {
-    at: u32,
-    base: &'i Base,
-    name_at: u32,
-    name: &'t [u8],
-    marked: &'i Marked,
-    right: &'i Option<Expr>,
 }
 
 /// A constraint with the name of its relation.
@@ -54,6 +44,7 @@ impl<'t> Resolver<'t> {
         ensures { so_far result ≡ start }
     {
         Resolver {
+            alloc,
             names: Names::new(alloc),
             builder: ProblemBuilder::new(alloc),
             constrained: false,
@@ -84,40 +75,27 @@ impl<'t> Resolver<'t> {
 
     /// A parameter.
     #[tactic(auto, unfolding(crate::specs::Declarations::parameter))]
-    fn parameter(
-        &mut self,
-        alloc: Global,
-        text: &[u8],
-        declaration: Declaration<'_, 't>,
-    ) -> Result<(), Stop>
+    fn parameter(&mut self, text: &[u8], declaration: Declaration<'_, 't>) -> Result<(), Stop>
         requires new { declared_as self.old.names declaration.name.now ≡ None }
         requires sound { IsSound (so_far self.old) }
         ensures is { Leaves (so_far self.new) result (parameter_by text.now (so_far self.old) declaration.entry) }
         ensures sound { OnOk result (IsSound (so_far self.new)) }
         ensures outputs { OnOk result (length self.new.builder.outputs ≤ length self.old.builder.outputs + 1) }
     {
-        let Declaration {
-            at,
-            base,
-            name_at,
-            name,
-            right,
-            ..
-        } = declaration;
-        let expr = right_side(name_at, right)?;
-        let value = value_of(alloc, text, &self.names, at, base, expr)?;
-        self.names.declare(name, value)?;
+        let expr = right_side(declaration.name_at, declaration.right)?;
+        let context = Context {
+            alloc: self.alloc,
+            text,
+            names: &self.names,
+        };
+        let value = value_of(context, declaration.at, declaration.base, expr)?;
+        self.names.declare(declaration.name, value)?;
         Ok(())
     }
 
     /// A variable.
     #[tactic(auto, unfolding(crate::specs::Declarations::variable))]
-    fn variable(
-        &mut self,
-        alloc: Global,
-        text: &[u8],
-        declaration: Declaration<'_, 't>,
-    ) -> Result<(), Stop>
+    fn variable(&mut self, text: &[u8], declaration: Declaration<'_, 't>) -> Result<(), Stop>
         requires new { declared_as self.old.names declaration.name.now ≡ None }
         requires sound { IsSound (so_far self.old) }
         requires room { HasRoom self.old.builder }
@@ -125,72 +103,27 @@ impl<'t> Resolver<'t> {
         ensures sound { OnOk result (IsSound (so_far self.new)) }
         ensures outputs { OnOk result (length self.new.builder.outputs ≤ length self.old.builder.outputs + 1) }
     {
-        let Declaration {
-            at,
-            base,
-            name_at,
-            name,
-            marked,
-            right,
-        } = declaration;
-        let domain = domain_of(alloc, at, base)?;
-        let boolean = is_boolean(base);
-        let source = source_of(text, &self.names, boolean, right)?;
-        let number = add_variable(&mut self.builder, name_at, domain)?;
-        add_source(alloc, &mut self.builder, name_at, boolean, number, source)?;
-        add_variable_output(alloc, &mut self.builder, name, boolean, number, marked)?;
+        let domain = domain_of(self.alloc, declaration.at, declaration.base)?;
+        let boolean = is_boolean(declaration.base);
+        let context = Context {
+            alloc: self.alloc,
+            text,
+            names: &self.names,
+        };
+        let source = source_of(context, boolean, declaration.right)?;
+        let number = add_variable(&mut self.builder, declaration.name_at, domain)?;
+        declaration.add_source(self.alloc, &mut self.builder, number, source)?;
+        add_variable_output(self.alloc, &mut self.builder, declaration, number)?;
         let term = Term::Var(number);
-        self.names.declare(name, Declared::One { boolean, term })?;
+        self.names
+            .declare(declaration.name, Declared::One { boolean, term })?;
         Ok(())
     }
 
-    /// An array of parameters.
+    /// An array, of variables or of parameters.
     #[tactic(auto, unfolding(crate::specs::Declarations::array))]
-    fn parameter_array(
+    fn array(
         &mut self,
-        alloc: Global,
-        text: &[u8],
-        index: (i64, i64),
-        declaration: Declaration<'_, 't>,
-    ) -> Result<(), Stop>
-        requires new { declared_as self.old.names declaration.name.now ≡ None }
-        requires sound { IsSound (so_far self.old) }
-        ensures is { Leaves (so_far self.new) result (array_by text.now (so_far self.old) false index declaration.entry) }
-        ensures sound { OnOk result (IsSound (so_far self.new)) }
-        ensures outputs { OnOk result (length self.new.builder.outputs ≤ length self.old.builder.outputs + 1) }
-    {
-        let Declaration {
-            at,
-            base,
-            name_at,
-            name,
-            right,
-            ..
-        } = declaration;
-        check_element(at, base)?;
-        let array = Array {
-            variable: false,
-            base,
-            index,
-            name_at,
-            right: right_side(name_at, right)?,
-        };
-        let terms = elements(alloc, text, &self.names, array)?;
-        within(Which::Elements, terms.len(), name_at)?;
-        let value = Declared::Many {
-            boolean: is_boolean(base),
-            variable: false,
-            terms,
-        };
-        self.names.declare(name, value)?;
-        Ok(())
-    }
-
-    /// An array of variables.
-    #[tactic(auto, unfolding(crate::specs::Declarations::array))]
-    fn variable_array(
-        &mut self,
-        alloc: Global,
         text: &[u8],
         index: (i64, i64),
         declaration: Declaration<'_, 't>,
@@ -198,58 +131,34 @@ impl<'t> Resolver<'t> {
         requires new { declared_as self.old.names declaration.name.now ≡ None }
         requires sound { IsSound (so_far self.old) }
         requires room { HasRoom self.old.builder }
-        ensures is { Leaves (so_far self.new) result (array_by text.now (so_far self.old) true index declaration.entry) }
+        ensures is { Leaves (so_far self.new) result (array_by text.now (so_far self.old) index declaration.entry) }
         ensures sound { OnOk result (IsSound (so_far self.new)) }
         ensures outputs { OnOk result (length self.new.builder.outputs ≤ length self.old.builder.outputs + 1) }
     {
-        let Declaration {
-            at,
-            base,
-            name_at,
-            name,
-            marked,
-            right,
-        } = declaration;
-        check_element(at, base)?;
-        let array = Array {
-            variable: true,
-            base,
-            index,
-            name_at,
-            right: right_side(name_at, right)?,
+        check_element(declaration.at, declaration.base)?;
+        let right = right_side(declaration.name_at, declaration.right)?;
+        let context = Context {
+            alloc: self.alloc,
+            text,
+            names: &self.names,
         };
-        let terms = elements(alloc, text, &self.names, array)?;
-        if !is_shaped(marked, terms.len()) {
-            return Err(Stop::Refused(Refusal::OutputShape { at: name_at }));
-        }
-        within(Which::Elements, terms.len(), name_at)?;
-        let boolean = is_boolean(base);
-        add_members(alloc, &mut self.builder, name_at, base, terms.items())?;
-        add_array_output(
-            alloc,
-            &mut self.builder,
-            name,
-            boolean,
-            marked,
-            terms.items(),
-        )?;
+        let terms = elements(context, declaration, index, right)?;
+        check_shape(declaration, terms.len())?;
+        within(Which::Elements, terms.len(), declaration.name_at)?;
+        add_members(self.alloc, &mut self.builder, declaration, terms.items())?;
+        add_array_output(self.alloc, &mut self.builder, declaration, terms.items())?;
         let value = Declared::Many {
-            boolean,
-            variable: true,
+            boolean: is_boolean(declaration.base),
+            variable: declaration.variable,
             terms,
         };
-        self.names.declare(name, value)?;
+        self.names.declare(declaration.name, value)?;
         Ok(())
     }
 
     /// A constraint.
     #[tactic(auto, unfolding(crate::specs::Items::constraint))]
-    fn constraint(
-        &mut self,
-        alloc: Global,
-        text: &[u8],
-        constraint: Constraint<'_, 't>,
-    ) -> Result<(), Stop>
+    fn constraint(&mut self, text: &[u8], constraint: Constraint<'_, 't>) -> Result<(), Stop>
         requires sound { IsSound (so_far self.old) }
         ensures is { Leaves (so_far self.new) result (constraint_by text.now (so_far self.old) constraint.entry) }
         ensures sound { OnOk result (IsSound (so_far self.new)) }
@@ -264,7 +173,12 @@ impl<'t> Resolver<'t> {
         if self.solved {
             return Err(Stop::Refused(Refusal::Misplaced { at }));
         }
-        let rule = constraint_rule(alloc, text, &self.names, name_at, name, arguments)?;
+        let context = Context {
+            alloc: self.alloc,
+            text,
+            names: &self.names,
+        };
+        let rule = context.constraint_rule(name_at, name, arguments)?;
         add_rule(&mut self.builder, name_at, rule)?;
         self.constrained = true;
         Ok(())
@@ -281,7 +195,12 @@ impl<'t> Resolver<'t> {
         if self.solved {
             return Err(Stop::Refused(Refusal::Misplaced { at }));
         }
-        let aim = aim_of(text, &self.names, goal)?;
+        let context = Context {
+            alloc: self.alloc,
+            text,
+            names: &self.names,
+        };
+        let aim = aim_of(context, goal)?;
         self.builder.set_aim(aim);
         self.solved = true;
         Ok(())
@@ -302,60 +221,40 @@ impl<'t> Resolver<'t> {
     }
 
     /// A declaration of a new name.
-    fn declared_by(
-        &mut self,
-        alloc: Global,
-        text: &[u8],
-        variable: bool,
-        index: Option<(i64, i64)>,
-        declaration: Declaration<'_, 't>,
-    ) -> Result<(), Stop>
+    fn declare_new(&mut self, text: &[u8], declaration: Declaration<'_, 't>) -> Result<(), Stop>
         requires new { declared_as self.old.names declaration.name.now ≡ None }
         requires sound { IsSound (so_far self.old) }
         requires room { HasRoom self.old.builder }
-        ensures is { Leaves (so_far self.new) result (named_by text.now (so_far self.old) variable index declaration.entry) }
+        ensures is { Leaves (so_far self.new) result (named_by text.now (so_far self.old) declaration.entry) }
         ensures sound { OnOk result (IsSound (so_far self.new)) }
         ensures outputs { OnOk result (length self.new.builder.outputs ≤ length self.old.builder.outputs + 1) }
     {
-        match index {
-            Some(index) => {
-                if variable {
-                    self.variable_array(alloc, text, index, declaration)
-                } else {
-                    self.parameter_array(alloc, text, index, declaration)
-                }
-            }
+        match declaration.index {
+            Some(index) => self.array(text, index, declaration),
             None => {
-                if variable {
-                    self.variable(alloc, text, declaration)
+                if declaration.variable {
+                    self.variable(text, declaration)
                 } else {
-                    self.parameter(alloc, text, declaration)
+                    self.parameter(text, declaration)
                 }
             }
         }
     }
 
     /// A declaration.
-    fn declare(
-        &mut self,
-        alloc: Global,
-        text: &[u8],
-        variable: bool,
-        index: Option<(i64, i64)>,
-        declaration: Declaration<'_, 't>,
-    ) -> Result<(), Stop>
+    fn declare(&mut self, text: &[u8], declaration: Declaration<'_, 't>) -> Result<(), Stop>
         requires sound { IsSound (so_far self.old) }
         requires room { HasRoom self.old.builder }
-        ensures is { Leaves (so_far self.new) result (declare_by text.now (so_far self.old) variable index declaration.entry) }
+        ensures is { Leaves (so_far self.new) result (declare_by text.now (so_far self.old) declaration.entry) }
         ensures sound { OnOk result (IsSound (so_far self.new)) }
         ensures outputs { OnOk result (length self.new.builder.outputs ≤ length self.old.builder.outputs + 1) }
     {
         self.check_declaration(declaration.at, declaration.name_at, declaration.name)?;
-        self.declared_by(alloc, text, variable, index, declaration)
+        self.declare_new(text, declaration)
     }
 
     /// The next item.
-    pub(crate) fn take(&mut self, alloc: Global, text: &'t [u8], item: &Item) -> Result<(), Stop>
+    pub(crate) fn take(&mut self, text: &'t [u8], item: &Item) -> Result<(), Stop>
         requires sound { IsSound (so_far self.old) }
         requires room { HasRoom self.old.builder }
         ensures is { Leaves (so_far self.new) result (after text.now (so_far self.old) item.now) }
@@ -376,13 +275,15 @@ impl<'t> Resolver<'t> {
             } => {
                 let declaration = Declaration {
                     at: *at,
+                    variable: *variable,
+                    index: *index,
                     base,
                     name_at: *name_at,
                     name: bytes_at(text, *name_at, *name_to),
                     marked,
                     right,
                 };
-                self.declare(alloc, text, *variable, *index, declaration)
+                self.declare(text, declaration)
             }
             Item::Constraint {
                 at,
@@ -396,7 +297,7 @@ impl<'t> Resolver<'t> {
                     name: bytes_at(text, *name_at, *name_to),
                     arguments: arguments.items(),
                 };
-                self.constraint(alloc, text, constraint)
+                self.constraint(text, constraint)
             }
             Item::Solve { at, goal } => self.solve(text, *at, goal),
         }

@@ -7,8 +7,7 @@ ghost use Rattle.fzn_scope.specs.Known.{AreKnown};
 ghost use Rattle.fzn_scope.specs.Rules.{no_arguments, with_argument, arguments_after, constant_of, scalar_at, truth_of, rule_of, lengths_agree, form_at, constraint_rule};
 
 use crate::form::{Form, Place};
-use crate::names::Names;
-use crate::place::{Wanted, list_of, one_of, set_of};
+use crate::place::{Context, Wanted};
 use crate::refusal::{Refusal, Stop};
 use dcsp_problem::{IntList, Members, Rule, Term, TermList};
 use fzn_item::Expr;
@@ -33,57 +32,6 @@ fn no_arguments(alloc: Global, scalars: usize) -> Result<Arguments, Stop>
         second: TermList::new(alloc),
         members: Members::Listed(IntList::new(alloc)),
     })
-}
-
-/// Adds an argument, at a place that asks for it.
-fn add_argument(
-    alloc: Global,
-    text: &[u8],
-    names: &Names<'_>,
-    done: &mut Arguments,
-    place: Place,
-    expr: &Expr,
-) -> Result<(), Stop>
-    ensures ok { OnOk result (with_argument text.now names.now done.old place expr.now ≡ Ok done.new) }
-    ensures err { IfErr result (λ e. Stops e (with_argument text.now names.now done.old place expr.now)) }
-{
-    match place {
-        Place::Scalar { boolean } => {
-            let wanted = Wanted {
-                boolean,
-                constant: false,
-            };
-            done.scalars.push(one_of(text, names, wanted, expr)?)?;
-        }
-        Place::First(wanted) => done.first = list_of(alloc, text, names, wanted, expr)?,
-        Place::Second { boolean } => {
-            let wanted = Wanted {
-                boolean,
-                constant: false,
-            };
-            done.second = list_of(alloc, text, names, wanted, expr)?;
-        }
-        Place::Set => done.members = set_of(alloc, text, names, expr)?,
-    }
-    Ok(())
-}
-
-/// The arguments at these places, from left to right.
-fn arguments_of(
-    alloc: Global,
-    text: &[u8],
-    names: &Names<'_>,
-    places: &[Place],
-    exprs: &[Expr],
-) -> Result<Arguments, Stop>
-    requires { length exprs.now ≡ length places.now }
-    ensures { Gives result (arguments_after text.now names.now no_arguments places.now exprs.now) }
-{
-    let mut done = no_arguments(alloc, places.len())?;
-    for index in 0..exprs.len() {
-        add_argument(alloc, text, names, &mut done, places[index], &exprs[index])?;
-    }
-    Ok(done)
 }
 
 /// A constant's value; nothing asks for a variable's.
@@ -173,46 +121,72 @@ fn form_at(at: u32, name: &[u8]) -> Result<Form, Refusal>
     }
 }
 
-/// The rule of a constraint whose name stands at a place.
-///
-/// `UnknownConstraint` comes for a name that no constraint has, and `IllTyped` for a wrong number of arguments
-/// and for lists of unequal lengths, all three at the name. Between them come the refusals of the arguments,
-/// from left to right.
-pub fn constraint_rule(
-    alloc: Global,
-    text: &[u8],
-    names: &Names<'_>,
-    at: u32,
-    name: &[u8],
-    exprs: &[Expr],
-) -> Result<Rule, Stop>
-    ensures gives { Gives result (constraint_rule text.now names.now at name.now exprs.now) }
-    ensures shape { IfOk result (λ rule. IsTrue (has_shape rule)) }
-    ensures known { IfOk result (λ rule. (variables : ℕ) → AreKnown variables names.now →
-        All (IsTermOf variables) (terms_of rule)) }
-{
-    checked_rule(alloc, text, names, at, name, exprs)
-}
+impl<'c, 't> Context<'c, 't> {
+    /// Adds an argument, at a place that asks for it.
+    fn add_argument(self, done: &mut Arguments, place: Place, expr: &Expr) -> Result<(), Stop>
+        ensures ok { OnOk result (with_argument self.entry.text.now self.entry.names.now done.old place expr.now ≡ Ok done.new) }
+        ensures err { IfErr result (λ e. Stops e (with_argument self.entry.text.now self.entry.names.now done.old place expr.now)) }
+    {
+        match place {
+            Place::Scalar { boolean } => {
+                let wanted = Wanted {
+                    boolean,
+                    constant: false,
+                };
+                done.scalars.push(self.one_of(wanted, expr)?)?;
+            }
+            Place::First(wanted) => done.first = self.list_of(wanted, expr)?,
+            Place::Second { boolean } => {
+                let wanted = Wanted {
+                    boolean,
+                    constant: false,
+                };
+                done.second = self.list_of(wanted, expr)?;
+            }
+            Place::Set => done.members = self.set_of(expr)?,
+        }
+        Ok(())
+    }
 
-#[tactic(auto, unfolding(crate::specs::Rules::constraint_rule))]
-fn checked_rule(
-    alloc: Global,
-    text: &[u8],
-    names: &Names<'_>,
-    at: u32,
-    name: &[u8],
-    exprs: &[Expr],
-) -> Result<Rule, Stop>
-    ensures { Gives result (constraint_rule text.now names.now at name.now exprs.now) }
-{
-    let form = form_at(at, name)?;
-    let places = form.places(exprs.len());
-    if exprs.len() != places.len() {
-        return Err(Stop::Refused(Refusal::IllTyped { at }));
+    /// The arguments at these places, from left to right.
+    fn arguments_of(self, places: &[Place], exprs: &[Expr]) -> Result<Arguments, Stop>
+        requires { length exprs.now ≡ length places.now }
+        ensures { Gives result (arguments_after self.entry.text.now self.entry.names.now no_arguments places.now exprs.now) }
+    {
+        let mut done = no_arguments(self.alloc, places.len())?;
+        for index in 0..exprs.len() {
+            self.add_argument(&mut done, places[index], &exprs[index])?;
+        }
+        Ok(done)
     }
-    let arguments = arguments_of(alloc, text, names, places, exprs)?;
-    if !lengths_agree(form, &arguments) {
-        return Err(Stop::Refused(Refusal::IllTyped { at }));
+
+    /// The rule of a constraint whose name stands at a place.
+    ///
+    /// `UnknownConstraint` comes for a name that no constraint has, and `IllTyped` for a wrong number of arguments
+    /// and for lists of unequal lengths, all three at the name. Between them come the refusals of the arguments,
+    /// from left to right.
+    pub fn constraint_rule(self, at: u32, name: &[u8], exprs: &[Expr]) -> Result<Rule, Stop>
+        ensures gives { Gives result (constraint_rule self.entry.text.now self.entry.names.now at name.now exprs.now) }
+        ensures shape { IfOk result (λ rule. IsTrue (has_shape rule)) }
+        ensures known { IfOk result (λ rule. (variables : ℕ) → AreKnown variables self.entry.names.now →
+            All (IsTermOf variables) (terms_of rule)) }
+    {
+        self.checked_rule(at, name, exprs)
     }
-    rule_of(alloc, form, arguments)
+
+    #[tactic(auto, unfolding(crate::specs::Rules::constraint_rule))]
+    fn checked_rule(self, at: u32, name: &[u8], exprs: &[Expr]) -> Result<Rule, Stop>
+        ensures { Gives result (constraint_rule self.entry.text.now self.entry.names.now at name.now exprs.now) }
+    {
+        let form = form_at(at, name)?;
+        let places = form.places(exprs.len());
+        if exprs.len() != places.len() {
+            return Err(Stop::Refused(Refusal::IllTyped { at }));
+        }
+        let arguments = self.arguments_of(places, exprs)?;
+        if !lengths_agree(form, &arguments) {
+            return Err(Stop::Refused(Refusal::IllTyped { at }));
+        }
+        rule_of(self.alloc, form, arguments)
+    }
 }

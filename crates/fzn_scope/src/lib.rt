@@ -10,8 +10,8 @@ mod names;
 mod place;
 mod refusal;
 
-pub use arguments::{Arguments, constraint_rule};
+pub use arguments::Arguments;
 pub use form::{Form, Place};
 pub use names::{Declared, Names, bytes_at};
-pub use place::{Wanted, count_of, list_of, one_of, set_of, term_of};
+pub use place::{Context, Wanted};
 pub use refusal::{Refusal, Stop};

@@ -4,6 +4,7 @@ ghost use Rattle.std.specs.Prelude.{◌≡◌, ℕ, [], Ok, All, IfOk, option_co
 ghost use Rattle.dcsp_problem.specs.Rules.{IsTermOf};
 ghost use Rattle.fzn_scope.specs.Known.{AreKnown};
 ghost use Rattle.fzn_scope.specs.Checks.{Gives};
+ghost use Rattle.fzn_scope.specs.Names.{declared_as, bytes_at};
 ghost use Rattle.fzn_scope.specs.Places.{truth_term, is_constant, wanted_term, term_named, term_of, one_of, terms_named, terms_after, list_of, count_named, count_of, set_named, set_of};
 
 use crate::names::{Declared, Names, bytes_at};
@@ -19,6 +20,15 @@ pub struct Wanted {
     pub boolean: bool,
     /// Whether a variable will not do.
     pub constant: bool,
+}
+
+/// A text with the names that it has declared so far.
+#[derive(Clone, Copy)]
+pub struct Context<'c, 't> {
+    /// What lists are taken from.
+    pub alloc: Global,
+    pub text: &'c [u8],
+    pub names: &'c Names<'t>,
 }
 
 /// The term of a truth: 1 for `true`, and 0 for `false`.
@@ -64,57 +74,10 @@ fn term_named(wanted: Wanted, at: u32, declared: Option<&Declared>) -> Result<Te
     }
 }
 
-/// The term of an atom: a constant, or what a name stands for.
-///
-/// `Undeclared` comes for a name that was not declared, and `IllTyped` for anything else that is not wanted,
-/// both at the atom's first byte.
-pub fn term_of(text: &[u8], names: &Names<'_>, wanted: Wanted, atom: &Atom) -> Result<Term, Refusal>
-    ensures { result ≡ term_of text.now names.now wanted atom.now }
-{
-    match atom {
-        Atom::Truth { at, value } => wanted_term(wanted, *at, true, truth_term(*value)),
-        Atom::Whole { at, value } => wanted_term(wanted, *at, false, Term::Const(*value)),
-        Atom::Name { at, to } => term_named(wanted, *at, names.get(bytes_at(text, *at, *to))),
-        Atom::Float { at } | Atom::Range { at, .. } | Atom::Listed { at, .. } => {
-            Err(Refusal::IllTyped { at: *at })
-        }
-    }
-}
-
-/// The term of an expression at a place that asks for one. It is refused as its atom is, and a list is
-/// `IllTyped` at its bracket.
-pub fn one_of(text: &[u8], names: &Names<'_>, wanted: Wanted, expr: &Expr) -> Result<Term, Refusal>
-    ensures is { result ≡ one_of text.now names.now wanted expr.now }
-    ensures known { IfOk result (λ term. (variables : ℕ) → AreKnown variables names.now →
-        IsTermOf variables term) }
-{
-    match expr {
-        Expr::One(atom) => term_of(text, names, wanted, atom),
-        Expr::List { at, .. } => Err(Refusal::IllTyped { at: *at }),
-    }
-}
-
 fn ill_typed(at: u32) -> Stop
     ensures { result ≡ Stop.Refused (Refusal.IllTyped at) }
 {
     Stop::Refused(Refusal::IllTyped { at })
-}
-
-/// The terms of atoms, from left to right.
-fn terms_of(
-    alloc: Global,
-    text: &[u8],
-    names: &Names<'_>,
-    wanted: Wanted,
-    atoms: &[Atom],
-) -> Result<TermList, Stop>
-    ensures { Gives result (terms_after text.now names.now wanted [] atoms.now) }
-{
-    let mut terms = Vec::with_capacity(alloc, atoms.len())?;
-    for atom in atoms {
-        terms.push(term_of(text, names, wanted, atom)?)?;
-    }
-    Ok(TermList::from_vec(terms))
 }
 
 fn copy_of_terms(alloc: Global, terms: &[Term]) -> Result<TermList, Stop>
@@ -152,37 +115,6 @@ fn terms_named(
     }
 }
 
-/// The terms of an expression at a place that asks for a list: a list of atoms, or the name of an array.
-///
-/// A list is refused as the first of its atoms that is, from left to right. `Undeclared` comes for a name that
-/// was not declared, and `IllTyped` for any other atom and for an array that is not wanted, at the atom's first byte.
-pub fn list_of(
-    alloc: Global,
-    text: &[u8],
-    names: &Names<'_>,
-    wanted: Wanted,
-    expr: &Expr,
-) -> Result<TermList, Stop>
-    ensures gives { Gives result (list_of text.now names.now wanted expr.now) }
-    ensures known { IfOk result (λ terms. (variables : ℕ) → AreKnown variables names.now →
-        All (IsTermOf variables) terms) }
-{
-    let atom = match expr {
-        Expr::List { atoms, .. } => return terms_of(alloc, text, names, wanted, atoms.items()),
-        Expr::One(atom) => atom,
-    };
-    match atom {
-        Atom::Name { at, to } => {
-            terms_named(alloc, wanted, *at, names.get(bytes_at(text, *at, *to)))
-        }
-        Atom::Truth { at, .. }
-        | Atom::Whole { at, .. }
-        | Atom::Float { at }
-        | Atom::Range { at, .. }
-        | Atom::Listed { at, .. } => Err(ill_typed(*at)),
-    }
-}
-
 fn count_named(at: u32, declared: Option<&Declared>) -> Result<usize, Refusal>
     ensures { result ≡ count_named at (option_copied declared.entry) }
 {
@@ -191,27 +123,6 @@ fn count_named(at: u32, declared: Option<&Declared>) -> Result<usize, Refusal>
         Some(Declared::Many { terms, .. }) => Ok(terms.len()),
         Some(Declared::One { .. }) => Err(Refusal::IllTyped { at }),
         Some(Declared::Set(_)) => Err(Refusal::IllTyped { at }),
-    }
-}
-
-/// How many elements the right side of an array has, which is a list or the name of an array.
-///
-/// `Undeclared` comes for a name that was not declared, and `IllTyped` for any other atom and for a name of no
-/// array, at the atom's first byte. The elements are not looked at.
-pub fn count_of(text: &[u8], names: &Names<'_>, expr: &Expr) -> Result<usize, Refusal>
-    ensures { result ≡ count_of text.now names.now expr.now }
-{
-    let atom = match expr {
-        Expr::List { atoms, .. } => return Ok(atoms.len()),
-        Expr::One(atom) => atom,
-    };
-    match atom {
-        Atom::Name { at, to } => count_named(*at, names.get(bytes_at(text, *at, *to))),
-        Atom::Truth { at, .. }
-        | Atom::Whole { at, .. }
-        | Atom::Float { at }
-        | Atom::Range { at, .. }
-        | Atom::Listed { at, .. } => Err(Refusal::IllTyped { at: *at }),
     }
 }
 
@@ -244,27 +155,121 @@ fn set_named(alloc: Global, at: u32, declared: Option<&Declared>) -> Result<Memb
     }
 }
 
-/// The set of an expression at a place that asks for one: a range, a listed set as it is written, or a set's name.
-///
-/// `Undeclared` comes for a name that was not declared, and `IllTyped` for anything else, at the first byte.
-pub fn set_of(alloc: Global, text: &[u8], names: &Names<'_>, expr: &Expr) -> Result<Members, Stop>
-    ensures { Gives result (set_of text.now names.now expr.now) }
-{
-    let atom = match expr {
-        Expr::List { at, .. } => return Err(ill_typed(*at)),
-        Expr::One(atom) => atom,
-    };
-    match atom {
-        Atom::Range { low, high, .. } => Ok(Members::Between {
-            low: *low,
-            high: *high,
-        }),
-        Atom::Listed { values, .. } => {
-            Ok(Members::Listed(copy_of_integers(alloc, values.items())?))
+impl<'c, 't> Context<'c, 't> {
+    /// What the name between these places stands for; `None` where it was not declared.
+    fn named(self, from: u32, to: u32) -> Option<&'c Declared>
+        ensures { option_copied result ≡ declared_as self.entry.names.now (bytes_at self.entry.text.now from to) }
+    {
+        self.names.get(bytes_at(self.text, from, to))
+    }
+
+    /// The term of an atom: a constant, or what a name stands for.
+    ///
+    /// `Undeclared` comes for a name that was not declared, and `IllTyped` for anything else that is not wanted,
+    /// both at the atom's first byte.
+    pub fn term_of(self, wanted: Wanted, atom: &Atom) -> Result<Term, Refusal>
+        ensures { result ≡ term_of self.entry.text.now self.entry.names.now wanted atom.now }
+    {
+        match atom {
+            Atom::Truth { at, value } => wanted_term(wanted, *at, true, truth_term(*value)),
+            Atom::Whole { at, value } => wanted_term(wanted, *at, false, Term::Const(*value)),
+            Atom::Name { at, to } => term_named(wanted, *at, self.named(*at, *to)),
+            Atom::Float { at } | Atom::Range { at, .. } | Atom::Listed { at, .. } => {
+                Err(Refusal::IllTyped { at: *at })
+            }
         }
-        Atom::Name { at, to } => set_named(alloc, *at, names.get(bytes_at(text, *at, *to))),
-        Atom::Truth { at, .. } | Atom::Whole { at, .. } | Atom::Float { at } => {
-            Err(ill_typed(*at))
+    }
+
+    /// The term of an expression at a place that asks for one. It is refused as its atom is, and a list is
+    /// `IllTyped` at its bracket.
+    pub fn one_of(self, wanted: Wanted, expr: &Expr) -> Result<Term, Refusal>
+        ensures is { result ≡ one_of self.entry.text.now self.entry.names.now wanted expr.now }
+        ensures known { IfOk result (λ term. (variables : ℕ) → AreKnown variables self.entry.names.now →
+            IsTermOf variables term) }
+    {
+        match expr {
+            Expr::One(atom) => self.term_of(wanted, atom),
+            Expr::List { at, .. } => Err(Refusal::IllTyped { at: *at }),
+        }
+    }
+
+    /// The terms of atoms, from left to right.
+    fn terms_of(self, wanted: Wanted, atoms: &[Atom]) -> Result<TermList, Stop>
+        ensures { Gives result (terms_after self.entry.text.now self.entry.names.now wanted [] atoms.now) }
+    {
+        let mut terms = Vec::with_capacity(self.alloc, atoms.len())?;
+        for atom in atoms {
+            terms.push(self.term_of(wanted, atom)?)?;
+        }
+        Ok(TermList::from_vec(terms))
+    }
+
+    /// The terms of an expression at a place that asks for a list: a list of atoms, or the name of an array.
+    ///
+    /// A list is refused as the first of its atoms that is, from left to right. `Undeclared` comes for a name that
+    /// was not declared, and `IllTyped` for any other atom and for an array that is not wanted, at the atom's first byte.
+    pub fn list_of(self, wanted: Wanted, expr: &Expr) -> Result<TermList, Stop>
+        ensures gives { Gives result (list_of self.entry.text.now self.entry.names.now wanted expr.now) }
+        ensures known { IfOk result (λ terms. (variables : ℕ) → AreKnown variables self.entry.names.now →
+            All (IsTermOf variables) terms) }
+    {
+        let atom = match expr {
+            Expr::List { atoms, .. } => return self.terms_of(wanted, atoms.items()),
+            Expr::One(atom) => atom,
+        };
+        match atom {
+            Atom::Name { at, to } => terms_named(self.alloc, wanted, *at, self.named(*at, *to)),
+            Atom::Truth { at, .. }
+            | Atom::Whole { at, .. }
+            | Atom::Float { at }
+            | Atom::Range { at, .. }
+            | Atom::Listed { at, .. } => Err(ill_typed(*at)),
+        }
+    }
+
+    /// How many elements the right side of an array has, which is a list or the name of an array.
+    ///
+    /// `Undeclared` comes for a name that was not declared, and `IllTyped` for any other atom and for a name of no
+    /// array, at the atom's first byte. The elements are not looked at.
+    pub fn count_of(self, expr: &Expr) -> Result<usize, Refusal>
+        ensures { result ≡ count_of self.entry.text.now self.entry.names.now expr.now }
+    {
+        let atom = match expr {
+            Expr::List { atoms, .. } => return Ok(atoms.len()),
+            Expr::One(atom) => atom,
+        };
+        match atom {
+            Atom::Name { at, to } => count_named(*at, self.named(*at, *to)),
+            Atom::Truth { at, .. }
+            | Atom::Whole { at, .. }
+            | Atom::Float { at }
+            | Atom::Range { at, .. }
+            | Atom::Listed { at, .. } => Err(Refusal::IllTyped { at: *at }),
+        }
+    }
+
+    /// The set of an expression at a place that asks for one: a range, a listed set as it is written, or a set's name.
+    ///
+    /// `Undeclared` comes for a name that was not declared, and `IllTyped` for anything else, at the first byte.
+    pub fn set_of(self, expr: &Expr) -> Result<Members, Stop>
+        ensures { Gives result (set_of self.entry.text.now self.entry.names.now expr.now) }
+    {
+        let atom = match expr {
+            Expr::List { at, .. } => return Err(ill_typed(*at)),
+            Expr::One(atom) => atom,
+        };
+        match atom {
+            Atom::Range { low, high, .. } => Ok(Members::Between {
+                low: *low,
+                high: *high,
+            }),
+            Atom::Listed { values, .. } => {
+                Ok(Members::Listed(copy_of_integers(self.alloc, values.items())?))
+            }
+            Atom::Name { at, to } => set_named(self.alloc, *at, self.named(*at, *to)),
+            Atom::Truth { at, .. } | Atom::Whole { at, .. } | Atom::Float { at } => {
+                Err(ill_typed(*at))
+            }
         }
     }
 }

@@ -3,7 +3,7 @@
 use dcsp_list::Memory;
 use dcsp_problem::{Members, Rel, Rule, Term, TermList};
 use fzn_item::{Item, ItemError, ItemList, items};
-use fzn_scope::{Declared, Names, Refusal, Stop, bytes_at, constraint_rule, count_of};
+use fzn_scope::{Context, Declared, Names, Refusal, Stop, bytes_at};
 use fzn_token::tokens;
 use std::alloc::{AllocFailed, Global};
 use std::process::Abort;
@@ -76,7 +76,12 @@ fn rule_of(rt: &impl Abort, alloc: Global, text: &[u8]) -> Result<Rule, Stop> {
             },
         ) => {
             let name = bytes_at(text, *name_at, *name_to);
-            constraint_rule(alloc, text, &names, *name_at, name, arguments.items())
+            let context = Context {
+                alloc,
+                text,
+                names: &names,
+            };
+            context.constraint_rule(*name_at, name, arguments.items())
         }
         _ => panic!(rt; "no constraint"),
     }
@@ -243,7 +248,12 @@ fn expect_count(rt: &impl Abort, alloc: Global, place: usize, count: Result<usiz
         panic!(rt; "no constraint")
     };
     let expr = arguments.items().get(place).expect(rt, "an expression");
-    assert_eq!(rt; count_of(text, &names, expr), count);
+    let context = Context {
+        alloc,
+        text,
+        names: &names,
+    };
+    assert_eq!(rt; context.count_of(expr), count);
 }
 
 #[test]

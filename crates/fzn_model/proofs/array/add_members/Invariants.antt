@@ -5,6 +5,6 @@ use Rattle.fzn_model.proofs.array.add_members.Given as goal
 -- the terms that are left are still to be added to what there is
 abbrev pub invariant-loop-term : goal.invariant-loop-term
 invariant-loop-term l =
-    (with_members l.at l.builder (element_set l.base) (drop l.term-index l.terms) ≡ with_members l.at l.initial.builder (element_set l.base) l.terms)
+    (with_members l.declaration.name_at l.builder (element_set l.declaration.base.now) (drop l.term-index l.terms) ≡ with_members l.declaration.name_at l.initial.builder (element_set l.declaration.base.now) l.terms)
     × (l.builder.domains ≡ l.initial.builder.domains)
     × (l.builder.outputs ≡ l.initial.builder.outputs)
