@@ -1,5 +1,5 @@
 //! A step as a line of a log.
-ghost use Rattle.std.specs.Prelude.{◌≡◌, ℕ, ◌+◌, ◌/◌, ◌%◌, ◌<◌, [], ◌∷◌, ◌++◌, flat_map, codes, decimal, length, IfOk, OnOk, OnErr, FitsSigned};
+ghost use Rattle.std.specs.Prelude.{◌≡◌, ℕ, ◌+◌, ◌/◌, ◌%◌, ◌<◌, ◌≤◌, [], ◌∷◌, ◌++◌, flat_map, codes, decimal, length, IfOk, OnOk, OnErr, FitsSigned, vec_len, vec_capacity};
 ghost use Rattle.std.specs.Int.{w64};
 ghost use Rattle.std.specs.List.{AllByRecursion};
 ghost use Rattle.dcsp_nogood.specs.Pairs.{IsRising};
@@ -73,39 +73,49 @@ fn push_byte(line: &mut Vec<u8>, byte: u8) -> Result<(), AllocError>
     }
 }
 
-/// Appends a number below 100 in two digits.
-fn push_two_digits(line: &mut Vec<u8>, number: u64) -> Result<(), AllocError>
-    requires { number < 100 }
-    ensures { OnOk result (line.new.items ≡ line.old.items ++ (48 + number / 10) ∷ (48 + number % 10) ∷ []) }
+/// Appends a number below 100 in two digits, for which there is room.
+fn put_two_digits(line: &mut Vec<u8>, number: u64)
+    requires number { number < 100 }
+    requires room { vec_len line.old + 2 ≤ vec_capacity line.old }
+    ensures text { line.new.items ≡ line.old.items ++ (48 + number / 10) ∷ (48 + number % 10) ∷ [] }
+    ensures len { vec_len line.new ≡ vec_len line.old + 2 }
+    ensures capacity { vec_capacity line.new ≡ vec_capacity line.old }
 {
-    push_byte(line, b'0' + (number / 10) as u8)?;
-    push_byte(line, b'0' + (number % 10) as u8)
+    line.push_reserved(b'0' + (number / 10) as u8);
+    line.push_reserved(b'0' + (number % 10) as u8);
 }
 
-/// Appends a number below 100 in decimal digits.
+/// Appends a number below 100 in decimal digits, for which there is room.
 #[tactic(auto, using(std::proofs::lemmas::Fmt::decimal_digit, crate::proofs::Decimals::decimal_of_two))]
-fn push_small(line: &mut Vec<u8>, number: u64) -> Result<(), AllocError>
-    requires { number < 100 }
-    ensures { OnOk result (line.new.items ≡ line.old.items ++ decimal number) }
+fn put_small(line: &mut Vec<u8>, number: u64)
+    requires number { number < 100 }
+    requires room { vec_len line.old + 2 ≤ vec_capacity line.old }
+    ensures text { line.new.items ≡ line.old.items ++ decimal number }
+    ensures len { vec_len line.new ≤ vec_len line.old + 2 }
+    ensures capacity { vec_capacity line.new ≡ vec_capacity line.old }
 {
     if number < 10 {
-        push_byte(line, b'0' + number as u8)
+        line.push_reserved(b'0' + number as u8);
     } else {
-        push_two_digits(line, number)
+        put_two_digits(line, number);
     }
 }
 
-/// Appends a number below 10,000 in decimal digits.
+/// Appends a number below 10,000 in decimal digits, for which there is room.
 #[tactic(auto, using(crate::proofs::Decimals::appended_by_twos))]
-fn push_short(line: &mut Vec<u8>, number: u64) -> Result<(), AllocError>
-    requires { number < 10_000 }
-    ensures { OnOk result (line.new.items ≡ line.old.items ++ decimal number) }
+fn put_short(line: &mut Vec<u8>, number: u64)
+    requires number { number < 10_000 }
+    requires room { vec_len line.old + 4 ≤ vec_capacity line.old }
+    ensures text { line.new.items ≡ line.old.items ++ decimal number }
+    ensures len { vec_len line.new ≤ vec_len line.old + 4 }
+    ensures capacity { vec_capacity line.new ≡ vec_capacity line.old }
 {
     if number < 100 {
-        return push_small(line, number);
+        put_small(line, number);
+    } else {
+        put_small(line, number / 100);
+        put_two_digits(line, number % 100);
     }
-    push_small(line, number / 100)?;
-    push_two_digits(line, number % 100)
 }
 
 /// Appends a number in decimal digits.
@@ -113,15 +123,18 @@ fn push_short(line: &mut Vec<u8>, number: u64) -> Result<(), AllocError>
 pub(crate) fn push_number(line: &mut Vec<u8>, number: u64) -> Result<(), AllocError>
     ensures { OnOk result (line.new.items ≡ line.old.items ++ decimal number) }
 {
-    // Most numbers of a line have few digits.
+    // Most numbers of a line have few digits, and room for these is made at once.
+    if number >= 1_000_000 {
+        return line.extend_from_slice(Buffer::new().format(number).as_bytes());
+    }
+    line.reserve(6)?;
     if number < 10_000 {
-        return push_short(line, number);
+        put_short(line, number);
+    } else {
+        put_short(line, number / 100);
+        put_two_digits(line, number % 100);
     }
-    if number < 1_000_000 {
-        push_short(line, number / 100)?;
-        return push_two_digits(line, number % 100);
-    }
-    line.extend_from_slice(Buffer::new().format(number).as_bytes())
+    Ok(())
 }
 
 /// Appends a value in decimal digits, after `-` where it is negative.
