@@ -1,10 +1,10 @@
 -- What the code finds is what the definitions say.
 use Rattle.std.proofs.Common.{◌≡◌, ℕ, ◌+◌, ◌<◌, Bool, true, false, cond, not, ◌||◌, ◌==◌, List, [], ◌∷◌, ◌++◌, length, map, filter, find, take, drop, get_or, slice_get, Option, Some, None, ℤ, is_some, option_map, option_to_list, refl, sym, ap, subst, ◌∙◌, arith, inl, inr}
-use Rattle.std.specs.Prelude.{All, filter_map, slice_index_or, pos, unwrap_or, if◌then◌else◌}
+use Rattle.std.specs.Prelude.{All, IfSome, filter_map, slice_index_or, pos, unwrap_or, if◌then◌else◌}
 use Rattle.std.specs.Option.{option_or}
 use Rattle.std.specs.List.{list_any, cons_option, enumerate_from}
 use Rattle.std.proofs.lemmas.List.{get_or_at, append_assoc, length_push, at_drop_more, take_more, get_or_default}
-use Rattle.std.proofs.lemmas.List.Elements.{All-cons, All-head, All-tail, All-nil, filter_map-append}
+use Rattle.std.proofs.lemmas.List.Elements.{All-head, All-tail, filter_map-append}
 use Rattle.std.proofs.lemmas.List.Folds.{find-append}
 use Rattle.std.proofs.lemmas.Bool.Decides.{eqb_tells}
 use Rattle.std.proofs.lemmas.Option.{unwrap_or-slice_get}
@@ -118,13 +118,10 @@ cause_valid p i known kept v x e =
     or_valid (IsCause p kept) (first_rule p k (owned_rules p i)) (first_kept k 0 kept) x
     (rule_valid p kept k (owned_rules p i) x (owned_inside p i)) (kept_valid p kept k 0 kept x (omega arith)) e
 
-pub causes_valid : (p : Contents) (i : ℕ) (known : Known) (kept : List Recorded) (vs : List ℤ) → All (IsCause p kept) (causes_for p i known kept vs)
-causes_valid p i known kept [] = All-nil (IsCause p kept)
-causes_valid p i known kept (v ∷ vs) =
-    (elim (cause_for p i known kept v) as (λ o. cause_for p i known kept v ≡ o → All (IsCause p kept) (cons_option o (causes_for p i known kept vs))) [
-      | None ↦ λ e. causes_valid p i known kept vs
-      | Some x ↦ λ e. All-cons (IsCause p kept) x _ (cause_valid p i known kept v x e) (causes_valid p i known kept vs)
-    ]) refl
+-- what is found is a cause
+pub found_valid : (p : Contents) (i : ℕ) (known : Known) (kept : List Recorded) (v : ℤ) (o : Option Cause) → o ≡ cause_for p i known kept v → IfSome o (IsCause p kept)
+found_valid p i known kept v None e = tt
+found_valid p i known kept v (Some x) e = cause_valid p i known kept v x (sym e)
 
 -- ---- the owned rules, each with its number
 

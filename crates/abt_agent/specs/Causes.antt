@@ -1,14 +1,17 @@
 -- The first item that rules a value out, as the code finds it.
-use Rattle.std.specs.Prelude.{◌≡◌, ℕ, ◌+◌, ◌<◌, ◌||◌, length, ℤ, Bool, List, [], ◌∷◌, find, filter_map, Option, Some, None, is_some, not, slice_index_or, if◌then◌else◌}
+use Rattle.std.specs.Prelude.{ℕ, ◌+◌, ◌<◌, length, ℤ, Bool, List, [], ◌∷◌, find, filter_map, map, Option, Some, None, is_some, not, slice_index_or, if◌then◌else◌}
 use Rattle.std.specs.List.{list_any}
 use Rattle.std.specs.Option.{option_or}
-use Rattle.dcsp_defs.specs.Csp.{Known, is_violated, agrees, with_value}
-use Rattle.abt_defs.specs.Agents.{Stamped, View, is_among}
+use Rattle.dcsp_defs.specs.declared.Reason.{Reason}
+use Rattle.dcsp_defs.specs.Csp.{Known, domain, is_violated, agrees, with_value}
+use Rattle.abt_defs.specs.Agents.{Stamped, View, is_among, values_in}
 use Rattle.abt_defs.specs.Reasons.{Item, constraint_item, record_item, pair_at}
-use Rattle.dcsp_problem.specs.Problems.{Contents, constraint_at}
+use Rattle.dcsp_problem.specs.Problems.{Contents, constraint_at, csp_of}
+use Rattle.abt_view.specs.Views.{view_of}
 use Rattle.dcsp_problem.specs.Index.{owned_rules}
 use Rattle.abt_store.specs.declared.Recorded.{Recorded}
 use Rattle.abt_store.specs.Stores.{is_against, record_of}
+use Rattle.abt_agent.specs.declared.knowledge.Knowledge.{Knowledge}
 use Rattle.abt_agent.specs.declared.search.Cause.{Cause}
 use Rattle.abt_agent.specs.declared.search.Cause.TheVariants.{OwnedRule, KeptNogood}
 
@@ -39,6 +42,10 @@ cause_for p i known kept v = first_cause p i kept (with_value i v known)
 abbrev pub causes_for : Contents → ℕ → Known → List Recorded → List ℤ → List Cause
 causes_for p i known kept values = filter_map (cause_for p i known kept) values
 
+-- what rules out each value of the agent's domain first
+abbrev pub all_causes : Knowledge → List Cause
+all_causes k = causes_for k.problem.now k.me (values_in (view_of k.view)) k.store (domain (csp_of k.problem.now) k.me)
+
 -- the least value that nothing rules out
 abbrev pub least_free : Contents → ℕ → Known → List Recorded → List ℤ → Option ℤ
 least_free p i known kept values = find (λ v. not (is_some (cause_for p i known kept v))) values
@@ -51,6 +58,10 @@ no_record = record { nogood = []; step = 0 }
 abbrev pub item_at : Contents → List Recorded → Cause → Item
 item_at p kept (OwnedRule r) = constraint_item (r, constraint_at p r)
 item_at p kept (KeptNogood k) = record_item (record_of (slice_index_or kept k no_record))
+
+-- what a step cites for the causes, in order
+abbrev pub cited : Contents → List Recorded → List Cause → List Reason
+cited p kept all = map (λ (x : Cause). (item_at p kept x).reason) all
 
 -- there is an item at the place
 abbrev pub IsCause : Contents → List Recorded → Cause → Type 0
@@ -68,7 +79,3 @@ blames p kept all k = list_any (λ (x : Cause). blames_one p kept x k) all
 -- what the view has of k
 abbrev pub told_of : View → ℕ → Option (ℕ × Stamped)
 told_of view k = pair_at k (view k)
-
--- a list of agents names those that it named, and those that pass the test
-abbrev pub AddsNames : List ℕ → List ℕ → (ℕ → Bool) → Type 0
-AddsNames old new test = (k : ℕ) → is_among k new ≡ (is_among k old || test k)

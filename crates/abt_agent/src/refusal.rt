@@ -1,9 +1,7 @@
 //! The step that says why an agent has no value left.
 
-ghost use Rattle.std.specs.Prelude.{◌≡◌, ◌<◌, ◌∷◌, ◌++◌, [], ◌&&◌, All, IfOk, OnOk, filter, filter_map, length, map, nat_lt, option_to_list};
+ghost use Rattle.std.specs.Prelude.{◌≡◌, ◌<◌, ◌∷◌, ◌++◌, [], ◌&&◌, ◌||◌, ℕ, IfOk, IfSome, OnOk, filter_map, length, nat_lt, option_to_list};
 ghost use Rattle.std.specs.Option.{ForSome};
-ghost use Rattle.dcsp_defs.specs.Words.{below};
-ghost use Rattle.dcsp_defs.specs.Csp.{domain};
 ghost use Rattle.abt_defs.specs.Reasons.{derived, pair_at, step_of};
 ghost use Rattle.dcsp_problem.specs.Problems.{csp_of};
 ghost use Rattle.abt_message.specs.Messages.{with_stamps};
@@ -11,16 +9,18 @@ ghost use Rattle.abt_store.specs.Stores.{records_of};
 ghost use Rattle.abt_view.specs.Views.{stamped_in, view_of};
 ghost use Rattle.abt_agent.specs.Bodies.{AreProper, IsInStep};
 ghost use Rattle.abt_agent.specs.Outgoing.{ArePositive, AreStampsOf, IsStampedView};
-ghost use Rattle.abt_agent.specs.Causes.{blames, blames_one, item_at, told_of, AddsNames, IsCause};
+ghost use Rattle.abt_agent.specs.States.{marked};
+ghost use Rattle.abt_agent.specs.Causes.{all_causes, blames, blames_one, cited, item_at, told_of, IsCause};
 
 use crate::knowledge::Knowledge;
-use crate::names::{add_pairs, add_variables};
+use crate::names::{marked_agents, name_pairs, name_variables};
 use crate::search::Cause;
 use abt_message::StampList;
 use abt_view::Told;
 use dcsp_defs::{Reason, ReasonList};
 use dcsp_list::Memory;
 use dcsp_nogood::{Nogood, Pair};
+use dcsp_row::Row;
 use ngd_log::Step;
 use std::alloc::Global;
 
@@ -47,10 +47,10 @@ impl<'p> Knowledge<'p> {
         ensures pairs { IfOk result (λ refusal. with_stamps refusal.step.nogood refusal.stamps ≡ derived (csp_of self.now.problem.now) self.now.me (view_of self.now.view) (records_of self.now.store)) }
         ensures stamped { IfOk result (λ refusal. AreStampsOf refusal.step.nogood refusal.stamps) }
     {
-        let causes = self.causes()?;
-        let blamed = self.blamed(&causes)?;
+        let mut marks = Row::new(self.alloc, self.me as usize)?;
+        let reasons = self.blame(&mut marks)?;
+        let blamed = marked_agents(self.alloc, &marks, reasons.len())?;
         let Basis { nogood, stamps } = self.gather(&blamed)?;
-        let reasons = self.reasons_of(&causes)?;
         let step = Step {
             variable: Some(self.me),
             nogood,
@@ -59,41 +59,56 @@ impl<'p> Knowledge<'p> {
         Ok(Refusal { step, stamps })
     }
 
-    /// The higher agents that some of the causes name, rising.
-    fn blamed(&self, causes: &[Cause]) -> Result<Vec<u32>, Memory>
-        requires { All (IsCause self.now.problem.now self.now.store) causes.now }
-        ensures { IfOk result (λ names. names.items ≡ filter (blames self.now.problem.now self.now.store causes.now) (below self.now.me)) }
+    /// What a step cites against the agent's values, in order. The higher agents that this names are
+    /// marked.
+    fn blame(&self, marks: &mut Row) -> Result<ReasonList, Memory>
+        requires in_step { IsInStep self.now }
+        requires proper { AreProper self.now.problem.now self.now.me self.now.store }
+        ensures reasons { IfOk result (λ reasons. reasons ≡ cited self.now.problem.now self.now.store (all_causes self.now)) }
+        ensures size { OnOk result (length marks.new ≡ length marks.old) }
+        ensures marks { OnOk result ((k : ℕ) → marked marks.new k ≡ (marked marks.old k || (nat_lt k (length marks.old) && blames self.now.problem.now self.now.store (all_causes self.now) k))) }
     {
-        let Ok(mut names) = Vec::with_capacity(self.alloc, causes.len()) else {
+        let values = self.problem.domain(self.me).len();
+        let Ok(mut reasons) = Vec::with_capacity(self.alloc, values) else {
             return Err(Memory);
         };
-        self.name_all(&mut names, causes)?;
-        names.sort_unstable();
-        names.dedup();
-        Ok(names)
-    }
-
-    /// Adds the higher agents that the causes name.
-    fn name_all(&self, names: &mut Vec<u32>, causes: &[Cause]) -> Result<(), Memory>
-        requires { All (IsCause self.now.problem.now self.now.store) causes.now }
-        ensures { OnOk result (AddsNames names.old.items names.new.items (λ k. nat_lt k self.now.me && blames self.now.problem.now self.now.store causes.now k)) }
-    {
-        for cause in causes {
-            self.name_one(names, *cause)?;
+        for place in 0..values {
+            self.blame_one(&mut reasons, marks, self.cause_at(place))?;
         }
-        Ok(())
+        Ok(ReasonList::from_vec(reasons))
     }
 
-    /// Adds the higher agents that the cause names.
-    fn name_one(&self, names: &mut Vec<u32>, cause: Cause) -> Result<(), Memory>
+    /// Adds what a step cites for the cause, if there is one, and marks the higher agents that it names.
+    fn blame_one(
+        &self,
+        reasons: &mut Vec<Reason>,
+        marks: &mut Row,
+        cause: Option<Cause>,
+    ) -> Result<(), Memory>
+        requires { IfSome cause (IsCause self.now.problem.now self.now.store) }
+        ensures reasons { OnOk result (reasons.new.items ≡ reasons.old.items ++ cited self.now.problem.now self.now.store (option_to_list cause)) }
+        ensures size { OnOk result (length marks.new ≡ length marks.old) }
+        ensures marks { OnOk result ((k : ℕ) → marked marks.new k ≡ (marked marks.old k || (nat_lt k (length marks.old) && blames self.now.problem.now self.now.store (option_to_list cause) k))) }
+    {
+        let Some(cause) = cause else {
+            return Ok(());
+        };
+        self.name_one(marks, cause);
+        match reasons.push(self.reason_of(cause)) {
+            Ok(()) => Ok(()),
+            Err(_) => Err(Memory),
+        }
+    }
+
+    /// Marks the higher agents that the cause names.
+    fn name_one(&self, marks: &mut Row, cause: Cause)
         requires { IsCause self.now.problem.now self.now.store cause }
-        ensures { OnOk result (AddsNames names.old.items names.new.items (λ k. nat_lt k self.now.me && blames_one self.now.problem.now self.now.store cause k)) }
+        ensures size { length marks.new ≡ length marks.old }
+        ensures marks { (k : ℕ) → marked marks.new k ≡ (marked marks.old k || (nat_lt k (length marks.old) && blames_one self.now.problem.now self.now.store cause k)) }
     {
         match cause {
-            Cause::OwnedRule(rule) => add_variables(names, self.me, self.problem.scope(rule)),
-            Cause::KeptNogood(place) => {
-                add_pairs(names, self.me, self.store.items()[place].nogood.pairs())
-            }
+            Cause::OwnedRule(rule) => name_variables(marks, self.problem.scope(rule)),
+            Cause::KeptNogood(place) => name_pairs(marks, self.store.items()[place].nogood.pairs()),
         }
     }
 
@@ -137,22 +152,6 @@ impl<'p> Knowledge<'p> {
             Cause::OwnedRule(rule) => Reason::Rule(rule),
             Cause::KeptNogood(place) => Reason::Earlier(self.store.items()[place].step),
         }
-    }
-
-    /// What a step cites for the causes, in order.
-    fn reasons_of(&self, causes: &[Cause]) -> Result<ReasonList, Memory>
-        requires { All (IsCause self.now.problem.now self.now.store) causes.now }
-        ensures { IfOk result (λ reasons. reasons ≡ map (λ x. (item_at self.now.problem.now self.now.store x).reason) causes.now) }
-    {
-        let Ok(mut reasons) = Vec::with_capacity(self.alloc, causes.len()) else {
-            return Err(Memory);
-        };
-        for cause in causes {
-            let Ok(()) = reasons.push(self.reason_of(*cause)) else {
-                return Err(Memory);
-            };
-        }
-        Ok(ReasonList::from_vec(reasons))
     }
 }
 

@@ -1,6 +1,6 @@
 //! The search for what rules a value out.
 
-ghost use Rattle.std.specs.Prelude.{◌≡◌, ◌<◌, ◌++◌, All, IfOk, OnOk, is_some, length, not, option_to_list};
+ghost use Rattle.std.specs.Prelude.{◌≡◌, ◌<◌, is_some, length, not};
 ghost use Rattle.dcsp_defs.specs.Csp.{domain};
 ghost use Rattle.abt_defs.specs.Agents.{values_in};
 ghost use Rattle.dcsp_problem.specs.Problems.{csp_of};
@@ -8,11 +8,10 @@ ghost use Rattle.abt_view.specs.Views.{view_of};
 ghost use Rattle.abt_reason.specs.Causes.{value_at};
 ghost use Rattle.abt_store.specs.Stores.{IsOncePerValue};
 ghost use Rattle.abt_agent.specs.Bodies.{AreProper, IsInStep};
-ghost use Rattle.abt_agent.specs.Causes.{first_against, least_free, cause_for, causes_for, IsCause};
+ghost use Rattle.abt_agent.specs.Causes.{first_against, least_free, cause_for};
 
 use crate::knowledge::Knowledge;
 use dcsp_defs::Reason;
-use dcsp_list::Memory;
 
 /// What rules a value out.
 #[derive(Clone, Copy, Debug, PartialEq, Eq)]
@@ -25,7 +24,7 @@ pub enum Cause {
 
 impl<'p> Knowledge<'p> {
     /// What rules out the value at a place of the agent's domain first, if anything does.
-    fn cause_at(&self, place: usize) -> Option<Cause>
+    pub fn cause_at(&self, place: usize) -> Option<Cause>
         requires in_step { IsInStep self.now }
         requires proper { AreProper self.now.problem.now self.now.me self.now.store }
         requires place { place < length (domain (csp_of self.now.problem.now) self.now.me) }
@@ -79,35 +78,5 @@ impl<'p> Knowledge<'p> {
             }
         }
         None
-    }
-
-    /// What rules out each value of the agent's domain first.
-    pub fn causes(&self) -> Result<Vec<Cause>, Memory>
-        requires in_step { IsInStep self.now }
-        requires proper { AreProper self.now.problem.now self.now.me self.now.store }
-        ensures causes { IfOk result (λ all. all.items ≡ causes_for self.now.problem.now self.now.me (values_in (view_of self.now.view)) self.now.store (domain (csp_of self.now.problem.now) self.now.me)) }
-        ensures valid { IfOk result (λ all. All (IsCause self.now.problem.now self.now.store) all.items) }
-    {
-        let values = self.problem.domain(self.me).len();
-        let Ok(mut all) = Vec::with_capacity(self.alloc, values) else {
-            return Err(Memory);
-        };
-        for place in 0..values {
-            add_cause(&mut all, self.cause_at(place))?;
-        }
-        Ok(all)
-    }
-}
-
-/// Adds a cause at the end, if there is one.
-fn add_cause(all: &mut Vec<Cause>, cause: Option<Cause>) -> Result<(), Memory>
-    ensures { OnOk result (all.new.items ≡ all.old.items ++ option_to_list cause) }
-{
-    match cause {
-        Some(cause) => match all.push(cause) {
-            Ok(()) => Ok(()),
-            Err(_) => Err(Memory),
-        },
-        None => Ok(()),
     }
 }

@@ -1,5 +1,5 @@
 //! A step as a line of a log.
-ghost use Rattle.std.specs.Prelude.{◌≡◌, ℕ, ◌+◌, ◌<◌, ◌∷◌, ◌++◌, flat_map, codes, decimal, length, IfOk, OnOk, OnErr, FitsSigned};
+ghost use Rattle.std.specs.Prelude.{◌≡◌, ℕ, ◌+◌, ◌/◌, ◌%◌, ◌<◌, ◌≤◌, [], ◌∷◌, ◌++◌, flat_map, codes, decimal, length, IfOk, OnOk, OnErr, FitsSigned, vec_len, vec_capacity};
 ghost use Rattle.std.specs.Int.{w64};
 ghost use Rattle.std.specs.List.{AllByRecursion};
 ghost use Rattle.dcsp_nogood.specs.Pairs.{IsRising};
@@ -10,7 +10,7 @@ use dcsp_defs::{Reason, Step};
 use dcsp_list::Memory;
 use dcsp_nogood::Pair;
 use itoa::Buffer;
-use std::alloc::{AllocError, Global};
+use std::alloc::AllocError;
 
 /// The first line of a log.
 pub const HEAD: &[u8] = b"ngd 1\n";
@@ -30,60 +30,131 @@ pub fn write_step(number: u64, step: &Step, into: &mut Vec<u8>) -> Result<(), Me
     ensures writable { OnOk result (IsWritable step.now) }
     ensures err { OnErr result (into.new.items ≡ into.old.items) }
 {
-    // The line is made apart, so that a refusal in its middle leaves nothing of it.
-    let alloc = *into.allocator();
-    match line_of(alloc, number, step) {
-        Ok(line) => into.extend_from_slice(&line).map_err(|_| Memory),
+    if into.is_empty() {
+        // The line is made in its place, and a refusal in its middle leaves nothing of it.
+        return match push_step(into, number, step) {
+            Ok(()) => Ok(()),
+            Err(_) => {
+                into.clear();
+                Err(Memory)
+            }
+        };
+    }
+    let mut line = Vec::new(*into.allocator());
+    match push_step(&mut line, number, step) {
+        Ok(()) => into.extend_from_slice(&line).map_err(|_| Memory),
         Err(_) => Err(Memory),
     }
 }
 
-/// The line of a step.
-fn line_of(alloc: Global, number: u64, step: &Step) -> Result<Vec<u8>, AllocError>
-    ensures text { IfOk result (λ line. line.items ≡ step_line number step.now) }
+/// Appends the line of a step.
+fn push_step(line: &mut Vec<u8>, number: u64, step: &Step) -> Result<(), AllocError>
+    ensures text { OnOk result (line.new.items ≡ line.old.items ++ step_line number step.now) }
     ensures rising { OnOk result (IsRising step.now.nogood) }
     ensures values { OnOk result (AllByRecursion (λ y. FitsSigned w64 y.value) step.now.nogood) }
 {
-    let mut line = Vec::with_capacity(alloc, usual_length(step))?;
-    push_number(&mut line, number)?;
-    line.extend_from_slice(b" ")?;
-    push_variable(&mut line, step.variable)?;
-    line.extend_from_slice(b" ")?;
-    push_pairs(&mut line, step.nogood.pairs())?;
+    push_number(line, number)?;
+    push_byte(line, b' ')?;
+    push_variable(line, step.variable)?;
+    push_byte(line, b' ')?;
+    push_pairs(line, step.nogood.pairs())?;
     line.extend_from_slice(b" <-")?;
-    push_reasons(&mut line, step.reasons.items())?;
-    line.extend_from_slice(b"\n")?;
-    Ok(line)
+    push_reasons(line, step.reasons.items())?;
+    push_byte(line, b'\n')
 }
 
-/// About as many bytes as the line of a step has.
-fn usual_length(step: &Step) -> usize {
-    let pairs = step.nogood.pairs().len().saturating_mul(10);
-    let reasons = step.reasons.len().saturating_mul(8);
-    pairs.saturating_add(reasons).saturating_add(32)
+/// Appends a byte. A byte at a time is faster here than a call for a short text.
+fn push_byte(line: &mut Vec<u8>, byte: u8) -> Result<(), AllocError>
+    ensures { OnOk result (line.new.items ≡ line.old.items ++ byte ∷ []) }
+{
+    match line.push(byte) {
+        Ok(()) => Ok(()),
+        Err(_) => Err(AllocError),
+    }
+}
+
+/// Appends a number below 100 in two digits, for which there is room.
+fn put_two_digits(line: &mut Vec<u8>, number: u64)
+    requires number { number < 100 }
+    requires room { vec_len line.old + 2 ≤ vec_capacity line.old }
+    ensures text { line.new.items ≡ line.old.items ++ (48 + number / 10) ∷ (48 + number % 10) ∷ [] }
+    ensures len { vec_len line.new ≡ vec_len line.old + 2 }
+    ensures capacity { vec_capacity line.new ≡ vec_capacity line.old }
+{
+    line.push_reserved(b'0' + (number / 10) as u8);
+    line.push_reserved(b'0' + (number % 10) as u8);
+}
+
+/// Appends a number below 100 in decimal digits, for which there is room.
+#[tactic(auto, using(std::proofs::lemmas::Fmt::decimal_digit, crate::proofs::Decimals::decimal_of_two))]
+fn put_small(line: &mut Vec<u8>, number: u64)
+    requires number { number < 100 }
+    requires room { vec_len line.old + 2 ≤ vec_capacity line.old }
+    ensures text { line.new.items ≡ line.old.items ++ decimal number }
+    ensures len { vec_len line.new ≤ vec_len line.old + 2 }
+    ensures capacity { vec_capacity line.new ≡ vec_capacity line.old }
+{
+    if number < 10 {
+        line.push_reserved(b'0' + number as u8);
+    } else {
+        put_two_digits(line, number);
+    }
+}
+
+/// Appends a number below 10,000 in decimal digits, for which there is room.
+#[tactic(auto, using(crate::proofs::Decimals::appended_by_twos))]
+fn put_short(line: &mut Vec<u8>, number: u64)
+    requires number { number < 10_000 }
+    requires room { vec_len line.old + 4 ≤ vec_capacity line.old }
+    ensures text { line.new.items ≡ line.old.items ++ decimal number }
+    ensures len { vec_len line.new ≤ vec_len line.old + 4 }
+    ensures capacity { vec_capacity line.new ≡ vec_capacity line.old }
+{
+    if number < 100 {
+        put_small(line, number);
+    } else {
+        put_small(line, number / 100);
+        put_two_digits(line, number % 100);
+    }
 }
 
 /// Appends a number in decimal digits.
+#[tactic(auto, using(crate::proofs::Decimals::appended_by_twos))]
 pub(crate) fn push_number(line: &mut Vec<u8>, number: u64) -> Result<(), AllocError>
     ensures { OnOk result (line.new.items ≡ line.old.items ++ decimal number) }
 {
-    // Most numbers of a line have one digit.
-    if number < 10 {
-        return match line.push(b'0' + number as u8) {
-            Ok(()) => Ok(()),
-            Err(_) => Err(AllocError),
-        };
+    // Most numbers of a line have few digits, and room for these is made at once.
+    if number >= 1_000_000 {
+        return line.extend_from_slice(Buffer::new().format(number).as_bytes());
     }
-    line.extend_from_slice(Buffer::new().format(number).as_bytes())
+    line.reserve(6)?;
+    if number < 10_000 {
+        put_short(line, number);
+    } else {
+        put_short(line, number / 100);
+        put_two_digits(line, number % 100);
+    }
+    Ok(())
+}
+
+/// Appends a value in decimal digits, after `-` where it is negative.
+fn push_value(line: &mut Vec<u8>, value: i64) -> Result<(), AllocError>
+    ensures value { OnOk result (FitsSigned w64 value) }
+    ensures text { OnOk result (line.new.items ≡ line.old.items ++ signed_decimal value) }
+{
+    if value < 0 {
+        push_byte(line, b'-')?;
+    }
+    push_number(line, value.unsigned_abs())
 }
 
 fn push_variable(line: &mut Vec<u8>, variable: Option<u32>) -> Result<(), AllocError>
     ensures { OnOk result (line.new.items ≡ line.old.items ++ variable_text variable) }
 {
     match variable {
-        None => line.extend_from_slice(b"-"),
+        None => push_byte(line, b'-'),
         Some(variable) => {
-            line.extend_from_slice(b"v")?;
+            push_byte(line, b'v')?;
             push_number(line, u64::from(variable) + 1)
         }
     }
@@ -93,10 +164,10 @@ fn push_pair(line: &mut Vec<u8>, pair: &Pair) -> Result<(), AllocError>
     ensures value { OnOk result (FitsSigned w64 pair.now.value) }
     ensures text { OnOk result (line.new.items ≡ line.old.items ++ pair_text pair.now) }
 {
-    line.extend_from_slice(b"v")?;
+    push_byte(line, b'v')?;
     push_number(line, u64::from(pair.var) + 1)?;
-    line.extend_from_slice(b"=")?;
-    line.extend_from_slice(Buffer::new().format(pair.value).as_bytes())
+    push_byte(line, b'=')?;
+    push_value(line, pair.value)
 }
 
 fn push_pairs(line: &mut Vec<u8>, pairs: &[Pair]) -> Result<(), AllocError>
@@ -106,13 +177,13 @@ fn push_pairs(line: &mut Vec<u8>, pairs: &[Pair]) -> Result<(), AllocError>
     let [first, others @ ..] = pairs else {
         return line.extend_from_slice(b"[]");
     };
-    line.extend_from_slice(b"[")?;
+    push_byte(line, b'[')?;
     push_pair(line, first)?;
     for pair in others {
-        line.extend_from_slice(b",")?;
+        push_byte(line, b',')?;
         push_pair(line, pair)?;
     }
-    line.extend_from_slice(b"]")
+    push_byte(line, b']')
 }
 
 fn push_reason(line: &mut Vec<u8>, reason: Reason) -> Result<(), AllocError>
@@ -120,11 +191,11 @@ fn push_reason(line: &mut Vec<u8>, reason: Reason) -> Result<(), AllocError>
 {
     match reason {
         Reason::Rule(rule) => {
-            line.extend_from_slice(b"c")?;
+            push_byte(line, b'c')?;
             push_number(line, u64::from(rule) + 1)
         }
         Reason::Earlier(step) => {
-            line.extend_from_slice(b"n")?;
+            push_byte(line, b'n')?;
             push_number(line, step)
         }
     }
@@ -134,7 +205,7 @@ fn push_reasons(line: &mut Vec<u8>, reasons: &[Reason]) -> Result<(), AllocError
     ensures { OnOk result (line.new.items ≡ line.old.items ++ reasons_text reasons.now) }
 {
     for reason in reasons {
-        line.extend_from_slice(b" ")?;
+        push_byte(line, b' ')?;
         push_reason(line, *reason)?;
     }
     Ok(())

@@ -1,0 +1,51 @@
+use Rattle.std.proofs.Common.{◌≡◌, ◌<◌, ◌+◌, ap, sym, ◌∙◌, ◌++◌, ◌||◌, ◌&&◌, nat_lt, length, get_or, take, option_to_list, arith}
+use Rattle.std.specs.Prelude.{pos}
+use Rattle.std.proofs.lemmas.List.{map-append}
+use Rattle.std.proofs.lemmas.List.Folds.{list_any-append}
+use Rattle.std.proofs.lemmas.Option.{slice_get-get_or}
+use Rattle.dcsp_defs.specs.Csp.{domain}
+use Rattle.abt_defs.specs.Agents.{values_in}
+use Rattle.dcsp_problem.specs.Problems.{csp_of}
+use Rattle.abt_view.specs.Views.{view_of}
+use Rattle.abt_reason.specs.Causes.{value_at}
+use Rattle.abt_agent.specs.States.{marked}
+use Rattle.abt_agent.specs.Causes.{blames, blames_one, causes_for, cited, item_at}
+use Rattle.abt_agent.proofs.Blamed.{marks_join}
+use Rattle.abt_agent.proofs.Causes.{causes_more, found_valid}
+use Rattle.abt_agent.proofs.knowledge.Knowledge.blame.Goals as goal
+
+pub blame_one-requires : goal.blame_one-requires
+blame_one-requires c =
+    let p = c.args.self.now.problem.now in
+    let me = c.args.self.now.me in
+    found_valid p me (values_in (view_of c.args.self.now.view)) c.args.self.now.store (value_at p me c.loop-place.place) c.cause_at.result c.cause_at.ensures
+
+pub loop-place-preserved : goal.loop-place-preserved
+loop-place-preserved c =
+    let p = c.args.self.now.problem.now in
+    let me = c.args.self.now.me in
+    let values = domain (csp_of p) me in
+    let known = values_in (view_of c.args.self.now.view) in
+    let store = c.args.self.now.store in
+    let k = c.loop-place.place in
+    let old = c.args.marks.now in
+    let within : k < length values = omega (arith, ap length c.domain.ensures, c.len-values.ensures.len, c.loop-place-test.true) in
+    let x = get_or values k (pos 0) in
+    let before = causes_for p me known store (take k values) in
+    let here = option_to_list c.cause_at.result in
+    let more : causes_for p me known store (take (k + 1) values) ≡ before ++ here =
+    causes_more p me known store values k x within (slice_get-get_or values k (pos 0) within)
+    ∙ ap (λ o. before ++ option_to_list o) (sym c.cause_at.ensures) in
+    let size = c.in_ok-blame_one.ensures.size ∙ c.loop-place.invariant.size in
+    record {
+      reasons = c.in_ok-blame_one.ensures.reasons
+          ∙ ap (λ z. z ++ cited p store here) c.loop-place.invariant.reasons
+          ∙ sym (map-append (λ y. (item_at p store y).reason) before here)
+          ∙ ap (cited p store) (sym more);
+      size = size;
+      marks = λ v. c.in_ok-blame_one.ensures.marks v
+          ∙ ap (λ n. marked c.loop-place.marks v || (nat_lt v n && blames p store here v)) c.loop-place.invariant.size
+          ∙ ap (λ b. b || (nat_lt v (length old) && blames p store here v)) (c.loop-place.invariant.marks v)
+          ∙ marks_join (marked old v) (nat_lt v (length old)) (blames p store before v) (blames p store here v)
+          ∙ ap (λ b. marked old v || (nat_lt v (length old) && b)) (sym (list_any-append (λ y. blames_one p store y v) before here) ∙ ap (λ z. blames p store z v) (sym more));
+    }

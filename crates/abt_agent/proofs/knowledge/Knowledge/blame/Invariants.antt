@@ -1,0 +1,16 @@
+use Rattle.std.proofs.Common.{◌≡◌, ℕ, take, nat_lt, ◌||◌, ◌&&◌, length}
+use Rattle.dcsp_defs.specs.Csp.{domain}
+use Rattle.abt_defs.specs.Agents.{values_in}
+use Rattle.dcsp_problem.specs.Problems.{csp_of}
+use Rattle.abt_view.specs.Views.{view_of}
+use Rattle.abt_agent.specs.States.{marked}
+use Rattle.abt_agent.specs.Causes.{blames, causes_for, cited}
+use Rattle.abt_agent.proofs.knowledge.Knowledge.blame.Given as goal
+
+abbrev pub invariant-loop-place : goal.invariant-loop-place
+invariant-loop-place l =
+    let found = causes_for l.self.problem.now l.self.me (values_in (view_of l.self.view)) l.self.store (take l.place (domain (csp_of l.self.problem.now) l.self.me)) in record {
+      reasons : l.reasons.items ≡ cited l.self.problem.now l.self.store found;
+      size : length l.marks ≡ length l.initial.marks;
+      marks : (k : ℕ) → marked l.marks k ≡ (marked l.initial.marks k || (nat_lt k (length l.initial.marks) && blames l.self.problem.now l.self.store found k));
+    }
