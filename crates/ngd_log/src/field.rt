@@ -1,4 +1,7 @@
 //! Fields of a text, read from left to right: each call gives a value and the bytes after it.
+//!
+//! They are inlined into the loops over a line's pairs and reasons, which are the time of reading a log: there a text
+//! of known length is compared by its bytes, and no result goes through memory.
 ghost use Rattle.std.specs.Prelude.{◌≡◌, ℕ, ◌+◌, ◌≤◌, length, IfSome};
 ghost use Rattle.ngd_log.specs.Reading.{Reads, after, digits_at, number_at, integer_at, counted_at, step_number_at, pair_at, reason_at};
 
