@@ -137,7 +137,10 @@ fn add_room(rooms: &mut Vec<Room>, room: Room) -> Result<(), Memory>
     ensures ok { OnOk result (rooms.new.items ≡ rooms.old.items ++ room ∷ []) }
     ensures err { OnErr result (rooms.new.items ≡ rooms.old.items) }
 {
-    rooms.push(room).map_err(|_| Memory)
+    let Ok(()) = rooms.push(room) else {
+        return Err(Memory);
+    };
+    Ok(())
 }
 
 /// Writes the pairs into cells that were given back, or behind all cells, and tells their room.

@@ -32,7 +32,10 @@ pub fn place_each(
 fn add(placed: &mut Vec<Placed>, found: Placed) -> Result<(), Memory>
     ensures { OnOk result (placed.new.items ≡ placed.old.items ++ found ∷ []) }
 {
-    placed.push(found).map_err(|_| Memory)
+    let Ok(()) = placed.push(found) else {
+        return Err(Memory);
+    };
+    Ok(())
 }
 
 /// The place of the pair's value, where its variable is one of the problem and the value one of its domain.

@@ -15,7 +15,9 @@ pub fn needed_steps(alloc: Global, steps: &[Step]) -> Result<Vec<bool>, Memory>
     ensures as_many { IfOk result (λ needed. length needed.items ≡ length steps.now) }
     ensures exact { IfOk result (λ needed. (number : ℕ) → (is_marked needed.items number ≡ true) ↔ IsNeeded steps.now number) }
 {
-    let mut needed = vec![in alloc; false; steps.len()].map_err(|_| Memory)?;
+    let Ok(mut needed) = vec![in alloc; false; steps.len()] else {
+        return Err(Memory);
+    };
     mark(&mut needed, steps.len() as u64);
     mark_needed(&mut needed, steps);
     Ok(needed)

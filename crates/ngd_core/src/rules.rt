@@ -16,7 +16,9 @@ pub fn cited_rules(alloc: Global, rules: u32, steps: &[Step]) -> Result<RuleNumb
     ensures rising { IfOk result (λ cited. IsRising cited) }
     ensures exact { IfOk result (λ cited. (rule : ℕ) → In rule cited ↔ (is_cited steps.now rule ≡ true)) }
 {
-    let mut cited = vec![in alloc; false; rules as usize].map_err(|_| Memory)?;
+    let Ok(mut cited) = vec![in alloc; false; rules as usize] else {
+        return Err(Memory);
+    };
     for step in steps {
         mark_cited(&mut cited, step.reasons.items());
     }
@@ -63,7 +65,9 @@ fn marked_places(alloc: Global, marks: &[bool]) -> Result<RuleNumbers, Memory>
     let mut places = RuleNumbers::new(alloc);
     for (place, mark) in marks.iter().enumerate() {
         if *mark {
-            places.push(place as u32).map_err(|refused| refused.1)?;
+            let Ok(()) = places.push(place as u32) else {
+                return Err(Memory);
+            };
         }
     }
     Ok(places)

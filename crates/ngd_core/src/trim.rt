@@ -28,7 +28,10 @@ pub fn trimmed(alloc: Global, steps: &[Step], needed: &[bool]) -> Result<Derivat
 fn push_number(numbers: &mut Vec<u64>, number: u64) -> Result<(), Memory>
     ensures { OnOk result (numbers.new.items ≡ numbers.old.items ++ number ∷ []) }
 {
-    numbers.push(number).map_err(|_| Memory)
+    let Ok(()) = numbers.push(number) else {
+        return Err(Memory);
+    };
+    Ok(())
 }
 
 /// Adds a step with the new numbers of the steps before it.
@@ -42,13 +45,14 @@ fn push_renumbered(
 {
     let nogood = step.nogood.copy(alloc)?;
     let reasons = renumbered_reasons(alloc, step.reasons.items(), numbers)?;
-    trimmed
-        .push(Step {
-            variable: step.variable,
-            nogood,
-            reasons,
-        })
-        .map_err(|refused| refused.1)
+    let Ok(()) = trimmed.push(Step {
+        variable: step.variable,
+        nogood,
+        reasons,
+    }) else {
+        return Err(Memory);
+    };
+    Ok(())
 }
 
 fn renumbered_reasons(
@@ -58,14 +62,18 @@ fn renumbered_reasons(
 ) -> Result<ReasonList, Memory>
     ensures { IfOk result (λ new. new ≡ map (renumbered_reason (number_in numbers.now)) reasons.now) }
 {
-    let room = Vec::with_capacity(alloc, reasons.len()).map_err(|_| Memory)?;
+    let Ok(room) = Vec::with_capacity(alloc, reasons.len()) else {
+        return Err(Memory);
+    };
     let mut new = ReasonList::from_vec(room);
     for reason in reasons {
         let reason = match *reason {
             Reason::Rule(rule) => Reason::Rule(rule),
             Reason::Earlier(number) => Reason::Earlier(number_in(numbers, number)),
         };
-        new.push(reason).map_err(|refused| refused.1)?;
+        let Ok(()) = new.push(reason) else {
+            return Err(Memory);
+        };
     }
     Ok(new)
 }

@@ -212,6 +212,11 @@ refusal_is (Refused f) error e = let g : f ≡ error = cc in ap Refused g
 pub told_err : (standing : Standing) (r : Result (Unit {0}) LogError) (error : LogError) → Tells (refusal_of standing) r → r ≡ Err error → standing ≡ Refused error
 told_err standing r error t e = refusal_is standing error (tells_err (refusal_of standing) r error t e)
 
+-- a refusal that stands, stays
+pub refusal_stays : (old new : Kept) (o : Option LogError) (piece : List ℕ) (xs ys : List Entry) → refusal_of old.standing ≡ o → Feeds old new piece xs ys → IfSome o (λ (error : LogError). refusal_of new.standing ≡ Some error)
+refusal_stays old new None piece xs ys e h = tt
+refusal_stays old new (Some error) piece xs ys e h = ap refusal_of (h.stays error (refusal_is old.standing error e))
+
 -- nothing refused is no want of memory
 pub open_memory : (standing : Standing) → refusal_of standing ≡ None → standing ≡ Refused Memory → ⊥
 open_memory standing o e = let f : refusal_of standing ≡ Some Memory = ap refusal_of e in cc

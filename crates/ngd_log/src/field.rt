@@ -1,4 +1,7 @@
 //! Fields of a text, read from left to right: each call gives a value and the bytes after it.
+//!
+//! They are inlined into the loops over a line's pairs and reasons, which are the time of reading a log: there a text
+//! of known length is compared by its bytes, and no result goes through memory.
 ghost use Rattle.std.specs.Prelude.{◌≡◌, ℕ, ◌+◌, ◌≤◌, length, IfSome};
 ghost use Rattle.ngd_log.specs.Reading.{Reads, after, digits_at, number_at, integer_at, counted_at, step_number_at, pair_at, reason_at};
 
@@ -18,6 +21,7 @@ const STEPS: u64 = 1 << 62;
 const SHORT: u64 = u64::MAX / 10;
 
 /// What stands after this text, where the bytes begin with it.
+#[inline(always)]
 pub fn after<'t>(text: &[u8], bytes: &'t [u8]) -> Option<&'t [u8]>
     ensures reads { Reads (λ x. x.now) result (after text.now bytes.now) }
     ensures shorter { IfSome result (λ x. length x.now + length text.now ≡ length bytes.now) }
@@ -27,6 +31,7 @@ pub fn after<'t>(text: &[u8], bytes: &'t [u8]) -> Option<&'t [u8]>
 
 /// The digits at the front, as a number.
 #[tactic(auto, unfolding(crate::specs::Reading::digits_at))]
+#[inline(always)]
 fn digits_at(bytes: &[u8]) -> Option<(u64, &[u8])>
     ensures reads { Reads (λ x. (x.0, x.1.now)) result (digits_at 0 bytes.now) }
     ensures shorter { IfSome result (λ x. length x.1.now ≤ length bytes.now) }
@@ -50,6 +55,7 @@ fn digits_at(bytes: &[u8]) -> Option<(u64, &[u8])>
 
 /// A number of 64 bits in decimal digits, without leading zeros.
 #[tactic(auto, unfolding(crate::specs::Reading::number_at))]
+#[inline(always)]
 fn number_at(bytes: &[u8]) -> Option<(u64, &[u8])>
     ensures reads { Reads (λ x. (x.0, x.1.now)) result (number_at bytes.now) }
     ensures shorter { IfSome result (λ x. length x.1.now ≤ length bytes.now) }
@@ -64,6 +70,7 @@ fn number_at(bytes: &[u8]) -> Option<(u64, &[u8])>
 
 /// A signed number of 64 bits in decimal digits, without leading zeros and without `-0`.
 #[tactic(auto, unfolding(crate::specs::Reading::integer_at, crate::specs::Reading::negative, crate::specs::Reading::plain))]
+#[inline(always)]
 pub fn integer_at(bytes: &[u8]) -> Option<(i64, &[u8])>
     ensures reads { Reads (λ x. (x.0, x.1.now)) result (integer_at bytes.now) }
     ensures shorter { IfSome result (λ x. length x.1.now ≤ length bytes.now) }
@@ -88,6 +95,7 @@ pub fn integer_at(bytes: &[u8]) -> Option<(i64, &[u8])>
 
 /// A number from 1 to `most`, as a number counted from 0.
 #[tactic(auto, unfolding(crate::specs::Reading::counted_at))]
+#[inline(always)]
 pub(crate) fn counted_at(bytes: &[u8], most: u32) -> Option<(u32, &[u8])>
     ensures reads { Reads (λ x. (x.0, x.1.now)) result (counted_at most bytes.now) }
     ensures shorter { IfSome result (λ x. length x.1.now ≤ length bytes.now) }
@@ -101,6 +109,7 @@ pub(crate) fn counted_at(bytes: &[u8], most: u32) -> Option<(u32, &[u8])>
 
 /// The number of a step.
 #[tactic(auto, unfolding(crate::specs::Reading::step_number_at))]
+#[inline(always)]
 pub(crate) fn step_number_at(bytes: &[u8]) -> Option<(u64, &[u8])>
     ensures reads { Reads (λ x. (x.0, x.1.now)) result (step_number_at bytes.now) }
     ensures shorter { IfSome result (λ x. length x.1.now ≤ length bytes.now) }
@@ -114,6 +123,7 @@ pub(crate) fn step_number_at(bytes: &[u8]) -> Option<(u64, &[u8])>
 
 /// A pair, as `v2=-7`.
 #[tactic(auto, unfolding(crate::specs::Reading::pair_at))]
+#[inline(always)]
 pub(crate) fn pair_at(bytes: &[u8]) -> Option<(Pair, &[u8])>
     ensures reads { Reads (λ x. (x.0, x.1.now)) result (pair_at bytes.now) }
     ensures shorter { IfSome result (λ x. length x.1.now ≤ length bytes.now) }
@@ -127,6 +137,7 @@ pub(crate) fn pair_at(bytes: &[u8]) -> Option<(Pair, &[u8])>
 
 /// A reason, as `c2` or `n5`.
 #[tactic(auto, unfolding(crate::specs::Reading::reason_at))]
+#[inline(always)]
 pub(crate) fn reason_at(bytes: &[u8]) -> Option<(Reason, &[u8])>
     ensures reads { Reads (λ x. (x.0, x.1.now)) result (reason_at bytes.now) }
     ensures shorter { IfSome result (λ x. length x.1.now ≤ length bytes.now) }

@@ -1,5 +1,5 @@
 //! Reading a log in pieces.
-ghost use Rattle.std.specs.Prelude.{◌≡◌, ◌⊎◌, ◌↔◌, ℕ, ◌+◌, ◌<◌, ◌≤◌, ◌^◌, [], ◌++◌, List, length, Some, IfSome, IfNone, IfOk, OnOk, IsOk, IsErrOf, Err};
+ghost use Rattle.std.specs.Prelude.{◌≡◌, ◌⊎◌, ◌↔◌, ℕ, ◌+◌, ◌<◌, ◌≤◌, ◌^◌, [], ◌++◌, List, length, Some, IfSome, IfNone, IfOk, OnOk, IsOk, IsErr, IsErrOf, Err};
 ghost use Rattle.ngd_log.specs.declared.entry.Entry.{Entry as AnEntry};
 ghost use Rattle.ngd_log.specs.EntryTexts.{EntriesOrBadLine, TextsDiffer, IsOneAnswer, IsHeadedTwo, IsLogOfEntries, IsFirstBadLine};
 ghost use Rattle.ngd_log.specs.EntryReading.{good_entries};
@@ -76,13 +76,16 @@ impl LogReader {
     /// lends the entry of that line. It answers what is left, and `None` where the piece had no line feed.
     ///
     /// The text with this piece has at most 2^63 bytes. A bad line and what follows it lend nothing, and are told by
-    /// `finish`. After `Memory` each later call answers that.
+    /// `finish`. After `Memory` each later call answers that, and so does `finish`.
     pub fn take_line<'t>(&mut self, piece: &'t [u8]) -> Result<Option<&'t [u8]>, Memory>
         requires { self.old.fed + length piece.now ≤ 2 ^ 63 }
         ensures line { IfOk result (λ rest. IfSome rest (λ others. TakesFront self.old self.new piece.now others.now)) }
         ensures shorter { IfOk result (λ rest. IfSome rest (λ others. length others.now < length piece.now)) }
         ensures part { IfOk result (λ rest. IfNone rest (TakesFront self.old self.new piece.now [])) }
         ensures silent { IfOk result (λ rest. IfNone rest (self.new.lent ≡ [])) }
+        ensures counted { self.new.fed ≤ self.old.fed + length piece.now }
+        ensures stands { IsErr result ↔ (refusal_of self.new.standing ≡ Some LogError.Memory) }
+        ensures again { IfSome (refusal_of self.old.standing) (λ error. refusal_of self.new.standing ≡ Some error) }
     {
         let Some((line, others)) = split_line(piece) else {
             take_part(&mut self.body, piece);
@@ -115,7 +118,7 @@ impl LogReader {
     /// Whether the text that was fed is a log of either version. It takes no memory.
     ///
     /// `LogError::Line` comes exactly where it is none, and names its first bad line: an unfinished or
-    /// missing line is one. `LogError::Memory` comes exactly where a call of `feed` answered that.
+    /// missing line is one. `LogError::Memory` comes exactly where a call of `feed` or `take_line` lacked memory.
     pub fn finish(&self) -> Result<(), LogError>
         ensures log { OnOk result ((text : List ℕ) → IsFed self.now text → IsLogOfEntries text (good_entries text)) }
         ensures line { (number : ℕ) → IsErrOf result (LogError.Line number) → (text : List ℕ) → IsFed self.now text → IsFirstBadLine text number }

@@ -1,6 +1,6 @@
 //! Versions of logs, and where a reader of a log stands.
 
-ghost use Rattle.std.specs.Prelude.{◌≡◌, OnOk};
+ghost use Rattle.std.specs.Prelude.{◌≡◌, OnOk, OnErr};
 ghost use Rattle.ngd_log.specs.Pieces.{refusal_of, fault_of, Tells};
 
 use crate::log::LogError;
@@ -60,7 +60,8 @@ impl Standing {
 
     /// The refusal for want of memory, if that stands.
     pub fn memory(self) -> Result<(), Memory>
-        ensures { OnOk result (self ≡ Standing.Refused LogError.Memory → ⊥) }
+        ensures ok { OnOk result (self ≡ Standing.Refused LogError.Memory → ⊥) }
+        ensures err { OnErr result (self ≡ Standing.Refused LogError.Memory) }
     {
         match self {
             Standing::Refused(LogError::Memory) => Err(Memory),

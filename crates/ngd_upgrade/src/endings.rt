@@ -68,7 +68,10 @@ fn no_places(alloc: Global, count: usize) -> Result<Vec<usize>, Memory>
     ensures count { IfOk result (λ places. length places.items ≡ count) }
     ensures each { IfOk result (λ places. (i : ℕ) → i < count → slice_index_or places.items i 0 ≡ count) }
 {
-    vec![in alloc; count; count].map_err(|_| Memory)
+    let Ok(places) = vec![in alloc; count; count] else {
+        return Err(Memory);
+    };
+    Ok(places)
 }
 
 /// Puts each step before the chain of those that end where it does, from the last step on.
@@ -119,5 +122,8 @@ fn add_chain(nexts: &[usize], first: usize, into: &mut Vec<u64>) -> Result<(), M
 fn add_number(into: &mut Vec<u64>, number: u64) -> Result<(), Memory>
     ensures { OnOk result (into.new.items ≡ into.old.items ++ number ∷ []) }
 {
-    into.push(number).map_err(|_| Memory)
+    let Ok(()) = into.push(number) else {
+        return Err(Memory);
+    };
+    Ok(())
 }
