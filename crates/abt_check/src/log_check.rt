@@ -50,7 +50,10 @@ fn keep_step(alloc: Global, steps: &mut Derivation, entry: &Lent<'_>) -> Result<
 fn push_step(steps: &mut Derivation, step: Step) -> Result<(), Memory>
     ensures { OnOk result (steps.new ≡ steps.old ++ step ∷ []) }
 {
-    steps.push(step).map_err(|_| Memory)
+    let Ok(()) = steps.push(step) else {
+        return Err(Memory);
+    };
+    Ok(())
 }
 
 impl<'p> LogCheck<'p> {

@@ -21,6 +21,7 @@ pub enum Rel {
 
 impl Rel {
     /// Whether the sum stands so to the total.
+    #[inline(always)]
     pub fn holds(self, sum: i128, total: i128) -> bool
         ensures { result ≡ stands self sum total }
     {
@@ -96,6 +97,7 @@ fn sum_of<W: Weighted>(weighted: &W) -> i128
 }
 
 /// The product of a coefficient and a value.
+#[inline(always)]
 pub fn product(coef: i64, value: i64) -> i128
     ensures product { result ≡ coef *ℤ value }
     ensures size { unsigned_abs coef < 2 ^ 62 → unsigned_abs result ≤ 2 ^ 125 }

@@ -23,7 +23,8 @@ pub enum Form {
 }
 
 impl Form {
-    /// The pair, if it is one.
+    /// The pair, if it is one. It is inlined, so that no pair goes through memory where a rule is tested.
+    #[inline(always)]
     pub fn pair(&self) -> Option<Pair>
         ensures { result ≡ pair_in self.now }
     {

@@ -21,6 +21,7 @@ pub struct Pair {
 
 impl Pair {
     /// Whether the rule is true where its variables have these values.
+    #[inline(always)]
     pub fn holds(self, first: i64, second: i64) -> bool
         requires { IsSmall self }
         ensures { result ≡ stands self.rel (pair_sum self first second) self.total }
@@ -40,6 +41,7 @@ impl Pair {
     }
 
     /// Whether the look-up gives both variables a value, and the rule is false under these.
+    #[inline(always)]
     pub fn is_missed<L: Lookup>(self, lookup: &L) -> bool
         requires { IsSmall self }
         ensures { result ≡ is_missed self (L.values lookup.now) }

@@ -128,6 +128,7 @@ impl Problem {
     ///
     /// There is one of each comparison of two numbers of which at least one is a variable, and of each sum over one
     /// or two variables that nothing tells, unless its numbers are great.
+    #[inline(always)]
     pub fn pair(&self, rule: u32) -> Option<Pair>
         requires { rule < length self.now.rules }
         ensures pair { IfSome result (λ pair. IsPairOf pair (rule_at self.now rule)) }
@@ -138,6 +139,7 @@ impl Problem {
     }
 
     /// The form of a rule.
+    #[inline(always)]
     fn form(&self, rule: u32) -> &Form
         requires { rule < length self.now.rules }
         ensures form { IsFormOf result.now (rule_at self.now rule) }
