@@ -17,7 +17,7 @@ use crate::under::Known;
 use abt_view::View;
 use dcsp_list::Memory;
 use dcsp_problem::Problem;
-use dcsp_row::{Marks, Row, fill_row, span_of};
+use dcsp_row::{Marks, Row, Unknown, fill_row, span_of};
 use std::alloc::Global;
 
 /// An agent that owns rules of a problem, and what it was told.
@@ -130,12 +130,12 @@ fn refresh(ruled_out: &mut RuledOut, room: &mut Marks, owner: &Owner, place: usi
 {
     let rule = owner.problem.owned(owner.agent)[place];
     let values = owner.problem.domain(owner.agent).len();
-    match span_of(
-        owner.problem,
-        rule,
-        owner.agent,
-        &Known { view: owner.view },
-    ) {
+    let known = Known { view: owner.view };
+    let unknown = Unknown {
+        var: owner.agent,
+        lookup: &known,
+    };
+    match span_of(owner.problem, rule, &unknown) {
         Some(span) => ruled_out.replace(place, values, &Marks::Span(span)),
         None => {
             fill(owner, rule, room);
@@ -154,12 +154,11 @@ fn fill(owner: &Owner, rule: u32, room: &mut Marks)
     ensures marks { (k : ℕ) → k < size_of owner.now.problem.now owner.now.agent → is_marked room.new k ≡ is_ruled_out owner.now.problem.now rule owner.now.agent (values_in (view_of owner.now.view.now)) (own_at (domain (csp_of owner.now.problem.now) owner.now.agent) k) }
 {
     if let Marks::Row(row) = room {
-        fill_row(
-            owner.problem,
-            rule,
-            owner.agent,
-            &Known { view: owner.view },
-            row,
-        );
+        let known = Known { view: owner.view };
+        let unknown = Unknown {
+            var: owner.agent,
+            lookup: &known,
+        };
+        fill_row(owner.problem, rule, &unknown, row);
     }
 }

@@ -14,7 +14,7 @@ ghost use Rattle.dcsp_row.specs.Rows.{is_false, is_ruled_out, IsRow, TellsFalse,
 ghost use Rattle.dcsp_row.specs.Spans.{SpansWhere};
 
 use crate::general::try_each;
-use crate::known::{known_value, knows_others};
+use crate::known::{Unknown, known_value, knows_others};
 use crate::line::{line_of, line_of_pair};
 use crate::row::Row;
 use crate::span::Span;
@@ -22,83 +22,93 @@ use crate::sums::{Opened, fill_sum, missed_line, off_span, told_by};
 use dcsp_domain::Domain;
 use dcsp_problem::{Lookup, Pair, Problem, Rule};
 
-/// The values of the variable at which the rule is violated under these and the look-up's, as a span of
+/// The values of the open variable at which the rule is violated under these and the others', as a span of
 /// its domain; `None` only where the rule is not one that always has a span.
-pub fn span_of<L: Lookup>(problem: &Problem, rule: u32, var: u32, lookup: &L) -> Option<Span>
+pub fn span_of<L: Lookup>(problem: &Problem, rule: u32, unknown: &Unknown<'_, L>) -> Option<Span>
     requires rule { rule < length problem.now.rules }
-    requires var { var < length problem.now.domains }
-    requires known { AreInDomains (csp_of problem.now) (L.values lookup.now) }
-    ensures span { IfSome result (SpansWhere (is_ruled_out problem.now rule var (L.values lookup.now)) (domain (csp_of problem.now) var)) }
-    ensures some { IsTrue (has_span var (rule_at problem.now rule)) → IsTrue (is_some result) }
+    requires var { unknown.now.var < length problem.now.domains }
+    requires known { AreInDomains (csp_of problem.now) (L.values unknown.now.lookup.now) }
+    ensures span { IfSome result (SpansWhere (is_ruled_out problem.now rule unknown.now.var (L.values unknown.now.lookup.now)) (domain (csp_of problem.now) unknown.now.var)) }
+    ensures some { IsTrue (has_span unknown.now.var (rule_at problem.now rule)) → IsTrue (is_some result) }
 {
     let scope = problem.scope(rule);
-    if !knows_others(scope, var, lookup) {
+    if !knows_others(scope, unknown) {
         return Some(Span::whole(false));
     }
     if let Some(pair) = problem.pair(rule) {
-        return Some(span_of_pair(pair, problem.domain(var), var, lookup));
+        return Some(span_of_pair(pair, problem.domain(unknown.var), unknown));
     }
     if scope.is_empty() {
-        return Some(Span::whole(problem.violated_within(rule, lookup)));
+        return Some(Span::whole(problem.violated_within(rule, unknown.lookup)));
     }
     let _variables = problem.vars();
-    span_of_sum(problem.rule(rule), problem.domain(var), var, lookup)
+    span_of_sum(problem.rule(rule), problem.domain(unknown.var), unknown)
 }
 
 /// The values at which the pair is false.
-fn span_of_pair<L: Lookup>(pair: Pair, domain: &Domain, var: u32, lookup: &L) -> Span
+fn span_of_pair<L: Lookup>(pair: Pair, domain: &Domain, unknown: &Unknown<'_, L>) -> Span
     requires { IsSmall pair }
-    ensures { SpansWhere (λ x. not (pair_truth pair (filled (with_value var x (L.values lookup.now))))) domain.now result }
+    ensures { SpansWhere (λ x. not (pair_truth pair (filled (with_value unknown.now.var x (L.values unknown.now.lookup.now))))) domain.now result }
 {
-    let line = line_of_pair(pair, var, lookup);
+    let line = line_of_pair(pair, unknown);
     missed_line(pair.rel, line, pair.total, domain)
 }
 
 /// The values at which the rule is false, if it is a sum with the variable in one of its terms at most.
-fn span_of_sum<L: Lookup>(rule: &Rule, domain: &Domain, var: u32, lookup: &L) -> Option<Span>
+fn span_of_sum<L: Lookup>(rule: &Rule, domain: &Domain, unknown: &Unknown<'_, L>) -> Option<Span>
     requires shape { IsTrue (has_shape rule.now) }
-    requires narrow { FitAtEach (λ x. rule_sizes rule.now (filled (with_value var x (L.values lookup.now)))) widest domain.now }
-    ensures span { IfSome result (SpansWhere (is_false rule.now var (L.values lookup.now)) domain.now) }
-    ensures some { IsTrue (not (is_plain rule.now)) → IsTrue (has_span var rule.now) → IsTrue (is_some result) }
+    requires narrow { FitAtEach (λ x. rule_sizes rule.now (filled (with_value unknown.now.var x (L.values unknown.now.lookup.now)))) widest domain.now }
+    ensures span { IfSome result (SpansWhere (is_false rule.now unknown.now.var (L.values unknown.now.lookup.now)) domain.now) }
+    ensures some { IsTrue (not (is_plain rule.now)) → IsTrue (has_span unknown.now.var rule.now) → IsTrue (is_some result) }
 {
     if domain.is_empty() {
         return Some(Span::whole(false));
     }
-    let opened = open_sum(rule, domain, var, lookup)?;
+    let opened = open_sum(rule, domain, unknown)?;
     off_span(opened, domain)
 }
 
-/// For each value of the variable whether the rule is violated under this value and the look-up's.
-pub fn fill_row<L: Lookup>(problem: &Problem, rule: u32, var: u32, lookup: &L, row: &mut Row)
+/// For each value of the open variable whether the rule is violated under this value and the others'.
+pub fn fill_row<L: Lookup>(problem: &Problem, rule: u32, unknown: &Unknown<'_, L>, row: &mut Row)
     requires rule { rule < length problem.now.rules }
-    requires var { var < length problem.now.domains }
-    requires size { length row.old ≡ length (domain (csp_of problem.now) var) }
-    requires known { AreInDomains (csp_of problem.now) (L.values lookup.now) }
-    ensures { IsRow problem.now rule var (L.values lookup.now) row.new }
+    requires var { unknown.now.var < length problem.now.domains }
+    requires size { length row.old ≡ length (domain (csp_of problem.now) unknown.now.var) }
+    requires known { AreInDomains (csp_of problem.now) (L.values unknown.now.lookup.now) }
+    ensures { IsRow problem.now rule unknown.now.var (L.values unknown.now.lookup.now) row.new }
 {
-    if !knows_others(problem.scope(rule), var, lookup) {
+    if !knows_others(problem.scope(rule), unknown) {
         row.mark_span(Span::whole(false));
         return;
     }
     let _variables = problem.vars();
-    if !fill_linear(problem.rule(rule), problem.domain(var), var, lookup, row) {
-        try_each(problem, rule, var, lookup, row);
+    if !fill_linear(
+        problem.rule(rule),
+        problem.domain(unknown.var),
+        unknown,
+        row,
+    ) {
+        try_each(problem, rule, unknown, row);
     }
 }
 
 /// For each value of the variable whether the rule is false, if it is a sum with the variable in one of its
 /// terms at most.
-fn fill_linear<L: Lookup>(rule: &Rule, domain: &Domain, var: u32, lookup: &L, row: &mut Row) -> bool
+fn fill_linear<L: Lookup>(
+    rule: &Rule,
+    domain: &Domain,
+    unknown: &Unknown<'_, L>,
+    row: &mut Row,
+) -> bool
     requires size { length row.old ≡ length domain.now }
     requires shape { IsTrue (has_shape rule.now) }
-    requires narrow { FitAtEach (λ x. rule_sizes rule.now (filled (with_value var x (L.values lookup.now)))) widest domain.now }
+    requires narrow { FitAtEach (λ x. rule_sizes rule.now (filled (with_value unknown.now.var x (L.values unknown.now.lookup.now)))) widest domain.now }
     ensures size { length row.new ≡ length domain.now }
-    ensures tells { IsTrue result → TellsFalse rule.now var domain.now (L.values lookup.now) row.new }
+    ensures tells { IsTrue result → TellsFalse rule.now unknown.now.var domain.now (L.values unknown.now.lookup.now) row.new }
 {
     if domain.is_empty() {
         return false;
     }
-    match open_sum(rule, domain, var, lookup) {
+    match open_sum(rule, domain, unknown) {
         None => false,
         Some(opened) => {
             fill_sum(opened, domain, row);
@@ -107,14 +117,14 @@ fn fill_linear<L: Lookup>(rule: &Rule, domain: &Domain, var: u32, lookup: &L, ro
     }
 }
 
-/// The sum with the variable open, if the rule is one with the variable in one of its terms at most.
-fn open_sum<L: Lookup>(rule: &Rule, domain: &Domain, var: u32, lookup: &L) -> Option<Opened>
+/// The sum with the variable unknown, if the rule is one with the variable in one of its terms at most.
+fn open_sum<L: Lookup>(rule: &Rule, domain: &Domain, unknown: &Unknown<'_, L>) -> Option<Opened>
     requires shape { IsTrue (has_shape rule.now) }
     requires some { 0 < length domain.now }
-    requires narrow { FitAtEach (λ x. rule_sizes rule.now (filled (with_value var x (L.values lookup.now)))) widest domain.now }
-    ensures off { IfSome result (λ opened. (x : ℤ) → is_off opened x ≡ is_false rule.now var (L.values lookup.now) x) }
+    requires narrow { FitAtEach (λ x. rule_sizes rule.now (filled (with_value unknown.now.var x (L.values unknown.now.lookup.now)))) widest domain.now }
+    ensures off { IfSome result (λ opened. (x : ℤ) → is_off opened x ≡ is_false rule.now unknown.now.var (L.values unknown.now.lookup.now) x) }
     ensures fits { IfSome result (λ opened. FitAtEach (line_size opened.line) widest domain.now) }
-    ensures some { IsTrue (not (is_plain rule.now)) → IsTrue (has_span var rule.now) → IsTrue (is_line result) }
+    ensures some { IsTrue (not (is_plain rule.now)) → IsTrue (has_span unknown.now.var rule.now) → IsTrue (is_line result) }
 {
     let Rule::Sum {
         rel,
@@ -126,9 +136,9 @@ fn open_sum<L: Lookup>(rule: &Rule, domain: &Domain, var: u32, lookup: &L) -> Op
     else {
         return None;
     };
-    let line = line_of(coefs.items(), terms.items(), domain, var, lookup)?;
-    let total = known_value(*total, var, lookup);
-    let told = told_by(*truth, var, lookup);
+    let line = line_of(coefs.items(), terms.items(), domain, unknown)?;
+    let total = known_value(*total, unknown);
+    let told = told_by(*truth, unknown);
     Some(Opened {
         rel: *rel,
         line,

@@ -9,7 +9,7 @@ ghost use Rattle.dcsp_row.specs.Rows.{FitAtEach};
 ghost use Rattle.dcsp_row.specs.Easy.{own_coefs};
 ghost use Rattle.dcsp_row.specs.Lines.{line_at, line_size, open_coef, AddsTerm};
 
-use crate::known::known_value;
+use crate::known::{Unknown, known_value};
 use dcsp_domain::Domain;
 use dcsp_linear::{plus_product, product};
 use dcsp_problem::{Lookup, Pair, Term};
@@ -21,25 +21,24 @@ pub struct Line {
     pub own: Option<i64>,
 }
 
-/// The sum of each coefficient times its term, where this variable is open; `None` where it is more than one term.
+/// The sum of each coefficient times its term, where one variable is open; `None` where that is more than one term.
 pub fn line_of<L: Lookup>(
     coefs: &[i64],
     terms: &[Term],
     domain: &Domain,
-    var: u32,
-    lookup: &L,
+    unknown: &Unknown<'_, L>,
 ) -> Option<Line>
     requires shape { length coefs.now ≡ length terms.now }
     requires some { 0 < length domain.now }
-    requires narrow { FitAtEach (λ x. sum_by size_of (weighted (filled (with_value var x (L.values lookup.now))) coefs.now terms.now)) widest domain.now }
-    ensures sum { IfSome result (λ line. (x : ℤ) → line_at line x ≡ sum_of (weighted (filled (with_value var x (L.values lookup.now))) coefs.now terms.now)) }
+    requires narrow { FitAtEach (λ x. sum_by size_of (weighted (filled (with_value unknown.now.var x (L.values unknown.now.lookup.now))) coefs.now terms.now)) widest domain.now }
+    ensures sum { IfSome result (λ line. (x : ℤ) → line_at line x ≡ sum_of (weighted (filled (with_value unknown.now.var x (L.values unknown.now.lookup.now))) coefs.now terms.now)) }
     ensures size { IfSome result (λ line. FitAtEach (line_size line) widest domain.now) }
-    ensures own { IfSome result (λ line. option_to_list line.own ≡ own_coefs var coefs.now terms.now) }
-    ensures many { IsNone result → 1 < length (own_coefs var coefs.now terms.now) }
+    ensures own { IfSome result (λ line. option_to_list line.own ≡ own_coefs unknown.now.var coefs.now terms.now) }
+    ensures many { IsNone result → 1 < length (own_coefs unknown.now.var coefs.now terms.now) }
 {
     let mut line = Line { base: 0, own: None };
     for place in 0..coefs.len() {
-        let value = known_value(terms[place], var, lookup);
+        let value = known_value(terms[place], unknown);
         let Some(next) = with_term(line, coefs[place], value) else {
             return None;
         };
@@ -81,14 +80,14 @@ pub fn sum_at(line: Line, value: i64) -> i128
     }
 }
 
-/// A pair's products, added up, where this variable is open.
-pub fn line_of_pair<L: Lookup>(pair: Pair, var: u32, lookup: &L) -> Line
+/// A pair's products, added up, where one variable is open.
+pub fn line_of_pair<L: Lookup>(pair: Pair, unknown: &Unknown<'_, L>) -> Line
     requires { IsSmall pair }
-    ensures sum { (x : ℤ) → let values = filled (with_value var x (L.values lookup.now)) in line_at result x ≡ pair_sum pair (values pair.first) (values pair.second) }
+    ensures sum { (x : ℤ) → let values = filled (with_value unknown.now.var x (L.values unknown.now.lookup.now)) in line_at result x ≡ pair_sum pair (values pair.first) (values pair.second) }
     ensures base { unsigned_abs result.base ≤ widest }
 {
-    let first = known_value(Term::Var(pair.first), var, lookup);
-    let second = known_value(Term::Var(pair.second), var, lookup);
+    let first = known_value(Term::Var(pair.first), unknown);
+    let second = known_value(Term::Var(pair.second), unknown);
     let (base, own) = product_of(pair.first_coef, first);
     let (more, other) = product_of(pair.second_coef, second);
     Line {
@@ -97,7 +96,7 @@ pub fn line_of_pair<L: Lookup>(pair: Pair, var: u32, lookup: &L) -> Line
     }
 }
 
-/// The product of a coefficient and a value; where the value is open, 0 and the coefficient.
+/// The product of a coefficient and a value; where the value is unknown, 0 and the coefficient.
 fn product_of(coef: i64, value: Option<i64>) -> (i128, i64)
     ensures product { (x : ℤ) → result.0 +ℤ (result.1 *ℤ x) ≡ coef *ℤ unwrap_or value x }
     ensures size { unsigned_abs coef < 2 ^ 62 → (unsigned_abs result.0 ≤ 2 ^ 125) × (unsigned_abs result.1 < 2 ^ 62) }

@@ -11,7 +11,7 @@ ghost use Rattle.dcsp_row.specs.Lines.{is_known, is_line, is_off, line_at, line_
 ghost use Rattle.dcsp_row.specs.Spans.{SpansWhere};
 
 use crate::cut::{missed_after, missed_before, product_span};
-use crate::known::known_value;
+use crate::known::{Unknown, known_value};
 use crate::line::{Line, sum_at};
 use crate::row::Row;
 use crate::span::Span;
@@ -40,14 +40,14 @@ pub struct Opened {
     pub told: Told,
 }
 
-/// What tells the truth of a sum, where this variable is open.
-pub fn told_by<L: Lookup>(truth: Option<Term>, var: u32, lookup: &L) -> Told
-    ensures told { (x : ℤ) → option_map (value_under (filled (with_value var x (L.values lookup.now)))) truth ≡ told_at result x }
-    ensures known { is_known result ≡ not (is_truth var truth) }
+/// What tells the truth of a sum, where one variable is open.
+pub fn told_by<L: Lookup>(truth: Option<Term>, unknown: &Unknown<'_, L>) -> Told
+    ensures told { (x : ℤ) → option_map (value_under (filled (with_value unknown.now.var x (L.values unknown.now.lookup.now)))) truth ≡ told_at result x }
+    ensures known { is_known result ≡ not (is_truth unknown.now.var truth) }
 {
     match truth {
         None => Told::Untold,
-        Some(term) => match known_value(term, var, lookup) {
+        Some(term) => match known_value(term, unknown) {
             Some(value) => Told::By(value),
             None => Told::ByOwn,
         },
