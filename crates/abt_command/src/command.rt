@@ -25,16 +25,16 @@ ghost use Rattle.abt_command.specs.LinePromises.{promise_of, EachPromise, HasRun
 use crate::plain::{HELP, VERSION};
 use crate::words::{Order, words_of};
 use abt_best::run_solve;
-use abt_check::{Check, run_check};
-use abt_clauses::{Cnf, run_cnf, run_rup};
+use abt_check::run_check;
+use abt_clauses::{run_cnf, run_rup};
 use abt_drill::run_drill;
 use abt_input::{CommandError, error_reply, error_status};
-use abt_logs::{CoreLine, run_core, run_upgrade};
-use abt_losses::{Losses, run_lossy};
+use abt_logs::{run_core, run_upgrade};
+use abt_losses::run_lossy;
 use abt_models::{print, run_bound, run_colouring, run_queens};
 use abt_promise::{Status, say};
-use abt_run::{Replay, Solve, run_replay};
-use abt_starve::{Starve, run_starve};
+use abt_run::run_replay;
+use abt_starve::run_starve;
 use dcsp_outside::{Folder, Sink};
 use std::alloc::Global;
 
@@ -77,88 +77,19 @@ fn run_line<F: Folder, S: Sink>(
     match order {
         Order::Help => print(out, HELP),
         Order::Version => print(out, VERSION),
-        Order::Check { model, log, better } => {
-            run_check(alloc, folder, Check { model, log, better }, out)
-        }
-        Order::Replay {
-            model,
-            schedule,
-            log,
-            trace,
-        } => {
-            let line = Replay {
-                model,
-                schedule,
-                log,
-                trace,
-            };
-            run_replay(alloc, folder, line, out)
-        }
-        Order::Solve {
-            model,
-            log,
-            seed,
-            kept,
-            trace,
-        } => {
-            let line = Solve {
-                model,
-                log,
-                seed,
-                kept,
-                trace,
-            };
-            run_solve(alloc, folder, line, out)
-        }
+        Order::Check(line) => run_check(alloc, folder, line, out),
+        Order::Replay(line) => run_replay(alloc, folder, line, out),
+        Order::Solve(line) => run_solve(alloc, folder, line, out),
         Order::Bound { model } => run_bound(alloc, folder, model, out),
         Order::GenQueens { n } => run_queens(alloc, n, out),
         Order::GenColouring { n, k, seed } => run_colouring(alloc, n, k, seed, out),
         Order::Drill { seed } => run_drill(alloc, seed, out),
         Order::Upgrade { log, new } => run_upgrade(alloc, folder, log, new, out),
-        Order::Core {
-            model,
-            log,
-            trimmed,
-        } => {
-            let line = CoreLine {
-                model,
-                log,
-                trimmed,
-            };
-            run_core(alloc, folder, line, out)
-        }
-        Order::Starve {
-            model,
-            from,
-            to,
-            file,
-        } => {
-            let line = Starve {
-                model,
-                from,
-                to,
-                file,
-            };
-            run_starve(alloc, folder, line, out)
-        }
-        Order::Lossy {
-            model,
-            log,
-            events,
-            seed,
-            kept,
-        } => {
-            let line = Losses {
-                model,
-                log,
-                events,
-                seed,
-                kept,
-            };
-            run_lossy(alloc, folder, line, out)
-        }
+        Order::Core(line) => run_core(alloc, folder, line, out),
+        Order::Starve(line) => run_starve(alloc, folder, line, out),
+        Order::Lossy(line) => run_lossy(alloc, folder, line, out),
         Order::Rup { cnf, proof } => run_rup(alloc, folder, cnf, proof, out),
-        Order::Cnf { cnf, proof, seed } => run_cnf(alloc, folder, Cnf { cnf, proof, seed }, out),
+        Order::Cnf(line) => run_cnf(alloc, folder, line, out),
     }
 }
 

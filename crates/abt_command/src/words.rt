@@ -5,6 +5,12 @@ ghost use Rattle.std.specs.Int.{w64};
 ghost use Rattle.abt_command.specs.Lines.{IsFileName, AreFileNames, AreSeed, IsLine, IsNoLine, IsWithin, better_words, line_of, record_words, trace_words};
 
 use crate::options::{Settings, number_of, settings_of, signed_number_of};
+use abt_check::Check;
+use abt_clauses::Cnf;
+use abt_logs::CoreLine;
+use abt_losses::Losses;
+use abt_run::{Replay, Solve};
+use abt_starve::Starve;
 
 /// What the words ask for.
 pub enum Order<'w> {
@@ -14,85 +20,35 @@ pub enum Order<'w> {
     Version,
     /// `check MODEL LOG [--better N]`: whether the log refutes the model; or where a bound is given, that a solution has
     /// a better value at the model's aim.
-    Check {
-        model: &'w str,
-        log: &'w str,
-        better: Option<i64>,
-    },
+    Check(Check<'w>),
     /// `replay MODEL SCHEDULE LOG [--trace]`: a run under the choices of the schedule.
-    Replay {
-        model: &'w str,
-        schedule: &'w str,
-        log: &'w str,
-        trace: bool,
-    },
+    Replay(Replay<'w>),
     /// `solve MODEL LOG [--seed N] [--record FILE] [--trace]`: a run under the choices of a seed, which is 0
-    /// where none is given. `kept` is the name of the record.
-    Solve {
-        model: &'w str,
-        log: &'w str,
-        seed: u64,
-        kept: Option<&'w str>,
-        trace: bool,
-    },
+    /// where none is given.
+    Solve(Solve<'w>),
     /// `bound MODEL`: how many messages a run delivers at most.
-    Bound {
-        model: &'w str,
-    },
+    Bound { model: &'w str },
     /// `gen queens N`: the problem of so many queens, from 1 to 200.
-    GenQueens {
-        n: u32,
-    },
+    GenQueens { n: u32 },
     /// `gen colouring N K SEED`: the colouring of `n` nodes, from 1 to 200, with `k` colours, from 1 to 16.
-    GenColouring {
-        n: u32,
-        k: u32,
-        seed: u64,
-    },
+    GenColouring { n: u32, k: u32, seed: u64 },
     /// `drill SEED`: runs of three generated models under the choices of a seed.
-    Drill {
-        seed: u64,
-    },
+    Drill { seed: u64 },
     /// `upgrade LOG NEW`: NEW takes the log with the deletions that it allows.
-    Upgrade {
-        log: &'w str,
-        new: &'w str,
-    },
+    Upgrade { log: &'w str, new: &'w str },
     /// `core MODEL LOG TRIMMED`: which constraints the refutation uses; TRIMMED takes the steps that it needs.
-    Core {
-        model: &'w str,
-        log: &'w str,
-        trimmed: &'w str,
-    },
+    Core(CoreLine<'w>),
     /// `starve MODEL FROM TO FILE`: FILE takes the choices of the run that delivers from one agent to another, both
     /// counted from 1 and at most 4,096, only where nothing else is in transit.
-    Starve {
-        model: &'w str,
-        from: u32,
-        to: u32,
-        file: &'w str,
-    },
+    Starve(Starve<'w>),
     /// `lossy MODEL LOG EVENTS SEED [--record FILE]`: a run over a medium that loses, repeats and reorders in so many
-    /// events, at most 1,000,000, which are drawn from a seed. `kept` is the name of the record.
-    Lossy {
-        model: &'w str,
-        log: &'w str,
-        events: u32,
-        seed: u64,
-        kept: Option<&'w str>,
-    },
+    /// events, at most 1,000,000, which are drawn from a seed.
+    Lossy(Losses<'w>),
     /// `rup CNF PROOF`: whether the proof shows that the formula cannot be satisfied.
-    Rup {
-        cnf: &'w str,
-        proof: &'w str,
-    },
+    Rup { cnf: &'w str, proof: &'w str },
     /// `cnf CNF PROOF [--seed N]`: a run of the formula's agents under the choices of a seed, which is 0 where
     /// none is given. A proof is written where the formula cannot be satisfied.
-    Cnf {
-        cnf: &'w str,
-        proof: &'w str,
-        seed: u64,
-    },
+    Cnf(Cnf<'w>),
 }
 
 /// The order that the words are, after the program's own name.
@@ -149,7 +105,7 @@ fn check_of(words: &[String]) -> Option<Order<'_>>
     if !are_two_names(model, log) {
         return None;
     }
-    Some(Order::Check { model, log, better })
+    Some(Order::Check(Check { model, log, better }))
 }
 
 /// The bound that these options of `check` give, where they do.
@@ -179,12 +135,12 @@ fn replay_of(words: &[String]) -> Option<Order<'_>>
     if !are_three_names(model, schedule, log) {
         return None;
     }
-    Some(Order::Replay {
+    Some(Order::Replay(Replay {
         model,
         schedule,
         log,
         trace,
-    })
+    }))
 }
 
 /// Whether a trace is asked for by these options of `replay`.
@@ -213,13 +169,13 @@ fn solve_of(words: &[String]) -> Option<Order<'_>>
         return None;
     }
     let seed = seed.unwrap_or(0);
-    Some(Order::Solve {
+    Some(Order::Solve(Solve {
         model,
         log,
         seed,
         kept,
         trace,
-    })
+    }))
 }
 
 /// The order of `bound` with these words.
@@ -296,11 +252,11 @@ fn core_of(words: &[String]) -> Option<Order<'_>>
     if !are_three_names(model, log, trimmed) {
         return None;
     }
-    Some(Order::Core {
+    Some(Order::Core(CoreLine {
         model,
         log,
         trimmed,
-    })
+    }))
 }
 
 /// The order of `starve` with these words.
@@ -317,12 +273,12 @@ fn starve_of<'w>(words: &'w [String]) -> Option<Order<'w>>
     if !are_two_names(model, file) {
         return None;
     }
-    Some(Order::Starve {
+    Some(Order::Starve(Starve {
         model,
         from,
         to,
         file,
-    })
+    }))
 }
 
 /// The order of `lossy` with these words.
@@ -340,13 +296,13 @@ fn lossy_of<'w>(words: &'w [String]) -> Option<Order<'w>>
     if !are_solve_names(model, log, kept) {
         return None;
     }
-    Some(Order::Lossy {
+    Some(Order::Lossy(Losses {
         model,
         log,
         events,
         seed,
         kept,
-    })
+    }))
 }
 
 /// The name of the record that these options of `lossy` ask for, where they do.
@@ -389,7 +345,7 @@ fn cnf_of(words: &[String]) -> Option<Order<'_>>
     if !are_two_names(cnf, proof) {
         return None;
     }
-    Some(Order::Cnf { cnf, proof, seed })
+    Some(Order::Cnf(Cnf { cnf, proof, seed }))
 }
 
 /// The seed that these options of `cnf` give.
