@@ -3,7 +3,7 @@ use Rattle.std.proofs.Common.{◌≡◌, ℕ, ◌+◌, ◌≤◌, Bool, true, fa
 use Rattle.std.specs.List.{count_by, position_from}
 use Rattle.std.specs.Option.{option_map}
 use Rattle.dcsp_defs.specs.Words.{In}
-use Rattle.dcsp_defs.specs.Csp.{Known, agrees, with_value}
+use Rattle.dcsp_defs.specs.Csp.{PartialAssignment, agrees, with_value}
 use Rattle.abt_store.specs.declared.Recorded.{Recorded}
 use Rattle.abt_store.specs.Stores.{is_against}
 use Rattle.abt_store.proofs.Counts.{count_by-cons}
@@ -12,8 +12,8 @@ use Rattle.abt_reason.proofs.KeptLaws.{not_own_value}
 use Rattle.abt_agent.specs.declared.search.Cause.TheVariants.{KeptNogood}
 use Rattle.abt_agent.specs.Causes.{first_kept, first_against}
 
-module _ (me : ℕ) (v : ℤ) (known : Known) where
-  abbrev under : Known
+module _ (me : ℕ) (v : ℤ) (known : PartialAssignment) where
+  abbrev under : PartialAssignment
   under = with_value me v known
 
   -- where a nogood agrees, one is against the value

@@ -10,8 +10,8 @@ use Rattle.dcsp_defs.specs.Csp.{names}
 use Rattle.dcsp_defs.proofs.Lists.{In-filter, filter-from, and_left, and_right, and_both}
 use Rattle.abt_defs.specs.Agents.{is_among, Add_link}
 use Rattle.abt_defs.specs.Steps.{is_named, to_each}
-use Rattle.abt_agent.specs.Asks.{is_unlinked, asked}
-use Rattle.abt_agent.specs.States.{marked}
+use Rattle.abt_agent.specs.Asks.{is_unlinked, unlinked_names}
+use Rattle.abt_agent.specs.States.{has_mark}
 use Rattle.abt_agent.proofs.Causes.{any-map}
 use Rattle.abt_agent.proofs.Proper.{names_rise}
 use Rattle.abt_agent.proofs.Rising.{among_In, In_among, filter_is}
@@ -26,26 +26,26 @@ part_rises q (x ∷ xs) up = by_test (q x) (part_rises q xs up.1)
 
 -- those that the pairs name are the agents that the definitions ask
 pub asked_is : (linked : List Bool) (me : ℕ) (pairs : List Pair) → length linked ≡ me → PairsRise pairs
-    → filter (λ k. is_named k pairs && not (marked linked k)) (below me) ≡ asked linked pairs
+    → filter (λ k. is_named k pairs && not (has_mark linked k)) (below me) ≡ unlinked_names linked pairs
 asked_is linked me pairs size up =
-    filter_is (λ k. is_named k pairs && not (marked linked k)) (asked linked pairs) me (part_rises (is_unlinked linked) (names pairs) (names_rise pairs up)) pass all
+    filter_is (λ k. is_named k pairs && not (has_mark linked k)) (unlinked_names linked pairs) me (part_rises (is_unlinked linked) (names pairs) (names_rise pairs up)) pass all
   where
     named_is : (k : ℕ) → is_among k (names pairs) ≡ is_named k pairs
     named_is k = any-map (λ x. k == x) (λ (y : Pair). y.var) pairs
 
-    pass : (v : ℕ) → In v (asked linked pairs) → (v < me) × ((is_named v pairs && not (marked linked v)) ≡ true)
+    pass : (v : ℕ) → In v (unlinked_names linked pairs) → (v < me) × ((is_named v pairs && not (has_mark linked v)) ≡ true)
     pass v i =
         let found = filter-from (is_unlinked linked) v (names pairs) i in
-        let less = (Decides-ltb v (length linked)).0 (and_left (nat_lt v (length linked)) (not (marked linked v)) found.1) in
-        (omega arith, and_both (is_named v pairs) (not (marked linked v)) (sym (named_is v) ∙ In_among v (names pairs) found.0) (and_right (nat_lt v (length linked)) (not (marked linked v)) found.1))
+        let less = (Decides-ltb v (length linked)).0 (and_left (nat_lt v (length linked)) (not (has_mark linked v)) found.1) in
+        (omega arith, and_both (is_named v pairs) (not (has_mark linked v)) (sym (named_is v) ∙ In_among v (names pairs) found.0) (and_right (nat_lt v (length linked)) (not (has_mark linked v)) found.1))
 
-    all : (v : ℕ) → v < me → (is_named v pairs && not (marked linked v)) ≡ true → In v (asked linked pairs)
+    all : (v : ℕ) → v < me → (is_named v pairs && not (has_mark linked v)) ≡ true → In v (unlinked_names linked pairs)
     all v l e =
         let less : v < length linked = omega arith in
-        In-filter (is_unlinked linked) v (names pairs) (among_In v (names pairs) (named_is v ∙ and_left (is_named v pairs) (not (marked linked v)) e))
-        (and_both (nat_lt v (length linked)) (not (marked linked v)) ((Decides-ltb v (length linked)).1 less) (and_right (is_named v pairs) (not (marked linked v)) e))
+        In-filter (is_unlinked linked) v (names pairs) (among_In v (names pairs) (named_is v ∙ and_left (is_named v pairs) (not (has_mark linked v)) e))
+        (and_both (nat_lt v (length linked)) (not (has_mark linked v)) ((Decides-ltb v (length linked)).1 less) (and_right (is_named v pairs) (not (has_mark linked v)) e))
 
-one_asked : (linked : List Bool) (y : Pair) → to_each Add_link (asked linked (y ∷ [])) ≡ cond (is_unlinked linked y.var) ((y.var, Add_link) ∷ []) []
+one_asked : (linked : List Bool) (y : Pair) → to_each Add_link (unlinked_names linked (y ∷ [])) ≡ cond (is_unlinked linked y.var) ((y.var, Add_link) ∷ []) []
 one_asked linked y = by_test (is_unlinked linked y.var)
   where
     by_test : (b : Bool) → to_each Add_link (cond b (y.var ∷ []) []) ≡ cond b ((y.var, Add_link) ∷ []) []
@@ -54,11 +54,11 @@ one_asked linked y = by_test (is_unlinked linked y.var)
 
 -- one pair more
 pub asked_more : (linked : List Bool) (pairs : List Pair) (k : ℕ) (d : Pair) → k < length pairs
-    → to_each Add_link (asked linked (take (k + 1) pairs)) ≡ to_each Add_link (asked linked (take k pairs)) ++ cond (is_unlinked linked (get_or pairs k d).var) (((get_or pairs k d).var, Add_link) ∷ []) []
+    → to_each Add_link (unlinked_names linked (take (k + 1) pairs)) ≡ to_each Add_link (unlinked_names linked (take k pairs)) ++ cond (is_unlinked linked (get_or pairs k d).var) (((get_or pairs k d).var, Add_link) ∷ []) []
 asked_more linked pairs k d within =
     let y = get_or pairs k d in
-    ap (λ z. to_each Add_link (asked linked z)) (take_more pairs k d within)
+    ap (λ z. to_each Add_link (unlinked_names linked z)) (take_more pairs k d within)
     ∙ ap (λ z. to_each Add_link (filter (is_unlinked linked) z)) (map-append (λ (z : Pair). z.var) (take k pairs) (y ∷ []))
     ∙ ap (to_each Add_link) (filter-append (is_unlinked linked) (names (take k pairs)) (names (y ∷ [])))
-    ∙ map-append (λ (j : ℕ). (j, Add_link)) (asked linked (take k pairs)) (asked linked (y ∷ []))
-    ∙ ap (λ z. to_each Add_link (asked linked (take k pairs)) ++ z) (one_asked linked y)
+    ∙ map-append (λ (j : ℕ). (j, Add_link)) (unlinked_names linked (take k pairs)) (unlinked_names linked (y ∷ []))
+    ∙ ap (λ z. to_each Add_link (unlinked_names linked (take k pairs)) ++ z) (one_asked linked y)

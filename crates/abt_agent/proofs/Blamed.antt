@@ -7,7 +7,7 @@ use Rattle.std.proofs.lemmas.List.{append-nil}
 use Rattle.std.proofs.lemmas.List.Elements.{filter-append}
 use Rattle.std.proofs.lemmas.Nat.Bits.{bit_at-zero}
 use Rattle.dcsp_defs.specs.Words.{below}
-use Rattle.abt_agent.specs.States.{marked}
+use Rattle.abt_agent.specs.States.{has_mark}
 
 -- two tests that agree on the numbers below one
 pub filter_below : (p q : ℕ → Bool) (n : ℕ) → ((k : ℕ) → k < n → p k ≡ q k) → filter p (below n) ≡ filter q (below n)
@@ -37,23 +37,23 @@ filter_past p n (suc more) none =
 -- a block of marks whose word is 0 has none
 pub block_past : (marks : List Bool) (block : ℕ) → block * 64 < length marks
     → ((bit : ℕ) → bit < 64 → block * 64 + bit < length marks → (bit_at 0 bit == 1) ≡ slice_index_or marks (block * 64 + bit) false)
-    → filter (marked marks) (below (min (length marks) (block * 64 + 64))) ≡ filter (marked marks) (below (block * 64))
+    → filter (has_mark marks) (below (min (length marks) (block * 64 + 64))) ≡ filter (has_mark marks) (below (block * 64))
 block_past marks block within word =
     let first = block * 64 in
     let more = min (length marks) (first + 64) - first in
     let end : min (length marks) (first + 64) ≡ first + more = omega arith in
-    let none : (k : ℕ) → first ≤ k → k < first + more → marked marks k ≡ false = λ k least low.
+    let none : (k : ℕ) → first ≤ k → k < first + more → has_mark marks k ≡ false = λ k least low.
     let at : first + (k - first) ≡ k = omega arith in
     let here = word (k - first) (omega arith) (omega arith) in
-    ap (marked marks) (sym at) ∙ sym here ∙ ap (λ n. n == 1) (bit_at-zero (k - first)) in
-    ap (λ n. filter (marked marks) (below n)) end ∙ filter_past (marked marks) first more none
+    ap (has_mark marks) (sym at) ∙ sym here ∙ ap (λ n. n == 1) (bit_at-zero (k - first)) in
+    ap (λ n. filter (has_mark marks) (below n)) end ∙ filter_past (has_mark marks) first more none
 
 -- the marked agents, where each mark says what a test does of the agents below a bound
 pub marked_below : (marks : List Bool) (bound : ℕ) (test : ℕ → Bool) → length marks ≡ bound
-    → ((k : ℕ) → marked marks k ≡ (nat_lt k bound && test k)) → filter (marked marks) (below (length marks)) ≡ filter test (below bound)
+    → ((k : ℕ) → has_mark marks k ≡ (nat_lt k bound && test k)) → filter (has_mark marks) (below (length marks)) ≡ filter test (below bound)
 marked_below marks bound test size same =
-    ap (λ n. filter (marked marks) (below n)) size
-    ∙ filter_below (marked marks) test bound (λ k low. same k ∙ low_test k bound (test k) low)
+    ap (λ n. filter (has_mark marks) (below n)) size
+    ∙ filter_below (has_mark marks) test bound (λ k low. same k ∙ low_test k bound (test k) low)
 
 -- marks gained for some causes and then for others
 pub marks_join : (a n x y : Bool) → ((a || (n && x)) || (n && y)) ≡ (a || (n && (x || y)))

@@ -10,7 +10,7 @@ use Rattle.std.proofs.lemmas.Bool.Decides.{eqb_tells}
 use Rattle.std.proofs.lemmas.Option.{unwrap_or-slice_get}
 use Rattle.dcsp_nogood.specs.declared.Pair.{Pair}
 use Rattle.dcsp_defs.specs.Words.{In, below}
-use Rattle.dcsp_defs.specs.Csp.{Csp, Constraint, Known, is_violated, agrees, with_value, domain, owned, owns}
+use Rattle.dcsp_defs.specs.Csp.{Csp, Constraint, PartialAssignment, is_violated, agrees, with_value, domain, owned, owns}
 use Rattle.dcsp_defs.specs.declared.Reason.{Reason}
 use Rattle.dcsp_defs.specs.declared.Reason.TheVariants.{Rule, Earlier}
 use Rattle.abt_defs.specs.Agents.{Agent, Stamped, View, plain, known, values_in, value_in, is_among}
@@ -37,7 +37,7 @@ use Rattle.abt_agent.proofs.Lists.{one, plain-with_stamps, map_below, mapped_fil
 -- ---- values of domains
 
 -- the agent's own value beside a view of the domains
-pub own_in_domains : (p : Csp) (agent : ℕ) (v : ℤ) (known : Known) → In v (domain p agent) → AreInDomains p known → AreInDomains p (with_value agent v known)
+pub own_in_domains : (p : Csp) (agent : ℕ) (v : ℤ) (known : PartialAssignment) → In v (domain p agent) → AreInDomains p known → AreInDomains p (with_value agent v known)
 own_in_domains p agent v known there all var w l e = elim (eqb_tells var agent) [
   | inl t ↦
       let some : Some v ≡ Some w = sym (ap (λ b. cond b (Some v) (known var)) t.0) ∙ e in
@@ -70,7 +70,7 @@ against_later v k xs x h t = against_step v k xs x h ∙ ap (λ b. cond b (Some 
 pub found_at : (xs : List ℤ) (k : ℕ) (x : ℤ) → slice_get xs k ≡ Some x → get_or xs k (pos 0) ≡ x
 found_at xs k x e = sym (unwrap_or-slice_get xs k (pos 0)) ∙ ap (λ o. unwrap_or o (pos 0)) e
 
-module _ (p : Contents) (i : ℕ) (known : Known) (kept : List Recorded) (xs : List ℤ) (k : ℕ) (x : ℤ) (within : k < length xs) (at : slice_get xs k ≡ Some x) where
+module _ (p : Contents) (i : ℕ) (known : PartialAssignment) (kept : List Recorded) (xs : List ℤ) (k : ℕ) (x : ℤ) (within : k < length xs) (at : slice_get xs k ≡ Some x) where
   pub free_here : is_some (cause_for p i known kept x) ≡ false → least_free p i known kept (drop k xs) ≡ Some x
   free_here e =
       at_drop_more (least_free p i known kept) xs k (pos 0) within
@@ -92,7 +92,7 @@ module _ (p : Contents) (i : ℕ) (known : Known) (kept : List Recorded) (xs : L
 
 -- ---- places are valid
 
-rule_valid : (p : Contents) (kept : List Recorded) (known : Known) (ns : List ℕ) (x : Cause) → All (λ r. r < length p.rules) ns → first_rule p known ns ≡ Some x → IsCause p kept x
+rule_valid : (p : Contents) (kept : List Recorded) (known : PartialAssignment) (ns : List ℕ) (x : Cause) → All (λ r. r < length p.rules) ns → first_rule p known ns ≡ Some x → IsCause p kept x
 rule_valid p kept known [] x h e = cc
 rule_valid p kept known (n ∷ ns) x h e =
     (elim (is_violated known (constraint_at p n)) as (λ b. cond b (Some (OwnedRule n)) (first_rule p known ns) ≡ Some x → IsCause p kept x) [
@@ -100,7 +100,7 @@ rule_valid p kept known (n ∷ ns) x h e =
       | false ↦ rule_valid p kept known ns x (All-tail (λ r. r < length p.rules) n ns h)
     ]) e
 
-kept_valid : (p : Contents) (kept : List Recorded) (known : Known) (k : ℕ) (xs : List Recorded) (x : Cause) → k + length xs ≡ length kept → first_kept known k xs ≡ Some x → IsCause p kept x
+kept_valid : (p : Contents) (kept : List Recorded) (known : PartialAssignment) (k : ℕ) (xs : List Recorded) (x : Cause) → k + length xs ≡ length kept → first_kept known k xs ≡ Some x → IsCause p kept x
 kept_valid p kept known k [] x h e = cc
 kept_valid p kept known k (y ∷ ys) x h e =
     (elim (agrees known y.nogood) as (λ b. cond b (Some (KeptNogood k)) (first_kept known (k + 1) ys) ≡ Some x → IsCause p kept x) [
@@ -112,14 +112,14 @@ or_valid : (P : Cause → Type 0) (a b : Option Cause) (x : Cause) → (a ≡ So
 or_valid P None b x f g e = g e
 or_valid P (Some y) b x f g e = f e
 
-pub cause_valid : (p : Contents) (i : ℕ) (known : Known) (kept : List Recorded) (v : ℤ) (x : Cause) → cause_for p i known kept v ≡ Some x → IsCause p kept x
+pub cause_valid : (p : Contents) (i : ℕ) (known : PartialAssignment) (kept : List Recorded) (v : ℤ) (x : Cause) → cause_for p i known kept v ≡ Some x → IsCause p kept x
 cause_valid p i known kept v x e =
     let k = with_value i v known in
     or_valid (IsCause p kept) (first_rule p k (owned_rules p i)) (first_kept k 0 kept) x
     (rule_valid p kept k (owned_rules p i) x (owned_inside p i)) (kept_valid p kept k 0 kept x (omega arith)) e
 
 -- what is found is a cause
-pub found_valid : (p : Contents) (i : ℕ) (known : Known) (kept : List Recorded) (v : ℤ) (o : Option Cause) → o ≡ cause_for p i known kept v → IfSome o (IsCause p kept)
+pub found_valid : (p : Contents) (i : ℕ) (known : PartialAssignment) (kept : List Recorded) (v : ℤ) (o : Option Cause) → o ≡ cause_for p i known kept v → IfSome o (IsCause p kept)
 found_valid p i known kept v None e = tt
 found_valid p i known kept v (Some x) e = cause_valid p i known kept v x (sym e)
 
@@ -148,7 +148,7 @@ owned_are p i = numbered_from (length p.domains) i p.rules [] p.rules 0 refl ref
 
 -- ---- the cause of a value
 
-rules_found : (p : Contents) (kept : List Recorded) (known : Known) (ns : List ℕ)
+rules_found : (p : Contents) (kept : List Recorded) (known : PartialAssignment) (ns : List ℕ)
     → find (λ (x : Item). x.violated known) (map constraint_item (map (λ (r : ℕ). (r, constraint_at p r)) ns)) ≡ option_map (item_at p kept) (first_rule p known ns)
 rules_found p kept known [] = refl
 rules_found p kept known (n ∷ ns) =
@@ -157,7 +157,7 @@ rules_found p kept known (n ∷ ns) =
       | false ↦ rules_found p kept known ns
     ]
 
-kept_found : (p : Contents) (all pre xs : List Recorded) (k : ℕ) (known : Known) → all ≡ pre ++ xs → length pre ≡ k
+kept_found : (p : Contents) (all pre xs : List Recorded) (k : ℕ) (known : PartialAssignment) → all ≡ pre ++ xs → length pre ≡ k
     → find (λ (x : Item). x.violated known) (map record_item (records_of xs)) ≡ option_map (item_at p all) (first_kept known k xs)
 kept_found p all pre [] k known a e = refl
 kept_found p all pre (x ∷ xs) k known a e =
@@ -173,7 +173,7 @@ map_or f None b = refl
 map_or f (Some x) b = refl
 
 -- the cause of a value is what stands at the place that the code finds
-pub cause_is : (p : Contents) (i : ℕ) (known : Known) (kept : List Recorded) (v : ℤ)
+pub cause_is : (p : Contents) (i : ℕ) (known : PartialAssignment) (kept : List Recorded) (v : ℤ)
     → cause (csp_of p) i known (records_of kept) v ≡ option_map (item_at p kept) (cause_for p i known kept v)
 cause_is p i known kept v =
     let k = with_value i v known in
@@ -187,10 +187,10 @@ some_map : {X Y : Type 0} → (f : X → Y) (o : Option X) → is_some (option_m
 some_map f None = refl
 some_map f (Some x) = refl
 
-pub ruled_is : (p : Contents) (i : ℕ) (known : Known) (kept : List Recorded) (v : ℤ) → ruled_out (csp_of p) i known (records_of kept) v ≡ is_some (cause_for p i known kept v)
+pub ruled_is : (p : Contents) (i : ℕ) (known : PartialAssignment) (kept : List Recorded) (v : ℤ) → ruled_out (csp_of p) i known (records_of kept) v ≡ is_some (cause_for p i known kept v)
 ruled_is p i known kept v = ap is_some (cause_is p i known kept v) ∙ some_map (item_at p kept) (cause_for p i known kept v)
 
-pub least_is : (p : Contents) (i : ℕ) (known : Known) (kept : List Recorded) (vs : List ℤ)
+pub least_is : (p : Contents) (i : ℕ) (known : PartialAssignment) (kept : List Recorded) (vs : List ℤ)
     → find (λ v. not (ruled_out (csp_of p) i known (records_of kept) v)) vs ≡ least_free p i known kept vs
 least_is p i known kept vs = ap (λ (q : ℤ → Bool). find q vs) (λ s v. not (ruled_is p i known kept v s))
 
@@ -204,7 +204,7 @@ filtered_map {X = X} {Y = Y} {Z = Z} g f (x ∷ xs) =
       | Some y ↦ ap (λ z. g y ∷ z) (filtered_map g f xs)
     ]
 
-pub causes_are : (p : Contents) (i : ℕ) (known : Known) (kept : List Recorded)
+pub causes_are : (p : Contents) (i : ℕ) (known : PartialAssignment) (kept : List Recorded)
     → causes (csp_of p) i known (records_of kept) ≡ map (item_at p kept) (causes_for p i known kept (domain (csp_of p) i))
 causes_are p i known kept =
     ap (λ (q : ℤ → Option Item). filter_map q (domain (csp_of p) i)) (λ s v. cause_is p i known kept v s)
@@ -255,7 +255,7 @@ module _ (p : Contents) (i : ℕ) (view : View) (kept : List Recorded) where
 -- ---- what the kept reasons tell
 
 -- among rules, only rules are found
-rule_found : (p : Contents) (known : Known) (ns : List ℕ) (x : Cause) → first_rule p known ns ≡ Some x → (r : ℕ) × (x ≡ OwnedRule r)
+rule_found : (p : Contents) (known : PartialAssignment) (ns : List ℕ) (x : Cause) → first_rule p known ns ≡ Some x → (r : ℕ) × (x ≡ OwnedRule r)
 rule_found p known [] x e = cc
 rule_found p known (n ∷ ns) x e =
     (elim (is_violated known (constraint_at p n)) as (λ b. cond b (Some (OwnedRule n)) (first_rule p known ns) ≡ Some x → (r : ℕ) × (x ≡ OwnedRule r)) [
@@ -264,7 +264,7 @@ rule_found p known (n ∷ ns) x e =
     ]) e
 
 -- among nogoods, only nogoods
-kept_only : (known : Known) (k : ℕ) (xs : List Recorded) (x : Cause) → first_kept known k xs ≡ Some x → (j : ℕ) × (x ≡ KeptNogood j)
+kept_only : (known : PartialAssignment) (k : ℕ) (xs : List Recorded) (x : Cause) → first_kept known k xs ≡ Some x → (j : ℕ) × (x ≡ KeptNogood j)
 kept_only known k [] x e = cc
 kept_only known k (y ∷ ys) x e =
     (elim (agrees known y.nogood) as (λ b. cond b (Some (KeptNogood k)) (first_kept known (k + 1) ys) ≡ Some x → (j : ℕ) × (x ≡ KeptNogood j)) [
@@ -272,19 +272,19 @@ kept_only known k (y ∷ ys) x e =
       | false ↦ kept_only known (k + 1) ys x
     ]) e
 
-abbrev cited : Contents → List Recorded → Option Cause → Option Reason
-cited p kept o = option_map (λ (x : Item). x.reason) (option_map (item_at p kept) o)
+abbrev reason_at : Contents → List Recorded → Option Cause → Option Reason
+reason_at p kept o = option_map (λ (x : Item). x.reason) (option_map (item_at p kept) o)
 
 -- the reason that is kept, of this problem and agent
-pub reason_moved : (p q : Contents) (i j : ℕ) (known : Known) (kept : List Recorded) (place : ℕ) (o : Option Reason) → q ≡ p → j ≡ i → o ≡ reason_for q j known kept (value_at q j place) → o ≡ reason_for p i known kept (value_at p i place)
+pub reason_moved : (p q : Contents) (i j : ℕ) (known : PartialAssignment) (kept : List Recorded) (place : ℕ) (o : Option Reason) → q ≡ p → j ≡ i → o ≡ reason_for q j known kept (value_at q j place) → o ≡ reason_for p i known kept (value_at p i place)
 reason_moved p q i j known kept place o e f h =
     h ∙ ap (λ z. reason_for z j known kept (value_at z j place)) e ∙ ap (λ n. reason_for p n known kept (value_at p n place)) f
 
-module _ (p : Contents) (i : ℕ) (known : Known) (kept : List Recorded) (v : ℤ) where
-  reason_is : reason_for p i known kept v ≡ cited p kept (cause_for p i known kept v)
+module _ (p : Contents) (i : ℕ) (known : PartialAssignment) (kept : List Recorded) (v : ℤ) where
+  reason_is : reason_for p i known kept v ≡ reason_at p kept (cause_for p i known kept v)
   reason_is = ap (option_map (λ (x : Item). x.reason)) (cause_is p i known kept v)
 
-  some_cited : (o : Option Cause) → is_some (cited p kept o) ≡ is_some o
+  some_cited : (o : Option Cause) → is_some (reason_at p kept o) ≡ is_some o
   some_cited None = refl
   some_cited (Some x) = refl
 
@@ -294,33 +294,33 @@ module _ (p : Contents) (i : ℕ) (known : Known) (kept : List Recorded) (v : �
   pub no_reason : reason_for p i known kept v ≡ None → None ≡ cause_for p i known kept v
   no_reason e = by_place (cause_for p i known kept v) (sym reason_is ∙ e)
     where
-      by_place : (o : Option Cause) → cited p kept o ≡ None → None ≡ o
+      by_place : (o : Option Cause) → reason_at p kept o ≡ None → None ≡ o
       by_place None f = refl
       by_place (Some x) f = cc
 
   pub rule_reason : (r : ℕ) → reason_for p i known kept v ≡ Some (Rule r) → Some (OwnedRule r) ≡ cause_for p i known kept v
   rule_reason r e = by_rule (first_rule p (with_value i v known) (owned_rules p i)) refl (sym reason_is ∙ e)
     where
-      by_kept : (o : Option Cause) → first_kept (with_value i v known) 0 kept ≡ o → cited p kept o ≡ Some (Rule r) → Some (OwnedRule r) ≡ o
+      by_kept : (o : Option Cause) → first_kept (with_value i v known) 0 kept ≡ o → reason_at p kept o ≡ Some (Rule r) → Some (OwnedRule r) ≡ o
       by_kept None f g = cc
-      by_kept (Some x) f g = let q = kept_only (with_value i v known) 0 kept x f in let h : cited p kept (Some (KeptNogood q.0)) ≡ Some (Rule r) = subst (λ (z : Cause). cited p kept (Some z) ≡ Some (Rule r)) q.1 g in cc
+      by_kept (Some x) f g = let q = kept_only (with_value i v known) 0 kept x f in let h : reason_at p kept (Some (KeptNogood q.0)) ≡ Some (Rule r) = subst (λ (z : Cause). reason_at p kept (Some z) ≡ Some (Rule r)) q.1 g in cc
 
-      by_rule : (o : Option Cause) → first_rule p (with_value i v known) (owned_rules p i) ≡ o → cited p kept (option_or o (first_kept (with_value i v known) 0 kept)) ≡ Some (Rule r) → Some (OwnedRule r) ≡ option_or o (first_kept (with_value i v known) 0 kept)
+      by_rule : (o : Option Cause) → first_rule p (with_value i v known) (owned_rules p i) ≡ o → reason_at p kept (option_or o (first_kept (with_value i v known) 0 kept)) ≡ Some (Rule r) → Some (OwnedRule r) ≡ option_or o (first_kept (with_value i v known) 0 kept)
       by_rule None f g = by_kept (first_kept (with_value i v known) 0 kept) refl g
       by_rule (Some x) f g =
           let q = rule_found p (with_value i v known) (owned_rules p i) x f in
-          let h : cited p kept (Some (OwnedRule q.0)) ≡ Some (Rule r) = subst (λ (z : Cause). cited p kept (Some z) ≡ Some (Rule r)) q.1 g in
+          let h : reason_at p kept (Some (OwnedRule q.0)) ≡ Some (Rule r) = subst (λ (z : Cause). reason_at p kept (Some z) ≡ Some (Rule r)) q.1 g in
           let same : q.0 ≡ r = cc in
           ap (λ (n : ℕ). Some (OwnedRule n)) (sym same) ∙ ap Some (sym q.1)
 
   pub step_reason : (s : ℕ) → reason_for p i known kept v ≡ Some (Earlier s) → first_kept (with_value i v known) 0 kept ≡ cause_for p i known kept v
   step_reason s e = by_rule (first_rule p (with_value i v known) (owned_rules p i)) refl (sym reason_is ∙ e)
     where
-      by_rule : (o : Option Cause) → first_rule p (with_value i v known) (owned_rules p i) ≡ o → cited p kept (option_or o (first_kept (with_value i v known) 0 kept)) ≡ Some (Earlier s) → first_kept (with_value i v known) 0 kept ≡ option_or o (first_kept (with_value i v known) 0 kept)
+      by_rule : (o : Option Cause) → first_rule p (with_value i v known) (owned_rules p i) ≡ o → reason_at p kept (option_or o (first_kept (with_value i v known) 0 kept)) ≡ Some (Earlier s) → first_kept (with_value i v known) 0 kept ≡ option_or o (first_kept (with_value i v known) 0 kept)
       by_rule None f g = refl
       by_rule (Some x) f g =
           let q = rule_found p (with_value i v known) (owned_rules p i) x f in
-          let h : cited p kept (Some (OwnedRule q.0)) ≡ Some (Earlier s) = subst (λ (z : Cause). cited p kept (Some z) ≡ Some (Earlier s)) q.1 g in cc
+          let h : reason_at p kept (Some (OwnedRule q.0)) ≡ Some (Earlier s) = subst (λ (z : Cause). reason_at p kept (Some z) ≡ Some (Earlier s)) q.1 g in cc
 
   -- then a nogood agrees
   pub step_some : (s : ℕ) → reason_for p i known kept v ≡ Some (Earlier s) → is_some (first_kept (with_value i v known) 0 kept) ≡ true

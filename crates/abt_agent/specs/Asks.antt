@@ -2,12 +2,12 @@
 use Rattle.std.specs.Prelude.{ℕ, Bool, List, filter, length, nat_lt, not, ◌&&◌}
 use Rattle.dcsp_nogood.specs.declared.Pair.{Pair}
 use Rattle.dcsp_defs.specs.Csp.{names}
-use Rattle.abt_agent.specs.States.{marked}
+use Rattle.abt_agent.specs.States.{has_mark}
 
 -- the agent has a place in the table of links, and is not marked there
 abbrev pub is_unlinked : List Bool → ℕ → Bool
-is_unlinked linked k = nat_lt k (length linked) && not (marked linked k)
+is_unlinked linked k = nat_lt k (length linked) && not (has_mark linked k)
 
 -- those that the pairs name, in their order
-abbrev pub asked : List Bool → List Pair → List ℕ
-asked linked pairs = filter (is_unlinked linked) (names pairs)
+abbrev pub unlinked_names : List Bool → List Pair → List ℕ
+unlinked_names linked pairs = filter (is_unlinked linked) (names pairs)

@@ -16,7 +16,7 @@ use Rattle.abt_agent.specs.declared.body.Body.{Body}
 use Rattle.abt_agent.specs.declared.Turn.{Turn}
 use Rattle.abt_agent.specs.Turns.{IsTurn}
 use Rattle.abt_agent.specs.Outgoing.{IsStampedView, Posts}
-use Rattle.abt_agent.specs.States.{marked}
+use Rattle.abt_agent.specs.States.{has_mark}
 
 -- which agent of which problem it is
 abbrev pub owner_of : Knowledge → Contents × ℕ
@@ -31,7 +31,7 @@ agent_of b = record {
   view = view_of b.known.view;
   recorded = records_of b.known.store;
   tells = λ k. is_among k b.tells.items;
-  linked = marked b.linked.items;
+  linked = has_mark b.linked.items;
 }
 
 -- the view has a slot for each higher agent, its values are of the domains and have stamps, and the reasons are those of view and store

@@ -3,7 +3,7 @@ use Rattle.std.specs.Prelude.{ℕ, ◌+◌, ◌<◌, length, ℤ, Bool, List, []
 use Rattle.std.specs.List.{list_any}
 use Rattle.std.specs.Option.{option_or}
 use Rattle.dcsp_defs.specs.declared.Reason.{Reason}
-use Rattle.dcsp_defs.specs.Csp.{Known, domain, is_violated, agrees, with_value}
+use Rattle.dcsp_defs.specs.Csp.{PartialAssignment, domain, is_violated, agrees, with_value}
 use Rattle.abt_defs.specs.Agents.{Stamped, View, is_among, values_in}
 use Rattle.abt_defs.specs.Reasons.{Item, constraint_item, record_item, pair_at}
 use Rattle.dcsp_problem.specs.Problems.{Contents, constraint_at, csp_of}
@@ -16,12 +16,12 @@ use Rattle.abt_agent.specs.declared.search.Cause.{Cause}
 use Rattle.abt_agent.specs.declared.search.Cause.TheVariants.{OwnedRule, KeptNogood}
 
 -- the first of the rules with these numbers that is false
-abbrev pub first_rule : Contents → Known → List ℕ → Option Cause
+abbrev pub first_rule : Contents → PartialAssignment → List ℕ → Option Cause
 first_rule p known [] = None
 first_rule p known (r ∷ rs) = if is_violated known (constraint_at p r) then Some (OwnedRule r) else first_rule p known rs
 
 -- the place, counted from a first one, of the first nogood that agrees
-abbrev pub first_kept : Known → ℕ → List Recorded → Option Cause
+abbrev pub first_kept : PartialAssignment → ℕ → List Recorded → Option Cause
 first_kept known k [] = None
 first_kept known k (x ∷ xs) = if agrees known x.nogood then Some (KeptNogood k) else first_kept known (k + 1) xs
 
@@ -31,15 +31,15 @@ first_against v k [] = None
 first_against v k (x ∷ xs) = if is_against v x then Some (KeptNogood k) else first_against v (k + 1) xs
 
 -- among the rules that i owns, then among the nogoods kept
-abbrev pub first_cause : Contents → ℕ → List Recorded → Known → Option Cause
+abbrev pub first_cause : Contents → ℕ → List Recorded → PartialAssignment → Option Cause
 first_cause p i kept known = option_or (first_rule p known (owned_rules p i)) (first_kept known 0 kept)
 
 -- what rules out this value of i
-abbrev pub cause_for : Contents → ℕ → Known → List Recorded → ℤ → Option Cause
+abbrev pub cause_for : Contents → ℕ → PartialAssignment → List Recorded → ℤ → Option Cause
 cause_for p i known kept v = first_cause p i kept (with_value i v known)
 
 -- what rules out each of the values
-abbrev pub causes_for : Contents → ℕ → Known → List Recorded → List ℤ → List Cause
+abbrev pub causes_for : Contents → ℕ → PartialAssignment → List Recorded → List ℤ → List Cause
 causes_for p i known kept values = filter_map (cause_for p i known kept) values
 
 -- what rules out each value of the agent's domain first
@@ -47,7 +47,7 @@ abbrev pub all_causes : Knowledge → List Cause
 all_causes k = causes_for k.problem.now k.me (values_in (view_of k.view)) k.store (domain (csp_of k.problem.now) k.me)
 
 -- the least value that nothing rules out
-abbrev pub least_free : Contents → ℕ → Known → List Recorded → List ℤ → Option ℤ
+abbrev pub least_free : Contents → ℕ → PartialAssignment → List Recorded → List ℤ → Option ℤ
 least_free p i known kept values = find (λ v. not (is_some (cause_for p i known kept v))) values
 
 -- what stands past the last nogood
@@ -60,8 +60,8 @@ item_at p kept (OwnedRule r) = constraint_item (r, constraint_at p r)
 item_at p kept (KeptNogood k) = record_item (record_of (slice_index_or kept k no_record))
 
 -- what a step cites for the causes, in order
-abbrev pub cited : Contents → List Recorded → List Cause → List Reason
-cited p kept all = map (λ (x : Cause). (item_at p kept x).reason) all
+abbrev pub reasons_at : Contents → List Recorded → List Cause → List Reason
+reasons_at p kept all = map (λ (x : Cause). (item_at p kept x).reason) all
 
 -- there is an item at the place
 abbrev pub IsCause : Contents → List Recorded → Cause → Type 0

@@ -11,7 +11,7 @@ use Rattle.abt_message.specs.declared.Message.{Message}
 use Rattle.abt_message.specs.declared.Message.TheVariants.{Tell, Refuse, AddLink}
 use Rattle.abt_message.specs.declared.Sent.{Sent}
 use Rattle.abt_message.specs.Messages.{message_of}
-use Rattle.abt_view.specs.declared.Told.{Told}
+use Rattle.abt_view.specs.declared.StampedValue.{StampedValue}
 use Rattle.abt_view.specs.Views.{view_of}
 use Rattle.abt_store.specs.declared.Recorded.{Recorded}
 use Rattle.abt_store.specs.Stores.{records_of}
@@ -26,15 +26,15 @@ pub record State : Type 0 where
   pub value : Option ℤ
   pub stamp : ℕ
   pub waits : Bool
-  pub view : List (Option Told)
+  pub view : List (Option StampedValue)
   pub store : List Recorded
   pub tells : List ℕ  -- rising
   pub linked : List Bool
   pub spent : Bool  -- it ran out of memory
 
 -- what a table of marks says of k
-abbrev pub marked : List Bool → ℕ → Bool
-marked marks k = slice_index_or marks k false
+abbrev pub has_mark : List Bool → ℕ → Bool
+has_mark marks k = slice_index_or marks k false
 
 -- the agent of the definitions
 abbrev pub stands_for : State → Agent
@@ -45,7 +45,7 @@ stands_for s = record {
   view = view_of s.view;
   recorded = records_of s.store;
   tells = λ k. is_among k s.tells;
-  linked = marked s.linked;
+  linked = has_mark s.linked;
 }
 
 -- the agent did what the definitions' agent does: its new state, what it sent, and what it tells of its turn

@@ -7,7 +7,7 @@ ghost use Rattle.abt_defs.specs.Steps as steps;
 ghost use Rattle.abt_message.specs.Messages.{message_of};
 ghost use Rattle.abt_agent.specs.Bodies.{agent_of, owner_of, IsSized};
 ghost use Rattle.abt_agent.specs.Outgoing.{IsStamped, Posts};
-ghost use Rattle.abt_agent.specs.Asks.{asked, is_unlinked};
+ghost use Rattle.abt_agent.specs.Asks.{unlinked_names, is_unlinked};
 
 use crate::body::Body;
 use crate::marks::mark_pairs;
@@ -39,7 +39,7 @@ fn is_unlinked(linked: &[bool], to: u32) -> bool
 
 /// Asks for a link each agent that the pairs name and that has none, rising.
 fn ask_each(linked: &[bool], pairs: &[Pair], out: &mut Outbox) -> Result<(), Memory>
-    ensures { OnOk result (Posts out.old out.new (steps.to_each Add_link (asked linked.now pairs.now))) }
+    ensures { OnOk result (Posts out.old out.new (steps.to_each Add_link (unlinked_names linked.now pairs.now))) }
 {
     for pair in pairs {
         let wanted = is_unlinked(linked, pair.var);

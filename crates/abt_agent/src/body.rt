@@ -7,7 +7,7 @@ ghost use Rattle.dcsp_problem.specs.Lower.{lower_owners};
 ghost use Rattle.dcsp_problem.specs.Problems.{csp_of};
 ghost use Rattle.abt_agent.specs.Bodies.{agent_of, owner_of, IsGood};
 ghost use Rattle.abt_agent.specs.Rules.{names_any};
-ghost use Rattle.abt_agent.specs.States.{marked};
+ghost use Rattle.abt_agent.specs.States.{has_mark};
 
 use crate::knowledge::Knowledge;
 use crate::marks::mark_variables;
@@ -71,7 +71,7 @@ fn named_by(
 ) -> Result<Vec<bool>, Memory>
     requires { All (λ r. r < length problem.now.rules) rules.now }
     ensures size { IfOk result (λ marks. length marks.items ≡ count) }
-    ensures marks { IfOk result (λ marks. (k : ℕ) → k < count → marked marks.items k ≡ names_any problem.now k rules.now) }
+    ensures marks { IfOk result (λ marks. (k : ℕ) → k < count → has_mark marks.items k ≡ names_any problem.now k rules.now) }
 {
     let Ok(mut marks) = vec![in alloc; false; count as usize] else {
         return Err(Memory);
@@ -83,7 +83,7 @@ fn named_by(
 /// Marks each variable that one of the rules names, and for which there is a place.
 fn mark_scopes(marks: &mut [bool], problem: &Problem, rules: &[u32])
     requires { All (λ r. r < length problem.now.rules) rules.now }
-    ensures { (k : ℕ) → marked marks.new k ≡ (marked marks.old k || (nat_lt k (length marks.old) && names_any problem.now k rules.now)) }
+    ensures { (k : ℕ) → has_mark marks.new k ≡ (has_mark marks.old k || (nat_lt k (length marks.old) && names_any problem.now k rules.now)) }
 {
     for rule in rules {
         mark_variables(marks, problem.scope(*rule));

@@ -12,7 +12,7 @@ ghost use Rattle.abt_agent.specs.Bodies.{owner_of, IsInStep};
 
 use abt_reason::Reasons;
 use abt_store::{Recorded, Store};
-use abt_view::{Told, View};
+use abt_view::{StampedValue, View};
 use dcsp_list::Memory;
 use dcsp_problem::Problem;
 use std::alloc::Global;
@@ -54,7 +54,7 @@ impl<'p> Knowledge<'p> {
 
     /// Takes in a value that is newer than what the view has, and forgets what disagrees with it. True
     /// exactly if it is newer.
-    pub fn learn(&mut self, from: u32, told: Told) -> bool
+    pub fn learn(&mut self, from: u32, told: StampedValue) -> bool
         requires in_step { IsInStep self.old }
         requires higher { from < self.old.me }
         requires value { In told.value (domain (csp_of self.old.problem.now) from) }

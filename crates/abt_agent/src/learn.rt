@@ -16,14 +16,14 @@ ghost use Rattle.abt_agent.specs.Outgoing.{AreStampsOf};
 
 use crate::body::Body;
 use abt_store::Recorded;
-use abt_view::Told;
+use abt_view::StampedValue;
 use dcsp_list::Memory;
 use dcsp_nogood::{Nogood, Pair};
 
 impl<'p> Body<'p> {
     /// Takes in a value that is newer than what the view has, and forgets what disagrees with it. True
     /// exactly if it is newer.
-    pub fn learn(&mut self, from: u32, told: Told) -> bool
+    pub fn learn(&mut self, from: u32, told: StampedValue) -> bool
         requires sized { IsSized self.old }
         requires higher { from < self.old.known.me }
         requires value { In told.value (domain (csp_of self.old.known.problem.now) from) }
@@ -37,7 +37,7 @@ impl<'p> Body<'p> {
     }
 
     /// Takes in what is told of an agent, if that is higher.
-    fn learn_higher(&mut self, var: u32, told: Told)
+    fn learn_higher(&mut self, var: u32, told: StampedValue)
         requires sized { IsSized self.old }
         requires value { In told.value (domain (csp_of self.old.known.problem.now) var) }
         requires stamped { 0 < told.stamp }
@@ -61,7 +61,7 @@ impl<'p> Body<'p> {
     {
         for place in 0..pairs.len() {
             let pair = pairs[place];
-            let told = Told {
+            let told = StampedValue {
                 value: pair.value,
                 stamp: stamps[place],
             };

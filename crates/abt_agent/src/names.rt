@@ -4,7 +4,7 @@ ghost use Rattle.std.specs.Prelude.{◌≡◌, ◌≤◌, ◌<◌, ◌*◌, ◌^
 ghost use Rattle.dcsp_defs.specs.Words.{below};
 ghost use Rattle.abt_defs.specs.Agents.{is_among};
 ghost use Rattle.abt_defs.specs.Steps.{is_named};
-ghost use Rattle.abt_agent.specs.States.{marked};
+ghost use Rattle.abt_agent.specs.States.{has_mark};
 
 use dcsp_list::Memory;
 use dcsp_nogood::Pair;
@@ -14,7 +14,7 @@ use std::alloc::Global;
 /// Marks the variable, if there is a place for it.
 fn mark(marks: &mut Row, var: u32)
     ensures size { length marks.new ≡ length marks.old }
-    ensures marks { (k : ℕ) → marked marks.new k ≡ (marked marks.old k || (nat_lt k (length marks.old) && (k == var))) }
+    ensures marks { (k : ℕ) → has_mark marks.new k ≡ (has_mark marks.old k || (nat_lt k (length marks.old) && (k == var))) }
 {
     if (var as usize) < marks.len() {
         marks.put(var as usize, true);
@@ -24,7 +24,7 @@ fn mark(marks: &mut Row, var: u32)
 /// Marks each of the variables for which there is a place.
 pub fn name_variables(marks: &mut Row, variables: &[u32])
     ensures size { length marks.new ≡ length marks.old }
-    ensures marks { (k : ℕ) → marked marks.new k ≡ (marked marks.old k || (nat_lt k (length marks.old) && is_among k variables.now)) }
+    ensures marks { (k : ℕ) → has_mark marks.new k ≡ (has_mark marks.old k || (nat_lt k (length marks.old) && is_among k variables.now)) }
 {
     for var in variables {
         mark(marks, *var);
@@ -34,7 +34,7 @@ pub fn name_variables(marks: &mut Row, variables: &[u32])
 /// Marks each variable that the pairs name and for which there is a place.
 pub fn name_pairs(marks: &mut Row, pairs: &[Pair])
     ensures size { length marks.new ≡ length marks.old }
-    ensures marks { (k : ℕ) → marked marks.new k ≡ (marked marks.old k || (nat_lt k (length marks.old) && is_named k pairs.now)) }
+    ensures marks { (k : ℕ) → has_mark marks.new k ≡ (has_mark marks.old k || (nat_lt k (length marks.old) && is_named k pairs.now)) }
 {
     for pair in pairs {
         mark(marks, pair.var);
@@ -44,7 +44,7 @@ pub fn name_pairs(marks: &mut Row, pairs: &[Pair])
 /// The marked agents, rising. There is room for so many at first.
 pub fn marked_agents(alloc: Global, marks: &Row, room: usize) -> Result<Vec<u32>, Memory>
     requires { length marks.now < 2 ^ 32 }
-    ensures { IfOk result (λ names. names.items ≡ filter (marked marks.now) (below (length marks.now))) }
+    ensures { IfOk result (λ names. names.items ≡ filter (has_mark marks.now) (below (length marks.now))) }
 {
     let Ok(mut names) = Vec::with_capacity(alloc, room) else {
         return Err(Memory);
@@ -61,8 +61,8 @@ pub fn marked_agents(alloc: Global, marks: &Row, room: usize) -> Result<Vec<u32>
 fn add_block(names: &mut Vec<u32>, marks: &Row, block: usize) -> Result<(), Memory>
     requires few { length marks.now < 2 ^ 32 }
     requires block { block * 64 < length marks.now }
-    requires before { names.old.items ≡ filter (marked marks.now) (below (block * 64)) }
-    ensures { OnOk result (names.new.items ≡ filter (marked marks.now) (below (min (length marks.now) (block * 64 + 64)))) }
+    requires before { names.old.items ≡ filter (has_mark marks.now) (below (block * 64)) }
+    ensures { OnOk result (names.new.items ≡ filter (has_mark marks.now) (below (min (length marks.now) (block * 64 + 64)))) }
 {
     if marks.word(block) == 0 {
         return Ok(());

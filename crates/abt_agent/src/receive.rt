@@ -22,7 +22,7 @@ use crate::ask::push_if;
 use crate::body::Body;
 use abt_message::{Message, Outbox};
 use abt_store::Recorded;
-use abt_view::Told;
+use abt_view::StampedValue;
 use dcsp_list::Memory;
 use dcsp_nogood::Pair;
 
@@ -60,7 +60,7 @@ impl<'p> Body<'p> {
         let _vars = self.known.problem.vars();
         match message {
             Message::Tell { value, stamp } => {
-                self.receive_tell(from, Told { value, stamp }, number, out)
+                self.receive_tell(from, StampedValue { value, stamp }, number, out)
             }
             Message::Refuse {
                 nogood,
@@ -78,7 +78,7 @@ impl<'p> Body<'p> {
     fn receive_tell(
         &mut self,
         from: u32,
-        told: Told,
+        told: StampedValue,
         number: u64,
         out: &mut Outbox,
     ) -> Result<Turn, Memory>

@@ -9,14 +9,14 @@ ghost use Rattle.abt_store.specs.Stores.{records_of};
 ghost use Rattle.abt_view.specs.Views.{stamped_in, view_of};
 ghost use Rattle.abt_agent.specs.Bodies.{AreProper, IsInStep};
 ghost use Rattle.abt_agent.specs.Outgoing.{ArePositive, AreStampsOf, IsStampedView};
-ghost use Rattle.abt_agent.specs.States.{marked};
-ghost use Rattle.abt_agent.specs.Causes.{all_causes, blames, blames_one, cited, item_at, told_of, IsCause};
+ghost use Rattle.abt_agent.specs.States.{has_mark};
+ghost use Rattle.abt_agent.specs.Causes.{all_causes, blames, blames_one, reasons_at, item_at, told_of, IsCause};
 
 use crate::knowledge::Knowledge;
 use crate::names::{marked_agents, name_pairs, name_variables};
 use crate::search::Cause;
 use abt_message::StampList;
-use abt_view::Told;
+use abt_view::StampedValue;
 use dcsp_defs::{Reason, ReasonList};
 use dcsp_list::Memory;
 use dcsp_nogood::{Nogood, Pair};
@@ -64,9 +64,9 @@ impl<'p> Knowledge<'p> {
     fn blame(&self, marks: &mut Row) -> Result<ReasonList, Memory>
         requires in_step { IsInStep self.now }
         requires proper { AreProper self.now.problem.now self.now.me self.now.store }
-        ensures reasons { IfOk result (λ reasons. reasons ≡ cited self.now.problem.now self.now.store (all_causes self.now)) }
+        ensures reasons { IfOk result (λ reasons. reasons ≡ reasons_at self.now.problem.now self.now.store (all_causes self.now)) }
         ensures size { OnOk result (length marks.new ≡ length marks.old) }
-        ensures marks { OnOk result ((k : ℕ) → marked marks.new k ≡ (marked marks.old k || (nat_lt k (length marks.old) && blames self.now.problem.now self.now.store (all_causes self.now) k))) }
+        ensures marks { OnOk result ((k : ℕ) → has_mark marks.new k ≡ (has_mark marks.old k || (nat_lt k (length marks.old) && blames self.now.problem.now self.now.store (all_causes self.now) k))) }
     {
         let values = self.problem.domain(self.me).len();
         let Ok(mut reasons) = Vec::with_capacity(self.alloc, values) else {
@@ -86,9 +86,9 @@ impl<'p> Knowledge<'p> {
         cause: Option<Cause>,
     ) -> Result<(), Memory>
         requires { IfSome cause (IsCause self.now.problem.now self.now.store) }
-        ensures reasons { OnOk result (reasons.new.items ≡ reasons.old.items ++ cited self.now.problem.now self.now.store (option_to_list cause)) }
+        ensures reasons { OnOk result (reasons.new.items ≡ reasons.old.items ++ reasons_at self.now.problem.now self.now.store (option_to_list cause)) }
         ensures size { OnOk result (length marks.new ≡ length marks.old) }
-        ensures marks { OnOk result ((k : ℕ) → marked marks.new k ≡ (marked marks.old k || (nat_lt k (length marks.old) && blames self.now.problem.now self.now.store (option_to_list cause) k))) }
+        ensures marks { OnOk result ((k : ℕ) → has_mark marks.new k ≡ (has_mark marks.old k || (nat_lt k (length marks.old) && blames self.now.problem.now self.now.store (option_to_list cause) k))) }
     {
         let Some(cause) = cause else {
             return Ok(());
@@ -104,7 +104,7 @@ impl<'p> Knowledge<'p> {
     fn name_one(&self, marks: &mut Row, cause: Cause)
         requires { IsCause self.now.problem.now self.now.store cause }
         ensures size { length marks.new ≡ length marks.old }
-        ensures marks { (k : ℕ) → marked marks.new k ≡ (marked marks.old k || (nat_lt k (length marks.old) && blames_one self.now.problem.now self.now.store cause k)) }
+        ensures marks { (k : ℕ) → has_mark marks.new k ≡ (has_mark marks.old k || (nat_lt k (length marks.old) && blames_one self.now.problem.now self.now.store cause k)) }
     {
         match cause {
             Cause::OwnedRule(rule) => name_variables(marks, self.problem.scope(rule)),
@@ -123,7 +123,7 @@ impl<'p> Knowledge<'p> {
         };
         let mut stamps = room_for_stamps(self.alloc, agents.len())?;
         for var in agents {
-            add_told(&mut pairs, &mut stamps, *var, self.told(*var))?;
+            add_told(&mut pairs, &mut stamps, *var, self.stamped_value(*var))?;
         }
         // The agents rise, so nothing refuses.
         let Ok(nogood) = Nogood::from_vec(pairs) else {
@@ -133,14 +133,14 @@ impl<'p> Knowledge<'p> {
     }
 
     /// What the view has of the agent.
-    fn told(&self, var: u32) -> Option<Told>
+    fn stamped_value(&self, var: u32) -> Option<StampedValue>
         requires { IsStampedView (view_of self.now.view) }
         ensures told { pair_at var (stamped_in result) ≡ told_of (view_of self.now.view) var }
         ensures stamped { ForSome result (λ told. 0 < told.stamp) }
     {
         let value = self.view.value_of(var)?;
         let stamp = self.view.stamp_of(var)?;
-        Some(Told { value, stamp })
+        Some(StampedValue { value, stamp })
     }
 
     /// What a step cites for the cause.
@@ -170,7 +170,7 @@ fn add_told(
     pairs: &mut Vec<Pair>,
     stamps: &mut StampList,
     var: u32,
-    told: Option<Told>,
+    told: Option<StampedValue>,
 ) -> Result<(), Memory>
     requires size { length stamps.old ≡ length pairs.old.items }
     requires positive { ArePositive stamps.old }

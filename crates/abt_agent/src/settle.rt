@@ -14,11 +14,11 @@ use crate::ask::push_if;
 use crate::body::Body;
 use crate::refusal::Refusal;
 use abt_message::{Message, Outbox};
-use abt_view::Told;
+use abt_view::StampedValue;
 use dcsp_list::Memory;
 
 /// Tells the value to each of the agents, in order.
-fn tell_all(tells: &[u32], told: Told, out: &mut Outbox) -> Result<(), Memory>
+fn tell_all(tells: &[u32], told: StampedValue, out: &mut Outbox) -> Result<(), Memory>
     requires { 0 < told.stamp }
     ensures { OnOk result (Posts out.old out.new (steps.to_each (Announce (stamped_of told)) tells.now)) }
 {
@@ -69,7 +69,7 @@ impl<'p> Body<'p> {
         self.value = Some(value);
         self.stamp += 1;
         self.waits = false;
-        let told = Told {
+        let told = StampedValue {
             value,
             stamp: self.stamp,
         };

@@ -10,7 +10,7 @@ use Rattle.dcsp_meaning.specs.Words.{is_one}
 use Rattle.dcsp_nogood.specs.declared.Pair.{Pair}
 use Rattle.dcsp_nogood.specs.Pairs.{value_at, pair_of}
 use Rattle.dcsp_defs.specs.Words.{In, is_value}
-use Rattle.dcsp_defs.specs.Csp.{Constraint, Nogood, Known, is_violated, filled, given_with, domain}
+use Rattle.dcsp_defs.specs.Csp.{Constraint, Nogood, PartialAssignment, is_violated, filled, given_with, domain}
 use Rattle.dcsp_defs.specs.declared.Reason.{Reason}
 use Rattle.dcsp_defs.specs.declared.Reason.TheVariants.{Rule, Earlier}
 use Rattle.dcsp_defs.specs.declared.Step.{Step}
@@ -73,7 +73,7 @@ is_given pairs x v k w e = elim (eqb_tells k x) [
 ]
 
 -- each literal of the clause is against a value that is known
-abbrev IsAgainst : Known → List ℤ → Type 0
+abbrev IsAgainst : PartialAssignment → List ℤ → Type 0
 IsAgainst known clause = (y : ℤ) → Contains clause y → (k : ℕ) × (w : ℤ) × (y ≡ literal_against k w) × (known k ≡ Some w)
 
 -- ---- propagation from the negations of a nogood's clause
@@ -178,7 +178,7 @@ module _ (variables : ℕ) where
   literal_of_scope (Sum rel coefs terms total told) i r y c = absurd i
 
   -- a clause that is false where the known values are 0 or 1 has literals against them alone
-  rule_against : (known : Known) → ((k : ℕ) (w : ℤ) → known k ≡ Some w → (w ≡ pos 0) ⊎ (w ≡ pos 1)) → (rule : rules.Rule) → IsClauseRule rule → IsRuleOf variables rule → is_violated known (constraint_of variables rule) ≡ true → IsAgainst known (rule_clause rule)
+  rule_against : (known : PartialAssignment) → ((k : ℕ) (w : ℤ) → known k ≡ Some w → (w ≡ pos 0) ⊎ (w ≡ pos 1)) → (rule : rules.Rule) → IsClauseRule rule → IsRuleOf variables rule → is_violated known (constraint_of variables rule) ≡ true → IsAgainst known (rule_clause rule)
   rule_against known bits rule i r violated y c = of (literal_of_scope rule i r y c)
     where
       value : ℕ → ℤ

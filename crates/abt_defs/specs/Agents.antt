@@ -2,7 +2,7 @@
 use Rattle.std.specs.Prelude.{ℕ, Bool, false, not, ◌&&◌, List, [], ◌∷◌, map, Option, Some, None, ℤ, ◌==◌}
 use Rattle.std.specs.List.{list_any}
 use Rattle.dcsp_nogood.specs.Pairs.{pair_of}
-use Rattle.dcsp_defs.specs.Csp.{Csp, Constraint, Known, Nogood, owns}
+use Rattle.dcsp_defs.specs.Csp.{Csp, Constraint, PartialAssignment, Nogood, owns}
 
 -- ---- links at the start
 
@@ -71,9 +71,9 @@ value_in None = None
 value_in (Some s) = Some s.value
 
 -- the view without its stamps
-abbrev pub values_in : View → Known
+abbrev pub values_in : View → PartialAssignment
 values_in view k = value_in (view k)
 
 -- what the agent knows of others
-abbrev pub known : Agent → Known
+abbrev pub known : Agent → PartialAssignment
 known a = values_in a.view

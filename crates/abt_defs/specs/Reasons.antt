@@ -7,18 +7,18 @@ use Rattle.dcsp_defs.specs.declared.Step.{Step}
 use Rattle.std.specs.Option.{option_map}
 use Rattle.dcsp_nogood.specs.Pairs.{pair_of}
 use Rattle.dcsp_defs.specs.Words.{below}
-use Rattle.dcsp_defs.specs.Csp.{Csp, Constraint, Known, Nogood, is_violated, agrees, with_value, names, domain, owned}
+use Rattle.dcsp_defs.specs.Csp.{Csp, Constraint, PartialAssignment, Nogood, is_violated, agrees, with_value, names, domain, owned}
 use Rattle.abt_defs.specs.Agents.{Stamped, StampedNogood, plain, Record, View, values_in, is_among}
 
 -- a constraint or a recorded nogood: its variables, when it is violated, and the pairs that it contributes to a nogood
 pub record Item : Type 0 where
   pub reason : Reason
   pub variables : List ℕ
-  pub violated : Known → Bool
-  pub pairs : Known → Nogood
+  pub violated : PartialAssignment → Bool
+  pub pairs : PartialAssignment → Nogood
 
 -- the pairs of those variables that have a value
-abbrev pub known_pairs : Known → List ℕ → Nogood
+abbrev pub known_pairs : PartialAssignment → List ℕ → Nogood
 known_pairs known scope = filter_map (λ k. option_map (pair_of k) (known k)) scope
 
 -- an owned constraint, with its number, as an item
@@ -34,15 +34,15 @@ abbrev pub items : Csp → ℕ → List Record → List Item
 items p i recorded = map constraint_item (owned p i) ++ map record_item recorded
 
 -- the reason for a value of i: the first item that is violated under it
-abbrev pub cause : Csp → ℕ → Known → List Record → ℤ → Option Item
+abbrev pub cause : Csp → ℕ → PartialAssignment → List Record → ℤ → Option Item
 cause p i known recorded v = find (λ (x : Item). x.violated (with_value i v known)) (items p i recorded)
 
 -- whether the value has a reason
-abbrev pub ruled_out : Csp → ℕ → Known → List Record → ℤ → Bool
+abbrev pub ruled_out : Csp → ℕ → PartialAssignment → List Record → ℤ → Bool
 ruled_out p i known recorded v = is_some (cause p i known recorded v)
 
 -- the reasons of all values of the domain, in order
-abbrev pub causes : Csp → ℕ → Known → List Record → List Item
+abbrev pub causes : Csp → ℕ → PartialAssignment → List Record → List Item
 causes p i known recorded = filter_map (cause p i known recorded) (domain p i)
 
 -- the variable with its value and stamp, where it has one

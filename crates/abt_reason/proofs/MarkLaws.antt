@@ -8,7 +8,7 @@ use Rattle.std.proofs.Math.ListN.{get_or-eq_default}
 use Rattle.dcsp_row.specs.declared.marks.Marks.{Marks}
 use Rattle.dcsp_row.specs.Marks.{is_marked}
 use Rattle.dcsp_row.specs.Rows.{is_ruled_out, own_at}
-use Rattle.dcsp_defs.specs.Csp.{Known, domain}
+use Rattle.dcsp_defs.specs.Csp.{PartialAssignment, domain}
 use Rattle.dcsp_problem.specs.Problems.{Contents, csp_of}
 use Rattle.dcsp_problem.specs.Index.{owned_rules}
 use Rattle.abt_reason.specs.Cached.{IsRightAt, size_of}
@@ -142,7 +142,7 @@ marked_nowhere values rows none value place = elim (cases_lt place (length rows)
 ]
 
 -- the marks of a rule are right where they are those of the values that it rules out
-pub right_at : (p : Contents) (agent : ℕ) (known : Known) (rows : List Marks) (place rule : ℕ) → place < length rows → rule ≡ get_or (owned_rules p agent) place 0
+pub right_at : (p : Contents) (agent : ℕ) (known : PartialAssignment) (rows : List Marks) (place rule : ℕ) → place < length rows → rule ≡ get_or (owned_rules p agent) place 0
     → ((k : ℕ) → k < size_of p agent → is_marked_at rows place k ≡ is_ruled_out p rule agent known (own_at (domain (csp_of p) agent) k)) → IsRightAt p agent known (rows_of (size_of p agent) rows) place
 right_at p agent known rows place rule here is right k within =
     marks_are (size_of p agent) rows place k here within ∙ right k within ∙ ap (λ n. is_ruled_out p n agent known (own_at (domain (csp_of p) agent) k)) is

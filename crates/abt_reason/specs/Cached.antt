@@ -1,7 +1,7 @@
 -- What is kept for each value of an agent's domain, and what it stands for.
 use Rattle.std.specs.Prelude.{◌≡◌, ◌≢◌, ℕ, ◌<◌, Bool, true, List, [], ◌∷◌, ◌++◌, length, Option}
 use Rattle.dcsp_domain.specs.Sets.{IsRising}
-use Rattle.dcsp_defs.specs.Csp.{Known, domain}
+use Rattle.dcsp_defs.specs.Csp.{PartialAssignment, domain}
 use Rattle.dcsp_problem.specs.Problems.{Contents, csp_of}
 use Rattle.dcsp_problem.specs.Index.{owned_rules}
 use Rattle.abt_store.specs.declared.Recorded.{Recorded}
@@ -32,38 +32,38 @@ abbrev pub rules_of : Contents → ℕ → ℕ
 rules_of p agent = length (owned_rules p agent)
 
 -- the row of the owned rule at a place tells at which of the agent's values it is false
-abbrev pub IsRightAt : Contents → ℕ → Known → List (List Bool) → ℕ → Type 0
+abbrev pub IsRightAt : Contents → ℕ → PartialAssignment → List (List Bool) → ℕ → Type 0
 IsRightAt p agent known rows place = (k : ℕ) → k < size_of p agent → marks rows k place ≡ is_false p agent (known_at p agent known k) place
 
 -- each row that was right is right
-abbrev pub StaysRight : Contents → ℕ → Known → List Marks → List Marks → Type 0
+abbrev pub StaysRight : Contents → ℕ → PartialAssignment → List Marks → List Marks → Type 0
 StaysRight p agent known old new = (place : ℕ) → IsRightAt p agent known (rows_of (size_of p agent) old) place → IsRightAt p agent known (rows_of (size_of p agent) new) place
 
 -- the row of each owned rule does
-abbrev pub KeepsRows : Contents → ℕ → Known → List (List Bool) → Type 0
+abbrev pub KeepsRows : Contents → ℕ → PartialAssignment → List (List Bool) → Type 0
 KeepsRows p agent known rows = (place : ℕ) → place < rules_of p agent → IsRightAt p agent known rows place
 
 -- this was right before something was learnt of one variable
-pub record RowsStoodBefore (p : Contents) (agent var : ℕ) (known : Known) (rows : List (List Bool)) : Type 0 where
-  pub known_before : Known
+pub record RowsStoodBefore (p : Contents) (agent var : ℕ) (known : PartialAssignment) (rows : List (List Bool)) : Type 0 where
+  pub known_before : PartialAssignment
   pub stood : KeepsRows p agent known_before rows
   pub others : (k : ℕ) → k ≢ var → known_before k ≡ known k
 
 -- what is kept is right for these values known and these items
-pub record StandsFor (r : Cached) (known : Known) (items : List Recorded) : Type 0 where
+pub record StandsFor (r : Cached) (known : PartialAssignment) (items : List Recorded) : Type 0 where
   pub rules : KeepsRows r.problem r.agent known r.rows
   pub kept : KeepsSteps (domain (csp_of r.problem) r.agent) r.agent known items r.steps r.count r.own
 
 -- what is kept was right before something was learnt of one variable
-pub record StoodBefore (r : Cached) (var : ℕ) (known : Known) (items : List Recorded) : Type 0 where
-  pub known_before : Known
+pub record StoodBefore (r : Cached) (var : ℕ) (known : PartialAssignment) (items : List Recorded) : Type 0 where
+  pub known_before : PartialAssignment
   pub items_before : List Recorded
   pub stood : StandsFor r known_before items_before
   pub others : (k : ℕ) → k ≢ var → known_before k ≡ known k
   pub left : AreLeft var known items_before items
 
 -- what is kept was right before the last item was added
-pub record StoodWithoutLast (r : Cached) (known : Known) (items : List Recorded) : Type 0 where
+pub record StoodWithoutLast (r : Cached) (known : PartialAssignment) (items : List Recorded) : Type 0 where
   pub items_before : List Recorded
   pub last : Recorded
   pub stood : StandsFor r known items_before

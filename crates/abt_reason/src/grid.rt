@@ -14,7 +14,7 @@ use std::alloc::Global;
 
 /// The rules of an agent with so many values, of which none rules anything out yet.
 #[derive(Clone, Copy)]
-pub struct Unfilled<'a> {
+pub struct OwnedRules<'a> {
     pub problem: &'a Problem,
     pub rules: &'a [u32],
     pub agent: u32,
@@ -42,7 +42,7 @@ pub struct RuledOut {
 
 impl RuledOut {
     /// These rules of an agent with so many values, as if they ruled nothing out.
-    pub fn new(alloc: Global, empty: &Unfilled) -> Result<RuledOut, Memory>
+    pub fn new(alloc: Global, empty: &OwnedRules) -> Result<RuledOut, Memory>
         requires few { length empty.now.rules.now < 2 ^ 32 }
         requires rules { All (λ rule. rule < length empty.now.problem.now.rules) empty.now.rules.now }
         ensures rules { IfOk result (λ grid. length grid.rows.items ≡ length empty.now.rules.now) }
@@ -160,7 +160,7 @@ fn next_marking(rows: &[Marks], cell: Cell, count: u32) -> Option<u32>
 }
 
 /// For each of these rules marks of no value, as bits only where its values need not stand in one span.
-fn empty_rows(alloc: Global, empty: &Unfilled) -> Result<Vec<Marks>, Memory>
+fn empty_rows(alloc: Global, empty: &OwnedRules) -> Result<Vec<Marks>, Memory>
     requires { All (λ rule. rule < length empty.now.problem.now.rules) empty.now.rules.now }
     ensures rules { IfOk result (λ rows. length rows.items ≡ length empty.now.rules.now) }
     ensures sized { IfOk result (λ rows. AreSized empty.now.values rows.items) }
@@ -180,7 +180,7 @@ fn empty_rows(alloc: Global, empty: &Unfilled) -> Result<Vec<Marks>, Memory>
 }
 
 /// Marks of no value, as bits only where the rule's values need not stand in one span.
-fn empty_row(alloc: Global, empty: &Unfilled, rule: u32) -> Result<Marks, Memory>
+fn empty_row(alloc: Global, empty: &OwnedRules, rule: u32) -> Result<Marks, Memory>
     requires { rule < length empty.now.problem.now.rules }
     ensures sized { IfOk result (FitsSize empty.now.values) }
     ensures none { IfOk result (λ marks. (value : ℕ) → is_marked marks value ≡ false) }

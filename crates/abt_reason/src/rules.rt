@@ -11,13 +11,13 @@ ghost use Rattle.abt_reason.specs.declared.named.Naming.{Naming as TheNaming};
 ghost use Rattle.abt_reason.specs.Grids.{marks, rows_of};
 ghost use Rattle.abt_reason.specs.Cached.{size_of, rules_of, AreRows, AreRuleLists, IsRightAt, IsRoom, KeepsRows, RowsStoodBefore, StaysRight};
 
-use crate::grid::{RuledOut, Unfilled};
+use crate::grid::{OwnedRules, RuledOut};
 use crate::named::{NamedIn, Naming};
-use crate::under::Known;
+use crate::under::ViewValues;
 use abt_view::View;
 use dcsp_list::Memory;
 use dcsp_problem::Problem;
-use dcsp_row::{Marks, Row, Unknown, fill_row, span_of};
+use dcsp_row::{Marks, OpenVariable, Row, fill_row, span_of};
 use std::alloc::Global;
 
 /// An agent that owns rules of a problem, and what it was told.
@@ -49,7 +49,7 @@ impl FirstRules {
         let _variables = problem.vars();
         let view = View::new(alloc, 0)?;
         let named = NamedIn::new(alloc, problem, owned)?;
-        let empty = Unfilled {
+        let empty = OwnedRules {
             problem,
             rules: owned,
             agent,
@@ -130,12 +130,12 @@ fn refresh(ruled_out: &mut RuledOut, room: &mut Marks, owner: &Owner, place: usi
 {
     let rule = owner.problem.owned(owner.agent)[place];
     let values = owner.problem.domain(owner.agent).len();
-    let known = Known { view: owner.view };
-    let unknown = Unknown {
+    let known = ViewValues { view: owner.view };
+    let open_var = OpenVariable {
         var: owner.agent,
         lookup: &known,
     };
-    match span_of(owner.problem, rule, &unknown) {
+    match span_of(owner.problem, rule, &open_var) {
         Some(span) => ruled_out.replace(place, values, &Marks::Span(span)),
         None => {
             fill(owner, rule, room);
@@ -154,11 +154,11 @@ fn fill(owner: &Owner, rule: u32, room: &mut Marks)
     ensures marks { (k : ℕ) → k < size_of owner.now.problem.now owner.now.agent → is_marked room.new k ≡ is_ruled_out owner.now.problem.now rule owner.now.agent (values_in (view_of owner.now.view.now)) (own_at (domain (csp_of owner.now.problem.now) owner.now.agent) k) }
 {
     if let Marks::Row(row) = room {
-        let known = Known { view: owner.view };
-        let unknown = Unknown {
+        let known = ViewValues { view: owner.view };
+        let open_var = OpenVariable {
             var: owner.agent,
             lookup: &known,
         };
-        fill_row(owner.problem, rule, &unknown, row);
+        fill_row(owner.problem, rule, &open_var, row);
     }
 }

@@ -17,7 +17,7 @@ use std::marker::Model;
 
 /// A value, and its stamp: how many values its agent had taken then, this one included.
 #[derive(Clone, Copy, Debug, PartialEq, Eq)]
-pub struct Told {
+pub struct StampedValue {
     pub value: i64,
     pub stamp: u64,
 }
@@ -27,19 +27,19 @@ pub struct Told {
 pub struct View {
     /// The agents above, in order, up to the last that told something. There is room for all of them,
     /// which is not touched before.
-    slots: Vec<Option<Told>>,
+    slots: Vec<Option<StampedValue>>,
     /// How many there are.
     agents: usize,
 }
 
 impl Model for View {
     ghost use Rattle.std.specs.Prelude.{List, Option, length, vec_capacity};
-    ghost use Rattle.abt_view.specs.declared.Told.{Told};
-    ghost use Rattle.abt_view.specs.Views.{padded, HasRoomFor};
+    ghost use Rattle.abt_view.specs.declared.StampedValue.{StampedValue};
+    ghost use Rattle.abt_view.specs.Views.{with_blanks, HasRoomFor};
 
-    ghost Value = { List (Option Told) };
+    ghost Value = { List (Option StampedValue) };
 
-    ghost view = { λ view. padded view.agents view.slots.items };
+    ghost view = { λ view. with_blanks view.agents view.slots.items };
 
     ghost invariant = { λ view. HasRoomFor view.agents (length view.slots.items) (vec_capacity view.slots) };
 }
@@ -68,7 +68,7 @@ impl View {
         if !self.is_news(var, stamp) {
             return false;
         }
-        put_slot(&mut self.slots, var as usize, Told { value, stamp });
+        put_slot(&mut self.slots, var as usize, StampedValue { value, stamp });
         true
     }
 
@@ -86,18 +86,18 @@ impl View {
     pub fn value_of(&self, var: u32) -> Option<i64>
         ensures { result ≡ values_in (view_of self.now) var }
     {
-        Some(self.told(var)?.value)
+        Some(self.stamped_value(var)?.value)
     }
 
     /// The stamp last told by an agent; `None` where it told nothing or is not higher.
     pub fn stamp_of(&self, var: u32) -> Option<u64>
         ensures { result ≡ stamp_in (view_of self.now var) }
     {
-        Some(self.told(var)?.stamp)
+        Some(self.stamped_value(var)?.stamp)
     }
 
     /// What an agent told last.
-    fn told(&self, var: u32) -> Option<Told>
+    fn stamped_value(&self, var: u32) -> Option<StampedValue>
         ensures { result ≡ slice_index_or self.now var None }
     {
         self.slots.get(var as usize).copied()?
@@ -105,7 +105,7 @@ impl View {
 }
 
 /// Puts what was told into the slot at a place, for which there is room.
-fn put_slot(slots: &mut Vec<Option<Told>>, place: usize, told: Told)
+fn put_slot(slots: &mut Vec<Option<StampedValue>>, place: usize, told: StampedValue)
     requires { place < vec_capacity slots.old }
     ensures told { slice_index_or slots.new.items place None ≡ Some told }
     ensures others { (k : ℕ) → k ≢ place → slice_index_or slots.new.items k None ≡ slice_index_or slots.old.items k None }

@@ -4,7 +4,7 @@ ghost use Rattle.std.specs.Prelude.{◌≡◌, length};
 
 use crate::driver::{Counts, Driver};
 use crate::problem::{AGENT, VALUES, VARIABLES};
-use abt_view::Told;
+use abt_view::StampedValue;
 use dcsp_nogood::Pair;
 use dcsp_problem::Problem;
 use std::alloc::Global;
@@ -26,7 +26,7 @@ fn value_at(message: u32) -> i64 {
 
 /// Hands the agent such messages as `mixed` says.
 fn mix(driver: &mut Driver<'_>, messages: u32) -> Option<()> {
-    let mut told: [Option<Told>; HIGHER] = [None; HIGHER];
+    let mut told: [Option<StampedValue>; HIGHER] = [None; HIGHER];
     for message in 0..messages {
         let step = u64::from(message) + 1;
         let is_tenth = message % 10 == 9;
@@ -37,13 +37,13 @@ fn mix(driver: &mut Driver<'_>, messages: u32) -> Option<()> {
         };
         let last = if is_tenth { told[var as usize] } else { None };
         match last {
-            Some(Told { value, stamp }) => {
+            Some(StampedValue { value, stamp }) => {
                 let own = i64::from(message % VALUES);
                 driver.refuse(Pair { var, value }, stamp, own, step)?;
             }
             None => {
                 let value = value_at(message);
-                told[var as usize] = Some(Told { value, stamp: step });
+                told[var as usize] = Some(StampedValue { value, stamp: step });
                 driver.tell(Pair { var, value }, step, step)?;
             }
         }

@@ -9,7 +9,7 @@ use Rattle.dcsp_defs.specs.declared.Reason.{Reason}
 use Rattle.dcsp_defs.specs.declared.Reason.TheVariants.{Rule, Earlier}
 use Rattle.dcsp_defs.specs.declared.Step.{Step}
 use Rattle.dcsp_defs.specs.Words.{In, is_value}
-use Rattle.dcsp_defs.specs.Csp.{Csp, Nogood, Assignment, Known, IsCsp, IsSolution, Extends, filled, given_with, domain}
+use Rattle.dcsp_defs.specs.Csp.{Csp, Nogood, Assignment, PartialAssignment, IsCsp, IsSolution, Extends, filled, given_with, domain}
 use Rattle.dcsp_defs.specs.Derivation.{step_at, IsReason, IsRightAt, IsRightNowhere, IsRight, IsDerivation, NogoodsExclude, RefutationsRefute}
 use Rattle.dcsp_defs.proofs.Lists.{list_all-In, and_left, and_right, get-In, get-take}
 
@@ -46,7 +46,7 @@ module _ (p : Csp) (ok : IsCsp p) (earlier : List Step) (before : (n : ℕ) (s :
   reason_excludes pairs x (Rule number) values h solution e =
       let c = h.0 in
       let here = get-In p.constraints number c h.1 in
-      let known : Known = given_with x (values x) pairs in
+      let known : PartialAssignment = given_with x (values x) pairs in
       let same : c.test (filled known) ≡ c.test values = (ok.constraints c here).local (filled known) values
       (λ k u. sym (with_has values pairs e x k (filled known k) (some-is (known k) (list_all-In (λ k. is_some (known k)) k c.scope (and_left (list_all (λ k. is_some (known k)) c.scope) (not (c.test (filled known))) h.2) u)))) in
       let t : c.test (filled known) ≡ true = same ∙ solution.constraints c here in

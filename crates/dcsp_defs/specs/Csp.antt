@@ -72,25 +72,25 @@ abbrev pub Extends : Assignment → Nogood → Type 0
 Extends values pairs = (y : Pair) → In y pairs → values y.var ≡ y.value
 
 -- values of some variables: a view, a nogood and an assignment are read so
-abbrev pub Known : Type 0
-Known = ℕ → Option ℤ
+abbrev pub PartialAssignment : Type 0
+PartialAssignment = ℕ → Option ℤ
 
 -- the values with v at x
-abbrev pub with_value : ℕ → ℤ → Known → Known
+abbrev pub with_value : ℕ → ℤ → PartialAssignment → PartialAssignment
 with_value x v known = update known x (Some v)
 
 -- the values that the nogood gives, with v at x
-abbrev pub given_with : ℕ → ℤ → Nogood → Known
+abbrev pub given_with : ℕ → ℤ → Nogood → PartialAssignment
 given_with x v pairs = with_value x v (value_at pairs)
 
 -- the values as an assignment
-abbrev pub filled : Known → Assignment
+abbrev pub filled : PartialAssignment → Assignment
 filled known k = unwrap_or (known k) (pos 0)
 
 -- each variable of the constraint has a value, and with these it is false
-abbrev pub is_violated : Known → Constraint → Bool
+abbrev pub is_violated : PartialAssignment → Constraint → Bool
 is_violated known c = list_all (λ k. is_some (known k)) c.scope && not (c.test (filled known))
 
 -- the values have each pair
-abbrev pub agrees : Known → Nogood → Bool
+abbrev pub agrees : PartialAssignment → Nogood → Bool
 agrees known pairs = list_all (λ (y : Pair). is_value (known y.var) y.value) pairs

@@ -7,7 +7,7 @@ use Rattle.dcsp_defs.specs.declared.Reason.{Reason}
 use Rattle.dcsp_defs.specs.declared.Reason.TheVariants.{Rule, Earlier}
 use Rattle.dcsp_defs.specs.declared.Step.{Step}
 use Rattle.dcsp_defs.specs.Words.{In}
-use Rattle.dcsp_defs.specs.Csp.{Csp, Constraint, Nogood, Known, Assignment, IsCsp, IsSolution, HasNoSolution, Extends, is_violated, agrees, given_with, domain, count}
+use Rattle.dcsp_defs.specs.Csp.{Csp, Constraint, Nogood, PartialAssignment, Assignment, IsCsp, IsSolution, HasNoSolution, Extends, is_violated, agrees, given_with, domain, count}
 
 -- the step with this number
 abbrev pub step_at : List Step → ℕ → Option Step
@@ -15,11 +15,11 @@ step_at steps zero = None
 step_at steps (suc k) = slice_get steps k
 
 -- the constraint with this number is false under the values
-abbrev pub IsFalseRule : Csp → Known → ℕ → Type 0
+abbrev pub IsFalseRule : Csp → PartialAssignment → ℕ → Type 0
 IsFalseRule p values number = (c : Constraint) × (slice_get p.constraints number ≡ Some c) × (is_violated values c ≡ true)
 
 -- the values have each pair of the nogood of the step with this number
-abbrev pub IsAgreeingStep : List Step → Known → ℕ → Type 0
+abbrev pub IsAgreeingStep : List Step → PartialAssignment → ℕ → Type 0
 IsAgreeingStep steps values number = (s : Step) × (step_at steps number ≡ Some s) × (agrees values s.nogood ≡ true)
 
 -- why x has not the value v where the pairs hold: a constraint is false there, or an earlier nogood agrees

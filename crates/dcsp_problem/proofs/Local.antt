@@ -12,7 +12,7 @@ use Rattle.dcsp_problem.specs.declared.rule.Term.TheVariants.{Const, Var}
 use Rattle.dcsp_problem.specs.declared.rule.Rule.{Rule}
 use Rattle.dcsp_problem.specs.declared.rule.Rule.TheVariants.{Plain, Sum}
 use Rattle.dcsp_problem.specs.Members.{is_member}
-use Rattle.dcsp_problem.specs.Rules.{variable_of, value_under, variables_of, weighted, is_told, rule_truth}
+use Rattle.dcsp_problem.specs.Rules.{variable_of, value_under, variables_of, weighted_values, is_told, rule_truth}
 
 -- a fact of each variable among these terms
 pub record OfEach (P : ℕ → Type 0) (terms : List Term) : Type 0 where
@@ -71,5 +71,5 @@ truth_local (Sum rel coefs terms total told) f g h =
     let b = same_value f g total (of_first same total (option_to_list told) rest) in
     let c = same_told f g told (of_rest same total (option_to_list told) rest) in
     ap (λ z. is_told (option_map (value_under f) told) (stands rel (sum_of (zip coefs z)) (value_under f total))) a
-    ∙ ap (λ z. is_told (option_map (value_under f) told) (stands rel (sum_of (weighted g coefs terms)) z)) b
-    ∙ ap (λ z. is_told z (stands rel (sum_of (weighted g coefs terms)) (value_under g total))) c
+    ∙ ap (λ z. is_told (option_map (value_under f) told) (stands rel (sum_of (weighted_values g coefs terms)) z)) b
+    ∙ ap (λ z. is_told z (stands rel (sum_of (weighted_values g coefs terms)) (value_under g total))) c

@@ -7,7 +7,7 @@ use Rattle.std.proofs.lemmas.Option.{unwrap_or-slice_get}
 use Rattle.dcsp_domain.specs.Sets.{has}
 use Rattle.dcsp_linear.specs.declared.TheConstants.{WIDEST}
 use Rattle.dcsp_defs.specs.Words.{In}
-use Rattle.dcsp_defs.specs.Csp.{Assignment, Known, domain, filled}
+use Rattle.dcsp_defs.specs.Csp.{Assignment, PartialAssignment, domain, filled}
 use Rattle.dcsp_defs.proofs.Lists.{list_all-In}
 use Rattle.dcsp_problem.specs.Rules.{variables_of, IsRuleOf, no_rule}
 use Rattle.dcsp_problem.specs.Widths.{rule_width, rule_sizes}
@@ -35,7 +35,7 @@ kept_in values (Some v) h = by_test (has values v) h where
   by_test false h = cc
 
 -- where a look-up gives each variable of the scope a value of its domain
-pub narrow_of_known : (p : Contents) (known : Known) (k : ℕ) → IsProblem p → k < length p.rules → list_all (λ v. is_some (within_domains (csp_of p) known v)) (constraint_at p k).scope ≡ true
+pub narrow_of_known : (p : Contents) (known : PartialAssignment) (k : ℕ) → IsProblem p → k < length p.rules → list_all (λ v. is_some (within_domains (csp_of p) known v)) (constraint_at p k).scope ≡ true
     → rule_sizes (rule_at p k) (filled known) ≤ WIDEST
 narrow_of_known p known k ok l all =
     narrow_rule p (filled known) k ok l (λ v i.

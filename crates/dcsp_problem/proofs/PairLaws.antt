@@ -4,7 +4,7 @@ use Rattle.std.specs.Prelude.{is_some, IfSome, Option, Some, None}
 use Rattle.std.specs.List.{list_all}
 use Rattle.std.proofs.lemmas.Bool.{eqb-true, eq-eqb, or_cases, both_ways, false_from_ne_true, or_left, or_right}
 use Rattle.dcsp_defs.specs.Words.{In}
-use Rattle.dcsp_defs.specs.Csp.{Known, filled, is_violated}
+use Rattle.dcsp_defs.specs.Csp.{PartialAssignment, filled, is_violated}
 use Rattle.dcsp_defs.proofs.Lists.{list_all-In, In-list_all}
 use Rattle.dcsp_problem.specs.declared.pair.Pair.{Pair}
 use Rattle.dcsp_problem.specs.declared.rule.Rule.{Rule}
@@ -40,7 +40,7 @@ module _ (n : ℕ) (rule : Rule) (pair : Pair) (ok : IsRuleOf n rule) (is : IsPa
   pub all_of_two : (test : ℕ → Bool) → list_all test (scope_of n rule) ≡ (test pair.first && test pair.second)
   all_of_two test = both_or_not test (test pair.first) (test pair.second) refl refl
 
-  pub missed_is : (known : Known) → is_missed pair known ≡ is_violated known (constraint_of n rule)
+  pub missed_is : (known : PartialAssignment) → is_missed pair known ≡ is_violated known (constraint_of n rule)
   missed_is known =
       ap (λ b. b && not (pair_truth pair (filled known))) (sym (all_of_two (λ k. is_some (known k))))
       ∙ ap (λ t. list_all (λ k. is_some (known k)) (scope_of n rule) && not t) (is.truth (filled known))

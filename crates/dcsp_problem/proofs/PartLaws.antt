@@ -19,12 +19,12 @@ use Rattle.dcsp_defs.specs.Csp.{Assignment}
 use Rattle.dcsp_problem.specs.declared.pair.Pair.{Pair}
 use Rattle.dcsp_problem.specs.declared.parts.Part.{Part}
 use Rattle.dcsp_problem.specs.declared.parts.Parts.{Parts}
-use Rattle.dcsp_problem.specs.declared.parts.Compared.{Compared}
+use Rattle.dcsp_problem.specs.declared.parts.Comparison.{Comparison}
 use Rattle.dcsp_problem.specs.declared.rule.Term.{Term}
 use Rattle.dcsp_problem.specs.declared.rule.Term.TheVariants.{Const, Var}
 use Rattle.dcsp_problem.specs.declared.rule.Members.{Members}
 use Rattle.dcsp_problem.specs.declared.rule.Rule.TheVariants.{Plain, Sum}
-use Rattle.dcsp_problem.specs.Rules.{variable_of, value_under, weighted}
+use Rattle.dcsp_problem.specs.Rules.{variable_of, value_under, weighted_values}
 use Rattle.dcsp_problem.specs.Pairs.{IsPairOf, IsSmall}
 use Rattle.dcsp_problem.specs.Parts.{is_of_part, is_of_parts, part_at, AddsPart, AddsTerm, AreOfSum, IsPairFrom, IsPairOfTerms}
 
@@ -68,7 +68,7 @@ among_more terms k d var l =
 
 module _ (values : Assignment) (coefs : List ℤ) (terms : List Term) (k : ℕ) (d : Term) (shape : length coefs ≡ length terms) (here : k < length coefs) where
   abbrev pub pairs : List (ℤ × ℤ)
-  pairs = weighted values coefs terms
+  pairs = weighted_values values coefs terms
 
   in_terms : k < length terms
   in_terms = omega (arith, here, shape)
@@ -86,8 +86,8 @@ module _ (values : Assignment) (coefs : List ℤ) (terms : List Term) (k : ℕ) 
   sum_here = sum_of-drop pairs k in_pairs ∙ ap (λ (p : ℤ × ℤ). (p.0 *ℤ p.1) +ℤ sum_of (drop (k + 1) pairs)) at_place
 
 -- nothing is left past the end
-pub sum_done : (values : Assignment) (coefs : List ℤ) (terms : List Term) (k : ℕ) → length coefs ≤ k → sum_of (drop k (weighted values coefs terms)) ≡ pos 0
-sum_done values coefs terms k past = ap sum_of (drop_of_length-le (weighted values coefs terms) (omega (arith, past, length-zip coefs (map (value_under values) terms))))
+pub sum_done : (values : Assignment) (coefs : List ℤ) (terms : List Term) (k : ℕ) → length coefs ≤ k → sum_of (drop k (weighted_values values coefs terms)) ≡ pos 0
+sum_done values coefs terms k past = ap sum_of (drop_of_length-le (weighted_values values coefs terms) (omega (arith, past, length-zip coefs (map (value_under values) terms))))
 
 -- what is added is no longer left
 pub next_sum : (a b p rest rest' all : ℤ) → b ≡ a +ℤ p → rest ≡ p +ℤ rest' → a +ℤ rest ≡ all → b +ℤ rest' ≡ all
@@ -224,14 +224,14 @@ part_more part coef var all e f = record {
 }
 
 -- the pairs of comparisons
-pub both_variables : (compared : Compared) (x y : ℕ) → unsigned_abs compared.total ≤ 2 ^ 65 → IsPairOfTerms compared (Var x) (Var y) (record { rel = compared.rel; first = x; second = y; first_coef = pos 1; second_coef = negsuc 0; total = compared.total })
+pub both_variables : (compared : Comparison) (x y : ℕ) → unsigned_abs compared.total ≤ 2 ^ 65 → IsPairOfTerms compared (Var x) (Var y) (record { rel = compared.rel; first = x; second = y; first_coef = pos 1; second_coef = negsuc 0; total = compared.total })
 both_variables compared x y small = record {
   truth = λ values. stands_moved compared.rel ((pos 1 *ℤ values x) +ℤ (negsuc 0 *ℤ values y)) compared.total (values x -ℤ values y) compared.total (omega (arith, ints));
   variables = λ var. refl;
   small = record { first = omega arith; second = omega arith; total = small };
 }
 
-pub first_variable : (compared : Compared) (x : ℕ) (value total : ℤ) → total ≡ compared.total +ℤ value → unsigned_abs total ≤ 2 ^ 65
+pub first_variable : (compared : Comparison) (x : ℕ) (value total : ℤ) → total ≡ compared.total +ℤ value → unsigned_abs total ≤ 2 ^ 65
     → IsPairOfTerms compared (Var x) (Const value) (record { rel = compared.rel; first = x; second = x; first_coef = pos 1; second_coef = pos 0; total = total })
 first_variable compared x value total e small = record {
   truth = λ values. stands_moved compared.rel ((pos 1 *ℤ values x) +ℤ (pos 0 *ℤ values x)) total (values x -ℤ value) compared.total (omega (arith, ints, e));
@@ -239,7 +239,7 @@ first_variable compared x value total e small = record {
   small = record { first = omega arith; second = omega arith; total = small };
 }
 
-pub second_variable : (compared : Compared) (x : ℕ) (value total : ℤ) → total ≡ compared.total -ℤ value → unsigned_abs total ≤ 2 ^ 65
+pub second_variable : (compared : Comparison) (x : ℕ) (value total : ℤ) → total ≡ compared.total -ℤ value → unsigned_abs total ≤ 2 ^ 65
     → IsPairOfTerms compared (Const value) (Var x) (record { rel = compared.rel; first = x; second = x; first_coef = negsuc 0; second_coef = pos 0; total = total })
 second_variable compared x value total e small = record {
   truth = λ values. stands_moved compared.rel ((negsuc 0 *ℤ values x) +ℤ (pos 0 *ℤ values x)) total (value -ℤ values x) compared.total (omega (arith, ints, e));
@@ -248,7 +248,7 @@ second_variable compared x value total e small = record {
 }
 
 -- the pair of a comparison says what the rule does
-pub comparison_pair : (pair : Pair) (kind : Kind) (scalars xs ys : List Term) (members : Members) (compared : Compared) (a b : Term) → scalars ≡ a ∷ b ∷ [] → xs ≡ [] → ys ≡ []
+pub comparison_pair : (pair : Pair) (kind : Kind) (scalars xs ys : List Term) (members : Members) (compared : Comparison) (a b : Term) → scalars ≡ a ∷ b ∷ [] → xs ≡ [] → ys ≡ []
     → ((scalars first second : List ℤ) → (member : ℤ → Bool) → truth kind scalars first second member ≡ stands compared.rel (argument scalars 0 -ℤ argument scalars 1) compared.total) → IsPairOfTerms compared a b pair
     → IsPairOf pair (Plain kind scalars xs ys members)
 comparison_pair pair kind scalars xs ys members compared a b e f g is h = rw (e, f, g) (record {
@@ -263,7 +263,7 @@ pub sum_pair : (pair : Pair) (rel : Rel) (coefs : List ℤ) (terms : List Term) 
 sum_pair pair rel coefs terms total told parts next e sum adds h = rw e (record {
   truth = λ values.
       h.truth values ∙ ap (λ z. stands rel z (pos 0)) (adds.sum values ∙ ap (λ z. z +ℤ (negsuc 0 *ℤ value_under values total)) (sum.sum values))
-      ∙ stands_moved rel (sum_of (weighted values coefs terms) +ℤ (negsuc 0 *ℤ value_under values total)) (pos 0) (sum_of (weighted values coefs terms)) (value_under values total) (omega (arith, ints));
+      ∙ stands_moved rel (sum_of (weighted_values values coefs terms) +ℤ (negsuc 0 *ℤ value_under values total)) (pos 0) (sum_of (weighted_values values coefs terms)) (value_under values total) (omega (arith, ints));
   variables = λ var.
       h.variables var ∙ adds.variables var ∙ ap (λ z. z || is_number (variable_of total) var) (sum.variables var)
       ∙ sym (among_last terms total var);

@@ -12,7 +12,7 @@ use Rattle.dcsp_problem.specs.declared.rule.Rule.{Rule}
 use Rattle.dcsp_problem.specs.declared.rule.Rule.TheVariants.{Sum}
 use Rattle.dcsp_defs.specs.Words.{is_number}
 use Rattle.dcsp_linear.specs.declared.Rel.{Rel}
-use Rattle.dcsp_problem.specs.Rules.{value_under, variable_of, weighted}
+use Rattle.dcsp_problem.specs.Rules.{value_under, variable_of, weighted_values}
 use Rattle.dcsp_problem.specs.Pairs.{is_over, IsSmallSum}
 use Rattle.dcsp_problem.specs.Parts.{at_zero, is_free_for, is_of_part, is_of_parts, AreOver, StaySmall}
 use Rattle.dcsp_problem.proofs.PartLaws.{among_last, at_place, in_pairs}
@@ -46,7 +46,7 @@ coefs_left coefs k before after l more fits = let here = sum_by-drop_more unsign
 
 module _ (coefs : List ℤ) (terms : List Term) (k : ℕ) (d : Term) (shape : length coefs ≡ length terms) (here : k < length coefs) where
   abbrev all : List (ℤ × ℤ)
-  all = weighted at_zero coefs terms
+  all = weighted_values at_zero coefs terms
 
   abbrev one : ℕ
   one = size_of (get_or coefs k (pos 0), value_under at_zero (get_or terms k d))
@@ -84,7 +84,7 @@ pub record IsGiven (v w : ℕ) (coefs : List ℤ) (terms : List Term) (total : T
   pub last : IsTrue (is_over v w total)
   pub mentioned : (list_any (λ x. x == v) (filter_map variable_of terms) || is_number (variable_of total) v) ≡ true
   pub few : suc (sum_by unsigned_abs coefs) < 2 ^ 62
-  pub low : sum_by size_of (weighted at_zero coefs terms) + unsigned_abs (value_under at_zero total) ≤ 2 ^ 65
+  pub low : sum_by size_of (weighted_values at_zero coefs terms) + unsigned_abs (value_under at_zero total) ≤ 2 ^ 65
 
 pub small_sum : (v w : ℕ) (rule : Rule) (rel : Rel) (coefs : List ℤ) (terms : List Term) (total : Term) (told : Option Term) → rule ≡ Sum rel coefs terms total told → told ≡ None → IsSmallSum v w rule → IsGiven v w coefs terms total
 small_sum v w rule rel coefs terms total told e f h =

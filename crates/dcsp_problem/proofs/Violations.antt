@@ -7,7 +7,7 @@ use Rattle.std.specs.Ordering.{int_eq}
 use Rattle.std.proofs.lemmas.Bool.Decides.{Decides-int_eq}
 use Rattle.dcsp_domain.specs.Sets.{has}
 use Rattle.dcsp_defs.specs.Words.{In}
-use Rattle.dcsp_defs.specs.Csp.{Csp, Constraint, Known, IsConstraint, domain, count, filled, is_violated}
+use Rattle.dcsp_defs.specs.Csp.{Csp, Constraint, PartialAssignment, IsConstraint, domain, count, filled, is_violated}
 use Rattle.dcsp_defs.proofs.Lists.{list_any-In, In-list_any, In-list_all}
 use Rattle.dcsp_problem.specs.Problems.{value_in, within_domains, AreInDomains}
 
@@ -16,7 +16,7 @@ value_kept : (values : List ℤ) (v : ℤ) → In v values → value_in values (
 value_kept values v i = let there : has values v ≡ true = list_any-In (int_eq v) v values i ((Decides-int_eq v v).1 refl) in rw there refl
 
 -- where all values are in the domains, none is dropped
-pub within_same : (p : Csp) (known : Known) → AreInDomains p known → (v : ℕ) → v < count p → within_domains p known v ≡ known v
+pub within_same : (p : Csp) (known : PartialAssignment) → AreInDomains p known → (v : ℕ) → v < count p → within_domains p known v ≡ known v
 within_same p known all v l = by_value (known v) refl where
   by_value : (o : Option ℤ) → known v ≡ o → value_in (domain p v) o ≡ o
   by_value None e = refl
@@ -27,7 +27,7 @@ list_all_same q r [] h = refl
 list_all_same q r (x ∷ xs) h = ap (λ z. z && list_all q xs) (h x (inl refl)) ∙ ap (λ z. r x && z) (list_all_same q r xs (λ v i. h v (inr i)))
 
 -- then the rule is violated within the domains exactly where it is violated
-pub violated_same : (p : Csp) (known : Known) (c : Constraint) → IsConstraint p c → AreInDomains p known → is_violated (within_domains p known) c ≡ is_violated known c
+pub violated_same : (p : Csp) (known : PartialAssignment) (c : Constraint) → IsConstraint p c → AreInDomains p known → is_violated (within_domains p known) c ≡ is_violated known c
 violated_same p known c ok all =
     let same : (v : ℕ) → In v c.scope → within_domains p known v ≡ known v = λ v i. within_same p known all v (ok.inside v i) in
     let tests : c.test (filled (within_domains p known)) ≡ c.test (filled known) = ok.local _ _ (λ v i. ap (λ z. unwrap_or z (pos 0)) (same v i)) in
@@ -35,7 +35,7 @@ violated_same p known c ok all =
     ∙ ap (λ z. list_all (λ v. is_some (known v)) c.scope && not z) tests
 
 -- where all values are in the domains, a scope that is known is known within them
-pub scope_within : (p : Csp) (known : Known) (c : Constraint) → IsConstraint p c → AreInDomains p known → list_all (λ v. is_some (known v)) c.scope ≡ true → list_all (λ v. is_some (within_domains p known v)) c.scope ≡ true
+pub scope_within : (p : Csp) (known : PartialAssignment) (c : Constraint) → IsConstraint p c → AreInDomains p known → list_all (λ v. is_some (known v)) c.scope ≡ true → list_all (λ v. is_some (within_domains p known v)) c.scope ≡ true
 scope_within p known c ok all knows = list_all_same _ _ c.scope (λ v i. ap (λ z. is_some z) (within_same p known all v (ok.inside v i))) ∙ knows
 
 -- what passes a domain's test is in it
@@ -53,7 +53,7 @@ kept_in values (Some w) v e = by_test (has values w) refl e where
   by_test false h e = absurd (cc)
 
 -- what is kept of the known values is in the domains
-pub within_are_in : (p : Csp) (known : Known) → AreInDomains p (within_domains p known)
+pub within_are_in : (p : Csp) (known : PartialAssignment) → AreInDomains p (within_domains p known)
 within_are_in p known var v l e = kept_in (domain p var) (known var) v e
 
 -- a list that has a value of its domain for each variable

@@ -21,7 +21,7 @@ use Rattle.dcsp_problem.specs.declared.rule.Term.{Term}
 use Rattle.dcsp_problem.specs.declared.rule.Term.TheVariants.{Const, Var}
 use Rattle.dcsp_problem.specs.declared.rule.Rule.{Rule}
 use Rattle.dcsp_problem.specs.declared.rule.Rule.TheVariants.{Plain, Sum}
-use Rattle.dcsp_problem.specs.Rules.{value_under, terms_of, weighted, IsTermOf, IsRuleOf}
+use Rattle.dcsp_problem.specs.Rules.{value_under, terms_of, weighted_values, IsTermOf, IsRuleOf}
 use Rattle.dcsp_problem.specs.Widths.{greatest_among, greatest_of, rule_width, rule_sizes}
 use Rattle.dcsp_problem.proofs.RisingNumbers.{Contains-In}
 use Rattle.dcsp_problem.proofs.Local.{OfEach, of_left, of_right, of_first, of_rest}
@@ -122,7 +122,7 @@ value_within domains values (Const value) h = omega arith
 value_within domains values (Var var) h = greatest_least (slice_index_or domains var []) (values var) (h.each var (inl refl))
 
 products_within : (domains : List (List ℤ)) (values : Assignment) (coefs : List ℤ) (terms : List Term) → OfEach (IsInDomain domains values) terms
-    → sum_by product_size (weighted values coefs terms) ≤ sum_by greatest_size (zip coefs (map (greatest_of domains) terms))
+    → sum_by product_size (weighted_values values coefs terms) ≤ sum_by greatest_size (zip coefs (map (greatest_of domains) terms))
 products_within domains values [] terms h = omega arith
 products_within domains values (coef ∷ coefs) [] h = omega arith
 products_within domains values (coef ∷ coefs) (term ∷ terms) h =
@@ -130,9 +130,9 @@ products_within domains values (coef ∷ coefs) (term ∷ terms) h =
     let same : unsigned_abs coef ≤ unsigned_abs coef = omega arith in
     let product = mul-le (unsigned_abs coef) (unsigned_abs (value_under values term)) (unsigned_abs coef) (greatest_of domains term) same here in
     let rest = products_within domains values coefs terms (of_rest (IsInDomain domains values) term terms h) in
-    let both : unsigned_abs coef * unsigned_abs (value_under values term) + sum_by product_size (weighted values coefs terms)
+    let both : unsigned_abs coef * unsigned_abs (value_under values term) + sum_by product_size (weighted_values values coefs terms)
     ≤ unsigned_abs coef * greatest_of domains term + sum_by greatest_size (zip coefs (map (greatest_of domains) terms)) = omega arith in
-    rw (sum_by-cons product_size (coef, value_under values term) (weighted values coefs terms), sum_by-cons greatest_size (coef, greatest_of domains term) (zip coefs (map (greatest_of domains) terms))) both
+    rw (sum_by-cons product_size (coef, value_under values term) (weighted_values values coefs terms), sum_by-cons greatest_size (coef, greatest_of domains term) (zip coefs (map (greatest_of domains) terms))) both
 
 -- values in their domains make no sum that is greater than the width
 pub sizes_within : (domains : List (List ℤ)) (values : Assignment) (rule : Rule) → OfEach (IsInDomain domains values) (terms_of rule) → rule_sizes rule values ≤ rule_width domains rule

@@ -4,7 +4,7 @@ use Rattle.std.specs.List.{list_all, list_any}
 use Rattle.dcsp_meaning.specs.declared.kinds.Kind.{Kind}
 use Rattle.dcsp_meaning.specs.declared.kinds.Kind.TheVariants.{IntEq, IntNe, IntLe, IntLt}
 use Rattle.dcsp_linear.specs.Sums.{stands}
-use Rattle.dcsp_defs.specs.Csp.{Assignment, Known, filled}
+use Rattle.dcsp_defs.specs.Csp.{Assignment, PartialAssignment, filled}
 use Rattle.dcsp_problem.specs.declared.pair.Pair.{Pair}
 use Rattle.dcsp_problem.specs.declared.rule.Term.{Term}
 use Rattle.dcsp_problem.specs.declared.rule.Term.TheVariants.{Const, Var}
@@ -26,7 +26,7 @@ abbrev pub is_of_pair : Pair → ℕ → Bool
 is_of_pair pair var = (pair.first == var) || (pair.second == var)
 
 -- whether both variables are known, and the pair is false under what is known
-abbrev pub is_missed : Pair → Known → Bool
+abbrev pub is_missed : Pair → PartialAssignment → Bool
 is_missed pair known = (is_some (known pair.first) && is_some (known pair.second)) && not (pair_truth pair (filled known))
 
 -- its numbers are so small that 128 bits hold the sum for any values of 64 bits, and what the total is above it

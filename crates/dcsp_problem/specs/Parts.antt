@@ -8,9 +8,9 @@ use Rattle.dcsp_defs.specs.Csp.{Assignment}
 use Rattle.dcsp_problem.specs.declared.pair.Pair.{Pair}
 use Rattle.dcsp_problem.specs.declared.parts.Part.{Part}
 use Rattle.dcsp_problem.specs.declared.parts.Parts.{Parts}
-use Rattle.dcsp_problem.specs.declared.parts.Compared.{Compared}
+use Rattle.dcsp_problem.specs.declared.parts.Comparison.{Comparison}
 use Rattle.dcsp_problem.specs.declared.rule.Term.{Term}
-use Rattle.dcsp_problem.specs.Rules.{variable_of, value_under, weighted}
+use Rattle.dcsp_problem.specs.Rules.{variable_of, value_under, weighted_values}
 use Rattle.dcsp_problem.specs.Pairs.{is_of_pair, is_over, pair_truth, IsSmall}
 
 -- the product of a part, 0 where there is none
@@ -43,7 +43,7 @@ pub record AddsTerm (parts : Parts) (coef : ℤ) (term : Term) (next : Parts) : 
 
 -- the parts are the terms of a sum with their coefficients
 pub record AreOfSum (coefs : List ℤ) (terms : List Term) (parts : Parts) : Type 0 where
-  pub sum : (values : Assignment) → parts_at parts values ≡ sum_of (weighted values coefs terms)
+  pub sum : (values : Assignment) → parts_at parts values ≡ sum_of (weighted_values values coefs terms)
   pub variables : (var : ℕ) → is_of_parts parts var ≡ list_any (λ v. v == var) (filter_map variable_of terms)
 
 -- the absolute value of a part's coefficient, 0 where there is none
@@ -85,8 +85,8 @@ pub record StaysSmall (parts : Parts) (coef : ℤ) (term : Term) (result : Optio
 
 -- likewise of all terms of a sum
 pub record StaySmall (coefs : List ℤ) (terms : List Term) (result : Option Parts) : Type 0 where
-  pub sizes : IfSome result (AreWithin (sum_by unsigned_abs coefs) (sum_by size_of (weighted at_zero coefs terms)))
-  pub room : (v w : ℕ) → IsTrue (list_all (is_over v w) terms) → sum_by unsigned_abs coefs < 2 ^ 62 → sum_by size_of (weighted at_zero coefs terms) ≤ 2 ^ 65 → HasRoom v w result
+  pub sizes : IfSome result (AreWithin (sum_by unsigned_abs coefs) (sum_by size_of (weighted_values at_zero coefs terms)))
+  pub room : (v w : ℕ) → IsTrue (list_all (is_over v w) terms) → sum_by unsigned_abs coefs < 2 ^ 62 → sum_by size_of (weighted_values at_zero coefs terms) ≤ 2 ^ 65 → HasRoom v w result
 
 -- the pair says how the parts stand to 0
 pub record IsPairFrom (rel : Rel) (parts : Parts) (pair : Pair) : Type 0 where
@@ -95,11 +95,11 @@ pub record IsPairFrom (rel : Rel) (parts : Parts) (pair : Pair) : Type 0 where
   pub small : IsSmall pair
 
 -- the pair says how the difference of two terms compares
-pub record IsPairOfTerms (compared : Compared) (first second : Term) (pair : Pair) : Type 0 where
+pub record IsPairOfTerms (compared : Comparison) (first second : Term) (pair : Pair) : Type 0 where
   pub truth : (values : Assignment) → pair_truth pair values ≡ stands compared.rel (value_under values first -ℤ value_under values second) compared.total
   pub variables : (var : ℕ) → is_of_pair pair var ≡ (is_number (variable_of first) var || is_number (variable_of second) var)
   pub small : IsSmall pair
 
 -- there is such a pair where one of the terms is a variable
-abbrev pub ComparesTerms : Compared → Term → Term → Option Pair → Type 0
+abbrev pub ComparesTerms : Comparison → Term → Term → Option Pair → Type 0
 ComparesTerms compared first second pair = IfSome pair (IsPairOfTerms compared first second) × (is_some pair ≡ (is_some (variable_of first) || is_some (variable_of second)))

@@ -2,7 +2,7 @@
 use Rattle.std.specs.Prelude.{◌≡◌, ℕ, ◌<◌, ℤ, List, map, length, sum_by, slice_index_or, Option, Some, None, if◌then◌else◌}
 use Rattle.dcsp_domain.specs.Sets.{has}
 use Rattle.dcsp_defs.specs.Words.{In}
-use Rattle.dcsp_defs.specs.Csp.{Csp, Constraint, Known, domain, count}
+use Rattle.dcsp_defs.specs.Csp.{Csp, Constraint, PartialAssignment, domain, count}
 use Rattle.dcsp_problem.specs.declared.rule.Rule.{Rule}
 use Rattle.dcsp_problem.specs.declared.output.Output.{Output}
 use Rattle.dcsp_problem.specs.declared.aim.Aim.{Aim}
@@ -45,9 +45,9 @@ value_in values None = None
 value_in values (Some value) = if has values value then Some value else None
 
 -- those of the known values that are in their variables' domains
-abbrev pub within_domains : Csp → Known → Known
+abbrev pub within_domains : Csp → PartialAssignment → PartialAssignment
 within_domains p known var = value_in (domain p var) (known var)
 
 -- every known value of a variable is in its domain
-abbrev pub AreInDomains : Csp → Known → Type 0
+abbrev pub AreInDomains : Csp → PartialAssignment → Type 0
 AreInDomains p known = (var : ℕ) (value : ℤ) → var < count p → known var ≡ Some value → In value (domain p var)

@@ -59,15 +59,15 @@ is_told None holds = holds
 is_told (Some value) holds = same holds (is_one value)
 
 -- each coefficient beside its term's value
-abbrev pub weighted : Assignment → List ℤ → List Term → List (ℤ × ℤ)
-weighted values coefs terms = zip coefs (map (value_under values) terms)
+abbrev pub weighted_values : Assignment → List ℤ → List Term → List (ℤ × ℤ)
+weighted_values values coefs terms = zip coefs (map (value_under values) terms)
 
 -- whether the rule holds where the variables have these values
 abbrev pub rule_truth : Rule → Assignment → Bool
 rule_truth (Plain kind scalars first second members) values =
     truth kind (map (value_under values) scalars) (map (value_under values) first) (map (value_under values) second) (is_member members)
 rule_truth (Sum rel coefs terms total told) values =
-    is_told (option_map (value_under values) told) (stands rel (sum_of (weighted values coefs terms)) (value_under values total))
+    is_told (option_map (value_under values) told) (stands rel (sum_of (weighted_values values coefs terms)) (value_under values total))
 
 -- whether the rule's kind takes as many arguments; a sum has as many coefficients as terms
 abbrev pub has_shape : Rule → Bool

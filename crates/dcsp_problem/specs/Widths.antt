@@ -6,7 +6,7 @@ use Rattle.dcsp_problem.specs.declared.rule.Term.{Term}
 use Rattle.dcsp_problem.specs.declared.rule.Term.TheVariants.{Const, Var}
 use Rattle.dcsp_problem.specs.declared.rule.Rule.{Rule}
 use Rattle.dcsp_problem.specs.declared.rule.Rule.TheVariants.{Plain, Sum}
-use Rattle.dcsp_problem.specs.Rules.{value_under, weighted}
+use Rattle.dcsp_problem.specs.Rules.{value_under, weighted_values}
 
 -- the greatest absolute value among these; 0 where there is none
 abbrev pub greatest_among : List ℤ → ℕ
@@ -26,4 +26,4 @@ rule_width domains (Sum rel coefs terms total told) = width_of coefs (map (great
 -- the absolute values of the products and of the total, added up, where the variables have these values; 0 where there is no sum
 abbrev pub rule_sizes : Rule → Assignment → ℕ
 rule_sizes (Plain kind scalars first second members) values = 0
-rule_sizes (Sum rel coefs terms total told) values = sizes_of (weighted values coefs terms) (value_under values total)
+rule_sizes (Sum rel coefs terms total told) values = sizes_of (weighted_values values coefs terms) (value_under values total)

@@ -12,7 +12,7 @@ use crate::index::owned_lists;
 use crate::limits::{BuildError, Which, within};
 use crate::lower::lower_table;
 use crate::output::Output;
-use crate::problem::{Problem, Shared, Tables};
+use crate::problem::{Problem, SharedPart, Tables};
 use crate::rule::{Members, Rule};
 use crate::table::NumberTable;
 use crate::widths::within_width;
@@ -144,7 +144,7 @@ impl ProblemBuilder {
             owned,
             lower,
         };
-        let shared = Shared {
+        let shared = SharedPart {
             rules: self.rules,
             outputs: self.outputs,
             tables,

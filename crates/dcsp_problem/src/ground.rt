@@ -4,7 +4,7 @@ ghost use Rattle.std.specs.Prelude.{◌≡◌, ◌≤◌, map, IsTrue};
 ghost use Rattle.std.specs.Option.{option_map};
 ghost use Rattle.dcsp_defs.specs.Csp.{filled};
 ghost use Rattle.dcsp_linear.specs.Sums.{widest};
-ghost use Rattle.dcsp_problem.specs.Rules.{value_under, has_shape, weighted, is_told};
+ghost use Rattle.dcsp_problem.specs.Rules.{value_under, has_shape, weighted_values, is_told};
 ghost use Rattle.dcsp_problem.specs.Widths.{rule_sizes};
 ghost use Rattle.dcsp_problem.specs.Forms.{form_has, found_truth, is_found_by};
 
@@ -97,7 +97,7 @@ impl<L> Drop for GroundSum<'_, L> {
 }
 
 impl<'a, L: Lookup> Weighted for GroundSum<'a, L> {
-    ghost pairs = { λ g. weighted (filled (L.values g.lookup.now)) g.coefs.now g.terms.now };
+    ghost pairs = { λ g. weighted_values (filled (L.values g.lookup.now)) g.coefs.now g.terms.now };
 
     fn count(&self) -> usize {
         self.coefs.len().min(self.terms.len())

@@ -16,11 +16,11 @@ pub trait Lookup {
 
 /// A value for each variable, in order.
 #[derive(Drop)]
-pub struct Assigned<'a> {
+pub struct Assignment<'a> {
     pub values: &'a [i64],
 }
 
-impl<'a> Lookup for Assigned<'a> {
+impl<'a> Lookup for Assignment<'a> {
     ghost values = { λ a. slice_get a.values.now };
 
     fn value_of(&self, var: u32) -> Option<i64> {

@@ -32,7 +32,7 @@ pub struct Parts {
 
 /// How the difference of two numbers stands to a third.
 #[derive(Clone, Copy)]
-pub struct Compared {
+pub struct Comparison {
     pub rel: Rel,
     pub total: i64,
 }
@@ -72,7 +72,7 @@ pub fn pair_of(rule: &Rule) -> Option<Pair>
 }
 
 /// How a constraint of this kind compares the difference of its numbers, if it is a comparison.
-fn compared_by(kind: Kind) -> Option<Compared>
+fn compared_by(kind: Kind) -> Option<Comparison>
     ensures some { is_some result ≡ is_comparison kind }
     ensures shape { is_some result ≡ true → (scalars first second : ℕ) → IsTrue (is_shape kind scalars first second) → (scalars ≡ 2) × ((first ≡ 0) × (second ≡ 0)) }
     ensures compares { IfSome result (λ compared. (scalars first second : List ℤ) → (member : ℤ → Bool) → truth kind scalars first second member ≡ stands compared.rel (argument scalars 0 -ℤ argument scalars 1) compared.total) }
@@ -84,11 +84,11 @@ fn compared_by(kind: Kind) -> Option<Compared>
         Kind::IntLt => (Rel::AtMost, -1),
         _ => return None,
     };
-    Some(Compared { rel, total })
+    Some(Comparison { rel, total })
 }
 
 /// The pair of a comparison, if one of its terms is a variable.
-fn pair_of_terms(compared: Compared, first: Term, second: Term) -> Option<Pair>
+fn pair_of_terms(compared: Comparison, first: Term, second: Term) -> Option<Pair>
     ensures { ComparesTerms compared first second result }
 {
     let total = i128::from(compared.total);

@@ -16,7 +16,7 @@ ghost use Rattle.dcsp_problem.specs.Lower.{lower_owners};
 use crate::aim::Aim;
 use crate::form::Form;
 use crate::ground::is_true_under;
-use crate::lookup::{Assigned, Lookup, WithinDomains};
+use crate::lookup::{Assignment, Lookup, WithinDomains};
 use crate::output::Output;
 use crate::pair::Pair;
 use crate::rule::Rule;
@@ -32,12 +32,12 @@ use std::rc::Rc;
 pub struct Problem {
     domains: Vec<Domain>,
     aim: Aim,
-    shared: Rc<Shared>,
+    shared: Rc<SharedPart>,
 }
 
 /// What a problem has in common with those that it is narrowed to.
 #[derive(Debug, Drop)]
-pub struct Shared {
+pub struct SharedPart {
     pub rules: Vec<Rule>,
     pub outputs: Vec<Output>,
     /// What is read off the rules once, when a problem is finished.
@@ -74,7 +74,7 @@ impl Problem {
         alloc: Global,
         domains: Vec<Domain>,
         aim: Aim,
-        shared: Shared,
+        shared: SharedPart,
     ) -> Result<Problem, Memory>
         requires { IsIndexed (record { domains = domains.items; rules = shared.rules.items; outputs = shared.outputs.items; aim = aim }) shared.tables.scopes shared.tables.forms.items shared.tables.owned shared.tables.lower }
         ensures { IfOk result (λ problem. problem ≡ record { domains = domains.items; rules = shared.rules.items; outputs = shared.outputs.items; aim = aim }) }
@@ -235,7 +235,7 @@ impl Problem {
         ensures { result ≡ (constraint_at self.now rule).test (λ var. slice_index_or values.now var (pos 0)) }
     {
         let _scope = self.scope(rule);
-        !self.violated_within(rule, &Assigned { values })
+        !self.violated_within(rule, &Assignment { values })
     }
 
     /// Whether the look-up gives each variable of a rule's scope a value of that variable's domain, and the

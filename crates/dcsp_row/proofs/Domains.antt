@@ -6,12 +6,12 @@ use Rattle.std.proofs.lemmas.List.{length-set, get_or-set_same, get_or-set_other
 use Rattle.std.proofs.lemmas.Bool.Decides.{eqb_tells}
 use Rattle.std.proofs.lemmas.Option.{unwrap_or-slice_get}
 use Rattle.dcsp_defs.specs.Words.{In}
-use Rattle.dcsp_defs.specs.Csp.{Csp, Known, domain, with_value}
+use Rattle.dcsp_defs.specs.Csp.{Csp, PartialAssignment, domain, with_value}
 use Rattle.dcsp_problem.specs.Problems.{AreInDomains}
 use Rattle.dcsp_row.specs.Rows.{own_at, MarksBelow}
 
 -- a view's values with one of the agent's domain
-pub own_in_domains : (p : Csp) (agent : ℕ) (v : ℤ) (known : Known) → In v (domain p agent) → AreInDomains p known → AreInDomains p (with_value agent v known)
+pub own_in_domains : (p : Csp) (agent : ℕ) (v : ℤ) (known : PartialAssignment) → In v (domain p agent) → AreInDomains p known → AreInDomains p (with_value agent v known)
 own_in_domains p agent v known there all var w l e = elim (eqb_tells var agent) [
   | inl t ↦
       let some : Some v ≡ Some w = sym (ap (λ b. cond b (Some v) (known var)) t.0) ∙ e in

@@ -3,9 +3,9 @@ use Rattle.std.specs.Prelude.{◌≡◌, ℕ, ◌+◌, ◌*◌, ◌≤◌, ℤ, 
 use Rattle.dcsp_linear.specs.Sums.{stands}
 use Rattle.dcsp_problem.specs.Rules.{is_told}
 use Rattle.dcsp_row.specs.declared.line.Line.{Line}
-use Rattle.dcsp_row.specs.declared.sums.Opened.{Opened}
-use Rattle.dcsp_row.specs.declared.sums.Told.{Told}
-use Rattle.dcsp_row.specs.declared.sums.Told.TheVariants.{Untold, By, ByOwn}
+use Rattle.dcsp_row.specs.declared.sums.OpenSum.{OpenSum}
+use Rattle.dcsp_row.specs.declared.sums.SumTruth.{SumTruth}
+use Rattle.dcsp_row.specs.declared.sums.SumTruth.TheVariants.{HasToHold, By, ByOpen}
 
 -- the product with the open variable's coefficient, if it has one
 abbrev pub own_part : Option ℤ → ℤ → ℤ
@@ -30,16 +30,16 @@ pub record AddsTerm (line next : Line) (coef : ℤ) (value : Option ℤ) (x : �
   pub size : line_size next x ≤ line_size line x + unsigned_abs coef * unsigned_abs (unwrap_or value x)
 
 -- the value that tells the truth of a sum, if one does
-abbrev pub told_at : Told → ℤ → Option ℤ
-told_at Untold x = None
+abbrev pub told_at : SumTruth → ℤ → Option ℤ
+told_at HasToHold x = None
 told_at (By value) x = Some value
-told_at ByOwn x = Some x
+told_at ByOpen x = Some x
 
 -- whether it is told by something else than the open variable, or by nothing
-abbrev pub is_known : Told → Bool
-is_known Untold = true
+abbrev pub is_known : SumTruth → Bool
+is_known HasToHold = true
 is_known (By value) = true
-is_known ByOwn = false
+is_known ByOpen = false
 
 -- the coefficient of a term that is the open variable, which has no value
 abbrev pub open_coef : ℤ → Option ℤ → List ℤ
@@ -47,10 +47,10 @@ open_coef coef None = coef ∷ []
 open_coef coef (Some value) = []
 
 -- whether a sum with an open variable is false where that has this value: it stands so to the total, or is told not to
-abbrev pub is_off : Opened → ℤ → Bool
+abbrev pub is_off : OpenSum → ℤ → Bool
 is_off opened value = not (is_told (told_at opened.told value) (stands opened.rel (line_at opened.line value) (unwrap_or opened.total value)))
 
 -- whether there is one, and the open variable tells neither total nor truth
-abbrev pub is_line : Option Opened → Bool
+abbrev pub is_line : Option OpenSum → Bool
 is_line None = false
 is_line (Some opened) = is_some opened.total && is_known opened.told

@@ -14,80 +14,93 @@ ghost use Rattle.dcsp_row.specs.Rows.{is_false, is_ruled_out, IsRow, TellsFalse,
 ghost use Rattle.dcsp_row.specs.Spans.{SpansWhere};
 
 use crate::general::try_each;
-use crate::known::{Unknown, known_value, knows_others};
+use crate::known::{OpenVariable, known_value, knows_others};
 use crate::line::{line_of, line_of_pair};
 use crate::row::Row;
 use crate::span::Span;
-use crate::sums::{Opened, fill_sum, missed_line, off_span, told_by};
+use crate::sums::{OpenSum, fill_sum, missed_line, off_span, told_by};
 use dcsp_domain::Domain;
 use dcsp_problem::{Lookup, Pair, Problem, Rule};
 
 /// The values of the open variable at which the rule is violated under these and the others', as a span of
 /// its domain; `None` only where the rule is not one that always has a span.
-pub fn span_of<L: Lookup>(problem: &Problem, rule: u32, unknown: &Unknown<'_, L>) -> Option<Span>
+pub fn span_of<L: Lookup>(
+    problem: &Problem,
+    rule: u32,
+    open_var: &OpenVariable<'_, L>,
+) -> Option<Span>
     requires rule { rule < length problem.now.rules }
-    requires var { unknown.now.var < length problem.now.domains }
-    requires known { AreInDomains (csp_of problem.now) (L.values unknown.now.lookup.now) }
-    ensures span { IfSome result (SpansWhere (is_ruled_out problem.now rule unknown.now.var (L.values unknown.now.lookup.now)) (domain (csp_of problem.now) unknown.now.var)) }
-    ensures some { IsTrue (has_span unknown.now.var (rule_at problem.now rule)) → IsTrue (is_some result) }
+    requires var { open_var.now.var < length problem.now.domains }
+    requires known { AreInDomains (csp_of problem.now) (L.values open_var.now.lookup.now) }
+    ensures span { IfSome result (SpansWhere (is_ruled_out problem.now rule open_var.now.var (L.values open_var.now.lookup.now)) (domain (csp_of problem.now) open_var.now.var)) }
+    ensures some { IsTrue (has_span open_var.now.var (rule_at problem.now rule)) → IsTrue (is_some result) }
 {
     let scope = problem.scope(rule);
-    if !knows_others(scope, unknown) {
+    if !knows_others(scope, open_var) {
         return Some(Span::whole(false));
     }
     if let Some(pair) = problem.pair(rule) {
-        return Some(span_of_pair(pair, problem.domain(unknown.var), unknown));
+        return Some(span_of_pair(pair, problem.domain(open_var.var), open_var));
     }
     if scope.is_empty() {
-        return Some(Span::whole(problem.violated_within(rule, unknown.lookup)));
+        return Some(Span::whole(problem.violated_within(rule, open_var.lookup)));
     }
     let _variables = problem.vars();
-    span_of_sum(problem.rule(rule), problem.domain(unknown.var), unknown)
+    span_of_sum(problem.rule(rule), problem.domain(open_var.var), open_var)
 }
 
 /// The values at which the pair is false.
-fn span_of_pair<L: Lookup>(pair: Pair, domain: &Domain, unknown: &Unknown<'_, L>) -> Span
+fn span_of_pair<L: Lookup>(pair: Pair, domain: &Domain, open_var: &OpenVariable<'_, L>) -> Span
     requires { IsSmall pair }
-    ensures { SpansWhere (λ x. not (pair_truth pair (filled (with_value unknown.now.var x (L.values unknown.now.lookup.now))))) domain.now result }
+    ensures { SpansWhere (λ x. not (pair_truth pair (filled (with_value open_var.now.var x (L.values open_var.now.lookup.now))))) domain.now result }
 {
-    let line = line_of_pair(pair, unknown);
+    let line = line_of_pair(pair, open_var);
     missed_line(pair.rel, line, pair.total, domain)
 }
 
 /// The values at which the rule is false, if it is a sum with the variable in one of its terms at most.
-fn span_of_sum<L: Lookup>(rule: &Rule, domain: &Domain, unknown: &Unknown<'_, L>) -> Option<Span>
+fn span_of_sum<L: Lookup>(
+    rule: &Rule,
+    domain: &Domain,
+    open_var: &OpenVariable<'_, L>,
+) -> Option<Span>
     requires shape { IsTrue (has_shape rule.now) }
-    requires narrow { FitAtEach (λ x. rule_sizes rule.now (filled (with_value unknown.now.var x (L.values unknown.now.lookup.now)))) widest domain.now }
-    ensures span { IfSome result (SpansWhere (is_false rule.now unknown.now.var (L.values unknown.now.lookup.now)) domain.now) }
-    ensures some { IsTrue (not (is_plain rule.now)) → IsTrue (has_span unknown.now.var rule.now) → IsTrue (is_some result) }
+    requires narrow { FitAtEach (λ x. rule_sizes rule.now (filled (with_value open_var.now.var x (L.values open_var.now.lookup.now)))) widest domain.now }
+    ensures span { IfSome result (SpansWhere (is_false rule.now open_var.now.var (L.values open_var.now.lookup.now)) domain.now) }
+    ensures some { IsTrue (not (is_plain rule.now)) → IsTrue (has_span open_var.now.var rule.now) → IsTrue (is_some result) }
 {
     if domain.is_empty() {
         return Some(Span::whole(false));
     }
-    let opened = open_sum(rule, domain, unknown)?;
+    let opened = open_sum(rule, domain, open_var)?;
     off_span(opened, domain)
 }
 
 /// For each value of the open variable whether the rule is violated under this value and the others'.
-pub fn fill_row<L: Lookup>(problem: &Problem, rule: u32, unknown: &Unknown<'_, L>, row: &mut Row)
+pub fn fill_row<L: Lookup>(
+    problem: &Problem,
+    rule: u32,
+    open_var: &OpenVariable<'_, L>,
+    row: &mut Row,
+)
     requires rule { rule < length problem.now.rules }
-    requires var { unknown.now.var < length problem.now.domains }
-    requires size { length row.old ≡ length (domain (csp_of problem.now) unknown.now.var) }
-    requires known { AreInDomains (csp_of problem.now) (L.values unknown.now.lookup.now) }
-    ensures { IsRow problem.now rule unknown.now.var (L.values unknown.now.lookup.now) row.new }
+    requires var { open_var.now.var < length problem.now.domains }
+    requires size { length row.old ≡ length (domain (csp_of problem.now) open_var.now.var) }
+    requires known { AreInDomains (csp_of problem.now) (L.values open_var.now.lookup.now) }
+    ensures { IsRow problem.now rule open_var.now.var (L.values open_var.now.lookup.now) row.new }
 {
-    if !knows_others(problem.scope(rule), unknown) {
+    if !knows_others(problem.scope(rule), open_var) {
         row.mark_span(Span::whole(false));
         return;
     }
     let _variables = problem.vars();
     if !fill_linear(
         problem.rule(rule),
-        problem.domain(unknown.var),
-        unknown,
+        problem.domain(open_var.var),
+        open_var,
         row,
     ) {
-        try_each(problem, rule, unknown, row);
+        try_each(problem, rule, open_var, row);
     }
 }
 
@@ -96,19 +109,19 @@ pub fn fill_row<L: Lookup>(problem: &Problem, rule: u32, unknown: &Unknown<'_, L
 fn fill_linear<L: Lookup>(
     rule: &Rule,
     domain: &Domain,
-    unknown: &Unknown<'_, L>,
+    open_var: &OpenVariable<'_, L>,
     row: &mut Row,
 ) -> bool
     requires size { length row.old ≡ length domain.now }
     requires shape { IsTrue (has_shape rule.now) }
-    requires narrow { FitAtEach (λ x. rule_sizes rule.now (filled (with_value unknown.now.var x (L.values unknown.now.lookup.now)))) widest domain.now }
+    requires narrow { FitAtEach (λ x. rule_sizes rule.now (filled (with_value open_var.now.var x (L.values open_var.now.lookup.now)))) widest domain.now }
     ensures size { length row.new ≡ length domain.now }
-    ensures tells { IsTrue result → TellsFalse rule.now unknown.now.var domain.now (L.values unknown.now.lookup.now) row.new }
+    ensures tells { IsTrue result → TellsFalse rule.now open_var.now.var domain.now (L.values open_var.now.lookup.now) row.new }
 {
     if domain.is_empty() {
         return false;
     }
-    match open_sum(rule, domain, unknown) {
+    match open_sum(rule, domain, open_var) {
         None => false,
         Some(opened) => {
             fill_sum(opened, domain, row);
@@ -117,14 +130,18 @@ fn fill_linear<L: Lookup>(
     }
 }
 
-/// The sum with the variable unknown, if the rule is one with the variable in one of its terms at most.
-fn open_sum<L: Lookup>(rule: &Rule, domain: &Domain, unknown: &Unknown<'_, L>) -> Option<Opened>
+/// The sum with the variable open_var, if the rule is one with the variable in one of its terms at most.
+fn open_sum<L: Lookup>(
+    rule: &Rule,
+    domain: &Domain,
+    open_var: &OpenVariable<'_, L>,
+) -> Option<OpenSum>
     requires shape { IsTrue (has_shape rule.now) }
     requires some { 0 < length domain.now }
-    requires narrow { FitAtEach (λ x. rule_sizes rule.now (filled (with_value unknown.now.var x (L.values unknown.now.lookup.now)))) widest domain.now }
-    ensures off { IfSome result (λ opened. (x : ℤ) → is_off opened x ≡ is_false rule.now unknown.now.var (L.values unknown.now.lookup.now) x) }
+    requires narrow { FitAtEach (λ x. rule_sizes rule.now (filled (with_value open_var.now.var x (L.values open_var.now.lookup.now)))) widest domain.now }
+    ensures off { IfSome result (λ opened. (x : ℤ) → is_off opened x ≡ is_false rule.now open_var.now.var (L.values open_var.now.lookup.now) x) }
     ensures fits { IfSome result (λ opened. FitAtEach (line_size opened.line) widest domain.now) }
-    ensures some { IsTrue (not (is_plain rule.now)) → IsTrue (has_span unknown.now.var rule.now) → IsTrue (is_line result) }
+    ensures some { IsTrue (not (is_plain rule.now)) → IsTrue (has_span open_var.now.var rule.now) → IsTrue (is_line result) }
 {
     let Rule::Sum {
         rel,
@@ -136,10 +153,10 @@ fn open_sum<L: Lookup>(rule: &Rule, domain: &Domain, unknown: &Unknown<'_, L>) -
     else {
         return None;
     };
-    let line = line_of(coefs.items(), terms.items(), domain, unknown)?;
-    let total = known_value(*total, unknown);
-    let told = told_by(*truth, unknown);
-    Some(Opened {
+    let line = line_of(coefs.items(), terms.items(), domain, open_var)?;
+    let total = known_value(*total, open_var);
+    let told = told_by(*truth, open_var);
+    Some(OpenSum {
         rel: *rel,
         line,
         total,

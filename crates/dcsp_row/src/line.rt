@@ -3,13 +3,13 @@
 ghost use Rattle.std.specs.Prelude.{◌≡◌, ◌+◌, ◌*◌, ◌<◌, ◌≤◌, ◌^◌, ◌+ℤ◌, ◌*ℤ◌, ◌++◌, ℕ, ℤ, IfSome, IsNone, length, option_to_list, unsigned_abs, unwrap_or, sum_by};
 ghost use Rattle.dcsp_linear.specs.Sums.{sum_of, size_of, widest};
 ghost use Rattle.dcsp_defs.specs.Csp.{filled, with_value};
-ghost use Rattle.dcsp_problem.specs.Rules.{weighted};
+ghost use Rattle.dcsp_problem.specs.Rules.{weighted_values};
 ghost use Rattle.dcsp_problem.specs.Pairs.{pair_sum, IsSmall};
 ghost use Rattle.dcsp_row.specs.Rows.{FitAtEach};
 ghost use Rattle.dcsp_row.specs.Easy.{own_coefs};
 ghost use Rattle.dcsp_row.specs.Lines.{line_at, line_size, open_coef, AddsTerm};
 
-use crate::known::{Unknown, known_value};
+use crate::known::{OpenVariable, known_value};
 use dcsp_domain::Domain;
 use dcsp_linear::{plus_product, product};
 use dcsp_problem::{Lookup, Pair, Term};
@@ -26,19 +26,19 @@ pub fn line_of<L: Lookup>(
     coefs: &[i64],
     terms: &[Term],
     domain: &Domain,
-    unknown: &Unknown<'_, L>,
+    open_var: &OpenVariable<'_, L>,
 ) -> Option<Line>
     requires shape { length coefs.now ≡ length terms.now }
     requires some { 0 < length domain.now }
-    requires narrow { FitAtEach (λ x. sum_by size_of (weighted (filled (with_value unknown.now.var x (L.values unknown.now.lookup.now))) coefs.now terms.now)) widest domain.now }
-    ensures sum { IfSome result (λ line. (x : ℤ) → line_at line x ≡ sum_of (weighted (filled (with_value unknown.now.var x (L.values unknown.now.lookup.now))) coefs.now terms.now)) }
+    requires narrow { FitAtEach (λ x. sum_by size_of (weighted_values (filled (with_value open_var.now.var x (L.values open_var.now.lookup.now))) coefs.now terms.now)) widest domain.now }
+    ensures sum { IfSome result (λ line. (x : ℤ) → line_at line x ≡ sum_of (weighted_values (filled (with_value open_var.now.var x (L.values open_var.now.lookup.now))) coefs.now terms.now)) }
     ensures size { IfSome result (λ line. FitAtEach (line_size line) widest domain.now) }
-    ensures own { IfSome result (λ line. option_to_list line.own ≡ own_coefs unknown.now.var coefs.now terms.now) }
-    ensures many { IsNone result → 1 < length (own_coefs unknown.now.var coefs.now terms.now) }
+    ensures own { IfSome result (λ line. option_to_list line.own ≡ own_coefs open_var.now.var coefs.now terms.now) }
+    ensures many { IsNone result → 1 < length (own_coefs open_var.now.var coefs.now terms.now) }
 {
     let mut line = Line { base: 0, own: None };
     for place in 0..coefs.len() {
-        let value = known_value(terms[place], unknown);
+        let value = known_value(terms[place], open_var);
         let Some(next) = with_term(line, coefs[place], value) else {
             return None;
         };
@@ -81,13 +81,13 @@ pub fn sum_at(line: Line, value: i64) -> i128
 }
 
 /// A pair's products, added up, where one variable is open.
-pub fn line_of_pair<L: Lookup>(pair: Pair, unknown: &Unknown<'_, L>) -> Line
+pub fn line_of_pair<L: Lookup>(pair: Pair, open_var: &OpenVariable<'_, L>) -> Line
     requires { IsSmall pair }
-    ensures sum { (x : ℤ) → let values = filled (with_value unknown.now.var x (L.values unknown.now.lookup.now)) in line_at result x ≡ pair_sum pair (values pair.first) (values pair.second) }
+    ensures sum { (x : ℤ) → let values = filled (with_value open_var.now.var x (L.values open_var.now.lookup.now)) in line_at result x ≡ pair_sum pair (values pair.first) (values pair.second) }
     ensures base { unsigned_abs result.base ≤ widest }
 {
-    let first = known_value(Term::Var(pair.first), unknown);
-    let second = known_value(Term::Var(pair.second), unknown);
+    let first = known_value(Term::Var(pair.first), open_var);
+    let second = known_value(Term::Var(pair.second), open_var);
     let (base, own) = product_of(pair.first_coef, first);
     let (more, other) = product_of(pair.second_coef, second);
     Line {
@@ -96,7 +96,7 @@ pub fn line_of_pair<L: Lookup>(pair: Pair, unknown: &Unknown<'_, L>) -> Line
     }
 }
 
-/// The product of a coefficient and a value; where the value is unknown, 0 and the coefficient.
+/// The product of a coefficient and a value; where the value is open, 0 and the coefficient.
 fn product_of(coef: i64, value: Option<i64>) -> (i128, i64)
     ensures product { (x : ℤ) → result.0 +ℤ (result.1 *ℤ x) ≡ coef *ℤ unwrap_or value x }
     ensures size { unsigned_abs coef < 2 ^ 62 → (unsigned_abs result.0 ≤ 2 ^ 125) × (unsigned_abs result.1 < 2 ^ 62) }

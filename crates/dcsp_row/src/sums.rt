@@ -11,7 +11,7 @@ ghost use Rattle.dcsp_row.specs.Lines.{is_known, is_line, is_off, line_at, line_
 ghost use Rattle.dcsp_row.specs.Spans.{SpansWhere};
 
 use crate::cut::{missed_after, missed_before, product_span};
-use crate::known::{Unknown, known_value};
+use crate::known::{OpenVariable, known_value};
 use crate::line::{Line, sum_at};
 use crate::row::Row;
 use crate::span::Span;
@@ -21,42 +21,42 @@ use dcsp_problem::{Lookup, Term};
 
 /// Whether a sum's truth is told, and by what.
 #[derive(Clone, Copy)]
-pub enum Told {
+pub enum SumTruth {
     /// It is not: the sum has to hold.
-    Untold,
+    HasToHold,
     /// By this value.
     By(i64),
     /// By the open variable.
-    ByOwn,
+    ByOpen,
 }
 
 /// A sum with one variable open.
 #[derive(Clone, Copy)]
-pub struct Opened {
+pub struct OpenSum {
     pub rel: Rel,
     pub line: Line,
     /// `None` where it is the open variable.
     pub total: Option<i64>,
-    pub told: Told,
+    pub told: SumTruth,
 }
 
 /// What tells the truth of a sum, where one variable is open.
-pub fn told_by<L: Lookup>(truth: Option<Term>, unknown: &Unknown<'_, L>) -> Told
-    ensures told { (x : ℤ) → option_map (value_under (filled (with_value unknown.now.var x (L.values unknown.now.lookup.now)))) truth ≡ told_at result x }
-    ensures known { is_known result ≡ not (is_truth unknown.now.var truth) }
+pub fn told_by<L: Lookup>(truth: Option<Term>, open_var: &OpenVariable<'_, L>) -> SumTruth
+    ensures told { (x : ℤ) → option_map (value_under (filled (with_value open_var.now.var x (L.values open_var.now.lookup.now)))) truth ≡ told_at result x }
+    ensures known { is_known result ≡ not (is_truth open_var.now.var truth) }
 {
     match truth {
-        None => Told::Untold,
-        Some(term) => match known_value(term, unknown) {
-            Some(value) => Told::By(value),
-            None => Told::ByOwn,
+        None => SumTruth::HasToHold,
+        Some(term) => match known_value(term, open_var) {
+            Some(value) => SumTruth::By(value),
+            None => SumTruth::ByOpen,
         },
     }
 }
 
 /// The places of those of these values at which the sum is false, where the open variable tells neither total
 /// nor truth.
-pub fn off_span(opened: Opened, domain: &Domain) -> Option<Span>
+pub fn off_span(opened: OpenSum, domain: &Domain) -> Option<Span>
     requires { unsigned_abs opened.line.base ≤ widest }
     ensures off { IfSome result (SpansWhere (is_off opened) domain.now) }
     ensures some { IsTrue (is_line (Some opened)) → IsTrue (is_some result) }
@@ -64,9 +64,9 @@ pub fn off_span(opened: Opened, domain: &Domain) -> Option<Span>
     let total = opened.total?;
     let missed = missed_line(opened.rel, opened.line, i128::from(total), domain);
     match opened.told {
-        Told::Untold => Some(missed),
-        Told::By(truth) => Some(if truth == 1 { missed } else { missed.others() }),
-        Told::ByOwn => None,
+        SumTruth::HasToHold => Some(missed),
+        SumTruth::By(truth) => Some(if truth == 1 { missed } else { missed.others() }),
+        SumTruth::ByOpen => None,
     }
 }
 
@@ -88,7 +88,7 @@ pub fn missed_line(rel: Rel, line: Line, total: i128, domain: &Domain) -> Span
 }
 
 /// For each of these values whether the sum is false.
-pub fn fill_sum(opened: Opened, domain: &Domain, row: &mut Row)
+pub fn fill_sum(opened: OpenSum, domain: &Domain, row: &mut Row)
     requires size { length row.old ≡ length domain.now }
     requires narrow { FitAtEach (line_size opened.line) widest domain.now }
     ensures { MarksWhere (is_off opened) domain.now row.new }
@@ -100,7 +100,7 @@ pub fn fill_sum(opened: Opened, domain: &Domain, row: &mut Row)
 }
 
 /// Whether the sum is true at the value at a place.
-fn holds_at(opened: Opened, domain: &Domain, place: usize) -> bool
+fn holds_at(opened: OpenSum, domain: &Domain, place: usize) -> bool
     requires place { place < length domain.now }
     requires narrow { line_size opened.line (own_at domain.now place) ≤ widest }
     ensures { result ≡ is_told (told_at opened.told (own_at domain.now place)) (stands opened.rel (line_at opened.line (own_at domain.now place)) (unwrap_or opened.total (own_at domain.now place))) }
@@ -112,12 +112,12 @@ fn holds_at(opened: Opened, domain: &Domain, place: usize) -> bool
 }
 
 /// The truth itself, or whether it is told rightly where the open variable has this value.
-fn is_told(told: Told, value: i64, holds: bool) -> bool
+fn is_told(told: SumTruth, value: i64, holds: bool) -> bool
     ensures { result ≡ is_told (told_at told value) holds }
 {
     match told {
-        Told::Untold => holds,
-        Told::By(truth) => holds == (truth == 1),
-        Told::ByOwn => holds == (value == 1),
+        SumTruth::HasToHold => holds,
+        SumTruth::By(truth) => holds == (truth == 1),
+        SumTruth::ByOpen => holds == (value == 1),
     }
 }

@@ -3,7 +3,7 @@ use Rattle.std.proofs.Common.{◌≡◌, ◌≢◌, ℕ, zero, suc, ◌+◌, ◌
 use Rattle.std.proofs.lemmas.Bool.Decides.{eqb_tells}
 use Rattle.std.specs.List.{list_any, list_all, enumerate_from}
 use Rattle.dcsp_defs.specs.Words.{In}
-use Rattle.dcsp_defs.specs.Csp.{Csp, Constraint, Known, filled, with_value, count, IsCsp, is_violated}
+use Rattle.dcsp_defs.specs.Csp.{Csp, Constraint, PartialAssignment, filled, with_value, count, IsCsp, is_violated}
 use Rattle.abt_defs.specs.Agents.{Agent, Message, Refuse, Stamped, StampedNogood, lowest, known, value_in}
 use Rattle.abt_defs.specs.Reasons.{Item, items, constraint_item, ruled_out}
 use Rattle.dcsp_defs.specs.Csp.{owns}
@@ -106,7 +106,7 @@ module _ (p : Csp) (net : Network) (h : Kept p (count p) net) (quiet : IsQuiet p
       by_test : (b : Bool) → r.test (values net) ≡ b → r.test (values net) ≡ true
       by_test true e = e
       by_test false e =
-          let held : Known = with_value i (chosen_at i l).value (known (net.agents i)) in
+          let held : PartialAssignment = with_value i (chosen_at i l).value (known (net.agents i)) in
           let all : list_all (λ k. is_some (held k)) r.scope ≡ true = In-list_all (λ k. is_some (held k)) r.scope (λ k g. ap is_some (value_known i l r here o k g ((ok.constraints r here).inside k g))) in
           let same : r.test (filled held) ≡ r.test (values net) = (ok.constraints r here).local (filled held) (values net) (λ k g. ap (λ o. unwrap_or o (pos 0)) (value_known i l r here o k g ((ok.constraints r here).inside k g))) in
           let broken : is_violated held r ≡ true = and_both _ _ all (ap not (same ∙ e)) in

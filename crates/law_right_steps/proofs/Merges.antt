@@ -7,7 +7,7 @@ use Rattle.std.specs.Option.{option_map}
 use Rattle.dcsp_nogood.specs.declared.Pair.{Pair}
 use Rattle.dcsp_nogood.specs.Pairs.{value_at, pair_of}
 use Rattle.dcsp_defs.specs.Words.{In, below}
-use Rattle.dcsp_defs.specs.Csp.{Csp, IsCsp, Constraint, Known, Nogood, names, owns, domain}
+use Rattle.dcsp_defs.specs.Csp.{Csp, IsCsp, Constraint, PartialAssignment, Nogood, names, owns, domain}
 use Rattle.dcsp_defs.proofs.Lists.{In-map, In-split, In-below, In-filter_map, In-list_any, find-found, get-In, filter-from}
 use Rattle.abt_defs.specs.Agents.{Agent, Record, Stamped, plain, known, value_in}
 use Rattle.abt_defs.specs.Reasons.{Item, items, constraint_item, record_item, known_pairs, cause, causes, blamed, derived}
@@ -21,7 +21,7 @@ use Rattle.law_right_steps.specs.Merges.{IsUnionOfReasons, MergesAreUnions}
 use Rattle.law_right_steps.proofs.Reasons.{derived_given, enumerate-at, seen_is}
 
 -- what the pairs of a scope give a variable is what is known of it
-known_pairs-is : (known : Known) (scope : List ℕ) (k : ℕ) (v : ℤ) → value_at (known_pairs known scope) k ≡ Some v → In k scope × (known k ≡ Some v)
+known_pairs-is : (known : PartialAssignment) (scope : List ℕ) (k : ℕ) (v : ℤ) → value_at (known_pairs known scope) k ≡ Some v → In k scope × (known k ≡ Some v)
 known_pairs-is known [] k v h = cc
 known_pairs-is known (x ∷ xs) k v h = by_value (known x) refl (λ g. known_pairs-is known xs k v g) h
   where
@@ -37,7 +37,7 @@ behind_other : (x k : ℕ) (o : Option ℤ) (rest : Nogood) (v : ℤ) → (k == 
 behind_other x k None rest v ne g = g
 behind_other x k (Some w) rest v ne g = rw ne g
 
-known_pairs-has : (known : Known) (scope : List ℕ) (k : ℕ) (v : ℤ) → In k scope → known k ≡ Some v → value_at (known_pairs known scope) k ≡ Some v
+known_pairs-has : (known : PartialAssignment) (scope : List ℕ) (k : ℕ) (v : ℤ) → In k scope → known k ≡ Some v → value_at (known_pairs known scope) k ≡ Some v
 known_pairs-has known [] k v h e = absurd h
 known_pairs-has known (x ∷ xs) k v h e = elim (eqb_tells k x) [
   | inl t ↦ let here : known x ≡ Some v = ap known (sym t.1) ∙ e in rw here (rw t.0 refl)

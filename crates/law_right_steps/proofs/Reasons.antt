@@ -4,7 +4,7 @@ use Rattle.std.proofs.Common.{◌≡◌, ◌≢◌, ℕ, zero, suc, ◌+◌, ◌
 use Rattle.std.proofs.lemmas.Bool.Decides.{nat_tests, eqb_tells}
 use Rattle.std.specs.List.{list_any, list_all, cons_option, enumerate_from, AllZip}
 use Rattle.dcsp_defs.specs.Words.{In, below, is_value}
-use Rattle.dcsp_defs.specs.Csp.{Csp, IsCsp, Constraint, Nogood, Known, filled, with_value, is_violated, agrees, domain, count}
+use Rattle.dcsp_defs.specs.Csp.{Csp, IsCsp, Constraint, Nogood, PartialAssignment, filled, with_value, is_violated, agrees, domain, count}
 use Rattle.dcsp_nogood.specs.Pairs.{value_at}
 use Rattle.dcsp_defs.specs.declared.Step.{Step}
 use Rattle.dcsp_defs.specs.Derivation.{step_at, IsReason, IsKnownPair, IsRightAt}
@@ -82,7 +82,7 @@ all-same : {X : Type 0} → (q r : X → Bool) (xs : List X) → ((x : X) → In
 all-same q r xs h e = In-list_all r xs (λ x u. h x u (list_all-In q x xs e u))
 
 -- values that agree on the scope break the rule alike
-violated-same : (known other : Known) (r : Constraint) → ((f g : ℕ → ℤ) → ((k : ℕ) → In k r.scope → f k ≡ g k) → r.test f ≡ r.test g) → ((k : ℕ) → In k r.scope → is_some (known k) ≡ true → known k ≡ other k) → is_violated known r ≡ true → is_violated other r ≡ true
+violated-same : (known other : PartialAssignment) (r : Constraint) → ((f g : ℕ → ℤ) → ((k : ℕ) → In k r.scope → f k ≡ g k) → r.test f ≡ r.test g) → ((k : ℕ) → In k r.scope → is_some (known k) ≡ true → known k ≡ other k) → is_violated known r ≡ true → is_violated other r ≡ true
 violated-same known other r local h e =
     let all = and_left _ _ e in
     let same : (k : ℕ) → In k r.scope → known k ≡ other k = λ k u. h k u (list_all-In (λ k. is_some (known k)) k r.scope all u) in

@@ -9,7 +9,7 @@ use dcsp_linear::Rel;
 use dcsp_problem::{
     Domain, IntList, Kind, Lookup, Members, Problem, ProblemBuilder, Rule, Term, TermList,
 };
-use dcsp_row::{Marks, Row, Span, Unknown, fill_row, has_span, span_of};
+use dcsp_row::{Marks, OpenVariable, Row, Span, fill_row, has_span, span_of};
 use std::alloc::Global;
 use std::process::Abort;
 
@@ -71,11 +71,11 @@ fn filled(rt: &impl Abort, alloc: Global, problem: &Problem) -> Row {
     assert!(rt; problem.vars() == 1);
     assert!(rt; problem.rules() == 1);
     let mut row = Row::new(alloc, problem.domain(0).len()).expect(rt, "memory");
-    let unknown = Unknown {
+    let open_var = OpenVariable {
         var: 0,
         lookup: &Nothing,
     };
-    fill_row(problem, 0, &unknown, &mut row);
+    fill_row(problem, 0, &open_var, &mut row);
     row
 }
 
@@ -93,11 +93,11 @@ fn expect_has(rt: &impl Abort, problem: &Problem, row: &Row, values: &[i64]) {
 fn expect_span(rt: &impl Abort, problem: &Problem, row: &Row) {
     assert!(rt; problem.vars() == 1);
     assert!(rt; problem.rules() == 1);
-    let unknown = Unknown {
+    let open_var = OpenVariable {
         var: 0,
         lookup: &Nothing,
     };
-    let span = span_of(problem, 0, &unknown);
+    let span = span_of(problem, 0, &open_var);
     assert!(rt; span.is_some() || !has_span(problem, 0, 0));
     if let Some(span) = span {
         for place in 0..row.len() {

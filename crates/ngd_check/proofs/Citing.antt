@@ -7,7 +7,7 @@ use Rattle.dcsp_defs.specs.Words.{In}
 use Rattle.dcsp_defs.specs.declared.Reason.{Reason}
 use Rattle.dcsp_defs.specs.declared.Reason.TheVariants.{Rule, Earlier}
 use Rattle.dcsp_defs.specs.declared.Step.{Step}
-use Rattle.dcsp_defs.specs.Csp.{Csp, Nogood, Known, agrees, given_with, domain}
+use Rattle.dcsp_defs.specs.Csp.{Csp, Nogood, PartialAssignment, agrees, given_with, domain}
 use Rattle.dcsp_defs.specs.Derivation.{IsReason, IsKnownPair, IsRightAt, IsRightNowhere, IsRight}
 use Rattle.ngd_check.specs.Citing.{Cited, AgreesWith, IsReasonCiting, IsRightAtCiting, IsRightCiting, nogood_at}
 
@@ -82,7 +82,7 @@ right_from p earlier s h = by_variable s.variable h
     }
 
 -- what a number cites agrees exactly if this is so of its nogood
-pub agrees_with : (cited : Cited) (values : Known) (number : ℕ) (nogood : Nogood) (b : Bool) → cited number ≡ Some nogood → b ≡ agrees values nogood → (b ≡ true) ↔ AgreesWith cited values number
+pub agrees_with : (cited : Cited) (values : PartialAssignment) (number : ℕ) (nogood : Nogood) (b : Bool) → cited number ≡ Some nogood → b ≡ agrees values nogood → (b ≡ true) ↔ AgreesWith cited values number
 agrees_with cited values number nogood b there same = (
   λ t. (nogood, there, sym same ∙ t),
   λ h.

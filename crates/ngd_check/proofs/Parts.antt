@@ -8,7 +8,7 @@ use Rattle.dcsp_nogood.specs.declared.Pair.{Pair}
 use Rattle.dcsp_nogood.specs.Pairs.{value_at}
 use Rattle.dcsp_domain.specs.Sets.{has}
 use Rattle.dcsp_defs.specs.Words.{In}
-use Rattle.dcsp_defs.specs.Csp.{Csp, Constraint, Known, is_violated, with_value, domain}
+use Rattle.dcsp_defs.specs.Csp.{Csp, Constraint, PartialAssignment, is_violated, with_value, domain}
 use Rattle.dcsp_defs.specs.Derivation.{IsKnownPair, IsFalseAlone, IsFalseRule}
 use Rattle.dcsp_defs.proofs.Lists.{In-list_any, list_any-In}
 use Rattle.dcsp_problem.specs.Problems.{Contents, csp_of, constraint_of, AreInDomains}
@@ -57,14 +57,14 @@ pairs_in_domains p (y ∷ ys) known k w l f = elim (eqb_tells k y.var) [
 ]
 
 -- and so are these with one more that is in its domain
-pub more_in_domains : (p : Csp) (known : Known) (x : ℕ) (v : ℤ) → AreInDomains p known → In v (domain p x) → AreInDomains p (with_value x v known)
+pub more_in_domains : (p : Csp) (known : PartialAssignment) (x : ℕ) (v : ℤ) → AreInDomains p known → In v (domain p x) → AreInDomains p (with_value x v known)
 more_in_domains p known x v h here k w l e = elim (eqb_tells k x) [
   | inl t ↦ let s : Some v ≡ Some w = rw t.0 at e in let same : v ≡ w = cc in subst (λ (n : ℕ). In w (domain p n)) (sym t.1) (subst (λ (u : ℤ). In u (domain p x)) same here)
   | inr t ↦ h k w l (rw t.0 at e)
 ]
 
 -- a constraint of the problem is a reason exactly if it is violated
-pub false_rule : (p : Csp) (known : Known) (n : ℕ) (c : Constraint) (b : Bool) → slice_get p.constraints n ≡ Some c → b ≡ is_violated known c → (b ≡ true) ↔ IsFalseRule p known n
+pub false_rule : (p : Csp) (known : PartialAssignment) (n : ℕ) (c : Constraint) (b : Bool) → slice_get p.constraints n ≡ Some c → b ≡ is_violated known c → (b ≡ true) ↔ IsFalseRule p known n
 false_rule p known n c b there e = (
   λ t. (c, there, sym e ∙ t),
   λ h.

@@ -8,7 +8,7 @@ use Rattle.dcsp_defs.specs.declared.Reason.{Reason}
 use Rattle.dcsp_defs.specs.declared.Reason.TheVariants.{Rule, Earlier}
 use Rattle.dcsp_defs.specs.declared.Step.{Step}
 use Rattle.dcsp_defs.specs.Words.{In}
-use Rattle.dcsp_defs.specs.Csp.{Csp, Nogood, Known, agrees, given_with, domain, count}
+use Rattle.dcsp_defs.specs.Csp.{Csp, Nogood, PartialAssignment, agrees, given_with, domain, count}
 use Rattle.dcsp_defs.specs.Derivation.{step_at, IsFalseRule, IsKnownPair, IsRightNowhere}
 
 -- the nogood at hand for each number, if there is one
@@ -16,11 +16,11 @@ abbrev pub Cited : Type 0
 Cited = ℕ → Option Nogood
 
 -- the values have each pair of the nogood that the number cites
-abbrev pub AgreesWith : Cited → Known → ℕ → Type 0
+abbrev pub AgreesWith : Cited → PartialAssignment → ℕ → Type 0
 AgreesWith cited values number = (nogood : Nogood) × (cited number ≡ Some nogood) × (agrees values nogood ≡ true)
 
 -- why these values do not hold together: a constraint is false under them, or a nogood at hand agrees
-abbrev pub IsReasonUnder : Csp → Cited → Known → Reason → Type 0
+abbrev pub IsReasonUnder : Csp → Cited → PartialAssignment → Reason → Type 0
 IsReasonUnder p cited known (Rule number) = IsFalseRule p known number
 IsReasonUnder p cited known (Earlier number) = AgreesWith cited known number
 

@@ -3,7 +3,7 @@ use Rattle.std.specs.Prelude.{take}
 use Rattle.dcsp_nogood.specs.Pairs.{no_pair}
 use Rattle.abt_defs.specs.Agents.{Add_link}
 use Rattle.abt_defs.specs.Steps as steps
-use Rattle.abt_agent.specs.Asks.{asked, is_unlinked}
+use Rattle.abt_agent.specs.Asks.{unlinked_names, is_unlinked}
 use Rattle.abt_agent.specs.Outgoing.{Posts}
 use Rattle.abt_agent.proofs.Asks.{asked_more}
 use Rattle.abt_agent.proofs.Posting.{posts_then}
@@ -17,4 +17,4 @@ loop-pair-preserved c =
     let to = (get_or pairs k no_pair).var in
     let sent = subst (λ b. Posts c.loop-pair.out c.push_if.new.out (cond b ((to, Add_link) ∷ []) [])) c.is_unlinked-wanted.ensures c.in_ok-push_if.ensures in
     subst (Posts c.args.out.now c.push_if.new.out) (sym (asked_more linked pairs k no_pair c.loop-pair-test.true))
-    (posts_then c.args.out.now c.loop-pair.out c.push_if.new.out (steps.to_each Add_link (asked linked (take k pairs))) (cond (is_unlinked linked to) ((to, Add_link) ∷ []) []) c.loop-pair.invariant sent)
+    (posts_then c.args.out.now c.loop-pair.out c.push_if.new.out (steps.to_each Add_link (unlinked_names linked (take k pairs))) (cond (is_unlinked linked to) ((to, Add_link) ∷ []) []) c.loop-pair.invariant sent)

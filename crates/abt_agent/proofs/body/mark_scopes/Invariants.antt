@@ -1,7 +1,7 @@
 use Rattle.std.proofs.Common.{◌≡◌, ℕ, take, nat_lt, ◌||◌, ◌&&◌, length}
 use Rattle.abt_agent.specs.Rules.{names_any}
-use Rattle.abt_agent.specs.States.{marked}
+use Rattle.abt_agent.specs.States.{has_mark}
 use Rattle.abt_agent.proofs.body.mark_scopes.Given as goal
 
 abbrev pub invariant-loop-rule : goal.invariant-loop-rule
-invariant-loop-rule l = (k : ℕ) → marked l.marks k ≡ (marked l.initial.marks k || (nat_lt k (length l.initial.marks) && names_any l.problem k (take l.rule-index l.rules)))
+invariant-loop-rule l = (k : ℕ) → has_mark l.marks k ≡ (has_mark l.initial.marks k || (nat_lt k (length l.initial.marks) && names_any l.problem k (take l.rule-index l.rules)))

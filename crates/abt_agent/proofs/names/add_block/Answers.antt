@@ -1,7 +1,7 @@
 use Rattle.std.proofs.Common.{◌≡◌, ◌<◌, ◌+◌, ◌*◌, ◌==◌, ◌++◌, ◌∷◌, [], ℕ, List, filter, length, if◌then◌else◌, slice_index_or, false, sym, ap, ◌∙◌}
 use Rattle.std.specs.Int.{bit_at}
 use Rattle.dcsp_defs.specs.Words.{below}
-use Rattle.abt_agent.specs.States.{marked}
+use Rattle.abt_agent.specs.States.{has_mark}
 use Rattle.abt_agent.proofs.Blamed.{block_past, filter_more}
 use Rattle.abt_agent.proofs.names.add_block.Goals as goal
 
@@ -19,5 +19,5 @@ loop-agent-preserved c =
     let agent = c.loop-agent.agent in
     c.in_ok-add_if.ensures
     ∙ ap (λ (z : List ℕ). z ++ (if c.has.result then agent ∷ [] else [])) c.loop-agent.invariant
-    ∙ ap (λ b. filter (marked marks) (below agent) ++ (if b then agent ∷ [] else [])) c.has.ensures
-    ∙ sym (filter_more (marked marks) agent)
+    ∙ ap (λ b. filter (has_mark marks) (below agent) ++ (if b then agent ∷ [] else [])) c.has.ensures
+    ∙ sym (filter_more (has_mark marks) agent)

@@ -1,10 +1,10 @@
 use Rattle.std.proofs.Common.{◌≡◌, ℕ, take, nat_lt, ◌||◌, ◌&&◌, length}
 use Rattle.abt_defs.specs.Agents.{is_among}
-use Rattle.abt_agent.specs.States.{marked}
+use Rattle.abt_agent.specs.States.{has_mark}
 use Rattle.abt_agent.proofs.names.name_variables.Given as goal
 
 abbrev pub invariant-loop-var : goal.invariant-loop-var
 invariant-loop-var l = record {
   size : length l.marks ≡ length l.initial.marks;
-  marks : (k : ℕ) → marked l.marks k ≡ (marked l.initial.marks k || (nat_lt k (length l.initial.marks) && is_among k (take l.var-index l.variables)));
+  marks : (k : ℕ) → has_mark l.marks k ≡ (has_mark l.initial.marks k || (nat_lt k (length l.initial.marks) && is_among k (take l.var-index l.variables)));
 }

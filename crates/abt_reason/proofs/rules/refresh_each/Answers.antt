@@ -3,7 +3,7 @@ use Rattle.std.proofs.lemmas.Bool.{cases_eq}
 use Rattle.abt_defs.specs.Agents.{values_in}
 use Rattle.abt_view.specs.Views.{view_of}
 use Rattle.dcsp_problem.specs.Problems.{Contents}
-use Rattle.dcsp_defs.specs.Csp.{Known}
+use Rattle.dcsp_defs.specs.Csp.{PartialAssignment}
 use Rattle.std.proofs.lemmas.List.{get_or_default}
 use Rattle.abt_reason.specs.declared.named.Naming.{Naming}
 use Rattle.abt_reason.specs.Named.{naming}
@@ -11,7 +11,7 @@ use Rattle.abt_reason.specs.Grids.{marks, rows_of}
 use Rattle.abt_reason.specs.Cached.{IsRightAt, size_of}
 use Rattle.abt_reason.proofs.rules.refresh_each.Goals as goal
 
-one_right : (p : Contents) (agent : ℕ) (known : Known) (old new : List (List Bool)) (here : ℕ) → IsRightAt p agent known new here → ((other value : ℕ) → other ≢ here → marks new value other ≡ marks old value other)
+one_right : (p : Contents) (agent : ℕ) (known : PartialAssignment) (old new : List (List Bool)) (here : ℕ) → IsRightAt p agent known new here → ((other value : ℕ) → other ≢ here → marks new value other ≡ marks old value other)
     → (j : ℕ) → IsRightAt p agent known old j → IsRightAt p agent known new j
 one_right p agent known old new here right others j was k l = elim (cases_eq j here) [
   | inl same ↦ subst (IsRightAt p agent known new) (sym same) right k l

@@ -5,7 +5,7 @@ use Rattle.std.proofs.lemmas.List.Sums.{sum_by-drop_more}
 use Rattle.std.proofs.lemmas.Int.{to_z-of_z, ints}
 use Rattle.std.proofs.lemmas.List.{take_all}
 use Rattle.dcsp_linear.specs.Sums.{sum_of}
-use Rattle.dcsp_problem.specs.Rules.{value_under, variable_of, weighted}
+use Rattle.dcsp_problem.specs.Rules.{value_under, variable_of, weighted_values}
 use Rattle.dcsp_problem.specs.Parts.{coefs_size, parts_at}
 use Rattle.dcsp_problem.proofs.PartLaws.{next_sum, parts_more, sum_here, sum_done}
 use Rattle.dcsp_problem.proofs.SmallLaws.{all_over, coefs_left, constants_left, constants_room}
@@ -24,7 +24,7 @@ loop-place-preserved c =
     let before = c.loop-place.invariant in
     record {
       summed = λ values.
-          next_sum (parts_at c.loop-place.parts values) (parts_at c.in-Some.next values) (coef *ℤ value_under values (get_or terms k _)) (sum_of (drop k (weighted values coefs terms))) _ _ (adds.sum values)
+          next_sum (parts_at c.loop-place.parts values) (parts_at c.in-Some.next values) (coef *ℤ value_under values (get_or terms k _)) (sum_of (drop k (weighted_values values coefs terms))) _ _ (adds.sum values)
           (sum_here values coefs terms k _ c.requires here) (c.loop-place.invariant.summed values);
       coefs_fit = coefs_left coefs k (coefs_size c.loop-place.parts) (coefs_size c.in-Some.next) here small.sizes.coefs before.coefs_fit;
       constants_fit = constants_left coefs terms k _ c.requires here (unsigned_abs c.loop-place.parts.total) (unsigned_abs c.in-Some.next.total) small.sizes.constants before.constants_fit;

@@ -17,17 +17,17 @@ pub returns-then-not-knows_others : goal.returns-then-not-knows_others
 returns-then-not-knows_others g c = (
   c.mark_span.ensures.size ∙ c.requires.size,
   λ place within.
-      let value = own_at (domain (csp_of c.args.problem.now) c.args.unknown.now.var) place in
+      let value = own_at (domain (csp_of c.args.problem.now) c.args.open_var.now.var) place in
       let here : place < length c.mark_span.new.self = omega (arith, within, c.mark_span.ensures.size, c.requires.size) in
-      c.mark_span.ensures.marks place here ∙ c.whole.ensures place ∙ not_known (with_value c.args.unknown.now.var value (g.L.Lookup.values c.args.unknown.now.lookup.now)) (constraint_at c.args.problem.now c.args.rule) c.scope.result.now c.knows_others.result c.scope.ensures.scope
+      c.mark_span.ensures.marks place here ∙ c.whole.ensures place ∙ not_known (with_value c.args.open_var.now.var value (g.L.Lookup.values c.args.open_var.now.lookup.now)) (constraint_at c.args.problem.now c.args.rule) c.scope.result.now c.knows_others.result c.scope.ensures.scope
       (c.knows_others.ensures value) c.if-not-knows_others.true,
 )
 
 pub returns-else-not-fill_linear : goal.returns-else-not-fill_linear
 returns-else-not-fill_linear g c =
     let p = c.args.problem.now in
-    let var = c.args.unknown.now.var in
-    let known = g.L.Lookup.values c.args.unknown.now.lookup.now in
+    let var = c.args.open_var.now.var in
+    let known = g.L.Lookup.values c.args.open_var.now.lookup.now in
     let row = c.fill_linear.new.row in
     let tells = c.fill_linear.ensures.tells c.if-not-fill_linear.false in
     let here = subst (λ (values : List ℤ). TellsFalse c.rule.result.now var values known row) c.domain.ensures tells in
@@ -41,12 +41,12 @@ returns-else-not-fill_linear g c =
 pub fill_linear-requires-clause-narrow : goal.fill_linear-requires-clause-narrow
 fill_linear-requires-clause-narrow g c = λ k within.
     let p = c.args.problem.now in
-    let var = c.args.unknown.now.var in
+    let var = c.args.open_var.now.var in
     let values = domain (csp_of p) var in
     let there : k < length values = omega (arith, within, ap length c.domain.ensures) in
-    let known = with_value var (own_at values k) (g.L.Lookup.values c.args.unknown.now.lookup.now) in
-    let all = own_in_domains (csp_of p) var (own_at values k) (g.L.Lookup.values c.args.unknown.now.lookup.now) (In-get_or values k (pos 0) there) c.requires.known in
+    let known = with_value var (own_at values k) (g.L.Lookup.values c.args.open_var.now.lookup.now) in
+    let all = own_in_domains (csp_of p) var (own_at values k) (g.L.Lookup.values c.args.open_var.now.lookup.now) (In-get_or values k (pos 0) there) c.requires.known in
     let scope = scope_within p known c.args.rule c.scope.result.now c.knows_others.result all c.scope.ensures.inside c.scope.ensures.scope (c.knows_others.ensures (own_at values k)) c.if-not-knows_others.false in
     let narrow = narrow_of_known p known c.args.rule c.vars-variables.ensures.problem c.requires.rule scope in
-    subst (λ (d : List ℤ). rule_sizes c.rule.result.now (filled (with_value var (own_at d k) (g.L.Lookup.values c.args.unknown.now.lookup.now))) ≤ widest) (sym c.domain.ensures)
+    subst (λ (d : List ℤ). rule_sizes c.rule.result.now (filled (with_value var (own_at d k) (g.L.Lookup.values c.args.open_var.now.lookup.now))) ≤ widest) (sym c.domain.ensures)
     (subst (λ (rule : Rule). rule_sizes rule (filled known) ≤ widest) (get_or_found p.rules c.args.rule c.rule.result.now no_rule c.rule.ensures) narrow)

@@ -23,8 +23,8 @@ use Rattle.dcsp_row.proofs.fill.span_of.Goals as goal
 
 pub returns-then-not-knows_others-clause-span : goal.returns-then-not-knows_others-clause-span
 returns-then-not-knows_others-clause-span g c = λ place within.
-    let value = own_at (domain (csp_of c.args.problem.now) c.args.unknown.now.var) place in
-    c.whole.ensures place ∙ not_known (with_value c.args.unknown.now.var value (g.L.Lookup.values c.args.unknown.now.lookup.now)) (constraint_at c.args.problem.now c.args.rule) c.scope-scope.result.now c.knows_others.result c.scope-scope.ensures.scope
+    let value = own_at (domain (csp_of c.args.problem.now) c.args.open_var.now.var) place in
+    c.whole.ensures place ∙ not_known (with_value c.args.open_var.now.var value (g.L.Lookup.values c.args.open_var.now.lookup.now)) (constraint_at c.args.problem.now c.args.rule) c.scope-scope.result.now c.knows_others.result c.scope-scope.ensures.scope
     (c.knows_others.ensures value) c.if-not-knows_others.true
 
 pub span_of_pair-requires : goal.span_of_pair-requires
@@ -38,21 +38,21 @@ span_of_sum-requires-clause-shape g c =
 pub span_of_sum-requires-clause-narrow : goal.span_of_sum-requires-clause-narrow
 span_of_sum-requires-clause-narrow g c = λ k within.
     let p = c.args.problem.now in
-    let var = c.args.unknown.now.var in
+    let var = c.args.open_var.now.var in
     let values = domain (csp_of p) var in
     let there : k < length values = omega (arith, within, ap length c.domain-2.ensures) in
-    let known = with_value var (own_at values k) (g.L.Lookup.values c.args.unknown.now.lookup.now) in
-    let all = own_in_domains (csp_of p) var (own_at values k) (g.L.Lookup.values c.args.unknown.now.lookup.now) (In-get_or values k (pos 0) there) c.requires.known in
+    let known = with_value var (own_at values k) (g.L.Lookup.values c.args.open_var.now.lookup.now) in
+    let all = own_in_domains (csp_of p) var (own_at values k) (g.L.Lookup.values c.args.open_var.now.lookup.now) (In-get_or values k (pos 0) there) c.requires.known in
     let scope = scope_within p known c.args.rule c.scope-scope.result.now c.knows_others.result all c.scope-scope.ensures.inside c.scope-scope.ensures.scope (c.knows_others.ensures (own_at values k)) c.if-not-knows_others.false in
     let narrow = narrow_of_known p known c.args.rule c.vars-variables.ensures.problem c.requires.rule scope in
-    subst (λ (d : List ℤ). rule_sizes c.rule.result.now (filled (with_value var (own_at d k) (g.L.Lookup.values c.args.unknown.now.lookup.now))) ≤ widest) (sym c.domain-2.ensures)
+    subst (λ (d : List ℤ). rule_sizes c.rule.result.now (filled (with_value var (own_at d k) (g.L.Lookup.values c.args.open_var.now.lookup.now))) ≤ widest) (sym c.domain-2.ensures)
     (subst (λ (rule : Rule). rule_sizes rule (filled known) ≤ widest) (get_or_found p.rules c.args.rule c.rule.result.now no_rule c.rule.ensures) narrow)
 
 pub returns-clause-span : goal.returns-clause-span
 returns-clause-span g c =
     let p = c.args.problem.now in
-    let var = c.args.unknown.now.var in
-    let known = g.L.Lookup.values c.args.unknown.now.lookup.now in
+    let var = c.args.open_var.now.var in
+    let known = g.L.Lookup.values c.args.open_var.now.lookup.now in
     let result = c.span_of_sum.result in
     let here = subst (λ (values : List ℤ). IfSome result (SpansWhere (is_false c.rule.result.now var known) values)) c.domain-2.ensures c.span_of_sum.ensures.span in
     let told = subst (λ (rule : Rule). IfSome result (SpansWhere (is_false rule var known) (domain (csp_of p) var))) (sym (get_or_found p.rules c.args.rule c.rule.result.now no_rule c.rule.ensures)) here in
@@ -62,8 +62,8 @@ returns-clause-span g c =
 pub returns-in-Some-clause-span : goal.returns-in-Some-clause-span
 returns-in-Some-clause-span g c =
     let p = c.args.problem.now in
-    let var = c.args.unknown.now.var in
-    let known = g.L.Lookup.values c.args.unknown.now.lookup.now in
+    let var = c.args.open_var.now.var in
+    let known = g.L.Lookup.values c.args.open_var.now.lookup.now in
     let pair = c.in-Some.pair in
     let is = c.in-Some.ensures.pair in
     let here = subst (λ (values : List ℤ). SpansWhere (λ x. not (pair_truth pair (filled (with_value var x known)))) values c.span_of_pair.result) c.domain.ensures c.span_of_pair.ensures in
@@ -85,4 +85,4 @@ returns-clause-some g c = λ has.
     let v = get_or scope 0 0 in
     let inside : In v (scope_of (length p.domains) rule) = subst (λ (l : List ℕ). In v l) c.scope-scope.ensures.scope (In-get_or scope 0 0 some) in
     let there = (In-filter_below (mentions rule) (length p.domains) v inside).1 in
-    by_plain rule (λ plain. absurd (no_variable c.args.unknown.now.var v rule shape plain has compares there)) (λ sum. c.span_of_sum.ensures.some (ap (λ r. not (is_plain r)) (sym is) ∙ sum) (ap (λ r. has_span c.args.unknown.now.var r) (sym is) ∙ has))
+    by_plain rule (λ plain. absurd (no_variable c.args.open_var.now.var v rule shape plain has compares there)) (λ sum. c.span_of_sum.ensures.some (ap (λ r. not (is_plain r)) (sym is) ∙ sum) (ap (λ r. has_span c.args.open_var.now.var r) (sym is) ∙ has))

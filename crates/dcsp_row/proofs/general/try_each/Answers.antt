@@ -11,22 +11,22 @@ use Rattle.dcsp_row.proofs.general.try_each.Goals as goal
 pub violated_within-requires-clause-domains : goal.violated_within-requires-clause-domains
 violated_within-requires-clause-domains g c =
     let p = csp_of c.args.problem.now in
-    let values = domain p c.args.unknown.now.var in
-    let known = g.L.Lookup.values c.args.unknown.now.lookup.now in
+    let values = domain p c.args.open_var.now.var in
+    let known = g.L.Lookup.values c.args.open_var.now.lookup.now in
     let place = c.loop-place.place in
     let size = ap length c.domain-domain.ensures in
     let there : place < length values = omega (arith, size) in
     let fits : SFits w64 c.value-value.result = search rules in
     let value = sym (ap (λ (d : List ℤ). own_at d place) c.domain-domain.ensures) ∙ get_or_found c.domain-domain.result.now place c.value-value.result (pos 0) c.value-value.ensures in
-    rw to_z-of_z (subst (λ v. AreInDomains p (with_value c.args.unknown.now.var v known)) value (own_in_domains p c.args.unknown.now.var (own_at values place) known (In-get_or values place (pos 0) there) c.requires.known))
+    rw to_z-of_z (subst (λ v. AreInDomains p (with_value c.args.open_var.now.var v known)) value (own_in_domains p c.args.open_var.now.var (own_at values place) known (In-get_or values place (pos 0) there) c.requires.known))
 
 pub loop-place-preserved : goal.loop-place-preserved
 loop-place-preserved g c =
     let p = csp_of c.args.problem.now in
-    let values = domain p c.args.unknown.now.var in
-    let known = g.L.Lookup.values c.args.unknown.now.lookup.now in
+    let values = domain p c.args.open_var.now.var in
+    let known = g.L.Lookup.values c.args.open_var.now.lookup.now in
     let place = c.loop-place.place in
-    let tells = is_ruled_out c.args.problem.now c.args.rule c.args.unknown.now.var known in
+    let tells = is_ruled_out c.args.problem.now c.args.rule c.args.open_var.now.var known in
     let size = ap length c.domain-domain.ensures in
     let there : place < length values = omega (arith, size) in
     let fits : SFits w64 c.value-value.result = search rules in

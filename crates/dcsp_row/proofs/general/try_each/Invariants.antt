@@ -4,4 +4,4 @@ use Rattle.dcsp_row.specs.Rows.{is_ruled_out, MarksBelow}
 use Rattle.dcsp_row.proofs.general.try_each.Given as goal
 
 abbrev pub invariant-loop-place : goal.invariant-loop-place
-invariant-loop-place g l = MarksBelow (is_ruled_out l.problem l.rule l.unknown.var (g.L.Lookup.values l.unknown.lookup.now)) (domain (csp_of l.problem) l.unknown.var) l.place l.row
+invariant-loop-place g l = MarksBelow (is_ruled_out l.problem l.rule l.open_var.var (g.L.Lookup.values l.open_var.lookup.now)) (domain (csp_of l.problem) l.open_var.var) l.place l.row

@@ -4,7 +4,7 @@ use Rattle.std.proofs.lemmas.Int.{ints, to_z-of_z}
 use Rattle.std.specs.Prelude.{unwrap_or}
 use Rattle.dcsp_linear.specs.Sums.{stands}
 use Rattle.dcsp_problem.specs.Rules.{is_told}
-use Rattle.dcsp_row.specs.declared.sums.Told.{Told}
+use Rattle.dcsp_row.specs.declared.sums.SumTruth.{SumTruth}
 use Rattle.dcsp_row.specs.Lines.{line_at, told_at}
 use Rattle.dcsp_row.specs.Rows.{own_at}
 use Rattle.dcsp_row.proofs.CutLaws.{told_false}
@@ -24,4 +24,4 @@ returns-else-truth-eq1-clause-off c = λ k l.
     let missed = simp to_z-of_z at c.missed_line-missed.ensures in
     c.others.ensures k ∙ ap not (missed k l ∙ ap (λ t. not (stands rel (line_at line x) t)) wide) ∙ told_false (stands rel (line_at line x) c.in_ok-total.total) truth other
     ∙ sym (ap (λ (o : Option ℤ). not (is_told (Some truth) (stands rel (line_at line x) (unwrap_or o x)))) total)
-    ∙ sym (ap (λ (t : Told). not (is_told (told_at t x) (stands rel (line_at line x) (unwrap_or c.args.opened.total x)))) c.in-By.is)
+    ∙ sym (ap (λ (t : SumTruth). not (is_told (told_at t x) (stands rel (line_at line x) (unwrap_or c.args.opened.total x)))) c.in-By.is)

@@ -1,7 +1,7 @@
 use Rattle.std.proofs.Common.{length, refl}
 use Rattle.abt_view.specs.Views.{view_of}
 use Rattle.abt_store.specs.Stores.{records_of}
-use Rattle.abt_agent.specs.States.{marked}
+use Rattle.abt_agent.specs.States.{has_mark}
 use Rattle.abt_agent.proofs.Rising.{told_more, exist_more}
 use Rattle.abt_agent.proofs.body.Body.answer_link.Goals as goal
 
@@ -12,7 +12,7 @@ returns-clause-does c =
     let added = c.in_ok-add_rising.ensures in
     let told = told_more b.tells.items c.add_rising.new.agents.items c.args.from added.among in
     record {
-      agent = λ x. record { value = b.value; stamp = b.stamp; waits = b.waits; view = view_of b.known.view; recorded = records_of b.known.store; tells = λ k. told k x; linked = marked b.linked.items };
+      agent = λ x. record { value = b.value; stamp = b.stamp; waits = b.waits; view = view_of b.known.view; recorded = records_of b.known.store; tells = λ k. told k x; linked = has_mark b.linked.items };
       sent = c.in_ok-tell_own.ensures;
       turn_is = (refl, refl);
       sized = record {

@@ -8,8 +8,8 @@ use Rattle.abt_defs.specs.Agents.{values_in}
 use Rattle.dcsp_problem.specs.Problems.{csp_of}
 use Rattle.abt_view.specs.Views.{view_of}
 use Rattle.abt_reason.specs.Causes.{value_at}
-use Rattle.abt_agent.specs.States.{marked}
-use Rattle.abt_agent.specs.Causes.{blames, blames_one, causes_for, cited, item_at}
+use Rattle.abt_agent.specs.States.{has_mark}
+use Rattle.abt_agent.specs.Causes.{blames, blames_one, causes_for, reasons_at, item_at}
 use Rattle.abt_agent.proofs.Blamed.{marks_join}
 use Rattle.abt_agent.proofs.Causes.{causes_more, found_valid}
 use Rattle.abt_agent.proofs.knowledge.Knowledge.blame.Goals as goal
@@ -39,13 +39,13 @@ loop-place-preserved c =
     let size = c.in_ok-blame_one.ensures.size ∙ c.loop-place.invariant.size in
     record {
       reasons = c.in_ok-blame_one.ensures.reasons
-          ∙ ap (λ z. z ++ cited p store here) c.loop-place.invariant.reasons
+          ∙ ap (λ z. z ++ reasons_at p store here) c.loop-place.invariant.reasons
           ∙ sym (map-append (λ y. (item_at p store y).reason) before here)
-          ∙ ap (cited p store) (sym more);
+          ∙ ap (reasons_at p store) (sym more);
       size = size;
       marks = λ v. c.in_ok-blame_one.ensures.marks v
-          ∙ ap (λ n. marked c.loop-place.marks v || (nat_lt v n && blames p store here v)) c.loop-place.invariant.size
+          ∙ ap (λ n. has_mark c.loop-place.marks v || (nat_lt v n && blames p store here v)) c.loop-place.invariant.size
           ∙ ap (λ b. b || (nat_lt v (length old) && blames p store here v)) (c.loop-place.invariant.marks v)
-          ∙ marks_join (marked old v) (nat_lt v (length old)) (blames p store before v) (blames p store here v)
-          ∙ ap (λ b. marked old v || (nat_lt v (length old) && b)) (sym (list_any-append (λ y. blames_one p store y v) before here) ∙ ap (λ z. blames p store z v) (sym more));
+          ∙ marks_join (has_mark old v) (nat_lt v (length old)) (blames p store before v) (blames p store here v)
+          ∙ ap (λ b. has_mark old v || (nat_lt v (length old) && b)) (sym (list_any-append (λ y. blames_one p store y v) before here) ∙ ap (λ z. blames p store z v) (sym more));
     }

@@ -3,14 +3,14 @@ use Rattle.dcsp_defs.specs.Csp.{domain}
 use Rattle.abt_defs.specs.Agents.{values_in}
 use Rattle.dcsp_problem.specs.Problems.{csp_of}
 use Rattle.abt_view.specs.Views.{view_of}
-use Rattle.abt_agent.specs.States.{marked}
-use Rattle.abt_agent.specs.Causes.{blames, causes_for, cited}
+use Rattle.abt_agent.specs.States.{has_mark}
+use Rattle.abt_agent.specs.Causes.{blames, causes_for, reasons_at}
 use Rattle.abt_agent.proofs.knowledge.Knowledge.blame.Given as goal
 
 abbrev pub invariant-loop-place : goal.invariant-loop-place
 invariant-loop-place l =
     let found = causes_for l.self.problem.now l.self.me (values_in (view_of l.self.view)) l.self.store (take l.place (domain (csp_of l.self.problem.now) l.self.me)) in record {
-      reasons : l.reasons.items ≡ cited l.self.problem.now l.self.store found;
+      reasons : l.reasons.items ≡ reasons_at l.self.problem.now l.self.store found;
       size : length l.marks ≡ length l.initial.marks;
-      marks : (k : ℕ) → marked l.marks k ≡ (marked l.initial.marks k || (nat_lt k (length l.initial.marks) && blames l.self.problem.now l.self.store found k));
+      marks : (k : ℕ) → has_mark l.marks k ≡ (has_mark l.initial.marks k || (nat_lt k (length l.initial.marks) && blames l.self.problem.now l.self.store found k));
     }

@@ -1,6 +1,6 @@
 use Rattle.std.proofs.Common.{List, [], Some, ◌≡◌, sym, subst, ap, ◌∙◌, length, None}
 use Rattle.std.proofs.lemmas.List.{length-replicate}
-use Rattle.dcsp_defs.specs.Csp.{Known}
+use Rattle.dcsp_defs.specs.Csp.{PartialAssignment}
 use Rattle.abt_defs.specs.Agents.{View, values_in}
 use Rattle.abt_view.specs.Views.{view_of}
 use Rattle.abt_store.specs.declared.Recorded.{Recorded}
@@ -11,7 +11,7 @@ pub returns-clause-in_step : goal.returns-clause-in_step
 returns-clause-in_step c = record {
   me_exists = c.requires;
   view = ap length c.in_ok-view.ensures.slots ∙ length-replicate c.args.me None;
-  domains = λ var v l e. let none : values_in (view_of c.in_ok-view.view) ≡ (λ k. None) = ap values_in c.in_ok-view.ensures.empty in let at : None ≡ Some v = sym (ap (λ (f : Known). f var) none) ∙ e in cc;
+  domains = λ var v l e. let none : values_in (view_of c.in_ok-view.view) ≡ (λ k. None) = ap values_in c.in_ok-view.ensures.empty in let at : None ≡ Some v = sym (ap (λ (f : PartialAssignment). f var) none) ∙ e in cc;
   stamps = λ k s e. let none : None ≡ Some s = sym (ap (λ (w : View). w k) c.in_ok-view.ensures.empty) ∙ e in cc;
   problem = c.in_ok-reasons.ensures.problem;
   agent = c.in_ok-reasons.ensures.agent;

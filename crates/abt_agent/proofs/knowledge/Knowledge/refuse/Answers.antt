@@ -1,7 +1,7 @@
 use Rattle.std.proofs.Common.{◌≡◌, ◌&&◌, ◌||◌, nat_lt, ℕ, ap, ◌∙◌, length}
 use Rattle.std.specs.Prelude.{filter_map}
 use Rattle.abt_view.specs.Views.{view_of}
-use Rattle.abt_agent.specs.States.{marked}
+use Rattle.abt_agent.specs.States.{has_mark}
 use Rattle.abt_agent.specs.Causes.{all_causes, blames, told_of}
 use Rattle.abt_agent.proofs.Blamed.{marked_below}
 use Rattle.abt_agent.proofs.Causes.{derived_is, step_is}
@@ -17,7 +17,7 @@ returns-clause-pairs c =
     let blank = c.in_ok-marks.marks in
     let marks = c.blame.new.marks in
     let size : length blank ≡ me = c.in_ok-marks.ensures.size in
-    let same : (k : ℕ) → marked marks k ≡ (nat_lt k me && test k) = λ k.
+    let same : (k : ℕ) → has_mark marks k ≡ (nat_lt k me && test k) = λ k.
     c.in_ok-reasons.ensures.marks k ∙ ap (λ b. b || (nat_lt k (length blank) && test k)) (c.in_ok-marks.ensures.none k) ∙ ap (λ n. nat_lt k n && test k) size in
     c.in_ok-nogood.ensures.told
     ∙ ap (filter_map (told_of view)) (c.deref.ensures.value ∙ c.in_ok-blamed.ensures ∙ marked_below marks me test (c.in_ok-reasons.ensures.size ∙ size) same)

@@ -2,7 +2,7 @@ use Rattle.std.proofs.Common.{◌≡◌, ◌<◌, ◌∙◌, ap, sym, subst, len
 use Rattle.std.specs.Option.{option_map}
 use Rattle.std.proofs.lemmas.List.{get_or_default}
 use Rattle.dcsp_defs.specs.declared.Reason.TheVariants.{Rule, Earlier}
-use Rattle.dcsp_defs.specs.Csp.{Known}
+use Rattle.dcsp_defs.specs.Csp.{PartialAssignment}
 use Rattle.abt_store.specs.declared.Recorded.{Recorded}
 use Rattle.abt_reason.specs.Firsts.{IsFirst}
 use Rattle.abt_reason.specs.declared.named.Naming.{Naming}
@@ -39,7 +39,7 @@ place_in_range r shown rows counts firsts namings room k at o inv e l is some =
     (subst (IsFirst (marks r.rows k) (rules_of r.problem r.agent)) some (first_row r rows counts firsts namings room k o inv (within_values r shown k e l) is)).0
 
 -- it is the first false rule
-first_rule : (r : Cached) (rows : List Marks) (counts : List ℕ) (firsts : List (Option ℕ)) (namings : List Naming) (room : Marks) (known : Known) (items : List Recorded) (k : ℕ) (o : Option ℕ) → IsCache r rows counts firsts namings room → StandsFor r known items
+first_rule : (r : Cached) (rows : List Marks) (counts : List ℕ) (firsts : List (Option ℕ)) (namings : List Naming) (room : Marks) (known : PartialAssignment) (items : List Recorded) (k : ℕ) (o : Option ℕ) → IsCache r rows counts firsts namings room → StandsFor r known items
     → k < size_of r.problem r.agent → o ≡ get_or firsts k o → IsFirst (is_false r.problem r.agent (known_at r.problem r.agent known k)) (rules_of r.problem r.agent) o
 first_rule r rows counts firsts namings room known items k o inv stands within is =
     first_alike (marks r.rows k) (is_false r.problem r.agent (known_at r.problem r.agent known k)) (rules_of r.problem r.agent) o (λ j l. stands.rules j l k within) (first_row r rows counts firsts namings room k o inv within is)

@@ -1,7 +1,7 @@
 use Rattle.std.proofs.Common.{◌≡◌, ◌∙◌, [], arith, ap, length, sym, subst}
 use Rattle.std.specs.Prelude.{Some, slice_get}
 use Rattle.std.proofs.lemmas.Option.{get_or_from_slice_get}
-use Rattle.dcsp_problem.specs.declared.problem.Shared.{Shared}
+use Rattle.dcsp_problem.specs.declared.problem.SharedPart.{SharedPart}
 use Rattle.dcsp_problem.specs.Problems.{Contents, csp_of}
 use Rattle.dcsp_problem.specs.Lower.{lower_owners}
 use Rattle.dcsp_problem.proofs.OwnerLists.{length-map_below}
@@ -15,14 +15,14 @@ list-requires c =
     let size = ap length c.self.invariant.each_lower in
     let many = length-map_below (lower_owners (csp_of p)) (length p.domains) in
     let same = ap (λ z. length z.domains) c.self.view_is in
-    let here = ap (λ (z : Shared). length z.tables.lower) c.deref.ensures in
+    let here = ap (λ (z : SharedPart). length z.tables.lower) c.deref.ensures in
     omega (arith, c.requires)
 
 pub returns-clause-owners : goal.returns-clause-owners
 returns-clause-owners c =
     let p : Contents = record { domains = c.self.inside.domains.items; rules = c.self.inside.shared.value.rules.items; outputs = c.self.inside.shared.value.outputs.items; aim = c.self.inside.aim } in
     let same = ap (λ z. length z.domains) c.self.view_is in
-    sym (get_or_from_slice_get c.self.inside.shared.value.tables.lower c.args.var c.list.result.now [] (subst (λ (z : Shared). slice_get z.tables.lower c.args.var ≡ Some c.list.result.now) c.deref.ensures c.list.ensures))
+    sym (get_or_from_slice_get c.self.inside.shared.value.tables.lower c.args.var c.list.result.now [] (subst (λ (z : SharedPart). slice_get z.tables.lower c.args.var ≡ Some c.list.result.now) c.deref.ensures c.list.ensures))
     ∙ lower_at p c.self.inside.shared.value.tables.lower c.args.var [] c.self.invariant.each_lower (omega (arith, c.requires))
     ∙ ap (λ z. lower_owners (csp_of z) c.args.var) c.self.view_is
 

@@ -2,7 +2,7 @@ use Rattle.std.proofs.Common.{◌≡◌, ◌<◌, arith, ap, length, ◌∙◌, 
 use Rattle.std.specs.Prelude.{Some, slice_get}
 use Rattle.std.proofs.lemmas.List.{length-map}
 use Rattle.std.proofs.lemmas.Option.{get_or_from_slice_get}
-use Rattle.dcsp_problem.specs.declared.problem.Shared.{Shared}
+use Rattle.dcsp_problem.specs.declared.problem.SharedPart.{SharedPart}
 use Rattle.dcsp_problem.specs.Rules.{scope_of}
 use Rattle.dcsp_problem.specs.Problems.{Contents, rule_at}
 use Rattle.dcsp_problem.proofs.Reading.{scope_is, scope_inside, constraint_ok}
@@ -14,7 +14,7 @@ list-requires c =
     let size = ap length c.self.invariant.each_scope in
     let many = length-map p.rules (scope_of (length p.domains)) in
     let same = ap (λ z. length z.rules) c.self.view_is in
-    let here = ap (λ (z : Shared). length z.tables.scopes) c.deref.ensures in
+    let here = ap (λ (z : SharedPart). length z.tables.scopes) c.deref.ensures in
     omega (arith, c.requires)
 
 -- what the table tells is the rule's scope
@@ -24,7 +24,7 @@ scope_read c =
     let same = ap (λ z. length z.rules) c.self.view_is in
     let in_range : c.args.rule < length p.rules = omega (arith, c.requires) in
     let scope = c.list.result.now in
-    let read = get_or_from_slice_get c.self.inside.shared.value.tables.scopes c.args.rule scope scope (subst (λ (z : Shared). slice_get z.tables.scopes c.args.rule ≡ Some scope) c.deref.ensures c.list.ensures) in
+    let read = get_or_from_slice_get c.self.inside.shared.value.tables.scopes c.args.rule scope scope (subst (λ (z : SharedPart). slice_get z.tables.scopes c.args.rule ≡ Some scope) c.deref.ensures c.list.ensures) in
     scope_is p c.self.inside.shared.value.tables.scopes c.args.rule scope c.self.invariant.each_scope in_range (sym read) ∙ ap (λ z. scope_of (length z.domains) (rule_at z c.args.rule)) c.self.view_is
 
 pub returns-clause-scope : goal.returns-clause-scope
