@@ -25,7 +25,7 @@ is_ruled_out p rule var known value = is_violated (with_value var value known) (
 abbrev pub IsRow : Contents → ℕ → ℕ → PartialAssignment → List Bool → Type 0
 IsRow p rule var known row = MarksWhere (is_ruled_out p rule var known) (domain (csp_of p) var) row
 
--- whether a rule is false at this value of the variable, where what is open_var counts as 0
+-- whether a rule is false at this value of the variable, where what is open counts as 0
 abbrev pub is_false : Rule → ℕ → PartialAssignment → ℤ → Bool
 is_false rule var known value = not (rule_truth rule (filled (with_value var value known)))
 

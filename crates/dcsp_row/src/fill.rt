@@ -130,7 +130,7 @@ fn fill_linear<L: Lookup>(
     }
 }
 
-/// The sum with the variable open_var, if the rule is one with the variable in one of its terms at most.
+/// The sum with the variable open, if the rule is one with the variable in one of its terms at most.
 fn open_sum<L: Lookup>(
     rule: &Rule,
     domain: &Domain,
