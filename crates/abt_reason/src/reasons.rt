@@ -1,7 +1,7 @@
 //! The first reason for each value, kept while the view and the store change.
 
 ghost use Rattle.std.specs.Prelude.{◌≡◌, ◌<◌, ℕ, List, None, [], IfOk, length};
-ghost use Rattle.dcsp_defs.specs.Csp.{ViewValues};
+ghost use Rattle.dcsp_defs.specs.Csp.{PartialAssignment};
 ghost use Rattle.abt_defs.specs.Agents.{values_in};
 ghost use Rattle.dcsp_problem.specs.Problems.{csp_of, AreInDomains};
 ghost use Rattle.abt_store.specs.declared.Recorded.{Recorded as TheRecorded};

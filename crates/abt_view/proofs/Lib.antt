@@ -1,1 +1,1 @@
-mod Padded
+mod Slots

@@ -1,6 +1,9 @@
 -- What the slots of a view stand for.
-use Rattle.std.specs.Prelude.{ℕ, ◌-◌, ◌≤◌, List, ◌++◌, Option, Some, None, length, slice_index_or, replicate}
+use Rattle.std.specs.Prelude.{ℕ, ◌≤◌, List, Option, Some, None, map, slice_index_or, replicate, unwrap_or}
+use Rattle.std.specs.List.{range_with_len}
 use Rattle.abt_defs.specs.Agents.{Stamped, View}
+use Rattle.dcsp_entries.specs.declared.Entry.{Entry}
+use Rattle.dcsp_entries.specs.Entries.{item_for, AreBelow, AreRising}
 use Rattle.abt_view.specs.declared.StampedValue.{StampedValue}
 
 -- a value with its stamp, as the definitions have it
@@ -25,11 +28,16 @@ abbrev pub stamp_in : Option Stamped → Option ℕ
 stamp_in None = None
 stamp_in (Some s) = Some s.stamp
 
--- so many slots, of which these are the first, and in the others there is nothing
-abbrev pub with_blanks : ℕ → List (Option StampedValue) → List (Option StampedValue)
-with_blanks agents slots = slots ++ blank (agents - length slots)
+-- what the agent told whose slot is among these
+abbrev pub told_in : List (Entry (Option StampedValue)) → ℕ → Option StampedValue
+told_in slots agent = unwrap_or (item_for slots agent) None
 
--- so many slots are no more than so many agents, for whom there is room
-pub record HasRoomFor (agents slots capacity : ℕ) : Type 0 where
-  pub within : slots ≤ agents
+-- for each of so many agents what it told
+abbrev pub slots_of : ℕ → List (Entry (Option StampedValue)) → List (Option StampedValue)
+slots_of agents slots = map (told_in slots) (range_with_len 0 agents)
+
+-- slots of agents below a number, by agent, in a list with room for all of them
+pub record AreSlots (agents capacity : ℕ) (slots : List (Entry (Option StampedValue))) : Type 0 where
+  pub rising : AreRising slots
+  pub below : AreBelow agents slots
   pub room : agents ≤ capacity

@@ -5,12 +5,13 @@
 //! stamp beside each value.
 #![tactic(auto)]
 
-ghost use Rattle.std.specs.Prelude.{◌≡◌, ◌≢◌, ◌+◌, ◌<◌, ◌≤◌, ℕ, Some, None, IfOk, length, max, slice_index_or, vec_capacity, if◌then◌else◌};
+ghost use Rattle.std.specs.Prelude.{◌≡◌, ◌<◌, Some, None, IfOk, length, set, slice_index_or, if◌then◌else◌};
 ghost use Rattle.dcsp_defs.specs.Words.{update};
 ghost use Rattle.abt_defs.specs.Agents.{values_in};
 ghost use Rattle.abt_defs.specs.Steps.{is_newer};
 ghost use Rattle.abt_view.specs.Views.{blank, stamp_in, view_of};
 
+use dcsp_entries::{Entry, item_of, put_reserved};
 pub use dcsp_list::Memory;
 use std::alloc::Global;
 use std::marker::Model;
@@ -22,26 +23,29 @@ pub struct StampedValue {
     pub stamp: u64,
 }
 
+/// How many of the first agents get a slot each as soon as a later one is told of, so that theirs stand at
+/// their own numbers and are found without a search.
+const NEAR: u32 = 128;
+
 /// For each higher agent the value and the stamp last told, if there was one.
 #[derive(Debug, Drop)]
 pub struct View {
-    /// The agents above, in order, up to the last that told something. There is room for all of them,
-    /// which is not touched before.
-    slots: Vec<Option<StampedValue>>,
-    /// How many there are.
+    /// Slots of agents above, by agent. There is room for all of them, which is not touched before.
+    slots: Vec<Entry<Option<StampedValue>>>,
+    /// How many there are above.
     agents: usize,
 }
 
 impl Model for View {
-    ghost use Rattle.std.specs.Prelude.{List, Option, length, vec_capacity};
+    ghost use Rattle.std.specs.Prelude.{List, Option, vec_capacity};
     ghost use Rattle.abt_view.specs.declared.StampedValue.{StampedValue};
-    ghost use Rattle.abt_view.specs.Views.{with_blanks, HasRoomFor};
+    ghost use Rattle.abt_view.specs.Views.{slots_of, AreSlots};
 
     ghost Value = { List (Option StampedValue) };
 
-    ghost view = { λ view. with_blanks view.agents view.slots.items };
+    ghost view = { λ view. slots_of view.agents view.slots.items };
 
-    ghost invariant = { λ view. HasRoomFor view.agents (length view.slots.items) (vec_capacity view.slots) };
+    ghost invariant = { λ view. AreSlots view.agents (vec_capacity view.slots) view.slots.items };
 }
 
 impl View {
@@ -68,8 +72,30 @@ impl View {
         if !self.is_news(var, stamp) {
             return false;
         }
-        put_slot(&mut self.slots, var as usize, StampedValue { value, stamp });
+        if self.stamp_of(var).is_none() {
+            self.make_near(var);
+        }
+        self.put(var, Some(StampedValue { value, stamp }));
         true
+    }
+
+    /// Makes the slots of the first agents above this one, where they are not there.
+    fn make_near(&mut self, var: u32)
+        requires { var < length self.old }
+        ensures { self.new ≡ self.old }
+    {
+        for near in 0..var.min(NEAR) {
+            let told = self.stamped_value(near);
+            self.put(near, told);
+        }
+    }
+
+    /// Puts into an agent's slot what it told.
+    fn put(&mut self, var: u32, told: Option<StampedValue>)
+        requires { var < length self.old }
+        ensures { self.new ≡ set self.old var told }
+    {
+        put_reserved(&mut self.slots, var, told);
     }
 
     /// Whether there is no stamp for an agent or a lower one.
@@ -100,20 +126,6 @@ impl View {
     fn stamped_value(&self, var: u32) -> Option<StampedValue>
         ensures { result ≡ slice_index_or self.now var None }
     {
-        self.slots.get(var as usize).copied()?
+        item_of(&self.slots, var)?
     }
-}
-
-/// Puts what was told into the slot at a place, for which there is room.
-fn put_slot(slots: &mut Vec<Option<StampedValue>>, place: usize, told: StampedValue)
-    requires { place < vec_capacity slots.old }
-    ensures told { slice_index_or slots.new.items place None ≡ Some told }
-    ensures others { (k : ℕ) → k ≢ place → slice_index_or slots.new.items k None ≡ slice_index_or slots.old.items k None }
-    ensures size { length slots.new.items ≤ max (length slots.old.items) (place + 1) }
-    ensures capacity { vec_capacity slots.new ≡ vec_capacity slots.old }
-{
-    for _slot in slots.len()..place + 1 {
-        slots.push_reserved(None);
-    }
-    slots[place] = Some(told);
 }
