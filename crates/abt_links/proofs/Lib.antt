@@ -1,7 +1,6 @@
 pub mod Adds
 mod Blocks
 pub mod LinkLaws
-mod Numbered
 mod Openings
 pub mod Ranks
 mod Rows

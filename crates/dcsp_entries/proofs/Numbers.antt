@@ -44,11 +44,11 @@ module _ {T : Type 0} where
       let before = rises xs up i n (omega arith) in
       rw e (omega arith)
 
-  pub rises_between : (xs : List (Entry T)) → AreRising xs → (i j : ℕ) → i < j → j < length xs → number_at xs i < number_at xs j
+  rises_between : (xs : List (Entry T)) → AreRising xs → (i j : ℕ) → i < j → j < length xs → number_at xs i < number_at xs j
   rises_between xs up i j lt within = let e : i + (j - i - 1) + 1 ≡ j = omega arith in rw e at (rises xs up i (j - i - 1) (rw e within))
 
   -- a number is no less than its place
-  pub place_below : (xs : List (Entry T)) → AreRising xs → (k : ℕ) → k < length xs → k ≤ number_at xs k
+  place_below : (xs : List (Entry T)) → AreRising xs → (k : ℕ) → k < length xs → k ≤ number_at xs k
   place_below xs up zero l = omega arith
   place_below xs up (suc k) l =
       let before = place_below xs up k (omega arith) in
@@ -72,11 +72,11 @@ module _ {T : Type 0} where
         let second = number_is xs j none within in
         grind (arith, nat_tests))
 
-    pub searched_found : (r : Result ℕ ℕ) → IsSearchInRange r (length xs) → IsBinarySearchResult (λ (x : Entry T). nat_cmp x.number number) xs r → IfOk r (λ place. (place < length xs) × (number_at xs place ≡ number))
+    searched_found : (r : Result ℕ ℕ) → IsSearchInRange r (length xs) → IsBinarySearchResult (λ (x : Entry T). nat_cmp x.number number) xs r → IfOk r (λ place. (place < length xs) × (number_at xs place ≡ number))
     searched_found (Ok at) within equal = (within, number_is xs at none within ∙ ranked _ number _ (sym (equal none)))
     searched_found (Err at) within parted = tt
 
-    pub searched_absent : (r : Result ℕ ℕ) → IsSearchInRange r (length xs) → IsBinarySearchResult (λ (x : Entry T). nat_cmp x.number number) xs r → IfErr r (BelongsAt xs number)
+    searched_absent : (r : Result ℕ ℕ) → IsSearchInRange r (length xs) → IsBinarySearchResult (λ (x : Entry T). nat_cmp x.number number) xs r → IfErr r (BelongsAt xs number)
     searched_absent (Ok at) within equal = tt
     searched_absent (Err at) within parted = record {
       within = within;
@@ -106,7 +106,7 @@ module _ {T : Type 0} where
     | inr other ↦ later x xs i (λ e. other (sym e)) ∙ sym (ap (λ b. cond b (Some x.item) (item_for xs i)) (ne_eqb i x.number other))
   ]
 
-  pub item_more : (xs : List (Entry T)) (place : ℕ) (x : Entry T) → item_for xs x.number ≡ None → (i : ℕ) → item_for (take place xs ++ x ∷ drop place xs) i ≡ (if i == x.number then Some x.item else item_for xs i)
+  item_more : (xs : List (Entry T)) (place : ℕ) (x : Entry T) → item_for xs x.number ≡ None → (i : ℕ) → item_for (take place xs ++ x ∷ drop place xs) i ≡ (if i == x.number then Some x.item else item_for xs i)
   item_more xs zero x none i = item_first xs x i
   item_more [] (suc place) x none i = item_first [] x i
   item_more (y ∷ ys) (suc place) x none i =
@@ -122,17 +122,14 @@ module _ {T : Type 0} where
       ]
 
   -- the item of the entry at a place is another
-  pub length_set_item : (xs : List (Entry T)) (place : ℕ) (e : Entry T) → length (set xs place e) ≡ length xs
-  length_set_item xs place e = length-set xs place e
-
-  pub number_set : (xs : List (Entry T)) (place : ℕ) (e : Entry T) → place < length xs → e.number ≡ number_at xs place → (k : ℕ) → number_at (set xs place e) k ≡ number_at xs k
+  number_set : (xs : List (Entry T)) (place : ℕ) (e : Entry T) → place < length xs → e.number ≡ number_at xs place → (k : ℕ) → number_at (set xs place e) k ≡ number_at xs k
   number_set [] place e within is k = absurd (omega arith)
   number_set (y ∷ ys) zero e within is zero = is
   number_set (y ∷ ys) zero e within is (suc k) = refl
   number_set (y ∷ ys) (suc place) e within is zero = refl
   number_set (y ∷ ys) (suc place) e within is (suc k) = number_set ys place e (omega arith) is k
 
-  pub item_set : (xs : List (Entry T)) (place : ℕ) (e : Entry T) → AreRising xs → place < length xs → e.number ≡ number_at xs place → (i : ℕ) → item_for (set xs place e) i ≡ (if i == e.number then Some e.item else item_for xs i)
+  item_set : (xs : List (Entry T)) (place : ℕ) (e : Entry T) → AreRising xs → place < length xs → e.number ≡ number_at xs place → (i : ℕ) → item_for (set xs place e) i ≡ (if i == e.number then Some e.item else item_for xs i)
   item_set [] place e up within is i = absurd (omega arith)
   item_set (y ∷ ys) zero e up within is i = elim (cases_eq i e.number) [
     | inl same ↦ here e ys i (sym same) ∙ sym (ap (λ b. cond b (Some e.item) (item_for (y ∷ ys) i)) (eq-eqb i e.number same))
@@ -150,7 +147,7 @@ module _ {T : Type 0} where
         | inr apart ↦ later y (set ys place e) i apart ∙ rest ∙ ap (λ o. if i == e.number then Some e.item else o) (sym (later y ys i apart))
       ]
 
-  pub rising_set : (xs : List (Entry T)) (place : ℕ) (e : Entry T) → AreRising xs → place < length xs → e.number ≡ number_at xs place → AreRising (set xs place e)
+  rising_set : (xs : List (Entry T)) (place : ℕ) (e : Entry T) → AreRising xs → place < length xs → e.number ≡ number_at xs place → AreRising (set xs place e)
   rising_set xs place e up within is k l =
       let size = length-set xs place e in
       let one = number_set xs place e within is k in
@@ -158,19 +155,38 @@ module _ {T : Type 0} where
       let rise = up k (omega (arith, l, size)) in
       omega (arith, one, two, rise)
 
-  pub below_set : (xs : List (Entry T)) (place : ℕ) (e : Entry T) (bound : ℕ) → place < length xs → e.number ≡ number_at xs place → AreBelow bound xs → AreBelow bound (set xs place e)
+  below_set : (xs : List (Entry T)) (place : ℕ) (e : Entry T) (bound : ℕ) → place < length xs → e.number ≡ number_at xs place → AreBelow bound xs → AreBelow bound (set xs place e)
   below_set xs place e bound within is below k l =
       let size = length-set xs place e in
       let one = number_set xs place e within is k in
       let low = below k (omega (arith, l, size)) in
       omega (arith, one, low)
 
+  -- the item of a number that was found is another
+  module _ (xs : List (Entry T)) (number place : ℕ) (x : Entry T) (item : T) (up : AreRising xs) (found : (place < length xs) × (number_at xs place ≡ number)) (is : x ≡ get_or xs place x) where
+    abbrev changed : List (Entry T)
+    changed = set xs place (record { number = x.number; item = item })
+
+    same_number : x.number ≡ number_at xs place
+    same_number = ap (λ (z : Entry T). z.number) is ∙ sym (number_is xs place x found.0)
+
+    pub item_changed : (other : ℕ) → item_for changed other ≡ (if other == number then Some item else item_for xs other)
+    item_changed other =
+        item_set xs place (record { number = x.number; item = item }) up found.0 same_number other
+        ∙ ap (λ n. if other == n then Some item else item_for xs other) (same_number ∙ found.1)
+
+    pub rising_changed : AreRising changed
+    rising_changed = rising_set xs place (record { number = x.number; item = item }) up found.0 same_number
+
+    pub below_changed : (bound : ℕ) → AreBelow bound xs → AreBelow bound changed
+    below_changed bound below = below_set xs place (record { number = x.number; item = item }) bound found.0 same_number below
+
   -- an entry is put where it belongs
   module _ (xs : List (Entry T)) (place : ℕ) (e : Entry T) (fits : BelongsAt xs e.number place) where
     abbrev new : List (Entry T)
     new = insert xs place e
 
-    pub size_more : length new ≡ length xs + 1
+    size_more : length new ≡ length xs + 1
     size_more = length-insert xs place e fits.within
 
     number_before : (k : ℕ) → k < place → number_at new k ≡ number_at xs k
@@ -234,6 +250,9 @@ module _ {T : Type 0} where
                 omega (arith, one, less)
           ]
         ]
+
+    pub item_inserted : (other : ℕ) → item_for new other ≡ (if other == e.number then Some e.item else item_for xs other)
+    item_inserted other = item_more xs place e (not_there xs e.number place fits) other
 
     -- there is room for one entry more
     pub more_room : (capacity : ℕ) → AreRising xs → HasRoomFor e.number capacity xs → length xs < capacity

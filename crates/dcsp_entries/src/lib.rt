@@ -1,8 +1,10 @@
 //! Items by number: entries in a list, whose numbers rise.
 #![tactic(auto)]
 
-ghost use Rattle.std.specs.Prelude.{◌≡◌, ◌<◌, ◌≤◌, ◌+◌, ℕ, length, IfErr, IfOk, Some, insert, vec_capacity, if◌then◌else◌, ◌==◌};
+ghost use Rattle.std.specs.Prelude.{◌≡◌, ◌<◌, ◌≤◌, ◌+◌, ℕ, length, IfErr, IfOk, OnErr, OnOk, Some, insert, vec_capacity, if◌then◌else◌, ◌==◌};
 ghost use Rattle.dcsp_entries.specs.Entries.{item_for, number_at, AreBelow, AreRising, BelongsAt, HasRoomFor};
+
+use dcsp_list::Memory;
 
 /// A number and its item.
 #[derive(Clone, Copy, Debug, PartialEq, Eq)]
@@ -51,6 +53,25 @@ pub fn put_reserved<T: Copy>(entries: &mut Vec<Entry<T>>, number: u32, item: T)
     match place_of(entries, number) {
         Ok(place) => entries[place].item = item,
         Err(place) => insert_reserved(entries, place, Entry { number, item }),
+    }
+}
+
+/// Gives a number this item. A refusal changes nothing.
+pub fn put<T: Copy>(entries: &mut Vec<Entry<T>>, number: u32, item: T) -> Result<(), Memory>
+    requires { AreRising entries.old.items }
+    ensures item { OnOk result ((other : ℕ) → item_for entries.new.items other ≡ (if other == number then Some item else item_for entries.old.items other)) }
+    ensures rising { AreRising entries.new.items }
+    ensures err { OnErr result (entries.new.items ≡ entries.old.items) }
+{
+    match place_of(entries, number) {
+        Ok(place) => {
+            entries[place].item = item;
+            Ok(())
+        }
+        Err(place) => match entries.insert(place, Entry { number, item }) {
+            Ok(()) => Ok(()),
+            Err(_) => Err(Memory),
+        },
     }
 }
 
