@@ -1,5 +1,6 @@
 pub mod First
 pub mod Counts
+pub mod Meanings
 pub mod Once
 pub mod Sound
 pub mod Turns

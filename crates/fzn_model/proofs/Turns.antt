@@ -16,10 +16,11 @@ use Rattle.fzn_item.specs.Items.{ToSemicolon, IsItem, AreItemsTo, GivesNext}
 use Rattle.fzn_item.proofs.ItemLaws.{items_push}
 use Rattle.fzn_item.proofs.Endings.{items_end_law, items_stay_law, refusals_stay_law}
 use Rattle.dcsp_problem.specs.Problems.{Contents}
-use Rattle.fzn_scope.specs.declared.refusal.Refusal.{Refusal}
-use Rattle.fzn_scope.specs.declared.refusal.Stop.{Stop}
-use Rattle.fzn_scope.specs.declared.refusal.Stop.TheVariants as stop
-use Rattle.fzn_scope.specs.Checks.{◌>>=◌, Gives}
+use Rattle.fzn_model.specs.declared.refusal.ItemRefusal.{ItemRefusal}
+use Rattle.fzn_model.specs.declared.refusal.Stop.{Stop}
+use Rattle.fzn_model.specs.declared.refusal.Stop.TheVariants as stop
+use Rattle.fzn_scope.specs.Checks.{◌>>=◌}
+use Rattle.fzn_model.specs.Checks.{Gives}
 use Rattle.fzn_model.specs.declared.model.ModelError.{ModelError}
 use Rattle.fzn_model.specs.Declarations.{SoFar}
 use Rattle.fzn_model.specs.Items.{start, after, after_all, finished, resolved}
@@ -33,12 +34,12 @@ items_extend text ts [] rest more read = ap (λ x. x ++ more) read
 items_extend text ts (i ∷ is) rest more read = (read.0 ++ more, items_stay_law text ts i read.0 more read.1, items_extend text read.0 is rest more read.2)
 
 -- two checks in turn that agree
-bind_same : {A B C : Type 0} (x : Result A Refusal) (f : A → Result C Refusal) (g : A → Result B Refusal) (h : B → Result C Refusal) → ((a : A) → f a ≡ (g a >>= h)) → (x >>= f) ≡ ((x >>= g) >>= h)
+bind_same : {A B C : Type 0} (x : Result A ItemRefusal) (f : A → Result C ItemRefusal) (g : A → Result B ItemRefusal) (h : B → Result C ItemRefusal) → ((a : A) → f a ≡ (g a >>= h)) → (x >>= f) ≡ ((x >>= g) >>= h)
 bind_same (Ok a) f g h each = each a
 bind_same (Err e) f g h each = refl
 
 -- a check, and nothing behind it
-bind_last : {A : Type 0} (x : Result A Refusal) → (x >>= Ok) ≡ x
+bind_last : {A : Type 0} (x : Result A ItemRefusal) → (x >>= Ok) ≡ x
 bind_last (Ok a) = refl
 bind_last (Err e) = refl
 
@@ -48,7 +49,7 @@ after_push text s [] i = bind_last (after text s i)
 after_push text s (j ∷ is) i = bind_same (after text s j) _ (λ t. after_all text t is) (λ t. after text t i) (λ t. after_push text t is i)
 
 -- items were read and resolved, or refused, and the reader is behind their tokens. Each item has a token and prints at most one thing
-pub record IsTakenTo (text : List ℕ) (reader : TokenReader) (given : Result SoFar Refusal) : Type 0 where
+pub record IsTakenTo (text : List ℕ) (reader : TokenReader) (given : Result SoFar ItemRefusal) : Type 0 where
   pub tokens : List Token
   pub items : List Item
   pub behind : IsBehind text reader tokens
@@ -92,7 +93,7 @@ more_tokens : (ts us : List Token) → 1 ≤ length us → length ts + 1 ≤ len
 more_tokens ts us some = let both = length-append ts us in omega (arith, both, some)
 
 -- there is room for what one item more prints
-pub room_for_one : (text : List ℕ) (reader next : TokenReader) (given : Result SoFar Refusal) (us : List Token) (i : Item) (rest : List Token) → IsTakenTo text reader given → ReadsOn reader us next → IsItem text us i rest → length text ≤ longest_text → prints given < longest_text
+pub room_for_one : (text : List ℕ) (reader next : TokenReader) (given : Result SoFar ItemRefusal) (us : List Token) (i : Item) (rest : List Token) → IsTakenTo text reader given → ReadsOn reader us next → IsItem text us i rest → length text ≤ longest_text → prints given < longest_text
 room_for_one text reader next given us i rest so_far reads one short =
     let more = more_tokens so_far.tokens us (item_some text us i rest one) in
     let few = so_far.few in
@@ -100,7 +101,7 @@ room_for_one text reader next given us i rest so_far reads one short =
     omega (arith, more, few, within, short)
 
 -- one item more
-pub one_more : (text : List ℕ) (reader next : TokenReader) (given later : Result SoFar Refusal) (us : List Token) (i : Item) (rest : List Token) → IsTakenTo text reader given → ReadsOn reader us next → EndsPiece next us → IsItem text us i rest
+pub one_more : (text : List ℕ) (reader next : TokenReader) (given later : Result SoFar ItemRefusal) (us : List Token) (i : Item) (rest : List Token) → IsTakenTo text reader given → ReadsOn reader us next → EndsPiece next us → IsItem text us i rest
     → later ≡ (given >>= (λ s. after text s i)) → IsSoundGiven later → prints later ≤ prints given + 1 → IsTakenTo text next later
 one_more text reader next given later us i rest so_far reads ends one taken sound few = record {
   tokens = so_far.tokens ++ us;
@@ -119,11 +120,11 @@ lexically_refused text (lexical.IntRange at) h = inr (inl (at, inr (refl, h)))
 lexically_refused text lexical.Memory h = inl refl
 
 -- the next tokens are refused
-pub next_refused : (text : List ℕ) (reader : TokenReader) (given : Result SoFar Refusal) (e : LexError) → IsTakenTo text reader given → Refuses reader e → AnswersOrLacks text (Err (lexical_error e))
+pub next_refused : (text : List ℕ) (reader : TokenReader) (given : Result SoFar ItemRefusal) (e : LexError) → IsTakenTo text reader given → Refuses reader e → AnswersOrLacks text (Err (lexical_error e))
 next_refused text reader given e so_far refuses = lexically_refused text e (refuses text so_far.tokens so_far.behind)
 
 -- the next item is read by no production
-pub next_unread : (text : List ℕ) (reader next : TokenReader) (given : Result SoFar Refusal) (us : List Token) (error : ItemError) (e : ModelError) → IsTakenTo text reader given → ReadsOn reader us next → EndsPiece next us
+pub next_unread : (text : List ℕ) (reader next : TokenReader) (given : Result SoFar ItemRefusal) (us : List Token) (error : ItemError) (e : ModelError) → IsTakenTo text reader given → ReadsOn reader us next → EndsPiece next us
     → GivesNext text us (Err error) → LeavesUnread next error e → AnswersOrLacks text (Err e)
 next_unread text reader next given us error e so_far reads ends unread leaves = elim leaves [
   | inl refused ↦ subst (λ x. AnswersOrLacks text (Err x)) (sym refused.2) (lexically_refused text refused.0 (refused.1 text (so_far.tokens ++ us) (reads text so_far.tokens so_far.behind)))
@@ -164,14 +165,14 @@ next_unread text reader next given us error e so_far reads ends unread leaves = 
   ])))
 
 -- no token is left
-last_piece : (text : List ℕ) (reader next : TokenReader) (given : Result SoFar Refusal) (us : List Token) (so_far : IsTakenTo text reader given) → ReadsOn reader us next → EndsPiece next us → us ≡ [] → AreTokens text so_far.tokens
+last_piece : (text : List ℕ) (reader next : TokenReader) (given : Result SoFar ItemRefusal) (us : List Token) (so_far : IsTakenTo text reader given) → ReadsOn reader us next → EndsPiece next us → us ≡ [] → AreTokens text so_far.tokens
 last_piece text reader next given us so_far reads ends none = elim (subst (EndsPiece next) none ends) [
   | inl piece ↦ absurd piece
   | inr last ↦ subst (AreTokens text) (append-nil so_far.tokens) (reads_all reader [] next (subst (λ x. ReadsOn reader x next) none reads) last.1 text so_far.tokens so_far.behind)
 ]
 
 -- all items are taken
-pub all_taken : (text : List ℕ) (reader next : TokenReader) (given : Result SoFar Refusal) (us : List Token) → IsTakenTo text reader given → ReadsOn reader us next → EndsPiece next us → us ≡ [] → AreAllTaken text given
+pub all_taken : (text : List ℕ) (reader next : TokenReader) (given : Result SoFar ItemRefusal) (us : List Token) → IsTakenTo text reader given → ReadsOn reader us next → EndsPiece next us → us ≡ [] → AreAllTaken text given
 all_taken text reader next given us so_far reads ends none = record {
   tokens = so_far.tokens;
   items = so_far.items;
@@ -181,7 +182,7 @@ all_taken text reader next given us so_far reads ends none = record {
 }
 
 -- what all items gave is their answer
-answered : (text : List ℕ) (given : Result SoFar Refusal) (result : Result Contents ModelError) → AreAllTaken text given → result ≡ answer_of (problem_given given) → AnswersOrLacks text result
+answered : (text : List ℕ) (given : Result SoFar ItemRefusal) (result : Result Contents ModelError) → AreAllTaken text given → result ≡ answer_of (problem_given given) → AnswersOrLacks text result
 unfolding resolved
 answered text given result all is = inr (inr (inr (record {
   tokens = all.tokens;
@@ -192,10 +193,10 @@ answered text given result all is = inr (inr (inr (record {
 })))
 
 -- the problem of all items
-pub finished_ok : (text : List ℕ) (given : Result SoFar Refusal) (problem : Contents) → AreAllTaken text given → Gives (Ok problem) (problem_given given) → AnswersOrLacks text (Ok problem)
+pub finished_ok : (text : List ℕ) (given : Result SoFar ItemRefusal) (problem : Contents) → AreAllTaken text given → Gives (Ok problem) (problem_given given) → AnswersOrLacks text (Ok problem)
 finished_ok text given problem all is = answered text given (Ok problem) all (ap answer_of (sym is))
 
 -- there is no problem of all items
-pub finished_err : (text : List ℕ) (given : Result SoFar Refusal) (e : Stop) → AreAllTaken text given → Gives {X = Contents} (Err e) (problem_given given) → AnswersOrLacks text (Err (stop_error e))
+pub finished_err : (text : List ℕ) (given : Result SoFar ItemRefusal) (e : Stop) → AreAllTaken text given → Gives {X = Contents} (Err e) (problem_given given) → AnswersOrLacks text (Err (stop_error e))
 finished_err text given (stop.Refused refusal) all is = answered text given (Err (error_of refusal)) all (ap answer_of (sym is))
 finished_err text given stop.Memory all is = inl refl

@@ -1,3 +1,4 @@
+pub mod Checks
 pub mod Building
 pub mod Declarations
 pub mod Items

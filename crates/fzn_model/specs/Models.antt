@@ -10,9 +10,11 @@ use Rattle.fzn_item.specs.declared.item.ItemError.TheVariants as syntactic
 use Rattle.fzn_item.specs.Items as parsing
 use Rattle.dcsp_problem.specs.Problems.{Contents}
 use Rattle.fzn_scope.specs.declared.refusal.Refusal.{Refusal}
-use Rattle.fzn_scope.specs.declared.refusal.Refusal.TheVariants as refusal
-use Rattle.fzn_scope.specs.declared.refusal.Stop.{Stop}
-use Rattle.fzn_scope.specs.declared.refusal.Stop.TheVariants as stop
+use Rattle.fzn_scope.specs.declared.refusal.Refusal.TheVariants as meaning
+use Rattle.fzn_model.specs.declared.refusal.ItemRefusal.{ItemRefusal}
+use Rattle.fzn_model.specs.declared.refusal.ItemRefusal.TheVariants as refusal
+use Rattle.fzn_model.specs.declared.refusal.Stop.{Stop}
+use Rattle.fzn_model.specs.declared.refusal.Stop.TheVariants as stop
 use Rattle.fzn_model.specs.declared.model.ModelError.{ModelError}
 use Rattle.fzn_model.specs.declared.model.ModelError.TheVariants as errors
 use Rattle.fzn_model.specs.Items.{resolved}
@@ -32,15 +34,19 @@ abbrev pub syntactic_error : ItemError → ModelError
 syntactic_error (syntactic.Syntax at) = errors.Syntax at
 syntactic_error syntactic.Memory = errors.Memory
 
+-- that of an expression, or of the name of a constraint
+abbrev pub meaning_error : Refusal → ModelError
+meaning_error (meaning.Undeclared at) = errors.Undeclared at
+meaning_error (meaning.UnknownConstraint at) = errors.UnknownConstraint at
+meaning_error (meaning.IllTyped at) = errors.IllTyped at
+
 -- the refusal of items, as that of a text
-abbrev pub error_of : Refusal → ModelError
+abbrev pub error_of : ItemRefusal → ModelError
+error_of (refusal.Meaning meaning) = meaning_error meaning
 error_of (refusal.Misplaced at) = errors.Misplaced at
 error_of (refusal.Duplicate at) = errors.Duplicate at
-error_of (refusal.Undeclared at) = errors.Undeclared at
 error_of (refusal.Unbounded at) = errors.Unbounded at
 error_of (refusal.Unsupported at) = errors.Unsupported at
-error_of (refusal.UnknownConstraint at) = errors.UnknownConstraint at
-error_of (refusal.IllTyped at) = errors.IllTyped at
 error_of (refusal.OutputShape at) = errors.OutputShape at
 error_of (refusal.WideSum at) = errors.WideSum at
 error_of (refusal.Limit which count at) = errors.Limit which count at
@@ -52,7 +58,7 @@ stop_error (stop.Refused refusal) = error_of refusal
 stop_error stop.Memory = errors.Memory
 
 -- the answer for items, as that for a text
-abbrev pub answer_of : Result Contents Refusal → Result Contents ModelError
+abbrev pub answer_of : Result Contents ItemRefusal → Result Contents ModelError
 answer_of (Ok problem) = Ok problem
 answer_of (Err e) = Err (error_of e)
 

@@ -1,12 +1,13 @@
 -- What the parts of the reader hold and answer.
 use Rattle.std.specs.Prelude.{◌≡◌, ◌⊎◌, ℕ, ℤ, ◌^◌, ◌<◌, nat_lt, not, ◌&&◌, List, length, Option, Some, None, Result, Ok, Err, if◌then◌else◌}
-use Rattle.fzn_scope.specs.declared.refusal.Refusal.{Refusal}
-use Rattle.fzn_scope.specs.declared.refusal.Refusal.TheVariants as refusal
-use Rattle.fzn_scope.specs.declared.refusal.Stop.{Stop}
-use Rattle.fzn_scope.specs.declared.refusal.Stop.TheVariants as stop
+use Rattle.fzn_model.specs.declared.refusal.ItemRefusal.{ItemRefusal}
+use Rattle.fzn_model.specs.declared.refusal.ItemRefusal.TheVariants as refusal
+use Rattle.fzn_model.specs.declared.refusal.Stop.{Stop}
+use Rattle.fzn_model.specs.declared.refusal.Stop.TheVariants as stop
 use Rattle.dcsp_problem.specs.declared.limits.BuildError.{BuildError}
 use Rattle.dcsp_problem.specs.declared.limits.BuildError.TheVariants as errors
-use Rattle.fzn_scope.specs.Checks.{◌>>=◌, Stops, refused_if}
+use Rattle.fzn_scope.specs.Checks.{◌>>=◌, refused_if}
+use Rattle.fzn_model.specs.Checks.{Stops}
 use Rattle.fzn_scope.specs.Known.{AreKnown}
 use Rattle.fzn_scope.specs.Names.{Scope}
 use Rattle.dcsp_problem.specs.declared.rule.Term.{Term}
@@ -30,7 +31,7 @@ use Rattle.fzn_model.specs.Items.{declared_by, declare, constraint, start, after
 use Rattle.fzn_model.specs.Models.{longest_text, lexical_error, syntactic_error}
 
 -- a call that changes something into this does what is meant, unless memory ran out
-abbrev pub Leaves : {A X : Type 0} → X → Result A Stop → Result X Refusal → Type 0
+abbrev pub Leaves : {A X : Type 0} → X → Result A Stop → Result X ItemRefusal → Type 0
 Leaves now (Ok x) meaning = meaning ≡ Ok now
 Leaves now (Err e) meaning = Stops e meaning
 
@@ -53,35 +54,35 @@ abbrev pub HasRoom : Contents → Type 0
 HasRoom problem = length problem.outputs < longest_text
 
 -- what a parameter's declaration leaves
-abbrev pub parameter_by : List ℕ → SoFar → Declaration → Result SoFar Refusal
+abbrev pub parameter_by : List ℕ → SoFar → Declaration → Result SoFar ItemRefusal
 parameter_by text s d = parameter text s d.at d.base.now d.name_at d.name.now d.right.now
 
 -- what a variable's leaves
-abbrev pub variable_by : List ℕ → SoFar → Declaration → Result SoFar Refusal
+abbrev pub variable_by : List ℕ → SoFar → Declaration → Result SoFar ItemRefusal
 variable_by text s d = variable text s d.at d.base.now d.name_at d.name.now d.marked.now d.right.now
 
 -- the elements of an array
-abbrev pub elements_by : List ℕ → Scope → Declaration → ℤ × ℤ → Expr → Result (List Term) Refusal
+abbrev pub elements_by : List ℕ → Scope → Declaration → ℤ × ℤ → Expr → Result (List Term) ItemRefusal
 elements_by text scope d index right = elements text scope d.variable d.base.now index d.name_at right
 
 -- an array of variables, of so many elements, can be printed as its mark says
-abbrev pub shape_by : Declaration → ℕ → Result (Unit {0}) Refusal
+abbrev pub shape_by : Declaration → ℕ → Result (Unit {0}) ItemRefusal
 shape_by d count = refused_if (d.variable && not (is_shaped d.marked.now count)) (refusal.OutputShape d.name_at)
 
 -- what an array's leaves, of variables or of parameters
-abbrev pub array_by : List ℕ → SoFar → ℤ × ℤ → Declaration → Result SoFar Refusal
+abbrev pub array_by : List ℕ → SoFar → ℤ × ℤ → Declaration → Result SoFar ItemRefusal
 array_by text s index d = array text s d.at d.variable index d.base.now d.name_at d.name.now d.marked.now d.right.now
 
 -- what the declaration of a new name leaves
-abbrev pub named_by : List ℕ → SoFar → Declaration → Result SoFar Refusal
+abbrev pub named_by : List ℕ → SoFar → Declaration → Result SoFar ItemRefusal
 named_by text s d = declared_by text s d.at d.variable d.index d.base.now d.name_at d.name.now d.marked.now d.right.now
 
 -- what any declaration leaves
-abbrev pub declare_by : List ℕ → SoFar → Declaration → Result SoFar Refusal
+abbrev pub declare_by : List ℕ → SoFar → Declaration → Result SoFar ItemRefusal
 declare_by text s d = declare text s d.at d.variable d.index d.base.now d.name_at d.name.now d.marked.now d.right.now
 
 -- what a constraint leaves
-abbrev pub constraint_by : List ℕ → SoFar → Constraint → Result SoFar Refusal
+abbrev pub constraint_by : List ℕ → SoFar → Constraint → Result SoFar ItemRefusal
 constraint_by text s c = constraint text s c.at c.name_at c.name.now c.arguments.now
 
 -- more than any array has elements
@@ -93,34 +94,34 @@ abbrev pub at_most_many : ℕ → ℕ
 at_most_many n = if nat_lt many n then many else n
 
 -- what the items so far gave, where this refusal was the first of them, or none
-abbrev pub given_or : Option Refusal → SoFar → Result SoFar Refusal
+abbrev pub given_or : Option ItemRefusal → SoFar → Result SoFar ItemRefusal
 given_or None s = Ok s
 given_or (Some refusal) s = Err refusal
 
 -- what the items so far gave, or the first refusal among them
-abbrev pub gave : Taken → Result SoFar Refusal
+abbrev pub gave : Taken → Result SoFar ItemRefusal
 gave taken = given_or taken.refused (so_far taken.resolver)
 
 -- one item more, behind what the items so far gave
-abbrev pub then_item : List ℕ → Result SoFar Refusal → Item → Result SoFar Refusal
+abbrev pub then_item : List ℕ → Result SoFar ItemRefusal → Item → Result SoFar ItemRefusal
 then_item text given i = given >>= (λ s. after text s i)
 
 -- the problem that the items gave
-abbrev pub problem_given : Result SoFar Refusal → Result Contents Refusal
+abbrev pub problem_given : Result SoFar ItemRefusal → Result Contents ItemRefusal
 problem_given given = given >>= finished
 
 -- its names stand for terms of variables that exist
-abbrev pub IsSoundGiven : Result SoFar Refusal → Type 0
+abbrev pub IsSoundGiven : Result SoFar ItemRefusal → Type 0
 IsSoundGiven (Ok s) = IsSound s
 IsSoundGiven (Err refusal) = Unit {0}
 
 -- how many outputs it has
-abbrev pub prints : Result SoFar Refusal → ℕ
+abbrev pub prints : Result SoFar ItemRefusal → ℕ
 prints (Ok s) = length s.problem.outputs
 prints (Err refusal) = 0
 
 -- all items of the text were taken, and this is what they gave
-pub record AreAllTaken (text : List ℕ) (given : Result SoFar Refusal) : Type 0 where
+pub record AreAllTaken (text : List ℕ) (given : Result SoFar ItemRefusal) : Type 0 where
   pub tokens : List Token
   pub items : List Item
   pub lexed : lexing.Answers text (Ok tokens)

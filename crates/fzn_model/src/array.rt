@@ -3,7 +3,7 @@
 ghost use Rattle.std.specs.Prelude.{◌≡◌, ℕ, ◌≤◌, length, All, OnOk, IfOk, Ok};
 ghost use Rattle.dcsp_problem.specs.Rules.{IsTermOf};
 ghost use Rattle.dcsp_problem.specs.Limits.{most};
-ghost use Rattle.fzn_scope.specs.Checks.{Gives};
+ghost use Rattle.fzn_model.specs.Checks.{Gives};
 ghost use Rattle.fzn_scope.specs.Known.{AreKnown};
 ghost use Rattle.fzn_model.specs.Building.{with_rule};
 ghost use Rattle.fzn_model.specs.Declarations.{check_element, element_set, is_index, within, with_member, with_set};
@@ -11,29 +11,30 @@ ghost use Rattle.fzn_model.specs.Reading.{Leaves, elements_by};
 
 use crate::building::add_rule;
 use crate::declaration::{Declaration, is_boolean};
+use crate::refusal::{ItemRefusal, Stop, ill_typed};
 use dcsp_domain::IntList;
 use dcsp_problem::{Kind, Members, ProblemBuilder, Rule, Term, TermList, Which};
 use fzn_item::{Base, Expr};
-use fzn_scope::{Context, Refusal, Stop, Wanted};
+use fzn_scope::{Context, Wanted};
 use std::alloc::Global;
 
 /// Refuses arrays of floats and of sets.
-pub(crate) fn check_element(at: u32, base: &Base) -> Result<(), Refusal>
+pub(crate) fn check_element(at: u32, base: &Base) -> Result<(), ItemRefusal>
     ensures { result ≡ check_element at base.now }
 {
     match base {
-        Base::Float | Base::Set => Err(Refusal::Unsupported { at }),
+        Base::Float | Base::Set => Err(ItemRefusal::Unsupported { at }),
         Base::Bool | Base::Int | Base::Range { .. } | Base::Listed(_) => Ok(()),
     }
 }
 
 /// Refuses a count above its limit.
-pub(crate) fn within(which: Which, count: usize, at: u32) -> Result<(), Refusal>
+pub(crate) fn within(which: Which, count: usize, at: u32) -> Result<(), ItemRefusal>
     ensures is { result ≡ within which count at }
     ensures few { OnOk result (count ≤ most which) }
 {
     if count > which.most() {
-        return Err(Refusal::Limit {
+        return Err(ItemRefusal::Limit {
             which,
             count: count as u128,
             at,
@@ -62,15 +63,13 @@ pub(crate) fn elements(
 {
     let count = context.count_of(right)?;
     if !is_index(index, count) {
-        return Err(Stop::Refused(Refusal::IllTyped {
-            at: declaration.name_at,
-        }));
+        return Err(Stop::from(ill_typed(declaration.name_at)));
     }
     let wanted = Wanted {
         boolean: is_boolean(declaration.base),
         constant: !declaration.variable,
     };
-    context.list_of(wanted, right)
+    Ok(context.list_of(wanted, right)?)
 }
 
 /// A copy of a set that elements are in, if the element type says one.

@@ -5,16 +5,20 @@ ghost use Rattle.dcsp_problem.specs.Rules.{IsTermOf, terms_of, has_shape};
 ghost use Rattle.fzn_model.specs.Building.{with_variable, with_rule};
 ghost use Rattle.fzn_model.specs.Reading.{Leaves, stop_at};
 
+use crate::refusal::{ItemRefusal, Stop};
 use dcsp_problem::{BuildError, Domain, ProblemBuilder, Rule};
-use fzn_scope::{Refusal, Stop};
 
 /// The builder's refusal, at a place.
 fn stop_at(at: u32, error: BuildError) -> Stop
     ensures { result ≡ stop_at at error }
 {
     match error {
-        BuildError::Limit { which, count } => Stop::Refused(Refusal::Limit { which, count, at }),
-        BuildError::WideSum => Stop::Refused(Refusal::WideSum { at }),
+        BuildError::Limit { which, count } => Stop::Refused(ItemRefusal::Limit {
+            which,
+            count,
+            at,
+        }),
+        BuildError::WideSum => Stop::Refused(ItemRefusal::WideSum { at }),
         BuildError::Memory => Stop::Memory,
     }
 }

@@ -3,17 +3,18 @@
 ghost use Rattle.std.specs.Prelude.{◌≡◌, ℕ, ◌<◌, length, OnOk, IfOk, IfErr, IfSome, Ok, Err};
 ghost use Rattle.fzn_item.specs.declared.item.Base.TheVariants as base;
 ghost use Rattle.dcsp_problem.specs.Rules.{IsTermOf};
-ghost use Rattle.fzn_scope.specs.Checks.{Gives};
+ghost use Rattle.fzn_model.specs.Checks.{Gives};
 ghost use Rattle.fzn_scope.specs.Known.{AreKnown};
 ghost use Rattle.fzn_model.specs.Building.{with_rule};
 ghost use Rattle.fzn_model.specs.Declarations.{is_boolean, right_side, constant, value_of, domain_of, source_of, equality, with_source};
 ghost use Rattle.fzn_model.specs.Reading.{Leaves};
 
 use crate::building::add_rule;
+use crate::refusal::{ItemRefusal, Stop, ill_typed};
 use dcsp_domain::{Domain, DomainError, IntList};
 use dcsp_problem::{Kind, Members, ProblemBuilder, Rule, Term, TermList, Which};
 use fzn_item::{Base, Expr, Marked};
-use fzn_scope::{Context, Declared, Refusal, Stop, Wanted};
+use fzn_scope::{Context, Declared, Wanted};
 use std::alloc::Global;
 
 /// What a declaration says of its name.
@@ -41,18 +42,18 @@ pub(crate) fn is_boolean(base: &Base) -> bool
 }
 
 /// A right side that there must be. Where there is none, the refusal is at the name.
-pub(crate) fn right_side(name_at: u32, right: &Option<Expr>) -> Result<&Expr, Refusal>
+pub(crate) fn right_side(name_at: u32, right: &Option<Expr>) -> Result<&Expr, ItemRefusal>
     ensures ok { IfOk result (λ expr. right_side name_at right.now ≡ Ok expr.now) }
     ensures err { IfErr result (λ e. right_side name_at right.now ≡ Err e) }
 {
     match right {
         Some(expr) => Ok(expr),
-        None => Err(Refusal::IllTyped { at: name_at }),
+        None => Err(ill_typed(name_at)),
     }
 }
 
 /// The constant of a right side.
-fn constant(context: Context<'_, '_>, boolean: bool, expr: &Expr) -> Result<Declared, Refusal>
+fn constant(context: Context<'_, '_>, boolean: bool, expr: &Expr) -> Result<Declared, ItemRefusal>
     ensures { result ≡ constant context.entry.text.now context.entry.names.now boolean expr.now }
 {
     let wanted = Wanted {
@@ -75,7 +76,7 @@ pub(crate) fn value_of(
     match base {
         Base::Bool => Ok(constant(context, true, expr)?),
         Base::Int | Base::Range { .. } | Base::Listed(_) => { Ok(constant(context, false, expr)?) }
-        Base::Float => Err(Stop::Refused(Refusal::Unsupported { at })),
+        Base::Float => Err(Stop::Refused(ItemRefusal::Unsupported { at })),
         Base::Set => Ok(Declared::Set(context.set_of(expr)?)),
     }
 }
@@ -86,8 +87,8 @@ pub(crate) fn domain_of(alloc: Global, at: u32, base: &Base) -> Result<Domain, S
 {
     match base {
         Base::Bool => domain_between(alloc, at, 0, 1),
-        Base::Int => Err(Stop::Refused(Refusal::Unbounded { at })),
-        Base::Float | Base::Set => Err(Stop::Refused(Refusal::Unsupported { at })),
+        Base::Int => Err(Stop::Refused(ItemRefusal::Unbounded { at })),
+        Base::Float | Base::Set => Err(Stop::Refused(ItemRefusal::Unsupported { at })),
         Base::Range { low, high } => domain_between(alloc, at, *low, *high),
         Base::Listed(values) => listed_domain(alloc, at, values),
     }
@@ -116,10 +117,10 @@ fn listed_domain(alloc: Global, at: u32, values: &IntList) -> Result<Domain, Sto
 }
 
 /// A domain would have so many values.
-fn large(at: u32, count: u128) -> Refusal
-    ensures { result ≡ Refusal.Limit Which.DomainSize count at }
+fn large(at: u32, count: u128) -> ItemRefusal
+    ensures { result ≡ ItemRefusal.Limit Which.DomainSize count at }
 {
-    Refusal::Limit {
+    ItemRefusal::Limit {
         which: Which::DomainSize,
         count,
         at,
@@ -131,7 +132,7 @@ pub(crate) fn source_of(
     context: Context<'_, '_>,
     boolean: bool,
     right: &Option<Expr>,
-) -> Result<Option<Term>, Refusal>
+) -> Result<Option<Term>, ItemRefusal>
     ensures is { result ≡ source_of context.entry.text.now context.entry.names.now boolean right.now }
     ensures known { IfOk result (λ source. (variables : ℕ) → AreKnown variables context.entry.names.now → IfSome source (IsTermOf variables)) }
 {

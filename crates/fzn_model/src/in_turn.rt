@@ -1,17 +1,17 @@
 //! From a text to its problem: each item is read, resolved and let go before the tokens of the next are read.
 
 ghost use Rattle.std.specs.Prelude.{◌≡◌, ◌≤◌, ◌<◌, ◌+◌, length, OnOk, IfErr, Ok, Err};
-ghost use Rattle.fzn_scope.specs.Checks.{Gives};
+ghost use Rattle.fzn_model.specs.Checks.{Gives};
 ghost use Rattle.fzn_model.specs.Items.{start};
 ghost use Rattle.fzn_model.specs.Models.{longest_text, AnswersOrLacks};
 ghost use Rattle.fzn_model.specs.Reading.{gave, then_item, problem_given, IsSoundGiven, prints, AreAllTaken, LeavesUnread};
 
 use crate::model::ModelError;
+use crate::refusal::{ItemRefusal, Stop};
 use crate::resolver::Resolver;
 use dcsp_list::Memory;
 use dcsp_problem::Problem;
 use fzn_item::{Item, ItemError, next_item};
-use fzn_scope::{Refusal, Stop};
 use fzn_token::TokenReader;
 use std::alloc::Global;
 
@@ -43,7 +43,7 @@ fn unread(mut reader: TokenReader<'_>, error: ItemError) -> ModelError
 #[derive(Drop)]
 struct Taken<'t> {
     resolver: Resolver<'t>,
-    refused: Option<Refusal>,
+    refused: Option<ItemRefusal>,
 }
 
 impl<'t> Taken<'t> {

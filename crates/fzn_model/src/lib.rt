@@ -14,6 +14,7 @@ mod in_turn;
 mod laws;
 mod model;
 mod output;
+mod refusal;
 mod resolver;
 
 pub use dcsp_list::Memory;
@@ -21,3 +22,4 @@ pub use dcsp_problem::{Problem, Which};
 pub use in_turn::problem_of;
 pub use laws::{first_refusal, one_answer};
 pub use model::ModelError;
+pub use refusal::ItemRefusal;

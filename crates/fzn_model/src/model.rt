@@ -1,9 +1,10 @@
 //! Why a text has no problem.
 
+use crate::refusal::{ItemRefusal, Stop};
 use dcsp_list::Memory;
 use dcsp_problem::Which;
 use fzn_item::ItemError;
-use fzn_scope::{Refusal, Stop};
+use fzn_scope::Refusal;
 use fzn_token::LexError;
 
 /// Why a text has no problem. `at` is a place in the text, counted in bytes from 0.
@@ -72,23 +73,36 @@ impl From<ItemError> for ModelError {
 
 impl From<Refusal> for ModelError {
     ghost use Rattle.std.specs.Prelude.{◌≡◌};
+    ghost use Rattle.fzn_model.specs.Models.{meaning_error};
+
+    ghost from_gives = { λ meaning e. e ≡ meaning_error meaning };
+
+    fn from(meaning: Refusal) -> ModelError {
+        match meaning {
+            Refusal::Undeclared { at } => ModelError::Undeclared { at },
+            Refusal::UnknownConstraint { at } => ModelError::UnknownConstraint { at },
+            Refusal::IllTyped { at } => ModelError::IllTyped { at },
+        }
+    }
+}
+
+impl From<ItemRefusal> for ModelError {
+    ghost use Rattle.std.specs.Prelude.{◌≡◌};
     ghost use Rattle.fzn_model.specs.Models.{error_of};
 
     ghost from_gives = { λ refusal e. e ≡ error_of refusal };
 
-    fn from(refusal: Refusal) -> ModelError {
+    fn from(refusal: ItemRefusal) -> ModelError {
         match refusal {
-            Refusal::Misplaced { at } => ModelError::Misplaced { at },
-            Refusal::Duplicate { at } => ModelError::Duplicate { at },
-            Refusal::Undeclared { at } => ModelError::Undeclared { at },
-            Refusal::Unbounded { at } => ModelError::Unbounded { at },
-            Refusal::Unsupported { at } => ModelError::Unsupported { at },
-            Refusal::UnknownConstraint { at } => ModelError::UnknownConstraint { at },
-            Refusal::IllTyped { at } => ModelError::IllTyped { at },
-            Refusal::OutputShape { at } => ModelError::OutputShape { at },
-            Refusal::WideSum { at } => ModelError::WideSum { at },
-            Refusal::Limit { which, count, at } => ModelError::Limit { which, count, at },
-            Refusal::NoSolve => ModelError::NoSolve,
+            ItemRefusal::Meaning(meaning) => ModelError::from(meaning),
+            ItemRefusal::Misplaced { at } => ModelError::Misplaced { at },
+            ItemRefusal::Duplicate { at } => ModelError::Duplicate { at },
+            ItemRefusal::Unbounded { at } => ModelError::Unbounded { at },
+            ItemRefusal::Unsupported { at } => ModelError::Unsupported { at },
+            ItemRefusal::OutputShape { at } => ModelError::OutputShape { at },
+            ItemRefusal::WideSum { at } => ModelError::WideSum { at },
+            ItemRefusal::Limit { which, count, at } => ModelError::Limit { which, count, at },
+            ItemRefusal::NoSolve => ModelError::NoSolve,
         }
     }
 }

@@ -9,10 +9,10 @@ ghost use Rattle.fzn_model.specs.Declarations.{is_boolean, is_shaped, variable_o
 ghost use Rattle.fzn_model.specs.Reading.{Leaves, HasRoom, at_most_many, shape_by};
 
 use crate::declaration::{Declaration, is_boolean};
+use crate::refusal::{ItemRefusal, Stop};
 use dcsp_domain::RangeList;
 use dcsp_problem::{BuildError, NameText, Output, ProblemBuilder, Shape, Term, TermList};
 use fzn_item::Marked;
-use fzn_scope::{Refusal, Stop};
 use std::alloc::Global;
 
 /// More than any array has elements.
@@ -65,13 +65,13 @@ fn times(size: u128, product: u128) -> u128
 }
 
 /// Refuses an array of variables, of so many elements, that cannot be printed as its mark says.
-pub(crate) fn check_shape(declaration: Declaration<'_, '_>, count: usize) -> Result<(), Refusal>
+pub(crate) fn check_shape(declaration: Declaration<'_, '_>, count: usize) -> Result<(), ItemRefusal>
     requires { count < 2 ^ 63 }
     ensures is { result ≡ shape_by declaration.entry count }
     ensures shaped { OnOk result (declaration.entry.variable ≡ true → is_shaped declaration.entry.marked.now count ≡ true) }
 {
     if declaration.variable && !is_shaped(declaration.marked, count) {
-        return Err(Refusal::OutputShape {
+        return Err(ItemRefusal::OutputShape {
             at: declaration.name_at,
         });
     }

@@ -1,7 +1,7 @@
 //! What one item adds to the names and to the problem, or its refusal.
 
 ghost use Rattle.std.specs.Prelude.{◌≡◌, ◌≤◌, ◌<◌, ◌+◌, length, OnOk, None};
-ghost use Rattle.fzn_scope.specs.Checks.{Gives};
+ghost use Rattle.fzn_model.specs.Checks.{Gives};
 ghost use Rattle.fzn_scope.specs.Names.{declared_as};
 ghost use Rattle.fzn_model.specs.Declarations.{is_late, declaration};
 ghost use Rattle.fzn_model.specs.Items.{start, solve, predicate, after, finished};
@@ -12,9 +12,10 @@ use crate::building::{add_rule, add_variable};
 use crate::declaration::{Declaration, domain_of, is_boolean, right_side, source_of, value_of};
 use crate::goal::aim_of;
 use crate::output::{add_array_output, add_variable_output, check_shape};
+use crate::refusal::{ItemRefusal, Stop};
 use dcsp_problem::{Problem, ProblemBuilder, Term, Which};
 use fzn_item::{Expr, Goal, Item};
-use fzn_scope::{Context, Declared, Names, Refusal, Stop, bytes_at};
+use fzn_scope::{Context, Declared, Names, bytes_at};
 use std::alloc::Global;
 
 /// What the items so far gave.
@@ -60,15 +61,15 @@ impl<'t> Resolver<'t> {
     }
 
     /// What is checked of every declaration, first.
-    fn check_declaration(&self, at: u32, name_at: u32, name: &[u8]) -> Result<(), Refusal>
+    fn check_declaration(&self, at: u32, name_at: u32, name: &[u8]) -> Result<(), ItemRefusal>
         ensures is { result ≡ declaration (so_far self.now) at name_at name.now }
         ensures new { OnOk result (declared_as self.now.names name.now ≡ None) }
     {
         if self.is_late() {
-            return Err(Refusal::Misplaced { at });
+            return Err(ItemRefusal::Misplaced { at });
         }
         if self.names.get(name).is_some() {
-            return Err(Refusal::Duplicate { at: name_at });
+            return Err(ItemRefusal::Duplicate { at: name_at });
         }
         Ok(())
     }
@@ -171,7 +172,7 @@ impl<'t> Resolver<'t> {
             arguments,
         } = constraint;
         if self.solved {
-            return Err(Stop::Refused(Refusal::Misplaced { at }));
+            return Err(Stop::Refused(ItemRefusal::Misplaced { at }));
         }
         let context = Context {
             alloc: self.alloc,
@@ -193,7 +194,7 @@ impl<'t> Resolver<'t> {
         ensures outputs { OnOk result (length self.new.builder.outputs ≤ length self.old.builder.outputs + 1) }
     {
         if self.solved {
-            return Err(Stop::Refused(Refusal::Misplaced { at }));
+            return Err(Stop::Refused(ItemRefusal::Misplaced { at }));
         }
         let context = Context {
             alloc: self.alloc,
@@ -215,7 +216,7 @@ impl<'t> Resolver<'t> {
         ensures outputs { OnOk result (length self.new.builder.outputs ≤ length self.old.builder.outputs + 1) }
     {
         if self.is_late() {
-            return Err(Stop::Refused(Refusal::Misplaced { at }));
+            return Err(Stop::Refused(ItemRefusal::Misplaced { at }));
         }
         Ok(())
     }
@@ -308,7 +309,7 @@ impl<'t> Resolver<'t> {
         ensures { Gives result (finished (so_far self.entry)) }
     {
         if !self.solved {
-            return Err(Stop::Refused(Refusal::NoSolve));
+            return Err(Stop::Refused(ItemRefusal::NoSolve));
         }
         Ok(self.builder.finish()?)
     }

@@ -6,12 +6,12 @@ use Rattle.fzn_scope.specs.declared.refusal.Stop.TheVariants as stop
 
 -- one check, and then the next with what the first gave
 infixl 10 ◌>>=◌
-abbrev pub ◌>>=◌ : {A B : Type 0} → Result A Refusal → (A → Result B Refusal) → Result B Refusal
+abbrev pub ◌>>=◌ : {A B E : Type 0} → Result A E → (A → Result B E) → Result B E
 (Ok x) >>= f = f x
 (Err e) >>= f = Err e
 
 -- refused so, where this is true
-abbrev pub refused_if : Bool → Refusal → Result (Unit {0}) Refusal
+abbrev pub refused_if : {E : Type 0} → Bool → E → Result (Unit {0}) E
 refused_if b refusal = if b then Err refusal else Ok tt
 
 -- what a call stopped with is the refusal that is meant, unless memory ran out

@@ -13,7 +13,7 @@ use Rattle.fzn_item.specs.declared.item.Base.{Base}
 use Rattle.fzn_item.specs.declared.item.Base.TheVariants as base
 use Rattle.dcsp_problem.specs.declared.limits.Which.TheVariants as which
 use Rattle.dcsp_problem.specs.Limits.{most}
-use Rattle.fzn_scope.specs.declared.refusal.Refusal.TheVariants as refusal
+use Rattle.fzn_model.specs.declared.refusal.ItemRefusal.TheVariants as refusal
 use Rattle.fzn_model.specs.Declarations.{domain_of}
 use Rattle.law_meaning.specs.Holding.{in_type}
 use Rattle.law_meaning.proofs.Checks.{not_refused}

@@ -9,7 +9,7 @@ use Rattle.fzn_item.proofs.OneAnswer.{one_answer_law}
 use Rattle.dcsp_defs.specs.Csp.{Assignment, IsSolution}
 use Rattle.dcsp_problem.specs.Problems.{Contents, csp_of}
 use Rattle.fzn_scope.specs.declared.names.Declared.{Declared}
-use Rattle.fzn_scope.specs.declared.refusal.Refusal.{Refusal}
+use Rattle.fzn_model.specs.declared.refusal.ItemRefusal.{ItemRefusal}
 use Rattle.fzn_scope.specs.Names.{declared_as}
 use Rattle.fzn_model.specs.Items.{start, after_all, finished, resolved}
 use Rattle.fzn_model.specs.Models.{answer_of}
@@ -47,7 +47,7 @@ means_its_items text items p e values =
           subst (λ (q : Contents). IsSolution (csp_of q) values) is (solves.1 (f.domains, f.rules))),
     )
 
-resolved_is : (r : Result Contents Refusal) (p : Contents) → Ok p ≡ answer_of r → r ≡ Ok p
+resolved_is : (r : Result Contents ItemRefusal) (p : Contents) → Ok p ≡ answer_of r → r ≡ Ok p
 resolved_is (Ok q) p e = let is : q ≡ p = cc in ap Ok is
 resolved_is (Err x) p e = absurd cc
 

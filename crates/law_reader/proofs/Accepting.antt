@@ -7,8 +7,8 @@ use Rattle.dcsp_defs.proofs.Lists.{and_left, and_right, and_both}
 use Rattle.fzn_item.specs.declared.item.Item.{Item}
 use Rattle.fzn_item.specs.declared.item.Item.TheVariants as item
 use Rattle.dcsp_problem.specs.Problems.{Contents}
-use Rattle.fzn_scope.specs.declared.refusal.Refusal.{Refusal}
-use Rattle.fzn_scope.specs.declared.refusal.Refusal.TheVariants as refusal
+use Rattle.fzn_model.specs.declared.refusal.ItemRefusal.{ItemRefusal}
+use Rattle.fzn_model.specs.declared.refusal.ItemRefusal.TheVariants as refusal
 use Rattle.fzn_scope.specs.Checks.{◌>>=◌}
 use Rattle.fzn_scope.specs.Names.{bytes_at}
 use Rattle.fzn_model.specs.Declarations.{SoFar, declaration}
@@ -64,7 +64,7 @@ one_item text names variables rules before s (item.Declare at isvar index type n
     let suits = declaration_suits text names isvar index type marked right in
     let few = are_few (variables ++ variable_sizes i) (rules ++ rule_sizes text names i) in
     let P = Stands (with_name text names i) (variables ++ variable_sizes i) (rules ++ rule_sizes text names i) (so || false) (co || false) in
-    let rest : Unit {0} → Result SoFar Refusal = λ _. declared_by text s at isvar index type name_at name marked right in
+    let rest : Unit {0} → Result SoFar ItemRefusal = λ _. declared_by text s at isvar index type name_at name marked right in
     judged_test (declaration s at name_at name >>= rest) (new && (suits && few)) ((new && suits) && few) P (and_assoc new suits few)
     (judged_bind (declaration s at name_at name) rest new (suits && few) (λ _. Unit {0}) P (declaration_judged text names variables rules so co s h at name_at name)
     (λ _ _. declared_by_judged text names variables rules so co s h at isvar index type name_at name_to marked right))
@@ -131,7 +131,7 @@ each_all text before (i ∷ rest) h =
 
 -- ---- the laws
 
-decided : {X : Type 0} (x : Result X Refusal) (b : Bool) → Judged x b (λ _. Unit {0}) → ((a : X) × (x ≡ Ok a)) ↔ (b ≡ true)
+decided : {X : Type 0} (x : Result X ItemRefusal) (b : Bool) → Judged x b (λ _. Unit {0}) → ((a : X) × (x ≡ Ok a)) ↔ (b ≡ true)
 decided (Ok a) b h = ((λ k. h.0), (λ k. (a, refl)))
 decided (Err e) b h = ((λ k. absurd (let f = k.1 in cc)), (λ k. absurd (let f = sym h ∙ k in cc)))
 
@@ -144,7 +144,7 @@ accepted_items text items =
       (λ k. d.1 (and_both all some (each_all text [] items k.each) k.solved)),
     )
 
-resolved_is : (r : Result Contents Refusal) (p : Contents) → Ok p ≡ answer_of r → r ≡ Ok p
+resolved_is : (r : Result Contents ItemRefusal) (p : Contents) → Ok p ≡ answer_of r → r ≡ Ok p
 resolved_is (Ok q) p e = let is : q ≡ p = cc in ap Ok is
 resolved_is (Err x) p e = absurd cc
 

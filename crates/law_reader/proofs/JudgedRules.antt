@@ -30,11 +30,12 @@ use Rattle.fzn_scope.specs.Names.{Scope}
 use Rattle.fzn_scope.specs.Places.{is_constant}
 use Rattle.fzn_scope.specs.Forms.{places_of, form_named}
 use Rattle.fzn_scope.specs.Rules.{no_arguments, arguments_after, constant_of, scalar_at, rule_of, lengths_agree, known_form, constraint_rule}
+use Rattle.fzn_model.specs.Checks.{as_check}
 use Rattle.fzn_model.specs.Building.{with_rule}
 use Rattle.law_reader.specs.Sorts.{Names}
 use Rattle.law_reader.specs.Arguments.{is_within, all_suit, scalar_part, Sizes, argument_sizes, lengths_suit, products, width, form_size, constraint_suits, constraint_size}
 use Rattle.law_reader.specs.Accepted.{are_few}
-use Rattle.law_reader.proofs.Judging.{Judged, judged_bind, judged_map, judged_if, judged_test, judged_more, not_not}
+use Rattle.law_reader.proofs.Judging.{Judged, judged_bind, judged_map, judged_check, judged_if, judged_test, judged_more, not_not}
 use Rattle.law_reader.proofs.SortedNames.{IsSized, AreSized, AreConstant, HaveSorts, pairwise_length}
 use Rattle.law_reader.proofs.JudgedArguments.{in_order, are_fixed, AreRead, arguments_judged}
 use Rattle.law_reader.proofs.JudgedLimits.{none_past, not_past, Counted, with_one_rule, rule_tests, rule_judged}
@@ -212,16 +213,16 @@ module _ (text : List ℕ) (names : Names) (scope : Scope) (p : Contents) (sorte
         (judged_more (with_rule at p rule) (not (nat_lt widest (rule_width p.domains rule)) && none_past (rule_counts p rule)) (λ q. q ≡ with_one_rule p rule) (HasRule n) (λ q e. record { rule = rule; added = e; sized = m.size }) (rule_judged at p rule))
 
     -- the rule of a form, added
-    pub ruled_judged : (o : Option Form) → Judged ((known_form at o >>= after_form) >>= (λ rule. with_rule at p rule)) (constraint_suits text names o xs && are_few variables (rules ++ constraint_size text names o xs ∷ [])) (HasRule (constraint_size text names o xs))
+    pub ruled_judged : (o : Option Form) → Judged (as_check (known_form at o >>= after_form) >>= (λ rule. with_rule at p rule)) (constraint_suits text names o xs && are_few variables (rules ++ constraint_size text names o xs ∷ [])) (HasRule (constraint_size text names o xs))
     ruled_judged None = refl
     ruled_judged (Some form) =
         let s = sizes form in
         let test = not (nat_lt widest (width form s)) && (is_within Elements (length s.first) && is_within Elements (length s.second) && are_few variables (rules ++ form_size form s ∷ [])) in
-        judged_test (after_form form >>= (λ rule. with_rule at p rule)) (form_test form && test) (constraint_suits text names (Some form) xs && are_few variables (rules ++ constraint_size text names (Some form) xs ∷ [])) (HasRule (form_size form s))
+        judged_test (as_check (after_form form) >>= (λ rule. with_rule at p rule)) (form_test form && test) (constraint_suits text names (Some form) xs && are_few variables (rules ++ constraint_size text names (Some form) xs ∷ [])) (HasRule (form_size form s))
         (regroup (length xs == length (places_of form (length xs))) (all_suit text names (places_of form (length xs)) xs) (lengths_suit form s) (not (nat_lt widest (width form s))) (is_within Elements (length s.first)) (is_within Elements (length s.second)) (are_few variables (rules ++ form_size form s ∷ [])))
-        (judged_bind (after_form form) (λ rule. with_rule at p rule) (form_test form) test (IsMeasured p.domains form s) (HasRule (form_size form s)) (form_judged form) (λ rule m. added_judged form rule m))
+        (judged_bind (as_check (after_form form)) (λ rule. with_rule at p rule) (form_test form) test (IsMeasured p.domains form s) (HasRule (form_size form s)) (judged_check (after_form form) (form_test form) (IsMeasured p.domains form s) (form_judged form)) (λ rule m. added_judged form rule m))
 
   -- the same of a constraint's name
-  pub named_judged : (name : List ℕ) (variables rules : List ℕ) → Counted p variables rules → Judged (constraint_rule text scope at name xs >>= (λ rule. with_rule at p rule)) (constraint_suits text names (form_named name) xs && are_few variables (rules ++ constraint_size text names (form_named name) xs ∷ [])) (HasRule (constraint_size text names (form_named name) xs))
+  pub named_judged : (name : List ℕ) (variables rules : List ℕ) → Counted p variables rules → Judged (as_check (constraint_rule text scope at name xs) >>= (λ rule. with_rule at p rule)) (constraint_suits text names (form_named name) xs && are_few variables (rules ++ constraint_size text names (form_named name) xs ∷ [])) (HasRule (constraint_size text names (form_named name) xs))
   unfolding constraint_rule
   named_judged name variables rules counted = ruled_judged variables rules counted (form_named name)

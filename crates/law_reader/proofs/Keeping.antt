@@ -25,30 +25,36 @@ use Rattle.fzn_scope.specs.Names.{Scope, declared_as, bytes_at}
 use Rattle.fzn_scope.specs.Places.{is_constant, same, truth_term, wanted_term, term_named, term_of, one_of, terms_after, terms_named, list_of, count_named, count_of, set_named, set_of}
 use Rattle.fzn_scope.specs.Forms.{form_named, places_of}
 use Rattle.fzn_scope.specs.Rules.{no_arguments, with_argument, arguments_after, known_form, form_at, lengths_agree, constraint_rule}
+use Rattle.fzn_model.specs.Checks.{as_check}
 use Rattle.fzn_model.specs.Building.{refused_at, with_variable, with_rule}
 use Rattle.law_reader.proofs.Carrying.{Pairwise}
 use Rattle.law_reader.proofs.AlikeItems.{AtomsAlike, both_truth, both_whole, both_float, both_name, both_range, both_listed, ExprsAlike, both_one, both_list}
 
 -- where one check gives something, the other gives the same
-abbrev pub Keeps : {X : Type 0} → Result X Refusal → Result X Refusal → Type 0
+abbrev pub Keeps : {X E : Type 0} → Result X E → Result X E → Type 0
 Keeps (Ok a) y = y ≡ Ok a
 Keeps (Err e) y = Unit {0}
 
-pub keeps_itself : {X : Type 0} (x : Result X Refusal) → Keeps x x
+pub keeps_itself : {X E : Type 0} (x : Result X E) → Keeps x x
 keeps_itself (Ok a) = refl
 keeps_itself (Err e) = tt
 
-pub keeps_bind : {A B : Type 0} (x y : Result A Refusal) (f g : A → Result B Refusal) → Keeps x y → ((a : A) → Keeps (f a) (g a)) → Keeps (x >>= f) (y >>= g)
+pub keeps_bind : {A B E : Type 0} (x y : Result A E) (f g : A → Result B E) → Keeps x y → ((a : A) → Keeps (f a) (g a)) → Keeps (x >>= f) (y >>= g)
 keeps_bind (Ok a) y f g h k = subst (λ z. Keeps (f a) (z >>= g)) (sym h) (k a)
 keeps_bind (Err e) y f g h k = tt
 
-pub keeps_if : (b : Bool) (e d : Refusal) → Keeps (refused_if b e) (refused_if b d)
+pub keeps_if : {E : Type 0} (b : Bool) (e d : E) → Keeps (refused_if b e) (refused_if b d)
 keeps_if true e d = tt
 keeps_if false e d = refl
 
-pub keeps_choice : {X : Type 0} (b : Bool) (x : X) (e d : Refusal) → Keeps (if b then Ok x else Err e) (if b then Ok x else Err d)
+pub keeps_choice : {X E : Type 0} (b : Bool) (x : X) (e d : E) → Keeps (if b then Ok x else Err e) (if b then Ok x else Err d)
 keeps_choice true x e d = refl
 keeps_choice false x e d = tt
+
+-- what an expression means, as a check of its item
+pub keeps_check : {X : Type 0} (x y : Result X Refusal) → Keeps x y → Keeps (as_check x) (as_check y)
+keeps_check (Ok a) y h = ap as_check h
+keeps_check (Err e) y h = tt
 
 wanted_keeps : (wanted : Wanted) (at to : ℕ) (boolean : Bool) (term : Term) → Keeps (wanted_term wanted at boolean term) (wanted_term wanted to boolean term)
 wanted_keeps wanted at to boolean term = keeps_choice (same boolean wanted.boolean && (not wanted.constant || is_constant term)) term (refusal.IllTyped at) (refusal.IllTyped to)

@@ -1,5 +1,5 @@
 -- Atoms, expressions and types are the same by both grammars.
-use Rattle.std.proofs.Common.{◌≡◌, ℕ, ℤ, ◌⊎◌, List, [], ◌∷◌, sym, ◌∙◌, ap, subst, ⊎_elim, inl, inr, refl}
+use Rattle.std.proofs.Common.{◌≡◌, ◌⊎◌, List, [], ◌∷◌, sym, ◌∙◌, ap, subst, ⊎_elim, inl, inr, refl}
 use Rattle.fzn_token.specs.declared.token.Token.{Token}
 use Rattle.fzn_token.specs.declared.token.TokenKind.{TokenKind}
 use Rattle.fzn_token.specs.declared.token.TokenKind.TheVariants as kind
@@ -10,12 +10,12 @@ use Rattle.fzn_item.specs.declared.item.Atom.TheVariants as atom
 use Rattle.fzn_item.specs.declared.item.Expr.TheVariants as expr
 use Rattle.fzn_item.specs.declared.item.Base.{Base}
 use Rattle.fzn_item.specs.declared.item.Base.TheVariants as base
-use Rattle.fzn_item.specs.Productions.{Production, Gives, ◌>>=◌, Or, OneOf, IsMark, IsWord, IsInteger, IsAny, IsListOf}
-use Rattle.fzn_item.specs.Exprs.{AtomFrom, AtomAfter, IsAtom, IsExpr, IsLastExpr}
+use Rattle.fzn_item.specs.Productions.{IsInteger}
+use Rattle.fzn_item.specs.Exprs.{AtomAfter, IsAtom, IsExpr}
 use Rattle.fzn_item.specs.Marks.{IsRange}
 use Rattle.fzn_item.specs.Elements.{SetAfter, IsSetElement, BaseAfter, IsBase, variable, parameter, ElementAfter, IsElement}
-use Rattle.law_reader.specs.PlainGrammar.{◌gives◌, At, PlainListed, PlainAtom, PlainAtoms, PlainExpr, PlainFloatRange, PlainType, PlainSetElement, PlainSetOf, PlainBase, PlainVar}
-use Rattle.law_reader.proofs.PlainForms.{Ends, Completes, Includes, one_ends, same, either, one_first, one_completes, integer_first, list_maps, whatever_follows, by_kind}
+use Rattle.law_reader.specs.PlainGrammar.{◌gives◌, At, PlainListed, PlainAtom, PlainAtoms, PlainExpr, PlainType, PlainSetElement, PlainSetOf, PlainBase, PlainVar}
+use Rattle.law_reader.proofs.PlainForms.{Ends, Completes, Includes, same, either, one_first, one_completes, integer_first, list_maps, whatever_follows, by_kind}
 
 -- ---- from the plain grammar
 

@@ -1,11 +1,11 @@
 -- How forms of the plain grammar become forms of the one that looks ahead, and the other way round.
-use Rattle.std.proofs.Common.{◌≡◌, ℕ, ℤ, List, [], ◌∷◌, sym, ◌∙◌, ap, subst, ⊎_elim, inl, inr, refl}
+use Rattle.std.proofs.Common.{◌≡◌, ℤ, List, [], ◌∷◌, sym, ◌∙◌, ap, subst, ⊎_elim, inl, inr, refl}
 use Rattle.fzn_token.specs.declared.token.Token.{Token}
 use Rattle.fzn_token.specs.declared.token.TokenKind.{TokenKind}
 use Rattle.fzn_token.specs.declared.token.TokenKind.TheVariants as kind
 use Rattle.fzn_token.specs.declared.token.Mark.{Mark}
 use Rattle.fzn_token.specs.declared.token.Mark.TheVariants as mark
-use Rattle.fzn_item.specs.Productions.{Production, Gives, ◌>>=◌, Or, OneOf, IsMark, IsInteger, IsAny, IsSeparated, last, more, IsListOf, IsAnyList, Fails}
+use Rattle.fzn_item.specs.Productions.{Production, ◌>>=◌, Or, OneOf, IsMark, IsInteger, IsAny, IsSeparated, last, more, IsListOf, IsAnyList, Fails}
 use Rattle.fzn_item.proofs.Combining.{kinds_apart}
 
 -- the tokens begin with none of the marks that a form looks for behind it: `..` and `(`

@@ -1,5 +1,5 @@
 -- Items are the same by both grammars.
-use Rattle.std.proofs.Common.{◌≡◌, ◌↔◌, ℕ, ℤ, Bool, true, false, ◌&&◌, List, [], ◌∷◌, Option, Some, None, sym, ◌∙◌, ap, subst, ⊎_elim, inl, inr, refl}
+use Rattle.std.proofs.Common.{◌≡◌, ℕ, ℤ, Bool, true, false, ◌&&◌, List, [], ◌∷◌, Option, Some, None, sym, ◌∙◌, ap, subst, ⊎_elim, inl, inr, refl}
 use Rattle.std.specs.Prelude.{is_none}
 use Rattle.fzn_token.specs.declared.token.Token.{Token}
 use Rattle.fzn_token.specs.declared.token.TokenKind.{TokenKind}
@@ -13,14 +13,14 @@ use Rattle.fzn_item.specs.declared.item.Goal.{Goal}
 use Rattle.fzn_item.specs.declared.item.Goal.TheVariants as goals
 use Rattle.fzn_item.specs.declared.item.Item.{Item}
 use Rattle.fzn_item.specs.declared.item.Item.TheVariants as item
-use Rattle.fzn_item.specs.Productions.{Production, Gives, OneOf, IsMark, IsAny, IsListOf, Fails}
+use Rattle.fzn_item.specs.Productions.{OneOf, IsMark, Fails}
 use Rattle.fzn_item.specs.Exprs.{IsExpr, IsLastExpr}
 use Rattle.fzn_item.specs.Elements.{variable, parameter, ElementAfter, IsElement}
 use Rattle.fzn_item.specs.Declarations.{RightSide, IsNamed, IsDeclaration, IsArray}
 use Rattle.fzn_item.specs.Items.{IsConstraint, GoalAfter, IsGoal, IsSolve, ItemAfter, IsItem, AreItemsTo}
 use Rattle.fzn_item.proofs.Combining.{kinds_apart}
-use Rattle.law_reader.specs.PlainGrammar.{IsRow, none, more, Optional, PlainExpr, PlainLabel, PlainRight, PlainArrayOf, PlainType, PlainVar, PlainParameter, PlainParameterArray, PlainVariable, PlainVariableArray, PlainConstraint, PlainGoal, PlainSolve, Ended, PlainItem, ItemsAgree, GrammarsAgree}
-use Rattle.law_reader.proofs.PlainForms.{Ends, Includes, one_ends, same, one_first, one_completes, list_maps, whatever_follows, by_kind}
+use Rattle.law_reader.specs.PlainGrammar.{IsRow, none, more, Optional, PlainExpr, PlainLabel, PlainRight, PlainArrayOf, PlainParameter, PlainParameterArray, PlainVariable, PlainVariableArray, PlainConstraint, PlainGoal, PlainSolve, Ended, PlainItem, ItemsAgree, GrammarsAgree}
+use Rattle.law_reader.proofs.PlainForms.{Ends, Includes, one_ends, one_first, list_maps, whatever_follows, by_kind}
 use Rattle.law_reader.proofs.PlainExprs.{expr_completes, expr_included, type_completes, var_completes, element_after, element_included}
 use Rattle.law_reader.proofs.PlainNotes.{annotations_complete, annotations_included}
 

@@ -9,8 +9,9 @@ use Rattle.fzn_item.specs.declared.item.ItemError.{ItemError}
 use Rattle.fzn_item.specs.declared.item.ItemError.TheVariants as syntactic
 use Rattle.fzn_item.specs.Items as parsing
 use Rattle.dcsp_problem.specs.Problems.{Contents}
-use Rattle.fzn_scope.specs.declared.refusal.Refusal.{Refusal}
-use Rattle.fzn_scope.specs.declared.refusal.Refusal.TheVariants as refusal
+use Rattle.fzn_scope.specs.declared.refusal.Refusal.TheVariants as meaning
+use Rattle.fzn_model.specs.declared.refusal.ItemRefusal.{ItemRefusal}
+use Rattle.fzn_model.specs.declared.refusal.ItemRefusal.TheVariants as refusal
 use Rattle.fzn_model.specs.declared.model.ModelError.{ModelError}
 use Rattle.fzn_model.specs.declared.model.ModelError.TheVariants as errors
 use Rattle.fzn_model.specs.Items.{resolved}
@@ -20,14 +21,14 @@ use Rattle.law_reader.proofs.Texts.{texts_have_tokens}
 use Rattle.law_reader.proofs.Items.{tokens_have_items}
 
 -- no refusal of items is want of memory
-no_lack : (e : Refusal) → error_of e ≡ errors.Memory → ⊥
+no_lack : (e : ItemRefusal) → error_of e ≡ errors.Memory → ⊥
 no_lack (refusal.Misplaced at) h = cc
 no_lack (refusal.Duplicate at) h = cc
-no_lack (refusal.Undeclared at) h = cc
+no_lack (refusal.Meaning (meaning.Undeclared at)) h = cc
 no_lack (refusal.Unbounded at) h = cc
 no_lack (refusal.Unsupported at) h = cc
-no_lack (refusal.UnknownConstraint at) h = cc
-no_lack (refusal.IllTyped at) h = cc
+no_lack (refusal.Meaning (meaning.UnknownConstraint at)) h = cc
+no_lack (refusal.Meaning (meaning.IllTyped at)) h = cc
 no_lack (refusal.OutputShape at) h = cc
 no_lack (refusal.WideSum at) h = cc
 no_lack (refusal.Limit which count at) h = cc
@@ -36,7 +37,7 @@ no_lack refusal.NoSolve h = cc
 inner_error : (a b : ModelError) (x : Result Contents ModelError) → x ≡ Err a → x ≡ Err b → a ≡ b
 inner_error a b x h k = let e = sym h ∙ k in cc
 
-settled : (r : Result Contents Refusal) → answer_of r ≡ Err errors.Memory → ⊥
+settled : (r : Result Contents ItemRefusal) → answer_of r ≡ Err errors.Memory → ⊥
 settled (Ok p) h = cc
 settled (Err e) h = no_lack e (inner_error (error_of e) errors.Memory (answer_of (Err e)) refl h)
 

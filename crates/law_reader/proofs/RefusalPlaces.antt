@@ -7,8 +7,9 @@ use Rattle.fzn_item.specs.declared.item.Item.{Item}
 use Rattle.fzn_item.specs.Items.{AreItemsTo}
 use Rattle.dcsp_defs.specs.Words.{In}
 use Rattle.dcsp_problem.specs.Problems.{Contents}
-use Rattle.fzn_scope.specs.declared.refusal.Refusal.{Refusal}
-use Rattle.fzn_scope.specs.declared.refusal.Refusal.TheVariants as refusal
+use Rattle.fzn_scope.specs.declared.refusal.Refusal.TheVariants as meaning
+use Rattle.fzn_model.specs.declared.refusal.ItemRefusal.{ItemRefusal}
+use Rattle.fzn_model.specs.declared.refusal.ItemRefusal.TheVariants as refusal
 use Rattle.fzn_model.specs.declared.model.ModelError.{ModelError}
 use Rattle.fzn_model.specs.declared.model.ModelError.TheVariants as errors
 use Rattle.fzn_model.specs.Items.{resolved}
@@ -37,14 +38,14 @@ items_placed P text ts (i ∷ is) rest h all =
     ((one.0, more.0), more.1)
 
 -- the refusal of items, as that of a text
-same_place : (text : List ℕ) (e : Refusal) → RefusalPlaced (BeginsToken text) e → IsPlaced text (error_of e)
+same_place : (text : List ℕ) (e : ItemRefusal) → RefusalPlaced (BeginsToken text) e → IsPlaced text (error_of e)
 same_place text (refusal.Misplaced at) h = h
 same_place text (refusal.Duplicate at) h = h
-same_place text (refusal.Undeclared at) h = h
+same_place text (refusal.Meaning (meaning.Undeclared at)) h = h
 same_place text (refusal.Unbounded at) h = h
 same_place text (refusal.Unsupported at) h = h
-same_place text (refusal.UnknownConstraint at) h = h
-same_place text (refusal.IllTyped at) h = h
+same_place text (refusal.Meaning (meaning.UnknownConstraint at)) h = h
+same_place text (refusal.Meaning (meaning.IllTyped at)) h = h
 same_place text (refusal.OutputShape at) h = h
 same_place text (refusal.WideSum at) h = h
 same_place text (refusal.Limit which count at) h = h
@@ -57,7 +58,7 @@ inner_error a b x h k = let e = sym h ∙ k in cc
 of_error : (text : List ℕ) (x : Result Contents ModelError) (e f : ModelError) → x ≡ Err e → x ≡ Err f → IsPlaced text f → IsPlaced text e
 of_error text x e f h k p = subst (IsPlaced text) (sym (inner_error e f x h k)) p
 
-of_resolved : (text : List ℕ) (x : Result Contents ModelError) (e : ModelError) (r : Result Contents Refusal) → x ≡ Err e → Refuses (BeginsToken text) r → x ≡ answer_of r → IsPlaced text e
+of_resolved : (text : List ℕ) (x : Result Contents ModelError) (e : ModelError) (r : Result Contents ItemRefusal) → x ≡ Err e → Refuses (BeginsToken text) r → x ≡ answer_of r → IsPlaced text e
 of_resolved text x e (Ok p) is h k = absurd (let clash = sym is ∙ k in cc)
 of_resolved text x e (Err r) is h k = of_error text x e (error_of r) is k (same_place text r h)
 

@@ -278,7 +278,7 @@ fn want_of_memory_is_no_refusal(rt: HostRuntime) {
     assert_eq!(rt; Stop::from((7u32, Memory)), Stop::Memory);
     assert_eq!(rt; Stop::from(AllocFailed { value: 7u32 }), Stop::Memory);
     assert_eq!(rt;
-        Stop::from(Refusal::NoSolve),
-        Stop::Refused(Refusal::NoSolve)
+        Stop::from(Refusal::IllTyped { at: 7 }),
+        Stop::Refused(Refusal::IllTyped { at: 7 })
     );
 }
