@@ -1,8 +1,9 @@
 //! For each rule the values that it rules out; for each value how many rules do, and the first of them.
 
-ghost use Rattle.std.specs.Prelude.{◌≡◌, ◌≢◌, ◌<◌, ◌≤◌, ◌+◌, ◌^◌, ℕ, Bool, All, IfOk, IsTrue, None, length, true, false, slice_index_or, ◌||◌};
+ghost use Rattle.std.specs.Prelude.{◌≡◌, ◌≢◌, ◌<◌, ◌≤◌, ◌+◌, ◌^◌, ℕ, Bool, All, IfOk, IfSome, IsTrue, None, length, true, false, slice_index_or, ◌||◌, ◌==◌};
 ghost use Rattle.dcsp_problem.specs.Problems.{rule_at};
 ghost use Rattle.dcsp_row.specs.Easy.{has_span};
+ghost use Rattle.dcsp_row.specs.Spans.{is_within};
 ghost use Rattle.dcsp_row.specs.Marks.{has_room_for, is_marked, is_row, FitsSize};
 ghost use Rattle.abt_reason.specs.Firsts.{IsFirst};
 ghost use Rattle.abt_reason.specs.Grids.{marks_at, is_marked_at, mixed_rows, rows_of, AreMarksBehind, AreSized, HaveRoom, IsGrid, LosesPlace, NoneIfUncounted, NoneUpTo};
@@ -75,6 +76,49 @@ impl RuledOut {
         ensures row { is_row (marks_at self.new.rows.items place) ≡ is_row (marks_at self.old.rows.items place) }
         ensures others { (other : ℕ) → other ≢ place → marks_at self.new.rows.items other ≡ marks_at self.old.rows.items other }
     {
+        match two_changes(&self.rows[place], new, values) {
+            Some(changes) => self.replace_two(place, values, new, changes),
+            None => self.replace_each(place, values, new),
+        }
+    }
+
+    /// The same, where the marks differ at two values alone. Most rules rule out one value, and then
+    /// another.
+    fn replace_two(&mut self, place: usize, values: usize, new: &Marks, changes: (usize, usize))
+        requires place { place < length self.old.rows.items }
+        requires grid { IsGrid (rows_of values self.old.rows.items) values self.old.counts.items self.old.firsts.items }
+        requires sized { AreSized values self.old.rows.items }
+        requires size { FitsSize values new.now }
+        requires room { IsTrue (has_room_for (marks_at self.old.rows.items place) new.now) }
+        requires order { changes.0 < changes.1 }
+        requires within { changes.1 < values }
+        requires same { (k : ℕ) → k ≢ changes.0 → k ≢ changes.1 → is_marked new.now k ≡ is_marked_at self.old.rows.items place k }
+        ensures grid { IsGrid (rows_of values self.new.rows.items) values self.new.counts.items self.new.firsts.items }
+        ensures sized { AreSized values self.new.rows.items }
+        ensures rules { length self.new.rows.items ≡ length self.old.rows.items }
+        ensures replaced { (value : ℕ) → value < values → is_marked_at self.new.rows.items place value ≡ is_marked new.now value }
+        ensures row { is_row (marks_at self.new.rows.items place) ≡ is_row (marks_at self.old.rows.items place) }
+        ensures others { (other : ℕ) → other ≢ place → marks_at self.new.rows.items other ≡ marks_at self.old.rows.items other }
+    {
+        self.count(place, values, changes.0, new);
+        self.count(place, values, changes.1, new);
+        self.rows[place].copy_from(values, new);
+    }
+
+    /// The same, whatever the marks are.
+    fn replace_each(&mut self, place: usize, values: usize, new: &Marks)
+        requires place { place < length self.old.rows.items }
+        requires grid { IsGrid (rows_of values self.old.rows.items) values self.old.counts.items self.old.firsts.items }
+        requires sized { AreSized values self.old.rows.items }
+        requires size { FitsSize values new.now }
+        requires room { IsTrue (has_room_for (marks_at self.old.rows.items place) new.now) }
+        ensures grid { IsGrid (rows_of values self.new.rows.items) values self.new.counts.items self.new.firsts.items }
+        ensures sized { AreSized values self.new.rows.items }
+        ensures rules { length self.new.rows.items ≡ length self.old.rows.items }
+        ensures replaced { (value : ℕ) → value < values → is_marked_at self.new.rows.items place value ≡ is_marked new.now value }
+        ensures row { is_row (marks_at self.new.rows.items place) ≡ is_row (marks_at self.old.rows.items place) }
+        ensures others { (other : ℕ) → other ≢ place → marks_at self.new.rows.items other ≡ marks_at self.old.rows.items other }
+    {
         let mut from = 0;
         while let Some(value) = new.next_change(&self.rows[place], values, from) {
             self.count(place, values, value, new);
@@ -113,6 +157,43 @@ impl RuledOut {
             self.firsts[value] = first_without(&self.rows, cell, count, first);
         }
     }
+}
+
+/// The two values, in order, at which marks of one value each differ.
+fn two_changes(old: &Marks, new: &Marks, values: usize) -> Option<(usize, usize)>
+    ensures order { IfSome result (λ changes. changes.0 < changes.1) }
+    ensures within { IfSome result (λ changes. changes.1 < values) }
+    ensures same { IfSome result (λ changes. (k : ℕ) → k ≢ changes.0 → k ≢ changes.1 → is_marked new.now k ≡ is_marked old.now k) }
+{
+    let before = only_value(old)?;
+    let after = only_value(new)?;
+    if before < after && after < values {
+        return Some((before, after));
+    }
+    if after < before && before < values {
+        return Some((after, before));
+    }
+    None
+}
+
+/// The value that alone is marked, where the marks are a span of one.
+fn only_value(marks: &Marks) -> Option<usize>
+    ensures { IfSome result (λ value. (k : ℕ) → is_marked marks.now k ≡ (k == value)) }
+{
+    match marks {
+        Marks::Span(span) => only_place(*span),
+        Marks::Row(_) => None,
+    }
+}
+
+/// The place that the span has, if it has one alone.
+fn only_place(span: Span) -> Option<usize>
+    ensures { IfSome result (λ place. (k : ℕ) → is_within span k ≡ (k == place)) }
+{
+    if span.outside || span.from >= span.to || span.to - span.from > 1 {
+        return None;
+    }
+    Some(span.from)
 }
 
 /// The first place, where this one is added.

@@ -102,7 +102,7 @@ impl<'p> Reasons<'p> {
     /// ruled out.
     pub fn first(&self, place: usize) -> Option<Reason>
         requires { place < size_of self.now.problem self.now.agent }
-        ensures { (known : ViewValues) (items : List TheRecorded) → StandsFor self.now known items → result ≡ reason_for self.now.problem self.now.agent known items (value_at self.now.problem self.now.agent place) }
+        ensures { (known : PartialAssignment) (items : List TheRecorded) → StandsFor self.now known items → result ≡ reason_for self.now.problem self.now.agent known items (value_at self.now.problem self.now.agent place) }
     {
         match self.rules.ruled_out.firsts[place] {
             Some(at) => Some(Reason::Rule(self.problem.owned(self.agent)[at as usize])),

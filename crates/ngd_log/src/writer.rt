@@ -74,6 +74,7 @@ fn push_byte(line: &mut Vec<u8>, byte: u8) -> Result<(), AllocError>
 }
 
 /// Appends a number below 100 in two digits, for which there is room.
+#[inline]
 fn put_two_digits(line: &mut Vec<u8>, number: u64)
     requires number { number < 100 }
     requires room { vec_len line.old + 2 ≤ vec_capacity line.old }
@@ -86,6 +87,7 @@ fn put_two_digits(line: &mut Vec<u8>, number: u64)
 }
 
 /// Appends a number below 100 in decimal digits, for which there is room.
+#[inline]
 #[tactic(auto, using(std::proofs::lemmas::Fmt::decimal_digit, crate::proofs::Decimals::decimal_of_two))]
 fn put_small(line: &mut Vec<u8>, number: u64)
     requires number { number < 100 }
@@ -102,6 +104,7 @@ fn put_small(line: &mut Vec<u8>, number: u64)
 }
 
 /// Appends a number below 10,000 in decimal digits, for which there is room.
+#[inline]
 #[tactic(auto, using(crate::proofs::Decimals::appended_by_twos))]
 fn put_short(line: &mut Vec<u8>, number: u64)
     requires number { number < 10_000 }
@@ -118,34 +121,56 @@ fn put_short(line: &mut Vec<u8>, number: u64)
     }
 }
 
-/// Appends a number in decimal digits.
-#[tactic(auto, using(crate::proofs::Decimals::appended_by_twos))]
-pub(crate) fn push_number(line: &mut Vec<u8>, number: u64) -> Result<(), AllocError>
-    ensures { OnOk result (line.new.items ≡ line.old.items ++ decimal number) }
+/// Appends a number in decimal digits, and makes room for `rest` bytes more.
+fn push_long(line: &mut Vec<u8>, number: u64, rest: usize) -> Result<(), AllocError>
+    ensures text { OnOk result (line.new.items ≡ line.old.items ++ decimal number) }
+    ensures room { OnOk result (vec_len line.new + rest ≤ vec_capacity line.new) }
 {
-    // Most numbers of a line have few digits, and room for these is made at once.
-    if number >= 1_000_000 {
-        return line.extend_from_slice(Buffer::new().format(number).as_bytes());
-    }
-    line.reserve(6)?;
+    line.extend_from_slice(Buffer::new().format(number).as_bytes())?;
+    line.reserve(rest)
+}
+
+/// Appends a number in decimal digits. There is room for the six of most numbers and for `rest` bytes
+/// more, and room for these stays.
+#[inline]
+#[tactic(auto, using(crate::proofs::Decimals::appended_by_twos))]
+fn push_digits(line: &mut Vec<u8>, number: u64, rest: usize) -> Result<(), AllocError>
+    requires room { vec_len line.old + 6 + rest ≤ vec_capacity line.old }
+    ensures text { OnOk result (line.new.items ≡ line.old.items ++ decimal number) }
+    ensures room { OnOk result (vec_len line.new + rest ≤ vec_capacity line.new) }
+{
     if number < 10_000 {
         put_short(line, number);
-    } else {
-        put_short(line, number / 100);
-        put_two_digits(line, number % 100);
+        return Ok(());
     }
+    if number >= 1_000_000 {
+        return push_long(line, number, rest);
+    }
+    put_short(line, number / 100);
+    put_two_digits(line, number % 100);
     Ok(())
 }
 
-/// Appends a value in decimal digits, after `-` where it is negative.
+/// Appends a number in decimal digits.
+pub(crate) fn push_number(line: &mut Vec<u8>, number: u64) -> Result<(), AllocError>
+    ensures { OnOk result (line.new.items ≡ line.old.items ++ decimal number) }
+{
+    line.reserve(6)?;
+    push_digits(line, number, 0)
+}
+
+/// Appends a value in decimal digits, after `-` where it is negative. There is room for the sign and six
+/// digits.
+#[inline]
 fn push_value(line: &mut Vec<u8>, value: i64) -> Result<(), AllocError>
+    requires { vec_len line.old + 7 ≤ vec_capacity line.old }
     ensures value { OnOk result (FitsSigned w64 value) }
     ensures text { OnOk result (line.new.items ≡ line.old.items ++ signed_decimal value) }
 {
     if value < 0 {
-        push_byte(line, b'-')?;
+        line.push_reserved(b'-');
     }
-    push_number(line, value.unsigned_abs())
+    push_digits(line, value.unsigned_abs(), 0)
 }
 
 fn push_variable(line: &mut Vec<u8>, variable: Option<u32>) -> Result<(), AllocError>
@@ -160,13 +185,16 @@ fn push_variable(line: &mut Vec<u8>, variable: Option<u32>) -> Result<(), AllocE
     }
 }
 
-fn push_pair(line: &mut Vec<u8>, pair: &Pair) -> Result<(), AllocError>
+/// Appends a byte and a pair after it. Room for most pairs is made at once.
+fn push_pair(line: &mut Vec<u8>, before: u8, pair: &Pair) -> Result<(), AllocError>
     ensures value { OnOk result (FitsSigned w64 pair.now.value) }
-    ensures text { OnOk result (line.new.items ≡ line.old.items ++ pair_text pair.now) }
+    ensures text { OnOk result (line.new.items ≡ line.old.items ++ (before ∷ [] ++ pair_text pair.now)) }
 {
-    push_byte(line, b'v')?;
-    push_number(line, u64::from(pair.var) + 1)?;
-    push_byte(line, b'=')?;
+    line.reserve(16)?;
+    line.push_reserved(before);
+    line.push_reserved(b'v');
+    push_digits(line, u64::from(pair.var) + 1, 8)?;
+    line.push_reserved(b'=');
     push_value(line, pair.value)
 }
 
@@ -177,26 +205,27 @@ fn push_pairs(line: &mut Vec<u8>, pairs: &[Pair]) -> Result<(), AllocError>
     let [first, others @ ..] = pairs else {
         return line.extend_from_slice(b"[]");
     };
-    push_byte(line, b'[')?;
-    push_pair(line, first)?;
+    push_pair(line, b'[', first)?;
     for pair in others {
-        push_byte(line, b',')?;
-        push_pair(line, pair)?;
+        push_pair(line, b',', pair)?;
     }
     push_byte(line, b']')
 }
 
+/// Appends a space and a reason after it. Room for most reasons is made at once.
 fn push_reason(line: &mut Vec<u8>, reason: Reason) -> Result<(), AllocError>
-    ensures { OnOk result (line.new.items ≡ line.old.items ++ reason_text reason) }
+    ensures { OnOk result (line.new.items ≡ line.old.items ++ (codes " " ++ reason_text reason)) }
 {
+    line.reserve(8)?;
+    line.push_reserved(b' ');
     match reason {
         Reason::Rule(rule) => {
-            push_byte(line, b'c')?;
-            push_number(line, u64::from(rule) + 1)
+            line.push_reserved(b'c');
+            push_digits(line, u64::from(rule) + 1, 0)
         }
         Reason::Earlier(step) => {
-            push_byte(line, b'n')?;
-            push_number(line, step)
+            line.push_reserved(b'n');
+            push_digits(line, step, 0)
         }
     }
 }
@@ -205,7 +234,6 @@ fn push_reasons(line: &mut Vec<u8>, reasons: &[Reason]) -> Result<(), AllocError
     ensures { OnOk result (line.new.items ≡ line.old.items ++ reasons_text reasons.now) }
 {
     for reason in reasons {
-        push_byte(line, b' ')?;
         push_reason(line, *reason)?;
     }
     Ok(())
