@@ -1,12 +1,9 @@
 -- What an expression means, as a check of its item.
-use Rattle.std.proofs.Common.{◌≡◌, Result, Ok, Err, refl, ap}
-use Rattle.fzn_scope.specs.Checks as lower
+use Rattle.std.proofs.Common.{◌≡◌, Result, Ok, Err, refl}
 use Rattle.fzn_scope.specs.declared.refusal.Refusal.{Refusal}
-use Rattle.fzn_scope.specs.declared.refusal.Stop as lower_stop
-use Rattle.fzn_scope.specs.declared.refusal.Stop.TheVariants as lower_stops
 use Rattle.fzn_model.specs.declared.refusal.ItemRefusal.{ItemRefusal}
 use Rattle.fzn_model.specs.declared.refusal.ItemRefusal.TheVariants as refusal
-use Rattle.fzn_model.specs.Checks.{as_check, as_stop, Stops}
+use Rattle.fzn_model.specs.Checks.{as_check}
 
 -- the check gives what is meant
 pub meant : {A : Type 0} (x : Result A Refusal) (a : A) → as_check x ≡ Ok a → x ≡ Ok a
@@ -17,8 +14,3 @@ meant (Err q) a e = absurd cc
 pub meaningless : {A : Type 0} (x : Result A Refusal) (r : ItemRefusal) → as_check x ≡ Err r → (e : Refusal) × (x ≡ Err e) × (r ≡ refusal.Meaning e)
 meaningless (Ok b) r e = absurd cc
 meaningless (Err q) r e = (q, refl, cc)
-
--- a call for a meaning stops as the check of its item does
-pub stops_as : {A : Type 0} (e : lower_stop.Stop) (meaning : Result A Refusal) → lower.Stops e meaning → Stops (as_stop e) (as_check meaning)
-stops_as (lower_stops.Refused r) meaning h = ap as_check h
-stops_as lower_stops.Memory meaning h = tt
