@@ -15,7 +15,9 @@ pub fn trimmed(alloc: Global, steps: &[Step], needed: &[bool]) -> Result<Derivat
     ensures { IfOk result (λ trimmed. trimmed ≡ map (renumbered (count_to (is_marked needed.now))) (chosen (is_marked needed.now) 1 steps.now)) }
 {
     let mut trimmed = Derivation::new(alloc);
-    let mut numbers = Vec::new(alloc);
+    let Ok(mut numbers) = Vec::with_capacity(alloc, steps.len()) else {
+        return Err(Memory);
+    };
     for (place, step) in steps.iter().enumerate() {
         if needed[place] {
             push_renumbered(alloc, &mut trimmed, step, &numbers)?;
@@ -62,20 +64,17 @@ fn renumbered_reasons(
 ) -> Result<ReasonList, Memory>
     ensures { IfOk result (λ new. new ≡ map (renumbered_reason (number_in numbers.now)) reasons.now) }
 {
-    let Ok(room) = Vec::with_capacity(alloc, reasons.len()) else {
+    let Ok(mut new) = Vec::with_capacity(alloc, reasons.len()) else {
         return Err(Memory);
     };
-    let mut new = ReasonList::from_vec(room);
     for reason in reasons {
-        let reason = match *reason {
+        // There is room for as many as there were.
+        new.push_reserved(match *reason {
             Reason::Rule(rule) => Reason::Rule(rule),
             Reason::Earlier(number) => Reason::Earlier(number_in(numbers, number)),
-        };
-        let Ok(()) = new.push(reason) else {
-            return Err(Memory);
-        };
+        });
     }
-    Ok(new)
+    Ok(ReasonList::from_vec(new))
 }
 
 /// The new number of the step with this number, 0 where it has none.
