@@ -15,7 +15,8 @@ use abt_message::{Message, Outbox, Sent};
 use dcsp_list::Memory;
 use dcsp_nogood::Pair;
 
-/// Sends the message if it is wanted.
+/// Sends the message if it is wanted. Few are.
+#[inline]
 pub fn push_if(out: &mut Outbox, wanted: bool, to: u32, message: Message) -> Result<(), Memory>
     requires { wanted ≡ true → IsStamped message }
     ensures { OnOk result (Posts out.old out.new (if wanted then (to, message_of message) ∷ [] else [])) }

@@ -45,7 +45,8 @@ impl<'p> Body<'p> {
         ensures owner { owner_of self.new.known ≡ owner_of self.old.known }
         ensures sized { IsSized self.new }
     {
-        if var < self.known.me {
+        // Most of what a nogood tells is known.
+        if self.is_news_of(var, told.stamp) {
             self.learn(var, told);
         }
     }

@@ -7,7 +7,7 @@ pub loop-var-preserved : goal.loop-var-preserved
 loop-var-preserved c =
     let more = mapped_more (told_of (view_of c.args.self.now.view)) c.args.agents.now c.loop-var.var-index 0 c.loop-var-test.true in
     record {
-      told = cc (c.in_ok-add_told.ensures.told, c.loop-var.invariant.told, c.told.ensures.told, more);
+      told = cc (c.in_ok-add_told.ensures.told, c.loop-var.invariant.told, c.stamped_value.ensures.told, more);
       size = c.in_ok-add_told.ensures.size;
       positive = c.in_ok-add_told.ensures.positive;
     }
