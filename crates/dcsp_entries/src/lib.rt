@@ -1,7 +1,7 @@
 //! Items by number: entries in a list, whose numbers rise.
 #![tactic(auto)]
 
-ghost use Rattle.std.specs.Prelude.{◌≡◌, ◌<◌, ◌≤◌, ◌+◌, ℕ, length, IfErr, IfOk, OnErr, OnOk, Some, insert, vec_capacity, if◌then◌else◌, ◌==◌};
+ghost use Rattle.std.specs.Prelude.{◌≡◌, ◌<◌, ◌≤◌, ◌+◌, ℕ, length, IfErr, IfOk, IsTrue, OnErr, OnOk, Some, insert, vec_capacity, if◌then◌else◌, ◌==◌};
 ghost use Rattle.dcsp_entries.specs.Entries.{item_for, number_at, AreBelow, AreRising, BelongsAt, HasRoomFor};
 
 use dcsp_list::Memory;
@@ -15,19 +15,31 @@ pub struct Entry<T> {
 
 /// The place of a number's entry, or else where it belongs.
 ///
-/// An entry that stands at the place that is its number is found at once.
+/// Where each lower number has an entry, or all but one have, the place is the number or the one before, and
+/// is found at once.
 pub fn place_of<T>(entries: &[Entry<T>], number: u32) -> Result<usize, usize>
     requires { AreRising entries.now }
     ensures found { IfOk result (λ place. (place < length entries.now) × (number_at entries.now place ≡ number)) }
     ensures absent { IfErr result (BelongsAt entries.now number) }
 {
     let own = number as usize;
-    if let Some(entry) = entries.get(own) {
-        if entry.number == number {
-            return Ok(own);
-        }
+    if stands_at(entries, own, number) {
+        return Ok(own);
+    }
+    if own > 0 && stands_at(entries, own - 1, number) {
+        return Ok(own - 1);
     }
     entries.binary_search_by_key(&number, |entry| entry.number)
+}
+
+/// Whether the entry at a place is the number's.
+fn stands_at<T>(entries: &[Entry<T>], place: usize, number: u32) -> bool
+    ensures { IsTrue result → (place < length entries.now) × (number_at entries.now place ≡ number) }
+{
+    match entries.get(place) {
+        Some(entry) => entry.number == number,
+        None => false,
+    }
 }
 
 /// The item of a number, if it has an entry.
