@@ -14,7 +14,7 @@ pub fn trimmed(alloc: Global, steps: &[Step], needed: &[bool]) -> Result<Derivat
     requires back { CiteBack steps.now }
     ensures { IfOk result (λ trimmed. trimmed ≡ map (renumbered (count_to (is_marked needed.now))) (chosen (is_marked needed.now) 1 steps.now)) }
 {
-    let mut trimmed = Derivation::new(alloc);
+    let mut trimmed = Vec::new(alloc);
     let Ok(mut numbers) = Vec::with_capacity(alloc, steps.len()) else {
         return Err(Memory);
     };
@@ -22,9 +22,9 @@ pub fn trimmed(alloc: Global, steps: &[Step], needed: &[bool]) -> Result<Derivat
         if needed[place] {
             push_renumbered(alloc, &mut trimmed, step, &numbers)?;
         }
-        push_number(&mut numbers, trimmed.len())?;
+        push_number(&mut numbers, trimmed.len() as u64)?;
     }
-    Ok(trimmed)
+    Ok(Derivation::from_vec(trimmed))
 }
 
 fn push_number(numbers: &mut Vec<u64>, number: u64) -> Result<(), Memory>
@@ -39,21 +39,22 @@ fn push_number(numbers: &mut Vec<u64>, number: u64) -> Result<(), Memory>
 /// Adds a step with the new numbers of the steps before it.
 fn push_renumbered(
     alloc: Global,
-    trimmed: &mut Derivation,
+    trimmed: &mut Vec<Step>,
     step: &Step,
     numbers: &[u64],
 ) -> Result<(), Memory>
-    ensures { OnOk result (trimmed.new ≡ trimmed.old ++ renumbered (number_in numbers.now) step.now ∷ []) }
+    ensures { OnOk result (trimmed.new.items ≡ trimmed.old.items ++ renumbered (number_in numbers.now) step.now ∷ []) }
 {
     let nogood = step.nogood.copy(alloc)?;
     let reasons = renumbered_reasons(alloc, step.reasons.items(), numbers)?;
-    let Ok(()) = trimmed.push(Step {
+    let Ok(()) = trimmed.reserve(1) else {
+        return Err(Memory);
+    };
+    trimmed.push_reserved(Step {
         variable: step.variable,
         nogood,
         reasons,
-    }) else {
-        return Err(Memory);
-    };
+    });
     Ok(())
 }
 

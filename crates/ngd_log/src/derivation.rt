@@ -32,6 +32,15 @@ impl Derivation {
         }
     }
 
+    /// The derivation of these steps, whose list it takes over; so it lacks no memory.
+    pub fn from_vec(steps: Vec<Step>) -> Derivation
+        ensures { result ≡ steps.items }
+    {
+        Derivation {
+            steps: ItemList::from_vec(steps),
+        }
+    }
+
     /// Adds a step at the end. A refusal hands it back.
     pub fn push(&mut self, step: Step) -> Result<(), (Step, Memory)>
         ensures ok { OnOk result (self.new ≡ self.old ++ step ∷ []) }

@@ -6,7 +6,7 @@ use Rattle.ngd_core.proofs.trim.trimmed.Given as goal
 -- the needed ones of the steps so far, and the new number of each step so far
 abbrev pub invariant-loop-place : goal.invariant-loop-place
 invariant-loop-place l = record {
-  trimmed : l.trimmed ≡ map (renumbered (count_to (is_marked l.needed))) (chosen (is_marked l.needed) 1 (take l.place l.steps));
+  trimmed : l.trimmed.items ≡ map (renumbered (count_to (is_marked l.needed))) (chosen (is_marked l.needed) 1 (take l.place l.steps));
   as_many : length l.numbers.items ≡ l.place;
   numbers : (number : ℕ) → number ≤ l.place → number_in l.numbers.items number ≡ count_to (is_marked l.needed) number;
 }
