@@ -1,16 +1,17 @@
 -- Steps that are written line by line with their deletions.
-use Rattle.std.proofs.Common.{◌≡◌, ℕ, ◌+◌, ◌<◌, List, [], ◌∷◌, ◌++◌, length, get_or, drop, refl, sym, ap, ◌∙◌, arith}
-use Rattle.std.proofs.lemmas.List.{length-append, map-append}
+use Rattle.std.proofs.Common.{◌≡◌, ℕ, zero, suc, ◌+◌, ◌<◌, List, [], ◌∷◌, ◌++◌, length, get_or, drop, refl, sym, ap, ◌∙◌, arith, drop-cons, add-one}
+use Rattle.std.proofs.lemmas.List.{map-append, drop_all}
 use Rattle.dcsp_defs.specs.declared.Step.{Step}
 use Rattle.dcsp_script.specs.Scripts.{Write, Append}
 use Rattle.ngd_log.specs.declared.entry.Entry.{Entry}
-use Rattle.ngd_log.specs.StepText.{step_line, IsStepNumber, IsInRange}
-use Rattle.ngd_log.specs.Logs.{AreWritable}
+use Rattle.ngd_log.specs.StepText.{step_line}
+use Rattle.ngd_log.specs.Logs.{lines, step_lines}
 use Rattle.ngd_log.specs.EntryTexts.{deletion_line, entry_lines}
-use Rattle.ngd_upgrade.specs.Upgrade.{ending, as_deletion, upgraded_from}
-use Rattle.ngd_upgrade.proofs.Tables.{left_next, item_of_front}
+use Rattle.ngd_upgrade.specs.Upgrade.{ending, as_deletion, upgraded_from, deleted_count}
+use Rattle.ngd_upgrade.proofs.Tables.{left_next}
 use Rattle.abt_logs.specs.UpgradePromise.{appends}
-use Rattle.abt_logs.proofs.Lines.{step_writable, step_numbered}
+use Rattle.ngd_log.proofs.LogLines.{tail}
+use Rattle.abt_logs.proofs.Lines.{lines_left}
 
 -- the line of a deletion comes before those after it
 deletion_lines : (number : ℕ) (numbers : List ℕ) (rest : List Entry) → entry_lines number (as_deletion numbers ++ rest) ≡ entry_lines 1 (as_deletion numbers) ++ entry_lines number rest
@@ -31,32 +32,31 @@ entry_left name steps i step lt is =
 pub deletion_as : (name : List ℕ) (numbers others : List ℕ) (rest : List Write) → numbers ≡ others → appends name (entry_lines 1 (as_deletion numbers)) ++ rest ≡ appends name (entry_lines 1 (as_deletion others)) ++ rest
 deletion_as name numbers others rest e = ap (λ (ns : List ℕ). appends name (entry_lines 1 (as_deletion ns)) ++ rest) e
 
-module _ (steps front : List Step) (last : Step) (are : steps ≡ front ++ last ∷ []) where
-  drop_front : (xs : List Step) → drop (length xs) (xs ++ last ∷ []) ≡ last ∷ []
-  drop_front [] = refl
-  drop_front (x ∷ xs) = drop_front xs
+-- the step at a place
+pub step_of : (steps : List Step) (i : ℕ) → i < length steps → (step : Step) × (step ≡ get_or steps i step)
+step_of [] i lt = absurd (omega (arith, lt))
+step_of (s ∷ steps) zero lt = (s, refl)
+step_of (s ∷ steps) (suc i) lt = step_of steps i (omega (arith, lt))
 
-  -- a step of the front is one of the steps, and not the last
-  pub front_is : (i : ℕ) (step : Step) → i < length front → step ≡ get_or front i step → step ≡ get_or steps i step
-  front_is i step lt is = is ∙ sym (item_of_front steps front last i step are lt)
+-- what is left of a log's text begins with the line of the step at hand
+pub text_left : (steps : List Step) (i : ℕ) (step : Step) (text : List ℕ) → i < length steps → step ≡ get_or steps i step → lines text ≡ step_lines (i + 1) (drop i steps) ++ tail ∷ []
+    → lines text ≡ step_line (i + 1) step ∷ (step_lines (i + 1 + 1) (drop (i + 1) steps) ++ tail ∷ [])
+text_left steps i step text lt is h = h ∙ ap (λ (ls : List (List ℕ)). ls ++ tail ∷ []) (lines_left steps i step lt is)
 
-  pub front_before : (i : ℕ) → i < length front → i + 1 < length steps
-  front_before i lt = let e = ap length are ∙ length-append front (last ∷ []) in omega (arith, e, lt)
+-- the last step stands alone
+last_alone : (steps : List Step) (i : ℕ) (step : Step) → i + 1 ≡ length steps → step ≡ get_or steps i step → drop i steps ≡ step ∷ []
+last_alone steps i step at is =
+    drop-cons steps i step (omega (arith, at)) ∙ ap (λ n. get_or steps i step ∷ drop n steps) (sym (add-one i))
+    ∙ ap (λ (ss : List Step). get_or steps i step ∷ ss) (drop_all (i + 1) steps (omega (arith, at))) ∙ ap (λ (s : Step). s ∷ []) (sym is)
 
-  -- at the end the line of the last step is left
-  pub last_left : (name : List ℕ) (i : ℕ) → i ≡ length front → appends name (entry_lines (i + 1) (upgraded_from steps (i + 1) (drop i steps))) ≡ Append name (step_line (length steps) last) ∷ []
-  last_left name i at =
-      let e = ap length are ∙ length-append front (last ∷ []) in
-      let k : i + 1 ≡ length steps = omega (arith, e, at) in
-      let others : drop i steps ≡ last ∷ [] = ap (λ (n : ℕ). drop n steps) at ∙ ap (drop (length front)) are ∙ drop_front front in
-      ap (λ (o : List Step). appends name (entry_lines (i + 1) (upgraded_from steps (i + 1) o))) others ∙ ap (λ (n : ℕ). Append name (step_line n last) ∷ []) k
+-- at the end the line of the last step is left
+pub last_left : (name : List ℕ) (steps : List Step) (i : ℕ) (step : Step) → i + 1 ≡ length steps → step ≡ get_or steps i step
+    → appends name (entry_lines (i + 1) (upgraded_from steps (i + 1) (drop i steps))) ≡ Append name (step_line (i + 1) step) ∷ []
+last_left name steps i step at is = ap (λ (o : List Step). appends name (entry_lines (i + 1) (upgraded_from steps (i + 1) o))) (last_alone steps i step at is)
 
-  -- each step can be written
-  pub front_writable : (i : ℕ) (step : Step) → i < length front → step ≡ get_or front i step → AreWritable steps → IsInRange step
-  front_writable i step lt is w = let b = front_before i lt in step_writable steps i step (omega (arith, b)) (front_is i step lt is) w
-
-  pub front_numbered : (i : ℕ) → i < length front → AreWritable steps → IsStepNumber (i + 1)
-  front_numbered i lt w = let b = front_before i lt in step_numbered steps i (omega (arith, b)) w
+-- and no deletion
+pub last_deletes : (steps : List Step) (i : ℕ) (step : Step) → i + 1 ≡ length steps → step ≡ get_or steps i step → deleted_count (upgraded_from steps (i + 1) (drop i steps)) ≡ 0
+last_deletes steps i step at is = ap (λ (o : List Step). deleted_count (upgraded_from steps (i + 1) o)) (last_alone steps i step at is)
 
 -- some steps are deleted
 pub one_deletion : (name numbers : List ℕ) → (length numbers ≡ 0 → ⊥) → Append name (deletion_line numbers) ∷ [] ≡ appends name (entry_lines 1 (as_deletion numbers))

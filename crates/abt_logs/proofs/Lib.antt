@@ -12,3 +12,4 @@ pub mod CoreComing
 pub mod CoreFiles
 pub mod CoreFound
 pub mod Deleting
+pub mod FirstLine

@@ -16,11 +16,15 @@ use Rattle.abt_logs.specs.UpgradePromise.{appends, file_script}
 use Rattle.abt_logs.specs.CorePromise.{core_text, core_script}
 use Rattle.abt_logs.proofs.Writing.{wrote_as}
 
+-- the lines from a step on begin with its own
+pub lines_left : (steps : List Step) (i : ℕ) (step : Step) → i < length steps → step ≡ get_or steps i step → step_lines (i + 1) (drop i steps) ≡ step_line (i + 1) step ∷ step_lines (i + 1 + 1) (drop (i + 1) steps)
+lines_left steps i step below is =
+    ap (λ (l : List Step). step_lines (i + 1) l) (drop-cons steps i step below ∙ ap (λ n. get_or steps i step ∷ drop n steps) (sym (add-one i)))
+    ∙ ap (λ (s : Step). step_line (i + 1) s ∷ step_lines (i + 1 + 1) (drop (i + 1) steps)) (sym is)
+
 -- the lines that are left begin with that of the step at hand
 pub steps_left : (name : List ℕ) (steps : List Step) (i : ℕ) (step : Step) → i < length steps → step ≡ get_or steps i step → appends name (step_lines (i + 1) (drop i steps)) ≡ Append name (step_line (i + 1) step) ∷ appends name (step_lines (i + 1 + 1) (drop (i + 1) steps))
-steps_left name steps i step below is =
-    ap (λ (l : List Step). appends name (step_lines (i + 1) l)) (drop-cons steps i step below ∙ ap (λ n. get_or steps i step ∷ drop n steps) (sym (add-one i)))
-    ∙ ap (λ (s : Step). Append name (step_line (i + 1) s) ∷ appends name (step_lines (i + 1 + 1) (drop (i + 1) steps))) (sym is)
+steps_left name steps i step below is = ap (appends name) (lines_left steps i step below is)
 
 -- no line is left
 pub steps_done : (name : List ℕ) (steps : List Step) (i : ℕ) → length steps ≤ i → appends name (step_lines (i + 1) (drop i steps)) ≡ []

@@ -3,40 +3,48 @@
 ghost use Rattle.std.specs.Prelude.{◌≡◌, ◌+◌, ◌<◌, ◌∷◌, [], ◌++◌, List, ℕ, length, slice_index_or, IfOk, OnOk, Contains};
 ghost use Rattle.std.specs.List.{AllByRecursion};
 ghost use Rattle.dcsp_outside.specs.Outside.{Place, Stream};
-ghost use Rattle.dcsp_script.specs.Scripts.{outside};
+ghost use Rattle.dcsp_script.specs.Scripts.{Append, outside};
 ghost use Rattle.dcsp_script.specs.Ways.{Wrote};
 ghost use Rattle.ngd_log.specs.declared.standing.Version.{Version};
-ghost use Rattle.ngd_log.specs.Logs.{AreWritable};
+ghost use Rattle.ngd_log.specs.Logs.{lines, IsLogOf};
 ghost use Rattle.ngd_log.specs.EntryTexts.{entry_lines, text_lines, IsWritableEntry};
 ghost use Rattle.ngd_upgrade.specs.Upgrade.{as_deletion, upgraded, deleted_count};
 ghost use Rattle.ngd_upgrade.specs.Endings.{Follows, AreEndings};
 ghost use Rattle.abt_logs.specs.UpgradePromise.{appends, file_script};
 
-use crate::steps::append_step;
 use dcsp_outside::Folder;
 use dcsp_script::{Stop, append, create};
-use ngd_log::{HEAD2, Step, TAIL, write_deletion};
+use ngd_log::{Derivation, HEAD2, TAIL, write_deletion};
 use ngd_upgrade::Endings;
 use std::alloc::{AllocError, Global};
 
-/// Writes the steps with their deletions as a log of version 2: the name is created, and each line is appended by
-/// itself. It answers how many steps are deleted.
+/// A log of version 1.
+#[derive(Drop)]
+pub struct OldLog {
+    /// Its bytes.
+    pub text: Vec<u8>,
+    /// Its steps.
+    pub steps: Derivation,
+}
+
+/// Writes the log's steps with their deletions as a log of version 2: the name is created, and each line is appended
+/// by itself. The line of a step is the same in both versions. It answers how many steps are deleted.
 pub fn write_upgraded<F: Folder>(
     alloc: Global,
     folder: &mut F,
     name: &str,
-    steps: &[Step],
+    log: &OldLog,
     endings: &Endings,
 ) -> Result<u64, Stop>
-    requires writable { AreWritable steps.now }
-    requires endings { AreEndings steps.now endings.now }
-    ensures wrote { (out : Stream) → Wrote (file_script name.now (text_lines Version.Two (upgraded steps.now)))
+    requires text { IsLogOf log.now.text.items log.now.steps }
+    requires endings { AreEndings log.now.steps endings.now }
+    ensures wrote { (out : Stream) → Wrote (file_script name.now (text_lines Version.Two (upgraded log.now.steps)))
         (outside (F.place folder.old) out) (outside (F.place folder.new) out) result }
-    ensures deleted { IfOk result (λ deleted. deleted ≡ deleted_count (upgraded steps.now)) }
+    ensures deleted { IfOk result (λ deleted. deleted ≡ deleted_count (upgraded log.now.steps)) }
 {
     create(folder, name)?;
     append(folder, name, HEAD2)?;
-    let deleted = append_upgraded(alloc, folder, name, steps, endings)?;
+    let deleted = append_upgraded(alloc, folder, name, log, endings)?;
     append(folder, name, TAIL)?;
     Ok(deleted)
 }
@@ -47,31 +55,65 @@ fn append_upgraded<F: Folder>(
     alloc: Global,
     folder: &mut F,
     name: &str,
-    steps: &[Step],
+    log: &OldLog,
     endings: &Endings,
 ) -> Result<u64, Stop>
     requires created { Contains (F.place folder.old).created name.now }
-    requires writable { AreWritable steps.now }
-    requires endings { AreEndings steps.now endings.now }
-    ensures wrote { (out : Stream) → Wrote (appends name.now (entry_lines 1 (upgraded steps.now)))
+    requires text { IsLogOf log.now.text.items log.now.steps }
+    requires endings { AreEndings log.now.steps endings.now }
+    ensures wrote { (out : Stream) → Wrote (appends name.now (entry_lines 1 (upgraded log.now.steps)))
         (outside (F.place folder.old) out) (outside (F.place folder.new) out) result }
     ensures created { (F.place folder.new).created ≡ (F.place folder.old).created }
-    ensures deleted { IfOk result (λ deleted. deleted ≡ deleted_count (upgraded steps.now)) }
+    ensures deleted { IfOk result (λ deleted. deleted ≡ deleted_count (upgraded log.now.steps)) }
 {
-    let Some((last, front)) = steps.split_last() else {
+    let count = log.steps.len() as usize;
+    if count == 0 {
         return Ok(0);
-    };
+    }
     let mut line = Vec::new(alloc);
     let mut numbers = Vec::new(alloc);
     let mut deleted = 0;
-    for (place, step) in front.iter().enumerate() {
-        append_step(folder, name, place as u64 + 1, step, &mut line)?;
-        let count = take_numbers(endings, place, &mut numbers)?;
+    let (_head, mut rest) = first_line(&log.text);
+    for place in 0..count - 1 {
+        rest = append_line(folder, name, rest)?;
+        let ended = take_numbers(endings, place, &mut numbers)?;
         append_deletion(folder, name, &numbers, &mut line)?;
-        deleted += count;
+        deleted += ended;
     }
-    append_step(folder, name, steps.len() as u64, last, &mut line)?;
+    append_line(folder, name, rest)?;
     Ok(deleted)
+}
+
+/// Appends the first line of the text, and answers what follows it.
+fn append_line<'t, F: Folder>(
+    folder: &mut F,
+    name: &str,
+    text: &'t [u8],
+) -> Result<&'t [u8], Stop>
+    requires created { Contains (F.place folder.old).created name.now }
+    ensures wrote { (line : List ℕ) (others : List (List ℕ)) → lines text.now ≡ line ∷ others
+        → (out : Stream) → Wrote (Append name.now line ∷ [])
+        (outside (F.place folder.old) out) (outside (F.place folder.new) out) result }
+    ensures rest { (line : List ℕ) (others : List (List ℕ)) → lines text.now ≡ line ∷ others
+        → IfOk result (λ rest. lines rest.now ≡ others) }
+    ensures created { (F.place folder.new).created ≡ (F.place folder.old).created }
+{
+    let (line, rest) = first_line(text);
+    append(folder, name, line)?;
+    Ok(rest)
+}
+
+/// The first line of a text, with its line feed, and what follows it.
+fn first_line(text: &[u8]) -> (&[u8], &[u8])
+    ensures line { (line : List ℕ) (others : List (List ℕ)) → lines text.now ≡ line ∷ others → result.0.now ≡ line }
+    ensures rest { (line : List ℕ) (others : List (List ℕ)) → lines text.now ≡ line ∷ others → lines result.1.now ≡ others }
+{
+    for at in 0..text.len() {
+        if text[at] == b'\n' {
+            return text.split_at(at + 1);
+        }
+    }
+    text.split_at(text.len())
 }
 
 /// Takes the numbers of the steps that end at the step at this place, in place of those that `numbers` has. It

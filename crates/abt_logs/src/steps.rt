@@ -51,7 +51,7 @@ fn append_steps<F: Folder>(
 }
 
 /// Appends the line of the step with this number. It is made in `line`.
-pub fn append_step<F: Folder>(
+fn append_step<F: Folder>(
     folder: &mut F,
     name: &str,
     number: u64,

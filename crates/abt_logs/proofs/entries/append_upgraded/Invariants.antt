@@ -1,20 +1,22 @@
-use Rattle.std.proofs.Common.{◌≡◌, ◌+◌, ◌≤◌, ltb, drop, length}
-use Rattle.std.specs.Prelude.{Contains}
+use Rattle.std.proofs.Common.{◌≡◌, ◌+◌, ◌≤◌, ◌∷◌, ◌++◌, [], ltb, drop, length}
+use Rattle.std.specs.Prelude.{Contains, codes}
 use Rattle.std.specs.List.{filter}
 use Rattle.dcsp_outside.specs.Outside.{Stream}
 use Rattle.dcsp_script.specs.Scripts.{outside}
 use Rattle.dcsp_script.specs.Left.{HasLeft}
+use Rattle.ngd_log.specs.Logs.{lines, step_lines}
 use Rattle.ngd_log.specs.EntryTexts.{entry_lines}
 use Rattle.ngd_upgrade.specs.Upgrade.{end_of, numbers, upgraded_from, upgraded, deleted_count}
 use Rattle.abt_logs.specs.UpgradePromise.{appends}
 use Rattle.abt_logs.proofs.entries.append_upgraded.Given as goal
 
--- the lines of the steps from here on, with their deletions, are left
+-- the lines of the steps from here on, with their deletions, are left, and those of the old log
 abbrev pub invariant-loop-place : goal.invariant-loop-place
 invariant-loop-place g l = record {
-  left : (out : Stream) → HasLeft (appends l.name (entry_lines 1 (upgraded l.steps))) (appends l.name (entry_lines (l.place + 1) (upgraded_from l.steps (l.place + 1) (drop l.place l.steps)))) (outside (g.F.Folder.place l.initial.folder) out) (outside (g.F.Folder.place l.folder) out);
+  left : (out : Stream) → HasLeft (appends l.name (entry_lines 1 (upgraded l.log.steps))) (appends l.name (entry_lines (l.place + 1) (upgraded_from l.log.steps (l.place + 1) (drop l.place l.log.steps)))) (outside (g.F.Folder.place l.initial.folder) out) (outside (g.F.Folder.place l.folder) out);
+  rest : lines l.rest ≡ step_lines (l.place + 1) (drop l.place l.log.steps) ++ codes "end\n" ∷ [];
   created : Contains (g.F.Folder.place l.folder).created l.name;
   same : (g.F.Folder.place l.folder).created ≡ (g.F.Folder.place l.initial.folder).created;
-  deleted : l.deleted + deleted_count (upgraded_from l.steps (l.place + 1) (drop l.place l.steps)) ≡ deleted_count (upgraded l.steps);
-  few : l.deleted ≤ length (filter (λ number. ltb (end_of l.steps number) (l.place + 1)) (numbers (length l.steps)));
+  deleted : l.deleted + deleted_count (upgraded_from l.log.steps (l.place + 1) (drop l.place l.log.steps)) ≡ deleted_count (upgraded l.log.steps);
+  few : l.deleted ≤ length (filter (λ number. ltb (end_of l.log.steps number) (l.place + 1)) (numbers (length l.log.steps)));
 }
