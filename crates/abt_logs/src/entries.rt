@@ -85,11 +85,7 @@ fn append_upgraded<F: Folder>(
 }
 
 /// Appends the first line of the text, and answers what follows it.
-fn append_line<'t, F: Folder>(
-    folder: &mut F,
-    name: &str,
-    text: &'t [u8],
-) -> Result<&'t [u8], Stop>
+fn append_line<'t, F: Folder>(folder: &mut F, name: &str, text: &'t [u8]) -> Result<&'t [u8], Stop>
     requires created { Contains (F.place folder.old).created name.now }
     ensures wrote { (line : List ℕ) (others : List (List ℕ)) → lines text.now ≡ line ∷ others
         → (out : Stream) → Wrote (Append name.now line ∷ [])
