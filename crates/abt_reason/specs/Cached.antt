@@ -1,12 +1,13 @@
 -- What is kept for each value of an agent's domain, and what it stands for.
-use Rattle.std.specs.Prelude.{◌≡◌, ◌≢◌, ℕ, ◌<◌, Bool, true, List, [], ◌∷◌, ◌++◌, length, Option}
+use Rattle.std.specs.Prelude.{◌≡◌, ◌≢◌, ℕ, ◌<◌, All, Bool, true, List, [], ◌∷◌, ◌++◌, length, Option}
 use Rattle.dcsp_domain.specs.Sets.{IsRising}
 use Rattle.dcsp_defs.specs.Csp.{PartialAssignment, domain}
 use Rattle.dcsp_problem.specs.Problems.{Contents, csp_of}
 use Rattle.dcsp_problem.specs.Index.{owned_rules}
 use Rattle.abt_store.specs.declared.Recorded.{Recorded}
 use Rattle.dcsp_row.specs.declared.marks.Marks.{Marks}
-use Rattle.dcsp_row.specs.Marks.{is_row, FitsSize}
+use Rattle.dcsp_row.specs.Marks.{is_marked, is_row, FitsSize}
+use Rattle.dcsp_row.specs.Rows.{is_ruled_out, own_at}
 use Rattle.abt_reason.specs.Grids.{marks, rows_of, AreSized, HaveRoom, IsGrid}
 use Rattle.abt_reason.specs.declared.named.Naming.{Naming}
 use Rattle.abt_reason.specs.Named.{ListsScopes, RisesByVariable}
@@ -34,6 +35,18 @@ rules_of p agent = length (owned_rules p agent)
 -- the row of the owned rule at a place tells at which of the agent's values it is false
 abbrev pub IsRightAt : Contents → ℕ → PartialAssignment → List (List Bool) → ℕ → Type 0
 IsRightAt p agent known rows place = (k : ℕ) → k < size_of p agent → marks rows k place ≡ is_false p agent (known_at p agent known k) place
+
+-- the rows of the owned rules that are named do
+abbrev pub AreRightAt : Contents → ℕ → PartialAssignment → List (List Bool) → List Naming → Type 0
+AreRightAt p agent known rows namings = All (λ naming. IsRightAt p agent known rows naming.place) namings
+
+-- each row but that at a place is as it was
+abbrev pub KeepsOthers : ℕ → ℕ → List Marks → List Marks → Type 0
+KeepsOthers values place old new = (other value : ℕ) → other ≢ place → marks (rows_of values new) value other ≡ marks (rows_of values old) value other
+
+-- the bits tell at which of the agent's values the rule is false
+abbrev pub HasMarksOf : Contents → ℕ → ℕ → PartialAssignment → Marks → Type 0
+HasMarksOf p rule agent known bits = (k : ℕ) → k < size_of p agent → is_marked bits k ≡ is_ruled_out p rule agent known (own_at (domain (csp_of p) agent) k)
 
 -- each row that was right is right
 abbrev pub StaysRight : Contents → ℕ → PartialAssignment → List Marks → List Marks → Type 0

@@ -1,15 +1,12 @@
 //! Which values the owned rules rule out, after the view has changed at one variable.
 
-ghost use Rattle.std.specs.Prelude.{◌≡◌, ◌≢◌, ◌<◌, ◌≤◌, ℕ, All, IfOk, None, length};
+ghost use Rattle.std.specs.Prelude.{◌≡◌, ◌<◌, ◌≤◌, All, IfOk, None, length};
 ghost use Rattle.abt_defs.specs.Agents.{values_in};
-ghost use Rattle.dcsp_defs.specs.Csp.{domain};
 ghost use Rattle.dcsp_problem.specs.Problems.{csp_of, AreInDomains};
-ghost use Rattle.dcsp_row.specs.Marks.{is_marked};
-ghost use Rattle.dcsp_row.specs.Rows.{is_ruled_out, own_at};
 ghost use Rattle.abt_view.specs.Views.{view_of};
 ghost use Rattle.abt_reason.specs.declared.named.Naming.{Naming as TheNaming};
-ghost use Rattle.abt_reason.specs.Grids.{marks, rows_of};
-ghost use Rattle.abt_reason.specs.Cached.{size_of, rules_of, AreRows, AreRuleLists, IsRightAt, IsRoom, KeepsRows, RowsStoodBefore, StaysRight};
+ghost use Rattle.abt_reason.specs.Grids.{rows_of};
+ghost use Rattle.abt_reason.specs.Cached.{size_of, rules_of, AreRightAt, AreRows, AreRuleLists, HasMarksOf, IsRightAt, IsRoom, KeepsOthers, KeepsRows, RowsStoodBefore, StaysRight};
 
 use crate::grid::{OwnedRules, RuledOut};
 use crate::named::{NamedIn, Naming};
@@ -109,7 +106,7 @@ fn refresh_each(ruled_out: &mut RuledOut, room: &mut Marks, owner: &Owner, namin
     ensures room { IsRoom (size_of owner.now.problem.now owner.now.agent) room.new }
     ensures rows { AreRows owner.now.problem.now owner.now.agent ruled_out.new.rows.items ruled_out.new.counts.items ruled_out.new.firsts.items }
     ensures kept { StaysRight owner.now.problem.now owner.now.agent (values_in (view_of owner.now.view.now)) ruled_out.old.rows.items ruled_out.new.rows.items }
-    ensures right { All (λ (n : TheNaming). IsRightAt owner.now.problem.now owner.now.agent (values_in (view_of owner.now.view.now)) (rows_of (size_of owner.now.problem.now owner.now.agent) ruled_out.new.rows.items) n.place) namings.now }
+    ensures right { AreRightAt owner.now.problem.now owner.now.agent (values_in (view_of owner.now.view.now)) (rows_of (size_of owner.now.problem.now owner.now.agent) ruled_out.new.rows.items) namings.now }
 {
     for naming in namings {
         refresh(ruled_out, room, owner, naming.place as usize);
@@ -126,7 +123,7 @@ fn refresh(ruled_out: &mut RuledOut, room: &mut Marks, owner: &Owner, place: usi
     ensures room { IsRoom (size_of owner.now.problem.now owner.now.agent) room.new }
     ensures rows { AreRows owner.now.problem.now owner.now.agent ruled_out.new.rows.items ruled_out.new.counts.items ruled_out.new.firsts.items }
     ensures right { IsRightAt owner.now.problem.now owner.now.agent (values_in (view_of owner.now.view.now)) (rows_of (size_of owner.now.problem.now owner.now.agent) ruled_out.new.rows.items) place }
-    ensures others { (other value : ℕ) → other ≢ place → marks (rows_of (size_of owner.now.problem.now owner.now.agent) ruled_out.new.rows.items) value other ≡ marks (rows_of (size_of owner.now.problem.now owner.now.agent) ruled_out.old.rows.items) value other }
+    ensures others { KeepsOthers (size_of owner.now.problem.now owner.now.agent) place ruled_out.old.rows.items ruled_out.new.rows.items }
 {
     let rule = owner.problem.owned(owner.agent)[place];
     let values = owner.problem.domain(owner.agent).len();
@@ -151,7 +148,7 @@ fn fill(owner: &Owner, rule: u32, room: &mut Marks)
     requires domains { AreInDomains (csp_of owner.now.problem.now) (values_in (view_of owner.now.view.now)) }
     requires room { IsRoom (size_of owner.now.problem.now owner.now.agent) room.old }
     ensures room { IsRoom (size_of owner.now.problem.now owner.now.agent) room.new }
-    ensures marks { (k : ℕ) → k < size_of owner.now.problem.now owner.now.agent → is_marked room.new k ≡ is_ruled_out owner.now.problem.now rule owner.now.agent (values_in (view_of owner.now.view.now)) (own_at (domain (csp_of owner.now.problem.now) owner.now.agent) k) }
+    ensures marks { HasMarksOf owner.now.problem.now rule owner.now.agent (values_in (view_of owner.now.view.now)) room.new }
 {
     if let Marks::Row(row) = room {
         let known = ViewValues { view: owner.view };

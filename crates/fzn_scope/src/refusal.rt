@@ -34,17 +34,6 @@ impl From<Refusal> for Stop {
     }
 }
 
-impl From<Memory> for Stop {
-    ghost use Rattle.std.specs.Prelude.{◌≡◌};
-    ghost use Rattle.fzn_scope.specs.declared.refusal.Stop.TheVariants as stop;
-
-    ghost from_gives = { λ _ e. e ≡ stop.Memory };
-
-    fn from(_: Memory) -> Stop {
-        Stop::Memory
-    }
-}
-
 impl<T: Drop> From<(T, Memory)> for Stop {
     ghost use Rattle.std.specs.Prelude.{◌≡◌};
     ghost use Rattle.fzn_scope.specs.declared.refusal.Stop.TheVariants as stop;

@@ -274,7 +274,6 @@ fn places_outside_a_text_have_no_bytes(rt: HostRuntime) {
 
 #[test]
 fn want_of_memory_is_no_refusal(rt: HostRuntime) {
-    assert_eq!(rt; Stop::from(Memory), Stop::Memory);
     assert_eq!(rt; Stop::from((7u32, Memory)), Stop::Memory);
     assert_eq!(rt; Stop::from(AllocFailed { value: 7u32 }), Stop::Memory);
     assert_eq!(rt;
