@@ -14,8 +14,6 @@ use Rattle.abt_defs.specs.Reasons.{Item, blamed, causes, derived, step_of}
 use Rattle.abt_defs.specs.Steps as steps
 use Rattle.abt_defs.specs.Steps.{Outcome}
 use Rattle.law_invariants.specs.OneAgent.{Sound}
-use Rattle.law_invariants.proofs.Owners.{owner_greatest, owner_in}
-use Rattle.law_invariants.proofs.Runs.{start_kept}
 use Rattle.dcsp_problem.specs.Problems.{Contents, csp_of, constraint_at}
 use Rattle.dcsp_problem.specs.Index.{owned_rules}
 use Rattle.dcsp_problem.specs.Lower.{joins, lower_owners}
@@ -50,31 +48,15 @@ shares_is p i k =
 
 -- ---- nobody shares beyond the tables
 
-sharing : (p : Csp) → IsCsp p → (i k : ℕ) → shares p i k ≡ true → (k < i) × (i < count p)
-sharing p ok i k e =
-    let some = In-list_any (λ (c : Constraint). owns i c && is_among k c.scope) p.constraints (and_right (not (k == i)) _ e) in
-    let own = and_left (owns i some.0) (is_among k some.0.scope) some.2 in
-    let named = In-list_any (λ x. k == x) some.0.scope (and_right (owns i some.0) (is_among k some.0.scope) some.2) in
-    let there : In k some.0.scope = subst (λ (n : ℕ). In n some.0.scope) (sym (is_same k named.0 named.2)) named.1 in
-    let below = owner_greatest p ok i k some.0 some.1 own there in
-    let apart = differs k i (and_left (not (k == i)) _ e) in
-    (omega arith, (ok.constraints some.0 some.1).inside i (owner_in i some.0 own))
-  where
-    is_same : (x y : ℕ) → (x == y) ≡ true → x ≡ y
-    is_same x y h = grind (arith, nat_tests)
-
-    differs : (x y : ℕ) → not (x == y) ≡ true → x ≢ y
-    differs x y h = grind (arith, nat_tests)
-
 not_true : (b : Bool) → (b ≡ true → ⊥) → b ≡ false
 not_true true h = absurd (h refl)
 not_true false h = refl
 
-pub shares_higher : (p : Csp) → IsCsp p → (i k : ℕ) → i ≤ k → shares p i k ≡ false
-shares_higher p ok i k l = not_true (shares p i k) (λ e. let s = (sharing p ok i k e).0 in omega arith)
+shares_higher : (p : Csp) → ((i : ℕ) → Sound p i (fresh p i)) → (i k : ℕ) → i ≤ k → shares p i k ≡ false
+shares_higher p sound i k l = not_true (shares p i k) (λ e. let s = (sound i).higher k e in omega arith)
 
-pub shares_inside : (p : Csp) → IsCsp p → (i k : ℕ) → count p ≤ i → shares p i k ≡ false
-shares_inside p ok i k l = not_true (shares p i k) (λ e. let s = (sharing p ok i k e).1 in omega arith)
+shares_inside : (p : Csp) → ((i : ℕ) → Sound p i (fresh p i)) → (i k : ℕ) → count p ≤ i → shares p i k ≡ false
+shares_inside p sound i k l = not_true (shares p i k) (λ e. let s = (sound k).lower i e in omega arith)
 
 -- a filter has just the numbers that pass
 among_filter : (q : ℕ → Bool) (n j : ℕ) → j < n → is_among j (filter q (below n)) ≡ q j
@@ -90,12 +72,12 @@ among_filter q n j l = by_test (q j) (is_among j (filter q (below n))) refl refl
       sym (ap q same ∙ passes) ∙ e
 
 -- the lower owners are those that share
-lower_share : (p : Csp) → IsCsp p → (me j : ℕ) → j < count p → is_among j (lower_owners p me) ≡ shares p j me
-lower_share p ok me j l =
+lower_share : (p : Csp) → ((i : ℕ) → Sound p i (fresh p i)) → (me j : ℕ) → j < count p → is_among j (lower_owners p me) ≡ shares p j me
+lower_share p sound me j l =
     among_filter (λ o. nat_lt me o && list_any (joins o me) p.constraints) (count p) j l
     ∙ elim (cases_lt me j) [
       | inl after ↦ ap (λ z. z && list_any (joins j me) p.constraints) (both me j after)
-      | inr past ↦ ap (λ z. z && list_any (joins j me) p.constraints) (none me j past) ∙ sym (shares_higher p ok j me past)
+      | inr past ↦ ap (λ z. z && list_any (joins j me) p.constraints) (none me j past) ∙ sym (shares_higher p sound j me past)
     ]
   where
     both : (m o : ℕ) → m < o → nat_lt m o ≡ not (m == o)
@@ -105,12 +87,12 @@ lower_share p ok me j l =
     none m o h = grind (arith, nat_tests)
 
 -- also past the last agent
-pub lower_are : (p : Csp) → IsCsp p → (me j : ℕ) → is_among j (lower_owners p me) ≡ shares p j me
-lower_are p ok me j = elim (cases_lt j (count p)) [
-  | inl l ↦ lower_share p ok me j l
+lower_are : (p : Csp) → ((i : ℕ) → Sound p i (fresh p i)) → (me j : ℕ) → is_among j (lower_owners p me) ≡ shares p j me
+lower_are p sound me j = elim (cases_lt j (count p)) [
+  | inl l ↦ lower_share p sound me j l
   | inr past ↦
       not_true (is_among j (lower_owners p me)) (λ e. let l = (In-filter_below (λ o. nat_lt me o && list_any (joins o me) p.constraints) (count p) j (among_In j (lower_owners p me) e)).0 in omega arith)
-      ∙ sym (shares_inside p ok j me past)
+      ∙ sym (shares_inside p sound j me past)
 ]
 
 -- ---- tables of marks
@@ -140,22 +122,18 @@ marks_are f n h k = elim (cases_lt k n) [
 
 -- ---- the whole
 
-pub fresh_is : (p : Contents) → IsCsp (csp_of p) → (me : ℕ) (b : Body) → b.value ≡ None → b.stamp ≡ 0 → b.waits ≡ false → view_of b.known.view ≡ (λ k. None) → b.known.store ≡ []
+pub fresh_is : (p : Contents) → ((i : ℕ) → Sound (csp_of p) i (fresh (csp_of p) i)) → (me : ℕ) (b : Body) → b.value ≡ None → b.stamp ≡ 0 → b.waits ≡ false → view_of b.known.view ≡ (λ k. None) → b.known.store ≡ []
     → b.tells.items ≡ lower_owners (csp_of p) me → b.linked.items ≡ map (shares (csp_of p) me) (below me)
     → agent_of b ≡ fresh (csp_of p) me
-fresh_is p ok me b v s w view store tells linked =
-    let tell = λ (j : ℕ). ap (is_among j) tells ∙ lower_are (csp_of p) ok me j in
-    let link = λ (k : ℕ). ap (λ z. slice_index_or z k false) linked ∙ marks_are (shares (csp_of p) me) me (λ k l. shares_higher (csp_of p) ok me k l) k in
+fresh_is p sound me b v s w view store tells linked =
+    let tell = λ (j : ℕ). ap (is_among j) tells ∙ lower_are (csp_of p) sound me j in
+    let link = λ (k : ℕ). ap (λ z. slice_index_or z k false) linked ∙ marks_are (shares (csp_of p) me) me (λ k l. shares_higher (csp_of p) sound me k l) k in
     let kept = ap records_of store in
     λ x. record { value = v x; stamp = s x; waits = w x; view = view x; recorded = kept x; tells = λ j. tell j x; linked = λ k. link k x }
 
--- it is sound
-fresh_sound : (p : Csp) → IsCsp p → (i : ℕ) → Sound p i (fresh p i)
-fresh_sound p ok i = (start_kept p ok).sound i
-
-pub fresh_good : (p : Contents) → IsCsp (csp_of p) → (me : ℕ) (b : Body) → owner_of b.known ≡ (p, me) → IsInStep b.known → b.tells.items ≡ lower_owners (csp_of p) me → length b.linked.items ≡ me
+pub fresh_good : (p : Contents) → ((i : ℕ) → Sound (csp_of p) i (fresh (csp_of p) i)) → (me : ℕ) (b : Body) → owner_of b.known ≡ (p, me) → IsInStep b.known → b.tells.items ≡ lower_owners (csp_of p) me → length b.linked.items ≡ me
     → agent_of b ≡ fresh (csp_of p) me → IsGood b
-fresh_good p ok me b e in_step tells linked f = record {
+fresh_good p sound me b e in_step tells linked f = record {
   sized = record {
     in_step = in_step;
     linked = linked ∙ sym (ap (λ (x : Contents × ℕ). x.1) e);
@@ -164,7 +142,7 @@ fresh_good p ok me b e in_step tells linked f = record {
         let l : k < length p.domains = (In-filter_below (λ o. nat_lt me o && list_any (joins o me) (csp_of p).constraints) (length p.domains) k (subst (λ (z : List ℕ). In k z) tells u)).0 in
         subst (λ (x : Contents × ℕ). k < length x.0.domains) (sym e) l;
   };
-  sound = subst (λ (x : Contents × ℕ). Sound (csp_of x.0) x.1 (agent_of b)) (sym e) (subst (Sound (csp_of p) me) (sym f) (fresh_sound (csp_of p) ok me));
+  sound = subst (λ (x : Contents × ℕ). Sound (csp_of x.0) x.1 (agent_of b)) (sym e) (subst (Sound (csp_of p) me) (sym f) (sound me));
 }
 
 -- ---- no step's number matters

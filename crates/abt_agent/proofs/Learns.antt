@@ -5,7 +5,7 @@ use Rattle.dcsp_defs.specs.Words.{In}
 use Rattle.abt_defs.specs.Agents.{Agent, Record, StampedNogood, plain, Add_link}
 use Rattle.abt_defs.specs.Steps as steps
 use Rattle.law_invariants.specs.OneAgent.{Proper, Sound}
-use Rattle.law_invariants.proofs.Learns.{learns_all}
+use Rattle.law_invariants.specs.Staying.{OnlyLearns}
 use Rattle.dcsp_problem.specs.Problems.{Contents, csp_of}
 use Rattle.abt_message.specs.declared.Sent.{Sent}
 use Rattle.abt_message.specs.Messages.{with_stamps}
@@ -16,9 +16,9 @@ use Rattle.abt_agent.specs.Outgoing.{Posts}
 use Rattle.abt_agent.proofs.Lists.{plain-with_stamps}
 
 -- the nogoods that are left after asking and learning are proper
-pub left_proper : (p : Contents) (me : ℕ) (pairs : List Pair) (ys : StampedNogood) (a c : Agent) → Sound (csp_of p) me a → c ≡ steps.learn_all me ys (steps.ask me pairs a)
+pub left_proper : ((i : ℕ) (a : Agent) → OnlyLearns i a) → (p : Contents) (me : ℕ) (pairs : List Pair) (ys : StampedNogood) (a c : Agent) → Sound (csp_of p) me a → c ≡ steps.learn_all me ys (steps.ask me pairs a)
     → (x : Record) → In x c.recorded → Proper (csp_of p) me x.pairs
-left_proper p me pairs ys a c h e x u = h.proper x ((learns_all me ys (steps.ask me pairs a)).recorded x (subst (λ (z : Agent). In x z.recorded) e u))
+left_proper learns p me pairs ys a c h e x u = h.proper x ((learns me (steps.ask me pairs a)).recorded ys x (subst (λ (z : Agent). In x z.recorded) e u))
 
 pub heeded : (me step : ℕ) (nogood ps qs : List Pair) (stamps : List ℕ) (a b c d : Agent) → ps ≡ nogood → qs ≡ nogood
     → b ≡ steps.ask me ps a → c ≡ steps.learn_all me (with_stamps qs stamps) b → d ≡ steps.keep me (record { step = step; pairs = nogood }) c

@@ -10,9 +10,7 @@ use Rattle.abt_defs.specs.Agents.{Agent, Message, Refuse, Stamped, StampedNogood
 use Rattle.abt_defs.specs.Steps as steps
 use Rattle.abt_defs.specs.Steps.{Outcome}
 use Rattle.law_invariants.specs.OneAgent.{Proper, Sound}
-use Rattle.law_invariants.proofs.Settles.{settles}
-use Rattle.law_invariants.proofs.Learns.{learns_all, keeps}
-use Rattle.law_invariants.proofs.Receives.{announced, heeded as takes_nogood}
+use Rattle.law_invariants.specs.Staying.{AgentsStaySound, StaysSound, OnlyLearns}
 use Rattle.dcsp_problem.specs.Problems.{Contents, csp_of}
 use Rattle.abt_message.specs.declared.Sent.{Sent}
 use Rattle.abt_message.specs.Messages.{with_stamps}
@@ -37,74 +35,43 @@ ok_both (Err e) f o h = h
 
 -- ---- the agent's own facts hold after it
 
--- after it has learned a value
-learned_sound : (p : Csp) (i from : ℕ) (s : Stamped) (a b : Agent) → Sound p i a → i < count p → from < i → In s.value (domain p from) → b ≡ steps.learn from s a → Sound p i b
-learned_sound p i from s a b h l higher there e =
-    subst (Sound p i) (sym e) (announced p i a h l from s higher ((omega arith), there)).sound
-
--- after it has taken in a nogood
-heeded_sound : (p : Csp) (i step : ℕ) (nogood : List Pair) (stamps : List ℕ) (a b : Agent) → Sound p i a → i < count p → Proper p i nogood → b ≡ steps.heed i step (with_stamps nogood stamps) a → Sound p i b
-heeded_sound p i step nogood stamps a b h l proper e =
-    subst (Sound p i) (sym e) (takes_nogood p i a h l 0 step (with_stamps nogood stamps) (subst (Proper p i) (sym (plain-with_stamps nogood stamps)) proper)).sound
-
--- after it has settled
-settled_sound : (p : Csp) (i number : ℕ) (a b : Agent) → Sound p i a → i < count p → b ≡ (steps.settle p i number a).agent → Sound p i b
-settled_sound p i number a b h l e = subst (Sound p i) (sym e) (settles p i l a h number).sound
-
--- after a link request
-link_sound : (p : Csp) (i from : ℕ) (a b : Agent) → Sound p i a → from < count p → b ≡ record a { tells = update a.tells from true } → Sound p i b
-link_sound p i from a b h l e = subst (Sound p i) (sym e) (record {
-  in_domain = h.in_domain;
-  stamped = h.stamped;
-  in_view = h.in_view;
-  proper = h.proper;
-  agreeing = h.agreeing;
-  distinct = h.distinct;
-  higher = h.higher;
-  constraints = h.constraints;
-  lower = λ j u. elim (eqb_tells j from) [ inl t ↦ omega arith | inr t ↦ h.lower j (rw t.0 at u) ];
-})
-
 -- the same owner, the same facts
 pub moved_sound : (k l : Knowledge) (a : Agent) → owner_of l ≡ owner_of k → Sound (csp_of k.problem.now) k.me a → Sound (csp_of l.problem.now) l.me a
 moved_sound k l a e h = subst (λ (x : Contents × ℕ). Sound (csp_of x.0) x.1 a) (sym e) h
 
-pub good_learned : (from : ℕ) (s : Stamped) (before after : Body) → IsGood before → owner_of after.known ≡ owner_of before.known → IsSized after → from < before.known.me → In s.value (domain (csp_of before.known.problem.now) from)
+-- what the agent does leaves what always holds of it
+stays : (before : Body) → IsGood before → ((p : Csp) → AgentsStaySound p) → StaysSound (csp_of before.known.problem.now) before.known.me (agent_of before)
+stays before h law = law (csp_of before.known.problem.now) before.known.me h.sized.in_step.me_exists (agent_of before) h.sound
+
+-- a body of the same owner, of which that holds
+still_good : (before after : Body) (a : Agent) → owner_of after.known ≡ owner_of before.known → IsSized after → agent_of after ≡ a → Sound (csp_of before.known.problem.now) before.known.me a → IsGood after
+still_good before after a e sized f h = record {
+  sized = sized;
+  sound = moved_sound before.known after.known (agent_of after) e (subst (Sound (csp_of before.known.problem.now) before.known.me) (sym f) h);
+}
+
+pub good_learned : ((p : Csp) → AgentsStaySound p) → (from : ℕ) (s : Stamped) (before after : Body) → IsGood before → owner_of after.known ≡ owner_of before.known → IsSized after → from < before.known.me → In s.value (domain (csp_of before.known.problem.now) from)
     → agent_of after ≡ steps.learn from s (agent_of before) → IsGood after
-good_learned from s before after h e sized higher there a = record {
-  sized = sized;
-  sound = moved_sound before.known after.known (agent_of after) e (learned_sound (csp_of before.known.problem.now) before.known.me from s (agent_of before) (agent_of after) h.sound h.sized.in_step.me_exists higher there a);
-}
+good_learned law from s before after h e sized higher there a =
+    still_good before after (steps.learn from s (agent_of before)) e sized a ((stays before h law).learned from s higher there)
 
-pub good_heeded : (step : ℕ) (nogood : List Pair) (stamps : List ℕ) (before after : Body) → IsGood before → owner_of after.known ≡ owner_of before.known → IsSized after → Proper (csp_of before.known.problem.now) before.known.me nogood
+pub good_heeded : ((p : Csp) → AgentsStaySound p) → (step : ℕ) (nogood : List Pair) (stamps : List ℕ) (before after : Body) → IsGood before → owner_of after.known ≡ owner_of before.known → IsSized after → Proper (csp_of before.known.problem.now) before.known.me nogood
     → agent_of after ≡ steps.heed before.known.me step (with_stamps nogood stamps) (agent_of before) → IsGood after
-good_heeded step nogood stamps before after h e sized proper a = record {
-  sized = sized;
-  sound = moved_sound before.known after.known (agent_of after) e (heeded_sound (csp_of before.known.problem.now) before.known.me step nogood stamps (agent_of before) (agent_of after) h.sound h.sized.in_step.me_exists proper a);
-}
+good_heeded law step nogood stamps before after h e sized proper a =
+    still_good before after (steps.heed before.known.me step (with_stamps nogood stamps) (agent_of before)) e sized a
+    ((stays before h law).heeded step (with_stamps nogood stamps) (subst (Proper (csp_of before.known.problem.now) before.known.me) (sym (plain-with_stamps nogood stamps)) proper))
 
-pub good_settled : (number : ℕ) (before after : Body) (out went : List Sent) (r : Result Turn Memory) → IsGood before → owner_of after.known ≡ owner_of before.known
+pub good_settled : ((p : Csp) → AgentsStaySound p) → (number : ℕ) (before after : Body) (out went : List Sent) (r : Result Turn Memory) → IsGood before → owner_of after.known ≡ owner_of before.known
     → IfOk r (λ turn. Does (steps.settle (csp_of before.known.problem.now) before.known.me number (agent_of before)) before after out went turn) → OnOk r (IsGood after)
-good_settled number before after out went (Ok turn) h e d = record {
-  sized = d.sized;
-  sound = moved_sound before.known after.known (agent_of after) e (settled_sound (csp_of before.known.problem.now) before.known.me number (agent_of before) (agent_of after) h.sound h.sized.in_step.me_exists d.agent);
-}
-good_settled number before after out went (Err f) h e d = tt
+good_settled law number before after out went (Ok turn) h e d =
+    still_good before after (steps.settle (csp_of before.known.problem.now) before.known.me number (agent_of before)).agent e d.sized d.agent ((stays before h law).settled number)
+good_settled law number before after out went (Err f) h e d = tt
 
-pub good_linked : (number from : ℕ) (before after : Body) (out went : List Sent) (r : Result Turn Memory) → IsGood before → from < length before.known.problem.now.domains → owner_of after.known ≡ owner_of before.known
+pub good_linked : ((p : Csp) → AgentsStaySound p) → (number from : ℕ) (before after : Body) (out went : List Sent) (r : Result Turn Memory) → IsGood before → from < length before.known.problem.now.domains → owner_of after.known ≡ owner_of before.known
     → IfOk r (λ turn. DoesReceive number from Add_link before after out went turn) → OnOk r (IsGood after)
-good_linked number from before after out went (Ok turn) h l e d = record {
-  sized = d.sized;
-  sound = moved_sound before.known after.known (agent_of after) e (link_sound (csp_of before.known.problem.now) before.known.me from (agent_of before) (agent_of after) h.sound l d.agent);
-}
-good_linked number from before after out went (Err f) h l e d = tt
-
--- ---- stamps stay
-
-pub heed_stamp : (me step : ℕ) (ys : StampedNogood) (a : Agent) → (steps.heed me step ys a).stamp ≡ a.stamp
-heed_stamp me step ys a =
-    (keeps me (record { step = step; pairs = plain ys }) (steps.learn_all me ys (steps.ask me (plain ys) a))).stamp
-    ∙ (learns_all me ys (steps.ask me (plain ys) a)).stamp
+good_linked law number from before after out went (Ok turn) h l e d =
+    still_good before after (record (agent_of before) { tells = update (agent_of before).tells from true }) e d.sized d.agent ((stays before h law).linked from l)
+good_linked law number from before after out went (Err f) h l e d = tt
 
 -- ---- what follows
 
@@ -136,7 +103,7 @@ stays_idle before after b out went sent e f m sized = record {
   sized = sized;
 }
 
-module _ (number from step : ℕ) (nogood ps : List Pair) (stamps : List ℕ) (before mid : Body) (out first : List Sent)
+module _ (learns : (i : ℕ) (a : Agent) → OnlyLearns i a) (number from step : ℕ) (nogood ps : List Pair) (stamps : List ℕ) (before mid : Body) (out first : List Sent)
     (p : ps ≡ nogood) (heeds : agent_of mid ≡ steps.heed before.known.me step (with_stamps nogood stamps) (agent_of before))
     (asks : Posts out first (steps.to_each Add_link (steps.unlinked before.known.me (plain (with_stamps nogood stamps)) (agent_of before)))) where
   abbrev csp : Csp
@@ -162,7 +129,7 @@ module _ (number from step : ℕ) (nogood ps : List Pair) (stamps : List ℕ) (b
       (e ∙ ap (λ z. a.waits && not (steps.is_news me (with_stamps z stamps) a)) p)
 
   pub same_stamp : mid.stamp ≡ before.stamp
-  same_stamp = ap (λ (z : Agent). z.stamp) heeds ∙ heed_stamp me step (with_stamps nogood stamps) a
+  same_stamp = ap (λ (z : Agent). z.stamp) heeds ∙ (learns me a).stamp step (with_stamps nogood stamps)
 
   pub refused_idle : true ≡ (a.waits && not (steps.is_news me (with_stamps ps stamps) a)) → IsSized mid
       → DoesReceive number from (Refuse step (with_stamps nogood stamps)) before mid out first Quiet

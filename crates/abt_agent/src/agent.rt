@@ -69,6 +69,8 @@ impl<'p> Agent<'p> {
         if self.spent {
             return Err(Memory);
         }
+        law_bounded_store::sound_stores();
+        law_right_steps::sound_merges();
         let _vars = self.body.known.problem.vars();
         match self.body.first_settle(out) {
             Ok(turn) => Ok(turn),
@@ -106,6 +108,8 @@ impl<'p> Agent<'p> {
         if self.spent {
             return Err(Memory);
         }
+        law_bounded_store::sound_stores();
+        law_right_steps::sound_merges();
         let _vars = self.body.known.problem.vars();
         match self.body.receive(from, message, next_step, out) {
             Ok(turn) => Ok(turn),
@@ -126,6 +130,8 @@ impl<'p> Agent<'p> {
         ensures bounded { self.now.spent ≡ false → IsBoundedStore (csp_of self.now.problem) self.now.me (stands_for self.now) }
         ensures merges { self.now.spent ≡ false → IsUnionOfReasons (csp_of self.now.problem) self.now.me (stands_for self.now) }
     {
+        law_bounded_store::sound_stores();
+        law_right_steps::sound_merges();
         let _vars = self.body.known.problem.vars();
         self.body.value
     }

@@ -38,6 +38,7 @@ impl<'p> Body<'p> {
         ensures agent { IfOk result (λ body. agent_of body ≡ fresh (csp_of problem.now) me) }
         ensures good { IfOk result IsGood }
     {
+        law_invariants::agents_start_sound();
         let _vars = problem.vars();
         let known = Knowledge::new(alloc, problem, me)?;
         let tells = first_tells(alloc, problem, me)?;

@@ -37,6 +37,7 @@ impl<'p> Body<'p> {
         ensures first { IfOk result IsFirstTurn }
         ensures right { (made : List TheStep) → IfOk result (IsRightTurn (csp_of self.old.known.problem.now) made) }
     {
+        law_right_steps::agents_step_right();
         let _vars = self.known.problem.vars();
         self.settle(0, out)
     }
@@ -57,6 +58,7 @@ impl<'p> Body<'p> {
         ensures good { OnOk result (IsGood self.new) }
         ensures right { (made : List TheStep) → AreOfSteps made (records_of self.old.known.store) → BringsOfStep made message → IfOk result (IsRightTurn (csp_of self.old.known.problem.now) made) }
     {
+        law_right_steps::agents_step_right();
         let _vars = self.known.problem.vars();
         match message {
             Message::Tell { value, stamp } => {
@@ -89,6 +91,7 @@ impl<'p> Body<'p> {
         ensures owner { owner_of self.new.known ≡ owner_of self.old.known }
         ensures good { OnOk result (IsGood self.new) }
     {
+        law_invariants::agents_stay_sound();
         if !self.learn(from, told) {
             return Ok(Turn::Quiet);
         }
@@ -111,6 +114,7 @@ impl<'p> Body<'p> {
         ensures good { OnOk result (IsGood self.new) }
         ensures rising { OnOk result (PairsRise recorded.nogood) }
     {
+        law_invariants::agents_only_learn();
         let idle = self.is_idle(recorded.nogood.pairs(), stamps);
         self.heed(recorded, stamps, out)?;
         if idle {
@@ -136,6 +140,8 @@ impl<'p> Body<'p> {
         ensures owner { owner_of self.new.known ≡ owner_of self.old.known }
         ensures good { OnOk result (IsGood self.new) }
     {
+        law_invariants::agents_only_learn();
+        law_invariants::agents_stay_sound();
         self.ask(recorded.nogood.pairs(), out)?;
         self.learn_all(recorded.nogood.pairs(), stamps);
         self.keep(recorded)?;
@@ -150,6 +156,7 @@ impl<'p> Body<'p> {
         ensures owner { owner_of self.new.known ≡ owner_of self.old.known }
         ensures good { OnOk result (IsGood self.new) }
     {
+        law_invariants::agents_stay_sound();
         self.answer_link(from, out)
     }
 

@@ -123,6 +123,7 @@ impl<'p> Body<'p> {
         ensures owner { owner_of self.new.known ≡ owner_of self.old.known }
         ensures good { OnOk result (IsGood self.new) }
     {
+        law_invariants::agents_stay_sound();
         self.keep_or_change(number, out)
     }
 }

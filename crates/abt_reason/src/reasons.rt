@@ -12,7 +12,7 @@ ghost use Rattle.abt_reason.specs.Cached.{size_of, StandsFor, StoodBefore, Stood
 use crate::kept::KeptSteps;
 use crate::rules::{FirstRules, Owner};
 use crate::search::earlier;
-use crate::under::Seat;
+use crate::under::{Seat, ViewValues};
 use abt_store::Store;
 use abt_view::View;
 use dcsp_defs::Reason;
@@ -78,7 +78,7 @@ impl<'p> Reasons<'p> {
         let seat = Seat {
             domain: self.problem.domain(self.agent),
             agent: self.agent,
-            view,
+            known: &ViewValues { view },
         };
         self.kept.after_view(&seat, var, store);
     }
@@ -93,7 +93,7 @@ impl<'p> Reasons<'p> {
         let seat = Seat {
             domain: self.problem.domain(self.agent),
             agent: self.agent,
-            view,
+            known: &ViewValues { view },
         };
         self.kept.after_record(&seat, store);
     }

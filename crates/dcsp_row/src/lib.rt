@@ -17,7 +17,7 @@ mod word;
 
 pub use easy::has_span;
 pub use fill::{fill_row, span_of};
-pub use known::OpenVariable;
+pub use known::{OpenVariable, WithValue};
 pub use marks::Marks;
 pub use row::Row;
 pub use span::Span;

@@ -6,6 +6,7 @@ use Rattle.dcsp_defs.specs.Csp.{Csp, IsCsp, domain}
 use Rattle.dcsp_nogood.specs.Pairs.{value_at}
 use Rattle.abt_defs.specs.Agents.{Agent, Record, known}
 use Rattle.abt_defs.specs.Network.{run, start}
+use Rattle.law_invariants.specs.OneAgent.{Sound}
 
 -- What agent i has recorded is at most one nogood for each value of its domain, and small.
 pub record IsBoundedStore (p : Csp) (i : ℕ) (a : Agent) : Type 0 where
@@ -18,3 +19,7 @@ pub record IsBoundedStore (p : Csp) (i : ℕ) (a : Agent) : Type 0 where
 -- It is so for each agent, whatever the choices were, in a refuted network too.
 abbrev pub BoundedStores : Csp → Type 0
 BoundedStores p = IsCsp p → (choices : List ℕ) (i : ℕ) → IsBoundedStore p i ((run p choices (start p)).agents i)
+
+-- It is so for each agent of which holds what always does.
+abbrev pub SoundStores : Csp → Type 0
+SoundStores p = (i : ℕ) (a : Agent) → Sound p i a → IsBoundedStore p i a

@@ -11,3 +11,4 @@ pub mod Sounds
 pub mod All
 pub mod Last
 pub mod Values
+pub mod Staying

@@ -96,6 +96,20 @@ module _ (p : Csp) (i : ℕ) (in_range : i < count p) (a b c : Agent) (came firs
     wakes = λ e. elim (s.wakes (t.waits ∙ e)) [ inl x ↦ inl x | inr l ↦ inr (let f = t.stamp in omega arith) ];
   }
 
+-- an agent that tells one more agent
+pub one_more : (p : Csp) (i k : ℕ) (a : Agent) → Sound p i a → k < count p → Sound p i (record a { tells = update a.tells k true })
+one_more p i k a h l = record {
+  in_domain = h.in_domain;
+  stamped = h.stamped;
+  in_view = h.in_view;
+  proper = h.proper;
+  agreeing = h.agreeing;
+  distinct = h.distinct;
+  higher = h.higher;
+  constraints = h.constraints;
+  lower = λ j u. elim (eqb_tells j k) [ inl t ↦ omega arith | inr t ↦ h.lower j (rw t.0 at u) ];
+}
+
 module _ (p : Csp) (i : ℕ) (a : Agent) (h : Sound p i a) (in_range : i < count p) (k : ℕ) where
   -- a value that comes
   pub announced : (s : Stamped) → k < i → (k < count p) × In s.value (domain p k) → Takes p i a (learn k s a) (only k (Announce s)) (λ j. [])
@@ -338,17 +352,7 @@ module _ (p : Csp) (i : ℕ) (a : Agent) (h : Sound p i a) (in_range : i < count
         | true ↦ (heeded step pairs f).sound
         | false ↦ (settles p i in_range b (heeded step pairs f).sound number).sound
       ]
-  received_sound number Add_link f n = record {
-    in_domain = h.in_domain;
-    stamped = h.stamped;
-    in_view = h.in_view;
-    proper = h.proper;
-    agreeing = h.agreeing;
-    distinct = h.distinct;
-    higher = h.higher;
-    constraints = h.constraints;
-    lower = λ j u. elim (eqb_tells j k) [ inl t ↦ omega arith | inr t ↦ h.lower j (rw t.0 at u) ];
-  }
+  received_sound number Add_link f n = one_more p i k a h f
 
   settles_after : (number : ℕ) (b : Agent) (came first : ℕ → List Message) → Takes p i a b came first → refutes (settle p i number b).step ≡ false → Done p i a (settle p i number b).agent came (λ j. first j ++ sent_to j (settle p i number b).sent)
   settles_after number b came first t r =

@@ -1,2 +1,3 @@
 pub mod Invariants
 pub mod OneAgent
+pub mod Staying

@@ -18,6 +18,7 @@ use Rattle.law_invariants.proofs.Learns.{learns_one, learns_all, keeps}
 use Rattle.law_invariants.proofs.Receives.{announced, heeded, IsExpected}
 use Rattle.law_invariants.proofs.Runs.{delivered, expected, settled_below, In-pairs}
 use Rattle.law_right_steps.specs.StepsRight.{StepsRight}
+use Rattle.law_right_steps.specs.OneAgent.{IsRightIfMade}
 use Rattle.law_right_steps.proofs.Reasons.{Source, step_right, enumerate-at}
 
 -- each nogood that the agent has recorded is that of its step
@@ -58,16 +59,11 @@ IsRooted-more steps more Add_link h = tt
 
 -- ---- one agent
 
--- a step that is made is right
-abbrev pub OptionRight : Csp → List Step → Option Step → Type 0
-OptionRight p steps None = Unit {0}
-OptionRight p steps (Some s) = IsRight p steps s
-
 -- what an outcome leaves, after these steps
 pub record Grown (p : Csp) (steps : List Step) (o : Outcome) : Type 0 where
   pub agent : Rooted (steps ++ option_to_list o.step) o.agent
   pub sent : (j : ℕ) (m : Message) → In m (sent_to j o.sent) → IsRooted (steps ++ option_to_list o.step) m
-  pub right : OptionRight p steps o.step
+  pub right : IsRightIfMade p steps o.step
 
 -- the value to take is none only where each value is ruled out
 choice_none : (p : Csp) (i : ℕ) (a : Agent) → choice p i a ≡ None → find (λ v. not (ruled_out p i (known a) a.recorded v)) (domain p i) ≡ None
@@ -158,7 +154,7 @@ pub record Right (p : Csp) (net : Network) : Type 0 where
   pub kept : net.refuted ≡ false → Kept p (count p) net
   pub rooted : net.refuted ≡ false → AllRooted p net
 
-right-more : (p : Csp) (steps : List Step) (o : Option Step) → IsDerivation p steps → OptionRight p steps o → IsDerivation p (steps ++ option_to_list o)
+right-more : (p : Csp) (steps : List Step) (o : Option Step) → IsDerivation p steps → IsRightIfMade p steps o → IsDerivation p (steps ++ option_to_list o)
 right-more p steps None h r = subst (IsDerivation p) (sym (append-nil steps)) h
 right-more p steps (Some s) h r = derivation_push p steps s h r
 

@@ -6,6 +6,7 @@ use Rattle.dcsp_defs.specs.Csp.{Csp, IsCsp}
 use Rattle.abt_defs.specs.Agents.{Agent, plain, known}
 use Rattle.abt_defs.specs.Reasons.{Item, causes, derived}
 use Rattle.abt_defs.specs.Network.{run, start}
+use Rattle.law_invariants.specs.OneAgent.{Sound}
 
 -- the derived nogood of agent i is the union of the pairs of its reasons, without its own variable's
 pub record IsUnionOfReasons (p : Csp) (i : ℕ) (a : Agent) : Type 0 where
@@ -22,3 +23,7 @@ pub record IsUnionOfReasons (p : Csp) (i : ℕ) (a : Agent) : Type 0 where
 -- It is so for each agent, whatever the choices were, in a refuted network too, where the last settle derived the empty nogood.
 abbrev pub MergesAreUnions : Csp → Type 0
 MergesAreUnions p = IsCsp p → (choices : List ℕ) (i : ℕ) → IsUnionOfReasons p i ((run p choices (start p)).agents i)
+
+-- It is so for each agent of which holds what always does.
+abbrev pub SoundMerges : Csp → Type 0
+SoundMerges p = IsCsp p → (i : ℕ) (a : Agent) → Sound p i a → IsUnionOfReasons p i a

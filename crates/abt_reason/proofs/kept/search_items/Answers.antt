@@ -14,7 +14,7 @@ loop-k-preserved c =
     let i = c.loop-k.k in
     let so_far = c.loop-k.invariant in
     let within : i < length kept = omega (arith, so_far.0, c.requires) in
-    let found = λ (k : ℕ) (o : Option ℕ). o ≡ first_step (with_value c.args.seat.now.agent (own_at c.args.seat.now.domain.now k) (values_in (view_of c.args.seat.now.view.now))) c.args.items.now in (
+    let found = λ (k : ℕ) (o : Option ℕ). o ≡ first_step (with_value c.args.seat.now.agent (own_at c.args.seat.now.domain.now k) (values_in (view_of c.args.seat.now.known.now.view.now))) c.args.items.now in (
       length-set kept i c.first_agreeing.result ∙ so_far.0,
       done_more found kept i c.first_agreeing.result None within so_far.1 (c.first_agreeing.ensures ∙ ap (λ (known : PartialAssignment). first_step known c.args.items.now) c.under-under.ensures),
     )

@@ -7,8 +7,6 @@ use Rattle.abt_agent.specs.States.{State, Acts, stands_for}
 use Rattle.law_right_steps.specs.Sources.{AreOfSteps}
 use Rattle.abt_agent.specs.Rights.{IsRightTurn}
 use Rattle.abt_agent.specs.Bodies.{agent_of}
-use Rattle.law_bounded_store.proofs.Lengths.{bounded_store}
-use Rattle.law_right_steps.proofs.Merges.{union_of_reasons}
 use Rattle.abt_defs.specs.Steps as steps
 use Rattle.abt_message.specs.Messages.{message_of}
 use Rattle.abt_agent.proofs.Acting.{state_of, acts}
@@ -27,9 +25,9 @@ returns-in-Ok-clause-right c made rooted brings =
 pub returns-in-Ok-clause-bounded : goal.returns-in-Ok-clause-bounded
 returns-in-Ok-clause-bounded c =
     subst (λ (s : State). IsBoundedStore (csp_of s.problem) s.me (agent_of c.receive.new.self)) c.self.view_is
-    (bounded_store (csp_of c.self.inside.body.known.problem.now) c.self.inside.body.known.me (agent_of c.receive.new.self) (moved_sound c.receive.new.self.known c.self.inside.body.known (agent_of c.receive.new.self) (sym c.in-Ok.ensures.owner) c.in-Ok.ensures.good.sound))
+    (c.sound_stores.ensures (csp_of c.self.inside.body.known.problem.now) c.self.inside.body.known.me (agent_of c.receive.new.self) (moved_sound c.receive.new.self.known c.self.inside.body.known (agent_of c.receive.new.self) (sym c.in-Ok.ensures.owner) c.in-Ok.ensures.good.sound))
 
 pub returns-in-Ok-clause-merges : goal.returns-in-Ok-clause-merges
 returns-in-Ok-clause-merges c =
     subst (λ (s : State). IsUnionOfReasons (csp_of s.problem) s.me (agent_of c.receive.new.self)) c.self.view_is
-    (union_of_reasons (csp_of c.self.inside.body.known.problem.now) c.vars-vars.ensures.csp c.self.inside.body.known.me (agent_of c.receive.new.self) (moved_sound c.receive.new.self.known c.self.inside.body.known (agent_of c.receive.new.self) (sym c.in-Ok.ensures.owner) c.in-Ok.ensures.good.sound))
+    (c.sound_merges.ensures (csp_of c.self.inside.body.known.problem.now) c.vars-vars.ensures.csp c.self.inside.body.known.me (agent_of c.receive.new.self) (moved_sound c.receive.new.self.known c.self.inside.body.known (agent_of c.receive.new.self) (sym c.in-Ok.ensures.owner) c.in-Ok.ensures.good.sound))

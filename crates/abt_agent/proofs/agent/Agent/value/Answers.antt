@@ -1,8 +1,6 @@
 use Rattle.std.proofs.Common.{◌≡◌, subst, false}
 use Rattle.law_bounded_store.specs.Stores.{IsBoundedStore}
-use Rattle.law_bounded_store.proofs.Lengths.{bounded_store}
 use Rattle.law_right_steps.specs.Merges.{IsUnionOfReasons}
-use Rattle.law_right_steps.proofs.Merges.{union_of_reasons}
 use Rattle.dcsp_problem.specs.Problems.{csp_of}
 use Rattle.abt_agent.specs.States.{State, stands_for}
 use Rattle.abt_agent.specs.Bodies.{agent_of}
@@ -11,9 +9,9 @@ use Rattle.abt_agent.proofs.agent.Agent.value.Goals as goal
 pub returns-clause-bounded : goal.returns-clause-bounded
 returns-clause-bounded c =
     subst (λ (s : State). s.spent ≡ false → IsBoundedStore (csp_of s.problem) s.me (stands_for s)) c.self.view_is
-    (λ good. bounded_store (csp_of c.self.inside.body.known.problem.now) c.self.inside.body.known.me (agent_of c.self.inside.body) (c.self.invariant good).sound)
+    (λ good. c.sound_stores.ensures (csp_of c.self.inside.body.known.problem.now) c.self.inside.body.known.me (agent_of c.self.inside.body) (c.self.invariant good).sound)
 
 pub returns-clause-merges : goal.returns-clause-merges
 returns-clause-merges c =
     subst (λ (s : State). s.spent ≡ false → IsUnionOfReasons (csp_of s.problem) s.me (stands_for s)) c.self.view_is
-    (λ good. union_of_reasons (csp_of c.self.inside.body.known.problem.now) c.vars-vars.ensures.csp c.self.inside.body.known.me (agent_of c.self.inside.body) (c.self.invariant good).sound)
+    (λ good. c.sound_merges.ensures (csp_of c.self.inside.body.known.problem.now) c.vars-vars.ensures.csp c.self.inside.body.known.me (agent_of c.self.inside.body) (c.self.invariant good).sound)

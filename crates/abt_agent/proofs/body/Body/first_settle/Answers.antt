@@ -21,5 +21,5 @@ returns-clause-first c =
 pub returns-clause-right : goal.returns-clause-right
 returns-clause-right c made =
     let none : (x : Record) → In x (agent_of c.args.self.now).recorded → ⊥ = λ x u. subst (λ (a : Agent). In x a.recorded) c.requires.fresh u in
-    ok_then c.settle.result (λ turn d. settle_right (csp_of c.args.self.now.known.problem.now) c.vars-vars.ensures.csp made c.args.self.now.known.me c.requires.good.sized.in_step.me_exists (agent_of c.args.self.now) c.requires.good.sound
-    (λ x u. absurd (none x u)) 0 turn d.turn_is) c.settle.ensures.does
+    ok_then c.settle.result (λ turn d. settle_right (csp_of c.args.self.now.known.problem.now) made c.args.self.now.known.me (agent_of c.args.self.now)
+    (c.agents_step_right.ensures (csp_of c.args.self.now.known.problem.now) c.vars-vars.ensures.csp c.args.self.now.known.me c.requires.good.sized.in_step.me_exists made (agent_of c.args.self.now) c.requires.good.sound (λ x u. absurd (none x u))) 0 turn d.turn_is) c.settle.ensures.does

@@ -18,7 +18,7 @@ pub keep-requires-clause-kept : goal.keep-requires-clause-kept
 keep-requires-clause-kept c =
     let stamped = with_stamps c.pairs-2.result.now c.args.stamps.now in
     subst (λ (x : Contents × ℕ). AreProper x.0 x.1 c.learn_all.new.self.known.store) (sym (c.learn_all.ensures.owner ∙ c.in_ok-ask.ensures.owner))
-    (left_proper c.args.self.now.known.problem.now c.args.self.now.known.me c.pairs.result.now stamped (agent_of c.args.self.now) (agent_of c.learn_all.new.self) c.requires.good.sound
+    (left_proper c.agents_only_learn.ensures c.args.self.now.known.problem.now c.args.self.now.known.me c.pairs.result.now stamped (agent_of c.args.self.now) (agent_of c.learn_all.new.self) c.requires.good.sound
     (c.learn_all.ensures.agent ∙ ap (λ (x : Contents × ℕ). steps.learn_all x.1 stamped (agent_of c.ask.new.self)) c.in_ok-ask.ensures.owner
     ∙ ap (steps.learn_all c.args.self.now.known.me stamped) c.in_ok-ask.ensures.agent))
 
@@ -36,5 +36,5 @@ returns-clause-sent c =
 
 pub returns-clause-good : goal.returns-clause-good
 returns-clause-good c =
-    good_heeded c.args.recorded.step c.args.recorded.nogood c.args.stamps.now c.args.self.now c.keep.new.self c.requires.good (c.in_ok-keep.ensures.owner ∙ c.learn_all.ensures.owner ∙ c.in_ok-ask.ensures.owner) c.in_ok-keep.ensures.sized
+    good_heeded c.agents_stay_sound.ensures c.args.recorded.step c.args.recorded.nogood c.args.stamps.now c.args.self.now c.keep.new.self c.requires.good (c.in_ok-keep.ensures.owner ∙ c.learn_all.ensures.owner ∙ c.in_ok-ask.ensures.owner) c.in_ok-keep.ensures.sized
     (proper_nogood c.args.self.now.known.problem.now c.args.self.now.known.me c.args.recorded.nogood c.args.stamps.now c.requires.good.sized.in_step.me_exists c.pairs.ensures.rising c.requires.nogood) (returns-clause-agent c)
