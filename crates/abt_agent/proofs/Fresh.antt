@@ -1,13 +1,13 @@
 -- An agent before its start.
-use Rattle.std.proofs.Common.{◌≡◌, ◌≢◌, ℕ, zero, suc, ◌+◌, ◌<◌, ◌≤◌, Bool, true, false, cond, not, ◌&&◌, ◌||◌, List, [], ◌∷◌, map, filter, length, Option, Some, None, ◌==◌, refl, sym, ap, subst, ◌∙◌, arith, ℤ, inl, inr}
+use Rattle.std.proofs.Common.{◌≡◌, ℕ, zero, suc, ◌+◌, ◌<◌, ◌≤◌, Bool, true, false, cond, not, ◌&&◌, ◌||◌, List, [], ◌∷◌, map, filter, length, Option, Some, None, ◌==◌, refl, sym, ap, subst, ◌∙◌, arith, ℤ, inl, inr}
 use Rattle.std.specs.Prelude.{filter_map, nat_lt, slice_index_or}
 use Rattle.std.specs.List.{list_any, enumerate_from, cons_option}
 use Rattle.std.proofs.lemmas.Bool.{cases_lt}
 use Rattle.std.proofs.lemmas.Bool.Decides.{Decides-eqb, nat_tests}
 use Rattle.std.proofs.lemmas.List.{length_push, map-append, length-map, get_or_append_left, get_or_push, get_or_past}
 use Rattle.dcsp_defs.specs.Words.{In, IsRising, below}
-use Rattle.dcsp_defs.specs.Csp.{Csp, IsCsp, Constraint, count, owns}
-use Rattle.dcsp_defs.proofs.Lists.{and_left, and_right, In-list_any, list_any-In, In-filter, filter-from, below-In}
+use Rattle.dcsp_defs.specs.Csp.{Csp, Constraint, count, owns}
+use Rattle.dcsp_defs.proofs.Lists.{In-list_any, list_any-In, In-filter, filter-from, below-In}
 use Rattle.dcsp_defs.specs.declared.Step.{Step}
 use Rattle.abt_defs.specs.Agents.{Agent, plain, fresh, shares, is_among}
 use Rattle.abt_defs.specs.Reasons.{Item, blamed, causes, derived, step_of}

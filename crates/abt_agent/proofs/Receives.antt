@@ -1,12 +1,11 @@
 -- What a message that comes does.
-use Rattle.std.proofs.Common.{◌≡◌, ℕ, ◌+◌, ◌<◌, Bool, true, false, cond, not, ◌&&◌, List, length, refl, sym, ap, subst, ◌∙◌, arith, append-nil, Result, Ok, Err, inl, inr}
+use Rattle.std.proofs.Common.{◌≡◌, ℕ, ◌+◌, ◌<◌, Bool, true, false, cond, not, ◌&&◌, List, length, refl, sym, ap, subst, ◌∙◌, append-nil, Result, Ok, Err}
 use Rattle.std.specs.Prelude.{IfOk, OnOk}
 use Rattle.dcsp_list.specs.declared.Memory.{Memory}
-use Rattle.std.proofs.lemmas.Bool.Decides.{eqb_tells}
 use Rattle.dcsp_nogood.specs.declared.Pair.{Pair}
 use Rattle.dcsp_defs.specs.Words.{In, update}
-use Rattle.dcsp_defs.specs.Csp.{Csp, count, domain}
-use Rattle.abt_defs.specs.Agents.{Agent, Message, Refuse, Stamped, StampedNogood, plain, Add_link}
+use Rattle.dcsp_defs.specs.Csp.{Csp, domain}
+use Rattle.abt_defs.specs.Agents.{Agent, Message, Refuse, Stamped, plain, Add_link}
 use Rattle.abt_defs.specs.Steps as steps
 use Rattle.abt_defs.specs.Steps.{Outcome}
 use Rattle.law_invariants.specs.OneAgent.{Proper, Sound}

@@ -1,20 +1,18 @@
 -- The steps that an agent makes are right.
-use Rattle.std.proofs.Common.{◌≡◌, ℕ, ◌+◌, ◌<◌, true, false, cond, not, ◌&&◌, List, [], ◌∷◌, length, Option, Some, None, ℤ, refl, sym, subst, ◌∙◌, arith}
+use Rattle.std.proofs.Common.{◌≡◌, ℕ, ◌<◌, List, None, sym, subst}
 use Rattle.dcsp_nogood.specs.declared.Pair.{Pair}
 use Rattle.dcsp_defs.specs.Words.{In}
-use Rattle.dcsp_defs.specs.Csp.{Csp, IsCsp, domain, count}
+use Rattle.dcsp_defs.specs.Csp.{Csp, domain}
 use Rattle.dcsp_defs.specs.declared.Step.{Step}
-use Rattle.abt_defs.specs.Agents.{Agent, Stamped, StampedNogood, Announce, Refuse}
-use Rattle.abt_defs.specs.Reasons.{derived, step_of}
-use Rattle.abt_defs.specs.Steps as steps
-use Rattle.abt_defs.specs.Steps.{Outcome, is_newer, is_news, settle, learn, heed, stay, first_sent, to_each, unlinked, receive}
-use Rattle.law_invariants.specs.OneAgent.{Proper, Sound}
+use Rattle.abt_defs.specs.Agents.{Agent, Stamped, Announce, Refuse}
+use Rattle.abt_defs.specs.Steps.{Outcome, settle, receive}
+use Rattle.law_invariants.specs.OneAgent.{Proper}
 use Rattle.law_right_steps.specs.OneAgent.{IsRightIfMade, MakesRightSteps}
 use Rattle.abt_message.specs.Messages.{with_stamps}
 use Rattle.abt_agent.specs.declared.Turn.{Turn}
 use Rattle.abt_agent.specs.declared.Turn.TheVariants.{Quiet, Announced, Derived, Empty}
 use Rattle.abt_agent.specs.Turns.{IsTurn}
-use Rattle.law_right_steps.specs.Sources.{IsOfStep, AreOfSteps}
+use Rattle.law_right_steps.specs.Sources.{IsOfStep}
 use Rattle.abt_agent.specs.Rights.{IsRightTurn}
 use Rattle.abt_agent.proofs.Lists.{plain-with_stamps}
 

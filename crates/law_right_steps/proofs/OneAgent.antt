@@ -1,13 +1,12 @@
 -- The steps that one agent makes are right, whatever their numbers.
-use Rattle.std.proofs.Common.{◌≡◌, ℕ, ◌+◌, ◌<◌, true, false, cond, not, ◌&&◌, List, [], ◌∷◌, length, Option, Some, None, ℤ, refl, subst, arith}
-use Rattle.dcsp_defs.specs.Csp.{Csp, IsCsp, count}
+use Rattle.std.proofs.Common.{◌≡◌, ℕ, ◌+◌, true, false, cond, not, ◌&&◌, List, [], ◌∷◌, length, Option, Some, None, ℤ, refl, subst, arith}
+use Rattle.dcsp_defs.specs.Csp.{Csp}
 use Rattle.dcsp_defs.specs.declared.Step.{Step}
 use Rattle.abt_defs.specs.Agents.{Agent, Stamped, StampedNogood, Announce, Refuse}
 use Rattle.abt_defs.specs.Reasons.{derived, step_of}
 use Rattle.abt_defs.specs.Steps.{is_newer, is_news, is_free, choice, refuse, take_or_refuse, settle, learn, heed, stay, receive}
-use Rattle.law_invariants.specs.OneAgent.{Sound}
 use Rattle.law_right_steps.specs.Sources.{AreOfSteps}
-use Rattle.law_right_steps.specs.OneAgent.{IsRightIfMade, MakesRightSteps, AgentsStepRight}
+use Rattle.law_right_steps.specs.OneAgent.{IsRightIfMade, AgentsStepRight}
 use Rattle.law_right_steps.proofs.Runs.{Rooted, settled, received}
 
 -- ---- no step's number matters to what the step is

@@ -5,7 +5,7 @@ use Rattle.std.specs.List.{enumerate_from}
 use Rattle.dcsp_defs.specs.Words.{In, below}
 use Rattle.dcsp_defs.specs.Csp.{Csp, Constraint, Nogood, domain, count, IsCsp}
 use Rattle.dcsp_defs.specs.declared.Step.{Step}
-use Rattle.dcsp_defs.specs.Derivation.{step_at, IsRight, IsDerivation}
+use Rattle.dcsp_defs.specs.Derivation.{step_at, IsDerivation}
 use Rattle.abt_defs.specs.Agents.{Agent, Message, Announce, Refuse, Add_link, Record, StampedNogood, plain, lowest, known}
 use Rattle.abt_defs.specs.Reasons.{ruled_out, derived, step_of}
 use Rattle.abt_defs.specs.Steps.{Outcome, stay, to_each, is_free, choice, refuse, take_or_refuse, settle, is_newer, learn, learn_all, is_news, is_named, unlinked, ask, heed, first_sent, own_value, receive}
