@@ -191,7 +191,7 @@ alike_itself (t ∷ ts) = elim (semicolon_or_not t.kind) [
 ]
 
 -- what stands behind the first `;`
-behind_first : (ts us rest next : List Token) → Alike ts us (Some (rest, next)) → ToSemicolon ts tt rest
+pub behind_first : (ts us rest next : List Token) → Alike ts us (Some (rest, next)) → ToSemicolon ts tt rest
 behind_first [] [] rest next alike = absurd cc
 behind_first [] (u ∷ us) rest next alike = absurd alike
 behind_first (t ∷ ts) [] rest next alike = absurd alike

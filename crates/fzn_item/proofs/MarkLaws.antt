@@ -21,7 +21,7 @@ pub range_unique : IsUnique IsRange
 range_unique = then_unique _ _ integer_unique (λ low. then_unique _ _ (one_unique (kind.Mark mark.DotDot)) (λ _. then_unique _ _ integer_unique (λ high. gives_unique (low, high))))
 
 -- a range begins with no mark
-range_apart : (m : Mark) (ts : List Token) (v : ℤ × ℤ) (t : Token) (r s : List Token) → IsRange ts v r → IsMark m ts t s → ⊥
+pub range_apart : (m : Mark) (ts : List Token) (v : ℤ × ℤ) (t : Token) (r s : List Token) → IsRange ts v r → IsMark m ts t s → ⊥
 range_apart m [] v t r s p q = q
 range_apart m (u ∷ us) v t r s p q = (let clash : kind.Whole p.0 ≡ kind.Mark m = sym p.2.0 ∙ q.0 in cc)
 

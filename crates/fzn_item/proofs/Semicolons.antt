@@ -239,7 +239,7 @@ marked_end_stays name.OutputArray = or_stays _ _
 marked_end_stays name.Other = then_stays _ _ inside_stays (λ _. gives_stays marked.Nothing)
 
 -- an annotation
-annotation_stays : (text : List ℕ) → Stays (IsMarkedAnnotation text)
+pub annotation_stays : (text : List ℕ) → Stays (IsMarkedAnnotation text)
 annotation_stays text = then_stays _ _ (one_stays kind.Name (λ e. cc)) (λ called_by. marked_end_stays (called text called_by))
 
 -- annotations

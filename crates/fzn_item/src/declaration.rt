@@ -23,7 +23,12 @@ pub(crate) fn declaration<'t>(
     ensures shorter { IfOk result (λ x. length x.1.now < length tokens.now) }
 {
     let (element, rest) = element_after(alloc, first.kind, tokens)?;
-    named(alloc, text, first.from, None, element, rest)
+    let heading = Heading {
+        at: first.from,
+        index: None,
+        element,
+    };
+    named(alloc, text, heading, rest)
 }
 
 /// A declaration of an array, after its first word.
@@ -49,19 +54,30 @@ pub(crate) fn array<'t>(
         return Err(Stop::Unread);
     };
     let (element, rest) = read_element(alloc, rest)?;
-    named(alloc, text, first.from, Some(index), element, rest)
+    let heading = Heading {
+        at: first.from,
+        index: Some(index),
+        element,
+    };
+    named(alloc, text, heading, rest)
+}
+
+/// What a declaration says before its `:`, and where its first word stands.
+#[derive(Drop)]
+struct Heading {
+    at: u32,
+    index: Option<(i64, i64)>,
+    element: Element,
 }
 
 /// The `:`, the name, the annotations and the right side of a declaration.
 fn named<'t>(
     alloc: Global,
     text: &[u8],
-    at: u32,
-    index: Option<(i64, i64)>,
-    element: Element,
+    heading: Heading,
     tokens: &'t [Token],
 ) -> Result<(Item, &'t [Token]), Stop>
-    ensures reads { Reads (IsNamed text.now at index element) tokens.now result }
+    ensures reads { Reads (IsNamed text.now heading.at heading.index heading.element) tokens.now result }
     ensures shorter { IfOk result (λ x. length x.1.now < length tokens.now) }
 {
     let Some((_, rest)) = one_of(tokens, TokenKind::Mark(Mark::Colon)) else {
@@ -71,6 +87,7 @@ fn named<'t>(
         return Err(Stop::Unread);
     };
     let (marked, rest) = annotations(alloc, text, rest)?;
+    let Heading { at, index, element } = heading;
     let optional = may_lack_right(&element, index);
     let (right, rest) = right_side(alloc, optional, rest)?;
     let Element { variable, base } = element;

@@ -19,8 +19,8 @@ use Rattle.dcsp_problem.specs.Problems.{Contents}
 use Rattle.fzn_model.specs.declared.refusal.ItemRefusal.{ItemRefusal}
 use Rattle.fzn_model.specs.declared.refusal.Stop.{Stop}
 use Rattle.fzn_model.specs.declared.refusal.Stop.TheVariants as stop
-use Rattle.fzn_scope.specs.Checks.{◌>>=◌}
-use Rattle.fzn_model.specs.Checks.{Gives}
+use Rattle.fzn_scope.specs.Checks.{◌>>=◌, Gives}
+use Rattle.fzn_model.specs.Checks.{refusal_of}
 use Rattle.fzn_model.specs.declared.model.ModelError.{ModelError}
 use Rattle.fzn_model.specs.Declarations.{SoFar}
 use Rattle.fzn_model.specs.Items.{start, after, after_all, finished, resolved}
@@ -193,10 +193,10 @@ answered text given result all is = inr (inr (inr (record {
 })))
 
 -- the problem of all items
-pub finished_ok : (text : List ℕ) (given : Result SoFar ItemRefusal) (problem : Contents) → AreAllTaken text given → Gives (Ok problem) (problem_given given) → AnswersOrLacks text (Ok problem)
+pub finished_ok : (text : List ℕ) (given : Result SoFar ItemRefusal) (problem : Contents) → AreAllTaken text given → Gives refusal_of (Ok problem) (problem_given given) → AnswersOrLacks text (Ok problem)
 finished_ok text given problem all is = answered text given (Ok problem) all (ap answer_of (sym is))
 
 -- there is no problem of all items
-pub finished_err : (text : List ℕ) (given : Result SoFar ItemRefusal) (e : Stop) → AreAllTaken text given → Gives {X = Contents} (Err e) (problem_given given) → AnswersOrLacks text (Err (stop_error e))
+pub finished_err : (text : List ℕ) (given : Result SoFar ItemRefusal) (e : Stop) → AreAllTaken text given → Gives {X = Contents} refusal_of (Err e) (problem_given given) → AnswersOrLacks text (Err (stop_error e))
 finished_err text given (stop.Refused refusal) all is = answered text given (Err (error_of refusal)) all (ap answer_of (sym is))
 finished_err text given stop.Memory all is = inl refl

@@ -1,5 +1,5 @@
 -- Checks of items, some of which are checks of what an expression means.
-use Rattle.std.specs.Prelude.{◌≡◌, ℕ, Result, Ok, Err}
+use Rattle.std.specs.Prelude.{ℕ, Option, Some, None, Result, Ok, Err}
 use Rattle.fzn_scope.specs.declared.refusal.Refusal.{Refusal}
 use Rattle.fzn_scope.specs.declared.refusal.Refusal.TheVariants as meaning
 use Rattle.fzn_scope.specs.declared.refusal.Stop as lower
@@ -23,12 +23,7 @@ abbrev pub as_stop : lower.Stop → Stop
 as_stop (lower_stop.Refused e) = stop.Refused (refusal.Meaning e)
 as_stop lower_stop.Memory = stop.Memory
 
--- what a call stopped with is the refusal that is meant, unless memory ran out
-abbrev pub Stops : {X : Type 0} → Stop → Result X ItemRefusal → Type 0
-Stops stop.Memory answer = Unit {0}
-Stops (stop.Refused refusal) answer = answer ≡ Err refusal
-
--- what a call answers is what is meant, unless memory ran out
-abbrev pub Gives : {X : Type 0} → Result X Stop → Result X ItemRefusal → Type 0
-Gives (Ok x) answer = answer ≡ Ok x
-Gives (Err e) answer = Stops e answer
+-- the refusal that a call stopped with; none where memory ran out
+abbrev pub refusal_of : Stop → Option ItemRefusal
+refusal_of (stop.Refused refusal) = Some refusal
+refusal_of stop.Memory = None

@@ -6,8 +6,8 @@ use Rattle.fzn_model.specs.declared.refusal.Stop.{Stop}
 use Rattle.fzn_model.specs.declared.refusal.Stop.TheVariants as stop
 use Rattle.dcsp_problem.specs.declared.limits.BuildError.{BuildError}
 use Rattle.dcsp_problem.specs.declared.limits.BuildError.TheVariants as errors
-use Rattle.fzn_scope.specs.Checks.{◌>>=◌, refused_if}
-use Rattle.fzn_model.specs.Checks.{Stops}
+use Rattle.fzn_scope.specs.Checks.{◌>>=◌, refused_if, Stops}
+use Rattle.fzn_model.specs.Checks.{refusal_of}
 use Rattle.fzn_scope.specs.Known.{AreKnown}
 use Rattle.fzn_scope.specs.Names.{Scope}
 use Rattle.dcsp_problem.specs.declared.rule.Term.{Term}
@@ -33,7 +33,7 @@ use Rattle.fzn_model.specs.Models.{longest_text, lexical_error, syntactic_error}
 -- a call that changes something into this does what is meant, unless memory ran out
 abbrev pub Leaves : {A X : Type 0} → X → Result A Stop → Result X ItemRefusal → Type 0
 Leaves now (Ok x) meaning = meaning ≡ Ok now
-Leaves now (Err e) meaning = Stops e meaning
+Leaves now (Err e) meaning = Stops (refusal_of e) meaning
 
 -- the builder's refusal, at a place
 abbrev pub stop_at : ℕ → BuildError → Stop

@@ -3,7 +3,8 @@
 ghost use Rattle.std.specs.Prelude.{◌≡◌, ℕ, ◌≤◌, length, All, OnOk, IfOk, Ok};
 ghost use Rattle.dcsp_problem.specs.Rules.{IsTermOf};
 ghost use Rattle.dcsp_problem.specs.Limits.{most};
-ghost use Rattle.fzn_model.specs.Checks.{Gives};
+ghost use Rattle.fzn_scope.specs.Checks.{Gives};
+ghost use Rattle.fzn_model.specs.Checks.{refusal_of};
 ghost use Rattle.fzn_scope.specs.Known.{AreKnown};
 ghost use Rattle.fzn_model.specs.Building.{with_rule};
 ghost use Rattle.fzn_model.specs.Declarations.{check_element, element_set, is_index, within, with_member, with_set};
@@ -58,7 +59,7 @@ pub(crate) fn elements(
     index: (i64, i64),
     right: &Expr,
 ) -> Result<TermList, Stop>
-    ensures gives { Gives result (elements_by context.entry.text.now context.entry.names.now declaration.entry index right.now) }
+    ensures gives { Gives refusal_of result (elements_by context.entry.text.now context.entry.names.now declaration.entry index right.now) }
     ensures known { IfOk result (λ terms. (variables : ℕ) → AreKnown variables context.entry.names.now → All (IsTermOf variables) terms) }
 {
     let count = context.count_of(right)?;
@@ -74,7 +75,7 @@ pub(crate) fn elements(
 
 /// A copy of a set that elements are in, if the element type says one.
 fn element_set(alloc: Global, base: &Base) -> Result<Option<Members>, Stop>
-    ensures { Gives result (Ok (element_set base.now)) }
+    ensures { Gives refusal_of result (Ok (element_set base.now)) }
 {
     match base {
         Base::Range { low, high } => Ok(Some(Members::Between {

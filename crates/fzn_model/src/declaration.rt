@@ -3,7 +3,8 @@
 ghost use Rattle.std.specs.Prelude.{◌≡◌, ℕ, ◌<◌, length, OnOk, IfOk, IfErr, IfSome, Ok, Err};
 ghost use Rattle.fzn_item.specs.declared.item.Base.TheVariants as base;
 ghost use Rattle.dcsp_problem.specs.Rules.{IsTermOf};
-ghost use Rattle.fzn_model.specs.Checks.{Gives};
+ghost use Rattle.fzn_scope.specs.Checks.{Gives};
+ghost use Rattle.fzn_model.specs.Checks.{refusal_of};
 ghost use Rattle.fzn_scope.specs.Known.{AreKnown};
 ghost use Rattle.fzn_model.specs.Building.{with_rule};
 ghost use Rattle.fzn_model.specs.Declarations.{is_boolean, right_side, constant, value_of, domain_of, source_of, equality, with_source};
@@ -71,7 +72,7 @@ pub(crate) fn value_of(
     base: &Base,
     expr: &Expr,
 ) -> Result<Declared, Stop>
-    ensures { Gives result (value_of context.entry.text.now context.entry.names.now at base.now expr.now) }
+    ensures { Gives refusal_of result (value_of context.entry.text.now context.entry.names.now at base.now expr.now) }
 {
     match base {
         Base::Bool => Ok(constant(context, true, expr)?),
@@ -83,7 +84,7 @@ pub(crate) fn value_of(
 
 /// A variable's domain.
 pub(crate) fn domain_of(alloc: Global, at: u32, base: &Base) -> Result<Domain, Stop>
-    ensures { Gives result (domain_of at base.now) }
+    ensures { Gives refusal_of result (domain_of at base.now) }
 {
     match base {
         Base::Bool => domain_between(alloc, at, 0, 1),
@@ -96,7 +97,7 @@ pub(crate) fn domain_of(alloc: Global, at: u32, base: &Base) -> Result<Domain, S
 
 /// The domain of a range.
 fn domain_between(alloc: Global, at: u32, low: i64, high: i64) -> Result<Domain, Stop>
-    ensures { Gives result (domain_of at (base.Range low high)) }
+    ensures { Gives refusal_of result (domain_of at (base.Range low high)) }
 {
     match Domain::range(alloc, low, high) {
         Ok(domain) => Ok(domain),
@@ -107,7 +108,7 @@ fn domain_between(alloc: Global, at: u32, low: i64, high: i64) -> Result<Domain,
 
 /// The domain of a listed set.
 fn listed_domain(alloc: Global, at: u32, values: &IntList) -> Result<Domain, Stop>
-    ensures { Gives result (domain_of at (base.Listed values.now)) }
+    ensures { Gives refusal_of result (domain_of at (base.Listed values.now)) }
 {
     match Domain::listed(alloc, values.items()) {
         Ok(domain) => Ok(domain),

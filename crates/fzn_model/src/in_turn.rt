@@ -1,7 +1,8 @@
 //! From a text to its problem: each item is read, resolved and let go before the tokens of the next are read.
 
 ghost use Rattle.std.specs.Prelude.{◌≡◌, ◌≤◌, ◌<◌, ◌+◌, length, OnOk, IfErr, Ok, Err};
-ghost use Rattle.fzn_model.specs.Checks.{Gives};
+ghost use Rattle.fzn_scope.specs.Checks.{Gives};
+ghost use Rattle.fzn_model.specs.Checks.{refusal_of};
 ghost use Rattle.fzn_model.specs.Items.{start};
 ghost use Rattle.fzn_model.specs.Models.{longest_text, AnswersOrLacks};
 ghost use Rattle.fzn_model.specs.Reading.{gave, then_item, problem_given, IsSoundGiven, prints, AreAllTaken, LeavesUnread};
@@ -103,7 +104,7 @@ impl<'t> Taken<'t> {
 
     /// The problem of the items.
     fn finish(self) -> Result<Problem, Stop>
-        ensures { Gives result (problem_given (gave self.entry)) }
+        ensures { Gives refusal_of result (problem_given (gave self.entry)) }
     {
         match self.refused {
             Some(refusal) => Err(Stop::Refused(refusal)),

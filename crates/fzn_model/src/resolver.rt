@@ -1,7 +1,8 @@
 //! What one item adds to the names and to the problem, or its refusal.
 
 ghost use Rattle.std.specs.Prelude.{◌≡◌, ◌≤◌, ◌<◌, ◌+◌, length, OnOk, None};
-ghost use Rattle.fzn_model.specs.Checks.{Gives};
+ghost use Rattle.fzn_scope.specs.Checks.{Gives};
+ghost use Rattle.fzn_model.specs.Checks.{refusal_of};
 ghost use Rattle.fzn_scope.specs.Names.{declared_as};
 ghost use Rattle.fzn_model.specs.Declarations.{is_late, declaration};
 ghost use Rattle.fzn_model.specs.Items.{start, solve, predicate, after, finished};
@@ -306,7 +307,7 @@ impl<'t> Resolver<'t> {
 
     /// The problem, if there was a solve item.
     pub(crate) fn finish(self) -> Result<Problem, Stop>
-        ensures { Gives result (finished (so_far self.entry)) }
+        ensures { Gives refusal_of result (finished (so_far self.entry)) }
     {
         if !self.solved {
             return Err(Stop::Refused(ItemRefusal::NoSolve));

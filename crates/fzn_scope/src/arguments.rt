@@ -2,7 +2,7 @@
 
 ghost use Rattle.std.specs.Prelude.{◌≡◌, ℕ, Ok, All, IfOk, IfErr, OnOk, IsTrue, length, map};
 ghost use Rattle.dcsp_problem.specs.Rules.{IsTermOf, has_shape, terms_of};
-ghost use Rattle.fzn_scope.specs.Checks.{Gives, Stops};
+ghost use Rattle.fzn_scope.specs.Checks.{refusal_of, Gives, Stops};
 ghost use Rattle.fzn_scope.specs.Known.{AreKnown};
 ghost use Rattle.fzn_scope.specs.Rules.{no_arguments, with_argument, arguments_after, constant_of, scalar_at, truth_of, rule_of, lengths_agree, form_at, constraint_rule};
 
@@ -24,7 +24,7 @@ pub struct Arguments {
 
 /// No arguments, with room for so many scalars.
 fn no_arguments(alloc: Global, scalars: usize) -> Result<Arguments, Stop>
-    ensures { Gives result (Ok no_arguments) }
+    ensures { Gives refusal_of result (Ok no_arguments) }
 {
     Ok(Arguments {
         scalars: TermList::from_vec(Vec::with_capacity(alloc, scalars)?),
@@ -45,7 +45,7 @@ fn constant_of(term: Term) -> i64
 }
 
 fn constants_of(alloc: Global, terms: &[Term]) -> Result<IntList, Stop>
-    ensures { Gives result (Ok (map constant_of terms.now)) }
+    ensures { Gives refusal_of result (Ok (map constant_of terms.now)) }
 {
     let mut values = Vec::with_capacity(alloc, terms.len())?;
     for term in terms {
@@ -77,7 +77,7 @@ fn truth_of(reified: bool, arguments: &Arguments) -> Option<Term>
 
 /// The rule that these arguments make.
 fn rule_of(alloc: Global, form: Form, arguments: Arguments) -> Result<Rule, Stop>
-    ensures { Gives result (Ok (rule_of form arguments)) }
+    ensures { Gives refusal_of result (Ok (rule_of form arguments)) }
 {
     match form {
         Form::Plain(kind) => Ok(Rule::Plain {
@@ -125,7 +125,7 @@ impl<'c, 't> Context<'c, 't> {
     /// Adds an argument, at a place that asks for it.
     fn add_argument(self, done: &mut Arguments, place: Place, expr: &Expr) -> Result<(), Stop>
         ensures ok { OnOk result (with_argument self.entry.text.now self.entry.names.now done.old place expr.now ≡ Ok done.new) }
-        ensures err { IfErr result (λ e. Stops e (with_argument self.entry.text.now self.entry.names.now done.old place expr.now)) }
+        ensures err { IfErr result (λ e. Stops (refusal_of e) (with_argument self.entry.text.now self.entry.names.now done.old place expr.now)) }
     {
         match place {
             Place::Scalar { boolean } => {
@@ -151,7 +151,7 @@ impl<'c, 't> Context<'c, 't> {
     /// The arguments at these places, from left to right.
     fn arguments_of(self, places: &[Place], exprs: &[Expr]) -> Result<Arguments, Stop>
         requires { length exprs.now ≡ length places.now }
-        ensures { Gives result (arguments_after self.entry.text.now self.entry.names.now no_arguments places.now exprs.now) }
+        ensures { Gives refusal_of result (arguments_after self.entry.text.now self.entry.names.now no_arguments places.now exprs.now) }
     {
         let mut done = no_arguments(self.alloc, places.len())?;
         for index in 0..exprs.len() {
@@ -166,7 +166,7 @@ impl<'c, 't> Context<'c, 't> {
     /// and for lists of unequal lengths, all three at the name. Between them come the refusals of the arguments,
     /// from left to right.
     pub fn constraint_rule(self, at: u32, name: &[u8], exprs: &[Expr]) -> Result<Rule, Stop>
-        ensures gives { Gives result (constraint_rule self.entry.text.now self.entry.names.now at name.now exprs.now) }
+        ensures gives { Gives refusal_of result (constraint_rule self.entry.text.now self.entry.names.now at name.now exprs.now) }
         ensures shape { IfOk result (λ rule. IsTrue (has_shape rule)) }
         ensures known { IfOk result (λ rule. (variables : ℕ) → AreKnown variables self.entry.names.now →
             All (IsTermOf variables) (terms_of rule)) }
@@ -176,7 +176,7 @@ impl<'c, 't> Context<'c, 't> {
 
     #[tactic(auto, unfolding(crate::specs::Rules::constraint_rule))]
     fn checked_rule(self, at: u32, name: &[u8], exprs: &[Expr]) -> Result<Rule, Stop>
-        ensures { Gives result (constraint_rule self.entry.text.now self.entry.names.now at name.now exprs.now) }
+        ensures { Gives refusal_of result (constraint_rule self.entry.text.now self.entry.names.now at name.now exprs.now) }
     {
         let form = form_at(at, name)?;
         let places = form.places(exprs.len());

@@ -3,7 +3,7 @@
 ghost use Rattle.std.specs.Prelude.{◌≡◌, ℕ, [], Ok, All, IfOk, option_copied};
 ghost use Rattle.dcsp_problem.specs.Rules.{IsTermOf};
 ghost use Rattle.fzn_scope.specs.Known.{AreKnown};
-ghost use Rattle.fzn_scope.specs.Checks.{Gives};
+ghost use Rattle.fzn_scope.specs.Checks.{refusal_of, Gives};
 ghost use Rattle.fzn_scope.specs.Names.{declared_as, bytes_at};
 ghost use Rattle.fzn_scope.specs.Places.{truth_term, is_constant, wanted_term, term_named, term_of, one_of, terms_named, terms_after, list_of, count_named, count_of, set_named, set_of};
 
@@ -81,7 +81,7 @@ fn ill_typed(at: u32) -> Stop
 }
 
 fn copy_of_terms(alloc: Global, terms: &[Term]) -> Result<TermList, Stop>
-    ensures { Gives result (Ok terms.now) }
+    ensures { Gives refusal_of result (Ok terms.now) }
 {
     Ok(TermList::from_vec(Vec::from_slice(alloc, terms)?))
 }
@@ -93,7 +93,7 @@ fn terms_named(
     at: u32,
     declared: Option<&Declared>,
 ) -> Result<TermList, Stop>
-    ensures { Gives result (terms_named wanted at (option_copied declared.entry)) }
+    ensures { Gives refusal_of result (terms_named wanted at (option_copied declared.entry)) }
 {
     match declared {
         None => Err(Stop::Refused(Refusal::Undeclared { at })),
@@ -127,13 +127,13 @@ fn count_named(at: u32, declared: Option<&Declared>) -> Result<usize, Refusal>
 }
 
 fn copy_of_integers(alloc: Global, values: &[i64]) -> Result<IntList, Stop>
-    ensures { Gives result (Ok values.now) }
+    ensures { Gives refusal_of result (Ok values.now) }
 {
     Ok(IntList::from_vec(Vec::from_slice(alloc, values)?))
 }
 
 fn copy_of_set(alloc: Global, set: &Members) -> Result<Members, Stop>
-    ensures { Gives result (Ok set.now) }
+    ensures { Gives refusal_of result (Ok set.now) }
 {
     match set {
         Members::Between { low, high } => Ok(Members::Between {
@@ -145,7 +145,7 @@ fn copy_of_set(alloc: Global, set: &Members) -> Result<Members, Stop>
 }
 
 fn set_named(alloc: Global, at: u32, declared: Option<&Declared>) -> Result<Members, Stop>
-    ensures { Gives result (set_named at (option_copied declared.entry)) }
+    ensures { Gives refusal_of result (set_named at (option_copied declared.entry)) }
 {
     match declared {
         None => Err(Stop::Refused(Refusal::Undeclared { at })),
@@ -195,7 +195,7 @@ impl<'c, 't> Context<'c, 't> {
 
     /// The terms of atoms, from left to right.
     fn terms_of(self, wanted: Wanted, atoms: &[Atom]) -> Result<TermList, Stop>
-        ensures { Gives result (terms_after self.entry.text.now self.entry.names.now wanted [] atoms.now) }
+        ensures { Gives refusal_of result (terms_after self.entry.text.now self.entry.names.now wanted [] atoms.now) }
     {
         let mut terms = Vec::with_capacity(self.alloc, atoms.len())?;
         for atom in atoms {
@@ -209,7 +209,7 @@ impl<'c, 't> Context<'c, 't> {
     /// A list is refused as the first of its atoms that is, from left to right. `Undeclared` comes for a name that
     /// was not declared, and `IllTyped` for any other atom and for an array that is not wanted, at the atom's first byte.
     pub fn list_of(self, wanted: Wanted, expr: &Expr) -> Result<TermList, Stop>
-        ensures gives { Gives result (list_of self.entry.text.now self.entry.names.now wanted expr.now) }
+        ensures gives { Gives refusal_of result (list_of self.entry.text.now self.entry.names.now wanted expr.now) }
         ensures known { IfOk result (λ terms. (variables : ℕ) → AreKnown variables self.entry.names.now →
             All (IsTermOf variables) terms) }
     {
@@ -252,7 +252,7 @@ impl<'c, 't> Context<'c, 't> {
     ///
     /// `Undeclared` comes for a name that was not declared, and `IllTyped` for anything else, at the first byte.
     pub fn set_of(self, expr: &Expr) -> Result<Members, Stop>
-        ensures { Gives result (set_of self.entry.text.now self.entry.names.now expr.now) }
+        ensures { Gives refusal_of result (set_of self.entry.text.now self.entry.names.now expr.now) }
     {
         let atom = match expr {
             Expr::List { at, .. } => return Err(ill_typed(*at)),

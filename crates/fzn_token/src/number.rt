@@ -23,65 +23,66 @@ pub(crate) fn number_token(text: &[u8], at: usize) -> Result<Token, LexError>
         if end == at + 1 {
             Err(LexError::Bad { at: at as u32 })
         } else {
-            unsigned_token(text, at, true, at + 1, end)
+            unsigned_token(text, Sign { at, minus: true }, (at + 1, end))
         }
     } else {
         let end = digits_end(text, at, 10);
-        unsigned_token(text, at, false, at, end)
+        unsigned_token(text, Sign { at, minus: false }, (at, end))
     }
 }
 
-/// The number at `at` whose digits begin at `start`, where the decimal ones end at `end`.
-fn unsigned_token(
-    text: &[u8],
+/// Where a number begins, and whether it does with a `-`.
+#[derive(Clone, Copy)]
+struct Sign {
     at: usize,
     minus: bool,
-    start: usize,
-    end: usize,
-) -> Result<Token, LexError>
+}
+
+/// The number with this sign, whose decimal digits are these.
+fn unsigned_token(text: &[u8], sign: Sign, digits: (usize, usize)) -> Result<Token, LexError>
     requires small { length text.now ≤ 16777216 }
-    requires within { at < length text.now }
-    requires sign { IsSign minus text.now at start }
-    requires whole { IsWholeRun (is_digit_in 10) text.now start end }
-    requires some { start < end }
-    ensures { Reads text.now at result }
+    requires within { sign.at < length text.now }
+    requires sign { IsSign sign.minus text.now sign.at digits.0 }
+    requires whole { IsWholeRun (is_digit_in 10) text.now digits.0 digits.1 }
+    requires some { digits.0 < digits.1 }
+    ensures { Reads text.now sign.at result }
 {
+    let (start, end) = digits;
     match prefixed_end(text, start, b'x', 16) {
-        Some(to) => integer_token(text, at, minus, (start + 2, to), 16),
+        Some(to) => integer_token(text, sign, (start + 2, to), 16),
         None => match prefixed_end(text, start, b'o', 8) {
-            Some(to) => integer_token(text, at, minus, (start + 2, to), 8),
+            Some(to) => integer_token(text, sign, (start + 2, to), 8),
             None => match tail_end(text, end) {
                 Some(to) => Ok(Token {
                     kind: TokenKind::Float,
-                    from: at as u32,
+                    from: sign.at as u32,
                     to: to as u32,
                 }),
-                None => integer_token(text, at, minus, (start, end), 10),
+                None => integer_token(text, sign, digits, 10),
             },
         },
     }
 }
 
-/// The integer at `at` with these digits, which is the longest token there.
+/// The integer with this sign and these digits, which is the longest token where it begins.
 fn integer_token(
     text: &[u8],
-    at: usize,
-    minus: bool,
+    sign: Sign,
     digits: (usize, usize),
     base: u32,
 ) -> Result<Token, LexError>
     requires small { length text.now ≤ 16777216 }
-    requires within { at < length text.now }
+    requires within { sign.at < length text.now }
     requires digits { IsDigits base text.now digits.0 digits.1 }
     requires at_least { 2 ≤ base }
     requires at_most { base ≤ 36 }
-    requires longest { IsLongest (TokenKind.Whole (signed minus (digits_value base (slice_range text.now digits.0 digits.1)))) text.now at digits.1 }
-    ensures { Reads text.now at result }
+    requires longest { IsLongest (TokenKind.Whole (signed sign.minus (digits_value base (slice_range text.now digits.0 digits.1)))) text.now sign.at digits.1 }
+    ensures { Reads text.now sign.at result }
 {
-    let from = at as u32;
+    let from = sign.at as u32;
     match magnitude(text, digits.0, digits.1, base) {
         None => Err(LexError::IntRange { at: from }),
-        Some(n) => match with_sign(minus, n) {
+        Some(n) => match with_sign(sign.minus, n) {
             None => Err(LexError::IntRange { at: from }),
             Some(z) => Ok(Token {
                 kind: TokenKind::Whole(z),

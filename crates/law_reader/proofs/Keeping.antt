@@ -35,6 +35,10 @@ abbrev pub Keeps : {X E : Type 0} → Result X E → Result X E → Type 0
 Keeps (Ok a) y = y ≡ Ok a
 Keeps (Err e) y = Unit {0}
 
+-- so a value is kept
+pub kept_value : {X E : Type 0} (x y : Result X E) (a : X) → Keeps x y → x ≡ Ok a → y ≡ Ok a
+kept_value x y a h e = subst (λ z. Keeps z y) e h
+
 pub keeps_itself : {X E : Type 0} (x : Result X E) → Keeps x x
 keeps_itself (Ok a) = refl
 keeps_itself (Err e) = tt

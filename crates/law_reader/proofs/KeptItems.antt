@@ -1,5 +1,5 @@
 -- Items that are alike have the same problem.
-use Rattle.std.proofs.Common.{◌≡◌, ℕ, ◌&&◌, not, Bool, true, false, inl, inr, List, [], ◌∷◌, length, Option, Some, None, is_some, Result, Ok, Err, refl, sym, subst}
+use Rattle.std.proofs.Common.{◌≡◌, ℕ, ◌&&◌, not, Bool, true, false, inl, inr, List, [], ◌∷◌, length, Option, Some, None, is_some, Result, Ok, Err, refl, sym, ap, subst}
 use Rattle.std.specs.Prelude.{ℤ, nat_lt}
 use Rattle.dcsp_domain.specs.Ranges.{count_between}
 use Rattle.dcsp_domain.specs.Sets.{set_of as values_in}
@@ -34,11 +34,12 @@ use Rattle.fzn_scope.specs.Rules.{constraint_rule}
 use Rattle.fzn_model.specs.Building.{with_variable, with_rule}
 use Rattle.fzn_model.specs.Declarations.{SoFar, within, is_late, declaration, is_boolean, constant, value_of, parameter, domain_of, source_of, equality, with_source, variable, check_element, element_set, is_index, is_shaped, with_member, with_members, with_set, elements, array}
 use Rattle.fzn_model.specs.Items.{start, declared_by, declare, constraint, an_integer, aim_of, solve, predicate, after, after_all, finished, resolved}
-use Rattle.fzn_model.specs.Models.{answer_of}
+use Rattle.fzn_model.specs.Models.{answer_of, Answers}
 use Rattle.law_reader.specs.Gapped.{AllAlike, GapsAreIgnored}
-use Rattle.law_reader.proofs.Carrying.{Pairwise}
-use Rattle.law_reader.proofs.AlikeItems.{ExprsAlike, RightsAlike, both_none, both_some, GoalsAlike, both_satisfy, both_least, both_greatest, ItemsAlike, both_predicate, both_declare, both_constraint, both_solve, items_carried}
-use Rattle.law_reader.proofs.Keeping.{Keeps, keeps_itself, keeps_bind, keeps_check, keeps_if, one_keeps, list_keeps, count_keeps, set_keeps, constraint_keeps, variable_keeps, rule_keeps}
+use Rattle.law_reader.specs.Ignored.{NotesLeftOut, none, kept}
+use Rattle.law_reader.proofs.Carrying.{Pairwise, none_left}
+use Rattle.law_reader.proofs.AlikeItems.{ExprsAlike, RightsAlike, both_none, both_some, GoalsAlike, both_satisfy, both_least, both_greatest, ItemsAlike, both_predicate, both_declare, both_constraint, both_solve, item_carried}
+use Rattle.law_reader.proofs.Keeping.{Keeps, kept_value, keeps_itself, keeps_bind, keeps_check, keeps_if, one_keeps, list_keeps, count_keeps, set_keeps, constraint_keeps, variable_keeps, rule_keeps}
 
 within_keeps : (w : Which) (count at to : ℕ) → Keeps (within w count at) (within w count to)
 within_keeps w count at to = keeps_if (nat_lt (most w) count) (refusal.Limit w count at) (refusal.Limit w count to)
@@ -158,7 +159,7 @@ module _ (text other : List ℕ) where
       keeps_bind (refused_if s.solved (refusal.Misplaced at)) (refused_if s.solved (refusal.Misplaced to)) _ _ (keeps_if s.solved (refusal.Misplaced at) (refusal.Misplaced to)) (λ _.
       keeps_bind (aim_of text s.scope a) (aim_of other s.scope b) _ _ (goal_keeps s.scope a b h) (λ _. refl))
 
-  item_keeps : (s : SoFar) (i j : Item) → ItemsAlike text other i j → Keeps (after text s i) (after other s j)
+  pub item_keeps : (s : SoFar) (i j : Item) → ItemsAlike text other i j → Keeps (after text s i) (after other s j)
   item_keeps s _ _ (both_predicate {at = at} {to = to}) = predicate_keeps s at to
   item_keeps s _ _ (both_declare {at = at} {name_at = name_at} {name_to = name_to} {at2 = at2} {name_at2 = name_at2} {isvar = isvar} {index = index} {type = type} {says = says} {a = a} {b = b} e h) =
       let name = bytes_at text name_at name_to in
@@ -178,33 +179,47 @@ module _ (text other : List ℕ) where
   unfolding resolved
   resolved_keeps is js h = keeps_bind (after_all text start is) (after_all other start js) _ _ (items_keep start is js h) (λ s. keeps_itself (finished s))
 
+  -- like tokens are such where no annotation is left out
+  none_out : (ts us : List Token) → AllAlike text other ts us → NotesLeftOut text other true ts us
+  none_out [] [] h = none
+  none_out [] (u ∷ us) h = absurd h
+  none_out (t ∷ ts) [] h = absurd h
+  none_out (t ∷ ts) (u ∷ us) h = kept h.0 (none_out ts us h.1)
+
+  -- items one after another
+  items_carried : (ts us : List Token) (is : List Item) (rest : List Token) → NotesLeftOut text other true ts us → AreItemsTo text ts is rest
+      → (js : List Item) × (end : List Token) × AreItemsTo other us js end × Pairwise (ItemsAlike text other) is js × NotesLeftOut text other true rest end
+  items_carried ts us [] rest less h = ([], us, refl, tt, subst (λ r. NotesLeftOut text other true r us) h less)
+  items_carried [] us (i ∷ is) rest less h = absurd h.1.2
+  items_carried (t ∷ ts) us (i ∷ is) rest less h =
+      let f = item_carried text other true t ts us (λ _. refl) less i h.0 h.1 in
+      let g = items_carried h.0 f.1 is rest f.4 h.2 in
+      (f.0 ∷ g.0, g.1, (f.1, f.2, g.2), (f.3, g.3), g.4)
+
 same_tokens : (text : List ℕ) (ts us : List Token) → AreTokens text ts → AreTokens text us → ts ≡ us
 same_tokens text ts us h k = let e = one_answer_lem text (Ok ts) (Ok us) h k (λ e. cc) (λ e. cc) in cc
 
-kept : (x y : Result Contents ItemRefusal) (p : Contents) → Ok p ≡ answer_of x → Keeps x y → Ok p ≡ answer_of y
-kept (Ok q) y p e h = subst (λ z. Ok p ≡ answer_of z) (sym h) e
-kept (Err q) y p e h = absurd cc
+answer_kept : (x : Result Contents ItemRefusal) (p : Contents) → Ok p ≡ answer_of x → x ≡ Ok p
+answer_kept (Ok q) p e = cc
+answer_kept (Err q) p e = absurd cc
 
--- like tokens leave none behind where none were left
-none_left : (text other : List ℕ) (us : List Token) → AllAlike text other [] us → us ≡ []
-none_left text other [] h = refl
-none_left text other (u ∷ us) h = absurd h
-
-pub gaps_are_ignored : GapsAreIgnored
-gaps_are_ignored text other d p h = elim h [
+-- a text that has a problem has items, and it is theirs
+pub problem_of_items : (text : List ℕ) (ts : List Token) (p : Contents) → AreTokens text ts → Answers text (Ok p) → (is : List Item) × AreItemsTo text ts is [] × (resolved text is ≡ Ok p)
+problem_of_items text ts p lexed h = elim h [
   | inl lexical ↦ absurd (elim lexical.1 [ inl bad ↦ (let e = bad.0 in cc) | inr range ↦ (let e = range.0 in cc) ])
   | inr rest ↦ elim rest [
     | inl unread ↦ absurd (let e = unread.result_is in cc)
-    | inr r ↦
-        let ts = same_tokens text r.tokens d.tokens r.lexed d.lexed in
-        let f = items_carried text other d.tokens d.others r.items [] d.alike (subst (λ (x : List Token). AreItemsTo text x r.items []) ts r.read) in
-        let nothing = none_left text other f.1 f.4 in
-        inr (inr (record {
-          tokens = d.others;
-          items = f.0;
-          lexed = d.other_lexed;
-          read = subst (λ (x : List Token). AreItemsTo other d.others f.0 x) nothing f.2;
-          result_is = kept (resolved text r.items) (resolved other f.0) p r.result_is (resolved_keeps text other r.items f.0 f.3);
-        }))
+    | inr r ↦ (r.items, subst (λ (x : List Token). AreItemsTo text x r.items []) (same_tokens text r.tokens ts r.lexed lexed) r.read, answer_kept (resolved text r.items) p r.result_is)
   ]
 ]
+
+-- and a text has the problem of its items
+pub items_answer : (text : List ℕ) (ts : List Token) (is : List Item) (p : Contents) → AreTokens text ts → AreItemsTo text ts is [] → resolved text is ≡ Ok p → Answers text (Ok p)
+items_answer text ts is p lexed read resolves = inr (inr (record { tokens = ts; items = is; lexed = lexed; read = read; result_is = ap answer_of (sym resolves) }))
+
+pub gaps_are_ignored : GapsAreIgnored
+gaps_are_ignored text other d p h =
+    let r = problem_of_items text d.tokens p d.lexed h in
+    let f = items_carried text other d.tokens d.others r.0 [] (none_out text other d.tokens d.others d.alike) r.1 in
+    let nothing = none_left text other true [] f.1 f.4 refl in
+    items_answer other d.others f.0 p d.other_lexed (subst (λ (x : List Token). AreItemsTo other d.others f.0 x) nothing f.2) (kept_value (resolved text r.0) (resolved other f.0) p (resolved_keeps text other r.0 f.0 f.3) r.2)

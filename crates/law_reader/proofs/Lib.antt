@@ -13,10 +13,12 @@ pub mod Refusing
 pub mod RefusedItems
 pub mod RefusalPlaces
 pub mod Carrying
+pub mod AlikeNotes
 pub mod AlikeItems
 pub mod Keeping
 pub mod KeptItems
 pub mod SkippedItems
+pub mod LeftOut
 pub mod Judging
 pub mod SortedNames
 pub mod JudgedExprs

@@ -1,22 +1,21 @@
 -- Items without predicates are taken as with them.
-use Rattle.std.proofs.Common.{◌≡◌, ℕ, Bool, true, false, List, [], ◌∷◌, Result, Ok, refl, subst}
+use Rattle.std.proofs.Common.{ℕ, Bool, true, false, List, [], ◌∷◌, Result, Ok, refl}
 use Rattle.fzn_item.specs.declared.item.Item.{Item}
 use Rattle.fzn_item.specs.declared.item.Item.TheVariants as item
-use Rattle.dcsp_problem.specs.Problems.{Contents}
 use Rattle.fzn_model.specs.declared.refusal.ItemRefusal.{ItemRefusal}
 use Rattle.fzn_model.specs.declared.refusal.ItemRefusal.TheVariants as refusal
 use Rattle.fzn_scope.specs.Checks.{◌>>=◌, refused_if}
 use Rattle.fzn_model.specs.Declarations.{SoFar, is_late}
 use Rattle.fzn_model.specs.Items.{start, predicate, after, after_all, finished, resolved}
 use Rattle.law_reader.specs.Predicates.{without_predicates, PredicatesAreIgnored}
-use Rattle.law_reader.proofs.Keeping.{Keeps, keeps_itself, keeps_bind}
+use Rattle.law_reader.proofs.Keeping.{Keeps, kept_value, keeps_itself, keeps_bind}
 
 -- what is kept after a check that changes nothing
 skipped : (late : Bool) (e : ItemRefusal) (s : SoFar) (f : SoFar → Result SoFar ItemRefusal) (y : Result SoFar ItemRefusal) → Keeps (f s) y → Keeps ((refused_if late e >>= (λ _. Ok s)) >>= f) y
 skipped true e s f y h = tt
 skipped false e s f y h = h
 
-skips_predicate : (s : SoFar) (at : ℕ) (f : SoFar → Result SoFar ItemRefusal) (y : Result SoFar ItemRefusal) → Keeps (f s) y → Keeps (predicate s at >>= f) y
+pub skips_predicate : (s : SoFar) (at : ℕ) (f : SoFar → Result SoFar ItemRefusal) (y : Result SoFar ItemRefusal) → Keeps (f s) y → Keeps (predicate s at >>= f) y
 unfolding predicate
 skips_predicate s at f y h = skipped (is_late s) (refusal.Misplaced at) s f y h
 
@@ -30,10 +29,6 @@ all_skipped text s (item.Predicate at ∷ is) = skips_predicate s at (λ next. a
 all_skipped text s (item.Declare at isvar index type name_at name_to marked right ∷ is) = taken text s (item.Declare at isvar index type name_at name_to marked right) is (without_predicates is) (λ t. all_skipped text t is)
 all_skipped text s (item.Constraint at name_at name_to arguments ∷ is) = taken text s (item.Constraint at name_at name_to arguments) is (without_predicates is) (λ t. all_skipped text t is)
 all_skipped text s (item.Solve at goal ∷ is) = taken text s (item.Solve at goal) is (without_predicates is) (λ t. all_skipped text t is)
-
--- what gives a value is kept with it
-kept_value : (x y : Result Contents ItemRefusal) (p : Contents) → Keeps x y → x ≡ Ok p → y ≡ Ok p
-kept_value x y p h e = subst (λ z. Keeps z y) e h
 
 pub predicates_are_ignored : PredicatesAreIgnored
 unfolding resolved

@@ -1,11 +1,13 @@
 //! What holds of all texts: each has an answer, each refusal names the place of a token, or one that has none, blanks
-//! and comments between tokens change nothing, a text has a problem exactly where its items pass their checks, and the
-//! grammar that looks ahead reads what the grammar of plain alternatives does.
+//! and comments between tokens, predicates and annotations that are no marks change nothing, a text has a problem
+//! exactly where its items pass their checks, and the grammar that looks ahead reads what the grammar of plain
+//! alternatives does.
 #![tactic(auto)]
 
 ghost use Rattle.law_reader.specs.Accepted.{AcceptedItems, AcceptedTexts};
 ghost use Rattle.law_reader.specs.Answered.{TextsHaveTokens, TokensHaveItems, TextsHaveAnswers};
 ghost use Rattle.law_reader.specs.Gapped.{GapsAreIgnored};
+ghost use Rattle.law_reader.specs.Ignored.{IgnoredCanBeLeftOut, IgnoredChangesNothing};
 ghost use Rattle.law_reader.specs.Placed.{RefusalsArePlaced};
 ghost use Rattle.law_reader.specs.PlainGrammar.{ItemsAgree, GrammarsAgree};
 ghost use Rattle.law_reader.specs.Predicates.{PredicatesAreIgnored};
@@ -38,6 +40,18 @@ pub fn gaps_are_ignored()
 /// Items that have a problem have the same one without their predicates.
 pub fn predicates_are_ignored()
     ensures { PredicatesAreIgnored }
+{}
+
+/// A text that has a problem has the same one without some of its predicates, and without some annotations that are no
+/// marks, whatever stands between its tokens.
+pub fn ignored_can_be_left_out()
+    ensures { IgnoredCanBeLeftOut }
+{}
+
+/// Where two texts that differ only in blanks and comments between tokens, in predicates and in annotations that are no
+/// marks both have a problem, it is the same one.
+pub fn ignored_changes_nothing()
+    ensures { IgnoredChangesNothing }
 {}
 
 /// Items have a problem exactly where each passes each of its checks, whatever the order of the checks, and one is a
