@@ -15,7 +15,7 @@ use abt_message::{Message, Outbox, Sent};
 use dcsp_list::Memory;
 use dcsp_nogood::Pair;
 
-/// Sends the message if it is wanted. Few are.
+/// Sends the message if it is wanted.
 #[inline]
 pub fn push_if(out: &mut Outbox, wanted: bool, to: u32, message: Message) -> Result<(), Memory>
     requires { wanted ≡ true → IsStamped message }
@@ -38,13 +38,22 @@ fn is_unlinked(linked: &[bool], to: u32) -> bool
     (to as usize) < linked.len() && !linked[to as usize]
 }
 
+/// Asks the agent for a link, if it is unlinked. Few are.
+fn ask_one(linked: &[bool], to: u32, out: &mut Outbox) -> Result<(), Memory>
+    ensures { OnOk result (Posts out.old out.new (if is_unlinked linked.now to then (to, Add_link) ∷ [] else [])) }
+{
+    if !is_unlinked(linked, to) {
+        return Ok(());
+    }
+    push_if(out, true, to, Message::AddLink)
+}
+
 /// Asks for a link each agent that the pairs name and that has none, rising.
 fn ask_each(linked: &[bool], pairs: &[Pair], out: &mut Outbox) -> Result<(), Memory>
     ensures { OnOk result (Posts out.old out.new (steps.to_each Add_link (unlinked_names linked.now pairs.now))) }
 {
     for pair in pairs {
-        let wanted = is_unlinked(linked, pair.var);
-        push_if(out, wanted, pair.var, Message::AddLink)?;
+        ask_one(linked, pair.var, out)?;
     }
     Ok(())
 }

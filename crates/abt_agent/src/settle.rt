@@ -47,12 +47,13 @@ impl<'p> Body<'p> {
         }
     }
 
-    /// The value to take: the agent's own where it is not ruled out, else the least that is not.
-    fn choice(&self) -> Option<i64>
-        requires { IsGood self.now }
+    /// The value to take: the agent's own where it is free, that is not ruled out, else the least that is.
+    fn choice(&self, is_free: bool) -> Option<i64>
+        requires good { IsGood self.now }
+        requires free { is_free ≡ steps.is_free (csp_of self.now.known.problem.now) self.now.known.me (agent_of self.now) self.now.value }
         ensures { result ≡ steps.choice (csp_of self.now.known.problem.now) self.now.known.me (agent_of self.now) }
     {
-        if self.is_own_free() {
+        if is_free {
             self.value
         } else {
             self.known.least_free()
@@ -106,10 +107,11 @@ impl<'p> Body<'p> {
         ensures does { IfOk result (λ turn. Does (steps.settle (csp_of self.old.known.problem.now) self.old.known.me number (agent_of self.old)) self.old self.new out.old out.new turn) }
         ensures owner { owner_of self.new.known ≡ owner_of self.old.known }
     {
-        if !self.waits && self.is_own_free() {
+        let is_free = self.is_own_free();
+        if !self.waits && is_free {
             return Ok(Turn::Quiet);
         }
-        match self.choice() {
+        match self.choice(is_free) {
             Some(value) => self.take_value(value, out),
             None => self.give_up(number, out),
         }

@@ -9,13 +9,16 @@ use Rattle.dcsp_row.specs.Marks.{is_marked}
 use Rattle.abt_reason.specs.Firsts.{IsFirst}
 use Rattle.abt_reason.specs.Grids.{at_value, count_of, is_marked_at, marks, marks_at, mixed_row, mixed_rows, row_at, rows_of, IsGrid}
 use Rattle.abt_reason.proofs.GridSteps as steps
-use Rattle.abt_reason.proofs.MarkLaws.{count_mixed, in_rows, mixed_next, mixed_other, old_still, rows_next, rows_skip}
+use Rattle.abt_reason.proofs.MarkLaws.{count_mixed, in_rows, mixed_next, mixed_other, old_still, rows_next}
 
-pub alike : (a b : Bool) → beq a b ≡ true → a ≡ b
-alike true true e = refl
-alike false false e = refl
-alike true false e = absurd (let clash : false ≡ true = e in cc)
-alike false true e = absurd (let clash : false ≡ true = e in cc)
+-- marks that differ
+pub unlike : (mark new old : Bool) → mark ≡ new → new ≢ old → beq mark old ≡ false
+unlike true true true e ne = absurd (ne refl)
+unlike true true false e ne = refl
+unlike false false true e ne = refl
+unlike false false false e ne = absurd (ne refl)
+unlike true false old e ne = absurd (let clash : true ≡ false = e in cc)
+unlike false true old e ne = absurd (let clash : false ≡ true = e in cc)
 
 -- where none is counted, none passes
 pub none_counted : (p : List Bool → Bool) (rows : List (List Bool)) → count_by p rows ≡ 0 → (j : ℕ) → j < length rows → p (row_at rows j) ≡ false
@@ -51,12 +54,6 @@ module _ (values : ℕ) (rows : List Marks) (place : ℕ) (new : Marks) (value :
 
   had_at : had ≡ at_value value row
   had_at = had_is ∙ sym (old_still values new (marks_at rows place) value value inside (omega arith))
-
-  -- the same mark
-  pub stays : beq mark had ≡ true → IsGrid (mixed_rows values rows place new (value + 1)) values counts firsts
-  stays same = subst (λ (r : List (List Bool)). IsGrid r values counts firsts) (rows_skip values rows place new here value (value + 1) (omega arith) (λ k l m.
-      let at : k ≡ value = omega (arith, l, m) in
-      ap (is_marked new) at ∙ sym mark_is ∙ alike mark had same ∙ had_is ∙ sym (ap (is_marked (marks_at rows place)) at))) grid
 
   pub adds : beq mark had ≡ false → mark ≡ true → (count : ℕ) → count ≡ get_or counts value count → count + 1 ≡ count_of after value
   adds ne on count c = steps.adds before values counts firsts grid place value mark in_before inside put row row_is put_is row had count row_is had_at ne on c

@@ -92,6 +92,8 @@ impl RuledOut {
         requires room { IsTrue (has_room_for (marks_at self.old.rows.items place) new.now) }
         requires order { changes.0 < changes.1 }
         requires within { changes.1 < values }
+        requires first { is_marked new.now changes.0 ≢ is_marked_at self.old.rows.items place changes.0 }
+        requires second { is_marked new.now changes.1 ≢ is_marked_at self.old.rows.items place changes.1 }
         requires same { (k : ℕ) → k ≢ changes.0 → k ≢ changes.1 → is_marked new.now k ≡ is_marked_at self.old.rows.items place k }
         ensures grid { IsGrid (rows_of values self.new.rows.items) values self.new.counts.items self.new.firsts.items }
         ensures sized { AreSized values self.new.rows.items }
@@ -127,22 +129,19 @@ impl RuledOut {
         self.rows[place].copy_from(values, new);
     }
 
-    /// Takes a value's new mark for a rule into the counts and firsts, where those of the values before
-    /// are taken in.
+    /// Takes a value's new mark for a rule, which differs, into the counts and firsts, where those of the values
+    /// before are taken in.
     fn count(&mut self, place: usize, values: usize, value: usize, new: &Marks)
         requires place { place < length self.old.rows.items }
         requires value { value < values }
         requires grid { IsGrid (mixed_rows values self.old.rows.items place new.now value) values self.old.counts.items self.old.firsts.items }
         requires sized { AreSized values self.old.rows.items }
         requires size { FitsSize values new.now }
+        requires differs { is_marked new.now value ≢ is_marked_at self.old.rows.items place value }
         ensures grid { IsGrid (mixed_rows values self.new.rows.items place new.now (value + 1)) values self.new.counts.items self.new.firsts.items }
         ensures rows { self.new.rows.items ≡ self.old.rows.items }
     {
-        let mark = new.has(values, value);
-        if mark == self.rows[place].has(values, value) {
-            return;
-        }
-        if mark {
+        if new.has(values, value) {
             self.counts[value] += 1;
             self.firsts[value] = with_place(self.firsts[value], place as u32);
         } else {
@@ -163,6 +162,8 @@ impl RuledOut {
 fn two_changes(old: &Marks, new: &Marks, values: usize) -> Option<(usize, usize)>
     ensures order { IfSome result (λ changes. changes.0 < changes.1) }
     ensures within { IfSome result (λ changes. changes.1 < values) }
+    ensures first { IfSome result (λ changes. is_marked new.now changes.0 ≢ is_marked old.now changes.0) }
+    ensures second { IfSome result (λ changes. is_marked new.now changes.1 ≢ is_marked old.now changes.1) }
     ensures same { IfSome result (λ changes. (k : ℕ) → k ≢ changes.0 → k ≢ changes.1 → is_marked new.now k ≡ is_marked old.now k) }
 {
     let before = only_value(old)?;

@@ -23,8 +23,8 @@ pub struct StampedValue {
     pub stamp: u64,
 }
 
-/// How many of the first agents get a slot each as soon as a later one is told of, so that theirs stand at
-/// their own numbers and are found without a search.
+/// How many of the first agents are near: as soon as one of them is told of, each one before it gets a slot,
+/// so that theirs stand at their own numbers and are found without a search.
 const NEAR: u32 = 128;
 
 /// For each higher agent the value and the stamp last told, if there was one.
@@ -69,22 +69,39 @@ impl View {
         ensures view { view_of self.new ≡ (if result then update (view_of self.old) var (Some (record { value = value; stamp = stamp })) else view_of self.old) }
         ensures slots { length self.new ≡ length self.old }
     {
-        if !self.is_news(var, stamp) {
-            return false;
+        let told = Some(StampedValue { value, stamp });
+        match self.stamp_of(var) {
+            None => {
+                self.put_first(var, told);
+                true
+            }
+            Some(known) => {
+                let is_newer = known < stamp;
+                if is_newer {
+                    self.put(var, told);
+                }
+                is_newer
+            }
         }
-        if self.stamp_of(var).is_none() {
-            self.make_near(var);
-        }
-        self.put(var, Some(StampedValue { value, stamp }));
-        true
     }
 
-    /// Makes the slots of the first agents above this one, where they are not there.
-    fn make_near(&mut self, var: u32)
+    /// Puts into the slot of an agent what it told first. A near one gets the slots before its own too.
+    fn put_first(&mut self, var: u32, told: Option<StampedValue>)
+        requires { var < length self.old }
+        ensures { self.new ≡ set self.old var told }
+    {
+        if var < NEAR {
+            self.make_slots(var);
+        }
+        self.put(var, told);
+    }
+
+    /// Makes the slots of the agents above this one, where they are not there.
+    fn make_slots(&mut self, var: u32)
         requires { var < length self.old }
         ensures { self.new ≡ self.old }
     {
-        for near in 0..var.min(NEAR) {
+        for near in 0..var {
             let told = self.stamped_value(near);
             self.put(near, told);
         }
@@ -96,16 +113,6 @@ impl View {
         ensures { self.new ≡ set self.old var told }
     {
         put_reserved(&mut self.slots, var, told);
-    }
-
-    /// Whether there is no stamp for an agent or a lower one.
-    fn is_news(&self, var: u32, stamp: u64) -> bool
-        ensures { result ≡ is_newer (view_of self.now var) stamp }
-    {
-        match self.stamp_of(var) {
-            None => true,
-            Some(known) => known < stamp,
-        }
     }
 
     /// The value last told by an agent; `None` where it told nothing or is not higher.

@@ -1,5 +1,5 @@
 -- Sets of numbers, and comparisons by them.
-use Rattle.std.proofs.Common.{◌≡◌, ◌≢◌, ℕ, zero, suc, nat_lt, neg_ℤ, Option, None, ◌+◌, ◌-◌, ◌<◌, ◌≤◌, Bool, true, false, not, List, length, ℤ, pos, negsuc, ◌+ℤ◌, ◌-ℤ◌, ◌*ℤ◌, Some, refl, sym, ap, ◌∙◌, arith, inl, inr}
+use Rattle.std.proofs.Common.{◌≡◌, ◌≢◌, ℕ, zero, suc, nat_lt, neg_ℤ, Option, None, ◌+◌, ◌-◌, ◌<◌, ◌≤◌, Bool, true, false, not, ◌&&◌, List, length, ℤ, pos, negsuc, ◌+ℤ◌, ◌-ℤ◌, ◌*ℤ◌, Some, refl, sym, ap, ◌∙◌, arith, inl, inr}
 use Rattle.std.specs.Prelude.{int_le, int_lt, ◌<ℤ◌, ◌≤ℤ◌, unwrap_or}
 use Rattle.std.specs.Ordering.{int_eq}
 use Rattle.std.proofs.lemmas.Bool.{cases_eq, cases_lt}
@@ -111,6 +111,56 @@ before_bound values up bound count within is k l = elim (cases_lt k count) [
   | inl before ↦ less_than (own_at values k) (own_at values count) bound (up k count (pos 0) before within) is ∙ grind (arith, nat_tests)
   | inr past ↦ above_all (λ x. x) (λ x y m. m) values up count bound (not_itself (own_at values count) bound is) k past l ∙ grind (arith, nat_tests)
 ]
+
+below_differs : (x number : ℤ) → int_lt x number ≡ true → int_eq x number ≡ false
+below_differs x number below = grind (arith, ints)
+
+above_differs : (x y number : ℤ) → x <ℤ y → int_lt x number ≡ false → int_eq y number ≡ false
+above_differs x y number l e = grind (arith, ints)
+
+same_is : (x number : ℤ) → x ≡ number → int_eq x number ≡ true
+same_is x number e = grind (arith, ints)
+
+apart_differs : (x number : ℤ) → x ≢ number → int_eq x number ≡ false
+apart_differs x number apart = by_test (int_eq x number) refl where
+  by_test : (b : Bool) → int_eq x number ≡ b → b ≡ false
+  by_test true t = absurd (apart ((Decides-int_eq x number).0 t))
+  by_test false f = refl
+
+-- values of which so many have a product below a number
+module _ (factor : ℕ) (some : 0 < factor) (values : List ℤ) (up : IsRising values) (number : ℤ) (from : ℕ)
+    (count : (k : ℕ) → k < length values → int_lt (pos factor *ℤ own_at values k) number ≡ nat_lt k from) where
+  abbrev pub product_at : ℕ → ℤ
+  product_at k = pos factor *ℤ own_at values k
+
+  before_it : (k : ℕ) → k < length values → k < from → int_eq (product_at k) number ≡ false
+  before_it k l before = below_differs (product_at k) number (count k l ∙ grind (arith, nat_tests))
+
+  after_it : (k : ℕ) → k < length values → from < k → int_eq (product_at k) number ≡ false
+  after_it k l past =
+      let first : int_lt (product_at from) number ≡ false = count from (omega (arith, l, past)) ∙ grind (arith, nat_tests) in
+      above_differs (product_at from) (product_at k) number (rises factor some (own_at values from) (own_at values k) (up from k (pos 0) past l)) first
+
+  -- the next value's is the number itself
+  pub only_there : product_at from ≡ number → (k : ℕ) → k < length values → (nat_lt k (from + 1) && not (nat_lt k from)) ≡ int_eq (product_at k) number
+  only_there there k l = elim (cases_lt k from) [
+    | inl before ↦ let none : (nat_lt k (from + 1) && not (nat_lt k from)) ≡ false = grind (arith, nat_tests) in none ∙ sym (before_it k l before)
+    | inr past ↦ elim (cases_eq k from) [
+      | inl same ↦ let one : (nat_lt k (from + 1) && not (nat_lt k from)) ≡ true = grind (arith, nat_tests) in
+          one ∙ sym (ap (λ n. int_eq (product_at n) number) same ∙ same_is (product_at from) number there)
+      | inr apart ↦ let none : (nat_lt k (from + 1) && not (nat_lt k from)) ≡ false = grind (arith, nat_tests) in none ∙ sym (after_it k l (omega (arith, past, apart)))
+    ]
+  ]
+
+  -- it is not, or there is no next value
+  pub nowhere : (from < length values → product_at from ≢ number) → (k : ℕ) → k < length values → false ≡ int_eq (product_at k) number
+  nowhere missed k l = elim (cases_lt k from) [
+    | inl before ↦ sym (before_it k l before)
+    | inr past ↦ elim (cases_eq k from) [
+      | inl same ↦ sym (ap (λ n. int_eq (product_at n) number) same ∙ apart_differs (product_at from) number (missed (omega (arith, l, same))))
+      | inr apart ↦ sym (after_it k l (omega (arith, past, apart)))
+    ]
+  ]
 
 -- the product with the open variable, which is none where it is no term
 own_product : (own : Option ℤ) (x : ℤ) → own_part own x ≡ unwrap_or own (pos 0) *ℤ x

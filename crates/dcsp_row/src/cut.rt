@@ -1,6 +1,7 @@
 //! Sets of numbers that are one number, or all below one, or all others than these.
 
 ghost use Rattle.std.specs.Prelude.{◌≡◌, ◌<◌, ◌≤◌, ◌*ℤ◌, ℕ, ℤ, pos, IfSome, int_lt, length, nat_lt, not, unsigned_abs};
+ghost use Rattle.std.specs.Ordering.{int_eq};
 ghost use Rattle.dcsp_linear.specs.Sums.{stands};
 ghost use Rattle.dcsp_row.specs.Cuts.{is_in, is_of, number_of, farthest};
 ghost use Rattle.dcsp_row.specs.Rows.{own_at};
@@ -64,20 +65,34 @@ pub fn product_span(cut: Cut, factor: u64, domain: &Domain) -> Span
 
 /// The places of those of these values whose products with the factor are of the part.
 fn span_of(part: Part, factor: u64, domain: &Domain) -> Span
-    requires number { unsigned_abs (number_of part) ≤ farthest }
-    requires factor { 0 < factor }
+    requires { 0 < factor }
     ensures { SpansWhere (λ x. is_of part (pos factor *ℤ x)) domain.now result }
 {
-    let (from, to) = match part {
-        Part::Only(value) => (
-            count_below(domain, factor, value),
-            count_below(domain, factor, value + 1),
-        ),
-        Part::Below(bound) => (0, count_below(domain, factor, bound)),
-    };
+    match part {
+        Part::Only(number) => span_of_number(number, factor, domain),
+        Part::Below(bound) => Span {
+            from: 0,
+            to: count_below(domain, factor, bound),
+            outside: false,
+        },
+    }
+}
+
+/// The place of the value whose product with the factor is this number, if there is one.
+fn span_of_number(number: i128, factor: u64, domain: &Domain) -> Span
+    requires { 0 < factor }
+    ensures { SpansWhere (λ x. int_eq (pos factor *ℤ x) number) domain.now result }
+{
+    let from = count_below(domain, factor, number);
+    if from >= domain.len() {
+        return Span::whole(false);
+    }
+    if product(factor, domain.value(from)) != number {
+        return Span::whole(false);
+    }
     Span {
         from,
-        to,
+        to: from + 1,
         outside: false,
     }
 }

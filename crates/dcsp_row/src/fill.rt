@@ -6,7 +6,7 @@ ghost use Rattle.dcsp_problem.specs.Problems.{csp_of, rule_at, AreInDomains};
 ghost use Rattle.dcsp_linear.specs.Sums.{widest};
 ghost use Rattle.dcsp_defs.specs.Csp.{filled, with_value};
 ghost use Rattle.dcsp_problem.specs.Rules.{has_shape};
-ghost use Rattle.dcsp_problem.specs.Pairs.{pair_truth, IsSmall};
+ghost use Rattle.dcsp_problem.specs.Pairs.{is_missed, IsSmall};
 ghost use Rattle.dcsp_problem.specs.Widths.{rule_sizes};
 ghost use Rattle.dcsp_row.specs.Easy.{has_span, is_plain};
 ghost use Rattle.dcsp_row.specs.Lines.{is_line, is_off, line_size};
@@ -35,27 +35,29 @@ pub fn span_of<L: Lookup>(
     ensures span { IfSome result (SpansWhere (is_ruled_out problem.now rule open_var.now.var (L.values open_var.now.lookup.now)) (domain (csp_of problem.now) open_var.now.var)) }
     ensures some { IsTrue (has_span open_var.now.var (rule_at problem.now rule)) → IsTrue (is_some result) }
 {
+    let _variables = problem.vars();
+    if let Some(pair) = problem.pair(rule) {
+        return Some(span_of_pair(pair, problem.domain(open_var.var), open_var));
+    }
     let scope = problem.scope(rule);
     if !knows_others(scope, open_var) {
         return Some(Span::whole(false));
     }
-    if let Some(pair) = problem.pair(rule) {
-        return Some(span_of_pair(pair, problem.domain(open_var.var), open_var));
-    }
     if scope.is_empty() {
         return Some(Span::whole(problem.violated_within(rule, open_var.lookup)));
     }
-    let _variables = problem.vars();
     span_of_sum(problem.rule(rule), problem.domain(open_var.var), open_var)
 }
 
-/// The values at which the pair is false.
+/// The values at which both of the pair's variables are known, and it is false.
 fn span_of_pair<L: Lookup>(pair: Pair, domain: &Domain, open_var: &OpenVariable<'_, L>) -> Span
     requires { IsSmall pair }
-    ensures { SpansWhere (λ x. not (pair_truth pair (filled (with_value open_var.now.var x (L.values open_var.now.lookup.now))))) domain.now result }
+    ensures { SpansWhere (λ x. is_missed pair (with_value open_var.now.var x (L.values open_var.now.lookup.now))) domain.now result }
 {
-    let line = line_of_pair(pair, open_var);
-    missed_line(pair.rel, line, pair.total, domain)
+    match line_of_pair(pair, open_var) {
+        Some(line) => missed_line(pair.rel, line, pair.total, domain),
+        None => Span::whole(false),
+    }
 }
 
 /// The values at which the rule is false, if it is a sum with the variable in one of its terms at most.

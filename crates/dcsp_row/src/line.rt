@@ -1,15 +1,15 @@
 //! Sums in which one variable is left open.
 
-ghost use Rattle.std.specs.Prelude.{◌≡◌, ◌+◌, ◌*◌, ◌<◌, ◌≤◌, ◌^◌, ◌+ℤ◌, ◌*ℤ◌, ◌++◌, ℕ, ℤ, IfSome, IsNone, length, option_to_list, unsigned_abs, unwrap_or, sum_by};
+ghost use Rattle.std.specs.Prelude.{◌≡◌, ◌+◌, ◌*◌, ◌<◌, ◌≤◌, ◌^◌, ◌+ℤ◌, ◌*ℤ◌, ◌++◌, ℕ, ℤ, IfSome, IsNone, is_some, ◌&&◌, length, option_to_list, unsigned_abs, sum_by};
 ghost use Rattle.dcsp_linear.specs.Sums.{sum_of, size_of, widest};
 ghost use Rattle.dcsp_defs.specs.Csp.{filled, with_value};
 ghost use Rattle.dcsp_problem.specs.Rules.{weighted_values};
 ghost use Rattle.dcsp_problem.specs.Pairs.{pair_sum, IsSmall};
 ghost use Rattle.dcsp_row.specs.Rows.{FitAtEach};
 ghost use Rattle.dcsp_row.specs.Easy.{own_coefs};
-ghost use Rattle.dcsp_row.specs.Lines.{line_at, line_size, open_coef, AddsTerm};
+ghost use Rattle.dcsp_row.specs.Lines.{found_at, line_at, line_size, open_coef, AddsTerm};
 
-use crate::known::{OpenVariable, known_value};
+use crate::known::{Found, OpenVariable, known_value, value_or_open};
 use dcsp_domain::Domain;
 use dcsp_linear::{plus_product, product};
 use dcsp_problem::{Lookup, Pair, Term};
@@ -80,29 +80,34 @@ pub fn sum_at(line: Line, value: i64) -> i128
     }
 }
 
-/// A pair's products, added up, where one variable is open.
-pub fn line_of_pair<L: Lookup>(pair: Pair, open_var: &OpenVariable<'_, L>) -> Line
+/// A pair's products, added up, where one variable is open; `None` where another has no value.
+pub fn line_of_pair<L: Lookup>(pair: Pair, open_var: &OpenVariable<'_, L>) -> Option<Line>
     requires { IsSmall pair }
-    ensures sum { (x : ℤ) → let values = filled (with_value open_var.now.var x (L.values open_var.now.lookup.now)) in line_at result x ≡ pair_sum pair (values pair.first) (values pair.second) }
-    ensures base { unsigned_abs result.base ≤ widest }
+    ensures known { (x : ℤ) → let values = with_value open_var.now.var x (L.values open_var.now.lookup.now) in is_some result ≡ (is_some (values pair.first) && is_some (values pair.second)) }
+    ensures sum { IfSome result (λ line. (x : ℤ) → let values = filled (with_value open_var.now.var x (L.values open_var.now.lookup.now)) in line_at line x ≡ pair_sum pair (values pair.first) (values pair.second)) }
+    ensures base { IfSome result (λ line. unsigned_abs line.base ≤ widest) }
 {
-    let first = known_value(Term::Var(pair.first), open_var);
-    let second = known_value(Term::Var(pair.second), open_var);
+    let Some(first) = value_or_open(pair.first, open_var) else {
+        return None;
+    };
+    let Some(second) = value_or_open(pair.second, open_var) else {
+        return None;
+    };
     let (base, own) = product_of(pair.first_coef, first);
     let (more, other) = product_of(pair.second_coef, second);
-    Line {
+    Some(Line {
         base: base + more,
         own: Some(own + other),
-    }
+    })
 }
 
 /// The product of a coefficient and a value; where the value is open, 0 and the coefficient.
-fn product_of(coef: i64, value: Option<i64>) -> (i128, i64)
-    ensures product { (x : ℤ) → result.0 +ℤ (result.1 *ℤ x) ≡ coef *ℤ unwrap_or value x }
+fn product_of(coef: i64, found: Found) -> (i128, i64)
+    ensures product { (x : ℤ) → result.0 +ℤ (result.1 *ℤ x) ≡ coef *ℤ found_at found x }
     ensures size { unsigned_abs coef < 2 ^ 62 → (unsigned_abs result.0 ≤ 2 ^ 125) × (unsigned_abs result.1 < 2 ^ 62) }
 {
-    match value {
-        Some(value) => (product(coef, value), 0),
-        None => (0, coef),
+    match found {
+        Found::Value(value) => (product(coef, value), 0),
+        Found::Open => (0, coef),
     }
 }

@@ -131,18 +131,29 @@ fn push_long(line: &mut Vec<u8>, number: u64, rest: usize) -> Result<(), AllocEr
 }
 
 /// Appends a number in decimal digits. There is room for the six of most numbers and for `rest` bytes
-/// more, and room for these stays.
-#[inline]
-#[tactic(auto, using(crate::proofs::Decimals::appended_by_twos))]
+/// more, and room for these stays. Most numbers have two digits at most, and take no call.
+#[inline(always)]
 fn push_digits(line: &mut Vec<u8>, number: u64, rest: usize) -> Result<(), AllocError>
     requires room { vec_len line.old + 6 + rest ≤ vec_capacity line.old }
     ensures text { OnOk result (line.new.items ≡ line.old.items ++ decimal number) }
     ensures room { OnOk result (vec_len line.new + rest ≤ vec_capacity line.new) }
 {
-    if number < 10_000 {
-        put_short(line, number);
+    if number < 100 {
+        put_small(line, number);
         return Ok(());
     }
+    push_many(line, number, rest)
+}
+
+/// Appends a number in decimal digits, as `push_digits` does.
+#[inline(never)]
+#[tactic(auto, using(crate::proofs::Decimals::appended_by_twos))]
+fn push_many(line: &mut Vec<u8>, number: u64, rest: usize) -> Result<(), AllocError>
+    requires number { 100 ≤ number }
+    requires room { vec_len line.old + 6 + rest ≤ vec_capacity line.old }
+    ensures text { OnOk result (line.new.items ≡ line.old.items ++ decimal number) }
+    ensures room { OnOk result (vec_len line.new + rest ≤ vec_capacity line.new) }
+{
     if number >= 1_000_000 {
         return push_long(line, number, rest);
     }

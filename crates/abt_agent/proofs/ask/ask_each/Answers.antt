@@ -15,6 +15,5 @@ loop-pair-preserved c =
     let pairs = c.args.pairs.now in
     let k = c.loop-pair.pair-index in
     let to = (get_or pairs k no_pair).var in
-    let sent = subst (λ b. Posts c.loop-pair.out c.push_if.new.out (cond b ((to, Add_link) ∷ []) [])) c.is_unlinked-wanted.ensures c.in_ok-push_if.ensures in
-    subst (Posts c.args.out.now c.push_if.new.out) (sym (asked_more linked pairs k no_pair c.loop-pair-test.true))
-    (posts_then c.args.out.now c.loop-pair.out c.push_if.new.out (steps.to_each Add_link (unlinked_names linked (take k pairs))) (cond (is_unlinked linked to) ((to, Add_link) ∷ []) []) c.loop-pair.invariant sent)
+    subst (Posts c.args.out.now c.ask_one.new.out) (sym (asked_more linked pairs k no_pair c.loop-pair-test.true))
+    (posts_then c.args.out.now c.loop-pair.out c.ask_one.new.out (steps.to_each Add_link (unlinked_names linked (take k pairs))) (cond (is_unlinked linked to) ((to, Add_link) ∷ []) []) c.loop-pair.invariant c.in_ok-ask_one.ensures)

@@ -3,7 +3,7 @@ use Rattle.std.specs.Prelude.{IfSome, IsTrue, pos}
 use Rattle.dcsp_defs.specs.Csp.{domain, filled, with_value}
 use Rattle.dcsp_problem.specs.declared.rule.Rule.{Rule}
 use Rattle.dcsp_problem.specs.Rules.{has_shape, mentions, no_rule, scope_of, IsRuleOf}
-use Rattle.dcsp_problem.specs.Pairs.{compares_variable, pair_truth}
+use Rattle.dcsp_problem.specs.Pairs.{compares_variable, is_missed}
 use Rattle.dcsp_problem.specs.Problems.{csp_of, constraint_at, rule_at}
 use Rattle.dcsp_linear.specs.Sums.{widest}
 use Rattle.dcsp_problem.specs.Widths.{rule_sizes}
@@ -11,7 +11,8 @@ use Rattle.dcsp_defs.specs.Words.{In}
 use Rattle.dcsp_problem.proofs.RisingNumbers.{In-filter_below, In-get_or}
 use Rattle.std.proofs.lemmas.Bool.{eqb-false}
 use Rattle.std.proofs.lemmas.List.Elements.{All-get_or}
-use Rattle.dcsp_problem.proofs.Narrow.{narrow_of_known}
+use Rattle.dcsp_problem.proofs.Narrow.{a_rule, narrow_of_known}
+use Rattle.dcsp_problem.proofs.PairLaws.{missed_is}
 use Rattle.dcsp_row.specs.Easy.{has_span, is_plain}
 use Rattle.dcsp_row.specs.Rows.{own_at, is_false, is_ruled_out}
 use Rattle.dcsp_row.specs.Spans.{SpansWhere}
@@ -65,12 +66,9 @@ returns-in-Some-clause-span g c =
     let var = c.args.open_var.now.var in
     let known = g.L.Lookup.values c.args.open_var.now.lookup.now in
     let pair = c.in-Some.pair in
-    let is = c.in-Some.ensures.pair in
-    let here = subst (λ (values : List ℤ). SpansWhere (λ x. not (pair_truth pair (filled (with_value var x known)))) values c.span_of_pair.result) c.domain.ensures c.span_of_pair.ensures in
-    λ k l.
-    let value = own_at (domain (csp_of p) var) k in
-    here k l ∙ ap not (is.truth (filled (with_value var value known)))
-    ∙ all_known (with_value var value known) (constraint_at p c.args.rule) c.scope-scope.result.now c.knows_others.result c.scope-scope.ensures.scope (c.knows_others.ensures value) c.if-not-knows_others.false
+    let ok = a_rule p c.args.rule c.vars-variables.ensures.problem c.requires.rule in
+    let here = subst (λ (values : List ℤ). SpansWhere (λ x. is_missed pair (with_value var x known)) values c.span_of_pair.result) c.domain.ensures c.span_of_pair.ensures in
+    λ k l. here k l ∙ missed_is (length p.domains) (rule_at p c.args.rule) pair ok c.in-Some.ensures.pair (with_value var (own_at (domain (csp_of p) var) k) known)
 
 pub returns-clause-some : goal.returns-clause-some
 returns-clause-some g c = λ has.

@@ -61,4 +61,4 @@ returns-clause-sum g c = λ x.
     let one = (simp to_z-of_z at c.product_of-base.ensures.product) x in
     let other = (simp to_z-of_z at c.product_of-more.ensures.product) x in
     rw (to_z-of_z w128 p p_fits, to_z-of_z w128 q q_fits, to_z-of_z w64 a a_fits, to_z-of_z w64 b b_fits, to_z-of_z w128 (p +ℤ q) sum_fits, to_z-of_z w64 (a +ℤ b) own_fits)
-    (two_products p q a b x _ _ (one ∙ ap (λ z. c.args.pair.first_coef *ℤ z) (sym (c.known_value-first.ensures.value x))) (other ∙ ap (λ z. c.args.pair.second_coef *ℤ z) (sym (c.known_value-second.ensures.value x))))
+    (two_products p q a b x _ _ (one ∙ ap (λ z. c.args.pair.first_coef *ℤ z) (sym (c.in-Some.ensures.value x))) (other ∙ ap (λ z. c.args.pair.second_coef *ℤ z) (sym (c.in-Some-value_or_open.ensures.value x))))
