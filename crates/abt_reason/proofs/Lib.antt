@@ -1,5 +1,6 @@
 pub mod AfterLaws
 pub mod CauseLaws
+pub mod ChangeLaws
 pub mod ChangedLaws
 pub mod CountLaws
 pub mod Domains

@@ -4,9 +4,10 @@ ghost use Rattle.std.specs.Prelude.{◌≡◌, ◌≢◌, ◌<◌, ◌≤◌, �
 ghost use Rattle.dcsp_problem.specs.Problems.{rule_at};
 ghost use Rattle.dcsp_row.specs.Easy.{has_span};
 ghost use Rattle.dcsp_row.specs.Spans.{is_within};
+ghost use Rattle.dcsp_row.specs.declared.marks.Marks.{Marks as TheMarks};
 ghost use Rattle.dcsp_row.specs.Marks.{has_room_for, is_marked, is_row, FitsSize};
 ghost use Rattle.abt_reason.specs.Firsts.{IsFirst};
-ghost use Rattle.abt_reason.specs.Grids.{marks_at, is_marked_at, mixed_rows, rows_of, AreMarksBehind, AreSized, HaveRoom, IsGrid, LosesPlace, NoneIfUncounted, NoneUpTo};
+ghost use Rattle.abt_reason.specs.Grids.{marks_at, is_marked_at, mixed_rows, rows_of, is_only, AreChanges, AreMarksBehind, AreSized, DifferAt, HaveRoom, IsGrid, LosesPlace, NoneIfUncounted, NoneUpTo, MarkOnly};
 
 use dcsp_list::Memory;
 use dcsp_problem::Problem;
@@ -20,6 +21,21 @@ pub struct OwnedRules<'a> {
     pub rules: &'a [u32],
     pub agent: u32,
     pub values: usize,
+}
+
+/// The value that is marked, where one is at most.
+#[derive(Clone, Copy)]
+enum Few {
+    Nothing,
+    Only(usize),
+}
+
+/// Where marks of one value at most differ, in order.
+#[derive(Clone, Copy)]
+enum Changes {
+    Nowhere,
+    At(usize),
+    AtBoth(usize, usize),
 }
 
 /// One of so many values, and a rule's place.
@@ -76,25 +92,21 @@ impl RuledOut {
         ensures row { is_row (marks_at self.new.rows.items place) ≡ is_row (marks_at self.old.rows.items place) }
         ensures others { (other : ℕ) → other ≢ place → marks_at self.new.rows.items other ≡ marks_at self.old.rows.items other }
     {
-        match two_changes(&self.rows[place], new, values) {
-            Some(changes) => self.replace_two(place, values, new, changes),
+        match changes_of(&self.rows[place], new, values) {
+            Some(changes) => self.replace_few(place, values, new, changes),
             None => self.replace_each(place, values, new),
         }
     }
 
-    /// The same, where the marks differ at two values alone. Most rules rule out one value, and then
+    /// The same, where the marks differ at two values at most. Most rules rule out one value, and then
     /// another.
-    fn replace_two(&mut self, place: usize, values: usize, new: &Marks, changes: (usize, usize))
+    fn replace_few(&mut self, place: usize, values: usize, new: &Marks, changes: Changes)
         requires place { place < length self.old.rows.items }
         requires grid { IsGrid (rows_of values self.old.rows.items) values self.old.counts.items self.old.firsts.items }
         requires sized { AreSized values self.old.rows.items }
         requires size { FitsSize values new.now }
         requires room { IsTrue (has_room_for (marks_at self.old.rows.items place) new.now) }
-        requires order { changes.0 < changes.1 }
-        requires within { changes.1 < values }
-        requires first { is_marked new.now changes.0 ≢ is_marked_at self.old.rows.items place changes.0 }
-        requires second { is_marked new.now changes.1 ≢ is_marked_at self.old.rows.items place changes.1 }
-        requires same { (k : ℕ) → k ≢ changes.0 → k ≢ changes.1 → is_marked new.now k ≡ is_marked_at self.old.rows.items place k }
+        requires changes { AreChanges values (marks_at self.old.rows.items place) new.now changes }
         ensures grid { IsGrid (rows_of values self.new.rows.items) values self.new.counts.items self.new.firsts.items }
         ensures sized { AreSized values self.new.rows.items }
         ensures rules { length self.new.rows.items ≡ length self.old.rows.items }
@@ -102,9 +114,28 @@ impl RuledOut {
         ensures row { is_row (marks_at self.new.rows.items place) ≡ is_row (marks_at self.old.rows.items place) }
         ensures others { (other : ℕ) → other ≢ place → marks_at self.new.rows.items other ≡ marks_at self.old.rows.items other }
     {
-        self.count(place, values, changes.0, new);
-        self.count(place, values, changes.1, new);
+        self.count_few(place, values, new, changes);
         self.rows[place].copy_from(values, new);
+    }
+
+    /// Takes a rule's new marks, which differ at two values at most, into the counts and firsts.
+    fn count_few(&mut self, place: usize, values: usize, new: &Marks, changes: Changes)
+        requires place { place < length self.old.rows.items }
+        requires grid { IsGrid (rows_of values self.old.rows.items) values self.old.counts.items self.old.firsts.items }
+        requires sized { AreSized values self.old.rows.items }
+        requires size { FitsSize values new.now }
+        requires changes { AreChanges values (marks_at self.old.rows.items place) new.now changes }
+        ensures grid { IsGrid (mixed_rows values self.new.rows.items place new.now values) values self.new.counts.items self.new.firsts.items }
+        ensures rows { self.new.rows.items ≡ self.old.rows.items }
+    {
+        match changes {
+            Changes::Nowhere => {}
+            Changes::At(value) => self.count(place, values, value, new),
+            Changes::AtBoth(first, second) => {
+                self.count(place, values, first, new);
+                self.count(place, values, second, new);
+            }
+        }
     }
 
     /// The same, whatever the marks are.
@@ -158,43 +189,75 @@ impl RuledOut {
     }
 }
 
-/// The two values, in order, at which marks of one value each differ.
-fn two_changes(old: &Marks, new: &Marks, values: usize) -> Option<(usize, usize)>
-    ensures order { IfSome result (λ changes. changes.0 < changes.1) }
-    ensures within { IfSome result (λ changes. changes.1 < values) }
-    ensures first { IfSome result (λ changes. is_marked new.now changes.0 ≢ is_marked old.now changes.0) }
-    ensures second { IfSome result (λ changes. is_marked new.now changes.1 ≢ is_marked old.now changes.1) }
-    ensures same { IfSome result (λ changes. (k : ℕ) → k ≢ changes.0 → k ≢ changes.1 → is_marked new.now k ≡ is_marked old.now k) }
+/// Where the marks differ, if both mark one of so many values at most.
+fn changes_of(old: &Marks, new: &Marks, values: usize) -> Option<Changes>
+    ensures { IfSome result (AreChanges values old.now new.now) }
 {
-    let before = only_value(old)?;
-    let after = only_value(new)?;
-    if before < after && after < values {
-        return Some((before, after));
+    let before = few_of(old)?;
+    let after = few_of(new)?;
+    match before {
+        Few::Nothing => match after {
+            Few::Nothing => Some(Changes::Nowhere),
+            Few::Only(gained) => change_at(gained, values),
+        },
+        Few::Only(lost) => match after {
+            Few::Nothing => change_at(lost, values),
+            Few::Only(gained) => changes_at(lost, gained, values),
+        },
     }
-    if after < before && before < values {
-        return Some((after, before));
+}
+
+/// The change at a value, if it is one of so many.
+fn change_at(value: usize, values: usize) -> Option<Changes>
+    ensures { (old new : TheMarks) → DifferAt old new value → IfSome result (AreChanges values old new) }
+{
+    if value < values {
+        Some(Changes::At(value))
+    } else {
+        None
+    }
+}
+
+/// The changes at two of so many values, which are none where these are the same.
+fn changes_at(lost: usize, gained: usize, values: usize) -> Option<Changes>
+    ensures { (old new : TheMarks) → MarkOnly old lost → MarkOnly new gained → IfSome result (AreChanges values old new) }
+{
+    if lost == gained {
+        return Some(Changes::Nowhere);
+    }
+    if lost < gained && gained < values {
+        return Some(Changes::AtBoth(lost, gained));
+    }
+    if gained < lost && lost < values {
+        return Some(Changes::AtBoth(gained, lost));
     }
     None
 }
 
-/// The value that alone is marked, where the marks are a span of one.
-fn only_value(marks: &Marks) -> Option<usize>
-    ensures { IfSome result (λ value. (k : ℕ) → is_marked marks.now k ≡ (k == value)) }
+/// What the marks mark, if they are a span of one value at most.
+fn few_of(marks: &Marks) -> Option<Few>
+    ensures { IfSome result (λ few. (k : ℕ) → is_marked marks.now k ≡ is_only few k) }
 {
     match marks {
-        Marks::Span(span) => only_place(*span),
+        Marks::Span(span) => few_in(*span),
         Marks::Row(_) => None,
     }
 }
 
-/// The place that the span has, if it has one alone.
-fn only_place(span: Span) -> Option<usize>
-    ensures { IfSome result (λ place. (k : ℕ) → is_within span k ≡ (k == place)) }
+/// The places that the span has, if it has one at most.
+fn few_in(span: Span) -> Option<Few>
+    ensures { IfSome result (λ few. (k : ℕ) → is_within span k ≡ is_only few k) }
 {
-    if span.outside || span.from >= span.to || span.to - span.from > 1 {
+    if span.outside {
         return None;
     }
-    Some(span.from)
+    if span.from >= span.to {
+        return Some(Few::Nothing);
+    }
+    if span.to - span.from > 1 {
+        return None;
+    }
+    Some(Few::Only(span.from))
 }
 
 /// The first place, where this one is added.
