@@ -3,14 +3,13 @@ use Rattle.std.specs.Prelude.{◌≡◌, ℕ, ℤ, ◌<◌, ◌≤◌, List, len
 use Rattle.std.specs.declared.vec.Vec.{Vec}
 use Rattle.std.specs.declared.alloc.Global.{Global}
 use Rattle.dcsp_problem.specs.declared.problem.Problem.{Problem}
-use Rattle.ngd_log.specs.declared.derivation.Derivation.{Derivation}
 use Rattle.abt_promise.specs.Promises.{IsHeld}
 use Rattle.abt_input.specs.declared.read.Unread.{Unread}
 use Rattle.abt_input.specs.declared.read.Unread.TheVariants as unread
 use Rattle.abt_input.specs.declared.error.CommandError.{CommandError}
-use Rattle.abt_input.specs.declared.error.CommandError.TheVariants.{Fault, Memory}
-use Rattle.abt_input.specs.Inputs.{IsModelOf, IsTextOf, HasChoices, IsFormulaOf, HasClauses}
-use Rattle.abt_input.specs.Errors.{IsErrorOfModel, IsErrorOfLog, IsErrorOfSchedule, IsErrorOfCnf, IsErrorOfProof}
+use Rattle.abt_input.specs.declared.error.CommandError.TheVariants.{LogLong, Fault, Memory}
+use Rattle.abt_input.specs.Inputs.{most_log, IsModelOf, HasChoices, IsFormulaOf, HasClauses}
+use Rattle.abt_input.specs.Errors.{IsErrorOfModel, IsErrorOfSchedule, IsErrorOfCnf, IsErrorOfProof}
 
 -- this holds unless a file could not be read for a fault
 abbrev pub UnlessUnread : {T : Type 0} → Result T Unread → Type 0 → Type 0
@@ -47,16 +46,17 @@ IsModelReadOf model (Err error) = IsErrorOfModel model error
 abbrev pub IsModelRead : Option (List ℕ → Option (List ℕ)) → List ℕ → Result Problem CommandError → Type 0
 IsModelRead files name result = (model : List ℕ) × IsHeld files name model × IsModelReadOf model result
 
--- reading this log gives its derivation, or exactly why it is none, faults and want of memory aside
-abbrev pub IsLogReadOf : List ℕ → Result Derivation CommandError → Type 0
-IsLogReadOf log (Ok steps) = IsTextOf log steps
-IsLogReadOf log (Err Fault) = ⊤
-IsLogReadOf log (Err Memory) = ⊤
-IsLogReadOf log (Err error) = IsErrorOfLog log error
+-- reading the bytes of this log gives them, or exactly that they are too many, faults and want of memory aside
+abbrev pub IsLogTextReadOf : List ℕ → Result (Vec ℕ Global) CommandError → Type 0
+IsLogTextReadOf log (Ok text) = (text.items ≡ log) × (length log ≤ most_log)
+IsLogTextReadOf log (Err LogLong) = most_log < length log
+IsLogTextReadOf log (Err Fault) = ⊤
+IsLogTextReadOf log (Err Memory) = ⊤
+IsLogTextReadOf log (Err error) = ⊥
 
 -- the same of the bytes under the name
-abbrev pub IsLogRead : Option (List ℕ → Option (List ℕ)) → List ℕ → Result Derivation CommandError → Type 0
-IsLogRead files name result = (log : List ℕ) × IsHeld files name log × IsLogReadOf log result
+abbrev pub IsLogTextRead : Option (List ℕ → Option (List ℕ)) → List ℕ → Result (Vec ℕ Global) CommandError → Type 0
+IsLogTextRead files name result = (log : List ℕ) × IsHeld files name log × IsLogTextReadOf log result
 
 -- reading this schedule gives its choices, or exactly why it is none, faults and want of memory aside
 abbrev pub IsScheduleReadOf : List ℕ → Result (List ℕ) CommandError → Type 0

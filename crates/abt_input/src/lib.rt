@@ -1,8 +1,8 @@
 //! Reading the files of a command, and saying why one was refused.
 //!
-//! A model is read into its problem, a log into its derivation, a schedule into its choices, a formula into
-//! its problem and a proof into its clauses, each with the exact reason where it is refused, and each reason
-//! has its status and its line on standard error.
+//! A model is read into its problem, a schedule into its choices, a formula into its problem and a proof into
+//! its clauses, each with the exact reason where it is refused, and each reason has its status and its line on
+//! standard error. Of a log the bytes are read.
 #![tactic(auto)]
 
 mod clauses_error;
@@ -13,5 +13,5 @@ mod reply;
 
 pub use clauses_error::ClausesError;
 pub use error::{CommandError, error_reply, error_status, stop_error};
-pub use read::{read_choices, read_derivation, read_formula, read_model, read_proof};
+pub use read::{read_choices, read_formula, read_log_text, read_model, read_proof};
 pub use reply::{Reply, numbered};

@@ -3,8 +3,7 @@
 ghost use Rattle.std.specs.Prelude.{◌≡◌, Err, IfOk, All};
 ghost use Rattle.dcsp_outside.specs.Outside.{Rose, SameCounts};
 ghost use Rattle.cnf_front.specs.Clauses.{IsClauseRule};
-ghost use Rattle.ngd_log.specs.Logs.{IsLogOf};
-ghost use Rattle.abt_input.specs.Files.{IsRead, IsModelRead, IsLogRead, IsScheduleRead, IsFormulaRead, IsProofRead, UnlessUnread, UnlessFault};
+ghost use Rattle.abt_input.specs.Files.{IsRead, IsModelRead, IsLogTextRead, IsScheduleRead, IsFormulaRead, IsProofRead, UnlessUnread, UnlessFault};
 
 use crate::clauses_error::ClausesError;
 use crate::error::{CommandError, cnf_error, model_error};
@@ -13,7 +12,6 @@ use cnf_front::cnf_of;
 use dcsp_outside::{Fetched, Folder, FolderError};
 use dcsp_problem::Problem;
 use fzn_model::problem_of;
-use ngd_log::{Derivation, LogError, read_log};
 use rup_check::{ClauseList, ProofError};
 use std::alloc::Global;
 
@@ -85,30 +83,20 @@ pub fn read_model<F: Folder>(
     }
 }
 
-/// The derivation of the log under the name, whose bytes come into `text` in place of what that has. Nothing is
-/// written.
-pub fn read_derivation<F: Folder>(
+/// The bytes of the log under the name, whatever they are. Nothing is written.
+pub fn read_log_text<F: Folder>(
     alloc: Global,
     folder: &mut F,
     name: &str,
-    text: &mut Vec<u8>,
-) -> Result<Derivation, CommandError>
-    ensures read { IsLogRead (F.place folder.old).held name.now result }
-    ensures text { IfOk result (λ steps. IsLogOf text.new.items steps) }
+) -> Result<Vec<u8>, CommandError>
+    ensures read { IsLogTextRead (F.place folder.old).held name.now result }
     ensures held { (F.place folder.new).held ≡ (F.place folder.old).held }
     ensures created { (F.place folder.new).created ≡ (F.place folder.old).created }
     ensures counts { UnlessFault result (SameCounts (F.place folder.old) (F.place folder.new)) }
     ensures fault { result ≡ Err CommandError.Fault → Rose ((F.place folder.old).reads name.now) ((F.place folder.new).reads name.now) }
 {
     match read_file(alloc, folder, name, MOST_LOG) {
-        Ok(bytes) => {
-            *text = bytes;
-            match read_log(alloc, text) {
-                Ok(derivation) => Ok(derivation),
-                Err(LogError::Line { number }) => Err(CommandError::LogLine { number }),
-                Err(LogError::Memory) => Err(CommandError::Memory),
-            }
-        }
+        Ok(text) => Ok(text),
         Err(Unread::Long) => Err(CommandError::LogLong),
         Err(Unread::Fault) => Err(CommandError::Fault),
         Err(Unread::Memory) => Err(CommandError::Memory),

@@ -3,7 +3,6 @@ use Rattle.std.proofs.Common.{◌≡◌, ℕ, List, [], ◌∷◌, Result, Ok, E
 use Rattle.std.specs.Prelude.{IsErr, IsErrAnd}
 use Rattle.dcsp_defs.specs.declared.Step.{Step}
 use Rattle.dcsp_outside.specs.Outside.{Place, Stream, SameCounts, Rose}
-use Rattle.ngd_log.specs.declared.derivation.Derivation.{Derivation}
 use Rattle.dcsp_script.specs.declared.stop.Stop.{Stop}
 use Rattle.dcsp_script.specs.declared.stop.Stop.TheVariants as stops
 use Rattle.dcsp_script.specs.Scripts.{World, outside}
@@ -18,12 +17,14 @@ use Rattle.abt_input.specs.declared.error.CommandError.{CommandError}
 use Rattle.abt_input.specs.declared.error.CommandError.TheVariants.{ModelLong, ModelRefused, NoAim, LogLong, LogLine, ScheduleLong, ScheduleLine, Clauses, Fault, Memory}
 use Rattle.abt_input.specs.Inputs.{IsTextOf}
 use Rattle.abt_input.specs.Errors.{stop_error, way_of}
-use Rattle.abt_input.specs.Files.{IsLogRead, UnlessFault}
+use Rattle.abt_input.specs.Files.{UnlessFault}
+use Rattle.abt_logs.specs.declared.old_log.OldLog.{OldLog}
+use Rattle.abt_logs.specs.OldLogs.{IsOldLogRead}
 use Rattle.abt_logs.specs.UpgradePromise.{upgrade_script, bad_log, upgrades, upgrade_promise}
 
 module _ (log new : List ℕ) (p q : Place) (out : Stream) (held : q.held ≡ p.held) (created : q.created ≡ p.created) where
   -- the log has no steps, or was not read
-  no_steps : (e : CommandError) → IsLogRead p.held log (Err e) → UnlessFault {T = Derivation} (Err e) (SameCounts p q) → (e ≡ Fault → Rose (p.reads log) (q.reads log)) → CameIn (upgrade_promise log new) (outside p out) (outside q out) (way_of (Err e))
+  no_steps : (e : CommandError) → IsOldLogRead p.held log (Err e) → UnlessFault {T = OldLog} (Err e) (SameCounts p q) → (e ≡ Fault → Rose (p.reads log) (q.reads log)) → CameIn (upgrade_promise log new) (outside p out) (outside q out) (way_of (Err e))
   no_steps ModelLong h counts fault = absurd h.2
   no_steps (ModelRefused error) h counts fault = absurd h.2
   no_steps LogLong h counts fault = record { inputs = h.0 ∷ []; are_held = (h.1, tt); came = (bad_log LogLong h.2 refl, did_read p q out held created counts, tt) }
@@ -39,7 +40,7 @@ module _ (log new : List ℕ) (p q : Place) (out : Stream) (held : q.held ≡ p.
     came = inl (record { before = []; later = h.0 ∷ []; are_first = refl; name = log; fetches = refl; rose = fault refl; after = after_read p q out held created });
   }
 
-  pub came_unread : {e : CommandError} (r : Result Status CommandError) → IsErr r × IsErrAnd r (λ y. y ≡ e) → IsLogRead p.held log (Err e) → UnlessFault {T = Derivation} (Err e) (SameCounts p q) → (e ≡ Fault → Rose (p.reads log) (q.reads log)) → CameIn (upgrade_promise log new) (outside p out) (outside q out) (way_of r)
+  pub came_unread : {e : CommandError} (r : Result Status CommandError) → IsErr r × IsErrAnd r (λ y. y ≡ e) → IsOldLogRead p.held log (Err e) → UnlessFault {T = OldLog} (Err e) (SameCounts p q) → (e ≡ Fault → Rose (p.reads log) (q.reads log)) → CameIn (upgrade_promise log new) (outside p out) (outside q out) (way_of r)
   came_unread {e = e} (Ok x) is h counts fault = absurd (let no = is.0 in cc)
   came_unread {e = e} (Err y) is h counts fault = rw is.1 (no_steps e h counts fault)
 

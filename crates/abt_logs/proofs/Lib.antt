@@ -13,3 +13,4 @@ pub mod CoreFiles
 pub mod CoreFound
 pub mod Deleting
 pub mod FirstLine
+pub mod Reading

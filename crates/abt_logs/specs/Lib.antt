@@ -1,3 +1,4 @@
+pub mod OldLogs
 pub mod UpgradePromise
 pub mod Upgrading
 pub mod CorePromise

@@ -6,26 +6,20 @@ ghost use Rattle.dcsp_outside.specs.Outside.{Place, Stream};
 ghost use Rattle.dcsp_script.specs.Scripts.{Append, outside};
 ghost use Rattle.dcsp_script.specs.Ways.{Wrote};
 ghost use Rattle.ngd_log.specs.declared.standing.Version.{Version};
-ghost use Rattle.ngd_log.specs.Logs.{lines, IsLogOf};
+ghost use Rattle.ngd_log.specs.Logs.{lines};
 ghost use Rattle.ngd_log.specs.EntryTexts.{entry_lines, text_lines, IsWritableEntry};
 ghost use Rattle.ngd_upgrade.specs.Upgrade.{as_deletion, upgraded, deleted_count};
-ghost use Rattle.ngd_upgrade.specs.Endings.{Follows, AreEndings};
+ghost use Rattle.ngd_upgrade.specs.Endings.{Follows};
+ghost use Rattle.abt_logs.specs.OldLogs.{steps_of, IsOldLog};
 ghost use Rattle.abt_logs.specs.UpgradePromise.{appends, file_script};
 
+use crate::old_log::OldLog;
 use dcsp_outside::Folder;
 use dcsp_script::{Stop, append, create};
-use ngd_log::{Derivation, HEAD2, TAIL, write_deletion};
+use memchr::memchr;
+use ngd_log::{HEAD2, TAIL, write_deletion};
 use ngd_upgrade::Endings;
 use std::alloc::{AllocError, Global};
-
-/// A log of version 1.
-#[derive(Drop)]
-pub struct OldLog {
-    /// Its bytes.
-    pub text: Vec<u8>,
-    /// Its steps.
-    pub steps: Derivation,
-}
 
 /// Writes the log's steps with their deletions as a log of version 2: the name is created, and each line is appended
 /// by itself. The line of a step is the same in both versions. It answers how many steps are deleted.
@@ -34,17 +28,15 @@ pub fn write_upgraded<F: Folder>(
     folder: &mut F,
     name: &str,
     log: &OldLog,
-    endings: &Endings,
 ) -> Result<u64, Stop>
-    requires text { IsLogOf log.now.text.items log.now.steps }
-    requires endings { AreEndings log.now.steps endings.now }
-    ensures wrote { (out : Stream) → Wrote (file_script name.now (text_lines Version.Two (upgraded log.now.steps)))
+    requires { IsOldLog log.now }
+    ensures wrote { (out : Stream) → Wrote (file_script name.now (text_lines Version.Two (upgraded (steps_of log.now))))
         (outside (F.place folder.old) out) (outside (F.place folder.new) out) result }
-    ensures deleted { IfOk result (λ deleted. deleted ≡ deleted_count (upgraded log.now.steps)) }
+    ensures deleted { IfOk result (λ deleted. deleted ≡ deleted_count (upgraded (steps_of log.now))) }
 {
     create(folder, name)?;
     append(folder, name, HEAD2)?;
-    let deleted = append_upgraded(alloc, folder, name, log, endings)?;
+    let deleted = append_upgraded(alloc, folder, name, log)?;
     append(folder, name, TAIL)?;
     Ok(deleted)
 }
@@ -56,17 +48,15 @@ fn append_upgraded<F: Folder>(
     folder: &mut F,
     name: &str,
     log: &OldLog,
-    endings: &Endings,
 ) -> Result<u64, Stop>
     requires created { Contains (F.place folder.old).created name.now }
-    requires text { IsLogOf log.now.text.items log.now.steps }
-    requires endings { AreEndings log.now.steps endings.now }
-    ensures wrote { (out : Stream) → Wrote (appends name.now (entry_lines 1 (upgraded log.now.steps)))
+    requires log { IsOldLog log.now }
+    ensures wrote { (out : Stream) → Wrote (appends name.now (entry_lines 1 (upgraded (steps_of log.now))))
         (outside (F.place folder.old) out) (outside (F.place folder.new) out) result }
     ensures created { (F.place folder.new).created ≡ (F.place folder.old).created }
-    ensures deleted { IfOk result (λ deleted. deleted ≡ deleted_count (upgraded log.now.steps)) }
+    ensures deleted { IfOk result (λ deleted. deleted ≡ deleted_count (upgraded (steps_of log.now))) }
 {
-    let count = log.steps.len() as usize;
+    let count = log.endings.len();
     if count == 0 {
         return Ok(0);
     }
@@ -76,7 +66,7 @@ fn append_upgraded<F: Folder>(
     let (_head, mut rest) = first_line(&log.text);
     for place in 0..count - 1 {
         rest = append_line(folder, name, rest)?;
-        let ended = take_numbers(endings, place, &mut numbers)?;
+        let ended = take_numbers(&log.endings, place, &mut numbers)?;
         append_deletion(folder, name, &numbers, &mut line)?;
         deleted += ended;
     }
@@ -104,12 +94,10 @@ fn first_line(text: &[u8]) -> (&[u8], &[u8])
     ensures line { (line : List ℕ) (others : List (List ℕ)) → lines text.now ≡ line ∷ others → result.0.now ≡ line }
     ensures rest { (line : List ℕ) (others : List (List ℕ)) → lines text.now ≡ line ∷ others → lines result.1.now ≡ others }
 {
-    for at in 0..text.len() {
-        if text[at] == b'\n' {
-            return text.split_at(at + 1);
-        }
+    match memchr(b'\n', text) {
+        Some(at) => text.split_at(at + 1),
+        None => text.split_at(text.len()),
     }
-    text.split_at(text.len())
 }
 
 /// Takes the numbers of the steps that end at the step at this place, in place of those that `numbers` has. It

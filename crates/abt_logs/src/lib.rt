@@ -6,6 +6,7 @@
 mod entries;
 mod found;
 mod laws;
+mod old_log;
 mod steps;
 mod trimming;
 mod upgrade;

@@ -4,19 +4,19 @@ ghost use Rattle.std.specs.Prelude.{◌≡◌, ◌∷◌, [], IfOk, OnOk};
 ghost use Rattle.dcsp_outside.specs.Outside.{Place};
 ghost use Rattle.dcsp_script.specs.Scripts.{Put, outside};
 ghost use Rattle.dcsp_script.specs.Ways.{Wrote};
-ghost use Rattle.ngd_log.specs.Logs.{IsLogOf};
 ghost use Rattle.abt_promise.specs.Runs.{CameIn};
 ghost use Rattle.abt_input.specs.Errors.{way_of};
+ghost use Rattle.abt_logs.specs.OldLogs.{steps_of, IsOldLog};
 ghost use Rattle.abt_logs.specs.UpgradePromise.{counts_text, upgrade_script, upgrade_promise};
 ghost use Rattle.abt_logs.specs.Upgrading.{HoldsUpgrade};
 
-use crate::entries::{OldLog, write_upgraded};
-use abt_input::{CommandError, read_derivation};
+use crate::entries::write_upgraded;
+use crate::old_log::{OldLog, read_old_log};
+use abt_input::CommandError;
 use abt_promise::Status;
 use dcsp_outside::{Folder, Sink};
 use dcsp_script::{Stop, put};
 use itoa::Buffer;
-use ngd_upgrade::Endings;
 use std::alloc::{AllocError, Global};
 
 /// Writes the log, which is of version 1, under the new name as one of version 2: its steps in order, and after each
@@ -34,9 +34,8 @@ pub fn run_upgrade<F: Folder, S: Sink>(
         (outside (F.place folder.new) (S.stream out.new)) (way_of result) }
     ensures writes { OnOk result (HoldsUpgrade log.now new.now (F.place folder.old).held (F.place folder.new).held) }
 {
-    let mut text = Vec::new(alloc);
-    let steps = read_derivation(alloc, folder, log, &mut text)?;
-    upgrade(alloc, folder, &OldLog { text, steps }, new, out)?;
+    let old = read_old_log(alloc, folder, log)?;
+    upgrade(alloc, folder, &old, new, out)?;
     Ok(Status::Good)
 }
 
@@ -48,16 +47,13 @@ fn upgrade<F: Folder, S: Sink>(
     new: &str,
     out: &mut S,
 ) -> Result<(), Stop>
-    requires { IsLogOf log.now.text.items log.now.steps }
-    ensures { Wrote (upgrade_script new.now log.now.steps)
+    requires { IsOldLog log.now }
+    ensures { Wrote (upgrade_script new.now (steps_of log.now))
         (outside (F.place folder.old) (S.stream out.old))
         (outside (F.place folder.new) (S.stream out.new)) result }
 {
-    let Ok(endings) = Endings::of(alloc, &log.steps) else {
-        return Err(Stop::Memory);
-    };
-    let deleted = write_upgraded(alloc, folder, new, log, &endings)?;
-    tell(alloc, log.steps.len(), deleted, out)
+    let deleted = write_upgraded(alloc, folder, new, log)?;
+    tell(alloc, log.endings.len() as u64, deleted, out)
 }
 
 /// Puts the line that tells the counts on `out`, in one piece.

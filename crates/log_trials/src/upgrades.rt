@@ -42,11 +42,10 @@ fn deletes_after_the_last_citing_step(rt: HostRuntime) {
     expect_upgraded(&rt, alloc, text, 3, b"ss2s1s");
 }
 
-/// For each step of the text's derivation, the numbers of the steps that end there.
+/// For each step of the log, the numbers of the steps that end there.
 fn expect_endings(rt: &impl Abort, alloc: Global, text: &[u8], expected: &[&[u64]]) {
-    let derivation = read_log(alloc, text).ok().expect(rt, "a log");
-    let endings = Endings::of(alloc, &derivation).ok().expect(rt, "endings");
-    assert!(rt; derivation.len() == expected.len() as u64);
+    let endings = Endings::of_log(alloc, text).ok().expect(rt, "a log");
+    assert!(rt; endings.len() == expected.len());
     for (place, numbers) in expected.iter().enumerate() {
         let mut told = Vec::new(alloc);
         assert!(rt; endings.add_numbers(place, &mut told).is_ok());

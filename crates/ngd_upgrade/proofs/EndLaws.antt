@@ -1,9 +1,12 @@
 -- Where steps end.
-use Rattle.std.proofs.Common.{◌≡◌, ℕ, ◌+◌, ◌<◌, ◌≤◌, Bool, true, false, cond, List, [], ◌∷◌, ◌++◌, length, max, inl, inr, sym, ap, ◌∙◌, arith}
+use Rattle.std.proofs.Common.{◌≡◌, ℕ, ◌+◌, ◌<◌, ◌≤◌, Bool, true, false, cond, List, [], ◌∷◌, ◌++◌, length, get_or, max, inl, inr, sym, ap, ◌∙◌, arith}
 use Rattle.std.proofs.Math.Nat.{le-max_left, le-max_right, max-zero, zero-max, max_comm, max-eq_left, max-eq_right}
 use Rattle.std.proofs.lemmas.Bool.{cases_lt}
+use Rattle.std.proofs.lemmas.List.{length-append, get_or_append_left, get_or-append-add}
+use Rattle.dcsp_defs.specs.declared.Reason.{Reason}
 use Rattle.dcsp_defs.specs.declared.Step.{Step}
 use Rattle.ngd_upgrade.specs.Upgrade.{cites, last_citing, end_of}
+use Rattle.ngd_upgrade.specs.Endings.{AreEnds}
 
 -- a step ends no earlier than itself
 pub end_after : (steps : List Step) (number : ℕ) → number ≤ end_of steps number
@@ -86,3 +89,40 @@ end_more steps step number =
     by_test : (c : Bool) → max (end_of steps number) (cond c (1 + length steps) 0) ≡ cond c (max (length steps + 1) (end_of steps number)) (end_of steps number)
     by_test true = let k : 1 + length steps ≡ length steps + 1 = omega arith in rw k (max_comm (end_of steps number) (length steps + 1))
     by_test false = max-zero (end_of steps number)
+
+-- the last step ends at itself
+end_last : (steps : List Step) (step : Step) → end_of (steps ++ step ∷ []) (length steps + 1) ≡ length steps + 1
+end_last steps step =
+    let count = length-append steps (step ∷ []) in
+    let low = end_after (steps ++ step ∷ []) (length steps + 1) in
+    let high = end_most (steps ++ step ∷ []) (length steps + 1) (omega (arith, count)) in
+    omega (arith, count, low, high)
+
+-- the steps that the next one cites end at it, and it ends at itself
+pub ends_more : (steps : List Step) (step : Step) (reasons : List Reason) (number : ℕ) (before after : List ℕ) → step.reasons ≡ reasons → number ≡ length before + 1 → AreEnds steps before → length after ≡ length before
+    → ((i : ℕ) → i < length before → get_or after i 0 ≡ cond (cites (i + 1) reasons) number (get_or before i 0)) → AreEnds (steps ++ step ∷ []) (after ++ number ∷ [])
+ends_more steps step reasons number before after same next are count each =
+    let whole = length-append steps (step ∷ []) in
+    let all = length-append after (number ∷ []) in
+    let many = are.count in
+    record {
+      count = omega (arith, whole, all, many, count);
+      each = λ i lt. elim (cases_lt i (length after)) [
+        | inl early ↦
+            get_or_append_left after (number ∷ []) 0 i early ∙ each i (omega (arith, early, count)) ∙ moved i (omega (arith, early, count, many)) (cites (i + 1) reasons)
+            ∙ ap (λ (rs : List Reason). cond (cites (i + 1) rs) (max (length steps + 1) (end_of steps (i + 1))) (end_of steps (i + 1))) (sym same) ∙ sym (end_more steps step (i + 1))
+        | inr late ↦
+            let at : i ≡ length after + 0 = omega (arith, late, lt, whole, count, many, all) in
+            let is : number ≡ length steps + 1 = omega (arith, next, many) in
+            let last : length steps + 1 ≡ i + 1 = omega (arith, at, count, many) in
+            ap (λ (j : ℕ). get_or (after ++ number ∷ []) j 0) at ∙ get_or-append-add after (number ∷ []) 0 0 ∙ is ∙ sym (end_last steps step) ∙ ap (end_of (steps ++ step ∷ [])) last
+      ];
+    }
+  where
+    moved : (i : ℕ) → i < length steps → (c : Bool) → cond c number (get_or before i 0) ≡ cond c (max (length steps + 1) (end_of steps (i + 1))) (end_of steps (i + 1))
+    moved i lt true =
+        let many = are.count in
+        let most = end_most steps (i + 1) (omega (arith, lt)) in
+        let greater : max (length steps + 1) (end_of steps (i + 1)) ≡ length steps + 1 = max-eq_left {n = length steps + 1} {m = end_of steps (i + 1)} (omega (arith, most)) in
+        omega (arith, next, many, greater)
+    moved i lt false = are.each i lt

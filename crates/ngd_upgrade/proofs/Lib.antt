@@ -5,3 +5,4 @@ pub mod Tables
 pub mod Texts
 pub mod GroupLaws
 pub mod ChainLaws
+pub mod LogEnds

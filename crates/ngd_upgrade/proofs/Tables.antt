@@ -1,68 +1,11 @@
--- Tables that are changed one by one, and the entries so far.
-use Rattle.std.proofs.Common.{◌≡◌, ℕ, zero, suc, ◌+◌, ◌<◌, ◌≤◌, Bool, true, false, cond, ◌||◌, ltb, List, [], ◌∷◌, ◌++◌, length, take, drop, get_or, max, refl, sym, ap, ◌∙◌, append_assoc, arith}
+-- The entries so far.
+use Rattle.std.proofs.Common.{◌≡◌, ℕ, zero, suc, ◌+◌, ◌<◌, ◌≤◌, ltb, List, [], ◌∷◌, ◌++◌, length, drop, get_or, refl, sym, ap, ◌∙◌, append_assoc, arith}
 use Rattle.std.specs.List.{filter}
-use Rattle.std.proofs.Math.Nat.{le-max_left, max-eq_right}
-use Rattle.std.proofs.lemmas.List.{take_more}
-use Rattle.dcsp_defs.specs.declared.Reason.{Reason}
 use Rattle.dcsp_defs.specs.declared.Step.{Step}
 use Rattle.ngd_log.specs.declared.entry.Entry.{Entry}
 use Rattle.ngd_log.specs.declared.entry.Entry.TheVariants.{Step as A_step}
-use Rattle.ngd_upgrade.specs.Upgrade.{is_citation, cites, end_of, numbers, ending, as_deletion, deletion_after, upgraded_from, deleted_count}
-use Rattle.ngd_upgrade.proofs.EndLaws.{end_more}
+use Rattle.ngd_upgrade.specs.Upgrade.{end_of, numbers, ending, as_deletion, deletion_after, upgraded_from, deleted_count}
 use Rattle.ngd_upgrade.proofs.Numbers.{count_split, count_most, length-numbers}
-
--- ---- raised values
-
--- the greater of two, twice
-max_twice : (n e : ℕ) → max n (max n e) ≡ max n e
-max_twice n e = max-eq_right {n = n} {m = max n e} (le-max_left n e)
-
--- raised by one test, and by another
-raised : (a b : Bool) (n e x : ℕ) → x ≡ cond a (max n e) e → cond b (max n x) x ≡ cond (a || b) (max n e) e
-raised true true n e x h = rw h (max_twice n e)
-raised true false n e x h = h
-raised false true n e x h = rw h refl
-raised false false n e x h = h
-
--- one reason more
-pub cites_more : (number : ℕ) (reasons : List Reason) (i : ℕ) (d : Reason) → i < length reasons → cites number (take (i + 1) reasons) ≡ (cites number (take i reasons) || is_citation number (get_or reasons i d))
-cites_more number reasons i d lt = ap (cites number) (take_more reasons i d lt) ∙ any_push (take i reasons) (get_or reasons i d)
-  where
-    or_false : (b : Bool) → (b || false) ≡ b
-    or_false true = refl
-    or_false false = refl
-
-    or_later : (a b c : Bool) → (a || (b || c)) ≡ ((a || b) || c)
-    or_later true b c = refl
-    or_later false b c = refl
-
-    any_push : (rs : List Reason) (r : Reason) → cites number (rs ++ r ∷ []) ≡ (cites number rs || is_citation number r)
-    any_push [] r = or_false (is_citation number r)
-    any_push (x ∷ rs) r = ap (λ b. is_citation number x || b) (any_push rs r) ∙ or_later (is_citation number x) (cites number rs) (is_citation number r)
-
--- a value with one reason more
-pub raised_more : (number n e x y : ℕ) (reasons : List Reason) (i : ℕ) (r : Reason) → i < length reasons → r ≡ get_or reasons i r
-    → x ≡ cond (cites number (take i reasons)) (max n e) e → y ≡ cond (is_citation number r) (max n x) x → y ≡ cond (cites number (take (i + 1) reasons)) (max n e) e
-raised_more number n e x y reasons i r lt is h k =
-    k ∙ raised (cites number (take i reasons)) (is_citation number r) n e x h
-    ∙ ap (λ (b : Bool). cond b (max n e) e) (ap (λ (q : Reason). cites number (take i reasons) || is_citation number q) is ∙ sym (cites_more number reasons i r lt))
-
--- a value with one step more
-pub ended_more : (number x y : ℕ) (steps : List Step) (i : ℕ) (s : Step) → i < length steps → s ≡ get_or steps i s → x ≡ end_of (take i steps) number → length (take i steps) ≡ i
-    → y ≡ cond (cites number s.reasons) (max (i + 1) x) x → y ≡ end_of (take (i + 1) steps) number
-ended_more number x y steps i s lt is h count k =
-    k ∙ ap (λ (e : ℕ). cond (cites number s.reasons) (max (i + 1) e) e) h
-    ∙ ap (λ (n : ℕ). cond (cites number s.reasons) (max (n + 1) (end_of (take i steps) number)) (end_of (take i steps) number)) (sym count)
-    ∙ sym (end_more (take i steps) s number)
-    ∙ ap (λ (ss : List Step). end_of ss number) (ap (λ (t : Step). take i steps ++ t ∷ []) is ∙ sym (take_more steps i s lt))
-
--- so many of the first
-pub taken : {X : Type 0} (xs : List X) (n : ℕ) → n ≤ length xs → length (take n xs) ≡ n
-taken xs zero le = refl
-taken [] (suc n) le = absurd (omega (arith, le))
-taken (x ∷ xs) (suc n) le = ap suc (taken xs n (omega (arith, le)))
-
--- ---- entries
 
 -- what is left with one step less
 pub left_next : (steps : List Step) (place : ℕ) (step : Step) → place + 1 < length steps → step ≡ get_or steps place step

@@ -1,12 +1,14 @@
 //! The steps that end at each step.
 ghost use Rattle.std.specs.Prelude.{◌≡◌, ◌≢◌, ℕ, ◌+◌, ◌-◌, ◌<◌, ◌≤◌, ◌==◌, ◌∷◌, [], ◌++◌, List, length, slice_index_or, OnOk, IfOk};
 ghost use Rattle.std.specs.List.{filter};
+ghost use Rattle.dcsp_defs.specs.declared.Step.{Step as A_step};
 ghost use Rattle.ngd_upgrade.specs.Upgrade.{numbers};
-ghost use Rattle.ngd_upgrade.specs.Endings.{Follows, LeadLater, AreEndings};
+ghost use Rattle.ngd_upgrade.specs.Endings.{Follows, LeadLater, AreEnds, AreEndings, IsReadAs};
 
 use crate::ends::ends_of;
+use crate::log::ends_of_log;
 use dcsp_list::Memory;
-use ngd_log::Derivation;
+use ngd_log::{Derivation, LogError};
 use std::alloc::Global;
 use std::marker::Model;
 
@@ -40,6 +42,27 @@ impl Endings {
         chains_of(alloc, &ends)
     }
 
+    /// The endings of the steps of a log of version 1, from its text. No step is kept, and it takes time in
+    /// proportion to the text.
+    ///
+    /// `LogError::Line` comes exactly where `read_log` answers it, with the same number.
+    pub fn of_log(alloc: Global, text: &[u8]) -> Result<Endings, LogError>
+        ensures { IsReadAs AreEndings text.now result }
+    {
+        let ends = ends_of_log(alloc, text)?;
+        match chains_of(alloc, &ends) {
+            Ok(endings) => Ok(endings),
+            Err(_) => Err(LogError::Memory),
+        }
+    }
+
+    /// How many steps there are.
+    pub fn len(&self) -> usize
+        ensures { result ≡ length self.now.firsts }
+    {
+        self.firsts.len()
+    }
+
     /// Adds the numbers of the steps that end at the step at this place, which counts from 0. They rise.
     pub fn add_numbers(&self, place: usize, into: &mut Vec<u64>) -> Result<(), Memory>
         requires { place < length self.now.firsts }
@@ -53,9 +76,7 @@ impl Endings {
 /// For each step the chain of the steps that end there.
 fn chains_of(alloc: Global, ends: &[u64]) -> Result<Endings, Memory>
     requires { (i : ℕ) → i < length ends.now → (0 < slice_index_or ends.now i 0) × (slice_index_or ends.now i 0 ≤ length ends.now) }
-    ensures count { IfOk result (λ endings. length endings.firsts ≡ length ends.now) }
-    ensures each { IfOk result (λ endings. (k : ℕ) → k < length ends.now
-        → Follows endings.nexts (slice_index_or endings.firsts k 0) (filter (λ number. slice_index_or ends.now (number - 1) 0 == k + 1) (numbers (length ends.now)))) }
+    ensures { (steps : List A_step) → AreEnds steps ends.now → IfOk result (AreEndings steps) }
 {
     let mut firsts = no_places(alloc, ends.len())?;
     let mut nexts = no_places(alloc, ends.len())?;

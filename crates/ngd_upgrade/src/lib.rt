@@ -7,6 +7,7 @@
 mod append;
 mod endings;
 mod ends;
+mod log;
 
 ghost use Rattle.std.specs.Prelude.{◌≡◌, ◌++◌, ◌↔◌, List, OnOk, IfOk};
 ghost use Rattle.dcsp_defs.specs.Csp.{Csp};

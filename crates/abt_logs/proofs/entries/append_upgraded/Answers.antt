@@ -1,9 +1,7 @@
 use Rattle.std.proofs.Common.{◌≡◌, ◌+◌, ◌<◌, ◌∷◌, ◌++◌, [], ℕ, List, length, refl, sym, ap, subst, ◌∙◌, arith}
 use Rattle.std.specs.Prelude.{Contains}
 use Rattle.std.specs.List.{AllByRecursion}
-use Rattle.std.proofs.lemmas.List.{nil_from_length}
 use Rattle.dcsp_script.proofs.Left.{left_all, left_more, left_stopped, left_ends}
-use Rattle.dcsp_script.proofs.Lines.{wrote_nothing}
 use Rattle.ngd_log.specs.declared.standing.Version.TheVariants.{Two}
 use Rattle.ngd_log.specs.Logs.{lines, step_lines}
 use Rattle.ngd_log.specs.EntryTexts.{IsWritableEntry}
@@ -11,17 +9,19 @@ use Rattle.ngd_log.proofs.LogLines.{head, tail, lines_of_whole}
 use Rattle.ngd_upgrade.specs.Upgrade.{ending, as_deletion, upgraded, deleted_count}
 use Rattle.ngd_upgrade.proofs.Tables.{deleted_more, few_more, few_most}
 use Rattle.ngd_upgrade.proofs.Texts.{ending_writable}
+use Rattle.abt_logs.specs.OldLogs.{steps_of}
 use Rattle.abt_logs.proofs.Writing.{left_memory}
 use Rattle.abt_logs.proofs.Deleting.{entry_left, deletion_as, step_of, text_left, last_left, last_deletes}
 use Rattle.abt_logs.proofs.entries.append_upgraded.Goals as goal
 
 pub loop-place-init : goal.loop-place-init
 loop-place-init g c =
-    let steps = c.args.log.now.steps in
-    let all = ap lines c.deref.ensures.value ∙ lines_of_whole steps c.args.log.now.text.items c.requires.text in
+    let steps = steps_of c.args.log.now in
+    let all = c.requires.log.endings.count in
+    let first = ap lines c.deref.ensures.value ∙ lines_of_whole steps c.args.log.now.text.items c.requires.log.text in
     record {
       left = λ out. left_all _ _;
-      rest = c.first_line.ensures.rest head (step_lines 1 steps ++ tail ∷ []) all;
+      rest = c.first_line.ensures.rest head (step_lines 1 steps ++ tail ∷ []) first;
       created = c.requires.created;
       same = refl;
       deleted = omega arith;
@@ -31,8 +31,9 @@ loop-place-init g c =
 pub returns-in_err-rest-clause-wrote : goal.returns-in_err-rest-clause-wrote
 returns-in_err-rest-clause-wrote g c =
     let l = c.loop-place in
-    let steps = c.args.log.now.steps in
-    let next : l.place + 1 < length steps = omega arith in
+    let steps = steps_of c.args.log.now in
+    let all = c.requires.log.endings.count in
+    let next : l.place + 1 < length steps = omega (arith, all) in
     let s = step_of steps l.place (omega (arith, next)) in
     let split = entry_left c.args.name.now steps l.place s.0 next s.1 in
     let text = text_left steps l.place s.0 l.rest.now (omega (arith, next)) s.1 l.invariant.rest in
@@ -41,8 +42,9 @@ returns-in_err-rest-clause-wrote g c =
 pub returns-in_err-ended-clause-wrote : goal.returns-in_err-ended-clause-wrote
 returns-in_err-ended-clause-wrote g c =
     let l = c.loop-place in
-    let steps = c.args.log.now.steps in
-    let next : l.place + 1 < length steps = omega arith in
+    let steps = steps_of c.args.log.now in
+    let all = c.requires.log.endings.count in
+    let next : l.place + 1 < length steps = omega (arith, all) in
     let s = step_of steps l.place (omega (arith, next)) in
     let split = entry_left c.args.name.now steps l.place s.0 next s.1 in
     let text = text_left steps l.place s.0 l.rest.now (omega (arith, next)) s.1 l.invariant.rest in
@@ -51,42 +53,46 @@ returns-in_err-ended-clause-wrote g c =
 pub append_deletion-requires-clause-deletion : goal.append_deletion-requires-clause-deletion
 append_deletion-requires-clause-deletion g c =
     let l = c.loop-place in
-    let steps = c.args.log.now.steps in
-    let next : l.place + 1 < length steps = omega arith in
-    let numbers = c.deref-in-loop-place.ensures.value ∙ c.in_ok-ended.ensures.numbers (ending steps (l.place + 1)) (c.requires.endings.each l.place (omega (arith, next))) in
-    subst (λ (ns : List ℕ). AllByRecursion (IsWritableEntry Two) (as_deletion ns)) (sym numbers) (ending_writable steps (l.place + 1) c.requires.text.writable)
+    let steps = steps_of c.args.log.now in
+    let all = c.requires.log.endings.count in
+    let next : l.place + 1 < length steps = omega (arith, all) in
+    let numbers = c.deref-in-loop-place.ensures.value ∙ c.in_ok-ended.ensures.numbers (ending steps (l.place + 1)) (c.requires.log.endings.each l.place (omega (arith, next))) in
+    subst (λ (ns : List ℕ). AllByRecursion (IsWritableEntry Two) (as_deletion ns)) (sym numbers) (ending_writable steps (l.place + 1) c.requires.log.text.writable)
 
 pub returns-in_err-append_deletion-clause-wrote : goal.returns-in_err-append_deletion-clause-wrote
 returns-in_err-append_deletion-clause-wrote g c =
     let l = c.loop-place in
-    let steps = c.args.log.now.steps in
-    let next : l.place + 1 < length steps = omega arith in
+    let steps = steps_of c.args.log.now in
+    let all = c.requires.log.endings.count in
+    let next : l.place + 1 < length steps = omega (arith, all) in
     let s = step_of steps l.place (omega (arith, next)) in
     let split = entry_left c.args.name.now steps l.place s.0 next s.1 in
     let text = text_left steps l.place s.0 l.rest.now (omega (arith, next)) s.1 l.invariant.rest in
-    let numbers = c.deref-in-loop-place.ensures.value ∙ c.in_ok-ended.ensures.numbers (ending steps (l.place + 1)) (c.requires.endings.each l.place (omega (arith, next))) in
+    let numbers = c.deref-in-loop-place.ensures.value ∙ c.in_ok-ended.ensures.numbers (ending steps (l.place + 1)) (c.requires.log.endings.each l.place (omega (arith, next))) in
     λ out. left_stopped _ _ _ (deletion_as c.args.name.now _ _ _ (sym numbers)) c.from_residual-in_err-append_deletion.ensures
     (left_more _ split (l.invariant.left out) (c.in_ok-rest.ensures.wrote _ _ text out).ended) (c.in_err-append_deletion.ensures.wrote out)
 
 pub overflow_add-deleted : goal.overflow_add-deleted
 overflow_add-deleted g c =
     let l = c.loop-place in
-    let steps = c.args.log.now.steps in
-    let next : l.place + 1 < length steps = omega arith in
+    let steps = steps_of c.args.log.now in
+    let all = c.requires.log.endings.count in
+    let next : l.place + 1 < length steps = omega (arith, all) in
     let few = few_more steps (l.place + 1) l.deleted (ending steps (l.place + 1)) l.invariant.few refl in
     let most = few_most steps (l.place + 1 + 1) in
-    let told = c.in_ok-ended.ensures.count (ending steps (l.place + 1)) (c.requires.endings.each l.place (omega (arith, next))) in
+    let told = c.in_ok-ended.ensures.count (ending steps (l.place + 1)) (c.requires.log.endings.each l.place (omega (arith, next))) in
     omega (arith, few, most, told)
 
 pub loop-place-preserved : goal.loop-place-preserved
 loop-place-preserved g c =
     let l = c.loop-place in
-    let steps = c.args.log.now.steps in
-    let next : l.place + 1 < length steps = omega arith in
+    let steps = steps_of c.args.log.now in
+    let all = c.requires.log.endings.count in
+    let next : l.place + 1 < length steps = omega (arith, all) in
     let s = step_of steps l.place (omega (arith, next)) in
     let split = entry_left c.args.name.now steps l.place s.0 next s.1 in
     let text = text_left steps l.place s.0 l.rest.now (omega (arith, next)) s.1 l.invariant.rest in
-    let chain = c.requires.endings.each l.place (omega (arith, next)) in
+    let chain = c.requires.log.endings.each l.place (omega (arith, next)) in
     let numbers = c.deref-in-loop-place.ensures.value ∙ c.in_ok-ended.ensures.numbers (ending steps (l.place + 1)) chain in
     let told : c.in_ok-ended.ended ≡ length (ending steps (l.place + 1)) = c.in_ok-ended.ensures.count (ending steps (l.place + 1)) chain in
     record {
@@ -102,8 +108,9 @@ loop-place-preserved g c =
 pub returns-in_err-append_line-clause-wrote : goal.returns-in_err-append_line-clause-wrote
 returns-in_err-append_line-clause-wrote g c =
     let l = c.loop-place in
-    let steps = c.args.log.now.steps in
-    let at : l.place + 1 ≡ length steps = omega arith in
+    let steps = steps_of c.args.log.now in
+    let all = c.requires.log.endings.count in
+    let at : l.place + 1 ≡ length steps = omega (arith, all) in
     let s = step_of steps l.place (omega (arith, at)) in
     let text = text_left steps l.place s.0 l.rest.now (omega (arith, at)) s.1 l.invariant.rest in
     λ out. left_stopped [] _ _ (last_left c.args.name.now steps l.place s.0 at s.1) c.from_residual-in_err-append_line.ensures (l.invariant.left out) (c.in_err-append_line.ensures.wrote _ _ text out)
@@ -111,8 +118,9 @@ returns-in_err-append_line-clause-wrote g c =
 pub returns-clause-wrote : goal.returns-clause-wrote
 returns-clause-wrote g c =
     let l = c.loop-place in
-    let steps = c.args.log.now.steps in
-    let at : l.place + 1 ≡ length steps = omega arith in
+    let steps = steps_of c.args.log.now in
+    let all = c.requires.log.endings.count in
+    let at : l.place + 1 ≡ length steps = omega (arith, all) in
     let s = step_of steps l.place (omega (arith, at)) in
     let text = text_left steps l.place s.0 l.rest.now (omega (arith, at)) s.1 l.invariant.rest in
     λ out. left_ends _ (last_left c.args.name.now steps l.place s.0 at s.1) (l.invariant.left out) (record { ended = (c.in_ok-append_line.ensures.wrote _ _ text out).ended })
@@ -120,9 +128,10 @@ returns-clause-wrote g c =
 pub returns-clause-deleted : goal.returns-clause-deleted
 returns-clause-deleted g c =
     let l = c.loop-place in
-    let steps = c.args.log.now.steps in
-    let at : l.place + 1 ≡ length steps = omega arith in
+    let steps = steps_of c.args.log.now in
+    let all = c.requires.log.endings.count in
+    let at : l.place + 1 ≡ length steps = omega (arith, all) in
     let s = step_of steps l.place (omega (arith, at)) in
     let none = last_deletes steps l.place s.0 at s.1 in
-    let all = l.invariant.deleted in
-    omega (arith, none, all)
+    let deleted = l.invariant.deleted in
+    omega (arith, none, deleted)

@@ -1,0 +1,41 @@
+//! Reading a log of version 1.
+
+ghost use Rattle.std.specs.Prelude.{◌≡◌, Err};
+ghost use Rattle.dcsp_outside.specs.Outside.{Rose, SameCounts};
+ghost use Rattle.abt_input.specs.Files.{UnlessFault};
+ghost use Rattle.abt_logs.specs.OldLogs.{IsOldLogRead};
+
+use abt_input::{CommandError, read_log_text};
+use dcsp_outside::Folder;
+use ngd_log::LogError;
+use ngd_upgrade::Endings;
+use std::alloc::Global;
+
+/// A log of version 1.
+#[derive(Drop)]
+pub struct OldLog {
+    /// Its bytes.
+    pub text: Vec<u8>,
+    /// For each of its steps, the steps that end there.
+    pub endings: Endings,
+}
+
+/// The log under the name, which is of version 1. Nothing is written.
+pub fn read_old_log<F: Folder>(
+    alloc: Global,
+    folder: &mut F,
+    name: &str,
+) -> Result<OldLog, CommandError>
+    ensures read { IsOldLogRead (F.place folder.old).held name.now result }
+    ensures held { (F.place folder.new).held ≡ (F.place folder.old).held }
+    ensures created { (F.place folder.new).created ≡ (F.place folder.old).created }
+    ensures counts { UnlessFault result (SameCounts (F.place folder.old) (F.place folder.new)) }
+    ensures fault { result ≡ Err CommandError.Fault → Rose ((F.place folder.old).reads name.now) ((F.place folder.new).reads name.now) }
+{
+    let text = read_log_text(alloc, folder, name)?;
+    match Endings::of_log(alloc, &text) {
+        Ok(endings) => Ok(OldLog { text, endings }),
+        Err(LogError::Line { number }) => Err(CommandError::LogLine { number }),
+        Err(LogError::Memory) => Err(CommandError::Memory),
+    }
+}
