@@ -15,19 +15,14 @@ use abt_message::{Message, Outbox, Sent};
 use dcsp_list::Memory;
 use dcsp_nogood::Pair;
 
-/// Sends the message if it is wanted.
-#[inline]
-pub fn push_if(out: &mut Outbox, wanted: bool, to: u32, message: Message) -> Result<(), Memory>
-    requires { wanted ≡ true → IsStamped message }
-    ensures { OnOk result (Posts out.old out.new (if wanted then (to, message_of message) ∷ [] else [])) }
+/// Sends the message.
+pub fn post(out: &mut Outbox, to: u32, message: Message) -> Result<(), Memory>
+    requires { IsStamped message }
+    ensures { OnOk result (Posts out.old out.new ((to, message_of message) ∷ [])) }
 {
-    if wanted {
-        match out.push(Sent { to, message }) {
-            Ok(()) => Ok(()),
-            Err(_) => Err(Memory),
-        }
-    } else {
-        Ok(())
+    match out.push(Sent { to, message }) {
+        Ok(()) => Ok(()),
+        Err(_) => Err(Memory),
     }
 }
 
@@ -45,7 +40,7 @@ fn ask_one(linked: &[bool], to: u32, out: &mut Outbox) -> Result<(), Memory>
     if !is_unlinked(linked, to) {
         return Ok(());
     }
-    push_if(out, true, to, Message::AddLink)
+    post(out, to, Message::AddLink)
 }
 
 /// Asks for a link each agent that the pairs name and that has none, rising.

@@ -18,7 +18,7 @@ ghost use Rattle.abt_agent.specs.Rights.{BringsOfStep, IsRightTurn};
 ghost use Rattle.abt_store.specs.Stores.{records_of};
 
 use crate::Turn;
-use crate::ask::push_if;
+use crate::ask::post;
 use crate::body::Body;
 use abt_message::{Message, Outbox};
 use abt_store::Recorded;
@@ -183,7 +183,7 @@ impl<'p> Body<'p> {
                     value,
                     stamp: self.stamp,
                 };
-                push_if(out, true, to, message)
+                post(out, to, message)
             }
             None => Ok(()),
         }

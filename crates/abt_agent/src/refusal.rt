@@ -138,9 +138,7 @@ impl<'p> Knowledge<'p> {
         ensures told { pair_at var (stamped_in result) ≡ told_of (view_of self.now.view) var }
         ensures stamped { ForSome result (λ told. 0 < told.stamp) }
     {
-        let value = self.view.value_of(var)?;
-        let stamp = self.view.stamp_of(var)?;
-        Some(StampedValue { value, stamp })
+        self.view.stamped_value(var)
     }
 
     /// What a step cites for the cause.

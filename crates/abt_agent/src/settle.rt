@@ -10,7 +10,7 @@ ghost use Rattle.abt_agent.specs.Bodies.{agent_of, owner_of, Does, IsGood, IsSiz
 ghost use Rattle.abt_agent.specs.Outgoing.{Posts};
 
 use crate::Turn;
-use crate::ask::push_if;
+use crate::ask::post;
 use crate::body::Body;
 use crate::refusal::Refusal;
 use abt_message::{Message, Outbox};
@@ -27,7 +27,7 @@ fn tell_all(tells: &[u32], told: StampedValue, out: &mut Outbox) -> Result<(), M
             value: told.value,
             stamp: told.stamp,
         };
-        push_if(out, true, *to, message)?;
+        post(out, *to, message)?;
     }
     Ok(())
 }
@@ -93,7 +93,7 @@ impl<'p> Body<'p> {
                     stamps,
                     step: number,
                 };
-                push_if(out, true, lowest.var, message)?;
+                post(out, lowest.var, message)?;
                 self.waits = true;
                 Ok(Turn::Derived(step))
             }

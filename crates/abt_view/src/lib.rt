@@ -129,8 +129,8 @@ impl View {
         Some(self.stamped_value(var)?.stamp)
     }
 
-    /// What an agent told last.
-    fn stamped_value(&self, var: u32) -> Option<StampedValue>
+    /// The value and the stamp last told by an agent; `None` where it told nothing or is not higher.
+    pub fn stamped_value(&self, var: u32) -> Option<StampedValue>
         ensures { result ≡ slice_index_or self.now var None }
     {
         item_of(&self.slots, var)?

@@ -15,6 +15,6 @@ loop-to-preserved c =
     let k = c.loop-to.to-index in
     let told = Announce (stamped_of c.args.told) in
     let fits : SFits w64 c.args.told.value = search rules in
-    let sent = subst (λ (z : ℤ). Posts c.loop-to.out c.push_if.new.out ((get_or ts k 0, Announce (record { value = z; stamp = c.args.told.stamp })) ∷ [])) (to_z-of_z w64 c.args.told.value fits) c.in_ok-push_if.ensures in
-    subst (Posts c.args.out.now c.push_if.new.out) (sym (each_next told ts k 0 c.loop-to-test.true))
-    (posts_then c.args.out.now c.loop-to.out c.push_if.new.out (steps.to_each told (take k ts)) ((get_or ts k 0, told) ∷ []) c.loop-to.invariant sent)
+    let sent = subst (λ (z : ℤ). Posts c.loop-to.out c.post.new.out ((get_or ts k 0, Announce (record { value = z; stamp = c.args.told.stamp })) ∷ [])) (to_z-of_z w64 c.args.told.value fits) c.in_ok-post.ensures in
+    subst (Posts c.args.out.now c.post.new.out) (sym (each_next told ts k 0 c.loop-to-test.true))
+    (posts_then c.args.out.now c.loop-to.out c.post.new.out (steps.to_each told (take k ts)) ((get_or ts k 0, told) ∷ []) c.loop-to.invariant sent)
