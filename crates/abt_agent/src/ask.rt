@@ -14,6 +14,7 @@ use crate::marks::mark_pairs;
 use abt_message::{Message, Outbox, Sent};
 use dcsp_list::Memory;
 use dcsp_nogood::Pair;
+use dcsp_row::Row;
 
 /// Sends the message.
 pub fn post(out: &mut Outbox, to: u32, message: Message) -> Result<(), Memory>
@@ -27,14 +28,14 @@ pub fn post(out: &mut Outbox, to: u32, message: Message) -> Result<(), Memory>
 }
 
 /// Whether the agent has a place in the table of links, and is not marked there.
-fn is_unlinked(linked: &[bool], to: u32) -> bool
+fn is_unlinked(linked: &Row, to: u32) -> bool
     ensures { result ≡ is_unlinked linked.now to }
 {
-    (to as usize) < linked.len() && !linked[to as usize]
+    (to as usize) < linked.len() && !linked.has(to as usize)
 }
 
 /// Asks the agent for a link, if it is unlinked. Few are.
-fn ask_one(linked: &[bool], to: u32, out: &mut Outbox) -> Result<(), Memory>
+fn ask_one(linked: &Row, to: u32, out: &mut Outbox) -> Result<(), Memory>
     ensures { OnOk result (Posts out.old out.new (if is_unlinked linked.now to then (to, Add_link) ∷ [] else [])) }
 {
     if !is_unlinked(linked, to) {
@@ -44,7 +45,7 @@ fn ask_one(linked: &[bool], to: u32, out: &mut Outbox) -> Result<(), Memory>
 }
 
 /// Asks for a link each agent that the pairs name and that has none, rising.
-fn ask_each(linked: &[bool], pairs: &[Pair], out: &mut Outbox) -> Result<(), Memory>
+fn ask_each(linked: &Row, pairs: &[Pair], out: &mut Outbox) -> Result<(), Memory>
     ensures { OnOk result (Posts out.old out.new (steps.to_each Add_link (unlinked_names linked.now pairs.now))) }
 {
     for pair in pairs {

@@ -13,7 +13,7 @@ ghost use Rattle.abt_agent.specs.States.{has_mark};
 ghost use Rattle.abt_agent.specs.Causes.{all_causes, blames, blames_one, reasons_at, item_at, told_of, IsCause};
 
 use crate::knowledge::Knowledge;
-use crate::names::{marked_agents, name_pairs, name_variables};
+use crate::marks::{mark_pairs, mark_variables, marked_agents};
 use crate::search::Cause;
 use abt_message::StampList;
 use abt_view::StampedValue;
@@ -107,8 +107,8 @@ impl<'p> Knowledge<'p> {
         ensures marks { (k : ℕ) → has_mark marks.new k ≡ (has_mark marks.old k || (nat_lt k (length marks.old) && blames_one self.now.problem.now self.now.store cause k)) }
     {
         match cause {
-            Cause::OwnedRule(rule) => name_variables(marks, self.problem.scope(rule)),
-            Cause::KeptNogood(place) => name_pairs(marks, self.store.items()[place].nogood.pairs()),
+            Cause::OwnedRule(rule) => mark_variables(marks, self.problem.scope(rule)),
+            Cause::KeptNogood(place) => mark_pairs(marks, self.store.items()[place].nogood.pairs()),
         }
     }
 

@@ -31,12 +31,12 @@ impl Model for Row {
 }
 
 impl Row {
-    /// So many places without a mark. It takes an eighth of a byte for each.
+    /// So many places without a mark. It takes an eighth of a byte for each, and none for no place.
     pub fn new(alloc: Global, size: usize) -> Result<Row, Memory>
         ensures size { IfOk result (λ row. length row ≡ size) }
         ensures none { IfOk result (λ row. (place : ℕ) → slice_index_or row place false ≡ false) }
     {
-        let words = no_bits(alloc, size / BLOCK + 1)?;
+        let words = no_bits(alloc, size.div_ceil(BLOCK))?;
         Ok(Row { words, size })
     }
 

@@ -3,7 +3,7 @@ use Rattle.std.specs.Int.{bit_at}
 use Rattle.dcsp_defs.specs.Words.{below}
 use Rattle.abt_agent.specs.States.{has_mark}
 use Rattle.abt_agent.proofs.Blamed.{block_past, filter_more}
-use Rattle.abt_agent.proofs.names.add_block.Goals as goal
+use Rattle.abt_agent.proofs.marks.add_block.Goals as goal
 
 pub returns-then-word-eq0 : goal.returns-then-word-eq0
 returns-then-word-eq0 c =
