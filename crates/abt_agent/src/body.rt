@@ -29,6 +29,8 @@ pub struct Body<'p> {
     pub tells: Vec<u32>,
     /// For each higher agent whether it is linked or asked.
     pub linked: Row,
+    /// Room for marks of higher agents, of which nothing is known. It takes none before the first step.
+    pub room: Row,
 }
 
 impl<'p> Body<'p> {
@@ -44,6 +46,7 @@ impl<'p> Body<'p> {
         let known = Knowledge::new(alloc, problem, me)?;
         let tells = first_tells(alloc, problem, me)?;
         let linked = first_linked(alloc, problem, me)?;
+        let room = Row::new(alloc, 0)?;
         Ok(Body {
             known,
             value: None,
@@ -51,6 +54,7 @@ impl<'p> Body<'p> {
             waits: false,
             tells,
             linked,
+            room,
         })
     }
 }
