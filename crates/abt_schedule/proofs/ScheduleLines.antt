@@ -9,10 +9,10 @@ use Rattle.std.proofs.lemmas.List.{append-nil, map-append}
 use Rattle.std.proofs.lemmas.Slice.Eq.{bytes_eq-Decides}
 use Rattle.dcsp_defs.proofs.Lists.{and_left, and_right}
 use Rattle.ngd_log.specs.Logs.{lines, HasNoLineFeed, IsLine}
-use Rattle.ngd_log.specs.Reading.{number_at}
-use Rattle.ngd_log.proofs.Chosen.{some_is}
+use Rattle.dcsp_number.specs.Reading.{number_at}
+use Rattle.dcsp_number.proofs.Chosen.{some_is}
 use Rattle.ngd_log.proofs.Each.{each_append}
-use Rattle.ngd_log.proofs.Numbers.{begins_decimal, decimal_digits, number_again, number_takes}
+use Rattle.dcsp_number.proofs.Numbers.{begins_decimal, decimal_digits, number_again, number_takes}
 use Rattle.ngd_log.proofs.LineFeeds.{lines-concat}
 use Rattle.abt_schedule.specs.Schedules.{choice_line, schedule_lines, schedule_text, AreChoices, IsChoiceLine, IsScheduleOf}
 

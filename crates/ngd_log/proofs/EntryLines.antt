@@ -15,9 +15,9 @@ use Rattle.ngd_log.specs.Entries.{steps_of}
 use Rattle.ngd_log.specs.EntryTexts.{deletion_line, entry_line, next_number, entry_lines, head, entries_text, text_lines, IsNumbered, IsEntryLine, IsWritableEntry, HaveText, IsTextOf}
 use Rattle.ngd_log.specs.EntryReading.{step_entry, either_entry, entry_of, deletion_at}
 use Rattle.ngd_log.specs.Reading.{after, step_of}
-use Rattle.ngd_log.proofs.Chosen.{bind_then, some_is}
-use Rattle.ngd_log.proofs.AfterPrefix.{after_takes, after_again}
-use Rattle.ngd_log.proofs.Numbers.{begins_decimal, after_no_digit}
+use Rattle.dcsp_number.proofs.Chosen.{bind_then, some_is}
+use Rattle.ngd_log.proofs.AfterPrefix.{after_takes, after_again, after_no_digit}
+use Rattle.dcsp_number.proofs.Numbers.{begins_decimal}
 use Rattle.ngd_log.proofs.Each.{each_push, each_append}
 use Rattle.ngd_log.proofs.ItemLaws.{items_text}
 use Rattle.ngd_log.proofs.LineLaws.{rest_text, step_line_is, step_takes, step_again}

@@ -2,8 +2,6 @@ pub mod Each
 pub mod AfterPrefix
 pub mod Items
 pub mod Rising
-pub mod Chosen
-pub mod Numbers
 pub mod Fields
 pub mod ItemLaws
 pub mod LineLaws
