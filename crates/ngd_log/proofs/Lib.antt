@@ -6,6 +6,7 @@ pub mod Fields
 pub mod ItemLaws
 pub mod LineLaws
 pub mod LineFeeds
+pub mod BadLines
 pub mod LogLines
 pub mod FirstBad
 pub mod LogLaws
