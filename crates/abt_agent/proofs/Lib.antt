@@ -3,6 +3,7 @@ pub mod Rising
 pub mod Posting
 pub mod Causes
 mod Blamed
+pub mod Fits
 pub mod GivesUp
 pub mod Takes
 pub mod Learns

@@ -1,8 +1,8 @@
 //! What an agent learns of higher agents, and which nogoods it keeps.
 
-ghost use Rattle.std.specs.Prelude.{◌≡◌, ◌<◌, ◌&&◌, OnOk, false, length, nat_lt, not, true, if◌then◌else◌};
+ghost use Rattle.std.specs.Prelude.{◌≡◌, ◌<◌, ◌∷◌, [], ◌&&◌, OnOk, false, length, nat_lt, not, true, if◌then◌else◌};
 ghost use Rattle.std.specs.Option.{ForSome};
-ghost use Rattle.dcsp_nogood.specs.Pairs.{value_at};
+ghost use Rattle.dcsp_nogood.specs.Pairs.{pair_of, value_at, IsRising as PairsRise};
 ghost use Rattle.dcsp_nogood.specs.declared.Pair.{Pair as ThePair};
 ghost use Rattle.dcsp_defs.specs.Words.{In};
 ghost use Rattle.dcsp_defs.specs.Csp.{domain};
@@ -36,38 +36,52 @@ impl<'p> Body<'p> {
         self.known.learn(from, told)
     }
 
-    /// Takes in what is told of an agent, if that is higher.
-    fn learn_higher(&mut self, var: u32, told: StampedValue)
+    /// Takes in what is told of an agent, if that is higher. True exactly if the view then has this value, or
+    /// the agent is not higher.
+    fn learn_higher(&mut self, var: u32, told: StampedValue) -> bool
         requires sized { IsSized self.old }
         requires value { In told.value (domain (csp_of self.old.known.problem.now) var) }
         requires stamped { 0 < told.stamp }
+        ensures fits { result ≡ steps.fits self.old.known.me (pair_of var told.value ∷ []) (agent_of self.new) }
         ensures agent { agent_of self.new ≡ (if nat_lt var self.old.known.me then steps.learn var (stamped_of told) (agent_of self.old) else agent_of self.old) }
         ensures owner { owner_of self.new.known ≡ owner_of self.old.known }
         ensures sized { IsSized self.new }
     {
-        // Most of what a nogood tells is known.
-        if self.is_news_of(var, told.stamp) {
-            self.learn(var, told);
+        if var >= self.known.me {
+            return true;
         }
+        // Most of what a nogood tells is known.
+        if let Some(known) = self.known.view.stamped_value(var) {
+            if told.stamp <= known.stamp {
+                return known.value == told.value;
+            }
+        }
+        self.learn(var, told)
     }
 
-    /// Takes in what is told of higher agents, in order.
-    pub fn learn_all(&mut self, pairs: &[Pair], stamps: &[u64])
+    /// Takes in what is told of higher agents, in order. True exactly if each pair of a higher agent is then
+    /// as the view has it.
+    pub fn learn_all(&mut self, pairs: &[Pair], stamps: &[u64]) -> bool
         requires sized { IsSized self.old }
+        requires rising { PairsRise pairs.now }
         requires stamped { AreStampsOf pairs.now stamps.now }
         requires values { (pair : ThePair) → In pair pairs.now → In pair.value (domain (csp_of self.old.known.problem.now) pair.var) }
+        ensures fits { result ≡ steps.fits self.old.known.me pairs.now (agent_of self.new) }
         ensures agent { agent_of self.new ≡ steps.learn_all self.old.known.me (with_stamps pairs.now stamps.now) (agent_of self.old) }
         ensures owner { owner_of self.new.known ≡ owner_of self.old.known }
         ensures sized { IsSized self.new }
     {
+        let mut fits = true;
         for place in 0..pairs.len() {
             let pair = pairs[place];
             let told = StampedValue {
                 value: pair.value,
                 stamp: stamps[place],
             };
-            self.learn_higher(pair.var, told);
+            // As the pairs rise, what is learned later is of other agents.
+            fits = self.learn_higher(pair.var, told) && fits;
         }
+        fits
     }
 
     /// Whether the stamp is that of a higher agent, and newer than the view.
@@ -96,43 +110,32 @@ impl<'p> Body<'p> {
         false
     }
 
-    /// Whether each pair of a higher agent is as the view has it.
-    fn fits(&self, pairs: &[Pair]) -> bool
-        ensures { result ≡ steps.fits self.now.known.me pairs.now (agent_of self.now) }
-    {
-        for pair in pairs {
-            if pair.var < self.known.me && self.known.view.value_of(pair.var) != Some(pair.value) {
-                return false;
-            }
-        }
-        true
-    }
-
-    /// Whether the nogood is to be kept.
-    fn is_wanted(&self, nogood: &Nogood) -> bool
+    /// Whether the nogood is to be kept, where it is known whether it fits the view.
+    fn is_wanted(&self, nogood: &Nogood, fits: bool) -> bool
+        requires fits { fits ≡ steps.fits self.now.known.me nogood.now (agent_of self.now) }
         requires nogood { IsProper self.now.known.problem.now self.now.known.me nogood.now }
         requires kept { AreProper self.now.known.problem.now self.now.known.me self.now.known.store }
         ensures wanted { result ≡ (steps.fits self.now.known.me nogood.now (agent_of self.now) && not (steps.is_refused self.now.known.me (records_of self.now.known.store) (value_at nogood.now self.now.known.me))) }
         ensures free { result ≡ true → ForSome (lowest_value nogood.now) (λ value. is_ruled_out value self.now.known.store ≡ false) }
     {
         match nogood.lowest() {
-            Some(lowest) => {
-                self.fits(nogood.pairs()) && !self.known.store.rules_out(lowest.value)
-            }
+            Some(lowest) => fits && !self.known.store.rules_out(lowest.value),
             None => false,
         }
     }
 
-    /// Keeps the nogood, if it agrees with the view and is the first for its value of the agent.
-    pub fn keep(&mut self, recorded: Recorded) -> Result<(), Memory>
+    /// Keeps the nogood, if it agrees with the view, as `fits` tells, and is the first for its value of the
+    /// agent.
+    pub fn keep(&mut self, recorded: Recorded, fits: bool) -> Result<(), Memory>
         requires sized { IsSized self.old }
+        requires fits { fits ≡ steps.fits self.old.known.me recorded.nogood (agent_of self.old) }
         requires nogood { IsProper self.old.known.problem.now self.old.known.me recorded.nogood }
         requires kept { AreProper self.old.known.problem.now self.old.known.me self.old.known.store }
         ensures agent { OnOk result (agent_of self.new ≡ steps.keep self.old.known.me (record_of recorded) (agent_of self.old)) }
         ensures owner { owner_of self.new.known ≡ owner_of self.old.known }
         ensures sized { OnOk result (IsSized self.new) }
     {
-        if !self.is_wanted(&recorded.nogood) {
+        if !self.is_wanted(&recorded.nogood, fits) {
             return Ok(());
         }
         self.known.keep(recorded)?;

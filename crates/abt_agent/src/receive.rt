@@ -143,8 +143,8 @@ impl<'p> Body<'p> {
         law_invariants::agents_only_learn();
         law_invariants::agents_stay_sound();
         self.ask(recorded.nogood.pairs(), out)?;
-        self.learn_all(recorded.nogood.pairs(), stamps);
-        self.keep(recorded)?;
+        let fits = self.learn_all(recorded.nogood.pairs(), stamps);
+        self.keep(recorded, fits)?;
         Ok(())
     }
 

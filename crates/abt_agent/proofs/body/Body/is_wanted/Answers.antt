@@ -20,7 +20,7 @@ returns-then-fits-clause-wanted c =
     let given : Some v ≡ value_at c.args.nogood.now me = ap (option_map (λ (pair : Pair). pair.value)) c.in-Some.ensures ∙ lowest_proper (csp_of c.args.self.now.known.problem.now) me c.args.nogood.now c.requires.nogood in
     let refused : c.rules_out.result ≡ steps.is_refused me (records_of store) (value_at c.args.nogood.now me) =
     out ∙ sym (refused_same (csp_of c.args.self.now.known.problem.now) me store v c.requires.kept) ∙ ap (steps.is_refused me (records_of store)) given in
-    ap not refused ∙ ap (λ b. b && not (steps.is_refused me (records_of store) (value_at c.args.nogood.now me))) (c.if-fits.ensures ∙ ap (λ z. steps.fits me z (agent_of c.args.self.now)) c.pairs.ensures.pairs)
+    ap not refused ∙ ap (λ b. b && not (steps.is_refused me (records_of store) (value_at c.args.nogood.now me))) (sym c.if-fits.true ∙ c.requires.fits)
 
 and_false : (b : Bool) → false ≡ (b && false)
 and_false true = refl
