@@ -18,7 +18,7 @@ state_of b spent = record {
   view = b.known.view;
   store = b.known.store;
   tells = b.tells.items;
-  linked = b.linked.items;
+  linked = b.linked;
   spent = spent;
 }
 

@@ -1,5 +1,7 @@
 -- Who is asked for a link.
-use Rattle.std.proofs.Common.{◌≡◌, ℕ, ◌+◌, ◌<◌, Bool, true, false, cond, not, ◌&&◌, ◌==◌, List, [], ◌∷◌, ◌++◌, filter, take, get_or, length, nat_lt, refl, sym, ap, ◌∙◌, arith}
+use Rattle.std.proofs.Common.{◌≡◌, ℕ, ◌+◌, ◌<◌, Bool, true, false, cond, not, ◌&&◌, ◌||◌, ◌==◌, List, [], ◌∷◌, ◌++◌, filter, take, get_or, length, nat_lt, refl, sym, ap, ◌∙◌, arith}
+use Rattle.std.specs.List.{list_any}
+use Rattle.std.proofs.lemmas.Bool.{both_ways}
 use Rattle.std.proofs.lemmas.Bool.Decides.{Decides-ltb}
 use Rattle.std.proofs.lemmas.List.{map-append, take_more}
 use Rattle.std.proofs.lemmas.List.Elements.{filter-append}
@@ -7,7 +9,7 @@ use Rattle.dcsp_nogood.specs.declared.Pair.{Pair}
 use Rattle.dcsp_nogood.specs.Pairs.{IsRising as PairsRise}
 use Rattle.dcsp_defs.specs.Words.{In, IsRising, below}
 use Rattle.dcsp_defs.specs.Csp.{names}
-use Rattle.dcsp_defs.proofs.Lists.{In-filter, filter-from, and_left, and_right, and_both}
+use Rattle.dcsp_defs.proofs.Lists.{list_any-In, In-filter, filter-from, and_left, and_right, and_both}
 use Rattle.abt_defs.specs.Agents.{is_among, Add_link}
 use Rattle.abt_defs.specs.Steps.{is_named, to_each}
 use Rattle.abt_agent.specs.Asks.{is_unlinked, unlinked_names}
@@ -62,3 +64,27 @@ asked_more linked pairs k d within =
     ∙ ap (to_each Add_link) (filter-append (is_unlinked linked) (names (take k pairs)) (names (y ∷ [])))
     ∙ map-append (λ (j : ℕ). (j, Add_link)) (unlinked_names linked (take k pairs)) (unlinked_names linked (y ∷ []))
     ∙ ap (λ z. to_each Add_link (unlinked_names linked (take k pairs)) ++ z) (one_asked linked y)
+
+-- where none that the pairs name is unlinked, none is asked
+pub none_asked : (linked : List Bool) (ks : List ℕ) → list_any (is_unlinked linked) ks ≡ false → filter (is_unlinked linked) ks ≡ []
+none_asked linked [] e = refl
+none_asked linked (k ∷ ks) e = by_test (is_unlinked linked k) e (none_asked linked ks)
+  where
+    by_test : (b : Bool) → (b || list_any (is_unlinked linked) ks) ≡ false → (list_any (is_unlinked linked) ks ≡ false → filter (is_unlinked linked) ks ≡ []) → cond b (k ∷ filter (is_unlinked linked) ks) (filter (is_unlinked linked) ks) ≡ []
+    by_test true clash later = absurd cc
+    by_test false rest later = later rest
+
+-- and none is marked anew
+pub none_marked : (linked : List Bool) (me : ℕ) (pairs : List Pair) → length linked ≡ me → list_any (is_unlinked linked) (names pairs) ≡ false
+    → (k : ℕ) → has_mark linked k ≡ (has_mark linked k || (nat_lt k me && is_named k pairs))
+none_marked linked me pairs size none k = by_tests (has_mark linked k) (nat_lt k me) (is_named k pairs) (λ marked low named.
+    let there = among_In k (names pairs) (any-map (λ x. k == x) (λ (y : Pair). y.var) pairs ∙ named) in
+    let low_here : nat_lt k (length linked) ≡ true = ap (nat_lt k) size ∙ low in
+    let unlinked = and_both (nat_lt k (length linked)) (not (has_mark linked k)) low_here (ap not marked) in
+    both_ways (list_any (is_unlinked linked) (names pairs)) none (list_any-In (is_unlinked linked) k (names pairs) there unlinked))
+  where
+    by_tests : (marked low named : Bool) → (marked ≡ false → low ≡ true → named ≡ true → ⊥) → marked ≡ (marked || (low && named))
+    by_tests true low named h = refl
+    by_tests false false named h = refl
+    by_tests false true false h = refl
+    by_tests false true true h = absurd (h refl refl refl)

@@ -1,13 +1,12 @@
 -- The numbers below one that pass a test.
-use Rattle.std.proofs.Common.{◌≡◌, ℕ, zero, suc, ◌+◌, ◌-◌, ◌*◌, ◌<◌, ◌≤◌, ◌==◌, Bool, true, false, if◌then◌else◌, cond, ◌&&◌, ◌||◌, nat_lt, List, [], ◌∷◌, ◌++◌, filter, length, min, refl, sym, ap, ◌∙◌, arith}
-use Rattle.std.specs.Prelude.{slice_index_or}
-use Rattle.std.specs.Int.{bit_at}
+use Rattle.std.proofs.Common.{◌≡◌, ℕ, zero, suc, ◌+◌, ◌-◌, ◌<◌, ◌≤◌, Bool, true, false, if◌then◌else◌, cond, ◌&&◌, ◌||◌, nat_lt, List, [], ◌∷◌, ◌++◌, filter, length, Option, option_to_list, refl, sym, ap, ◌∙◌, arith}
+use Rattle.std.specs.Prelude.{filter_map}
 use Rattle.std.proofs.lemmas.Bool.Decides.{nat_tests}
 use Rattle.std.proofs.lemmas.List.{append-nil}
-use Rattle.std.proofs.lemmas.List.Elements.{filter-append}
-use Rattle.std.proofs.lemmas.Nat.Bits.{bit_at-zero}
+use Rattle.std.proofs.lemmas.List.Elements.{filter-append, filter_map-append}
 use Rattle.dcsp_defs.specs.Words.{below}
 use Rattle.abt_agent.specs.States.{has_mark}
+use Rattle.abt_agent.proofs.Lists.{one}
 
 -- two tests that agree on the numbers below one
 pub filter_below : (p q : ℕ → Bool) (n : ℕ) → ((k : ℕ) → k < n → p k ≡ q k) → filter p (below n) ≡ filter q (below n)
@@ -34,19 +33,22 @@ filter_past p n (suc more) none =
     ap (λ k. filter p (below k)) next ∙ filter_more p (n + more) ∙ ap (λ b. filter p (below (n + more)) ++ cond b ((n + more) ∷ []) []) last
     ∙ append-nil _ ∙ filter_past p n more (λ k least low. none k least (omega arith))
 
--- a block of marks whose word is 0 has none
-pub block_past : (marks : List Bool) (block : ℕ) → block * 64 < length marks
-    → ((bit : ℕ) → bit < 64 → block * 64 + bit < length marks → (bit_at 0 bit == 1) ≡ slice_index_or marks (block * 64 + bit) false)
-    → filter (has_mark marks) (below (min (length marks) (block * 64 + 64))) ≡ filter (has_mark marks) (below (block * 64))
-block_past marks block within word =
-    let first = block * 64 in
-    let more = min (length marks) (first + 64) - first in
-    let end : min (length marks) (first + 64) ≡ first + more = omega arith in
-    let none : (k : ℕ) → first ≤ k → k < first + more → has_mark marks k ≡ false = λ k least low.
-    let at : first + (k - first) ≡ k = omega arith in
-    let here = word (k - first) (omega arith) (omega arith) in
-    ap (has_mark marks) (sym at) ∙ sym here ∙ ap (λ n. n == 1) (bit_at-zero (k - first)) in
-    ap (λ n. filter (has_mark marks) (below n)) end ∙ filter_past (has_mark marks) first more none
+-- what is told of the numbers that pass, up to the next one
+pub told_next : {X : Type 0} → (f : ℕ → Option X) (p : ℕ → Bool) (from next : ℕ) → from ≤ next → ((k : ℕ) → from ≤ k → k < next → p k ≡ false) → p next ≡ true
+    → filter_map f (filter p (below (next + 1))) ≡ filter_map f (filter p (below from)) ++ option_to_list (f next)
+told_next f p from next after none here =
+    let end : from + (next - from) ≡ next = omega arith in
+    let past : filter p (below next) ≡ filter p (below from) = ap (λ n. filter p (below n)) (sym end) ∙ filter_past p from (next - from) (λ k least low. none k least (omega arith)) in
+    ap (filter_map f) (filter_more p next ∙ ap (λ b. filter p (below next) ++ cond b (next ∷ []) []) here ∙ ap (λ ns. ns ++ next ∷ []) past)
+    ∙ filter_map-append f (filter p (below from)) (next ∷ [])
+    ∙ ap (λ z. filter_map f (filter p (below from)) ++ z) (one (f next))
+
+-- and where none is left
+pub told_end : {X : Type 0} → (f : ℕ → Option X) (p : ℕ → Bool) (from all : ℕ) → from ≤ all → ((k : ℕ) → from ≤ k → k < all → p k ≡ false)
+    → filter_map f (filter p (below from)) ≡ filter_map f (filter p (below all))
+told_end f p from all within none =
+    let end : from + (all - from) ≡ all = omega arith in
+    sym (ap (filter_map f) (ap (λ n. filter p (below n)) (sym end) ∙ filter_past p from (all - from) (λ k least low. none k least (omega arith))))
 
 -- the marked agents, where each mark says what a test does of the agents below a bound
 pub marked_below : (marks : List Bool) (bound : ℕ) (test : ℕ → Bool) → length marks ≡ bound

@@ -1,5 +1,5 @@
 -- A step, and the nogood that is sent.
-use Rattle.std.proofs.Common.{◌≡◌, ℕ, suc, ◌-◌, true, List, [], ◌∷◌, length, Some, None, refl, sym, ap, subst, ◌∙◌, arith}
+use Rattle.std.proofs.Common.{◌≡◌, ℕ, suc, ◌-◌, Bool, true, List, [], ◌∷◌, length, Some, None, refl, sym, ap, subst, ◌∙◌, arith}
 use Rattle.std.specs.Prelude.{slice_get}
 use Rattle.std.proofs.lemmas.Option.{slice_get-get_or}
 use Rattle.dcsp_nogood.specs.declared.Pair.{Pair}
@@ -57,27 +57,30 @@ module _ (number : ℕ) (b : Body) (sized : IsSized b) (out : List Sent) (s : St
   same_pairs : with_stamps s.nogood stamps ≡ derived p me (agent_of b).view (agent_of b).recorded
   same_pairs = pairs
 
+  still : {room : List Bool} {waits : Bool} → IsSized (record b { waits = waits; room = room })
+  still = record { in_step = sized.in_step; linked = sized.linked; tells = sized.tells; told_exist = sized.told_exist }
+
   -- what is refused, in the code's words
   same_outcome : steps.take_or_refuse p me number (agent_of b) None ≡ steps.refuse number (agent_of b) s (with_stamps s.nogood stamps)
   same_outcome = λ x. steps.refuse number (agent_of b) (sym same_step x) (sym same_pairs x)
 
-  pub gives_up_empty : None ≡ slice_get s.nogood (length s.nogood - 1)
-      → Does (steps.take_or_refuse p me number (agent_of b) None) b b out out (Empty s)
-  gives_up_empty e =
+  pub gives_up_empty : (room : List Bool) → None ≡ slice_get s.nogood (length s.nogood - 1)
+      → Does (steps.take_or_refuse p me number (agent_of b) None) b (record b { room = room }) out out (Empty s)
+  gives_up_empty room e =
       let none = last_none s.nogood e in
       let all : steps.take_or_refuse p me number (agent_of b) None ≡ record { agent = agent_of b; sent = []; step = Some s } =
       same_outcome ∙ ap (λ z. steps.refuse number (agent_of b) s (with_stamps z stamps)) none in
-      subst (λ o. Does o b b out out (Empty s)) (sym all) (record { agent = refl; sent = posts_none out; turn_is = (refl, none); sized = sized })
+      subst (λ o. Does o b (record b { room = room }) out out (Empty s)) (sym all) (record { agent = refl; sent = posts_none out; turn_is = (refl, none); sized = still })
 
-  pub gives_up : (last : Pair) (copy : List Pair) (went : List Sent) → Some last ≡ slice_get s.nogood (length s.nogood - 1) → copy ≡ s.nogood
+  pub gives_up : (room : List Bool) (last : Pair) (copy : List Pair) (went : List Sent) → Some last ≡ slice_get s.nogood (length s.nogood - 1) → copy ≡ s.nogood
       → Posts out went ((last.var, Refuse number (with_stamps copy stamps)) ∷ [])
-      → Does (steps.take_or_refuse p me number (agent_of b) None) b (record b { waits = true }) out went (Derived s)
-  gives_up last copy went e c m =
+      → Does (steps.take_or_refuse p me number (agent_of b) None) b (record b { waits = true; room = room }) out went (Derived s)
+  gives_up room last copy went e c m =
       let all : steps.take_or_refuse p me number (agent_of b) None ≡ record { agent = record (agent_of b) { waits = true }; sent = (last.var, Refuse number (with_stamps s.nogood stamps)) ∷ []; step = Some s } =
       same_outcome ∙ refused number (agent_of b) s s.nogood stamps last e in
-      subst (λ o. Does o b (record b { waits = true }) out went (Derived s)) (sym all) (record {
+      subst (λ o. Does o b (record b { waits = true; room = room }) out went (Derived s)) (sym all) (record {
         agent = refl;
         sent = subst (λ z. Posts out went ((last.var, Refuse number (with_stamps z stamps)) ∷ [])) c m;
         turn_is = (refl, last_some s.nogood last e);
-        sized = record { in_step = sized.in_step; linked = sized.linked; tells = sized.tells; told_exist = sized.told_exist };
+        sized = still;
       })

@@ -31,7 +31,7 @@ agent_of b = record {
   view = view_of b.known.view;
   recorded = records_of b.known.store;
   tells = λ k. is_among k b.tells.items;
-  linked = has_mark b.linked.items;
+  linked = has_mark b.linked;
 }
 
 -- the view has a slot for each higher agent, its values are of the domains and have stamps, and the reasons are those of view and store
@@ -47,7 +47,7 @@ pub record IsInStep (k : Knowledge) : Type 0 where
 -- what is known is in step, the table of links has a place for each higher agent, and the agents that are told rise and exist
 pub record IsSized (b : Body) : Type 0 where
   pub in_step : IsInStep b.known
-  pub linked : length b.linked.items ≡ b.known.me
+  pub linked : length b.linked ≡ b.known.me
   pub tells : IsRising b.tells.items
   pub told_exist : (k : ℕ) → In k b.tells.items → k < length b.known.problem.now.domains
 

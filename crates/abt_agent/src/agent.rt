@@ -36,7 +36,7 @@ impl<'p> Model for Agent<'p> {
 
     ghost Value = { State };
 
-    ghost view = { λ a. record { problem = a.body.known.problem.now; me = a.body.known.me; value = a.body.value; stamp = a.body.stamp; waits = a.body.waits; view = a.body.known.view; store = a.body.known.store; tells = a.body.tells.items; linked = a.body.linked.items; spent = a.spent } };
+    ghost view = { λ a. record { problem = a.body.known.problem.now; me = a.body.known.me; value = a.body.value; stamp = a.body.stamp; waits = a.body.waits; view = a.body.known.view; store = a.body.known.store; tells = a.body.tells.items; linked = a.body.linked; spent = a.spent } };
 
     ghost invariant = { λ a. a.spent ≡ false → IsGood a.body };
 }

@@ -1,7 +1,9 @@
 //! Link requests.
 
 ghost use Rattle.std.specs.Prelude.{◌≡◌, ◌∷◌, [], OnOk, true, if◌then◌else◌};
+ghost use Rattle.std.specs.List.{list_any};
 ghost use Rattle.dcsp_nogood.specs.Pairs.{IsRising};
+ghost use Rattle.dcsp_defs.specs.Csp.{names};
 ghost use Rattle.abt_defs.specs.Agents.{Add_link};
 ghost use Rattle.abt_defs.specs.Steps as steps;
 ghost use Rattle.abt_message.specs.Messages.{message_of};
@@ -14,6 +16,7 @@ use crate::marks::mark_pairs;
 use abt_message::{Message, Outbox, Sent};
 use dcsp_list::Memory;
 use dcsp_nogood::Pair;
+use dcsp_row::Row;
 
 /// Sends the message.
 pub fn post(out: &mut Outbox, to: u32, message: Message) -> Result<(), Memory>
@@ -27,14 +30,26 @@ pub fn post(out: &mut Outbox, to: u32, message: Message) -> Result<(), Memory>
 }
 
 /// Whether the agent has a place in the table of links, and is not marked there.
-fn is_unlinked(linked: &[bool], to: u32) -> bool
+fn is_unlinked(linked: &Row, to: u32) -> bool
     ensures { result ≡ is_unlinked linked.now to }
 {
-    (to as usize) < linked.len() && !linked[to as usize]
+    (to as usize) < linked.len() && !linked.has(to as usize)
 }
 
-/// Asks the agent for a link, if it is unlinked. Few are.
-fn ask_one(linked: &[bool], to: u32, out: &mut Outbox) -> Result<(), Memory>
+/// Whether an agent that the pairs name is unlinked. Few are.
+fn wants_link(linked: &Row, pairs: &[Pair]) -> bool
+    ensures { result ≡ list_any (is_unlinked linked.now) (names pairs.now) }
+{
+    for pair in pairs {
+        if is_unlinked(linked, pair.var) {
+            return true;
+        }
+    }
+    false
+}
+
+/// Asks the agent for a link, if it is unlinked.
+fn ask_one(linked: &Row, to: u32, out: &mut Outbox) -> Result<(), Memory>
     ensures { OnOk result (Posts out.old out.new (if is_unlinked linked.now to then (to, Add_link) ∷ [] else [])) }
 {
     if !is_unlinked(linked, to) {
@@ -44,7 +59,7 @@ fn ask_one(linked: &[bool], to: u32, out: &mut Outbox) -> Result<(), Memory>
 }
 
 /// Asks for a link each agent that the pairs name and that has none, rising.
-fn ask_each(linked: &[bool], pairs: &[Pair], out: &mut Outbox) -> Result<(), Memory>
+fn ask_each(linked: &Row, pairs: &[Pair], out: &mut Outbox) -> Result<(), Memory>
     ensures { OnOk result (Posts out.old out.new (steps.to_each Add_link (unlinked_names linked.now pairs.now))) }
 {
     for pair in pairs {
@@ -63,6 +78,9 @@ impl<'p> Body<'p> {
         ensures owner { owner_of self.new.known ≡ owner_of self.old.known }
         ensures sized { OnOk result (IsSized self.new) }
     {
+        if !wants_link(&self.linked, pairs) {
+            return Ok(());
+        }
         ask_each(&self.linked, pairs, out)?;
         mark_pairs(&mut self.linked, pairs);
         Ok(())

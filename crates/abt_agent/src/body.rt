@@ -13,6 +13,7 @@ use crate::knowledge::Knowledge;
 use crate::marks::mark_variables;
 use dcsp_list::Memory;
 use dcsp_problem::Problem;
+use dcsp_row::Row;
 use std::alloc::Global;
 
 /// What an agent has.
@@ -27,7 +28,9 @@ pub struct Body<'p> {
     /// The agents that are told of each value, rising.
     pub tells: Vec<u32>,
     /// For each higher agent whether it is linked or asked.
-    pub linked: Vec<bool>,
+    pub linked: Row,
+    /// Room for marks of higher agents, of which nothing is known. It takes none before the first step.
+    pub room: Row,
 }
 
 impl<'p> Body<'p> {
@@ -43,6 +46,7 @@ impl<'p> Body<'p> {
         let known = Knowledge::new(alloc, problem, me)?;
         let tells = first_tells(alloc, problem, me)?;
         let linked = first_linked(alloc, problem, me)?;
+        let room = Row::new(alloc, 0)?;
         Ok(Body {
             known,
             value: None,
@@ -50,41 +54,36 @@ impl<'p> Body<'p> {
             waits: false,
             tells,
             linked,
+            room,
         })
     }
 }
 
 /// The higher agents that are linked at first.
-fn first_linked(alloc: Global, problem: &Problem, me: u32) -> Result<Vec<bool>, Memory>
+fn first_linked(alloc: Global, problem: &Problem, me: u32) -> Result<Row, Memory>
     requires { me < length problem.now.domains }
-    ensures { IfOk result (λ marks. marks.items ≡ map (shares (csp_of problem.now) me) (below me)) }
+    ensures { IfOk result (λ marks. marks ≡ map (shares (csp_of problem.now) me) (below me)) }
 {
     let marks = named_by(alloc, problem, problem.owned(me), me)?;
     Ok(marks)
 }
 
 /// For each of so many variables whether one of the rules names it.
-fn named_by(
-    alloc: Global,
-    problem: &Problem,
-    rules: &[u32],
-    count: u32,
-) -> Result<Vec<bool>, Memory>
+fn named_by(alloc: Global, problem: &Problem, rules: &[u32], count: u32) -> Result<Row, Memory>
     requires { All (λ r. r < length problem.now.rules) rules.now }
-    ensures size { IfOk result (λ marks. length marks.items ≡ count) }
-    ensures marks { IfOk result (λ marks. (k : ℕ) → k < count → has_mark marks.items k ≡ names_any problem.now k rules.now) }
+    ensures size { IfOk result (λ marks. length marks ≡ count) }
+    ensures marks { IfOk result (λ marks. (k : ℕ) → k < count → has_mark marks k ≡ names_any problem.now k rules.now) }
 {
-    let Ok(mut marks) = vec![in alloc; false; count as usize] else {
-        return Err(Memory);
-    };
+    let mut marks = Row::new(alloc, count as usize)?;
     mark_scopes(&mut marks, problem, rules);
     Ok(marks)
 }
 
 /// Marks each variable that one of the rules names, and for which there is a place.
-fn mark_scopes(marks: &mut [bool], problem: &Problem, rules: &[u32])
+fn mark_scopes(marks: &mut Row, problem: &Problem, rules: &[u32])
     requires { All (λ r. r < length problem.now.rules) rules.now }
-    ensures { (k : ℕ) → has_mark marks.new k ≡ (has_mark marks.old k || (nat_lt k (length marks.old) && names_any problem.now k rules.now)) }
+    ensures size { length marks.new ≡ length marks.old }
+    ensures marks { (k : ℕ) → has_mark marks.new k ≡ (has_mark marks.old k || (nat_lt k (length marks.old) && names_any problem.now k rules.now)) }
 {
     for rule in rules {
         mark_variables(marks, problem.scope(*rule));

@@ -13,7 +13,6 @@ mod body;
 mod knowledge;
 mod learn;
 mod marks;
-mod names;
 mod receive;
 mod refusal;
 mod search;

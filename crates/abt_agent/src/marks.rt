@@ -1,24 +1,29 @@
-//! Tables of marks: which agents, counted from 0, are marked.
+//! Rows of marks: which agents, counted from 0, are marked.
 
-ghost use Rattle.std.specs.Prelude.{◌≡◌, ◌&&◌, ◌||◌, ◌==◌, ℕ, length, nat_lt};
+ghost use Rattle.std.specs.Prelude.{◌≡◌, ◌&&◌, ◌||◌, ◌==◌, ℕ, OnOk, false, length, nat_lt};
 ghost use Rattle.abt_defs.specs.Agents.{is_among};
 ghost use Rattle.abt_defs.specs.Steps.{is_named};
 ghost use Rattle.abt_agent.specs.States.{has_mark};
 
+use dcsp_list::Memory;
 use dcsp_nogood::Pair;
+use dcsp_row::{Row, Span};
+use std::alloc::Global;
 
 /// Marks the variable, if there is a place for it.
-fn mark(marks: &mut [bool], var: u32)
-    ensures { (k : ℕ) → has_mark marks.new k ≡ (has_mark marks.old k || (nat_lt k (length marks.old) && (k == var))) }
+fn mark(marks: &mut Row, var: u32)
+    ensures size { length marks.new ≡ length marks.old }
+    ensures marks { (k : ℕ) → has_mark marks.new k ≡ (has_mark marks.old k || (nat_lt k (length marks.old) && (k == var))) }
 {
     if (var as usize) < marks.len() {
-        marks[var as usize] = true;
+        marks.put(var as usize, true);
     }
 }
 
 /// Marks each of the variables for which there is a place.
-pub fn mark_variables(marks: &mut [bool], variables: &[u32])
-    ensures { (k : ℕ) → has_mark marks.new k ≡ (has_mark marks.old k || (nat_lt k (length marks.old) && is_among k variables.now)) }
+pub fn mark_variables(marks: &mut Row, variables: &[u32])
+    ensures size { length marks.new ≡ length marks.old }
+    ensures marks { (k : ℕ) → has_mark marks.new k ≡ (has_mark marks.old k || (nat_lt k (length marks.old) && is_among k variables.now)) }
 {
     for var in variables {
         mark(marks, *var);
@@ -26,10 +31,25 @@ pub fn mark_variables(marks: &mut [bool], variables: &[u32])
 }
 
 /// Marks each variable that the pairs name and for which there is a place.
-pub fn mark_pairs(marks: &mut [bool], pairs: &[Pair])
-    ensures { (k : ℕ) → has_mark marks.new k ≡ (has_mark marks.old k || (nat_lt k (length marks.old) && is_named k pairs.now)) }
+pub fn mark_pairs(marks: &mut Row, pairs: &[Pair])
+    ensures size { length marks.new ≡ length marks.old }
+    ensures marks { (k : ℕ) → has_mark marks.new k ≡ (has_mark marks.old k || (nat_lt k (length marks.old) && is_named k pairs.now)) }
 {
     for pair in pairs {
         mark(marks, pair.var);
     }
+}
+
+/// Gives the row so many places, none of them marked. It takes memory only where it had another number of
+/// places.
+pub fn make_blank(alloc: Global, marks: &mut Row, size: usize) -> Result<(), Memory>
+    ensures size { OnOk result (length marks.new ≡ size) }
+    ensures none { OnOk result ((k : ℕ) → has_mark marks.new k ≡ false) }
+{
+    if marks.len() != size {
+        *marks = Row::new(alloc, size)?;
+        return Ok(());
+    }
+    marks.mark_span(Span::whole(false));
+    Ok(())
 }

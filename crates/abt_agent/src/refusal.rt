@@ -1,7 +1,8 @@
 //! The step that says why an agent has no value left.
 
-ghost use Rattle.std.specs.Prelude.{◌≡◌, ◌<◌, ◌∷◌, ◌++◌, [], ◌&&◌, ◌||◌, ℕ, IfOk, IfSome, OnOk, filter_map, length, nat_lt, option_to_list};
+ghost use Rattle.std.specs.Prelude.{◌≡◌, ◌<◌, ◌∷◌, ◌++◌, [], ◌&&◌, ◌||◌, ◌^◌, ℕ, IfOk, IfSome, OnOk, filter, filter_map, length, nat_lt, option_to_list};
 ghost use Rattle.std.specs.Option.{ForSome};
+ghost use Rattle.dcsp_defs.specs.Words.{below};
 ghost use Rattle.abt_defs.specs.Reasons.{derived, pair_at, step_of};
 ghost use Rattle.dcsp_problem.specs.Problems.{csp_of};
 ghost use Rattle.abt_message.specs.Messages.{with_stamps};
@@ -13,7 +14,7 @@ ghost use Rattle.abt_agent.specs.States.{has_mark};
 ghost use Rattle.abt_agent.specs.Causes.{all_causes, blames, blames_one, reasons_at, item_at, told_of, IsCause};
 
 use crate::knowledge::Knowledge;
-use crate::names::{marked_agents, name_pairs, name_variables};
+use crate::marks::{make_blank, mark_pairs, mark_variables};
 use crate::search::Cause;
 use abt_message::StampList;
 use abt_view::StampedValue;
@@ -39,18 +40,18 @@ struct Basis {
 }
 
 impl<'p> Knowledge<'p> {
-    /// The step at the agent's variable that the reasons against all its values make.
-    pub fn refuse(&self) -> Result<Refusal, Memory>
+    /// The step at the agent's variable that the reasons against all its values make. The row is room for
+    /// marks, whatever it has.
+    pub fn refuse(&self, marks: &mut Row) -> Result<Refusal, Memory>
         requires in_step { IsInStep self.now }
         requires proper { AreProper self.now.problem.now self.now.me self.now.store }
         ensures step { IfOk result (λ refusal. refusal.step ≡ step_of (csp_of self.now.problem.now) self.now.me (view_of self.now.view) (records_of self.now.store)) }
         ensures pairs { IfOk result (λ refusal. with_stamps refusal.step.nogood refusal.stamps ≡ derived (csp_of self.now.problem.now) self.now.me (view_of self.now.view) (records_of self.now.store)) }
         ensures stamped { IfOk result (λ refusal. AreStampsOf refusal.step.nogood refusal.stamps) }
     {
-        let mut marks = Row::new(self.alloc, self.me as usize)?;
-        let reasons = self.blame(&mut marks)?;
-        let blamed = marked_agents(self.alloc, &marks, reasons.len())?;
-        let Basis { nogood, stamps } = self.gather(&blamed)?;
+        make_blank(self.alloc, marks, self.me as usize)?;
+        let reasons = self.blame(marks)?;
+        let Basis { nogood, stamps } = self.gather(marks, reasons.len())?;
         let step = Step {
             variable: Some(self.me),
             nogood,
@@ -107,23 +108,29 @@ impl<'p> Knowledge<'p> {
         ensures marks { (k : ℕ) → has_mark marks.new k ≡ (has_mark marks.old k || (nat_lt k (length marks.old) && blames_one self.now.problem.now self.now.store cause k)) }
     {
         match cause {
-            Cause::OwnedRule(rule) => name_variables(marks, self.problem.scope(rule)),
-            Cause::KeptNogood(place) => name_pairs(marks, self.store.items()[place].nogood.pairs()),
+            Cause::OwnedRule(rule) => mark_variables(marks, self.problem.scope(rule)),
+            Cause::KeptNogood(place) => mark_pairs(marks, self.store.items()[place].nogood.pairs()),
         }
     }
 
-    /// What the view has of these agents, in order.
-    fn gather(&self, agents: &[u32]) -> Result<Basis, Memory>
-        requires { IsStampedView (view_of self.now.view) }
-        ensures told { IfOk result (λ basis. with_stamps basis.nogood basis.stamps ≡ filter_map (told_of (view_of self.now.view)) agents.now) }
+    /// What the view has of the marked agents, in order. At first there is room for so many, if there are
+    /// as many agents.
+    fn gather(&self, marks: &Row, many: usize) -> Result<Basis, Memory>
+        requires few { length marks.now < 2 ^ 32 }
+        requires stamps { IsStampedView (view_of self.now.view) }
+        ensures told { IfOk result (λ basis. with_stamps basis.nogood basis.stamps ≡ filter_map (told_of (view_of self.now.view)) (filter (has_mark marks.now) (below (length marks.now)))) }
         ensures stamped { IfOk result (λ basis. AreStampsOf basis.nogood basis.stamps) }
     {
-        let Ok(mut pairs) = Vec::with_capacity(self.alloc, agents.len()) else {
+        let room = marks.len().min(many);
+        let Ok(mut pairs) = Vec::with_capacity(self.alloc, room) else {
             return Err(Memory);
         };
-        let mut stamps = room_for_stamps(self.alloc, agents.len())?;
-        for var in agents {
-            add_told(&mut pairs, &mut stamps, *var, self.stamped_value(*var))?;
+        let mut stamps = room_for_stamps(self.alloc, room)?;
+        let mut from = 0;
+        while let Some(agent) = marks.next_marked(from) {
+            let var = agent as u32;
+            add_told(&mut pairs, &mut stamps, var, self.stamped_value(var))?;
+            from = agent + 1;
         }
         // The agents rise, so nothing refuses.
         let Ok(nogood) = Nogood::from_vec(pairs) else {

@@ -5,7 +5,8 @@ use Rattle.dcsp_defs.specs.declared.Step.{Step}
 use Rattle.dcsp_script.specs.Scripts.{Write, Append}
 use Rattle.ngd_log.specs.declared.entry.Entry.{Entry}
 use Rattle.ngd_log.specs.StepText.{step_line}
-use Rattle.ngd_log.specs.Logs.{lines, step_lines}
+use Rattle.ngd_log.specs.Lines.{lines}
+use Rattle.ngd_log.specs.Logs.{step_lines}
 use Rattle.ngd_log.specs.EntryTexts.{deletion_line, entry_lines}
 use Rattle.ngd_upgrade.specs.Upgrade.{ending, as_deletion, upgraded_from, deleted_count}
 use Rattle.ngd_upgrade.proofs.Tables.{left_next}

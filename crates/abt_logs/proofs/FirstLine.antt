@@ -3,7 +3,7 @@ use Rattle.std.proofs.Common.{◌≡◌, ℕ, zero, suc, ◌+◌, ◌≤◌, Lis
 use Rattle.std.proofs.lemmas.Bool.{eqb-true, eq-eqb, ne_eqb}
 use Rattle.std.proofs.lemmas.List.{take_all, drop_all}
 use Rattle.memchr.specs.Find.{is_byte, Passes, Nowhere, NoneBefore}
-use Rattle.ngd_log.specs.Logs.{lines, HasNoLineFeed}
+use Rattle.ngd_log.specs.Lines.{lines, HasNoLineFeed}
 use Rattle.ngd_log.proofs.LineFeeds.{lines_plain, lines_split}
 use Rattle.ngd_log.proofs.LogLines.{cons_head, cons_tail}
 

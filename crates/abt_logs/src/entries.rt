@@ -6,7 +6,7 @@ ghost use Rattle.dcsp_outside.specs.Outside.{Place, Stream};
 ghost use Rattle.dcsp_script.specs.Scripts.{Append, outside};
 ghost use Rattle.dcsp_script.specs.Ways.{Wrote};
 ghost use Rattle.ngd_log.specs.declared.standing.Version.{Version};
-ghost use Rattle.ngd_log.specs.Logs.{lines};
+ghost use Rattle.ngd_log.specs.Lines.{lines};
 ghost use Rattle.ngd_log.specs.EntryTexts.{entry_lines, text_lines, IsWritableEntry};
 ghost use Rattle.ngd_upgrade.specs.Upgrade.{as_deletion, upgraded, deleted_count};
 ghost use Rattle.ngd_upgrade.specs.Endings.{Follows};

@@ -5,18 +5,19 @@ use Rattle.std.specs.Int.{FitsUnsignedBits, w64}
 use mir.Val.{to_z, of_z}
 use Rattle.std.proofs.lemmas.Int.{to_z-of_z}
 use Rattle.std.specs.List.{concat}
-use Rattle.ngd_log.specs.Logs.{lines}
+use Rattle.ngd_log.specs.Lines.{lines}
 use Rattle.ngd_log.specs.Reading.{after, integer_at}
 use Rattle.ngd_log.proofs.AfterPrefix.{after_takes, after_again}
 use Rattle.std.proofs.lemmas.List.{append-nil, take-take, length-take, take_more, nil_from_length}
 use Rattle.std.proofs.lemmas.List.Folds.{concat-append}
-use Rattle.ngd_log.proofs.Chosen.{some_is}
+use Rattle.dcsp_number.proofs.Chosen.{some_is}
 use Rattle.ngd_log.proofs.Fields.{integer_takes, integer_again}
 use Rattle.ngd_log.proofs.LineFeeds.{concat-lines, lines_after, no_lines}
+use Rattle.ngd_log.proofs.LogLines.{tail, tail-IsLine}
 use Rattle.abt_schedule.specs.declared.schedule.ScheduleError.{ScheduleError}
 use Rattle.abt_schedule.specs.declared.schedule.ScheduleError.TheVariants.{Line, Memory}
 use Rattle.abt_schedule.specs.Schedules.{choice_line, schedule_text, IsScheduleOf, BeginsWithChoice, IsFirstBad, IsCause, IsUnlessMemory}
-use Rattle.abt_schedule.proofs.ScheduleLines.{head, tail, front_lines, head-IsLine, tail-IsLine, choice_line-IsLine, choice_lines-push}
+use Rattle.abt_schedule.proofs.ScheduleLines.{head, front_lines, head-IsLine, choice_line-IsLine, choice_lines-push}
 use Rattle.abt_schedule.proofs.FirstBad.{bad_head, HasFront, bad_stop, bad_line, bad_rest, front_more, schedule_of_front}
 use Rattle.abt_schedule.proofs.ScheduleLaws.{schedule_or_bad_line}
 

@@ -2,27 +2,23 @@
 use Rattle.std.proofs.Common.{◌≡◌, ℕ, ◌<◌, ◌^◌, ◌⊎◌, true, false, List, [], ◌∷◌, ◌++◌, map, get_or, Option, Some, None, inl, inr, refl, sym, ap, ◌∙◌, arith}
 use Rattle.std.specs.Prelude.{codes, decimal}
 use Rattle.std.specs.List.{AllByRecursion}
-use Rattle.std.specs.Str.{all_ascii_digits, bytes_eq}
+use Rattle.std.specs.Str.{bytes_eq}
 use Rattle.std.specs.Char.{is_ascii_digit}
-use Rattle.std.proofs.lemmas.Bool.{false≢true, ne_eqb, cases_lt}
+use Rattle.std.proofs.lemmas.Bool.{false≢true, cases_lt}
 use Rattle.std.proofs.lemmas.List.{append-nil, map-append}
 use Rattle.std.proofs.lemmas.Slice.Eq.{bytes_eq-Decides}
-use Rattle.dcsp_defs.proofs.Lists.{and_left, and_right}
-use Rattle.ngd_log.specs.Logs.{lines, HasNoLineFeed, IsLine}
-use Rattle.ngd_log.specs.Reading.{number_at}
-use Rattle.ngd_log.proofs.Chosen.{some_is}
+use Rattle.ngd_log.specs.Lines.{lines, IsLine}
+use Rattle.dcsp_number.specs.Reading.{number_at}
+use Rattle.dcsp_number.proofs.Chosen.{some_is}
 use Rattle.ngd_log.proofs.Each.{each_append}
-use Rattle.ngd_log.proofs.Numbers.{begins_decimal, decimal_digits, number_again, number_takes}
-use Rattle.ngd_log.proofs.LineFeeds.{lines-concat}
+use Rattle.dcsp_number.proofs.Numbers.{begins_decimal, number_again, number_takes}
+use Rattle.ngd_log.proofs.LineFeeds.{no_feed_in_decimal, lines-concat}
+use Rattle.ngd_log.proofs.LogLines.{tail, tail-IsLine, cons_head, cons_tail}
 use Rattle.abt_schedule.specs.Schedules.{choice_line, schedule_lines, schedule_text, AreChoices, IsChoiceLine, IsScheduleOf}
 
 -- the first line
 abbrev pub head : List ℕ
 head = codes "schedule 1\n"
-
--- the last line
-abbrev pub tail : List ℕ
-tail = codes "end\n"
 
 -- the lines of a schedule before `end`
 abbrev pub front_lines : List ℕ → List (List ℕ)
@@ -32,20 +28,9 @@ front_lines choices = head ∷ map choice_line choices
 pub head-IsLine : IsLine head
 head-IsLine = record { body = codes "schedule 1"; plain = (refl, (refl, (refl, (refl, (refl, (refl, (refl, (refl, (refl, (refl, tt)))))))))); same = refl }
 
--- the last line is a line
-pub tail-IsLine : IsLine tail
-tail-IsLine = record { body = codes "end"; plain = (refl, (refl, (refl, tt))); same = refl }
-
--- no digit is a line feed
-no_feed_in_digits : (ds : List ℕ) → all_ascii_digits ds ≡ true → HasNoLineFeed ds
-no_feed_in_digits [] h = tt
-no_feed_in_digits (c ∷ cs) h =
-    let d : is_ascii_digit c ≡ true = and_left _ _ h in
-    (ne_eqb c 10 (λ e. absurd (false≢true (ap is_ascii_digit (sym e) ∙ d))), no_feed_in_digits cs (and_right _ _ h))
-
 -- a choice's line is a line
 pub choice_line-IsLine : (choice : ℕ) → choice < 2 ^ 32 → IsLine (choice_line choice)
-choice_line-IsLine choice small = record { body = decimal choice; plain = no_feed_in_digits (decimal choice) (decimal_digits choice (omega arith)); same = refl }
+choice_line-IsLine choice small = record { body = decimal choice; plain = no_feed_in_decimal choice (omega arith); same = refl }
 
 -- each is a line
 pub choice_lines-IsLine : (choices : List ℕ) → AreChoices choices → AllByRecursion IsLine (map choice_line choices)
@@ -77,14 +62,6 @@ lines_of_schedule choices rest h =
 -- the lines of a schedule
 pub lines_of_whole : (choices text : List ℕ) → IsScheduleOf text choices → lines text ≡ schedule_lines choices
 lines_of_whole choices text is = ap lines (is.same ∙ sym (append-nil (schedule_text choices))) ∙ lines_of_schedule choices [] is.in_range ∙ append-nil (schedule_lines choices)
-
--- equal lists have equal first items
-pub cons_head : {X : Type 0} (x y : X) (xs ys : List X) → x ∷ xs ≡ y ∷ ys → x ≡ y
-cons_head x y xs ys e = cc
-
--- equal lists are equal after the first item
-pub cons_tail : {X : Type 0} (x y : X) (xs ys : List X) → x ∷ xs ≡ y ∷ ys → xs ≡ ys
-cons_tail x y xs ys e = cc
 
 -- what a schedule has after the lines of these choices: a choice's line, or `end` and no more
 pub record IsNextLine (line : List ℕ) (others : List (List ℕ)) : Type 0 where

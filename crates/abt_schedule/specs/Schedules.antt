@@ -1,7 +1,7 @@
 -- Schedules: the text of a list of choices, and the first bad line of any other text.
-use Rattle.std.specs.Prelude.{◌≡◌, ℕ, ◌+◌, ◌-◌, ◌^◌, ◌<◌, ◌≤◌, ◌⊎◌, List, [], ◌∷◌, ◌++◌, length, take, map, codes, decimal, Result, Err}
+use Rattle.std.specs.Prelude.{◌≡◌, ℕ, ◌^◌, ◌<◌, ◌⊎◌, List, [], ◌∷◌, ◌++◌, map, codes, decimal, Result, Err}
 use Rattle.std.specs.List.{AllByRecursion, concat}
-use Rattle.ngd_log.specs.Logs.{lines}
+use Rattle.ngd_log.specs.Lines.{Begin, IsFirstBadOf}
 use Rattle.abt_schedule.specs.declared.schedule.ScheduleError.{ScheduleError}
 use Rattle.abt_schedule.specs.declared.schedule.ScheduleError.TheVariants.{Line, Memory}
 
@@ -36,29 +36,13 @@ pub record BeginsWithChoice (bytes : List ℕ) (choice : ℕ) (rest : List ℕ) 
   pub in_range : choice < 2 ^ 32
   pub same : bytes ≡ choice_line choice ++ rest
 
--- some list's schedule begins with these lines
-abbrev pub BeginSchedule : List (List ℕ) → Type 0
-BeginSchedule front = (choices : List ℕ) × AreChoices choices × (others : List (List ℕ)) × (schedule_lines choices ≡ front ++ others)
-
--- the text is no list's schedule
-abbrev pub IsNoSchedule : List ℕ → Type 0
-IsNoSchedule text = (choices : List ℕ) → IsScheduleOf text choices → ⊥
-
--- the line with this number, counted from 1, is there, and no schedule begins with the lines up to it
-pub record IsWrong (text : List ℕ) (number : ℕ) : Type 0 where
-  pub there : number ≤ length (lines text)
-  pub wrong : BeginSchedule (take number (lines text)) → ⊥
-
--- the text stops before the line with this number, and is no schedule
-pub record IsMissing (text : List ℕ) (number : ℕ) : Type 0 where
-  pub after_last : number ≡ length (lines text) + 1
-  pub no_schedule : IsNoSchedule text
+-- the lines are those of some list's schedule
+abbrev pub AreScheduleLines : List (List ℕ) → Type 0
+AreScheduleLines ls = (choices : List ℕ) × AreChoices choices × (schedule_lines choices ≡ ls)
 
 -- the first bad line, counted from 1: a schedule begins with the lines before it, and it is wrong or missing
-pub record IsFirstBad (text : List ℕ) (number : ℕ) : Type 0 where
-  pub positive : 0 < number
-  pub before : BeginSchedule (take (number - 1) (lines text))
-  pub bad : IsWrong text number ⊎ IsMissing text number
+abbrev pub IsFirstBad : List ℕ → ℕ → Type 0
+IsFirstBad text number = IsFirstBadOf AreScheduleLines text number
 
 -- Each text is the schedule of one list, or has one first bad line.
 pub record ScheduleOrBadLine (text : List ℕ) : Type 0 where
@@ -73,9 +57,9 @@ SchedulesDiffer = (a b more : List ℕ) → AreChoices a → AreChoices b → sc
 
 -- A schedule begins with `schedule 1` and the lines of these choices, and then comes a choice's line, or `end`.
 pub record NextLine (choices line : List ℕ) : Type 0 where
-  pub only : BeginSchedule (codes "schedule 1\n" ∷ map choice_line choices ++ line ∷ []) → ((choice : ℕ) × IsChoiceLine line choice) ⊎ (line ≡ codes "end\n")
-  pub choice : (choice : ℕ) → IsChoiceLine line choice → BeginSchedule (codes "schedule 1\n" ∷ map choice_line choices ++ line ∷ [])
-  pub last : line ≡ codes "end\n" → BeginSchedule (codes "schedule 1\n" ∷ map choice_line choices ++ line ∷ [])
+  pub only : Begin AreScheduleLines (codes "schedule 1\n" ∷ map choice_line choices ++ line ∷ []) → ((choice : ℕ) × IsChoiceLine line choice) ⊎ (line ≡ codes "end\n")
+  pub choice : (choice : ℕ) → IsChoiceLine line choice → Begin AreScheduleLines (codes "schedule 1\n" ∷ map choice_line choices ++ line ∷ [])
+  pub last : line ≡ codes "end\n" → Begin AreScheduleLines (codes "schedule 1\n" ∷ map choice_line choices ++ line ∷ [])
 
 -- a result that can only differ from this one by want of memory
 abbrev pub IsUnlessMemory : Result (List ℕ) ScheduleError → Result (List ℕ) ScheduleError → Type 0

@@ -1,8 +1,8 @@
 -- The place of the first element that passes a test.
-use Rattle.std.proofs.Common.{◌≡◌, ℕ, ◌+◌, ◌<◌, ◌≤◌, Bool, true, false, cond, ◌||◌, ◌&&◌, List, [], ◌∷◌, ◌++◌, length, take, get_or, Option, Some, None, refl, sym, ap, ◌∙◌, arith, rules}
+use Rattle.std.proofs.Common.{◌≡◌, ℕ, ◌+◌, ◌<◌, ◌≤◌, Bool, true, false, cond, ◌||◌, ◌&&◌, List, [], ◌∷◌, ◌++◌, length, take, drop, get_or, Option, Some, None, refl, sym, ap, ◌∙◌, arith, rules}
 use Rattle.std.specs.Prelude.{is_some}
 use Rattle.std.specs.List.{count_by, list_any, position_from}
-use Rattle.std.proofs.lemmas.List.{take_more}
+use Rattle.std.proofs.lemmas.List.{take_more, take-append-drop}
 use Rattle.std.proofs.lemmas.List.Folds.{list_any_at, list_any-append}
 use Rattle.std.proofs.lemmas.List.Sums.{sum_by_more_le}
 use Rattle.abt_store.proofs.Counts.{none_counted}
@@ -80,3 +80,19 @@ placed_all p xs kept some right = by_test (list_any p xs) refl where
   by_test : (b : Bool) → list_any p xs ≡ b → kept ≡ position_from p 0 xs
   by_test true t = right t
   by_test false f = none_is kept (some ∙ f) ∙ sym (none_is (position_from p 0 xs) (some_place p 0 xs ∙ f))
+
+-- what stands behind one that passes does not matter
+passes_before : {X : Type 0} (p : X → Bool) (i : ℕ) (xs ys : List X) → list_any p xs ≡ true → position_from p i (xs ++ ys) ≡ position_from p i xs
+passes_before p i [] ys t = absurd cc
+passes_before p i (x ∷ xs) ys t = by_test (p x) t (passes_before p (i + 1) xs ys) where
+  by_test : (b : Bool) → (b || list_any p xs) ≡ true → (list_any p xs ≡ true → position_from p (i + 1) (xs ++ ys) ≡ position_from p (i + 1) xs)
+      → cond b (Some i) (position_from p (i + 1) (xs ++ ys)) ≡ cond b (Some i) (position_from p (i + 1) xs)
+  by_test true t later = refl
+  by_test false t later = later t
+
+-- the place of one that passes among the first ones is its place among all
+pub place_before : {X : Type 0} (p : X → Bool) (xs : List X) (k : ℕ) → list_any p (take k xs) ≡ true → position_from p 0 xs ≡ position_from p 0 (take k xs)
+place_before p xs k t = ap (position_from p 0) (sym (take-append-drop k xs)) ∙ passes_before p 0 (take k xs) (drop k xs) t
+
+pub some_before : {X : Type 0} (p : X → Bool) (xs : List X) (k : ℕ) → list_any p (take k xs) ≡ true → list_any p xs ≡ true
+some_before p xs k t = ap (list_any p) (sym (take-append-drop k xs)) ∙ list_any-append p (take k xs) (drop k xs) ∙ ap (λ b. b || list_any p (drop k xs)) t

@@ -100,9 +100,9 @@ impl Store {
             return;
         };
         unname_from(&mut self.lists, &self.items, first);
-        release_values(&mut self.places, &self.items, known);
+        release_values(&mut self.places, &self.items, first, known);
         self.items.retain(|item| is_fitting(&item.nogood, known));
-        place_values(&mut self.places, &self.items);
+        place_values(&mut self.places, &self.items, first);
         name_from(&mut self.lists, &self.items, first);
     }
 

@@ -1,12 +1,12 @@
 //! Against which value each item stands: the places of the items, by the values of their lowest pairs.
 
-ghost use Rattle.std.specs.Prelude.{◌≡◌, ℤ, ◌&&◌, ◌||◌, ◌==◌, not, OnOk, OnErr, Some, filter, is_some, if◌then◌else◌};
+ghost use Rattle.std.specs.Prelude.{◌≡◌, ◌≤◌, ℤ, ◌&&◌, ◌||◌, ◌==◌, not, true, length, OnOk, OnErr, Some, filter, is_some, if◌then◌else◌, take};
 ghost use Rattle.std.specs.HashMap.{get, IsUnchanged};
 ghost use Rattle.std.specs.List.{list_all};
 ghost use Rattle.std.specs.Ordering.{int_eq};
 ghost use Rattle.dcsp_nogood.specs.declared.Pair.{Pair as ThePair};
 ghost use Rattle.dcsp_defs.specs.Words.{is_value};
-ghost use Rattle.abt_store.specs.Stores.{fits, lowest_value, IsOncePerValue};
+ghost use Rattle.abt_store.specs.Stores.{fits, is_ruled_out, lowest_value, place_against, IsOncePerValue};
 ghost use Rattle.abt_store.specs.Index.{ArePlaced, AreTaken};
 
 use crate::Recorded;
@@ -32,37 +32,50 @@ pub fn take_value(
     }
 }
 
-/// Takes out the values of the items that give the pair's variable another value. The places stay as
-/// they were.
-pub fn release_values(places: &mut HashMap<i64, usize>, items: &[Recorded], known: Pair)
+/// Takes out the values of the items that give the pair's variable another value, none of which stands
+/// before the first. The places stay as they were.
+pub fn release_values(
+    places: &mut HashMap<i64, usize>,
+    items: &[Recorded],
+    first: usize,
+    known: Pair,
+)
     requires once { IsOncePerValue items.now }
+    requires within { first ≤ length items.now }
+    requires before { list_all (fits known.var known.value) (take first items.now) ≡ true }
     requires taken { AreTaken items.now (get int_eq places.old) }
-    ensures { AreTaken (filter (fits known.var known.value) items.now) (get int_eq places.new) }
+    ensures taken { AreTaken (filter (fits known.var known.value) items.now) (get int_eq places.new) }
+    ensures kept { (value : ℤ) → is_some (get int_eq places.new value) ≡ true → get int_eq places.new value ≡ get int_eq places.old value }
 {
-    for item in items {
-        if !is_fitting(&item.nogood, known) {
-            release_value(places, &item.nogood);
+    for place in first..items.len() {
+        let nogood = &items[place].nogood;
+        if !is_fitting(nogood, known) {
+            release_value(places, nogood);
         }
     }
 }
 
 /// Takes out the value of the nogood's lowest pair, if there is one.
 fn release_value(places: &mut HashMap<i64, usize>, nogood: &Nogood)
-    ensures { (value : ℤ) → is_some (get int_eq places.new value) ≡ (is_some (get int_eq places.old value) && not (is_value (lowest_value nogood.now) value)) }
+    ensures kept { (value : ℤ) → is_some (get int_eq places.new value) ≡ true → get int_eq places.new value ≡ get int_eq places.old value }
+    ensures taken { (value : ℤ) → is_some (get int_eq places.new value) ≡ (is_some (get int_eq places.old value) && not (is_value (lowest_value nogood.now) value)) }
 {
     if let Some(pair) = nogood.lowest() {
         places.remove(&pair.value);
     }
 }
 
-/// Puts in the places of the items, whose values are there. It takes no memory.
-pub fn place_values(places: &mut HashMap<i64, usize>, items: &[Recorded])
+/// Puts in the places of the items, whose values are there: from the first one on, where those before are
+/// in. It takes no memory.
+pub fn place_values(places: &mut HashMap<i64, usize>, items: &[Recorded], first: usize)
     requires once { IsOncePerValue items.now }
+    requires within { first ≤ length items.now }
     requires taken { AreTaken items.now (get int_eq places.old) }
+    requires before { (value : ℤ) → is_ruled_out value (take first items.now) ≡ true → get int_eq places.old value ≡ place_against value (take first items.now) }
     ensures { ArePlaced items.now (get int_eq places.new) }
 {
-    for (place, item) in items.iter().enumerate() {
-        place_value(places, &item.nogood, place);
+    for place in first..items.len() {
+        place_value(places, &items[place].nogood, place);
     }
 }
 

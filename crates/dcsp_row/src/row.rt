@@ -1,12 +1,12 @@
 //! A mark for each of so many places, kept as bits.
 
-ghost use Rattle.std.specs.Prelude.{◌≡◌, ◌≢◌, ◌<◌, ◌≤◌, ◌+◌, ◌*◌, ◌/◌, ◌==◌, ℕ, IfOk, IfSome, false, length, nat_lt, slice_index_or, slice_set, unwrap_or};
+ghost use Rattle.std.specs.Prelude.{◌≡◌, ◌≢◌, ◌<◌, ◌≤◌, ◌+◌, ◌*◌, ◌/◌, ◌==◌, ℕ, IfOk, IfSome, false, length, nat_lt, slice_index_or, slice_set, true, unwrap_or};
 ghost use Rattle.std.specs.Int.{bit_at};
 ghost use Rattle.dcsp_row.specs.Bits.{has_bit};
 ghost use Rattle.dcsp_row.specs.Spans.{is_within};
 
 use crate::span::Span;
-use crate::word::{BLOCK, with_bit};
+use crate::word::{BLOCK, first_bit, next_bit, with_bit, within};
 use dcsp_list::Memory;
 use std::alloc::Global;
 use std::marker::Model;
@@ -31,12 +31,12 @@ impl Model for Row {
 }
 
 impl Row {
-    /// So many places without a mark. It takes an eighth of a byte for each.
+    /// So many places without a mark. It takes an eighth of a byte for each, and none for no place.
     pub fn new(alloc: Global, size: usize) -> Result<Row, Memory>
         ensures size { IfOk result (λ row. length row ≡ size) }
         ensures none { IfOk result (λ row. (place : ℕ) → slice_index_or row place false ≡ false) }
     {
-        let words = no_bits(alloc, size / BLOCK + 1)?;
+        let words = no_bits(alloc, size.div_ceil(BLOCK))?;
         Ok(Row { words, size })
     }
 
@@ -62,6 +62,21 @@ impl Row {
     {
         let word = &mut self.words[place / BLOCK];
         *word = with_bit(*word, place % BLOCK, mark);
+    }
+
+    /// The first marked place from this one on, if there is one.
+    pub fn next_marked(&self, from: usize) -> Option<usize>
+        ensures within { IfSome result (λ place. (from ≤ place) × (place < length self.now)) }
+        ensures before { (k : ℕ) → from ≤ k → k < unwrap_or result (length self.now) → slice_index_or self.now k false ≡ false }
+        ensures marked { IfSome result (λ place. slice_index_or self.now place false ≡ true) }
+    {
+        let size = self.len();
+        for block in from / BLOCK..size / BLOCK + 1 {
+            if let Some(bit) = next_bit(self.word(block), 0, first_bit(block, from)) {
+                return within(block, bit, size);
+            }
+        }
+        None
     }
 
     /// Marks exactly the places of the span.

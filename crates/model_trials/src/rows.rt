@@ -167,6 +167,7 @@ fn changes_are_found(rt: HostRuntime) {
     let mut row = Row::new(rt.alloc(), 130).expect(&rt, "memory");
     row.put(64, true);
     row.put(129, true);
+    assert!(rt; row.next_marked(65) == Some(129));
     let marks = Marks::Row(row);
     let none = Marks::Span(Span::whole(false));
     expect_change(&rt, &marks, &none, 0, Some(64));

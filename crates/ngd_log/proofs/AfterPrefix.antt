@@ -1,11 +1,14 @@
 -- What stands after a text.
-use Rattle.std.proofs.Common.{◌≡◌, ℕ, ◌+◌, true, false, cond, ◌&&◌, eqb, List, [], ◌∷◌, ◌++◌, length, take, drop, Option, Some, None, inl, inr, refl, ap}
+use Rattle.std.proofs.Common.{◌≡◌, ℕ, ◌+◌, true, false, cond, ◌&&◌, eqb, List, [], ◌∷◌, ◌++◌, length, take, drop, Option, Some, None, inl, inr, refl, sym, ap, ◌∙◌}
 use Rattle.std.specs.Prelude.{MatchOption}
+use Rattle.std.specs.Char.{is_ascii_digit}
 use Rattle.std.specs.Cmp.Lexicographic.{pointwise}
-use Rattle.std.proofs.lemmas.Bool.{eqb-true, eq-eqb, ne_eqb}
+use Rattle.std.proofs.lemmas.Bool.{false≢true, eqb-true, eq-eqb, ne_eqb}
 use denote.Ref.{Bor}
-use Rattle.ngd_log.proofs.Chosen.{chosen, some_is}
-use Rattle.ngd_log.specs.Reading.{Reads, after}
+use Rattle.dcsp_number.proofs.Chosen.{chosen, some_is}
+use Rattle.dcsp_number.proofs.Numbers.{BeginsWithDigit}
+use Rattle.dcsp_number.specs.Reading.{Reads}
+use Rattle.ngd_log.specs.Reading.{after}
 
 -- as a test of the front
 after_is : (text bytes : List ℕ) → after text bytes ≡ cond (pointwise eqb (take (length text) bytes) text) (Some (drop (length text) bytes)) None
@@ -51,3 +54,7 @@ after_other c b text bytes n = rw (ne_eqb b c n) refl
 pub after_nothing : (c : ℕ) (text : List ℕ) → after (c ∷ text) [] ≡ None
 unfolding after
 after_nothing c text = refl
+
+-- another byte is not taken from digits
+pub after_no_digit : (c : ℕ) (text bytes : List ℕ) → is_ascii_digit c ≡ false → BeginsWithDigit bytes → after (c ∷ text) bytes ≡ None
+after_no_digit c text bytes n b = rw b.parts (after_other c b.first text b.others (λ e. absurd (false≢true (sym n ∙ ap is_ascii_digit (sym e) ∙ b.digit))))

@@ -7,7 +7,8 @@ use Rattle.std.proofs.lemmas.Slice.Eq.{bytes_eq-Decides}
 use Rattle.dcsp_defs.specs.declared.Step.{Step}
 use Rattle.ngd_log.specs.declared.log.LogError.{LogError}
 use Rattle.ngd_log.specs.declared.log.LogError.TheVariants.{Line, Memory}
-use Rattle.ngd_log.specs.Logs.{IsLogOf, lines, HasNoLineFeed, IsFirstBad, IsCause, IsUnlessMemory}
+use Rattle.ngd_log.specs.Lines.{lines, HasNoLineFeed}
+use Rattle.ngd_log.specs.Logs.{IsLogOf, IsFirstBad, IsCause, IsUnlessMemory}
 use Rattle.ngd_log.proofs.LineFeeds.{step_line-IsLine, lines_plain, line_has_feed, no_lines}
 use Rattle.ngd_log.proofs.LogLines.{head, tail, head-IsLine, tail-IsLine, cons_head}
 use Rattle.ngd_log.proofs.FirstBad.{bad_head, HasFront, bad_stop, bad_line, bad_rest}

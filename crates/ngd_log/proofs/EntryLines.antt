@@ -1,23 +1,25 @@
 -- The lines of entries, and reading them.
-use Rattle.std.proofs.Common.{◌≡◌, ℕ, ◌+◌, ◌<◌, ◌≤◌, ◌^◌, List, [], ◌∷◌, ◌++◌, length, get_or, Some, None, refl, sym, ap, subst, ◌∙◌, arith}
+use Rattle.std.proofs.Common.{◌≡◌, ℕ, ◌+◌, ◌<◌, ◌≤◌, ◌^◌, true, false, if◌then◌else◌, List, [], ◌∷◌, ◌++◌, length, get_or, Some, None, refl, sym, ap, subst, ◌∙◌, arith}
 use Rattle.std.specs.Prelude.{codes, decimal}
 use Rattle.std.specs.List.{AllByRecursion, concat}
+use Rattle.std.specs.Str.{bytes_eq}
 use Rattle.std.proofs.lemmas.List.{append-nil, length_push}
 use Rattle.std.proofs.lemmas.List.Folds.{concat-append}
+use Rattle.std.proofs.lemmas.Slice.Eq.{bytes_eq-Decides}
 use Rattle.dcsp_defs.specs.declared.Step.{Step}
 use Rattle.ngd_log.specs.declared.entry.Entry.{Entry}
 use Rattle.ngd_log.specs.declared.entry.Entry.TheVariants.{Step as A_step, Delete}
 use Rattle.ngd_log.specs.declared.standing.Version.{Version}
 use Rattle.ngd_log.specs.declared.standing.Version.TheVariants.{One, Two}
 use Rattle.ngd_log.specs.StepText.{step_line, IsStepNumber, IsWritable, IsStepLine}
-use Rattle.ngd_log.specs.Logs.{lines, IsLine}
+use Rattle.ngd_log.specs.Lines.{lines, IsLine}
 use Rattle.ngd_log.specs.Entries.{steps_of}
 use Rattle.ngd_log.specs.EntryTexts.{deletion_line, entry_line, next_number, entry_lines, head, entries_text, text_lines, IsNumbered, IsEntryLine, IsWritableEntry, HaveText, IsTextOf}
-use Rattle.ngd_log.specs.EntryReading.{step_entry, either_entry, entry_of, deletion_at}
+use Rattle.ngd_log.specs.EntryReading.{step_entry, either_entry, entry_of, deletion_at, version_of}
 use Rattle.ngd_log.specs.Reading.{after, step_of}
-use Rattle.ngd_log.proofs.Chosen.{bind_then, some_is}
-use Rattle.ngd_log.proofs.AfterPrefix.{after_takes, after_again}
-use Rattle.ngd_log.proofs.Numbers.{begins_decimal, after_no_digit}
+use Rattle.dcsp_number.proofs.Chosen.{bind_then, some_is}
+use Rattle.ngd_log.proofs.AfterPrefix.{after_takes, after_again, after_no_digit}
+use Rattle.dcsp_number.proofs.Numbers.{begins_decimal}
 use Rattle.ngd_log.proofs.Each.{each_push, each_append}
 use Rattle.ngd_log.proofs.ItemLaws.{items_text}
 use Rattle.ngd_log.proofs.LineLaws.{rest_text, step_line_is, step_takes, step_again}
@@ -190,3 +192,26 @@ lines_of_text v entries rest w =
 -- the lines of a whole text
 pub lines_of_whole : (text : List ℕ) (v : Version) (entries : List Entry) → IsTextOf text v entries → lines text ≡ text_lines v entries
 lines_of_whole text v entries is = ap lines (is.same ∙ sym (append-nil (entries_text v entries))) ∙ lines_of_text v entries [] is.writable ∙ append-nil (text_lines v entries)
+
+-- ---- the version of a first line
+
+-- a line that has a version is its head
+pub version_takes : (line : List ℕ) (v : Version) → version_of line ≡ Some v → line ≡ head v
+version_takes line v h =
+    (elim (bytes_eq line (head One)) as (λ t. bytes_eq line (head One) ≡ t → (if t then Some One else (if bytes_eq line (head Two) then Some Two else None)) ≡ Some v → line ≡ head v) [
+      | true ↦ λ e k. let one : One ≡ v = cc in (bytes_eq-Decides line (head One)).0 e ∙ ap head one
+      | false ↦ λ e k.
+          (elim (bytes_eq line (head Two)) as (λ t. bytes_eq line (head Two) ≡ t → (if t then Some Two else None) ≡ Some v → line ≡ head v) [
+            | true ↦ λ f k. let two : Two ≡ v = cc in (bytes_eq-Decides line (head Two)).0 f ∙ ap head two
+            | false ↦ λ f k. absurd cc
+          ]) refl k
+    ]) refl h
+
+-- a head has its version
+pub version_again : (v : Version) → version_of (head v) ≡ Some v
+version_again One = refl
+version_again Two = refl
+
+-- a line without a version is no head
+pub version_none : (line : List ℕ) (v : Version) → version_of line ≡ None → line ≡ head v → ⊥
+version_none line v h e = let f : version_of line ≡ Some v = ap version_of e ∙ version_again v in cc

@@ -9,17 +9,17 @@ use Rattle.ngd_log.specs.declared.standing.Version.{Version}
 use Rattle.ngd_log.specs.declared.standing.Place.{Place}
 use Rattle.ngd_log.specs.declared.standing.Standing.{Standing}
 use Rattle.ngd_log.specs.declared.standing.Standing.TheVariants.{Start, Inside, Ended, Refused}
-use Rattle.ngd_log.specs.Logs.{lines, HasNoLineFeed, IsLine}
+use Rattle.ngd_log.specs.Lines.{lines, HasNoLineFeed, IsLine}
 use Rattle.ngd_log.specs.Entries.{steps_of}
 use Rattle.ngd_log.specs.EntryTexts.{head, entries_text, HaveText, IsLogOfEntries, IsFirstBadLine}
 use Rattle.ngd_log.specs.EntryReading.{good_entries}
 use Rattle.ngd_log.specs.Pieces.{Kept, refusal_of, fault_of, Tells, open_text, IsStuck, IsAt, IsFed, Feeds, TakesFront, Completes, GoesOn, IsWhole, IsRefused}
 use Rattle.ngd_log.proofs.LogLines.{tail, cons_head}
 use Rattle.ngd_log.proofs.LineFeeds.{lines_plain, line_has_feed, lines_after, no_lines}
-use Rattle.ngd_log.proofs.EntryLines.{head-IsLine, entry_line-IsLine, front_lines, lines_of_front, lines_of_text, entry_none}
+use Rattle.ngd_log.proofs.EntryLines.{head-IsLine, entry_line-IsLine, front_lines, lines_of_front, lines_of_text, entry_none, version_none}
 use Rattle.ngd_log.proofs.LogLines.{tail-IsLine}
 use Rattle.ngd_log.proofs.EntryBad.{HasFront, length-front, bad_head, bad_stop, bad_line, bad_rest}
-use Rattle.ngd_log.proofs.EntryLaws.{version_none, entries_or_bad_line}
+use Rattle.ngd_log.proofs.EntryLaws.{entries_or_bad_line}
 use Rattle.ngd_log.proofs.GoodEntries.{good_open, good_line, good_text, good_plain, good_headless, good_whole}
 
 -- ---- texts that are refused

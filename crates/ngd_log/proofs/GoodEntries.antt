@@ -3,16 +3,15 @@ use Rattle.std.proofs.Common.{◌≡◌, ℕ, ◌+◌, ◌⊎◌, List, [], ◌�
 use Rattle.std.proofs.lemmas.List.{append-nil}
 use Rattle.ngd_log.specs.declared.entry.Entry.{Entry}
 use Rattle.ngd_log.specs.declared.standing.Version.{Version}
-use Rattle.ngd_log.specs.Logs.{lines, HasNoLineFeed, IsLine}
+use Rattle.ngd_log.specs.Lines.{lines, HasNoLineFeed, IsLine}
 use Rattle.ngd_log.specs.Entries.{steps_of}
 use Rattle.ngd_log.specs.EntryTexts.{next_number, entry_lines, head, entries_text, HaveText, IsLogOfEntries, IsEntryLine}
 use Rattle.ngd_log.specs.EntryReading.{entry_of, version_of, with_entry, entries_from, entries_after, entries_in, good_entries}
 use Rattle.ngd_log.specs.Pieces.{open_text, IsLongest, IsHeadless, GoodLines}
 use Rattle.ngd_log.proofs.LineFeeds.{lines_plain, line_has_feed, lines_after}
 use Rattle.ngd_log.proofs.LogLines.{tail, cons_head}
-use Rattle.ngd_log.proofs.EntryLines.{head-IsLine, entry_line-IsLine, not_end, number_after, number_after_is, HaveLines, from_one, front_lines, lines_of_front, lines_of_text, entry_takes, entry_again, entry_none, no_entries}
+use Rattle.ngd_log.proofs.EntryLines.{head-IsLine, entry_line-IsLine, not_end, number_after, number_after_is, HaveLines, from_one, front_lines, lines_of_front, lines_of_text, entry_takes, entry_again, entry_none, no_entries, version_takes, version_again, version_none}
 use Rattle.ngd_log.proofs.EntryBad.{HasFront, front_more}
-use Rattle.ngd_log.proofs.EntryLaws.{version_takes, version_again, version_none}
 
 -- a line of no entry gives none
 pub none_by : (v : Version) (number : ℕ) (line : List ℕ) → ((entry : Entry) → IsEntryLine v number line entry → ⊥) → entry_of v number line ≡ None

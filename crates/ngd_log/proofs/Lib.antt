@@ -2,12 +2,11 @@ pub mod Each
 pub mod AfterPrefix
 pub mod Items
 pub mod Rising
-pub mod Chosen
-pub mod Numbers
 pub mod Fields
 pub mod ItemLaws
 pub mod LineLaws
 pub mod LineFeeds
+pub mod BadLines
 pub mod LogLines
 pub mod FirstBad
 pub mod LogLaws

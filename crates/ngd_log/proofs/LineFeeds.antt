@@ -14,11 +14,11 @@ use Rattle.dcsp_defs.specs.declared.Reason.{Reason}
 use Rattle.dcsp_defs.specs.declared.Reason.TheVariants.{Rule, Earlier}
 use Rattle.dcsp_defs.specs.declared.Step.{Step}
 use Rattle.ngd_log.specs.StepText.{pair_text, pairs_text, reason_text, reasons_text, variable_text, step_line, IsVariable, IsStepNumber, IsReasonInRange, IsWritable}
-use Rattle.ngd_log.specs.Logs.{lines, with_byte, HasNoLineFeed, IsLine}
-use Rattle.ngd_log.proofs.Chosen.{chosen}
+use Rattle.ngd_log.specs.Lines.{lines, with_byte, HasNoLineFeed, IsLine}
+use Rattle.dcsp_number.proofs.Chosen.{chosen}
 use Rattle.ngd_log.proofs.Each.{each_append, each_both}
 use Rattle.ngd_log.proofs.Fields.{IsPair}
-use Rattle.ngd_log.proofs.Numbers.{decimal_digits}
+use Rattle.dcsp_number.proofs.Numbers.{decimal_digits}
 
 -- ---- a step's line has one line feed
 

@@ -1,5 +1,5 @@
 -- A text that has not the head of version 2 is read as before.
-use Rattle.std.proofs.Common.{◌≡◌, ℕ, zero, suc, ◌+◌, ◌-◌, ◌<◌, ◌≤◌, List, [], ◌∷◌, ◌++◌, length, take, inl, inr, refl, sym, ap, subst, ◌∙◌, arith}
+use Rattle.std.proofs.Common.{◌≡◌, ℕ, zero, suc, ◌+◌, ◌-◌, ◌<◌, ◌≤◌, ◌⊎◌, List, [], ◌∷◌, ◌++◌, length, take, inl, inr, refl, sym, ap, subst, ◌∙◌, arith}
 use Rattle.std.specs.List.{AllByRecursion, concat}
 use Rattle.dcsp_defs.specs.declared.Step.{Step}
 use Rattle.ngd_log.specs.declared.entry.Entry.{Entry}
@@ -7,9 +7,10 @@ use Rattle.ngd_log.specs.declared.entry.Entry.TheVariants.{Step as A_step, Delet
 use Rattle.ngd_log.specs.declared.standing.Version.{Version}
 use Rattle.ngd_log.specs.declared.standing.Version.TheVariants.{One, Two}
 use Rattle.ngd_log.specs.StepText.{step_line, IsWritable}
-use Rattle.ngd_log.specs.Logs.{step_lines, log_text, log_lines, AreWritable, IsLogOf, lines, BeginLog, IsFirstBad}
+use Rattle.ngd_log.specs.Lines.{lines, Begin}
+use Rattle.ngd_log.specs.Logs.{step_lines, log_text, log_lines, AreWritable, IsLogOf, AreLogLines, IsFirstBad}
 use Rattle.ngd_log.specs.Entries.{steps_of, entries_of}
-use Rattle.ngd_log.specs.EntryTexts.{entry_lines, head, entries_text, text_lines, IsWritableEntry, HaveText, IsTextOf, IsLogOfEntries, BeginText, IsFirstBadLine, IsHeadedTwo, IsOneAnswer}
+use Rattle.ngd_log.specs.EntryTexts.{entry_lines, head, entries_text, text_lines, IsWritableEntry, HaveText, IsTextOf, IsLogOfEntries, AreTextLines, IsFirstBadLine, IsHeadedTwo, IsOneAnswer}
 use Rattle.ngd_log.proofs.LogLines.{tail, cons_head}
 use Rattle.ngd_log.proofs.LogLaws.{log_or_bad_line}
 use Rattle.ngd_log.proofs.EntryLines.{lines_of_whole}
@@ -63,15 +64,23 @@ back_writable entries w = record { count = w.count; each = back_written entries 
 
 -- ---- one answer
 
--- what begins a log begins a text of entries
-begins : (front : List (List ℕ)) → BeginLog front → BeginText front
-begins front b = (One, entries_of b.0, have_text One b.0 b.1, b.2, all_same b.0 ∙ b.3)
+-- lines of a log are lines of a text of entries
+log_lines_are : (ls : List (List ℕ)) → AreLogLines ls → AreTextLines ls
+log_lines_are ls b = (One, entries_of b.0, have_text One b.0 b.1, all_same b.0 ∙ b.2)
+
+-- lines of a text of entries are those of a log, but for the head of version 2
+text_lines_are : (ls : List (List ℕ)) → AreTextLines ls → AreLogLines ls ⊎ ((others : List (List ℕ)) × (ls ≡ head Two ∷ others))
+text_lines_are ls b = as_lines b.0 b.1 b.2 b.3
+  where
+    as_lines : (v : Version) (entries : List Entry) → HaveText v entries → text_lines v entries ≡ ls → AreLogLines ls ⊎ ((others : List (List ℕ)) × (ls ≡ head Two ∷ others))
+    as_lines One entries w e = inl (steps_of entries, back_writable entries w, sym (ap (text_lines One) (only_steps entries w.each) ∙ all_same (steps_of entries)) ∙ e)
+    as_lines Two entries w e = inr (entry_lines 1 entries ++ tail ∷ [], sym e)
 
 -- the first line of the first lines
-first_of : (ls : List (List ℕ)) (n : ℕ) (first : List ℕ) (rest others : List (List ℕ)) → 0 < n → n ≤ length ls → first ∷ rest ≡ take n ls ++ others → (more : List (List ℕ)) × (ls ≡ first ∷ more)
+first_of : (ls : List (List ℕ)) (n : ℕ) (first : List ℕ) (rest others : List (List ℕ)) → 0 < n → n ≤ length ls → take n ls ++ others ≡ first ∷ rest → (more : List (List ℕ)) × (ls ≡ first ∷ more)
 first_of [] n first rest others p le e = absurd (omega arith)
 first_of (l ∷ ls) zero first rest others p le e = absurd (omega arith)
-first_of (l ∷ ls) (suc n) first rest others p le e = (ls, ap (λ (x : List ℕ). x ∷ ls) (sym (cons_head _ _ _ _ e)))
+first_of (l ∷ ls) (suc n) first rest others p le e = (ls, ap (λ (x : List ℕ). x ∷ ls) (cons_head _ _ _ _ e))
 
 -- entries of such a text are steps of its log
 as_log : (text : List ℕ) → (IsHeadedTwo text → ⊥) → (entries : List Entry) (v : Version) → IsTextOf text v entries → (steps : List Step) × (entries ≡ entries_of steps) × IsLogOf text steps
@@ -84,17 +93,19 @@ as_log text n entries Two is = absurd (n (entry_lines 1 entries ++ tail ∷ [], 
 as_bad : (text : List ℕ) → (IsHeadedTwo text → ⊥) → (number : ℕ) → IsFirstBad text number → IsFirstBadLine text number
 as_bad text n number b = record {
   positive = b.positive;
-  before = begins (take (number - 1) (lines text)) b.before;
+  before = (b.before.0, log_lines_are (take (number - 1) (lines text) ++ b.before.0) b.before.1);
   bad = elim b.bad [
-    | inl w ↦ inl (record { there = w.there; wrong = λ t. wrong w.there w.wrong t.0 t.1 t.2 t.3 t.4 })
-    | inr m ↦ inr (record { after_last = m.after_last; no_text = λ entries is. let s = as_log text n entries is.0 is.1 in m.no_log s.0 s.2 })
+    | inl w ↦ inl (record { there = w.there; wrong = λ t. wrong w.there w.wrong t.0 t.1 })
+    | inr m ↦ inr (record { after_last = m.after_last; not_whole = λ t. elim (text_lines_are (lines text) t) [ inl s ↦ m.not_whole s | inr two ↦ n two ] })
   ];
 }
   where
-    wrong : number ≤ length (lines text) → (BeginLog (take number (lines text)) → ⊥) → (v : Version) (entries : List Entry) → HaveText v entries → (others : List (List ℕ)) → text_lines v entries ≡ take number (lines text) ++ others → ⊥
-    wrong there never One entries w others e =
-        never (steps_of entries, back_writable entries w, others, sym (ap (text_lines One) (only_steps entries w.each) ∙ all_same (steps_of entries)) ∙ e)
-    wrong there never Two entries w others e = n (first_of (lines text) number (head Two) (entry_lines 1 entries ++ tail ∷ []) others b.positive there e)
+    wrong : number ≤ length (lines text) → (Begin AreLogLines (take number (lines text)) → ⊥) → (others : List (List ℕ)) → AreTextLines (take number (lines text) ++ others) → ⊥
+    wrong there never others t =
+        elim (text_lines_are (take number (lines text) ++ others) t) [
+          | inl s ↦ never (others, s)
+          | inr two ↦ n (first_of (lines text) number (head Two) two.0 others b.positive there two.1)
+        ]
 
 -- the answers are one
 pub one_answer : (text : List ℕ) → (IsHeadedTwo text → ⊥) → IsOneAnswer text

@@ -12,7 +12,7 @@ use Rattle.ngd_log.specs.declared.standing.Version.{Version}
 use Rattle.ngd_log.specs.declared.standing.Place.{Place}
 use Rattle.ngd_log.specs.declared.standing.Standing.{Standing}
 use Rattle.ngd_log.specs.declared.standing.Standing.TheVariants.{Start, Inside, Ended, Refused}
-use Rattle.ngd_log.specs.Logs.{HasNoLineFeed, IsLine}
+use Rattle.ngd_log.specs.Lines.{HasNoLineFeed, IsLine}
 use Rattle.ngd_log.specs.Entries.{steps_of}
 use Rattle.ngd_log.specs.declared.standing.Kind.{Kind}
 use Rattle.ngd_log.specs.declared.standing.Kind.TheVariants as kinds

@@ -5,8 +5,9 @@ use Rattle.ngd_log.specs.declared.entry.Entry.{Entry}
 use Rattle.ngd_log.specs.declared.entry.Entry.TheVariants.{Step as A_step, Delete}
 use Rattle.ngd_log.specs.declared.standing.Version.{Version}
 use Rattle.ngd_log.specs.declared.standing.Version.TheVariants.{One, Two}
-use Rattle.ngd_log.specs.Reading.{◌>>=◌, after, items_at, step_number_at, is_line_feed, step_of}
-use Rattle.ngd_log.specs.Logs.{lines}
+use Rattle.dcsp_number.specs.Reading.{◌>>=◌}
+use Rattle.ngd_log.specs.Reading.{after, items_at, step_number_at, is_line_feed, step_of}
+use Rattle.ngd_log.specs.Lines.{lines}
 use Rattle.ngd_log.specs.EntryTexts.{next_number}
 
 -- the numbers, each behind a space

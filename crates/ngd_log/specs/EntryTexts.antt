@@ -1,5 +1,5 @@
 -- The text of entries in either version, and the first bad line of any other text. Version 1 has no deletions.
-use Rattle.std.specs.Prelude.{◌≡◌, ℕ, ◌+◌, ◌-◌, ◌^◌, ◌<◌, ◌≤◌, ◌⊎◌, List, [], ◌∷◌, ◌++◌, flat_map, length, take, codes, decimal}
+use Rattle.std.specs.Prelude.{◌≡◌, ℕ, ◌+◌, ◌^◌, ◌≤◌, ◌⊎◌, List, [], ◌∷◌, ◌++◌, flat_map, length, codes, decimal}
 use Rattle.std.specs.List.{AllByRecursion, concat}
 use Rattle.dcsp_defs.specs.declared.Step.{Step}
 use Rattle.ngd_log.specs.declared.entry.Entry.{Entry}
@@ -7,7 +7,8 @@ use Rattle.ngd_log.specs.declared.entry.Entry.TheVariants.{Step as A_step, Delet
 use Rattle.ngd_log.specs.declared.standing.Version.{Version}
 use Rattle.ngd_log.specs.declared.standing.Version.TheVariants.{One, Two}
 use Rattle.ngd_log.specs.StepText.{step_line, IsStepNumber, IsWritable}
-use Rattle.ngd_log.specs.Logs.{lines, IsLogOf, IsFirstBad}
+use Rattle.ngd_log.specs.Lines.{lines, IsFirstBadOf}
+use Rattle.ngd_log.specs.Logs.{IsLogOf, IsFirstBad}
 use Rattle.ngd_log.specs.Entries.{steps_of, entries_of, IsDeletion}
 
 -- the line of a deletion: `d`, and each number after a space
@@ -73,29 +74,13 @@ pub record IsTextOf (text : List ℕ) (version : Version) (entries : List Entry)
 abbrev pub IsLogOfEntries : List ℕ → List Entry → Type 0
 IsLogOfEntries text entries = (version : Version) × IsTextOf text version entries
 
--- some entries' text, of either version, begins with these lines
-abbrev pub BeginText : List (List ℕ) → Type 0
-BeginText front = (version : Version) × (entries : List Entry) × HaveText version entries × (others : List (List ℕ)) × (text_lines version entries ≡ front ++ others)
-
--- the text is that of no entries
-abbrev pub IsNoText : List ℕ → Type 0
-IsNoText text = (entries : List Entry) → IsLogOfEntries text entries → ⊥
-
--- the line with this number, counted from 1, is there, and no text of entries begins with the lines up to it
-pub record IsWrongLine (text : List ℕ) (number : ℕ) : Type 0 where
-  pub there : number ≤ length (lines text)
-  pub wrong : BeginText (take number (lines text)) → ⊥
-
--- the text stops before the line with this number, and is that of no entries
-pub record IsMissingLine (text : List ℕ) (number : ℕ) : Type 0 where
-  pub after_last : number ≡ length (lines text) + 1
-  pub no_text : IsNoText text
+-- the lines are those of some entries' text, of either version
+abbrev pub AreTextLines : List (List ℕ) → Type 0
+AreTextLines ls = (version : Version) × (entries : List Entry) × HaveText version entries × (text_lines version entries ≡ ls)
 
 -- the first bad line, counted from 1: a text of entries begins with the lines before it, and it is wrong or missing
-pub record IsFirstBadLine (text : List ℕ) (number : ℕ) : Type 0 where
-  pub positive : 0 < number
-  pub before : BeginText (take (number - 1) (lines text))
-  pub bad : IsWrongLine text number ⊎ IsMissingLine text number
+abbrev pub IsFirstBadLine : List ℕ → ℕ → Type 0
+IsFirstBadLine text number = IsFirstBadOf AreTextLines text number
 
 -- Each text is that of one list of entries, or has one first bad line.
 pub record EntriesOrBadLine (text : List ℕ) : Type 0 where

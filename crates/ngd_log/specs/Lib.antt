@@ -1,4 +1,5 @@
 pub mod StepText
+pub mod Lines
 pub mod Logs
 pub mod Reading
 pub mod Entries

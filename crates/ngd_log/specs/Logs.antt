@@ -1,9 +1,10 @@
 -- Logs: the text of a derivation, and the first bad line of any other text.
-use Rattle.std.specs.Prelude.{◌≡◌, ℕ, ◌+◌, ◌-◌, ◌^◌, ◌<◌, ◌≤◌, ◌⊎◌, false, List, [], ◌∷◌, ◌++◌, length, take, codes, ◌==◌, if◌then◌else◌, Result, Err}
+use Rattle.std.specs.Prelude.{◌≡◌, ℕ, ◌+◌, ◌^◌, ◌≤◌, ◌⊎◌, List, [], ◌∷◌, ◌++◌, length, codes, Result, Err}
 use Rattle.std.specs.List.{AllByRecursion, concat}
 use Rattle.dcsp_defs.specs.declared.Step.{Step}
 use Rattle.ngd_log.specs.declared.log.LogError.{LogError}
 use Rattle.ngd_log.specs.declared.log.LogError.TheVariants.{Line, Memory}
+use Rattle.ngd_log.specs.Lines.{Begin, IsFirstBadOf}
 use Rattle.ngd_log.specs.StepText.{step_line, IsWritable, IsStepLine}
 
 -- the lines of the steps, the first of which has this number
@@ -33,39 +34,13 @@ pub record IsLogOf (text : List ℕ) (steps : List Step) : Type 0 where
   pub writable : AreWritable steps
   pub same : text ≡ log_text steps
 
--- the byte before the first of the lines
-abbrev pub with_byte : ℕ → List (List ℕ) → List (List ℕ)
-with_byte b [] = (b ∷ []) ∷ []
-with_byte b (line ∷ others) = (b ∷ line) ∷ others
-
--- the lines of a text, each with its line feed; what stands after the last line feed is a line where it is not empty
-abbrev pub lines : List ℕ → List (List ℕ)
-lines [] = []
-lines (b ∷ text) = if b == 10 then (b ∷ []) ∷ lines text else with_byte b (lines text)
-
--- some derivation's log begins with these lines
-abbrev pub BeginLog : List (List ℕ) → Type 0
-BeginLog front = (steps : List Step) × AreWritable steps × (others : List (List ℕ)) × (log_lines steps ≡ front ++ others)
-
--- the text is no derivation's log
-abbrev pub IsNoLog : List ℕ → Type 0
-IsNoLog text = (steps : List Step) → IsLogOf text steps → ⊥
-
--- the line with this number, counted from 1, is there, and no log begins with the lines up to it
-pub record IsWrong (text : List ℕ) (number : ℕ) : Type 0 where
-  pub there : number ≤ length (lines text)
-  pub wrong : BeginLog (take number (lines text)) → ⊥
-
--- the text stops before the line with this number, and is no log
-pub record IsMissing (text : List ℕ) (number : ℕ) : Type 0 where
-  pub after_last : number ≡ length (lines text) + 1
-  pub no_log : IsNoLog text
+-- the lines are those of some derivation's log
+abbrev pub AreLogLines : List (List ℕ) → Type 0
+AreLogLines ls = (steps : List Step) × AreWritable steps × (log_lines steps ≡ ls)
 
 -- the first bad line, counted from 1: a log begins with the lines before it, and it is wrong or missing
-pub record IsFirstBad (text : List ℕ) (number : ℕ) : Type 0 where
-  pub positive : 0 < number
-  pub before : BeginLog (take (number - 1) (lines text))
-  pub bad : IsWrong text number ⊎ IsMissing text number
+abbrev pub IsFirstBad : List ℕ → ℕ → Type 0
+IsFirstBad text number = IsFirstBadOf AreLogLines text number
 
 -- Each text is the log of one derivation, or has one first bad line.
 pub record LogOrBadLine (text : List ℕ) : Type 0 where
@@ -81,19 +56,9 @@ LogsDiffer = (a b : List Step) (more : List ℕ) → AreWritable a → AreWritab
 
 -- A log begins with `ngd 1` and the lines of these steps, and then comes the line of the step with the next number, or `end`.
 pub record NextLine (steps : List Step) (line : List ℕ) : Type 0 where
-  pub only : BeginLog (codes "ngd 1\n" ∷ step_lines 1 steps ++ line ∷ []) → ((step : Step) × IsStepLine (length steps + 1) line step) ⊎ (line ≡ codes "end\n")
-  pub step : (step : Step) → IsStepLine (length steps + 1) line step → BeginLog (codes "ngd 1\n" ∷ step_lines 1 steps ++ line ∷ [])
-  pub last : line ≡ codes "end\n" → BeginLog (codes "ngd 1\n" ∷ step_lines 1 steps ++ line ∷ [])
-
--- no line feed is among the bytes
-abbrev pub HasNoLineFeed : List ℕ → Type 0
-HasNoLineFeed bytes = AllByRecursion (λ b. (b == 10) ≡ false) bytes
-
--- one line feed, at the end
-pub record IsLine (line : List ℕ) : Type 0 where
-  pub body : List ℕ
-  pub plain : HasNoLineFeed body
-  pub same : line ≡ body ++ codes "\n"
+  pub only : Begin AreLogLines (codes "ngd 1\n" ∷ step_lines 1 steps ++ line ∷ []) → ((step : Step) × IsStepLine (length steps + 1) line step) ⊎ (line ≡ codes "end\n")
+  pub step : (step : Step) → IsStepLine (length steps + 1) line step → Begin AreLogLines (codes "ngd 1\n" ∷ step_lines 1 steps ++ line ∷ [])
+  pub last : line ≡ codes "end\n" → Begin AreLogLines (codes "ngd 1\n" ∷ step_lines 1 steps ++ line ∷ [])
 
 -- a result that can only differ from this one by want of memory
 abbrev pub IsUnlessMemory : Result (List Step) LogError → Result (List Step) LogError → Type 0

@@ -10,7 +10,7 @@ use Rattle.ngd_log.specs.declared.standing.Kind.{Kind}
 use Rattle.ngd_log.specs.declared.standing.Place.{Place}
 use Rattle.ngd_log.specs.declared.standing.Standing.{Standing}
 use Rattle.ngd_log.specs.declared.standing.Standing.TheVariants.{Start, Inside, Ended, Refused}
-use Rattle.ngd_log.specs.Logs.{lines, HasNoLineFeed, IsLine}
+use Rattle.ngd_log.specs.Lines.{lines, HasNoLineFeed, IsLine}
 use Rattle.ngd_log.specs.Entries.{steps_of}
 use Rattle.ngd_log.specs.Lent.{is_step, lent_in, RisesIn}
 use Rattle.ngd_log.specs.EntryTexts.{head, entry_lines, entries_text, HaveText, IsTextOf, IsLogOfEntries, IsEntryLine, IsFirstBadLine}

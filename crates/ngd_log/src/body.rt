@@ -4,7 +4,7 @@ ghost use Rattle.std.specs.List.{AllByRecursion};
 ghost use Rattle.ngd_log.specs.declared.entry.Entry.{Entry as AnEntry};
 ghost use Rattle.ngd_log.specs.EntryReading.{version_of};
 ghost use Rattle.ngd_log.specs.Lent.{lent_in, RisesIn};
-ghost use Rattle.ngd_log.specs.Logs.{IsLine, HasNoLineFeed};
+ghost use Rattle.ngd_log.specs.Lines.{IsLine, HasNoLineFeed};
 ghost use Rattle.ngd_log.specs.Pieces.{kept, Feeds, Follows, IsNextPlace, IsWithin, IsSound, IsLentAlone};
 
 use crate::deletion::HEAD2;

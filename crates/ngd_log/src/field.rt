@@ -3,10 +3,12 @@
 //! They are inlined into the loops over a line's pairs and reasons, which are the time of reading a log: there a text
 //! of known length is compared by its bytes, and no result goes through memory.
 ghost use Rattle.std.specs.Prelude.{◌≡◌, ℕ, ◌+◌, ◌≤◌, length, IfSome};
-ghost use Rattle.ngd_log.specs.Reading.{Reads, after, digits_at, number_at, integer_at, counted_at, step_number_at, pair_at, reason_at};
+ghost use Rattle.dcsp_number.specs.Reading.{Reads};
+ghost use Rattle.ngd_log.specs.Reading.{after, integer_at, counted_at, step_number_at, pair_at, reason_at};
 
 use dcsp_defs::Reason;
 use dcsp_nogood::Pair;
+use dcsp_number::number_at;
 
 /// The greatest number of a variable.
 pub(crate) const VARIABLES: u32 = 4096;
@@ -17,9 +19,6 @@ pub(crate) const RULES: u32 = 262_144;
 /// The greatest number of a step.
 const STEPS: u64 = 1 << 62;
 
-/// Below this a number with one digit more has 64 bits too.
-const SHORT: u64 = u64::MAX / 10;
-
 /// What stands after this text, where the bytes begin with it.
 #[inline(always)]
 pub fn after<'t>(text: &[u8], bytes: &'t [u8]) -> Option<&'t [u8]>
@@ -27,45 +26,6 @@ pub fn after<'t>(text: &[u8], bytes: &'t [u8]) -> Option<&'t [u8]>
     ensures shorter { IfSome result (λ x. length x.now + length text.now ≡ length bytes.now) }
 {
     bytes.strip_prefix(text)
-}
-
-/// The digits at the front, as a number.
-#[tactic(auto, unfolding(crate::specs::Reading::digits_at))]
-#[inline(always)]
-fn digits_at(bytes: &[u8]) -> Option<(u64, &[u8])>
-    ensures reads { Reads (λ x. (x.0, x.1.now)) result (digits_at 0 bytes.now) }
-    ensures shorter { IfSome result (λ x. length x.1.now ≤ length bytes.now) }
-{
-    let mut number = 0u64;
-    let mut rest = bytes;
-    while let [byte, others @ ..] = rest {
-        if !byte.is_ascii_digit() {
-            break;
-        }
-        let digit = u64::from(byte - b'0');
-        number = if number < SHORT {
-            number * 10 + digit
-        } else {
-            number.checked_mul(10)?.checked_add(digit)?
-        };
-        rest = others;
-    }
-    Some((number, rest))
-}
-
-/// A number of 64 bits in decimal digits, without leading zeros.
-#[tactic(auto, unfolding(crate::specs::Reading::number_at))]
-#[inline(always)]
-fn number_at(bytes: &[u8]) -> Option<(u64, &[u8])>
-    ensures reads { Reads (λ x. (x.0, x.1.now)) result (number_at bytes.now) }
-    ensures shorter { IfSome result (λ x. length x.1.now ≤ length bytes.now) }
-{
-    match bytes {
-        [b'0', b'0'..=b'9', ..] => None,
-        [b'0', rest @ ..] => Some((0, rest)),
-        [b'1'..=b'9', ..] => digits_at(bytes),
-        _ => None,
-    }
 }
 
 /// A signed number of 64 bits in decimal digits, without leading zeros and without `-0`.

@@ -1,7 +1,8 @@
 //! Reading a log.
 ghost use Rattle.std.specs.Prelude.{◌≡◌, ℕ, ◌+◌, ◌<◌, ◌≤◌, ◌∷◌, ◌++◌, false, List, length, take, IfOk, IfErr, IfSome, IfNone, IsErrOf, Ok, Err};
 ghost use Rattle.dcsp_defs.specs.declared.Step.{Step};
-ghost use Rattle.ngd_log.specs.Logs.{lines, HasNoLineFeed, IsLine, IsLogOf, IsFirstBad, LogOrBadLine, LogsDiffer, AreWritable, NextLine, IsUnlessMemory, IsCause};
+ghost use Rattle.ngd_log.specs.Lines.{lines, HasNoLineFeed, IsLine};
+ghost use Rattle.ngd_log.specs.Logs.{IsLogOf, IsFirstBad, LogOrBadLine, LogsDiffer, AreWritable, NextLine, IsUnlessMemory, IsCause};
 
 use crate::derivation::Derivation;
 use crate::reader::{Gathered, LineError, read_step};

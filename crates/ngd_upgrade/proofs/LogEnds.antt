@@ -11,7 +11,8 @@ use Rattle.ngd_log.specs.declared.entry.Entry.TheVariants.{Step as A_step, Delet
 use Rattle.ngd_log.specs.declared.log.LogError.{LogError}
 use Rattle.ngd_log.specs.declared.log.LogError.TheVariants.{Line, Memory}
 use Rattle.ngd_log.specs.declared.standing.Version.TheVariants.{Two}
-use Rattle.ngd_log.specs.Logs.{lines, IsLogOf, IsFirstBad}
+use Rattle.ngd_log.specs.Lines.{lines}
+use Rattle.ngd_log.specs.Logs.{IsLogOf, IsFirstBad}
 use Rattle.ngd_log.specs.Entries.{steps_of}
 use Rattle.ngd_log.specs.EntryTexts.{head, IsLogOfEntries, IsFirstBadLine, IsHeadedTwo}
 use Rattle.ngd_log.specs.EntryReading.{good_entries}

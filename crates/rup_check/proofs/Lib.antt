@@ -12,7 +12,5 @@ pub mod GrowLaws
 pub mod StartLaws
 pub mod TransferLaws
 pub mod NumberLaws
-pub mod Chosen
-pub mod Numbers
 pub mod ReadingLaws
 pub mod ProofLaws

@@ -2,12 +2,13 @@
 use Rattle.std.proofs.Common.{◌≡◌, ℕ, zero, suc, ◌<◌, ◌≤◌, true, eqb, ltb, leb, ◌&&◌, List, [], ◌∷◌, ◌++◌, Some, None, inl, inr, refl, sym, ap, ◌∙◌, subst, arith, append_assoc}
 use Rattle.std.specs.Prelude.{ℤ, pos, negsuc, neg_ℤ, decimal, codes}
 use Rattle.std.specs.Char.{is_ascii_digit}
-use Rattle.std.proofs.lemmas.Bool.{eqb-true, eq-eqb, ne_eqb, ltb-true, lt-ltb, leb-true, le-leb, false≢true}
+use Rattle.std.proofs.lemmas.Bool.{and_parts, eqb-true, eq-eqb, ne_eqb, ltb-true, lt-ltb, leb-true, le-leb, false≢true}
 use Rattle.rup_check.specs.Literals.{IsLiteral}
 use Rattle.rup_check.specs.ProofText.{literal_text}
-use Rattle.rup_check.specs.Reading.{◌>>=◌, after_byte, number_at, spaced, variable_at, negated, itself, literal_at, after_end}
-use Rattle.rup_check.proofs.Chosen.{chosen, some_is, bind_then, and_left, and_right}
-use Rattle.rup_check.proofs.Numbers.{BeginsWithDigit, begins_decimal, number_again, number_takes}
+use Rattle.dcsp_number.specs.Reading.{◌>>=◌, number_at}
+use Rattle.rup_check.specs.Reading.{after_byte, spaced, variable_at, negated, itself, literal_at, after_end}
+use Rattle.dcsp_number.proofs.Chosen.{chosen, some_is, bind_then}
+use Rattle.dcsp_number.proofs.Numbers.{BeginsWithDigit, begins_decimal, number_again, number_takes}
 
 -- the byte that was taken
 pub after_byte_takes : (c : ℕ) (bytes rest : List ℕ) → after_byte c bytes ≡ Some rest → bytes ≡ c ∷ rest
@@ -39,8 +40,8 @@ variable_took bytes n x rest r h =
           let x0 : n.0 ≡ x = ap (λ (p : ℕ × List ℕ). p.0) i in
           let r0 : others ≡ rest = ap (λ (p : ℕ × List ℕ). p.1) i in
           let t = number_takes bytes n.0 n.1 r in
-          let some : 0 < n.0 = ltb-true _ _ (and_left _ _ e.0) in
-          let most : n.0 ≤ 4096 = leb-true _ _ (and_right _ _ e.0) in
+          let some : 0 < n.0 = ltb-true _ _ ((and_parts _ _ e.0).0) in
+          let most : n.0 ≤ 4096 = leb-true _ _ ((and_parts _ _ e.0).1) in
           record {
             parts = t.parts ∙ ap (λ z. decimal n.0 ++ z) (after_byte_takes 32 n.1 others a) ∙ ap (λ z. decimal n.0 ++ 32 ∷ z) r0 ∙ ap (λ z. decimal z ++ 32 ∷ rest) x0;
             positive = subst (λ z. 0 < z) x0 some;

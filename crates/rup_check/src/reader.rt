@@ -1,10 +1,12 @@
 //! Proofs as text.
 ghost use Rattle.std.specs.Prelude.{◌≡◌, ℕ, ℤ, [], ◌∷◌, ◌++◌, ◌<◌, ◌≤◌, List, length, MatchOption, OnOk, IfOk, IfErr, IfSome, IsErrOf, Ok, Err};
 ghost use Rattle.rup_check.specs.ProofText.{IsProofOf, IsFirstBadLine, IsUnlessMemory, IsCause, IsNextClause, BeginsWithClause};
-ghost use Rattle.rup_check.specs.Reading.{Reads, after_byte, digits_at, number_at, variable_at, literal_at, after_end};
+ghost use Rattle.rup_check.specs.Reading.{after_byte, variable_at, literal_at, after_end};
+ghost use Rattle.dcsp_number.specs.Reading.{Reads};
 
 use crate::clauses::ClauseList;
 use dcsp_list::Memory;
+use dcsp_number::number_at;
 use std::alloc::Global;
 
 /// Why a text gives no proof.
@@ -144,36 +146,4 @@ fn variable_at(bytes: &[u8]) -> Option<(u16, &[u8])>
     }
     let others = after_byte(b' ', rest)?;
     Some((number as u16, others))
-}
-
-/// A number of 64 bits in decimal digits, without leading zeros.
-#[tactic(auto, unfolding(crate::specs::Reading::number_at))]
-fn number_at(bytes: &[u8]) -> Option<(u64, &[u8])>
-    ensures reads { Reads (λ x. (x.0, x.1.now)) result (number_at bytes.now) }
-    ensures shorter { IfSome result (λ x. length x.1.now ≤ length bytes.now) }
-{
-    match bytes {
-        [b'0', b'0'..=b'9', ..] => None,
-        [b'0', rest @ ..] => Some((0, rest)),
-        [b'1'..=b'9', ..] => digits_at(bytes),
-        _ => None,
-    }
-}
-
-/// The digits at the front, as a number.
-#[tactic(auto, unfolding(crate::specs::Reading::digits_at))]
-fn digits_at(bytes: &[u8]) -> Option<(u64, &[u8])>
-    ensures reads { Reads (λ x. (x.0, x.1.now)) result (digits_at 0 bytes.now) }
-    ensures shorter { IfSome result (λ x. length x.1.now ≤ length bytes.now) }
-{
-    let mut number = 0u64;
-    let mut rest = bytes;
-    while let [byte, others @ ..] = rest {
-        if !byte.is_ascii_digit() {
-            break;
-        }
-        number = number.checked_mul(10)?.checked_add(u64::from(byte - b'0'))?;
-        rest = others;
-    }
-    Some((number, rest))
 }

@@ -4,4 +4,7 @@ use Rattle.abt_agent.specs.States.{has_mark}
 use Rattle.abt_agent.proofs.marks.mark_pairs.Given as goal
 
 abbrev pub invariant-loop-pair : goal.invariant-loop-pair
-invariant-loop-pair l = (k : ℕ) → has_mark l.marks k ≡ (has_mark l.initial.marks k || (nat_lt k (length l.initial.marks) && is_named k (take l.pair-index l.pairs)))
+invariant-loop-pair l = record {
+  size : length l.marks ≡ length l.initial.marks;
+  marks : (k : ℕ) → has_mark l.marks k ≡ (has_mark l.initial.marks k || (nat_lt k (length l.initial.marks) && is_named k (take l.pair-index l.pairs)));
+}

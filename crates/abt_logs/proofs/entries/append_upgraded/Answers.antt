@@ -3,7 +3,8 @@ use Rattle.std.specs.Prelude.{Contains}
 use Rattle.std.specs.List.{AllByRecursion}
 use Rattle.dcsp_script.proofs.Left.{left_all, left_more, left_stopped, left_ends}
 use Rattle.ngd_log.specs.declared.standing.Version.TheVariants.{Two}
-use Rattle.ngd_log.specs.Logs.{lines, step_lines}
+use Rattle.ngd_log.specs.Lines.{lines}
+use Rattle.ngd_log.specs.Logs.{step_lines}
 use Rattle.ngd_log.specs.EntryTexts.{IsWritableEntry}
 use Rattle.ngd_log.proofs.LogLines.{head, tail, lines_of_whole}
 use Rattle.ngd_upgrade.specs.Upgrade.{ending, as_deletion, upgraded, deleted_count}

@@ -4,7 +4,8 @@ use Rattle.std.specs.List.{filter}
 use Rattle.dcsp_outside.specs.Outside.{Stream}
 use Rattle.dcsp_script.specs.Scripts.{outside}
 use Rattle.dcsp_script.specs.Left.{HasLeft}
-use Rattle.ngd_log.specs.Logs.{lines, step_lines}
+use Rattle.ngd_log.specs.Lines.{lines}
+use Rattle.ngd_log.specs.Logs.{step_lines}
 use Rattle.ngd_log.specs.EntryTexts.{entry_lines}
 use Rattle.ngd_upgrade.specs.Upgrade.{end_of, numbers, upgraded_from, upgraded, deleted_count}
 use Rattle.abt_logs.specs.OldLogs.{steps_of}

@@ -1,5 +1,5 @@
 use Rattle.std.proofs.Common.{ap, ◌∙◌, arith}
-use Rattle.ngd_log.specs.Logs.{lines}
+use Rattle.ngd_log.specs.Lines.{lines}
 use Rattle.abt_logs.proofs.FirstLine.{first_is, first_found, first_whole}
 use Rattle.abt_logs.proofs.entries.first_line.Goals as goal
 

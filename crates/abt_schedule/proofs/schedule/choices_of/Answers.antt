@@ -1,5 +1,5 @@
 use Rattle.std.proofs.Common.{◌≡◌, ◌+◌, ℕ, List, length, sym, subst, arith}
-use Rattle.ngd_log.specs.Logs.{lines}
+use Rattle.ngd_log.specs.Lines.{lines}
 use Rattle.abt_schedule.specs.Schedules.{IsScheduleOf, IsFirstBad}
 use Rattle.abt_schedule.proofs.FirstBad.{HasFront}
 use Rattle.abt_schedule.proofs.Answered.{bad_start, front_start, front_next, whole_end, bad_more, bad_next}

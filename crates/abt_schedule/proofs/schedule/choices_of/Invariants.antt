@@ -1,5 +1,5 @@
 use Rattle.std.proofs.Common.{length}
-use Rattle.ngd_log.specs.Logs.{lines}
+use Rattle.ngd_log.specs.Lines.{lines}
 use Rattle.abt_schedule.proofs.FirstBad.{HasFront}
 use Rattle.abt_schedule.proofs.schedule.choices_of.Given as goal
 

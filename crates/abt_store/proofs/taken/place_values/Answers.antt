@@ -1,4 +1,5 @@
-use Rattle.std.proofs.Common.{◌∙◌, ap, take_all}
+use Rattle.std.proofs.Common.{◌≡◌, ◌∙◌, ap, get_or, take_all}
+use Rattle.std.proofs.lemmas.List.{get_or_default}
 use Rattle.std.specs.Prelude.{is_some}
 use Rattle.std.specs.HashMap.{get}
 use Rattle.std.specs.Ordering.{int_eq}
@@ -10,10 +11,11 @@ pub loop-place-preserved : goal.loop-place-preserved
 loop-place-preserved c =
     let items = c.args.items.now in
     let k = c.loop-place.place in
-    let x = c.index-items-place.result in
+    let x = get_or items k c.index-items-place.result in
+    let is : x ≡ get_or items k x = get_or_default items k c.index-items-place.result x c.loop-place-test.true in
     let old = get int_eq c.loop-place.places in (
       λ v. ap is_some (c.place_value.ensures v) ∙ same_some (is_against v x) (old v) k ∙ c.loop-place.invariant.0 v,
-      λ v now. c.place_value.ensures v ∙ place_put (is_against v) items k x c.loop-place-test.true c.index-items-place.is (c.requires.once v) (old v) (c.loop-place.invariant.0 v) (c.loop-place.invariant.1 v) now,
+      λ v now. c.place_value.ensures v ∙ place_put (is_against v) items k x c.loop-place-test.true is (c.requires.once v) (old v) (c.loop-place.invariant.0 v) (c.loop-place.invariant.1 v) now,
     )
 
 pub returns : goal.returns

@@ -1,5 +1,5 @@
 use Rattle.std.proofs.Common.{◌≡◌, false, take}
-use Rattle.ngd_log.specs.Logs.{HasNoLineFeed}
+use Rattle.ngd_log.specs.Lines.{HasNoLineFeed}
 use Rattle.ngd_log.proofs.log.has_line_feed.Given as goal
 
 -- none so far

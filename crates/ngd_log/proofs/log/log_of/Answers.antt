@@ -1,7 +1,8 @@
 use Rattle.std.proofs.Common.{◌≡◌, ◌+◌, ◌++◌, ◌∷◌, List, [], ℕ, Err, length, sym, ap, subst, ◌∙◌, arith}
 use Rattle.std.proofs.lemmas.List.{nil_from_length}
 use Rattle.std.proofs.lemmas.Bool.{eqb-true, eqb-false}
-use Rattle.ngd_log.specs.Logs.{lines, IsFirstBad}
+use Rattle.ngd_log.specs.Lines.{lines}
+use Rattle.ngd_log.specs.Logs.{IsFirstBad}
 use Rattle.ngd_log.specs.StepText.{IsStepLine}
 use Rattle.ngd_log.proofs.LogLines.{tail, head}
 use Rattle.ngd_log.proofs.FirstBad.{HasFront, bad_line, log_of_front, front_more}

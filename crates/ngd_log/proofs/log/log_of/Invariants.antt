@@ -1,5 +1,5 @@
 use Rattle.std.proofs.Common.{length}
-use Rattle.ngd_log.specs.Logs.{lines}
+use Rattle.ngd_log.specs.Lines.{lines}
 use Rattle.ngd_log.proofs.FirstBad.{HasFront}
 use Rattle.ngd_log.proofs.log.log_of.Given as goal
 

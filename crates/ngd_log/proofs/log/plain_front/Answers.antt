@@ -1,5 +1,5 @@
 use Rattle.std.proofs.Common.{◌≡◌, ◌+◌, ◌-◌, ℕ, take, drop, subst, arith}
-use Rattle.ngd_log.specs.Logs.{HasNoLineFeed}
+use Rattle.ngd_log.specs.Lines.{HasNoLineFeed}
 use Rattle.ngd_log.proofs.LineFeeds.{plain_more}
 use Rattle.ngd_log.proofs.log.plain_front.Goals as goal
 

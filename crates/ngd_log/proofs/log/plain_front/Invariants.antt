@@ -1,5 +1,5 @@
 use Rattle.std.proofs.Common.{◌≤◌, ◌-◌, take, length}
-use Rattle.ngd_log.specs.Logs.{HasNoLineFeed}
+use Rattle.ngd_log.specs.Lines.{HasNoLineFeed}
 use Rattle.ngd_log.proofs.log.plain_front.Given as goal
 
 -- no line feed so far

@@ -12,7 +12,7 @@ returns-clause-does c =
     let added = c.in_ok-add_rising.ensures in
     let told = told_more b.tells.items c.add_rising.new.agents.items c.args.from added.among in
     record {
-      agent = λ x. record { value = b.value; stamp = b.stamp; waits = b.waits; view = view_of b.known.view; recorded = records_of b.known.store; tells = λ k. told k x; linked = has_mark b.linked.items };
+      agent = λ x. record { value = b.value; stamp = b.stamp; waits = b.waits; view = view_of b.known.view; recorded = records_of b.known.store; tells = λ k. told k x; linked = has_mark b.linked };
       sent = c.in_ok-tell_own.ensures;
       turn_is = (refl, refl);
       sized = record {

@@ -1,13 +1,25 @@
+use Rattle.std.proofs.Common.{◌∙◌, ap, length, List, arith}
+use Rattle.dcsp_nogood.specs.declared.Pair.{Pair}
+use Rattle.abt_message.specs.Messages.{with_stamps}
 use Rattle.abt_view.specs.Views.{view_of}
+use Rattle.abt_agent.specs.States.{has_mark}
 use Rattle.abt_agent.specs.Causes.{told_of}
-use Rattle.abt_agent.proofs.Lists.{mapped_more}
+use Rattle.abt_agent.proofs.Blamed.{told_next, told_end}
 use Rattle.abt_agent.proofs.knowledge.Knowledge.gather.Goals as goal
 
-pub loop-var-preserved : goal.loop-var-preserved
-loop-var-preserved c =
-    let more = mapped_more (told_of (view_of c.args.self.now.view)) c.args.agents.now c.loop-var.var-index 0 c.loop-var-test.true in
+pub loop-agent-preserved : goal.loop-agent-preserved
+loop-agent-preserved c =
+    let more = told_next (told_of (view_of c.args.self.now.view)) (has_mark c.args.marks.now) c.loop-agent.from c.in-Some.agent c.in-Some.ensures.within.0 c.in-Some.ensures.before c.in-Some.ensures.marked in
     record {
-      told = cc (c.in_ok-add_told.ensures.told, c.loop-var.invariant.told, c.stamped_value.ensures.told, more);
+      told = cc (c.in_ok-add_told.ensures.told, c.loop-agent.invariant.told, c.stamped_value.ensures.told, more);
       size = c.in_ok-add_told.ensures.size;
       positive = c.in_ok-add_told.ensures.positive;
+      within = omega (arith, c.in-Some.ensures.within.1);
     }
+
+pub returns-clause-told : goal.returns-clause-told
+returns-clause-told c =
+    let has = has_mark c.args.marks.now in
+    let told = told_of (view_of c.args.self.now.view) in
+    ap (λ (pairs : List Pair). with_stamps pairs c.loop-agent.stamps) c.in-Ok-from_vec.ensures.pairs ∙ c.loop-agent.invariant.told
+    ∙ told_end told has c.loop-agent.from (length c.args.marks.now) c.loop-agent.invariant.within c.in_default-next_marked.ensures.before

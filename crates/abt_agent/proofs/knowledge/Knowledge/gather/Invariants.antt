@@ -1,14 +1,20 @@
-use Rattle.std.proofs.Common.{◌≡◌, length, take}
+use Rattle.std.proofs.Common.{◌≡◌, ◌≤◌, ◌-◌, length, filter}
 use Rattle.std.specs.Prelude.{filter_map}
+use Rattle.dcsp_defs.specs.Words.{below}
 use Rattle.abt_message.specs.Messages.{with_stamps}
 use Rattle.abt_view.specs.Views.{view_of}
 use Rattle.abt_agent.specs.Outgoing.{ArePositive}
+use Rattle.abt_agent.specs.States.{has_mark}
 use Rattle.abt_agent.specs.Causes.{told_of}
 use Rattle.abt_agent.proofs.knowledge.Knowledge.gather.Given as goal
 
-abbrev pub invariant-loop-var : goal.invariant-loop-var
-invariant-loop-var l = record {
-  told : with_stamps l.pairs.items l.stamps ≡ filter_map (told_of (view_of l.self.view)) (take l.var-index l.agents);
+abbrev pub invariant-loop-agent : goal.invariant-loop-agent
+invariant-loop-agent l = record {
+  told : with_stamps l.pairs.items l.stamps ≡ filter_map (told_of (view_of l.self.view)) (filter (has_mark l.marks) (below l.from));
   size : length l.stamps ≡ length l.pairs.items;
   positive : ArePositive l.stamps;
+  within : l.from ≤ length l.marks;
 }
+
+abbrev pub decreases-loop-agent : goal.decreases-loop-agent
+decreases-loop-agent l = length l.marks - l.from

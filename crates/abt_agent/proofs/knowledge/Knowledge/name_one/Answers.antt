@@ -14,4 +14,4 @@ returns-in-KeptNogood-clause-marks c =
     let within : c.in-KeptNogood.place < length kept = subst (λ (x : Cause). IsCause p kept x) c.in-KeptNogood.is c.requires in
     let named : (k : ℕ) → is_named k c.pairs.result.now ≡ blames_one p kept c.args.cause k = λ k.
     ap (is_named k) c.pairs.ensures.pairs ∙ ap (λ z. is_named k (get_or z c.in-KeptNogood.place c.index-items-place.result).nogood) c.items.ensures.items ∙ named_at p kept c.in-KeptNogood.place k c.index-items-place.result within ∙ ap (λ (x : Cause). blames_one p kept x k) (sym c.in-KeptNogood.is) in
-    λ k. c.name_pairs.ensures.marks k ∙ ap (λ b. has_mark old k || (nat_lt k (length old) && b)) (named k)
+    λ k. c.mark_pairs.ensures.marks k ∙ ap (λ b. has_mark old k || (nat_lt k (length old) && b)) (named k)

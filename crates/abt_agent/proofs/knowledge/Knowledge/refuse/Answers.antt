@@ -14,13 +14,13 @@ returns-clause-pairs c =
     let view = view_of c.args.self.now.view in
     let kept = c.args.self.now.store in
     let test = blames p kept (all_causes c.args.self.now) in
-    let blank = c.in_ok-marks.marks in
+    let blank = c.make_blank.new.marks in
     let marks = c.blame.new.marks in
-    let size : length blank ≡ me = c.in_ok-marks.ensures.size in
+    let size : length blank ≡ me = c.in_ok-make_blank.ensures.size in
     let same : (k : ℕ) → has_mark marks k ≡ (nat_lt k me && test k) = λ k.
-    c.in_ok-reasons.ensures.marks k ∙ ap (λ b. b || (nat_lt k (length blank) && test k)) (c.in_ok-marks.ensures.none k) ∙ ap (λ n. nat_lt k n && test k) size in
+    c.in_ok-reasons.ensures.marks k ∙ ap (λ b. b || (nat_lt k (length blank) && test k)) (c.in_ok-make_blank.ensures.none k) ∙ ap (λ n. nat_lt k n && test k) size in
     c.in_ok-nogood.ensures.told
-    ∙ ap (filter_map (told_of view)) (c.deref.ensures.value ∙ c.in_ok-blamed.ensures ∙ marked_below marks me test (c.in_ok-reasons.ensures.size ∙ size) same)
+    ∙ ap (filter_map (told_of view)) (marked_below marks me test (c.in_ok-reasons.ensures.size ∙ size) same)
     ∙ derived_is p me view kept
 
 pub returns-clause-step : goal.returns-clause-step

@@ -9,7 +9,7 @@ use Rattle.abt_store.proofs.Counts.{filter_all}
 use Rattle.abt_store.proofs.Fitting.{records-filter}
 use Rattle.abt_store.proofs.IndexLaws.{fewer_once, kept_first, kept_within, kept_room}
 use Rattle.abt_store.specs.Index.{HaveRoomFrom}
-use Rattle.abt_store.proofs.PlacedLaws.{some_place}
+use Rattle.abt_store.proofs.PlacedLaws.{some_place, some_before, place_before}
 use Rattle.abt_store.proofs.store.Store.forget.Goals as goal
 
 pub returns-in_default-clause-items : goal.returns-in_default-clause-items
@@ -29,6 +29,14 @@ pub release_values-requires-clause-taken : goal.release_values-requires-clause-t
 release_values-requires-clause-taken c = λ v.
     ap is_some (c.self.invariant.placed v) ∙ some_place (is_against v) 0 c.self.inside.items.items ∙ ap (is_ruled_out v) (sym c.deref-2.ensures.value)
 
+pub release_values-requires-clause-within : goal.release_values-requires-clause-within
+release_values-requires-clause-within c = omega (arith, c.in-Some.ensures.within, ap length c.self.view_is, ap length c.deref-2.ensures.value)
+
+pub release_values-requires-clause-before : goal.release_values-requires-clause-before
+release_values-requires-clause-before c =
+    let test = fits c.args.var (to_z w64 (of_z w64 c.args.value)) in
+    ap (λ (z : List Recorded). list_all test (take c.in-Some.first z)) (c.deref-2.ensures.value ∙ c.self.view_is) ∙ c.in-Some.ensures.before
+
 pub place_values-requires-clause-once : goal.place_values-requires-clause-once
 place_values-requires-clause-once c =
     let items = c.self.inside.items.items in
@@ -43,10 +51,39 @@ place_values-requires-clause-taken c = λ v.
     let items = c.self.inside.items.items in
     let test = fits c.args.var c.args.value in
     let kept : c.retain.new.self.items ≡ filter test items = filter_same _ _ _ (λ x b f' k. search rules) _ _ c.retain.ensures.filtered in
-    c.release_values.ensures v
+    c.release_values.ensures.taken v
     ∙ ap (λ (z : List Recorded). is_ruled_out v (filter (fits c.args.var (to_z w64 (of_z w64 c.args.value))) z)) c.deref-2.ensures.value
     ∙ ap (λ (z : ℤ). is_ruled_out v (filter (fits c.args.var z) items)) same
     ∙ ap (is_ruled_out v) (sym (c.deref-3.ensures.value ∙ kept))
+
+pub place_values-requires-clause-within : goal.place_values-requires-clause-within
+place_values-requires-clause-within c =
+    let in_range : SFits w64 c.args.value = search rules in
+    let same : to_z w64 (of_z w64 c.args.value) ≡ c.args.value = simp to_z-of_z in
+    let items = c.self.inside.items.items in
+    let test = fits c.args.var c.args.value in
+    let first = c.in-Some.first in
+    let kept : c.retain.new.self.items ≡ filter test items = filter_same _ _ _ (λ x b f' k. search rules) _ _ c.retain.ensures.filtered in
+    let left = c.deref-3.ensures.value ∙ kept in
+    let inside : first ≤ length items = omega (arith, c.in-Some.ensures.within, ap length c.self.view_is) in
+    let all = ap (λ (z : List Recorded). list_all test (take first z)) c.self.view_is ∙ ap (λ (v : ℤ). list_all (fits c.args.var v) (take first c.args.self.now)) (sym same) ∙ c.in-Some.ensures.before in
+    omega (arith, kept_within items test first inside all, ap length left)
+
+pub place_values-requires-clause-before : goal.place_values-requires-clause-before
+place_values-requires-clause-before c = λ v there.
+    let in_range : SFits w64 c.args.value = search rules in
+    let same : to_z w64 (of_z w64 c.args.value) ≡ c.args.value = simp to_z-of_z in
+    let items = c.self.inside.items.items in
+    let test = fits c.args.var c.args.value in
+    let first = c.in-Some.first in
+    let kept : c.retain.new.self.items ≡ filter test items = filter_same _ _ _ (λ x b f' k. search rules) _ _ c.retain.ensures.filtered in
+    let left = c.deref-3.ensures.value ∙ kept in
+    let inside : first ≤ length items = omega (arith, c.in-Some.ensures.within, ap length c.self.view_is) in
+    let all = ap (λ (z : List Recorded). list_all test (take first z)) c.self.view_is ∙ ap (λ (v : ℤ). list_all (fits c.args.var v) (take first c.args.self.now)) (sym same) ∙ c.in-Some.ensures.before in
+    let prefix = ap (take first) left ∙ kept_first items test first inside all in
+    let ruled = sym (ap (is_ruled_out v) prefix) ∙ there in
+    let some = place_values-requires-clause-taken c v ∙ some_before (is_against v) _ first there in
+    c.release_values.ensures.kept v some ∙ c.self.invariant.placed v ∙ place_before (is_against v) items first ruled ∙ sym (ap (place_against v) prefix)
 
 pub name_from-requires-clause-within : goal.name_from-requires-clause-within
 name_from-requires-clause-within c =

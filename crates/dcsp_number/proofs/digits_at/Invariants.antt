@@ -1,6 +1,6 @@
 use Rattle.std.proofs.Common.{◌≡◌, ◌≤◌, length}
-use Rattle.ngd_log.specs.Reading.{digits_at}
-use Rattle.ngd_log.proofs.field.digits_at.Given as goal
+use Rattle.dcsp_number.specs.Reading.{digits_at}
+use Rattle.dcsp_number.proofs.digits_at.Given as goal
 
 -- the number so far and the rest give what all the bytes give
 abbrev pub invariant-loop-rest : goal.invariant-loop-rest

@@ -1,15 +1,13 @@
 -- A number that is read is the one that was written, and what was written is read again.
-use Rattle.std.proofs.Common.{◌≡◌, ℕ, zero, suc, ◌+◌, ◌-◌, ◌*◌, ◌^◌, ◌<◌, ◌≤◌, true, false, cond, eqb, ltb, List, [], ◌∷◌, ◌++◌, length, get_or, Some, None, inl, inr, refl, sym, ap, ◌∙◌, arith, rules}
+use Rattle.std.proofs.Common.{◌≡◌, ℕ, zero, suc, ◌+◌, ◌-◌, ◌*◌, ◌^◌, ◌<◌, ◌≤◌, true, false, cond, eqb, ltb, List, [], ◌∷◌, ◌++◌, length, get_or, Some, None, inl, inr, refl, ap, ◌∙◌, arith, rules}
 use Rattle.std.specs.Prelude.{decimal}
 use Rattle.std.specs.Str.{all_ascii_digits}
 use Rattle.std.specs.Char.{is_ascii_digit}
 use Rattle.std.proofs.lemmas.Str.Parse.{IsNumeralModel, numerals_by_fold}
 use Rattle.std.proofs.lemmas.Fmt.{decimal_digit, digits_decimal, digits_value-decimal, first_decimal, decimal_nonempty, decimal-digits_value}
-use Rattle.std.proofs.lemmas.Bool.{false≢true, eqb-true, eqb-false, ne_eqb, ltb-true, lt-ltb}
-use Rattle.dcsp_defs.proofs.Lists.{and_left, and_right, and_both}
-use Rattle.ngd_log.proofs.Chosen.{chosen, some_is}
-use Rattle.ngd_log.proofs.AfterPrefix.{after_other}
-use Rattle.ngd_log.specs.Reading.{after, begins_with_digit, digits_at, number_at}
+use Rattle.std.proofs.lemmas.Bool.{and_from, and_parts, eqb-true, eqb-false, ne_eqb, ltb-true, lt-ltb}
+use Rattle.dcsp_number.specs.Reading.{begins_with_digit, digits_at, number_at}
+use Rattle.dcsp_number.proofs.Chosen.{chosen, some_is}
 
 -- the number that digits write after those of n
 abbrev pub digits_from : ℕ → List ℕ → ℕ
@@ -37,8 +35,8 @@ digits_again n [] (b ∷ rest) h small stop = rw stop refl
 digits_again n (c ∷ cs) rest h small stop =
     let g = grows (n * 10 + (c - 48)) cs in
     let fits : ltb (n * 10 + (c - 48)) (2 ^ 64) ≡ true = lt-ltb _ _ (omega arith) in
-    let d : is_ascii_digit c ≡ true = and_left _ _ h in
-    rw (d, fits) (digits_again (n * 10 + (c - 48)) cs rest (and_right _ _ h) small stop)
+    let d : is_ascii_digit c ≡ true = (and_parts _ _ h).0 in
+    rw (d, fits) (digits_again (n * 10 + (c - 48)) cs rest ((and_parts _ _ h).1) small stop)
 
 -- what reading digits took
 record Took (n : ℕ) (bytes : List ℕ) (m : ℕ) (rest : List ℕ) : Type 0 where
@@ -66,7 +64,7 @@ digits_takes n (b ∷ bytes) m rest lt h =
           elim (chosen (ltb k (2 ^ 64)) (digits_at k bytes) None (Some (m, rest)) d.1) [
             | inl f ↦
                 let t = digits_takes k bytes m rest (ltb-true _ _ f.0) f.1 in
-                record { ds = b ∷ t.ds; parts = ap (λ (x : List ℕ). b ∷ x) t.parts; digits = and_both _ _ d.0 t.digits; value = t.value; small = t.small; stop = t.stop }
+                record { ds = b ∷ t.ds; parts = ap (λ (x : List ℕ). b ∷ x) t.parts; digits = and_from _ _ d.0 t.digits; value = t.value; small = t.small; stop = t.stop }
             | inr f ↦ absurd (let g = f.1 in cc)
           ]
       | inr d ↦
@@ -80,7 +78,7 @@ unfolding number_at
 digits_number [] rest h first small stop = absurd (omega arith)
 digits_number (c ∷ cs) rest h first small stop =
     let z : eqb c 48 ≡ false = ne_eqb _ _ (λ e. omega arith) in
-    let d : is_ascii_digit c ≡ true = and_left _ _ h in
+    let d : is_ascii_digit c ≡ true = (and_parts _ _ h).0 in
     rw (z, d) (digits_again 0 (c ∷ cs) rest h small stop)
 
 -- a number's text is read again, where no digit follows
@@ -141,15 +139,11 @@ pub record BeginsWithDigit (bytes : List ℕ) : Type 0 where
 -- digits begin with a digit
 digits_begin : (ds rest : List ℕ) → AreDigits ds → 0 < length ds → BeginsWithDigit (ds ++ rest)
 digits_begin [] rest h some = absurd (omega arith)
-digits_begin (c ∷ cs) rest h some = record { first = c; others = cs ++ rest; parts = refl; digit = and_left _ _ h }
+digits_begin (c ∷ cs) rest h some = record { first = c; others = cs ++ rest; parts = refl; digit = (and_parts _ _ h).0 }
 
 -- a number's text begins with a digit
 pub begins_decimal : (n : ℕ) (rest : List ℕ) → n < 2 ^ 64 → BeginsWithDigit (decimal n ++ rest)
 begins_decimal n rest small = digits_begin (decimal n) rest (digits_decimal own n small) (decimal_nonempty n small)
-
--- another byte is not taken from digits
-pub after_no_digit : (c : ℕ) (text bytes : List ℕ) → is_ascii_digit c ≡ false → BeginsWithDigit bytes → after (c ∷ text) bytes ≡ None
-after_no_digit c text bytes n b = rw b.parts (after_other c b.first text b.others (λ e. absurd (false≢true (sym n ∙ ap is_ascii_digit (sym e) ∙ b.digit))))
 
 -- a number's text is of digits
 pub decimal_digits : (n : ℕ) → n < 2 ^ 64 → all_ascii_digits (decimal n) ≡ true
