@@ -17,6 +17,7 @@ use Rattle.abt_promise.specs.Clauses.{IsLawful}
 use Rattle.abt_input.specs.declared.error.CommandError.{CommandError}
 use Rattle.abt_input.specs.declared.error.CommandError.TheVariants.{ModelLong, ModelRefused, NoAim, LogLong, LogLine, ScheduleLong, ScheduleLine, Clauses, Fault, Memory}
 use Rattle.abt_input.specs.Errors.{error_status, error_text}
+use Rattle.abt_input.proofs.Causes.{HasCause, too_long, refused_for, no_error, one_error, of_causes}
 use Rattle.abt_input.specs.Inputs.{most_log}
 use Rattle.abt_check.specs.Taking.{Taking, plain, taking_of}
 use Rattle.abt_check.specs.Checks.{HasEntries, IsEntryBadAt, IsErrorOfEntries, IsFoundFor, IsFoundBy, IsFound, finding_status, finding_text}
@@ -39,15 +40,11 @@ none_alone names s e w c name t = absurd (never (subst (λ l. Contains l w) e c)
 
 -- ---- logs of either version
 
-data OfEntries (log : List ℕ) (e : CommandError) : Type 0 where
-  long_log : most_log < length log → e ≡ LogLong → OfEntries log e
-  bad_line : (number : ℕ) → IsEntryBadAt log number → e ≡ LogLine number → OfEntries log e
-
-of_entries : (log : List ℕ) (e : CommandError) → IsErrorOfEntries log e → OfEntries log e
+of_entries : (log : List ℕ) (e : CommandError) → IsErrorOfEntries log e → HasCause most_log LogLong IsEntryBadAt LogLine log e
 of_entries log ModelLong h = absurd h
 of_entries log (ModelRefused error) h = absurd h
-of_entries log LogLong h = long_log h refl
-of_entries log (LogLine number) h = bad_line number h refl
+of_entries log LogLong h = too_long h refl
+of_entries log (LogLine number) h = refused_for number h refl
 of_entries log ScheduleLong h = absurd h
 of_entries log (ScheduleLine number) h = absurd h
 of_entries log NoAim h = absurd h
@@ -61,21 +58,15 @@ one_list log a b h k = (entries_or_bad_line log).one_list a b h.reads k.reads
 
 -- a log with entries has no error
 no_error_of_entries : (log : List ℕ) (entries : List Entry) (e : CommandError) → HasEntries log entries → IsErrorOfEntries log e → ⊥
-no_error_of_entries log entries e h k = so (of_entries log e k)
-  where
-    so : OfEntries log e → ⊥
-    so (long_log l is) = let s = h.short in omega (arith, s, l)
-    so (bad_line number l is) = (entries_or_bad_line log).not_both entries number h.reads l.line
+no_error_of_entries log entries e h k = no_error (of_entries log e k) h.short (λ number l. (entries_or_bad_line log).not_both entries number h.reads l.line)
 
 -- a log has one error
 one_error_of_entries : (log : List ℕ) (e d : CommandError) → IsErrorOfEntries log e → IsErrorOfEntries log d → e ≡ d
-one_error_of_entries log e d h k = so (of_entries log e h) (of_entries log d k)
-  where
-    so : OfEntries log e → OfEntries log d → e ≡ d
-    so (long_log l is) (long_log m be) = is ∙ sym be
-    so (long_log l is) (bad_line number m be) = absurd (let s = m.short in omega (arith, s, l))
-    so (bad_line number l is) (long_log m be) = absurd (let s = l.short in omega (arith, s, m))
-    so (bad_line number l is) (bad_line other m be) = is ∙ ap LogLine ((entries_or_bad_line log).one_line number other l.line m.line) ∙ sym be
+one_error_of_entries log e d h k = one_error (of_entries log e h) (of_entries log d k) (λ number l. l.short) (λ m n l k. (entries_or_bad_line log).one_line m n l.line k.line)
+
+-- which is that of a report
+final_error_of_entries : (log : List ℕ) (e : CommandError) → IsErrorOfEntries log e → IsFinal (error_status e)
+final_error_of_entries log e h = of_causes (λ x. IsFinal (error_status x)) (of_entries log e h) tt (λ number. tt)
 
 -- ---- checking
 
@@ -118,18 +109,6 @@ module _ (t : Taking) (sure : IsSettled t) where
   of_two (model ∷ log ∷ []) r h = (model, log, h)
   of_two (model ∷ log ∷ x ∷ more) r h = absurd h
 
-final_log_error : (e : CommandError) (log : List ℕ) → IsErrorOfEntries log e → IsFinal (error_status e)
-final_log_error ModelLong log h = tt
-final_log_error (ModelRefused error) log h = tt
-final_log_error LogLong log h = tt
-final_log_error (LogLine number) log h = tt
-final_log_error ScheduleLong log h = tt
-final_log_error (ScheduleLine number) log h = tt
-final_log_error NoAim log h = tt
-final_log_error (Clauses error) log h = absurd h
-final_log_error Fault log h = h
-final_log_error Memory log h = h
-
 final_finding : (f : Finding) → IsFinal (finding_status f)
 final_finding Verified = tt
 final_finding (BadStep step) = tt
@@ -138,7 +117,7 @@ final_finding NotEmpty = tt
 
 final_check : (t : Taking) → IsSettled t → (model log : List ℕ) (r : Report) → ReportBy t model log r → IsFinal r.status
 final_check t sure model log r (bad_model e h i) = subst (λ y. IsFinal y.status) (sym i) (final_of_model e (sure.of_model model e h))
-final_check t sure model log r (bad_log e p h i) = subst (λ y. IsFinal y.status) (sym i) (final_log_error e log h)
+final_check t sure model log r (bad_log e p h i) = subst (λ y. IsFinal y.status) (sym i) (final_error_of_entries log e h)
 final_check t sure model log r (found f h i) = subst (λ y. IsFinal y.status) (sym i) (final_finding f)
 
 good_finding : (f : Finding) → IsRefusal (finding_status f) → ⊥

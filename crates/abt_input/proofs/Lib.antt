@@ -1,4 +1,5 @@
 pub mod Files
 pub mod Models
+pub mod Causes
 pub mod Once
 pub mod Cnfs

@@ -10,29 +10,19 @@ use Rattle.abt_schedule.proofs.ScheduleLaws.{schedule_or_bad_line}
 use Rattle.cnf_front.specs.declared.header.CnfError.{CnfError}
 use Rattle.rup_check.specs.declared.reader.ProofError.TheVariants as proofs
 use Rattle.rup_check.proofs.ProofLaws.{accepted, refused}
+use Rattle.abt_promise.specs.Statuses.{IsFinal}
 use Rattle.abt_input.specs.declared.error.CommandError.{CommandError}
 use Rattle.abt_input.specs.declared.error.CommandError.TheVariants.{ModelLong, ModelRefused, NoAim, LogLong, LogLine, ScheduleLong, ScheduleLine, Clauses, Fault, Memory}
 use Rattle.abt_input.specs.declared.clauses_error.ClausesError.TheVariants.{CnfLong, CnfRefused, ProofLong, ProofLine}
 use Rattle.abt_input.specs.Inputs.{most_model, most_log, most_schedule, most_cnf, IsModelOf, IsRefused, IsTextOf, IsBadAt, HasChoices, IsScheduleBadAt, IsFormulaOf, IsCnfRefused, HasClauses, IsProofBadAt}
-use Rattle.abt_input.specs.Errors.{IsErrorOfModel, IsErrorOfLog, IsErrorOfSchedule, IsErrorOfCnf, IsErrorOfProof}
+use Rattle.abt_input.proofs.Causes.{HasCause, too_long, refused_for, no_error, one_error, of_causes}
+use Rattle.abt_input.specs.Errors.{IsErrorOfModel, IsErrorOfLog, IsErrorOfSchedule, IsErrorOfCnf, IsErrorOfProof, error_status}
 
 -- ---- what an error is, by its two causes
 
-data OfModel (model : List ℕ) (e : CommandError) : Type 0 where
-  too_long : most_model < length model → e ≡ ModelLong → OfModel model e
-  no_problem : (error : ModelError) → IsRefused model error → e ≡ ModelRefused error → OfModel model e
-
-data OfLog (log : List ℕ) (e : CommandError) : Type 0 where
-  long_log : most_log < length log → e ≡ LogLong → OfLog log e
-  bad_line : (number : ℕ) → IsBadAt log number → e ≡ LogLine number → OfLog log e
-
-data OfSchedule (schedule : List ℕ) (e : CommandError) : Type 0 where
-  long_schedule : most_schedule < length schedule → e ≡ ScheduleLong → OfSchedule schedule e
-  bad_choice : (number : ℕ) → IsScheduleBadAt schedule number → e ≡ ScheduleLine number → OfSchedule schedule e
-
-of_model : (model : List ℕ) (e : CommandError) → IsErrorOfModel model e → OfModel model e
+of_model : (model : List ℕ) (e : CommandError) → IsErrorOfModel model e → HasCause most_model ModelLong IsRefused ModelRefused model e
 of_model model ModelLong h = too_long h refl
-of_model model (ModelRefused error) h = no_problem error h refl
+of_model model (ModelRefused error) h = refused_for error h refl
 of_model model LogLong h = absurd h
 of_model model (LogLine number) h = absurd h
 of_model model ScheduleLong h = absurd h
@@ -42,11 +32,11 @@ of_model model (Clauses error) h = absurd h
 of_model model Fault h = absurd h
 of_model model Memory h = absurd h
 
-of_log : (log : List ℕ) (e : CommandError) → IsErrorOfLog log e → OfLog log e
+of_log : (log : List ℕ) (e : CommandError) → IsErrorOfLog log e → HasCause most_log LogLong IsBadAt LogLine log e
 of_log log ModelLong h = absurd h
 of_log log (ModelRefused error) h = absurd h
-of_log log LogLong h = long_log h refl
-of_log log (LogLine number) h = bad_line number h refl
+of_log log LogLong h = too_long h refl
+of_log log (LogLine number) h = refused_for number h refl
 of_log log ScheduleLong h = absurd h
 of_log log (ScheduleLine number) h = absurd h
 of_log log NoAim h = absurd h
@@ -54,13 +44,13 @@ of_log log (Clauses error) h = absurd h
 of_log log Fault h = absurd h
 of_log log Memory h = absurd h
 
-of_schedule : (schedule : List ℕ) (e : CommandError) → IsErrorOfSchedule schedule e → OfSchedule schedule e
+of_schedule : (schedule : List ℕ) (e : CommandError) → IsErrorOfSchedule schedule e → HasCause most_schedule ScheduleLong IsScheduleBadAt ScheduleLine schedule e
 of_schedule schedule ModelLong h = absurd h
 of_schedule schedule (ModelRefused error) h = absurd h
 of_schedule schedule LogLong h = absurd h
 of_schedule schedule (LogLine number) h = absurd h
-of_schedule schedule ScheduleLong h = long_schedule h refl
-of_schedule schedule (ScheduleLine number) h = bad_choice number h refl
+of_schedule schedule ScheduleLong h = too_long h refl
+of_schedule schedule (ScheduleLine number) h = refused_for number h refl
 of_schedule schedule NoAim h = absurd h
 of_schedule schedule (Clauses error) h = absurd h
 of_schedule schedule Fault h = absurd h
@@ -104,6 +94,20 @@ of_proof text (Clauses (ProofLine number)) h = bad_clause number h refl
 of_proof text Fault h = absurd h
 of_proof text Memory h = absurd h
 
+cause_of_cnf : (text : List ℕ) (e : CommandError) → IsErrorOfCnf text e → HasCause most_cnf (Clauses CnfLong) IsCnfRefused (λ x. Clauses (CnfRefused x)) text e
+cause_of_cnf text e h = so (of_cnf text e h)
+  where
+    so : OfCnf text e → HasCause most_cnf (Clauses CnfLong) IsCnfRefused (λ x. Clauses (CnfRefused x)) text e
+    so (long_cnf l is) = too_long l is
+    so (no_formula error l is) = refused_for error l is
+
+cause_of_proof : (text : List ℕ) (e : CommandError) → IsErrorOfProof text e → HasCause most_log (Clauses ProofLong) IsProofBadAt (λ x. Clauses (ProofLine x)) text e
+cause_of_proof text e h = so (of_proof text e h)
+  where
+    so : OfProof text e → HasCause most_log (Clauses ProofLong) IsProofBadAt (λ x. Clauses (ProofLine x)) text e
+    so (long_proof l is) = too_long l is
+    so (bad_clause number l is) = refused_for number l is
+
 -- ---- models
 
 -- a model has one problem
@@ -112,21 +116,15 @@ one_problem model p q h k = let e = once model (Ok p) (Ok q) h.reads k.reads in 
 
 -- a model with a problem has no error
 pub no_error_of_model : (model : List ℕ) (p : Contents) (e : CommandError) → IsModelOf model p → IsErrorOfModel model e → ⊥
-no_error_of_model model p e h k = so (of_model model e k)
-  where
-    so : OfModel model e → ⊥
-    so (too_long l is) = let s = h.short in omega (arith, s, l)
-    so (no_problem error l is) = let e = once model (Ok p) (Err error) h.reads l.reads in cc
+no_error_of_model model p e h k = no_error (of_model model e k) h.short (λ error l. let e = once model (Ok p) (Err error) h.reads l.reads in cc)
 
 -- a model has one error
 pub one_error_of_model : (model : List ℕ) (e d : CommandError) → IsErrorOfModel model e → IsErrorOfModel model d → e ≡ d
-one_error_of_model model e d h k = so (of_model model e h) (of_model model d k)
-  where
-    so : OfModel model e → OfModel model d → e ≡ d
-    so (too_long l is) (too_long m be) = is ∙ sym be
-    so (too_long l is) (no_problem error m be) = absurd (let s = m.short in omega (arith, s, l))
-    so (no_problem error l is) (too_long m be) = absurd (let s = l.short in omega (arith, s, m))
-    so (no_problem error l is) (no_problem other m be) = is ∙ ap ModelRefused (let e = once model (Err error) (Err other) l.reads m.reads in cc) ∙ sym be
+one_error_of_model model e d h k = one_error (of_model model e h) (of_model model d k) (λ error l. l.short) (λ x y l m. let e = once model (Err x) (Err y) l.reads m.reads in cc)
+
+-- which is that of a report
+pub final_error_of_model : (model : List ℕ) (e : CommandError) → IsErrorOfModel model e → IsFinal (error_status e)
+final_error_of_model model e h = of_causes (λ x. IsFinal (error_status x)) (of_model model e h) tt (λ reason. tt)
 
 -- ---- logs
 
@@ -136,21 +134,15 @@ one_text log a b h k = (log_or_bad_line log).one_log a b h.reads k.reads
 
 -- a log with a derivation has no error
 pub no_error_of_log : (log : List ℕ) (steps : List Step) (e : CommandError) → IsTextOf log steps → IsErrorOfLog log e → ⊥
-no_error_of_log log steps e h k = so (of_log log e k)
-  where
-    so : OfLog log e → ⊥
-    so (long_log l is) = let s = h.short in omega (arith, s, l)
-    so (bad_line number l is) = (log_or_bad_line log).not_both steps number h.reads l.line
+no_error_of_log log steps e h k = no_error (of_log log e k) h.short (λ number l. (log_or_bad_line log).not_both steps number h.reads l.line)
 
 -- a log has one error
 pub one_error_of_log : (log : List ℕ) (e d : CommandError) → IsErrorOfLog log e → IsErrorOfLog log d → e ≡ d
-one_error_of_log log e d h k = so (of_log log e h) (of_log log d k)
-  where
-    so : OfLog log e → OfLog log d → e ≡ d
-    so (long_log l is) (long_log m be) = is ∙ sym be
-    so (long_log l is) (bad_line number m be) = absurd (let s = m.short in omega (arith, s, l))
-    so (bad_line number l is) (long_log m be) = absurd (let s = l.short in omega (arith, s, m))
-    so (bad_line number l is) (bad_line other m be) = is ∙ ap LogLine ((log_or_bad_line log).one_line number other l.line m.line) ∙ sym be
+one_error_of_log log e d h k = one_error (of_log log e h) (of_log log d k) (λ number l. l.short) (λ m n l k. (log_or_bad_line log).one_line m n l.line k.line)
+
+-- which is that of a report
+pub final_error_of_log : (log : List ℕ) (e : CommandError) → IsErrorOfLog log e → IsFinal (error_status e)
+final_error_of_log log e h = of_causes (λ x. IsFinal (error_status x)) (of_log log e h) tt (λ reason. tt)
 
 -- ---- schedules
 
@@ -160,21 +152,12 @@ one_list schedule a b h k = (schedule_or_bad_line schedule).one_schedule a b h.r
 
 -- a schedule with choices has no error
 pub no_error_of_schedule : (schedule choices : List ℕ) (e : CommandError) → HasChoices schedule choices → IsErrorOfSchedule schedule e → ⊥
-no_error_of_schedule schedule choices e h k = so (of_schedule schedule e k)
-  where
-    so : OfSchedule schedule e → ⊥
-    so (long_schedule l is) = let s = h.short in omega (arith, s, l)
-    so (bad_choice number l is) = (schedule_or_bad_line schedule).not_both choices number h.reads l.line
+no_error_of_schedule schedule choices e h k = no_error (of_schedule schedule e k) h.short (λ number l. (schedule_or_bad_line schedule).not_both choices number h.reads l.line)
 
 -- a schedule has one error
 pub one_error_of_schedule : (schedule : List ℕ) (e d : CommandError) → IsErrorOfSchedule schedule e → IsErrorOfSchedule schedule d → e ≡ d
-one_error_of_schedule schedule e d h k = so (of_schedule schedule e h) (of_schedule schedule d k)
-  where
-    so : OfSchedule schedule e → OfSchedule schedule d → e ≡ d
-    so (long_schedule l is) (long_schedule m be) = is ∙ sym be
-    so (long_schedule l is) (bad_choice number m be) = absurd (let s = m.short in omega (arith, s, l))
-    so (bad_choice number l is) (long_schedule m be) = absurd (let s = l.short in omega (arith, s, m))
-    so (bad_choice number l is) (bad_choice other m be) = is ∙ ap ScheduleLine ((schedule_or_bad_line schedule).one_line number other l.line m.line) ∙ sym be
+one_error_of_schedule schedule e d h k =
+    one_error (of_schedule schedule e h) (of_schedule schedule d k) (λ number l. l.short) (λ m n l k. (schedule_or_bad_line schedule).one_line m n l.line k.line)
 
 -- ---- formulas
 
@@ -184,21 +167,11 @@ one_formula text p q h k = let a = h.reads in let b = k.reads in cc
 
 -- a formula with a problem has no error
 pub no_error_of_cnf : (text : List ℕ) (p : Contents) (e : CommandError) → IsFormulaOf text p → IsErrorOfCnf text e → ⊥
-no_error_of_cnf text p e h k = so (of_cnf text e k)
-  where
-    so : OfCnf text e → ⊥
-    so (long_cnf l is) = let s = h.short in omega (arith, s, l)
-    so (no_formula error l is) = let a = h.reads in let b = l.reads in cc
+no_error_of_cnf text p e h k = no_error (cause_of_cnf text e k) h.short (λ error l. let a = h.reads in let b = l.reads in cc)
 
 -- a formula has one error
 pub one_error_of_cnf : (text : List ℕ) (e d : CommandError) → IsErrorOfCnf text e → IsErrorOfCnf text d → e ≡ d
-one_error_of_cnf text e d h k = so (of_cnf text e h) (of_cnf text d k)
-  where
-    so : OfCnf text e → OfCnf text d → e ≡ d
-    so (long_cnf l is) (long_cnf m be) = is ∙ sym be
-    so (long_cnf l is) (no_formula error m be) = absurd (let s = m.short in omega (arith, s, l))
-    so (no_formula error l is) (long_cnf m be) = absurd (let s = l.short in omega (arith, s, m))
-    so (no_formula error l is) (no_formula other m be) = is ∙ ap (λ x. Clauses (CnfRefused x)) (let a = l.reads in let b = m.reads in cc) ∙ sym be
+one_error_of_cnf text e d h k = one_error (cause_of_cnf text e h) (cause_of_cnf text d k) (λ error l. l.short) (λ x y l m. let a = l.reads in let b = m.reads in cc)
 
 -- ---- proofs
 
@@ -208,21 +181,12 @@ one_proof text a b h k = elim (accepted text (Ok a) h.reads tt b k.reads) [ inl 
 
 -- a proof with clauses has no error
 pub no_error_of_proof : (text : List ℕ) (clauses : List (List ℤ)) (e : CommandError) → HasClauses text clauses → IsErrorOfProof text e → ⊥
-no_error_of_proof text clauses e h k = so (of_proof text e k)
-  where
-    so : OfProof text e → ⊥
-    so (long_proof l is) = let s = h.short in omega (arith, s, l)
-    so (bad_clause number l is) = elim (refused text (Ok clauses) h.reads tt number l.line) [ inl e ↦ (let f = e in cc) | inr e ↦ (let f = e in cc) ]
+no_error_of_proof text clauses e h k =
+    no_error (cause_of_proof text e k) h.short (λ number l. elim (refused text (Ok clauses) h.reads tt number l.line) [ inl e ↦ (let f = e in cc) | inr e ↦ (let f = e in cc) ])
 
 -- a proof has one error
 pub one_error_of_proof : (text : List ℕ) (e d : CommandError) → IsErrorOfProof text e → IsErrorOfProof text d → e ≡ d
-one_error_of_proof text e d h k = so (of_proof text e h) (of_proof text d k)
+one_error_of_proof text e d h k = one_error (cause_of_proof text e h) (cause_of_proof text d k) (λ number l. l.short) same
   where
     same : (m n : ℕ) → IsProofBadAt text m → IsProofBadAt text n → m ≡ n
     same m n a b = elim (refused text (Err (proofs.Line m)) tt a.line n b.line) [ inl e ↦ (let f = e in cc) | inr e ↦ absurd (let f = e in cc) ]
-
-    so : OfProof text e → OfProof text d → e ≡ d
-    so (long_proof l is) (long_proof m be) = is ∙ sym be
-    so (long_proof l is) (bad_clause number m be) = absurd (let s = m.short in omega (arith, s, l))
-    so (bad_clause number l is) (long_proof m be) = absurd (let s = l.short in omega (arith, s, m))
-    so (bad_clause number l is) (bad_clause other m be) = is ∙ ap (λ x. Clauses (ProofLine x)) (same number other l m) ∙ sym be

@@ -5,10 +5,8 @@ use Rattle.std.specs.List.{position}
 use Rattle.std.specs.Option.{option_map}
 use Rattle.std.proofs.lemmas.Bool.{cases_eq, eq-eqb, ne_eqb}
 use Rattle.std.proofs.lemmas.List.{get_or-set_same, get_or-set_other}
-use Rattle.dcsp_entries.specs.declared.Entry.{Entry}
-use Rattle.dcsp_entries.specs.Entries.{item_for}
 use Rattle.abt_links.specs.Transit.{is_pair}
-use Rattle.abt_links.specs.Opened.{receivers_of, AreNumbered}
+use Rattle.abt_links.specs.Opened.{Slots, number_in, receivers_of, AreNumbered}
 use Rattle.abt_links.proofs.LinkLaws.{pos_cons}
 
 -- the first of two, if there is one
@@ -50,26 +48,26 @@ and_false : (a b : Bool) → b ≡ false → (a && b) ≡ false
 and_false true b e = e
 and_false false b e = refl
 
-pub numbered_more : (pairs : List (ℕ × ℕ)) (before senders : List (List (Entry ℕ))) (receivers : List (Entry ℕ)) (from to : ℕ) → AreNumbered pairs before → position (is_pair from to) pairs ≡ None
+pub numbered_more : (pairs : List (ℕ × ℕ)) (before senders : List Slots) (receivers : Slots) (from to : ℕ) → AreNumbered pairs before → position (is_pair from to) pairs ≡ None
     → ((k : ℕ) → receivers_of senders k ≡ receivers_of before k) → from < length senders
-    → ((i : ℕ) → item_for receivers i ≡ (if i == to then Some (length pairs) else item_for (receivers_of senders from) i))
+    → ((i : ℕ) → number_in receivers i ≡ (if i == to then Some (length pairs) else number_in (receivers_of senders from) i))
     → AreNumbered (pairs ++ (from, to) ∷ []) (set senders from receivers)
 numbered_more pairs before senders receivers from to numbered none same within added k i = elim (cases_eq k from) [
   | inl here ↦
       let list : receivers_of (set senders from receivers) k ≡ receivers = ap (λ n. receivers_of (set senders from receivers) n) here ∙ get_or-set_same senders from receivers [] within in
-      let old : item_for (receivers_of senders from) i ≡ position (is_pair from i) pairs = ap (λ xs. item_for xs i) (same from) ∙ numbered from i in
-      ap (λ xs. item_for xs i) list ∙ added i
+      let old : number_in (receivers_of senders from) i ≡ position (is_pair from i) pairs = ap (λ xs. number_in xs i) (same from) ∙ numbered from i in
+      ap (λ xs. number_in xs i) list ∙ added i
       ∙ elim (cases_eq i to) [
         | inl last ↦
-            ap (λ b. cond b (Some (length pairs)) (item_for (receivers_of senders from) i)) (eq-eqb i to last)
+            ap (λ b. cond b (Some (length pairs)) (number_in (receivers_of senders from) i)) (eq-eqb i to last)
             ∙ sym (ap (λ n. position (is_pair n i) (pairs ++ (from, to) ∷ [])) here ∙ ap (λ n. position (is_pair from n) (pairs ++ (from, to) ∷ [])) last
             ∙ position_new (is_pair from to) pairs (from, to) none (itself from to))
         | inr other ↦
-            ap (λ b. cond b (Some (length pairs)) (item_for (receivers_of senders from) i)) (ne_eqb i to other) ∙ old
+            ap (λ b. cond b (Some (length pairs)) (number_in (receivers_of senders from) i)) (ne_eqb i to other) ∙ old
             ∙ sym (ap (λ n. position (is_pair n i) (pairs ++ (from, to) ∷ [])) here ∙ position_same (is_pair from i) pairs (from, to) (and_false (from == from) (i == to) (ne_eqb i to other)))
       ]
   | inr apart ↦
-      ap (λ xs. item_for xs i) (get_or-set_other senders from k receivers [] apart ∙ same k) ∙ numbered k i
+      ap (λ xs. number_in xs i) (get_or-set_other senders from k receivers [] apart ∙ same k) ∙ numbered k i
       ∙ sym (position_same (is_pair k i) pairs (from, to) (ap (λ b. b && (i == to)) (ne_eqb k from apart)))
 ]
   where

@@ -23,8 +23,9 @@ pub struct Carried {
 /// out. A list that has a message is ready; ready lists are numbered from 0, by sender and then by
 /// receiver.
 ///
-/// Only `new`, `open_pair` and `send` take memory: the bits of a `PairSet`, 28 bytes for each pair that was
-/// opened, and one entry of a slab for each message.
+/// Only `new`, `open_pair` and `send` take memory: the bits of a `PairSet`, 32 bytes for each pair that was
+/// opened, 12 for each slot of a sender's first 128 agents that has no pair, and one entry of a slab for each
+/// message.
 #[derive(Drop)]
 pub struct Links {
     agents: u32,

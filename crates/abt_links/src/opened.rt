@@ -59,7 +59,7 @@ impl Opened {
         self.find(from, to).unwrap()
     }
 
-    /// Adds a pair that was not opened. A refusal changes nothing.
+    /// Adds a pair that was not opened. A refusal changes nothing that is found.
     pub(crate) fn add(&mut self, from: u32, to: u32) -> Result<(), Memory>
         requires { IsNone (position (is_pair from to) self.old) }
         ensures ok { OnOk result (self.new ≡ self.old ++ (from, to) ∷ []) }

@@ -13,7 +13,8 @@ use std::marker::Model;
 ///
 /// It keeps one bit for each pair that there could be, in words of 64, and how many pairs each sender
 /// has: 2 MiB of bits at 4,096 agents. Pair number `k`, and the number of a pair, are found by at most
-/// 128 looks at counts and 64 at words. Only `new` takes memory.
+/// 128 looks at counts and 64 at words; at 64 agents by at most 16 looks at counts and one at a word. Only
+/// `new` takes memory.
 #[derive(Drop)]
 pub struct PairSet {
     agents: u32,

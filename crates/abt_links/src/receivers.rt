@@ -1,25 +1,29 @@
 //! The receivers of one sender's pairs.
 
-ghost use Rattle.std.specs.Prelude.{◌≡◌, ◌==◌, ℕ, [], OnErr, OnOk, IsNone, Some, if◌then◌else◌};
-ghost use Rattle.dcsp_entries.specs.Entries.{item_for};
+ghost use Rattle.std.specs.Prelude.{◌≡◌, ◌==◌, ℕ, [], OnErr, OnOk, Some, if◌then◌else◌};
+ghost use Rattle.abt_links.specs.Opened.{number_in};
 
 use dcsp_entries::{Entry, item_of, put};
 use dcsp_list::Memory;
 use std::alloc::Global;
 use std::marker::Model;
 
-/// The receivers of one sender's pairs, rising, each with the number of its pair.
+/// How many of the first agents are near: as soon as one of them is a receiver, each one before it gets a
+/// slot, so that theirs stand at their own numbers and are found without a search.
+const NEAR: u32 = 128;
+
+/// The receivers of one sender's pairs, each with the number of its pair.
 #[derive(Drop)]
 pub(crate) struct Receivers {
-    list: Vec<Entry<u32>>,
+    /// Slots of receivers, rising. A slot without a number is of an agent that is none yet.
+    list: Vec<Entry<Option<u32>>>,
 }
 
 impl Model for Receivers {
-    ghost use Rattle.std.specs.Prelude.{List, ℕ};
-    ghost use Rattle.dcsp_entries.specs.declared.Entry.{Entry};
     ghost use Rattle.dcsp_entries.specs.Entries.{AreRising};
+    ghost use Rattle.abt_links.specs.Opened.{Slots};
 
-    ghost Value = { List (Entry ℕ) };
+    ghost Value = { Slots };
 
     ghost view = { λ r. r.list.items };
 
@@ -38,15 +42,36 @@ impl Receivers {
 
     /// The number of the pair with this receiver.
     pub(crate) fn number(&self, to: u32) -> Option<u32>
-        ensures { result ≡ item_for self.now to }
+        ensures { result ≡ number_in self.now to }
     {
-        item_of(&self.list, to)
+        item_of(&self.list, to)?
     }
 
-    /// Adds a receiver that is not there. A refusal changes nothing.
+    /// Adds a receiver. A near one gets the slots before its own too. A refusal changes nothing that is found.
     pub(crate) fn add(&mut self, to: u32, number: u32) -> Result<(), Memory>
-        requires { IsNone (item_for self.old to) }
-        ensures ok { OnOk result ((i : ℕ) → item_for self.new i ≡ (if i == to then Some number else item_for self.old i)) }
+        ensures ok { OnOk result ((i : ℕ) → number_in self.new i ≡ (if i == to then Some number else number_in self.old i)) }
+        ensures err { OnErr result ((i : ℕ) → number_in self.new i ≡ number_in self.old i) }
+    {
+        if to < NEAR {
+            self.make_slots(to)?;
+        }
+        self.put(to, Some(number))
+    }
+
+    /// Makes the slots of the agents before this one, where they are not there. Nothing that is found changes.
+    fn make_slots(&mut self, to: u32) -> Result<(), Memory>
+        ensures { (i : ℕ) → number_in self.new i ≡ number_in self.old i }
+    {
+        for near in 0..to {
+            let number = self.number(near);
+            self.put(near, number)?;
+        }
+        Ok(())
+    }
+
+    /// Puts a number into a receiver's slot. A refusal changes nothing.
+    fn put(&mut self, to: u32, number: Option<u32>) -> Result<(), Memory>
+        ensures ok { OnOk result ((i : ℕ) → number_in self.new i ≡ (if i == to then number else number_in self.old i)) }
         ensures err { OnErr result (self.new ≡ self.old) }
     {
         put(&mut self.list, to, number)

@@ -8,10 +8,13 @@ use std::marker::Model;
 
 /// A list of counts.
 ///
-/// The sum of each block of 64 counts is kept beside them, so a running sum is found by a walk over the
-/// blocks and then over one block: at most 128 looks at 4,096 counts.
+/// The sum of each block of 8 counts, or of 64 where there are more than 64 counts, is kept beside them, so
+/// a running sum is found by a walk over the blocks and then over one block: at most 16 looks at 64 counts,
+/// and 128 at 4,096.
 #[derive(Drop)]
 pub(crate) struct Sums {
+    /// How many counts a block has.
+    width: usize,
     counts: Vec<u32>,
     blocks: Vec<u32>,
     total: u32,
@@ -25,7 +28,7 @@ impl Model for Sums {
 
     ghost view = { λ s. s.counts.items };
 
-    ghost invariant = { λ s. IsBlocked s.counts.items s.blocks.items s.total };
+    ghost invariant = { λ s. IsBlocked s.width s.counts.items s.blocks.items s.total };
 }
 
 impl Sums {
@@ -34,12 +37,15 @@ impl Sums {
         requires { size ≤ 4096 }
         ensures { IfOk result (λ s. s ≡ replicate size 0) }
     {
-        let counts = match vec![in alloc; 0u32; size as usize] {
+        let size = size as usize;
+        let width = width_for(size);
+        let counts = match vec![in alloc; 0u32; size] {
             Ok(counts) => counts,
             Err(_) => return Err(Memory),
         };
-        match vec![in alloc; 0u32; (size as usize + 63) / 64] {
+        match vec![in alloc; 0u32; (size + width - 1) / width] {
             Ok(blocks) => Ok(Sums {
+                width,
                 counts,
                 blocks,
                 total: 0,
@@ -56,7 +62,7 @@ impl Sums {
     {
         let place = place as usize;
         self.counts[place] += 1;
-        self.blocks[place / 64] += 1;
+        self.blocks[place / self.width] += 1;
         self.total += 1;
     }
 
@@ -68,7 +74,7 @@ impl Sums {
     {
         let place = place as usize;
         self.counts[place] -= 1;
-        self.blocks[place / 64] -= 1;
+        self.blocks[place / self.width] -= 1;
         self.total -= 1;
     }
 
@@ -86,8 +92,8 @@ impl Sums {
         ensures { result ≡ sum (take place self.now) }
     {
         let place = place as usize;
-        let block = place / 64;
-        sum_of(&self.blocks[..block]) + sum_of(&self.counts[block * 64..place])
+        let block = place / self.width;
+        sum_of(&self.blocks[..block]) + sum_of(&self.counts[self.width * block..place])
     }
 
     /// The place where the running sum passes `number`, and by how much the sum before it falls short
@@ -98,16 +104,26 @@ impl Sums {
         ensures before { sum (take result.0 self.now) + result.1 ≡ number }
         ensures within { result.1 < slice_index self.now result.0 }
     {
+        let width = self.width;
         let mut left = number;
         for (block, here) in self.blocks.iter().enumerate() {
             let here = *here;
             if left < here {
-                return find_from(&self.counts, block * 64, left);
+                return find_from(&self.counts, width * block, left);
             }
             left -= here;
         }
         unreachable!()
     }
+}
+
+/// How many counts a block has, where there are so many counts. Where there are few, a walk over one wide
+/// block would be a walk over all of them.
+fn width_for(size: usize) -> usize
+    ensures some { 0 < result }
+    ensures few { result ≤ 64 }
+{
+    if size <= 64 { 8 } else { 64 }
 }
 
 /// The place where the running sum from `start` on passes `number`, and by how much the sum before it

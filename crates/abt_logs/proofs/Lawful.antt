@@ -11,10 +11,8 @@ use Rattle.abt_promise.specs.declared.status.Status.TheVariants.{Good}
 use Rattle.abt_promise.specs.Statuses.{IsFinal, IsRefusal}
 use Rattle.abt_promise.specs.Promises.{Report, answered, refused}
 use Rattle.abt_promise.specs.Clauses.{IsLawful}
-use Rattle.abt_input.specs.declared.error.CommandError.{CommandError}
-use Rattle.abt_input.specs.declared.error.CommandError.TheVariants.{ModelLong, ModelRefused, NoAim, LogLong, LogLine, ScheduleLong, ScheduleLine, Clauses, Fault, Memory}
-use Rattle.abt_input.specs.Errors.{IsErrorOfLog, error_status, error_text}
-use Rattle.abt_input.proofs.Once.{one_text, no_error_of_log, one_error_of_log}
+use Rattle.abt_input.specs.Errors.{error_status, error_text}
+use Rattle.abt_input.proofs.Once.{one_text, no_error_of_log, one_error_of_log, final_error_of_log}
 use Rattle.abt_logs.specs.UpgradePromise.{appends, upgrade_text, upgrade_script, UpgradeReport, bad_log, upgrades, UpgradeReports, UpgradeFetches, upgrade_promise}
 
 pub never : {A : Type 0} {x : A} → Contains [] x → ⊥
@@ -46,18 +44,6 @@ module _ (this : List ℕ) where
   none_here : (s : List Write) → s ≡ [] → (w : Write) → Contains s w → KeepsTo this w
   none_here s e w c = absurd (never (subst (λ l. Contains l w) e c))
 
-final_error : (e : CommandError) (log : List ℕ) → IsErrorOfLog log e → IsFinal (error_status e)
-final_error ModelLong log h = absurd h
-final_error (ModelRefused error) log h = absurd h
-final_error LogLong log h = tt
-final_error (LogLine number) log h = tt
-final_error ScheduleLong log h = tt
-final_error (ScheduleLine number) log h = tt
-final_error NoAim log h = tt
-final_error (Clauses error) log h = absurd h
-final_error Fault log h = h
-final_error Memory log h = h
-
 module _ (new : List ℕ) where
   one_upgrade : (log : List ℕ) (r s : Report) → UpgradeReport new log r → UpgradeReport new log s → r ≡ s
   one_upgrade log r s (bad_log e h i) (bad_log d k j) = i ∙ ap (λ x. refused (error_status x) (error_text x)) (one_error_of_log log e d h k) ∙ sym j
@@ -77,7 +63,7 @@ module _ (new : List ℕ) where
   of_one (log ∷ x ∷ more) r h = absurd h
 
   final_upgrade : (log : List ℕ) (r : Report) → UpgradeReport new log r → IsFinal r.status
-  final_upgrade log r (bad_log e h i) = subst (λ y. IsFinal y.status) (sym i) (final_error e log h)
+  final_upgrade log r (bad_log e h i) = subst (λ y. IsFinal y.status) (sym i) (final_error_of_log log e h)
   final_upgrade log r (upgrades steps h i) = subst (λ y. IsFinal y.status) (sym i) tt
 
   quiet_upgrade : (log : List ℕ) (r : Report) → UpgradeReport new log r → IsRefusal r.status → r.script ≡ []

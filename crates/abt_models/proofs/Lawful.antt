@@ -8,10 +8,8 @@ use Rattle.abt_promise.specs.declared.status.Status.TheVariants.{Good}
 use Rattle.abt_promise.specs.Statuses.{IsFinal, IsRefusal}
 use Rattle.abt_promise.specs.Promises.{Report, answered, refused}
 use Rattle.abt_promise.specs.Clauses.{IsLawful}
-use Rattle.abt_input.specs.declared.error.CommandError.{CommandError}
-use Rattle.abt_input.specs.declared.error.CommandError.TheVariants.{ModelLong, ModelRefused, NoAim, LogLong, LogLine, ScheduleLong, ScheduleLine, Clauses, Fault, Memory}
-use Rattle.abt_input.specs.Errors.{IsErrorOfModel, error_status, error_text}
-use Rattle.abt_input.proofs.Once.{one_problem, no_error_of_model, one_error_of_model}
+use Rattle.abt_input.specs.Errors.{error_status, error_text}
+use Rattle.abt_input.proofs.Once.{one_problem, no_error_of_model, one_error_of_model, final_error_of_model}
 use Rattle.abt_models.specs.BoundReports.{BoundReport, bad_model, told, BoundReports, BoundFetches, bound_text, bound_promise}
 use Rattle.abt_models.specs.Generated.{print_promise}
 
@@ -56,20 +54,8 @@ of_one [] r h = absurd h
 of_one (model ∷ []) r h = (model, h)
 of_one (model ∷ x ∷ more) r h = absurd h
 
-final_error : (e : CommandError) (model : List ℕ) → IsErrorOfModel model e → IsFinal (error_status e)
-final_error ModelLong model h = tt
-final_error (ModelRefused error) model h = tt
-final_error LogLong model h = tt
-final_error (LogLine number) model h = tt
-final_error ScheduleLong model h = tt
-final_error (ScheduleLine number) model h = tt
-final_error NoAim model h = tt
-final_error (Clauses error) model h = absurd h
-final_error Fault model h = h
-final_error Memory model h = h
-
 final_bound : (model : List ℕ) (r : Report) → BoundReport model r → IsFinal r.status
-final_bound model r (bad_model e h i) = subst (λ y. IsFinal y.status) (sym i) (final_error e model h)
+final_bound model r (bad_model e h i) = subst (λ y. IsFinal y.status) (sym i) (final_error_of_model model e h)
 final_bound model r (told p h i) = subst (λ y. IsFinal y.status) (sym i) tt
 
 quiet_bound : (model : List ℕ) (r : Report) → BoundReport model r → IsRefusal r.status → r.script ≡ []

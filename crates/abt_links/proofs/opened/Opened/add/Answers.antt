@@ -3,8 +3,7 @@ use Rattle.std.specs.Prelude.{if◌then◌else◌}
 use Rattle.std.specs.List.{position}
 use Rattle.std.proofs.lemmas.List.{get_or_default}
 use Rattle.abt_links.specs.Transit.{is_pair}
-use Rattle.dcsp_entries.specs.Entries.{item_for}
-use Rattle.abt_links.specs.Opened.{AreNumbered}
+use Rattle.abt_links.specs.Opened.{AreNumbered, number_in}
 use Rattle.abt_links.proofs.Openings.{numbered_more}
 use Rattle.abt_links.proofs.opened.Opened.add.Goals as goal
 
@@ -24,4 +23,4 @@ invariant_of-self-2 c =
     let here = c.index_mut.ensures.value ∙ get_or_default senders from _ [] room in
     subst (λ (ps : List (ℕ × ℕ)). AreNumbered ps (set senders from c.add.new.self)) (sym items)
     (numbered_more pairs c.self.inside.senders.items senders c.add.new.self from to c.self.invariant none c.reach.ensures.same room
-    (λ i. c.in_ok-add.ensures.ok i ∙ ap (λ n. if i == to then Some n else item_for c.index_mut.result.now i) (omega (arith, c.in-Ok.ensures, c.len.ensures)) ∙ ap (λ xs. if i == to then Some (length pairs) else item_for xs i) here))
+    (λ i. c.in_ok-add.ensures.ok i ∙ ap (λ n. if i == to then Some n else number_in c.index_mut.result.now i) (omega (arith, c.in-Ok.ensures, c.len.ensures)) ∙ ap (λ xs. if i == to then Some (length pairs) else number_in xs i) here))
