@@ -1,7 +1,7 @@
 //! The messages in transit.
 
-ghost use Rattle.std.specs.Prelude.{◌≡◌, ◌≢◌, ◌<◌, ◌≤◌, [], IfErr, IfOk, OnErr, OnOk, Some, slice_get, length};
-ghost use Rattle.abt_links.specs.Transit.{link_of, IsOpen, Opens, Sends, Takes, ready_pairs, message_count};
+ghost use Rattle.std.specs.Prelude.{◌≡◌, ◌≢◌, ◌<◌, ◌≤◌, [], IfErr, IfOk, OnErr, OnOk, Some, position, slice_get, length};
+ghost use Rattle.abt_links.specs.Transit.{is_pair, link_of, IsOpen, Opens, Sends, Posts, Keeps, Takes, ready_pairs, message_count};
 
 use crate::opened::Opened;
 use crate::pair_set::PairSet;
@@ -23,9 +23,9 @@ pub struct Carried {
 /// out. A list that has a message is ready; ready lists are numbered from 0, by sender and then by
 /// receiver.
 ///
-/// Only `new`, `open_pair` and `send` take memory: the bits of a `PairSet`, 32 bytes for each pair that was
-/// opened, 12 for each slot of a sender's first 128 agents that has no pair, and one entry of a slab for each
-/// message.
+/// Only `new`, `open_pair`, `send` and `post` take memory: the bits of a `PairSet`, 32 bytes for each pair
+/// that was opened, 12 for each slot of a sender's first 128 agents that has no pair, and one entry of a
+/// slab for each message.
 #[derive(Drop)]
 pub struct Links {
     agents: u32,
@@ -90,6 +90,42 @@ impl Links {
         ensures err { OnErr result (self.new ≡ self.old) }
     {
         let list = self.opened.place_of(from, to);
+        self.put_last(list, from, to, message)
+    }
+
+    /// Opens the pair, if it is not open, and puts a message last on its list. A refusal hands it back, and
+    /// may leave the pair open.
+    pub fn post(&mut self, from: u32, to: u32, message: Message) -> Result<(), (Message, Memory)>
+        requires sender { from < self.old.agents }
+        requires receiver { to < self.old.agents }
+        ensures ok { OnOk result (Posts self.old self.new from to message) }
+        ensures again { IsOpen self.old from to → OnOk result (Sends self.old self.new from to message) }
+        ensures handed_back { IfErr result (λ refused. refused.0 ≡ message) }
+        ensures err { OnErr result (Keeps self.old self.new) }
+        ensures err_again { IsOpen self.old from to → OnErr result (self.new ≡ self.old) }
+    {
+        match self.opened.find(from, to) {
+            Some(list) => self.put_last(list, from, to, message),
+            None => match self.open_pair(from, to) {
+                Ok(()) => self.send(from, to, message),
+                Err(memory) => Err((message, memory)),
+            },
+        }
+    }
+
+    /// Puts a message last on this list, which is its pair's. A refusal hands it back and changes nothing.
+    fn put_last(
+        &mut self,
+        list: usize,
+        from: u32,
+        to: u32,
+        message: Message,
+    ) -> Result<(), (Message, Memory)>
+        requires { position (is_pair from to) self.old.opened ≡ Some list }
+        ensures ok { OnOk result (Sends self.old self.new from to message) }
+        ensures handed_back { IfErr result (λ refused. refused.0 ≡ message) }
+        ensures err { OnErr result (self.new ≡ self.old) }
+    {
         if let Err(refused) = self.queues.push(list, message) {
             return Err(refused);
         }

@@ -10,7 +10,7 @@ use Rattle.abt_message.specs.Messages.{message_of, messages_of}
 use Rattle.abt_message.specs.declared.Message.{Message}
 use Rattle.abt_message.specs.declared.Sent.{Sent}
 use Rattle.abt_agent.specs.Outgoing.{IsStamped}
-use Rattle.abt_links.specs.Transit.{Transit, link_of, Opens, Sends}
+use Rattle.abt_links.specs.Transit.{Transit, link_of, Posts}
 use Rattle.abt_network.specs.Standing.{messages_on}
 use Rattle.abt_network.specs.Bodies.{AreStamped}
 
@@ -24,9 +24,8 @@ either true old m x u h g = elim (In-split x old (m ∷ []) u) [
 either false old m x u h g = h x u
 
 -- a message with its stamps is sent where each has its stamps
-pub stamped_sent : (before mid after : Transit) (from to : ℕ) (m : Message) → Opens before mid from to → Sends mid after from to m → AreStamped before → IsStamped m → AreStamped after
-stamped_sent before mid after from to m opens sends h g k i x u =
-    either (eqb k from && eqb i to) (link_of mid k i) m x (subst (In x) (sends.lists k i) u) (λ y v. h k i y (subst (In y) (opens.lists k i) v)) g
+pub stamped_sent : (before after : Transit) (from to : ℕ) (m : Message) → Posts before after from to m → AreStamped before → IsStamped m → AreStamped after
+stamped_sent before after from to m posts h g k i x u = either (eqb k from && eqb i to) (link_of before k i) m x (subst (In x) (posts.lists k i) u) (h k i) g
 
 pub first_stamped : (rest : List Sent) (sent : Sent) → All (λ (x : Sent). IsStamped x.message) rest → Some sent ≡ slice_get rest 0 → IsStamped sent.message
 first_stamped [] sent h e = cc

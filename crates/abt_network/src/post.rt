@@ -5,25 +5,12 @@ ghost use Rattle.abt_defs.specs.Network.{sent_to};
 ghost use Rattle.abt_message.specs.Messages.{message_of, messages_of};
 ghost use Rattle.abt_message.specs.declared.Sent.{Sent as TheSent};
 ghost use Rattle.abt_agent.specs.Outgoing.{IsStamped};
-ghost use Rattle.abt_links.specs.Transit.{IsOpen, Sends};
 ghost use Rattle.abt_network.specs.Standing.{messages_on};
 ghost use Rattle.abt_network.specs.Bodies.{AreStamped};
 
 use abt_links::Links;
-use abt_message::{Message, Outbox, Sent};
+use abt_message::{Outbox, Sent};
 use dcsp_list::Memory;
-
-/// Sends one message on an open pair.
-fn send_one(links: &mut Links, from: u32, to: u32, message: Message) -> Result<(), Memory>
-    requires { IsOpen links.old from to }
-    ensures sends { OnOk result (Sends links.old links.new from to message) }
-    ensures agents { links.new.agents ≡ links.old.agents }
-{
-    match links.send(from, to, message) {
-        Ok(()) => Ok(()),
-        Err(_) => Err(Memory),
-    }
-}
 
 /// Sends one message.
 fn post_one(links: &mut Links, from: u32, sent: Sent) -> Result<(), Memory>
@@ -36,8 +23,9 @@ fn post_one(links: &mut Links, from: u32, sent: Sent) -> Result<(), Memory>
     ensures stamped { OnOk result (AreStamped links.new) }
 {
     let Sent { to, message } = sent;
-    links.open_pair(from, to)?;
-    send_one(links, from, to, message)?;
+    let Ok(()) = links.post(from, to, message) else {
+        return Err(Memory);
+    };
     Ok(())
 }
 
