@@ -3,7 +3,7 @@ use Rattle.std.proofs.lemmas.List.{get_or_default}
 use Rattle.dcsp_row.specs.Marks.{is_marked}
 use Rattle.abt_reason.specs.Grids.{no_marks, IsGrid}
 use Rattle.abt_reason.proofs.MarkLaws.{rows_end, rows_skip, rows_start}
-use Rattle.abt_reason.proofs.grid.RuledOut.replace_each.Goals as goal
+use Rattle.abt_reason.proofs.grid.RuledOut.replace.Goals as goal
 
 pub loop-value-init : goal.loop-value-init
 loop-value-init c = record {
