@@ -124,30 +124,14 @@ impl RuledOut {
         match moved.before {
             Few::Nothing => match moved.after {
                 Few::Nothing => {}
-                Few::Only(gained) => self.gain(Cell {
-                    values,
-                    value: gained,
-                    place,
-                }),
+                Few::Only(gained) => self.gain(place, values, gained),
             },
             Few::Only(lost) => match moved.after {
-                Few::Nothing => self.lose(Cell {
-                    values,
-                    value: lost,
-                    place,
-                }),
+                Few::Nothing => self.lose(place, values, lost),
                 Few::Only(gained) => {
                     if lost != gained {
-                        self.lose(Cell {
-                            values,
-                            value: lost,
-                            place,
-                        });
-                        self.gain(Cell {
-                            values,
-                            value: gained,
-                            place,
-                        });
+                        self.lose(place, values, lost);
+                        self.gain(place, values, gained);
                     }
                 }
             },
@@ -189,43 +173,43 @@ impl RuledOut {
         ensures grid { IsGrid (mixed_rows values self.new.rows.items place new.now (value + 1)) values self.new.counts.items self.new.firsts.items }
         ensures rows { self.new.rows.items ≡ self.old.rows.items }
     {
+        if new.has(values, value) {
+            self.gain(place, values, value);
+        } else {
+            self.lose(place, values, value);
+        }
+    }
+
+    /// Takes into the counts and firsts that the rule rules out the value.
+    fn gain(&mut self, place: usize, values: usize, value: usize)
+        requires place { place < length self.old.rows.items }
+        requires value { value < values }
+        requires counts { CountsRow values place value false self.old.rows.items self.old.counts.items self.old.firsts.items }
+        ensures grid { CountsMark values place value true self.old.rows.items self.old.counts.items self.old.firsts.items self.new.counts.items self.new.firsts.items }
+        ensures rows { self.new.rows.items ≡ self.old.rows.items }
+    {
+        self.counts[value] += 1;
+        self.firsts[value] = with_place(self.firsts[value], place as u32);
+    }
+
+    /// Takes into the counts and firsts that the rule no longer rules out the value.
+    fn lose(&mut self, place: usize, values: usize, value: usize)
+        requires place { place < length self.old.rows.items }
+        requires value { value < values }
+        requires sized { AreSized values self.old.rows.items }
+        requires counts { CountsRow values place value true self.old.rows.items self.old.counts.items self.old.firsts.items }
+        ensures grid { CountsMark values place value false self.old.rows.items self.old.counts.items self.old.firsts.items self.new.counts.items self.new.firsts.items }
+        ensures rows { self.new.rows.items ≡ self.old.rows.items }
+    {
+        self.counts[value] -= 1;
+        let count = self.counts[value];
+        let first = self.firsts[value];
         let cell = Cell {
             values,
             value,
             place,
         };
-        if new.has(values, value) {
-            self.gain(cell);
-        } else {
-            self.lose(cell);
-        }
-    }
-
-    /// Takes into the counts and firsts that the rule rules out the value.
-    fn gain(&mut self, cell: Cell)
-        requires place { cell.place < length self.old.rows.items }
-        requires value { cell.value < cell.values }
-        requires counts { CountsRow cell false self.old.rows.items self.old.counts.items self.old.firsts.items }
-        ensures grid { CountsMark cell true self.old.rows.items self.old.counts.items self.old.firsts.items self.new.counts.items self.new.firsts.items }
-        ensures rows { self.new.rows.items ≡ self.old.rows.items }
-    {
-        self.counts[cell.value] += 1;
-        self.firsts[cell.value] = with_place(self.firsts[cell.value], cell.place as u32);
-    }
-
-    /// Takes into the counts and firsts that the rule no longer rules out the value.
-    fn lose(&mut self, cell: Cell)
-        requires place { cell.place < length self.old.rows.items }
-        requires value { cell.value < cell.values }
-        requires sized { AreSized cell.values self.old.rows.items }
-        requires counts { CountsRow cell true self.old.rows.items self.old.counts.items self.old.firsts.items }
-        ensures grid { CountsMark cell false self.old.rows.items self.old.counts.items self.old.firsts.items self.new.counts.items self.new.firsts.items }
-        ensures rows { self.new.rows.items ≡ self.old.rows.items }
-    {
-        self.counts[cell.value] -= 1;
-        let count = self.counts[cell.value];
-        let first = self.firsts[cell.value];
-        self.firsts[cell.value] = first_without(&self.rows, cell, count, first);
+        self.firsts[value] = first_without(&self.rows, cell, count, first);
     }
 }
 
