@@ -6,7 +6,7 @@ ghost use Rattle.dcsp_row.specs.Easy.{has_span};
 ghost use Rattle.dcsp_row.specs.Spans.{is_within};
 ghost use Rattle.dcsp_row.specs.Marks.{has_room_for, is_marked, is_row, FitsSize};
 ghost use Rattle.abt_reason.specs.Firsts.{IsFirst};
-ghost use Rattle.abt_reason.specs.Grids.{marks_at, is_marked_at, mixed_rows, rows_of, with_row, few_row, is_only, AreMarksBehind, AreMoved, AreSized, CountsMark, CountsRow, HaveRoom, IsBelow, IsGrid, LosesPlace, NoneIfUncounted, NoneUpTo};
+ghost use Rattle.abt_reason.specs.Grids.{marks_at, is_marked_at, mixed_rows, rows_of, with_row, few_row, is_only, AreMarksBehind, AreMoved, AreSized, CanReplace, CountsMark, CountsRow, HaveRoom, IsBelow, IsGrid, IsReplaced, LosesPlace, NoneIfUncounted, NoneUpTo};
 
 use dcsp_list::Memory;
 use dcsp_problem::Problem;
@@ -76,17 +76,10 @@ impl RuledOut {
     }
 
     /// Puts a span in place of what the rule ruled out. Most rules rule out one value, and then another:
-    /// these two alone are touched.
+    /// only these two are touched.
     pub fn replace_span(&mut self, place: usize, values: usize, span: Span)
-        requires place { place < length self.old.rows.items }
-        requires grid { IsGrid (rows_of values self.old.rows.items) values self.old.counts.items self.old.firsts.items }
-        requires sized { AreSized values self.old.rows.items }
-        ensures grid { IsGrid (rows_of values self.new.rows.items) values self.new.counts.items self.new.firsts.items }
-        ensures sized { AreSized values self.new.rows.items }
-        ensures rules { length self.new.rows.items ≡ length self.old.rows.items }
-        ensures replaced { (value : ℕ) → value < values → is_marked_at self.new.rows.items place value ≡ is_within span value }
-        ensures row { is_row (marks_at self.new.rows.items place) ≡ is_row (marks_at self.old.rows.items place) }
-        ensures others { (other : ℕ) → other ≢ place → marks_at self.new.rows.items other ≡ marks_at self.old.rows.items other }
+        requires rows { CanReplace values place self.old.rows.items self.old.counts.items self.old.firsts.items }
+        ensures { IsReplaced values place (is_within span) self.old.rows.items self.new.rows.items self.new.counts.items self.new.firsts.items }
     {
         match moved_to(&self.rows[place], span, values) {
             Some(moved) => self.replace_few(place, values, span, moved),
@@ -96,16 +89,9 @@ impl RuledOut {
 
     /// The same, where both are spans of one value at most.
     fn replace_few(&mut self, place: usize, values: usize, span: Span, moved: Moved)
-        requires place { place < length self.old.rows.items }
-        requires grid { IsGrid (rows_of values self.old.rows.items) values self.old.counts.items self.old.firsts.items }
-        requires sized { AreSized values self.old.rows.items }
+        requires rows { CanReplace values place self.old.rows.items self.old.counts.items self.old.firsts.items }
         requires moved { AreMoved values (marks_at self.old.rows.items place) span moved }
-        ensures grid { IsGrid (rows_of values self.new.rows.items) values self.new.counts.items self.new.firsts.items }
-        ensures sized { AreSized values self.new.rows.items }
-        ensures rules { length self.new.rows.items ≡ length self.old.rows.items }
-        ensures replaced { (value : ℕ) → value < values → is_marked_at self.new.rows.items place value ≡ is_within span value }
-        ensures row { is_row (marks_at self.new.rows.items place) ≡ is_row (marks_at self.old.rows.items place) }
-        ensures others { (other : ℕ) → other ≢ place → marks_at self.new.rows.items other ≡ marks_at self.old.rows.items other }
+        ensures { IsReplaced values place (is_within span) self.old.rows.items self.new.rows.items self.new.counts.items self.new.firsts.items }
     {
         self.count_few(place, values, moved);
         store(&mut self.rows[place], span);
@@ -141,17 +127,10 @@ impl RuledOut {
     /// Puts what the rule rules out in place of what it ruled out. Only values for which that changes
     /// are touched.
     pub fn replace(&mut self, place: usize, values: usize, new: &Marks)
-        requires place { place < length self.old.rows.items }
-        requires grid { IsGrid (rows_of values self.old.rows.items) values self.old.counts.items self.old.firsts.items }
-        requires sized { AreSized values self.old.rows.items }
+        requires rows { CanReplace values place self.old.rows.items self.old.counts.items self.old.firsts.items }
         requires size { FitsSize values new.now }
         requires room { IsTrue (has_room_for (marks_at self.old.rows.items place) new.now) }
-        ensures grid { IsGrid (rows_of values self.new.rows.items) values self.new.counts.items self.new.firsts.items }
-        ensures sized { AreSized values self.new.rows.items }
-        ensures rules { length self.new.rows.items ≡ length self.old.rows.items }
-        ensures replaced { (value : ℕ) → value < values → is_marked_at self.new.rows.items place value ≡ is_marked new.now value }
-        ensures row { is_row (marks_at self.new.rows.items place) ≡ is_row (marks_at self.old.rows.items place) }
-        ensures others { (other : ℕ) → other ≢ place → marks_at self.new.rows.items other ≡ marks_at self.old.rows.items other }
+        ensures { IsReplaced values place (is_marked new.now) self.old.rows.items self.new.rows.items self.new.counts.items self.new.firsts.items }
     {
         let mut from = 0;
         while let Some(value) = new.next_change(&self.rows[place], values, from) {
