@@ -1,18 +1,18 @@
 -- Rows of marks, and rows that are new for the values below one.
-use Rattle.std.proofs.Common.{◌≡◌, ◌≢◌, ℕ, ◌+◌, ◌<◌, ◌≤◌, Bool, true, false, cond, List, [], ◌∷◌, ◌++◌, length, get_or, set, nat_lt, refl, sym, ap, ◌∙◌, arith, inl, inr, ◌⊎◌, set-set, ext_get_or, subst}
+use Rattle.std.proofs.Common.{◌≡◌, ◌≢◌, ℕ, ◌+◌, ◌<◌, ◌≤◌, Bool, true, false, cond, List, [], ◌∷◌, ◌++◌, length, get_or, set, nat_lt, refl, sym, ap, ◌∙◌, arith, inl, inr, ◌⊎◌, ext_get_or, subst}
 use Rattle.std.proofs.lemmas.Bool.{cases_eq, cases_lt}
 use Rattle.std.proofs.lemmas.Bool.Decides.{nat_tests}
 use Rattle.std.proofs.lemmas.List.{length-set, length-map, get_or-map, get_or-set_same, get_or-set_other, set-get_or, map-set, get_or_push, get_or_append_left, get_or_default, length_push}
 use Rattle.std.proofs.lemmas.List.FromFn.{get_or-map-range_with_len, length-map-range_with_len}
 use Rattle.std.proofs.Math.ListN.{get_or-eq_default}
 use Rattle.dcsp_row.specs.declared.marks.Marks.{Marks}
-use Rattle.dcsp_row.specs.Marks.{is_marked}
+use Rattle.dcsp_row.specs.Marks.{is_marked, is_row, FitsSize}
 use Rattle.dcsp_row.specs.Rows.{is_ruled_out, own_at}
 use Rattle.dcsp_defs.specs.Csp.{PartialAssignment, domain}
 use Rattle.dcsp_problem.specs.Problems.{Contents, csp_of}
 use Rattle.dcsp_problem.specs.Index.{owned_rules}
 use Rattle.abt_reason.specs.Cached.{IsRightAt, size_of}
-use Rattle.abt_reason.specs.Grids.{is_marked_at, marks, marks_at, mixed_row, mixed_rows, no_marks, row_at, row_of, rows_of}
+use Rattle.abt_reason.specs.Grids.{is_marked_at, marks, marks_at, mixed_row, mixed_rows, no_marks, row_at, row_of, rows_of, AreSized}
 
 below_is : (k n : ℕ) → k < n → nat_lt k n ≡ true
 below_is k n l = grind (arith, nat_tests)
@@ -99,24 +99,11 @@ module _ (values : ℕ) (rows : List Marks) (place : ℕ) (new : Marks) (here : 
   pub in_rows : place < length (rows_of values rows)
   in_rows = omega (arith, here, count_rows values rows)
 
-  pub count_mixed : (until : ℕ) → length (mixed_rows values rows place new until) ≡ length rows
-  count_mixed until = length-set (rows_of values rows) place (mixed_row values until new old) ∙ count_rows values rows
-
-  pub mixed_here : (until : ℕ) → row_at (mixed_rows values rows place new until) place ≡ mixed_row values until new old
-  mixed_here until = get_or-set_same (rows_of values rows) place (mixed_row values until new old) [] in_rows
-
-  pub mixed_other : (until other value : ℕ) → other ≢ place → other < length rows → value < values → marks (mixed_rows values rows place new until) value other ≡ is_marked_at rows other value
-  mixed_other until other value apart there within =
-      ap (λ (r : List Bool). get_or r value false) (get_or-set_other (rows_of values rows) place other (mixed_row values until new old) [] apart) ∙ marks_are values rows other value there within
-
   pub rows_start : mixed_rows values rows place new 0 ≡ rows_of values rows
   rows_start = ap (set (rows_of values rows) place) (mixed_start values new old ∙ sym (row_here values rows place here)) ∙ set-get_or (rows_of values rows) place []
 
   pub rows_skip : (from until : ℕ) → from ≤ until → ((k : ℕ) → from ≤ k → k < until → is_marked new k ≡ is_marked old k) → mixed_rows values rows place new from ≡ mixed_rows values rows place new until
   rows_skip from until order same = ap (set (rows_of values rows) place) (mixed_skip values new old from until order same)
-
-  pub rows_next : (value : ℕ) → set (mixed_rows values rows place new value) place (mixed_row values (value + 1) new old) ≡ mixed_rows values rows place new (value + 1)
-  rows_next value = set-set (rows_of values rows) place (mixed_row values value new old) (mixed_row values (value + 1) new old)
 
   pub rows_end : (now : Marks) → ((k : ℕ) → k < values → is_marked now k ≡ is_marked new k) → mixed_rows values rows place new values ≡ rows_of values (set rows place now)
   rows_end now same = ap (set (rows_of values rows) place) (mixed_end values new old ∙ sym (same_row values now new same)) ∙ sym (map-set (row_of values) rows place now)
@@ -154,6 +141,17 @@ others_at values rows new place size same other value apart = ap (λ (r : List B
   | inl here ↦ row_here values new other (omega (arith, here, size)) ∙ ap (row_of values) (same other apart) ∙ sym (row_here values rows other here)
   | inr beyond ↦ get_or-eq_default (rows_of values new) [] (omega (arith, beyond, size, count_rows values new)) ∙ sym (get_or-eq_default (rows_of values rows) [] (omega (arith, beyond, count_rows values rows)))
 ])
+
+-- marks of the same form are put at a place
+pub form_put : (was rows : List Marks) (place : ℕ) (got now : Marks) → rows ≡ was → place < length rows → got ≡ get_or rows place got → is_row now ≡ is_row got → is_row (marks_at (set rows place now) place) ≡ is_row (marks_at was place)
+form_put was rows place got now same here read form =
+    ap is_row (get_or-set_same rows place now no_marks here) ∙ form ∙ ap is_row (read ∙ get_or_default rows place got no_marks here) ∙ ap (λ (rs : List Marks). is_row (marks_at rs place)) same
+
+pub sized_put : (values : ℕ) (rows : List Marks) (place : ℕ) (now : Marks) → place < length rows → AreSized values rows → FitsSize values now → AreSized values (set rows place now)
+sized_put values rows place now here sized fits = λ j l. elim (cases_eq j place) [
+  | inl same ↦ subst (λ n. FitsSize values (marks_at (set rows place now) n)) (sym same) (subst (FitsSize values) (sym (get_or-set_same rows place now no_marks here)) fits)
+  | inr apart ↦ subst (FitsSize values) (sym (get_or-set_other rows place j now no_marks apart)) (sized j (omega (arith, l, length-set rows place now)))
+]
 
 -- what is marked at a place, whatever stands past the last
 pub at_default : (rows : List Marks) (place : ℕ) (d : Marks) (value : ℕ) → place < length rows → is_marked_at rows place value ≡ is_marked (get_or rows place d) value

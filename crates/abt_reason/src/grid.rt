@@ -4,10 +4,9 @@ ghost use Rattle.std.specs.Prelude.{◌≡◌, ◌≢◌, ◌<◌, ◌≤◌, �
 ghost use Rattle.dcsp_problem.specs.Problems.{rule_at};
 ghost use Rattle.dcsp_row.specs.Easy.{has_span};
 ghost use Rattle.dcsp_row.specs.Spans.{is_within};
-ghost use Rattle.dcsp_row.specs.declared.marks.Marks.{Marks as TheMarks};
 ghost use Rattle.dcsp_row.specs.Marks.{has_room_for, is_marked, is_row, FitsSize};
 ghost use Rattle.abt_reason.specs.Firsts.{IsFirst};
-ghost use Rattle.abt_reason.specs.Grids.{marks_at, is_marked_at, mixed_rows, rows_of, is_only, AreChanges, AreMarksBehind, AreSized, DifferAt, HaveRoom, IsGrid, LosesPlace, NoneIfUncounted, NoneUpTo, MarkOnly};
+ghost use Rattle.abt_reason.specs.Grids.{marks_at, is_marked_at, mixed_rows, rows_of, with_row, few_row, is_only, AreMarksBehind, AreMoved, AreSized, CanReplace, CountsMark, CountsRow, HaveRoom, IsBelow, IsGrid, IsReplaced, LosesPlace, NoneIfUncounted, NoneUpTo};
 
 use dcsp_list::Memory;
 use dcsp_problem::Problem;
@@ -30,12 +29,11 @@ enum Few {
     Only(usize),
 }
 
-/// Where marks of one value at most differ, in order.
+/// The marks that are replaced and those that come, where both mark one value at most.
 #[derive(Clone, Copy)]
-enum Changes {
-    Nowhere,
-    At(usize),
-    AtBoth(usize, usize),
+struct Moved {
+    before: Few,
+    after: Few,
 }
 
 /// One of so many values, and a rule's place.
@@ -77,80 +75,62 @@ impl RuledOut {
         })
     }
 
+    /// Puts a span in place of what the rule ruled out. Most rules rule out one value, and then another:
+    /// only these two are touched.
+    pub fn replace_span(&mut self, place: usize, values: usize, span: Span)
+        requires rows { CanReplace values place self.old.rows.items self.old.counts.items self.old.firsts.items }
+        ensures { IsReplaced values place (is_within span) self.old.rows.items self.new.rows.items self.new.counts.items self.new.firsts.items }
+    {
+        match moved_to(&self.rows[place], span, values) {
+            Some(moved) => self.replace_few(place, values, span, moved),
+            None => self.replace(place, values, &Marks::Span(span)),
+        }
+    }
+
+    /// The same, where both are spans of one value at most.
+    fn replace_few(&mut self, place: usize, values: usize, span: Span, moved: Moved)
+        requires rows { CanReplace values place self.old.rows.items self.old.counts.items self.old.firsts.items }
+        requires moved { AreMoved values (marks_at self.old.rows.items place) span moved }
+        ensures { IsReplaced values place (is_within span) self.old.rows.items self.new.rows.items self.new.counts.items self.new.firsts.items }
+    {
+        self.count_few(place, values, moved);
+        store(&mut self.rows[place], span);
+    }
+
+    /// Takes a rule's new marks, of one value at most, into the counts and firsts.
+    fn count_few(&mut self, place: usize, values: usize, moved: Moved)
+        requires place { place < length self.old.rows.items }
+        requires grid { IsGrid (with_row values self.old.rows.items place (few_row values moved.before)) values self.old.counts.items self.old.firsts.items }
+        requires sized { AreSized values self.old.rows.items }
+        requires before { IsBelow values moved.before }
+        requires after { IsBelow values moved.after }
+        ensures grid { IsGrid (with_row values self.new.rows.items place (few_row values moved.after)) values self.new.counts.items self.new.firsts.items }
+        ensures rows { self.new.rows.items ≡ self.old.rows.items }
+    {
+        match moved.before {
+            Few::Nothing => match moved.after {
+                Few::Nothing => {}
+                Few::Only(gained) => self.gain(place, values, gained),
+            },
+            Few::Only(lost) => match moved.after {
+                Few::Nothing => self.lose(place, values, lost),
+                Few::Only(gained) => {
+                    if lost != gained {
+                        self.lose(place, values, lost);
+                        self.gain(place, values, gained);
+                    }
+                }
+            },
+        }
+    }
+
     /// Puts what the rule rules out in place of what it ruled out. Only values for which that changes
     /// are touched.
     pub fn replace(&mut self, place: usize, values: usize, new: &Marks)
-        requires place { place < length self.old.rows.items }
-        requires grid { IsGrid (rows_of values self.old.rows.items) values self.old.counts.items self.old.firsts.items }
-        requires sized { AreSized values self.old.rows.items }
+        requires rows { CanReplace values place self.old.rows.items self.old.counts.items self.old.firsts.items }
         requires size { FitsSize values new.now }
         requires room { IsTrue (has_room_for (marks_at self.old.rows.items place) new.now) }
-        ensures grid { IsGrid (rows_of values self.new.rows.items) values self.new.counts.items self.new.firsts.items }
-        ensures sized { AreSized values self.new.rows.items }
-        ensures rules { length self.new.rows.items ≡ length self.old.rows.items }
-        ensures replaced { (value : ℕ) → value < values → is_marked_at self.new.rows.items place value ≡ is_marked new.now value }
-        ensures row { is_row (marks_at self.new.rows.items place) ≡ is_row (marks_at self.old.rows.items place) }
-        ensures others { (other : ℕ) → other ≢ place → marks_at self.new.rows.items other ≡ marks_at self.old.rows.items other }
-    {
-        match changes_of(&self.rows[place], new, values) {
-            Some(changes) => self.replace_few(place, values, new, changes),
-            None => self.replace_each(place, values, new),
-        }
-    }
-
-    /// The same, where the marks differ at two values at most. Most rules rule out one value, and then
-    /// another.
-    fn replace_few(&mut self, place: usize, values: usize, new: &Marks, changes: Changes)
-        requires place { place < length self.old.rows.items }
-        requires grid { IsGrid (rows_of values self.old.rows.items) values self.old.counts.items self.old.firsts.items }
-        requires sized { AreSized values self.old.rows.items }
-        requires size { FitsSize values new.now }
-        requires room { IsTrue (has_room_for (marks_at self.old.rows.items place) new.now) }
-        requires changes { AreChanges values (marks_at self.old.rows.items place) new.now changes }
-        ensures grid { IsGrid (rows_of values self.new.rows.items) values self.new.counts.items self.new.firsts.items }
-        ensures sized { AreSized values self.new.rows.items }
-        ensures rules { length self.new.rows.items ≡ length self.old.rows.items }
-        ensures replaced { (value : ℕ) → value < values → is_marked_at self.new.rows.items place value ≡ is_marked new.now value }
-        ensures row { is_row (marks_at self.new.rows.items place) ≡ is_row (marks_at self.old.rows.items place) }
-        ensures others { (other : ℕ) → other ≢ place → marks_at self.new.rows.items other ≡ marks_at self.old.rows.items other }
-    {
-        self.count_few(place, values, new, changes);
-        self.rows[place].copy_from(values, new);
-    }
-
-    /// Takes a rule's new marks, which differ at two values at most, into the counts and firsts.
-    fn count_few(&mut self, place: usize, values: usize, new: &Marks, changes: Changes)
-        requires place { place < length self.old.rows.items }
-        requires grid { IsGrid (rows_of values self.old.rows.items) values self.old.counts.items self.old.firsts.items }
-        requires sized { AreSized values self.old.rows.items }
-        requires size { FitsSize values new.now }
-        requires changes { AreChanges values (marks_at self.old.rows.items place) new.now changes }
-        ensures grid { IsGrid (mixed_rows values self.new.rows.items place new.now values) values self.new.counts.items self.new.firsts.items }
-        ensures rows { self.new.rows.items ≡ self.old.rows.items }
-    {
-        match changes {
-            Changes::Nowhere => {}
-            Changes::At(value) => self.count(place, values, value, new),
-            Changes::AtBoth(first, second) => {
-                self.count(place, values, first, new);
-                self.count(place, values, second, new);
-            }
-        }
-    }
-
-    /// The same, whatever the marks are.
-    fn replace_each(&mut self, place: usize, values: usize, new: &Marks)
-        requires place { place < length self.old.rows.items }
-        requires grid { IsGrid (rows_of values self.old.rows.items) values self.old.counts.items self.old.firsts.items }
-        requires sized { AreSized values self.old.rows.items }
-        requires size { FitsSize values new.now }
-        requires room { IsTrue (has_room_for (marks_at self.old.rows.items place) new.now) }
-        ensures grid { IsGrid (rows_of values self.new.rows.items) values self.new.counts.items self.new.firsts.items }
-        ensures sized { AreSized values self.new.rows.items }
-        ensures rules { length self.new.rows.items ≡ length self.old.rows.items }
-        ensures replaced { (value : ℕ) → value < values → is_marked_at self.new.rows.items place value ≡ is_marked new.now value }
-        ensures row { is_row (marks_at self.new.rows.items place) ≡ is_row (marks_at self.old.rows.items place) }
-        ensures others { (other : ℕ) → other ≢ place → marks_at self.new.rows.items other ≡ marks_at self.old.rows.items other }
+        ensures { IsReplaced values place (is_marked new.now) self.old.rows.items self.new.rows.items self.new.counts.items self.new.firsts.items }
     {
         let mut from = 0;
         while let Some(value) = new.next_change(&self.rows[place], values, from) {
@@ -173,85 +153,87 @@ impl RuledOut {
         ensures rows { self.new.rows.items ≡ self.old.rows.items }
     {
         if new.has(values, value) {
-            self.counts[value] += 1;
-            self.firsts[value] = with_place(self.firsts[value], place as u32);
+            self.gain(place, values, value);
         } else {
-            self.counts[value] -= 1;
-            let count = self.counts[value];
-            let first = self.firsts[value];
-            let cell = Cell {
-                values,
-                value,
-                place,
-            };
-            self.firsts[value] = first_without(&self.rows, cell, count, first);
+            self.lose(place, values, value);
         }
     }
+
+    /// Takes into the counts and firsts that the rule rules out the value.
+    fn gain(&mut self, place: usize, values: usize, value: usize)
+        requires place { place < length self.old.rows.items }
+        requires value { value < values }
+        requires counts { CountsRow values place value false self.old.rows.items self.old.counts.items self.old.firsts.items }
+        ensures grid { CountsMark values place value true self.old.rows.items self.old.counts.items self.old.firsts.items self.new.counts.items self.new.firsts.items }
+        ensures rows { self.new.rows.items ≡ self.old.rows.items }
+    {
+        self.counts[value] += 1;
+        self.firsts[value] = with_place(self.firsts[value], place as u32);
+    }
+
+    /// Takes into the counts and firsts that the rule no longer rules out the value.
+    fn lose(&mut self, place: usize, values: usize, value: usize)
+        requires place { place < length self.old.rows.items }
+        requires value { value < values }
+        requires sized { AreSized values self.old.rows.items }
+        requires counts { CountsRow values place value true self.old.rows.items self.old.counts.items self.old.firsts.items }
+        ensures grid { CountsMark values place value false self.old.rows.items self.old.counts.items self.old.firsts.items self.new.counts.items self.new.firsts.items }
+        ensures rows { self.new.rows.items ≡ self.old.rows.items }
+    {
+        self.counts[value] -= 1;
+        let count = self.counts[value];
+        let first = self.firsts[value];
+        let cell = Cell {
+            values,
+            value,
+            place,
+        };
+        self.firsts[value] = first_without(&self.rows, cell, count, first);
+    }
 }
 
-/// Where the marks differ, if both mark one of so many values at most.
-fn changes_of(old: &Marks, new: &Marks, values: usize) -> Option<Changes>
-    ensures { IfSome result (AreChanges values old.now new.now) }
+/// Puts a span in place of a span.
+fn store(marks: &mut Marks, span: Span)
+    requires { is_row marks.old ≡ false }
+    ensures sized { (size : ℕ) → FitsSize size marks.new }
+    ensures marks { (k : ℕ) → is_marked marks.new k ≡ is_within span k }
+    ensures row { is_row marks.new ≡ is_row marks.old }
 {
-    let before = few_of(old)?;
-    let after = few_of(new)?;
-    match before {
-        Few::Nothing => match after {
-            Few::Nothing => Some(Changes::Nowhere),
-            Few::Only(gained) => change_at(gained, values),
-        },
-        Few::Only(lost) => match after {
-            Few::Nothing => change_at(lost, values),
-            Few::Only(gained) => changes_at(lost, gained, values),
-        },
+    if let Marks::Span(own) = marks {
+        *own = span;
     }
 }
 
-/// The change at a value, if it is one of so many.
-fn change_at(value: usize, values: usize) -> Option<Changes>
-    ensures { (old new : TheMarks) → DifferAt old new value → IfSome result (AreChanges values old new) }
+/// The one of so many values at most that each of them marks, if both are such spans.
+fn moved_to(old: &Marks, span: Span, values: usize) -> Option<Moved>
+    ensures { IfSome result (AreMoved values old.now span) }
 {
-    if value < values {
-        Some(Changes::At(value))
-    } else {
-        None
-    }
+    let before = few_of(old, values)?;
+    let after = few_in(span, values)?;
+    Some(Moved { before, after })
 }
 
-/// The changes at two of so many values, which are none where these are the same.
-fn changes_at(lost: usize, gained: usize, values: usize) -> Option<Changes>
-    ensures { (old new : TheMarks) → MarkOnly old lost → MarkOnly new gained → IfSome result (AreChanges values old new) }
-{
-    if lost == gained {
-        return Some(Changes::Nowhere);
-    }
-    if lost < gained && gained < values {
-        return Some(Changes::AtBoth(lost, gained));
-    }
-    if gained < lost && lost < values {
-        return Some(Changes::AtBoth(gained, lost));
-    }
-    None
-}
-
-/// What the marks mark, if they are a span of one value at most.
-fn few_of(marks: &Marks) -> Option<Few>
-    ensures { IfSome result (λ few. (k : ℕ) → is_marked marks.now k ≡ is_only few k) }
+/// Which of so many values the marks mark, if they are a span of one at most.
+fn few_of(marks: &Marks, values: usize) -> Option<Few>
+    ensures span { IfSome result (λ few. is_row marks.now ≡ false) }
+    ensures few { IfSome result (λ few. IsBelow values few) }
+    ensures same { IfSome result (λ few. (k : ℕ) → k < values → is_marked marks.now k ≡ is_only few k) }
 {
     match marks {
-        Marks::Span(span) => few_in(*span),
+        Marks::Span(span) => few_in(*span, values),
         Marks::Row(_) => None,
     }
 }
 
-/// The places that the span has, if it has one at most.
-fn few_in(span: Span) -> Option<Few>
-    ensures { IfSome result (λ few. (k : ℕ) → is_within span k ≡ is_only few k) }
+/// Which of so many places the span has, if it has one at most.
+fn few_in(span: Span, values: usize) -> Option<Few>
+    ensures few { IfSome result (λ few. IsBelow values few) }
+    ensures same { IfSome result (λ few. (k : ℕ) → k < values → is_within span k ≡ is_only few k) }
 {
     if span.outside {
         return None;
     }
-    if span.from >= span.to {
+    if span.from >= span.to || span.from >= values {
         return Some(Few::Nothing);
     }
     if span.to - span.from > 1 {

@@ -133,7 +133,7 @@ fn refresh(ruled_out: &mut RuledOut, room: &mut Marks, owner: &Owner, place: usi
         lookup: &known,
     };
     match span_of(owner.problem, rule, &open_var) {
-        Some(span) => ruled_out.replace(place, values, &Marks::Span(span)),
+        Some(span) => ruled_out.replace_span(place, values, span),
         None => {
             fill(owner, rule, room);
             ruled_out.replace(place, values, room);

@@ -1,61 +1,73 @@
-use Rattle.std.proofs.Common.{◌<◌, ◌+◌, ◌∙◌, ap, sym, subst, length, arith, Bool, List}
+use Rattle.std.proofs.Common.{sym, subst, refl, Bool, List}
 use Rattle.dcsp_row.specs.declared.marks.Marks.{Marks}
-use Rattle.abt_reason.specs.Grids.{marks_at, is_marked_at, AreChanges, IsGrid}
-use Rattle.abt_reason.proofs.MarkLaws.{rows_skip, rows_start}
+use Rattle.abt_reason.specs.declared.grid.Few.TheVariants.{Nothing}
+use Rattle.abt_reason.specs.Grids.{few_row, with_row, IsGrid}
+use Rattle.abt_reason.proofs.ChangeLaws.{few_has, few_lacks, few_put, few_taken}
 use Rattle.abt_reason.proofs.grid.RuledOut.count_few.Goals as goal
 
-pub count-requires-clause-grid : goal.count-requires-clause-grid
-count-requires-clause-grid c =
+pub gain-requires-clause-counts : goal.gain-requires-clause-counts
+gain-requires-clause-counts c = record {
+  row = few_row c.args.values c.args.moved.before;
+  grid = c.requires.grid;
+  marked = few_lacks c.args.values c.args.moved.before c.args.moved.after c.in-Only-after.gained c.in-Nothing.is c.in-Only-after.is c.requires.after;
+}
+
+pub lose-requires-clause-counts : goal.lose-requires-clause-counts
+lose-requires-clause-counts c = record {
+  row = few_row c.args.values c.args.moved.before;
+  grid = c.requires.grid;
+  marked = few_has c.args.values c.args.moved.before c.in-Only.lost c.in-Only.is c.requires.before;
+}
+
+pub lose-requires-then-lost-gained-clause-counts : goal.lose-requires-then-lost-gained-clause-counts
+lose-requires-then-lost-gained-clause-counts c = record {
+  row = few_row c.args.values c.args.moved.before;
+  grid = c.requires.grid;
+  marked = few_has c.args.values c.args.moved.before c.in-Only.lost c.in-Only.is c.requires.before;
+}
+
+pub gain-requires-then-lost-gained-clause-counts : goal.gain-requires-then-lost-gained-clause-counts
+gain-requires-then-lost-gained-clause-counts c =
     let rows = c.args.self.now.rows.items in
-    let there = subst (AreChanges c.args.values (marks_at rows c.args.place) c.args.new.now) c.in-At.is c.requires.changes in
-    let start = rows_start c.args.values rows c.args.place c.args.new.now c.requires.place in
-    let skip = rows_skip c.args.values rows c.args.place c.args.new.now c.requires.place 0 c.in-At.value (omega arith) (λ k l m. there.1.same k (omega (arith, m))) in
-    subst (λ (rs : List (List Bool)). IsGrid rs c.args.values c.args.self.now.counts.items c.args.self.now.firsts.items) (sym start ∙ skip) c.requires.grid
+    let values = c.args.values in
+    let has = few_has values c.args.moved.before c.in-Only.lost c.in-Only.is c.requires.before in
+    let lost = c.lose-then-lost-gained.ensures.grid (few_row values c.args.moved.before) c.requires.grid has in
+    let taken = few_taken values c.args.moved.before Nothing c.in-Only.lost c.in-Only.is refl c.requires.before in
+    record {
+      row = few_row values Nothing;
+      grid = subst (λ (rs : List Marks). IsGrid (with_row values rs c.args.place (few_row values Nothing)) values c.lose-then-lost-gained.new.self.counts.items c.lose-then-lost-gained.new.self.firsts.items) (sym c.lose-then-lost-gained.ensures.rows)
+          (subst (λ (r : List Bool). IsGrid (with_row values rows c.args.place r) values c.lose-then-lost-gained.new.self.counts.items c.lose-then-lost-gained.new.self.firsts.items) taken lost);
+      marked = few_lacks values Nothing c.args.moved.after c.in-Only-after-2.gained refl c.in-Only-after-2.is c.requires.after;
+    }
 
-pub count-requires-in-AtBoth-clause-grid : goal.count-requires-in-AtBoth-clause-grid
-count-requires-in-AtBoth-clause-grid c =
+pub returns-in-Only-after-clause-grid : goal.returns-in-Only-after-clause-grid
+returns-in-Only-after-clause-grid c =
     let rows = c.args.self.now.rows.items in
-    let there = subst (AreChanges c.args.values (marks_at rows c.args.place) c.args.new.now) c.in-AtBoth.is c.requires.changes in
-    let start = rows_start c.args.values rows c.args.place c.args.new.now c.requires.place in
-    let skip = rows_skip c.args.values rows c.args.place c.args.new.now c.requires.place 0 c.in-AtBoth.first (omega arith)
-    (λ k l m. there.same k (omega (arith, m)) (omega (arith, m, there.order))) in
-    subst (λ (rs : List (List Bool)). IsGrid rs c.args.values c.args.self.now.counts.items c.args.self.now.firsts.items) (sym start ∙ skip) c.requires.grid
+    let values = c.args.values in
+    let lacks = few_lacks values c.args.moved.before c.args.moved.after c.in-Only-after.gained c.in-Nothing.is c.in-Only-after.is c.requires.after in
+    let put = few_put values c.args.moved.before c.args.moved.after c.in-Only-after.gained c.in-Nothing.is c.in-Only-after.is c.requires.after in
+    subst (λ (rs : List Marks). IsGrid (with_row values rs c.args.place (few_row values c.args.moved.after)) values c.gain.new.self.counts.items c.gain.new.self.firsts.items) (sym c.gain.ensures.rows)
+    (subst (λ (r : List Bool). IsGrid (with_row values rows c.args.place r) values c.gain.new.self.counts.items c.gain.new.self.firsts.items) put (c.gain.ensures.grid (few_row values c.args.moved.before) c.requires.grid lacks))
 
-pub count-requires-in-AtBoth-2-clause-grid : goal.count-requires-in-AtBoth-2-clause-grid
-count-requires-in-AtBoth-2-clause-grid c =
-    let old = c.args.self.now.rows.items in
-    let there = subst (AreChanges c.args.values (marks_at old c.args.place) c.args.new.now) c.in-AtBoth.is c.requires.changes in
-    let rows = c.count-in-AtBoth.new.self.rows.items in
-    let here : c.args.place < length rows = omega (arith, c.requires.place, ap length c.count-in-AtBoth.ensures.rows) in
-    let skip = rows_skip c.args.values rows c.args.place c.args.new.now here (c.in-AtBoth.first + 1) c.in-AtBoth.second (omega (arith, there.order))
-    (λ k l m. there.same k (omega (arith, l)) (omega (arith, m)) ∙ sym (ap (λ (rs : List Marks). is_marked_at rs c.args.place k) c.count-in-AtBoth.ensures.rows)) in
-    subst (λ (rs : List (List Bool)). IsGrid rs c.args.values c.count-in-AtBoth.new.self.counts.items c.count-in-AtBoth.new.self.firsts.items) skip c.count-in-AtBoth.ensures.grid
-
-pub returns-in-Nowhere-clause-grid : goal.returns-in-Nowhere-clause-grid
-returns-in-Nowhere-clause-grid c =
+pub returns-in-Nothing-after-2-clause-grid : goal.returns-in-Nothing-after-2-clause-grid
+returns-in-Nothing-after-2-clause-grid c =
     let rows = c.args.self.now.rows.items in
-    let there = subst (AreChanges c.args.values (marks_at rows c.args.place) c.args.new.now) c.in-Nowhere.is c.requires.changes in
-    let start = rows_start c.args.values rows c.args.place c.args.new.now c.requires.place in
-    let skip = rows_skip c.args.values rows c.args.place c.args.new.now c.requires.place 0 c.args.values (omega arith) (λ k l m. there k) in
-    subst (λ (rs : List (List Bool)). IsGrid rs c.args.values c.args.self.now.counts.items c.args.self.now.firsts.items) (sym start ∙ skip) c.requires.grid
+    let values = c.args.values in
+    let has = few_has values c.args.moved.before c.in-Only.lost c.in-Only.is c.requires.before in
+    let taken = few_taken values c.args.moved.before c.args.moved.after c.in-Only.lost c.in-Only.is c.in-Nothing-after-2.is c.requires.before in
+    subst (λ (rs : List Marks). IsGrid (with_row values rs c.args.place (few_row values c.args.moved.after)) values c.lose.new.self.counts.items c.lose.new.self.firsts.items) (sym c.lose.ensures.rows)
+    (subst (λ (r : List Bool). IsGrid (with_row values rows c.args.place r) values c.lose.new.self.counts.items c.lose.new.self.firsts.items) taken (c.lose.ensures.grid (few_row values c.args.moved.before) c.requires.grid has))
 
-pub returns-in-At-clause-grid : goal.returns-in-At-clause-grid
-returns-in-At-clause-grid c =
-    let old = c.args.self.now.rows.items in
-    let there = subst (AreChanges c.args.values (marks_at old c.args.place) c.args.new.now) c.in-At.is c.requires.changes in
-    let rows = c.count.new.self.rows.items in
-    let here : c.args.place < length rows = omega (arith, c.requires.place, ap length c.count.ensures.rows) in
-    let skip = rows_skip c.args.values rows c.args.place c.args.new.now here (c.in-At.value + 1) c.args.values (omega (arith, there.0))
-    (λ k l m. there.1.same k (omega (arith, l)) ∙ sym (ap (λ (rs : List Marks). is_marked_at rs c.args.place k) c.count.ensures.rows)) in
-    subst (λ (rs : List (List Bool)). IsGrid rs c.args.values c.count.new.self.counts.items c.count.new.self.firsts.items) skip c.count.ensures.grid
-
-pub returns-in-AtBoth-clause-grid : goal.returns-in-AtBoth-clause-grid
-returns-in-AtBoth-clause-grid c =
-    let old = c.args.self.now.rows.items in
-    let there = subst (AreChanges c.args.values (marks_at old c.args.place) c.args.new.now) c.in-AtBoth.is c.requires.changes in
-    let rows = c.count-in-AtBoth-2.new.self.rows.items in
-    let stays = c.count-in-AtBoth-2.ensures.rows ∙ c.count-in-AtBoth.ensures.rows in
-    let here : c.args.place < length rows = omega (arith, c.requires.place, ap length stays) in
-    let skip = rows_skip c.args.values rows c.args.place c.args.new.now here (c.in-AtBoth.second + 1) c.args.values (omega (arith, there.within))
-    (λ k l m. there.same k (omega (arith, l, there.order)) (omega (arith, l)) ∙ sym (ap (λ (rs : List Marks). is_marked_at rs c.args.place k) stays)) in
-    subst (λ (rs : List (List Bool)). IsGrid rs c.args.values c.count-in-AtBoth-2.new.self.counts.items c.count-in-AtBoth-2.new.self.firsts.items) skip c.count-in-AtBoth-2.ensures.grid
+pub returns-then-lost-gained-clause-grid : goal.returns-then-lost-gained-clause-grid
+returns-then-lost-gained-clause-grid c =
+    let rows = c.args.self.now.rows.items in
+    let values = c.args.values in
+    let has = few_has values c.args.moved.before c.in-Only.lost c.in-Only.is c.requires.before in
+    let lost = c.lose-then-lost-gained.ensures.grid (few_row values c.args.moved.before) c.requires.grid has in
+    let taken = few_taken values c.args.moved.before Nothing c.in-Only.lost c.in-Only.is refl c.requires.before in
+    let grid = subst (λ (rs : List Marks). IsGrid (with_row values rs c.args.place (few_row values Nothing)) values c.lose-then-lost-gained.new.self.counts.items c.lose-then-lost-gained.new.self.firsts.items) (sym c.lose-then-lost-gained.ensures.rows)
+    (subst (λ (r : List Bool). IsGrid (with_row values rows c.args.place r) values c.lose-then-lost-gained.new.self.counts.items c.lose-then-lost-gained.new.self.firsts.items) taken lost) in
+    let lacks = few_lacks values Nothing c.args.moved.after c.in-Only-after-2.gained refl c.in-Only-after-2.is c.requires.after in
+    let put = few_put values Nothing c.args.moved.after c.in-Only-after-2.gained refl c.in-Only-after-2.is c.requires.after in
+    subst (λ (rs : List Marks). IsGrid (with_row values rs c.args.place (few_row values c.args.moved.after)) values c.gain-then-lost-gained.new.self.counts.items c.gain-then-lost-gained.new.self.firsts.items) (sym c.gain-then-lost-gained.ensures.rows)
+    (subst (λ (r : List Bool). IsGrid (with_row values c.lose-then-lost-gained.new.self.rows.items c.args.place r) values c.gain-then-lost-gained.new.self.counts.items c.gain-then-lost-gained.new.self.firsts.items) put (c.gain-then-lost-gained.ensures.grid (few_row values Nothing) grid lacks))

@@ -1,6 +1,6 @@
 use Rattle.std.proofs.Common.{◌≡◌, ◌≤◌, ◌-◌}
 use Rattle.abt_reason.specs.Grids.{mixed_rows, IsGrid}
-use Rattle.abt_reason.proofs.grid.RuledOut.replace_each.Given as goal
+use Rattle.abt_reason.proofs.grid.RuledOut.replace.Given as goal
 
 abbrev pub invariant-loop-value : goal.invariant-loop-value
 invariant-loop-value l = record {
