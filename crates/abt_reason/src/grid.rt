@@ -6,7 +6,7 @@ ghost use Rattle.dcsp_row.specs.Easy.{has_span};
 ghost use Rattle.dcsp_row.specs.Spans.{is_within};
 ghost use Rattle.dcsp_row.specs.Marks.{has_room_for, is_marked, is_row, FitsSize};
 ghost use Rattle.abt_reason.specs.Firsts.{IsFirst};
-ghost use Rattle.abt_reason.specs.Grids.{marks_at, is_marked_at, mixed_rows, rows_of, with_row, few_row, is_only, AreMarksBehind, AreMoved, AreSized, CanReplace, CountsMark, CountsRow, HaveRoom, IsBelow, IsGrid, IsReplaced, LosesPlace, NoneIfUncounted, NoneUpTo};
+ghost use Rattle.abt_reason.specs.Grids.{marks_at, is_marked_at, mixed_rows, rows_of, with_row, few_row, is_only, AreMarksBehind, AreSized, CanReplace, CountsMark, CountsRow, HaveRoom, IsBelow, IsChange, IsGrid, IsReplaced, LosesPlace, NoneIfUncounted, NoneUpTo};
 
 use dcsp_list::Memory;
 use dcsp_problem::Problem;
@@ -31,7 +31,7 @@ enum Few {
 
 /// The marks that are replaced and those that come, where both mark one value at most.
 #[derive(Clone, Copy)]
-struct Moved {
+struct Change {
     before: Few,
     after: Few,
 }
@@ -81,38 +81,38 @@ impl RuledOut {
         requires rows { CanReplace values place self.old.rows.items self.old.counts.items self.old.firsts.items }
         ensures { IsReplaced values place (is_within span) self.old.rows.items self.new.rows.items self.new.counts.items self.new.firsts.items }
     {
-        match moved_to(&self.rows[place], span, values) {
-            Some(moved) => self.replace_few(place, values, span, moved),
+        match change_to(&self.rows[place], span, values) {
+            Some(change) => self.replace_few(place, values, span, change),
             None => self.replace(place, values, &Marks::Span(span)),
         }
     }
 
     /// The same, where both are spans of one value at most.
-    fn replace_few(&mut self, place: usize, values: usize, span: Span, moved: Moved)
+    fn replace_few(&mut self, place: usize, values: usize, span: Span, change: Change)
         requires rows { CanReplace values place self.old.rows.items self.old.counts.items self.old.firsts.items }
-        requires moved { AreMoved values (marks_at self.old.rows.items place) span moved }
+        requires change { IsChange values (marks_at self.old.rows.items place) span change }
         ensures { IsReplaced values place (is_within span) self.old.rows.items self.new.rows.items self.new.counts.items self.new.firsts.items }
     {
-        self.count_few(place, values, moved);
+        self.count_few(place, values, change);
         store(&mut self.rows[place], span);
     }
 
     /// Takes a rule's new marks, of one value at most, into the counts and firsts.
-    fn count_few(&mut self, place: usize, values: usize, moved: Moved)
+    fn count_few(&mut self, place: usize, values: usize, change: Change)
         requires place { place < length self.old.rows.items }
-        requires grid { IsGrid (with_row values self.old.rows.items place (few_row values moved.before)) values self.old.counts.items self.old.firsts.items }
+        requires grid { IsGrid (with_row values self.old.rows.items place (few_row values change.before)) values self.old.counts.items self.old.firsts.items }
         requires sized { AreSized values self.old.rows.items }
-        requires before { IsBelow values moved.before }
-        requires after { IsBelow values moved.after }
-        ensures grid { IsGrid (with_row values self.new.rows.items place (few_row values moved.after)) values self.new.counts.items self.new.firsts.items }
+        requires before { IsBelow values change.before }
+        requires after { IsBelow values change.after }
+        ensures grid { IsGrid (with_row values self.new.rows.items place (few_row values change.after)) values self.new.counts.items self.new.firsts.items }
         ensures rows { self.new.rows.items ≡ self.old.rows.items }
     {
-        match moved.before {
-            Few::Nothing => match moved.after {
+        match change.before {
+            Few::Nothing => match change.after {
                 Few::Nothing => {}
                 Few::Only(gained) => self.gain(place, values, gained),
             },
-            Few::Only(lost) => match moved.after {
+            Few::Only(lost) => match change.after {
                 Few::Nothing => self.lose(place, values, lost),
                 Few::Only(gained) => {
                     if lost != gained {
@@ -205,12 +205,12 @@ fn store(marks: &mut Marks, span: Span)
 }
 
 /// The one of so many values at most that each of them marks, if both are such spans.
-fn moved_to(old: &Marks, span: Span, values: usize) -> Option<Moved>
-    ensures { IfSome result (AreMoved values old.now span) }
+fn change_to(old: &Marks, span: Span, values: usize) -> Option<Change>
+    ensures { IfSome result (IsChange values old.now span) }
 {
     let before = few_of(old, values)?;
     let after = few_in(span, values)?;
-    Some(Moved { before, after })
+    Some(Change { before, after })
 }
 
 /// Which of so many values the marks mark, if they are a span of one at most.

@@ -6,14 +6,14 @@ use Rattle.abt_reason.proofs.grid.RuledOut.replace_few.Goals as goal
 
 pub count_few-requires-clause-grid : goal.count_few-requires-clause-grid
 count_few-requires-clause-grid c =
-    let start = few_start c.args.values c.args.self.now.rows.items c.args.place c.args.moved.before c.requires.rows.here c.requires.moved.old_is in
+    let start = few_start c.args.values c.args.self.now.rows.items c.args.place c.args.change.before c.requires.rows.here c.requires.change.old_is in
     subst (λ (rs : List (List Bool)). IsGrid rs c.args.values c.args.self.now.counts.items c.args.self.now.firsts.items) (sym start) c.requires.rows.grid
 
 pub returns : goal.returns
 returns c =
     let rows = c.count_few.new.self.rows.items in
     let here : c.args.place < length rows = omega (arith, c.requires.rows.here, ap length c.count_few.ensures.rows) in
-    let end = few_end c.args.values rows c.args.place c.args.moved.after c.store.new.marks (λ k l. c.store.ensures.marks k ∙ c.requires.moved.new_is k l) in
+    let end = few_end c.args.values rows c.args.place c.args.change.after c.store.new.marks (λ k l. c.store.ensures.marks k ∙ c.requires.change.new_is k l) in
     record {
       grid = subst (λ (rs : List (List Bool)). IsGrid rs c.args.values c.count_few.new.self.counts.items c.count_few.new.self.firsts.items) end c.count_few.ensures.grid;
       sized = sized_put c.args.values rows c.args.place c.store.new.marks here (subst (AreSized c.args.values) (sym c.count_few.ensures.rows) c.requires.rows.sized) (c.store.ensures.sized c.args.values);
