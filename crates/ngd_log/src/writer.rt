@@ -1,4 +1,8 @@
 //! A step as a line of a log.
+//!
+//! A line in the making goes by value from function to function, all inlined: so its length and its place stay in
+//! registers. Behind a reference both would be read again after each byte, which might be a part of them for all that
+//! the compiler knows.
 ghost use Rattle.std.specs.Prelude.{◌≡◌, ℕ, ◌+◌, ◌/◌, ◌%◌, ◌<◌, ◌≤◌, [], ◌∷◌, ◌++◌, flat_map, codes, decimal, length, IfOk, OnOk, OnErr, FitsSigned, vec_len, vec_capacity};
 ghost use Rattle.std.specs.Int.{w64};
 ghost use Rattle.std.specs.List.{AllByRecursion};
@@ -11,6 +15,7 @@ use dcsp_list::Memory;
 use dcsp_nogood::Pair;
 use itoa::Buffer;
 use std::alloc::AllocError;
+use std::mem::replace;
 
 /// The first line of a log.
 pub const HEAD: &[u8] = b"ngd 1\n";
@@ -30,222 +35,275 @@ pub fn write_step(number: u64, step: &Step, into: &mut Vec<u8>) -> Result<(), Me
     ensures writable { OnOk result (IsWritable step.now) }
     ensures err { OnErr result (into.new.items ≡ into.old.items) }
 {
+    let alloc = *into.allocator();
     if into.is_empty() {
-        // The line is made in its place, and a refusal in its middle leaves nothing of it.
-        return match push_step(into, number, step) {
-            Ok(()) => Ok(()),
-            Err(_) => {
-                into.clear();
-                Err(Memory)
-            }
+        // The line is made in the room that is there. A refusal loses the room, and nothing else.
+        let room = replace(into, Vec::new(alloc));
+        let Ok(line) = with_step(room, number, step) else {
+            return Err(Memory);
         };
+        *into = line;
+        return Ok(());
     }
-    let mut line = Vec::new(*into.allocator());
-    match push_step(&mut line, number, step) {
-        Ok(()) => into.extend_from_slice(&line).map_err(|_| Memory),
+    match with_step(Vec::new(alloc), number, step) {
+        Ok(line) => into.extend_from_slice(&line).map_err(|_| Memory),
         Err(_) => Err(Memory),
     }
 }
 
-/// Appends the line of a step.
-fn push_step(line: &mut Vec<u8>, number: u64, step: &Step) -> Result<(), AllocError>
-    ensures text { OnOk result (line.new.items ≡ line.old.items ++ step_line number step.now) }
+/// The line of a step behind what is there.
+fn with_step(line: Vec<u8>, number: u64, step: &Step) -> Result<Vec<u8>, AllocError>
+    ensures text { IfOk result (λ made. made.items ≡ line.items ++ step_line number step.now) }
     ensures rising { OnOk result (IsRising step.now.nogood) }
     ensures values { OnOk result (AllByRecursion (λ y. FitsSigned w64 y.value) step.now.nogood) }
 {
-    push_number(line, number)?;
-    push_byte(line, b' ')?;
-    push_variable(line, step.variable)?;
-    push_byte(line, b' ')?;
-    push_pairs(line, step.nogood.pairs())?;
-    line.extend_from_slice(b" <-")?;
-    push_reasons(line, step.reasons.items())?;
-    push_byte(line, b'\n')
+    let line = with_head(line, number, step.variable)?;
+    let line = with_pairs(line, step.nogood.pairs())?;
+    let line = with_arrow(line)?;
+    let line = with_reasons(line, step.reasons.items())?;
+    with_byte(line, b'\n')
 }
 
-/// Appends a byte. A byte at a time is faster here than a call for a short text.
-fn push_byte(line: &mut Vec<u8>, byte: u8) -> Result<(), AllocError>
-    ensures { OnOk result (line.new.items ≡ line.old.items ++ byte ∷ []) }
+/// The line and what stands before a step's pairs.
+#[inline(always)]
+fn with_head(line: Vec<u8>, number: u64, variable: Option<u32>) -> Result<Vec<u8>, AllocError>
+    ensures { IfOk result (λ made. made.items ≡ line.items ++ (decimal number ++ codes " " ++ variable_text variable ++ codes " ")) }
 {
-    match line.push(byte) {
-        Ok(()) => Ok(()),
-        Err(_) => Err(AllocError),
+    let line = with_number(line, number)?;
+    let line = with_byte(line, b' ')?;
+    let line = with_variable(line, variable)?;
+    with_byte(line, b' ')
+}
+
+/// The same with room for so many bytes more.
+#[inline(always)]
+fn with_room(line: Vec<u8>, count: usize) -> Result<Vec<u8>, AllocError>
+    ensures text { IfOk result (λ made. made.items ≡ line.items) }
+    ensures room { IfOk result (λ made. vec_len made + count ≤ vec_capacity made) }
+{
+    if line.capacity() - line.len() >= count {
+        return Ok(line);
     }
+    grown(line, count)
 }
 
-/// Appends a number below 100 in two digits, for which there is room.
-#[inline]
-fn put_two_digits(line: &mut Vec<u8>, number: u64)
-    requires number { number < 100 }
-    requires room { vec_len line.old + 2 ≤ vec_capacity line.old }
-    ensures text { line.new.items ≡ line.old.items ++ (48 + number / 10) ∷ (48 + number % 10) ∷ [] }
-    ensures len { vec_len line.new ≡ vec_len line.old + 2 }
-    ensures capacity { vec_capacity line.new ≡ vec_capacity line.old }
+/// The same with room for so many bytes more, which is taken.
+#[inline(never)]
+fn grown(line: Vec<u8>, count: usize) -> Result<Vec<u8>, AllocError>
+    ensures text { IfOk result (λ made. made.items ≡ line.items) }
+    ensures room { IfOk result (λ made. vec_len made + count ≤ vec_capacity made) }
 {
+    let mut line = line;
+    line.reserve(count)?;
+    Ok(line)
+}
+
+/// The line and a byte.
+#[inline(always)]
+fn with_byte(line: Vec<u8>, byte: u8) -> Result<Vec<u8>, AllocError>
+    ensures { IfOk result (λ made. made.items ≡ line.items ++ byte ∷ []) }
+{
+    let mut line = with_room(line, 1)?;
+    line.push_reserved(byte);
+    Ok(line)
+}
+
+/// The line and what stands before the reasons.
+#[inline(always)]
+fn with_arrow(line: Vec<u8>) -> Result<Vec<u8>, AllocError>
+    ensures { IfOk result (λ made. made.items ≡ line.items ++ codes " <-") }
+{
+    let mut line = with_room(line, 3)?;
+    line.push_reserved(b' ');
+    line.push_reserved(b'<');
+    line.push_reserved(b'-');
+    Ok(line)
+}
+
+/// The line and a number below 100 in two digits, for which there is room.
+#[inline(always)]
+fn with_two_digits(line: Vec<u8>, number: u64) -> Vec<u8>
+    requires number { number < 100 }
+    requires room { vec_len line + 2 ≤ vec_capacity line }
+    ensures text { result.items ≡ line.items ++ (48 + number / 10) ∷ (48 + number % 10) ∷ [] }
+    ensures len { vec_len result ≡ vec_len line + 2 }
+    ensures capacity { vec_capacity result ≡ vec_capacity line }
+{
+    let mut line = line;
     line.push_reserved(b'0' + (number / 10) as u8);
     line.push_reserved(b'0' + (number % 10) as u8);
+    line
 }
 
-/// Appends a number below 100 in decimal digits, for which there is room.
-#[inline]
-#[tactic(auto, using(std::proofs::lemmas::Fmt::decimal_digit, crate::proofs::Decimals::decimal_of_two))]
-fn put_small(line: &mut Vec<u8>, number: u64)
-    requires number { number < 100 }
-    requires room { vec_len line.old + 2 ≤ vec_capacity line.old }
-    ensures text { line.new.items ≡ line.old.items ++ decimal number }
-    ensures len { vec_len line.new ≤ vec_len line.old + 2 }
-    ensures capacity { vec_capacity line.new ≡ vec_capacity line.old }
-{
-    if number < 10 {
-        line.push_reserved(b'0' + number as u8);
-    } else {
-        put_two_digits(line, number);
-    }
-}
-
-/// Appends a number below 10,000 in decimal digits, for which there is room.
-#[inline]
-#[tactic(auto, using(crate::proofs::Decimals::appended_by_twos))]
-fn put_short(line: &mut Vec<u8>, number: u64)
-    requires number { number < 10_000 }
-    requires room { vec_len line.old + 4 ≤ vec_capacity line.old }
-    ensures text { line.new.items ≡ line.old.items ++ decimal number }
-    ensures len { vec_len line.new ≤ vec_len line.old + 4 }
-    ensures capacity { vec_capacity line.new ≡ vec_capacity line.old }
-{
-    if number < 100 {
-        put_small(line, number);
-    } else {
-        put_small(line, number / 100);
-        put_two_digits(line, number % 100);
-    }
-}
-
-/// Appends a number in decimal digits, and makes room for `rest` bytes more.
-fn push_long(line: &mut Vec<u8>, number: u64, rest: usize) -> Result<(), AllocError>
-    ensures text { OnOk result (line.new.items ≡ line.old.items ++ decimal number) }
-    ensures room { OnOk result (vec_len line.new + rest ≤ vec_capacity line.new) }
-{
-    line.extend_from_slice(Buffer::new().format(number).as_bytes())?;
-    line.reserve(rest)
-}
-
-/// Appends a number in decimal digits. There is room for the six of most numbers and for `rest` bytes
-/// more, and room for these stays. Most numbers have two digits at most, and take no call.
+/// The line and a number below 100 in decimal digits, for which there is room.
 #[inline(always)]
-fn push_digits(line: &mut Vec<u8>, number: u64, rest: usize) -> Result<(), AllocError>
-    requires room { vec_len line.old + 6 + rest ≤ vec_capacity line.old }
-    ensures text { OnOk result (line.new.items ≡ line.old.items ++ decimal number) }
-    ensures room { OnOk result (vec_len line.new + rest ≤ vec_capacity line.new) }
+#[tactic(auto, using(std::proofs::lemmas::Fmt::decimal_digit, crate::proofs::Decimals::decimal_of_two))]
+fn with_small(line: Vec<u8>, number: u64) -> Vec<u8>
+    requires number { number < 100 }
+    requires room { vec_len line + 2 ≤ vec_capacity line }
+    ensures text { result.items ≡ line.items ++ decimal number }
+    ensures len { vec_len result ≤ vec_len line + 2 }
+    ensures capacity { vec_capacity result ≡ vec_capacity line }
 {
-    if number < 100 {
-        put_small(line, number);
-        return Ok(());
+    if number >= 10 {
+        return with_two_digits(line, number);
     }
-    push_many(line, number, rest)
+    let mut line = line;
+    line.push_reserved(b'0' + number as u8);
+    line
 }
 
-/// Appends a number in decimal digits, as `push_digits` does.
-#[inline(never)]
+/// The line and a number below 10,000 in decimal digits, for which there is room.
+#[inline(always)]
 #[tactic(auto, using(crate::proofs::Decimals::appended_by_twos))]
-fn push_many(line: &mut Vec<u8>, number: u64, rest: usize) -> Result<(), AllocError>
-    requires number { 100 ≤ number }
-    requires room { vec_len line.old + 6 + rest ≤ vec_capacity line.old }
-    ensures text { OnOk result (line.new.items ≡ line.old.items ++ decimal number) }
-    ensures room { OnOk result (vec_len line.new + rest ≤ vec_capacity line.new) }
+fn with_short(line: Vec<u8>, number: u64) -> Vec<u8>
+    requires number { number < 10_000 }
+    requires room { vec_len line + 4 ≤ vec_capacity line }
+    ensures text { result.items ≡ line.items ++ decimal number }
+    ensures len { vec_len result ≤ vec_len line + 4 }
+    ensures capacity { vec_capacity result ≡ vec_capacity line }
 {
-    if number >= 1_000_000 {
-        return push_long(line, number, rest);
+    if number < 100 {
+        return with_small(line, number);
     }
-    put_short(line, number / 100);
-    put_two_digits(line, number % 100);
-    Ok(())
+    let line = with_small(line, number / 100);
+    with_two_digits(line, number % 100)
+}
+
+/// The line and a number in decimal digits, with room for `rest` bytes more.
+#[inline(never)]
+fn with_long(line: Vec<u8>, number: u64, rest: usize) -> Result<Vec<u8>, AllocError>
+    ensures text { IfOk result (λ made. made.items ≡ line.items ++ decimal number) }
+    ensures room { IfOk result (λ made. vec_len made + rest ≤ vec_capacity made) }
+{
+    let mut line = line;
+    line.extend_from_slice(Buffer::new().format(number).as_bytes())?;
+    line.reserve(rest)?;
+    Ok(line)
+}
+
+/// The line and a number in decimal digits. There is room for the six of most numbers and for `rest` bytes
+/// more, and room for these stays.
+#[inline(always)]
+#[tactic(auto, using(crate::proofs::Decimals::appended_by_twos))]
+fn with_digits(line: Vec<u8>, number: u64, rest: usize) -> Result<Vec<u8>, AllocError>
+    requires room { vec_len line + 6 + rest ≤ vec_capacity line }
+    ensures text { IfOk result (λ made. made.items ≡ line.items ++ decimal number) }
+    ensures room { IfOk result (λ made. vec_len made + rest ≤ vec_capacity made) }
+{
+    if number < 100 {
+        return Ok(with_small(line, number));
+    }
+    if number >= 1_000_000 {
+        return with_long(line, number, rest);
+    }
+    let line = with_short(line, number / 100);
+    Ok(with_two_digits(line, number % 100))
+}
+
+/// The line and a number in decimal digits.
+#[inline(always)]
+fn with_number(line: Vec<u8>, number: u64) -> Result<Vec<u8>, AllocError>
+    ensures { IfOk result (λ made. made.items ≡ line.items ++ decimal number) }
+{
+    let line = with_room(line, 6)?;
+    with_digits(line, number, 0)
 }
 
 /// Appends a number in decimal digits.
 pub(crate) fn push_number(line: &mut Vec<u8>, number: u64) -> Result<(), AllocError>
     ensures { OnOk result (line.new.items ≡ line.old.items ++ decimal number) }
 {
-    line.reserve(6)?;
-    push_digits(line, number, 0)
+    line.extend_from_slice(Buffer::new().format(number).as_bytes())
 }
 
-/// Appends a value in decimal digits, after `-` where it is negative. There is room for the sign and six
-/// digits.
-#[inline]
-fn push_value(line: &mut Vec<u8>, value: i64) -> Result<(), AllocError>
-    requires { vec_len line.old + 7 ≤ vec_capacity line.old }
+/// The line and a value in decimal digits, after `-` where it is negative. There is room for the sign and
+/// six digits.
+#[inline(always)]
+fn with_value(line: Vec<u8>, value: i64) -> Result<Vec<u8>, AllocError>
+    requires { vec_len line + 7 ≤ vec_capacity line }
     ensures value { OnOk result (FitsSigned w64 value) }
-    ensures text { OnOk result (line.new.items ≡ line.old.items ++ signed_decimal value) }
+    ensures text { IfOk result (λ made. made.items ≡ line.items ++ signed_decimal value) }
 {
+    let mut line = line;
     if value < 0 {
         line.push_reserved(b'-');
     }
-    push_digits(line, value.unsigned_abs(), 0)
+    with_digits(line, value.unsigned_abs(), 0)
 }
 
-fn push_variable(line: &mut Vec<u8>, variable: Option<u32>) -> Result<(), AllocError>
-    ensures { OnOk result (line.new.items ≡ line.old.items ++ variable_text variable) }
+/// The line and a step's variable.
+#[inline(always)]
+fn with_variable(line: Vec<u8>, variable: Option<u32>) -> Result<Vec<u8>, AllocError>
+    ensures { IfOk result (λ made. made.items ≡ line.items ++ variable_text variable) }
 {
     match variable {
-        None => push_byte(line, b'-'),
+        None => with_byte(line, b'-'),
         Some(variable) => {
-            push_byte(line, b'v')?;
-            push_number(line, u64::from(variable) + 1)
+            let line = with_byte(line, b'v')?;
+            with_number(line, u64::from(variable) + 1)
         }
     }
 }
 
-/// Appends a byte and a pair after it. Room for most pairs is made at once.
-fn push_pair(line: &mut Vec<u8>, before: u8, pair: &Pair) -> Result<(), AllocError>
+/// The line, a byte and a pair after it. Room for most pairs is made at once.
+#[inline(always)]
+fn with_pair(line: Vec<u8>, before: u8, pair: &Pair) -> Result<Vec<u8>, AllocError>
     ensures value { OnOk result (FitsSigned w64 pair.now.value) }
-    ensures text { OnOk result (line.new.items ≡ line.old.items ++ (before ∷ [] ++ pair_text pair.now)) }
+    ensures text { IfOk result (λ made. made.items ≡ line.items ++ (before ∷ [] ++ pair_text pair.now)) }
 {
-    line.reserve(16)?;
+    let mut line = with_room(line, 16)?;
     line.push_reserved(before);
     line.push_reserved(b'v');
-    push_digits(line, u64::from(pair.var) + 1, 8)?;
+    let mut line = with_digits(line, u64::from(pair.var) + 1, 8)?;
     line.push_reserved(b'=');
-    push_value(line, pair.value)
+    with_value(line, pair.value)
 }
 
-fn push_pairs(line: &mut Vec<u8>, pairs: &[Pair]) -> Result<(), AllocError>
+/// The line and pairs.
+#[inline(always)]
+fn with_pairs(line: Vec<u8>, pairs: &[Pair]) -> Result<Vec<u8>, AllocError>
     ensures values { OnOk result (AllByRecursion (λ y. FitsSigned w64 y.value) pairs.now) }
-    ensures text { OnOk result (line.new.items ≡ line.old.items ++ pairs_text pairs.now) }
+    ensures text { IfOk result (λ made. made.items ≡ line.items ++ pairs_text pairs.now) }
 {
     let [first, others @ ..] = pairs else {
-        return line.extend_from_slice(b"[]");
+        let line = with_byte(line, b'[')?;
+        return with_byte(line, b']');
     };
-    push_pair(line, b'[', first)?;
+    let mut line = with_pair(line, b'[', first)?;
     for pair in others {
-        push_pair(line, b',', pair)?;
+        line = with_pair(line, b',', pair)?;
     }
-    push_byte(line, b']')
+    with_byte(line, b']')
 }
 
-/// Appends a space and a reason after it. Room for most reasons is made at once.
-fn push_reason(line: &mut Vec<u8>, reason: Reason) -> Result<(), AllocError>
-    ensures { OnOk result (line.new.items ≡ line.old.items ++ (codes " " ++ reason_text reason)) }
+/// The line, a space and a reason after it. Room for most reasons is made at once.
+#[inline(always)]
+fn with_reason(line: Vec<u8>, reason: Reason) -> Result<Vec<u8>, AllocError>
+    ensures { IfOk result (λ made. made.items ≡ line.items ++ (codes " " ++ reason_text reason)) }
 {
-    line.reserve(8)?;
+    let mut line = with_room(line, 8)?;
     line.push_reserved(b' ');
     match reason {
         Reason::Rule(rule) => {
             line.push_reserved(b'c');
-            push_digits(line, u64::from(rule) + 1, 0)
+            with_digits(line, u64::from(rule) + 1, 0)
         }
         Reason::Earlier(step) => {
             line.push_reserved(b'n');
-            push_digits(line, step, 0)
+            with_digits(line, step, 0)
         }
     }
 }
 
-fn push_reasons(line: &mut Vec<u8>, reasons: &[Reason]) -> Result<(), AllocError>
-    ensures { OnOk result (line.new.items ≡ line.old.items ++ reasons_text reasons.now) }
+/// The line and reasons.
+#[inline(always)]
+fn with_reasons(line: Vec<u8>, reasons: &[Reason]) -> Result<Vec<u8>, AllocError>
+    ensures { IfOk result (λ made. made.items ≡ line.items ++ reasons_text reasons.now) }
 {
+    let mut line = line;
     for reason in reasons {
-        push_reason(line, *reason)?;
+        line = with_reason(line, *reason)?;
     }
-    Ok(())
+    Ok(line)
 }

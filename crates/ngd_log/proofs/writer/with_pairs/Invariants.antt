@@ -4,7 +4,7 @@ use Rattle.std.specs.Int.{w64}
 use Rattle.std.specs.List.{AllByRecursion}
 use Rattle.dcsp_nogood.specs.declared.Pair.{Pair}
 use Rattle.ngd_log.specs.StepText.{pair_text}
-use Rattle.ngd_log.proofs.writer.push_pairs.Given as goal
+use Rattle.ngd_log.proofs.writer.with_pairs.Given as goal
 
 -- the pairs so far are written, each after a comma
 abbrev pub invariant-loop-pair : goal.invariant-loop-pair
