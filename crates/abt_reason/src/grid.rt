@@ -1,4 +1,7 @@
 //! For each rule the values that it rules out; for each value how many rules do, and the first of them.
+//!
+//! What puts a span in place of a span is inlined: it runs for each rule at each change of a view, and the span then
+//! stays out of memory until it is stored.
 
 ghost use Rattle.std.specs.Prelude.{◌≡◌, ◌≢◌, ◌<◌, ◌≤◌, ◌+◌, ◌^◌, ℕ, Bool, All, IfOk, IfSome, IsTrue, None, length, true, false, slice_index_or, ◌||◌, ◌==◌};
 ghost use Rattle.dcsp_problem.specs.Problems.{rule_at};
@@ -77,6 +80,7 @@ impl RuledOut {
 
     /// Puts a span in place of what the rule ruled out. Most rules rule out one value, and then another:
     /// only these two are touched.
+    #[inline(always)]
     pub fn replace_span(&mut self, place: usize, values: usize, span: Span)
         requires rows { CanReplace values place self.old.rows.items self.old.counts.items self.old.firsts.items }
         ensures { IsReplaced values place (is_within span) self.old.rows.items self.new.rows.items self.new.counts.items self.new.firsts.items }
@@ -88,6 +92,7 @@ impl RuledOut {
     }
 
     /// The same, where both are spans of one value at most.
+    #[inline(always)]
     fn replace_few(&mut self, place: usize, values: usize, span: Span, change: Change)
         requires rows { CanReplace values place self.old.rows.items self.old.counts.items self.old.firsts.items }
         requires change { IsChange values (marks_at self.old.rows.items place) span change }
@@ -98,6 +103,7 @@ impl RuledOut {
     }
 
     /// Takes a rule's new marks, of one value at most, into the counts and firsts.
+    #[inline(always)]
     fn count_few(&mut self, place: usize, values: usize, change: Change)
         requires place { place < length self.old.rows.items }
         requires grid { IsGrid (with_row values self.old.rows.items place (few_row values change.before)) values self.old.counts.items self.old.firsts.items }
@@ -193,6 +199,7 @@ impl RuledOut {
 }
 
 /// Puts a span in place of a span.
+#[inline(always)]
 fn store(marks: &mut Marks, span: Span)
     requires { is_row marks.old ≡ false }
     ensures sized { (size : ℕ) → FitsSize size marks.new }
@@ -205,6 +212,7 @@ fn store(marks: &mut Marks, span: Span)
 }
 
 /// The one of so many values at most that each of them marks, if both are such spans.
+#[inline(always)]
 fn change_to(old: &Marks, span: Span, values: usize) -> Option<Change>
     ensures { IfSome result (IsChange values old.now span) }
 {
@@ -214,6 +222,7 @@ fn change_to(old: &Marks, span: Span, values: usize) -> Option<Change>
 }
 
 /// Which of so many values the marks mark, if they are a span of one at most.
+#[inline(always)]
 fn few_of(marks: &Marks, values: usize) -> Option<Few>
     ensures span { IfSome result (λ few. is_row marks.now ≡ false) }
     ensures few { IfSome result (λ few. IsBelow values few) }
@@ -226,11 +235,12 @@ fn few_of(marks: &Marks, values: usize) -> Option<Few>
 }
 
 /// Which of so many places the span has, if it has one at most.
+#[inline(always)]
 fn few_in(span: Span, values: usize) -> Option<Few>
     ensures few { IfSome result (λ few. IsBelow values few) }
     ensures same { IfSome result (λ few. (k : ℕ) → k < values → is_within span k ≡ is_only few k) }
 {
-    if span.outside {
+    if span.outside != 0 {
         return None;
     }
     if span.from >= span.to || span.from >= values {

@@ -1,5 +1,5 @@
 -- Between its ends a span has all places or none.
-use Rattle.std.proofs.Common.{◌≡◌, ◌≢◌, ℕ, ◌<◌, ◌≤◌, Bool, true, false, not, refl, ◌&&◌, cond, nat_lt, ap, ◌∙◌, arith, inl, inr}
+use Rattle.std.proofs.Common.{◌≡◌, ◌≢◌, ◌==◌, ℕ, ◌<◌, ◌≤◌, Bool, true, false, not, refl, ◌&&◌, cond, nat_lt, ap, ◌∙◌, arith, inl, inr}
 use mathlib.Core.Bool.{beq}
 use Rattle.std.proofs.lemmas.Bool.{cases_lt}
 use Rattle.std.proofs.lemmas.Bool.Decides.{nat_tests}
@@ -19,7 +19,7 @@ same_side at k until end l m cut = elim (cases_lt at end) [
 ]
 
 pub steady : (span : Span) (at k until : ℕ) → at ≤ k → k < until → (at < span.from → until ≤ span.from) → (at < span.to → until ≤ span.to) → is_within span k ≡ is_within span at
-steady span at k until l m from to = ap (λ b. cond span.outside (not b) b)
+steady span at k until l m from to = ap (λ b. cond (span.outside == 0) b (not b))
     (ap (λ b. b && not (nat_lt k span.from)) (same_side at k until span.to l m to) ∙ ap (λ b. nat_lt at span.to && not b) (same_side at k until span.from l m from))
 
 pub alike : (a b : Bool) → not (beq a b) ≡ false → a ≡ b

@@ -54,6 +54,7 @@ pub fn missed_after(rel: Rel, sum: i128) -> Cut
 }
 
 /// The places of those of these values whose products with the factor are in the cut.
+#[inline(always)]
 pub fn product_span(cut: Cut, factor: u64, domain: &Domain) -> Span
     requires number { unsigned_abs (number_of cut.part) ≤ farthest }
     requires factor { 0 < factor }
@@ -64,6 +65,7 @@ pub fn product_span(cut: Cut, factor: u64, domain: &Domain) -> Span
 }
 
 /// The places of those of these values whose products with the factor are of the part.
+#[inline(always)]
 fn span_of(part: Part, factor: u64, domain: &Domain) -> Span
     requires { 0 < factor }
     ensures { SpansWhere (λ x. is_of part (pos factor *ℤ x)) domain.now result }
@@ -73,12 +75,13 @@ fn span_of(part: Part, factor: u64, domain: &Domain) -> Span
         Part::Below(bound) => Span {
             from: 0,
             to: count_below(domain, factor, bound),
-            outside: false,
+            outside: 0,
         },
     }
 }
 
 /// The place of the value whose product with the factor is this number, if there is one.
+#[inline(always)]
 fn span_of_number(number: i128, factor: u64, domain: &Domain) -> Span
     requires { 0 < factor }
     ensures { SpansWhere (λ x. int_eq (pos factor *ℤ x) number) domain.now result }
@@ -93,11 +96,12 @@ fn span_of_number(number: i128, factor: u64, domain: &Domain) -> Span
     Span {
         from,
         to: from + 1,
-        outside: false,
+        outside: 0,
     }
 }
 
 /// How many of these values have a product with the factor below the bound. They are the first ones.
+#[inline(always)]
 fn count_below(domain: &Domain, factor: u64, bound: i128) -> usize
     requires { 0 < factor }
     ensures { (k : ℕ) → k < length domain.now → int_lt (pos factor *ℤ own_at domain.now k) bound ≡ nat_lt k result }

@@ -1,4 +1,7 @@
 //! What a rule rules out.
+//!
+//! What leads from a pair of variables to its span runs for each rule at each change of a view. It is inlined, as
+//! is what takes the span in, so that no span goes through memory.
 
 ghost use Rattle.std.specs.Prelude.{◌≡◌, ◌<◌, ◌≤◌, ℤ, length, IfSome, IsTrue, is_some, not};
 ghost use Rattle.dcsp_defs.specs.Csp.{domain};
@@ -50,6 +53,7 @@ pub fn span_of<L: Lookup>(
 }
 
 /// The values at which both of the pair's variables are known, and it is false.
+#[inline(always)]
 fn span_of_pair<L: Lookup>(pair: Pair, domain: &Domain, open_var: &OpenVariable<'_, L>) -> Span
     requires { IsSmall pair }
     ensures { SpansWhere (λ x. is_missed pair (with_value open_var.now.var x (L.values open_var.now.lookup.now))) domain.now result }

@@ -81,6 +81,7 @@ pub fn sum_at(line: Line, value: i64) -> i128
 }
 
 /// A pair's products, added up, where one variable is open; `None` where another has no value.
+#[inline(always)]
 pub fn line_of_pair<L: Lookup>(pair: Pair, open_var: &OpenVariable<'_, L>) -> Option<Line>
     requires { IsSmall pair }
     ensures known { (x : ℤ) → let values = with_value open_var.now.var x (L.values open_var.now.lookup.now) in is_some result ≡ (is_some (values pair.first) && is_some (values pair.second)) }
@@ -102,6 +103,7 @@ pub fn line_of_pair<L: Lookup>(pair: Pair, open_var: &OpenVariable<'_, L>) -> Op
 }
 
 /// The product of a coefficient and a value; where the value is open, 0 and the coefficient.
+#[inline(always)]
 fn product_of(coef: i64, found: Found) -> (i128, i64)
     ensures product { (x : ℤ) → result.0 +ℤ (result.1 *ℤ x) ≡ coef *ℤ found_at found x }
     ensures size { unsigned_abs coef < 2 ^ 62 → (unsigned_abs result.0 ≤ 2 ^ 125) × (unsigned_abs result.1 < 2 ^ 62) }

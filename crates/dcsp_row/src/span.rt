@@ -11,29 +11,33 @@ use crate::word::low_word;
 pub struct Span {
     pub from: usize,
     pub to: usize,
-    pub outside: bool,
+    /// Not 0 for all other places. It is a whole word, so that a span has no gap between its fields: a gap is
+    /// copied byte by byte, and the copy waits for what was written just before.
+    pub outside: u64,
 }
 
 impl Span {
     /// All places, or none.
+    #[inline(always)]
     pub fn whole(all: bool) -> Span
         ensures { (k : ℕ) → is_within result k ≡ all }
     {
         Span {
             from: 0,
             to: 0,
-            outside: all,
+            outside: u64::from(all),
         }
     }
 
     /// The other places.
+    #[inline(always)]
     pub fn others(self) -> Span
         ensures { (k : ℕ) → is_within result k ≡ not (is_within self k) }
     {
         Span {
             from: self.from,
             to: self.to,
-            outside: !self.outside,
+            outside: u64::from(self.outside == 0),
         }
     }
 
@@ -42,7 +46,7 @@ impl Span {
         ensures { result ≡ is_within self place }
     {
         let between = self.from <= place && place < self.to;
-        between != self.outside
+        between != (self.outside != 0)
     }
 
     /// The first of so many places, from this one on, that one of the spans has and the other does not;
@@ -68,7 +72,7 @@ impl Span {
         ensures { (bit : ℕ) → bit < 64 → (bit_at result bit == 1) ≡ is_within self (block * 64 + bit) }
     {
         let between = word_between(self.from, self.to, block);
-        if self.outside { !between } else { between }
+        if self.outside != 0 { !between } else { between }
     }
 }
 

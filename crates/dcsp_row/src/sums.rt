@@ -71,6 +71,7 @@ pub fn off_span(opened: OpenSum, domain: &Domain) -> Option<Span>
 }
 
 /// The places of those of these values at which the sum does not stand so to the total.
+#[inline(always)]
 pub fn missed_line(rel: Rel, line: Line, total: i128, domain: &Domain) -> Span
     requires base { unsigned_abs line.base ≤ widest }
     requires total { unsigned_abs total ≤ 2 ^ 65 }

@@ -177,7 +177,7 @@ fn changes_are_found(rt: HostRuntime) {
     let run = Marks::Span(Span {
         from: 64,
         to: 66,
-        outside: false,
+        outside: 0,
     });
     expect_change(&rt, &run, &none, 0, Some(64));
     expect_change(&rt, &run, &none, 65, Some(65));
@@ -192,7 +192,7 @@ fn marks_are_copied(rt: HostRuntime) {
     let span = Span {
         from: 0,
         to: 70,
-        outside: true,
+        outside: 1,
     };
     let row = Row::new(rt.alloc(), 130).expect(&rt, "memory");
     let mut copy = Marks::Row(row);
