@@ -2,17 +2,17 @@
 use Rattle.std.specs.Prelude.{◌≡◌, ℕ, ◌+◌, ◌*◌, ◌≤◌, ℤ, pos, ◌+ℤ◌, ◌*ℤ◌, Bool, true, false, not, List, [], ◌∷◌, Option, Some, None, ◌&&◌, is_some, unsigned_abs, unwrap_or}
 use Rattle.dcsp_linear.specs.Sums.{stands}
 use Rattle.dcsp_problem.specs.Rules.{is_told}
-use Rattle.dcsp_row.specs.declared.known.Found.{Found}
-use Rattle.dcsp_row.specs.declared.known.Found.TheVariants.{Open, Value}
+use Rattle.dcsp_row.specs.declared.known.ValueOrOpen.{ValueOrOpen}
+use Rattle.dcsp_row.specs.declared.known.ValueOrOpen.TheVariants.{Open, Value}
 use Rattle.dcsp_row.specs.declared.line.Line.{Line}
 use Rattle.dcsp_row.specs.declared.sums.OpenSum.{OpenSum}
 use Rattle.dcsp_row.specs.declared.sums.SumTruth.{SumTruth}
 use Rattle.dcsp_row.specs.declared.sums.SumTruth.TheVariants.{HasToHold, By, ByOpen}
 
--- the value that was found, where the open variable has this one
-abbrev pub found_at : Found → ℤ → ℤ
-found_at Open x = x
-found_at (Value value) x = value
+-- the value, or that of the open variable, where the open variable has this one
+abbrev pub value_or_open_at : ValueOrOpen → ℤ → ℤ
+value_or_open_at Open x = x
+value_or_open_at (Value value) x = value
 
 -- the product with the open variable's coefficient, if it has one
 abbrev pub own_part : Option ℤ → ℤ → ℤ

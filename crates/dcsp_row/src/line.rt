@@ -7,9 +7,9 @@ ghost use Rattle.dcsp_problem.specs.Rules.{weighted_values};
 ghost use Rattle.dcsp_problem.specs.Pairs.{pair_sum, IsSmall};
 ghost use Rattle.dcsp_row.specs.Rows.{FitAtEach};
 ghost use Rattle.dcsp_row.specs.Easy.{own_coefs};
-ghost use Rattle.dcsp_row.specs.Lines.{found_at, line_at, line_size, open_coef, AddsTerm};
+ghost use Rattle.dcsp_row.specs.Lines.{line_at, line_size, open_coef, value_or_open_at, AddsTerm};
 
-use crate::known::{Found, OpenVariable, known_value, value_or_open};
+use crate::known::{OpenVariable, ValueOrOpen, known_value, value_or_open};
 use dcsp_domain::Domain;
 use dcsp_linear::{plus_product, product};
 use dcsp_problem::{Lookup, Pair, Term};
@@ -104,12 +104,12 @@ pub fn line_of_pair<L: Lookup>(pair: Pair, open_var: &OpenVariable<'_, L>) -> Op
 
 /// The product of a coefficient and a value; where the value is open, 0 and the coefficient.
 #[inline(always)]
-fn product_of(coef: i64, found: Found) -> (i128, i64)
-    ensures product { (x : ℤ) → result.0 +ℤ (result.1 *ℤ x) ≡ coef *ℤ found_at found x }
+fn product_of(coef: i64, found: ValueOrOpen) -> (i128, i64)
+    ensures product { (x : ℤ) → result.0 +ℤ (result.1 *ℤ x) ≡ coef *ℤ value_or_open_at found x }
     ensures size { unsigned_abs coef < 2 ^ 62 → (unsigned_abs result.0 ≤ 2 ^ 125) × (unsigned_abs result.1 < 2 ^ 62) }
 {
     match found {
-        Found::Value(value) => (product(coef, value), 0),
-        Found::Open => (0, coef),
+        ValueOrOpen::Value(value) => (product(coef, value), 0),
+        ValueOrOpen::Open => (0, coef),
     }
 }
