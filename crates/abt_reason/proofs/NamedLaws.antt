@@ -81,18 +81,7 @@ in_part xs start end x k within low high is =
     let back : start + place ≡ k = omega (arith, low) in
     (place, omega (arith, size, rest, below, within), get_or-take (end - start) (drop start xs) place x below ∙ get_or-drop start xs place x ∙ ap (λ n. get_or xs n x) back ∙ is)
 
-module _ (xs : List Naming) (var start end : ℕ) (within : start ≤ length xs) (low : (k : ℕ) (d : Naming) → k < start → (get_or xs k d).var < var) (high : (k : ℕ) (d : Naming) → end ≤ k → k < length xs → var < (get_or xs k d).var) where
-  -- the variable ends no earlier than it begins
-  pub ends_after : start ≤ end
-  ends_after = elim (cases_lt end start) [
-    | inl less ↦
-        let inside : end < length xs = omega arith in
-        let below = low end (naming 0 0) less in
-        let above = high end (naming 0 0) (omega arith) inside in
-        absurd (omega (arith, below, above))
-    | inr fine ↦ omega arith
-  ]
-
+module _ (xs : List Naming) (var start end : ℕ) (low : (k : ℕ) (d : Naming) → k < start → (get_or xs k d).var < var) (high : (k : ℕ) (d : Naming) → end ≤ k → k < length xs → var < (get_or xs k d).var) where
   -- what names the variable stands between
   pub all_between : (place : ℕ) → end ≤ length xs → Contains xs (naming place var) → Contains (slice_range xs start end) (naming place var)
   all_between place ends found =

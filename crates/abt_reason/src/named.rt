@@ -41,7 +41,8 @@ impl NamedIn {
         ensures complete { (place : ℕ) → Contains self.now.namings.items (naming place var) → Contains result.now (naming place var) }
     {
         let namings = self.namings.as_slice();
-        &namings[start_of(namings, var)..end_of(namings, var)]
+        let start = start_of(namings, var);
+        &namings[start..end_of(namings, var, start)]
     }
 }
 
@@ -97,12 +98,21 @@ fn start_of(namings: &[Naming], var: u32) -> usize
     namings.partition_point(|naming| naming.var < var)
 }
 
-/// Where the variables after this one begin, or would.
-fn end_of(namings: &[Naming], var: u32) -> usize
-    requires { RisesByVariable namings.now }
+/// Where the variables after this one begin, or would, sought from where this one begins: few rules name a
+/// variable.
+fn end_of(namings: &[Naming], var: u32, start: usize) -> usize
+    requires rising { RisesByVariable namings.now }
+    requires start { start ≤ length namings.now }
+    requires before { (k : ℕ) (d : Naming) → k < start → (slice_index_or namings.now k d).var ≤ var }
+    ensures from { start ≤ result }
     ensures within { result ≤ length namings.now }
     ensures before { (k : ℕ) (d : Naming) → k < result → (slice_index_or namings.now k d).var ≤ var }
     ensures after { (k : ℕ) (d : Naming) → result ≤ k → k < length namings.now → var < (slice_index_or namings.now k d).var }
 {
-    namings.partition_point(|naming| naming.var <= var)
+    for end in start..namings.len() {
+        if namings[end].var > var {
+            return end;
+        }
+    }
+    namings.len()
 }

@@ -1,13 +1,13 @@
-use Rattle.std.proofs.Common.{leb, leb-true, leb-false, arith, rules}
-use Rattle.std.proofs.lemmas.List.Sorted.{IsPartitionPoint-from_clause, IsPartitionedBy-leb}
+use Rattle.std.proofs.Common.{ap, arith}
+use Rattle.std.proofs.lemmas.List.{get_or_default}
+use Rattle.abt_reason.specs.declared.named.Naming.{Naming}
+use Rattle.abt_reason.specs.Named.{naming}
 use Rattle.abt_reason.proofs.named.end_of.Goals as goal
 
-pub returns : goal.returns
-returns c =
-    let parted = IsPartitionedBy-leb (λ n. n.var) _ c.args.var c.requires in
-    let point = IsPartitionPoint-from_clause (λ n. leb n.var c.args.var) _ _ c.partition_point.ensures.partitioned parted (λ a r q k. search rules) in
-    record {
-      within = c.partition_point.ensures.bound;
-      before = λ k d h. leb-true _ _ (point.0 k d (omega arith) h);
-      after = λ k d low high. leb-false _ _ (point.1 k d low high);
-    }
+pub returns-then-namings-end-clause-after : goal.returns-then-namings-end-clause-after
+returns-then-namings-end-clause-after c = λ k d past within.
+    let namings = c.args.namings.now in
+    let end = c.loop-end.end in
+    let rises = c.requires.rising end k d past within in
+    let same = ap (λ (n : Naming). n.var) (get_or_default namings end (naming 0 0) d c.loop-end-test.true) in
+    omega (arith, rises, same, c.if-namings-end.true)
