@@ -32,6 +32,13 @@ size_of p agent = length (domain (csp_of p) agent)
 abbrev pub rules_of : Contents → ℕ → ℕ
 rules_of p agent = length (owned_rules p agent)
 
+-- the agent exists, these are the rules that it owns, and so many values has its domain
+pub record IsOwner (p : Contents) (agent : ℕ) (rules : List ℕ) (values : ℕ) : Type 0 where
+  pub agent_exists : agent < length p.domains
+  pub rules_are : rules ≡ owned_rules p agent
+  pub rules_exist : All (λ rule. rule < length p.rules) rules
+  pub values_are : values ≡ size_of p agent
+
 -- the row of the owned rule at a place tells at which of the agent's values it is false
 abbrev pub IsRightAt : Contents → ℕ → PartialAssignment → List (List Bool) → ℕ → Type 0
 IsRightAt p agent known rows place = (k : ℕ) → k < size_of p agent → marks rows k place ≡ is_false p agent (known_at p agent known k) place
@@ -101,8 +108,8 @@ pub record AreRuleLists (p : Contents) (agent : ℕ) (rows : List Marks) (counts
   pub has_room : IsRoom (size_of p agent) room
 
 -- what every cache is
-pub record IsCache (r : Cached) (rows : List Marks) (counts : List ℕ) (firsts : List (Option ℕ)) (namings : List Naming) (room : Marks) : Type 0 where
-  pub agent_exists : r.agent < length r.problem.domains
+pub record IsCache (r : Cached) (owned : List ℕ) (rows : List Marks) (counts : List ℕ) (firsts : List (Option ℕ)) (namings : List Naming) (room : Marks) : Type 0 where
+  pub owner : IsOwner r.problem r.agent owned (size_of r.problem r.agent)
   pub rising : IsRising (domain (csp_of r.problem) r.agent)
   pub rows_are : r.rows ≡ rows_of (size_of r.problem r.agent) rows
   pub for_rules : AreRuleLists r.problem r.agent rows counts firsts namings room

@@ -26,6 +26,8 @@ use std::marker::Model;
 pub struct Reasons<'p> {
     problem: &'p Problem,
     agent: u32,
+    /// The rules that the agent owns. They are kept at hand, since each step asks for some for each value.
+    owned: &'p [u32],
     rules: FirstRules,
     kept: KeptSteps,
 }
@@ -38,7 +40,7 @@ impl<'p> Model for Reasons<'p> {
 
     ghost view = { λ r. record { problem = r.problem.now; agent = r.agent; rows = rows_of (size_of r.problem.now r.agent) r.rules.ruled_out.rows.items; steps = r.kept.steps.items; count = r.kept.count; own = r.kept.own } };
 
-    ghost invariant = { λ r. IsCache (record { problem = r.problem.now; agent = r.agent; rows = rows_of (size_of r.problem.now r.agent) r.rules.ruled_out.rows.items; steps = r.kept.steps.items; count = r.kept.count; own = r.kept.own }) r.rules.ruled_out.rows.items r.rules.ruled_out.counts.items r.rules.ruled_out.firsts.items r.rules.named.namings.items r.rules.room };
+    ghost invariant = { λ r. IsCache (record { problem = r.problem.now; agent = r.agent; rows = rows_of (size_of r.problem.now r.agent) r.rules.ruled_out.rows.items; steps = r.kept.steps.items; count = r.kept.count; own = r.kept.own }) r.owned.now r.rules.ruled_out.rows.items r.rules.ruled_out.counts.items r.rules.ruled_out.firsts.items r.rules.named.namings.items r.rules.room };
 }
 
 impl<'p> Reasons<'p> {
@@ -55,6 +57,7 @@ impl<'p> Reasons<'p> {
         Ok(Reasons {
             problem,
             agent,
+            owned: problem.owned(agent),
             rules,
             kept,
         })
@@ -69,14 +72,17 @@ impl<'p> Reasons<'p> {
         ensures agent { self.new.agent ≡ self.old.agent }
         ensures stands { StandsFor self.new (values_in (view_of view.now)) store.now }
     {
+        let domain = self.problem.domain(self.agent);
         let owner = Owner {
             problem: self.problem,
             agent: self.agent,
+            rules: self.owned,
+            values: domain.len(),
             view,
         };
         self.rules.after_view(&owner, var);
         let seat = Seat {
-            domain: self.problem.domain(self.agent),
+            domain,
             agent: self.agent,
             known: &ViewValues { view },
         };
@@ -105,7 +111,7 @@ impl<'p> Reasons<'p> {
         ensures { (known : PartialAssignment) (items : List TheRecorded) → StandsFor self.now known items → result ≡ reason_for self.now.problem self.now.agent known items (value_at self.now.problem self.now.agent place) }
     {
         match self.rules.ruled_out.firsts[place] {
-            Some(at) => Some(Reason::Rule(self.problem.owned(self.agent)[at as usize])),
+            Some(at) => Some(Reason::Rule(self.owned[at as usize])),
             None => earlier(self.kept.steps[place]),
         }
     }

@@ -6,7 +6,7 @@ ghost use Rattle.dcsp_problem.specs.Problems.{csp_of, AreInDomains};
 ghost use Rattle.abt_view.specs.Views.{view_of};
 ghost use Rattle.abt_reason.specs.declared.named.Naming.{Naming as TheNaming};
 ghost use Rattle.abt_reason.specs.Grids.{rows_of};
-ghost use Rattle.abt_reason.specs.Cached.{size_of, rules_of, AreRightAt, AreRows, AreRuleLists, HasMarksOf, IsRightAt, IsRoom, KeepsOthers, KeepsRows, RowsStoodBefore, StaysRight};
+ghost use Rattle.abt_reason.specs.Cached.{size_of, rules_of, AreRightAt, AreRows, AreRuleLists, HasMarksOf, IsOwner, IsRightAt, IsRoom, KeepsOthers, KeepsRows, RowsStoodBefore, StaysRight};
 
 use crate::grid::{OwnedRules, RuledOut};
 use crate::named::{NamedIn, Naming};
@@ -22,6 +22,10 @@ use std::alloc::Global;
 pub struct Owner<'a> {
     pub problem: &'a Problem,
     pub agent: u32,
+    /// The rules that it owns.
+    pub rules: &'a [u32],
+    /// The number of its values.
+    pub values: usize,
     pub view: &'a View,
 }
 
@@ -57,6 +61,8 @@ impl FirstRules {
         let owner = Owner {
             problem,
             agent,
+            rules: owned,
+            values,
             view: &view,
         };
         refresh_all(&mut ruled_out, &mut room, &owner);
@@ -69,7 +75,7 @@ impl FirstRules {
 
     /// Takes in that the view has changed at one variable. It takes no memory.
     pub fn after_view(&mut self, owner: &Owner, var: u32)
-        requires agent { owner.now.agent < length owner.now.problem.now.domains }
+        requires owner { IsOwner owner.now.problem.now owner.now.agent owner.now.rules.now owner.now.values }
         requires lists { AreRuleLists owner.now.problem.now owner.now.agent self.old.ruled_out.rows.items self.old.ruled_out.counts.items self.old.ruled_out.firsts.items self.old.named.namings.items self.old.room }
         requires domains { AreInDomains (csp_of owner.now.problem.now) (values_in (view_of owner.now.view.now)) }
         requires stood { RowsStoodBefore owner.now.problem.now owner.now.agent var (values_in (view_of owner.now.view.now)) (rows_of (size_of owner.now.problem.now owner.now.agent) self.old.ruled_out.rows.items) }
@@ -83,7 +89,7 @@ impl FirstRules {
 
 /// Brings the row of each rule up to date.
 fn refresh_all(ruled_out: &mut RuledOut, room: &mut Marks, owner: &Owner)
-    requires agent { owner.now.agent < length owner.now.problem.now.domains }
+    requires owner { IsOwner owner.now.problem.now owner.now.agent owner.now.rules.now owner.now.values }
     requires domains { AreInDomains (csp_of owner.now.problem.now) (values_in (view_of owner.now.view.now)) }
     requires room { IsRoom (size_of owner.now.problem.now owner.now.agent) room.old }
     requires rows { AreRows owner.now.problem.now owner.now.agent ruled_out.old.rows.items ruled_out.old.counts.items ruled_out.old.firsts.items }
@@ -91,7 +97,7 @@ fn refresh_all(ruled_out: &mut RuledOut, room: &mut Marks, owner: &Owner)
     ensures rows { AreRows owner.now.problem.now owner.now.agent ruled_out.new.rows.items ruled_out.new.counts.items ruled_out.new.firsts.items }
     ensures right { KeepsRows owner.now.problem.now owner.now.agent (values_in (view_of owner.now.view.now)) (rows_of (size_of owner.now.problem.now owner.now.agent) ruled_out.new.rows.items) }
 {
-    for place in 0..owner.problem.owned(owner.agent).len() {
+    for place in 0..owner.rules.len() {
         refresh(ruled_out, room, owner, place);
     }
 }
@@ -99,7 +105,7 @@ fn refresh_all(ruled_out: &mut RuledOut, room: &mut Marks, owner: &Owner)
 /// Brings the rows of these rules up to date.
 fn refresh_each(ruled_out: &mut RuledOut, room: &mut Marks, owner: &Owner, namings: &[Naming])
     requires within { All (λ (n : TheNaming). n.place < rules_of owner.now.problem.now owner.now.agent) namings.now }
-    requires agent { owner.now.agent < length owner.now.problem.now.domains }
+    requires owner { IsOwner owner.now.problem.now owner.now.agent owner.now.rules.now owner.now.values }
     requires domains { AreInDomains (csp_of owner.now.problem.now) (values_in (view_of owner.now.view.now)) }
     requires room { IsRoom (size_of owner.now.problem.now owner.now.agent) room.old }
     requires rows { AreRows owner.now.problem.now owner.now.agent ruled_out.old.rows.items ruled_out.old.counts.items ruled_out.old.firsts.items }
@@ -115,7 +121,7 @@ fn refresh_each(ruled_out: &mut RuledOut, room: &mut Marks, owner: &Owner, namin
 
 /// Brings the row of one rule up to date.
 fn refresh(ruled_out: &mut RuledOut, room: &mut Marks, owner: &Owner, place: usize)
-    requires agent { owner.now.agent < length owner.now.problem.now.domains }
+    requires owner { IsOwner owner.now.problem.now owner.now.agent owner.now.rules.now owner.now.values }
     requires place { place < rules_of owner.now.problem.now owner.now.agent }
     requires domains { AreInDomains (csp_of owner.now.problem.now) (values_in (view_of owner.now.view.now)) }
     requires room { IsRoom (size_of owner.now.problem.now owner.now.agent) room.old }
@@ -125,18 +131,17 @@ fn refresh(ruled_out: &mut RuledOut, room: &mut Marks, owner: &Owner, place: usi
     ensures right { IsRightAt owner.now.problem.now owner.now.agent (values_in (view_of owner.now.view.now)) (rows_of (size_of owner.now.problem.now owner.now.agent) ruled_out.new.rows.items) place }
     ensures others { KeepsOthers (size_of owner.now.problem.now owner.now.agent) place ruled_out.old.rows.items ruled_out.new.rows.items }
 {
-    let rule = owner.problem.owned(owner.agent)[place];
-    let values = owner.problem.domain(owner.agent).len();
+    let rule = owner.rules[place];
     let known = ViewValues { view: owner.view };
     let open_var = OpenVariable {
         var: owner.agent,
         lookup: &known,
     };
     match span_of(owner.problem, rule, &open_var) {
-        Some(span) => ruled_out.replace_span(place, values, span),
+        Some(span) => ruled_out.replace_span(place, owner.values, span),
         None => {
             fill(owner, rule, room);
-            ruled_out.replace(place, values, room);
+            ruled_out.replace(place, owner.values, room);
         }
     }
 }

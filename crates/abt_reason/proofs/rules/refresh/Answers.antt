@@ -9,9 +9,9 @@ pub returns-in-Some-clause-right : goal.returns-in-Some-clause-right
 returns-in-Some-clause-right c =
     let rows = c.replace_span.new.self.rows.items in
     let here : c.args.place < length rows = omega (arith, c.requires.place, c.requires.rows.each_rule, c.replace_span.ensures.rules) in
-    right_at c.args.owner.now.problem.now c.args.owner.now.agent (values_in (view_of c.args.owner.now.view.now)) rows c.args.place _ here (ap (λ (rules : List ℕ). get_or rules c.args.place 0) c.owned.ensures.rules)
+    right_at c.args.owner.now.problem.now c.args.owner.now.agent (values_in (view_of c.args.owner.now.view.now)) rows c.args.place _ here (ap (λ (rules : List ℕ). get_or rules c.args.place 0) c.requires.owner.rules_are)
     (λ k within.
-    let inside : k < c.len-values.result = omega (arith, within, c.len-values.ensures.len, ap length c.domain.ensures) in
+    let inside : k < c.args.owner.now.values = omega (arith, within, c.requires.owner.values_are) in
     c.replace_span.ensures.replaced k inside ∙ c.in-Some.ensures.span k within)
 
 pub returns-in-Some-clause-others : goal.returns-in-Some-clause-others
@@ -21,9 +21,9 @@ pub returns-clause-right : goal.returns-clause-right
 returns-clause-right c =
     let rows = c.replace.new.self.rows.items in
     let here : c.args.place < length rows = omega (arith, c.requires.place, c.requires.rows.each_rule, c.replace.ensures.rules) in
-    right_at c.args.owner.now.problem.now c.args.owner.now.agent (values_in (view_of c.args.owner.now.view.now)) rows c.args.place _ here (ap (λ (rules : List ℕ). get_or rules c.args.place 0) c.owned.ensures.rules)
+    right_at c.args.owner.now.problem.now c.args.owner.now.agent (values_in (view_of c.args.owner.now.view.now)) rows c.args.place _ here (ap (λ (rules : List ℕ). get_or rules c.args.place 0) c.requires.owner.rules_are)
     (λ k within.
-    let inside : k < c.len-values.result = omega (arith, within, c.len-values.ensures.len, ap length c.domain.ensures) in
+    let inside : k < c.args.owner.now.values = omega (arith, within, c.requires.owner.values_are) in
     c.replace.ensures.replaced k inside ∙ c.fill.ensures.marks k within)
 
 pub returns-clause-others : goal.returns-clause-others

@@ -23,9 +23,9 @@ within_values : (r : Cached) (shown : Cached) (k : ℕ) → r ≡ shown → k < 
 within_values r shown k e l = subst (λ (x : Cached). k < size_of x.problem x.agent) (sym e) l
 
 -- the first row that marks the value
-first_row : (r : Cached) (rows : List Marks) (counts : List ℕ) (firsts : List (Option ℕ)) (namings : List Naming) (room : Marks) (k : ℕ) (o : Option ℕ) → IsCache r rows counts firsts namings room → k < size_of r.problem r.agent → o ≡ get_or firsts k o
+first_row : (r : Cached) (owned : List ℕ) (rows : List Marks) (counts : List ℕ) (firsts : List (Option ℕ)) (namings : List Naming) (room : Marks) (k : ℕ) (o : Option ℕ) → IsCache r owned rows counts firsts namings room → k < size_of r.problem r.agent → o ≡ get_or firsts k o
     → IsFirst (marks r.rows k) (rules_of r.problem r.agent) o
-first_row r rows counts firsts namings room k o inv within is =
+first_row r owned rows counts firsts namings room k o inv within is =
     let are = inv.for_rules.are_rows in
     let for_firsts : k < length firsts = let size = are.grid.first_each in omega arith in
     let found = are.grid.right_first k within in
@@ -33,26 +33,26 @@ first_row r rows counts firsts namings room k o inv within is =
     subst (λ (rs : List (List Bool)). IsFirst (marks rs k) (rules_of r.problem r.agent) o) (sym inv.rows_are)
     (subst (λ n. IsFirst (marks held k) n o) (count_rows (size_of r.problem r.agent) rows ∙ are.each_rule) (subst (IsFirst (marks held k) (length held)) (sym (is ∙ get_or_default firsts k o None for_firsts)) found))
 
-place_in_range : (r shown : Cached) (rows : List Marks) (counts : List ℕ) (firsts : List (Option ℕ)) (namings : List Naming) (room : Marks) (k at : ℕ) (o : Option ℕ) → IsCache r rows counts firsts namings room → r ≡ shown → k < size_of shown.problem shown.agent
+place_in_range : (r shown : Cached) (owned : List ℕ) (rows : List Marks) (counts : List ℕ) (firsts : List (Option ℕ)) (namings : List Naming) (room : Marks) (k at : ℕ) (o : Option ℕ) → IsCache r owned rows counts firsts namings room → r ≡ shown → k < size_of shown.problem shown.agent
     → o ≡ get_or firsts k o → o ≡ Some at → at < rules_of r.problem r.agent
-place_in_range r shown rows counts firsts namings room k at o inv e l is some =
-    (subst (IsFirst (marks r.rows k) (rules_of r.problem r.agent)) some (first_row r rows counts firsts namings room k o inv (within_values r shown k e l) is)).0
+place_in_range r shown owned rows counts firsts namings room k at o inv e l is some =
+    (subst (IsFirst (marks r.rows k) (rules_of r.problem r.agent)) some (first_row r owned rows counts firsts namings room k o inv (within_values r shown k e l) is)).0
 
 -- it is the first false rule
-first_rule : (r : Cached) (rows : List Marks) (counts : List ℕ) (firsts : List (Option ℕ)) (namings : List Naming) (room : Marks) (known : PartialAssignment) (items : List Recorded) (k : ℕ) (o : Option ℕ) → IsCache r rows counts firsts namings room → StandsFor r known items
+first_rule : (r : Cached) (owned : List ℕ) (rows : List Marks) (counts : List ℕ) (firsts : List (Option ℕ)) (namings : List Naming) (room : Marks) (known : PartialAssignment) (items : List Recorded) (k : ℕ) (o : Option ℕ) → IsCache r owned rows counts firsts namings room → StandsFor r known items
     → k < size_of r.problem r.agent → o ≡ get_or firsts k o → IsFirst (is_false r.problem r.agent (known_at r.problem r.agent known k)) (rules_of r.problem r.agent) o
-first_rule r rows counts firsts namings room known items k o inv stands within is =
-    first_alike (marks r.rows k) (is_false r.problem r.agent (known_at r.problem r.agent known k)) (rules_of r.problem r.agent) o (λ j l. stands.rules j l k within) (first_row r rows counts firsts namings room k o inv within is)
+first_rule r owned rows counts firsts namings room known items k o inv stands within is =
+    first_alike (marks r.rows k) (is_false r.problem r.agent (known_at r.problem r.agent known k)) (rules_of r.problem r.agent) o (λ j l. stands.rules j l k within) (first_row r owned rows counts firsts namings room k o inv within is)
 
-pub bounds-owned-at : goal.bounds-owned-at
-bounds-owned-at c =
-    let inside = place_in_range _ c.args.self.now _ _ _ _ _ c.args.place c.in-Some.at c.index.result.now c.self.invariant c.self.view_is c.requires c.index.ensures c.in-Some.is in
-    omega (arith, inside, ap length c.owned.ensures.rules)
+pub bounds-self-inside-at : goal.bounds-self-inside-at
+bounds-self-inside-at c =
+    let inside = place_in_range _ c.args.self.now _ _ _ _ _ _ c.args.place c.in-Some.at c.index.result.now c.self.invariant c.self.view_is c.requires c.index.ensures c.in-Some.is in
+    omega (arith, inside, ap length c.self.invariant.owner.rules_are)
 
-pub offset_bounds-owned-at : goal.offset_bounds-owned-at
-offset_bounds-owned-at c =
-    let inside = place_in_range _ c.args.self.now _ _ _ _ _ c.args.place c.in-Some.at c.index.result.now c.self.invariant c.self.view_is c.requires c.index.ensures c.in-Some.is in
-    let below : c.in-Some.at < length c.owned.result.now = omega (arith, inside, ap length c.owned.ensures.rules) in
+pub offset_bounds-self-inside-at : goal.offset_bounds-self-inside-at
+offset_bounds-self-inside-at c =
+    let inside = place_in_range _ c.args.self.now _ _ _ _ _ _ c.args.place c.in-Some.at c.index.result.now c.self.invariant c.self.view_is c.requires c.index.ensures c.in-Some.is in
+    let below : c.in-Some.at < length c.self.inside.owned.now = omega (arith, inside, ap length c.self.invariant.owner.rules_are) in
     search rules
 
 pub returns-in-Some : goal.returns-in-Some
@@ -62,8 +62,8 @@ returns-in-Some c = λ known items stands.
     let k = c.args.place in
     let within = within_values _ c.args.self.now k c.self.view_is c.requires in
     let stood = subst (λ (r : Cached). StandsFor r known items) (sym c.self.view_is) stands in
-    let first = subst (IsFirst (is_false p agent (known_at p agent known k)) (rules_of p agent)) c.in-Some.is (first_rule _ _ _ _ _ _ known items k c.index.result.now c.self.invariant stood within c.index.ensures) in
-    ap (λ (rules : List ℕ). Some (Rule (get_or rules c.in-Some.at 0))) c.owned.ensures.rules
+    let first = subst (IsFirst (is_false p agent (known_at p agent known k)) (rules_of p agent)) c.in-Some.is (first_rule _ _ _ _ _ _ _ known items k c.index.result.now c.self.invariant stood within c.index.ensures) in
+    ap (λ (rules : List ℕ). Some (Rule (get_or rules c.in-Some.at 0))) c.self.invariant.owner.rules_are
     ∙ sym (reason_rule p agent known items (value_at p agent k) c.in-Some.at first)
     ∙ ap (λ (r : Cached). reason_for r.problem r.agent known items (value_at r.problem r.agent k)) c.self.view_is
 
@@ -74,7 +74,7 @@ returns-in-None c = λ known items stands.
     let k = c.args.place in
     let within = within_values _ c.args.self.now k c.self.view_is c.requires in
     let stood = subst (λ (r : Cached). StandsFor r known items) (sym c.self.view_is) stands in
-    let none = subst (IsFirst (is_false p agent (known_at p agent known k)) (rules_of p agent)) c.in-None.is (first_rule _ _ _ _ _ _ known items k c.index.result.now c.self.invariant stood within c.index.ensures) in
+    let none = subst (IsFirst (is_false p agent (known_at p agent known k)) (rules_of p agent)) c.in-None.is (first_rule _ _ _ _ _ _ _ known items k c.index.result.now c.self.invariant stood within c.index.ensures) in
     let step = stands_at c.self.inside.kept.steps.items k (size_of p agent) c.index-in-None.result.now c.index-in-None.result.now c.self.invariant.kept within c.index-in-None.ensures refl in
     c.earlier.ensures ∙ ap (option_map Earlier) (sym step ∙ stood.kept.first k within)
     ∙ sym (reason_step p agent known items (value_at p agent k) none)
