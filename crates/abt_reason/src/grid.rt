@@ -1,7 +1,7 @@
 //! For each rule the values that it rules out; for each value how many rules do, and the first of them.
 //!
-//! What puts a span in place of a span is inlined: it runs for each rule at each change of a view, and the span then
-//! stays out of memory until it is stored.
+//! What puts a span in place of a span runs for each rule at each change of a view. It is inlined, so that no span is
+//! copied through memory from call to call.
 
 ghost use Rattle.std.specs.Prelude.{◌≡◌, ◌≢◌, ◌<◌, ◌≤◌, ◌+◌, ◌^◌, ℕ, Bool, All, IfOk, IfSome, IsTrue, None, length, true, false, slice_index_or, ◌||◌, ◌==◌};
 ghost use Rattle.dcsp_problem.specs.Problems.{rule_at};

@@ -1,7 +1,7 @@
 //! What a rule rules out.
 //!
 //! What leads from a pair of variables to its span runs for each rule at each change of a view. It is inlined, as
-//! is what takes the span in, so that no span goes through memory.
+//! is what takes the span in, so that no span is copied through memory from call to call.
 
 ghost use Rattle.std.specs.Prelude.{◌≡◌, ◌<◌, ◌≤◌, ℤ, length, IfSome, IsTrue, is_some, not};
 ghost use Rattle.dcsp_defs.specs.Csp.{domain};
