@@ -1,51 +1,47 @@
 -- Who is asked for a link.
 use Rattle.std.proofs.Common.{◌≡◌, ℕ, ◌+◌, ◌<◌, Bool, true, false, cond, not, ◌&&◌, ◌||◌, ◌==◌, List, [], ◌∷◌, ◌++◌, filter, take, get_or, length, nat_lt, refl, sym, ap, ◌∙◌, arith}
 use Rattle.std.specs.List.{list_any}
-use Rattle.std.proofs.lemmas.Bool.{both_ways}
-use Rattle.std.proofs.lemmas.Bool.Decides.{Decides-ltb}
+use Rattle.std.proofs.lemmas.Bool.{and_from, and_parts, both_ways, lt-ltb, ltb-true}
 use Rattle.std.proofs.lemmas.List.{map-append, take_more}
 use Rattle.std.proofs.lemmas.List.Elements.{filter-append}
 use Rattle.dcsp_nogood.specs.declared.Pair.{Pair}
 use Rattle.dcsp_nogood.specs.Pairs.{IsRising as PairsRise}
-use Rattle.dcsp_defs.specs.Words.{In, IsRising, below}
+use Rattle.dcsp_defs.specs.Words.{In, below}
 use Rattle.dcsp_defs.specs.Csp.{names}
-use Rattle.dcsp_defs.proofs.Lists.{list_any-In, In-filter, filter-from, and_left, and_right, and_both}
 use Rattle.abt_defs.specs.Agents.{is_among, Add_link}
 use Rattle.abt_defs.specs.Steps.{is_named, to_each}
 use Rattle.abt_agent.specs.Asks.{is_unlinked, unlinked_names}
 use Rattle.abt_agent.specs.States.{has_mark}
 use Rattle.abt_agent.proofs.Causes.{any-map}
 use Rattle.abt_agent.proofs.Proper.{names_rise}
-use Rattle.abt_agent.proofs.Rising.{among_In, In_among, filter_is}
+use Rattle.abt_agent.proofs.Fits.{and_true}
+use Rattle.abt_agent.proofs.Members.{list_any-In, among_In, among-filter, In-filtered}
+use Rattle.abt_agent.proofs.Rising.{filter_is, part_rises}
 
-part_rises : (q : ℕ → Bool) (xs : List ℕ) → IsRising xs → IsRising (filter q xs)
-part_rises q [] up = tt
-part_rises q (x ∷ xs) up = by_test (q x) (part_rises q xs up.1)
-  where
-    by_test : (b : Bool) → IsRising (filter q xs) → IsRising (cond b (x ∷ filter q xs) (filter q xs))
-    by_test true h = (λ k i. up.0 k (filter-from q k xs i).0, h)
-    by_test false h = h
+swapped : (a b : Bool) → (a && b) ≡ (b && a)
+swapped true b = and_true b
+swapped false true = refl
+swapped false false = refl
 
 -- those that the pairs name are the agents that the definitions ask
 pub asked_is : (linked : List Bool) (me : ℕ) (pairs : List Pair) → length linked ≡ me → PairsRise pairs
     → filter (λ k. is_named k pairs && not (has_mark linked k)) (below me) ≡ unlinked_names linked pairs
 asked_is linked me pairs size up =
-    filter_is (λ k. is_named k pairs && not (has_mark linked k)) (unlinked_names linked pairs) me (part_rises (is_unlinked linked) (names pairs) (names_rise pairs up)) pass all
+    filter_is (λ k. is_named k pairs && not (has_mark linked k)) (unlinked_names linked pairs) me (part_rises (is_unlinked linked) (names pairs) (names_rise pairs up)) inside same
   where
-    named_is : (k : ℕ) → is_among k (names pairs) ≡ is_named k pairs
-    named_is k = any-map (λ x. k == x) (λ (y : Pair). y.var) pairs
+    inside : (v : ℕ) → In v (unlinked_names linked pairs) → v < me
+    inside v i =
+        let unlinked = (In-filtered (is_unlinked linked) v (names pairs) i).0 in
+        let less = ltb-true v (length linked) (and_parts (nat_lt v (length linked)) (not (has_mark linked v)) unlinked).0 in
+        omega arith
 
-    pass : (v : ℕ) → In v (unlinked_names linked pairs) → (v < me) × ((is_named v pairs && not (has_mark linked v)) ≡ true)
-    pass v i =
-        let found = filter-from (is_unlinked linked) v (names pairs) i in
-        let less = (Decides-ltb v (length linked)).0 (and_left (nat_lt v (length linked)) (not (has_mark linked v)) found.1) in
-        (omega arith, and_both (is_named v pairs) (not (has_mark linked v)) (sym (named_is v) ∙ In_among v (names pairs) found.0) (and_right (nat_lt v (length linked)) (not (has_mark linked v)) found.1))
-
-    all : (v : ℕ) → v < me → (is_named v pairs && not (has_mark linked v)) ≡ true → In v (unlinked_names linked pairs)
-    all v l e =
-        let less : v < length linked = omega arith in
-        In-filter (is_unlinked linked) v (names pairs) (among_In v (names pairs) (named_is v ∙ and_left (is_named v pairs) (not (has_mark linked v)) e))
-        (and_both (nat_lt v (length linked)) (not (has_mark linked v)) ((Decides-ltb v (length linked)).1 less) (and_right (is_named v pairs) (not (has_mark linked v)) e))
+    same : (v : ℕ) → v < me → (is_named v pairs && not (has_mark linked v)) ≡ is_among v (unlinked_names linked pairs)
+    same v l =
+        let low : nat_lt v (length linked) ≡ true = lt-ltb v (length linked) (omega arith) in
+        swapped (is_named v pairs) (not (has_mark linked v))
+        ∙ ap (λ b. (b && not (has_mark linked v)) && is_named v pairs) (sym low)
+        ∙ ap (λ b. is_unlinked linked v && b) (sym (any-map (λ x. v == x) (λ (y : Pair). y.var) pairs))
+        ∙ sym (among-filter (is_unlinked linked) v (names pairs))
 
 one_asked : (linked : List Bool) (y : Pair) → to_each Add_link (unlinked_names linked (y ∷ [])) ≡ cond (is_unlinked linked y.var) ((y.var, Add_link) ∷ []) []
 one_asked linked y = by_test (is_unlinked linked y.var)
@@ -80,7 +76,7 @@ pub none_marked : (linked : List Bool) (me : ℕ) (pairs : List Pair) → length
 none_marked linked me pairs size none k = by_tests (has_mark linked k) (nat_lt k me) (is_named k pairs) (λ marked low named.
     let there = among_In k (names pairs) (any-map (λ x. k == x) (λ (y : Pair). y.var) pairs ∙ named) in
     let low_here : nat_lt k (length linked) ≡ true = ap (nat_lt k) size ∙ low in
-    let unlinked = and_both (nat_lt k (length linked)) (not (has_mark linked k)) low_here (ap not marked) in
+    let unlinked = and_from (nat_lt k (length linked)) (not (has_mark linked k)) low_here (ap not marked) in
     both_ways (list_any (is_unlinked linked) (names pairs)) none (list_any-In (is_unlinked linked) k (names pairs) there unlinked))
   where
     by_tests : (marked low named : Bool) → (marked ≡ false → low ≡ true → named ≡ true → ⊥) → marked ≡ (marked || (low && named))

@@ -20,7 +20,6 @@ use Rattle.dcsp_problem.specs.declared.rule.Rule as rules
 use Rattle.dcsp_problem.specs.Rules.{no_rule}
 use Rattle.dcsp_problem.specs.Problems.{Contents, csp_of, constraint_of, constraint_at, AreInDomains}
 use Rattle.dcsp_problem.specs.Index.{owned_rules}
-use Rattle.dcsp_problem.proofs.OwnerLists.{owned_inside}
 use Rattle.abt_message.specs.Messages.{with_stamps}
 use Rattle.abt_store.specs.declared.Recorded.{Recorded}
 use Rattle.abt_store.specs.Stores.{is_against, record_of, records_of}
@@ -112,16 +111,16 @@ or_valid : (P : Cause → Type 0) (a b : Option Cause) (x : Cause) → (a ≡ So
 or_valid P None b x f g e = g e
 or_valid P (Some y) b x f g e = f e
 
-pub cause_valid : (p : Contents) (i : ℕ) (known : PartialAssignment) (kept : List Recorded) (v : ℤ) (x : Cause) → cause_for p i known kept v ≡ Some x → IsCause p kept x
-cause_valid p i known kept v x e =
+cause_valid : (p : Contents) (i : ℕ) (known : PartialAssignment) (kept : List Recorded) (v : ℤ) (x : Cause) → All (λ r. r < length p.rules) (owned_rules p i) → cause_for p i known kept v ≡ Some x → IsCause p kept x
+cause_valid p i known kept v x inside e =
     let k = with_value i v known in
     or_valid (IsCause p kept) (first_rule p k (owned_rules p i)) (first_kept k 0 kept) x
-    (rule_valid p kept k (owned_rules p i) x (owned_inside p i)) (kept_valid p kept k 0 kept x (omega arith)) e
+    (rule_valid p kept k (owned_rules p i) x inside) (kept_valid p kept k 0 kept x (omega arith)) e
 
 -- what is found is a cause
-pub found_valid : (p : Contents) (i : ℕ) (known : PartialAssignment) (kept : List Recorded) (v : ℤ) (o : Option Cause) → o ≡ cause_for p i known kept v → IfSome o (IsCause p kept)
-found_valid p i known kept v None e = tt
-found_valid p i known kept v (Some x) e = cause_valid p i known kept v x (sym e)
+pub found_valid : (p : Contents) (i : ℕ) (known : PartialAssignment) (kept : List Recorded) (v : ℤ) (o : Option Cause) → All (λ r. r < length p.rules) (owned_rules p i) → o ≡ cause_for p i known kept v → IfSome o (IsCause p kept)
+found_valid p i known kept v None inside e = tt
+found_valid p i known kept v (Some x) inside e = cause_valid p i known kept v x inside (sym e)
 
 -- ---- the owned rules, each with its number
 

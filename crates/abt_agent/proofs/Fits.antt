@@ -6,12 +6,11 @@ use Rattle.dcsp_nogood.specs.declared.Pair.{Pair}
 use Rattle.dcsp_nogood.specs.Pairs.{no_pair, pair_of, IsRising as PairsRise}
 use Rattle.dcsp_defs.specs.Words.{IsRising, update, is_value}
 use Rattle.dcsp_defs.specs.Csp.{names}
-use Rattle.dcsp_defs.proofs.Lists.{In-map}
-use Rattle.dcsp_problem.proofs.RisingNumbers.{In-get_or}
 use Rattle.abt_defs.specs.Agents.{Agent, Stamped, known, value_in}
 use Rattle.abt_defs.specs.Steps.{is_newer, forget, learn, learn_all, fits}
 use Rattle.abt_message.specs.Messages.{with_stamps}
 use Rattle.abt_agent.proofs.Lists.{stamps_step}
+use Rattle.abt_agent.proofs.Members.{In-get_or, In-map}
 use Rattle.abt_agent.proofs.Proper.{names_rise}
 
 -- what a variable is told leaves the view at the others
@@ -23,7 +22,7 @@ view_elsewhere me k j s a other = by (nat_lt k me) (is_newer (a.view k) s.stamp)
     by true false = refl
     by true true = rw (ne_eqb j k other) refl
 
-and_true : (b : Bool) → b ≡ (b && true)
+pub and_true : (b : Bool) → b ≡ (b && true)
 and_true true = refl
 and_true false = refl
 

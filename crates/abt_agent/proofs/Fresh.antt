@@ -2,12 +2,11 @@
 use Rattle.std.proofs.Common.{◌≡◌, ℕ, zero, suc, ◌+◌, ◌<◌, ◌≤◌, Bool, true, false, cond, not, ◌&&◌, ◌||◌, List, [], ◌∷◌, map, filter, length, Option, Some, None, ◌==◌, refl, sym, ap, subst, ◌∙◌, arith, ℤ, inl, inr}
 use Rattle.std.specs.Prelude.{filter_map, nat_lt, slice_index_or}
 use Rattle.std.specs.List.{list_any, enumerate_from, cons_option}
-use Rattle.std.proofs.lemmas.Bool.{cases_lt}
-use Rattle.std.proofs.lemmas.Bool.Decides.{Decides-eqb, nat_tests}
+use Rattle.std.proofs.lemmas.Bool.{and_right, cases_lt, lt-ltb, ltb-true}
+use Rattle.std.proofs.lemmas.Bool.Decides.{nat_tests}
 use Rattle.std.proofs.lemmas.List.{length_push, map-append, length-map, get_or_append_left, get_or_push, get_or_past}
 use Rattle.dcsp_defs.specs.Words.{In, IsRising, below}
 use Rattle.dcsp_defs.specs.Csp.{Csp, Constraint, count, owns}
-use Rattle.dcsp_defs.proofs.Lists.{In-list_any, list_any-In, In-filter, filter-from, below-In}
 use Rattle.dcsp_defs.specs.declared.Step.{Step}
 use Rattle.abt_defs.specs.Agents.{Agent, plain, fresh, shares, is_among}
 use Rattle.abt_defs.specs.Reasons.{Item, blamed, causes, derived, step_of}
@@ -17,7 +16,6 @@ use Rattle.law_invariants.specs.OneAgent.{Sound}
 use Rattle.dcsp_problem.specs.Problems.{Contents, csp_of, constraint_at}
 use Rattle.dcsp_problem.specs.Index.{owned_rules}
 use Rattle.dcsp_problem.specs.Lower.{joins, lower_owners}
-use Rattle.dcsp_problem.proofs.RisingNumbers.{rising-filter_below, In-filter_below}
 use Rattle.abt_view.specs.Views.{view_of}
 use Rattle.abt_store.specs.Stores.{records_of}
 use Rattle.abt_agent.specs.declared.body.Body.{Body}
@@ -27,7 +25,9 @@ use Rattle.abt_agent.specs.Turns.{IsTurn, IsFirstTurn}
 use Rattle.abt_agent.specs.Bodies.{agent_of, owner_of, IsGood, IsInStep}
 use Rattle.abt_agent.specs.Rules.{names_any}
 use Rattle.abt_agent.proofs.Causes.{any-map, owned_are}
-use Rattle.abt_agent.proofs.Rising.{among_In}
+use Rattle.abt_agent.proofs.Fits.{and_true}
+use Rattle.abt_agent.proofs.Members.{among-below, among-filter, In-filtered}
+use Rattle.abt_agent.proofs.Rising.{rising-filter_below}
 
 -- ---- which agents share
 
@@ -58,23 +58,20 @@ shares_higher p sound i k l = not_true (shares p i k) (λ e. let s = (sound i).h
 shares_inside : (p : Csp) → ((i : ℕ) → Sound p i (fresh p i)) → (i k : ℕ) → count p ≤ i → shares p i k ≡ false
 shares_inside p sound i k l = not_true (shares p i k) (λ e. let s = (sound k).lower i e in omega arith)
 
--- a filter has just the numbers that pass
-among_filter : (q : ℕ → Bool) (n j : ℕ) → j < n → is_among j (filter q (below n)) ≡ q j
-among_filter q n j l = by_test (q j) (is_among j (filter q (below n))) refl refl where
-  by_test : (b c : Bool) → q j ≡ b → is_among j (filter q (below n)) ≡ c → c ≡ b
-  by_test true true e f = refl
-  by_test false false e f = refl
-  by_test true false e f = sym f ∙ list_any-In (λ x. j == x) j (filter q (below n)) (In-filter q j (below n) (below-In n j l) e) ((Decides-eqb j j).1 refl)
-  by_test false true e f =
-      let found = In-list_any (λ x. j == x) (filter q (below n)) f in
-      let passes = (filter-from q found.0 (below n) found.1).1 in
-      let same : j ≡ found.0 = (Decides-eqb j found.0).0 found.2 in
-      sym (ap q same ∙ passes) ∙ e
+-- a filter of the numbers below n has just those that pass
+among_filter : (q : ℕ → Bool) (n j : ℕ) → is_among j (filter q (below n)) ≡ (q j && nat_lt j n)
+among_filter q n j = among-filter q j (below n) ∙ ap (λ b. q j && b) (among-below j n)
+
+-- the test of a lower owner
+abbrev joins_lower : Csp → ℕ → ℕ → Bool
+joins_lower p me o = nat_lt me o && list_any (joins o me) p.constraints
 
 -- the lower owners are those that share
 lower_share : (p : Csp) → ((i : ℕ) → Sound p i (fresh p i)) → (me j : ℕ) → j < count p → is_among j (lower_owners p me) ≡ shares p j me
 lower_share p sound me j l =
-    among_filter (λ o. nat_lt me o && list_any (joins o me) p.constraints) (count p) j l
+    among_filter (joins_lower p me) (count p) j
+    ∙ ap (λ b. joins_lower p me j && b) (lt-ltb j (count p) l)
+    ∙ sym (and_true (joins_lower p me j))
     ∙ elim (cases_lt me j) [
       | inl after ↦ ap (λ z. z && list_any (joins j me) p.constraints) (both me j after)
       | inr past ↦ ap (λ z. z && list_any (joins j me) p.constraints) (none me j past) ∙ sym (shares_higher p sound j me past)
@@ -91,7 +88,8 @@ lower_are : (p : Csp) → ((i : ℕ) → Sound p i (fresh p i)) → (me j : ℕ)
 lower_are p sound me j = elim (cases_lt j (count p)) [
   | inl l ↦ lower_share p sound me j l
   | inr past ↦
-      not_true (is_among j (lower_owners p me)) (λ e. let l = (In-filter_below (λ o. nat_lt me o && list_any (joins o me) p.constraints) (count p) j (among_In j (lower_owners p me) e)).0 in omega arith)
+      among_filter (joins_lower p me) (count p) j
+      ∙ and_right (joins_lower p me j) (nat_lt j (count p)) (not_true (nat_lt j (count p)) (λ e. let l = ltb-true j (count p) e in omega arith))
       ∙ sym (shares_inside p sound j me past)
 ]
 
@@ -137,9 +135,10 @@ fresh_good p sound me b e in_step tells linked f = record {
   sized = record {
     in_step = in_step;
     linked = linked ∙ sym (ap (λ (x : Contents × ℕ). x.1) e);
-    tells = subst IsRising (sym tells) (rising-filter_below (λ o. nat_lt me o && list_any (joins o me) (csp_of p).constraints) (count (csp_of p)));
+    tells = subst IsRising (sym tells) (rising-filter_below (joins_lower (csp_of p) me) (count (csp_of p)));
     told_exist = λ k u.
-        let l : k < length p.domains = (In-filter_below (λ o. nat_lt me o && list_any (joins o me) (csp_of p).constraints) (length p.domains) k (subst (λ (z : List ℕ). In k z) tells u)).0 in
+        let passes = (In-filtered (joins_lower (csp_of p) me) k (below (length p.domains)) (subst (λ (z : List ℕ). In k z) tells u)).1 in
+        let l : k < length p.domains = ltb-true k (length p.domains) (sym (among-below k (length p.domains)) ∙ passes) in
         subst (λ (x : Contents × ℕ). k < length x.0.domains) (sym e) l;
   };
   sound = subst (λ (x : Contents × ℕ). Sound (csp_of x.0) x.1 (agent_of b)) (sym e) (subst (Sound (csp_of p) me) (sym f) (sound me));

@@ -1,4 +1,5 @@
 pub mod Lists
+pub mod Members
 pub mod Rising
 pub mod Posting
 pub mod Causes

@@ -12,9 +12,9 @@ use Rattle.law_invariants.specs.OneAgent.{Proper}
 use Rattle.dcsp_problem.specs.Problems.{Contents, csp_of}
 use Rattle.abt_store.specs.declared.Recorded.{Recorded}
 use Rattle.abt_store.specs.Stores.{record_of, records_of, lowest_value, is_ruled_out}
-use Rattle.dcsp_defs.proofs.Lists.{In-map}
 use Rattle.abt_reason.specs.Kept.{IsOwn}
 use Rattle.abt_agent.specs.States.{IsNogoodFor}
+use Rattle.abt_agent.proofs.Members.{In-map}
 
 -- the pair at the lowest place
 abbrev pub lowest_var : List Pair → Option ℕ

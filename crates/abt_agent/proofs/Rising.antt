@@ -1,42 +1,52 @@
 -- Rising lists of agents.
-use Rattle.std.proofs.Common.{◌≡◌, ◌≢◌, ℕ, zero, suc, ◌<◌, ◌≤◌, Bool, true, false, cond, ◌||◌, ◌==◌, List, [], ◌∷◌, ◌++◌, filter, take, drop, get_or, length, refl, sym, ap, subst, ◌∙◌, arith, inl, inr}
-use Rattle.std.proofs.lemmas.Bool.{cases_lt}
-use Rattle.std.proofs.lemmas.Bool.Decides.{Decides-eqb, eqb_tells}
-use Rattle.std.proofs.lemmas.List.{take-append-drop}
+use Rattle.std.proofs.Common.{◌≡◌, ◌≢◌, ℕ, zero, suc, ◌+◌, ◌<◌, ◌≤◌, Bool, true, false, cond, ◌||◌, ◌==◌, List, [], ◌∷◌, ◌++◌, filter, take, drop, get_or, length, refl, sym, ap, subst, ◌∙◌, arith, inl, inr}
+use Rattle.std.proofs.lemmas.Bool.{cases_lt, eq-eqb, eqb-true, false_from_ne_true, ltb-true, ne_eqb, or_cases, or_right}
+use Rattle.std.proofs.lemmas.Bool.Decides.{eqb_tells}
+use Rattle.std.proofs.lemmas.List.{append-nil, take-append-drop}
+use Rattle.std.proofs.lemmas.List.Elements.{filter-append}
 use Rattle.std.proofs.lemmas.List.Folds.{list_any-append}
 use Rattle.dcsp_defs.specs.Words.{In, IsRising, below, update}
-use Rattle.dcsp_defs.proofs.Lists.{In-split, In-left, In-right, In-filter, below-In, list_any-In, In-list_any, or_cases}
-use Rattle.dcsp_problem.proofs.RisingNumbers.{In-get_or, same_members, rising-filter_below, In-filter_below}
 use Rattle.abt_defs.specs.Agents.{is_among}
+use Rattle.abt_agent.proofs.Blamed.{filter_below, filter_past}
+use Rattle.abt_agent.proofs.Members.{In-get_or, In_among, among_In, among-below, In-filtered}
 
--- a rising list is made of those numbers below n that pass a test, if just its numbers pass
-pub filter_is : (q : ℕ → Bool) (ts : List ℕ) (n : ℕ) → IsRising ts → ((v : ℕ) → In v ts → (v < n) × (q v ≡ true)) → ((v : ℕ) → v < n → q v ≡ true → In v ts) → filter q (below n) ≡ ts
-filter_is q ts n up pass all =
-    same_members (filter q (below n)) ts (rising-filter_below q n) up
-    (λ v i. let h = In-filter_below q n v i in all v h.0 h.1)
-    (λ v i. In-filter q v (below n) (below-In n v (pass v i).0) (pass v i).1)
+-- ---- the numbers below one that pass a test
 
-pub among_In : (k : ℕ) (ts : List ℕ) → is_among k ts ≡ true → In k ts
-among_In k ts e = let found = In-list_any (λ x. k == x) ts e in subst (λ (z : ℕ). In z ts) (sym ((Decides-eqb k found.0).0 found.2)) found.1
+none_below : (p : ℕ → Bool) (n : ℕ) → ((k : ℕ) → k < n → p k ≡ false) → filter p (below n) ≡ []
+none_below p n none = let end : 0 + n ≡ n = omega arith in ap (λ m. filter p (below m)) (sym end) ∙ filter_past p 0 n (λ k least low. none k (omega arith))
 
-pub In_among : (k : ℕ) (ts : List ℕ) → In k ts → is_among k ts ≡ true
-In_among k ts i = list_any-In (λ x. k == x) k ts i ((Decides-eqb k k).1 refl)
+-- a number below all others that pass comes first
+first_passes : (p : ℕ → Bool) (x n : ℕ) → ((k : ℕ) → p k ≡ true → x < k) → x < n → filter (λ k. (k == x) || p k) (below n) ≡ x ∷ filter p (below n)
+first_passes p x zero above l = absurd (omega arith)
+first_passes p x (suc n) above l = elim (cases_lt x n) [
+  | inl early ↦
+      filter-append (λ k. (k == x) || p k) (below n) (n ∷ [])
+      ∙ ap (λ z. z ++ cond ((n == x) || p n) (n ∷ []) []) (first_passes p x n above early)
+      ∙ ap (λ b. x ∷ filter p (below n) ++ cond (b || p n) (n ∷ []) []) (ne_eqb n x (λ e. omega arith))
+      ∙ ap (λ z. x ∷ z) (sym (filter-append p (below n) (n ∷ [])))
+  | inr last ↦
+      let same : n ≡ x = omega arith in
+      filter-append (λ k. (k == x) || p k) (below n) (n ∷ [])
+      ∙ ap (λ z. z ++ cond ((n == x) || p n) (n ∷ []) []) (none_below (λ k. (k == x) || p k) n (λ k low. ap (λ b. b || p k) (ne_eqb k x (λ e. omega arith)) ∙ fails k (omega arith)))
+      ∙ ap (λ b. cond (b || p n) (n ∷ []) []) (eq-eqb n x same)
+      ∙ ap (λ z. z ∷ []) same
+      ∙ ap (λ z. x ∷ z) (sym (none_below p (suc n) (λ k low. fails k (omega arith))))
+]
+  where
+    fails : (k : ℕ) → k ≤ x → p k ≡ false
+    fails k low = false_from_ne_true (p k) (λ e. let up = above k e in omega arith)
 
--- so it is made of those below n that are in it
+-- a rising list is made of those below n that are in it
 pub filter_among : (ts : List ℕ) (n : ℕ) → IsRising ts → ((v : ℕ) → In v ts → v < n) → filter (λ k. is_among k ts) (below n) ≡ ts
-filter_among ts n up inside = filter_is (λ k. is_among k ts) ts n up (λ v i. (inside v i, In_among v ts i)) (λ v l e. among_In v ts e)
+filter_among [] n up inside = none_below (λ k. is_among k []) n (λ k low. refl)
+filter_among (x ∷ xs) n up inside =
+    first_passes (λ k. is_among k xs) x n (λ k e. up.0 k (among_In k xs e)) (inside x (inl refl)) ∙ ap (λ z. x ∷ z) (filter_among xs n up.1 (λ v i. inside v (inr i)))
+
+-- so it is made of those that pass a test, if just its numbers pass
+pub filter_is : (q : ℕ → Bool) (ts : List ℕ) (n : ℕ) → IsRising ts → ((v : ℕ) → In v ts → v < n) → ((v : ℕ) → v < n → q v ≡ is_among v ts) → filter q (below n) ≡ ts
+filter_is q ts n up inside same = filter_below q (λ k. is_among k ts) n same ∙ filter_among ts n up inside
 
 -- ---- one number more, in its place
-
-rising_between : (xs ys : List ℕ) (v : ℕ) → IsRising (xs ++ ys) → ((k : ℕ) → In k xs → k < v) → ((k : ℕ) → In k ys → v < k) → IsRising (xs ++ v ∷ ys)
-rising_between [] ys v up low high = (high, up)
-rising_between (x ∷ xs) ys v up low high = (
-  λ k i. elim (In-split k xs (v ∷ ys) i) [
-    | inl u ↦ up.0 k (In-left k xs ys u)
-    | inr w ↦ elim w [ inl e ↦ subst (λ (z : ℕ). x < z) (sym e) (low x (inl refl)) | inr z ↦ up.0 k (In-right k xs ys z) ]
-  ],
-  rising_between xs ys v up.1 (λ k i. low k (inr i)) high,
-)
 
 among_more : (xs ys : List ℕ) (v k : ℕ) → is_among k (xs ++ v ∷ ys) ≡ (is_among k (xs ++ ys) || (k == v))
 among_more xs ys v k =
@@ -50,6 +60,33 @@ among_more xs ys v k =
     swapped false true false = refl
     swapped false false true = refl
     swapped false false false = refl
+
+rising_between : (xs ys : List ℕ) (v : ℕ) → IsRising (xs ++ ys) → ((k : ℕ) → In k xs → k < v) → ((k : ℕ) → In k ys → v < k) → IsRising (xs ++ v ∷ ys)
+rising_between [] ys v up low high = (high, up)
+rising_between (x ∷ xs) ys v up low high = (
+  λ k i. elim (or_cases (is_among k (xs ++ ys)) (k == v) (sym (among_more xs ys v k) ∙ In_among k (xs ++ v ∷ ys) i)) [
+    | inl e ↦ up.0 k (among_In k (xs ++ ys) e)
+    | inr e ↦ subst (λ (z : ℕ). x < z) (sym (eqb-true k v e)) (low x (inl refl))
+  ],
+  rising_between xs ys v up.1 (λ k i. low k (inr i)) high,
+)
+
+below_rises : (n : ℕ) → IsRising (below n)
+below_rises zero = tt
+below_rises (suc n) =
+    rising_between (below n) [] n (subst IsRising (sym (append-nil (below n))) (below_rises n)) (λ k i. ltb-true k n (sym (among-below k n) ∙ In_among k (below n) i)) (λ k i. absurd i)
+
+-- a part of a rising list rises
+pub part_rises : (q : ℕ → Bool) (xs : List ℕ) → IsRising xs → IsRising (filter q xs)
+part_rises q [] up = tt
+part_rises q (x ∷ xs) up = by_test (q x) (part_rises q xs up.1)
+  where
+    by_test : (b : Bool) → IsRising (filter q xs) → IsRising (cond b (x ∷ filter q xs) (filter q xs))
+    by_test true h = (λ k i. up.0 k (among_In k xs (In-filtered q k xs i).1), h)
+    by_test false h = h
+
+pub rising-filter_below : (q : ℕ → Bool) (n : ℕ) → IsRising (filter q (below n))
+rising-filter_below q n = part_rises q (below n) (below_rises n)
 
 -- numbers at later places are greater
 rising_at : (xs : List ℕ) (i j : ℕ) → IsRising xs → i < j → j < length xs → get_or xs i 0 < get_or xs j 0
@@ -88,8 +125,8 @@ module _ (xs : List ℕ) (n v : ℕ) where
     where
       differs : (k : ℕ) → In k (drop n xs) → v ≢ k
       differs k i e =
-          let there : In v xs = subst (In v) (take-append-drop n xs) (In-right v (take n xs) (drop n xs) (subst (λ (z : ℕ). In z (drop n xs)) (sym e) i)) in
-          let clash : false ≡ true = sym absent ∙ In_among v xs there in
+          let there = or_right (is_among v (take n xs)) (is_among v (drop n xs)) (ap (λ z. is_among z (drop n xs)) e ∙ In_among k (drop n xs) i) in
+          let absent_there : false ≡ true = sym absent ∙ ap (is_among v) (sym (take-append-drop n xs)) ∙ list_any-append (λ x. v == x) (take n xs) (drop n xs) ∙ there in
           cc
 
   pub put_among : (k : ℕ) → is_among k (take n xs ++ v ∷ drop n xs) ≡ (is_among k xs || (k == v))
@@ -119,5 +156,5 @@ module _ (old new : List ℕ) (from : ℕ) (among : (k : ℕ) → is_among k new
   pub exist_more : (n : ℕ) → from < n → ((k : ℕ) → In k old → k < n) → (k : ℕ) → In k new → k < n
   exist_more n there all k i = elim (or_cases (is_among k old) (k == from) (sym (among k) ∙ In_among k new i)) [
     | inl e ↦ all k (among_In k old e)
-    | inr e ↦ subst (λ (z : ℕ). z < n) (sym ((Decides-eqb k from).0 e)) there
+    | inr e ↦ subst (λ (z : ℕ). z < n) (sym (eqb-true k from e)) there
   ]

@@ -4,10 +4,10 @@ use Rattle.std.proofs.lemmas.Bool.Decides.{Decides-int_eq}
 use Rattle.std.specs.Ordering.{int_eq}
 use Rattle.dcsp_domain.specs.Sets.{has}
 use Rattle.dcsp_defs.specs.Csp.{domain}
-use Rattle.dcsp_defs.proofs.Lists.{list_any-In}
 use Rattle.dcsp_problem.specs.Problems.{csp_of}
 use Rattle.abt_reason.specs.Causes.{value_at}
 use Rattle.abt_agent.proofs.Causes.{found_at, own_is}
+use Rattle.abt_agent.proofs.Members.{list_any-In}
 use Rattle.abt_agent.proofs.body.Body.is_own_free.Goals as goal
 
 pub returns-in-Some-place_of : goal.returns-in-Some-place_of

@@ -4,11 +4,11 @@ use Rattle.dcsp_nogood.specs.Pairs.{no_pair}
 use Rattle.dcsp_defs.specs.Words.{In}
 use Rattle.dcsp_defs.specs.Csp.{domain}
 use Rattle.dcsp_problem.specs.Problems.{Contents, csp_of}
-use Rattle.dcsp_problem.proofs.RisingNumbers.{In-get_or}
 use Rattle.abt_defs.specs.Steps as steps
 use Rattle.abt_message.specs.Messages.{with_stamps}
 use Rattle.abt_agent.specs.Bodies.{agent_of}
 use Rattle.abt_agent.proofs.Fits.{fits_next, learn_next}
+use Rattle.abt_agent.proofs.Members.{In-get_or}
 use Rattle.abt_agent.proofs.body.Body.learn_all.Goals as goal
 use Rattle.abt_agent.proofs.body.Body.learn_all.Goals.{then-learn_higher, else-learn_higher}
 

@@ -18,7 +18,7 @@ pub blame_one-requires : goal.blame_one-requires
 blame_one-requires c =
     let p = c.args.self.now.problem.now in
     let me = c.args.self.now.me in
-    found_valid p me (values_in (view_of c.args.self.now.view)) c.args.self.now.store (value_at p me c.loop-place.place) c.cause_at.result c.cause_at.ensures
+    found_valid p me (values_in (view_of c.args.self.now.view)) c.args.self.now.store (value_at p me c.loop-place.place) c.cause_at.result c.owned-rules.ensures.inside c.cause_at.ensures
 
 pub loop-place-preserved : goal.loop-place-preserved
 loop-place-preserved c =
