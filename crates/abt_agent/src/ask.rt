@@ -19,6 +19,7 @@ use dcsp_nogood::Pair;
 use dcsp_row::Row;
 
 /// Sends the message.
+#[inline(always)]
 pub fn post(out: &mut Outbox, to: u32, message: Message) -> Result<(), Memory>
     requires { IsStamped message }
     ensures { OnOk result (Posts out.old out.new ((to, message_of message) ∷ [])) }
