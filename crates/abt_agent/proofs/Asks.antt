@@ -1,6 +1,7 @@
 -- Who is asked for a link.
 use Rattle.std.proofs.Common.{◌≡◌, ℕ, ◌+◌, ◌<◌, Bool, true, false, cond, not, ◌&&◌, ◌||◌, ◌==◌, List, [], ◌∷◌, ◌++◌, filter, take, get_or, length, nat_lt, refl, sym, ap, ◌∙◌, arith}
 use Rattle.std.specs.List.{list_any}
+use Rattle.std.proofs.Math.Bool.{and_comm}
 use Rattle.std.proofs.lemmas.Bool.{and_from, and_parts, both_ways, lt-ltb, ltb-true}
 use Rattle.std.proofs.lemmas.List.{map-append, take_more}
 use Rattle.std.proofs.lemmas.List.Elements.{filter-append}
@@ -14,14 +15,8 @@ use Rattle.abt_agent.specs.Asks.{is_unlinked, unlinked_names}
 use Rattle.abt_agent.specs.States.{has_mark}
 use Rattle.abt_agent.proofs.Causes.{any-map}
 use Rattle.abt_agent.proofs.Proper.{names_rise}
-use Rattle.abt_agent.proofs.Fits.{and_true}
 use Rattle.abt_agent.proofs.Members.{list_any-In, among_In, among-filter, In-filtered}
 use Rattle.abt_agent.proofs.Rising.{filter_is, part_rises}
-
-swapped : (a b : Bool) → (a && b) ≡ (b && a)
-swapped true b = and_true b
-swapped false true = refl
-swapped false false = refl
 
 -- those that the pairs name are the agents that the definitions ask
 pub asked_is : (linked : List Bool) (me : ℕ) (pairs : List Pair) → length linked ≡ me → PairsRise pairs
@@ -38,7 +33,7 @@ asked_is linked me pairs size up =
     same : (v : ℕ) → v < me → (is_named v pairs && not (has_mark linked v)) ≡ is_among v (unlinked_names linked pairs)
     same v l =
         let low : nat_lt v (length linked) ≡ true = lt-ltb v (length linked) (omega arith) in
-        swapped (is_named v pairs) (not (has_mark linked v))
+        and_comm (is_named v pairs) (not (has_mark linked v))
         ∙ ap (λ b. (b && not (has_mark linked v)) && is_named v pairs) (sym low)
         ∙ ap (λ b. is_unlinked linked v && b) (sym (any-map (λ x. v == x) (λ (y : Pair). y.var) pairs))
         ∙ sym (among-filter (is_unlinked linked) v (names pairs))

@@ -1,5 +1,6 @@
 -- Whether the pairs of a nogood are as the view has them, while they are learned.
 use Rattle.std.proofs.Common.{◌≡◌, ◌≢◌, ◌==◌, ℕ, zero, suc, ◌+◌, ◌<◌, ◌≤◌, Bool, true, false, cond, not, ◌&&◌, ◌||◌, List, [], ◌∷◌, length, take, drop, get_or, Some, ℤ, nat_lt, int_eq, inl, inr, refl, sym, ap, subst, ◌∙◌, arith}
+use Rattle.std.proofs.Math.Bool.{and-true}
 use Rattle.std.proofs.lemmas.Bool.{ne_eqb}
 use Rattle.std.proofs.lemmas.Bool.Decides.{eqb_tells, Decides-ltb, Decides-int_eq}
 use Rattle.dcsp_nogood.specs.declared.Pair.{Pair}
@@ -22,10 +23,6 @@ view_elsewhere me k j s a other = by (nat_lt k me) (is_newer (a.view k) s.stamp)
     by true false = refl
     by true true = rw (ne_eqb j k other) refl
 
-pub and_true : (b : Bool) → b ≡ (b && true)
-and_true true = refl
-and_true false = refl
-
 swap_and : (a b c : Bool) → (a && (b && c)) ≡ (b && (a && c))
 swap_and true b c = refl
 swap_and false true c = refl
@@ -36,7 +33,7 @@ pub fits_more : (me place : ℕ) (pairs : List Pair) (a b : Agent) → place < l
     → ((j : ℕ) → j ≢ (get_or pairs place no_pair).var → b.view j ≡ a.view j)
     → fits me (take (suc place) pairs) b ≡ (fits me (get_or pairs place no_pair ∷ []) b && fits me (take place pairs) a)
 fits_more me place [] a b l r e = absurd (omega arith)
-fits_more me zero (y ∷ ys) a b l r e = and_true (fits me (y ∷ []) b)
+fits_more me zero (y ∷ ys) a b l r e = sym (and-true (fits me (y ∷ []) b))
 fits_more me (suc place) (y ∷ ys) a b l r e =
     let x = get_or ys place no_pair in
     let within : place < length ys = omega arith in
@@ -57,7 +54,7 @@ fits_lower me var value a l = (elim (nat_lt var me) as (λ b. nat_lt var me ≡ 
 
 -- a higher agent fits exactly if the view has the value
 pub fits_higher : (me var : ℕ) (value : ℤ) (a : Agent) → var < me → is_value (known a var) value ≡ fits me (pair_of var value ∷ []) a
-fits_higher me var value a l = rw ((Decides-ltb var me).1 l) (and_true (is_value (known a var) value))
+fits_higher me var value a l = rw ((Decides-ltb var me).1 l) (sym (and-true (is_value (known a var) value)))
 
 same_int : (v : ℤ) → int_eq v v ≡ true
 same_int v = (Decides-int_eq v v).1 refl

@@ -2,7 +2,8 @@
 use Rattle.std.proofs.Common.{◌≡◌, ℕ, zero, suc, ◌+◌, ◌<◌, ◌≤◌, Bool, true, false, cond, not, ◌&&◌, ◌||◌, List, [], ◌∷◌, map, filter, length, Option, Some, None, ◌==◌, refl, sym, ap, subst, ◌∙◌, arith, ℤ, inl, inr}
 use Rattle.std.specs.Prelude.{filter_map, nat_lt, slice_index_or}
 use Rattle.std.specs.List.{list_any, enumerate_from, cons_option}
-use Rattle.std.proofs.lemmas.Bool.{and_right, cases_lt, lt-ltb, ltb-true}
+use Rattle.std.proofs.Math.Bool.{and-true}
+use Rattle.std.proofs.lemmas.Bool.{and_right, cases_lt, false_from_ne_true, lt-ltb, ltb-true}
 use Rattle.std.proofs.lemmas.Bool.Decides.{nat_tests}
 use Rattle.std.proofs.lemmas.List.{length_push, map-append, length-map, get_or_append_left, get_or_push, get_or_past}
 use Rattle.dcsp_defs.specs.Words.{In, IsRising, below}
@@ -25,7 +26,6 @@ use Rattle.abt_agent.specs.Turns.{IsTurn, IsFirstTurn}
 use Rattle.abt_agent.specs.Bodies.{agent_of, owner_of, IsGood, IsInStep}
 use Rattle.abt_agent.specs.Rules.{names_any}
 use Rattle.abt_agent.proofs.Causes.{any-map, owned_are}
-use Rattle.abt_agent.proofs.Fits.{and_true}
 use Rattle.abt_agent.proofs.Members.{among-below, among-filter, In-filtered}
 use Rattle.abt_agent.proofs.Rising.{rising-filter_below}
 
@@ -48,15 +48,11 @@ shares_is p i k =
 
 -- ---- nobody shares beyond the tables
 
-not_true : (b : Bool) → (b ≡ true → ⊥) → b ≡ false
-not_true true h = absurd (h refl)
-not_true false h = refl
-
 shares_higher : (p : Csp) → ((i : ℕ) → Sound p i (fresh p i)) → (i k : ℕ) → i ≤ k → shares p i k ≡ false
-shares_higher p sound i k l = not_true (shares p i k) (λ e. let s = (sound i).higher k e in omega arith)
+shares_higher p sound i k l = false_from_ne_true (shares p i k) (λ e. let s = (sound i).higher k e in omega arith)
 
 shares_inside : (p : Csp) → ((i : ℕ) → Sound p i (fresh p i)) → (i k : ℕ) → count p ≤ i → shares p i k ≡ false
-shares_inside p sound i k l = not_true (shares p i k) (λ e. let s = (sound k).lower i e in omega arith)
+shares_inside p sound i k l = false_from_ne_true (shares p i k) (λ e. let s = (sound k).lower i e in omega arith)
 
 -- a filter of the numbers below n has just those that pass
 among_filter : (q : ℕ → Bool) (n j : ℕ) → is_among j (filter q (below n)) ≡ (q j && nat_lt j n)
@@ -71,7 +67,7 @@ lower_share : (p : Csp) → ((i : ℕ) → Sound p i (fresh p i)) → (me j : �
 lower_share p sound me j l =
     among_filter (joins_lower p me) (count p) j
     ∙ ap (λ b. joins_lower p me j && b) (lt-ltb j (count p) l)
-    ∙ sym (and_true (joins_lower p me j))
+    ∙ and-true (joins_lower p me j)
     ∙ elim (cases_lt me j) [
       | inl after ↦ ap (λ z. z && list_any (joins j me) p.constraints) (both me j after)
       | inr past ↦ ap (λ z. z && list_any (joins j me) p.constraints) (none me j past) ∙ sym (shares_higher p sound j me past)
@@ -89,7 +85,7 @@ lower_are p sound me j = elim (cases_lt j (count p)) [
   | inl l ↦ lower_share p sound me j l
   | inr past ↦
       among_filter (joins_lower p me) (count p) j
-      ∙ and_right (joins_lower p me j) (nat_lt j (count p)) (not_true (nat_lt j (count p)) (λ e. let l = ltb-true j (count p) e in omega arith))
+      ∙ and_right (joins_lower p me j) (nat_lt j (count p)) (false_from_ne_true (nat_lt j (count p)) (λ e. let l = ltb-true j (count p) e in omega arith))
       ∙ sym (shares_inside p sound j me past)
 ]
 

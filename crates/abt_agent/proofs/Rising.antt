@@ -1,5 +1,6 @@
 -- Rising lists of agents.
 use Rattle.std.proofs.Common.{◌≡◌, ◌≢◌, ℕ, zero, suc, ◌+◌, ◌<◌, ◌≤◌, Bool, true, false, cond, ◌||◌, ◌==◌, List, [], ◌∷◌, ◌++◌, filter, take, drop, get_or, length, refl, sym, ap, subst, ◌∙◌, arith, inl, inr}
+use Rattle.std.proofs.Math.Bool.{or-false, or_assoc, or_comm}
 use Rattle.std.proofs.lemmas.Bool.{cases_lt, eq-eqb, eqb-true, false_from_ne_true, ltb-true, ne_eqb, or_cases, or_right}
 use Rattle.std.proofs.lemmas.Bool.Decides.{eqb_tells}
 use Rattle.std.proofs.lemmas.List.{append-nil, take-append-drop}
@@ -51,15 +52,9 @@ filter_is q ts n up inside same = filter_below q (λ k. is_among k ts) n same �
 among_more : (xs ys : List ℕ) (v k : ℕ) → is_among k (xs ++ v ∷ ys) ≡ (is_among k (xs ++ ys) || (k == v))
 among_more xs ys v k =
     list_any-append (λ x. k == x) xs (v ∷ ys)
-    ∙ swapped (is_among k xs) (k == v) (is_among k ys)
+    ∙ ap (λ b. is_among k xs || b) (or_comm (k == v) (is_among k ys))
+    ∙ sym (or_assoc (is_among k xs) (is_among k ys) (k == v))
     ∙ ap (λ b. b || (k == v)) (sym (list_any-append (λ x. k == x) xs ys))
-  where
-    swapped : (a b c : Bool) → (a || (b || c)) ≡ ((a || c) || b)
-    swapped true b c = refl
-    swapped false true true = refl
-    swapped false true false = refl
-    swapped false false true = refl
-    swapped false false false = refl
 
 rising_between : (xs ys : List ℕ) (v : ℕ) → IsRising (xs ++ ys) → ((k : ℕ) → In k xs → k < v) → ((k : ℕ) → In k ys → v < k) → IsRising (xs ++ v ∷ ys)
 rising_between [] ys v up low high = (high, up)
@@ -136,12 +131,8 @@ module _ (xs : List ℕ) (n v : ℕ) where
 pub there_among : (xs : List ℕ) (v k : ℕ) → is_among v xs ≡ true → is_among k xs ≡ (is_among k xs || (k == v))
 there_among xs v k e = elim (eqb_tells k v) [
   | inl t ↦ let all : is_among k xs ≡ true = ap (λ z. is_among z xs) t.1 ∙ e in ap (λ b. b) all ∙ sym (ap (λ b. b || (k == v)) all)
-  | inr t ↦ or_false (is_among k xs) ∙ ap (λ b. is_among k xs || b) (sym t.0)
+  | inr t ↦ sym (or-false (is_among k xs)) ∙ ap (λ b. is_among k xs || b) (sym t.0)
 ]
-  where
-    or_false : (b : Bool) → b ≡ (b || false)
-    or_false true = refl
-    or_false false = refl
 
 module _ (old new : List ℕ) (from : ℕ) (among : (k : ℕ) → is_among k new ≡ (is_among k old || (k == from))) where
   pub told_more : (k : ℕ) → is_among k new ≡ update (λ j. is_among j old) from true k
