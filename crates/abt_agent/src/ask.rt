@@ -31,6 +31,7 @@ pub fn post(out: &mut Outbox, to: u32, message: Message) -> Result<(), Memory>
 }
 
 /// Whether the agent has a place in the table of links, and is not marked there.
+#[inline(always)]
 fn is_unlinked(linked: &Row, to: u32) -> bool
     ensures { result ≡ is_unlinked linked.now to }
 {

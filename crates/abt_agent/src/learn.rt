@@ -38,6 +38,7 @@ impl<'p> Body<'p> {
 
     /// Takes in what is told of an agent, if that is higher. True exactly if the view then has this value, or
     /// the agent is not higher.
+    #[inline(always)]
     fn learn_higher(&mut self, var: u32, told: StampedValue) -> bool
         requires sized { IsSized self.old }
         requires value { In told.value (domain (csp_of self.old.known.problem.now) var) }
@@ -85,6 +86,7 @@ impl<'p> Body<'p> {
     }
 
     /// Whether the stamp is that of a higher agent, and newer than the view.
+    #[inline(always)]
     fn is_news_of(&self, var: u32, stamp: u64) -> bool
         ensures { result ≡ (nat_lt var self.now.known.me && steps.is_newer (view_of self.now.known.view var) stamp) }
     {

@@ -81,6 +81,7 @@ impl<'p> Knowledge<'p> {
     }
 
     /// Adds what a step cites for the cause, if there is one, and marks the higher agents that it names.
+    #[inline(always)]
     fn blame_one(
         &self,
         reasons: &mut Vec<Reason>,
@@ -103,6 +104,7 @@ impl<'p> Knowledge<'p> {
     }
 
     /// Marks the higher agents that the cause names.
+    #[inline(always)]
     fn name_one(&self, marks: &mut Row, cause: Cause)
         requires { IsCause self.now.problem.now self.now.store cause }
         ensures size { length marks.new ≡ length marks.old }
@@ -141,6 +143,7 @@ impl<'p> Knowledge<'p> {
     }
 
     /// What the view has of the agent.
+    #[inline(always)]
     fn stamped_value(&self, var: u32) -> Option<StampedValue>
         requires { IsStampedView (view_of self.now.view) }
         ensures told { pair_at var (stamped_in result) ≡ told_of (view_of self.now.view) var }
@@ -150,6 +153,7 @@ impl<'p> Knowledge<'p> {
     }
 
     /// What a step cites for the cause.
+    #[inline(always)]
     fn reason_of(&self, cause: Cause) -> Reason
         requires { IsCause self.now.problem.now self.now.store cause }
         ensures { result ≡ (item_at self.now.problem.now self.now.store cause).reason }
@@ -172,6 +176,7 @@ fn room_for_stamps(alloc: Global, count: usize) -> Result<StampList, Memory>
 }
 
 /// Adds the variable with what is told of it, if there is something.
+#[inline(always)]
 fn add_told(
     pairs: &mut Vec<Pair>,
     stamps: &mut StampList,
@@ -200,6 +205,7 @@ fn add_told(
 }
 
 /// Adds a pair at the end.
+#[inline(always)]
 fn push_pair(pairs: &mut Vec<Pair>, pair: Pair) -> Result<(), Memory>
     ensures { OnOk result (pairs.new.items ≡ pairs.old.items ++ pair ∷ []) }
 {
@@ -210,6 +216,7 @@ fn push_pair(pairs: &mut Vec<Pair>, pair: Pair) -> Result<(), Memory>
 }
 
 /// Adds a stamp at the end.
+#[inline(always)]
 fn push_stamp(stamps: &mut StampList, stamp: u64) -> Result<(), Memory>
     ensures { OnOk result (stamps.new ≡ stamps.old ++ stamp ∷ []) }
 {

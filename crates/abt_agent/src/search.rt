@@ -24,6 +24,7 @@ pub enum Cause {
 
 impl<'p> Knowledge<'p> {
     /// What rules out the value at a place of the agent's domain first, if anything does.
+    #[inline(always)]
     pub fn cause_at(&self, place: usize) -> Option<Cause>
         requires in_step { IsInStep self.now }
         requires proper { AreProper self.now.problem.now self.now.me self.now.store }
