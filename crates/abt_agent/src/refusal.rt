@@ -1,6 +1,6 @@
 //! The step that says why an agent has no value left.
 
-ghost use Rattle.std.specs.Prelude.{◌≡◌, ◌<◌, ◌∷◌, ◌++◌, [], ◌&&◌, ◌||◌, ◌^◌, ℕ, IfOk, IfSome, OnOk, filter, filter_map, length, nat_lt, option_to_list};
+ghost use Rattle.std.specs.Prelude.{◌≡◌, ◌<◌, ◌∷◌, ◌++◌, [], ◌&&◌, ◌||◌, ◌^◌, ◌+◌, ◌≤◌, ℕ, IfOk, IfSome, OnOk, filter, filter_map, length, nat_lt, option_to_list, vec_capacity, vec_len};
 ghost use Rattle.std.specs.Option.{ForSome};
 ghost use Rattle.dcsp_defs.specs.Words.{below};
 ghost use Rattle.abt_defs.specs.Reasons.{derived, pair_at, step_of};
@@ -75,31 +75,26 @@ impl<'p> Knowledge<'p> {
             return Err(Memory);
         };
         for place in 0..values {
-            self.blame_one(&mut reasons, marks, self.cause_at(place))?;
+            self.blame_one(&mut reasons, marks, self.cause_at(place));
         }
         Ok(ReasonList::from_vec(reasons))
     }
 
     /// Adds what a step cites for the cause, if there is one, and marks the higher agents that it names.
+    /// There is room for it.
     #[inline(always)]
-    fn blame_one(
-        &self,
-        reasons: &mut Vec<Reason>,
-        marks: &mut Row,
-        cause: Option<Cause>,
-    ) -> Result<(), Memory>
-        requires { IfSome cause (IsCause self.now.problem.now self.now.store) }
-        ensures reasons { OnOk result (reasons.new.items ≡ reasons.old.items ++ reasons_at self.now.problem.now self.now.store (option_to_list cause)) }
-        ensures size { OnOk result (length marks.new ≡ length marks.old) }
-        ensures marks { OnOk result ((k : ℕ) → has_mark marks.new k ≡ (has_mark marks.old k || (nat_lt k (length marks.old) && blames self.now.problem.now self.now.store (option_to_list cause) k))) }
+    fn blame_one(&self, reasons: &mut Vec<Reason>, marks: &mut Row, cause: Option<Cause>)
+        requires cause { IfSome cause (IsCause self.now.problem.now self.now.store) }
+        requires room { vec_len reasons.old < vec_capacity reasons.old }
+        ensures reasons { reasons.new.items ≡ reasons.old.items ++ reasons_at self.now.problem.now self.now.store (option_to_list cause) }
+        ensures len { vec_len reasons.new ≤ vec_len reasons.old + 1 }
+        ensures capacity { vec_capacity reasons.new ≡ vec_capacity reasons.old }
+        ensures size { length marks.new ≡ length marks.old }
+        ensures marks { (k : ℕ) → has_mark marks.new k ≡ (has_mark marks.old k || (nat_lt k (length marks.old) && blames self.now.problem.now self.now.store (option_to_list cause) k)) }
     {
-        let Some(cause) = cause else {
-            return Ok(());
-        };
-        self.name_one(marks, cause);
-        match reasons.push(self.reason_of(cause)) {
-            Ok(()) => Ok(()),
-            Err(_) => Err(Memory),
+        if let Some(cause) = cause {
+            self.name_one(marks, cause);
+            reasons.push_reserved(self.reason_of(cause));
         }
     }
 

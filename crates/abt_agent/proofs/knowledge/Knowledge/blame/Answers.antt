@@ -14,8 +14,8 @@ use Rattle.abt_agent.proofs.Blamed.{marks_join}
 use Rattle.abt_agent.proofs.Causes.{causes_more, found_valid}
 use Rattle.abt_agent.proofs.knowledge.Knowledge.blame.Goals as goal
 
-pub blame_one-requires : goal.blame_one-requires
-blame_one-requires c =
+pub blame_one-requires-clause-cause : goal.blame_one-requires-clause-cause
+blame_one-requires-clause-cause c =
     let p = c.args.self.now.problem.now in
     let me = c.args.self.now.me in
     found_valid p me (values_in (view_of c.args.self.now.view)) c.args.self.now.store (value_at p me c.loop-place.place) c.cause_at.result c.owned-rules.ensures.inside c.cause_at.ensures
@@ -36,14 +36,16 @@ loop-place-preserved c =
     let more : causes_for p me known store (take (k + 1) values) ≡ before ++ here =
     causes_more p me known store values k x within (slice_get-get_or values k (pos 0) within)
     ∙ ap (λ o. before ++ option_to_list o) (sym c.cause_at.ensures) in
-    let size = c.in_ok-blame_one.ensures.size ∙ c.loop-place.invariant.size in
+    let size = c.blame_one.ensures.size ∙ c.loop-place.invariant.size in
     record {
-      reasons = c.in_ok-blame_one.ensures.reasons
+      reasons = c.blame_one.ensures.reasons
           ∙ ap (λ z. z ++ reasons_at p store here) c.loop-place.invariant.reasons
           ∙ sym (map-append (λ y. (item_at p store y).reason) before here)
           ∙ ap (reasons_at p store) (sym more);
+      len = omega (arith, c.blame_one.ensures.len, c.loop-place.invariant.len);
+      room = omega (arith, c.blame_one.ensures.capacity, c.loop-place.invariant.room);
       size = size;
-      marks = λ v. c.in_ok-blame_one.ensures.marks v
+      marks = λ v. c.blame_one.ensures.marks v
           ∙ ap (λ n. has_mark c.loop-place.marks v || (nat_lt v n && blames p store here v)) c.loop-place.invariant.size
           ∙ ap (λ b. b || (nat_lt v (length old) && blames p store here v)) (c.loop-place.invariant.marks v)
           ∙ marks_join (has_mark old v) (nat_lt v (length old)) (blames p store before v) (blames p store here v)

@@ -1,4 +1,4 @@
-use Rattle.std.proofs.Common.{◌≡◌, ℕ, take, nat_lt, ◌||◌, ◌&&◌, length}
+use Rattle.std.proofs.Common.{◌≡◌, ◌≤◌, ℕ, vec_capacity, vec_len, take, nat_lt, ◌||◌, ◌&&◌, length}
 use Rattle.dcsp_defs.specs.Csp.{domain}
 use Rattle.abt_defs.specs.Agents.{values_in}
 use Rattle.dcsp_problem.specs.Problems.{csp_of}
@@ -11,6 +11,8 @@ abbrev pub invariant-loop-place : goal.invariant-loop-place
 invariant-loop-place l =
     let found = causes_for l.self.problem.now l.self.me (values_in (view_of l.self.view)) l.self.store (take l.place (domain (csp_of l.self.problem.now) l.self.me)) in record {
       reasons : l.reasons.items ≡ reasons_at l.self.problem.now l.self.store found;
+      len : vec_len l.reasons ≤ l.place;
+      room : length (domain (csp_of l.self.problem.now) l.self.me) ≤ vec_capacity l.reasons;
       size : length l.marks ≡ length l.initial.marks;
       marks : (k : ℕ) → has_mark l.marks k ≡ (has_mark l.initial.marks k || (nat_lt k (length l.initial.marks) && blames l.self.problem.now l.self.store found k));
     }
