@@ -1,28 +1,26 @@
 -- What the code finds is what the definitions say.
-use Rattle.std.proofs.Common.{◌≡◌, ℕ, ◌+◌, ◌<◌, Bool, true, false, cond, not, ◌||◌, ◌==◌, List, [], ◌∷◌, ◌++◌, length, map, filter, find, take, drop, get_or, slice_get, Option, Some, None, ℤ, is_some, option_map, option_to_list, refl, sym, ap, subst, ◌∙◌, arith, inl, inr}
-use Rattle.std.specs.Prelude.{All, IfSome, filter_map, slice_index_or, pos, unwrap_or, if◌then◌else◌}
+use Rattle.std.proofs.Common.{◌≡◌, ℕ, ◌+◌, ◌<◌, Bool, true, false, cond, not, ◌||◌, ◌==◌, List, [], ◌∷◌, ◌++◌, length, map, filter, find, take, drop, get_or, slice_get, Option, Some, None, ℤ, is_some, option_map, option_to_list, refl, sym, ap, subst, ◌∙◌, arith}
+use Rattle.std.specs.Prelude.{All, IfSome, filter_map, slice_index_or, pos, if◌then◌else◌}
 use Rattle.std.specs.Option.{option_or}
 use Rattle.std.specs.List.{list_any, cons_option, enumerate_from}
 use Rattle.std.proofs.lemmas.List.{get_or_at, append_assoc, length_push, at_drop_more, take_more, get_or_default}
 use Rattle.std.proofs.lemmas.List.Elements.{All-head, All-tail, filter_map-append}
 use Rattle.std.proofs.lemmas.List.Folds.{find-append}
-use Rattle.std.proofs.lemmas.Bool.Decides.{eqb_tells}
-use Rattle.std.proofs.lemmas.Option.{unwrap_or-slice_get}
+use Rattle.std.proofs.lemmas.Option.{get_or_from_slice_get}
 use Rattle.dcsp_nogood.specs.declared.Pair.{Pair}
-use Rattle.dcsp_defs.specs.Words.{In, below}
-use Rattle.dcsp_defs.specs.Csp.{Csp, Constraint, PartialAssignment, is_violated, agrees, with_value, domain, owned, owns}
+use Rattle.dcsp_defs.specs.Words.{below}
+use Rattle.dcsp_defs.specs.Csp.{Constraint, PartialAssignment, is_violated, agrees, with_value, domain, owned, owns}
 use Rattle.dcsp_defs.specs.declared.Reason.{Reason}
 use Rattle.dcsp_defs.specs.declared.Reason.TheVariants.{Rule, Earlier}
-use Rattle.abt_defs.specs.Agents.{Agent, Stamped, View, plain, known, values_in, value_in, is_among}
+use Rattle.abt_defs.specs.Agents.{View, plain, known, values_in, is_among}
 use Rattle.abt_defs.specs.Reasons.{Item, constraint_item, record_item, cause, ruled_out, causes, blamed, derived, step_of}
-use Rattle.law_invariants.specs.OneAgent.{Sound}
 use Rattle.dcsp_problem.specs.declared.rule.Rule as rules
 use Rattle.dcsp_problem.specs.Rules.{no_rule}
-use Rattle.dcsp_problem.specs.Problems.{Contents, csp_of, constraint_of, constraint_at, AreInDomains}
+use Rattle.dcsp_problem.specs.Problems.{Contents, csp_of, constraint_of, constraint_at}
 use Rattle.dcsp_problem.specs.Index.{owned_rules}
 use Rattle.abt_message.specs.Messages.{with_stamps}
 use Rattle.abt_store.specs.declared.Recorded.{Recorded}
-use Rattle.abt_store.specs.Stores.{is_against, record_of, records_of}
+use Rattle.abt_store.specs.Stores.{record_of, records_of}
 use Rattle.abt_view.specs.Views.{view_of}
 use Rattle.abt_defs.specs.Steps.{is_free, choice, is_named}
 use Rattle.abt_agent.specs.declared.body.Body.{Body}
@@ -30,56 +28,22 @@ use Rattle.abt_agent.specs.Bodies.{agent_of}
 use Rattle.abt_reason.specs.Causes.{reason_for, value_at}
 use Rattle.abt_agent.specs.declared.search.Cause.{Cause}
 use Rattle.abt_agent.specs.declared.search.Cause.TheVariants.{OwnedRule, KeptNogood}
-use Rattle.abt_agent.specs.Causes.{first_rule, first_kept, first_against, cause_for, causes_for, least_free, item_at, no_record, IsCause, blames_one, blames, told_of}
+use Rattle.abt_agent.specs.Causes.{first_rule, first_kept, cause_for, causes_for, least_free, item_at, no_record, IsCause, blames_one, blames, told_of}
 use Rattle.abt_agent.proofs.Lists.{one, plain-with_stamps, map_below, mapped_filter}
 
--- ---- values of domains
-
--- the agent's own value beside a view of the domains
-pub own_in_domains : (p : Csp) (agent : ℕ) (v : ℤ) (known : PartialAssignment) → In v (domain p agent) → AreInDomains p known → AreInDomains p (with_value agent v known)
-own_in_domains p agent v known there all var w l e = elim (eqb_tells var agent) [
-  | inl t ↦
-      let some : Some v ≡ Some w = sym (ap (λ b. cond b (Some v) (known var)) t.0) ∙ e in
-      let same : v ≡ w = cc in
-      subst (λ z. In w (domain p z)) (sym t.1) (subst (λ z. In z (domain p agent)) same there)
-  | inr t ↦ all var w l (sym (ap (λ b. cond b (Some v) (known var)) t.0) ∙ e)
-]
-
--- a sound agent's view is of the domains
-pub view_in_domains : (p : Csp) (i : ℕ) (a : Agent) → Sound p i a → AreInDomains p (known a)
-view_in_domains p i a h var v l e = by_told (a.view var) refl e
-  where
-    by_told : (o : Option Stamped) → a.view var ≡ o → value_in o ≡ Some v → In v (domain p var)
-    by_told None f g = cc
-    by_told (Some s) f g = let same : s.value ≡ v = cc in subst (λ z. In z (domain p var)) same (h.in_view var s f).1
-
 -- ---- one item after another
-
-against_step : (v : ℤ) (k : ℕ) (xs : List Recorded) (x : Recorded) → k < length xs
-    → first_against v k (drop k xs) ≡ cond (is_against v (get_or xs k x)) (Some (KeptNogood k)) (first_against v (k + 1) (drop (k + 1) xs))
-against_step v k xs x h = at_drop_more (first_against v k) xs k x h
-
-pub against_here : (v : ℤ) (k : ℕ) (xs : List Recorded) (x : Recorded) → k < length xs → is_against v (get_or xs k x) ≡ true → first_against v k (drop k xs) ≡ Some (KeptNogood k)
-against_here v k xs x h t = against_step v k xs x h ∙ ap (λ b. cond b (Some (KeptNogood k)) (first_against v (k + 1) (drop (k + 1) xs))) t
-
-pub against_later : (v : ℤ) (k : ℕ) (xs : List Recorded) (x : Recorded) → k < length xs → is_against v (get_or xs k x) ≡ false → first_against v k (drop k xs) ≡ first_against v (k + 1) (drop (k + 1) xs)
-against_later v k xs x h t = against_step v k xs x h ∙ ap (λ b. cond b (Some (KeptNogood k)) (first_against v (k + 1) (drop (k + 1) xs))) t
-
--- what stands at a place
-pub found_at : (xs : List ℤ) (k : ℕ) (x : ℤ) → slice_get xs k ≡ Some x → get_or xs k (pos 0) ≡ x
-found_at xs k x e = sym (unwrap_or-slice_get xs k (pos 0)) ∙ ap (λ o. unwrap_or o (pos 0)) e
 
 module _ (p : Contents) (i : ℕ) (known : PartialAssignment) (kept : List Recorded) (xs : List ℤ) (k : ℕ) (x : ℤ) (within : k < length xs) (at : slice_get xs k ≡ Some x) where
   pub free_here : is_some (cause_for p i known kept x) ≡ false → least_free p i known kept (drop k xs) ≡ Some x
   free_here e =
       at_drop_more (least_free p i known kept) xs k (pos 0) within
-      ∙ ap (λ y. least_free p i known kept (y ∷ drop (k + 1) xs)) (found_at xs k x at)
+      ∙ ap (λ y. least_free p i known kept (y ∷ drop (k + 1) xs)) (get_or_from_slice_get xs k x (pos 0) at)
       ∙ ap (λ b. cond (not b) (Some x) (least_free p i known kept (drop (k + 1) xs))) e
 
   pub free_later : is_some (cause_for p i known kept x) ≡ true → least_free p i known kept (drop k xs) ≡ least_free p i known kept (drop (k + 1) xs)
   free_later e =
       at_drop_more (least_free p i known kept) xs k (pos 0) within
-      ∙ ap (λ y. least_free p i known kept (y ∷ drop (k + 1) xs)) (found_at xs k x at)
+      ∙ ap (λ y. least_free p i known kept (y ∷ drop (k + 1) xs)) (get_or_from_slice_get xs k x (pos 0) at)
       ∙ ap (λ b. cond (not b) (Some x) (least_free p i known kept (drop (k + 1) xs))) e
 
   pub causes_more : causes_for p i known kept (take (k + 1) xs) ≡ causes_for p i known kept (take k xs) ++ option_to_list (cause_for p i known kept x)
@@ -87,7 +51,7 @@ module _ (p : Contents) (i : ℕ) (known : PartialAssignment) (kept : List Recor
       ap (causes_for p i known kept) (take_more xs k (pos 0) within)
       ∙ filter_map-append (cause_for p i known kept) (take k xs) (get_or xs k (pos 0) ∷ [])
       ∙ ap (λ z. causes_for p i known kept (take k xs) ++ z) (one (cause_for p i known kept (get_or xs k (pos 0))))
-      ∙ ap (λ y. causes_for p i known kept (take k xs) ++ option_to_list (cause_for p i known kept y)) (found_at xs k x at)
+      ∙ ap (λ y. causes_for p i known kept (take k xs) ++ option_to_list (cause_for p i known kept y)) (get_or_from_slice_get xs k x (pos 0) at)
 
 -- ---- places are valid
 

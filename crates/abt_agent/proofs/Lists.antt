@@ -48,9 +48,6 @@ pub one : {X : Type 0} → (o : Option X) → cons_option o [] ≡ option_to_lis
 one None = refl
 one (Some x) = refl
 
-pub told_more : {X : Type 0} → (f : ℕ → Option X) (n : ℕ) → filter_map f (below (n + 1)) ≡ filter_map f (below n) ++ option_to_list (f n)
-told_more f n = ap (filter_map f) (below-more n) ∙ filter_map-append f (below n) (n ∷ []) ∙ ap (λ z. filter_map f (below n) ++ z) (one (f n))
-
 -- two functions that agree below n
 pub map_below : {X : Type 0} → (f g : ℕ → Option X) (n : ℕ) → ((k : ℕ) → k < n → f k ≡ g k) → filter_map f (below n) ≡ filter_map g (below n)
 map_below f g zero h = refl
@@ -68,7 +65,3 @@ mapped_filter {X} f q (x ∷ xs) =
       | true ↦ ap (cons_option (f x)) (mapped_filter f q xs)
       | false ↦ mapped_filter f q xs
     ]
-
--- what is made of the first of a list, and of one more
-pub mapped_more : {X : Type 0} → (f : ℕ → Option X) (xs : List ℕ) (k d : ℕ) → k < length xs → filter_map f (take (k + 1) xs) ≡ filter_map f (take k xs) ++ option_to_list (f (get_or xs k d))
-mapped_more {X} f xs k d within = ap (filter_map f) (take_more xs k d within) ∙ filter_map-append f (take k xs) (get_or xs k d ∷ []) ∙ ap (λ (z : List X). filter_map f (take k xs) ++ z) (one (f (get_or xs k d)))
