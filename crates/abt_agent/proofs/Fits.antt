@@ -1,5 +1,5 @@
 -- Whether the pairs of a nogood are as the view has them, while they are learned.
-use Rattle.std.proofs.Common.{◌≡◌, ◌≢◌, ◌==◌, ℕ, zero, suc, ◌+◌, ◌<◌, ◌≤◌, Bool, true, false, cond, not, ◌&&◌, ◌||◌, List, [], ◌∷◌, length, take, drop, get_or, Some, ℤ, nat_lt, int_eq, inl, inr, refl, sym, ap, subst, ◌∙◌, arith}
+use Rattle.std.proofs.Common.{◌≡◌, ◌≢◌, ◌==◌, ℕ, zero, suc, ◌+◌, ◌<◌, Bool, true, false, cond, not, ◌&&◌, ◌||◌, List, [], ◌∷◌, length, take, drop, get_or, Some, ℤ, nat_lt, int_eq, inl, inr, refl, sym, ap, subst, ◌∙◌, arith}
 use Rattle.std.proofs.Math.Bool.{and-true}
 use Rattle.std.proofs.lemmas.Bool.{ne_eqb}
 use Rattle.std.proofs.lemmas.Bool.Decides.{eqb_tells, Decides-ltb, Decides-int_eq}
@@ -44,13 +44,6 @@ fits_more me (suc place) (y ∷ ys) a b l r e =
     first
     ∙ ap (λ z. (not (nat_lt y.var me) || is_value (known a y.var) y.value) && z) (fits_more me place ys a b within r.1 e)
     ∙ swap_and (not (nat_lt y.var me) || is_value (known a y.var) y.value) (fits me (x ∷ []) b) (fits me (take place ys) a)
-
--- an agent that is not higher fits
-pub fits_lower : (me var : ℕ) (value : ℤ) (a : Agent) → me ≤ var → true ≡ fits me (pair_of var value ∷ []) a
-fits_lower me var value a l = (elim (nat_lt var me) as (λ b. nat_lt var me ≡ b → true ≡ ((not b || is_value (known a var) value) && true)) [
-  | true ↦ λ e. let low = (Decides-ltb var me).0 e in absurd (omega arith)
-  | false ↦ λ e. refl
-]) refl
 
 -- a higher agent fits exactly if the view has the value
 pub fits_higher : (me var : ℕ) (value : ℤ) (a : Agent) → var < me → is_value (known a var) value ≡ fits me (pair_of var value ∷ []) a

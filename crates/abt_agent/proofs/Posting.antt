@@ -1,28 +1,18 @@
 -- What an outbox gains.
-use Rattle.std.proofs.Common.{◌≡◌, ℕ, ◌+◌, Bool, true, cond, List, [], ◌∷◌, ◌++◌, filter, refl, sym, ap, subst, ◌∙◌, arith, append-nil, append_assoc}
+use Rattle.std.proofs.Common.{◌≡◌, ℕ, ◌+◌, Bool, cond, List, [], ◌∷◌, ◌++◌, filter, refl, sym, ap, subst, ◌∙◌, arith, append-nil, append_assoc}
 use Rattle.std.proofs.lemmas.List.{map-append}
-use Rattle.std.proofs.lemmas.List.Elements.{All-append, All-push}
+use Rattle.std.proofs.lemmas.List.Elements.{All-append}
 use Rattle.dcsp_defs.specs.Words.{below}
 use Rattle.abt_defs.specs.Agents as agents
 use Rattle.abt_defs.specs.Steps.{to_each}
-use Rattle.abt_message.specs.declared.Message.{Message}
 use Rattle.abt_message.specs.declared.Sent.{Sent}
-use Rattle.abt_message.specs.Messages.{message_of, messages_of, sent_of}
+use Rattle.abt_message.specs.Messages.{messages_of, sent_of}
 use Rattle.abt_agent.specs.Outgoing.{IsStamped, Posts}
 use Rattle.abt_agent.proofs.Lists.{each_more}
 
 -- nothing is sent
 pub posts_none : (out : List Sent) → Posts out out []
 posts_none out = record { new = []; kept = sym (append-nil out); meaning = refl; stamped = λ k d l. absurd (omega arith) }
-
--- one message is
-pub posts_one : (out went : List Sent) (sent : Sent) → went ≡ out ++ sent ∷ [] → IsStamped sent.message → Posts out went (sent_of sent ∷ [])
-posts_one out went sent e h = record { new = sent ∷ []; kept = e; meaning = refl; stamped = All-push (λ (x : Sent). IsStamped x.message) [] sent (λ k d l. absurd (omega arith)) h }
-
--- one message is, if it is wanted
-pub posts_if : (out went : List Sent) (wanted : Bool) (to : ℕ) (m : Message) → wanted ≡ true → went ≡ out ++ record { to = to; message = m } ∷ [] → IsStamped m
-    → Posts out went (cond wanted ((to, message_of m) ∷ []) [])
-posts_if out went wanted to m w e h = subst (λ b. Posts out went (cond b ((to, message_of m) ∷ []) [])) (sym w) (posts_one out went (record { to = to; message = m }) e h)
 
 -- some messages are sent, and then others
 pub posts_then : (out mid went : List Sent) (first second : List (ℕ × agents.Message)) → Posts out mid first → Posts mid went second → Posts out went (first ++ second)
