@@ -55,8 +55,8 @@ shares_inside : (p : Csp) → ((i : ℕ) → Sound p i (fresh p i)) → (i k : �
 shares_inside p sound i k l = false_from_ne_true (shares p i k) (λ e. let s = (sound k).lower i e in omega arith)
 
 -- a filter of the numbers below n has just those that pass
-among_filter : (q : ℕ → Bool) (n j : ℕ) → is_among j (filter q (below n)) ≡ (q j && nat_lt j n)
-among_filter q n j = among-filter q j (below n) ∙ ap (λ b. q j && b) (among-below j n)
+among_filter_below : (q : ℕ → Bool) (n j : ℕ) → is_among j (filter q (below n)) ≡ (q j && nat_lt j n)
+among_filter_below q n j = among-filter q j (below n) ∙ ap (λ b. q j && b) (among-below j n)
 
 -- the test of a lower owner
 abbrev joins_lower : Csp → ℕ → ℕ → Bool
@@ -65,7 +65,7 @@ joins_lower p me o = nat_lt me o && list_any (joins o me) p.constraints
 -- the lower owners are those that share
 lower_share : (p : Csp) → ((i : ℕ) → Sound p i (fresh p i)) → (me j : ℕ) → j < count p → is_among j (lower_owners p me) ≡ shares p j me
 lower_share p sound me j l =
-    among_filter (joins_lower p me) (count p) j
+    among_filter_below (joins_lower p me) (count p) j
     ∙ ap (λ b. joins_lower p me j && b) (lt-ltb j (count p) l)
     ∙ and-true (joins_lower p me j)
     ∙ elim (cases_lt me j) [
@@ -84,7 +84,7 @@ lower_are : (p : Csp) → ((i : ℕ) → Sound p i (fresh p i)) → (me j : ℕ)
 lower_are p sound me j = elim (cases_lt j (count p)) [
   | inl l ↦ lower_share p sound me j l
   | inr past ↦
-      among_filter (joins_lower p me) (count p) j
+      among_filter_below (joins_lower p me) (count p) j
       ∙ and_right (joins_lower p me j) (nat_lt j (count p)) (false_from_ne_true (nat_lt j (count p)) (λ e. let l = ltb-true j (count p) e in omega arith))
       ∙ sym (shares_inside p sound j me past)
 ]

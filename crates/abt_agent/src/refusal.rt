@@ -69,6 +69,7 @@ impl<'p> Knowledge<'p> {
         ensures size { OnOk result (length marks.new ≡ length marks.old) }
         ensures marks { OnOk result ((k : ℕ) → has_mark marks.new k ≡ (has_mark marks.old k || (nat_lt k (length marks.old) && blames self.now.problem.now self.now.store (all_causes self.now) k))) }
     {
+        // Each rule that the agent owns is one of the problem's.
         let _rules = self.problem.owned(self.me);
         let values = self.problem.domain(self.me).len();
         let Ok(mut reasons) = Vec::with_capacity(self.alloc, values) else {
