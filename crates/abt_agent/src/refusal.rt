@@ -14,7 +14,7 @@ ghost use Rattle.abt_agent.specs.States.{has_mark};
 ghost use Rattle.abt_agent.specs.Causes.{all_causes, blames, blames_one, reasons_at, item_at, told_of, IsCause};
 
 use crate::knowledge::Knowledge;
-use crate::marks::{make_blank, mark_pairs, mark_variables};
+use crate::marks::{make_blank, mark_pairs, mark_variables, next_marked};
 use crate::search::Cause;
 use abt_message::StampList;
 use abt_view::StampedValue;
@@ -126,7 +126,7 @@ impl<'p> Knowledge<'p> {
         };
         let mut stamps = room_for_stamps(self.alloc, room)?;
         let mut from = 0;
-        while let Some(agent) = marks.next_marked(from) {
+        while let Some(agent) = next_marked(marks, from) {
             let var = agent as u32;
             add_told(&mut pairs, &mut stamps, var, self.stamped_value(var))?;
             from = agent + 1;
