@@ -124,7 +124,9 @@ impl<'p> Knowledge<'p> {
         let Ok(mut pairs) = Vec::with_capacity(self.alloc, room) else {
             return Err(Memory);
         };
-        let mut stamps = room_for_stamps(self.alloc, room)?;
+        let Ok(mut stamps) = Vec::with_capacity(self.alloc, room) else {
+            return Err(Memory);
+        };
         let mut from = 0;
         while let Some(agent) = next_marked(marks, from) {
             let var = agent as u32;
@@ -135,7 +137,10 @@ impl<'p> Knowledge<'p> {
         let Ok(nogood) = Nogood::from_vec(pairs) else {
             return Err(Memory);
         };
-        Ok(Basis { nogood, stamps })
+        Ok(Basis {
+            nogood,
+            stamps: StampList::from_vec(stamps),
+        })
     }
 
     /// What the view has of the agent.
@@ -161,30 +166,20 @@ impl<'p> Knowledge<'p> {
     }
 }
 
-/// No stamp, with room for so many.
-fn room_for_stamps(alloc: Global, count: usize) -> Result<StampList, Memory>
-    ensures { IfOk result (λ stamps. stamps ≡ []) }
-{
-    let Ok(stamps) = Vec::with_capacity(alloc, count) else {
-        return Err(Memory);
-    };
-    Ok(StampList::from_vec(stamps))
-}
-
 /// Adds the variable with what is told of it, if there is something.
 #[inline(always)]
 fn add_told(
     pairs: &mut Vec<Pair>,
-    stamps: &mut StampList,
+    stamps: &mut Vec<u64>,
     var: u32,
     told: Option<StampedValue>,
 ) -> Result<(), Memory>
-    requires size { length stamps.old ≡ length pairs.old.items }
-    requires positive { ArePositive stamps.old }
+    requires size { length stamps.old.items ≡ length pairs.old.items }
+    requires positive { ArePositive stamps.old.items }
     requires stamped { ForSome told (λ told. 0 < told.stamp) }
-    ensures told { OnOk result (with_stamps pairs.new.items stamps.new ≡ with_stamps pairs.old.items stamps.old ++ option_to_list (pair_at var (stamped_in told))) }
-    ensures size { OnOk result (length stamps.new ≡ length pairs.new.items) }
-    ensures positive { OnOk result (ArePositive stamps.new) }
+    ensures told { OnOk result (with_stamps pairs.new.items stamps.new.items ≡ with_stamps pairs.old.items stamps.old.items ++ option_to_list (pair_at var (stamped_in told))) }
+    ensures size { OnOk result (length stamps.new.items ≡ length pairs.new.items) }
+    ensures positive { OnOk result (ArePositive stamps.new.items) }
 {
     match told {
         Some(told) => {
@@ -192,31 +187,24 @@ fn add_told(
                 var,
                 value: told.value,
             };
-            push_pair(pairs, pair)?;
-            push_stamp(stamps, told.stamp)?;
+            push(pairs, pair)?;
+            push(stamps, told.stamp)?;
             Ok(())
         }
         None => Ok(()),
     }
 }
 
-/// Adds a pair at the end.
+/// Adds an item at the end. Most find room that was made before, and take no call.
 #[inline(always)]
-fn push_pair(pairs: &mut Vec<Pair>, pair: Pair) -> Result<(), Memory>
-    ensures { OnOk result (pairs.new.items ≡ pairs.old.items ++ pair ∷ []) }
+fn push<T: Drop>(items: &mut Vec<T>, item: T) -> Result<(), Memory>
+    ensures { OnOk result (items.new.items ≡ items.old.items ++ item ∷ []) }
 {
-    match pairs.push(pair) {
-        Ok(()) => Ok(()),
-        Err(_) => Err(Memory),
+    if items.len() < items.capacity() {
+        items.push_reserved(item);
+        return Ok(());
     }
-}
-
-/// Adds a stamp at the end.
-#[inline(always)]
-fn push_stamp(stamps: &mut StampList, stamp: u64) -> Result<(), Memory>
-    ensures { OnOk result (stamps.new ≡ stamps.old ++ stamp ∷ []) }
-{
-    match stamps.push(stamp) {
+    match items.push(item) {
         Ok(()) => Ok(()),
         Err(_) => Err(Memory),
     }

@@ -1,4 +1,4 @@
-use Rattle.std.proofs.Common.{◌∙◌, ap, length, List, arith}
+use Rattle.std.proofs.Common.{◌∙◌, ap, length, List, ℕ, arith}
 use Rattle.dcsp_nogood.specs.declared.Pair.{Pair}
 use Rattle.abt_message.specs.Messages.{with_stamps}
 use Rattle.abt_view.specs.Views.{view_of}
@@ -21,5 +21,7 @@ pub returns-clause-told : goal.returns-clause-told
 returns-clause-told c =
     let has = has_mark c.args.marks.now in
     let told = told_of (view_of c.args.self.now.view) in
-    ap (λ (pairs : List Pair). with_stamps pairs c.loop-agent.stamps) c.in-Ok-from_vec.ensures.pairs ∙ c.loop-agent.invariant.told
+    ap (λ (pairs : List Pair). with_stamps pairs c.from_vec-2.result) c.in-Ok-from_vec.ensures.pairs
+    ∙ ap (λ (stamps : List ℕ). with_stamps c.loop-agent.pairs.items stamps) c.from_vec-2.ensures
+    ∙ c.loop-agent.invariant.told
     ∙ told_end told has c.loop-agent.from (length c.args.marks.now) c.loop-agent.invariant.within c.in_default-next_marked.ensures.before

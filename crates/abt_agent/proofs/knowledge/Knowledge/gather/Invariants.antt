@@ -10,9 +10,9 @@ use Rattle.abt_agent.proofs.knowledge.Knowledge.gather.Given as goal
 
 abbrev pub invariant-loop-agent : goal.invariant-loop-agent
 invariant-loop-agent l = record {
-  told : with_stamps l.pairs.items l.stamps ≡ filter_map (told_of (view_of l.self.view)) (filter (has_mark l.marks) (below l.from));
-  size : length l.stamps ≡ length l.pairs.items;
-  positive : ArePositive l.stamps;
+  told : with_stamps l.pairs.items l.stamps.items ≡ filter_map (told_of (view_of l.self.view)) (filter (has_mark l.marks) (below l.from));
+  size : length l.stamps.items ≡ length l.pairs.items;
+  positive : ArePositive l.stamps.items;
   within : l.from ≤ length l.marks;
 }
 
