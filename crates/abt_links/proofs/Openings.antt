@@ -6,7 +6,7 @@ use Rattle.std.specs.Option.{option_map}
 use Rattle.std.proofs.lemmas.Bool.{cases_eq, eq-eqb, ne_eqb}
 use Rattle.std.proofs.lemmas.List.{get_or-set_same, get_or-set_other}
 use Rattle.abt_links.specs.Transit.{is_pair}
-use Rattle.abt_links.specs.Opened.{Slots, number_in, receivers_of, AreNumbered}
+use Rattle.abt_links.specs.OpenPairs.{Slots, number_in, receivers_of, AreNumbered}
 use Rattle.abt_links.proofs.LinkLaws.{pos_cons}
 
 -- the first of two, if there is one

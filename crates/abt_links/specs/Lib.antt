@@ -4,4 +4,4 @@ pub mod Marks
 pub mod PairTables
 pub mod Transit
 pub mod Whole
-pub mod Opened
+pub mod OpenPairs

@@ -8,7 +8,7 @@
 #![tactic(auto)]
 
 mod links;
-mod opened;
+mod open_pairs;
 mod pair_set;
 mod queues;
 mod receivers;

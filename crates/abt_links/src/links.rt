@@ -3,7 +3,7 @@
 ghost use Rattle.std.specs.Prelude.{◌≡◌, ◌≢◌, ◌<◌, ◌≤◌, [], IfErr, IfOk, OnErr, OnOk, Some, position, slice_get, length};
 ghost use Rattle.abt_links.specs.Transit.{is_pair, link_of, IsOpen, Opens, Sends, Posts, Keeps, Takes, ready_pairs, message_count};
 
-use crate::opened::Opened;
+use crate::open_pairs::OpenPairs;
 use crate::pair_set::PairSet;
 use crate::queues::Queues;
 use abt_message::Message;
@@ -29,7 +29,7 @@ pub struct Carried {
 #[derive(Drop)]
 pub struct Links {
     agents: u32,
-    opened: Opened,
+    opened: OpenPairs,
     queues: Queues,
     ready: PairSet,
 }
@@ -57,7 +57,7 @@ impl Links {
         let ready = PairSet::new(alloc, agents)?;
         Ok(Links {
             agents,
-            opened: Opened::new(alloc),
+            opened: OpenPairs::new(alloc),
             queues: Queues::new(alloc),
             ready,
         })

@@ -1,7 +1,7 @@
 //! The receivers of one sender's pairs.
 
 ghost use Rattle.std.specs.Prelude.{◌≡◌, ◌==◌, ℕ, [], OnErr, OnOk, Some, if◌then◌else◌};
-ghost use Rattle.abt_links.specs.Opened.{number_in};
+ghost use Rattle.abt_links.specs.OpenPairs.{number_in};
 
 use dcsp_entries::{Entry, item_of, put};
 use dcsp_list::Memory;
@@ -21,7 +21,7 @@ pub(crate) struct Receivers {
 
 impl Model for Receivers {
     ghost use Rattle.dcsp_entries.specs.Entries.{AreRising};
-    ghost use Rattle.abt_links.specs.Opened.{Slots};
+    ghost use Rattle.abt_links.specs.OpenPairs.{Slots};
 
     ghost Value = { Slots };
 

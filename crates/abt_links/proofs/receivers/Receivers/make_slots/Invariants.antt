@@ -1,5 +1,5 @@
 use Rattle.std.proofs.Common.{◌≡◌, ℕ}
-use Rattle.abt_links.specs.Opened.{number_in}
+use Rattle.abt_links.specs.OpenPairs.{number_in}
 use Rattle.abt_links.proofs.receivers.Receivers.make_slots.Given as goal
 
 abbrev pub invariant-loop-near : goal.invariant-loop-near

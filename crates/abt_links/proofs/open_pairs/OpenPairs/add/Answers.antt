@@ -3,9 +3,9 @@ use Rattle.std.specs.Prelude.{if◌then◌else◌}
 use Rattle.std.specs.List.{position}
 use Rattle.std.proofs.lemmas.List.{get_or_default}
 use Rattle.abt_links.specs.Transit.{is_pair}
-use Rattle.abt_links.specs.Opened.{AreNumbered, number_in}
+use Rattle.abt_links.specs.OpenPairs.{AreNumbered, number_in}
 use Rattle.abt_links.proofs.Openings.{numbered_more}
-use Rattle.abt_links.proofs.opened.Opened.add.Goals as goal
+use Rattle.abt_links.proofs.open_pairs.OpenPairs.add.Goals as goal
 
 none_is : (o : Option ℕ) → IsNone o → o ≡ None
 none_is None h = refl

@@ -2,7 +2,7 @@
 
 ghost use Rattle.std.specs.Prelude.{◌≡◌, ◌<◌, ℕ, [], ◌∷◌, ◌++◌, length, OnErr, OnOk, Some, position, IsNone, IsSome};
 ghost use Rattle.abt_links.specs.Transit.{is_pair};
-ghost use Rattle.abt_links.specs.Opened.{receivers_of};
+ghost use Rattle.abt_links.specs.OpenPairs.{receivers_of};
 
 use crate::receivers::Receivers;
 use dcsp_list::Memory;
@@ -13,15 +13,15 @@ use std::marker::Model;
 ///
 /// Beside them stand the receivers of each sender, by which a pair is found.
 #[derive(Drop)]
-pub(crate) struct Opened {
+pub(crate) struct OpenPairs {
     alloc: Global,
     pairs: Vec<(u32, u32)>,
     senders: Vec<Receivers>,
 }
 
-impl Model for Opened {
+impl Model for OpenPairs {
     ghost use Rattle.std.specs.Prelude.{List, ℕ};
-    ghost use Rattle.abt_links.specs.Opened.{AreNumbered};
+    ghost use Rattle.abt_links.specs.OpenPairs.{AreNumbered};
 
     ghost Value = { List (ℕ × ℕ) };
 
@@ -30,12 +30,12 @@ impl Model for Opened {
     ghost invariant = { λ o. AreNumbered o.pairs.items o.senders.items };
 }
 
-impl Opened {
+impl OpenPairs {
     /// No pair. It takes no memory.
-    pub(crate) fn new(alloc: Global) -> Opened
+    pub(crate) fn new(alloc: Global) -> OpenPairs
         ensures { result ≡ [] }
     {
-        Opened {
+        OpenPairs {
             alloc,
             pairs: Vec::new(alloc),
             senders: Vec::new(alloc),
