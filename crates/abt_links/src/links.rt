@@ -114,6 +114,7 @@ impl Links {
     }
 
     /// Puts a message last on this list, which is its pair's. A refusal hands it back and changes nothing.
+    #[inline(always)]
     fn put_last(
         &mut self,
         list: usize,

@@ -43,6 +43,7 @@ impl OpenPairs {
     }
 
     /// The number of the pair in the order of opening, if it was opened.
+    #[inline(always)]
     pub(crate) fn find(&self, from: u32, to: u32) -> Option<usize>
         ensures { result ≡ position (is_pair from to) self.now }
     {

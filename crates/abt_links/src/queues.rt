@@ -88,6 +88,7 @@ impl Queues {
     }
 
     /// Puts a message last on a list. A refusal hands it back and changes nothing.
+    #[inline(always)]
     pub(crate) fn push(&mut self, place: usize, message: Message) -> Result<(), (Message, Memory)>
         requires { place < length self.old }
         ensures ok { OnOk result (self.new ≡ slice_set self.old place (slice_index_or self.old place [] ++ message ∷ [])) }
