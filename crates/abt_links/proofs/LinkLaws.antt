@@ -249,6 +249,13 @@ pair-opens t from to long = record {
   agents = refl;
   opened = any_more t from to from to ∙ or_right (is_some (position (is_pair from to) t.opened)) ((eqb from from && eqb to to) || false) (or_left (eqb from from && eqb to to) false (and_from (eqb from from) (eqb to to) (eq-eqb from from refl) (eq-eqb to to refl)));
   others = λ k i is_open. any_more t from to k i ∙ or_left (is_some (position (is_pair k i) t.opened)) ((eqb k from && eqb i to) || false) is_open;
+  only = λ k i is_open. elim (or_cases (is_some (position (is_pair k i) t.opened)) ((eqb k from && eqb i to) || false) (sym (any_more t from to k i) ∙ is_open)) [
+    | inl before ↦ inl before
+    | inr now ↦ elim (or_cases (eqb k from && eqb i to) false now) [
+      | inl here ↦ inr (same_pair k i from to here)
+      | inr never ↦ cc
+    ]
+  ];
   lists = λ k i. pair-links t from to long k i;
 }
 

@@ -101,7 +101,7 @@ impl Links {
         ensures ok { OnOk result (Posts self.old self.new from to message) }
         ensures again { IsOpen self.old from to → OnOk result (Sends self.old self.new from to message) }
         ensures handed_back { IfErr result (λ refused. refused.0 ≡ message) }
-        ensures err { OnErr result (Keeps self.old self.new) }
+        ensures err { OnErr result (Keeps self.old self.new from to) }
         ensures err_again { IsOpen self.old from to → OnErr result (self.new ≡ self.old) }
     {
         match self.opened.find(from, to) {
