@@ -158,6 +158,7 @@ fn make_room(cells: &mut Slab<Cell>) -> Result<(), Memory>
 }
 
 /// Stores a message behind the last one of a list. A refusal hands it back.
+#[inline(always)]
 fn add(cells: &mut Slab<Cell>, ends: Ends, message: Message) -> Result<Ends, (Message, Memory)>
     requires { 0 < ends.count → ContainsKey cells.old ends.last }
     ensures ok { IfOk result (λ new. IsAdded cells.old.slots cells.new.slots ends new message) }
@@ -200,6 +201,7 @@ fn link(cells: &mut Slab<Cell>, at: u32, next: u32)
 }
 
 /// Takes the first message of a list that has one, and tells what is left of the list.
+#[inline(always)]
 fn take(cells: &mut Slab<Cell>, ends: Ends) -> (Message, Ends)
     requires some { 0 < ends.count }
     requires live { ContainsKey cells.old ends.first }

@@ -156,10 +156,11 @@ impl<'p, 'w> Runner<'p, 'w> {
         ensures created { (F.place folder.new).created ≡ (F.place folder.old).created }
     {
         let number = choice % self.network.ready();
-        let Ok(delivery) = self.network.deliver(choice) else {
+        let made = self.network.deliver(choice);
+        let Ok(delivery) = &made else {
             return Err(Stop::Memory);
         };
-        self.write_made(&delivery, folder, out)?;
+        self.write_made(delivery, folder, out)?;
         self.take_down(number)
     }
 

@@ -108,6 +108,7 @@ impl View {
     }
 
     /// Puts into an agent's slot what it told.
+    #[inline(always)]
     fn put(&mut self, var: u32, told: Option<StampedValue>)
         requires { var < length self.old }
         ensures { self.new ≡ set self.old var told }

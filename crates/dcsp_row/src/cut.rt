@@ -115,6 +115,7 @@ fn count_below(domain: &Domain, factor: u64, bound: i128) -> usize
 }
 
 /// How many of these values are below the bound, where all or none are, or no value is missing below it.
+#[inline(always)]
 fn count_without_gap(domain: &Domain, bound: i128) -> Option<usize>
     ensures { IfSome result (λ count. (k : ℕ) → k < length domain.now → int_lt (own_at domain.now k) bound ≡ nat_lt k count) }
 {

@@ -1,8 +1,8 @@
 //! A step as a line of a log.
 //!
-//! A line in the making goes by value from function to function, all inlined: so its length and its place stay in
-//! registers. Behind a reference both would be read again after each byte, which might be a part of them for all that
-//! the compiler knows.
+//! A line in the making goes by value from function to function, all inlined: so its place and its length stay in
+//! registers. Behind a reference the place would be read again after each byte, which might be a part of it for all
+//! that the compiler knows, and the length would be stored and read again for each call.
 ghost use Rattle.std.specs.Prelude.{◌≡◌, ℕ, ◌+◌, ◌/◌, ◌%◌, ◌<◌, ◌≤◌, [], ◌∷◌, ◌++◌, flat_map, codes, decimal, length, IfOk, OnOk, OnErr, FitsSigned, vec_len, vec_capacity};
 ghost use Rattle.std.specs.Int.{w64};
 ghost use Rattle.std.specs.List.{AllByRecursion};
@@ -36,22 +36,25 @@ pub fn write_step(number: u64, step: &Step, into: &mut Vec<u8>) -> Result<(), Me
     ensures err { OnErr result (into.new.items ≡ into.old.items) }
 {
     let alloc = *into.allocator();
-    if into.is_empty() {
-        // The line is made in the room that is there. A refusal loses the room, and nothing else.
-        let room = replace(into, Vec::new(alloc));
-        let Ok(line) = with_step(room, number, step) else {
-            return Err(Memory);
-        };
+    let is_empty = into.is_empty();
+    // Where nothing is there the line is made in its room, which a refusal lets go, and nothing else.
+    let room = if is_empty {
+        replace(into, Vec::new(alloc))
+    } else {
+        Vec::new(alloc)
+    };
+    let Ok(line) = with_step(room, number, step) else {
+        return Err(Memory);
+    };
+    if is_empty {
         *into = line;
         return Ok(());
     }
-    match with_step(Vec::new(alloc), number, step) {
-        Ok(line) => into.extend_from_slice(&line).map_err(|_| Memory),
-        Err(_) => Err(Memory),
-    }
+    into.extend_from_slice(&line).map_err(|_| Memory)
 }
 
 /// The line of a step behind what is there.
+#[inline(always)]
 fn with_step(line: Vec<u8>, number: u64, step: &Step) -> Result<Vec<u8>, AllocError>
     ensures text { IfOk result (λ made. made.items ≡ line.items ++ step_line number step.now) }
     ensures rising { OnOk result (IsRising step.now.nogood) }
