@@ -9,3 +9,5 @@ pub mod Pairs
 pub mod Generators
 pub mod Texts
 pub mod Lengths
+pub mod Solutions
+pub mod Subjects
