@@ -14,3 +14,4 @@ pub mod TransferLaws
 pub mod NumberLaws
 pub mod ReadingLaws
 pub mod ProofLaws
+pub mod TotalLaws

@@ -142,7 +142,7 @@ ends_here p q b g = of g.more g.clauses g.longer g.parts where
 whole : (text : List ℕ) (p : List (List ℤ)) → IsProofOf text p → text ≡ proof_text p ++ []
 whole text p i = i.same ∙ sym (append-nil (proof_text p))
 
-proof_unique : (text : List ℕ) (p q : List (List ℤ)) → IsProofOf text p → IsProofOf text q → p ≡ q
+pub proof_unique : (text : List ℕ) (p q : List (List ℤ)) → IsProofOf text p → IsProofOf text q → p ≡ q
 proof_unique text p q i j =
     (elim (two_fronts p q [] [] i.clauses j.clauses (sym (whole text p i) ∙ whole text q j)) [
       | inl g ↦ (ends_here p q [] g).0
@@ -160,7 +160,7 @@ one_too_many text number f c more b h e =
 longer_by : (p q : List (List ℤ)) (c : List ℤ) (more : List (List ℤ)) → q ≡ p ++ c ∷ more → length p + 1 ≤ length q
 longer_by p q c more e = let f : length q ≡ length (p ++ c ∷ more) = ap length e in omega (arith, length-append p (c ∷ more), f)
 
-not_both : (text : List ℕ) (p : List (List ℤ)) (number : ℕ) → IsProofOf text p → IsFirstBadLine text number → ⊥
+pub not_both : (text : List ℕ) (p : List (List ℤ)) (number : ℕ) → IsProofOf text p → IsFirstBadLine text number → ⊥
 not_both text p number i f =
     (elim (two_fronts f.before p f.rest [] f.clauses i.clauses (sym f.parts ∙ whole text p i)) [
       | inl g ↦ short g.more g.clauses g.longer g.parts
@@ -177,7 +177,7 @@ same_front text m n f g o = of o.more o.clauses o.longer o.parts where
   of [] h l e = let k : length g.before ≡ length f.before = ap length (l ∙ append-nil f.before) in let a : m ≡ length f.before + 1 = f.counted in let b : n ≡ length g.before + 1 = g.counted in omega arith
   of (c ∷ more) h l e = absurd (let k = one_too_many text m f c more g.rest h e in let j = longer_by f.before g.before c more l in let b : n ≡ length g.before + 1 = g.counted in let w : n ≤ 2 ^ 32 = g.within in omega arith)
 
-bad_unique : (text : List ℕ) (m n : ℕ) → IsFirstBadLine text m → IsFirstBadLine text n → m ≡ n
+pub bad_unique : (text : List ℕ) (m n : ℕ) → IsFirstBadLine text m → IsFirstBadLine text n → m ≡ n
 bad_unique text m n f g =
     (elim (two_fronts f.before g.before f.rest g.rest f.clauses g.clauses (sym f.parts ∙ g.parts)) [
       | inl o ↦ same_front text m n f g o

@@ -46,6 +46,13 @@ pub record IsFirstBadLine (text : List ℕ) (number : ℕ) : Type 0 where
   pub bad : (BeginsWithClause rest → ⊥) ⊎ (number ≡ 2 ^ 32)
   pub within : number ≤ 2 ^ 32
 
+-- Each text is that of one proof, or has one first bad line.
+pub record ProofOrBadLine (text : List ℕ) : Type 0 where
+  pub some : ((proof : List (List ℤ)) × IsProofOf text proof) ⊎ ((number : ℕ) × IsFirstBadLine text number)
+  pub one_proof : (a b : List (List ℤ)) → IsProofOf text a → IsProofOf text b → a ≡ b
+  pub one_line : (m n : ℕ) → IsFirstBadLine text m → IsFirstBadLine text n → m ≡ n
+  pub not_both : (proof : List (List ℤ)) (number : ℕ) → IsProofOf text proof → IsFirstBadLine text number → ⊥
+
 -- a result that can only differ from this one by want of memory
 abbrev pub IsUnlessMemory : Result (List (List ℤ)) ProofError → Result (List (List ℤ)) ProofError → Type 0
 IsUnlessMemory wanted result = (result ≡ wanted) ⊎ (result ≡ Err Memory)

@@ -13,4 +13,4 @@ mod watches;
 pub use check::{Rup, check_rup};
 pub use clauses::ClauseList;
 pub use dcsp_list::Memory;
-pub use reader::{ProofError, read_proof};
+pub use reader::{ProofError, proofs_are_exact, read_proof};

@@ -1,6 +1,6 @@
 //! Proofs as text.
 ghost use Rattle.std.specs.Prelude.{◌≡◌, ℕ, ℤ, [], ◌∷◌, ◌++◌, ◌<◌, ◌≤◌, List, length, MatchOption, OnOk, IfOk, IfErr, IfSome, IsErrOf, Ok, Err};
-ghost use Rattle.rup_check.specs.ProofText.{IsProofOf, IsFirstBadLine, IsUnlessMemory, IsCause, IsNextClause, BeginsWithClause};
+ghost use Rattle.rup_check.specs.ProofText.{IsProofOf, IsFirstBadLine, IsUnlessMemory, IsCause, IsNextClause, BeginsWithClause, ProofOrBadLine};
 ghost use Rattle.rup_check.specs.Reading.{after_byte, variable_at, literal_at, after_end};
 ghost use Rattle.dcsp_number.specs.Reading.{Reads};
 
@@ -36,6 +36,11 @@ pub fn read_proof(alloc: Global, text: &[u8]) -> Result<ClauseList, ProofError>
 {
     proof_of(alloc, text)
 }
+
+/// A law of the format: each text is that of one proof, or has one first bad line, and never both.
+pub fn proofs_are_exact()
+    ensures { (text : List ℕ) → ProofOrBadLine text }
+{}
 
 /// Reads the lines one after the other.
 fn proof_of(alloc: Global, text: &[u8]) -> Result<ClauseList, ProofError>
