@@ -9,5 +9,3 @@ pub mod Pairs
 pub mod Generators
 pub mod Texts
 pub mod Lengths
-pub mod Solutions
-pub mod Subjects

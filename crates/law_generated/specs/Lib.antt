@@ -1,3 +1,2 @@
 pub mod Problems
 pub mod Generated
-pub mod Subjects

@@ -4,7 +4,6 @@
 ghost use Rattle.dcsp_gen.specs.Problems.{pigeons_text, queens_text, sparse_text};
 ghost use Rattle.law_generated.specs.Generated.{AreShort, ColouringHasProblem, GeneratedLinesResolve, HasProblem, PigeonsHaveProblem, QueensHaveProblem, SparseHasProblem};
 ghost use Rattle.law_generated.specs.Problems.{LinesHaveProblem, LinesSayProblem};
-ghost use Rattle.law_generated.specs.Subjects.{ColouringsAreProper, PigeonsDoNotFit, QueensArePlaced, SixQueensArePlaced, SparseGraphsAreColoured};
 ghost use Rattle.std.specs.Prelude.{ℕ};
 
 /// Lines that declare variables, perhaps print them, state constraints on them and ask for any solution say a
@@ -34,15 +33,4 @@ pub fn small_texts_have_problems()
     ensures queens { HasProblem (queens_text 6) }
     ensures pigeons { HasProblem (pigeons_text 5) }
     ensures sparse { (words : ℕ → ℕ) → HasProblem (sparse_text 500 words) }
-{}
-
-/// What the solutions of generated problems are: the placements of queens of which none attacks another, and the
-/// proper colourings of the graph that was drawn. Pigeons have none; a sparse graph has one, whatever the words, and
-/// so have six queens.
-pub fn solutions_are_the_subjects()
-    ensures queens { QueensArePlaced }
-    ensures colourings { ColouringsAreProper }
-    ensures pigeons { PigeonsDoNotFit }
-    ensures sparse { SparseGraphsAreColoured }
-    ensures six_queens { SixQueensArePlaced }
 {}

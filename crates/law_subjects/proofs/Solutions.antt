@@ -17,7 +17,7 @@ use Rattle.dcsp_problem.specs.Rules.{rule_truth}
 use Rattle.dcsp_problem.specs.Problems.{csp_of, constraint_of}
 use Rattle.law_generated_items.specs.Lines.{Line, Declare, Print, Differ, Above, Below, Solve}
 use Rattle.law_generated.specs.Problems.{rules_of, problem_of, all_lines, AreWithin}
-use Rattle.law_generated.specs.Subjects.{value_of, AreWithinHigh}
+use Rattle.law_subjects.specs.Generated.{value_of, AreWithinHigh}
 use Rattle.law_generated.proofs.Lists.{all_flat_map}
 use Rattle.law_generated.proofs.Whole.{lines_say_problem}
 

@@ -11,10 +11,10 @@ use Rattle.dcsp_defs.specs.Csp.{Assignment, IsSolution}
 use Rattle.dcsp_problem.specs.Problems.{csp_of}
 use Rattle.law_generated_items.specs.Lines.{Line, Differ, Print, queens, queens_apart, colouring, edge, lines_with_words, neighbour, pigeons, pigeons_apart}
 use Rattle.law_generated.specs.Problems.{problem_of, rules_of}
-use Rattle.law_generated.specs.Subjects.{value_of, AreWithinHigh, drawn, QueensArePlaced, ColouringsAreProper, PigeonsDoNotFit, SparseGraphsAreColoured, SixQueensArePlaced}
+use Rattle.law_subjects.specs.Generated.{value_of, AreWithinHigh, drawn, QueensArePlaced, ColouringsAreProper, PigeonsDoNotFit, SparseGraphsAreColoured, SixQueensArePlaced}
 use Rattle.law_generated.proofs.Lists.{all_map, all_flat_map, all_range}
 use Rattle.law_generated.proofs.Generators.{with_array, without_array, queens_within, colouring_within, sparse_within, pigeons_within}
-use Rattle.law_generated.proofs.Solutions.{Holds, solutions, lines_hold, tested, flat_map_all}
+use Rattle.law_subjects.proofs.Solutions.{Holds, solutions, lines_hold, tested, flat_map_all}
 
 -- ---- pairs
 

@@ -1,5 +1,5 @@
-use Rattle.law_generated.proofs.Subjects.{queens_are_placed, colourings_are_proper, pigeons_do_not_fit, sparse_graphs_are_coloured, six_queens_are_placed}
-use Rattle.law_generated.proofs.solutions_are_the_subjects.Goals as goal
+use Rattle.law_subjects.proofs.Generated.{queens_are_placed, colourings_are_proper, pigeons_do_not_fit, sparse_graphs_are_coloured, six_queens_are_placed}
+use Rattle.law_subjects.proofs.generated_solutions.Goals as goal
 
 pub returns-clause-queens : goal.returns-clause-queens
 returns-clause-queens c = queens_are_placed

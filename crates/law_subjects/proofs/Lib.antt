@@ -1,0 +1,2 @@
+mod Solutions
+mod Generated
