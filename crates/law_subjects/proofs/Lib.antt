@@ -1,2 +1,3 @@
 mod Solutions
 mod Generated
+mod Upgrading

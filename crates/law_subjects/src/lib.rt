@@ -1,6 +1,9 @@
 //! What definitions that have a program's shape say in the words of their subject.
 #![tactic(auto)]
 
+ghost use Rattle.dcsp_defs.specs.declared.Step.{Step as A_step};
+ghost use Rattle.law_subjects.specs.Upgrading.{DeletesAtLastUse};
+ghost use Rattle.std.specs.Prelude.{List};
 ghost use Rattle.law_subjects.specs.Generated.{ColouringsAreProper, PigeonsDoNotFit, QueensArePlaced, SixQueensArePlaced, SparseGraphsAreColoured};
 
 /// What the solutions of generated problems are: the placements of queens of which none attacks another, and the
@@ -12,4 +15,10 @@ pub fn generated_solutions()
     ensures pigeons { PigeonsDoNotFit }
     ensures sparse { SparseGraphsAreColoured }
     ensures six_queens { SixQueensArePlaced }
+{}
+
+/// An upgraded log has the steps of its log in order, and deletes each step once at the most: right behind the last
+/// step that cites it, or behind itself where no later one does, unless that is the log's last step.
+pub fn upgraded_logs_delete_at_last_use()
+    ensures { (steps : List A_step) → DeletesAtLastUse steps }
 {}
