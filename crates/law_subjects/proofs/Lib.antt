@@ -1,3 +1,5 @@
 mod Solutions
 mod Generated
 mod Upgrading
+mod Starving
+mod Losing

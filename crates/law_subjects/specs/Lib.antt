@@ -1,2 +1,4 @@
 pub mod Generated
 pub mod Upgrading
+pub mod Starving
+pub mod Losing

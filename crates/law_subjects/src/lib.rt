@@ -1,9 +1,12 @@
 //! What definitions that have a program's shape say in the words of their subject.
 #![tactic(auto)]
 
+ghost use Rattle.dcsp_defs.specs.Csp.{Csp};
+ghost use Rattle.law_subjects.specs.Losing.{EventsEndAtVerdict};
+ghost use Rattle.law_subjects.specs.Starving.{StarvedComeLast};
 ghost use Rattle.dcsp_defs.specs.declared.Step.{Step as A_step};
 ghost use Rattle.law_subjects.specs.Upgrading.{DeletesAtLastUse};
-ghost use Rattle.std.specs.Prelude.{List};
+ghost use Rattle.std.specs.Prelude.{List, ℕ};
 ghost use Rattle.law_subjects.specs.Generated.{ColouringsAreProper, PigeonsDoNotFit, QueensArePlaced, SixQueensArePlaced, SparseGraphsAreColoured};
 
 /// What the solutions of generated problems are: the placements of queens of which none attacks another, and the
@@ -21,4 +24,15 @@ pub fn generated_solutions()
 /// step that cites it, or behind itself where no later one does, unless that is the log's last step.
 pub fn upgraded_logs_delete_at_last_use()
     ensures { (steps : List A_step) → DeletesAtLastUse steps }
+{}
+
+/// A run that starves a link delivers from it only where no other list has a message.
+pub fn starved_links_come_last()
+    ensures { (p : Csp) → StarvedComeLast p }
+{}
+
+/// Over a medium that loses, repeats and reorders no verdict stands before an event, so the events of a run end where
+/// its verdict comes; they are the first of the words given, and then, where all of these were used, calm ones.
+pub fn events_end_at_verdict()
+    ensures { (p : Csp) (given : List ℕ) (most : ℕ) → EventsEndAtVerdict p given most }
 {}
