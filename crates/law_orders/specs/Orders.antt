@@ -1,5 +1,6 @@
 -- Orders of deliveries: at each moment some list of messages delivers its head.
-use Rattle.std.specs.Prelude.{◌≡◌, ℕ, ◌<◌, ◌%◌, false, ◌&&◌, List, [], ◌∷◌, ◌++◌, length, slice_get, Option, Some, None, ◌==◌, if◌then◌else◌}
+use Rattle.std.specs.Prelude.{◌≡◌, ℕ, ◌*◌, ◌<◌, ◌%◌, false, ◌&&◌, List, [], ◌∷◌, ◌++◌, length, slice_get, Option, Some, None, ◌==◌, if◌then◌else◌}
+use Rattle.std.specs.List.{AllByRecursion}
 use Rattle.dcsp_defs.specs.Csp.{Csp, count}
 use Rattle.abt_defs.specs.Agents.{Message}
 use Rattle.abt_defs.specs.Steps.{receive}
@@ -22,10 +23,14 @@ abbrev pub follow : Csp → List (ℕ × ℕ) → Network → Network
 follow p [] net = net
 follow p (pair ∷ order) net = follow p order (deliver_at p (Some pair) net)
 
--- Every order is a list of choices, one for each delivery.
+-- each choice is below the number of ordered pairs of variables
+abbrev pub AreBelowPairs : Csp → List ℕ → Type 0
+AreBelowPairs p choices = AllByRecursion (λ choice. choice < count p * count p) choices
+
+-- Every order is a list of choices, one for each delivery, each below the number of pairs.
 abbrev pub OrdersAreChoices : Csp → Type 0
 OrdersAreChoices p = (order : List (ℕ × ℕ)) → IsOrder p order (start p)
-    → (choices : List ℕ) × (length choices ≡ length order) × (run p choices (start p) ≡ follow p order (start p))
+    → (choices : List ℕ) × (length choices ≡ length order) × AreBelowPairs p choices × (run p choices (start p) ≡ follow p order (start p))
 
 -- the pair from which the choice delivers
 abbrev pub chosen_pair : Csp → ℕ → Network → Option (ℕ × ℕ)

@@ -3,3 +3,4 @@ mod Generated
 mod Upgrading
 mod Starving
 mod Losing
+mod Recording

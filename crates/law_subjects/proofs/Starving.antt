@@ -135,7 +135,7 @@ nothing_there : (before after : List ℕ) (choice : ℕ) → [] ≡ before ++ ch
 nothing_there [] after choice h = cc
 nothing_there (c ∷ before) after choice h = cc
 
-goes_on : (p : Csp) (most : ℕ) (net : Network) → is_some (stop p most net) ≡ false → (net.refuted ≡ false) × (is_empty (ready p net) ≡ false)
+pub goes_on : (p : Csp) (most : ℕ) (net : Network) → is_some (stop p most net) ≡ false → (net.refuted ≡ false) × (is_empty (ready p net) ≡ false)
 goes_on p most net h = by_refuted net.refuted refl h where
   by_ready : (e : Bool) → net.refuted ≡ false → is_empty (ready p net) ≡ e → is_some (cond e (Some Solved) (cond (most == 0) (Some Capped) None)) ≡ false → (net.refuted ≡ false) × (is_empty (ready p net) ≡ false)
   by_ready true open_ empty_ g = cc

@@ -2,3 +2,4 @@ pub mod Generated
 pub mod Upgrading
 pub mod Starving
 pub mod Losing
+pub mod Recording

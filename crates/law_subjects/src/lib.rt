@@ -3,6 +3,7 @@
 
 ghost use Rattle.dcsp_defs.specs.Csp.{Csp};
 ghost use Rattle.law_subjects.specs.Losing.{EventsEndAtVerdict};
+ghost use Rattle.law_subjects.specs.Recording.{NumbersAreSmall};
 ghost use Rattle.law_subjects.specs.Starving.{StarvedComeLast};
 ghost use Rattle.dcsp_defs.specs.declared.Step.{Step as A_step};
 ghost use Rattle.law_subjects.specs.Upgrading.{DeletesAtLastUse};
@@ -35,4 +36,9 @@ pub fn starved_links_come_last()
 /// its verdict comes; they are the first of the words given, and then, where all of these were used, calm ones.
 pub fn events_end_at_verdict()
     ensures { (p : Csp) (given : List ℕ) (most : ℕ) → EventsEndAtVerdict p given most }
+{}
+
+/// The numbers of a run have at most 24 bits, so each is a choice that a schedule may hold.
+pub fn numbers_are_small()
+    ensures { (p : Csp) → NumbersAreSmall p }
 {}
