@@ -3,3 +3,4 @@ pub mod Upgrading
 pub mod Starving
 pub mod Losing
 pub mod Recording
+pub mod Reaching

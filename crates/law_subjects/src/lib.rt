@@ -4,6 +4,7 @@
 ghost use Rattle.dcsp_defs.specs.Csp.{Csp};
 ghost use Rattle.law_subjects.specs.Losing.{EventsEndAtVerdict};
 ghost use Rattle.law_subjects.specs.Recording.{NumbersAreSmall};
+ghost use Rattle.law_subjects.specs.Reaching.{ReachedHoldValuesOfDomains};
 ghost use Rattle.law_subjects.specs.Starving.{StarvedComeLast};
 ghost use Rattle.dcsp_defs.specs.declared.Step.{Step as A_step};
 ghost use Rattle.law_subjects.specs.Upgrading.{DeletesAtLastUse};
@@ -41,4 +42,9 @@ pub fn events_end_at_verdict()
 /// The numbers of a run have at most 24 bits, so each is a choice that a schedule may hold.
 pub fn numbers_are_small()
     ensures { (p : Csp) → NumbersAreSmall p }
+{}
+
+/// In each network that a run reaches, values, views and recorded nogoods have values of the domains alone.
+pub fn reached_hold_values_of_domains()
+    ensures { (p : Csp) → ReachedHoldValuesOfDomains p }
 {}
