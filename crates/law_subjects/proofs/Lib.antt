@@ -4,3 +4,5 @@ mod Upgrading
 mod Starving
 mod Losing
 mod Recording
+mod Formulas
+mod Refusals

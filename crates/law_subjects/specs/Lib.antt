@@ -4,3 +4,4 @@ pub mod Starving
 pub mod Losing
 pub mod Recording
 pub mod Reaching
+pub mod Formulas

@@ -2,6 +2,7 @@
 #![tactic(auto)]
 
 ghost use Rattle.dcsp_defs.specs.Csp.{Csp};
+ghost use Rattle.law_subjects.specs.Formulas.{EachHasAnswer, GapsAreIgnored, TextsAreWords};
 ghost use Rattle.law_subjects.specs.Losing.{EventsEndAtVerdict};
 ghost use Rattle.law_subjects.specs.Recording.{NumbersAreSmall};
 ghost use Rattle.law_subjects.specs.Reaching.{ReachedHoldValuesOfDomains};
@@ -47,4 +48,12 @@ pub fn numbers_are_small()
 /// In each network that a run reaches, values, views and recorded nogoods have values of the domains alone.
 pub fn reached_hold_values_of_domains()
     ensures { (p : Csp) → ReachedHoldValuesOfDomains p }
+{}
+
+/// A formula's text is words with blanks and comments between them, which change nothing, and each text has a problem
+/// or is refused at the place of a word or at its end.
+pub fn formulas_are_words()
+    ensures words { TextsAreWords }
+    ensures gaps { GapsAreIgnored }
+    ensures answers { EachHasAnswer }
 {}
