@@ -6,3 +6,4 @@ mod Losing
 mod Recording
 mod Formulas
 mod Refusals
+mod Clauses

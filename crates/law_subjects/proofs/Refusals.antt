@@ -41,7 +41,7 @@ record AreLeft (all ws : List TextWord) : Type 0 where
   end : (w : TextWord) × In w ws × (w.bytes ≡ [])
 
 -- behind a word that is not the end
-left_behind : (all : List TextWord) (w : TextWord) (ws : List TextWord) → AreLeft all (w ∷ ws) → (w.bytes ≡ [] → ⊥) → AreLeft all ws
+pub left_behind : (all : List TextWord) (w : TextWord) (ws : List TextWord) → AreLeft all (w ∷ ws) → (w.bytes ≡ [] → ⊥) → AreLeft all ws
 left_behind all w ws h other = record {
   among = λ v i. h.among v (inr i);
   end = elim h.end.1 [ inl e ↦ absurd (other (ap (λ (x : TextWord). x.bytes) (sym e) ∙ h.end.2)) | inr i ↦ (h.end.0, i, h.end.2) ];
@@ -65,7 +65,7 @@ expect_goes mark all (w ∷ ws) h =
       | false ↦ λ is. record { placed = (w, h.among w (inl refl), refl); left = λ vs e. cc }
     ]) refl
 
-no_number : number_of [] ≡ None
+pub no_number : number_of [] ≡ None
 unfolding number_of
 no_number = refl
 
@@ -142,7 +142,7 @@ clauses_placed all (w ∷ ws) variables p c among =
     ]
 
 -- the words of a text have an end
-has_end : (line : Bool) (at : ℕ) (text : List ℕ) (ws : List TextWord) → Words line at text ws → (w : TextWord) × In w ws × (w.bytes ≡ [])
+pub has_end : (line : Bool) (at : ℕ) (text : List ℕ) (ws : List TextWord) → Words line at text ws → (w : TextWord) × In w ws × (w.bytes ≡ [])
 has_end line at text ws (ends after g is) = let e : TextWord = word_at [] (at + length text) in (e, subst (λ (vs : List TextWord). In e vs) (sym is) (inl refl), refl)
 has_end line at text ws (ends_in_comment gap last g one parts is) = let e : TextWord = word_at [] (at + length text) in (e, subst (λ (vs : List TextWord). In e vs) (sym is) (inl refl), refl)
 has_end line at text ws (word after gap bytes rest more g w end parts is later) =
@@ -170,7 +170,7 @@ each_has_answer text = by_result (problem_of text) refl (problem_placed text) wh
 -- ---- what stands between words changes nothing
 
 -- where a result is this, each part was
-bound : {X Y : Type 0} (r : Result X CnfError) (f : X → Result Y CnfError) (y : Y) → (r >>= f) ≡ Ok y → (x : X) × (r ≡ Ok x) × (f x ≡ Ok y)
+pub bound : {X Y : Type 0} (r : Result X CnfError) (f : X → Result Y CnfError) (y : Y) → (r >>= f) ≡ Ok y → (x : X) × (r ≡ Ok x) × (f x ≡ Ok y)
 bound (Ok x) f y h = (x, refl, h)
 bound (Err e) f y h = cc
 

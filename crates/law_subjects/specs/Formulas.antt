@@ -1,12 +1,19 @@
 -- The texts of formulas: what stands between words, which words there are, and what is refused.
-use Rattle.std.specs.Prelude.{◌≡◌, ◌≢◌, ◌↔◌, ◌⊎◌, ℕ, ◌+◌, Bool, true, false, List, [], ◌∷◌, ◌++◌, length, map, Ok, Err, ◌==◌, ⊤}
+use Rattle.std.specs.Prelude.{◌≡◌, ◌≢◌, ◌↔◌, ◌⊎◌, ℕ, ◌+◌, ◌-◌, ◌≤◌, ℤ, pos, negsuc, codes, replicate, Option, Some, Bool, true, false, List, [], ◌∷◌, ◌++◌, length, map, Ok, Err, ◌==◌, ⊤}
 use Rattle.dcsp_defs.specs.Words.{In}
+use Rattle.dcsp_meaning.specs.declared.kinds.Kind.TheVariants.{BoolClause}
 use Rattle.dcsp_problem.specs.Problems.{Contents}
+use Rattle.dcsp_problem.specs.declared.aim.Aim.TheVariants.{Satisfy}
+use Rattle.dcsp_problem.specs.declared.rule.Term.{Term}
+use Rattle.dcsp_problem.specs.declared.rule.Term.TheVariants.{Var}
+use Rattle.dcsp_problem.specs.declared.rule.Members.TheVariants.{Listed}
+use Rattle.dcsp_problem.specs.declared.rule.Rule.{Rule}
+use Rattle.dcsp_problem.specs.declared.rule.Rule.TheVariants.{Plain}
 use Rattle.dcsp_problem.specs.declared.limits.Which.{Which}
 use Rattle.cnf_front.specs.declared.header.CnfError.TheVariants.{Syntax, Limit}
 use Rattle.cnf_front.specs.declared.words.Stand.TheVariants.{Start}
 use Rattle.cnf_front.specs.Dimacs.{TextWord, word_at, is_blank, words}
-use Rattle.cnf_front.specs.Formulas.{problem_of}
+use Rattle.cnf_front.specs.Formulas.{problem_of, is_end, is_number, number_of, literal_in}
 
 -- no line ends among these bytes
 abbrev pub IsOneLine : List ℕ → Type 0
@@ -59,3 +66,57 @@ EachHasAnswer = (text : List ℕ)
     → ((p : Contents) × (problem_of text ≡ Ok p))
     ⊎ ((at : ℕ) × IsPlaceOfWord text at × (problem_of text ≡ Err (Syntax at)))
     ⊎ ((which : Which) × (count : ℕ) × (at : ℕ) × IsPlaceOfWord text at × (problem_of text ≡ Err (Limit which count at)))
+
+-- ---- what words say
+
+-- the literals that are variables, as terms
+abbrev pub plain_terms : List ℤ → List Term
+plain_terms [] = []
+plain_terms (pos n ∷ literals) = Var (n - 1) ∷ plain_terms literals
+plain_terms (negsuc n ∷ literals) = plain_terms literals
+
+-- those that are negated
+abbrev pub negated_terms : List ℤ → List Term
+negated_terms [] = []
+negated_terms (pos n ∷ literals) = negated_terms literals
+negated_terms (negsuc n ∷ literals) = Var n ∷ negated_terms literals
+
+-- the rule of a clause of these literals
+abbrev pub rule_of : List ℤ → Rule
+rule_of literals = Plain BoolClause [] (plain_terms literals) (negated_terms literals) (Listed [])
+
+-- each word writes one of the literals, none of which is 0
+abbrev pub WriteEach : ℕ → List TextWord → List ℤ → Type 0
+WriteEach variables [] [] = ⊤
+WriteEach variables [] (z ∷ literals) = ⊥
+WriteEach variables (w ∷ ws) [] = ⊥
+WriteEach variables (w ∷ ws) (z ∷ literals) = (literal_in variables w.bytes ≡ Some z) × (z ≢ pos 0) × WriteEach variables ws literals
+
+-- the words say these clauses: of each its literals and then 0, which may be left out behind the last; then comes `%` or the text's end
+pub data Says : ℕ → List TextWord → List (List ℤ) → Type 0 where
+  no_more : {variables : ℕ} {ws : List TextWord} {clauses : List (List ℤ)} (end : TextWord) (later : List TextWord) → ws ≡ end ∷ later → is_end end.bytes ≡ true → clauses ≡ [] → Says variables ws clauses
+  last : {variables : ℕ} {ws : List TextWord} {clauses : List (List ℤ)} (written : List TextWord) (literals : List ℤ) (end : TextWord) (later : List TextWord)
+      → WriteEach variables written literals → literals ≢ [] → ws ≡ written ++ end ∷ later → is_end end.bytes ≡ true → clauses ≡ literals ∷ [] → Says variables ws clauses
+  clause : {variables : ℕ} {ws : List TextWord} {clauses : List (List ℤ)} (written : List TextWord) (literals : List ℤ) (zero : TextWord) (rest : List TextWord) (more : List (List ℤ))
+      → WriteEach variables written literals → ws ≡ written ++ zero ∷ rest → literal_in variables zero.bytes ≡ Some (pos 0) → clauses ≡ literals ∷ more → Says variables rest more → Says variables ws clauses
+
+-- the words `p`, `cnf`, a number of variables, and another number, and then words that say clauses
+pub record IsFormula (ws : List TextWord) (variables : ℕ) (clauses : List (List ℤ)) : Type 0 where
+  pub p : TextWord
+  pub cnf : TextWord
+  pub count : TextWord
+  pub clause_count : TextWord
+  pub rest : List TextWord
+  pub parts : ws ≡ p ∷ cnf ∷ count ∷ clause_count ∷ rest
+  pub is_p : p.bytes ≡ codes "p"
+  pub is_cnf : cnf.bytes ≡ codes "cnf"
+  pub is_count : number_of count.bytes ≡ Some variables
+  pub is_number : is_number clause_count.bytes ≡ true
+  pub within : variables ≤ 4096
+  pub says : Says variables rest clauses
+
+-- A text that has a problem says clauses behind its header, and the problem has a variable with the values 0 and 1 for each that the header counts, and the rules of these clauses.
+abbrev pub FormulasSayClauses : Type 0
+FormulasSayClauses = (text : List ℕ) (p : Contents) → problem_of text ≡ Ok p
+    → (variables : ℕ) × (clauses : List (List ℤ)) × IsFormula (words Start 0 text) variables clauses
+    × (p ≡ record { domains = replicate variables (pos 0 ∷ pos 1 ∷ []); rules = map rule_of clauses; outputs = []; aim = Satisfy })

@@ -2,7 +2,7 @@
 #![tactic(auto)]
 
 ghost use Rattle.dcsp_defs.specs.Csp.{Csp};
-ghost use Rattle.law_subjects.specs.Formulas.{EachHasAnswer, GapsAreIgnored, TextsAreWords};
+ghost use Rattle.law_subjects.specs.Formulas.{EachHasAnswer, FormulasSayClauses, GapsAreIgnored, TextsAreWords};
 ghost use Rattle.law_subjects.specs.Losing.{EventsEndAtVerdict};
 ghost use Rattle.law_subjects.specs.Recording.{NumbersAreSmall};
 ghost use Rattle.law_subjects.specs.Reaching.{ReachedHoldValuesOfDomains};
@@ -50,10 +50,11 @@ pub fn reached_hold_values_of_domains()
     ensures { (p : Csp) → ReachedHoldValuesOfDomains p }
 {}
 
-/// A formula's text is words with blanks and comments between them, which change nothing, and each text has a problem
-/// or is refused at the place of a word or at its end.
+/// A formula's text is words with blanks and comments between them, which change nothing. Words say clauses, and these
+/// are the problem's rules. Each text has a problem, or is refused at the place of a word or at its end.
 pub fn formulas_are_words()
     ensures words { TextsAreWords }
     ensures gaps { GapsAreIgnored }
+    ensures clauses { FormulasSayClauses }
     ensures answers { EachHasAnswer }
 {}
