@@ -1,5 +1,5 @@
 -- The clauses that a formula's words say.
-use Rattle.std.proofs.Common.{◌≡◌, ◌≢◌, ℕ, zero, suc, ◌+◌, ◌-◌, ◌≤◌, ◌==◌, ◌&&◌, ◌⊎◌, inl, inr, Bool, true, false, cond, if◌then◌else◌, List, [], ◌∷◌, ◌++◌, length, map, Option, Some, None, Result, Ok, Err, refl, sym, ap, ◌∙◌, subst, append_assoc, arith}
+use Rattle.std.proofs.Common.{◌≡◌, ◌≢◌, ℕ, zero, suc, ◌-◌, ◌≤◌, ◌==◌, ◌&&◌, inl, inr, Bool, true, false, if◌then◌else◌, List, [], ◌∷◌, ◌++◌, length, map, Option, Some, None, Ok, Err, refl, sym, ap, ◌∙◌, subst, append_assoc, arith}
 use Rattle.std.specs.Prelude.{ℤ, pos, negsuc, nat_le, codes}
 use Rattle.std.proofs.lemmas.List.{append-nil}
 use Rattle.std.proofs.lemmas.Bool.Decides.{eqb_tells, nat_tests}
@@ -9,17 +9,15 @@ use Rattle.dcsp_problem.specs.Problems.{Contents}
 use Rattle.dcsp_problem.specs.Limits.{rule_refusal, most}
 use Rattle.dcsp_problem.specs.declared.limits.Which.TheVariants.{Variables}
 use Rattle.dcsp_problem.specs.declared.rule.Rule.{Rule}
-use Rattle.dcsp_problem.specs.declared.rule.Term.{Term}
 use Rattle.dcsp_problem.specs.declared.rule.Term.TheVariants.{Var}
 use Rattle.dcsp_problem.specs.declared.limits.BuildError.{BuildError}
 use Rattle.dcsp_problem.specs.declared.limits.BuildError.TheVariants as build
-use Rattle.cnf_front.specs.declared.header.CnfError.{CnfError}
-use Rattle.cnf_front.specs.declared.header.CnfError.TheVariants.{Syntax, Limit, Memory}
+use Rattle.cnf_front.specs.declared.header.CnfError.TheVariants.{Syntax, Limit}
 use Rattle.cnf_front.specs.declared.header.Mark.TheVariants.{P, Cnf, Clauses}
 use Rattle.cnf_front.specs.declared.words.Stand.TheVariants.{Start}
 use Rattle.cnf_front.specs.Dimacs.{TextWord, words}
 use Rattle.cnf_front.specs.Formulas.{is_p, is_cnf, is_number, number_of, passes, expect, within_limit, variables_at, header, only_variables, problem_of, ◌>>=◌, is_end, literal_in, Clause, no_literals, terms_so_far, clause_rule, with_literal, refused_at, with_clause, with_last, with_word, clauses_from}
-use Rattle.law_subjects.specs.Formulas.{plain_terms, negated_terms, rule_of, WriteEach, Says, no_more, last, clause, IsFormula, FormulasSayClauses}
+use Rattle.law_subjects.specs.Formulas.{plain_terms, negated_terms, rule_of, WriteEach, Says, no_more, last, clause, FormulasSayClauses}
 use Rattle.law_subjects.proofs.Formulas.{texts_are_words}
 use Rattle.law_subjects.proofs.Refusals.{bound, no_number, has_end}
 

@@ -41,7 +41,7 @@ record AreLeft (all ws : List TextWord) : Type 0 where
   end : (w : TextWord) × In w ws × (w.bytes ≡ [])
 
 -- behind a word that is not the end
-pub left_behind : (all : List TextWord) (w : TextWord) (ws : List TextWord) → AreLeft all (w ∷ ws) → (w.bytes ≡ [] → ⊥) → AreLeft all ws
+left_behind : (all : List TextWord) (w : TextWord) (ws : List TextWord) → AreLeft all (w ∷ ws) → (w.bytes ≡ [] → ⊥) → AreLeft all ws
 left_behind all w ws h other = record {
   among = λ v i. h.among v (inr i);
   end = elim h.end.1 [ inl e ↦ absurd (other (ap (λ (x : TextWord). x.bytes) (sym e) ∙ h.end.2)) | inr i ↦ (h.end.0, i, h.end.2) ];

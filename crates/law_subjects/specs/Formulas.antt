@@ -1,5 +1,5 @@
 -- The texts of formulas: what stands between words, which words there are, and what is refused.
-use Rattle.std.specs.Prelude.{◌≡◌, ◌≢◌, ◌↔◌, ◌⊎◌, ℕ, ◌+◌, ◌-◌, ◌≤◌, ℤ, pos, negsuc, codes, replicate, Option, Some, Bool, true, false, List, [], ◌∷◌, ◌++◌, length, map, Ok, Err, ◌==◌, ⊤}
+use Rattle.std.specs.Prelude.{◌≡◌, ◌≢◌, ◌↔◌, ◌⊎◌, ℕ, ◌+◌, ◌-◌, ◌≤◌, ℤ, pos, negsuc, codes, replicate, Some, Bool, true, false, List, [], ◌∷◌, ◌++◌, length, map, Ok, Err, ◌==◌, ⊤}
 use Rattle.dcsp_defs.specs.Words.{In}
 use Rattle.dcsp_meaning.specs.declared.kinds.Kind.TheVariants.{BoolClause}
 use Rattle.dcsp_problem.specs.Problems.{Contents}
