@@ -7,3 +7,5 @@ mod Recording
 mod Formulas
 mod Refusals
 mod Clauses
+mod Building
+mod Accepting

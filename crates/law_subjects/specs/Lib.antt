@@ -5,3 +5,4 @@ pub mod Losing
 pub mod Recording
 pub mod Reaching
 pub mod Formulas
+pub mod Accepting

@@ -2,6 +2,7 @@
 #![tactic(auto)]
 
 ghost use Rattle.dcsp_defs.specs.Csp.{Csp};
+ghost use Rattle.law_subjects.specs.Accepting.{AcceptedAreProblems};
 ghost use Rattle.law_subjects.specs.Formulas.{EachHasAnswer, FormulasSayClauses, GapsAreIgnored, TextsAreWords};
 ghost use Rattle.law_subjects.specs.Losing.{EventsEndAtVerdict};
 ghost use Rattle.law_subjects.specs.Recording.{NumbersAreSmall};
@@ -57,4 +58,9 @@ pub fn formulas_are_words()
     ensures gaps { GapsAreIgnored }
     ensures clauses { FormulasSayClauses }
     ensures answers { EachHasAnswer }
+{}
+
+/// A text that is accepted denotes a problem within the limits, and so a well-formed one.
+pub fn accepted_are_problems()
+    ensures { (text : List ℕ) → AcceptedAreProblems text }
 {}
