@@ -9,3 +9,4 @@ mod Refusals
 mod Clauses
 mod Building
 mod Accepting
+mod Finding

@@ -6,3 +6,4 @@ pub mod Recording
 pub mod Reaching
 pub mod Formulas
 pub mod Accepting
+pub mod Finding

@@ -3,6 +3,7 @@
 
 ghost use Rattle.dcsp_defs.specs.Csp.{Csp};
 ghost use Rattle.law_subjects.specs.Accepting.{AcceptedAreProblems};
+ghost use Rattle.law_subjects.specs.Finding.{EntriesHaveFinding};
 ghost use Rattle.law_subjects.specs.Formulas.{EachHasAnswer, FormulasSayClauses, GapsAreIgnored, TextsAreWords};
 ghost use Rattle.law_subjects.specs.Losing.{EventsEndAtVerdict};
 ghost use Rattle.law_subjects.specs.Recording.{NumbersAreSmall};
@@ -63,4 +64,9 @@ pub fn formulas_are_words()
 /// A text that is accepted denotes a problem within the limits, and so a well-formed one.
 pub fn accepted_are_problems()
     ensures { (text : List ℕ) → AcceptedAreProblems text }
+{}
+
+/// Of any entries, and so of any log, a check has a finding.
+pub fn entries_have_finding()
+    ensures { (p : Csp) → EntriesHaveFinding p }
 {}
