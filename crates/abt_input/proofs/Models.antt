@@ -4,6 +4,8 @@ use Rattle.fzn_model.specs.declared.model.ModelError.{ModelError}
 use Rattle.fzn_model.specs.declared.model.ModelError.TheVariants as errors
 use Rattle.fzn_model.specs.Models.{AnswersOrLacks}
 use Rattle.abt_input.specs.Inputs.{most_model, IsRefused}
+use Rattle.abt_input.specs.declared.error.CommandError.{CommandError}
+use Rattle.abt_input.specs.declared.error.CommandError.TheVariants.{Fault}
 use Rattle.abt_input.specs.Errors.{model_error}
 use Rattle.abt_input.specs.Files.{IsModelReadOf}
 
@@ -28,3 +30,21 @@ told_as model (errors.WideSum at) short h = refused model (errors.WideSum at) sh
 told_as model (errors.Limit which count at) short h = refused model (errors.Limit which count at) short (λ e. cc) h
 told_as model errors.NoSolve short h = refused model errors.NoSolve short (λ e. cc) h
 told_as model errors.Memory short h = tt
+
+-- and none is told as a fault
+pub no_fault : (e : ModelError) (d : CommandError) → d ≡ model_error e → d ≡ Fault → ⊥
+no_fault (errors.Lex at) d is f = let k = is in let l = f in cc
+no_fault (errors.IntRange at) d is f = let k = is in let l = f in cc
+no_fault (errors.Syntax at) d is f = let k = is in let l = f in cc
+no_fault (errors.Misplaced at) d is f = let k = is in let l = f in cc
+no_fault (errors.Duplicate at) d is f = let k = is in let l = f in cc
+no_fault (errors.Undeclared at) d is f = let k = is in let l = f in cc
+no_fault (errors.Unbounded at) d is f = let k = is in let l = f in cc
+no_fault (errors.Unsupported at) d is f = let k = is in let l = f in cc
+no_fault (errors.UnknownConstraint at) d is f = let k = is in let l = f in cc
+no_fault (errors.IllTyped at) d is f = let k = is in let l = f in cc
+no_fault (errors.OutputShape at) d is f = let k = is in let l = f in cc
+no_fault (errors.WideSum at) d is f = let k = is in let l = f in cc
+no_fault (errors.Limit which count at) d is f = let k = is in let l = f in cc
+no_fault errors.NoSolve d is f = let k = is in let l = f in cc
+no_fault errors.Memory d is f = let k = is in let l = f in cc

@@ -3,7 +3,9 @@ use Rattle.std.specs.Prelude.{◌≡◌, ℕ, ℤ, ◌<◌, ◌≤◌, List, len
 use Rattle.std.specs.declared.vec.Vec.{Vec}
 use Rattle.std.specs.declared.alloc.Global.{Global}
 use Rattle.dcsp_problem.specs.declared.problem.Problem.{Problem}
-use Rattle.abt_promise.specs.Promises.{IsHeld}
+use Rattle.dcsp_outside.specs.Outside.{Place, SameCounts, Rose}
+use Rattle.abt_promise.specs.Promises.{IsHeld, IsFetched}
+use Rattle.abt_input.specs.Kinds.{Kind, ReadsAs, a_model, a_schedule, a_formula, a_proof}
 use Rattle.abt_input.specs.declared.read.Unread.{Unread}
 use Rattle.abt_input.specs.declared.read.Unread.TheVariants as unread
 use Rattle.abt_input.specs.declared.error.CommandError.{CommandError}
@@ -35,12 +37,17 @@ IsReadOf bytes most (Err unread.Memory) = ⊤
 abbrev pub IsRead : Option (List ℕ → Option (List ℕ)) → List ℕ → ℕ → Result (Vec ℕ Global) Unread → Type 0
 IsRead files name most result = (bytes : List ℕ) × IsHeld files name bytes × IsReadOf bytes most result
 
+-- the file under the name was read as this kind, and nothing else was done
+pub record HasRead (kind : Kind) (name : List ℕ) (old new : Place) (result : Result kind.Value CommandError) : Type 0 where
+  pub read : (bytes : List ℕ) × IsFetched old new name bytes × ReadsAs kind bytes result
+  pub held : new.held ≡ old.held
+  pub created : new.created ≡ old.created
+  pub counts : UnlessFault result (SameCounts old new)
+  pub fault : result ≡ Err Fault → Rose (old.reads name) (new.reads name)
+
 -- reading this model gives its problem, or exactly why there is none, faults and want of memory aside
 abbrev pub IsModelReadOf : List ℕ → Result Problem CommandError → Type 0
-IsModelReadOf model (Ok problem) = IsModelOf model problem
-IsModelReadOf model (Err Fault) = ⊤
-IsModelReadOf model (Err Memory) = ⊤
-IsModelReadOf model (Err error) = IsErrorOfModel model error
+IsModelReadOf model result = ReadsAs a_model model result
 
 -- the same of the bytes under the name
 abbrev pub IsModelRead : Option (List ℕ → Option (List ℕ)) → List ℕ → Result Problem CommandError → Type 0
@@ -60,10 +67,7 @@ IsLogTextRead files name result = (log : List ℕ) × IsHeld files name log × I
 
 -- reading this schedule gives its choices, or exactly why it is none, faults and want of memory aside
 abbrev pub IsScheduleReadOf : List ℕ → Result (List ℕ) CommandError → Type 0
-IsScheduleReadOf schedule (Ok choices) = HasChoices schedule choices
-IsScheduleReadOf schedule (Err Fault) = ⊤
-IsScheduleReadOf schedule (Err Memory) = ⊤
-IsScheduleReadOf schedule (Err error) = IsErrorOfSchedule schedule error
+IsScheduleReadOf schedule result = ReadsAs a_schedule schedule result
 
 -- the same of the bytes under the name
 abbrev pub IsScheduleRead : Option (List ℕ → Option (List ℕ)) → List ℕ → Result (List ℕ) CommandError → Type 0
@@ -71,10 +75,7 @@ IsScheduleRead files name result = (schedule : List ℕ) × IsHeld files name sc
 
 -- reading this formula gives its problem, or exactly why there is none, faults and want of memory aside
 abbrev pub IsFormulaReadOf : List ℕ → Result Problem CommandError → Type 0
-IsFormulaReadOf text (Ok problem) = IsFormulaOf text problem
-IsFormulaReadOf text (Err Fault) = ⊤
-IsFormulaReadOf text (Err Memory) = ⊤
-IsFormulaReadOf text (Err error) = IsErrorOfCnf text error
+IsFormulaReadOf text result = ReadsAs a_formula text result
 
 -- the same of the bytes under the name
 abbrev pub IsFormulaRead : Option (List ℕ → Option (List ℕ)) → List ℕ → Result Problem CommandError → Type 0
@@ -82,10 +83,7 @@ IsFormulaRead files name result = (text : List ℕ) × IsHeld files name text ×
 
 -- reading this proof gives its clauses, or exactly why it is none, faults and want of memory aside
 abbrev pub IsProofReadOf : List ℕ → Result (List (List ℤ)) CommandError → Type 0
-IsProofReadOf text (Ok clauses) = HasClauses text clauses
-IsProofReadOf text (Err Fault) = ⊤
-IsProofReadOf text (Err Memory) = ⊤
-IsProofReadOf text (Err error) = IsErrorOfProof text error
+IsProofReadOf text result = ReadsAs a_proof text result
 
 -- the same of the bytes under the name
 abbrev pub IsProofRead : Option (List ℕ → Option (List ℕ)) → List ℕ → Result (List (List ℤ)) CommandError → Type 0

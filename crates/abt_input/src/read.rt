@@ -3,7 +3,8 @@
 ghost use Rattle.std.specs.Prelude.{◌≡◌, Err, IfOk, All};
 ghost use Rattle.dcsp_outside.specs.Outside.{Rose, SameCounts};
 ghost use Rattle.cnf_front.specs.Clauses.{IsClauseRule};
-ghost use Rattle.abt_input.specs.Files.{IsRead, IsModelRead, IsLogTextRead, IsScheduleRead, IsFormulaRead, IsProofRead, UnlessUnread, UnlessFault};
+ghost use Rattle.abt_input.specs.Kinds.{a_model, a_schedule};
+ghost use Rattle.abt_input.specs.Files.{HasRead, IsRead, IsLogTextRead, IsFormulaRead, IsProofRead, UnlessUnread, UnlessFault};
 
 use crate::clauses_error::ClausesError;
 use crate::error::{CommandError, cnf_error, model_error};
@@ -66,11 +67,7 @@ pub fn read_model<F: Folder>(
     folder: &mut F,
     name: &str,
 ) -> Result<Problem, CommandError>
-    ensures read { IsModelRead (F.place folder.old).held name.now result }
-    ensures held { (F.place folder.new).held ≡ (F.place folder.old).held }
-    ensures created { (F.place folder.new).created ≡ (F.place folder.old).created }
-    ensures counts { UnlessFault result (SameCounts (F.place folder.old) (F.place folder.new)) }
-    ensures fault { result ≡ Err CommandError.Fault → Rose ((F.place folder.old).reads name.now) ((F.place folder.new).reads name.now) }
+    ensures { HasRead a_model name.now (F.place folder.old) (F.place folder.new) result }
 {
     match read_file(alloc, folder, name, MOST_MODEL) {
         Ok(text) => match problem_of(alloc, &text) {
@@ -109,11 +106,7 @@ pub fn read_choices<F: Folder>(
     folder: &mut F,
     name: &str,
 ) -> Result<Listed, CommandError>
-    ensures read { IsScheduleRead (F.place folder.old).held name.now result }
-    ensures held { (F.place folder.new).held ≡ (F.place folder.old).held }
-    ensures created { (F.place folder.new).created ≡ (F.place folder.old).created }
-    ensures counts { UnlessFault result (SameCounts (F.place folder.old) (F.place folder.new)) }
-    ensures fault { result ≡ Err CommandError.Fault → Rose ((F.place folder.old).reads name.now) ((F.place folder.new).reads name.now) }
+    ensures { HasRead a_schedule name.now (F.place folder.old) (F.place folder.new) result }
 {
     match read_file(alloc, folder, name, MOST_SCHEDULE) {
         Ok(text) => match read_schedule(alloc, &text) {

@@ -1,6 +1,6 @@
 -- What a line of words promises.
 use Rattle.std.specs.Prelude.{◌≡◌, ◌⊎◌, ℕ, List, [], ◌∷◌, ◌++◌, map, Option, Some, None, ⊤}
-use Rattle.dcsp_outside.specs.Outside.{Stream, Told, Rose, AddsPartOf, bytes_of}
+use Rattle.dcsp_outside.specs.Outside.{Place, Stream, Told, Rose, AddsPartOf, bytes_of}
 use Rattle.dcsp_script.specs.Scripts.{Write}
 use Rattle.abt_promise.specs.declared.status.Status.{Status}
 
@@ -44,6 +44,14 @@ AreHeld files [] [] = ⊤
 AreHeld files [] (bytes ∷ inputs) = ⊥
 AreHeld files (name ∷ names) [] = ⊥
 AreHeld files (name ∷ names) (bytes ∷ inputs) = IsHeld files name bytes × AreHeld files names inputs
+
+-- these are the bytes of the name that was read between these two moments of the folder
+abbrev pub IsFetched : Place → Place → List ℕ → List ℕ → Type 0
+IsFetched old new name bytes = IsHeld old.held name bytes
+
+-- these are the bytes of the names, which were read one after the other
+abbrev pub AreFetched : Place → Place → List (List ℕ) → List (List ℕ) → Type 0
+AreFetched old new names inputs = AreHeld old.held names inputs
 
 -- the bytes under each of the names
 abbrev pub inputs_of : (List ℕ → Option (List ℕ)) → List (List ℕ) → List (List ℕ)
