@@ -3,11 +3,13 @@ use Rattle.std.proofs.Common.{◌≡◌, ℕ, zero, suc, ◌<◌, List, [], ◌�
 use Rattle.std.specs.Prelude.{IfSome}
 use Rattle.dcsp_outside.specs.declared.folder.Fetched.{Fetched}
 use Rattle.dcsp_outside.specs.declared.folder.Fetched.TheVariants.{Long}
-use Rattle.dcsp_outside.specs.Outside.{Fetches, bytes_of}
+use Rattle.dcsp_outside.specs.Outside.{Place, Fetches, bytes_of}
 use Rattle.abt_promise.specs.Promises.{IsHeld}
+use Rattle.abt_promise.proofs.Fetched.{fetched_held}
+use Rattle.abt_input.specs.Kinds.{Kind, ReadsAs}
 use Rattle.abt_input.specs.declared.error.CommandError.{CommandError}
 use Rattle.abt_input.specs.declared.error.CommandError.TheVariants.{ModelLong, ModelRefused, NoAim, LogLong, LogLine, ScheduleLong, ScheduleLine, Clauses, Fault, Memory}
-use Rattle.abt_input.specs.Files.{UnlessFault}
+use Rattle.abt_input.specs.Files.{UnlessFault, HasRead}
 
 -- so many zeros
 zeros : ℕ → List ℕ
@@ -42,3 +44,7 @@ unless_fault (Err (ScheduleLine number)) p = p
 unless_fault (Err (Clauses error)) p = p
 unless_fault (Err Fault) p = tt
 unless_fault (Err Memory) p = p
+
+-- what was read, with the bytes that the folder held, where it tells them
+pub read_held : {kind : Kind} {name : List ℕ} {p q : Place} {r : Result kind.Value CommandError} → HasRead kind name p q r → (bytes : List ℕ) × IsHeld p.held name bytes × ReadsAs kind bytes r
+read_held {name = name} {p = p} {q = q} h = (h.read.0, fetched_held p q name h.read.0 h.read.1, h.read.2)

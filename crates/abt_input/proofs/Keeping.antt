@@ -40,6 +40,10 @@ module _ {fetched created : List (List ℕ)} {status : Status} {script : List Wr
   pub came_answer : {T : Type 0} {x : T} → Wrote script a b (Ok x) → Keeps fetched created (Answer status script) a b (Answered status)
   came_answer {x = x} wrote = record { came = answers (Ok x) wrote }
 
+  -- the same where the status has another name
+  pub came_answer_with : {T : Type 0} {x : T} (good : Status) → good ≡ status → Wrote script a b (Ok x) → Keeps fetched created (Answer status script) a b (Answered good)
+  came_answer_with good is wrote = rw is (came_answer wrote)
+
   -- that was stopped
   pub came_stopped : {T : Type 0} {stop : Stop} (r : Result Status CommandError) → IsErr r × IsErrAnd r (λ y. y ≡ stop_error stop) → Wrote {T = T} script a b (Err stop) → Keeps fetched created (Answer status script) a b (way_of r)
   came_stopped {T = T} {stop = stop} r is wrote = by stop r is wrote

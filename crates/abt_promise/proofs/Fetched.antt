@@ -13,6 +13,10 @@ all_held files [] = ([], tt)
 all_held files (name ∷ names) =
     let first = some_held files name in let more = all_held files names in (first.0 ∷ more.0, (first.1, more.1))
 
+-- they are those that the folder held, where it tells them
+pub fetched_held : (old new : Place) (name bytes : List ℕ) → IsFetched old new name bytes → IsHeld old.held name bytes
+fetched_held old new name bytes h = h
+
 -- nothing was read: these may be the bytes of the name
 pub unread_name : (old new : Place) (name : List ℕ) → (bytes : List ℕ) × IsFetched old new name bytes
 unread_name old new name = some_held old.held name
