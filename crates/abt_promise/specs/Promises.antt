@@ -1,6 +1,6 @@
 -- What a line of words promises.
 use Rattle.std.specs.Prelude.{◌≡◌, ◌⊎◌, ℕ, List, [], ◌∷◌, ◌++◌, map, Option, Some, None, ⊤}
-use Rattle.dcsp_outside.specs.Outside.{Stream, Told, Rose, AddsPartOf, bytes_of}
+use Rattle.dcsp_outside.specs.Outside.{Stream, Told, HasRefused, AddsPartOf, bytes_of}
 use Rattle.dcsp_script.specs.Scripts.{Write}
 use Rattle.abt_promise.specs.declared.status.Status.{Status}
 
@@ -49,10 +49,10 @@ AreHeld files (name ∷ names) (bytes ∷ inputs) = IsHeld files name bytes × A
 abbrev pub inputs_of : (List ℕ → Option (List ℕ)) → List (List ℕ) → List (List ℕ)
 inputs_of files names = map (λ name. bytes_of (files name)) names
 
--- the line was put; or it was not, for want of memory; or some first bytes of it went last, and a fault was counted
+-- the line was put; or the stream refused it, which it counted, and some first bytes of it, or none, went last
 abbrev pub IsSaid : List ℕ → Stream → Stream → Type 0
 IsSaid line before now =
-    Told before.written now.written (λ old new. (new ≡ old ++ line) ⊎ ((new ≡ old) ⊎ (Rose before.faults now.faults × AddsPartOf line old new)))
+    Told before.written now.written (λ old new. (new ≡ old ++ line) ⊎ (HasRefused before now × AddsPartOf line old new))
 
 -- what a report says was said, and nothing was put where it says nothing
 abbrev pub SaysAsReported : Option (List ℕ) → Stream → Stream → Type 0
