@@ -34,7 +34,7 @@ kept plan sound k = k.came sound
 
 module _ {fetched created : List (List ℕ)} {status : Status} {script : List Write} {a b : World} where
   answers : {T : Type 0} (r : Result T Stop) → Wrote script a b r → IsSoundPlan fetched created (Answer status script) → CameIn (promise_by fetched created (Answer status script)) a b (way_with status r)
-  answers r wrote own = let x = unread_names a.folder b.folder fetched in came_wrote (promise_by fetched created (Answer status script)) x.0 status script r own.final x.1 refl (did_nothing a) wrote
+  answers r wrote own = let x = unread_names a.folder b.folder fetched wrote.handed in came_wrote (promise_by fetched created (Answer status script)) x.0 status script r own.final x.1 refl (did_nothing a) wrote
 
   -- its script was made
   pub came_answer : {T : Type 0} {x : T} → Wrote script a b (Ok x) → Keeps fetched created (Answer status script) a b (Answered status)
@@ -59,7 +59,7 @@ came_lacking {fetched = fetched} {created = created} {plan = plan} {a = a} r is 
   where
     by : (r : Result Status CommandError) → IsErr r × IsErrAnd r (λ y. y ≡ Memory) → Keeps fetched created plan a a (way_of r)
     by (Ok x) is = absurd (let no = is.0 in cc)
-    by (Err y) is = rw is.1 (let x = unread_names a.folder a.folder fetched in record { came = λ sound. record { inputs = x.0; are_held = x.1; came = inl (did_nothing a) } })
+    by (Err y) is = rw is.1 (let x = unread_names a.folder a.folder fetched refl in record { came = λ sound. record { inputs = x.0; are_held = x.1; came = inl (did_nothing a) } })
 
 -- ---- what is found
 
@@ -84,7 +84,7 @@ came_found {fetched = fetched} {created = created} {Value = Value} {Is = Is} {ne
 module _ (kind : Kind) (next : kind.Value → Plan) (name : List ℕ) (fetched created : List (List ℕ)) (p q : Place) (out : Stream) where
   -- the file is refused
   refused : (e : CommandError) (bytes : List ℕ) → IsFetched p q name bytes → kind.Refuses bytes e → IsFinal (error_status e) → Did [] (outside p out) (outside q out) → q.held ≡ p.held → CameIn (promise_by (name ∷ fetched) created (Read kind next)) (outside p out) (outside q out) (Refused (error_status e) (error_text e))
-  refused e bytes is refuses final did held = let x = unread_names q q fetched in record { inputs = bytes ∷ x.0; are_held = fetched_then p q q name fetched bytes x.0 held is x.1; came = (inl (e, refuses, refl), did, final) }
+  refused e bytes is refuses final did held = let x = unread_names q q fetched refl in record { inputs = bytes ∷ x.0; are_held = fetched_then p q q name fetched bytes x.0 held is x.1; came = (inl (e, refuses, refl), did, final) }
 
   -- it was not read
   unread : (e : CommandError) → IsExact kind → HasRead kind name p q (Err e) → CameIn (promise_by (name ∷ fetched) created (Read kind next)) (outside p out) (outside q out) (way_of (Err e))
@@ -96,9 +96,9 @@ module _ (kind : Kind) (next : kind.Value → Plan) (name : List ℕ) (fetched c
   unread ScheduleLong exact h = refused ScheduleLong h.read.0 h.read.1 h.read.2 (exact.final h.read.0 ScheduleLong h.read.2) (did_read p q out h.held h.created h.counts) h.held
   unread (ScheduleLine number) exact h = refused (ScheduleLine number) h.read.0 h.read.1 h.read.2 (exact.final h.read.0 (ScheduleLine number) h.read.2) (did_read p q out h.held h.created h.counts) h.held
   unread (Clauses error) exact h = refused (Clauses error) h.read.0 h.read.1 h.read.2 (exact.final h.read.0 (Clauses error) h.read.2) (did_read p q out h.held h.created h.counts) h.held
-  unread Memory exact h = let x = unread_names q q fetched in record { inputs = h.read.0 ∷ x.0; are_held = fetched_then p q q name fetched h.read.0 x.0 h.held h.read.1 x.1; came = inl (did_read p q out h.held h.created h.counts) }
+  unread Memory exact h = let x = unread_names q q fetched refl in record { inputs = h.read.0 ∷ x.0; are_held = fetched_then p q q name fetched h.read.0 x.0 h.held h.read.1 x.1; came = inl (did_read p q out h.held h.created h.counts) }
   unread Fault exact h =
-      let x = unread_names q q fetched in
+      let x = unread_names q q fetched refl in
       record {
         inputs = h.read.0 ∷ x.0;
         are_held = fetched_then p q q name fetched h.read.0 x.0 h.held h.read.1 x.1;

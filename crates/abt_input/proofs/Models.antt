@@ -7,14 +7,14 @@ use Rattle.abt_input.specs.Inputs.{most_model, IsRefused}
 use Rattle.abt_input.specs.declared.error.CommandError.{CommandError}
 use Rattle.abt_input.specs.declared.error.CommandError.TheVariants.{Fault}
 use Rattle.abt_input.specs.Errors.{model_error}
-use Rattle.abt_input.specs.Files.{IsModelReadOf}
+use Rattle.abt_input.specs.Kinds.{ReadsAs, a_model}
 
 -- an error that is not want of memory is the model's
 refused : (model : List ℕ) (e : ModelError) → length model ≤ most_model → (e ≡ errors.Memory → ⊥) → AnswersOrLacks model (Err e) → IsRefused model e
 refused model e short other h = elim h [ inl m ↦ absurd (other cc) | inr a ↦ record { short = short; reads = a } ]
 
 -- each error is told as it is
-pub told_as : (model : List ℕ) (e : ModelError) → length model ≤ most_model → AnswersOrLacks model (Err e) → IsModelReadOf model (Err (model_error e))
+pub told_as : (model : List ℕ) (e : ModelError) → length model ≤ most_model → AnswersOrLacks model (Err e) → ReadsAs a_model model (Err (model_error e))
 told_as model (errors.Lex at) short h = refused model (errors.Lex at) short (λ e. cc) h
 told_as model (errors.IntRange at) short h = refused model (errors.IntRange at) short (λ e. cc) h
 told_as model (errors.Syntax at) short h = refused model (errors.Syntax at) short (λ e. cc) h

@@ -1,40 +1,45 @@
 -- The bytes that a line was handed, read after read.
-use Rattle.std.proofs.Common.{◌≡◌, ℕ, List, [], ◌∷◌, Option, Some, None, refl, sym, subst}
+use Rattle.std.proofs.Common.{◌≡◌, ℕ, List, [], ◌∷◌, ◌++◌, Option, Some, None, refl, sym, subst, append-nil}
+use Rattle.dcsp_outside.specs.Handed.{Handed}
 use Rattle.dcsp_outside.specs.Outside.{Place, bytes_of}
-use Rattle.abt_promise.specs.Promises.{IsHeld, AreHeld, IsFetched, AreFetched, inputs_of}
-
--- some bytes that a name may have
-some_held : (files : Option (List ℕ → Option (List ℕ))) (name : List ℕ) → (bytes : List ℕ) × IsHeld files name bytes
-some_held None name = ([], tt)
-some_held (Some files) name = (bytes_of (files name), refl)
-
-all_held : (files : Option (List ℕ → Option (List ℕ))) (names : List (List ℕ)) → (inputs : List (List ℕ)) × AreHeld files names inputs
-all_held files [] = ([], tt)
-all_held files (name ∷ names) =
-    let first = some_held files name in let more = all_held files names in (first.0 ∷ more.0, (first.1, more.1))
+use Rattle.abt_promise.specs.Promises.{IsHeld, AreBytesOf, AreInputsOf, IsFetched, AreFetched, inputs_of}
 
 -- they are those that the folder held, where it tells them
 pub fetched_held : (old new : Place) (name bytes : List ℕ) → IsFetched old new name bytes → IsHeld old.held name bytes
-fetched_held old new name bytes h = h
+fetched_held old new name bytes = by old.held
+  where
+    by : (files : Option (List ℕ → Option (List ℕ))) → AreBytesOf files old.handed new.handed name bytes → IsHeld files name bytes
+    by None h = tt
+    by (Some files) h = h
 
--- nothing was read: these may be the bytes of the name
-pub unread_name : (old new : Place) (name : List ℕ) → (bytes : List ℕ) × IsFetched old new name bytes
-unread_name old new name = some_held old.held name
+-- nothing was handed over: some bytes of a name
+some_bytes : (files : Option (List ℕ → Option (List ℕ))) (handed : List Handed) (name : List ℕ) → (bytes : List ℕ) × AreBytesOf files handed handed name bytes
+some_bytes None handed name = ([], ([], sym (append-nil handed), tt))
+some_bytes (Some files) handed name = (bytes_of (files name), refl)
+
+some_inputs : (files : Option (List ℕ → Option (List ℕ))) (handed : List Handed) (names : List (List ℕ)) → (inputs : List (List ℕ)) × AreInputsOf files handed handed names inputs
+some_inputs files handed [] = ([], refl)
+some_inputs files handed (name ∷ names) =
+    let first = some_bytes files handed name in let more = some_inputs files handed names in (first.0 ∷ more.0, (handed, first.1, more.1))
+
+-- where nothing was handed over, these may be the bytes of the name
+pub unread_name : (old new : Place) (name : List ℕ) → new.handed ≡ old.handed → (bytes : List ℕ) × IsFetched old new name bytes
+unread_name old new name same = let x = some_bytes old.held old.handed name in (x.0, subst (λ h. AreBytesOf old.held old.handed h name x.0) (sym same) x.1)
 
 -- and these those of all names
-pub unread_names : (old new : Place) (names : List (List ℕ)) → (inputs : List (List ℕ)) × AreFetched old new names inputs
-unread_names old new names = all_held old.held names
+pub unread_names : (old new : Place) (names : List (List ℕ)) → new.handed ≡ old.handed → (inputs : List (List ℕ)) × AreFetched old new names inputs
+unread_names old new names same = let x = some_inputs old.held old.handed names in (x.0, subst (λ h. AreInputsOf old.held old.handed h names x.0) (sym same) x.1)
 
 -- one name was read, and then the others
 pub fetched_then : (old mid new : Place) (name : List ℕ) (names : List (List ℕ)) (bytes : List ℕ) (inputs : List (List ℕ)) → mid.held ≡ old.held → IsFetched old mid name bytes → AreFetched mid new names inputs → AreFetched old new (name ∷ names) (bytes ∷ inputs)
-fetched_then old mid new name names bytes inputs same first rest = (first, subst (λ f. AreHeld f names inputs) same rest)
+fetched_then old mid new name names bytes inputs same first rest = (mid.handed, first, subst (λ f. AreInputsOf f mid.handed new.handed names inputs) same rest)
 
-told_held : (files : List ℕ → Option (List ℕ)) (names inputs : List (List ℕ)) → AreHeld (Some files) names inputs → inputs ≡ inputs_of files names
-told_held files [] [] h = refl
-told_held files [] (x ∷ inputs) h = absurd h
-told_held files (n ∷ names) [] h = absurd h
-told_held files (n ∷ names) (x ∷ inputs) h = let e = h.0 in let f = told_held files names inputs h.1 in cc
+told_inputs : (files : List ℕ → Option (List ℕ)) (old new : List Handed) (names inputs : List (List ℕ)) → AreInputsOf (Some files) old new names inputs → inputs ≡ inputs_of files names
+told_inputs files old new [] [] h = refl
+told_inputs files old new [] (x ∷ inputs) h = absurd h
+told_inputs files old new (n ∷ names) [] h = absurd h
+told_inputs files old new (n ∷ names) (x ∷ inputs) h = let e = h.1 in let f = told_inputs files h.0 new names inputs h.2 in cc
 
 -- where the folder tells its files, they are the bytes under the names
 pub fetched_told : (old new : Place) (files : List ℕ → Option (List ℕ)) (names inputs : List (List ℕ)) → old.held ≡ Some files → AreFetched old new names inputs → inputs ≡ inputs_of files names
-fetched_told old new files names inputs told h = told_held files names inputs (subst (λ f. AreHeld f names inputs) told h)
+fetched_told old new files names inputs told h = told_inputs files old.handed new.handed names inputs (subst (λ f. AreInputsOf f old.handed new.handed names inputs) told h)
