@@ -7,3 +7,4 @@ pub mod ExactKinds
 pub mod OwnWrites
 pub mod PlanLaws
 pub mod Keeping
+pub mod OtherKinds

@@ -2,7 +2,7 @@
 use Rattle.std.proofs.Common.{◌≡◌, ℕ, List, [], ◌∷◌, ◌++◌, Option, Some, None, refl, sym, subst, append-nil}
 use Rattle.dcsp_outside.specs.Handed.{Handed}
 use Rattle.dcsp_outside.specs.Outside.{Place, bytes_of}
-use Rattle.abt_promise.specs.Promises.{IsHeld, AreBytesOf, AreInputsOf, IsFetched, AreFetched, inputs_of}
+use Rattle.abt_promise.specs.Promises.{IsHeld, TellOf, AreBytesOf, AreInputsOf, IsFetched, AreFetched, inputs_of}
 
 -- they are those that the folder held, where it tells them
 pub fetched_held : (old new : Place) (name bytes : List ℕ) → IsFetched old new name bytes → IsHeld old.held name bytes
@@ -11,6 +11,11 @@ fetched_held old new name bytes = by old.held
     by : (files : Option (List ℕ → Option (List ℕ))) → AreBytesOf files old.handed new.handed name bytes → IsHeld files name bytes
     by None h = tt
     by (Some files) h = h
+
+-- they tell of the bytes, and so do more of them
+pub tell_both : (name bytes : List ℕ) (some more : List Handed) → TellOf name bytes some → TellOf name bytes more → TellOf name bytes (some ++ more)
+tell_both name bytes [] more h k = k
+tell_both name bytes (answer ∷ some) more h k = (h.0, h.1, tell_both name bytes some more h.2 k)
 
 -- nothing was handed over: some bytes of a name
 some_bytes : (files : Option (List ℕ → Option (List ℕ))) (handed : List Handed) (name : List ℕ) → (bytes : List ℕ) × AreBytesOf files handed handed name bytes
