@@ -1,6 +1,6 @@
 //! Checking the log under a name, piece by piece.
 
-ghost use Rattle.std.specs.Prelude.{◌≡◌, ◌+◌, ◌^◌, ◌≤◌, [], OnOk, Ok, Err};
+ghost use Rattle.std.specs.Prelude.{◌≡◌, ◌+◌, ◌^◌, ◌≤◌, [], List, OnOk, Ok, Err};
 ghost use Rattle.dcsp_outside.specs.Handed.{Handed};
 ghost use Rattle.dcsp_outside.specs.Outside.{Rose, SameCounts};
 ghost use Rattle.dcsp_script.specs.declared.stop.Stop.{Stop as AStop};
