@@ -1,6 +1,6 @@
 -- Entries and pieces that a check takes.
 use Rattle.std.proofs.Common.{◌≡◌, ℕ, ◌+◌, ◌<◌, ◌≤◌, true, List, [], ◌∷◌, ◌++◌, length, take, drop, Option, Some, None, Result, Ok, Err, refl, sym, ap, subst, ◌∙◌, append_assoc, arith}
-use Rattle.std.specs.Prelude.{IfSome, OnOk}
+use Rattle.std.specs.Prelude.{IfSome, OnOk, IsErr, IsErrAnd}
 use Rattle.std.proofs.Math.Seq.{drop-append_seam, take-append_seam}
 use Rattle.std.proofs.lemmas.List.{append-nil, length-append, take-append-drop}
 use Rattle.dcsp_defs.specs.declared.Step.{Step}
@@ -209,6 +209,16 @@ pub leads_to_end : (f : Option (List ℕ → Option (List ℕ))) (p q : Place) (
 leads_to_end f p q name from check (Ok Part) e k h = come_too_many p.held p.handed q.handed name (from + 1) check (omega (arith, k)) (stands_on f p.held p.handed q.handed name (from + 1) (from + 1) check e refl h)
 leads_to_end f p q name from check (Ok End) e k h = ended_on f p.held p.handed q.handed name (from + 1) (most_log + 1) check e (omega (arith, k)) h
 leads_to_end f p q name from check (Err stop) e k h = subst (λ x. WasStopped x p.handed q.handed name) e h
+
+-- a stop came at a piece
+pub stopped_to : (f : Option (List ℕ → Option (List ℕ))) (p q : Place) (name : List ℕ) (check : LogCheck) (stop : Stop) (r : Result Piece Stop) → IsErr r × IsErrAnd r (λ y. y ≡ stop) → f ≡ p.held → WasStopped f p.handed q.handed name → LeadsToEnd p q name check r
+stopped_to f p q name check stop (Ok x) is e h = absurd (let no = is.0 in cc)
+stopped_to f p q name check stop (Err y) is e h = subst (λ x. WasStopped x p.handed q.handed name) e h
+
+-- the last piece came
+pub ended_in : (f : Option (List ℕ → Option (List ℕ))) (p q : Place) (name : List ℕ) (from : ℕ) (check : LogCheck) (piece : Piece) → piece ≡ End → f ≡ p.held → from + 65536 ≤ most_log + 1 → LeadsOn f p.handed q.handed name from 65536 check (Ok piece) → HasEndedBelow p.held p.handed q.handed name (most_log + 1) check
+ended_in f p q name from check End is e few h = ended_on f p.held p.handed q.handed name (from + 65536) (most_log + 1) check e few h
+ended_in f p q name from check Part is e few h = absurd (let g = is in cc)
 
 -- the whole log has come
 pub whole_come : (p q : Place) (name : List ℕ) (check : LogCheck) (piece : Piece) → piece ≡ End → LeadsToEnd p q name check (Ok piece) → HasEndedBelow p.held p.handed q.handed name (most_log + 1) check

@@ -27,7 +27,7 @@ returns-in_err-status g c =
     let r = c.from_residual-in_err-status in
     record {
       came = kept (solve_plan l.log.now l.seed (option_copied l.kept) l.trace) (solve_sound l.model.now l.log.now l.seed (option_copied l.kept) l.trace)
-        (came_read e (keeps_search c.in_ok-problem.problem l.log.now l.seed (option_copied l.kept) l.trace _ (λ s. c.in_default.not-Satisfy (c.aim.ensures.aim ∙ s)) (came_stopped _ r.ensures c.in_err-status.ensures.wrote)));
+          (came_read e (keeps_search c.in_ok-problem.problem l.log.now l.seed (option_copied l.kept) l.trace _ (λ s. c.in_default.not-Satisfy (c.aim.ensures.aim ∙ s)) (came_stopped _ r.ensures c.in_err-status.ensures.wrote)));
       sound = error_alone _ _ r.result r.ensures;
       whole = error_alone _ _ r.result r.ensures;
     }
@@ -39,7 +39,7 @@ returns-in_default g c =
     let held = (g.F.Folder.place c.args.folder.now).held in
     record {
       came = kept (solve_plan l.log.now l.seed (option_copied l.kept) l.trace) (solve_sound l.model.now l.log.now l.seed (option_copied l.kept) l.trace)
-        (came_read e (keeps_search c.in_ok-problem.problem l.log.now l.seed (option_copied l.kept) l.trace _ (λ s. c.in_default.not-Satisfy (c.aim.ensures.aim ∙ s)) (came_answer_with _ c.in_ok-status.ensures.status c.in_ok-status.ensures.wrote)));
+          (came_read e (keeps_search c.in_ok-problem.problem l.log.now l.seed (option_copied l.kept) l.trace _ (λ s. c.in_default.not-Satisfy (c.aim.ensures.aim ∙ s)) (came_answer_with _ c.in_ok-status.ensures.status c.in_ok-status.ensures.wrote)));
       sound = holds_problem held l.model.now c.in_ok-problem.problem (read_held e) c.vars-vars.ensures.csp c.problems_are_small.ensures;
       whole = holds_whole held l.model.now c.in_ok-problem.problem (read_held e) c.vars-vars.ensures.problem;
     }

@@ -21,7 +21,7 @@ returns-in-Ok g c =
         whole.log,
         whole.handed,
         found_kept c.args.problem.now c.check_pieces.new.check whole.log c.in-Ok.finding (e.task.keeps ∙ c.new-check.ensures.keeps) whole.come
-        (subst (λ p. ReadsAs (log_for p) whole.log (Ok c.in-Ok.finding)) (e.task.problem ∙ c.new-check.ensures.problem) (c.in-Ok.ensures.found whole.log whole.come (omega (arith, short)))),
+            (subst (λ p. ReadsAs (log_for p) whole.log (Ok c.in-Ok.finding)) (e.task.problem ∙ c.new-check.ensures.problem) (c.in-Ok.ensures.found whole.log whole.come (omega (arith, short)))),
       );
       held = e.held;
       created = e.created;
