@@ -24,12 +24,20 @@ no_refusal true h = h
 no_refusal false h = h
 
 pub drill_sound : (seed : ℕ) → IsSoundPlan [] [] (drill_plan seed)
-drill_sound seed =
-    (one_problem (sparse_text 500 (word_at (generator_of seed))), λ sparse.
-    (one_problem (queens_text 6), λ queens.
-    (one_problem (pigeons_text 5), λ pigeons.
-    ((log_exact pigeons).one (log_text (run_from pigeons seed).net.steps), λ finding.
-    record { final = final _; no_refusal = no_refusal _; names = own_put own_none }))))
+drill_sound seed = (
+  one_problem (sparse_text 500 (word_at (generator_of seed))),
+  λ sparse. (
+    one_problem (queens_text 6),
+    λ queens. (
+      one_problem (pigeons_text 5),
+      λ pigeons. (
+        (log_exact pigeons).one (log_text (run_from pigeons seed).net.steps),
+        λ finding.
+            record { final = final _; no_refusal = no_refusal _; names = own_put own_none },
+      ),
+    ),
+  ),
+)
 
 pub drill_lawful : (seed : ℕ) → IsLawful (drill_promise seed)
 drill_lawful seed = plan_lawful (drill_plan seed) (drill_sound seed)
