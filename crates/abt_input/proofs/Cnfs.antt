@@ -4,7 +4,7 @@ use Rattle.dcsp_problem.specs.Problems.{Contents}
 use Rattle.cnf_front.specs.declared.header.CnfError.{CnfError}
 use Rattle.cnf_front.specs.declared.header.CnfError.TheVariants as cnf
 use Rattle.cnf_front.specs.Formulas.{problem_of, Gives}
-use Rattle.abt_promise.specs.Statuses.{IsFinal, IsRefusal}
+use Rattle.abt_promise.specs.Statuses.{IsRefusal}
 use Rattle.abt_input.specs.declared.error.CommandError.{CommandError}
 use Rattle.abt_input.specs.declared.error.CommandError.TheVariants.{Fault}
 use Rattle.abt_input.specs.declared.clauses_error.ClausesError.{ClausesError}
@@ -32,9 +32,3 @@ clauses_refuse CnfLong = tt
 clauses_refuse (CnfRefused error) = tt
 clauses_refuse ProofLong = tt
 clauses_refuse (ProofLine number) = tt
-
-pub clauses_final : (e : ClausesError) → IsFinal (clauses_status e)
-clauses_final CnfLong = tt
-clauses_final (CnfRefused error) = tt
-clauses_final ProofLong = tt
-clauses_final (ProofLine number) = tt

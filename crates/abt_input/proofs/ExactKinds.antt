@@ -1,10 +1,5 @@
 -- The kinds that several lines read are exact.
-use Rattle.std.proofs.Common.{ℕ, List}
-use Rattle.abt_promise.specs.Statuses.{IsFinal}
-use Rattle.abt_input.specs.Errors.{IsErrorOfSchedule, IsErrorOfCnf, IsErrorOfProof, error_status}
-use Rattle.abt_input.specs.declared.error.CommandError.{CommandError}
 use Rattle.abt_input.specs.Kinds.{IsExact, a_model, a_log, a_schedule, a_formula, a_proof}
-use Rattle.abt_input.proofs.Causes.{of_causes}
 use Rattle.abt_input.proofs.Once as once
 
 pub model_exact : IsExact a_model

@@ -11,14 +11,14 @@ use Rattle.dcsp_script.proofs.Ways.{did_nothing}
 use Rattle.abt_promise.specs.declared.status.Status.{Status}
 use Rattle.abt_promise.specs.Statuses.{IsFinal}
 use Rattle.abt_promise.specs.Promises.{IsFetched}
-use Rattle.abt_promise.specs.Runs.{Way, Answered, Refused, Stopped, CameIn}
+use Rattle.abt_promise.specs.Runs.{Way, Answered, Refused, CameIn}
 use Rattle.abt_promise.proofs.Coming.{way_with, came_wrote}
 use Rattle.abt_promise.proofs.Fetched.{unread_names, fetched_then}
 use Rattle.abt_promise.proofs.Steps.{came_then}
 use Rattle.abt_input.specs.declared.error.CommandError.{CommandError}
 use Rattle.abt_input.specs.declared.error.CommandError.TheVariants.{ModelLong, ModelRefused, NoAim, LogLong, LogLine, ScheduleLong, ScheduleLine, Clauses, Fault, Memory}
 use Rattle.abt_input.specs.Errors.{stop_error, way_of, error_status, error_text}
-use Rattle.abt_input.specs.Kinds.{Kind, ReadsAs, IsExact}
+use Rattle.abt_input.specs.Kinds.{Kind, IsExact}
 use Rattle.abt_input.specs.Files.{HasRead}
 use Rattle.abt_input.specs.Plans.{Plan, Answer, Read, Find, promise_by, IsSoundPlan}
 

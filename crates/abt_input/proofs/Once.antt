@@ -1,9 +1,8 @@
 -- A model has one problem or one error, a log one derivation or one error, a schedule one list of choices or one error, and so have formulas and proofs.
-use Rattle.std.proofs.Common.{◌≡◌, ℕ, ◌<◌, List, length, Ok, Err, refl, sym, ap, ◌∙◌, inl, inr, arith}
+use Rattle.std.proofs.Common.{◌≡◌, ℕ, ◌<◌, List, length, Ok, Err, refl, inl, inr}
 use Rattle.std.specs.Prelude.{ℤ}
 use Rattle.dcsp_defs.specs.declared.Step.{Step}
 use Rattle.dcsp_problem.specs.Problems.{Contents}
-use Rattle.fzn_model.specs.declared.model.ModelError.{ModelError}
 use Rattle.fzn_model.proofs.Once.{once}
 use Rattle.ngd_log.proofs.LogLaws.{log_or_bad_line}
 use Rattle.abt_schedule.proofs.ScheduleLaws.{schedule_or_bad_line}

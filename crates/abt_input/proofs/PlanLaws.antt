@@ -1,5 +1,5 @@
 -- The promise of a sound plan is lawful, and the line answers whatever its files are where the plan is total.
-use Rattle.std.proofs.Common.{◌≡◌, ℕ, zero, suc, List, [], ◌∷◌, length, sym, ap, subst, ◌∙◌, inl, inr, refl, arith}
+use Rattle.std.proofs.Common.{◌≡◌, ℕ, List, [], ◌∷◌, length, sym, ap, subst, ◌∙◌, inl, inr, refl, arith}
 use Rattle.std.specs.Prelude.{Contains}
 use Rattle.std.proofs.lemmas.List.Elements.{Contains-append_left, Contains-append_right, Contains-push}
 use Rattle.dcsp_script.specs.Scripts.{Write}
@@ -7,7 +7,6 @@ use Rattle.dcsp_script.specs.Texts.{Touches}
 use Rattle.abt_promise.specs.Statuses.{IsFinal, IsRefusal}
 use Rattle.abt_promise.specs.Promises.{Report, answered, refused}
 use Rattle.abt_promise.specs.Clauses.{IsLawful}
-use Rattle.abt_input.specs.declared.error.CommandError.{CommandError}
 use Rattle.abt_input.specs.Errors.{error_status, error_text}
 use Rattle.abt_input.specs.Plans.{Plan, Answer, Read, Find, PlanReports, PlanFetches, promise_by, IsSoundPlan, IsTotalPlan, IsAnswered}
 

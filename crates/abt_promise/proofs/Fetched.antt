@@ -27,11 +27,7 @@ some_inputs files handed [] = ([], refl)
 some_inputs files handed (name ∷ names) =
     let first = some_bytes files handed name in let more = some_inputs files handed names in (first.0 ∷ more.0, (handed, first.1, more.1))
 
--- where nothing was handed over, these may be the bytes of the name
-pub unread_name : (old new : Place) (name : List ℕ) → new.handed ≡ old.handed → (bytes : List ℕ) × IsFetched old new name bytes
-unread_name old new name same = let x = some_bytes old.held old.handed name in (x.0, subst (λ h. AreBytesOf old.held old.handed h name x.0) (sym same) x.1)
-
--- and these those of all names
+-- where nothing was handed over, these may be the bytes of the names
 pub unread_names : (old new : Place) (names : List (List ℕ)) → new.handed ≡ old.handed → (inputs : List (List ℕ)) × AreFetched old new names inputs
 unread_names old new names same = let x = some_inputs old.held old.handed names in (x.0, subst (λ h. AreInputsOf old.held old.handed h names x.0) (sym same) x.1)
 

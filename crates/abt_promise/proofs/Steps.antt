@@ -1,5 +1,5 @@
 -- What a line has come to, where something stood before what it did.
-use Rattle.std.proofs.Common.{◌≡◌, ℕ, List, [], ◌∷◌, ◌++◌, Err, ap, subst, ◌∙◌, append_assoc, inl, inr}
+use Rattle.std.proofs.Common.{ℕ, List, [], ◌++◌, Err, ap, subst, ◌∙◌, append_assoc, inl, inr}
 use Rattle.dcsp_outside.specs.Outside.{Rose}
 use Rattle.dcsp_script.specs.declared.stop.Stop.TheVariants as stops
 use Rattle.dcsp_script.specs.Scripts.{World}

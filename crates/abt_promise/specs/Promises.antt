@@ -30,10 +30,6 @@ pub record Promise : Type 1 where
   -- what it reports of the bytes of its files, which come in the order of `fetched`
   pub Reports : List (List ℕ) → Report → Type 0
 
--- a line that fetches and creates nothing, and answers this
-abbrev pub plain : Report → Promise
-plain report = record { fetched = []; created = []; Fetches = λ inputs name. ⊥; Reports = λ inputs r. r ≡ report }
-
 -- these are the bytes under the name, where the folder tells them
 abbrev pub IsHeld : Option (List ℕ → Option (List ℕ)) → List ℕ → List ℕ → Type 0
 IsHeld None name bytes = ⊤
