@@ -8,7 +8,7 @@ pub mod Searches
 pub mod LastRounds
 pub mod Verdicts
 pub mod Lawful
-pub mod Coming
+pub mod WholeProblems
 pub mod Making
 pub mod Turns
 pub mod Telling

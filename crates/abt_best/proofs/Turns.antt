@@ -69,11 +69,12 @@ module _ (asked : AskedSearch) where
   pub record Turn (n : ℕ) (r : Runner) (a b : World) : Type 0 where
     pub made : HasMade asked n r
     pub did : Did (rounds_script asked n) a b
+    pub handed : b.folder.handed ≡ a.folder.handed
 
   pub first_turn : (r : Runner) (a : World) → IsFresh asked.problem r → Turn r.rounds r a a
   first_turn r a h =
       let none : r.rounds ≡ 0 = h.rounds in
-      subst (λ (n : ℕ). Turn n r a a) (sym none) (record { made = made_none asked r h; did = subst (λ s. Did s a a) (sym (none_is asked)) (did_nothing a) })
+      subst (λ (n : ℕ). Turn n r a a) (sym none) (record { made = made_none asked r h; did = subst (λ s. Did s a a) (sym (none_is asked)) (did_nothing a); handed = refl })
 
   -- there is room for one more round
   pub record HasRoom (n : ℕ) : Type 0 where
@@ -98,6 +99,7 @@ module _ (asked : AskedSearch) where
       record {
         made = subst (λ (i : ℕ). HasMade asked i t) more made;
         did = subst (λ (i : ℕ). Did (rounds_script asked i) a c) next (subst (λ s. Did s a c) (sym (more_is asked n)) (did_both (rounds_script asked n) (round_script asked n) a b c h.did w.ended));
+        handed = w.handed ∙ h.handed;
       }
 
   -- a round was stopped
@@ -105,7 +107,7 @@ module _ (asked : AskedSearch) where
   turn_stopped {T = T} {U = U} {e = e} n r a b c h l result is w =
       let far : (round_count asked - suc n) + suc n ≡ round_count asked = omega arith in
       let begins = rounds_begin asked (suc n) (round_count asked - suc n) in
-      let stopped : Wrote {T = T} (rounds_script asked n ++ round_script asked n) a c (Err e) = then_wrote h.did w in
+      let stopped : Wrote {T = T} (rounds_script asked n ++ round_script asked n) a c (Err e) = then_wrote h.did h.handed w in
       wrote_as (ap (λ s. s ++ begins.0) (sym (more_is asked n)) ∙ sym begins.1 ∙ ap (rounds_script asked) far) (then_stopped {T = T} begins.0 is stopped)
 
   -- all rounds were made
@@ -115,4 +117,4 @@ module _ (asked : AskedSearch) where
       let over : is_over (search_after asked n) ≡ true = subst (λ (s : SearchState). is_over s ≡ true) h.made.search e in
       let whole = whole_after n l over in
       let count : n ≡ round_count asked = sym (h.made.many) ∙ ap (λ (s : SearchState). length s.rounds) (h.made.search ∙ sym whole) in
-      (record { ended = subst (λ (i : ℕ). Did (rounds_script asked i) a b) count h.did }, subst (λ (i : ℕ). HasMade asked i r) count h.made)
+      (record { ended = subst (λ (i : ℕ). Did (rounds_script asked i) a b) count h.did; handed = h.handed }, subst (λ (i : ℕ). HasMade asked i r) count h.made)

@@ -1,6 +1,6 @@
 -- A model has at most one problem for a check, or one refusal, and not both.
 use Rattle.std.proofs.Common.{◌≡◌, ◌⊎◌, ℕ, ℤ, List, Option, Some, None, Result, Ok, Err, refl, sym, ap, subst, ◌∙◌, inl, inr}
-use Rattle.std.specs.Prelude.{IsSome, IsErr, IsErrAnd, ⊤}
+use Rattle.std.specs.Prelude.{IsSome, ⊤}
 use Rattle.dcsp_problem.specs.declared.problem.Problem.{Problem}
 use Rattle.dcsp_problem.specs.Problems.{Contents}
 use Rattle.dcsp_problem.specs.Aims.{aimed_at, narrowed}
@@ -10,9 +10,8 @@ use Rattle.abt_input.specs.Errors.{IsErrorOfModel, error_status}
 use Rattle.abt_input.specs.declared.error.CommandError.{CommandError}
 use Rattle.abt_input.specs.declared.error.CommandError.TheVariants.{ModelLong, ModelRefused, NoAim, LogLong, LogLine, ScheduleLong, ScheduleLine, Clauses, Fault, Memory}
 use Rattle.abt_input.proofs.Once.{one_problem, no_error_of_model, one_error_of_model}
-use Rattle.abt_promise.specs.Promises.{IsHeld}
-use Rattle.abt_input.specs.Files.{IsModelReadOf}
-use Rattle.abt_check.specs.Taking.{Taking, plain, narrowing, taking_of, IsNarrowedOf, LacksAim, IsErrorOfAim, LeavesBounded, IsTakenOf, IsTaken}
+use Rattle.abt_input.specs.Kinds.{ReadsAs, a_model}
+use Rattle.abt_check.specs.Taking.{Taking, plain, narrowing, taking_of, IsNarrowedOf, LacksAim, IsErrorOfAim, LeavesBounded, model_by}
 
 -- an error that may be a model's
 abbrev pub IsOfModel : CommandError → Type 0
@@ -118,7 +117,7 @@ final_of_model Fault h = absurd h
 final_of_model Memory h = absurd h
 
 -- what is left of a model's problem by the bound is taken of the model
-pub left_taken : (better : Option ℤ) (model : List ℕ) (whole : Contents) (r : Result Problem CommandError) → IsModelOf model whole → LeavesBounded better whole r → IsTakenOf (taking_of better) model r
+pub left_taken : (better : Option ℤ) (model : List ℕ) (whole : Contents) (r : Result Problem CommandError) → IsModelOf model whole → LeavesBounded better whole r → ReadsAs (model_by (taking_of better)) model r
 left_taken None model whole (Ok p) is h = subst (λ x. IsModelOf model x) (sym h) is
 left_taken None model whole (Err NoAim) is h = absurd h
 left_taken (Some bound) model whole (Ok p) is h = record { whole = whole; model_is = is; known = h.known; aimed = h.aimed; narrowed_is = h.narrowed_is }
@@ -141,28 +140,15 @@ left_taken None model whole (Err (Clauses error)) is h = absurd h
 left_taken (Some bound) model whole (Err (Clauses error)) is h = absurd h
 
 -- a refused model is refused for the check
-pub refused_taken : (better : Option ℤ) (files : Option (List ℕ → Option (List ℕ))) (name : List ℕ) (e : CommandError) (r : Result Problem CommandError) → IsErr r × IsErrAnd r (λ y. y ≡ e) → ((model : List ℕ) × IsHeld files name model × IsModelReadOf model (Err e)) → IsTaken (taking_of better) files name r
-refused_taken better files name e (Ok p) is h = absurd (let no = is.0 in cc)
-refused_taken better files name e (Err y) is h = rw is.1 (h.0, h.1, by better e h.2)
-  where
-    by : (b : Option ℤ) (d : CommandError) → IsModelReadOf h.0 (Err d) → IsTakenOf (taking_of b) h.0 (Err d)
-    by None ModelLong k = k
-    by None (ModelRefused error) k = k
-    by None NoAim k = k
-    by None LogLong k = k
-    by None (LogLine number) k = k
-    by None ScheduleLong k = k
-    by None (ScheduleLine number) k = k
-    by None (Clauses error) k = k
-    by None Fault k = tt
-    by None Memory k = tt
-    by (Some bound) ModelLong k = k
-    by (Some bound) (ModelRefused error) k = k
-    by (Some bound) NoAim k = absurd k
-    by (Some bound) LogLong k = k
-    by (Some bound) (LogLine number) k = k
-    by (Some bound) ScheduleLong k = k
-    by (Some bound) (ScheduleLine number) k = k
-    by (Some bound) (Clauses error) k = k
-    by (Some bound) Fault k = tt
-    by (Some bound) Memory k = tt
+pub refused_taken : (better : Option ℤ) (model : List ℕ) (e : CommandError) → ReadsAs a_model model (Err e) → ReadsAs (model_by (taking_of better)) model (Err e)
+refused_taken None model e h = h
+refused_taken (Some bound) model ModelLong h = h
+refused_taken (Some bound) model (ModelRefused error) h = h
+refused_taken (Some bound) model NoAim h = absurd h
+refused_taken (Some bound) model LogLong h = h
+refused_taken (Some bound) model (LogLine number) h = h
+refused_taken (Some bound) model ScheduleLong h = h
+refused_taken (Some bound) model (ScheduleLine number) h = h
+refused_taken (Some bound) model (Clauses error) h = h
+refused_taken (Some bound) model Fault h = tt
+refused_taken (Some bound) model Memory h = tt

@@ -1,10 +1,11 @@
 -- Entries and pieces that a check takes.
 use Rattle.std.proofs.Common.{◌≡◌, ℕ, ◌+◌, ◌<◌, ◌≤◌, true, List, [], ◌∷◌, ◌++◌, length, take, drop, Option, Some, None, Result, Ok, Err, refl, sym, ap, subst, ◌∙◌, append_assoc, arith}
-use Rattle.std.specs.Prelude.{IfSome, OnOk}
-use Rattle.std.proofs.Math.Seq.{drop-append_seam}
+use Rattle.std.specs.Prelude.{IfSome, OnOk, IsErr, IsErrAnd}
+use Rattle.std.proofs.Math.Seq.{drop-append_seam, take-append_seam}
 use Rattle.std.proofs.lemmas.List.{append-nil, length-append, take-append-drop}
 use Rattle.dcsp_defs.specs.declared.Step.{Step}
-use Rattle.dcsp_outside.specs.Outside.{IsPrefixOf, FetchesPiece, AddsPiece, bytes_of}
+use Rattle.dcsp_outside.specs.Handed.{Handed, PartOf, EndOf}
+use Rattle.dcsp_outside.specs.Outside.{Place, IsPrefixOf, FetchesPiece, AddsPiece, gained, handed_piece, bytes_of}
 use Rattle.dcsp_outside.specs.declared.folder.Piece.{Piece}
 use Rattle.dcsp_outside.specs.declared.folder.Piece.TheVariants.{Part, End}
 use Rattle.ngd_log.specs.declared.entry.Entry.{Entry}
@@ -14,10 +15,11 @@ use Rattle.ngd_log.specs.Pieces.{IsFed, TakesFront, Completes}
 use Rattle.ngd_check.specs.Entries.{steps_of}
 use Rattle.ngd_check.specs.Progress.{HasTaken}
 use Rattle.dcsp_script.specs.declared.stop.Stop.{Stop}
-use Rattle.abt_promise.specs.Promises.{IsHeld}
+use Rattle.abt_promise.specs.Promises.{TellOf, AreBytesOf}
+use Rattle.abt_promise.proofs.Fetched.{tell_both}
 use Rattle.abt_input.specs.Inputs.{most_log}
 use Rattle.abt_check.specs.declared.log_check.LogCheck.{LogCheck}
-use Rattle.abt_check.specs.LogChecks.{HasSameTask, HasGoneOn, HasTakenFront, HasCome, StandsAt, HasEndedBelow, LeadsOn, LeadsToEnd, IsLogLong}
+use Rattle.abt_check.specs.LogChecks.{HasSameTask, HasGoneOn, HasTakenFront, HasCome, HasHanded, StandsAt, HasEndedBelow, WasStopped, LeadsOn, LeadsToEnd, IsLogLong}
 
 -- ---- entries
 
@@ -104,74 +106,129 @@ drop_front : (text rest bytes : List ℕ) (from : ℕ) → text ++ rest ≡ byte
 drop_front text rest bytes from e counted = ap (drop from) (sym e) ∙ ap (λ n. drop n (text ++ rest)) (sym counted) ∙ drop-append_seam text rest
 
 -- a whole piece goes on in front
-pub front_part : (files : Option (List ℕ → Option (List ℕ))) (name text piece : List ℕ) (from most : ℕ) → length text ≡ from → IfSome files (λ f. IsPrefixOf text (bytes_of (f name)))
+front_part : (files : Option (List ℕ → Option (List ℕ))) (name text piece : List ℕ) (from most : ℕ) → length text ≡ from → IfSome files (λ f. IsPrefixOf text (bytes_of (f name)))
     → IfSome files (λ f. FetchesPiece (bytes_of (f name)) from most [] piece (Ok Part)) → IfSome files (λ f. IsPrefixOf (text ++ piece) (bytes_of (f name)))
 front_part None name text piece from most counted front fetched = tt
 front_part (Some f) name text piece from most counted front fetched =
     let is : piece ≡ take most front.0 = fetched.1 ∙ ap (take most) (drop_front text front.0 (bytes_of (f name)) from front.1 counted) in
     (drop most front.0, append_assoc text piece (drop most front.0) ∙ ap (λ p. text ++ (p ++ drop most front.0)) is ∙ ap (λ x. text ++ x) (take-append-drop most front.0) ∙ front.1)
 
--- the last piece completes the log
-pub front_end : (files : Option (List ℕ → Option (List ℕ))) (name text piece : List ℕ) (from most : ℕ) → length text ≡ from → IfSome files (λ f. IsPrefixOf text (bytes_of (f name)))
-    → IfSome files (λ f. FetchesPiece (bytes_of (f name)) from most [] piece (Ok End)) → IsHeld files name (text ++ piece)
-front_end None name text piece from most counted front fetched = tt
-front_end (Some f) name text piece from most counted front fetched =
-    ap (λ x. text ++ x) (fetched.1 ∙ drop_front text front.0 (bytes_of (f name)) from front.1 counted) ∙ front.1
+-- a piece behind the text tells of the bytes that begin with both
+part_tells : (name text piece rest : List ℕ) (from : ℕ) → length text ≡ from → TellOf name ((text ++ piece) ++ rest) (PartOf name from piece ∷ [])
+part_tells name text piece rest from counted =
+    let behind : drop from ((text ++ piece) ++ rest) ≡ piece ++ rest = drop_front text (piece ++ rest) ((text ++ piece) ++ rest) from (sym (append_assoc text piece rest)) counted in
+    let long : from + length piece ≤ length ((text ++ piece) ++ rest) = (let l = length-append (text ++ piece) rest in let m = length-append text piece in omega (arith, counted, l, m)) in
+    (refl, (long, sym (ap (take (length piece)) behind ∙ take-append_seam piece rest)), tt)
+
+-- the last piece tells of the bytes that end with it
+end_tells : (name text piece : List ℕ) (from : ℕ) → length text ≡ from → TellOf name (text ++ piece) (EndOf name from piece ∷ [])
+end_tells name text piece from counted = (refl, drop_front text piece (text ++ piece) from refl counted, tt)
+
+module _ (files : Option (List ℕ → Option (List ℕ))) (start old : List Handed) (name text : List ℕ) (from : ℕ) (counted : length text ≡ from) (h : HasHanded files start old name text) where
+  later : (new : List Handed) (answer : Handed) → new ≡ old ++ answer ∷ [] → new ≡ start ++ (h.answers ++ answer ∷ [])
+  later new answer e = e ∙ ap (λ l. l ++ answer ∷ []) h.handed ∙ append_assoc start h.answers (answer ∷ [])
+
+  -- one more piece was handed over
+  handed_part : (new : List Handed) (piece : List ℕ) (most : ℕ) → new ≡ old ++ PartOf name from piece ∷ [] → IfSome files (λ f. FetchesPiece (bytes_of (f name)) from most [] piece (Ok Part)) → HasHanded files start new name (text ++ piece)
+  handed_part new piece most e fetched = record {
+    front = front_part files name text piece from most counted h.front fetched;
+    answers = h.answers ++ PartOf name from piece ∷ [];
+    handed = later new (PartOf name from piece) e;
+    tell = λ rest. tell_both name ((text ++ piece) ++ rest) h.answers (PartOf name from piece ∷ []) (subst (λ b. TellOf name b h.answers) (sym (append_assoc text piece rest)) (h.tell (piece ++ rest))) (part_tells name text piece rest from counted);
+  }
+
+  -- the last piece was handed over
+  handed_end : (new : List Handed) (piece : List ℕ) (most : ℕ) → new ≡ old ++ EndOf name from piece ∷ [] → IfSome files (λ f. FetchesPiece (bytes_of (f name)) from most [] piece (Ok End)) → AreBytesOf files start new name (text ++ piece)
+  handed_end new piece most e fetched = by files h.front fetched
+    where
+      by : (files : Option (List ℕ → Option (List ℕ))) → IfSome files (λ f. IsPrefixOf text (bytes_of (f name))) → IfSome files (λ f. FetchesPiece (bytes_of (f name)) from most [] piece (Ok End)) → AreBytesOf files start new name (text ++ piece)
+      by None front fetched = (h.answers ++ EndOf name from piece ∷ [], later new (EndOf name from piece) e, tell_both name (text ++ piece) h.answers (EndOf name from piece ∷ []) (h.tell piece) (end_tells name text piece from counted))
+      by (Some f) front fetched = ap (λ x. text ++ x) (fetched.1 ∙ drop_front text front.0 (bytes_of (f name)) from front.1 counted) ∙ front.1
+
+-- a stop came: some bytes are those that were handed over
+handed_some : (files : Option (List ℕ → Option (List ℕ))) (start old : List Handed) (name text : List ℕ) → HasHanded files start old name text → WasStopped files start old name
+handed_some None start old name text h = (text ++ [], (h.answers, h.handed, h.tell []))
+handed_some (Some f) start old name text h = (bytes_of (f name), refl)
+
+-- nothing more was handed over
+pub stopped_at : (files : Option (List ℕ → Option (List ℕ))) (start old new : List Handed) (name : List ℕ) (from : ℕ) (check : LogCheck) → new ≡ old ++ [] → StandsAt files start old name from check → WasStopped files start new name
+stopped_at files start old new name from check e h = subst (λ l. WasStopped files start l name) (sym (e ∙ append-nil old)) (handed_some files start old name h.text h.handed)
 
 -- a piece has at most as many bytes as were asked for
 pub piece_small : (most : ℕ) (before piece : List ℕ) (fetched : Piece) → before ≡ [] → AddsPiece most before piece (Ok fetched) → length piece ≤ most
 piece_small most before piece Part e h = let l = ap length (h.2 ∙ ap (λ b. b ++ h.0) e) in let m = h.1 in omega (arith, l, m)
 piece_small most before piece End e h = let l = ap length (h.2 ∙ ap (λ b. b ++ h.0) e) in let m = h.1 in omega (arith, l, m)
 
--- where a piece leads
-pub piece_leads : (files : Option (List ℕ → Option (List ℕ))) (name : List ℕ) (from most : ℕ) (old new : LogCheck) (before piece : List ℕ) (fetched : Piece) → before ≡ [] → StandsAt files name from old → AddsPiece most before piece (Ok fetched)
-    → IfSome files (λ f. FetchesPiece (bytes_of (f name)) from most before piece (Ok fetched)) → ((text : List ℕ) → HasCome old text → HasCome new (text ++ piece)) → LeadsOn files name from most new (Ok fetched)
-piece_leads files name from most old new [] piece Part e h adds fetched come =
-    let c = h.counted in
-    let m : length piece ≡ most = ap length adds.2 ∙ adds.1 in
-    record {
-      text = h.text ++ piece;
-      counted = (let l = length-append h.text piece in omega (arith, c, m, l));
-      front = front_part files name h.text piece from most c h.front fetched;
-      come = come h.text h.come;
-    }
-piece_leads files name from most old new [] piece End e h adds fetched come =
-    let c = h.counted in
-    let m : length piece ≡ length adds.0 = ap length adds.2 in
-    let short = adds.1 in
-    record {
-      log = h.text ++ piece;
-      held = front_end files name h.text piece from most c h.front fetched;
-      short = (let l = length-append h.text piece in omega (arith, c, m, l, short));
-      come = come h.text h.come;
-    }
-piece_leads files name from most old new (b ∷ before) piece fetched e h adds read come = absurd (let f = e in cc)
+module _ (files : Option (List ℕ → Option (List ℕ))) (start old new : List Handed) (name : List ℕ) (from most : ℕ) (check : LogCheck) where
+  -- where a piece leads
+  pub piece_leads : (now : LogCheck) (before piece : List ℕ) (fetched : Piece) → before ≡ [] → new ≡ old ++ handed_piece name from (gained before piece) (Ok fetched) → StandsAt files start old name from check → AddsPiece most before piece (Ok fetched)
+      → IfSome files (λ f. FetchesPiece (bytes_of (f name)) from most before piece (Ok fetched)) → ((text : List ℕ) → HasCome check text → HasCome now (text ++ piece)) → LeadsOn files start new name from most now (Ok fetched)
+  piece_leads now [] piece Part e handed h adds fetched come =
+      let c = h.counted in
+      let m : length piece ≡ most = ap length adds.2 ∙ adds.1 in
+      record {
+        text = h.text ++ piece;
+        counted = (let l = length-append h.text piece in omega (arith, c, m, l));
+        handed = handed_part files start old name h.text from c h.handed new piece most handed fetched;
+        come = come h.text h.come;
+      }
+  piece_leads now [] piece End e handed h adds fetched come =
+      let c = h.counted in
+      let m : length piece ≡ length adds.0 = ap length adds.2 in
+      let short = adds.1 in
+      record {
+        log = h.text ++ piece;
+        handed = handed_end files start old name h.text from c h.handed new piece most handed fetched;
+        short = (let l = length-append h.text piece in omega (arith, c, m, l, short));
+        come = come h.text h.come;
+      }
+  piece_leads now (b ∷ before) piece fetched e handed h adds read come = absurd (let f = e in cc)
+
+  -- a piece was handed over, and then a stop came
+  pub piece_stopped : (before piece : List ℕ) (fetched : Piece) → before ≡ [] → new ≡ old ++ handed_piece name from (gained before piece) (Ok fetched) → StandsAt files start old name from check
+      → IfSome files (λ f. FetchesPiece (bytes_of (f name)) from most before piece (Ok fetched)) → WasStopped files start new name
+  piece_stopped [] piece Part e handed h fetched = handed_some files start new name (h.text ++ piece) (handed_part files start old name h.text from h.counted h.handed new piece most handed fetched)
+  piece_stopped [] piece End e handed h fetched = (h.text ++ piece, handed_end files start old name h.text from h.counted h.handed new piece most handed fetched)
+  piece_stopped (b ∷ before) piece fetched e handed h read = absurd (let f = e in cc)
 
 -- the same place of the same log
-pub stands_on : (f g : Option (List ℕ → Option (List ℕ))) (name : List ℕ) (m n : ℕ) (check : LogCheck) → f ≡ g → m ≡ n → StandsAt f name m check → StandsAt g name n check
-stands_on f g name m n check e k h = subst (λ x. StandsAt x name n check) e (subst (λ x. StandsAt f name x check) k h)
+pub stands_on : (f g : Option (List ℕ → Option (List ℕ))) (start now : List Handed) (name : List ℕ) (m n : ℕ) (check : LogCheck) → f ≡ g → m ≡ n → StandsAt f start now name m check → StandsAt g start now name n check
+stands_on f g start now name m n check e k h = subst (λ x. StandsAt x start now name n check) e (subst (λ x. StandsAt f start now name x check) k h)
 
-pub ended_on : (f g : Option (List ℕ → Option (List ℕ))) (name : List ℕ) (m n : ℕ) (check : LogCheck) → f ≡ g → m ≤ n → HasEndedBelow f name m check → HasEndedBelow g name n check
-ended_on f g name m n check e k h = record { log = h.log; held = subst (λ x. IsHeld x name h.log) e h.held; short = (let s = h.short in omega (arith, s, k)); come = h.come }
+pub ended_on : (f g : Option (List ℕ → Option (List ℕ))) (start now : List Handed) (name : List ℕ) (m n : ℕ) (check : LogCheck) → f ≡ g → m ≤ n → HasEndedBelow f start now name m check → HasEndedBelow g start now name n check
+ended_on f g start now name m n check e k h = record { log = h.log; handed = subst (λ x. AreBytesOf x start now name h.log) e h.handed; short = (let s = h.short in omega (arith, s, k)); come = h.come }
 
 -- more bytes have come than are allowed
-pub come_too_many : (files : Option (List ℕ → Option (List ℕ))) (name : List ℕ) (from : ℕ) (check : LogCheck) → most_log < from → StandsAt files name from check → IsLogLong files name
-come_too_many None name from check more h = (h.text, tt, let c = h.counted in omega (arith, c, more))
-come_too_many (Some f) name from check more h =
-    (bytes_of (f name), refl, let c = h.counted in let e = ap length (sym h.front.1) in let l = length-append h.text h.front.0 in omega (arith, c, e, l, more))
+come_too_many : (files : Option (List ℕ → Option (List ℕ))) (start now : List Handed) (name : List ℕ) (from : ℕ) (check : LogCheck) → most_log < from → StandsAt files start now name from check → IsLogLong files start now name
+come_too_many None start now name from check more h = (h.text ++ [], (h.handed.answers, h.handed.handed, h.handed.tell []), let c = h.counted in let l = length-append h.text [] in omega (arith, c, l, more))
+come_too_many (Some f) start now name from check more h =
+    let front = h.handed.front in (bytes_of (f name), refl, let c = h.counted in let e = ap length (sym front.1) in let l = length-append h.text front.0 in omega (arith, c, e, l, more))
 
 -- after all bytes that are allowed, one more was asked for
-pub leads_to_end : (f g : Option (List ℕ → Option (List ℕ))) (name : List ℕ) (from : ℕ) (check : LogCheck) (r : Result Piece Stop) → f ≡ g → from ≡ most_log → LeadsOn f name from 1 check r → LeadsToEnd g name check r
-leads_to_end f g name from check (Ok Part) e k h = come_too_many g name (from + 1) check (omega (arith, k)) (stands_on f g name (from + 1) (from + 1) check e refl h)
-leads_to_end f g name from check (Ok End) e k h = ended_on f g name (from + 1) (most_log + 1) check e (omega (arith, k)) h
-leads_to_end f g name from check (Err stop) e k h = tt
+pub leads_to_end : (f : Option (List ℕ → Option (List ℕ))) (p q : Place) (name : List ℕ) (from : ℕ) (check : LogCheck) (r : Result Piece Stop) → f ≡ p.held → from ≡ most_log → LeadsOn f p.handed q.handed name from 1 check r → LeadsToEnd p q name check r
+leads_to_end f p q name from check (Ok Part) e k h = come_too_many p.held p.handed q.handed name (from + 1) check (omega (arith, k)) (stands_on f p.held p.handed q.handed name (from + 1) (from + 1) check e refl h)
+leads_to_end f p q name from check (Ok End) e k h = ended_on f p.held p.handed q.handed name (from + 1) (most_log + 1) check e (omega (arith, k)) h
+leads_to_end f p q name from check (Err stop) e k h = subst (λ x. WasStopped x p.handed q.handed name) e h
+
+-- a stop came at a piece
+pub stopped_to : (f : Option (List ℕ → Option (List ℕ))) (p q : Place) (name : List ℕ) (check : LogCheck) (stop : Stop) (r : Result Piece Stop) → IsErr r × IsErrAnd r (λ y. y ≡ stop) → f ≡ p.held → WasStopped f p.handed q.handed name → LeadsToEnd p q name check r
+stopped_to f p q name check stop (Ok x) is e h = absurd (let no = is.0 in cc)
+stopped_to f p q name check stop (Err y) is e h = subst (λ x. WasStopped x p.handed q.handed name) e h
+
+-- the last piece came
+pub ended_in : (f : Option (List ℕ → Option (List ℕ))) (p q : Place) (name : List ℕ) (from : ℕ) (check : LogCheck) (piece : Piece) → piece ≡ End → f ≡ p.held → from + 65536 ≤ most_log + 1 → LeadsOn f p.handed q.handed name from 65536 check (Ok piece) → HasEndedBelow p.held p.handed q.handed name (most_log + 1) check
+ended_in f p q name from check End is e few h = ended_on f p.held p.handed q.handed name (from + 65536) (most_log + 1) check e few h
+ended_in f p q name from check Part is e few h = absurd (let g = is in cc)
 
 -- the whole log has come
-pub whole_come : (files : Option (List ℕ → Option (List ℕ))) (name : List ℕ) (check : LogCheck) (piece : Piece) → piece ≡ End → LeadsToEnd files name check (Ok piece) → HasEndedBelow files name (most_log + 1) check
-whole_come files name check End e h = h
-whole_come files name check Part e h = absurd (let f = e in cc)
+pub whole_come : (p q : Place) (name : List ℕ) (check : LogCheck) (piece : Piece) → piece ≡ End → LeadsToEnd p q name check (Ok piece) → HasEndedBelow p.held p.handed q.handed name (most_log + 1) check
+whole_come p q name check End e h = h
+whole_come p q name check Part e h = absurd (let f = e in cc)
 
 -- nothing has come
-pub stands_at_start : (files : Option (List ℕ → Option (List ℕ))) (name : List ℕ) (check : LogCheck) → HasCome check [] → StandsAt files name 0 check
-stands_at_start None name check h = record { text = []; counted = refl; front = tt; come = h }
-stands_at_start (Some f) name check h = record { text = []; counted = refl; front = (bytes_of (f name), refl); come = h }
+pub stands_at_start : (files : Option (List ℕ → Option (List ℕ))) (handed : List Handed) (name : List ℕ) (check : LogCheck) → HasCome check [] → StandsAt files handed handed name 0 check
+stands_at_start files handed name check h = record { text = []; counted = refl; handed = record { front = by files; answers = []; handed = sym (append-nil handed); tell = λ rest. tt }; come = h }
+  where
+    by : (files : Option (List ℕ → Option (List ℕ))) → IfSome files (λ f. IsPrefixOf [] (bytes_of (f name)))
+    by None = tt
+    by (Some f) = (bytes_of (f name), refl)

@@ -1,5 +1,5 @@
 -- A log of a refutation is verified.
-use Rattle.std.proofs.Common.{◌≡◌, ℕ, ℤ, ◌+◌, List, [], ◌∷◌, ◌++◌, Option, None, codes, refl, sym, ap, ◌∙◌}
+use Rattle.std.proofs.Common.{◌≡◌, ℕ, ℤ, ◌+◌, List, [], ◌∷◌, ◌++◌, Option, None, codes, refl, sym, ap, inr, ◌∙◌}
 use Rattle.std.specs.List.{concat}
 use Rattle.dcsp_outside.specs.Outside.{bytes_of}
 use Rattle.dcsp_defs.specs.declared.Step.{Step}
@@ -21,9 +21,10 @@ use Rattle.abt_promise.specs.Promises.{answered}
 use Rattle.abt_promise.specs.Runs.{Ran}
 use Rattle.abt_promise.proofs.Following.{report_did}
 use Rattle.abt_input.specs.Inputs.{IsModelOf, IsTextOf}
+use Rattle.abt_input.specs.Plans.{PlanReports}
 use Rattle.abt_check.specs.Taking.{taking_of}
 use Rattle.abt_check.specs.Checks.{IsFoundFor, finding_status, finding_text}
-use Rattle.abt_check.specs.CheckReports.{ReportBy, found, check_promise}
+use Rattle.abt_check.specs.CheckReports.{check_plan, check_promise}
 use Rattle.abt_check.specs.Verifying.{VerifiesUnlessStopped, IsVerifiedBy, IsVerified}
 use Rattle.abt_check.proofs.Lawful.{check_lawful}
 
@@ -48,8 +49,8 @@ refutation_found log p steps is refutes = record {
 pub refutation_verified_by : (better : Option ℤ) (files : List ℕ → Option (List ℕ)) (model log : List ℕ) (p : Contents) (steps : List Step) → (taking_of better).Is (bytes_of (files model)) p → IsTextOf (bytes_of (files log)) steps → IsRefutation (csp_of p) steps → IsVerifiedBy (taking_of better) files model log
 refutation_verified_by better files model log p steps is_model is_log refutes old new err now status told ran = by_status status ran
   where
-    report_is : ReportBy (taking_of better) (bytes_of (files model)) (bytes_of (files log)) (answered (finding_status Verified) (Put (finding_text Verified) ∷ []))
-    report_is = found Verified (record { problem = p; model_is = is_model; log_found = refutation_found (bytes_of (files log)) p steps is_log refutes }) refl
+    report_is : PlanReports (check_plan (taking_of better)) (bytes_of (files model) ∷ bytes_of (files log) ∷ []) (answered (finding_status Verified) (Put (finding_text Verified) ∷ []))
+    report_is = inr (p, is_model, inr (Verified, refutation_found (bytes_of (files log)) p steps is_log refutes, refl))
 
     -- a final status is that of the one report
     good : (s : Status) → Ran (check_promise (taking_of better) model log) old new err now s → IsFinal s → s ≡ Good

@@ -10,14 +10,15 @@ use Rattle.ngd_log.specs.EntryReading.{good_entries}
 use Rattle.ngd_log.specs.Pieces.{IsFed}
 use Rattle.ngd_check.specs.Entries.{steps_of}
 use Rattle.ngd_check.specs.Progress.{HasTaken}
-use Rattle.abt_promise.specs.Promises.{IsHeld}
+use Rattle.dcsp_outside.specs.Handed.{Handed}
+use Rattle.abt_promise.specs.Promises.{TellOf, AreBytesOf}
+use Rattle.abt_input.specs.Kinds.{Kind}
 use Rattle.abt_input.specs.Inputs.{most_log}
-use Rattle.abt_input.specs.declared.error.CommandError.{CommandError}
 use Rattle.dcsp_problem.specs.Problems.{Contents, csp_of}
 use Rattle.ngd_check.specs.Findings.{IsFindingOf}
 use Rattle.abt_check.specs.declared.log_check.LogCheck.{LogCheck}
 use Rattle.abt_check.specs.declared.log_check.Checked.{Checked}
-use Rattle.abt_check.specs.Checks.{HasEntries, IsOutcomeOfLog}
+use Rattle.abt_check.specs.Checks.{HasEntries, IsErrorOfEntries}
 
 -- the check is of the same problem, and keeps steps or not as before
 pub record HasSameTask (old new : LogCheck) : Type 0 where
@@ -45,35 +46,46 @@ pub record HasTakenFront (old new : LogCheck) (piece rest : List ℕ) : Type 0 w
   pub counted : new.reader.fed ≡ old.reader.fed + length front
   pub come : (text : List ℕ) → HasCome old text → HasCome new (text ++ front)
 
--- as many bytes have come; where the folder tells its files, they are the first of the name's
-pub record StandsAt (files : Option (List ℕ → Option (List ℕ))) (name : List ℕ) (from : ℕ) (check : LogCheck) : Type 0 where
+-- the text is what the folder handed over of the name meanwhile: more bytes may follow, whatever they are; and where it tells its files, those of the name begin with the text
+pub record HasHanded (files : Option (List ℕ → Option (List ℕ))) (old new : List Handed) (name text : List ℕ) : Type 0 where
+  pub front : IfSome files (λ f. IsPrefixOf text (bytes_of (f name)))
+  pub answers : List Handed
+  pub handed : new ≡ old ++ answers
+  pub tell : (rest : List ℕ) → TellOf name (text ++ rest) answers
+
+-- as many bytes of the name have come
+pub record StandsAt (files : Option (List ℕ → Option (List ℕ))) (old new : List Handed) (name : List ℕ) (from : ℕ) (check : LogCheck) : Type 0 where
   pub text : List ℕ
   pub counted : length text ≡ from
-  pub front : IfSome files (λ f. IsPrefixOf text (bytes_of (f name)))
+  pub handed : HasHanded files old new name text
   pub come : HasCome check text
 
 -- all bytes of the name have come, and they are fewer than so many
-pub record HasEndedBelow (files : Option (List ℕ → Option (List ℕ))) (name : List ℕ) (bound : ℕ) (check : LogCheck) : Type 0 where
+pub record HasEndedBelow (files : Option (List ℕ → Option (List ℕ))) (old new : List Handed) (name : List ℕ) (bound : ℕ) (check : LogCheck) : Type 0 where
   pub log : List ℕ
-  pub held : IsHeld files name log
+  pub handed : AreBytesOf files old new name log
   pub short : length log < bound
   pub come : HasCome check log
 
+-- some bytes of the name are those that were handed over, where a stop came
+abbrev pub WasStopped : Option (List ℕ → Option (List ℕ)) → List Handed → List Handed → List ℕ → Type 0
+WasStopped files old new name = (bytes : List ℕ) × AreBytesOf files old new name bytes
+
 -- where a piece of `most` bytes from this place leads
-abbrev pub LeadsOn : Option (List ℕ → Option (List ℕ)) → List ℕ → ℕ → ℕ → LogCheck → Result Piece Stop → Type 0
-LeadsOn files name from most check (Ok Part) = StandsAt files name (from + most) check
-LeadsOn files name from most check (Ok End) = HasEndedBelow files name (from + most) check
-LeadsOn files name from most check (Err stop) = ⊤
+abbrev pub LeadsOn : Option (List ℕ → Option (List ℕ)) → List Handed → List Handed → List ℕ → ℕ → ℕ → LogCheck → Result Piece Stop → Type 0
+LeadsOn files old new name from most check (Ok Part) = StandsAt files old new name (from + most) check
+LeadsOn files old new name from most check (Ok End) = HasEndedBelow files old new name (from + most) check
+LeadsOn files old new name from most check (Err stop) = WasStopped files old new name
 
 -- the log under the name is too long
-abbrev pub IsLogLong : Option (List ℕ → Option (List ℕ)) → List ℕ → Type 0
-IsLogLong files name = (log : List ℕ) × IsHeld files name log × (most_log < length log)
+abbrev pub IsLogLong : Option (List ℕ → Option (List ℕ)) → List Handed → List Handed → List ℕ → Type 0
+IsLogLong files old new name = (log : List ℕ) × AreBytesOf files old new name log × (most_log < length log)
 
 -- where the whole log leads: a part of it is left where it is too long
-abbrev pub LeadsToEnd : Option (List ℕ → Option (List ℕ)) → List ℕ → LogCheck → Result Piece Stop → Type 0
-LeadsToEnd files name check (Ok Part) = IsLogLong files name
-LeadsToEnd files name check (Ok End) = HasEndedBelow files name (most_log + 1) check
-LeadsToEnd files name check (Err stop) = ⊤
+abbrev pub LeadsToEnd : Place → Place → List ℕ → LogCheck → Result Piece Stop → Type 0
+LeadsToEnd old new name check (Ok Part) = IsLogLong old.held old.handed new.handed name
+LeadsToEnd old new name check (Ok End) = HasEndedBelow old.held old.handed new.handed name (most_log + 1) check
+LeadsToEnd old new name check (Err stop) = WasStopped old.held old.handed new.handed name
 
 -- what is found of the log's entries for this problem, with the log's steps, deletions left out
 pub record IsKeptFor (problem : Contents) (log : List ℕ) (checked : Checked) : Type 0 where
@@ -82,14 +94,9 @@ pub record IsKeptFor (problem : Contents) (log : List ℕ) (checked : Checked) :
   pub found : IsFindingOf (csp_of problem) entries checked.finding
   pub steps : checked.steps ≡ steps_of entries
 
--- what checking the log for this problem comes to where its steps are kept, faults and want of memory aside
-abbrev pub IsOutcomeWithSteps : Contents → List ℕ → Result Checked CommandError → Type 0
-IsOutcomeWithSteps problem log (Ok checked) = IsKeptFor problem log checked
-IsOutcomeWithSteps problem log (Err error) = IsOutcomeOfLog problem log (Err error)
-
--- the same of the log under the name
-abbrev pub IsLogKept : Option (List ℕ → Option (List ℕ)) → List ℕ → Contents → Result Checked CommandError → Type 0
-IsLogKept files name problem result = (log : List ℕ) × IsHeld files name log × IsOutcomeWithSteps problem log result
+-- a log of either version, of which it is found what it is for the problem, and whose steps are kept
+abbrev pub kept_log : Contents → Kind
+kept_log problem = record { Value = Checked; Is = IsKeptFor problem; Refuses = IsErrorOfEntries }
 
 -- this holds unless a fault stopped it
 abbrev pub UnlessFaulted : {T : Type 0} → Result T Stop → Type 0 → Type 0

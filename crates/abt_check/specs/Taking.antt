@@ -4,16 +4,20 @@ use Rattle.dcsp_problem.specs.declared.problem.Problem.{Problem}
 use Rattle.dcsp_problem.specs.Problems.{Contents}
 use Rattle.dcsp_problem.specs.Rules.{IsAimOf}
 use Rattle.dcsp_problem.specs.Aims.{aimed_at, narrowed}
-use Rattle.abt_promise.specs.Promises.{IsHeld}
 use Rattle.abt_input.specs.Inputs.{IsModelOf}
 use Rattle.abt_input.specs.Errors.{IsErrorOfModel}
+use Rattle.abt_input.specs.Kinds.{Kind}
 use Rattle.abt_input.specs.declared.error.CommandError.{CommandError}
-use Rattle.abt_input.specs.declared.error.CommandError.TheVariants.{NoAim, Fault, Memory}
+use Rattle.abt_input.specs.declared.error.CommandError.TheVariants.{NoAim, Memory}
 
 -- how a check takes a model: which problem it is of, and why it is refused
 pub record Taking : Type 1 where
   pub Is : List ℕ → Contents → Type 0
   pub Refuses : List ℕ → CommandError → Type 0
+
+-- a model of which a problem is taken so
+abbrev pub model_by : Taking → Kind
+model_by t = record { Value = Contents; Is = t.Is; Refuses = t.Refuses }
 
 -- the model's own problem
 abbrev pub plain : Taking
@@ -64,14 +68,3 @@ LeavesBounded better whole (Err error) = ⊥
 -- the model has a problem for the check
 abbrev pub HasProblemFor : Taking → List ℕ → Type 0
 HasProblemFor t model = (problem : Contents) × t.Is model problem
-
--- taking this model gives the problem, or exactly why there is none, faults and want of memory aside
-abbrev pub IsTakenOf : Taking → List ℕ → Result Problem CommandError → Type 0
-IsTakenOf t model (Ok problem) = t.Is model problem
-IsTakenOf t model (Err Fault) = ⊤
-IsTakenOf t model (Err Memory) = ⊤
-IsTakenOf t model (Err error) = t.Refuses model error
-
--- the same of the bytes under the name
-abbrev pub IsTaken : Taking → Option (List ℕ → Option (List ℕ)) → List ℕ → Result Problem CommandError → Type 0
-IsTaken t files name result = (model : List ℕ) × IsHeld files name model × IsTakenOf t model result

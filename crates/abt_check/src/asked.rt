@@ -1,9 +1,8 @@
 //! The problem that a log is checked against.
 
 ghost use Rattle.std.specs.Prelude.{◌≡◌, Err};
-ghost use Rattle.dcsp_outside.specs.Outside.{Place, Rose, SameCounts};
-ghost use Rattle.abt_input.specs.Files.{UnlessFault};
-ghost use Rattle.abt_check.specs.Taking.{taking_of, IsTaken, LeavesBounded};
+ghost use Rattle.abt_input.specs.Files.{HasRead};
+ghost use Rattle.abt_check.specs.Taking.{taking_of, model_by, LeavesBounded};
 
 use abt_input::{CommandError, read_model};
 use dcsp_outside::Folder;
@@ -20,11 +19,7 @@ pub fn take_problem<F: Folder>(
     model: &str,
     better: Option<i64>,
 ) -> Result<Problem, CommandError>
-    ensures taken { IsTaken (taking_of better) (F.place folder.old).held model.now result }
-    ensures held { (F.place folder.new).held ≡ (F.place folder.old).held }
-    ensures created { (F.place folder.new).created ≡ (F.place folder.old).created }
-    ensures counts { UnlessFault result (SameCounts (F.place folder.old) (F.place folder.new)) }
-    ensures fault { result ≡ Err CommandError.Fault → Rose ((F.place folder.old).reads model.now) ((F.place folder.new).reads model.now) }
+    ensures { HasRead (model_by (taking_of better)) model.now (F.place folder.old) (F.place folder.new) result }
 {
     let problem = read_model(alloc, folder, model)?;
     bounded(problem, better)

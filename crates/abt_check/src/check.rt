@@ -1,14 +1,13 @@
 //! Checking a log against a model.
 
-ghost use Rattle.std.specs.Prelude.{◌≡◌, [], ◌∷◌, Ok, Err, IfOk};
-ghost use Rattle.dcsp_outside.specs.Outside.{Place, SameCounts};
+ghost use Rattle.std.specs.Prelude.{◌≡◌, [], ◌∷◌, Ok, IfOk};
+ghost use Rattle.dcsp_outside.specs.Outside.{Place};
 ghost use Rattle.dcsp_script.specs.Scripts.{Put, outside};
 ghost use Rattle.dcsp_script.specs.Ways.{Wrote};
 ghost use Rattle.abt_promise.specs.Runs.{CameIn};
 ghost use Rattle.abt_input.specs.Errors.{way_of};
-ghost use Rattle.abt_input.specs.Files.{UnlessFault};
 ghost use Rattle.abt_input.specs.Replies.{reply_bytes};
-ghost use Rattle.abt_check.specs.Checks.{IsFoundIn, FetchesFailed, IsRefutedBy, finding_status, finding_text};
+ghost use Rattle.abt_check.specs.Checks.{IsRefutedBy, finding_status, finding_text};
 ghost use Rattle.abt_check.specs.Taking.{taking_of};
 ghost use Rattle.abt_check.specs.CheckReports.{check_promise};
 
@@ -30,20 +29,6 @@ pub struct Check<'w> {
     pub log: &'w str,
     /// The value at the model's aim than which no solution is to have a better one, where one is given.
     pub better: Option<i64>,
-}
-
-/// What is found of the log's entries for the problem that is taken of the model. The model is read first.
-fn find<F: Folder>(alloc: Global, folder: &mut F, line: Check<'_>) -> Result<Finding, CommandError>
-    ensures found { IsFoundIn (taking_of line.entry.better) (F.place folder.old).held line.entry.model.now line.entry.log.now result }
-    ensures verified { result ≡ Ok Finding.Verified → IsRefutedBy (taking_of line.entry.better) (F.place folder.old).held line.entry.model.now }
-    ensures held { (F.place folder.new).held ≡ (F.place folder.old).held }
-    ensures created { (F.place folder.new).created ≡ (F.place folder.old).created }
-    ensures counts { UnlessFault result (SameCounts (F.place folder.old) (F.place folder.new)) }
-    ensures fault { result ≡ Err CommandError.Fault
-        → FetchesFailed (taking_of line.entry.better) line.entry.model.now line.entry.log.now (F.place folder.old) (F.place folder.new) }
-{
-    let problem = take_problem(alloc, folder, line.model, line.better)?;
-    check_log(alloc, folder, &problem, line.log)
 }
 
 /// The status of a finding.
@@ -89,7 +74,8 @@ pub fn run_check<F: Folder, S: Sink>(
         (outside (F.place folder.new) (S.stream out.new)) (way_of result) }
     ensures verified { result ≡ Ok Status.Good → IsRefutedBy (taking_of line.entry.better) (F.place folder.old).held line.entry.model.now }
 {
-    let finding = find(alloc, folder, line)?;
+    let problem = take_problem(alloc, folder, line.model, line.better)?;
+    let finding = check_log(alloc, folder, &problem, line.log)?;
     tell(alloc, finding, out)?;
     Ok(finding_status(finding))
 }

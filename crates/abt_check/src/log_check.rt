@@ -6,7 +6,8 @@ ghost use Rattle.dcsp_problem.specs.Problems.{csp_of};
 ghost use Rattle.ngd_log.specs.Lent.{lent_entries};
 ghost use Rattle.ngd_check.specs.Entries.{steps_of};
 ghost use Rattle.abt_input.specs.Inputs.{most_log};
-ghost use Rattle.abt_check.specs.Checks.{IsOutcomeOfLog};
+ghost use Rattle.abt_input.specs.Kinds.{ReadsAs};
+ghost use Rattle.abt_check.specs.Checks.{log_for};
 ghost use Rattle.abt_check.specs.LogChecks.{HasSameTask, HasGoneOn, HasCome};
 
 use abt_input::CommandError;
@@ -104,7 +105,7 @@ impl<'p> LogCheck<'p> {
 
     /// What is found of the log that has come.
     pub fn finding(&self) -> Result<Finding, CommandError>
-        ensures found { (log : List ℕ) → HasCome self.now log → length log ≤ most_log → IsOutcomeOfLog self.now.checker.problem log result }
+        ensures found { (log : List ℕ) → HasCome self.now log → length log ≤ most_log → ReadsAs (log_for self.now.checker.problem) log result }
         ensures sound { (log : List ℕ) → HasCome self.now log → result ≡ Ok Finding.Verified → HasNoSolution (csp_of self.now.checker.problem) }
         ensures no_fault { result ≡ Err CommandError.Fault → ⊥ }
     {

@@ -1,13 +1,14 @@
 //! Checking the log under a name, piece by piece.
 
-ghost use Rattle.std.specs.Prelude.{◌≡◌, ◌+◌, ◌^◌, ◌≤◌, [], OnOk, Ok, Err};
+ghost use Rattle.std.specs.Prelude.{◌≡◌, ◌+◌, ◌^◌, ◌≤◌, [], List, OnOk, Ok, Err};
+ghost use Rattle.dcsp_outside.specs.Handed.{Handed};
 ghost use Rattle.dcsp_outside.specs.Outside.{Rose, SameCounts};
 ghost use Rattle.dcsp_script.specs.declared.stop.Stop.{Stop as AStop};
 ghost use Rattle.dcsp_defs.specs.Csp.{HasNoSolution};
 ghost use Rattle.dcsp_problem.specs.Problems.{csp_of};
-ghost use Rattle.abt_input.specs.Files.{UnlessFault};
-ghost use Rattle.abt_check.specs.Checks.{IsOutcomeOfLog, IsLogFound};
-ghost use Rattle.abt_check.specs.LogChecks.{HasSameTask, HasCome, StandsAt, LeadsOn, LeadsToEnd, IsLogKept, UnlessFaulted};
+ghost use Rattle.abt_input.specs.Files.{HasRead};
+ghost use Rattle.abt_check.specs.Checks.{log_for};
+ghost use Rattle.abt_check.specs.LogChecks.{HasSameTask, HasCome, StandsAt, LeadsOn, LeadsToEnd, UnlessFaulted, kept_log};
 
 use crate::log_check::{Checked, LogCheck};
 use abt_input::CommandError;
@@ -31,8 +32,9 @@ fn check_piece<F: Folder>(
     requires some { 1 ≤ most }
     requires few { most ≤ MOST_PIECE }
     requires place { from ≤ 2 ^ 62 }
-    requires stands { StandsAt (F.place folder.old).held name.now from check.old }
-    ensures leads { LeadsOn (F.place folder.old).held name.now from most check.new result }
+    requires stands { (start : List Handed) × StandsAt (F.place folder.old).held start (F.place folder.old).handed name.now from check.old }
+    ensures leads { (start : List Handed) → StandsAt (F.place folder.old).held start (F.place folder.old).handed name.now from check.old
+        → LeadsOn (F.place folder.old).held start (F.place folder.new).handed name.now from most check.new result }
     ensures task { OnOk result (HasSameTask check.old check.new) }
     ensures held { (F.place folder.new).held ≡ (F.place folder.old).held }
     ensures created { (F.place folder.new).created ≡ (F.place folder.old).created }
@@ -55,7 +57,7 @@ fn check_piece<F: Folder>(
 /// 2^62 bytes, and `End` where all of them have come.
 fn check_pieces<F: Folder>(folder: &mut F, name: &str, check: &mut LogCheck) -> Result<Piece, Stop>
     requires { HasCome check.old [] }
-    ensures leads { LeadsToEnd (F.place folder.old).held name.now check.new result }
+    ensures leads { LeadsToEnd (F.place folder.old) (F.place folder.new) name.now check.new result }
     ensures task { OnOk result (HasSameTask check.old check.new) }
     ensures held { (F.place folder.new).held ≡ (F.place folder.old).held }
     ensures created { (F.place folder.new).created ≡ (F.place folder.old).created }
@@ -80,12 +82,8 @@ pub fn check_log<F: Folder>(
     problem: &Problem,
     log: &str,
 ) -> Result<Finding, CommandError>
-    ensures found { IsLogFound (F.place folder.old).held log.now problem.now result }
+    ensures found { HasRead (log_for problem.now) log.now (F.place folder.old) (F.place folder.new) result }
     ensures sound { result ≡ Ok Finding.Verified → HasNoSolution (csp_of problem.now) }
-    ensures held { (F.place folder.new).held ≡ (F.place folder.old).held }
-    ensures created { (F.place folder.new).created ≡ (F.place folder.old).created }
-    ensures counts { UnlessFault result (SameCounts (F.place folder.old) (F.place folder.new)) }
-    ensures fault { result ≡ Err CommandError.Fault → Rose ((F.place folder.old).reads log.now) ((F.place folder.new).reads log.now) }
 {
     let mut check = LogCheck::new(alloc, problem, false);
     match check_pieces(folder, log, &mut check)? {
@@ -101,11 +99,7 @@ pub fn check_and_keep<F: Folder>(
     problem: &Problem,
     log: &str,
 ) -> Result<Checked, CommandError>
-    ensures found { IsLogKept (F.place folder.old).held log.now problem.now result }
-    ensures held { (F.place folder.new).held ≡ (F.place folder.old).held }
-    ensures created { (F.place folder.new).created ≡ (F.place folder.old).created }
-    ensures counts { UnlessFault result (SameCounts (F.place folder.old) (F.place folder.new)) }
-    ensures fault { result ≡ Err CommandError.Fault → Rose ((F.place folder.old).reads log.now) ((F.place folder.new).reads log.now) }
+    ensures { HasRead (kept_log problem.now) log.now (F.place folder.old) (F.place folder.new) result }
 {
     let mut check = LogCheck::new(alloc, problem, true);
     match check_pieces(folder, log, &mut check)? {

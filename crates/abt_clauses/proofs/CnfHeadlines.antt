@@ -32,12 +32,12 @@ use Rattle.abt_run.specs.Endings.{assigned, final_values, end_status}
 use Rattle.abt_run.proofs.Verdicts as verdicts
 use Rattle.abt_run.proofs.Verdicts.{solve_unfinished}
 use Rattle.abt_clauses.specs.Satisfying.{clauses_of, step_clause, truths}
-use Rattle.abt_clauses.specs.RupPromise.{rup_report, RupReport, checked}
+use Rattle.abt_clauses.specs.RupPromise.{rup_report, RupReport}
 use Rattle.abt_clauses.specs.CnfRuns.{log_name, cnf_asked, cnf_run, value_literal, value_literals}
 use Rattle.abt_clauses.specs.CnfHeadline.{printed_literals, written_clauses, written_text, IsSatisfiedBy, IsCnfRun, HoldsCnfRun}
 use Rattle.abt_clauses.proofs.Satisfying.{variable_true, negation_true, formula_rules, solutions_satisfy, is_refuted}
 use Rattle.abt_clauses.proofs.Domains.{formula_binary}
-use Rattle.abt_clauses.proofs.Lawful.{one_rup}
+use Rattle.abt_clauses.proofs.Lawful.{only_report}
 use Rattle.abt_clauses.proofs.CnfOutcomes.{right_steps}
 use Rattle.abt_clauses.proofs.CnfTexts.{text_read}
 use Rattle.abt_clauses.proofs.Accepting.{IsOfScope, plain_one, negated_one, literal_of_scope, accepted}
@@ -128,7 +128,7 @@ module _ (text : List ℕ) (p : Contents) (seed : ℕ) (formula : IsFormulaOf te
   verified says few report r =
       let b = formula_binary text p formula in
       let read : HasClauses (written_text p seed) (written_clauses p seed) = text_read p b.0 b.1 (cnf_run p seed).net.steps (right_steps p seed ok) few in
-      one_rup text (written_text p seed) report (rup_report Verified) r (checked p (written_clauses p seed) Verified formula read (is_accepted says) refl)
+      only_report text (written_text p seed) p (written_clauses p seed) Verified formula read (is_accepted says) report r
 
   pub is_cnf_run : IsCnfRun text p seed status
   is_cnf_run =

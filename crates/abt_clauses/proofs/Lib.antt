@@ -1,13 +1,10 @@
 pub mod Satisfying
 pub mod Answers
-pub mod Coming
-pub mod Rups
 pub mod Lawful
 pub mod Domains
 pub mod Steps
 pub mod Accepting
 pub mod CnfOutcomes
-pub mod Cnfs
 pub mod CnfLawful
 pub mod Printed
 pub mod Held

@@ -7,9 +7,8 @@ use Rattle.dcsp_problem.specs.Problems.{Contents}
 use Rattle.dcsp_script.specs.Scripts.{Write, Create, Append, Put}
 use Rattle.rup_check.specs.ProofText.{clause_line}
 use Rattle.abt_defs.specs.Runs.{Run, End, Refuted, Solved, Capped, Spent}
-use Rattle.abt_promise.specs.Promises.{Report, answered}
 use Rattle.abt_run.specs.Asked.{Asked, asked_run, solve}
-use Rattle.abt_run.specs.Endings.{final_values, end_status}
+use Rattle.abt_run.specs.Endings.{final_values}
 use Rattle.abt_clauses.specs.Satisfying.{step_clause}
 
 -- the name of the run's log, in a folder of its own
@@ -69,7 +68,3 @@ cnf_text p run = verdict_text (final_values p run) run.end ++ deliveries_text ru
 -- a refutation is written first, and the answer is put last
 abbrev pub cnf_script : Contents → List ℕ → Run → List Write
 cnf_script p proof run = proof_script proof (refutation_at run.end run.net.steps) ++ Put (cnf_text p run) ∷ []
-
--- what is reported of the run
-abbrev pub cnf_report : Contents → List ℕ → Run → Report
-cnf_report p proof run = answered (end_status run.end) (cnf_script p proof run)

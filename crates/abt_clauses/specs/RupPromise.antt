@@ -11,10 +11,10 @@ use Rattle.rup_check.specs.declared.check.Rup.{Rup}
 use Rattle.rup_check.specs.declared.check.Rup.TheVariants.{Verified, BadClause, NotEmpty}
 use Rattle.abt_promise.specs.declared.status.Status.{Status}
 use Rattle.abt_promise.specs.declared.status.Status.TheVariants.{Good, No}
-use Rattle.abt_promise.specs.Promises.{Report, Promise, answered, refused}
-use Rattle.abt_input.specs.declared.error.CommandError.{CommandError}
-use Rattle.abt_input.specs.Inputs.{IsFormulaOf, HasFormula, HasClauses}
-use Rattle.abt_input.specs.Errors.{IsErrorOfCnf, IsErrorOfProof, error_status, error_text}
+use Rattle.abt_promise.specs.Promises.{Report, Promise, answered}
+use Rattle.abt_input.specs.Inputs.{IsFormulaOf, HasClauses}
+use Rattle.abt_input.specs.Kinds.{a_formula, a_proof}
+use Rattle.abt_input.specs.Plans.{Plan, Answer, Read, Find, PlanReports, promise_by}
 use Rattle.abt_clauses.specs.Satisfying.{clauses_of}
 
 -- the status of an answer
@@ -33,31 +33,17 @@ rup_text NotEmpty = codes "rejected not empty\n"
 abbrev pub rup_report : Rup → Report
 rup_report answer = answered (rup_status answer) (Put (rup_text answer) ∷ [])
 
--- its report of the bytes of a formula and a proof: the formula is refused; or it has a problem and the proof is refused; or the answer on the proof's clauses is told
-pub data RupReport (cnf proof : List ℕ) (report : Report) : Type 0 where
-  bad_cnf : (error : CommandError) → IsErrorOfCnf cnf error → report ≡ refused (error_status error) (error_text error) → RupReport cnf proof report
-  bad_proof : (error : CommandError) → HasFormula cnf → IsErrorOfProof proof error → report ≡ refused (error_status error) (error_text error) → RupReport cnf proof report
-  checked : (problem : Contents) (clauses : List (List ℤ)) (answer : Rup) → IsFormulaOf cnf problem → HasClauses proof clauses → IsVerdict neg_ℤ (clauses_of problem) clauses answer → report ≡ rup_report answer → RupReport cnf proof report
+-- the formula is read, and then the proof, and the answer on its clauses is told
+abbrev pub rup_plan : Plan
+rup_plan = Read a_formula (λ problem. Read a_proof (λ clauses. Find Rup (IsVerdict neg_ℤ (clauses_of problem) clauses) (λ answer. Answer (rup_status answer) (Put (rup_text answer) ∷ []))))
 
--- its report of the bytes that it fetches
-abbrev pub RupReports : List (List ℕ) → Report → Type 0
-RupReports (cnf ∷ proof ∷ []) report = RupReport cnf proof report
-RupReports inputs report = ⊥
-
--- the formula is fetched first, and the proof where the formula has a problem
-abbrev pub RupFetches : List ℕ → List ℕ → List (List ℕ) → List ℕ → Type 0
-RupFetches cnf_name proof_name [] name = name ≡ cnf_name
-RupFetches cnf_name proof_name (cnf ∷ []) name = (name ≡ proof_name) × HasFormula cnf
-RupFetches cnf_name proof_name inputs name = ⊥
+-- its report of the bytes of a formula and a proof
+abbrev pub RupReport : List ℕ → List ℕ → Report → Type 0
+RupReport cnf proof report = PlanReports rup_plan (cnf ∷ proof ∷ []) report
 
 -- the line's promise
 abbrev pub rup_promise : List ℕ → List ℕ → Promise
-rup_promise cnf_name proof_name = record {
-  fetched = cnf_name ∷ proof_name ∷ [];
-  created = [];
-  Fetches = RupFetches cnf_name proof_name;
-  Reports = RupReports;
-}
+rup_promise cnf proof = promise_by (cnf ∷ proof ∷ []) [] rup_plan
 
 -- no assignment satisfies the clauses of the problem, and it has no solution
 pub record IsRefuted (problem : Contents) : Type 0 where

@@ -1,5 +1,5 @@
 -- What a run that the words ask for left, sentence by sentence.
-use Rattle.std.proofs.Common.{◌≡◌, ◌≢◌, ◌≤◌, ◌^◌, arith, ℕ, List, [], ◌∷◌, Option, Some, None, refl, sym, subst}
+use Rattle.std.proofs.Common.{◌≡◌, ◌≢◌, ◌≤◌, ◌^◌, arith, ℕ, List, [], ◌∷◌, Option, Some, None, refl, sym, subst, inr}
 use Rattle.std.specs.Prelude.{Bool, IfSome, option_to_list}
 use Rattle.dcsp_outside.specs.Outside.{Stream, Told, bytes_of}
 use Rattle.dcsp_script.specs.Scripts.{World}
@@ -19,11 +19,11 @@ use Rattle.abt_check.specs.Verifying.{IsVerified}
 use Rattle.abt_check.proofs.Verifying.{refutation_verified}
 use Rattle.abt_run.specs.Endings.{assigned, final_values, end_status}
 use Rattle.abt_run.specs.Asked.{Asked, asked_run, asked_script, run_report, replay, solve}
-use Rattle.abt_run.specs.ReplayPromise.{replay_promise, replayed}
-use Rattle.abt_best.specs.SolvePromise.{solve_promise, ran}
+use Rattle.abt_run.specs.ReplayPromise.{replay_promise}
+use Rattle.abt_best.specs.SolvePromise.{solve_promise}
 use Rattle.abt_run.specs.Headline.{HoldsProblem, IsOther, HoldsRun, IsRun, IsSolvedRun, IsRefutedRun, IsUnfinishedRun, IsBoundedRun, WritesOrdered}
 use Rattle.abt_run.proofs.Lawful.{no_refusal, replay_lawful}
-use Rattle.abt_best.proofs.Lawful.{solve_lawful}
+use Rattle.abt_best.proofs.Lawful.{solve_lawful, reports_run}
 use Rattle.abt_run.proofs.Headlines.{HasOwnRecord, is_run, part_ordered}
 use Rattle.abt_run.proofs.Verdicts.{solved, refuted, bounded, replay_unfinished, solve_unfinished, refuted_log}
 use Rattle.law_meaning.specs.Meaning.{SatisfiesText}
@@ -80,12 +80,12 @@ module _ (words : List (List ℕ)) (line : Line) (is : IsLine words line) (a b :
   module _ (files : List ℕ → Option (List ℕ)) (told : a.folder.held ≡ Some files) where
     -- with a final status the run's whole script was made, and with any a part of it
     did_run : (asked : Asked) → AsksFor words files asked → IsFinal status → (status ≡ end_status (asked_run asked).end) × Did (asked_script asked) a b
-    did_run asked (replays m s l t h p mp cs hc e) f = subst (λ x. (status ≡ end_status (asked_run x).end) × Did (asked_script x) a b) (sym e) (report_did (replay_promise m s l t) (replay_lawful m s l t) a b err now files told (run_report (replay p cs l t)) (replayed p cs mp hc refl) status (as_line (Replay m s l t) h) f)
-    did_run asked (solves m l n k t h p mp aim e) f = subst (λ x. (status ≡ end_status (asked_run x).end) × Did (asked_script x) a b) (sym e) (report_did (solve_promise m l n k t) (solve_lawful m l n k t) a b err now files told (run_report (solve p n l k t)) (ran p mp aim refl) status (as_line (Solve m l n k t) h) f)
+    did_run asked (replays m s l t h p mp cs hc e) f = subst (λ x. (status ≡ end_status (asked_run x).end) × Did (asked_script x) a b) (sym e) (report_did (replay_promise m s l t) (replay_lawful m s l t) a b err now files told (run_report (replay p cs l t)) (inr (p, mp, inr (cs, hc, refl))) status (as_line (Replay m s l t) h) f)
+    did_run asked (solves m l n k t h p mp aim e) f = subst (λ x. (status ≡ end_status (asked_run x).end) × Did (asked_script x) a b) (sym e) (report_did (solve_promise m l n k t) (solve_lawful m l n k t) a b err now files told (run_report (solve p n l k t)) (reports_run p l n k t (bytes_of (files m)) mp aim) status (as_line (Solve m l n k t) h) f)
 
     made_part : (asked : Asked) → AsksFor words files asked → DidPartOf (asked_script asked) a b
-    made_part asked (replays m s l t h p mp cs hc e) = subst (λ x. DidPartOf (asked_script x) a b) (sym e) (report_part (replay_promise m s l t) (replay_lawful m s l t) a b err now files told (run_report (replay p cs l t)) (replayed p cs mp hc refl) status (as_line (Replay m s l t) h))
-    made_part asked (solves m l n k t h p mp aim e) = subst (λ x. DidPartOf (asked_script x) a b) (sym e) (report_part (solve_promise m l n k t) (solve_lawful m l n k t) a b err now files told (run_report (solve p n l k t)) (ran p mp aim refl) status (as_line (Solve m l n k t) h))
+    made_part asked (replays m s l t h p mp cs hc e) = subst (λ x. DidPartOf (asked_script x) a b) (sym e) (report_part (replay_promise m s l t) (replay_lawful m s l t) a b err now files told (run_report (replay p cs l t)) (inr (p, mp, inr (cs, hc, refl))) status (as_line (Replay m s l t) h))
+    made_part asked (solves m l n k t h p mp aim e) = subst (λ x. DidPartOf (asked_script x) a b) (sym e) (report_part (solve_promise m l n k t) (solve_lawful m l n k t) a b err now files told (run_report (solve p n l k t)) (reports_run p l n k t (bytes_of (files m)) mp aim) status (as_line (Solve m l n k t) h))
 
     own : (asked : Asked) → AsksFor words files asked → HasOwnRecord asked
     own asked (replays m s l t h p mp cs hc e) = rw e tt

@@ -32,9 +32,9 @@ use Rattle.abt_optimum.specs.Best.{aim_value}
 use Rattle.abt_best.specs.Searching.{AskedSearch, round_count, session_after, last_run}
 use Rattle.abt_best.specs.BestAnswers.{search_status}
 use Rattle.abt_best.specs.SearchScripts.{search_script, search_report}
-use Rattle.abt_best.specs.SolvePromise.{solve_promise, searched, HoldsWholeProblem}
+use Rattle.abt_best.specs.SolvePromise.{solve_promise, HoldsWholeProblem}
 use Rattle.abt_best.specs.BestHeadline.{HoldsSearch, IsSearched, PrintsBest, IsBestSearch, IsRefutedSearch, IsUnfinishedSearch, IsBoundedSearch, SearchOrdered}
-use Rattle.abt_best.proofs.Lawful.{solve_lawful, no_refusal_best}
+use Rattle.abt_best.proofs.Lawful.{solve_lawful, no_refusal_best, reports_search}
 use Rattle.abt_best.proofs.Headlines.{OwnsRecord, is_searched, part_ordered}
 use Rattle.abt_best.proofs.Searches.{is_csp_after}
 use Rattle.abt_best.proofs.Verdicts.{is_best, is_refuted, is_unfinished, is_bounded}
@@ -111,10 +111,10 @@ module _ (words : List (List ℕ)) (line : Line) (is : IsLine words line) (a b :
     line_did = subst (λ x. Ran (promise_of x) a b err now status) same_line line_ran
 
     did_search : IsFinal status → (status ≡ search_status asked) × Did (search_script asked) a b
-    did_search f = report_did (solve_promise asks.model asked.log asked.seed asked.kept asked.trace) (solve_lawful asks.model asked.log asked.seed asked.kept asked.trace) a b err now files told (search_report asked) (searched asked.problem asks.model_is asks.aims refl) status line_did f
+    did_search f = report_did (solve_promise asks.model asked.log asked.seed asked.kept asked.trace) (solve_lawful asks.model asked.log asked.seed asked.kept asked.trace) a b err now files told (search_report asked) (reports_search asked.problem asked.log asked.seed asked.kept asked.trace (bytes_of (files asks.model)) asks.model_is asks.aims) status line_did f
 
     made_part : DidPartOf (search_script asked) a b
-    made_part = report_part (solve_promise asks.model asked.log asked.seed asked.kept asked.trace) (solve_lawful asks.model asked.log asked.seed asked.kept asked.trace) a b err now files told (search_report asked) (searched asked.problem asks.model_is asks.aims refl) status line_did
+    made_part = report_part (solve_promise asks.model asked.log asked.seed asked.kept asked.trace) (solve_lawful asks.model asked.log asked.seed asked.kept asked.trace) a b err now files told (search_report asked) (reports_search asked.problem asked.log asked.seed asked.kept asked.trace (bytes_of (files asks.model)) asks.model_is asks.aims) status line_did
 
     own : OwnsRecord asked
     own = own_record asks.model asked.log asked.kept asks.line_is.names

@@ -28,7 +28,7 @@ use abt_best::run_solve;
 use abt_check::run_check;
 use abt_clauses::{run_cnf, run_rup};
 use abt_drill::run_drill;
-use abt_input::{CommandError, error_reply, error_status};
+use abt_input::{CommandError, error_line, error_status};
 use abt_logs::{run_core, run_upgrade};
 use abt_losses::run_lossy;
 use abt_models::{print, run_bound, run_colouring, run_queens};
@@ -38,23 +38,21 @@ use abt_starve::run_starve;
 use dcsp_outside::{Folder, Sink};
 use std::alloc::Global;
 
-/// Puts the error's line on `err`. Where memory is wanted for it, nothing is put.
-fn explain<S: Sink>(alloc: Global, error: CommandError, err: &mut S)
+/// Puts the error's line on `err`.
+fn explain<S: Sink>(error: CommandError, err: &mut S)
     ensures { IsSaid (error_text error) (S.stream err.old) (S.stream err.new) }
 {
-    if let Ok(reply) = error_reply(alloc, error) {
-        say(err, reply.bytes());
-    }
+    say(err, error_line(error).bytes());
 }
 
 /// The status of what a line came to. What stopped it, or refused its input, is said on `err`.
-fn conclude<S: Sink>(alloc: Global, came: Result<Status, CommandError>, err: &mut S) -> Status
+fn conclude<S: Sink>(came: Result<Status, CommandError>, err: &mut S) -> Status
     ensures { Concludes (way_of came) (S.stream err.old) (S.stream err.new) result }
 {
     match came {
         Ok(status) => status,
         Err(error) => {
-            explain(alloc, error, err);
+            explain(error, err);
             error_status(error)
         }
     }
@@ -110,7 +108,7 @@ fn run_order<F: Folder, S: Sink>(
         → Means (line_of order.entry) (outside (F.place folder.old) (S.stream out.old)) (outside (F.place folder.new) (S.stream out.new)) result }
 {
     let came = run_line(alloc, order, folder, out);
-    conclude(alloc, came, err)
+    conclude(came, err)
 }
 
 /// A law of the lines: a list of words is at most one line, and each line's promise has one report

@@ -1,17 +1,11 @@
 -- What is told of three runs is what the drill says.
 use Rattle.std.proofs.Common.{◌≡◌, ℕ, Bool, true, false, ◌||◌, List, [], ◌∷◌, ◌++◌, length, codes, decimal, Result, Ok, Err, refl, sym, ap, subst, ◌∙◌, inl, inr}
-use Rattle.std.specs.Prelude.{IsErr, IsErrAnd, IsOk, IfOk, if◌then◌else◌}
+use Rattle.std.specs.Prelude.{IsOk, IfOk, if◌then◌else◌}
 use Rattle.std.specs.declared.vec.Vec.{Vec}
 use Rattle.std.specs.declared.alloc.Global.{Global}
 use Rattle.dcsp_list.specs.declared.Memory.{Memory}
-use Rattle.dcsp_outside.specs.Outside.{Place, Stream}
 use Rattle.dcsp_defs.specs.Csp.{Csp}
 use Rattle.dcsp_problem.specs.Problems.{Contents, csp_of}
-use Rattle.dcsp_script.specs.declared.stop.Stop.{Stop}
-use Rattle.dcsp_script.specs.declared.stop.Stop.TheVariants as stops
-use Rattle.dcsp_script.specs.Scripts.{Put, World}
-use Rattle.dcsp_script.specs.Ways.{Wrote}
-use Rattle.dcsp_script.proofs.Ways.{did_nothing}
 use Rattle.abt_defs.specs.Network.{Network}
 use Rattle.abt_defs.specs.Runs as runs
 use Rattle.ngd_log.specs.Logs.{log_text}
@@ -23,18 +17,11 @@ use Rattle.abt_session.specs.declared.outcome.End.{End}
 use Rattle.abt_session.specs.declared.outcome.End.TheVariants.{Solved, Refuted, Spent, Capped}
 use Rattle.abt_session.specs.declared.outcome.Outcome.{Outcome}
 use Rattle.abt_promise.specs.declared.status.Status.{Status}
-use Rattle.abt_promise.specs.declared.status.Status.TheVariants.{Good, Unfinished}
-use Rattle.abt_promise.specs.Statuses.{IsFinal}
-use Rattle.abt_promise.specs.Runs.{CameIn, Answered, Stopped}
-use Rattle.abt_promise.proofs.Coming.{way_with, came_wrote}
-use Rattle.abt_input.specs.declared.error.CommandError.{CommandError}
-use Rattle.abt_input.specs.Errors.{stop_error, way_of}
 use Rattle.abt_input.specs.Inputs.{IsModelOf}
-use Rattle.abt_check.specs.Checks.{IsFound, finding_text}
+use Rattle.abt_check.specs.Checks.{IsFoundFor, finding_text}
 use Rattle.abt_run.specs.Asked.{seeded_session}
 use Rattle.abt_drill.specs.Drills.{Drill, log_name, run_from, end_word, run_text, lines_of, drill_text, is_unfinished, status_of, drill_status}
 use Rattle.abt_drill.specs.Outcomes.{outcome_word, outcome_text, is_open_end, told_text, told_status}
-use Rattle.abt_drill.specs.DrillPromise.{drill_promise}
 
 -- ---- one run
 
@@ -71,7 +58,7 @@ put_together sparse queens pigeons steps finding =
 
 module _ (seed : ℕ) (sparse queens pigeons : Contents) (a b c : Outcome) (finding : Finding)
     (sparse_is : IsModelOf (sparse_text 500 (word_at (generator_of seed))) sparse) (queens_is : IsModelOf (queens_text 6) queens) (pigeons_is : IsModelOf (pigeons_text 5) pigeons)
-    (found : IsFound (pigeons_text 5) (log_text (run_from pigeons seed).net.steps) finding)
+    (found : IsFoundFor pigeons (log_text (run_from pigeons seed).net.steps) finding)
     (of_sparse : IsTrial seed sparse a) (of_queens : IsTrial seed queens b) (of_pigeons : IsTrial seed pigeons c) where
   same_text : told_text a b c finding ≡ lines_of seed sparse queens pigeons finding
   same_text =
@@ -94,27 +81,3 @@ module _ (seed : ℕ) (sparse queens pigeons : Contents) (a b c : Outcome) (find
 pub model_made : (r : Result (Vec ℕ Global) Memory) (p : Contents) (text : List ℕ) → IsOk r → IfOk r (λ bytes. IsModelOf bytes.items p) → IfOk r (λ bytes. bytes.items ≡ text) → IsModelOf text p
 model_made (Ok bytes) p text ok model is = subst (λ t. IsModelOf t p) is model
 model_made (Err e) p text ok model is = absurd (let no = ok in cc)
-
--- ---- the line
-
-pub final_drill : (x : Bool) → IsFinal (if x then Unfinished else Good)
-final_drill true = tt
-final_drill false = tt
-
--- memory was wanted before anything was put
-pub drill_lacked : (seed : ℕ) (a : World) → CameIn (drill_promise seed) a a (Stopped stops.Memory)
-drill_lacked seed a = record { inputs = []; are_held = tt; came = inl (did_nothing a) }
-
-module _ (seed : ℕ) (status : Status) (text : List ℕ) (h : (d : Drill seed) × (status ≡ drill_status seed d) × (text ≡ drill_text seed d)) (a b : World) where
-  came : {T : Type 0} (r : Result T Stop) → Wrote (Put text ∷ []) a b r → CameIn (drill_promise seed) a b (way_with status r)
-  came {T = T} r w =
-      rw (h.1) (
-      came_wrote (drill_promise seed) [] (drill_status seed h.0) (Put (drill_text seed h.0) ∷ []) {T = T} r (final_drill _) tt (h.0, refl) (did_nothing a) (subst (λ t. Wrote (Put t ∷ []) a b r) h.2 w))
-
-  pub drill_put : {T : Type 0} (x : T) → Wrote (Put text ∷ []) a b (Ok x) → CameIn (drill_promise seed) a b (Answered status)
-  drill_put x w = came (Ok x) w
-
-  pub drill_stopped : {T : Type 0} (stop : Stop) (r : Result Status CommandError) → IsErr r × IsErrAnd r (λ y. y ≡ stop_error stop) → Wrote {T = T} (Put text ∷ []) a b (Err stop) → CameIn (drill_promise seed) a b (way_of r)
-  drill_stopped stop (Ok x) is w = absurd (let no = is.0 in cc)
-  drill_stopped {T = T} stops.Fault (Err y) is w = rw is.1 (came {T = T} (Err stops.Fault) w)
-  drill_stopped {T = T} stops.Memory (Err y) is w = rw is.1 (came {T = T} (Err stops.Memory) w)

@@ -1,18 +1,26 @@
 -- What `drill SEED` promises.
-use Rattle.std.specs.Prelude.{◌≡◌, ℕ, List, [], ◌∷◌}
+use Rattle.std.specs.Prelude.{ℕ, List, [], ◌∷◌}
+use Rattle.dcsp_problem.specs.Problems.{Contents}
 use Rattle.dcsp_script.specs.Scripts.{Put}
-use Rattle.abt_promise.specs.Promises.{Report, Promise, answered}
-use Rattle.abt_drill.specs.Drills.{Drill, drill_text, drill_status}
+use Rattle.ngd_log.specs.Logs.{log_text}
+use Rattle.ngd_check.specs.declared.Finding.{Finding}
+use Rattle.abt_schedule.specs.Answers.{word_at, generator_of}
+use Rattle.dcsp_gen.specs.Problems.{sparse_text, queens_text, pigeons_text}
+use Rattle.abt_promise.specs.Promises.{Promise}
+use Rattle.abt_input.specs.Inputs.{IsModelOf}
+use Rattle.abt_input.specs.Plans.{Plan, Answer, Find, promise_by}
+use Rattle.abt_check.specs.Checks.{IsFoundFor}
+use Rattle.abt_drill.specs.Drills.{run_from, lines_of, status_of}
 
--- its report: the four lines of its drill, in one put
-abbrev pub DrillReport : ℕ → Report → Type 0
-DrillReport seed report = (d : Drill seed) × (report ≡ answered (drill_status seed d) (Put (drill_text seed d) ∷ []))
+-- the problems of three generated texts are run, the log of the last run is checked, and four lines tell of it in one put
+abbrev pub drill_plan : ℕ → Plan
+drill_plan seed =
+    Find Contents (IsModelOf (sparse_text 500 (word_at (generator_of seed)))) (λ sparse.
+    Find Contents (IsModelOf (queens_text 6)) (λ queens.
+    Find Contents (IsModelOf (pigeons_text 5)) (λ pigeons.
+    Find Finding (IsFoundFor pigeons (log_text (run_from pigeons seed).net.steps)) (λ finding.
+    Answer (status_of seed sparse queens pigeons) (Put (lines_of seed sparse queens pigeons finding) ∷ [])))))
 
--- nothing is fetched, so there are no inputs
-abbrev pub DrillReports : ℕ → List (List ℕ) → Report → Type 0
-DrillReports seed [] report = DrillReport seed report
-DrillReports seed (input ∷ inputs) report = ⊥
-
--- the line's promise
+-- the line's promise: nothing is read
 abbrev pub drill_promise : ℕ → Promise
-drill_promise seed = record { fetched = []; created = []; Fetches = λ inputs name. ⊥; Reports = DrillReports seed }
+drill_promise seed = promise_by [] [] (drill_plan seed)

@@ -11,7 +11,7 @@ use Rattle.dcsp_gen.specs.Problems.{sparse_text, queens_text, pigeons_text}
 use Rattle.abt_promise.specs.declared.status.Status.{Status}
 use Rattle.abt_promise.specs.declared.status.Status.TheVariants.{Good, Unfinished}
 use Rattle.abt_input.specs.Inputs.{IsModelOf}
-use Rattle.abt_check.specs.Checks.{IsFound, finding_text}
+use Rattle.abt_check.specs.Checks.{IsFoundFor, finding_text}
 use Rattle.abt_run.specs.Asked.{seeded_session}
 
 -- the name of the log of each run
@@ -31,7 +31,7 @@ pub record Drill (seed : ℕ) : Type 0 where
   pub sparse_is : IsModelOf (sparse_text 500 (word_at (generator_of seed))) sparse
   pub queens_is : IsModelOf (queens_text 6) queens
   pub pigeons_is : IsModelOf (pigeons_text 5) pigeons
-  pub found : IsFound (pigeons_text 5) (log_text (run_from pigeons seed).net.steps) finding
+  pub found : IsFoundFor pigeons (log_text (run_from pigeons seed).net.steps) finding
 
 -- the word for an end
 abbrev pub end_word : End → List ℕ

@@ -5,7 +5,7 @@ ghost use Rattle.std.specs.FinMap as map;
 ghost use Rattle.ngd_log.specs.Logs.{log_text};
 ghost use Rattle.abt_session.specs.Running.{Gives};
 ghost use Rattle.abt_input.specs.Inputs.{IsModelOf};
-ghost use Rattle.abt_check.specs.Checks.{IsFound};
+ghost use Rattle.abt_check.specs.Checks.{IsFoundFor};
 ghost use Rattle.abt_run.specs.Asked.{seeded_session};
 ghost use Rattle.abt_drill.specs.Drills.{log_name, run_from};
 
@@ -96,8 +96,7 @@ fn run_problem(
 impl Trial {
     /// What is found of the log.
     pub fn check(&mut self, alloc: Global) -> Result<Finding, AllocError>
-        ensures found { (text log : List ℕ) → IsModelOf text self.old.problem → map.get self.old.folder.files log_name ≡ Some log
-            → IfOk result (IsFound text log) }
+        ensures found { (log : List ℕ) → map.get self.old.folder.files log_name ≡ Some log → IfOk result (IsFoundFor self.old.problem log) }
         ensures same { (self.new.problem ≡ self.old.problem) × (self.new.outcome ≡ self.old.outcome) }
     {
         match check_log(alloc, &mut self.folder, &self.problem, "drill") {

@@ -6,7 +6,7 @@ ghost use Rattle.abt_files.specs.Faults.{CountsFault};
 
 use crate::open_files::OpenFiles;
 use crate::transfer::read_up_to;
-use dcsp_outside::{Fetched, Folder, FolderError, Piece};
+use dcsp_outside::{Fetched, Folder, FolderError, Piece, Transcript};
 use std::alloc::Global;
 use std::cell::RefCell;
 use std::fs::Files;
@@ -14,12 +14,13 @@ use std::fs::Files;
 /// The files of the system, by their paths.
 ///
 /// Any error of the system is `Failed`, and is counted at every name: a file that is missing or
-/// cannot be read, and a write that takes nothing. What the files hold is not told. The open files
-/// are shared with the output, which lets nothing wait.
+/// cannot be read, and a write that takes nothing. What the files hold is not told; what was read of
+/// them is. The open files are shared with the output, which lets nothing wait.
 #[derive(Drop)]
 pub struct RealFolder<'c, R, W> {
     alloc: Global,
     open: &'c RefCell<OpenFiles<R, W>>,
+    handed: Transcript,
     created: Vec<String>,
     faults: u64,
 }
@@ -27,12 +28,14 @@ pub struct RealFolder<'c, R, W> {
 impl<'c, R, W> RealFolder<'c, R, W> {
     /// The folder as it stands. No name was created in it by this program, and no fault is counted.
     pub fn new(alloc: Global, open: &'c RefCell<OpenFiles<R, W>>) -> RealFolder<'c, R, W>
+        ensures handed { result.handed.answers ≡ [] }
         ensures created { result.created.items ≡ [] }
         ensures faults { result.faults ≡ 0 }
     {
         RealFolder {
             alloc,
             open,
+            handed: Transcript::new(),
             created: Vec::new(alloc),
             faults: 0,
         }
@@ -41,6 +44,7 @@ impl<'c, R, W> RealFolder<'c, R, W> {
     /// Counts a fault, if this is one.
     fn counted(&mut self, error: FolderError) -> FolderError
         ensures same { result ≡ error }
+        ensures handed { self.new.handed ≡ self.old.handed }
         ensures created { self.new.created ≡ self.old.created }
         ensures counts { CountsFault error self.old.faults self.new.faults }
         ensures never_falls { self.old.faults ≤ self.new.faults }
@@ -100,13 +104,17 @@ impl<'c, R: Files> Folder for RealFolder<'c, R, R::File> {
 
     ghost place = { λ folder. record {
       held = None;
+      handed = folder.handed.answers;
       created = map string_bytes folder.created.items;
       reads = λ _. folder.faults;
       writes = λ _. folder.faults;
     } };
 
     fn fetch(&mut self, name: &str, most: u64, into: &mut Vec<u8>) -> Result<Fetched, FolderError> {
-        match self.read(name, most, into) {
+        let start = into.len();
+        let found = self.read(name, most, into);
+        self.handed.fetched(name, most, &into[start..], found);
+        match found {
             Ok(fetched) => Ok(fetched),
             Err(error) => Err(self.counted(error)),
         }
@@ -119,7 +127,10 @@ impl<'c, R: Files> Folder for RealFolder<'c, R, R::File> {
         most: usize,
         into: &mut Vec<u8>,
     ) -> Result<Piece, FolderError> {
-        match self.piece(name, from, most, into) {
+        let start = into.len();
+        let found = self.piece(name, from, most, into);
+        self.handed.fetched_piece(name, from, &into[start..], found);
+        match found {
             Ok(piece) => Ok(piece),
             Err(error) => Err(self.counted(error)),
         }

@@ -58,7 +58,7 @@ impl<'c, R: Files> RealSink<'c, R, R::File> {
 impl<'c, R: Files> Sink for RealSink<'c, R, R::File> {
     ghost use Rattle.std.specs.Prelude.{None};
 
-    ghost stream = { λ sink. record { written = None; faults = sink.faults } };
+    ghost stream = { λ sink. record { written = None; faults = sink.faults; lacks = 0 } };
 
     fn put(&mut self, bytes: &[u8]) -> Result<(), SinkError> {
         let wrote = match self.stream {

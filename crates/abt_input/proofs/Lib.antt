@@ -3,3 +3,8 @@ pub mod Models
 pub mod Causes
 pub mod Once
 pub mod Cnfs
+pub mod ExactKinds
+pub mod OwnWrites
+pub mod PlanLaws
+pub mod Keeping
+pub mod OtherKinds

@@ -1,9 +1,8 @@
 -- A model has one problem or one error, a log one derivation or one error, a schedule one list of choices or one error, and so have formulas and proofs.
-use Rattle.std.proofs.Common.{◌≡◌, ℕ, ◌<◌, List, length, Ok, Err, refl, sym, ap, ◌∙◌, inl, inr, arith}
+use Rattle.std.proofs.Common.{◌≡◌, ℕ, ◌<◌, List, length, Ok, Err, refl, inl, inr}
 use Rattle.std.specs.Prelude.{ℤ}
 use Rattle.dcsp_defs.specs.declared.Step.{Step}
 use Rattle.dcsp_problem.specs.Problems.{Contents}
-use Rattle.fzn_model.specs.declared.model.ModelError.{ModelError}
 use Rattle.fzn_model.proofs.Once.{once}
 use Rattle.ngd_log.proofs.LogLaws.{log_or_bad_line}
 use Rattle.abt_schedule.proofs.ScheduleLaws.{schedule_or_bad_line}
@@ -159,6 +158,10 @@ pub one_error_of_schedule : (schedule : List ℕ) (e d : CommandError) → IsErr
 one_error_of_schedule schedule e d h k =
     one_error (of_schedule schedule e h) (of_schedule schedule d k) (λ number l. l.short) (λ m n l k. (schedule_or_bad_line schedule).one_line m n l.line k.line)
 
+-- which is that of a report
+pub final_error_of_schedule : (schedule : List ℕ) (e : CommandError) → IsErrorOfSchedule schedule e → IsFinal (error_status e)
+final_error_of_schedule schedule e h = of_causes (λ x. IsFinal (error_status x)) (of_schedule schedule e h) tt (λ reason. tt)
+
 -- ---- formulas
 
 -- a formula has one problem
@@ -172,6 +175,10 @@ no_error_of_cnf text p e h k = no_error (cause_of_cnf text e k) h.short (λ erro
 -- a formula has one error
 pub one_error_of_cnf : (text : List ℕ) (e d : CommandError) → IsErrorOfCnf text e → IsErrorOfCnf text d → e ≡ d
 one_error_of_cnf text e d h k = one_error (cause_of_cnf text e h) (cause_of_cnf text d k) (λ error l. l.short) (λ x y l m. let a = l.reads in let b = m.reads in cc)
+
+-- which is that of a report
+pub final_error_of_cnf : (text : List ℕ) (e : CommandError) → IsErrorOfCnf text e → IsFinal (error_status e)
+final_error_of_cnf text e h = of_causes (λ x. IsFinal (error_status x)) (cause_of_cnf text e h) tt (λ reason. tt)
 
 -- ---- proofs
 
@@ -190,3 +197,7 @@ one_error_of_proof text e d h k = one_error (cause_of_proof text e h) (cause_of_
   where
     same : (m n : ℕ) → IsProofBadAt text m → IsProofBadAt text n → m ≡ n
     same m n a b = elim (refused text (Err (proofs.Line m)) tt a.line n b.line) [ inl e ↦ (let f = e in cc) | inr e ↦ absurd (let f = e in cc) ]
+
+-- which is that of a report
+pub final_error_of_proof : (text : List ℕ) (e : CommandError) → IsErrorOfProof text e → IsFinal (error_status e)
+final_error_of_proof text e h = of_causes (λ x. IsFinal (error_status x)) (cause_of_proof text e h) tt (λ reason. tt)

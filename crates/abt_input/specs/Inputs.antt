@@ -36,10 +36,6 @@ pub record IsRefused (model : List ℕ) (error : ModelError) : Type 0 where
   pub short : length model ≤ most_model
   pub reads : Answers model (Err error)
 
--- the model has a problem
-abbrev pub HasProblem : List ℕ → Type 0
-HasProblem model = (problem : Contents) × IsModelOf model problem
-
 -- this is the derivation of the log
 pub record IsTextOf (log : List ℕ) (steps : List Step) : Type 0 where
   pub short : length log ≤ most_log
@@ -69,10 +65,6 @@ pub record IsFormulaOf (text : List ℕ) (problem : Contents) : Type 0 where
 pub record IsCnfRefused (text : List ℕ) (error : CnfError) : Type 0 where
   pub short : length text ≤ most_cnf
   pub reads : formulas.problem_of text ≡ Err error
-
--- the formula has a problem
-abbrev pub HasFormula : List ℕ → Type 0
-HasFormula text = (problem : Contents) × IsFormulaOf text problem
 
 -- these are the clauses of the proof
 pub record HasClauses (text : List ℕ) (clauses : List (List ℤ)) : Type 0 where

@@ -3,4 +3,6 @@ pub mod Replies
 pub mod Inputs
 pub mod ClausesErrors
 pub mod Errors
+pub mod Kinds
 pub mod Files
+pub mod Plans

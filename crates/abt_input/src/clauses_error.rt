@@ -1,14 +1,12 @@
 //! Why a formula or a proof was refused, and what is said of it.
 
-ghost use Rattle.std.specs.Prelude.{◌≡◌, IfOk};
+ghost use Rattle.std.specs.Prelude.{◌≡◌};
 ghost use Rattle.abt_input.specs.ClausesErrors.{clauses_status, clauses_text, cnf_error_text};
-ghost use Rattle.abt_input.specs.Replies.{reply_bytes};
 
+use crate::line::Line;
 use crate::model_text::{limit_line, placed};
-use crate::reply::{Reply, numbered};
 use abt_promise::Status;
 use cnf_front::CnfError;
-use std::alloc::{AllocError, Global};
 
 /// Why a formula or a proof was refused.
 #[derive(Clone, Copy, Debug, PartialEq, Eq)]
@@ -34,26 +32,26 @@ pub(crate) fn clauses_status(error: ClausesError) -> Status
 }
 
 /// The line that says why a formula or a proof was refused.
-pub(crate) fn clauses_reply(alloc: Global, error: ClausesError) -> Result<Reply, AllocError>
-    ensures { IfOk result (λ reply. reply_bytes reply ≡ clauses_text error) }
+pub(crate) fn clauses_line(error: ClausesError) -> Line
+    ensures { result ≡ clauses_text error }
 {
     match error {
-        ClausesError::CnfLong => Ok(Reply::Fixed(b"abt: cnf: too long\n")),
-        ClausesError::CnfRefused { error } => cnf_error_reply(alloc, error),
-        ClausesError::ProofLong => Ok(Reply::Fixed(b"abt: proof: too long\n")),
-        ClausesError::ProofLine { number } => numbered(alloc, b"abt: proof: line ", number),
+        ClausesError::CnfLong => Line::of(b"abt: cnf: too long\n"),
+        ClausesError::CnfRefused { error } => cnf_error_line(error),
+        ClausesError::ProofLong => Line::of(b"abt: proof: too long\n"),
+        ClausesError::ProofLine { number } => Line::numbered(b"abt: proof: line ", number),
     }
 }
 
 /// The line that tells why a text is no formula.
-fn cnf_error_reply(alloc: Global, error: CnfError) -> Result<Reply, AllocError>
-    ensures { IfOk result (λ reply. reply_bytes reply ≡ cnf_error_text error) }
+fn cnf_error_line(error: CnfError) -> Line
+    ensures { result ≡ cnf_error_text error }
 {
     match error {
-        CnfError::Syntax { at } => placed(alloc, b"abt: cnf: syntax at ", at),
+        CnfError::Syntax { at } => placed(b"abt: cnf: syntax at ", at),
         CnfError::Limit { which, count, at } => {
-            limit_line(alloc, b"abt: cnf: limit ", which, count, at)
+            limit_line(b"abt: cnf: limit ", which, count, at)
         }
-        CnfError::Memory => Ok(Reply::Fixed(b"abt: memory\n")),
+        CnfError::Memory => Line::of(b"abt: memory\n"),
     }
 }

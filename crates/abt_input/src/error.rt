@@ -1,17 +1,16 @@
 //! Why a command gave no answer, and what is said of it.
 
-ghost use Rattle.std.specs.Prelude.{◌≡◌, IfOk};
+ghost use Rattle.std.specs.Prelude.{◌≡◌};
 ghost use Rattle.abt_input.specs.Errors.{cnf_error, model_error, stop_error, error_status, error_text};
-ghost use Rattle.abt_input.specs.Replies.{reply_bytes};
 
-use crate::clauses_error::{ClausesError, clauses_reply, clauses_status};
-use crate::model_text::model_error_reply;
-use crate::reply::{Reply, numbered};
+use crate::clauses_error::{ClausesError, clauses_line, clauses_status};
+use crate::line::Line;
+use crate::model_text::model_error_line;
 use abt_promise::Status;
 use cnf_front::CnfError;
 use dcsp_script::Stop;
 use fzn_model::ModelError;
-use std::alloc::{AllocError, Global};
+use std::alloc::AllocError;
 
 /// Why a command gave no answer.
 #[derive(Clone, Copy, Debug, PartialEq, Eq)]
@@ -109,19 +108,19 @@ pub fn error_status(error: CommandError) -> Status
 }
 
 /// The line that says why a command gave no answer.
-pub fn error_reply(alloc: Global, error: CommandError) -> Result<Reply, AllocError>
-    ensures { IfOk result (λ reply. reply_bytes reply ≡ error_text error) }
+pub fn error_line(error: CommandError) -> Line
+    ensures { result ≡ error_text error }
 {
     match error {
-        CommandError::ModelLong => Ok(Reply::Fixed(b"abt: model: too long\n")),
-        CommandError::ModelRefused { error } => model_error_reply(alloc, error),
-        CommandError::NoAim => Ok(Reply::Fixed(b"abt: model: no aim\n")),
-        CommandError::LogLong => Ok(Reply::Fixed(b"abt: log: too long\n")),
-        CommandError::LogLine { number } => numbered(alloc, b"abt: log: line ", number),
-        CommandError::ScheduleLong => Ok(Reply::Fixed(b"abt: schedule: too long\n")),
-        CommandError::ScheduleLine { number } => numbered(alloc, b"abt: schedule: line ", number),
-        CommandError::Clauses { error } => clauses_reply(alloc, error),
-        CommandError::Fault => Ok(Reply::Fixed(b"abt: fault\n")),
-        CommandError::Memory => Ok(Reply::Fixed(b"abt: memory\n")),
+        CommandError::ModelLong => Line::of(b"abt: model: too long\n"),
+        CommandError::ModelRefused { error } => model_error_line(error),
+        CommandError::NoAim => Line::of(b"abt: model: no aim\n"),
+        CommandError::LogLong => Line::of(b"abt: log: too long\n"),
+        CommandError::LogLine { number } => Line::numbered(b"abt: log: line ", number),
+        CommandError::ScheduleLong => Line::of(b"abt: schedule: too long\n"),
+        CommandError::ScheduleLine { number } => Line::numbered(b"abt: schedule: line ", number),
+        CommandError::Clauses { error } => clauses_line(error),
+        CommandError::Fault => Line::of(b"abt: fault\n"),
+        CommandError::Memory => Line::of(b"abt: memory\n"),
     }
 }

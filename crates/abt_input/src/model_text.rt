@@ -1,66 +1,60 @@
 //! The lines that tell why a model has no problem.
 
-ghost use Rattle.std.specs.Prelude.{◌≡◌, ◌++◌, IfOk, decimal, codes};
+ghost use Rattle.std.specs.Prelude.{◌≡◌, ◌≤◌, ◌++◌, length, decimal, codes};
 ghost use Rattle.abt_input.specs.ModelTexts.{which_text, place_text, limit_text, model_error_text};
-ghost use Rattle.abt_input.specs.Replies.{reply_bytes};
 
-use crate::reply::{Reply, numbered};
+use crate::line::Line;
 use fzn_model::{ModelError, Which};
 use itoa::Buffer;
-use std::alloc::{AllocError, Global};
 
 /// The line that tells why a model has no problem.
-pub(crate) fn model_error_reply(alloc: Global, error: ModelError) -> Result<Reply, AllocError>
-    ensures { IfOk result (λ reply. reply_bytes reply ≡ model_error_text error) }
+pub(crate) fn model_error_line(error: ModelError) -> Line
+    ensures { result ≡ model_error_text error }
 {
     match error {
-        ModelError::Lex { at } => placed(alloc, b"abt: model: bad byte at ", at),
-        ModelError::IntRange { at } => placed(alloc, b"abt: model: integer range at ", at),
-        ModelError::Syntax { at } => placed(alloc, b"abt: model: syntax at ", at),
-        ModelError::Misplaced { at } => placed(alloc, b"abt: model: misplaced at ", at),
-        ModelError::Duplicate { at } => placed(alloc, b"abt: model: duplicate at ", at),
-        ModelError::Undeclared { at } => placed(alloc, b"abt: model: undeclared at ", at),
-        ModelError::Unbounded { at } => placed(alloc, b"abt: model: unbounded at ", at),
-        ModelError::Unsupported { at } => placed(alloc, b"abt: model: unsupported at ", at),
+        ModelError::Lex { at } => placed(b"abt: model: bad byte at ", at),
+        ModelError::IntRange { at } => placed(b"abt: model: integer range at ", at),
+        ModelError::Syntax { at } => placed(b"abt: model: syntax at ", at),
+        ModelError::Misplaced { at } => placed(b"abt: model: misplaced at ", at),
+        ModelError::Duplicate { at } => placed(b"abt: model: duplicate at ", at),
+        ModelError::Undeclared { at } => placed(b"abt: model: undeclared at ", at),
+        ModelError::Unbounded { at } => placed(b"abt: model: unbounded at ", at),
+        ModelError::Unsupported { at } => placed(b"abt: model: unsupported at ", at),
         ModelError::UnknownConstraint { at } => {
-            placed(alloc, b"abt: model: unknown constraint at ", at)
+            placed(b"abt: model: unknown constraint at ", at)
         }
-        ModelError::IllTyped { at } => placed(alloc, b"abt: model: ill-typed at ", at),
-        ModelError::OutputShape { at } => placed(alloc, b"abt: model: output shape at ", at),
-        ModelError::WideSum { at } => placed(alloc, b"abt: model: wide sum at ", at),
+        ModelError::IllTyped { at } => placed(b"abt: model: ill-typed at ", at),
+        ModelError::OutputShape { at } => placed(b"abt: model: output shape at ", at),
+        ModelError::WideSum { at } => placed(b"abt: model: wide sum at ", at),
         ModelError::Limit { which, count, at } => {
-            limit_line(alloc, b"abt: model: limit ", which, count, at)
+            limit_line(b"abt: model: limit ", which, count, at)
         }
-        ModelError::NoSolve => Ok(Reply::Fixed(b"abt: model: no solve item\n")),
-        ModelError::Memory => Ok(Reply::Fixed(b"abt: memory\n")),
+        ModelError::NoSolve => Line::of(b"abt: model: no solve item\n"),
+        ModelError::Memory => Line::of(b"abt: memory\n"),
     }
 }
 
 /// A line that ends in a place.
-pub(crate) fn placed(alloc: Global, before: &[u8], at: u32) -> Result<Reply, AllocError>
-    ensures { IfOk result (λ reply. reply_bytes reply ≡ before.now ++ place_text at) }
+pub(crate) fn placed(before: &[u8], at: u32) -> Line
+    requires { length before.now ≤ 64 }
+    ensures { result ≡ before.now ++ place_text at }
 {
-    numbered(alloc, before, u64::from(at))
+    Line::numbered(before, u64::from(at))
 }
 
 /// The line of these first bytes that tells which limit would be passed, and where.
-pub(crate) fn limit_line(
-    alloc: Global,
-    before: &[u8],
-    which: Which,
-    count: u128,
-    at: u32,
-) -> Result<Reply, AllocError>
-    ensures { IfOk result (λ reply. reply_bytes reply ≡ before.now ++ limit_text which count at) }
+pub(crate) fn limit_line(before: &[u8], which: Which, count: u128, at: u32) -> Line
+    requires { length before.now ≤ 24 }
+    ensures { result ≡ before.now ++ limit_text which count at }
 {
-    let mut line = Vec::from_slice(alloc, before)?;
-    line.extend_from_slice(which_name(which))?;
-    line.extend_from_slice(b" ")?;
-    line.extend_from_slice(Buffer::new().format(count).as_bytes())?;
-    line.extend_from_slice(b" at ")?;
-    line.extend_from_slice(Buffer::new().format(at).as_bytes())?;
-    line.extend_from_slice(b"\n")?;
-    Ok(Reply::Made(line))
+    let (mut many, mut place) = (Buffer::new(), Buffer::new());
+    Line::of(before)
+        .with(which_name(which))
+        .with(b" ")
+        .with(many.format(count).as_bytes())
+        .with(b" at ")
+        .with(place.format(at).as_bytes())
+        .with(b"\n")
 }
 
 /// How what is limited is called.

@@ -3,7 +3,8 @@
 ghost use Rattle.std.specs.Prelude.{◌≡◌, Err, IfOk, All};
 ghost use Rattle.dcsp_outside.specs.Outside.{Rose, SameCounts};
 ghost use Rattle.cnf_front.specs.Clauses.{IsClauseRule};
-ghost use Rattle.abt_input.specs.Files.{IsRead, IsModelRead, IsLogTextRead, IsScheduleRead, IsFormulaRead, IsProofRead, UnlessUnread, UnlessFault};
+ghost use Rattle.abt_input.specs.Kinds.{a_model, a_schedule, a_formula, a_proof};
+ghost use Rattle.abt_input.specs.Files.{HasRead, IsRead, UnlessUnread, any_log};
 
 use crate::clauses_error::ClausesError;
 use crate::error::{CommandError, cnf_error, model_error};
@@ -45,7 +46,7 @@ fn read_file<F: Folder>(
     name: &str,
     most: u64,
 ) -> Result<Vec<u8>, Unread>
-    ensures read { IsRead (F.place folder.old).held name.now most result }
+    ensures read { IsRead (F.place folder.old) (F.place folder.new) name.now most result }
     ensures held { (F.place folder.new).held ≡ (F.place folder.old).held }
     ensures created { (F.place folder.new).created ≡ (F.place folder.old).created }
     ensures counts { UnlessUnread result (SameCounts (F.place folder.old) (F.place folder.new)) }
@@ -66,11 +67,7 @@ pub fn read_model<F: Folder>(
     folder: &mut F,
     name: &str,
 ) -> Result<Problem, CommandError>
-    ensures read { IsModelRead (F.place folder.old).held name.now result }
-    ensures held { (F.place folder.new).held ≡ (F.place folder.old).held }
-    ensures created { (F.place folder.new).created ≡ (F.place folder.old).created }
-    ensures counts { UnlessFault result (SameCounts (F.place folder.old) (F.place folder.new)) }
-    ensures fault { result ≡ Err CommandError.Fault → Rose ((F.place folder.old).reads name.now) ((F.place folder.new).reads name.now) }
+    ensures { HasRead a_model name.now (F.place folder.old) (F.place folder.new) result }
 {
     match read_file(alloc, folder, name, MOST_MODEL) {
         Ok(text) => match problem_of(alloc, &text) {
@@ -89,11 +86,7 @@ pub fn read_log_text<F: Folder>(
     folder: &mut F,
     name: &str,
 ) -> Result<Vec<u8>, CommandError>
-    ensures read { IsLogTextRead (F.place folder.old).held name.now result }
-    ensures held { (F.place folder.new).held ≡ (F.place folder.old).held }
-    ensures created { (F.place folder.new).created ≡ (F.place folder.old).created }
-    ensures counts { UnlessFault result (SameCounts (F.place folder.old) (F.place folder.new)) }
-    ensures fault { result ≡ Err CommandError.Fault → Rose ((F.place folder.old).reads name.now) ((F.place folder.new).reads name.now) }
+    ensures { HasRead any_log name.now (F.place folder.old) (F.place folder.new) result }
 {
     match read_file(alloc, folder, name, MOST_LOG) {
         Ok(text) => Ok(text),
@@ -109,11 +102,7 @@ pub fn read_choices<F: Folder>(
     folder: &mut F,
     name: &str,
 ) -> Result<Listed, CommandError>
-    ensures read { IsScheduleRead (F.place folder.old).held name.now result }
-    ensures held { (F.place folder.new).held ≡ (F.place folder.old).held }
-    ensures created { (F.place folder.new).created ≡ (F.place folder.old).created }
-    ensures counts { UnlessFault result (SameCounts (F.place folder.old) (F.place folder.new)) }
-    ensures fault { result ≡ Err CommandError.Fault → Rose ((F.place folder.old).reads name.now) ((F.place folder.new).reads name.now) }
+    ensures { HasRead a_schedule name.now (F.place folder.old) (F.place folder.new) result }
 {
     match read_file(alloc, folder, name, MOST_SCHEDULE) {
         Ok(text) => match read_schedule(alloc, &text) {
@@ -133,12 +122,8 @@ pub fn read_formula<F: Folder>(
     folder: &mut F,
     name: &str,
 ) -> Result<Problem, CommandError>
-    ensures read { IsFormulaRead (F.place folder.old).held name.now result }
+    ensures read { HasRead a_formula name.now (F.place folder.old) (F.place folder.new) result }
     ensures clauses { IfOk result (λ problem. All IsClauseRule problem.rules) }
-    ensures held { (F.place folder.new).held ≡ (F.place folder.old).held }
-    ensures created { (F.place folder.new).created ≡ (F.place folder.old).created }
-    ensures counts { UnlessFault result (SameCounts (F.place folder.old) (F.place folder.new)) }
-    ensures fault { result ≡ Err CommandError.Fault → Rose ((F.place folder.old).reads name.now) ((F.place folder.new).reads name.now) }
 {
     match read_file(alloc, folder, name, MOST_CNF) {
         Ok(text) => match cnf_of(alloc, &text) {
@@ -159,11 +144,7 @@ pub fn read_proof<F: Folder>(
     folder: &mut F,
     name: &str,
 ) -> Result<ClauseList, CommandError>
-    ensures read { IsProofRead (F.place folder.old).held name.now result }
-    ensures held { (F.place folder.new).held ≡ (F.place folder.old).held }
-    ensures created { (F.place folder.new).created ≡ (F.place folder.old).created }
-    ensures counts { UnlessFault result (SameCounts (F.place folder.old) (F.place folder.new)) }
-    ensures fault { result ≡ Err CommandError.Fault → Rose ((F.place folder.old).reads name.now) ((F.place folder.new).reads name.now) }
+    ensures { HasRead a_proof name.now (F.place folder.old) (F.place folder.new) result }
 {
     match read_file(alloc, folder, name, MOST_LOG) {
         Ok(text) => match rup_check::read_proof(alloc, &text) {

@@ -29,28 +29,40 @@ use Rattle.abt_input.proofs.Once.{one_problem}
 use Rattle.abt_check.specs.Checks.{HasEntries}
 use Rattle.abt_check.specs.Verifying.{IsVerified}
 use Rattle.abt_check.proofs.Verifying.{refutation_verified}
-use Rattle.abt_logs.specs.declared.found.Found.{Found}
+use Rattle.abt_check.specs.declared.log_check.Checked.{Checked}
+use Rattle.abt_check.specs.LogChecks.{IsKeptFor}
+use Rattle.abt_promise.specs.Promises.{IsHeld}
 use Rattle.abt_logs.specs.UpgradePromise.{appends, file_script}
 use Rattle.abt_logs.specs.CorePromise.{core_text, core_script, IsCoreOf}
-use Rattle.abt_logs.specs.Trimming.{IsKeptIn, IsCore, WritesTrimmed, HasTrimmed, HoldsCore}
+use Rattle.abt_logs.specs.Trimming.{IsCore, WritesTrimmed, HasTrimmed, HoldsCore}
 use Rattle.abt_logs.proofs.Files.{whole_file, leaves}
 use Rattle.abt_logs.proofs.Shorter.{trimmed_short}
 use Rattle.abt_logs.proofs.Refuting.{steps_refute, log_writable, is_core}
 
 -- ---- what was found
 
-module _ (files : Option (List ℕ → Option (List ℕ))) (m l : List ℕ) (f : Found) where
+-- the bytes under the names, where the folder tells them, with what is found of them
+pub record IsFoundIn (files : Option (List ℕ → Option (List ℕ))) (m l : List ℕ) (p : Contents) (checked : Checked) : Type 0 where
+  model : List ℕ
+  log : List ℕ
+  model_held : IsHeld files m model
+  log_held : IsHeld files l log
+  model_is : IsModelOf model p
+  log_is : IsKeptFor p log checked
+
+pub found_in : (files mid : Option (List ℕ → Option (List ℕ))) (m l : List ℕ) (p : Contents) (checked : Checked) → mid ≡ files → (model : List ℕ) × IsHeld files m model × IsModelOf model p → (log : List ℕ) × IsHeld mid l log × IsKeptFor p log checked → IsFoundIn files m l p checked
+found_in files mid m l p checked same h k = record { model = h.0; log = k.0; model_held = h.1; log_held = subst (λ f. IsHeld f l k.0) same k.1; model_is = h.2; log_is = k.2 }
+
+module _ (p : Contents) (log : List ℕ) (checked : Checked) (k : IsKeptFor p log checked) where
   -- the steps of a log that is verified are a refutation
-  pub found_refutes : IsKeptIn files m l (Ok f) → f.checked.finding ≡ Verified → IsRefutation (csp_of f.problem) f.checked.steps
-  found_refutes h e =
-      let k = h.4.log_is in
-      subst (IsRefutation (csp_of f.problem)) (sym k.steps) (steps_refute (csp_of f.problem) k.entries (subst (λ (x : Finding). IsFindingOf (csp_of f.problem) k.entries x) e k.found))
+  pub found_refutes : checked.finding ≡ Verified → IsRefutation (csp_of p) checked.steps
+  found_refutes e = subst (IsRefutation (csp_of p)) (sym k.steps) (steps_refute (csp_of p) k.entries (subst (λ (x : Finding). IsFindingOf (csp_of p) k.entries x) e k.found))
 
-  pub found_writable : IsKeptIn files m l (Ok f) → AreWritable f.checked.steps
-  found_writable h = let k = h.4.log_is in subst AreWritable (sym k.steps) (log_writable h.1 k.entries k.log_is.reads)
+  pub found_writable : AreWritable checked.steps
+  found_writable = subst AreWritable (sym k.steps) (log_writable log k.entries k.log_is.reads)
 
-  pub found_short : IsKeptIn files m l (Ok f) → (trimmed : List Step) → IsTrimmed f.checked.steps trimmed → length (log_text trimmed) ≤ most_log
-  found_short h trimmed is = let k = h.4.log_is in trimmed_short h.1 k.entries trimmed k.log_is (subst (λ (s : List Step). IsTrimmed s trimmed) k.steps is)
+  found_short : (trimmed : List Step) → IsTrimmed checked.steps trimmed → length (log_text trimmed) ≤ most_log
+  found_short trimmed is = trimmed_short log k.entries trimmed k.log_is (subst (λ (s : List Step). IsTrimmed s trimmed) k.steps is)
 
 -- ---- what was written
 
@@ -88,36 +100,36 @@ told_put name lines text (Some before) (Some now) t = t ∙ ap (λ (x : List ℕ
 -- ---- what it means
 
 -- the model is as it was, and the trimmed log refutes its problem
-check_verifies : (m l t : List ℕ) (f : Found) (core : Core) (files now : Option (List ℕ → Option (List ℕ))) → IsKeptIn files m l (Ok f) → IsCore f.problem f.checked.steps core → Told files now (WritesTrimmed core t) → m ≢ t → IfSome now (λ after. IsVerified after m t)
-check_verifies m l t f core None None h is told unlike = tt
-check_verifies m l t f core None (Some after) h is told unlike = absurd told
-check_verifies m l t f core (Some files) None h is told unlike = tt
-check_verifies m l t f core (Some files) (Some after) h is told unlike =
-    refutation_verified after m t f.problem core.steps
-    (subst (λ (x : List ℕ). IsModelOf x f.problem) (h.2 ∙ ap bytes_of (sym (told.others m unlike))) h.4.model_is)
+check_verifies : (m l t : List ℕ) (p : Contents) (checked : Checked) (core : Core) (files now : Option (List ℕ → Option (List ℕ))) → IsFoundIn files m l p checked → IsCore p checked.steps core → Told files now (WritesTrimmed core t) → m ≢ t → IfSome now (λ after. IsVerified after m t)
+check_verifies m l t p checked core None None h is told unlike = tt
+check_verifies m l t p checked core None (Some after) h is told unlike = absurd told
+check_verifies m l t p checked core (Some files) None h is told unlike = tt
+check_verifies m l t p checked core (Some files) (Some after) h is told unlike =
+    refutation_verified after m t p core.steps
+    (subst (λ (x : List ℕ). IsModelOf x p) (h.model_held ∙ ap bytes_of (sym (told.others m unlike))) h.model_is)
     (subst (λ (x : Option (List ℕ)). inputs.IsTextOf (bytes_of x) core.steps) (sym told.written) is.log)
     is.refutes
 
 -- what was done for what was found was done for the model and the log under the names
-told_core : (files : Option (List ℕ → Option (List ℕ))) (m l t : List ℕ) (f : Found) (old new : World) → IsKeptIn files m l (Ok f) → HasTrimmed f.problem f.checked.steps m t old new
+told_core : (files : Option (List ℕ → Option (List ℕ))) (m l t : List ℕ) (p : Contents) (checked : Checked) (old new : World) → IsFoundIn files m l p checked → HasTrimmed p checked.steps m t old new
     → IfSome files (λ g. (problem : Contents) (entries : List Entry) → IsModelOf (bytes_of (g m)) problem → HasEntries (bytes_of (g l)) entries → HasTrimmed problem (steps_of entries) m t old new)
-told_core None m l t f old new h has = tt
-told_core (Some g) m l t f old new h has = λ problem entries is_model is_log.
-    let k = h.4.log_is in
-    let problems : f.problem ≡ problem = one_problem (bytes_of (g m)) f.problem problem (subst (λ (x : List ℕ). IsModelOf x f.problem) h.2 h.4.model_is) is_model in
-    let lists : k.entries ≡ entries = (entries_or_bad_line (bytes_of (g l))).one_list k.entries entries (subst (λ (x : List ℕ). IsLogOfEntries x k.entries) h.3 k.log_is.reads) is_log.reads in
-    subst (λ (x : Contents). HasTrimmed x (steps_of entries) m t old new) problems (subst (λ (s : List Step). HasTrimmed f.problem s m t old new) (k.steps ∙ ap steps_of lists) has)
+told_core None m l t p checked old new h has = tt
+told_core (Some g) m l t p checked old new h has = λ problem entries is_model is_log.
+    let k = h.log_is in
+    let problems : p ≡ problem = one_problem (bytes_of (g m)) p problem (subst (λ (x : List ℕ). IsModelOf x p) h.model_held h.model_is) is_model in
+    let lists : k.entries ≡ entries = (entries_or_bad_line (bytes_of (g l))).one_list k.entries entries (subst (λ (x : List ℕ). IsLogOfEntries x k.entries) h.log_held k.log_is.reads) is_log.reads in
+    subst (λ (x : Contents). HasTrimmed x (steps_of entries) m t old new) problems (subst (λ (s : List Step). HasTrimmed p s m t old new) (k.steps ∙ ap steps_of lists) has)
 
-module _ (m l t : List ℕ) (p q : Place) (out : Stream) (held : q.held ≡ p.held) (f : Found) (core : Core) where
-  pub holds_core : {T : Type 0} (x : T) (w : World) → IsKeptIn p.held m l (Ok f) → IsCoreOf f.checked.steps core → IsRefutation (csp_of f.problem) core.steps → HasNoSolution (limited (csp_of f.problem) core.rules) → Wrote (core_script t f.problem f.checked.steps core) (outside q out) w (Ok x) → HoldsCore m l t (outside p out) w
+module _ (m l t : List ℕ) (a b : Place) (out : Stream) (held : b.held ≡ a.held) (p : Contents) (checked : Checked) (core : Core) where
+  pub holds_core : {T : Type 0} (x : T) (w : World) → IsFoundIn a.held m l p checked → IsCoreOf checked.steps core → IsRefutation (csp_of p) core.steps → HasNoSolution (limited (csp_of p) core.rules) → Wrote (core_script t p checked.steps core) (outside b out) w (Ok x) → HoldsCore m l t (outside a out) w
   holds_core x w h is refutes none wrote =
       let done = wrote.ended.after in
-      let core_is = is_core f.problem f.checked.steps core (found_writable p.held m l f h) (found_short p.held m l f h core.steps is.trimmed) is refutes none in
-      let files_are = told_trimmed t f.problem f.checked.steps core p.held w.folder.held (subst (λ (x : Option (List ℕ → Option (List ℕ))). Told x w.folder.held (FilesAfter (core_script t f.problem f.checked.steps core))) held done.files) in
-      told_core p.held m l t f (outside p out) w h (record {
+      let core_is = is_core p checked.steps core (found_writable p h.log checked h.log_is) (found_short p h.log checked h.log_is core.steps is.trimmed) is refutes none in
+      let files_are = told_trimmed t p checked.steps core a.held w.folder.held (subst (λ (x : Option (List ℕ → Option (List ℕ))). Told x w.folder.held (FilesAfter (core_script t p checked.steps core))) held done.files) in
+      told_core a.held m l t p checked (outside a out) w h (record {
         core = core;
         is = core_is;
         files = files_are;
-        checks = check_verifies m l t f core p.held w.folder.held h core_is files_are;
-        told = told_put t (log_lines core.steps) (core_text (length f.problem.rules) (length f.checked.steps) core) out.written w.out.written done.out;
+        checks = check_verifies m l t p checked core a.held w.folder.held h core_is files_are;
+        told = told_put t (log_lines core.steps) (core_text (length p.rules) (length checked.steps) core) out.written w.out.written done.out;
       })

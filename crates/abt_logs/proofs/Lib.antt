@@ -1,4 +1,3 @@
-pub mod Coming
 pub mod Writing
 pub mod Files
 pub mod Lawful
@@ -8,9 +7,7 @@ pub mod OneCore
 pub mod CoreLawful
 pub mod Refuting
 pub mod Shorter
-pub mod CoreComing
 pub mod CoreFiles
-pub mod CoreFound
 pub mod Deleting
 pub mod FirstLine
 pub mod Reading

@@ -19,12 +19,12 @@ use Rattle.abt_logs.specs.UpgradePromise.{appends, file_script, counts_text, upg
 
 -- memory is wanted before anything was made
 pub memory_at_once : {T : Type 0} (s : List Write) (a : World) → Wrote {T = T} s a a (Err Memory)
-memory_at_once s a = record { ended = record { start = []; rest = s; is_script = refl; did = did_nothing a } }
+memory_at_once s a = record { ended = record { start = []; rest = s; is_script = refl; did = did_nothing a }; handed = refl }
 
 -- memory is wanted before the first of what is left
 pub left_memory : {U : Type 0} {script rest : List Write} {a b : World} (r : Result U Stop) → IsErr r × IsErrAnd r (λ y. y ≡ Memory) → HasLeft script rest a b → Wrote script a b r
 left_memory (Ok x) is h = absurd (let no = is.0 in cc)
-left_memory {rest = rest} (Err y) is h = rw is.1 (record { ended = record { start = h.made; rest = rest; is_script = h.is_script; did = h.did } })
+left_memory {rest = rest} (Err y) is h = rw is.1 (record { ended = record { start = h.made; rest = rest; is_script = h.is_script; did = h.did }; handed = h.handed })
 
 -- a name was created
 pub created_here : (before : List (List ℕ)) {now : List (List ℕ)} (name : List ℕ) → now ≡ before ++ name ∷ [] → Contains now name

@@ -1,19 +1,20 @@
 -- What `core MODEL LOG TRIMMED` promises.
-use Rattle.std.specs.Prelude.{◌≡◌, ◌≢◌, ◌↔◌, ℕ, ◌+◌, true, List, [], ◌∷◌, ◌++◌, flat_map, length, codes, decimal}
+use Rattle.std.specs.Prelude.{◌≡◌, ◌↔◌, ℕ, ◌+◌, true, List, [], ◌∷◌, ◌++◌, flat_map, length, codes, decimal}
 use Rattle.dcsp_defs.specs.declared.Step.{Step}
 use Rattle.dcsp_defs.specs.Words.{In, IsRising}
-use Rattle.dcsp_problem.specs.Problems.{Contents, csp_of}
+use Rattle.dcsp_problem.specs.Problems.{Contents}
 use Rattle.dcsp_script.specs.Scripts.{Write, Put}
-use Rattle.ngd_log.specs.declared.entry.Entry.{Entry}
 use Rattle.ngd_log.specs.Logs.{log_lines}
-use Rattle.ngd_check.specs.Entries.{steps_of, DoRefute}
+use Rattle.ngd_check.specs.declared.Finding.{Finding}
+use Rattle.ngd_check.specs.declared.Finding.TheVariants.{Verified, BadStep, BadDeletion, NotEmpty}
 use Rattle.ngd_core.specs.declared.Core.{Core}
 use Rattle.ngd_core.specs.Needed.{is_cited, IsTrimmed}
 use Rattle.abt_promise.specs.declared.status.Status.TheVariants.{Good}
-use Rattle.abt_promise.specs.Promises.{Report, Promise, answered}
-use Rattle.abt_input.specs.Inputs.{IsModelOf}
-use Rattle.abt_check.specs.Checks.{HasEntries}
-use Rattle.abt_check.specs.CheckReports.{CheckReport, CheckFetches}
+use Rattle.abt_promise.specs.Promises.{Promise}
+use Rattle.abt_input.specs.Kinds.{a_model}
+use Rattle.abt_input.specs.Plans.{Plan, Answer, Read, Find, promise_by}
+use Rattle.abt_check.specs.LogChecks.{kept_log}
+use Rattle.abt_check.specs.CheckReports.{finding_plan}
 use Rattle.abt_logs.specs.UpgradePromise.{file_script}
 
 -- the line that names a rule: its number, which counts from 0 here and from 1 there
@@ -42,27 +43,17 @@ pub record IsCoreOf (steps : List Step) (core : Core) : Type 0 where
   pub rising : IsRising core.rules
   pub cited : (rule : ℕ) → In rule core.rules ↔ (is_cited core.steps rule ≡ true)
 
--- the entries of the log refute the model's problem
-pub record IsRefutedBy (model log : List ℕ) (problem : Contents) (entries : List Entry) : Type 0 where
-  pub model_is : IsModelOf model problem
-  pub log_is : HasEntries log entries
-  pub refutes : DoRefute (csp_of problem) entries
+-- of a log that refutes the problem its steps are trimmed, and their core is told; of another one it is told what it is found to be
+abbrev pub trimming_plan : List ℕ → Contents → List Step → Finding → Plan
+trimming_plan trimmed problem steps Verified = Find Core (IsCoreOf steps) (λ core. Answer Good (core_script trimmed problem steps core))
+trimming_plan trimmed problem steps (BadStep step) = finding_plan (BadStep step)
+trimming_plan trimmed problem steps (BadDeletion after) = finding_plan (BadDeletion after)
+trimming_plan trimmed problem steps NotEmpty = finding_plan NotEmpty
 
--- its report of the bytes of a model and a log: that of `check`, where it has another status than 0; else the log's steps, deletions left out, are trimmed, and their core is told
-pub data CoreReport (trimmed_name model log : List ℕ) (report : Report) : Type 0 where
-  as_check : CheckReport model log report → report.status ≢ Good → CoreReport trimmed_name model log report
-  trims : (problem : Contents) (entries : List Entry) (core : Core) → IsRefutedBy model log problem entries → IsCoreOf (steps_of entries) core → report ≡ answered Good (core_script trimmed_name problem (steps_of entries) core) → CoreReport trimmed_name model log report
+-- the model is read, and then the log, as `check` reads them
+abbrev pub core_plan : List ℕ → Plan
+core_plan trimmed = Read a_model (λ problem. Read (kept_log problem) (λ checked. trimming_plan trimmed problem checked.steps checked.finding))
 
--- its report of the bytes that it fetches
-abbrev pub CoreReports : List ℕ → List (List ℕ) → Report → Type 0
-CoreReports trimmed_name (model ∷ log ∷ []) report = CoreReport trimmed_name model log report
-CoreReports trimmed_name inputs report = ⊥
-
--- the line's promise: the model and the log are fetched as `check` fetches them
+-- the line's promise
 abbrev pub core_promise : List ℕ → List ℕ → List ℕ → Promise
-core_promise model_name log_name trimmed_name = record {
-  fetched = model_name ∷ log_name ∷ [];
-  created = trimmed_name ∷ [];
-  Fetches = CheckFetches model_name log_name;
-  Reports = CoreReports trimmed_name;
-}
+core_promise model log trimmed = promise_by (model ∷ log ∷ []) (trimmed ∷ []) (core_plan trimmed)

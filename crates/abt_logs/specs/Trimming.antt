@@ -1,5 +1,5 @@
 -- What the core of a log means to a user.
-use Rattle.std.specs.Prelude.{◌≡◌, ◌≢◌, ℕ, List, ◌++◌, length, Option, Some, IfSome, Result, Ok, Err}
+use Rattle.std.specs.Prelude.{◌≡◌, ◌≢◌, ℕ, List, ◌++◌, length, Option, Some, IfSome}
 use Rattle.dcsp_defs.specs.Csp.{HasNoSolution}
 use Rattle.dcsp_defs.specs.declared.Step.{Step}
 use Rattle.dcsp_defs.specs.Derivation.{IsRefutation}
@@ -14,27 +14,11 @@ use Rattle.ngd_check.specs.Findings.{IsFindingOf}
 use Rattle.ngd_check.specs.Entries.{steps_of}
 use Rattle.ngd_core.specs.declared.Core.{Core}
 use Rattle.ngd_core.specs.Cores.{limited}
-use Rattle.abt_promise.specs.Promises.{IsHeld}
 use Rattle.abt_input.specs.Inputs.{IsModelOf}
 use Rattle.abt_input.specs.Inputs as inputs
-use Rattle.abt_input.specs.declared.error.CommandError.{CommandError}
-use Rattle.abt_check.specs.Taking.{plain}
-use Rattle.abt_check.specs.Checks.{HasEntries, IsFoundIn}
-use Rattle.abt_check.specs.LogChecks.{IsKeptFor}
+use Rattle.abt_check.specs.Checks.{HasEntries}
 use Rattle.abt_check.specs.Verifying.{IsVerified}
-use Rattle.abt_logs.specs.declared.found.Found.{Found}
 use Rattle.abt_logs.specs.CorePromise.{core_text, IsCoreOf}
-
--- the log's steps, with what is found of its entries for the model's problem
-pub record IsKept (model log : List ℕ) (found : Found) : Type 0 where
-  pub model_is : IsModelOf model found.problem
-  pub log_is : IsKeptFor found.problem log found.checked
-
--- checking the log under one name against the model under the other, where its steps are kept
-abbrev pub IsKeptIn : Option (List ℕ → Option (List ℕ)) → List ℕ → List ℕ → Result Found CommandError → Type 0
-IsKeptIn files model_name log_name (Ok found) =
-    (model : List ℕ) × (log : List ℕ) × IsHeld files model_name model × IsHeld files log_name log × IsKept model log found
-IsKeptIn files model_name log_name (Err error) = IsFoundIn plain files model_name log_name (Err error)
 
 -- The core of a log's steps, which refute the problem.
 pub record IsCore (problem : Contents) (steps : List Step) (core : Core) : Type 0 where

@@ -1,15 +1,14 @@
 -- What `upgrade LOG NEW` promises.
-use Rattle.std.specs.Prelude.{◌≡◌, ℕ, List, [], ◌∷◌, ◌++◌, map, length, codes, decimal}
+use Rattle.std.specs.Prelude.{ℕ, List, [], ◌∷◌, ◌++◌, map, length, codes, decimal}
 use Rattle.dcsp_defs.specs.declared.Step.{Step}
 use Rattle.dcsp_script.specs.Scripts.{Write, Create, Append, Put}
 use Rattle.ngd_log.specs.declared.standing.Version.TheVariants.{Two}
 use Rattle.ngd_log.specs.EntryTexts.{text_lines}
 use Rattle.ngd_upgrade.specs.Upgrade.{upgraded, deleted_count}
 use Rattle.abt_promise.specs.declared.status.Status.TheVariants.{Good}
-use Rattle.abt_promise.specs.Promises.{Report, Promise, answered, refused}
-use Rattle.abt_input.specs.declared.error.CommandError.{CommandError}
-use Rattle.abt_input.specs.Inputs.{IsTextOf}
-use Rattle.abt_input.specs.Errors.{IsErrorOfLog, error_status, error_text}
+use Rattle.abt_promise.specs.Promises.{Promise}
+use Rattle.abt_input.specs.Kinds.{a_log}
+use Rattle.abt_input.specs.Plans.{Plan, Answer, Read, promise_by}
 
 -- each line goes last under the name, by itself
 abbrev pub appends : List ℕ → List (List ℕ) → List Write
@@ -31,26 +30,10 @@ upgrade_text steps = counts_text (length steps) (deleted_count (upgraded steps))
 abbrev pub upgrade_script : List ℕ → List Step → List Write
 upgrade_script new_name steps = file_script new_name (text_lines Two (upgraded steps)) ++ Put (upgrade_text steps) ∷ []
 
--- its report of the bytes of a log: the log is refused; or its steps are written with their deletions, and counted
-pub data UpgradeReport (new_name log : List ℕ) (report : Report) : Type 0 where
-  bad_log : (error : CommandError) → IsErrorOfLog log error → report ≡ refused (error_status error) (error_text error) → UpgradeReport new_name log report
-  upgrades : (steps : List Step) → IsTextOf log steps → report ≡ answered Good (upgrade_script new_name steps) → UpgradeReport new_name log report
-
--- its report of the bytes that it fetches
-abbrev pub UpgradeReports : List ℕ → List (List ℕ) → Report → Type 0
-UpgradeReports new_name (log ∷ []) report = UpgradeReport new_name log report
-UpgradeReports new_name inputs report = ⊥
-
--- only the log is fetched
-abbrev pub UpgradeFetches : List ℕ → List (List ℕ) → List ℕ → Type 0
-UpgradeFetches log_name [] name = name ≡ log_name
-UpgradeFetches log_name inputs name = ⊥
+-- the log is read, and its steps are written with their deletions, and counted
+abbrev pub upgrade_plan : List ℕ → Plan
+upgrade_plan new = Read a_log (λ steps. Answer Good (upgrade_script new steps))
 
 -- the line's promise
 abbrev pub upgrade_promise : List ℕ → List ℕ → Promise
-upgrade_promise log_name new_name = record {
-  fetched = log_name ∷ [];
-  created = new_name ∷ [];
-  Fetches = UpgradeFetches log_name;
-  Reports = UpgradeReports new_name;
-}
+upgrade_promise log new = promise_by (log ∷ []) (new ∷ []) (upgrade_plan new)

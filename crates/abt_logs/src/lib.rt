@@ -4,7 +4,6 @@
 #![tactic(auto)]
 
 mod entries;
-mod found;
 mod laws;
 mod old_log;
 mod steps;

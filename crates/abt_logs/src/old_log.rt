@@ -1,9 +1,7 @@
 //! Reading a log of version 1.
 
-ghost use Rattle.std.specs.Prelude.{◌≡◌, Err};
-ghost use Rattle.dcsp_outside.specs.Outside.{Rose, SameCounts};
-ghost use Rattle.abt_input.specs.Files.{UnlessFault};
-ghost use Rattle.abt_logs.specs.OldLogs.{IsOldLogRead};
+ghost use Rattle.abt_input.specs.Files.{HasRead};
+ghost use Rattle.abt_logs.specs.OldLogs.{an_old_log};
 
 use abt_input::{CommandError, read_log_text};
 use dcsp_outside::Folder;
@@ -26,11 +24,7 @@ pub fn read_old_log<F: Folder>(
     folder: &mut F,
     name: &str,
 ) -> Result<OldLog, CommandError>
-    ensures read { IsOldLogRead (F.place folder.old).held name.now result }
-    ensures held { (F.place folder.new).held ≡ (F.place folder.old).held }
-    ensures created { (F.place folder.new).created ≡ (F.place folder.old).created }
-    ensures counts { UnlessFault result (SameCounts (F.place folder.old) (F.place folder.new)) }
-    ensures fault { result ≡ Err CommandError.Fault → Rose ((F.place folder.old).reads name.now) ((F.place folder.new).reads name.now) }
+    ensures { HasRead an_old_log name.now (F.place folder.old) (F.place folder.new) result }
 {
     let text = read_log_text(alloc, folder, name)?;
     match Endings::of_log(alloc, &text) {

@@ -11,12 +11,12 @@ ghost use Rattle.abt_check.specs.Checks.{finding_text};
 ghost use Rattle.abt_logs.specs.CorePromise.{rule_line, count_line, core_text, core_script, core_promise};
 ghost use Rattle.abt_logs.specs.Trimming.{HoldsCore, CreatesNothing};
 
-use crate::found::{Found, find};
 use crate::steps::write_steps;
-use abt_check::finding_reply;
-use abt_input::CommandError;
+use abt_check::{Checked, check_and_keep, finding_reply};
+use abt_input::{CommandError, read_model};
 use abt_promise::Status;
 use dcsp_outside::{Folder, Sink};
+use dcsp_problem::Problem;
 use dcsp_script::{Stop, put};
 use itoa::Buffer;
 use ngd_check::Finding;
@@ -32,6 +32,15 @@ pub struct CoreLine<'w> {
     pub log: &'w str,
     /// The name that the trimmed log is written under.
     pub trimmed: &'w str,
+}
+
+/// A model's problem, and what is found of a log for it.
+#[derive(Drop)]
+struct Found {
+    /// The model's problem.
+    problem: Problem,
+    /// What is found of the log's entries, and its steps.
+    checked: Checked,
 }
 
 /// Checks the log against the model. Where it refutes the problem, the steps that its end needs are written under
@@ -55,7 +64,9 @@ pub fn run_core<F: Folder, S: Sink>(
         → CreatesNothing (outside (F.place folder.old) (S.stream out.old))
         (outside (F.place folder.new) (S.stream out.new)) }
 {
-    let found = find(alloc, folder, line.model, line.log)?;
+    let problem = read_model(alloc, folder, line.model)?;
+    let checked = check_and_keep(alloc, folder, &problem, line.log)?;
+    let found = Found { problem, checked };
     if !is_verified(found.checked.finding) {
         reject(alloc, found.checked.finding, out)?;
         return Ok(Status::No);

@@ -7,5 +7,5 @@ pub mod Making
 pub mod Endings
 pub mod Meaning
 pub mod Lawful
-pub mod Coming
+pub mod HeldRuns
 pub mod Files

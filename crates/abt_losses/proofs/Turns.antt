@@ -77,7 +77,7 @@ module _ (first whole words more : List ℕ) (old mid : Runner) (a b : Place) (t
   next_turn y new c wrote has same created = record {
     joined = joined;
     has = has;
-    left = λ out. left_more (from_to old words whole) lines (t.left out) (wrote_as same_lines (wrote out)).ended;
+    left = λ out. left_more (from_to old words whole) lines (t.left out) (wrote_as same_lines (wrote out));
     same = record { problem = same.problem ∙ t.same.problem; log = same.log ∙ t.same.log; keep = same.keep ∙ t.same.keep };
     created = created ∙ t.created;
   }
@@ -93,7 +93,7 @@ module _ (first whole words more : List ℕ) (old new : Runner) (a b : Place) (t
 
   pub all_written : {T : Type 0} (y : T) (out : Stream) → Wrote (from_to old first whole) (outside a out) (outside b out) (Ok y)
   all_written y out =
-      left_ends (from_to old words whole) (ap (λ l. from_to old l whole) all ∙ none_new old.log.now (steps_at old.medium.problem whole)) (t.left out) (record { ended = did_nothing (outside b out) })
+      left_ends (from_to old words whole) (ap (λ l. from_to old l whole) all ∙ none_new old.log.now (steps_at old.medium.problem whole)) (t.left out) (record { ended = did_nothing (outside b out); handed = refl })
 
   pub all_made : HasMade whole new
   all_made = subst (λ l. HasMade l new) all t.has

@@ -12,8 +12,7 @@ use Rattle.lossy_defs.specs.Deliveries.{numbers}
 use Rattle.lossy_defs.specs.Ends.{is_quiet, all_words}
 use Rattle.abt_schedule.specs.Answers.{word_at, generator_of}
 use Rattle.abt_session.specs.Sessions.{step_writes}
-use Rattle.abt_promise.specs.Promises.{Report, answered}
-use Rattle.abt_run.specs.Endings.{end_status, verdict_text, counts_text}
+use Rattle.abt_run.specs.Endings.{verdict_text, counts_text}
 use Rattle.abt_run.specs.Asked.{record_script}
 
 -- a run that a line asks for
@@ -89,7 +88,3 @@ log_script log steps = Create log ∷ Append log (codes "ngd 1\n") ∷ (step_wri
 abbrev pub asked_script : Asked → List Write
 asked_script asked =
     log_script asked.log (run_world asked).network.steps ++ (record_script asked.kept (run_numbers asked) ++ Put (answer_text asked) ∷ [])
-
--- what is reported of the run
-abbrev pub run_report : Asked → Report
-run_report asked = answered (end_status (end_of (csp_of asked.problem) (run_world asked))) (asked_script asked)

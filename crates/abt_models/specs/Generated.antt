@@ -2,13 +2,18 @@
 use Rattle.std.specs.Prelude.{ℕ, List, [], ◌∷◌}
 use Rattle.dcsp_script.specs.Scripts.{Put}
 use Rattle.abt_promise.specs.declared.status.Status.TheVariants.{Good}
-use Rattle.abt_promise.specs.Promises.{Promise, plain, answered}
+use Rattle.abt_promise.specs.Promises.{Promise}
+use Rattle.abt_input.specs.Plans.{Plan, Answer, promise_by}
 use Rattle.abt_schedule.specs.Answers.{generator_of, word_at}
 use Rattle.dcsp_gen.specs.Problems.{queens_text, colouring_text}
 
 -- a line that puts one text on `out`
+abbrev pub print_plan : List ℕ → Plan
+print_plan text = Answer Good (Put text ∷ [])
+
+-- its promise: it reads and creates nothing
 abbrev pub print_promise : List ℕ → Promise
-print_promise text = plain (answered Good (Put text ∷ []))
+print_promise text = promise_by [] [] (print_plan text)
 
 -- `gen queens N`
 abbrev pub queens_promise : ℕ → Promise

@@ -9,7 +9,7 @@ use Rattle.dcsp_script.proofs.Ways.{did_both, then_ended}
 use Rattle.abt_promise.specs.declared.status.Status.{Status}
 use Rattle.abt_promise.specs.declared.status.Status.TheVariants.{Good, No, Words, Model, Text, Unfinished, Fault, Memory}
 use Rattle.abt_promise.specs.Statuses.{IsFinal}
-use Rattle.abt_promise.specs.Promises.{Report, Promise, answered, refused, AreHeld, SaysAsReported}
+use Rattle.abt_promise.specs.Promises.{Report, Promise, answered, refused, AreFetched, SaysAsReported}
 use Rattle.abt_promise.specs.Runs.{Way, Answered, Refused, Stopped, CameTo, CameIn, Concludes, Ran}
 
 -- an answer with this status, or a stop
@@ -24,10 +24,10 @@ module _ (promise : Promise) (inputs : List (List ℕ)) (status : Status) (scrip
   wrote_to {T = T} a b c (Err stops.Memory) final report d w = inr (answered status script, report, then_ended {T = T} [] script a b c (Err stops.Memory) d w.ended)
 
   -- a line that read its files, and then came to write its script
-  pub came_wrote : {T : Type 0} {a b c : World} (r : Result T Stop) → IsFinal status → AreHeld a.folder.held promise.fetched inputs → promise.Reports inputs (answered status script) → Did [] a b → Wrote script b c r → CameIn promise a c (way_with status r)
+  pub came_wrote : {T : Type 0} {a b c : World} (r : Result T Stop) → IsFinal status → AreFetched a.folder c.folder promise.fetched inputs → promise.Reports inputs (answered status script) → Did [] a b → Wrote script b c r → CameIn promise a c (way_with status r)
   came_wrote {a = a} {b = b} {c = c} r final held report d w = record { inputs = inputs; are_held = held; came = wrote_to a b c r final report d w }
 
-module _ (promise : Promise) (inputs : List (List ℕ)) (a b : World) (err now : Stream) (held : AreHeld a.folder.held promise.fetched inputs) where
+module _ (promise : Promise) (inputs : List (List ℕ)) (a b : World) (err now : Stream) (held : AreFetched a.folder b.folder promise.fetched inputs) where
   ended : (status final : Status) (report : Report) → promise.Reports inputs report → status ≡ final → final ≡ report.status → IsFinal final → Did report.script a b → SaysAsReported report.said err now → Ran promise a b err now status
   ended Good final report r s t f d said = record { inputs = inputs; are_held = held; report = report; reports = r; status_is = subst (λ x. x ≡ report.status) (sym s) t; did = d; said = said }
   ended No final report r s t f d said = record { inputs = inputs; are_held = held; report = report; reports = r; status_is = subst (λ x. x ≡ report.status) (sym s) t; did = d; said = said }

@@ -12,9 +12,10 @@ use Rattle.dcsp_script.proofs.Parts.{did_part, start_part, failed_part, put_of_p
 use Rattle.abt_promise.specs.declared.status.Status.{Status}
 use Rattle.abt_promise.specs.declared.status.Status.TheVariants.{Good, No, Words, Model, Text, Unfinished, Fault, Memory}
 use Rattle.abt_promise.specs.Statuses.{IsFinal, IsRefusal}
-use Rattle.abt_promise.specs.Promises.{Report, Promise, AreHeld, inputs_of}
+use Rattle.abt_promise.specs.Promises.{Report, Promise, AreFetched, inputs_of}
 use Rattle.abt_promise.specs.Runs.{HasFailed, HasLacked, Answers, Faults, Lacks, Ran}
 use Rattle.abt_promise.specs.Clauses.{HasCause, LeavesOthers, CreatesOwn, GainsText, IsComplete, IsLawful}
+use Rattle.abt_promise.proofs.Fetched.{fetched_told}
 
 -- a script of which each write changes only names of these
 abbrev KeepsTo : List (List ℕ) → List Write → Type 0
@@ -170,16 +171,10 @@ module _ (promise : Promise) (lawful : IsLawful promise) (a b : World) where
         among : (part : List Write) → ((name : List ℕ) → Contains (created_by part) name → Contains promise.created name) → All (λ name. Contains promise.created name) (created_by part)
         among part to k d below = to (get_or (created_by part) k d) (k, below, get_or_default (created_by part) k (get_or (created_by part) k d) d below)
 
-    -- the bytes that were fetched are those that the folder tells
-    told_inputs : (files : List ℕ → Option (List ℕ)) (names inputs : List (List ℕ)) → AreHeld (Some files) names inputs → inputs ≡ inputs_of files names
-    told_inputs files [] [] h = refl
-    told_inputs files [] (x ∷ inputs) h = absurd h
-    told_inputs files (n ∷ names) [] h = absurd h
-    told_inputs files (n ∷ names) (x ∷ inputs) h = let e = h.0 in let f = told_inputs files names inputs h.1 in cc
-
     module _ (files : List ℕ → Option (List ℕ)) (told : a.folder.held ≡ Some files) (r : Report) (reports : promise.Reports (inputs_of files promise.fetched) r) where
-      on_inputs : (inputs : List (List ℕ)) → AreHeld a.folder.held promise.fetched inputs → promise.Reports inputs r
-      on_inputs inputs held = subst (λ i. promise.Reports i r) (sym (told_inputs files promise.fetched inputs (subst (λ f. AreHeld f promise.fetched inputs) told held))) reports
+      -- the bytes that were fetched are those that the folder tells
+      on_inputs : (inputs : List (List ℕ)) → AreFetched a.folder b.folder promise.fetched inputs → promise.Reports inputs r
+      on_inputs inputs held = subst (λ i. promise.Reports i r) (sym (fetched_told a.folder b.folder files promise.fetched inputs told held)) reports
 
       same_report : (status : Status) (k : Answers promise a b err now status) → k.report ≡ r
       same_report status k = lawful.one k.inputs k.report r k.reports (on_inputs k.inputs k.are_held)

@@ -1,2 +1,4 @@
 pub mod Coming
 pub mod Following
+pub mod Fetched
+pub mod Steps

@@ -8,7 +8,7 @@ use Rattle.dcsp_script.specs.Ways.{Did, DidStartOf, FailedIn}
 use Rattle.abt_promise.specs.declared.status.Status.{Status}
 use Rattle.abt_promise.specs.declared.status.Status.TheVariants.{Good, No, Words, Model, Text, Unfinished, Fault, Memory}
 use Rattle.abt_promise.specs.Statuses.{IsFinal, stop_status, stop_text}
-use Rattle.abt_promise.specs.Promises.{Report, Promise, answered, refused, AreHeld, IsSaid, SaysAsReported}
+use Rattle.abt_promise.specs.Promises.{Report, Promise, answered, refused, AreFetched, IsSaid, SaysAsReported}
 
 -- a fetch of the line failed: all that stands before it in the order passed, and nothing was written
 pub record FetchFailed (promise : Promise) (inputs : List (List ℕ)) (old new : World) : Type 0 where
@@ -38,7 +38,7 @@ HasLacked promise inputs old new =
 -- with a final status: this is the line's report on the bytes of its files, the whole script was made, nothing failed, and what it says was said
 pub record Answers (promise : Promise) (old new : World) (err now : Stream) (status : Status) : Type 0 where
   pub inputs : List (List ℕ)
-  pub are_held : AreHeld old.folder.held promise.fetched inputs
+  pub are_held : AreFetched old.folder new.folder promise.fetched inputs
   pub report : Report
   pub reports : promise.Reports inputs report
   pub status_is : status ≡ report.status
@@ -48,14 +48,14 @@ pub record Answers (promise : Promise) (old new : World) (err now : Stream) (sta
 -- with status 6
 pub record Faults (promise : Promise) (old new : World) (err now : Stream) : Type 0 where
   pub inputs : List (List ℕ)
-  pub are_held : AreHeld old.folder.held promise.fetched inputs
+  pub are_held : AreFetched old.folder new.folder promise.fetched inputs
   pub failed : HasFailed promise inputs old new
   pub said : IsSaid (stop_text stops.Fault) err now
 
 -- with status 7
 pub record Lacks (promise : Promise) (old new : World) (err now : Stream) : Type 0 where
   pub inputs : List (List ℕ)
-  pub are_held : AreHeld old.folder.held promise.fetched inputs
+  pub are_held : AreFetched old.folder new.folder promise.fetched inputs
   pub lacked : HasLacked promise inputs old new
   pub said : IsSaid (stop_text stops.Memory) err now
 
@@ -88,7 +88,7 @@ CameTo promise inputs old new (Stopped stops.Memory) = HasLacked promise inputs 
 -- the same on the bytes of its files
 pub record CameIn (promise : Promise) (old new : World) (way : Way) : Type 0 where
   pub inputs : List (List ℕ)
-  pub are_held : AreHeld old.folder.held promise.fetched inputs
+  pub are_held : AreFetched old.folder new.folder promise.fetched inputs
   pub came : CameTo promise inputs old new way
 
 -- the status of what a line came to, and what was said of it

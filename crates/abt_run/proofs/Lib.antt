@@ -1,7 +1,7 @@
 pub mod Outcomes
 pub mod Scripts
 pub mod Lawful
-pub mod Coming
+pub mod HeldProblems
 pub mod Headlines
 pub mod Verdicts
 pub mod Telling

@@ -17,7 +17,7 @@ use Rattle.abt_run.proofs.Scripts.{before_answer, script_is}
 
 -- what was made is made, whatever it gives
 pub as_ok : {T U : Type 0} {s : List Write} {a b : World} {x : T} (y : U) → Wrote {T = T} s a b (Ok x) → Wrote s a b (Ok y)
-as_ok y w = record { ended = w.ended }
+as_ok y w = record { ended = w.ended; handed = w.handed }
 
 module _ (asked : Asked) where
   -- the run or its record was stopped

@@ -1,34 +1,19 @@
 -- What `replay MODEL SCHEDULE LOG [--trace]` promises.
-use Rattle.std.specs.Prelude.{◌≡◌, ℕ, Bool, List, [], ◌∷◌}
-use Rattle.dcsp_problem.specs.Problems.{Contents}
-use Rattle.abt_promise.specs.Promises.{Report, Promise, refused}
-use Rattle.abt_input.specs.declared.error.CommandError.{CommandError}
-use Rattle.abt_input.specs.Inputs.{IsModelOf, HasProblem, HasChoices}
-use Rattle.abt_input.specs.Errors.{IsErrorOfModel, IsErrorOfSchedule, error_status, error_text}
-use Rattle.abt_run.specs.Asked.{replay, run_report}
+use Rattle.std.specs.Prelude.{ℕ, Bool, List, [], ◌∷◌}
+use Rattle.abt_promise.specs.Promises.{Promise}
+use Rattle.abt_input.specs.Kinds.{a_model, a_schedule}
+use Rattle.abt_input.specs.Plans.{Plan, Answer, Read, promise_by}
+use Rattle.abt_run.specs.Endings.{end_status}
+use Rattle.abt_run.specs.Asked.{Asked, asked_run, asked_script, replay}
 
--- its report of the bytes of a model and a schedule: the model is refused; or it has a problem and the schedule is refused; or the run under the schedule's choices is reported
-pub data ReplayReport (log : List ℕ) (trace : Bool) (model schedule : List ℕ) (report : Report) : Type 0 where
-  bad_model : (error : CommandError) → IsErrorOfModel model error → report ≡ refused (error_status error) (error_text error) → ReplayReport log trace model schedule report
-  bad_schedule : (error : CommandError) → HasProblem model → IsErrorOfSchedule schedule error → report ≡ refused (error_status error) (error_text error) → ReplayReport log trace model schedule report
-  replayed : (problem : Contents) (choices : List ℕ) → IsModelOf model problem → HasChoices schedule choices → report ≡ run_report (replay problem choices log trace) → ReplayReport log trace model schedule report
+-- a run is made, and tells how it ended
+abbrev pub run_plan : Asked → Plan
+run_plan asked = Answer (end_status (asked_run asked).end) (asked_script asked)
 
--- its report of the bytes that it fetches
-abbrev pub ReplayReports : List ℕ → Bool → List (List ℕ) → Report → Type 0
-ReplayReports log trace (model ∷ schedule ∷ []) report = ReplayReport log trace model schedule report
-ReplayReports log trace inputs report = ⊥
-
--- the model is fetched first, and the schedule where the model has a problem
-abbrev pub ReplayFetches : List ℕ → List ℕ → List (List ℕ) → List ℕ → Type 0
-ReplayFetches model_name schedule_name [] name = name ≡ model_name
-ReplayFetches model_name schedule_name (model ∷ []) name = (name ≡ schedule_name) × HasProblem model
-ReplayFetches model_name schedule_name inputs name = ⊥
+-- the model is read, and then the schedule, and the run under its choices is made
+abbrev pub replay_plan : List ℕ → Bool → Plan
+replay_plan log trace = Read a_model (λ problem. Read a_schedule (λ choices. run_plan (replay problem choices log trace)))
 
 -- the line's promise
 abbrev pub replay_promise : List ℕ → List ℕ → List ℕ → Bool → Promise
-replay_promise model_name schedule_name log trace = record {
-  fetched = model_name ∷ schedule_name ∷ [];
-  created = log ∷ [];
-  Fetches = ReplayFetches model_name schedule_name;
-  Reports = ReplayReports log trace;
-}
+replay_promise model schedule log trace = promise_by (model ∷ schedule ∷ []) (log ∷ []) (replay_plan log trace)

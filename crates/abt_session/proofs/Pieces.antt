@@ -27,12 +27,12 @@ traced false number d e h = cc
 
 -- memory is wanted once a script was made
 pub made_then_memory : {T U : Type 0} {s : List Write} {a b : World} {x : T} (r : Result U Stop) → OnErr r (r ≡ Err Memory) → Wrote {T = T} s a b (Ok x) → Wrote s a b r
-made_then_memory (Ok y) h w = record { ended = w.ended }
-made_then_memory {s = s} {a = a} {b = b} (Err e) h w = rw h (record { ended = record { start = s; rest = []; is_script = append-nil s; did = w.ended } })
+made_then_memory (Ok y) h w = record { ended = w.ended; handed = w.handed }
+made_then_memory {s = s} {a = a} {b = b} (Err e) h w = rw h (record { ended = record { start = s; rest = []; is_script = append-nil s; did = w.ended }; handed = w.handed })
 
 -- memory is wanted before anything was made
 pub memory_at_once : {T : Type 0} (s : List Write) (a : World) → Wrote {T = T} s a a (Err Memory)
-memory_at_once s a = record { ended = record { start = []; rest = s; is_script = refl; did = did_nothing a } }
+memory_at_once s a = record { ended = record { start = []; rest = s; is_script = refl; did = did_nothing a }; handed = refl }
 
 -- the same stop, told by `?`
 pub stopped_so : {T U : Type 0} {s : List Write} {a b : World} {e : Stop} (r : Result U Stop) → IsErr r × IsErrAnd r (λ y. y ≡ e) → Wrote {T = T} s a b (Err e) → Wrote s a b r

@@ -115,7 +115,7 @@ module _ (s : Session) where
         record {
           comes = one_more s k c h.comes open_ found room;
           stands = subst (StandsAt network') next stands';
-          left = left_more (left_from s k) writes h.left wrote.ended;
+          left = left_more (left_from s k) writes h.left wrote;
           takes = takes' ∙ ap (λ l. l ++ kept keep (list_number q c (network_after s k) ∷ [])) h.takes ∙ append_assoc taken mine (kept keep (list_number q c (network_after s k) ∷ []))
               ∙ ap (λ p. taken ++ (mine ++ kept keep (list_number p c (network_after s k) ∷ []))) same
               ∙ ap (λ l. taken ++ l) (sym (kept-append keep (take k (run_of s).numbers) (number ∷ [])) ∙ ap (kept keep) (sym numbers));
@@ -143,7 +143,7 @@ module _ (s : Session) where
 
   module _ (keep : Bool) (k : ℕ) (network : NetworkState) (taken now : List ℕ) (answers to_come : ℕ → Option ℕ) (a b : World) (h : Turns s keep k network taken now answers to_come a b) (last : k ≡ (run_of s).net.deliveries) where
     all_written : {T : Type 0} (x : T) → Wrote (deliveries_write s) a b (Ok x)
-    all_written x = left_ends (left_from s k) (none_left s k last) h.left (record { ended = did_nothing b })
+    all_written x = left_ends (left_from s k) (none_left s k last) h.left (record { ended = did_nothing b; handed = refl })
 
     takes_all : now ≡ taken ++ kept keep (run_of s).numbers
     takes_all =

@@ -84,7 +84,7 @@ module _ (s : Session) where
     pub whole_run : {y : U} → Wrote {T = T} (begun_script s.problem s.log) a b (Ok x) → Leaves s (deliveries_write s) keep taken now answers to_come network b c (Ok halt) → log ≡ s.log
         → Wrote {T = U} (Append log (codes "end\n") ∷ []) c d (Ok y) → Leaves s (run_script s) keep taken now answers to_come network a d (Ok halt)
     whole_run w h same tail = record {
-      wrote = then_rest w (then_rest h.wrote (wrote_as (ap (λ l. Append l (codes "end\n") ∷ []) same) (record { ended = tail.ended })));
+      wrote = then_rest w (then_rest h.wrote (wrote_as (ap (λ l. Append l (codes "end\n") ∷ []) same) (record { ended = tail.ended; handed = tail.handed })));
       takes_part = h.takes_part;
       finishes = h.finishes;
     }

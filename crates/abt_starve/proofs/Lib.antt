@@ -1,4 +1,3 @@
 pub mod Lawful
-pub mod Coming
 pub mod Files
 pub mod Replaying

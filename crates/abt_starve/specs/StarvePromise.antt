@@ -1,15 +1,14 @@
 -- What `starve MODEL FROM TO FILE` promises.
-use Rattle.std.specs.Prelude.{◌≡◌, ℕ, ◌-◌, List, [], ◌∷◌, ◌++◌, codes, decimal}
+use Rattle.std.specs.Prelude.{ℕ, ◌-◌, List, [], ◌∷◌, ◌++◌, codes, decimal}
 use Rattle.dcsp_problem.specs.Problems.{Contents, csp_of}
 use Rattle.dcsp_script.specs.Scripts.{Write, Create, Append, Put}
 use Rattle.abt_defs.specs.Runs.{End, Refuted, Solved, Capped, Spent, Run, starved}
 use Rattle.abt_schedule.specs.Schedules.{schedule_text}
 use Rattle.abt_session.specs.Starving.{starving_choices}
 use Rattle.abt_promise.specs.declared.status.Status.TheVariants.{Good}
-use Rattle.abt_promise.specs.Promises.{Report, Promise, answered, refused}
-use Rattle.abt_input.specs.declared.error.CommandError.{CommandError}
-use Rattle.abt_input.specs.Inputs.{IsModelOf}
-use Rattle.abt_input.specs.Errors.{IsErrorOfModel, error_status, error_text}
+use Rattle.abt_promise.specs.Promises.{Promise}
+use Rattle.abt_input.specs.Kinds.{a_model}
+use Rattle.abt_input.specs.Plans.{Plan, Answer, Read, promise_by}
 
 -- the most deliveries of a run that starves a link
 abbrev pub most_starved : ℕ
@@ -38,30 +37,10 @@ starved_line end deliveries = codes "starved " ++ end_word end ++ codes " delive
 abbrev pub starve_script : List ℕ → List ℕ → Run → List Write
 starve_script file choices run = Create file ∷ Append file (schedule_text choices) ∷ Put (starved_line run.end run.net.deliveries) ∷ []
 
--- what is reported of a problem
-abbrev pub starve_report : ℕ → ℕ → List ℕ → Contents → Report
-starve_report from to file p = answered Good (starve_script file (choices_of p from to most_starved) (starving_run p from to most_starved))
-
--- its report of the bytes of a model: it is refused, or the run of its problem that starves the link is reported
-pub data StarveReport (from to : ℕ) (file model : List ℕ) (report : Report) : Type 0 where
-  bad_model : (error : CommandError) → IsErrorOfModel model error → report ≡ refused (error_status error) (error_text error) → StarveReport from to file model report
-  ran : (problem : Contents) → IsModelOf model problem → report ≡ starve_report from to file problem → StarveReport from to file model report
-
--- its report of the bytes that it fetches
-abbrev pub StarveReports : ℕ → ℕ → List ℕ → List (List ℕ) → Report → Type 0
-StarveReports from to file (model ∷ []) report = StarveReport from to file model report
-StarveReports from to file inputs report = ⊥
-
--- only the model is fetched
-abbrev pub StarveFetches : List ℕ → List (List ℕ) → List ℕ → Type 0
-StarveFetches model_name [] name = name ≡ model_name
-StarveFetches model_name inputs name = ⊥
+-- the model is read, and the run of its problem that starves the link is told
+abbrev pub starve_plan : ℕ → ℕ → List ℕ → Plan
+starve_plan from to file = Read a_model (λ p. Answer Good (starve_script file (choices_of p from to most_starved) (starving_run p from to most_starved)))
 
 -- the line's promise
 abbrev pub starve_promise : List ℕ → ℕ → ℕ → List ℕ → Promise
-starve_promise model_name from to file = record {
-  fetched = model_name ∷ [];
-  created = file ∷ [];
-  Fetches = StarveFetches model_name;
-  Reports = StarveReports from to file;
-}
+starve_promise model from to file = promise_by (model ∷ []) (file ∷ []) (starve_plan from to file)

@@ -15,7 +15,7 @@ struct WantingFolder {
 impl Folder for WantingFolder {
     ghost use Rattle.std.specs.Prelude.{None, [], ◌∷◌};
 
-    ghost place = { λ _. record { held = None; created = [] ∷ []; reads = λ _. 0; writes = λ _. 0 } };
+    ghost place = { λ _. record { held = None; handed = []; created = [] ∷ []; reads = λ _. 0; writes = λ _. 0 } };
 
     fn fetch(
         &mut self,

@@ -1,2 +1,4 @@
 pub mod Outside
 pub mod Memory
+pub mod Handed
+pub mod Handing

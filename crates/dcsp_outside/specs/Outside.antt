@@ -8,18 +8,21 @@ use Rattle.dcsp_outside.specs.declared.folder.FolderError.{FolderError}
 use Rattle.dcsp_outside.specs.declared.folder.FolderError.TheVariants as folder_errors
 use Rattle.dcsp_outside.specs.declared.sink.SinkError.{SinkError}
 use Rattle.dcsp_outside.specs.declared.sink.SinkError.TheVariants as sink_errors
+use Rattle.dcsp_outside.specs.Handed.{Handed, AllOf, MoreThan, PartOf, EndOf}
 
--- a folder as contracts see it: what is held under each name, where the folder tells it; the names that calls of `create` made, in their order; and how many reads and writes of each name have failed
+-- a folder as contracts see it: what is held under each name, where the folder tells it; what answered fetches handed over, in their order; the names that calls of `create` made, in their order; and how many reads and writes of each name have failed
 pub record Place : Type 0 where
   pub held : Option (List ℕ → Option (List ℕ))
+  pub handed : List Handed
   pub created : List (List ℕ)
   pub reads : List ℕ → ℕ
   pub writes : List ℕ → ℕ
 
--- a sink as contracts see it: all bytes that were written, where the sink tells them, and how many calls have failed
+-- a sink as contracts see it: all bytes that were written, where the sink tells them; how many calls have failed; and how many were refused for want of memory
 pub record Stream : Type 0 where
   pub written : Option (List ℕ)
   pub faults : ℕ
+  pub lacks : ℕ
 
 -- one more, up to the last value of 64 bits, where a count stays
 abbrev pub one_more : ℕ → ℕ
@@ -50,6 +53,16 @@ UnlessPutFailed (Ok done) P = P
 UnlessPutFailed (Err sink_errors.Memory) P = P
 UnlessPutFailed (Err sink_errors.Failed) P = ⊤
 
+-- this holds unless the sink lacked memory
+abbrev pub UnlessPutLacked : {T : Type 0} → Result T SinkError → Type 0 → Type 0
+UnlessPutLacked (Ok done) P = P
+UnlessPutLacked (Err sink_errors.Memory) P = ⊤
+UnlessPutLacked (Err sink_errors.Failed) P = P
+
+-- the sink refused a piece: a count of its refusals rose
+abbrev pub HasRefused : Stream → Stream → Type 0
+HasRefused before now = Rose before.faults now.faults ⊎ Rose before.lacks now.lacks
+
 -- where the contents are told, the old and the new ones stand so
 abbrev pub Told : {A : Type 0} → Option A → Option A → (A → A → Type 0) → Type 0
 Told (Some old) (Some new) P = P old new
@@ -77,6 +90,22 @@ AddsPartOf piece old new = (part : List ℕ) × IsPrefixOf part piece × (new �
 -- a file is as it was, or some first bytes of the piece went last
 abbrev pub AppendsPartOf : List ℕ → Option (List ℕ) → Option (List ℕ) → Type 0
 AppendsPartOf piece old new = (new ≡ old) ⊎ ((part : List ℕ) × IsPrefixOf part piece × (new ≡ Some (bytes_of old ++ part)))
+
+-- what went last in a list that grew
+abbrev pub gained : List ℕ → List ℕ → List ℕ
+gained old new = drop (length old) new
+
+-- what a fetch handed over, where it was answered
+abbrev pub handed_by : List ℕ → ℕ → List ℕ → Result Fetched FolderError → List Handed
+handed_by name most bytes (Ok Whole) = AllOf name bytes ∷ []
+handed_by name most bytes (Ok Long) = MoreThan name most ∷ []
+handed_by name most bytes (Err e) = []
+
+-- what a fetch of a piece handed over, where it was answered
+abbrev pub handed_piece : List ℕ → ℕ → List ℕ → Result Piece FolderError → List Handed
+handed_piece name from bytes (Ok Part) = PartOf name from bytes ∷ []
+handed_piece name from bytes (Ok End) = EndOf name from bytes ∷ []
+handed_piece name from bytes (Err e) = []
 
 -- a fetch of these bytes: all of them go last, or there are more than `most`, or it is refused
 abbrev pub Fetches : List ℕ → ℕ → List ℕ → List ℕ → Result Fetched FolderError → Type 0

@@ -1,7 +1,7 @@
 //! A folder of named bytes.
 
 ghost use Rattle.std.specs.Prelude.{◌≡◌, ◌^◌, ◌≤◌, [], ◌∷◌, ◌++◌, ◌⊎◌, IfSome, OnOk, IsErrOf, Contains, is_ok, if◌then◌else◌};
-ghost use Rattle.dcsp_outside.specs.Outside.{Place, Rose, NoneFalls, SameCounts, UnlessFailed, Told, ChangesName, AppendsPartOf, Fetches, AddsUpTo, FetchesPiece, AddsPiece, bytes_of};
+ghost use Rattle.dcsp_outside.specs.Outside.{Place, Rose, NoneFalls, SameCounts, UnlessFailed, Told, ChangesName, AppendsPartOf, Fetches, AddsUpTo, FetchesPiece, AddsPiece, bytes_of, gained, handed_by, handed_piece};
 
 /// What a fetch found.
 #[derive(Clone, Copy, Debug, PartialEq, Eq)]
@@ -36,7 +36,8 @@ pub enum FolderError {
 /// A folder: bytes under names.
 ///
 /// What it holds may be left untold, as a folder on disk leaves it; the clauses on bytes speak of
-/// folders that tell it. A name that is not held has no bytes. Counts of failures never fall, and
+/// folders that tell it. What answered fetches handed over is told of each folder. A name that is not
+/// held has no bytes. Counts of failures never fall, and
 /// a call that does not answer `Failed` leaves each as it was.
 pub trait Folder {
     /// The folder as contracts see it.
@@ -49,6 +50,8 @@ pub trait Folder {
         ensures bytes { IfSome (place self.old).held
             (λ files. Fetches (bytes_of (files name.now)) most into.old.items into.new.items result) }
         ensures adds { AddsUpTo most into.old.items into.new.items result }
+        ensures handed { (place self.new).handed ≡ (place self.old).handed
+            ++ handed_by name.now most (gained into.old.items into.new.items) result }
         ensures held { (place self.new).held ≡ (place self.old).held }
         ensures created { (place self.new).created ≡ (place self.old).created }
         ensures reads { NoneFalls (place self.old).reads (place self.new).reads }
@@ -74,6 +77,8 @@ pub trait Folder {
         ensures bytes { IfSome (place self.old).held
             (λ files. FetchesPiece (bytes_of (files name.now)) from most into.old.items into.new.items result) }
         ensures adds { AddsPiece most into.old.items into.new.items result }
+        ensures handed { (place self.new).handed ≡ (place self.old).handed
+            ++ handed_piece name.now from (gained into.old.items into.new.items) result }
         ensures held { (place self.new).held ≡ (place self.old).held }
         ensures created { (place self.new).created ≡ (place self.old).created }
         ensures reads { NoneFalls (place self.old).reads (place self.new).reads }
@@ -91,6 +96,7 @@ pub trait Folder {
         ensures failed { IsErrOf result FolderError.Failed → Told (place self.old).held (place self.new).held
             (ChangesName name.now (λ old new. (new ≡ old) ⊎ (new ≡ Some []))) }
         ensures memory { IsErrOf result FolderError.Memory → (place self.new).held ≡ (place self.old).held }
+        ensures handed { (place self.new).handed ≡ (place self.old).handed }
         ensures created { (place self.new).created
             ≡ (if is_ok result then (place self.old).created ++ name.now ∷ [] else (place self.old).created) }
         ensures reads { NoneFalls (place self.old).reads (place self.new).reads }
@@ -109,6 +115,7 @@ pub trait Folder {
         ensures failed { IsErrOf result FolderError.Failed → Told (place self.old).held (place self.new).held
             (ChangesName name.now (AppendsPartOf bytes.now)) }
         ensures memory { IsErrOf result FolderError.Memory → (place self.new).held ≡ (place self.old).held }
+        ensures handed { (place self.new).handed ≡ (place self.old).handed }
         ensures created { (place self.new).created ≡ (place self.old).created }
         ensures reads { NoneFalls (place self.old).reads (place self.new).reads }
         ensures writes { NoneFalls (place self.old).writes (place self.new).writes }

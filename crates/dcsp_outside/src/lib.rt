@@ -7,6 +7,7 @@
 mod call_plan;
 mod file_table;
 mod folder;
+mod handing;
 mod kept_files;
 mod memory_folder;
 mod memory_sink;
@@ -16,6 +17,7 @@ mod sure_sink;
 
 pub use dcsp_list::Memory;
 pub use folder::{Fetched, Folder, FolderError, MOST_PIECE, Piece};
+pub use handing::Transcript;
 pub use memory_folder::MemoryFolder;
 pub use memory_sink::MemorySink;
 pub use sink::{Sink, SinkError};

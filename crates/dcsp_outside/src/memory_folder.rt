@@ -3,11 +3,12 @@
 ghost use Rattle.std.specs.Prelude.{◌≡◌, ℕ, ◌≤◌, ◌↔◌, [], ◌∷◌, ◌++◌, ◌||◌, OnOk, OnErr, IsErrOf, IsTrue, Some, false};
 ghost use Rattle.std.specs.Option.{option_copied};
 ghost use Rattle.std.specs.FinMap as map;
-ghost use Rattle.dcsp_outside.specs.Outside.{ChangesName, AppendsExactly, AppendsPartOf, Fetches, FetchesPiece, bytes_of};
+ghost use Rattle.dcsp_outside.specs.Outside.{ChangesName, AppendsExactly, AppendsPartOf, Fetches, FetchesPiece, bytes_of, gained, handed_by, handed_piece};
 ghost use Rattle.dcsp_outside.specs.Memory.{fails_next, fails_fetch, kept_of, is_failure, after_call};
 
 use crate::call_plan::{CallPlan, Failure};
 use crate::folder::{Fetched, Folder, FolderError, Piece};
+use crate::handing::Transcript;
 use crate::kept_files::{KeptFiles, fetch_bytes, fetch_piece_of, first_of};
 use dcsp_list::Memory;
 use std::alloc::Global;
@@ -23,6 +24,7 @@ use std::marker::Model;
 pub struct MemoryFolder {
     kept: KeptFiles,
     calls: CallPlan,
+    handed: Transcript,
 }
 
 impl Model for MemoryFolder {
@@ -32,7 +34,7 @@ impl Model for MemoryFolder {
 
     ghost coded = { folder_code };
 
-    ghost view = { λ folder. record { kept = folder.kept; calls = folder.calls } };
+    ghost view = { λ folder. record { kept = folder.kept; calls = folder.calls; handed = folder.handed.answers } };
 }
 
 impl MemoryFolder {
@@ -40,10 +42,12 @@ impl MemoryFolder {
     pub fn new(alloc: Global) -> MemoryFolder
         ensures kept { result.kept ≡ record { files = map.empty; created = [] } }
         ensures calls { result.calls ≡ record { made = 0; failing = []; faults = 0 } }
+        ensures handed { result.handed ≡ [] }
     {
         MemoryFolder {
             kept: KeptFiles::new(alloc),
             calls: CallPlan::new(alloc),
+            handed: Transcript::new(),
         }
     }
 
@@ -54,6 +58,7 @@ impl MemoryFolder {
         ensures err { OnErr result (self.new.kept ≡ self.old.kept) }
         ensures created { self.new.kept.created ≡ self.old.kept.created }
         ensures calls { self.new.calls ≡ self.old.calls }
+        ensures handed { self.new.handed ≡ self.old.handed }
     {
         self.kept.place(name, bytes)
     }
@@ -72,6 +77,7 @@ impl MemoryFolder {
         }) }
         ensures err { OnErr result (self.new.calls ≡ self.old.calls) }
         ensures kept { self.new.kept ≡ self.old.kept }
+        ensures handed { self.new.handed ≡ self.old.handed }
     {
         self.fail_after(call, 0)
     }
@@ -85,6 +91,7 @@ impl MemoryFolder {
         }) }
         ensures err { OnErr result (self.new.calls ≡ self.old.calls) }
         ensures kept { self.new.kept ≡ self.old.kept }
+        ensures handed { self.new.handed ≡ self.old.handed }
     {
         self.calls.add(Failure { call, kept })
     }
@@ -102,6 +109,7 @@ impl MemoryFolder {
         ensures calls { self.new.calls ≡ after_call self.old.calls (fails_fetch self.old name.now) }
         ensures never_falls { self.old.calls.faults ≤ self.new.calls.faults }
         ensures kept { self.new.kept ≡ self.old.kept }
+        ensures handed { self.new.handed ≡ self.old.handed }
     {
         let is_named = self.calls.count_call().is_some();
         if is_named || self.kept.file(name).is_none() {
@@ -119,6 +127,7 @@ impl MemoryFolder {
         ensures memory { IsErrOf result FolderError.Failed → ⊥ }
         ensures created { self.new.kept.created ≡ self.old.kept.created }
         ensures calls { self.new.calls ≡ self.old.calls }
+        ensures handed { self.new.handed ≡ self.old.handed }
     {
         if bytes.is_empty() {
             return Ok(());
@@ -134,6 +143,7 @@ impl MemoryFolder {
         ensures memory { IsErrOf result FolderError.Failed → ⊥ }
         ensures created { self.new.kept.created ≡ self.old.kept.created }
         ensures calls { self.new.calls ≡ self.old.calls }
+        ensures handed { self.new.handed ≡ self.old.handed }
     {
         match self.kept.append(name, bytes) {
             Ok(()) => Ok(()),
@@ -148,6 +158,7 @@ impl Folder for MemoryFolder {
 
     ghost place = { λ folder. record {
       held = Some (λ name. map.get folder.kept.files name);
+      handed = folder.handed;
       created = folder.kept.created;
       reads = λ _. folder.calls.faults;
       writes = λ _. folder.calls.faults;
@@ -160,11 +171,16 @@ impl Folder for MemoryFolder {
         ensures calls { self.new.calls ≡ after_call self.old.calls (fails_fetch self.old name.now) }
         ensures never_falls { self.old.calls.faults ≤ self.new.calls.faults }
         ensures kept { self.new.kept ≡ self.old.kept }
+        ensures handed { self.new.handed ≡ self.old.handed
+            ++ handed_by name.now most (gained into.old.items into.new.items) result }
     {
         if self.fails_fetch(name) {
             return Err(FolderError::Failed);
         }
-        fetch_bytes(self.kept.file(name).unwrap_or(&[]), most, into)
+        let start = into.len();
+        let found = fetch_bytes(self.kept.file(name).unwrap_or(&[]), most, into);
+        self.handed.fetched(name, most, &into[start..], found);
+        found
     }
 
     fn fetch_piece(
@@ -181,11 +197,16 @@ impl Folder for MemoryFolder {
         ensures calls { self.new.calls ≡ after_call self.old.calls (fails_fetch self.old name.now) }
         ensures never_falls { self.old.calls.faults ≤ self.new.calls.faults }
         ensures kept { self.new.kept ≡ self.old.kept }
+        ensures handed { self.new.handed ≡ self.old.handed
+            ++ handed_piece name.now from (gained into.old.items into.new.items) result }
     {
         if self.fails_fetch(name) {
             return Err(FolderError::Failed);
         }
-        fetch_piece_of(self.kept.file(name).unwrap_or(&[]), from, most, into)
+        let start = into.len();
+        let found = fetch_piece_of(self.kept.file(name).unwrap_or(&[]), from, most, into);
+        self.handed.fetched_piece(name, from, &into[start..], found);
+        found
     }
 
     fn create(&mut self, name: &str) -> Result<(), FolderError>
@@ -197,6 +218,7 @@ impl Folder for MemoryFolder {
         ensures created { OnOk result
             (self.new.kept.created ≡ self.old.kept.created ++ name.now ∷ []) }
         ensures err { OnErr result (self.new.kept ≡ self.old.kept) }
+        ensures handed { self.new.handed ≡ self.old.handed }
     {
         if self.calls.count_call().is_some() {
             self.calls.count_fault();
@@ -222,6 +244,7 @@ impl Folder for MemoryFolder {
         ensures part { IsErrOf result FolderError.Failed → ChangesName name.now (AppendsPartOf bytes.now)
             (map.get self.old.kept.files) (map.get self.new.kept.files) }
         ensures memory { IsErrOf result FolderError.Memory → self.new.kept ≡ self.old.kept }
+        ensures handed { self.new.handed ≡ self.old.handed }
     {
         let Some(kept) = self.calls.count_call() else {
             return self.add(name, bytes);

@@ -2,7 +2,7 @@
 
 ghost use Rattle.std.specs.Prelude.{◌≡◌, ℕ, ◌≤◌, ◌↔◌, [], ◌∷◌, ◌++◌, OnOk, OnErr, IsErrOf, IsTrue, false};
 ghost use Rattle.dcsp_outside.specs.Outside.{AddsPartOf};
-ghost use Rattle.dcsp_outside.specs.Memory.{fails_next, kept_of, is_put_failure, after_call};
+ghost use Rattle.dcsp_outside.specs.Memory.{fails_next, kept_of, is_put_failure, after_call, lacks_after};
 
 use crate::call_plan::{CallPlan, Failure};
 use crate::kept_files::first_of;
@@ -20,6 +20,7 @@ use std::marker::Model;
 pub struct MemorySink {
     written: Vec<u8>,
     calls: CallPlan,
+    lacks: u64,
 }
 
 impl Model for MemorySink {
@@ -28,7 +29,7 @@ impl Model for MemorySink {
 
     ghost Value = { SinkState };
 
-    ghost view = { λ sink. record { written = sink.written.items; calls = sink.calls } };
+    ghost view = { λ sink. record { written = sink.written.items; calls = sink.calls; lacks = sink.lacks } };
 }
 
 impl MemorySink {
@@ -36,10 +37,12 @@ impl MemorySink {
     pub fn new(alloc: Global) -> MemorySink
         ensures written { result.written ≡ [] }
         ensures calls { result.calls ≡ record { made = 0; failing = []; faults = 0 } }
+        ensures lacks { result.lacks ≡ 0 }
     {
         MemorySink {
             written: Vec::new(alloc),
             calls: CallPlan::new(alloc),
+            lacks: 0,
         }
     }
 
@@ -57,6 +60,7 @@ impl MemorySink {
         }) }
         ensures err { OnErr result (self.new.calls ≡ self.old.calls) }
         ensures written { self.new.written ≡ self.old.written }
+        ensures lacks { self.new.lacks ≡ self.old.lacks }
     {
         self.fail_after(call, 0)
     }
@@ -70,6 +74,7 @@ impl MemorySink {
         }) }
         ensures err { OnErr result (self.new.calls ≡ self.old.calls) }
         ensures written { self.new.written ≡ self.old.written }
+        ensures lacks { self.new.lacks ≡ self.old.lacks }
     {
         self.calls.add(Failure { call, kept })
     }
@@ -87,10 +92,15 @@ impl MemorySink {
         ensures err { OnErr result (self.new.written ≡ self.old.written) }
         ensures memory { IsErrOf result SinkError.Failed → ⊥ }
         ensures calls { self.new.calls ≡ self.old.calls }
+        ensures lacks { self.new.lacks ≡ lacks_after self.old.lacks result }
+        ensures lacks_rise { self.old.lacks ≤ self.new.lacks }
     {
         match self.written.extend_from_slice(bytes) {
             Ok(()) => Ok(()),
-            Err(_) => Err(SinkError::Memory),
+            Err(_) => {
+                self.lacks = self.lacks.saturating_add(1);
+                Err(SinkError::Memory)
+            }
         }
     }
 }
@@ -98,7 +108,7 @@ impl MemorySink {
 impl Sink for MemorySink {
     ghost use Rattle.std.specs.Prelude.{Some};
 
-    ghost stream = { λ sink. record { written = Some sink.written; faults = sink.calls.faults } };
+    ghost stream = { λ sink. record { written = Some sink.written; faults = sink.calls.faults; lacks = sink.lacks } };
 
     fn put(&mut self, bytes: &[u8]) -> Result<(), SinkError>
         ensures goes_through { OnOk result (fails_next self.old.calls ≡ false) }
@@ -111,6 +121,8 @@ impl Sink for MemorySink {
         ensures part { IsErrOf result SinkError.Failed
             → AddsPartOf bytes.now self.old.written self.new.written }
         ensures memory { IsErrOf result SinkError.Memory → self.new.written ≡ self.old.written }
+        ensures lacks { self.new.lacks ≡ lacks_after self.old.lacks result }
+        ensures lacks_rise { self.old.lacks ≤ self.new.lacks }
     {
         let Some(kept) = self.calls.count_call() else {
             return self.write(bytes);

@@ -1,7 +1,7 @@
 //! A sink that takes bytes.
 
 ghost use Rattle.std.specs.Prelude.{◌≡◌, ◌≤◌, ◌++◌, OnOk, IsErrOf};
-ghost use Rattle.dcsp_outside.specs.Outside.{Stream, Rose, UnlessPutFailed, Told, AddsPartOf};
+ghost use Rattle.dcsp_outside.specs.Outside.{Stream, Rose, UnlessPutFailed, UnlessPutLacked, Told, AddsPartOf};
 
 /// Why a sink refused a piece.
 #[derive(Clone, Copy, Debug, PartialEq, Eq)]
@@ -15,8 +15,8 @@ pub enum SinkError {
 /// A sink: bytes are written at its end.
 ///
 /// What was written may be left untold, as a terminal leaves it; the clauses on bytes speak of
-/// sinks that tell it. The count of failures never falls, and a call that does not answer `Failed`
-/// leaves it as it was.
+/// sinks that tell it. The counts of failures and of refusals for want of memory never fall, and a
+/// call that does not answer `Failed`, or `Memory`, leaves that count as it was.
 pub trait Sink {
     /// The sink as contracts see it.
     ghost stream: { Self → Stream };
@@ -30,5 +30,8 @@ pub trait Sink {
         ensures memory { IsErrOf result SinkError.Memory → (stream self.new).written ≡ (stream self.old).written }
         ensures faults { (stream self.old).faults ≤ (stream self.new).faults }
         ensures count { UnlessPutFailed result ((stream self.new).faults ≡ (stream self.old).faults) }
-        ensures cause { IsErrOf result SinkError.Failed → Rose (stream self.old).faults (stream self.new).faults };
+        ensures cause { IsErrOf result SinkError.Failed → Rose (stream self.old).faults (stream self.new).faults }
+        ensures lacks { (stream self.old).lacks ≤ (stream self.new).lacks }
+        ensures lack_count { UnlessPutLacked result ((stream self.new).lacks ≡ (stream self.old).lacks) }
+        ensures lack { IsErrOf result SinkError.Memory → Rose (stream self.old).lacks (stream self.new).lacks };
 }

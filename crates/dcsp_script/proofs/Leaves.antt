@@ -72,8 +72,8 @@ files_told write name change None (Some g) to h = h
 files_told write name change None None to h = h
 
 module _ (p q : Place) (out : Stream) where
-  folder_failed : {T : Type 0} (write : Write) (m : FolderLeft write p.held q.held) → q.created ≡ p.created → NoneFalls p.reads q.reads → NoneFalls p.writes q.writes → RoseAt write (outside p out) (outside q out) → Wrote {T = T} (write ∷ []) (outside p out) (outside q out) (Err Fault)
-  folder_failed write m created reads writes rose = record {
+  folder_failed : {T : Type 0} (write : Write) (m : FolderLeft write p.held q.held) → q.handed ≡ p.handed → q.created ≡ p.created → NoneFalls p.reads q.reads → NoneFalls p.writes q.writes → RoseAt write (outside p out) (outside q out) → Wrote {T = T} (write ∷ []) (outside p out) (outside q out) (Err Fault)
+  folder_failed write m handed created reads writes rose = record {
     ended = record {
       start = [];
       write = write;
@@ -85,16 +85,17 @@ module _ (p q : Place) (out : Stream) where
       rose = rose;
       none_fell = record { reads = reads; writes = writes; out = omega arith };
     };
+    handed = handed;
   }
 
-  pub append_failed : {T : Type 0} (name bytes : List ℕ) → Told p.held q.held (ChangesName name (AppendsPartOf bytes)) → q.created ≡ p.created → NoneFalls p.reads q.reads → NoneFalls p.writes q.writes → Rose (p.writes name) (q.writes name) → Wrote {T = T} (Append name bytes ∷ []) (outside p out) (outside q out) (Err Fault)
-  append_failed name bytes h created reads writes rose = folder_failed (Append name bytes) (left_appended name bytes p.held q.held h) created reads writes rose
+  pub append_failed : {T : Type 0} (name bytes : List ℕ) → Told p.held q.held (ChangesName name (AppendsPartOf bytes)) → q.handed ≡ p.handed → q.created ≡ p.created → NoneFalls p.reads q.reads → NoneFalls p.writes q.writes → Rose (p.writes name) (q.writes name) → Wrote {T = T} (Append name bytes ∷ []) (outside p out) (outside q out) (Err Fault)
+  append_failed name bytes h handed created reads writes rose = folder_failed (Append name bytes) (left_appended name bytes p.held q.held h) handed created reads writes rose
 
-  pub create_failed : {T : Type 0} (name : List ℕ) → Told p.held q.held (ChangesName name (λ old new. (new ≡ old) ⊎ (new ≡ Some []))) → q.created ≡ p.created → NoneFalls p.reads q.reads → NoneFalls p.writes q.writes → Rose (p.writes name) (q.writes name) → Wrote {T = T} (Create name ∷ []) (outside p out) (outside q out) (Err Fault)
-  create_failed name h created reads writes rose = folder_failed (Create name) (left_created name p.held q.held h) created reads writes rose
+  pub create_failed : {T : Type 0} (name : List ℕ) → Told p.held q.held (ChangesName name (λ old new. (new ≡ old) ⊎ (new ≡ Some []))) → q.handed ≡ p.handed → q.created ≡ p.created → NoneFalls p.reads q.reads → NoneFalls p.writes q.writes → Rose (p.writes name) (q.writes name) → Wrote {T = T} (Create name ∷ []) (outside p out) (outside q out) (Err Fault)
+  create_failed name h handed created reads writes rose = folder_failed (Create name) (left_created name p.held q.held h) handed created reads writes rose
 
-  pub append_made : {T : Type 0} (x : T) (name bytes : List ℕ) → Told p.held q.held (ChangesName name (λ old new. new ≡ Some (bytes_of old ++ bytes))) → q.created ≡ p.created → SameCounts p q → Wrote (Append name bytes ∷ []) (outside p out) (outside q out) (Ok x)
-  append_made x name bytes h created counts = record {
+  pub append_made : {T : Type 0} (x : T) (name bytes : List ℕ) → Told p.held q.held (ChangesName name (λ old new. new ≡ Some (bytes_of old ++ bytes))) → q.handed ≡ p.handed → q.created ≡ p.created → SameCounts p q → Wrote (Append name bytes ∷ []) (outside p out) (outside q out) (Ok x)
+  append_made x name bytes h handed created counts = record {
     ended = record {
       after = record {
         files = files_told (Append name bytes) name (λ old. Some (bytes_of old ++ bytes)) p.held q.held (λ f g c. by_name name (λ old. Some (bytes_of old ++ bytes)) f g c.this c.others) h;
@@ -103,10 +104,11 @@ module _ (p q : Place) (out : Stream) where
       };
       counts = record { folder = counts; out = refl };
     };
+    handed = handed;
   }
 
-  pub create_made : {T : Type 0} (x : T) (name : List ℕ) → Told p.held q.held (ChangesName name (λ old new. new ≡ Some [])) → q.created ≡ p.created ++ name ∷ [] → SameCounts p q → Wrote (Create name ∷ []) (outside p out) (outside q out) (Ok x)
-  create_made x name h created counts = record {
+  pub create_made : {T : Type 0} (x : T) (name : List ℕ) → Told p.held q.held (ChangesName name (λ old new. new ≡ Some [])) → q.handed ≡ p.handed → q.created ≡ p.created ++ name ∷ [] → SameCounts p q → Wrote (Create name ∷ []) (outside p out) (outside q out) (Ok x)
+  create_made x name h handed created counts = record {
     ended = record {
       after = record {
         files = files_told (Create name) name (λ old. Some []) p.held q.held (λ f g c. by_name name (λ old. Some []) f g c.this c.others) h;
@@ -115,6 +117,7 @@ module _ (p q : Place) (out : Stream) where
       };
       counts = record { folder = counts; out = refl };
     };
+    handed = handed;
   }
 
   -- a folder whose contents are as they were
@@ -130,8 +133,8 @@ module _ (p q : Place) (out : Stream) where
   did_read held created counts = record { after = after_read held created; counts = record { folder = counts; out = refl } }
 
   -- a write of the folder for which memory was wanted
-  pub folder_lacked : {T : Type 0} (write : Write) → q.held ≡ p.held → q.created ≡ p.created → SameCounts p q → Wrote {T = T} (write ∷ []) (outside p out) (outside q out) (Err Memory)
-  folder_lacked write held created counts = record { ended = record { start = []; rest = write ∷ []; is_script = refl; did = did_read held created counts } }
+  pub folder_lacked : {T : Type 0} (write : Write) → q.held ≡ p.held → q.handed ≡ p.handed → q.created ≡ p.created → SameCounts p q → Wrote {T = T} (write ∷ []) (outside p out) (outside q out) (Err Memory)
+  folder_lacked write held handed created counts = record { ended = record { start = []; rest = write ∷ []; is_script = refl; did = did_read held created counts }; handed = handed }
 
 module _ (p : Place) (a b : Stream) where
   put_piece : (bytes : List ℕ) (x y : Option (List ℕ)) → Told x y (AddsPartOf bytes) → (part : List ℕ) × IsPrefixOf part bytes × Told x y (PutAfter (Put part ∷ []))
@@ -156,6 +159,7 @@ module _ (p : Place) (a b : Stream) where
           rose = rose;
           none_fell = record { reads = λ name. omega arith; writes = λ name. omega arith; out = never };
         };
+        handed = refl;
       }
 
   put_told : (bytes : List ℕ) (x y : Option (List ℕ)) → Told x y (λ old new. new ≡ old ++ bytes) → Told x y (PutAfter (Put bytes ∷ []))
@@ -170,6 +174,7 @@ module _ (p : Place) (a b : Stream) where
       after = record { files = files_same bytes p.held; out = put_told bytes a.written b.written h; created = sym (append-nil p.created) };
       counts = record { folder = record { reads = refl; writes = refl }; out = count };
     };
+    handed = refl;
   }
 
   pub put_lacked : {T : Type 0} (bytes : List ℕ) → b.written ≡ a.written → b.faults ≡ a.faults → Wrote {T = T} (Put bytes ∷ []) (outside p a) (outside p b) (Err Memory)
@@ -187,4 +192,5 @@ module _ (p : Place) (a b : Stream) where
         counts = record { folder = record { reads = refl; writes = refl }; out = count };
       };
     };
+    handed = refl;
   }

@@ -4,31 +4,32 @@ use Rattle.std.specs.Prelude.{IsErr, IsErrAnd, flat_map}
 use Rattle.std.proofs.lemmas.List.{drop_all}
 use Rattle.dcsp_script.specs.declared.stop.Stop.{Stop}
 use Rattle.dcsp_script.specs.Scripts.{Write, World}
-use Rattle.dcsp_script.specs.Ways.{Did, Ended, Wrote}
+use Rattle.dcsp_script.specs.Ways.{Ended, Wrote}
 use Rattle.dcsp_script.specs.Left.{HasLeft}
 use Rattle.dcsp_script.proofs.Ways.{did_nothing, did_both, then_ended, stop_ended}
 
 -- all is left
 pub left_all : (script : List Write) (a : World) → HasLeft script script a a
-left_all script a = record { made = []; is_script = refl; did = did_nothing a }
+left_all script a = record { made = []; is_script = refl; did = did_nothing a; handed = refl }
 
 -- the first of what is left was made
-pub left_more : {script first rest : List Write} {a b c : World} (is : List Write) → is ≡ first ++ rest → HasLeft script is a b → Did first b c → HasLeft script rest a c
-left_more {script = script} {first = first} {rest = rest} {a = a} {b = b} {c = c} is e h d = record {
+pub left_more : {T : Type 0} {script first rest : List Write} {a b c : World} {x : T} (is : List Write) → is ≡ first ++ rest → HasLeft script is a b → Wrote {T = T} first b c (Ok x) → HasLeft script rest a c
+left_more {script = script} {first = first} {rest = rest} {a = a} {b = b} {c = c} is e h w = record {
   made = h.made ++ first;
   is_script = append_assoc h.made first rest ∙ ap (λ l. h.made ++ l) (sym e) ∙ h.is_script;
-  did = did_both h.made first a b c h.did d;
+  did = did_both h.made first a b c h.did w.ended;
+  handed = w.handed ∙ h.handed;
 }
 
 -- what is left came to this
 pub left_wrote : {T : Type 0} {script rest : List Write} {a b c : World} {r : Result T Stop} → HasLeft script rest a b → Wrote rest b c r → Wrote script a c r
-left_wrote {T = T} {script = script} {rest = rest} {a = a} {b = b} {c = c} {r = r} h w = record { ended = subst (λ s. Ended s a c r) h.is_script (then_ended h.made rest a b c r h.did w.ended) }
+left_wrote {T = T} {script = script} {rest = rest} {a = a} {b = b} {c = c} {r = r} h w = record { ended = subst (λ s. Ended s a c r) h.is_script (then_ended h.made rest a b c r h.did w.ended); handed = w.handed ∙ h.handed }
 
 -- the first of what is left was stopped
 pub left_stopped : {T U : Type 0} {script first : List Write} {a b c : World} {e : Stop} (rest is : List Write) (r : Result U Stop) → is ≡ first ++ rest → IsErr r × IsErrAnd r (λ y. y ≡ e) → HasLeft script is a b → Wrote {T = T} first b c (Err e) → Wrote script a c r
 left_stopped {T = T} {U = U} {script = script} {first = first} {a = a} {b = b} {c = c} {e = e} rest is (Ok x) same err h w = absurd (let no = err.0 in cc)
 left_stopped {T = T} {U = U} {script = script} {first = first} {a = a} {b = b} {c = c} {e = e} rest is (Err y) same err h w =
-    rw err.1 (left_wrote h (record { ended = subst (λ s. Ended {T = U} s b c (Err e)) (sym same) (stop_ended T U first rest b c e w.ended) }))
+    rw err.1 (left_wrote h (record { ended = subst (λ s. Ended {T = U} s b c (Err e)) (sym same) (stop_ended T U first rest b c e w.ended); handed = w.handed }))
 
 -- what is left is this script, and it came to this
 pub left_ends : {T : Type 0} {script rest : List Write} {a b c : World} {r : Result T Stop} (is : List Write) → is ≡ rest → HasLeft script is a b → Wrote rest b c r → Wrote script a c r

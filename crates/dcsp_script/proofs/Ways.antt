@@ -99,10 +99,10 @@ pub stop_ended : (T U : Type 0) (s t : List Write) (a b : World) (e : Stop) → 
 stop_ended T U s t a b Fault h = failed_longer s t a b h
 stop_ended T U s t a b Memory h = start_longer s t a b h
 
-pub then_wrote : {T : Type 0} {s t : List Write} {a b c : World} {r : Result T Stop} → Did s a b → Wrote t b c r → Wrote (s ++ t) a c r
-then_wrote {s = s} {t = t} {a = a} {b = b} {c = c} {r = r} p q = record { ended = then_ended s t a b c r p q.ended }
+pub then_wrote : {T : Type 0} {s t : List Write} {a b c : World} {r : Result T Stop} → Did s a b → b.folder.handed ≡ a.folder.handed → Wrote t b c r → Wrote (s ++ t) a c r
+then_wrote {s = s} {t = t} {a = a} {b = b} {c = c} {r = r} p same q = record { ended = then_ended s t a b c r p q.ended; handed = q.handed ∙ same }
 
 -- the same of a call that hands the stop on
 pub stop_wrote : {T U : Type 0} {s : List Write} {a b : World} {e : Stop} (t : List Write) (r : Result U Stop) → IsErr r × IsErrAnd r (λ y. y ≡ e) → Wrote {T = T} s a b (Err e) → Wrote (s ++ t) a b r
 stop_wrote {T = T} {U = U} {s = s} {a = a} {b = b} {e = e} t (Ok x) is h = absurd (let no = is.0 in cc)
-stop_wrote {T = T} {U = U} {s = s} {a = a} {b = b} {e = e} t (Err y) is h = rw is.1 (record { ended = stop_ended T U s t a b e h.ended })
+stop_wrote {T = T} {U = U} {s = s} {a = a} {b = b} {e = e} t (Err y) is h = rw is.1 (record { ended = stop_ended T U s t a b e h.ended; handed = h.handed })

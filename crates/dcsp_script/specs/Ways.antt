@@ -78,6 +78,7 @@ Ended script old new (Ok done) = Did script old new
 Ended script old new (Err Fault) = FailedIn script old new
 Ended script old new (Err Memory) = DidStartOf script old new
 
--- a call that was to make this script ended so
+-- a call that was to make this script ended so, and the folder handed nothing over
 pub record Wrote {T : Type 0} (script : List Write) (old new : World) (result : Result T Stop) : Type 0 where
   pub ended : Ended script old new result
+  pub handed : new.folder.handed ≡ old.folder.handed

@@ -1,9 +1,13 @@
-use Rattle.std.proofs.Common.{◌≡◌, Result, Ok, Err, ap, ◌∙◌, sym}
-use Rattle.std.specs.Prelude.{IfOk, IsErr, IsErrAnd}
+use Rattle.std.proofs.Common.{◌≡◌, Result, Ok, Err, ◌∙◌, sym}
+use Rattle.std.specs.Prelude.{IfOk, IsErr, IsErrAnd, option_copied}
 use Rattle.abt_promise.specs.declared.status.Status.{Status}
 use Rattle.abt_input.specs.declared.error.CommandError.{CommandError}
-use Rattle.abt_run.proofs.Coming.{holds_problem}
-use Rattle.abt_best.proofs.Coming.{holds_whole, solve_unread, solve_ran, solve_stopped, search_ran, search_stopped}
+use Rattle.abt_input.proofs.Files.{read_held}
+use Rattle.abt_input.proofs.Keeping.{kept, came_unread, came_read, came_answer_with, came_stopped}
+use Rattle.abt_run.proofs.HeldProblems.{holds_problem}
+use Rattle.abt_best.specs.SolvePromise.{solve_plan}
+use Rattle.abt_best.proofs.WholeProblems.{holds_whole}
+use Rattle.abt_best.proofs.Lawful.{solve_sound, keeps_run, keeps_search}
 use Rattle.abt_best.proofs.line.run_solve.Goals as goal
 
 -- nothing is asked of an error
@@ -13,41 +17,47 @@ error_alone P Q (Err e) is = tt
 
 pub returns-in_err-problem-clause-came : goal.returns-in_err-problem-clause-came
 returns-in_err-problem-clause-came g c =
-    let e = c.in_err-problem.ensures in
-    solve_unread _ _ _ _ _ _ _ _ e.held e.created _ c.from_residual.ensures e.read e.counts (λ s. e.fault (ap Err s))
+    let l = c.args.line in
+    kept (solve_plan l.log.now l.seed (option_copied l.kept) l.trace) (solve_sound l.model.now l.log.now l.seed (option_copied l.kept) l.trace) (came_unread _ c.from_residual.ensures c.in_err-problem.ensures)
 
 pub returns-in_err-status : goal.returns-in_err-status
 returns-in_err-status g c =
+    let l = c.args.line in
     let e = c.in_ok-problem.ensures in
     let r = c.from_residual-in_err-status in
     record {
-      came = search_stopped _ _ _ _ _ _ _ _ e.held e.created _ e.read e.counts _ (λ s. c.in_default.not-Satisfy (c.aim.ensures.aim ∙ s)) _ _ r.ensures c.in_err-status.ensures.wrote;
+      came = kept (solve_plan l.log.now l.seed (option_copied l.kept) l.trace) (solve_sound l.model.now l.log.now l.seed (option_copied l.kept) l.trace)
+          (came_read e (keeps_search c.in_ok-problem.problem l.log.now l.seed (option_copied l.kept) l.trace _ (λ s. c.in_default.not-Satisfy (c.aim.ensures.aim ∙ s)) (came_stopped _ r.ensures c.in_err-status.ensures.wrote)));
       sound = error_alone _ _ r.result r.ensures;
       whole = error_alone _ _ r.result r.ensures;
     }
 
 pub returns-in_default : goal.returns-in_default
 returns-in_default g c =
+    let l = c.args.line in
     let e = c.in_ok-problem.ensures in
     let held = (g.F.Folder.place c.args.folder.now).held in
     record {
-      came = search_ran _ _ _ _ _ _ _ _ e.held e.created _ e.read e.counts _ (λ s. c.in_default.not-Satisfy (c.aim.ensures.aim ∙ s)) _ c.in_ok-status.ensures.status c.in_ok-status.ensures.wrote;
-      sound = holds_problem held c.args.line.model.now c.in_ok-problem.problem e.read c.vars-vars.ensures.csp c.problems_are_small.ensures;
-      whole = holds_whole held c.args.line.model.now c.in_ok-problem.problem e.read c.vars-vars.ensures.problem;
+      came = kept (solve_plan l.log.now l.seed (option_copied l.kept) l.trace) (solve_sound l.model.now l.log.now l.seed (option_copied l.kept) l.trace)
+          (came_read e (keeps_search c.in_ok-problem.problem l.log.now l.seed (option_copied l.kept) l.trace _ (λ s. c.in_default.not-Satisfy (c.aim.ensures.aim ∙ s)) (came_answer_with _ c.in_ok-status.ensures.status c.in_ok-status.ensures.wrote)));
+      sound = holds_problem held l.model.now c.in_ok-problem.problem (read_held e) c.vars-vars.ensures.csp c.problems_are_small.ensures;
+      whole = holds_whole held l.model.now c.in_ok-problem.problem (read_held e) c.vars-vars.ensures.problem;
     }
 
 pub returns-in_err-status-2-clause-came : goal.returns-in_err-status-2-clause-came
 returns-in_err-status-2-clause-came g c =
-    let e = c.in_ok-problem.ensures in
-    solve_stopped _ _ _ _ _ _ _ _ e.held e.created _ e.read e.counts _ (sym c.aim.ensures.aim ∙ c.in-Satisfy.is) _ _ c.from_residual-in_err-status-2.ensures c.in_err-status-2.ensures.wrote
+    let l = c.args.line in
+    kept (solve_plan l.log.now l.seed (option_copied l.kept) l.trace) (solve_sound l.model.now l.log.now l.seed (option_copied l.kept) l.trace)
+    (came_read c.in_ok-problem.ensures (keeps_run c.in_ok-problem.problem l.log.now l.seed (option_copied l.kept) l.trace _ (sym c.aim.ensures.aim ∙ c.in-Satisfy.is) (came_stopped _ c.from_residual-in_err-status-2.ensures c.in_err-status-2.ensures.wrote)))
 
 pub returns-clause-came : goal.returns-clause-came
 returns-clause-came g c =
-    let e = c.in_ok-problem.ensures in
-    solve_ran _ _ _ _ _ _ _ _ e.held e.created _ e.read e.counts _ (sym c.aim.ensures.aim ∙ c.in-Satisfy.is) _ c.in_ok-status-2.ensures.status c.in_ok-status-2.ensures.wrote
+    let l = c.args.line in
+    kept (solve_plan l.log.now l.seed (option_copied l.kept) l.trace) (solve_sound l.model.now l.log.now l.seed (option_copied l.kept) l.trace)
+    (came_read c.in_ok-problem.ensures (keeps_run c.in_ok-problem.problem l.log.now l.seed (option_copied l.kept) l.trace _ (sym c.aim.ensures.aim ∙ c.in-Satisfy.is) (came_answer_with _ c.in_ok-status-2.ensures.status c.in_ok-status-2.ensures.wrote)))
 
 pub returns-clause-sound : goal.returns-clause-sound
-returns-clause-sound g c = holds_problem (g.F.Folder.place c.args.folder.now).held c.args.line.model.now c.in_ok-problem.problem c.in_ok-problem.ensures.read c.vars-vars.ensures.csp c.problems_are_small.ensures
+returns-clause-sound g c = holds_problem (g.F.Folder.place c.args.folder.now).held c.args.line.model.now c.in_ok-problem.problem (read_held c.in_ok-problem.ensures) c.vars-vars.ensures.csp c.problems_are_small.ensures
 
 pub returns-clause-whole : goal.returns-clause-whole
-returns-clause-whole g c = holds_whole (g.F.Folder.place c.args.folder.now).held c.args.line.model.now c.in_ok-problem.problem c.in_ok-problem.ensures.read c.vars-vars.ensures.problem
+returns-clause-whole g c = holds_whole (g.F.Folder.place c.args.folder.now).held c.args.line.model.now c.in_ok-problem.problem (read_held c.in_ok-problem.ensures) c.vars-vars.ensures.problem

@@ -1,14 +1,30 @@
-use Rattle.std.proofs.Common.{Ok, subst, ◌∙◌}
-use Rattle.abt_check.specs.Checks.{IsOutcomeOfLog}
+use Rattle.std.proofs.Common.{Err, Ok, ap, subst, ◌∙◌, arith}
+use Rattle.abt_input.specs.Kinds.{ReadsAs}
+use Rattle.abt_check.specs.Checks.{log_for}
+use Rattle.abt_check.specs.LogChecks.{kept_log}
 use Rattle.abt_check.proofs.Taking.{whole_come}
-use Rattle.abt_check.proofs.Found.{stopped_kept, found_kept}
+use Rattle.abt_check.proofs.Found.{stopped_check, found_kept}
 use Rattle.abt_check.proofs.pieces.check_and_keep.Goals as goal
 
-pub returns-in_err-check_pieces-clause-found : goal.returns-in_err-check_pieces-clause-found
-returns-in_err-check_pieces-clause-found g c = stopped_kept _ (g.F.Folder.place c.args.folder.now).held c.args.log.now c.args.problem.now c.from_residual.result c.from_residual.ensures
+pub returns-in_err-check_pieces : goal.returns-in_err-check_pieces
+returns-in_err-check_pieces g c =
+    let e = c.in_err-check_pieces.ensures in
+    stopped_check (kept_log c.args.problem.now) c.args.log.now (g.F.Folder.place c.args.folder.now) (g.F.Folder.place c.check_pieces.new.folder) _ _ c.from_residual.ensures e.leads e.held e.created e.counts (λ f. e.fault (ap Err f))
 
-pub returns-in-Ok-clause-found : goal.returns-in-Ok-clause-found
-returns-in-Ok-clause-found g c =
-    let whole = whole_come (g.F.Folder.place c.args.folder.now).held c.args.log.now c.check_pieces.new.check c.in_ok-check_pieces.field-0 c.in-End.is c.in_ok-check_pieces.ensures.leads in
-    found_kept (g.F.Folder.place c.args.folder.now).held c.args.log.now c.args.problem.now c.check_pieces.new.check c.in-Ok.finding (c.in_ok-check_pieces.ensures.task.keeps ∙ c.new-check.ensures.keeps) whole
-    (λ log h short. subst (λ p. IsOutcomeOfLog p log (Ok c.in-Ok.finding)) (c.in_ok-check_pieces.ensures.task.problem ∙ c.new-check.ensures.problem) (c.in-Ok.ensures.found log h short))
+pub returns-in-Ok : goal.returns-in-Ok
+returns-in-Ok g c =
+    let e = c.in_ok-check_pieces.ensures in
+    let whole = whole_come (g.F.Folder.place c.args.folder.now) (g.F.Folder.place c.check_pieces.new.folder) c.args.log.now c.check_pieces.new.check c.in_ok-check_pieces.field-0 c.in-End.is e.leads in
+    let short = whole.short in
+    record {
+      read = (
+        whole.log,
+        whole.handed,
+        found_kept c.args.problem.now c.check_pieces.new.check whole.log c.in-Ok.finding (e.task.keeps ∙ c.new-check.ensures.keeps) whole.come
+            (subst (λ p. ReadsAs (log_for p) whole.log (Ok c.in-Ok.finding)) (e.task.problem ∙ c.new-check.ensures.problem) (c.in-Ok.ensures.found whole.log whole.come (omega (arith, short)))),
+      );
+      held = e.held;
+      created = e.created;
+      counts = e.counts;
+      fault = λ f. absurd (let k = f in cc);
+    }

@@ -15,7 +15,7 @@ returns-in_err-append_clause g c = λ out.
 
 pub loop-step-preserved : goal.loop-step-preserved
 loop-step-preserved g c = record {
-  left = λ out. left_more _ (writes_left (clause_write c.args.name.now) _ _ _ c.loop-step-test.true c.step-item.is) (c.loop-step.invariant.left out) (c.in_ok-append_clause.ensures.wrote out).ended;
+  left = λ out. left_more _ (writes_left (clause_write c.args.name.now) _ _ _ c.loop-step-test.true c.step-item.is) (c.loop-step.invariant.left out) (c.in_ok-append_clause.ensures.wrote out);
   created = subst (λ names. Contains names c.args.name.now) (sym c.in_ok-append_clause.ensures.created) c.loop-step.invariant.created;
 }
 

@@ -16,5 +16,5 @@ returns c =
     drilled seed a.problem b.problem p.problem a.outcome b.outcome c.check.new.self.outcome c.in_ok-finding.finding
     (model_made c.sparse.result a.problem (sparse_text 500 (word_at (generator_of seed))) c.in_ok-sparse.ensures.made c.in_ok-sparse.ensures.model c.sparse.ensures)
     (model_made c.queens.result b.problem (queens_text 6) c.in_ok-queens.ensures.made c.in_ok-queens.ensures.model c.queens.ensures) model
-    (c.in_ok-finding.ensures.found (pigeons_text 5) (log_text (run_from p.problem seed).net.steps) model c.in_ok-pigeons.ensures.log) c.in_ok-sparse.ensures.gives c.in_ok-queens.ensures.gives
+    (c.in_ok-finding.ensures.found (log_text (run_from p.problem seed).net.steps) c.in_ok-pigeons.ensures.log) c.in_ok-sparse.ensures.gives c.in_ok-queens.ensures.gives
     (subst (λ o. IsTrial seed p.problem o) (sym c.in_ok-finding.ensures.same.1) c.in_ok-pigeons.ensures.gives) _ _ c.status_of-status.ensures c.in_ok-text.ensures

@@ -10,4 +10,4 @@ returns-in_err-append-clause-wrote g c = λ line others e out.
 
 pub returns-clause-wrote : goal.returns-clause-wrote
 returns-clause-wrote g c = λ line others e out.
-    wrote_as (ap (λ (bytes : List ℕ). Append c.args.name.now bytes ∷ []) (c.first_line.ensures.line line others e)) (record { ended = (c.in_ok-append.ensures.wrote out).ended })
+    wrote_as (ap (λ (bytes : List ℕ). Append c.args.name.now bytes ∷ []) (c.first_line.ensures.line line others e)) (let w = c.in_ok-append.ensures.wrote out in record { ended = w.ended; handed = w.handed })

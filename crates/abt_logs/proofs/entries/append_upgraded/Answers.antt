@@ -49,7 +49,7 @@ returns-in_err-ended-clause-wrote g c =
     let s = step_of steps l.place (omega (arith, next)) in
     let split = entry_left c.args.name.now steps l.place s.0 next s.1 in
     let text = text_left steps l.place s.0 l.rest.now (omega (arith, next)) s.1 l.invariant.rest in
-    λ out. left_memory _ c.from_residual-in_err-ended.ensures (left_more _ split (l.invariant.left out) (c.in_ok-rest.ensures.wrote _ _ text out).ended)
+    λ out. left_memory _ c.from_residual-in_err-ended.ensures (left_more _ split (l.invariant.left out) (c.in_ok-rest.ensures.wrote _ _ text out))
 
 pub append_deletion-requires-clause-deletion : goal.append_deletion-requires-clause-deletion
 append_deletion-requires-clause-deletion g c =
@@ -71,7 +71,7 @@ returns-in_err-append_deletion-clause-wrote g c =
     let text = text_left steps l.place s.0 l.rest.now (omega (arith, next)) s.1 l.invariant.rest in
     let numbers = c.deref-in-loop-place.ensures.value ∙ c.in_ok-ended.ensures.numbers (ending steps (l.place + 1)) (c.requires.log.endings.each l.place (omega (arith, next))) in
     λ out. left_stopped _ _ _ (deletion_as c.args.name.now _ _ _ (sym numbers)) c.from_residual-in_err-append_deletion.ensures
-    (left_more _ split (l.invariant.left out) (c.in_ok-rest.ensures.wrote _ _ text out).ended) (c.in_err-append_deletion.ensures.wrote out)
+    (left_more _ split (l.invariant.left out) (c.in_ok-rest.ensures.wrote _ _ text out)) (c.in_err-append_deletion.ensures.wrote out)
 
 pub overflow_add-deleted : goal.overflow_add-deleted
 overflow_add-deleted g c =
@@ -98,7 +98,7 @@ loop-place-preserved g c =
     let told : c.in_ok-ended.ended ≡ length (ending steps (l.place + 1)) = c.in_ok-ended.ensures.count (ending steps (l.place + 1)) chain in
     record {
       left = λ out. left_more _ (deletion_as c.args.name.now _ _ _ (sym numbers))
-          (left_more _ split (l.invariant.left out) (c.in_ok-rest.ensures.wrote _ _ text out).ended) (c.in_ok-append_deletion.ensures.wrote out).ended;
+          (left_more _ split (l.invariant.left out) (c.in_ok-rest.ensures.wrote _ _ text out)) (c.in_ok-append_deletion.ensures.wrote out);
       rest = c.in_ok-rest.ensures.rest _ _ text;
       created = subst (λ names. Contains names c.args.name.now) (sym (c.in_ok-append_deletion.ensures.created ∙ c.in_ok-rest.ensures.created)) l.invariant.created;
       same = c.in_ok-append_deletion.ensures.created ∙ c.in_ok-rest.ensures.created ∙ l.invariant.same;
@@ -124,7 +124,7 @@ returns-clause-wrote g c =
     let at : l.place + 1 ≡ length steps = omega (arith, all) in
     let s = step_of steps l.place (omega (arith, at)) in
     let text = text_left steps l.place s.0 l.rest.now (omega (arith, at)) s.1 l.invariant.rest in
-    λ out. left_ends _ (last_left c.args.name.now steps l.place s.0 at s.1) (l.invariant.left out) (record { ended = (c.in_ok-append_line.ensures.wrote _ _ text out).ended })
+    λ out. left_ends _ (last_left c.args.name.now steps l.place s.0 at s.1) (l.invariant.left out) (let w = c.in_ok-append_line.ensures.wrote _ _ text out in record { ended = w.ended; handed = w.handed })
 
 pub returns-clause-deleted : goal.returns-clause-deleted
 returns-clause-deleted g c =

@@ -26,4 +26,4 @@ returns-in_err-append-2-clause-wrote g c = λ out.
 
 pub returns-clause-wrote : goal.returns-clause-wrote
 returns-clause-wrote g c = λ out.
-    wrote_file c.args.name.now _ _ _ (first_wrote (c.in_ok-create.ensures.wrote out) (first_wrote (c.in_ok-append.ensures.wrote out) (then_rest (c.in_ok-deleted.ensures.wrote out) (record { ended = (c.in_ok-append-2.ensures.wrote out).ended }))))
+    wrote_file c.args.name.now _ _ _ (first_wrote (c.in_ok-create.ensures.wrote out) (first_wrote (c.in_ok-append.ensures.wrote out) (then_rest (c.in_ok-deleted.ensures.wrote out) (let w = c.in_ok-append-2.ensures.wrote out in record { ended = w.ended; handed = w.handed }))))

@@ -1,11 +1,16 @@
-use Rattle.abt_logs.proofs.Reading.{no_bytes, is_log, is_bad}
+use Rattle.std.proofs.Common.{Ok, Err}
+use Rattle.abt_input.specs.declared.error.CommandError.TheVariants.{LogLine}
+use Rattle.abt_input.proofs.OtherKinds.{read_as, unread_as}
+use Rattle.abt_logs.proofs.Reading.{not_read, is_log, is_bad}
 use Rattle.abt_logs.proofs.old_log.read_old_log.Goals as goal
 
-pub returns-in_err-text-clause-read : goal.returns-in_err-text-clause-read
-returns-in_err-text-clause-read g c = no_bytes (g.F.Folder.place c.args.folder.now).held c.args.name.now _ _ c.from_residual.ensures c.in_err-text.ensures.read
+pub returns-in_err-text : goal.returns-in_err-text
+returns-in_err-text g c = unread_as _ c.from_residual.ensures c.in_err-text.ensures (λ bytes h. not_read bytes _ h)
 
-pub returns-in-Ok-clause-read : goal.returns-in-Ok-clause-read
-returns-in-Ok-clause-read g c = is_log (g.F.Folder.place c.args.folder.now).held c.args.name.now c.in_ok-text.text c.deref.result.now c.deref.ensures.value c.in_ok-text.ensures.read c.in-Ok.endings c.in-Ok.ensures
+pub returns-in-Ok : goal.returns-in-Ok
+returns-in-Ok g c =
+    read_as (Ok (record { text = c.in_ok-text.text; endings = c.in-Ok.endings })) c.in_ok-text.ensures (λ log h. is_log c.in_ok-text.text c.deref.result.now c.deref.ensures.value log h c.in-Ok.endings c.in-Ok.ensures) (λ f. let k = f in cc)
 
-pub returns-in-Err-Line-clause-read : goal.returns-in-Err-Line-clause-read
-returns-in-Err-Line-clause-read g c = is_bad (g.F.Folder.place c.args.folder.now).held c.args.name.now c.in_ok-text.text c.deref.result.now c.deref.ensures.value c.in_ok-text.ensures.read c.in-Err-Line.number (rw c.in-Err-Line.field-0-is at c.in-Err-Line.ensures)
+pub returns-in-Err-Line : goal.returns-in-Err-Line
+returns-in-Err-Line g c =
+    read_as (Err (LogLine c.in-Err-Line.number)) c.in_ok-text.ensures (λ log h. is_bad c.in_ok-text.text c.deref.result.now c.deref.ensures.value log h c.in-Err-Line.number (rw c.in-Err-Line.field-0-is at c.in-Err-Line.ensures)) (λ f. let k = f in cc)

@@ -20,7 +20,7 @@ returns-in_err-append_step-clause-wrote g c = λ out.
 
 pub loop-place-preserved : goal.loop-place-preserved
 loop-place-preserved g c = record {
-  left = λ out. left_more _ (steps_left c.args.name.now c.args.steps.now c.loop-place.place _ c.loop-place-test.true c.index-steps-place.is) (c.loop-place.invariant.left out) (c.in_ok-append_step.ensures.wrote out).ended;
+  left = λ out. left_more _ (steps_left c.args.name.now c.args.steps.now c.loop-place.place _ c.loop-place-test.true c.index-steps-place.is) (c.loop-place.invariant.left out) (c.in_ok-append_step.ensures.wrote out);
   created = subst (λ names. Contains names c.args.name.now) (sym c.in_ok-append_step.ensures.created) c.loop-place.invariant.created;
   same = c.in_ok-append_step.ensures.created ∙ c.loop-place.invariant.same;
 }

@@ -1,8 +1,10 @@
-use Rattle.abt_models.proofs.Printing.{print_put, print_stopped}
+use Rattle.abt_input.proofs.Keeping.{kept, came_answer, came_stopped}
+use Rattle.abt_models.specs.Generated.{print_plan}
+use Rattle.abt_models.proofs.Lawful.{print_sound}
 use Rattle.abt_models.proofs.text.print.Goals as goal
 
 pub returns-in_err-put : goal.returns-in_err-put
-returns-in_err-put g c = λ folder. print_stopped _ _ _ _ _ c.from_residual.ensures (c.in_err-put.ensures folder)
+returns-in_err-put g c = λ folder. kept (print_plan c.args.text.now) (print_sound c.args.text.now) (came_stopped _ c.from_residual.ensures (c.in_err-put.ensures folder))
 
 pub returns : goal.returns
-returns g c = λ folder. print_put _ _ _ _ (c.in_ok-put.ensures folder)
+returns g c = λ folder. kept (print_plan c.args.text.now) (print_sound c.args.text.now) (came_answer (c.in_ok-put.ensures folder))

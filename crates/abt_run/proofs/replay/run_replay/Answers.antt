@@ -1,29 +1,31 @@
-use Rattle.std.proofs.Common.{Err, ap}
-use Rattle.abt_run.proofs.Coming.{holds_problem, replay_unread, schedule_unread, replay_ran, replay_stopped}
+use Rattle.abt_input.proofs.Files.{read_held}
+use Rattle.abt_input.proofs.Keeping.{kept, came_unread, came_read, came_answer_with, came_stopped}
+use Rattle.abt_run.specs.ReplayPromise.{replay_plan}
+use Rattle.abt_run.proofs.HeldProblems.{holds_problem}
+use Rattle.abt_run.proofs.Lawful.{replay_sound}
 use Rattle.abt_run.proofs.replay.run_replay.Goals as goal
 
 pub returns-in_err-problem-clause-came : goal.returns-in_err-problem-clause-came
 returns-in_err-problem-clause-came g c =
-    let e = c.in_err-problem.ensures in
-    replay_unread _ _ _ _ _ _ _ e.held e.created _ c.from_residual.ensures e.read e.counts (λ s. e.fault (ap Err s))
+    let l = c.args.line in
+    kept (replay_plan l.log.now l.trace) (replay_sound l.model.now l.schedule.now l.log.now l.trace) (came_unread _ c.from_residual.ensures c.in_err-problem.ensures)
 
 pub returns-in_err-choices-clause-came : goal.returns-in_err-choices-clause-came
 returns-in_err-choices-clause-came g c =
-    let e = c.in_ok-problem.ensures in
-    let k = c.in_err-choices.ensures in
-    schedule_unread _ _ _ _ _ _ _ e.held e.created _ e.read e.counts _ k.held k.created _ c.from_residual-in_err-choices.ensures k.read k.counts (λ s. k.fault (ap Err s))
+    let l = c.args.line in
+    kept (replay_plan l.log.now l.trace) (replay_sound l.model.now l.schedule.now l.log.now l.trace) (came_read c.in_ok-problem.ensures (came_unread _ c.from_residual-in_err-choices.ensures c.in_err-choices.ensures))
 
 pub returns-in_err-status-clause-came : goal.returns-in_err-status-clause-came
 returns-in_err-status-clause-came g c =
-    let e = c.in_ok-problem.ensures in
-    let k = c.in_ok-choices.ensures in
-    replay_stopped _ _ _ _ _ _ _ e.held e.created _ e.read e.counts _ k.held k.created _ k.read k.counts _ _ _ c.from_residual-in_err-status.ensures c.in_err-status.ensures.wrote
+    let l = c.args.line in
+    kept (replay_plan l.log.now l.trace) (replay_sound l.model.now l.schedule.now l.log.now l.trace)
+    (came_read c.in_ok-problem.ensures (came_read c.in_ok-choices.ensures (came_stopped _ c.from_residual-in_err-status.ensures c.in_err-status.ensures.wrote)))
 
 pub returns-clause-came : goal.returns-clause-came
 returns-clause-came g c =
-    let e = c.in_ok-problem.ensures in
-    let k = c.in_ok-choices.ensures in
-    replay_ran _ _ _ _ _ _ _ e.held e.created _ e.read e.counts _ k.held k.created _ k.read k.counts _ _ c.in_ok-status.ensures.status c.in_ok-status.ensures.wrote
+    let l = c.args.line in
+    kept (replay_plan l.log.now l.trace) (replay_sound l.model.now l.schedule.now l.log.now l.trace)
+    (came_read c.in_ok-problem.ensures (came_read c.in_ok-choices.ensures (came_answer_with _ c.in_ok-status.ensures.status c.in_ok-status.ensures.wrote)))
 
 pub returns-clause-sound : goal.returns-clause-sound
-returns-clause-sound g c = holds_problem (g.F.Folder.place c.args.folder.now).held c.args.line.model.now c.in_ok-problem.problem c.in_ok-problem.ensures.read c.vars-vars.ensures.csp c.problems_are_small.ensures
+returns-clause-sound g c = holds_problem (g.F.Folder.place c.args.folder.now).held c.args.line.model.now c.in_ok-problem.problem (read_held c.in_ok-problem.ensures) c.vars-vars.ensures.csp c.problems_are_small.ensures

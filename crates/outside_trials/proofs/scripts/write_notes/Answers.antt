@@ -13,7 +13,7 @@ returns-in_err-write_note g c =
 
 pub loop-note-preserved : goal.loop-note-preserved
 loop-note-preserved g c =
-    left_more _ (turns_left (turn c.args.log.now) _ _ _ _ c.loop-note-test.true c.note-item.is) c.loop-note.invariant (rw c.deref.ensures.value at c.in_ok-write_note.ensures).ended
+    left_more _ (turns_left (turn c.args.log.now) _ _ _ _ c.loop-note-test.true c.note-item.is) c.loop-note.invariant (rw c.deref.ensures.value at c.in_ok-write_note.ensures)
 
 pub returns : goal.returns
 returns g c = left_ends _ (turns_done (turn c.args.log.now) c.args.notes.now _ _ c.loop-note-test.false) c.loop-note.invariant (c.append.ensures.wrote _)

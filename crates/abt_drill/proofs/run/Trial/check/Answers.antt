@@ -1,7 +1,10 @@
 use Rattle.std.specs.FinMap as map
+use Rattle.abt_input.proofs.Files.{read_held}
+use Rattle.abt_check.specs.Checks.{IsFoundFor}
 use Rattle.abt_drill.specs.Drills.{log_name}
-use Rattle.abt_drill.proofs.Trials.{found_of}
+use Rattle.abt_drill.proofs.Trials.{said_of}
 use Rattle.abt_drill.proofs.run.Trial.check.Goals as goal
 
 pub returns-in-Ok-clause-found : goal.returns-in-Ok-clause-found
-returns-in-Ok-clause-found c = λ text log is_model held. found_of (λ name. map.get c.args.self.now.folder.files name) log_name text log c.args.self.now.problem c.in-Ok.finding is_model held c.in-Ok.ensures.found
+returns-in-Ok-clause-found c = λ log held.
+    said_of (λ name. map.get c.args.self.now.folder.files name) log_name log (λ bytes. IsFoundFor c.args.self.now.problem bytes c.in-Ok.finding) held (read_held c.in-Ok.ensures.found)

@@ -1,0 +1,78 @@
+//! One line, in a buffer of fixed size.
+
+ghost use Rattle.std.specs.Prelude.{◌≡◌, ◌+◌, ◌≤◌, [], ◌++◌, length, decimal, codes};
+
+use itoa::Buffer;
+use std::marker::Model;
+
+/// The most bytes of a line.
+const MOST: usize = 96;
+
+/// The bytes of one line, which take no memory of the heap.
+#[derive(Drop)]
+pub struct Line {
+    bytes: [u8; MOST],
+    length: usize,
+}
+
+impl Model for Line {
+    ghost use Rattle.std.specs.Prelude.{ℕ, ◌≤◌, List, take};
+
+    ghost Value = { List ℕ };
+
+    ghost view = { λ line. take line.length line.bytes };
+
+    ghost invariant = { λ line. line.length ≤ 96 };
+}
+
+impl Line {
+    /// A line of these bytes.
+    pub fn of(bytes: &[u8]) -> Line
+        requires { length bytes.now ≤ 96 }
+        ensures { result ≡ bytes.now }
+    {
+        let mut line = Line {
+            bytes: [0; MOST],
+            length: 0,
+        };
+        line.add(bytes);
+        line
+    }
+
+    /// The line of these first bytes and a number.
+    pub fn numbered(before: &[u8], number: u64) -> Line
+        requires { length before.now ≤ 64 }
+        ensures { result ≡ before.now ++ decimal number ++ codes "\n" }
+    {
+        let mut digits = Buffer::new();
+        Line::of(before)
+            .with(digits.format(number).as_bytes())
+            .with(b"\n")
+    }
+
+    /// All bytes of the line.
+    pub fn bytes(&self) -> &[u8]
+        ensures { result.now ≡ self.now }
+    {
+        &self.bytes[..self.length]
+    }
+
+    /// The line with these bytes behind it.
+    pub fn with(mut self, bytes: &[u8]) -> Line
+        requires { length self + length bytes.now ≤ 96 }
+        ensures { result ≡ self ++ bytes.now }
+    {
+        self.add(bytes);
+        self
+    }
+
+    /// Adds bytes at the end.
+    fn add(&mut self, bytes: &[u8])
+        requires { length self.old + length bytes.now ≤ 96 }
+        ensures { self.new ≡ self.old ++ bytes.now }
+    {
+        let end = self.length + bytes.len();
+        self.bytes[self.length..end].copy_from_slice(bytes);
+        self.length = end;
+    }
+}
