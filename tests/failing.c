@@ -6,8 +6,8 @@
  *   SHORT_IOS=N    each from number N on
  *   COUNTS=FILE    where the program ends, the numbers of allocations, of calls, and of reads and writes go there
  *
- * Numbers count from 1. An allocation is malloc or realloc; a call is open, read, write, lseek or close. What the C
- * library does before the program begins is not counted. */
+ * Numbers count from 1. An allocation is malloc or realloc; a call is open, read, write, lseek, statx, ftruncate or
+ * close. What the C library does before the program begins is not counted. */
 #define _GNU_SOURCE
 #include <dlfcn.h>
 #include <errno.h>
@@ -15,6 +15,7 @@
 #include <stdarg.h>
 #include <stdio.h>
 #include <stdlib.h>
+#include <sys/stat.h>
 #include <unistd.h>
 
 struct fault {
@@ -111,6 +112,16 @@ ssize_t write(int file, const void *from, size_t most) {
 off_t lseek(int file, off_t by, int whence) {
     REAL(lseek);
     return refused() ? -1 : real(file, by, whence);
+}
+
+int statx(int folder, const char *restrict name, int flags, unsigned mask, struct statx *restrict found) {
+    REAL(statx);
+    return refused() ? -1 : real(folder, name, flags, mask, found);
+}
+
+int ftruncate(int file, off_t length) {
+    REAL(ftruncate);
+    return refused() ? -1 : real(file, length);
 }
 
 int close(int file) {

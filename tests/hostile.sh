@@ -79,6 +79,43 @@ if [ -e /dev/full ]; then ends "a log named /dev/full" 6 "abt: fault" solve pair
 "$program" solve pair.fzn shut.ngd >&- 2> err
 tell "standard output is closed: status 6" "$([ $? = 6 ] && [ "$(cat err)" = "abt: fault" ] && echo 1)"
 
+echo "== one file under two names"
+cp pair.fzn twice.fzn && ln twice.fzn hard.fzn && ln -s twice.fzn soft.fzn && cp no.cnf twice.cnf && cp pair.ngd twice.ngd
+cp pair.sch twice.sch
+sha256sum twice.fzn twice.cnf twice.ngd twice.sch > twice
+for words in "solve twice.fzn ./twice.fzn" "solve twice.fzn hard.fzn" "solve twice.fzn soft.fzn" \
+    "core twice.fzn twice.ngd ./twice.ngd" "core twice.fzn twice.ngd ./twice.fzn" "upgrade twice.ngd ./twice.ngd" \
+    "replay twice.fzn twice.sch ./twice.sch" "replay twice.fzn twice.sch hard.fzn" "cnf twice.cnf ./twice.cnf" \
+    "starve twice.fzn 1 2 ./twice.fzn" "lossy twice.fzn ./twice.fzn 5 1" "solve twice.fzn one.ngd --record ./one.ngd"; do
+    # shellcheck disable=SC2086
+    ends "$words" 6 "abt: fault" $words
+done
+tell "what was read is as it was" "$(sha256sum -c --quiet twice > /dev/null 2>&1 && echo 1)"
+"$program" solve pair.fzn /dev/null --record /dev/null > out 2> err
+tell "the null device under two names: status 1" "$([ $? = 1 ] && [ ! -s err ] && echo 1)"
+
+echo "== few numbers for files, and a small stack"
+for number in 4 5 6; do
+    (ulimit -n $number && exec "$program" check pair.fzn pair.ngd) > out 2> err
+    tell "at most $number files: status 0" "$([ $? = 0 ] && [ "$(cat out)" = verified ] && echo 1)"
+done
+{
+    printf 'var 0..1: x :: a'
+    for _ in $(seq 1 190); do printf '(a'; done
+    for _ in $(seq 1 190); do printf ')'; done
+    printf ';\nsolve satisfy;\n'
+} > deep.fzn
+for words in "check pair.fzn pair.ngd" "solve small.fzn stack.ngd --record stack.sch --trace" "replay pair.fzn pair.sch stack.ngd" \
+    "bound deep.fzn" "upgrade pair.ngd stack.up" "core pair.fzn pair.ngd stack.core" "starve pair.fzn 1 2 stack.starve" \
+    "lossy pair.fzn stack.lossy 30 7" "drill 1" "cnf no.cnf stack.rup" "rup no.cnf pair.ngd" "gen queens 4"; do
+    # shellcheck disable=SC2086
+    "$program" $words > whole.out 2> whole.err
+    status=$?
+    # shellcheck disable=SC2086
+    (ulimit -s 64 && exec "$program" $words) > out 2> err
+    tell "a stack of 64 KiB: $words" "$([ $? = $status ] && cmp -s out whole.out && cmp -s err whole.err && echo 1)"
+done
+
 echo "== names that are no plain files"
 mkdir folder
 for words in "check folder pair.ngd" "check pair.fzn folder" "solve folder l.ngd" "solve pair.fzn folder" \

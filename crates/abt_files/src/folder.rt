@@ -4,30 +4,29 @@ ghost use Rattle.std.specs.Prelude.{◌≡◌, ◌≤◌, []};
 ghost use Rattle.dcsp_outside.specs.Outside.{AddsPiece, AddsUpTo};
 ghost use Rattle.abt_files.specs.Faults.{CountsFault};
 
+use crate::disk::Disk;
 use crate::open_files::OpenFiles;
-use crate::transfer::read_up_to;
 use dcsp_outside::{Fetched, Folder, FolderError, Piece, Transcript};
 use std::alloc::Global;
 use std::cell::RefCell;
-use std::fs::Files;
 
-/// The files of the system, by their paths.
+/// The files of a system, by their paths.
 ///
 /// Any error of the system is `Failed`, and is counted at every name: a file that is missing or
 /// cannot be read, and a write that takes nothing. What the files hold is not told; what was read of
 /// them is. The open files are shared with the output, which lets nothing wait.
 #[derive(Drop)]
-pub struct RealFolder<'c, R, W> {
+pub struct RealFolder<'c, D, W> {
     alloc: Global,
-    open: &'c RefCell<OpenFiles<R, W>>,
+    open: &'c RefCell<OpenFiles<D, W>>,
     handed: Transcript,
     created: Vec<String>,
     faults: u64,
 }
 
-impl<'c, R, W> RealFolder<'c, R, W> {
+impl<'c, D, W> RealFolder<'c, D, W> {
     /// The folder as it stands. No name was created in it by this program, and no fault is counted.
-    pub fn new(alloc: Global, open: &'c RefCell<OpenFiles<R, W>>) -> RealFolder<'c, R, W>
+    pub fn new(alloc: Global, open: &'c RefCell<OpenFiles<D, W>>) -> RealFolder<'c, D, W>
         ensures handed { result.handed.answers ≡ [] }
         ensures created { result.created.items ≡ [] }
         ensures faults { result.faults ≡ 0 }
@@ -56,16 +55,15 @@ impl<'c, R, W> RealFolder<'c, R, W> {
     }
 }
 
-impl<'c, R: Files> RealFolder<'c, R, R::File> {
+impl<'c, D: Disk> RealFolder<'c, D, D::File> {
     /// Opens a name for reading, and reads it.
     fn read(&self, name: &str, most: u64, into: &mut Vec<u8>) -> Result<Fetched, FolderError>
         ensures { AddsUpTo most into.old.items into.new.items result }
     {
-        let Ok(mut open) = self.open.try_borrow_mut() else {
-            return Err(FolderError::Failed);
-        };
-        let mut file = open.open(name)?;
-        read_up_to(&mut file, most, into)
+        match self.open.try_borrow_mut() {
+            Ok(mut open) => open.read(name, most, into),
+            Err(_) => Err(FolderError::Failed),
+        }
     }
 
     fn piece(
@@ -99,7 +97,7 @@ impl<'c, R: Files> RealFolder<'c, R, R::File> {
     }
 }
 
-impl<'c, R: Files> Folder for RealFolder<'c, R, R::File> {
+impl<'c, D: Disk> Folder for RealFolder<'c, D, D::File> {
     ghost use Rattle.std.specs.Prelude.{None, map, string_bytes};
 
     ghost place = { λ folder. record {

@@ -1,0 +1,64 @@
+//! What the program does, up to the number that it ends with.
+
+use abt_command::{Status, run_program};
+use abt_files::{OpenFiles, RealFolder, RealSink, Stream};
+use dcsp_list::Memory;
+use dcsp_outside::Sink;
+use std::alloc::Global;
+use std::cell::RefCell;
+use std::env;
+use std::fs::File;
+use std::io::ErrorKind;
+use std::os::fd::AsRawFd;
+
+/// Runs the command that the program's words ask for, in the folder and with the streams that it was started
+/// with, and gives the number that it ends with.
+pub fn run(rt: HostRuntime) -> u8 {
+    let alloc = rt.alloc();
+    // A stream that was closed before the program began leaves its number free, and no file may take it: what is put
+    // on the stream would go there. So the null device takes such numbers, and a put fails.
+    let _held = [closed_number(&rt), closed_number(&rt), closed_number(&rt)];
+    let output = Stream::Output(rt.stdout());
+    let errors = Stream::Error(rt.stderr());
+    let words = words_given(alloc, &rt);
+    let open = RefCell::new(OpenFiles::new(alloc, rt));
+    let mut out = RealSink::new(output, &open);
+    let mut err = RealSink::new(errors, &open);
+    let Ok(words) = words else {
+        // There is no other place to tell it.
+        let _ = err.put(b"abt: memory\n");
+        return Status::Memory.code();
+    };
+    let mut folder = RealFolder::new(alloc, &open);
+    let code = run_program(alloc, &words, &mut folder, &mut out, &mut err);
+    // An answer lets nothing wait; so only a command that was refused, and has told it, has more to write.
+    let _ = out.write_waiting();
+    code
+}
+
+/// The null device, where it took the number of a standard stream that is closed.
+fn closed_number(rt: &HostRuntime) -> Option<File> {
+    match File::open(rt, "/dev/null") {
+        Ok(file) if file.as_raw_fd() <= 2 => Some(file),
+        _ => None,
+    }
+}
+
+/// The words after the program's name.
+///
+/// Where some word is not UTF-8 there are none, which no line of the program is either.
+fn words_given(alloc: Global, rt: &HostRuntime) -> Result<Vec<String>, Memory> {
+    let mut words = Vec::new(alloc);
+    match env::args(rt) {
+        Ok(given) => {
+            for word in given.skip(1) {
+                if words.push(word).is_err() {
+                    return Err(Memory);
+                }
+            }
+            Ok(words)
+        }
+        Err(error) if error.kind() == ErrorKind::OutOfMemory => Err(Memory),
+        Err(_) => Ok(words),
+    }
+}
