@@ -45,8 +45,7 @@ use Rattle.abt_command.specs.Lines.{Line, Solve, IsLine, IsNoLine}
 use Rattle.abt_command.specs.LinePromises.{promise_of}
 use Rattle.abt_command.specs.AskedRuns.{RunsModel, AskForModel}
 use Rattle.abt_command.specs.AskedSearches.{AsksForSearch, EachSearch, IsCheckedSearch, IsSatisfyingSearch}
-use Rattle.abt_command.proofs.Lines.{one_line}
-use Rattle.abt_command.proofs.Runs.{own_record, of_kept}
+use Rattle.abt_command.proofs.Lines.{SolveNames, one_line, solve_names}
 
 -- ---- logs can name what is left of a problem that is narrowed
 
@@ -117,7 +116,7 @@ module _ (words : List (List ℕ)) (line : Line) (is : IsLine words line) (a b :
     made_part = report_part (solve_promise asks.model asked.log asked.seed asked.kept asked.trace) (solve_lawful asks.model asked.log asked.seed asked.kept asked.trace) a b err now files told (search_report asked) (searched asked.problem asks.model_is asks.aims refl) status line_did
 
     own : OwnsRecord asked
-    own = own_record asks.model asked.log asked.kept asks.line_is.names
+    own = (solve_names words asks.model asked.log asked.seed asked.kept asked.trace asks.line_is).record_is_own
 
     no_refused : status ≡ search_status asked → IsRefusal status → ⊥
     no_refused i r = no_refusal_best _ (subst IsRefusal i r)
@@ -136,7 +135,7 @@ module _ (words : List (List ℕ)) (line : Line) (is : IsLine words line) (a b :
     own_model : (model : List ℕ) → AskForModel words model → (model ≢ asked.log) × IfSome asked.kept (λ k. model ≢ k) × IsModelOf (bytes_of (files model)) asked.problem
     own_model model asks_model =
         let same : asks.model ≡ model = subst (λ x. RunsModel x model) (one_line words asks_model.line the_line asks_model.is asks.line_is) asks_model.runs in
-        subst (λ m. (m ≢ asked.log) × IfSome asked.kept (λ k. m ≢ k) × IsModelOf (bytes_of (files m)) asked.problem) same (asks.line_is.names.1.0, of_kept asks.model asked.kept asks.line_is.names.1.1, asks.model_is)
+        subst (λ m. (m ≢ asked.log) × IfSome asked.kept (λ k. m ≢ k) × IsModelOf (bytes_of (files m)) asked.problem) same ((solve_names words asks.model asked.log asked.seed asked.kept asked.trace asks.line_is).log_is_other, (solve_names words asks.model asked.log asked.seed asked.kept asked.trace asks.line_is).record_is_other, asks.model_is)
 
     -- the log of the last round is a text of its steps
     log_is : IsFinal status → (p : Contents) → IsSmall (csp_of p) → IsRefutation (csp_of p) (last_run asked).net.steps → IsTextOf (log_text (last_run asked).net.steps) (last_run asked).net.steps

@@ -5,7 +5,6 @@
 #![tactic(auto)]
 
 mod command;
-mod options;
 mod plain;
 mod words;
 

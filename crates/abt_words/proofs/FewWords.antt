@@ -1,5 +1,5 @@
 -- Lists of a few words.
-use Rattle.std.proofs.Common.{◌≡◌, ℕ, ◌-◌, ◌<◌, ◌≤◌, Bool, true, false, not, List, [], ◌∷◌, map, take, drop, length, get_or, Option, Some, None, Bor, Ok, Err, Result, refl, arith}
+use Rattle.std.proofs.Common.{◌≡◌, ℕ, ◌-◌, ◌<◌, ◌≤◌, Bool, true, not, List, [], ◌∷◌, map, take, drop, length, get_or, Option, Some, None, Bor, Ok, Result, refl, arith}
 use Rattle.std.proofs.lemmas.List.{take_all}
 use Rattle.std.specs.Prelude.{IfSome, is_some, option_copied}
 

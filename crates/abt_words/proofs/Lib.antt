@@ -6,3 +6,5 @@ pub mod Once
 pub mod Given
 pub mod Names
 pub mod Parsed
+pub mod Read
+pub mod Appended

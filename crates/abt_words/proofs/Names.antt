@@ -1,5 +1,5 @@
 -- Names that differ.
-use Rattle.std.proofs.Common.{◌≡◌, ℕ, ◌-◌, ◌≤◌, Bool, true, false, cond, ◌&&◌, List, [], ◌∷◌, ◌++◌, map, take, drop, length, get_or, refl, sym, ◌∙◌, ap}
+use Rattle.std.proofs.Common.{◌≡◌, ℕ, ◌≤◌, Bool, true, false, cond, ◌&&◌, List, [], ◌∷◌, ◌++◌, map, length, get_or, refl, sym, ◌∙◌, ap}
 use Rattle.abt_words.specs.declared.value.Value as code
 use Rattle.abt_words.specs.Saying.{Value, Absent, Given, Name, Number, Signed, Word, has_name, is_new_name, differs_from, names_differ}
 use Rattle.abt_words.specs.Values.{value_in}

@@ -1,16 +1,14 @@
 -- Words say at most one thing.
-use Rattle.std.proofs.Common.{◌≡◌, ℕ, zero, suc, Bool, true, false, cond, ◌&&◌, List, [], ◌∷◌, ◌++◌, length, get_or, set, drop, Option, Some, None, refl, sym, ap, subst, ◌∙◌, arith, codes, decimal}
-use Rattle.std.specs.Prelude.{flat_map, slice_get, IsTrue}
-use Rattle.std.specs.Int.{w64}
+use Rattle.std.proofs.Common.{◌≡◌, ℕ, zero, suc, Bool, true, false, cond, ◌&&◌, List, [], ◌∷◌, ◌++◌, length, get_or, set, drop, Option, Some, None, refl, sym, ap, subst, ◌∙◌, arith, decimal}
+use Rattle.std.specs.Prelude.{flat_map, slice_get}
 use Rattle.std.specs.Fmt.{signed_decimal}
-use Rattle.std.specs.Str.{bytes_eq}
 use Rattle.std.proofs.lemmas.Bool.{false≢true}
 use Rattle.std.proofs.lemmas.Fmt.{decimal_injective}
 use Rattle.std.proofs.lemmas.List.{append_assoc, append_cancel_left}
 use Rattle.std.proofs.lemmas.Slice.Eq.{bytes_eq-Decides}
 use Rattle.abt_words.specs.Rows.{Kind, File, OneOf, Place, LineOption, Row}
 use Rattle.abt_words.specs.Rows as rows
-use Rattle.abt_words.specs.Saying.{Value, Absent, Given, Name, Number, Signed, Word, value_words, Fits, FitsOption, Fill, place_of, Gives, nothing, gives, Said, Says, IsSaidBy, none_given, differ, differs_from_all, are_apart}
+use Rattle.abt_words.specs.Saying.{Value, Given, Name, Number, Signed, Word, value_words, Fits, FitsOption, Fill, place_of, Gives, nothing, gives, Said, Says, IsSaidBy, none_given, differ, differs_from_all, are_apart}
 use Rattle.abt_words.proofs.SignedWords.{signed_number_back, signed_number}
 
 -- ---- values
@@ -96,7 +94,7 @@ no_common (w ∷ ws) (o ∷ os) x y d e =
     let same = (bytes_eq-Decides w o).1 (the_head w o (ws ++ x) (os ++ y) e) in
     no_common ws os x y (sym (ap (λ b. cond b (differ ws os) true) same) ∙ d) (the_tail w o (ws ++ x) (os ++ y) e)
 
-both : (a b : Bool) → a && b ≡ true → (a ≡ true) × (b ≡ true)
+pub both : (a b : Bool) → a && b ≡ true → (a ≡ true) × (b ≡ true)
 both true b h = (refl, h)
 both false b h = absurd (false≢true h)
 

@@ -1,12 +1,12 @@
 -- What is read of a row is what the words say.
-use Rattle.std.proofs.Common.{◌≡◌, ℕ, zero, suc, ◌+◌, ◌<◌, ◌≤◌, Bool, true, false, List, [], ◌∷◌, ◌++◌, map, take, set, replicate, length, get_or, Option, Some, None, slice_get, option_map, below_more, nat_le, ◌&&◌, refl, sym, ◌∙◌, ap, subst, arith, IsTrue}
+use Rattle.std.proofs.Common.{◌≡◌, ℕ, zero, suc, ◌+◌, ◌<◌, ◌≤◌, Bool, true, false, List, [], ◌∷◌, ◌++◌, map, take, set, replicate, length, get_or, Option, Some, slice_get, option_map, below_more, nat_le, ◌&&◌, refl, sym, ◌∙◌, ap, subst, arith}
 use Rattle.std.specs.Prelude.{flat_map}
 use Rattle.std.proofs.lemmas.Bool.{true≢false, leb-true}
 use Rattle.std.proofs.lemmas.List.{append_cancel_left, length-replicate}
 use Rattle.std.proofs.lemmas.Option.{slice_get_within, slice_get-map, slice_get-get_or}
 use Rattle.abt_words.specs.declared.said.TheConstants.{MOST}
 use Rattle.abt_words.specs.Rows.{Place, LineOption, Row, CodeRow, row_in}
-use Rattle.abt_words.specs.Saying.{Value, Absent, Fill, value_words, place_of, Gives, nothing, gives, none_given, names_differ, Said, Says, IsSaidBy}
+use Rattle.abt_words.specs.Saying.{Value, Absent, Fill, value_words, Gives, nothing, gives, none_given, names_differ, Said, Says, IsSaidBy}
 use Rattle.abt_words.specs.Values.{Fills, written, HasRoom, have_room}
 use Rattle.abt_words.proofs.Once.{one_filling, gives_once}
 

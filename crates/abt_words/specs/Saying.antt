@@ -1,5 +1,5 @@
 -- What words say.
-use Rattle.std.specs.Prelude.{◌≡◌, ◌≢◌, ◌⊎◌, ℕ, suc, ℤ, FitsSigned, ◌^◌, ◌<◌, ◌≤◌, Bool, true, false, not, ◌&&◌, cond, IsTrue, List, [], ◌∷◌, ◌++◌, map, flat_map, length, set, get_or, slice_get, Option, Some, None, option_map, decimal, ⊤}
+use Rattle.std.specs.Prelude.{◌≡◌, ◌≢◌, ◌⊎◌, ℕ, suc, ℤ, FitsSigned, ◌^◌, ◌<◌, ◌≤◌, Bool, true, false, ◌&&◌, cond, IsTrue, List, [], ◌∷◌, ◌++◌, map, flat_map, set, get_or, slice_get, Option, Some, None, option_map, decimal, ⊤}
 use Rattle.std.specs.Str.{byte, bytes_eq}
 use Rattle.std.specs.Int.{w64}
 use Rattle.std.specs.Fmt.{signed_decimal}
@@ -68,9 +68,9 @@ place_of (option ∷ options) word = cond (bytes_eq option.word word) (Some 0) (
 pub data Gives (options : List LineOption) : List (List ℕ) → List Value → List Value → Type 0 where
   nothing : {words : List (List ℕ)} {before after : List Value} → words ≡ [] → after ≡ before → Gives options words before after
   gives : {words : List (List ℕ)} {before after : List Value} (word : List ℕ) (i : ℕ) (option : LineOption) (value : Value) (more : List (List ℕ))
-    → place_of options word ≡ Some i → slice_get options i ≡ Some option → FitsOption option.value value
-    → words ≡ word ∷ value_words value ++ more → get_or before i Absent ≡ Absent
-    → Gives options more (set before i value) after → Gives options words before after
+      → place_of options word ≡ Some i → slice_get options i ≡ Some option → FitsOption option.value value
+      → words ≡ word ∷ value_words value ++ more → get_or before i Absent ≡ Absent
+      → Gives options more (set before i value) after → Gives options words before after
 
 -- ---- lines
 
@@ -117,6 +117,45 @@ pub record IsSaidBy (rows : List Row) (words : List (List ℕ)) (said : Said) : 
   pub place : ℕ
   pub row : slice_get rows place ≡ Some said.row
   pub says : Says said.row words said.values said.settings
+
+-- ---- what is read of it
+
+-- the value of a place, and what the option of a word is given
+abbrev pub value_at : Said → ℕ → Value
+value_at said place = get_or said.values place Absent
+
+abbrev pub setting_of : List LineOption → List Value → List ℕ → Value
+setting_of options settings word = elim (place_of options word) [ None ↦ Absent | Some place ↦ get_or settings place Absent ]
+
+abbrev pub setting_at : Said → List ℕ → Value
+setting_at said word = setting_of said.row.options said.settings word
+
+-- the name or the number that a value is
+abbrev pub name_in : Value → List ℕ
+name_in (Name name) = name
+name_in value = []
+
+abbrev pub number_in : Value → ℕ
+number_in (Number n) = n
+number_in value = 0
+
+-- the name or the number, where the value is one
+abbrev pub given_name : Value → Option (List ℕ)
+given_name (Name name) = Some name
+given_name value = None
+
+abbrev pub given_number : Value → Option ℕ
+given_number (Number n) = Some n
+given_number value = None
+
+abbrev pub given_signed : Value → Option ℤ
+given_signed (Signed z) = Some z
+given_signed value = None
+
+-- an option without a value is given
+abbrev pub is_given : Value → Bool
+is_given Given = true
+is_given value = false
 
 -- ---- tables
 

@@ -1,6 +1,8 @@
 //! The rows of the program.
 
-use crate::row::{Access, Content, KindOf, LineName, LineOption, OptionOf, Place, PlaceOf, Row, RowOf};
+use crate::row::{
+    Access, Content, KindOf, LineName, LineOption, OptionOf, Place, PlaceOf, Row, RowOf,
+};
 
 /// A model that is read.
 const MODEL: Place = PlaceOf {
@@ -350,7 +352,7 @@ pub const USAGE: Row = RowOf {
     keyword: &["--usage"],
     places: &[],
     options: &[],
-    tells: &["prints the lines above for scripts, each with its files, numbers and options"],
+    tells: &["prints the lines above for scripts: their files, numbers and options"],
 };
 
 /// Every line of words, in the order in which help and usage show them.

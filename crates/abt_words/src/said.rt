@@ -3,7 +3,7 @@
 ghost use Rattle.std.specs.Prelude.{◌≡◌, ◌↔◌, ℕ, ◌+◌, ◌<◌, ◌≤◌, List, [], ◌++◌, map, flat_map, length, replicate, option_map, string_bytes, IfSome, IsNone, IsTrue};
 ghost use Rattle.abt_words.specs.Rows.{place_in, option_in, row_in, the_rows};
 ghost use Rattle.abt_words.specs.Saying as saying;
-ghost use Rattle.abt_words.specs.Saying.{Absent, Fill, FitsOption, Gives, IsSaidBy, Says, differs_from, has_name, is_new_name, names_differ, place_of, value_words};
+ghost use Rattle.abt_words.specs.Saying.{Absent, Fill, FitsOption, Gives, IsSaidBy, Says, differs_from, has_name, is_new_name, names_differ, place_of, setting_at, value_at, value_words};
 ghost use Rattle.abt_words.specs.Values.{Fills, value_in, values_in, said_in, have_room, HasRoom};
 
 use crate::row::{LineOption, Place, Row};
@@ -36,6 +36,34 @@ pub struct Said<'w> {
     pub row: Row,
     values: Values<'w>,
     settings: Values<'w>,
+}
+
+impl<'w> Said<'w> {
+    /// The value of a place, counted from 0.
+    pub fn value(&self, place: usize) -> Value<'w>
+        ensures { value_in result ≡ value_at (said_in self.now) place }
+    {
+        if self.row.places.len() <= place {
+            return Value::Absent;
+        }
+        match self.values.list.get(place) {
+            Some(value) => *value,
+            None => Value::Absent,
+        }
+    }
+
+    /// What the option of this word is given.
+    pub fn setting(&self, word: &str) -> Value<'w>
+        ensures { value_in result ≡ setting_at (said_in self.now) word.now }
+    {
+        let Some(place) = place_of(self.row.options, word) else {
+            return Value::Absent;
+        };
+        match self.settings.list.get(place) {
+            Some(value) => *value,
+            None => Value::Absent,
+        }
+    }
 }
 
 /// The words behind the keyword, where it stands first.
@@ -97,10 +125,7 @@ fn place_of(options: &[LineOption], word: &str) -> Option<usize>
 }
 
 /// The value that the words begin with, for an option that takes this, and the words behind it.
-fn option_value<'w>(
-    taken: Option<Place>,
-    words: &'w [String],
-) -> Option<(Value<'w>, &'w [String])>
+fn option_value<'w>(taken: Option<Place>, words: &'w [String]) -> Option<(Value<'w>, &'w [String])>
     ensures some { IfSome result (λ found. map string_bytes words.now ≡ value_words (value_in found.0) ++ map string_bytes found.1.now) }
     ensures fits { IfSome result (λ found. FitsOption (option_map place_in taken.entry) (value_in found.0)) }
     ensures shorter { IfSome result (λ found. length found.1.now ≤ length words.now) }

@@ -1,9 +1,9 @@
 //! Words as values.
 
-ghost use Rattle.std.specs.Prelude.{◌≡◌, ◌↔◌, ◌∷◌, [], map, IfSome, IsNone, IsTrue};
+ghost use Rattle.std.specs.Prelude.{◌≡◌, ◌↔◌, ◌∷◌, [], map, option_copied, IfSome, IsNone, IsTrue};
 ghost use Rattle.abt_words.specs.Rows.{kind_in};
 ghost use Rattle.abt_words.specs.Saying as saying;
-ghost use Rattle.abt_words.specs.Saying.{IsFileName, IsAmong, Fits, value_words};
+ghost use Rattle.abt_words.specs.Saying.{IsFileName, IsAmong, Fits, value_words, name_in, number_in, given_name, given_number, given_signed, is_given};
 ghost use Rattle.abt_words.specs.Values.{value_in};
 
 use crate::number::{number_within, signed_number_of};
@@ -24,6 +24,68 @@ pub enum Value<'w> {
     Signed(i64),
     /// One of some words.
     Word(&'w str),
+}
+
+impl<'w> Value<'w> {
+    /// The name, and no text where it is none.
+    pub fn name(self) -> &'w str
+        ensures { result.now ≡ name_in (value_in self.entry) }
+    {
+        match self {
+            Value::Name(name) => name,
+            _ => "",
+        }
+    }
+
+    /// The number, and 0 where it is none.
+    pub fn number(self) -> u64
+        ensures { result ≡ number_in (value_in self.entry) }
+    {
+        match self {
+            Value::Number(number) => number,
+            _ => 0,
+        }
+    }
+
+    /// The name, where it is one.
+    pub fn given_name(self) -> Option<&'w str>
+        ensures { option_copied result ≡ given_name (value_in self.entry) }
+    {
+        match self {
+            Value::Name(name) => Some(name),
+            _ => None,
+        }
+    }
+
+    /// The number, where it is one.
+    pub fn given_number(self) -> Option<u64>
+        ensures { result ≡ given_number (value_in self.entry) }
+    {
+        match self {
+            Value::Number(number) => Some(number),
+            _ => None,
+        }
+    }
+
+    /// The number with or without a sign, where it is one.
+    pub fn given_signed(self) -> Option<i64>
+        ensures { result ≡ given_signed (value_in self.entry) }
+    {
+        match self {
+            Value::Signed(number) => Some(number),
+            _ => None,
+        }
+    }
+
+    /// Whether an option without a value is given.
+    pub fn is_given(self) -> bool
+        ensures { result ≡ is_given (value_in self.entry) }
+    {
+        match self {
+            Value::Given => true,
+            _ => false,
+        }
+    }
 }
 
 /// The value of this kind that the word is.

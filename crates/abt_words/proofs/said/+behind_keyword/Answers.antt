@@ -1,10 +1,9 @@
-use Rattle.std.proofs.Common.{◌≡◌, List, [], ℕ, map, get_or, sym, ◌∙◌, refl, string_bytes}
+use Rattle.std.proofs.Common.{[], get_or, sym, ◌∙◌, string_bytes}
 use Rattle.std.proofs.lemmas.Slice.Eq.{bytes_eq-Decides}
 use Rattle.abt_words.specs.Rows.{Text}
 use Rattle.abt_words.proofs.FewWords.{begins, first_read, if_some}
 use Rattle.abt_words.proofs.FewTexts.{same_heads}
 use Rattle.abt_words.proofs.said.+behind_keyword.Goals as goal
-
 
 pub returns-then-eq-clause-some : goal.returns-then-eq-clause-some
 returns-then-eq-clause-some t c =

@@ -1,8 +1,6 @@
-use Rattle.std.proofs.Common.{◌≡◌, ◌∷◌, List, ℕ, map, get_or, refl, sym, subst, ◌∙◌, ap, string_bytes}
-use Rattle.std.proofs.lemmas.List.{map-set}
-use Rattle.std.specs.Prelude.{IfSome}
+use Rattle.std.proofs.Common.{◌∷◌, map, refl, sym, subst, ◌∙◌, ap, string_bytes}
 use Rattle.abt_words.specs.Rows.{option_in}
-use Rattle.abt_words.specs.Saying.{Value, Absent, Gives, nothing, gives}
+use Rattle.abt_words.specs.Saying.{Gives, nothing}
 use Rattle.abt_words.specs.Values.{value_in, values_in}
 use Rattle.abt_words.proofs.FewWords.{empty, begins, behind, if_some}
 use Rattle.abt_words.proofs.Given.{first_given, same_rest, option_there, some_option, gives_more, read_there, is_absent, set_in}
@@ -12,11 +10,14 @@ pub returns-in_default-clause-some : goal.returns-in_default-clause-some
 returns-in_default-clause-some t c = nothing (empty string_bytes c.args.words.now c.in_default.len_below) refl
 
 pub returns-in_default-list : goal.returns-in_default-list
-returns-in_default-list t c = record { some = tt; none = λ none after g.
-    let words = begins string_bytes c.args.words.now c.word-item.result c.in-len1-up.len_at_least c.word-item.is in
-    let there = some_option c.args.options.now c.in_ok-place.place c.in_ok-place.ensures.within in
-    let first = first_given _ _ c.as_str.result.now (map string_bytes (behind 1 c.args.words.now)) c.in_ok-place.place there.0 (values_in c.args.before) after (words ∙ ap (λ w. w ∷ map string_bytes (behind 1 c.args.words.now)) (sym c.as_str.ensures.value)) (sym c.in_ok-place.ensures.place) there.1 g in
-    c.in_default-list.not-Absent (is_absent _ (sym (read_there c.args.before.list c.in_ok-place.place) ∙ first.absent)) }
+returns-in_default-list t c = record {
+  some = tt;
+  none = λ none after g.
+      let words = begins string_bytes c.args.words.now c.word-item.result c.in-len1-up.len_at_least c.word-item.is in
+      let there = some_option c.args.options.now c.in_ok-place.place c.in_ok-place.ensures.within in
+      let first = first_given _ _ c.as_str.result.now (map string_bytes (behind 1 c.args.words.now)) c.in_ok-place.place there.0 (values_in c.args.before) after (words ∙ ap (λ w. w ∷ map string_bytes (behind 1 c.args.words.now)) (sym c.as_str.ensures.value)) (sym c.in_ok-place.ensures.place) there.1 g in
+      c.in_default-list.not-Absent (is_absent _ (sym (read_there c.args.before.list c.in_ok-place.place) ∙ first.absent));
+}
 
 pub returns-in_err-value-clause-none : goal.returns-in_err-value-clause-none
 returns-in_err-value-clause-none t c = λ none after g.

@@ -1,4 +1,4 @@
-use Rattle.std.proofs.Common.{[], ◌∷◌, map, ap, sym, ◌∙◌, refl, string_bytes}
+use Rattle.std.proofs.Common.{[], ◌∷◌, ap, ◌∙◌, string_bytes}
 use Rattle.std.proofs.lemmas.List.{map-set}
 use Rattle.abt_words.specs.Values.{value_in, values_in}
 use Rattle.abt_words.proofs.FewWords.{begins, if_some}

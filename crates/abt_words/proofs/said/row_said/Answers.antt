@@ -1,9 +1,8 @@
-use Rattle.std.proofs.Common.{length, map, refl, sym, ◌∙◌, subst, string_bytes}
-use Rattle.std.proofs.lemmas.List.{take-map}
+use Rattle.std.proofs.Common.{map, refl, sym, ◌∙◌, subst, string_bytes}
 use Rattle.abt_words.specs.declared.said.TheConstants.{MOST}
 use Rattle.abt_words.specs.Rows.{row_in, place_in, option_in}
 use Rattle.abt_words.specs.Saying.{Gives}
-use Rattle.abt_words.specs.Values.{Fills, value_in, values_in}
+use Rattle.abt_words.specs.Values.{Fills, values_in}
 use Rattle.abt_words.proofs.Given.{first_in}
 use Rattle.abt_words.proofs.Parsed.{behind_values, no_settings, read_row, same_names}
 use Rattle.abt_words.proofs.said.row_said.Goals as goal
