@@ -1,9 +1,8 @@
 -- Lines of words, and how they end.
-use Rattle.std.proofs.Common.{◌≡◌, ◌≢◌, ℕ, ◌<◌, ◌≤◌, Bool, true, List, [], ◌∷◌, ◌++◌, get_or, slice_get, Option, Some, None, Result, Ok, Err, refl, sym, ap, subst, ◌∙◌, arith, codes}
+use Rattle.std.proofs.Common.{◌≡◌, ◌≢◌, ℕ, ◌≤◌, Bool, true, List, [], ◌∷◌, ◌++◌, get_or, slice_get, Option, Some, Result, Ok, Err, refl, sym, ap, subst, ◌∙◌, arith, codes}
 use Rattle.std.specs.Prelude.{IfSome, IfOk}
 use Rattle.dcsp_outside.specs.Outside.{Stream}
 use Rattle.abt_promise.specs.declared.status.Status.{Status}
-use Rattle.abt_promise.specs.declared.status.Status.TheVariants.{Good}
 use Rattle.abt_promise.specs.Statuses.{IsFinal, IsRefusal}
 use Rattle.abt_promise.specs.Promises.{IsSaid}
 use Rattle.abt_promise.specs.Runs.{Concludes}
@@ -14,13 +13,13 @@ use Rattle.abt_input.specs.Errors.{error_status, error_text, way_of}
 use Rattle.abt_input.proofs.Cnfs.{clauses_refuse}
 use Rattle.abt_words.specs.declared.row.LineName.{LineName}
 use Rattle.abt_words.specs.declared.row.LineName.TheVariants as names
-use Rattle.abt_words.specs.declared.row.Content.TheVariants.{Model, Schedule, Log}
+use Rattle.abt_words.specs.declared.row.Content.TheVariants.{Model, Log}
 use Rattle.abt_words.specs.declared.row.Access.TheVariants.{Read, Written}
 use Rattle.abt_words.specs.declared.rows.TheConstants.{SOLVE, REPLAY, CHECK, UPGRADE, CORE, STARVE, LOSSY, BOUND, QUEENS, COLOURING, DRILL, CNF, RUP, HELP, VERSION, USAGE}
-use Rattle.abt_words.specs.Rows.{Row, row_of, the_rows}
-use Rattle.abt_words.specs.Saying.{Value, Absent, Fill, Said, IsSaidBy, names_differ, setting_of, name_in, number_in, given_name}
-use Rattle.abt_words.proofs.Once.{one_said}
-use Rattle.abt_words.proofs.Read.{OfEach, of_each, number_within, a_name, names_apart, if_name}
+use Rattle.abt_words.specs.Rows.{Number, Place, Row, row_of, the_rows}
+use Rattle.abt_words.specs.Saying.{Value, Absent, Fill, Said, IsSaidBy, names_differ, setting_of, name_in, given_name}
+use Rattle.abt_words.proofs.Once.{one_said, rows_are_apart}
+use Rattle.abt_words.proofs.Read.{of_each, number_within, a_name, names_apart, if_name}
 use Rattle.abt_models.proofs.Lawful.{bound_lawful, print_lawful}
 use Rattle.abt_run.proofs.Lawful.{replay_lawful}
 use Rattle.abt_best.proofs.Lawful.{solve_lawful}
@@ -37,7 +36,7 @@ use Rattle.abt_clauses.proofs.CnfLawful.{cnf_lawful}
 
 -- words are at most one line
 pub one_line : (words : List (List ℕ)) (line other : Line) → IsLine words line → IsLine words other → line ≡ other
-one_line words line other h k = h.line_is ∙ (ap line_by (one_said the_rows refl words h.said k.said h.is_said k.is_said) ∙ sym k.line_is)
+one_line words line other h k = h.line_is ∙ (ap line_by (one_said the_rows rows_are_apart words h.said k.said h.is_said k.is_said) ∙ sym k.line_is)
 
 -- ---- rows of lines
 
@@ -61,6 +60,7 @@ row_named names.Version = row_of VERSION
 row_named names.Usage = row_of USAGE
 
 pub its_row : (i : ℕ) (row : Row) → slice_get the_rows i ≡ Some row → row ≡ row_named row.line
+unfolding the_rows
 its_row = of_each (λ row. row ≡ row_named row.line) the_rows (refl, (refl, (refl, (refl, (refl, (refl, (refl, (refl, (refl, (refl, (refl, (refl, (refl, (refl, (refl, (refl, tt))))))))))))))))
 
 -- the name of each line
@@ -122,6 +122,13 @@ spoken words line h =
 
 -- ---- numbers
 
+-- a number that is said is at most what its row says
+pub at_most : (words : List (List ℕ)) (said : Said) → IsSaidBy the_rows words said → (name : LineName) → said.row.line ≡ name
+    → (i : ℕ) (place : Place) (least most : ℕ) → slice_get (row_named name).places i ≡ Some place → place.kind ≡ Number least most → number_at said i ≤ most
+at_most words said is name e i place least most s k =
+    let row = its_row is.place said.row is.row ∙ ap row_named e in
+    (number_within (row_named name).places said.values i place least most s k (subst (λ (r : Row). Fill r.places said.values) row is.says.fill)).1
+
 pub queens_within : (n : ℕ) → IsSomeLine (Queens n) → (1 ≤ n) × (n ≤ 200)
 queens_within n some =
     let s = spoken some.0 (Queens n) some.1 in
@@ -144,9 +151,10 @@ pub starve_within : (model : List ℕ) (from to : ℕ) (file : List ℕ) → IsS
 starve_within model from to file some =
     let s = spoken some.0 (Starve model from to file) some.1 in
     let one : from ≡ number_at s.said 1 = the_from _ _ _ _ _ _ _ _ s.line_is in
-    let two : to ≡ number_at s.said 2 = the_to _ _ _ _ _ _ _ _ s.line_is in
-    (subst (λ m. 1 ≤ m) (sym one) (number_within (row_of STARVE).places s.said.values 1 _ 1 4096 refl refl s.fill).0,
-    subst (λ m. 1 ≤ m) (sym two) (number_within (row_of STARVE).places s.said.values 2 _ 1 4096 refl refl s.fill).0)
+    let two : to ≡ number_at s.said 2 = the_to _ _ _ _ _ _ _ _ s.line_is in (
+      subst (λ m. 1 ≤ m) (sym one) (number_within (row_of STARVE).places s.said.values 1 _ 1 4096 refl refl s.fill).0,
+      subst (λ m. 1 ≤ m) (sym two) (number_within (row_of STARVE).places s.said.values 2 _ 1 4096 refl refl s.fill).0,
+    )
   where
     the_from : (a b : List ℕ) (m n k l : ℕ) (f g : List ℕ) → Starve a m k f ≡ Starve b n l g → m ≡ n
     the_from a b m n k l f g e = cc
@@ -164,10 +172,11 @@ solve_apart [] settings h d = absurd h
 solve_apart (v ∷ []) settings h d = absurd h.1
 solve_apart (v ∷ w ∷ []) settings h d =
     let a = a_name _ v Model Read refl h.0 in
-    let b = a_name _ w Log Written refl h.1.0 in
-    (names_apart (v ∷ w ∷ settings) d 0 1 (name_in v) (name_in w) (omega arith) a b,
-    if_name (get_or settings 1 Absent) (λ k. name_in v ≢ k) (λ k e. names_apart (v ∷ w ∷ settings) d 0 3 (name_in v) k (omega arith) a e),
-    if_name (get_or settings 1 Absent) (λ k. k ≡ name_in w → ⊥) (λ k e g. names_apart (v ∷ w ∷ settings) d 1 3 (name_in w) k (omega arith) b e (sym g)))
+    let b = a_name _ w Log Written refl h.1.0 in (
+      names_apart (v ∷ w ∷ settings) d 0 1 (name_in v) (name_in w) (omega arith) a b,
+      if_name (get_or settings 1 Absent) (λ k. name_in v ≢ k) (λ k e. names_apart (v ∷ w ∷ settings) d 0 3 (name_in v) k (omega arith) a e),
+      if_name (get_or settings 1 Absent) (λ k. k ≡ name_in w → ⊥) (λ k e g. names_apart (v ∷ w ∷ settings) d 1 3 (name_in w) k (omega arith) b e (sym g)),
+    )
 solve_apart (v ∷ w ∷ x ∷ more) settings h d = absurd h.1.1
 
 -- the names of `solve` differ
@@ -175,6 +184,9 @@ pub record SolveNames (model log : List ℕ) (kept : Option (List ℕ)) : Type 0
   pub log_is_other : model ≢ log
   pub record_is_other : IfSome kept (λ k. model ≢ k)
   pub record_is_own : IfSome kept (λ k. k ≡ log → ⊥)
+
+same_names : (m n l k : List ℕ) (r s : Option (List ℕ)) → m ≡ n → l ≡ k → r ≡ s → SolveNames n k s → SolveNames m l r
+same_names m n l k r s e f g h = rw (e, f, g) h
 
 pub solve_names : (words : List (List ℕ)) (model log : List ℕ) (seed : ℕ) (kept : Option (List ℕ)) (trace : Bool) → IsLine words (Solve model log seed kept trace) → SolveNames model log kept
 solve_names words model log seed kept trace h =
@@ -184,7 +196,7 @@ solve_names words model log seed kept trace h =
     let m : model ≡ name_in (get_or s.said.values 0 Absent) = cc in
     let l : log ≡ name_in (get_or s.said.values 1 Absent) = cc in
     let r : kept ≡ given_name (get_or s.said.settings 1 Absent) = the_kept s ∙ k in
-    rw (m, l, r) (record { log_is_other = apart.0; record_is_other = apart.1; record_is_own = apart.2 })
+    same_names _ _ _ _ _ _ m l r (record { log_is_other = apart.0; record_is_other = apart.1; record_is_own = apart.2 })
   where
     the_kept : (s : Spoken (Solve model log seed kept trace) (row_of SOLVE)) → kept ≡ given_name (setting_of s.said.row.options s.said.settings (codes "--record"))
     the_kept s = let e = s.line_is in cc
@@ -202,7 +214,7 @@ replay_names words model schedule log trace h =
     let s = spoken words (Replay model schedule log trace) h in
     let m : model ≡ name_in (get_or s.said.values 0 Absent) = cc in
     let l : log ≡ name_in (get_or s.said.values 2 Absent) = cc in
-    rw (m, l) (replay_apart s.said.values s.said.settings s.fill s.differ)
+    λ e. replay_apart s.said.values s.said.settings s.fill s.differ (sym m ∙ (e ∙ l))
 
 -- ---- promises
 

@@ -1,28 +1,24 @@
 -- What a search that the words ask for left, sentence by sentence.
-use Rattle.std.proofs.Common.{◌≡◌, ◌≢◌, ◌⊎◌, ◌-◌, ◌^◌, ◌<◌, ◌≤◌, zero, suc, ℕ, ℤ, Bool, true, false, cond, List, [], ◌∷◌, length, filter, Option, Some, None, refl, sym, ap, subst, ◌∙◌, arith, inl, inr}
-use Rattle.std.specs.Prelude.{IfSome, IsSome, slice_set, slice_index_or}
+use Rattle.std.proofs.Common.{◌≡◌, ◌≢◌, ◌-◌, ◌≤◌, zero, suc, ℕ, ℤ, Bool, true, false, cond, List, [], ◌∷◌, length, filter, Option, Some, None, refl, sym, subst, arith, inl, inr}
+use Rattle.std.specs.Prelude.{IfSome, slice_set, slice_index_or}
 use Rattle.std.proofs.lemmas.List.{length-set, length-map}
 use Rattle.dcsp_domain.proofs.Domains.{length_filter}
 use Rattle.dcsp_outside.specs.Outside.{Stream, Told, bytes_of}
 use Rattle.dcsp_script.specs.Scripts.{World}
 use Rattle.dcsp_script.specs.Ways.{Did, DidPartOf}
 use Rattle.dcsp_defs.specs.Words.{In}
-use Rattle.dcsp_defs.specs.Csp.{IsCsp, IsSolution, domain}
-use Rattle.dcsp_defs.specs.declared.Step.{Step}
 use Rattle.dcsp_defs.specs.Derivation.{IsRefutation}
 use Rattle.dcsp_problem.specs.Problems.{Contents, constraint_of, csp_of}
 use Rattle.dcsp_problem.specs.WellFormed.{IsProblem}
 use Rattle.dcsp_problem.specs.Aims.{aimed_at, is_better, narrowed_at, narrowed}
-use Rattle.dcsp_problem.proofs.Narrowed.{aimed_below}
 use Rattle.abt_promise.specs.declared.status.Status.{Status}
-use Rattle.abt_promise.specs.declared.status.Status.TheVariants.{Good, No}
 use Rattle.abt_promise.specs.Statuses.{IsFinal, IsRefusal}
 use Rattle.abt_promise.specs.Runs.{Ran}
 use Rattle.abt_promise.proofs.Following.{report_part, report_did}
 use Rattle.ngd_log.specs.Logs.{log_text}
 use Rattle.law_logs.specs.Logged.{IsSmall}
 use Rattle.abt_input.specs.Inputs.{IsModelOf, IsTextOf}
-use Rattle.abt_check.specs.Taking.{narrowing, taking_of}
+use Rattle.abt_check.specs.Taking.{taking_of}
 use Rattle.abt_check.specs.Verifying.{IsVerifiedBy}
 use Rattle.abt_check.proofs.Verifying.{refutation_verified_by}
 use Rattle.abt_run.specs.Endings.{assigned}
@@ -33,7 +29,7 @@ use Rattle.abt_best.specs.Searching.{AskedSearch, round_count, session_after, la
 use Rattle.abt_best.specs.BestAnswers.{search_status}
 use Rattle.abt_best.specs.SearchScripts.{search_script, search_report}
 use Rattle.abt_best.specs.SolvePromise.{solve_promise, searched, HoldsWholeProblem}
-use Rattle.abt_best.specs.BestHeadline.{HoldsSearch, IsSearched, PrintsBest, IsBestSearch, IsRefutedSearch, IsUnfinishedSearch, IsBoundedSearch, SearchOrdered}
+use Rattle.abt_best.specs.BestHeadline.{HoldsSearch, IsSearched, IsBestSearch, IsRefutedSearch, IsUnfinishedSearch, IsBoundedSearch, SearchOrdered}
 use Rattle.abt_best.proofs.Lawful.{solve_lawful, no_refusal_best}
 use Rattle.abt_best.proofs.Headlines.{OwnsRecord, is_searched, part_ordered}
 use Rattle.abt_best.proofs.Searches.{is_csp_after}
@@ -45,7 +41,7 @@ use Rattle.abt_command.specs.Lines.{Line, Solve, IsLine, IsNoLine}
 use Rattle.abt_command.specs.LinePromises.{promise_of}
 use Rattle.abt_command.specs.AskedRuns.{RunsModel, AskForModel}
 use Rattle.abt_command.specs.AskedSearches.{AsksForSearch, EachSearch, IsCheckedSearch, IsSatisfyingSearch}
-use Rattle.abt_command.proofs.Lines.{SolveNames, one_line, solve_names}
+use Rattle.abt_command.proofs.Lines.{one_line, solve_names}
 
 -- ---- logs can name what is left of a problem that is narrowed
 

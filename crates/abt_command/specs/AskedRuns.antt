@@ -1,5 +1,5 @@
 -- The runs that words ask for.
-use Rattle.std.specs.Prelude.{◌≡◌, ℕ, Bool, List, [], ◌∷◌, Option, IfSome}
+use Rattle.std.specs.Prelude.{◌≡◌, ℕ, Bool, List, Option, IfSome}
 use Rattle.dcsp_outside.specs.Outside.{bytes_of}
 use Rattle.dcsp_problem.specs.declared.aim.Aim.TheVariants.{Satisfy}
 use Rattle.dcsp_problem.specs.Problems.{Contents}

@@ -61,7 +61,8 @@ proved, docs/FORMATS.md the formats and the lines that refuse a file.
 ";
 
 /// What `--usage` prints; tests/usage.sh reads it here.
-const USAGE: &[u8] = b"solve file:MODEL:model:read file:LOG:log:written --seed=number:N:0:18446744073709551615 --record=file:FILE:schedule:written --trace
+const USAGE: &[u8] =
+    b"solve file:MODEL:model:read file:LOG:log:written --seed=number:N:0:18446744073709551615 --record=file:FILE:schedule:written --trace
 replay file:MODEL:model:read file:SCHEDULE:schedule:read file:LOG:log:written --trace
 check file:MODEL:model:read file:LOG:log:read --better=signed:N:-9223372036854775808:9223372036854775807
 upgrade file:LOG:log:read file:NEW:log:written

@@ -108,7 +108,9 @@ const NO_LINES: [&[&str]; 117] = [
     &["lossy", "m", "l", "1000001", "0"],
     &["lossy", "m", "l", "0", "18446744073709551616"],
     &["lossy", "m", "l", "1", "1", "--record", "l"],
-    &["lossy", "m", "l", "1", "1", "--record", "r", "--record", "s"],
+    &[
+        "lossy", "m", "l", "1", "1", "--record", "r", "--record", "s",
+    ],
     &["lossy", "m", "l", "1", "1", "--trace"],
     &["lossy", "m", "l", "--record", "r", "1", "1"],
     &["lossy", "m", "l", "1"],

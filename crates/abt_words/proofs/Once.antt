@@ -6,7 +6,7 @@ use Rattle.std.proofs.lemmas.Bool.{false≢true}
 use Rattle.std.proofs.lemmas.Fmt.{decimal_injective}
 use Rattle.std.proofs.lemmas.List.{append_assoc, append_cancel_left}
 use Rattle.std.proofs.lemmas.Slice.Eq.{bytes_eq-Decides}
-use Rattle.abt_words.specs.Rows.{Kind, File, OneOf, Place, LineOption, Row}
+use Rattle.abt_words.specs.Rows.{Kind, File, OneOf, Place, LineOption, Row, the_rows}
 use Rattle.abt_words.specs.Rows as rows
 use Rattle.abt_words.specs.Saying.{Value, Given, Name, Number, Signed, Word, value_words, Fits, FitsOption, Fill, place_of, Gives, nothing, gives, Said, Says, IsSaidBy, none_given, differ, differs_from_all, are_apart}
 use Rattle.abt_words.proofs.SignedWords.{signed_number_back, signed_number}
@@ -128,3 +128,7 @@ one_said rows apart words a b h k =
     ap (λ (z : Row). record { row = z; values = a.values; settings = a.settings }) row
     ∙ ap (λ (z : List Value). record { row = b.row; values = z; settings = a.settings }) same.0
     ∙ ap (λ (z : List Value). record { row = b.row; values = b.values; settings = z }) same.1
+
+pub rows_are_apart : are_apart the_rows ≡ true
+unfolding the_rows
+rows_are_apart = refl

@@ -97,5 +97,5 @@ abbrev pub row_of : RowOf (Named (List (Named (List ℕ)))) (Named (List NamedPl
 row_of row = record { line = row.line; keyword = named_texts row.keyword; places = map place_of row.places.now; options = map option_of row.options.now; tells = named_texts row.tells }
 
 -- the rows of the program
-abbrev pub the_rows : List Row
+unfoldable pub the_rows : List Row
 the_rows = map row_of ROWS.now

@@ -46,7 +46,7 @@ option_usage option = option.word ++ elim option.value [ None ↦ [] | Some plac
 abbrev pub row_usage : Row → List ℕ
 row_usage row = keyword_text row.keyword ++ flat_map (λ place. codes " " ++ place_usage place) row.places ++ flat_map (λ option. codes " " ++ option_usage option) row.options ++ codes "\n"
 
-abbrev pub usage_text : List Row → List ℕ
+unfoldable pub usage_text : List Row → List ℕ
 usage_text rows = flat_map row_usage rows
 
 -- ---- help
@@ -71,5 +71,5 @@ sentence (line ∷ lines) = line ++ codes "\n" ++ each_text BLANKS.now (codes "\
 abbrev pub row_help : Row → List ℕ
 row_help row = row_form row ++ gap (length (row_form row)) ++ sentence row.tells
 
-abbrev pub help_text : List Row → List ℕ
+unfoldable pub help_text : List Row → List ℕ
 help_text rows = HEAD.now ++ flat_map row_help rows ++ TAIL.now

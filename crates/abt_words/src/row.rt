@@ -3,7 +3,7 @@
 //! The texts and lists that the types refer to are arguments of the types, since a contract can speak of a
 //! constant only where no field's own type is a reference.
 
-/// The lines of the program.
+/// The lines of the program, in the order in which help shows them.
 #[derive(Clone, Copy, Debug, PartialEq, Eq)]
 pub enum LineName {
     Solve,
@@ -54,28 +54,36 @@ pub enum KindOf<Texts> {
     OneOf { words: Texts },
 }
 
-/// One word of a line, and how usage and help show it.
+/// One word of a line.
 #[derive(Clone, Copy, Debug)]
 pub struct PlaceOf<Text, Texts> {
+    /// How usage and help call the word.
     pub shown: Text,
+    /// What it may be.
     pub kind: KindOf<Texts>,
 }
 
-/// An option: its word, and what the next word is, where it takes a value.
+/// An option of a line.
 #[derive(Clone, Copy, Debug)]
 pub struct OptionOf<Text, Texts> {
+    /// The word that gives it.
     pub word: Text,
+    /// What the next word is, where the option takes a value.
     pub value: Option<PlaceOf<Text, Texts>>,
 }
 
-/// A line of words: its keyword, of one or two words; the words that follow it; the options that may stand behind
-/// these, in any order and each at most once; and the lines of its sentence in the help.
+/// A line of words.
 #[derive(Clone, Copy, Debug)]
 pub struct RowOf<Texts, Places, Options> {
+    /// Which line it is.
     pub line: LineName,
+    /// The words that it begins with, one or two.
     pub keyword: Texts,
+    /// The words that follow.
     pub places: Places,
+    /// The options that may stand behind these, in any order and each at most once.
     pub options: Options,
+    /// The lines of its sentence in the help.
     pub tells: Texts,
 }
 

@@ -33,6 +33,7 @@ impl<'w> Values<'w> {
 /// What words say: a row, the values of its places, and what its options are given.
 #[derive(Clone, Copy, Debug)]
 pub struct Said<'w> {
+    /// The row.
     pub row: Row,
     values: Values<'w>,
     settings: Values<'w>,

@@ -153,7 +153,7 @@ pub fn usage(alloc: Global) -> Result<String, AllocError>
 }
 
 fn push_usage(text: &mut String, rows: &[Row]) -> Result<(), AllocError>
-    ensures { OnOk result (string_bytes text.new ≡ string_bytes text.old ++ usage_text (map row_in rows.now)) }
+    ensures { OnOk result (string_bytes text.new ≡ string_bytes text.old ++ flat_map row_usage (map row_in rows.now)) }
 {
     for row in rows {
         push_row_usage(text, *row)?;
