@@ -1,5 +1,3 @@
-pub mod FewWords
-pub mod SignedWords
 pub mod Lines
 pub mod Runs
 pub mod Searches

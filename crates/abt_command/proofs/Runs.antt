@@ -6,9 +6,8 @@ use Rattle.dcsp_script.specs.Scripts.{World}
 use Rattle.dcsp_script.specs.Ways.{Did, DidPartOf}
 use Rattle.dcsp_defs.specs.Csp.{IsCsp}
 use Rattle.dcsp_defs.specs.Derivation.{IsRefutation}
-use Rattle.dcsp_problem.specs.Problems.{Contents, csp_of}
+use Rattle.dcsp_problem.specs.Problems.{csp_of}
 use Rattle.abt_promise.specs.declared.status.Status.{Status}
-use Rattle.abt_promise.specs.declared.status.Status.TheVariants.{Good, No}
 use Rattle.abt_promise.specs.Statuses.{IsFinal, IsRefusal}
 use Rattle.abt_promise.specs.Runs.{Ran}
 use Rattle.abt_promise.proofs.Following.{report_part, report_did}
@@ -29,19 +28,10 @@ use Rattle.abt_run.proofs.Verdicts.{solved, refuted, bounded, replay_unfinished,
 use Rattle.law_meaning.specs.Meaning.{SatisfiesText}
 use Rattle.law_meaning.proofs.Whole.{solutions_satisfy}
 use Rattle.abt_command.specs.Meanings.{Means}
-use Rattle.abt_command.specs.Lines.{IsNewName, AreFileNames, Line, Help, Version, Check, Replay, Solve, Bound, Queens, Colouring, Drill, Upgrade, Core, Starve, Lossy, Rup, Cnf, IsLine, IsNoLine}
+use Rattle.abt_command.specs.Lines.{Line, Help, Version, Usage, Check, Replay, Solve, Bound, Queens, Colouring, Drill, Upgrade, Core, Starve, Lossy, Rup, Cnf, IsLine, IsNoLine}
 use Rattle.abt_command.specs.LinePromises.{promise_of}
 use Rattle.abt_command.specs.AskedRuns.{AsksFor, replays, solves, EachRun, RunsModel, AskForModel, IsCheckedRun, IsSatisfyingRun}
-use Rattle.abt_command.proofs.Lines.{one_line}
-
--- the record of a line has a name of its own
-pub own_record : (model log : List ℕ) (kept : Option (List ℕ)) → AreFileNames (model ∷ log ∷ option_to_list kept) → IfSome kept (λ k. k ≡ log → ⊥)
-own_record model log None h = tt
-own_record model log (Some k) h = λ e. h.2.1.0 (sym e)
-
-pub of_kept : (model : List ℕ) (kept : Option (List ℕ)) → IsNewName model (option_to_list kept) → IfSome kept (λ k. model ≢ k)
-of_kept model None h = tt
-of_kept model (Some k) h = h.0
+use Rattle.abt_command.proofs.Lines.{one_line, solve_names, replay_names}
 
 -- words that are no line ask for no run
 pub asks_for_none : (words : List (List ℕ)) (held : Option (List ℕ → Option (List ℕ))) (P : Asked → Type 0) → IsNoLine words → EachRun words held P
@@ -60,6 +50,7 @@ module _ (words : List (List ℕ)) (line : Line) (is : IsLine words line) (a b :
       of_line : (l : Line) → RunsModel l model → Means l a b status → HoldsProblem a.folder.held model
       of_line Help r h = absurd r
       of_line Version r h = absurd r
+      of_line Usage r h = absurd r
       of_line (Check m l n) r h = absurd r
       of_line (Bound m) r h = absurd r
       of_line (Queens n) r h = absurd r
@@ -89,7 +80,7 @@ module _ (words : List (List ℕ)) (line : Line) (is : IsLine words line) (a b :
 
     own : (asked : Asked) → AsksFor words files asked → HasOwnRecord asked
     own asked (replays m s l t h p mp cs hc e) = rw e tt
-    own asked (solves m l n k t h p mp aim e) = rw e (own_record m l k h.names)
+    own asked (solves m l n k t h p mp aim e) = rw e (solve_names words m l n k t h).record_is_own
 
     same_problem : (asked : Asked) → AsksFor words files asked → asked.session.problem ≡ csp_of asked.problem
     same_problem asked (replays m s l t h p mp cs hc e) = rw e refl
@@ -112,10 +103,10 @@ module _ (words : List (List ℕ)) (line : Line) (is : IsLine words line) (a b :
     own_model : (asked : Asked) → AsksFor words files asked → (model : List ℕ) → AskForModel words model → IsOther asked model × IsModelOf (bytes_of (files model)) asked.problem
     own_model asked (replays m s l t h p mp cs hc e) model a =
         let is : m ≡ model = subst (λ x. RunsModel x model) (one_line words a.line (Replay m s l t) a.is h) a.runs in
-        rw (e, sym is) ((h.1.1.1.0, tt), mp)
+        rw (e, sym is) ((replay_names words m s l t h, tt), mp)
     own_model asked (solves m l n k t h p mp aim e) model a =
         let is : m ≡ model = subst (λ x. RunsModel x model) (one_line words a.line (Solve m l n k t) a.is h) a.runs in
-        rw (e, sym is) ((h.names.1.0, of_kept m k h.names.1.1), mp)
+        rw (e, sym is) (((solve_names words m l n k t h).log_is_other, (solve_names words m l n k t h).record_is_other), mp)
 
     at_most : (asked : Asked) → AsksFor words files asked → asked.session.most ≤ 2 ^ 40
     at_most asked (replays m s l t h p mp cs hc e) = rw e (omega arith)

@@ -1,28 +1,24 @@
 -- What a search that the words ask for left, sentence by sentence.
-use Rattle.std.proofs.Common.{◌≡◌, ◌≢◌, ◌⊎◌, ◌-◌, ◌^◌, ◌<◌, ◌≤◌, zero, suc, ℕ, ℤ, Bool, true, false, cond, List, [], ◌∷◌, length, filter, Option, Some, None, refl, sym, ap, subst, ◌∙◌, arith, inl, inr}
-use Rattle.std.specs.Prelude.{IfSome, IsSome, slice_set, slice_index_or}
+use Rattle.std.proofs.Common.{◌≡◌, ◌≢◌, ◌-◌, ◌≤◌, zero, suc, ℕ, ℤ, Bool, true, false, cond, List, [], ◌∷◌, length, filter, Option, Some, None, refl, sym, subst, arith, inl, inr}
+use Rattle.std.specs.Prelude.{IfSome, slice_set, slice_index_or}
 use Rattle.std.proofs.lemmas.List.{length-set, length-map}
 use Rattle.dcsp_domain.proofs.Domains.{length_filter}
 use Rattle.dcsp_outside.specs.Outside.{Stream, Told, bytes_of}
 use Rattle.dcsp_script.specs.Scripts.{World}
 use Rattle.dcsp_script.specs.Ways.{Did, DidPartOf}
 use Rattle.dcsp_defs.specs.Words.{In}
-use Rattle.dcsp_defs.specs.Csp.{IsCsp, IsSolution, domain}
-use Rattle.dcsp_defs.specs.declared.Step.{Step}
 use Rattle.dcsp_defs.specs.Derivation.{IsRefutation}
 use Rattle.dcsp_problem.specs.Problems.{Contents, constraint_of, csp_of}
 use Rattle.dcsp_problem.specs.WellFormed.{IsProblem}
 use Rattle.dcsp_problem.specs.Aims.{aimed_at, is_better, narrowed_at, narrowed}
-use Rattle.dcsp_problem.proofs.Narrowed.{aimed_below}
 use Rattle.abt_promise.specs.declared.status.Status.{Status}
-use Rattle.abt_promise.specs.declared.status.Status.TheVariants.{Good, No}
 use Rattle.abt_promise.specs.Statuses.{IsFinal, IsRefusal}
 use Rattle.abt_promise.specs.Runs.{Ran}
 use Rattle.abt_promise.proofs.Following.{report_part, report_did}
 use Rattle.ngd_log.specs.Logs.{log_text}
 use Rattle.law_logs.specs.Logged.{IsSmall}
 use Rattle.abt_input.specs.Inputs.{IsModelOf, IsTextOf}
-use Rattle.abt_check.specs.Taking.{narrowing, taking_of}
+use Rattle.abt_check.specs.Taking.{taking_of}
 use Rattle.abt_check.specs.Verifying.{IsVerifiedBy}
 use Rattle.abt_check.proofs.Verifying.{refutation_verified_by}
 use Rattle.abt_run.specs.Endings.{assigned}
@@ -45,8 +41,7 @@ use Rattle.abt_command.specs.Lines.{Line, Solve, IsLine, IsNoLine}
 use Rattle.abt_command.specs.LinePromises.{promise_of}
 use Rattle.abt_command.specs.AskedRuns.{RunsModel, AskForModel}
 use Rattle.abt_command.specs.AskedSearches.{AsksForSearch, EachSearch, IsCheckedSearch, IsSatisfyingSearch}
-use Rattle.abt_command.proofs.Lines.{one_line}
-use Rattle.abt_command.proofs.Runs.{own_record, of_kept}
+use Rattle.abt_command.proofs.Lines.{one_line, solve_names}
 
 -- ---- logs can name what is left of a problem that is narrowed
 
@@ -117,7 +112,7 @@ module _ (words : List (List ℕ)) (line : Line) (is : IsLine words line) (a b :
     made_part = report_part (solve_promise asks.model asked.log asked.seed asked.kept asked.trace) (solve_lawful asks.model asked.log asked.seed asked.kept asked.trace) a b err now files told (search_report asked) (reports_search asked.problem asked.log asked.seed asked.kept asked.trace (bytes_of (files asks.model)) asks.model_is asks.aims) status line_did
 
     own : OwnsRecord asked
-    own = own_record asks.model asked.log asked.kept asks.line_is.names
+    own = (solve_names words asks.model asked.log asked.seed asked.kept asked.trace asks.line_is).record_is_own
 
     no_refused : status ≡ search_status asked → IsRefusal status → ⊥
     no_refused i r = no_refusal_best _ (subst IsRefusal i r)
@@ -136,7 +131,7 @@ module _ (words : List (List ℕ)) (line : Line) (is : IsLine words line) (a b :
     own_model : (model : List ℕ) → AskForModel words model → (model ≢ asked.log) × IfSome asked.kept (λ k. model ≢ k) × IsModelOf (bytes_of (files model)) asked.problem
     own_model model asks_model =
         let same : asks.model ≡ model = subst (λ x. RunsModel x model) (one_line words asks_model.line the_line asks_model.is asks.line_is) asks_model.runs in
-        subst (λ m. (m ≢ asked.log) × IfSome asked.kept (λ k. m ≢ k) × IsModelOf (bytes_of (files m)) asked.problem) same (asks.line_is.names.1.0, of_kept asks.model asked.kept asks.line_is.names.1.1, asks.model_is)
+        subst (λ m. (m ≢ asked.log) × IfSome asked.kept (λ k. m ≢ k) × IsModelOf (bytes_of (files m)) asked.problem) same ((solve_names words asks.model asked.log asked.seed asked.kept asked.trace asks.line_is).log_is_other, (solve_names words asks.model asked.log asked.seed asked.kept asked.trace asks.line_is).record_is_other, asks.model_is)
 
     -- the log of the last round is a text of its steps
     log_is : IsFinal status → (p : Contents) → IsSmall (csp_of p) → IsRefutation (csp_of p) (last_run asked).net.steps → IsTextOf (log_text (last_run asked).net.steps) (last_run asked).net.steps

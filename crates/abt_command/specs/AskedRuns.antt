@@ -1,5 +1,5 @@
 -- The runs that words ask for.
-use Rattle.std.specs.Prelude.{◌≡◌, ℕ, Bool, List, [], ◌∷◌, Option, IfSome}
+use Rattle.std.specs.Prelude.{◌≡◌, ℕ, Bool, List, Option, IfSome}
 use Rattle.dcsp_outside.specs.Outside.{bytes_of}
 use Rattle.dcsp_problem.specs.declared.aim.Aim.TheVariants.{Satisfy}
 use Rattle.dcsp_problem.specs.Problems.{Contents}
@@ -10,7 +10,7 @@ use Rattle.abt_check.specs.Verifying.{IsVerified}
 use Rattle.law_meaning.specs.Meaning.{SatisfiesText}
 use Rattle.abt_run.specs.Endings.{assigned, final_values}
 use Rattle.abt_run.specs.Asked.{Asked, asked_run, replay, solve}
-use Rattle.abt_command.specs.Lines.{Line, Help, Version, Check, Replay, Solve, Bound, Queens, Colouring, Drill, Upgrade, Core, Starve, Lossy, Rup, Cnf, IsLine}
+use Rattle.abt_command.specs.Lines.{Line, Help, Version, Usage, Check, Replay, Solve, Bound, Queens, Colouring, Drill, Upgrade, Core, Starve, Lossy, Rup, Cnf, IsLine}
 
 -- the words ask for this run, where these are the files: a replay of a model that has a problem and a schedule that has choices, or a run from a seed of a model that asks for any solution
 pub data AsksFor (words : List (List ℕ)) (files : List ℕ → Option (List ℕ)) (asked : Asked) : Type 0 where
@@ -29,6 +29,7 @@ EachRun words held P = IfSome held (λ files. (asked : Asked) → AsksFor words 
 abbrev pub RunsModel : Line → List ℕ → Type 0
 RunsModel Help name = ⊥
 RunsModel Version name = ⊥
+RunsModel Usage name = ⊥
 RunsModel (Check model log better) name = ⊥
 RunsModel (Bound model) name = ⊥
 RunsModel (Queens n) name = ⊥

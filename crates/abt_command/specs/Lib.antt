@@ -1,5 +1,4 @@
 pub mod Lines
-pub mod Options
 pub mod LinePromises
 pub mod AskedRuns
 pub mod AskedSearches

@@ -7,7 +7,9 @@ use Rattle.abt_promise.specs.declared.status.Status.{Status}
 use Rattle.abt_promise.specs.declared.status.Status.TheVariants.{Words}
 use Rattle.abt_promise.specs.Promises.{Promise, IsSaid}
 use Rattle.abt_promise.specs.Runs.{Ran}
-use Rattle.abt_command.specs.declared.plain.TheConstants.{HELP, VERSION}
+use Rattle.abt_command.specs.declared.plain.TheConstants.{VERSION}
+use Rattle.abt_words.specs.Rows.{the_rows}
+use Rattle.abt_words.specs.Texts.{help_text, usage_text}
 use Rattle.abt_models.specs.BoundReports.{bound_promise}
 use Rattle.abt_models.specs.Generated.{print_promise, queens_promise, colouring_promise}
 use Rattle.abt_run.specs.ReplayPromise.{replay_promise}
@@ -19,14 +21,15 @@ use Rattle.abt_starve.specs.StarvePromise.{starve_promise}
 use Rattle.abt_losses.specs.LossyPromise.{lossy_promise}
 use Rattle.abt_clauses.specs.RupPromise.{rup_promise}
 use Rattle.abt_clauses.specs.CnfPromise.{cnf_promise}
-use Rattle.abt_command.specs.Lines.{Line, Help, Version, Check, Replay, Solve, Bound, Queens, Colouring, Drill, Upgrade, Core, Starve, Lossy, Rup, Cnf, IsLine, IsNoLine}
+use Rattle.abt_command.specs.Lines.{Line, Help, Version, Usage, Check, Replay, Solve, Bound, Queens, Colouring, Drill, Upgrade, Core, Starve, Lossy, Rup, Cnf, IsLine, IsNoLine}
 use Rattle.abt_check.specs.Taking.{taking_of}
 use Rattle.abt_check.specs.CheckReports.{check_promise}
 
 -- the promise of a line
 abbrev pub promise_of : Line → Promise
-promise_of Help = print_promise HELP.now
+promise_of Help = print_promise (help_text the_rows)
 promise_of Version = print_promise VERSION.now
+promise_of Usage = print_promise (usage_text the_rows)
 promise_of (Check model log better) = check_promise (taking_of better) model log
 promise_of (Replay model schedule log trace) = replay_promise model schedule log trace
 promise_of (Solve model log seed kept trace) = solve_promise model log seed kept trace

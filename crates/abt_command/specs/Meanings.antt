@@ -17,7 +17,7 @@ use Rattle.abt_logs.specs.Upgrading.{HoldsUpgrade}
 use Rattle.abt_logs.specs.Trimming.{HoldsCore, CreatesNothing}
 use Rattle.abt_starve.specs.Starving.{HoldsStarved, TellsStarved}
 use Rattle.abt_losses.specs.Meaning.{HoldsLossyRun}
-use Rattle.abt_command.specs.Lines.{Line, Help, Version, Check, Replay, Solve, Bound, Queens, Colouring, Drill, Upgrade, Core, Starve, Lossy, Rup, Cnf}
+use Rattle.abt_command.specs.Lines.{Line, Help, Version, Usage, Check, Replay, Solve, Bound, Queens, Colouring, Drill, Upgrade, Core, Starve, Lossy, Rup, Cnf}
 
 -- `solve`: the model's problem is well-formed, keeps the limits, and logs can name all that it has
 pub record IsSolveAnswer (old : Option (List ℕ → Option (List ℕ))) (model : List ℕ) : Type 0 where
@@ -52,6 +52,7 @@ HoldsNoBetter files model bound = IfSome files (λ f. (problem : Contents) → I
 abbrev pub Means : Line → World → World → Status → Type 0
 Means Help old new status = ⊤
 Means Version old new status = ⊤
+Means Usage old new status = ⊤
 Means (Check model log better) old new status = status ≡ Good → IsRefutedBy (taking_of better) old.folder.held model
 Means (Replay model schedule log trace) old new status = HoldsProblem old.folder.held model
 Means (Solve model log seed kept trace) old new status = IsSolveAnswer old.folder.held model

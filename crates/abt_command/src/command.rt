@@ -22,7 +22,7 @@ ghost use Rattle.abt_command.specs.Lines as lines;
 ghost use Rattle.abt_command.specs.Lines.{Line, IsLine, IsSomeLine, IsNoLine, line_of};
 ghost use Rattle.abt_command.specs.LinePromises.{promise_of, EachPromise, HasRun};
 
-use crate::plain::{HELP, VERSION};
+use crate::plain::{VERSION, print_help, print_usage};
 use crate::words::{Order, words_of};
 use abt_best::run_solve;
 use abt_check::run_check;
@@ -73,8 +73,9 @@ fn run_line<F: Folder, S: Sink>(
         (outside (F.place folder.old) (S.stream out.old)) (outside (F.place folder.new) (S.stream out.new))) }
 {
     match order {
-        Order::Help => print(out, HELP),
+        Order::Help => print_help(alloc, out),
         Order::Version => print(out, VERSION),
+        Order::Usage => print_usage(alloc, out),
         Order::Check(line) => run_check(alloc, folder, line, out),
         Order::Replay(line) => run_replay(alloc, folder, line, out),
         Order::Solve(line) => run_solve(alloc, folder, line, out),

@@ -1,16 +1,19 @@
 //! The words that the program is started with.
 
-ghost use Rattle.std.specs.Prelude.{◌≡◌, ◌↔◌, ◌∷◌, [], ℕ, ℤ, FitsSigned, Bool, List, Option, codes, decimal, map, string_bytes, option_copied, option_to_list, IfSome, IsNone, IsTrue};
-ghost use Rattle.std.specs.Int.{w64};
-ghost use Rattle.abt_command.specs.Lines.{IsFileName, AreFileNames, AreSeed, IsLine, IsNoLine, IsWithin, better_words, line_of, record_words, trace_words};
+ghost use Rattle.std.specs.Prelude.{◌≡◌, ◌≤◌, ℕ, List, map, string_bytes, IfSome, IsNone};
+ghost use Rattle.abt_words.specs.declared.row.LineName.TheVariants as names;
+ghost use Rattle.abt_words.specs.Rows.{the_rows};
+ghost use Rattle.abt_words.specs.Saying.{IsSaidBy};
+ghost use Rattle.abt_words.specs.Values.{said_in};
+ghost use Rattle.abt_command.specs.Lines.{IsLine, IsNoLine, line_by, line_named, line_of, number_at};
 
-use crate::options::{Settings, number_of, settings_of, signed_number_of};
 use abt_check::Check;
 use abt_clauses::Cnf;
 use abt_logs::CoreLine;
 use abt_losses::Losses;
 use abt_run::{Replay, Solve};
 use abt_starve::Starve;
+use abt_words::{LineName, Said, said_of};
 
 /// What the words ask for.
 pub enum Order<'w> {
@@ -18,6 +21,8 @@ pub enum Order<'w> {
     Help,
     /// `--version`: the program's version and its toolchain.
     Version,
+    /// `--usage`: the rows, for scripts.
+    Usage,
     /// `check MODEL LOG [--better N]`: whether the log refutes the model; or where a bound is given, that a solution has
     /// a better value at the model's aim.
     Check(Check<'w>),
@@ -51,356 +56,171 @@ pub enum Order<'w> {
     Cnf(Cnf<'w>),
 }
 
-/// The order that the words are, after the program's own name.
-///
-/// `None` comes exactly where the words are no line of the program. A file name is a nonempty word
-/// that does not begin with `-`, and two equal file names in one line are refused. Options follow the
-/// names, in any order, each at most once.
+/// The order that the words are, after the program's own name. `None` comes exactly where the words are no
+/// line of the program, which the rows of `abt_words` list.
 pub fn words_of(words: &[String]) -> Option<Order<'_>>
     ensures some { IfSome result (λ order. IsLine (map string_bytes words.now) (line_of order)) }
     ensures none { IsNone result → IsNoLine (map string_bytes words.now) }
 {
-    match words {
-        [word] => plain_of(word.as_str()),
-        [word, rest @ ..] if word.as_str() == "check" => check_of(rest),
-        [word, rest @ ..] if word.as_str() == "replay" => replay_of(rest),
-        [word, rest @ ..] if word.as_str() == "solve" => solve_of(rest),
-        [word, rest @ ..] if word.as_str() == "bound" => bound_of(rest),
-        [word, rest @ ..] if word.as_str() == "gen" => gen_of(rest),
-        [word, rest @ ..] if word.as_str() == "drill" => drill_of(rest),
-        [word, rest @ ..] if word.as_str() == "rup" => rup_of(rest),
-        [word, rest @ ..] if word.as_str() == "cnf" => cnf_of(rest),
-        [word, rest @ ..] if word.as_str() == "upgrade" => upgrade_of(rest),
-        [word, rest @ ..] if word.as_str() == "core" => core_of(rest),
-        [word, rest @ ..] if word.as_str() == "starve" => starve_of(rest),
-        [word, rest @ ..] if word.as_str() == "lossy" => lossy_of(rest),
-        _ => None,
+    let said = said_of(words)?;
+    Some(order_of(&said))
+}
+
+/// The order that this says.
+fn order_of<'w>(said: &Said<'w>) -> Order<'w>
+    requires { (words : List (List ℕ)) × IsSaidBy the_rows words (said_in said.now) }
+    ensures { line_of result ≡ line_by (said_in said.now) }
+{
+    match said.row.line {
+        LineName::Solve => solve_of(said),
+        LineName::Replay => replay_of(said),
+        LineName::Check => check_of(said),
+        LineName::Upgrade => upgrade_of(said),
+        LineName::Core => core_of(said),
+        LineName::Starve => starve_of(said),
+        LineName::Lossy => lossy_of(said),
+        LineName::Bound => bound_of(said),
+        LineName::Queens => queens_of(said),
+        LineName::Colouring => colouring_of(said),
+        LineName::Drill => drill_of(said),
+        LineName::Cnf => cnf_of(said),
+        LineName::Rup => rup_of(said),
+        LineName::Help => Order::Help,
+        LineName::Version => Order::Version,
+        LineName::Usage => Order::Usage,
     }
 }
 
-/// The order that this one word is.
-fn plain_of<'w>(word: &'w str) -> Option<Order<'w>>
-    ensures some { IfSome result (λ order. IsLine (word.now ∷ []) (line_of order)) }
-    ensures none { IsNone result → IsNoLine (word.now ∷ []) }
+fn solve_of<'w>(said: &Said<'w>) -> Order<'w>
+    ensures { line_of result ≡ line_named names.Solve (said_in said.now) }
 {
-    if word == "--help" {
-        Some(Order::Help)
-    } else if word == "--version" {
-        Some(Order::Version)
-    } else {
-        None
+    Order::Solve(Solve {
+        model: said.value(0).name(),
+        log: said.value(1).name(),
+        seed: said.setting("--seed").given_number().unwrap_or(0),
+        kept: said.setting("--record").given_name(),
+        trace: said.setting("--trace").is_given(),
+    })
+}
+
+fn replay_of<'w>(said: &Said<'w>) -> Order<'w>
+    ensures { line_of result ≡ line_named names.Replay (said_in said.now) }
+{
+    Order::Replay(Replay {
+        model: said.value(0).name(),
+        schedule: said.value(1).name(),
+        log: said.value(2).name(),
+        trace: said.setting("--trace").is_given(),
+    })
+}
+
+fn check_of<'w>(said: &Said<'w>) -> Order<'w>
+    ensures { line_of result ≡ line_named names.Check (said_in said.now) }
+{
+    Order::Check(Check {
+        model: said.value(0).name(),
+        log: said.value(1).name(),
+        better: said.setting("--better").given_signed(),
+    })
+}
+
+fn upgrade_of<'w>(said: &Said<'w>) -> Order<'w>
+    ensures { line_of result ≡ line_named names.Upgrade (said_in said.now) }
+{
+    Order::Upgrade {
+        log: said.value(0).name(),
+        new: said.value(1).name(),
     }
 }
 
-/// The order of `check` with these words.
-fn check_of(words: &[String]) -> Option<Order<'_>>
-    ensures some { IfSome result (λ order. IsLine (codes "check" ∷ map string_bytes words.now) (line_of order)) }
-    ensures none { IsNone result → IsNoLine (codes "check" ∷ map string_bytes words.now) }
+fn core_of<'w>(said: &Said<'w>) -> Order<'w>
+    ensures { line_of result ≡ line_named names.Core (said_in said.now) }
 {
-    let [model, log, options @ ..] = words else {
-        return None;
-    };
-    let (model, log) = (model.as_str(), log.as_str());
-    let better = better_of(options)?;
-    if !are_two_names(model, log) {
-        return None;
-    }
-    Some(Order::Check(Check { model, log, better }))
+    Order::Core(CoreLine {
+        model: said.value(0).name(),
+        log: said.value(1).name(),
+        trimmed: said.value(2).name(),
+    })
 }
 
-/// The bound that these options of `check` give, where they do.
-fn better_of(options: &[String]) -> Option<Option<i64>>
-    ensures some { IfSome result (λ better. map string_bytes options.now ≡ better_words better) }
-    ensures none { IsNone result → (better : Option ℤ) → IfSome better (FitsSigned w64) → map string_bytes options.now ≡ better_words better → ⊥ }
+fn starve_of<'w>(said: &Said<'w>) -> Order<'w>
+    requires from { number_at (said_in said.now) 1 ≤ 4096 }
+    requires to { number_at (said_in said.now) 2 ≤ 4096 }
+    ensures { line_of result ≡ line_named names.Starve (said_in said.now) }
 {
-    match options {
-        [] => Some(None),
-        [option, bound] if option.as_str() == "--better" => {
-            Some(Some(signed_number_of(bound.as_str())?))
-        }
-        _ => None,
-    }
+    Order::Starve(Starve {
+        model: said.value(0).name(),
+        from: said.value(1).number() as u32,
+        to: said.value(2).number() as u32,
+        file: said.value(3).name(),
+    })
 }
 
-/// The order of `replay` with these words.
-fn replay_of(words: &[String]) -> Option<Order<'_>>
-    ensures some { IfSome result (λ order. IsLine (codes "replay" ∷ map string_bytes words.now) (line_of order)) }
-    ensures none { IsNone result → IsNoLine (codes "replay" ∷ map string_bytes words.now) }
+fn lossy_of<'w>(said: &Said<'w>) -> Order<'w>
+    requires { number_at (said_in said.now) 2 ≤ 1000000 }
+    ensures { line_of result ≡ line_named names.Lossy (said_in said.now) }
 {
-    let [model, schedule, log, options @ ..] = words else {
-        return None;
-    };
-    let (model, schedule, log) = (model.as_str(), schedule.as_str(), log.as_str());
-    let trace = trace_of(options)?;
-    if !are_three_names(model, schedule, log) {
-        return None;
-    }
-    Some(Order::Replay(Replay {
-        model,
-        schedule,
-        log,
-        trace,
-    }))
+    Order::Lossy(Losses {
+        model: said.value(0).name(),
+        log: said.value(1).name(),
+        events: said.value(2).number() as u32,
+        seed: said.value(3).number(),
+        kept: said.setting("--record").given_name(),
+    })
 }
 
-/// Whether a trace is asked for by these options of `replay`.
-fn trace_of(options: &[String]) -> Option<bool>
-    ensures some { IfSome result (λ trace. map string_bytes options.now ≡ trace_words trace) }
-    ensures none { IsNone result → (trace : Bool) → map string_bytes options.now ≡ trace_words trace → ⊥ }
+fn bound_of<'w>(said: &Said<'w>) -> Order<'w>
+    ensures { line_of result ≡ line_named names.Bound (said_in said.now) }
 {
-    match options {
-        [] => Some(false),
-        [option] if option.as_str() == "--trace" => Some(true),
-        _ => None,
+    Order::Bound {
+        model: said.value(0).name(),
     }
 }
 
-/// The order of `solve` with these words.
-fn solve_of(words: &[String]) -> Option<Order<'_>>
-    ensures some { IfSome result (λ order. IsLine (codes "solve" ∷ map string_bytes words.now) (line_of order)) }
-    ensures none { IsNone result → IsNoLine (codes "solve" ∷ map string_bytes words.now) }
+fn queens_of<'w>(said: &Said<'w>) -> Order<'w>
+    requires { number_at (said_in said.now) 0 ≤ 200 }
+    ensures { line_of result ≡ line_named names.Queens (said_in said.now) }
 {
-    let [model, log, options @ ..] = words else {
-        return None;
-    };
-    let (model, log) = (model.as_str(), log.as_str());
-    let Settings { seed, kept, trace } = settings_of(options, Settings::none())?;
-    if !are_solve_names(model, log, kept) {
-        return None;
-    }
-    let seed = seed.unwrap_or(0);
-    Some(Order::Solve(Solve {
-        model,
-        log,
-        seed,
-        kept,
-        trace,
-    }))
-}
-
-/// The order of `bound` with these words.
-fn bound_of(words: &[String]) -> Option<Order<'_>>
-    ensures some { IfSome result (λ order. IsLine (codes "bound" ∷ map string_bytes words.now) (line_of order)) }
-    ensures none { IsNone result → IsNoLine (codes "bound" ∷ map string_bytes words.now) }
-{
-    let [model] = words else {
-        return None;
-    };
-    let model = model.as_str();
-    if !is_file_name(model) {
-        return None;
-    }
-    Some(Order::Bound { model })
-}
-
-/// The order of `gen` with these words.
-fn gen_of<'w>(words: &'w [String]) -> Option<Order<'w>>
-    ensures some { IfSome result (λ order. IsLine (codes "gen" ∷ map string_bytes words.now) (line_of order)) }
-    ensures none { IsNone result → IsNoLine (codes "gen" ∷ map string_bytes words.now) }
-{
-    match words {
-        [kind, n] if kind.as_str() == "queens" => {
-            let n = number_within(n.as_str(), 1, 200)?;
-            Some(Order::GenQueens { n })
-        }
-        [kind, n, k, seed] if kind.as_str() == "colouring" => {
-            let n = number_within(n.as_str(), 1, 200)?;
-            let k = number_within(k.as_str(), 1, 16)?;
-            let seed = number_of(seed.as_str())?;
-            Some(Order::GenColouring { n, k, seed })
-        }
-        _ => None,
+    Order::GenQueens {
+        n: said.value(0).number() as u32,
     }
 }
 
-/// The order of `drill` with these words.
-fn drill_of<'w>(words: &'w [String]) -> Option<Order<'w>>
-    ensures some { IfSome result (λ order. IsLine (codes "drill" ∷ map string_bytes words.now) (line_of order)) }
-    ensures none { IsNone result → IsNoLine (codes "drill" ∷ map string_bytes words.now) }
+fn colouring_of<'w>(said: &Said<'w>) -> Order<'w>
+    requires nodes { number_at (said_in said.now) 0 ≤ 200 }
+    requires colours { number_at (said_in said.now) 1 ≤ 16 }
+    ensures { line_of result ≡ line_named names.Colouring (said_in said.now) }
 {
-    let [seed] = words else {
-        return None;
-    };
-    let seed = number_of(seed.as_str())?;
-    Some(Order::Drill { seed })
-}
-
-/// The order of `upgrade` with these words.
-fn upgrade_of(words: &[String]) -> Option<Order<'_>>
-    ensures some { IfSome result (λ order. IsLine (codes "upgrade" ∷ map string_bytes words.now) (line_of order)) }
-    ensures none { IsNone result → IsNoLine (codes "upgrade" ∷ map string_bytes words.now) }
-{
-    let [log, new] = words else {
-        return None;
-    };
-    let (log, new) = (log.as_str(), new.as_str());
-    if !are_two_names(log, new) {
-        return None;
-    }
-    Some(Order::Upgrade { log, new })
-}
-
-/// The order of `core` with these words.
-fn core_of(words: &[String]) -> Option<Order<'_>>
-    ensures some { IfSome result (λ order. IsLine (codes "core" ∷ map string_bytes words.now) (line_of order)) }
-    ensures none { IsNone result → IsNoLine (codes "core" ∷ map string_bytes words.now) }
-{
-    let [model, log, trimmed] = words else {
-        return None;
-    };
-    let (model, log, trimmed) = (model.as_str(), log.as_str(), trimmed.as_str());
-    if !are_three_names(model, log, trimmed) {
-        return None;
-    }
-    Some(Order::Core(CoreLine {
-        model,
-        log,
-        trimmed,
-    }))
-}
-
-/// The order of `starve` with these words.
-fn starve_of<'w>(words: &'w [String]) -> Option<Order<'w>>
-    ensures some { IfSome result (λ order. IsLine (codes "starve" ∷ map string_bytes words.now) (line_of order)) }
-    ensures none { IsNone result → IsNoLine (codes "starve" ∷ map string_bytes words.now) }
-{
-    let [model, from, to, file] = words else {
-        return None;
-    };
-    let (model, file) = (model.as_str(), file.as_str());
-    let from = number_within(from.as_str(), 1, 4096)?;
-    let to = number_within(to.as_str(), 1, 4096)?;
-    if !are_two_names(model, file) {
-        return None;
-    }
-    Some(Order::Starve(Starve {
-        model,
-        from,
-        to,
-        file,
-    }))
-}
-
-/// The order of `lossy` with these words.
-fn lossy_of<'w>(words: &'w [String]) -> Option<Order<'w>>
-    ensures some { IfSome result (λ order. IsLine (codes "lossy" ∷ map string_bytes words.now) (line_of order)) }
-    ensures none { IsNone result → IsNoLine (codes "lossy" ∷ map string_bytes words.now) }
-{
-    let [model, log, events, seed, options @ ..] = words else {
-        return None;
-    };
-    let (model, log) = (model.as_str(), log.as_str());
-    let events = number_within(events.as_str(), 0, 1_000_000)?;
-    let seed = number_of(seed.as_str())?;
-    let kept = record_of(options)?;
-    if !are_solve_names(model, log, kept) {
-        return None;
-    }
-    Some(Order::Lossy(Losses {
-        model,
-        log,
-        events,
-        seed,
-        kept,
-    }))
-}
-
-/// The name of the record that these options of `lossy` ask for, where they do.
-fn record_of<'w>(options: &'w [String]) -> Option<Option<&'w str>>
-    ensures some { IfSome result (λ kept. map string_bytes options.now ≡ record_words (option_copied kept)) }
-    ensures none { IsNone result → (kept : Option (List ℕ)) → map string_bytes options.now ≡ record_words kept → ⊥ }
-{
-    match options {
-        [] => Some(None),
-        [option, name] if option.as_str() == "--record" => Some(Some(name.as_str())),
-        _ => None,
+    Order::GenColouring {
+        n: said.value(0).number() as u32,
+        k: said.value(1).number() as u32,
+        seed: said.value(2).number(),
     }
 }
 
-/// The order of `rup` with these words.
-fn rup_of(words: &[String]) -> Option<Order<'_>>
-    ensures some { IfSome result (λ order. IsLine (codes "rup" ∷ map string_bytes words.now) (line_of order)) }
-    ensures none { IsNone result → IsNoLine (codes "rup" ∷ map string_bytes words.now) }
+fn drill_of<'w>(said: &Said<'w>) -> Order<'w>
+    ensures { line_of result ≡ line_named names.Drill (said_in said.now) }
 {
-    let [cnf, proof] = words else {
-        return None;
-    };
-    let (cnf, proof) = (cnf.as_str(), proof.as_str());
-    if !are_two_names(cnf, proof) {
-        return None;
-    }
-    Some(Order::Rup { cnf, proof })
-}
-
-/// The order of `cnf` with these words.
-fn cnf_of(words: &[String]) -> Option<Order<'_>>
-    ensures some { IfSome result (λ order. IsLine (codes "cnf" ∷ map string_bytes words.now) (line_of order)) }
-    ensures none { IsNone result → IsNoLine (codes "cnf" ∷ map string_bytes words.now) }
-{
-    let [cnf, proof, options @ ..] = words else {
-        return None;
-    };
-    let (cnf, proof) = (cnf.as_str(), proof.as_str());
-    let seed = seed_of(options)?;
-    if !are_two_names(cnf, proof) {
-        return None;
-    }
-    Some(Order::Cnf(Cnf { cnf, proof, seed }))
-}
-
-/// The seed that these options of `cnf` give.
-fn seed_of(options: &[String]) -> Option<u64>
-    ensures some { IfSome result (AreSeed (map string_bytes options.now)) }
-    ensures none { IsNone result → (seed : ℕ) → AreSeed (map string_bytes options.now) seed → ⊥ }
-{
-    match options {
-        [] => Some(0),
-        [option, seed] if option.as_str() == "--seed" => number_of(seed.as_str()),
-        _ => None,
+    Order::Drill {
+        seed: said.value(0).number(),
     }
 }
 
-/// The number from `least` to `most` that the word is.
-fn number_within(word: &str, least: u32, most: u32) -> Option<u32>
-    ensures some { IfSome result (λ n. (word.now ≡ decimal n) × IsWithin least most n) }
-    ensures none { IsNone result → (n : ℕ) → word.now ≡ decimal n → IsWithin least most n → ⊥ }
+fn cnf_of<'w>(said: &Said<'w>) -> Order<'w>
+    ensures { line_of result ≡ line_named names.Cnf (said_in said.now) }
 {
-    let number = number_of(word)?;
-    if number < u64::from(least) {
-        return None;
-    }
-    if u64::from(most) < number {
-        return None;
-    }
-    Some(number as u32)
+    Order::Cnf(Cnf {
+        cnf: said.value(0).name(),
+        proof: said.value(1).name(),
+        seed: said.setting("--seed").given_number().unwrap_or(0),
+    })
 }
 
-fn are_solve_names(model: &str, log: &str, kept: Option<&str>) -> bool
-    ensures { IsTrue result ↔ AreFileNames (model.now ∷ log.now ∷ option_to_list (option_copied kept.entry)) }
+fn rup_of<'w>(said: &Said<'w>) -> Order<'w>
+    ensures { line_of result ≡ line_named names.Rup (said_in said.now) }
 {
-    match kept {
-        Some(name) => are_three_names(model, log, name),
-        None => are_two_names(model, log),
-    }
-}
-
-fn are_three_names(first: &str, second: &str, third: &str) -> bool
-    ensures { IsTrue result ↔ AreFileNames (first.now ∷ second.now ∷ third.now ∷ []) }
-{
-    is_file_name(first) && first != second && first != third && are_two_names(second, third)
-}
-
-fn are_two_names(first: &str, second: &str) -> bool
-    ensures { IsTrue result ↔ AreFileNames (first.now ∷ second.now ∷ []) }
-{
-    is_file_name(first) && first != second && is_file_name(second)
-}
-
-fn is_file_name(word: &str) -> bool
-    ensures { IsTrue result ↔ IsFileName word.now }
-{
-    match word.as_bytes() {
-        [] => false,
-        [first, ..] => *first != b'-',
+    Order::Rup {
+        cnf: said.value(0).name(),
+        proof: said.value(1).name(),
     }
 }

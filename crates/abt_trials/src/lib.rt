@@ -27,3 +27,5 @@ mod runs;
 mod starved;
 #[cfg(test)]
 mod wanting;
+#[cfg(test)]
+mod words;

@@ -1,10 +1,84 @@
 //! The lines of one word, and words that are no line.
 
 use crate::given::{PAIR, PAIR_LOG, expect_line, folder_failing, run_with, sink_failing};
-use abt_command::{HELP, VERSION};
+use abt_command::VERSION;
 use dcsp_outside::MemorySink;
 use std::alloc::Global;
 use std::process::Abort;
+
+/// What `--help` prints.
+const HELP: &[u8] = b"abt: asynchronous backtracking over FlatZinc, with certified answers
+
+  abt solve MODEL LOG [--seed N] [--record FILE] [--trace]
+                        runs the agents of the model, with deliveries chosen from a seed:
+                        prints a solution, `=====UNSATISFIABLE=====` or `=====UNKNOWN=====`,
+                        and writes the log of its derivations; FILE holds the choices. Where
+                        the model asks for the least or the greatest value, prints the best
+                        solution and `==========`, and LOG refutes every better value
+  abt replay MODEL SCHEDULE LOG [--trace]
+                        runs them under the choices of a schedule, as a record is
+  abt check MODEL LOG [--better N]
+                        checks whether the log refutes the model: prints `verified`,
+                        `rejected step K`, `rejected deletion after step K` or
+                        `rejected not empty`; with --better, whether it refutes that a
+                        solution has a better value than N at what the model aims at
+  abt upgrade LOG NEW   writes the log to NEW with deletions of the steps that nothing cites
+                        any more, so that a check keeps less
+  abt core MODEL LOG TRIMMED
+                        prints which constraints the refutation uses, as `c1`, and writes
+                        the steps that it needs to TRIMMED
+  abt starve MODEL FROM TO FILE
+                        writes to FILE the choices of a run that delivers from the agent of
+                        variable FROM to that of TO only where nothing else is in transit
+  abt lossy MODEL LOG EVENTS SEED [--record FILE]
+                        runs the agents over a medium that loses, repeats and reorders in
+                        EVENTS events, 0 to 1000000, drawn from SEED, and then calms down
+  abt bound MODEL       prints how many messages a run delivers at most
+  abt gen queens N      prints the problem of N queens, 1 to 200
+  abt gen colouring N K SEED
+                        prints a colouring of N nodes, 1 to 200, with K colours, 1 to 16
+  abt drill SEED        runs three generated models, and checks the log of the last
+  abt cnf CNF PROOF [--seed N]
+                        runs the agents of a formula in DIMACS: prints `s SATISFIABLE` and its
+                        values, or `s UNSATISFIABLE`, with PROOF written, or `s UNKNOWN`
+  abt rup CNF PROOF     checks such a proof by unit propagation: prints `verified`,
+                        `rejected clause K` or `rejected not empty`
+  abt --help            prints this text
+  abt --version         prints the program's version and its toolchain
+  abt --usage           prints the lines above for scripts: their files, numbers and options
+
+MODEL is a FlatZinc file, LOG a log of derivations, SCHEDULE a list of choices. A file
+name is not empty, does not begin with `-`, and differs from the others. With --trace
+each delivery prints a line. A seed is 0 to 2^64 - 1, and 0 where none is given.
+
+Status  0 done, and the answer is good     4 the log, schedule or proof was refused
+        1 done, and the answer is no       5 a run was stopped before its verdict
+        2 the words are no line above      6 a file or a stream failed
+        3 the model or formula was refused 7 memory ran out
+
+With 2, 3, 4, 6 and 7 a line on standard error says why. README.md tells what is
+proved, docs/FORMATS.md the formats and the lines that refuse a file.
+";
+
+/// What `--usage` prints; tests/usage.sh reads it here.
+const USAGE: &[u8] =
+    b"solve file:MODEL:model:read file:LOG:log:written --seed=number:N:0:18446744073709551615 --record=file:FILE:schedule:written --trace
+replay file:MODEL:model:read file:SCHEDULE:schedule:read file:LOG:log:written --trace
+check file:MODEL:model:read file:LOG:log:read --better=signed:N:-9223372036854775808:9223372036854775807
+upgrade file:LOG:log:read file:NEW:log:written
+core file:MODEL:model:read file:LOG:log:read file:TRIMMED:log:written
+starve file:MODEL:model:read number:FROM:1:4096 number:TO:1:4096 file:FILE:schedule:written
+lossy file:MODEL:model:read file:LOG:log:written number:EVENTS:0:1000000 number:SEED:0:18446744073709551615 --record=file:FILE:schedule:written
+bound file:MODEL:model:read
+gen queens number:N:1:200
+gen colouring number:N:1:200 number:K:1:16 number:SEED:0:18446744073709551615
+drill number:SEED:0:18446744073709551615
+cnf file:CNF:formula:read file:PROOF:proof:written --seed=number:N:0:18446744073709551615
+rup file:CNF:formula:read file:PROOF:proof:read
+--help
+--version
+--usage
+";
 
 /// A word, which piece that is put on `out` fails, and what comes of the line of this word.
 #[derive(Drop)]
@@ -16,7 +90,7 @@ struct Case {
     err: &'static [u8],
 }
 
-const CASES: [Case; 5] = [
+const CASES: [Case; 6] = [
     Case {
         word: "--help",
         failing: 2,
@@ -29,6 +103,13 @@ const CASES: [Case; 5] = [
         failing: 2,
         code: 0,
         out: VERSION,
+        err: b"",
+    },
+    Case {
+        word: "--usage",
+        failing: 2,
+        code: 0,
+        out: USAGE,
         err: b"",
     },
     Case {
@@ -77,7 +158,7 @@ fn one_word_prints_a_text(rt: HostRuntime) {
 
 #[test]
 fn a_further_word_is_refused(rt: HostRuntime) {
-    for first in ["--help", "--version"] {
+    for first in ["--help", "--version", "--usage"] {
         let told: (u8, &[u8], &[u8]) = (2, b"", b"abt: bad words\n");
         expect_line(&rt, rt.alloc(), &[], &[first, "check"], told);
     }

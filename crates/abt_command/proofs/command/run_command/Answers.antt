@@ -1,4 +1,5 @@
-use Rattle.std.proofs.Common.{Some, None, inl, refl, sym, subst}
+use Rattle.std.proofs.Common.{Some, None, inl, inr, refl, sym, subst}
+use Rattle.dcsp_script.proofs.Ways.{did_nothing}
 use Rattle.abt_promise.specs.Statuses.{IsFinal, IsRefusal}
 use Rattle.abt_promise.proofs.Following.{ran_answers, ran_cause, ran_complete, ran_creates, ran_faults, ran_lacks, ran_others, ran_refused, ran_stays, ran_text}
 use Rattle.abt_command.specs.Lines.{Check, Core, Starve, Lossy, Rup, Cnf, Upgrade, line_of}
@@ -168,3 +169,12 @@ returns-in-None-clause-in_order g c = asks_for_none _ _ _ (c.in-None.ensures.non
 
 pub run_order-requires : goal.run_order-requires
 run_order-requires g c = (_, c.in-Some.ensures.some)
+
+pub returns-in-None-clause-runs : goal.returns-in-None-clause-runs
+returns-in-None-clause-runs g c = inr (c.in-None.ensures.none refl, refl, did_nothing _, c.say.ensures)
+
+pub returns-in-None-clause-words : goal.returns-in-None-clause-words
+returns-in-None-clause-words g c = (λ bad. c.in-None.ensures.none refl, λ none. refl)
+
+pub returns-in-None-clause-complete : goal.returns-in-None-clause-complete
+returns-in-None-clause-complete g c = λ line is. absurd (c.in-None.ensures.none refl line is)

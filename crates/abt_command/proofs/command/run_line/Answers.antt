@@ -1,19 +1,20 @@
 use Rattle.std.proofs.Common.{subst}
-use Rattle.abt_command.specs.Lines.{IsLine, IsSomeLine, line_of}
+use Rattle.abt_command.specs.Lines.{IsSomeLine, line_of}
 use Rattle.abt_command.proofs.Meanings.{always, always_both, any_answer, good_alone, good_or_no, both_facts}
+use Rattle.abt_command.proofs.Lines.{queens_within, colouring_within, starve_within}
 use Rattle.abt_command.proofs.command.run_line.Goals as goal
 
 pub run_queens-requires-clause-least : goal.run_queens-requires-clause-least
-run_queens-requires-clause-least g c = (subst (λ o. IsSomeLine (line_of o)) c.in-GenQueens.is c.requires).1.1.0
+run_queens-requires-clause-least g c = (queens_within _ (subst (λ o. IsSomeLine (line_of o)) c.in-GenQueens.is c.requires)).0
 
 pub run_queens-requires-clause-most : goal.run_queens-requires-clause-most
-run_queens-requires-clause-most g c = (subst (λ o. IsSomeLine (line_of o)) c.in-GenQueens.is c.requires).1.1.1
+run_queens-requires-clause-most g c = (queens_within _ (subst (λ o. IsSomeLine (line_of o)) c.in-GenQueens.is c.requires)).1
 
 pub run_colouring-requires-clause-least : goal.run_colouring-requires-clause-least
-run_colouring-requires-clause-least g c = (subst (λ o. IsSomeLine (line_of o)) c.in-GenColouring.is c.requires).1.1.0
+run_colouring-requires-clause-least g c = (colouring_within _ _ _ (subst (λ o. IsSomeLine (line_of o)) c.in-GenColouring.is c.requires)).0
 
 pub run_colouring-requires-clause-most : goal.run_colouring-requires-clause-most
-run_colouring-requires-clause-most g c = (subst (λ o. IsSomeLine (line_of o)) c.in-GenColouring.is c.requires).1.1.1
+run_colouring-requires-clause-most g c = (colouring_within _ _ _ (subst (λ o. IsSomeLine (line_of o)) c.in-GenColouring.is c.requires)).1
 
 pub returns-in-GenQueens-clause-came : goal.returns-in-GenQueens-clause-came
 returns-in-GenQueens-clause-came g c = rw c.in-GenQueens.is (c.run_queens.ensures _)
@@ -25,10 +26,13 @@ pub returns-in-Drill-clause-came : goal.returns-in-Drill-clause-came
 returns-in-Drill-clause-came g c = rw c.in-Drill.is (c.run_drill.ensures _)
 
 pub returns-in-Help-clause-means : goal.returns-in-Help-clause-means
-returns-in-Help-clause-means g c = rw c.in-Help.is (any_answer c.print.result)
+returns-in-Help-clause-means g c = rw c.in-Help.is (any_answer c.print_help.result)
 
 pub returns-in-Version-clause-means : goal.returns-in-Version-clause-means
-returns-in-Version-clause-means g c = rw c.in-Version.is (any_answer c.print-in-Version.result)
+returns-in-Version-clause-means g c = rw c.in-Version.is (any_answer c.print.result)
+
+pub returns-in-Usage-clause-means : goal.returns-in-Usage-clause-means
+returns-in-Usage-clause-means g c = rw c.in-Usage.is (any_answer c.print_usage.result)
 
 pub returns-in-Check-clause-means : goal.returns-in-Check-clause-means
 returns-in-Check-clause-means g c = rw c.in-Check.is (good_alone c.run_check.result c.run_check.ensures.verified)
@@ -61,10 +65,10 @@ pub returns-in-Upgrade-clause-means : goal.returns-in-Upgrade-clause-means
 returns-in-Upgrade-clause-means g c = rw c.in-Upgrade.is (always _ c.run_upgrade.result c.run_upgrade.ensures.writes)
 
 pub run_starve-requires-clause-from : goal.run_starve-requires-clause-from
-run_starve-requires-clause-from g c = (subst (λ o. IsSomeLine (line_of o)) c.in-Starve.is c.requires).1.1.0
+run_starve-requires-clause-from g c = (starve_within _ _ _ _ (subst (λ o. IsSomeLine (line_of o)) c.in-Starve.is c.requires)).0
 
 pub run_starve-requires-clause-to : goal.run_starve-requires-clause-to
-run_starve-requires-clause-to g c = (subst (λ o. IsSomeLine (line_of o)) c.in-Starve.is c.requires).1.2.0
+run_starve-requires-clause-to g c = (starve_within _ _ _ _ (subst (λ o. IsSomeLine (line_of o)) c.in-Starve.is c.requires)).1
 
 pub returns-in-Core-clause-means : goal.returns-in-Core-clause-means
 returns-in-Core-clause-means g c = rw c.in-Core.is (good_or_no _ c.run_core.result (λ s p q. record { trims = p; rejects = q }) c.run_core.ensures.trims c.run_core.ensures.rejects)

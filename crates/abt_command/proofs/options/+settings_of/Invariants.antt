@@ -1,5 +1,0 @@
-use Rattle.std.proofs.Common.{length}
-use Rattle.abt_command.proofs.options.+settings_of.Given as goal
-
-abbrev pub decreases-settings_of : goal.decreases-settings_of
-decreases-settings_of l = length l.words.now

@@ -1,0 +1,4 @@
+pub mod Rows
+pub mod Saying
+pub mod Values
+pub mod Texts

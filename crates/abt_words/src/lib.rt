@@ -1,0 +1,25 @@
+//! Lines of words as rows of a table.
+//!
+//! A row says what a line of words is: its keyword, what each of its places and options may be, and its
+//! sentence in the help. One parser, one usage and one help serve all rows.
+#![tactic(auto)]
+
+mod laws;
+mod number;
+mod row;
+mod rows;
+mod said;
+mod texts;
+mod value;
+
+pub use laws::words_say_one_thing;
+pub use row::{
+    Access, Content, Kind, KindOf, LineName, LineOption, OptionOf, Place, PlaceOf, Row, RowOf,
+};
+pub use rows::{
+    BOUND, CHECK, CNF, COLOURING, CORE, DRILL, HELP, LOSSY, QUEENS, REPLAY, ROWS, RUP, SOLVE,
+    STARVE, UPGRADE, USAGE, VERSION,
+};
+pub use said::{MOST, Said, said_by, said_of};
+pub use texts::{help, usage};
+pub use value::Value;

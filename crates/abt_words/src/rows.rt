@@ -1,0 +1,362 @@
+//! The rows of the program.
+
+use crate::row::{
+    Access, Content, KindOf, LineName, LineOption, OptionOf, Place, PlaceOf, Row, RowOf,
+};
+
+/// A model that is read.
+const MODEL: Place = PlaceOf {
+    shown: "MODEL",
+    kind: KindOf::File {
+        content: Content::Model,
+        access: Access::Read,
+    },
+};
+
+/// A log that is read.
+const LOG: Place = PlaceOf {
+    shown: "LOG",
+    kind: KindOf::File {
+        content: Content::Log,
+        access: Access::Read,
+    },
+};
+
+/// A log that is written.
+const NEW_LOG: Place = PlaceOf {
+    shown: "LOG",
+    kind: KindOf::File {
+        content: Content::Log,
+        access: Access::Written,
+    },
+};
+
+/// A schedule that is written.
+const RECORD: Place = PlaceOf {
+    shown: "FILE",
+    kind: KindOf::File {
+        content: Content::Schedule,
+        access: Access::Written,
+    },
+};
+
+/// A formula that is read.
+const FORMULA: Place = PlaceOf {
+    shown: "CNF",
+    kind: KindOf::File {
+        content: Content::Formula,
+        access: Access::Read,
+    },
+};
+
+/// The number from which the choices of a run are drawn.
+const SEED: Place = PlaceOf {
+    shown: "SEED",
+    kind: KindOf::Number {
+        least: 0,
+        most: u64::MAX,
+    },
+};
+
+/// The option that gives a seed.
+const SEED_OPTION: LineOption = OptionOf {
+    word: "--seed",
+    value: Some(PlaceOf {
+        shown: "N",
+        kind: KindOf::Number {
+            least: 0,
+            most: u64::MAX,
+        },
+    }),
+};
+
+/// The option that asks for a record.
+const RECORD_OPTION: LineOption = OptionOf {
+    word: "--record",
+    value: Some(RECORD),
+};
+
+/// The option that asks for a trace.
+const TRACE_OPTION: LineOption = OptionOf {
+    word: "--trace",
+    value: None,
+};
+
+/// `solve MODEL LOG [--seed N] [--record FILE] [--trace]`: a run under the choices of a seed.
+pub const SOLVE: Row = RowOf {
+    line: LineName::Solve,
+    keyword: &["solve"],
+    places: &[MODEL, NEW_LOG],
+    options: &[SEED_OPTION, RECORD_OPTION, TRACE_OPTION],
+    tells: &[
+        "runs the agents of the model, with deliveries chosen from a seed:",
+        "prints a solution, `=====UNSATISFIABLE=====` or `=====UNKNOWN=====`,",
+        "and writes the log of its derivations; FILE holds the choices. Where",
+        "the model asks for the least or the greatest value, prints the best",
+        "solution and `==========`, and LOG refutes every better value",
+    ],
+};
+
+/// `replay MODEL SCHEDULE LOG [--trace]`: a run under the choices of a schedule.
+pub const REPLAY: Row = RowOf {
+    line: LineName::Replay,
+    keyword: &["replay"],
+    places: &[
+        MODEL,
+        PlaceOf {
+            shown: "SCHEDULE",
+            kind: KindOf::File {
+                content: Content::Schedule,
+                access: Access::Read,
+            },
+        },
+        NEW_LOG,
+    ],
+    options: &[TRACE_OPTION],
+    tells: &["runs them under the choices of a schedule, as a record is"],
+};
+
+/// `check MODEL LOG [--better N]`: whether a log refutes a model, or a better value.
+pub const CHECK: Row = RowOf {
+    line: LineName::Check,
+    keyword: &["check"],
+    places: &[MODEL, LOG],
+    options: &[OptionOf {
+        word: "--better",
+        value: Some(PlaceOf {
+            shown: "N",
+            kind: KindOf::Signed,
+        }),
+    }],
+    tells: &[
+        "checks whether the log refutes the model: prints `verified`,",
+        "`rejected step K`, `rejected deletion after step K` or",
+        "`rejected not empty`; with --better, whether it refutes that a",
+        "solution has a better value than N at what the model aims at",
+    ],
+};
+
+/// `upgrade LOG NEW`: a log with the deletions that it allows.
+pub const UPGRADE: Row = RowOf {
+    line: LineName::Upgrade,
+    keyword: &["upgrade"],
+    places: &[
+        LOG,
+        PlaceOf {
+            shown: "NEW",
+            kind: KindOf::File {
+                content: Content::Log,
+                access: Access::Written,
+            },
+        },
+    ],
+    options: &[],
+    tells: &[
+        "writes the log to NEW with deletions of the steps that nothing cites",
+        "any more, so that a check keeps less",
+    ],
+};
+
+/// `core MODEL LOG TRIMMED`: which constraints a refutation uses.
+pub const CORE: Row = RowOf {
+    line: LineName::Core,
+    keyword: &["core"],
+    places: &[
+        MODEL,
+        LOG,
+        PlaceOf {
+            shown: "TRIMMED",
+            kind: KindOf::File {
+                content: Content::Log,
+                access: Access::Written,
+            },
+        },
+    ],
+    options: &[],
+    tells: &[
+        "prints which constraints the refutation uses, as `c1`, and writes",
+        "the steps that it needs to TRIMMED",
+    ],
+};
+
+/// `starve MODEL FROM TO FILE`: a run that delivers from one agent to another only where nothing else is in transit.
+pub const STARVE: Row = RowOf {
+    line: LineName::Starve,
+    keyword: &["starve"],
+    places: &[
+        MODEL,
+        PlaceOf {
+            shown: "FROM",
+            kind: KindOf::Number {
+                least: 1,
+                most: 4096,
+            },
+        },
+        PlaceOf {
+            shown: "TO",
+            kind: KindOf::Number {
+                least: 1,
+                most: 4096,
+            },
+        },
+        RECORD,
+    ],
+    options: &[],
+    tells: &[
+        "writes to FILE the choices of a run that delivers from the agent of",
+        "variable FROM to that of TO only where nothing else is in transit",
+    ],
+};
+
+/// `lossy MODEL LOG EVENTS SEED [--record FILE]`: a run over a medium that loses, repeats and reorders.
+pub const LOSSY: Row = RowOf {
+    line: LineName::Lossy,
+    keyword: &["lossy"],
+    places: &[
+        MODEL,
+        NEW_LOG,
+        PlaceOf {
+            shown: "EVENTS",
+            kind: KindOf::Number {
+                least: 0,
+                most: 1_000_000,
+            },
+        },
+        SEED,
+    ],
+    options: &[RECORD_OPTION],
+    tells: &[
+        "runs the agents over a medium that loses, repeats and reorders in",
+        "EVENTS events, 0 to 1000000, drawn from SEED, and then calms down",
+    ],
+};
+
+/// `bound MODEL`: how many messages a run delivers at most.
+pub const BOUND: Row = RowOf {
+    line: LineName::Bound,
+    keyword: &["bound"],
+    places: &[MODEL],
+    options: &[],
+    tells: &["prints how many messages a run delivers at most"],
+};
+
+/// `gen queens N`: the problem of so many queens.
+pub const QUEENS: Row = RowOf {
+    line: LineName::Queens,
+    keyword: &["gen", "queens"],
+    places: &[PlaceOf {
+        shown: "N",
+        kind: KindOf::Number {
+            least: 1,
+            most: 200,
+        },
+    }],
+    options: &[],
+    tells: &["prints the problem of N queens, 1 to 200"],
+};
+
+/// `gen colouring N K SEED`: a colouring of so many nodes with so many colours.
+pub const COLOURING: Row = RowOf {
+    line: LineName::Colouring,
+    keyword: &["gen", "colouring"],
+    places: &[
+        PlaceOf {
+            shown: "N",
+            kind: KindOf::Number {
+                least: 1,
+                most: 200,
+            },
+        },
+        PlaceOf {
+            shown: "K",
+            kind: KindOf::Number { least: 1, most: 16 },
+        },
+        SEED,
+    ],
+    options: &[],
+    tells: &["prints a colouring of N nodes, 1 to 200, with K colours, 1 to 16"],
+};
+
+/// `drill SEED`: runs of three generated models.
+pub const DRILL: Row = RowOf {
+    line: LineName::Drill,
+    keyword: &["drill"],
+    places: &[SEED],
+    options: &[],
+    tells: &["runs three generated models, and checks the log of the last"],
+};
+
+/// `cnf CNF PROOF [--seed N]`: a run of a formula's agents.
+pub const CNF: Row = RowOf {
+    line: LineName::Cnf,
+    keyword: &["cnf"],
+    places: &[
+        FORMULA,
+        PlaceOf {
+            shown: "PROOF",
+            kind: KindOf::File {
+                content: Content::Proof,
+                access: Access::Written,
+            },
+        },
+    ],
+    options: &[SEED_OPTION],
+    tells: &[
+        "runs the agents of a formula in DIMACS: prints `s SATISFIABLE` and its",
+        "values, or `s UNSATISFIABLE`, with PROOF written, or `s UNKNOWN`",
+    ],
+};
+
+/// `rup CNF PROOF`: whether a proof shows that a formula cannot be satisfied.
+pub const RUP: Row = RowOf {
+    line: LineName::Rup,
+    keyword: &["rup"],
+    places: &[
+        FORMULA,
+        PlaceOf {
+            shown: "PROOF",
+            kind: KindOf::File {
+                content: Content::Proof,
+                access: Access::Read,
+            },
+        },
+    ],
+    options: &[],
+    tells: &[
+        "checks such a proof by unit propagation: prints `verified`,",
+        "`rejected clause K` or `rejected not empty`",
+    ],
+};
+
+/// `--help`: what the program takes.
+pub const HELP: Row = RowOf {
+    line: LineName::Help,
+    keyword: &["--help"],
+    places: &[],
+    options: &[],
+    tells: &["prints this text"],
+};
+
+/// `--version`: the program's version and its toolchain.
+pub const VERSION: Row = RowOf {
+    line: LineName::Version,
+    keyword: &["--version"],
+    places: &[],
+    options: &[],
+    tells: &["prints the program's version and its toolchain"],
+};
+
+/// `--usage`: the rows, for scripts.
+pub const USAGE: Row = RowOf {
+    line: LineName::Usage,
+    keyword: &["--usage"],
+    places: &[],
+    options: &[],
+    tells: &["prints the lines above for scripts: their files, numbers and options"],
+};
+
+/// Every line of words, in the order in which help and usage show them.
+pub const ROWS: &[Row] = &[
+    SOLVE, REPLAY, CHECK, UPGRADE, CORE, STARVE, LOSSY, BOUND, QUEENS, COLOURING, DRILL, CNF, RUP,
+    HELP, VERSION, USAGE,
+];
