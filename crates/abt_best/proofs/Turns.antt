@@ -3,11 +3,11 @@ use Rattle.std.proofs.Common.{◌≡◌, ◌∙◌, ℕ, zero, suc, ◌+◌, ◌
 use Rattle.std.specs.Prelude.{ℤ, All, slice_index_or, IsErr, IsErrAnd}
 use Rattle.dcsp_domain.specs.Sets.{IsDomain}
 use Rattle.dcsp_script.specs.declared.stop.Stop.{Stop}
-use Rattle.dcsp_script.specs.Scripts.{Write, World}
+use Rattle.dcsp_script.specs.Scripts.{World}
 use Rattle.dcsp_script.specs.Ways.{Did, Wrote}
 use Rattle.dcsp_script.proofs.Ways.{did_nothing, did_both, then_wrote}
 use Rattle.dcsp_script.proofs.Lines.{then_stopped}
-use Rattle.dcsp_problem.specs.Problems.{Contents, csp_of}
+use Rattle.dcsp_problem.specs.Problems.{Contents}
 use Rattle.dcsp_problem.specs.WellFormed.{IsProblem}
 use Rattle.dcsp_problem.specs.Aims.{aimed_at}
 use Rattle.abt_session.proofs.Pieces.{wrote_as}

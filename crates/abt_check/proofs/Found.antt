@@ -1,5 +1,5 @@
 -- What is found of a log that was read in pieces.
-use Rattle.std.proofs.Common.{◌≡◌, ℕ, ◌≤◌, true, List, length, Result, Ok, Err, ap, ◌∙◌, arith}
+use Rattle.std.proofs.Common.{◌≡◌, ℕ, true, List, Result, Ok, Err, ap, ◌∙◌}
 use Rattle.std.specs.Prelude.{IsErr, IsErrAnd}
 use Rattle.dcsp_outside.specs.declared.folder.Piece.{Piece}
 use Rattle.dcsp_outside.specs.Outside.{Place, SameCounts, Rose}
@@ -9,14 +9,12 @@ use Rattle.dcsp_problem.specs.Problems.{Contents}
 use Rattle.ngd_check.specs.declared.Finding.{Finding}
 use Rattle.ngd_check.specs.Entries.{steps_of}
 use Rattle.ngd_log.proofs.GoodEntries.{good_lines}
-use Rattle.abt_input.specs.Inputs.{most_log}
 use Rattle.abt_input.specs.declared.error.CommandError.{CommandError}
 use Rattle.abt_input.specs.Errors.{stop_error}
 use Rattle.abt_input.specs.Kinds.{Kind, ReadsAs}
 use Rattle.abt_input.specs.Files.{HasRead}
 use Rattle.abt_input.proofs.OtherKinds.{stopped_read}
 use Rattle.abt_check.specs.declared.log_check.LogCheck.{LogCheck}
-use Rattle.abt_check.specs.declared.log_check.Checked.{Checked}
 use Rattle.abt_check.specs.Checks.{log_for}
 use Rattle.abt_check.specs.LogChecks.{HasCome, WasStopped, UnlessFaulted, kept_log}
 

@@ -16,13 +16,13 @@ use Rattle.abt_input.specs.declared.error.CommandError.TheVariants.{ModelLong, M
 use Rattle.abt_input.specs.Errors.{error_status}
 use Rattle.abt_input.specs.Inputs.{most_log}
 use Rattle.abt_input.specs.Kinds.{IsExact}
-use Rattle.abt_input.specs.Plans.{IsOwn, IsSoundPlan}
+use Rattle.abt_input.specs.Plans.{IsSoundPlan}
 use Rattle.abt_input.proofs.Causes.{HasCause, too_long, refused_for, no_error, one_error, of_causes}
 use Rattle.abt_input.proofs.OwnWrites.{own_none, own_put}
 use Rattle.abt_input.proofs.PlanLaws.{plan_lawful}
 use Rattle.abt_check.specs.declared.log_check.Checked.{Checked}
 use Rattle.abt_check.specs.Taking.{taking_of, model_by}
-use Rattle.abt_check.specs.Checks.{HasEntries, IsEntryBadAt, IsErrorOfEntries, IsFoundFor, finding_status, finding_text, log_for}
+use Rattle.abt_check.specs.Checks.{HasEntries, IsEntryBadAt, IsErrorOfEntries, IsFoundFor, finding_status, log_for}
 use Rattle.abt_check.specs.LogChecks.{kept_log, IsKeptFor}
 use Rattle.abt_check.specs.CheckReports.{check_plan, check_promise}
 use Rattle.abt_check.proofs.Taken.{settled, final_of_model}

@@ -1,5 +1,5 @@
 -- The plan of a drill is sound, and so its promise is lawful.
-use Rattle.std.proofs.Common.{◌≡◌, ℕ, Bool, true, false, List, [], ◌∷◌}
+use Rattle.std.proofs.Common.{ℕ, Bool, true, false, []}
 use Rattle.std.specs.Prelude.{if◌then◌else◌}
 use Rattle.ngd_log.specs.Logs.{log_text}
 use Rattle.abt_schedule.specs.Answers.{word_at, generator_of}

@@ -1,5 +1,5 @@
 -- What `drill SEED` promises.
-use Rattle.std.specs.Prelude.{ℕ, List, [], ◌∷◌}
+use Rattle.std.specs.Prelude.{ℕ, [], ◌∷◌}
 use Rattle.dcsp_problem.specs.Problems.{Contents}
 use Rattle.dcsp_script.specs.Scripts.{Put}
 use Rattle.ngd_log.specs.Logs.{log_text}

@@ -1,12 +1,11 @@
 -- What a drill runs, and what it tells of that.
-use Rattle.std.specs.Prelude.{◌≡◌, ℕ, Bool, true, false, ◌||◌, List, ◌++◌, length, codes, decimal, if◌then◌else◌}
+use Rattle.std.specs.Prelude.{ℕ, Bool, true, false, ◌||◌, List, ◌++◌, length, codes, decimal, if◌then◌else◌}
 use Rattle.dcsp_problem.specs.Problems.{Contents}
 use Rattle.ngd_log.specs.Logs.{log_text}
 use Rattle.ngd_check.specs.declared.Finding.{Finding}
 use Rattle.abt_defs.specs.Runs.{Run, End, Refuted, Solved, Capped, Spent}
 use Rattle.abt_schedule.specs.Answers.{word_at, generator_of}
-use Rattle.abt_session.specs.Sessions.{Session, run_of}
-use Rattle.abt_session.specs.Running.{session_of}
+use Rattle.abt_session.specs.Sessions.{run_of}
 use Rattle.dcsp_gen.specs.Problems.{sparse_text, queens_text, pigeons_text}
 use Rattle.abt_promise.specs.declared.status.Status.{Status}
 use Rattle.abt_promise.specs.declared.status.Status.TheVariants.{Good, Unfinished}

@@ -1,4 +1,4 @@
-use Rattle.std.proofs.Common.{◌≡◌, Result, Ok, Err, ◌∙◌, sym}
+use Rattle.std.proofs.Common.{Result, Ok, Err, ◌∙◌, sym}
 use Rattle.std.specs.Prelude.{IfOk, IsErr, IsErrAnd, option_copied}
 use Rattle.abt_promise.specs.declared.status.Status.{Status}
 use Rattle.abt_input.specs.declared.error.CommandError.{CommandError}
