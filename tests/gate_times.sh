@@ -8,12 +8,21 @@ said=$(mktemp)
 rows=$(mktemp)
 trap 'rm -f "$said" "$rows"' EXIT
 
-# below NAME: the crates of this repository on its line of crates.txt, which names all that it stands on.
+# below NAME: the crates of this repository that it stands on, which its line of crates.txt leads to.
 below() {
-    for dep in $(sed -n "s/^$1://p" crates.txt); do [ -d "crates/$dep" ] && echo "$dep"; done
+    awk -F: -v top="$1" '
+        function visit(name, names, count, place) {
+            if (!(name in lines) || name in seen) return
+            seen[name]
+            count = split(lines[name], names, " ")
+            for (place = 1; place <= count; place++) visit(names[place])
+            if (name != top) print name
+        }
+        { lines[$1] = $2 }
+        END { visit(top) }' crates.txt
 }
 
-# lowest_first NAME..: a crate's line has more names than the line of one below it.
+# lowest_first NAME..: a crate stands on more than one below it.
 lowest_first() {
     for name in "$@"; do echo "$(below "$name" | wc -l) $name"; done | sort -n | cut -d ' ' -f 2
 }

@@ -1,8 +1,8 @@
 -- What callers see of an agent that did something.
 use Rattle.std.proofs.Common.{◌≡◌, ℕ, Bool, false, List, ap}
 use Rattle.abt_defs.specs.Steps.{Outcome}
-use Rattle.dcsp_problem.specs.Problems.{Contents}
-use Rattle.abt_message.specs.declared.Sent.{Sent}
+use Rattle.dcsp_rule.specs.Problems.{Contents}
+use Rattle.abt_parts.specs.declared.message.Sent.{Sent}
 use Rattle.abt_agent.specs.declared.body.Body.{Body}
 use Rattle.abt_agent.specs.declared.Turn.{Turn}
 use Rattle.abt_agent.specs.Bodies.{owner_of, Does}

@@ -7,11 +7,11 @@ use Rattle.std.proofs.lemmas.Cmp.{int_eq_equiv}
 use Rattle.std.proofs.lemmas.List.Folds.{list_all_at}
 use Rattle.std.proofs.lemmas.List.Sums.{sum_by-cons}
 use Rattle.std.proofs.lemmas.Option.{slice_get-get_or}
-use Rattle.dcsp_nogood.specs.declared.Pair.{Pair}
+use Rattle.dcsp_defs.specs.declared.nogood.Pair.{Pair}
 use Rattle.dcsp_defs.specs.Words.{In, is_value}
 use Rattle.dcsp_defs.specs.Csp.{PartialAssignment, agrees, with_value}
-use Rattle.abt_store.specs.declared.Recorded.{Recorded}
-use Rattle.abt_store.specs.Stores.{is_against, lowest_value}
+use Rattle.abt_parts.specs.declared.recorded.Recorded.{Recorded}
+use Rattle.abt_parts.specs.Stores.{is_against, lowest_value}
 use Rattle.abt_reason.specs.Kept.{IsOwn}
 use Rattle.abt_agent.specs.declared.search.Cause.TheVariants.{KeptNogood}
 use Rattle.abt_agent.specs.Causes.{first_kept, first_against}

@@ -5,8 +5,8 @@ use Rattle.std.proofs.Math.Bool.{and_comm}
 use Rattle.std.proofs.lemmas.Bool.{and_from, and_parts, both_ways, lt-ltb, ltb-true}
 use Rattle.std.proofs.lemmas.List.{map-append, take_more}
 use Rattle.std.proofs.lemmas.List.Elements.{filter-append}
-use Rattle.dcsp_nogood.specs.declared.Pair.{Pair}
-use Rattle.dcsp_nogood.specs.Pairs.{IsRising as PairsRise}
+use Rattle.dcsp_defs.specs.declared.nogood.Pair.{Pair}
+use Rattle.dcsp_defs.specs.Pairs.{IsRising as PairsRise}
 use Rattle.dcsp_defs.specs.Words.{In, below}
 use Rattle.dcsp_defs.specs.Csp.{names}
 use Rattle.abt_defs.specs.Agents.{is_among, Add_link}

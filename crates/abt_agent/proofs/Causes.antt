@@ -7,21 +7,21 @@ use Rattle.std.proofs.lemmas.List.{get_or_at, append_assoc, length_push, at_drop
 use Rattle.std.proofs.lemmas.List.Elements.{All-head, All-tail, filter_map-append}
 use Rattle.std.proofs.lemmas.List.Folds.{find-append}
 use Rattle.std.proofs.lemmas.Option.{get_or_from_slice_get}
-use Rattle.dcsp_nogood.specs.declared.Pair.{Pair}
+use Rattle.dcsp_defs.specs.declared.nogood.Pair.{Pair}
 use Rattle.dcsp_defs.specs.Words.{below}
 use Rattle.dcsp_defs.specs.Csp.{Constraint, PartialAssignment, is_violated, agrees, with_value, domain, owned, owns}
 use Rattle.dcsp_defs.specs.declared.Reason.{Reason}
 use Rattle.dcsp_defs.specs.declared.Reason.TheVariants.{Rule, Earlier}
 use Rattle.abt_defs.specs.Agents.{View, plain, known, values_in, is_among}
 use Rattle.abt_defs.specs.Reasons.{Item, constraint_item, record_item, cause, ruled_out, causes, blamed, derived, step_of}
-use Rattle.dcsp_problem.specs.declared.rule.Rule as rules
-use Rattle.dcsp_problem.specs.Rules.{no_rule}
-use Rattle.dcsp_problem.specs.Problems.{Contents, csp_of, constraint_of, constraint_at}
+use Rattle.dcsp_rule.specs.declared.rule.Rule as rules
+use Rattle.dcsp_rule.specs.Rules.{no_rule}
+use Rattle.dcsp_rule.specs.Problems.{Contents, csp_of, constraint_of, constraint_at}
 use Rattle.dcsp_problem.specs.Index.{owned_rules}
-use Rattle.abt_message.specs.Messages.{with_stamps}
-use Rattle.abt_store.specs.declared.Recorded.{Recorded}
-use Rattle.abt_store.specs.Stores.{record_of, records_of}
-use Rattle.abt_view.specs.Views.{view_of}
+use Rattle.abt_parts.specs.Messages.{with_stamps}
+use Rattle.abt_parts.specs.declared.recorded.Recorded.{Recorded}
+use Rattle.abt_parts.specs.Stores.{record_of, records_of}
+use Rattle.abt_parts.specs.Views.{view_of}
 use Rattle.abt_defs.specs.Steps.{is_free, choice, is_named}
 use Rattle.abt_agent.specs.declared.body.Body.{Body}
 use Rattle.abt_agent.specs.Bodies.{agent_of}

@@ -3,13 +3,13 @@ use Rattle.std.proofs.Common.{◌≡◌, ◌≢◌, ◌==◌, ℕ, zero, suc, �
 use Rattle.std.proofs.Math.Bool.{and-true}
 use Rattle.std.proofs.lemmas.Bool.{ne_eqb}
 use Rattle.std.proofs.lemmas.Bool.Decides.{eqb_tells, Decides-ltb, Decides-int_eq}
-use Rattle.dcsp_nogood.specs.declared.Pair.{Pair}
-use Rattle.dcsp_nogood.specs.Pairs.{no_pair, pair_of, IsRising as PairsRise}
+use Rattle.dcsp_defs.specs.declared.nogood.Pair.{Pair}
+use Rattle.dcsp_defs.specs.Pairs.{no_pair, pair_of, IsRising as PairsRise}
 use Rattle.dcsp_defs.specs.Words.{IsRising, update, is_value}
 use Rattle.dcsp_defs.specs.Csp.{names}
 use Rattle.abt_defs.specs.Agents.{Agent, Stamped, known, value_in}
 use Rattle.abt_defs.specs.Steps.{is_newer, forget, learn, learn_all, fits}
-use Rattle.abt_message.specs.Messages.{with_stamps}
+use Rattle.abt_parts.specs.Messages.{with_stamps}
 use Rattle.abt_agent.proofs.Lists.{stamps_step}
 use Rattle.abt_agent.proofs.Members.{In-get_or, In-map}
 use Rattle.abt_agent.proofs.Proper.{names_rise}

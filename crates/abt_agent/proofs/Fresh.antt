@@ -13,12 +13,12 @@ use Rattle.abt_defs.specs.Agents.{Agent, plain, fresh, shares, is_among}
 use Rattle.abt_defs.specs.Reasons.{Item, blamed, causes, derived, step_of}
 use Rattle.abt_defs.specs.Steps as steps
 use Rattle.abt_defs.specs.Steps.{Outcome}
-use Rattle.law_invariants.specs.OneAgent.{Sound}
-use Rattle.dcsp_problem.specs.Problems.{Contents, csp_of, constraint_at}
+use Rattle.law_agent.specs.OneAgent.{Sound}
+use Rattle.dcsp_rule.specs.Problems.{Contents, csp_of, constraint_at}
 use Rattle.dcsp_problem.specs.Index.{owned_rules}
 use Rattle.dcsp_problem.specs.Lower.{joins, lower_owners}
-use Rattle.abt_view.specs.Views.{view_of}
-use Rattle.abt_store.specs.Stores.{records_of}
+use Rattle.abt_parts.specs.Views.{view_of}
+use Rattle.abt_parts.specs.Stores.{records_of}
 use Rattle.abt_agent.specs.declared.body.Body.{Body}
 use Rattle.abt_agent.specs.declared.Turn.{Turn}
 use Rattle.abt_agent.specs.declared.Turn.TheVariants.{Quiet, Announced, Derived, Empty}

@@ -2,19 +2,19 @@
 use Rattle.std.proofs.Common.{◌≡◌, ℕ, suc, ◌-◌, Bool, true, List, [], ◌∷◌, length, Some, None, refl, sym, ap, subst, ◌∙◌, arith}
 use Rattle.std.specs.Prelude.{slice_get}
 use Rattle.std.proofs.lemmas.Option.{slice_get-get_or}
-use Rattle.dcsp_nogood.specs.declared.Pair.{Pair}
+use Rattle.dcsp_defs.specs.declared.nogood.Pair.{Pair}
 use Rattle.dcsp_defs.specs.declared.Step.{Step}
 use Rattle.abt_defs.specs.Agents.{Agent, Stamped, Refuse, lowest}
 use Rattle.abt_defs.specs.Reasons.{derived, step_of}
 use Rattle.abt_defs.specs.Steps as steps
 use Rattle.dcsp_defs.specs.Csp.{Csp}
-use Rattle.dcsp_problem.specs.Problems.{csp_of}
-use Rattle.abt_message.specs.declared.Sent.{Sent}
-use Rattle.abt_message.specs.Messages.{with_stamps}
+use Rattle.dcsp_rule.specs.Problems.{csp_of}
+use Rattle.abt_parts.specs.declared.message.Sent.{Sent}
+use Rattle.abt_parts.specs.Messages.{with_stamps}
 use Rattle.abt_agent.specs.Outgoing.{Posts}
 use Rattle.abt_agent.proofs.Posting.{posts_none}
-use Rattle.abt_view.specs.Views.{view_of}
-use Rattle.abt_store.specs.Stores.{records_of}
+use Rattle.abt_parts.specs.Views.{view_of}
+use Rattle.abt_parts.specs.Stores.{records_of}
 use Rattle.abt_agent.specs.declared.body.Body.{Body}
 use Rattle.abt_agent.specs.declared.Turn.TheVariants.{Derived, Empty}
 use Rattle.abt_agent.specs.Bodies.{agent_of, IsSized, Does}

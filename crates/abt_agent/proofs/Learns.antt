@@ -1,14 +1,14 @@
 -- What an agent learns and keeps.
 use Rattle.std.proofs.Common.{◌≡◌, ℕ, ◌<◌, List, length, sym, ap, subst, ◌∙◌}
-use Rattle.dcsp_nogood.specs.declared.Pair.{Pair}
+use Rattle.dcsp_defs.specs.declared.nogood.Pair.{Pair}
 use Rattle.dcsp_defs.specs.Words.{In}
 use Rattle.abt_defs.specs.Agents.{Agent, Record, StampedNogood, plain, Add_link}
 use Rattle.abt_defs.specs.Steps as steps
-use Rattle.law_invariants.specs.OneAgent.{Proper, Sound}
-use Rattle.law_invariants.specs.Staying.{OnlyLearns}
-use Rattle.dcsp_problem.specs.Problems.{Contents, csp_of}
-use Rattle.abt_message.specs.declared.Sent.{Sent}
-use Rattle.abt_message.specs.Messages.{with_stamps}
+use Rattle.law_agent.specs.OneAgent.{Proper, Sound}
+use Rattle.law_agent.specs.Staying.{OnlyLearns}
+use Rattle.dcsp_rule.specs.Problems.{Contents, csp_of}
+use Rattle.abt_parts.specs.declared.message.Sent.{Sent}
+use Rattle.abt_parts.specs.Messages.{with_stamps}
 use Rattle.abt_agent.specs.declared.knowledge.Knowledge.{Knowledge}
 use Rattle.abt_agent.specs.declared.body.Body.{Body}
 use Rattle.abt_agent.specs.Bodies.{owner_of, IsInStep, IsSized}

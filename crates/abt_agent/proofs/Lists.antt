@@ -4,11 +4,11 @@ use Rattle.std.specs.Prelude.{filter_map}
 use Rattle.std.specs.List.{cons_option}
 use Rattle.std.proofs.lemmas.List.{map-append, drop_more, take_more}
 use Rattle.std.proofs.lemmas.List.Elements.{filter-append, filter_map-append}
-use Rattle.dcsp_nogood.specs.declared.Pair.{Pair}
+use Rattle.dcsp_defs.specs.declared.nogood.Pair.{Pair}
 use Rattle.dcsp_defs.specs.Words.{below}
 use Rattle.abt_defs.specs.Agents.{Message, Stamped, plain}
 use Rattle.abt_defs.specs.Steps.{to_each}
-use Rattle.abt_message.specs.Messages.{with_stamps}
+use Rattle.abt_parts.specs.Messages.{with_stamps}
 
 pub below-more : (n : ℕ) → below (n + 1) ≡ below n ++ n ∷ []
 below-more n = rw add-one refl

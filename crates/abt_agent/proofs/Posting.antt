@@ -5,8 +5,8 @@ use Rattle.std.proofs.lemmas.List.Elements.{All-append}
 use Rattle.dcsp_defs.specs.Words.{below}
 use Rattle.abt_defs.specs.Agents as agents
 use Rattle.abt_defs.specs.Steps.{to_each}
-use Rattle.abt_message.specs.declared.Sent.{Sent}
-use Rattle.abt_message.specs.Messages.{messages_of, sent_of}
+use Rattle.abt_parts.specs.declared.message.Sent.{Sent}
+use Rattle.abt_parts.specs.Messages.{messages_of, sent_of}
 use Rattle.abt_agent.specs.Outgoing.{IsStamped, Posts}
 use Rattle.abt_agent.proofs.Lists.{each_more}
 

@@ -2,16 +2,16 @@
 use Rattle.std.proofs.Common.{◌≡◌, ◌||◌, ℕ, suc, ◌+◌, ◌-◌, ◌<◌, ◌≤◌, List, [], ◌∷◌, length, Option, Some, None, ℤ, refl, sym, ap, subst, ◌∙◌, arith, inl, inr, slice_get}
 use Rattle.std.specs.Option.{option_map}
 use Rattle.std.proofs.lemmas.Bool.Decides.{eqb_tells}
-use Rattle.dcsp_nogood.specs.declared.Pair.{Pair}
-use Rattle.dcsp_nogood.specs.Pairs.{value_at, var_at, IsRising as PairsRise}
+use Rattle.dcsp_defs.specs.declared.nogood.Pair.{Pair}
+use Rattle.dcsp_defs.specs.Pairs.{value_at, var_at, IsRising as PairsRise}
 use Rattle.dcsp_defs.specs.Words.{In, IsRising, is_value}
 use Rattle.dcsp_defs.specs.Csp.{Csp, names}
 use Rattle.abt_defs.specs.Agents.{Record}
 use Rattle.abt_defs.specs.Steps.{is_refused}
-use Rattle.law_invariants.specs.OneAgent.{Proper}
-use Rattle.dcsp_problem.specs.Problems.{Contents, csp_of}
-use Rattle.abt_store.specs.declared.Recorded.{Recorded}
-use Rattle.abt_store.specs.Stores.{record_of, records_of, lowest_value, is_ruled_out}
+use Rattle.law_agent.specs.OneAgent.{Proper}
+use Rattle.dcsp_rule.specs.Problems.{Contents, csp_of}
+use Rattle.abt_parts.specs.declared.recorded.Recorded.{Recorded}
+use Rattle.abt_parts.specs.Stores.{record_of, records_of, lowest_value, is_ruled_out}
 use Rattle.abt_reason.specs.Kept.{IsOwn}
 use Rattle.abt_agent.specs.States.{IsNogoodFor}
 use Rattle.abt_agent.proofs.Members.{In-map}

@@ -1,18 +1,18 @@
 -- What a message that comes does.
 use Rattle.std.proofs.Common.{◌≡◌, ℕ, ◌+◌, ◌<◌, Bool, true, false, cond, not, ◌&&◌, List, length, refl, sym, ap, subst, ◌∙◌, append-nil, Result, Ok, Err}
 use Rattle.std.specs.Prelude.{IfOk, OnOk}
-use Rattle.dcsp_list.specs.declared.Memory.{Memory}
-use Rattle.dcsp_nogood.specs.declared.Pair.{Pair}
+use Rattle.dcsp_common.specs.declared.list.Memory.{Memory}
+use Rattle.dcsp_defs.specs.declared.nogood.Pair.{Pair}
 use Rattle.dcsp_defs.specs.Words.{In, update}
 use Rattle.dcsp_defs.specs.Csp.{Csp, domain}
 use Rattle.abt_defs.specs.Agents.{Agent, Message, Refuse, Stamped, plain, Add_link}
 use Rattle.abt_defs.specs.Steps as steps
 use Rattle.abt_defs.specs.Steps.{Outcome}
-use Rattle.law_invariants.specs.OneAgent.{Proper, Sound}
-use Rattle.law_invariants.specs.Staying.{AgentsStaySound, StaysSound, OnlyLearns}
-use Rattle.dcsp_problem.specs.Problems.{Contents, csp_of}
-use Rattle.abt_message.specs.declared.Sent.{Sent}
-use Rattle.abt_message.specs.Messages.{with_stamps}
+use Rattle.law_agent.specs.OneAgent.{Proper, Sound}
+use Rattle.law_agent.specs.Staying.{AgentsStaySound, StaysSound, OnlyLearns}
+use Rattle.dcsp_rule.specs.Problems.{Contents, csp_of}
+use Rattle.abt_parts.specs.declared.message.Sent.{Sent}
+use Rattle.abt_parts.specs.Messages.{with_stamps}
 use Rattle.abt_agent.specs.Outgoing.{Posts}
 use Rattle.abt_agent.proofs.Posting.{posts_then}
 use Rattle.abt_agent.specs.declared.knowledge.Knowledge.{Knowledge}

@@ -1,18 +1,18 @@
 -- The steps that an agent makes are right.
 use Rattle.std.proofs.Common.{◌≡◌, ℕ, ◌<◌, List, None, sym, subst}
-use Rattle.dcsp_nogood.specs.declared.Pair.{Pair}
+use Rattle.dcsp_defs.specs.declared.nogood.Pair.{Pair}
 use Rattle.dcsp_defs.specs.Words.{In}
 use Rattle.dcsp_defs.specs.Csp.{Csp, domain}
 use Rattle.dcsp_defs.specs.declared.Step.{Step}
 use Rattle.abt_defs.specs.Agents.{Agent, Stamped, Announce, Refuse}
 use Rattle.abt_defs.specs.Steps.{Outcome, settle, receive}
-use Rattle.law_invariants.specs.OneAgent.{Proper}
-use Rattle.law_right_steps.specs.OneAgent.{IsRightIfMade, MakesRightSteps}
-use Rattle.abt_message.specs.Messages.{with_stamps}
+use Rattle.law_agent.specs.OneAgent.{Proper}
+use Rattle.law_agent.specs.OneAgentSteps.{IsRightIfMade, MakesRightSteps}
+use Rattle.abt_parts.specs.Messages.{with_stamps}
 use Rattle.abt_agent.specs.declared.Turn.{Turn}
 use Rattle.abt_agent.specs.declared.Turn.TheVariants.{Quiet, Announced, Derived, Empty}
 use Rattle.abt_agent.specs.Turns.{IsTurn}
-use Rattle.law_right_steps.specs.Sources.{IsOfStep}
+use Rattle.law_agent.specs.Sources.{IsOfStep}
 use Rattle.abt_agent.specs.Rights.{IsRightTurn}
 use Rattle.abt_agent.proofs.Lists.{plain-with_stamps}
 

@@ -2,8 +2,8 @@
 use Rattle.std.proofs.Common.{ℕ, ℤ, ◌+◌, false, List, length, Some, refl, sym, subst}
 use Rattle.abt_defs.specs.Agents.{Announce}
 use Rattle.abt_defs.specs.Steps as steps
-use Rattle.dcsp_problem.specs.Problems.{csp_of}
-use Rattle.abt_message.specs.declared.Sent.{Sent}
+use Rattle.dcsp_rule.specs.Problems.{csp_of}
+use Rattle.abt_parts.specs.declared.message.Sent.{Sent}
 use Rattle.abt_agent.specs.declared.body.Body.{Body}
 use Rattle.abt_agent.specs.declared.Turn.TheVariants.{Announced}
 use Rattle.abt_agent.specs.Bodies.{agent_of, IsSized, Does}

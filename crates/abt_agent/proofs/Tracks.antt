@@ -6,9 +6,9 @@ use Rattle.std.proofs.lemmas.Bool.Decides.{eqb_tells}
 use Rattle.dcsp_defs.specs.Words.{In, update}
 use Rattle.dcsp_defs.specs.Csp.{Csp, domain}
 use Rattle.abt_defs.specs.Agents.{Stamped, View, values_in, value_in}
-use Rattle.dcsp_problem.specs.Problems.{AreInDomains}
-use Rattle.abt_store.specs.declared.Recorded.{Recorded}
-use Rattle.abt_store.specs.Stores.{fits}
+use Rattle.dcsp_rule.specs.Problems.{AreInDomains}
+use Rattle.abt_parts.specs.declared.recorded.Recorded.{Recorded}
+use Rattle.abt_parts.specs.Stores.{fits}
 use Rattle.abt_reason.specs.Cached.{Cached, StandsFor, StoodBefore}
 use Rattle.abt_agent.specs.Outgoing.{IsStampedView}
 

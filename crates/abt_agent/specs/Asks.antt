@@ -1,6 +1,6 @@
 -- Who is asked for a link, as the code finds it.
 use Rattle.std.specs.Prelude.{ℕ, Bool, List, filter, length, nat_lt, not, ◌&&◌}
-use Rattle.dcsp_nogood.specs.declared.Pair.{Pair}
+use Rattle.dcsp_defs.specs.declared.nogood.Pair.{Pair}
 use Rattle.dcsp_defs.specs.Csp.{names}
 use Rattle.abt_agent.specs.States.{has_mark}
 

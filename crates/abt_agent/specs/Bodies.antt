@@ -1,16 +1,16 @@
 -- What the inside of the code's agent stands for.
 use Rattle.std.specs.Prelude.{◌≡◌, ℕ, ◌<◌, List, length}
-use Rattle.dcsp_nogood.specs.declared.Pair.{Pair}
+use Rattle.dcsp_defs.specs.declared.nogood.Pair.{Pair}
 use Rattle.dcsp_defs.specs.Words.{In, IsRising}
 use Rattle.abt_defs.specs.Agents.{Agent, Message, Record, is_among, values_in}
 use Rattle.abt_defs.specs.Steps.{Outcome, receive}
-use Rattle.law_invariants.specs.OneAgent.{Proper, Sound}
-use Rattle.dcsp_problem.specs.Problems.{Contents, csp_of, AreInDomains}
+use Rattle.law_agent.specs.OneAgent.{Proper, Sound}
+use Rattle.dcsp_rule.specs.Problems.{Contents, csp_of, AreInDomains}
 use Rattle.abt_reason.specs.Cached.{StandsFor}
-use Rattle.abt_message.specs.declared.Sent.{Sent}
-use Rattle.abt_view.specs.Views.{view_of}
-use Rattle.abt_store.specs.declared.Recorded.{Recorded}
-use Rattle.abt_store.specs.Stores.{records_of}
+use Rattle.abt_parts.specs.declared.message.Sent.{Sent}
+use Rattle.abt_parts.specs.Views.{view_of}
+use Rattle.abt_parts.specs.declared.recorded.Recorded.{Recorded}
+use Rattle.abt_parts.specs.Stores.{records_of}
 use Rattle.abt_agent.specs.declared.knowledge.Knowledge.{Knowledge}
 use Rattle.abt_agent.specs.declared.body.Body.{Body}
 use Rattle.abt_agent.specs.declared.Turn.{Turn}

@@ -6,11 +6,11 @@ use Rattle.dcsp_defs.specs.declared.Reason.{Reason}
 use Rattle.dcsp_defs.specs.Csp.{PartialAssignment, domain, is_violated, agrees, with_value}
 use Rattle.abt_defs.specs.Agents.{Stamped, View, is_among, values_in}
 use Rattle.abt_defs.specs.Reasons.{Item, constraint_item, record_item, pair_at}
-use Rattle.dcsp_problem.specs.Problems.{Contents, constraint_at, csp_of}
-use Rattle.abt_view.specs.Views.{view_of}
+use Rattle.dcsp_rule.specs.Problems.{Contents, constraint_at, csp_of}
+use Rattle.abt_parts.specs.Views.{view_of}
 use Rattle.dcsp_problem.specs.Index.{owned_rules}
-use Rattle.abt_store.specs.declared.Recorded.{Recorded}
-use Rattle.abt_store.specs.Stores.{is_against, record_of}
+use Rattle.abt_parts.specs.declared.recorded.Recorded.{Recorded}
+use Rattle.abt_parts.specs.Stores.{is_against, record_of}
 use Rattle.abt_agent.specs.declared.knowledge.Knowledge.{Knowledge}
 use Rattle.abt_agent.specs.declared.search.Cause.{Cause}
 use Rattle.abt_agent.specs.declared.search.Cause.TheVariants.{OwnedRule, KeptNogood}

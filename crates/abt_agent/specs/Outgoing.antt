@@ -1,12 +1,12 @@
 -- What an agent sends.
 use Rattle.std.specs.Prelude.{◌≡◌, ℕ, ◌<◌, All, List, ◌++◌, length, Some}
-use Rattle.dcsp_nogood.specs.declared.Pair.{Pair}
+use Rattle.dcsp_defs.specs.declared.nogood.Pair.{Pair}
 use Rattle.abt_defs.specs.Agents as agents
 use Rattle.abt_defs.specs.Agents.{Stamped, View}
-use Rattle.abt_message.specs.declared.Message.{Message}
-use Rattle.abt_message.specs.declared.Message.TheVariants.{Tell, Refuse, AddLink}
-use Rattle.abt_message.specs.declared.Sent.{Sent}
-use Rattle.abt_message.specs.Messages.{messages_of}
+use Rattle.abt_parts.specs.declared.message.Message.{Message}
+use Rattle.abt_parts.specs.declared.message.Message.TheVariants.{Tell, Refuse, AddLink}
+use Rattle.abt_parts.specs.declared.message.Sent.{Sent}
+use Rattle.abt_parts.specs.Messages.{messages_of}
 
 -- each stamp is above 0
 abbrev pub ArePositive : List ℕ → Type 0

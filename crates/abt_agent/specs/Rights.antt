@@ -3,9 +3,9 @@ use Rattle.std.specs.Prelude.{List}
 use Rattle.dcsp_defs.specs.Csp.{Csp}
 use Rattle.dcsp_defs.specs.declared.Step.{Step}
 use Rattle.dcsp_defs.specs.Derivation.{IsRight}
-use Rattle.law_right_steps.specs.Sources.{IsOfStep}
-use Rattle.abt_message.specs.declared.Message.{Message}
-use Rattle.abt_message.specs.declared.Message.TheVariants.{Tell, Refuse, AddLink}
+use Rattle.law_agent.specs.Sources.{IsOfStep}
+use Rattle.abt_parts.specs.declared.message.Message.{Message}
+use Rattle.abt_parts.specs.declared.message.Message.TheVariants.{Tell, Refuse, AddLink}
 use Rattle.abt_agent.specs.declared.Turn.{Turn}
 use Rattle.abt_agent.specs.declared.Turn.TheVariants.{Quiet, Announced, Derived, Empty}
 

@@ -2,7 +2,7 @@
 use Rattle.std.specs.Prelude.{ℕ, Bool, List}
 use Rattle.std.specs.List.{list_any}
 use Rattle.abt_defs.specs.Agents.{is_among}
-use Rattle.dcsp_problem.specs.Problems.{Contents, constraint_at}
+use Rattle.dcsp_rule.specs.Problems.{Contents, constraint_at}
 
 -- one of the rules with these numbers names k
 abbrev pub names_any : Contents → ℕ → List ℕ → Bool

@@ -1,20 +1,20 @@
 -- The agent that callers see.
 use Rattle.std.specs.Prelude.{◌≡◌, ℕ, ◌-◌, ◌<◌, ◌^◌, ℤ, Bool, false, List, length, Option, Some, slice_get, slice_index_or}
 use Rattle.std.specs.Option.{option_map}
-use Rattle.dcsp_nogood.specs.declared.Pair.{Pair}
+use Rattle.dcsp_defs.specs.declared.nogood.Pair.{Pair}
 use Rattle.dcsp_defs.specs.Words.{In}
 use Rattle.dcsp_defs.specs.Csp.{domain}
 use Rattle.abt_defs.specs.Agents.{Agent, fresh, is_among}
 use Rattle.abt_defs.specs.Steps.{Outcome, settle, receive}
-use Rattle.dcsp_problem.specs.Problems.{Contents, csp_of}
-use Rattle.abt_message.specs.declared.Message.{Message}
-use Rattle.abt_message.specs.declared.Message.TheVariants.{Tell, Refuse, AddLink}
-use Rattle.abt_message.specs.declared.Sent.{Sent}
-use Rattle.abt_message.specs.Messages.{message_of}
-use Rattle.abt_view.specs.declared.StampedValue.{StampedValue}
-use Rattle.abt_view.specs.Views.{view_of}
-use Rattle.abt_store.specs.declared.Recorded.{Recorded}
-use Rattle.abt_store.specs.Stores.{records_of}
+use Rattle.dcsp_rule.specs.Problems.{Contents, csp_of}
+use Rattle.abt_parts.specs.declared.message.Message.{Message}
+use Rattle.abt_parts.specs.declared.message.Message.TheVariants.{Tell, Refuse, AddLink}
+use Rattle.abt_parts.specs.declared.message.Sent.{Sent}
+use Rattle.abt_parts.specs.Messages.{message_of}
+use Rattle.abt_parts.specs.declared.view.StampedValue.{StampedValue}
+use Rattle.abt_parts.specs.Views.{view_of}
+use Rattle.abt_parts.specs.declared.recorded.Recorded.{Recorded}
+use Rattle.abt_parts.specs.Stores.{records_of}
 use Rattle.abt_agent.specs.declared.Turn.{Turn}
 use Rattle.abt_agent.specs.Turns.{IsTurn}
 use Rattle.abt_agent.specs.Outgoing.{AreStampsOf, Posts}

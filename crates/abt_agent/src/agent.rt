@@ -2,19 +2,19 @@
 
 ghost use Rattle.std.specs.Prelude.{◌≡◌, ◌<◌, IfOk, IsErr, OnErr, OnOk, ℕ, List, false, length, true};
 ghost use Rattle.dcsp_defs.specs.declared.Step.{Step as TheStep};
-ghost use Rattle.law_bounded_store.specs.Stores.{IsBoundedStore};
-ghost use Rattle.law_right_steps.specs.Merges.{IsUnionOfReasons};
-ghost use Rattle.dcsp_problem.specs.Problems.{csp_of};
+ghost use Rattle.law_agent.specs.Stores.{IsBoundedStore};
+ghost use Rattle.law_agent.specs.Merges.{IsUnionOfReasons};
+ghost use Rattle.dcsp_rule.specs.Problems.{csp_of};
 ghost use Rattle.abt_agent.specs.States.{stands_for, CanReceive, IsFresh, Receives, Settles};
 ghost use Rattle.abt_agent.specs.Turns.{IsFirstTurn};
-ghost use Rattle.law_right_steps.specs.Sources.{AreOfSteps};
+ghost use Rattle.law_agent.specs.Sources.{AreOfSteps};
 ghost use Rattle.abt_agent.specs.Rights.{BringsOfStep, IsRightTurn};
-ghost use Rattle.abt_store.specs.Stores.{records_of};
+ghost use Rattle.abt_parts.specs.Stores.{records_of};
 
 use crate::Turn;
 use crate::body::Body;
-use abt_message::{Message, Outbox};
-use dcsp_list::Memory;
+use abt_parts::{Message, Outbox};
+use dcsp_common::Memory;
 use dcsp_problem::Problem;
 use std::alloc::Global;
 use std::marker::Model;
@@ -69,9 +69,9 @@ impl<'p> Agent<'p> {
         if self.spent {
             return Err(Memory);
         }
-        law_bounded_store::sound_stores();
-        law_right_steps::sound_merges();
-        let _vars = self.body.known.problem.vars();
+        law_agent::sound_stores();
+        law_agent::sound_merges();
+        self.body.known.problem.denotes_csp();
         match self.body.first_settle(out) {
             Ok(turn) => Ok(turn),
             Err(memory) => {
@@ -108,9 +108,9 @@ impl<'p> Agent<'p> {
         if self.spent {
             return Err(Memory);
         }
-        law_bounded_store::sound_stores();
-        law_right_steps::sound_merges();
-        let _vars = self.body.known.problem.vars();
+        law_agent::sound_stores();
+        law_agent::sound_merges();
+        self.body.known.problem.denotes_csp();
         match self.body.receive(from, message, next_step, out) {
             Ok(turn) => Ok(turn),
             Err(memory) => {
@@ -130,9 +130,9 @@ impl<'p> Agent<'p> {
         ensures bounded { self.now.spent ≡ false → IsBoundedStore (csp_of self.now.problem) self.now.me (stands_for self.now) }
         ensures merges { self.now.spent ≡ false → IsUnionOfReasons (csp_of self.now.problem) self.now.me (stands_for self.now) }
     {
-        law_bounded_store::sound_stores();
-        law_right_steps::sound_merges();
-        let _vars = self.body.known.problem.vars();
+        law_agent::sound_stores();
+        law_agent::sound_merges();
+        self.body.known.problem.denotes_csp();
         self.body.value
     }
 

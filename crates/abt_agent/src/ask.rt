@@ -2,20 +2,20 @@
 
 ghost use Rattle.std.specs.Prelude.{◌≡◌, ◌∷◌, [], OnOk, true, if◌then◌else◌};
 ghost use Rattle.std.specs.List.{list_any};
-ghost use Rattle.dcsp_nogood.specs.Pairs.{IsRising};
+ghost use Rattle.dcsp_defs.specs.Pairs.{IsRising};
 ghost use Rattle.dcsp_defs.specs.Csp.{names};
 ghost use Rattle.abt_defs.specs.Agents.{Add_link};
 ghost use Rattle.abt_defs.specs.Steps as steps;
-ghost use Rattle.abt_message.specs.Messages.{message_of};
+ghost use Rattle.abt_parts.specs.Messages.{message_of};
 ghost use Rattle.abt_agent.specs.Bodies.{agent_of, owner_of, IsSized};
 ghost use Rattle.abt_agent.specs.Outgoing.{IsStamped, Posts};
 ghost use Rattle.abt_agent.specs.Asks.{unlinked_names, is_unlinked};
 
 use crate::body::Body;
 use crate::marks::mark_pairs;
-use abt_message::{Message, Outbox, Sent};
-use dcsp_list::Memory;
-use dcsp_nogood::Pair;
+use abt_parts::{Message, Outbox, Sent};
+use dcsp_common::Memory;
+use dcsp_defs::Pair;
 use dcsp_row::Row;
 
 /// Sends the message.

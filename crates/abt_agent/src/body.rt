@@ -4,14 +4,14 @@ ghost use Rattle.std.specs.Prelude.{◌≡◌, ◌<◌, ◌||◌, ◌&&◌, ℕ,
 ghost use Rattle.dcsp_defs.specs.Words.{below};
 ghost use Rattle.abt_defs.specs.Agents.{fresh, shares};
 ghost use Rattle.dcsp_problem.specs.Lower.{lower_owners};
-ghost use Rattle.dcsp_problem.specs.Problems.{csp_of};
+ghost use Rattle.dcsp_rule.specs.Problems.{csp_of};
 ghost use Rattle.abt_agent.specs.Bodies.{agent_of, owner_of, IsGood};
 ghost use Rattle.abt_agent.specs.Rules.{names_any};
 ghost use Rattle.abt_agent.specs.States.{has_mark};
 
 use crate::knowledge::Knowledge;
 use crate::marks::mark_variables;
-use dcsp_list::Memory;
+use dcsp_common::Memory;
 use dcsp_problem::Problem;
 use dcsp_row::Row;
 use std::alloc::Global;
@@ -41,8 +41,8 @@ impl<'p> Body<'p> {
         ensures agent { IfOk result (λ body. agent_of body ≡ fresh (csp_of problem.now) me) }
         ensures good { IfOk result IsGood }
     {
-        law_invariants::agents_start_sound();
-        let _vars = problem.vars();
+        law_agent::agents_start_sound();
+        problem.denotes_csp();
         let known = Knowledge::new(alloc, problem, me)?;
         let tells = first_tells(alloc, problem, me)?;
         let linked = first_linked(alloc, problem, me)?;

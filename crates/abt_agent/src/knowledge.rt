@@ -4,16 +4,15 @@ ghost use Rattle.std.specs.Prelude.{◌≡◌, ◌<◌, ◌∷◌, ◌++◌, [],
 ghost use Rattle.std.specs.Option.{ForSome};
 ghost use Rattle.dcsp_defs.specs.Words.{In, update};
 ghost use Rattle.dcsp_defs.specs.Csp.{domain};
-ghost use Rattle.dcsp_problem.specs.Problems.{csp_of};
+ghost use Rattle.dcsp_rule.specs.Problems.{csp_of};
 ghost use Rattle.abt_defs.specs.Steps as steps;
-ghost use Rattle.abt_view.specs.Views.{view_of, stamped_of};
-ghost use Rattle.abt_store.specs.Stores.{is_ruled_out, lowest_value, records_of};
+ghost use Rattle.abt_parts.specs.Views.{view_of, stamped_of};
+ghost use Rattle.abt_parts.specs.Stores.{is_ruled_out, lowest_value, records_of};
 ghost use Rattle.abt_agent.specs.Bodies.{owner_of, IsInStep};
 
+use abt_parts::{Recorded, StampedValue, Store, View};
 use abt_reason::Reasons;
-use abt_store::{Recorded, Store};
-use abt_view::{StampedValue, View};
-use dcsp_list::Memory;
+use dcsp_common::Memory;
 use dcsp_problem::Problem;
 use std::alloc::Global;
 

@@ -2,23 +2,22 @@
 
 ghost use Rattle.std.specs.Prelude.{◌≡◌, ◌<◌, ◌∷◌, [], ◌&&◌, OnOk, false, length, nat_lt, not, true, if◌then◌else◌};
 ghost use Rattle.std.specs.Option.{ForSome};
-ghost use Rattle.dcsp_nogood.specs.Pairs.{pair_of, value_at, IsRising as PairsRise};
-ghost use Rattle.dcsp_nogood.specs.declared.Pair.{Pair as ThePair};
+ghost use Rattle.dcsp_defs.specs.Pairs.{pair_of, value_at, IsRising as PairsRise};
+ghost use Rattle.dcsp_defs.specs.declared.nogood.Pair.{Pair as ThePair};
 ghost use Rattle.dcsp_defs.specs.Words.{In};
 ghost use Rattle.dcsp_defs.specs.Csp.{domain};
-ghost use Rattle.dcsp_problem.specs.Problems.{csp_of};
+ghost use Rattle.dcsp_rule.specs.Problems.{csp_of};
 ghost use Rattle.abt_defs.specs.Steps as steps;
-ghost use Rattle.abt_message.specs.Messages.{with_stamps};
-ghost use Rattle.abt_view.specs.Views.{view_of, stamped_of};
-ghost use Rattle.abt_store.specs.Stores.{is_ruled_out, lowest_value, record_of, records_of};
+ghost use Rattle.abt_parts.specs.Messages.{with_stamps};
+ghost use Rattle.abt_parts.specs.Views.{view_of, stamped_of};
+ghost use Rattle.abt_parts.specs.Stores.{is_ruled_out, lowest_value, record_of, records_of};
 ghost use Rattle.abt_agent.specs.Bodies.{agent_of, owner_of, AreProper, IsProper, IsSized};
 ghost use Rattle.abt_agent.specs.Outgoing.{AreStampsOf};
 
 use crate::body::Body;
-use abt_store::Recorded;
-use abt_view::StampedValue;
-use dcsp_list::Memory;
-use dcsp_nogood::{Nogood, Pair};
+use abt_parts::{Recorded, StampedValue};
+use dcsp_common::Memory;
+use dcsp_defs::{Nogood, Pair};
 
 impl<'p> Body<'p> {
     /// Takes in a value that is newer than what the view has, and forgets what disagrees with it. True

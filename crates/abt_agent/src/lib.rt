@@ -19,7 +19,7 @@ mod search;
 mod settle;
 
 pub use agent::Agent;
-pub use dcsp_list::Memory;
+pub use dcsp_common::Memory;
 pub use ngd_log::Step;
 
 /// What an agent did.

@@ -1,12 +1,12 @@
 //! Rows of marks: which agents, counted from 0, are marked.
 
-ghost use Rattle.std.specs.Prelude.{◌≡◌, ◌&&◌, ◌||◌, ◌==◌, ◌<◌, ◌≤◌, ℕ, IfSome, OnOk, false, length, nat_lt, true, unwrap_or};
+ghost use Rattle.std.specs.Prelude.{◌≡◌, ◌&&◌, ◌||◌, ◌==◌, ℕ, OnOk, false, length, nat_lt, true};
 ghost use Rattle.abt_defs.specs.Agents.{is_among};
 ghost use Rattle.abt_defs.specs.Steps.{is_named};
 ghost use Rattle.abt_agent.specs.States.{has_mark};
 
-use dcsp_list::Memory;
-use dcsp_nogood::Pair;
+use dcsp_common::Memory;
+use dcsp_defs::Pair;
 use dcsp_row::{Row, Span};
 use std::alloc::Global;
 
@@ -39,20 +39,6 @@ pub fn mark_pairs(marks: &mut Row, pairs: &[Pair])
     for pair in pairs {
         mark(marks, pair.var);
     }
-}
-
-/// The first marked place from this one on, if there is one. This one is tried first: where most are marked,
-/// no word has to be searched.
-#[inline(always)]
-pub fn next_marked(marks: &Row, from: usize) -> Option<usize>
-    ensures within { IfSome result (λ place. (from ≤ place) × (place < length marks.now)) }
-    ensures before { (k : ℕ) → from ≤ k → k < unwrap_or result (length marks.now) → has_mark marks.now k ≡ false }
-    ensures marked { IfSome result (λ place. has_mark marks.now place ≡ true) }
-{
-    if from < marks.len() && marks.has(from) {
-        return Some(from);
-    }
-    marks.next_marked(from)
 }
 
 /// Gives the row so many places, none of them marked. It takes memory only where it had another number of

@@ -1,30 +1,28 @@
 //! What a message does to an agent, and its first settling.
 
 ghost use Rattle.std.specs.Prelude.{◌≡◌, ◌<◌, ◌^◌, IfOk, OnOk, ℕ, List, Some, ℤ, length, not, ◌&&◌, ◌||◌, ◌==◌, ◌≤◌, slice_index_or};
-ghost use Rattle.dcsp_nogood.specs.Pairs.{IsRising as PairsRise};
+ghost use Rattle.dcsp_defs.specs.Pairs.{IsRising as PairsRise};
 ghost use Rattle.dcsp_defs.specs.declared.Step.{Step as TheStep};
 ghost use Rattle.dcsp_defs.specs.Words.{IsRising};
 ghost use Rattle.abt_defs.specs.Agents.{fresh, is_among, plain, Add_link, Announce, Refuse};
 ghost use Rattle.abt_defs.specs.Steps as steps;
-ghost use Rattle.dcsp_problem.specs.Problems.{csp_of};
-ghost use Rattle.abt_message.specs.Messages.{message_of, with_stamps};
-ghost use Rattle.abt_view.specs.Views.{stamped_of};
+ghost use Rattle.dcsp_rule.specs.Problems.{csp_of};
+ghost use Rattle.abt_parts.specs.Messages.{message_of, with_stamps};
+ghost use Rattle.abt_parts.specs.Views.{stamped_of};
 ghost use Rattle.abt_agent.specs.Bodies.{agent_of, owner_of, Does, DoesReceive, IsGood};
 ghost use Rattle.abt_agent.specs.Outgoing.{Posts};
 ghost use Rattle.abt_agent.specs.States.{IsFit, IsNogoodFor, IsToldBy};
 ghost use Rattle.abt_agent.specs.Turns.{IsFirstTurn};
-ghost use Rattle.law_right_steps.specs.Sources.{AreOfSteps};
+ghost use Rattle.law_agent.specs.Sources.{AreOfSteps};
 ghost use Rattle.abt_agent.specs.Rights.{BringsOfStep, IsRightTurn};
-ghost use Rattle.abt_store.specs.Stores.{records_of};
+ghost use Rattle.abt_parts.specs.Stores.{records_of};
 
 use crate::Turn;
 use crate::ask::post;
 use crate::body::Body;
-use abt_message::{Message, Outbox};
-use abt_store::Recorded;
-use abt_view::StampedValue;
-use dcsp_list::Memory;
-use dcsp_nogood::Pair;
+use abt_parts::{Message, Outbox, Recorded, StampedValue};
+use dcsp_common::Memory;
+use dcsp_defs::Pair;
 
 impl<'p> Body<'p> {
     /// Settles before anything is told, where no step's number matters.
@@ -37,8 +35,8 @@ impl<'p> Body<'p> {
         ensures first { IfOk result IsFirstTurn }
         ensures right { (made : List TheStep) → IfOk result (IsRightTurn (csp_of self.old.known.problem.now) made) }
     {
-        law_right_steps::agents_step_right();
-        let _vars = self.known.problem.vars();
+        law_agent::agents_step_right();
+        self.known.problem.denotes_csp();
         self.settle(0, out)
     }
 
@@ -58,8 +56,8 @@ impl<'p> Body<'p> {
         ensures good { OnOk result (IsGood self.new) }
         ensures right { (made : List TheStep) → AreOfSteps made (records_of self.old.known.store) → BringsOfStep made message → IfOk result (IsRightTurn (csp_of self.old.known.problem.now) made) }
     {
-        law_right_steps::agents_step_right();
-        let _vars = self.known.problem.vars();
+        law_agent::agents_step_right();
+        self.known.problem.denotes_csp();
         match message {
             Message::Tell { value, stamp } => {
                 self.receive_tell(from, StampedValue { value, stamp }, number, out)
@@ -91,7 +89,7 @@ impl<'p> Body<'p> {
         ensures owner { owner_of self.new.known ≡ owner_of self.old.known }
         ensures good { OnOk result (IsGood self.new) }
     {
-        law_invariants::agents_stay_sound();
+        law_agent::agents_stay_sound();
         if !self.learn(from, told) {
             return Ok(Turn::Quiet);
         }
@@ -114,7 +112,7 @@ impl<'p> Body<'p> {
         ensures good { OnOk result (IsGood self.new) }
         ensures rising { OnOk result (PairsRise recorded.nogood) }
     {
-        law_invariants::agents_only_learn();
+        law_agent::agents_only_learn();
         let idle = self.is_idle(recorded.nogood.pairs(), stamps);
         self.heed(recorded, stamps, out)?;
         if idle {
@@ -140,8 +138,8 @@ impl<'p> Body<'p> {
         ensures owner { owner_of self.new.known ≡ owner_of self.old.known }
         ensures good { OnOk result (IsGood self.new) }
     {
-        law_invariants::agents_only_learn();
-        law_invariants::agents_stay_sound();
+        law_agent::agents_only_learn();
+        law_agent::agents_stay_sound();
         self.ask(recorded.nogood.pairs(), out)?;
         let fits = self.learn_all(recorded.nogood.pairs(), stamps);
         self.keep(recorded, fits)?;
@@ -156,7 +154,7 @@ impl<'p> Body<'p> {
         ensures owner { owner_of self.new.known ≡ owner_of self.old.known }
         ensures good { OnOk result (IsGood self.new) }
     {
-        law_invariants::agents_stay_sound();
+        law_agent::agents_stay_sound();
         self.answer_link(from, out)
     }
 

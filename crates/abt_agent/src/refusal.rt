@@ -4,23 +4,21 @@ ghost use Rattle.std.specs.Prelude.{◌≡◌, ◌<◌, ◌∷◌, ◌++◌, [],
 ghost use Rattle.std.specs.Option.{ForSome};
 ghost use Rattle.dcsp_defs.specs.Words.{below};
 ghost use Rattle.abt_defs.specs.Reasons.{derived, pair_at, step_of};
-ghost use Rattle.dcsp_problem.specs.Problems.{csp_of};
-ghost use Rattle.abt_message.specs.Messages.{with_stamps};
-ghost use Rattle.abt_store.specs.Stores.{records_of};
-ghost use Rattle.abt_view.specs.Views.{stamped_in, view_of};
+ghost use Rattle.dcsp_rule.specs.Problems.{csp_of};
+ghost use Rattle.abt_parts.specs.Messages.{with_stamps};
+ghost use Rattle.abt_parts.specs.Stores.{records_of};
+ghost use Rattle.abt_parts.specs.Views.{stamped_in, view_of};
 ghost use Rattle.abt_agent.specs.Bodies.{AreProper, IsInStep};
 ghost use Rattle.abt_agent.specs.Outgoing.{ArePositive, AreStampsOf, IsStampedView};
 ghost use Rattle.abt_agent.specs.States.{has_mark};
 ghost use Rattle.abt_agent.specs.Causes.{all_causes, blames, blames_one, reasons_at, item_at, told_of, IsCause};
 
 use crate::knowledge::Knowledge;
-use crate::marks::{make_blank, mark_pairs, mark_variables, next_marked};
+use crate::marks::{make_blank, mark_pairs, mark_variables};
 use crate::search::Cause;
-use abt_message::StampList;
-use abt_view::StampedValue;
-use dcsp_defs::{Reason, ReasonList};
-use dcsp_list::Memory;
-use dcsp_nogood::{Nogood, Pair};
+use abt_parts::{StampList, StampedValue};
+use dcsp_common::Memory;
+use dcsp_defs::{Nogood, Pair, Reason, ReasonList};
 use dcsp_row::Row;
 use ngd_log::Step;
 use std::alloc::Global;
@@ -128,7 +126,7 @@ impl<'p> Knowledge<'p> {
             return Err(Memory);
         };
         let mut from = 0;
-        while let Some(agent) = next_marked(marks, from) {
+        while let Some(agent) = marks.next_marked(from) {
             let var = agent as u32;
             add_told(&mut pairs, &mut stamps, var, self.stamped_value(var))?;
             from = agent + 1;

@@ -3,10 +3,10 @@
 ghost use Rattle.std.specs.Prelude.{◌≡◌, ◌<◌, is_some, length, not};
 ghost use Rattle.dcsp_defs.specs.Csp.{domain};
 ghost use Rattle.abt_defs.specs.Agents.{values_in};
-ghost use Rattle.dcsp_problem.specs.Problems.{csp_of};
-ghost use Rattle.abt_view.specs.Views.{view_of};
+ghost use Rattle.dcsp_rule.specs.Problems.{csp_of};
+ghost use Rattle.abt_parts.specs.Views.{view_of};
 ghost use Rattle.abt_reason.specs.Causes.{value_at};
-ghost use Rattle.abt_store.specs.Stores.{IsOncePerValue};
+ghost use Rattle.abt_parts.specs.Stores.{IsOncePerValue};
 ghost use Rattle.abt_agent.specs.Bodies.{AreProper, IsInStep};
 ghost use Rattle.abt_agent.specs.Causes.{first_against, least_free, cause_for};
 

@@ -4,8 +4,8 @@ ghost use Rattle.std.specs.Prelude.{◌≡◌, ◌<◌, ◌^◌, IfOk, None, OnO
 ghost use Rattle.dcsp_defs.specs.Words.{In};
 ghost use Rattle.abt_defs.specs.Agents.{Announce};
 ghost use Rattle.abt_defs.specs.Steps as steps;
-ghost use Rattle.dcsp_problem.specs.Problems.{csp_of};
-ghost use Rattle.abt_view.specs.Views.{stamped_of};
+ghost use Rattle.dcsp_rule.specs.Problems.{csp_of};
+ghost use Rattle.abt_parts.specs.Views.{stamped_of};
 ghost use Rattle.abt_agent.specs.Bodies.{agent_of, owner_of, Does, IsGood, IsSized};
 ghost use Rattle.abt_agent.specs.Outgoing.{Posts};
 
@@ -13,9 +13,8 @@ use crate::Turn;
 use crate::ask::post;
 use crate::body::Body;
 use crate::refusal::Refusal;
-use abt_message::{Message, Outbox};
-use abt_view::StampedValue;
-use dcsp_list::Memory;
+use abt_parts::{Message, Outbox, StampedValue};
+use dcsp_common::Memory;
 
 /// Tells the value to each of the agents, in order.
 fn tell_all(tells: &[u32], told: StampedValue, out: &mut Outbox) -> Result<(), Memory>
@@ -125,7 +124,7 @@ impl<'p> Body<'p> {
         ensures owner { owner_of self.new.known ≡ owner_of self.old.known }
         ensures good { OnOk result (IsGood self.new) }
     {
-        law_invariants::agents_stay_sound();
+        law_agent::agents_stay_sound();
         self.keep_or_change(number, out)
     }
 }

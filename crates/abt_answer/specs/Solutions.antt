@@ -2,12 +2,12 @@
 use Rattle.std.specs.Prelude.{ℕ, ℤ, List, [], ◌∷◌, ◌++◌, Bool, length, map, flat_map, codes, decimal, if◌then◌else◌}
 use Rattle.std.specs.Fmt.{signed_decimal}
 use Rattle.dcsp_meaning.specs.Words.{is_one}
-use Rattle.dcsp_problem.specs.declared.rule.Term.{Term}
-use Rattle.dcsp_problem.specs.declared.output.Output.{Output}
-use Rattle.dcsp_problem.specs.declared.output.Shape.{Shape}
-use Rattle.dcsp_problem.specs.declared.output.Shape.TheVariants.{One, Ranges}
-use Rattle.dcsp_problem.specs.Rules.{value_under}
-use Rattle.dcsp_problem.specs.Problems.{Contents}
+use Rattle.dcsp_rule.specs.declared.rule.Term.{Term}
+use Rattle.dcsp_rule.specs.declared.output.Output.{Output}
+use Rattle.dcsp_rule.specs.declared.output.Shape.{Shape}
+use Rattle.dcsp_rule.specs.declared.output.Shape.TheVariants.{One, Ranges}
+use Rattle.dcsp_rule.specs.Rules.{value_under}
+use Rattle.dcsp_rule.specs.Problems.{Contents}
 
 -- a value: a number, or a truth, which is true exactly where it is 1
 abbrev pub value_text : Bool → ℤ → List ℕ

@@ -5,16 +5,14 @@
 #![tactic(auto)]
 
 ghost use Rattle.std.specs.Prelude.{◌≡◌, ℕ, ℤ, pos, ◌<◌, ◌≤◌, ◌++◌, length, All, map, flat_map, codes, decimal, slice_index_or, IfOk, OnOk, IsErrOf};
-ghost use Rattle.std.specs.Fmt.{signed_decimal};
-ghost use Rattle.dcsp_problem.specs.Rules.{IsTermOf, value_under};
+ghost use Rattle.dcsp_rule.specs.Rules.{IsTermOf, value_under};
 ghost use Rattle.dcsp_problem.specs.Outputs.{IsOutputOf};
 ghost use Rattle.dcsp_outside.specs.Outside.{AddsPartOf, Rose, Told, UnlessPutFailed};
 ghost use Rattle.abt_answer.specs.Solutions.{value_text, values_text, range_text, laid_out, output_line, solution_text};
 
-use dcsp_list::Memory;
+use dcsp_common::{Memory, push_number, push_signed};
 use dcsp_outside::{Sink, SinkError};
 use dcsp_problem::{Output, Problem, Shape, Term};
-use itoa::Buffer;
 use std::alloc::{AllocError, Global};
 
 /// Puts the text of a solution, the values in the order of the variables, as one piece. It is refused as
@@ -104,7 +102,7 @@ fn push_ranges(ranges: &[(i64, i64)], into: &mut Vec<u8>) -> Result<(), AllocErr
     ensures { OnOk result (into.new.items ≡ into.old.items ++ (codes "array" ++ decimal (length ranges.now) ++ codes "d(" ++ flat_map range_text ranges.now ++ codes "[")) }
 {
     into.extend_from_slice(b"array")?;
-    into.extend_from_slice(Buffer::new().format(ranges.len()).as_bytes())?;
+    push_number(into, ranges.len() as u64)?;
     into.extend_from_slice(b"d(")?;
     for range in ranges {
         push_range(*range, into)?;
@@ -115,16 +113,10 @@ fn push_ranges(ranges: &[(i64, i64)], into: &mut Vec<u8>) -> Result<(), AllocErr
 fn push_range(range: (i64, i64), into: &mut Vec<u8>) -> Result<(), AllocError>
     ensures { OnOk result (into.new.items ≡ into.old.items ++ range_text range) }
 {
-    push_number(range.0, into)?;
+    push_signed(into, range.0)?;
     into.extend_from_slice(b"..")?;
-    push_number(range.1, into)?;
+    push_signed(into, range.1)?;
     into.extend_from_slice(b", ")
-}
-
-fn push_number(value: i64, into: &mut Vec<u8>) -> Result<(), AllocError>
-    ensures { OnOk result (into.new.items ≡ into.old.items ++ signed_decimal value) }
-{
-    into.extend_from_slice(Buffer::new().format(value).as_bytes())
 }
 
 fn push_values(output: &Output, values: &[i64], into: &mut Vec<u8>) -> Result<(), AllocError>
@@ -171,7 +163,7 @@ fn push_value(boolean: bool, value: i64, into: &mut Vec<u8>) -> Result<(), Alloc
     ensures { OnOk result (into.new.items ≡ into.old.items ++ value_text boolean value) }
 {
     if !boolean {
-        return push_number(value, into);
+        return push_signed(into, value);
     }
     if value == 1 {
         return into.extend_from_slice(b"true");

@@ -6,7 +6,7 @@ use Rattle.dcsp_defs.specs.Words.{sum_below}
 use Rattle.dcsp_defs.specs.Csp.{Csp, Constraint, domain, count}
 use Rattle.abt_defs.specs.Agents.{shares}
 use Rattle.abt_defs.specs.Bound.{product_below, unlinked_pairs, message_bound}
-use Rattle.law_message_bound.proofs.Sums.{sum-le}
+use Rattle.law_runs.proofs.Sums.{sum-le}
 
 -- no domain is longer than it was
 pub record AreNoLonger (new old : List (List ℤ)) : Type 0 where

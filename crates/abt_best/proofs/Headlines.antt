@@ -20,8 +20,8 @@ use Rattle.abt_run.proofs.Scripts.{record_puts, record_leaves, record_holds}
 use Rattle.abt_optimum.specs.declared.round.Round.{Round}
 use Rattle.abt_optimum.specs.Rounds.{most_rounds, most_rounds_at}
 use Rattle.abt_optimum.specs.Searches.{SearchState}
-use Rattle.dcsp_problem.specs.Problems.{Contents}
-use Rattle.dcsp_problem.specs.Aims.{aimed_at}
+use Rattle.dcsp_rule.specs.Problems.{Contents}
+use Rattle.dcsp_rule.specs.Aims.{aimed_at}
 use Rattle.abt_best.specs.Searching.{AskedSearch, search_after, whole_search, round_count, session_after, run_after, first_run, last_run}
 use Rattle.abt_best.specs.BestAnswers.{answer_text, search_status}
 use Rattle.abt_best.specs.SearchScripts.{line_script, round_script, rounds_script, ending_script, search_script}

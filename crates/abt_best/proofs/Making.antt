@@ -7,14 +7,14 @@ use Rattle.dcsp_script.specs.declared.stop.Stop.{Stop}
 use Rattle.dcsp_script.specs.Scripts.{World, Put}
 use Rattle.dcsp_script.specs.Ways.{Wrote}
 use Rattle.dcsp_defs.specs.Csp.{Csp}
-use Rattle.dcsp_problem.specs.Problems.{Contents, csp_of}
+use Rattle.dcsp_rule.specs.Problems.{Contents, csp_of}
 use Rattle.dcsp_problem.specs.WellFormed.{IsProblem}
-use Rattle.dcsp_problem.specs.Aims.{narrowed}
+use Rattle.dcsp_rule.specs.Aims.{narrowed}
 use Rattle.abt_defs.specs.Network.{Network}
 use Rattle.abt_defs.specs.Runs as runs
 use Rattle.abt_defs.specs.Runs.{Run}
-use Rattle.law_replay.specs.Replay.{Verdicts}
-use Rattle.law_replay.proofs.Stopping.{stops}
+use Rattle.law_runs.specs.Replay.{Verdicts}
+use Rattle.law_runs.proofs.Stopping.{stops}
 use Rattle.abt_session.specs.Sessions.{Session, run_of}
 use Rattle.abt_session.specs.Running.{kept, IsEnd, Gives}
 use Rattle.abt_session.specs.declared.outcome.End.{End}

@@ -4,9 +4,9 @@ use Rattle.std.specs.Prelude.{slice_set, slice_index_or}
 use Rattle.std.proofs.lemmas.List.{length-set}
 use Rattle.dcsp_domain.proofs.Domains.{length_filter}
 use Rattle.dcsp_defs.specs.Csp.{Csp, IsCsp}
-use Rattle.dcsp_problem.specs.Problems.{Contents, constraint_of, csp_of}
+use Rattle.dcsp_rule.specs.Problems.{Contents, constraint_of, csp_of}
 use Rattle.dcsp_problem.specs.WellFormed.{IsProblem}
-use Rattle.dcsp_problem.specs.Aims.{aimed_at, is_better, narrowed_domains, narrowed_at, narrowed}
+use Rattle.dcsp_rule.specs.Aims.{aimed_at, is_better, narrowed_domains, narrowed_at, narrowed}
 use Rattle.dcsp_problem.proofs.Narrowed.{is_problem_narrowed, aimed_below}
 use Rattle.abt_defs.specs.Bound.{message_bound}
 use Rattle.abt_optimum.specs.Rounds.{round_problem}

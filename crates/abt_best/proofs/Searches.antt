@@ -2,17 +2,17 @@
 use Rattle.std.proofs.Common.{◌≡◌, ◌≢◌, ◌∙◌, ℕ, zero, suc, ◌+◌, ◌-◌, ◌<◌, ◌≤◌, ℤ, pos, Bool, true, false, List, [], ◌∷◌, length, map, Option, Some, None, refl, sym, ap, subst, arith}
 use Rattle.dcsp_defs.specs.Csp.{Csp, IsCsp, count}
 use Rattle.dcsp_defs.specs.Words.{below}
-use Rattle.dcsp_problem.specs.declared.aim.Aim.TheVariants.{Satisfy}
-use Rattle.dcsp_problem.specs.Rules.{IsAimOf}
-use Rattle.dcsp_problem.specs.Problems.{Contents, csp_of}
+use Rattle.dcsp_rule.specs.declared.aim.Aim.TheVariants.{Satisfy}
+use Rattle.dcsp_rule.specs.Rules.{IsAimOf}
+use Rattle.dcsp_rule.specs.Problems.{Contents, csp_of}
 use Rattle.dcsp_problem.specs.WellFormed.{IsProblem}
 use Rattle.dcsp_problem.proofs.WellFormed.{is_csp}
 use Rattle.dcsp_problem.proofs.OwnerLists.{length-map_below, get_or-map_below}
 use Rattle.abt_defs.specs.Network.{values}
 use Rattle.abt_defs.specs.Runs as runs
 use Rattle.abt_defs.specs.Runs.{Run}
-use Rattle.law_replay.specs.Replay.{Verdicts}
-use Rattle.law_replay.proofs.Whole.{verdicts}
+use Rattle.law_runs.specs.Replay.{Verdicts}
+use Rattle.law_runs.proofs.Whole.{verdicts}
 use Rattle.abt_run.specs.Endings.{assigned, final_values}
 use Rattle.abt_run.specs.Asked.{most_deliveries}
 use Rattle.abt_run.proofs.Verdicts.{same_solution}

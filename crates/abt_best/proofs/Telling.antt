@@ -5,8 +5,8 @@ use Rattle.dcsp_script.specs.declared.stop.Stop.{Stop}
 use Rattle.dcsp_script.specs.Scripts.{Write, Put, World}
 use Rattle.dcsp_script.specs.Ways.{Wrote}
 use Rattle.dcsp_script.proofs.Lines.{then_rest, then_stopped}
-use Rattle.dcsp_problem.specs.declared.aim.Aim.TheVariants.{Satisfy}
-use Rattle.dcsp_problem.specs.Problems.{Contents}
+use Rattle.dcsp_rule.specs.declared.aim.Aim.TheVariants.{Satisfy}
+use Rattle.dcsp_rule.specs.Problems.{Contents}
 use Rattle.dcsp_problem.specs.WellFormed.{IsProblem}
 use Rattle.abt_session.specs.Running.{kept}
 use Rattle.abt_session.proofs.Pieces.{wrote_as, stopped_so}

@@ -7,9 +7,9 @@ use Rattle.dcsp_script.specs.Scripts.{World}
 use Rattle.dcsp_script.specs.Ways.{Did, Wrote}
 use Rattle.dcsp_script.proofs.Ways.{did_nothing, did_both, then_wrote}
 use Rattle.dcsp_script.proofs.Lines.{then_stopped}
-use Rattle.dcsp_problem.specs.Problems.{Contents}
+use Rattle.dcsp_rule.specs.Problems.{Contents}
 use Rattle.dcsp_problem.specs.WellFormed.{IsProblem}
-use Rattle.dcsp_problem.specs.Aims.{aimed_at}
+use Rattle.dcsp_rule.specs.Aims.{aimed_at}
 use Rattle.abt_session.proofs.Pieces.{wrote_as}
 use Rattle.abt_optimum.specs.Rounds.{most_rounds, most_rounds_at}
 use Rattle.abt_optimum.specs.Searches.{SearchState}

@@ -4,15 +4,15 @@ use Rattle.std.specs.Prelude.{◌↔◌, is_some, is_none, IsSome, IfSome}
 use Rattle.std.specs.Option.{option_map_or}
 use Rattle.dcsp_defs.specs.Csp.{Csp, HasNoSolution}
 use Rattle.dcsp_defs.specs.Derivation.{IsRefutation}
-use Rattle.dcsp_problem.specs.declared.aim.Aim.{Aim}
-use Rattle.dcsp_problem.specs.declared.aim.Aim.TheVariants.{Satisfy}
-use Rattle.dcsp_problem.specs.Problems.{Contents, csp_of}
+use Rattle.dcsp_rule.specs.declared.aim.Aim.{Aim}
+use Rattle.dcsp_rule.specs.declared.aim.Aim.TheVariants.{Satisfy}
+use Rattle.dcsp_rule.specs.Problems.{Contents, csp_of}
 use Rattle.dcsp_problem.specs.WellFormed.{IsProblem}
-use Rattle.dcsp_problem.specs.Aims.{aimed_at, narrowed}
+use Rattle.dcsp_rule.specs.Aims.{aimed_at, narrowed}
 use Rattle.abt_defs.specs.Bound.{message_bound}
 use Rattle.abt_defs.specs.Runs as runs
 use Rattle.abt_defs.specs.Runs.{Run}
-use Rattle.law_replay.specs.Stops.{IsOpen}
+use Rattle.law_runs.specs.Stops.{IsOpen}
 use Rattle.abt_promise.specs.declared.status.Status.{Status}
 use Rattle.abt_promise.specs.declared.status.Status.TheVariants.{Good, No, Unfinished}
 use Rattle.abt_session.specs.Sessions.{run_of}

@@ -1,7 +1,7 @@
 -- What is printed of a search that is over, and its status.
 use Rattle.std.specs.Prelude.{ℕ, ℤ, Bool, true, false, List, ◌++◌, length, codes, decimal, Option, Some, None}
 use Rattle.std.specs.Option.{option_map_or}
-use Rattle.dcsp_problem.specs.Problems.{Contents}
+use Rattle.dcsp_rule.specs.Problems.{Contents}
 use Rattle.abt_answer.specs.Solutions.{solution_text}
 use Rattle.abt_promise.specs.declared.status.Status.{Status}
 use Rattle.abt_promise.specs.declared.status.Status.TheVariants.{Good, No, Unfinished}

@@ -6,12 +6,12 @@ use Rattle.dcsp_script.specs.Ways.{Did}
 use Rattle.dcsp_script.specs.Texts.{HoldsPartOf}
 use Rattle.dcsp_defs.specs.Csp.{HasNoSolution}
 use Rattle.dcsp_defs.specs.Derivation.{IsRefutation}
-use Rattle.dcsp_problem.specs.Problems.{Contents, csp_of}
-use Rattle.dcsp_problem.specs.Aims.{aimed_at, narrowed}
+use Rattle.dcsp_rule.specs.Problems.{Contents, csp_of}
+use Rattle.dcsp_rule.specs.Aims.{aimed_at, narrowed}
 use Rattle.ngd_log.specs.Logs.{log_text}
 use Rattle.abt_defs.specs.Bound.{message_bound}
 use Rattle.abt_defs.specs.Runs as runs
-use Rattle.law_replay.specs.Stops.{IsOpen}
+use Rattle.law_runs.specs.Stops.{IsOpen}
 use Rattle.abt_schedule.specs.Schedules.{schedule_text}
 use Rattle.abt_session.specs.Order.{trace_text, WritesInOrder}
 use Rattle.abt_promise.specs.declared.status.Status.{Status}

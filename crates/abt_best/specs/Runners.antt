@@ -1,7 +1,7 @@
 -- A search on its way, and what its code tells of it.
 use Rattle.std.specs.Prelude.{◌≡◌, ℕ, zero, suc, Bool, List, [], ◌++◌, length, Option, Some, None, is_some, ⊤}
-use Rattle.dcsp_problem.specs.Problems.{Contents, csp_of}
-use Rattle.law_replay.specs.Replay.{Verdicts}
+use Rattle.dcsp_rule.specs.Problems.{Contents, csp_of}
+use Rattle.law_runs.specs.Replay.{Verdicts}
 use Rattle.abt_session.specs.Sessions.{Session, run_of}
 use Rattle.abt_session.specs.Running.{kept, Gives}
 use Rattle.abt_session.specs.declared.outcome.Outcome.{Outcome}

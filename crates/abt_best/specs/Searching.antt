@@ -1,7 +1,7 @@
 -- The searches that `solve` makes where a model has an aim: rounds, each of which is a run from the same seed.
 use Rattle.std.specs.Prelude.{ℕ, zero, suc, ◌-◌, Bool, List, [], ◌∷◌, ◌++◌, length, Option, None, if◌then◌else◌}
 use Rattle.dcsp_defs.specs.Words.{sum_below}
-use Rattle.dcsp_problem.specs.Problems.{Contents}
+use Rattle.dcsp_rule.specs.Problems.{Contents}
 use Rattle.abt_defs.specs.Runs as runs
 use Rattle.abt_defs.specs.Runs.{Run}
 use Rattle.abt_session.specs.declared.outcome.End as outcomes

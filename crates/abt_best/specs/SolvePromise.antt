@@ -1,9 +1,9 @@
 -- What `solve MODEL LOG [--seed N] [--record FILE] [--trace]` promises.
 use Rattle.std.specs.Prelude.{ℕ, Bool, List, [], ◌∷◌, Option, IfSome}
 use Rattle.dcsp_outside.specs.Outside.{bytes_of}
-use Rattle.dcsp_problem.specs.declared.aim.Aim.{Aim}
-use Rattle.dcsp_problem.specs.declared.aim.Aim.TheVariants.{Satisfy, Least, Greatest}
-use Rattle.dcsp_problem.specs.Problems.{Contents}
+use Rattle.dcsp_rule.specs.declared.aim.Aim.{Aim}
+use Rattle.dcsp_rule.specs.declared.aim.Aim.TheVariants.{Satisfy, Least, Greatest}
+use Rattle.dcsp_rule.specs.Problems.{Contents}
 use Rattle.dcsp_problem.specs.WellFormed.{IsProblem}
 use Rattle.abt_promise.specs.Promises.{Promise}
 use Rattle.abt_input.specs.Inputs.{IsModelOf}

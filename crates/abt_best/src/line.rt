@@ -38,7 +38,7 @@ pub fn run_solve<F: Folder, S: Sink>(
     ensures whole { IfOk result (λ status. HoldsWholeProblem (F.place folder.old).held line.entry.model.now) }
 {
     let problem = read_model(alloc, folder, line.model)?;
-    let _vars = problem.vars();
+    problem.denotes_csp();
     problems_are_small(&problem);
     let Aim::Satisfy = problem.aim() else {
         let status = run_search(alloc, &problem, line, folder, out)?;
@@ -61,7 +61,7 @@ fn run_search<F: Folder, S: Sink>(
         (outside (F.place folder.old) (S.stream out.old)) (outside (F.place folder.new) (S.stream out.new)) result }
     ensures status { IfOk result (λ status. status ≡ search_status (best_search problem.now line.entry.seed line.entry.log.now (option_copied line.entry.kept) line.entry.trace)) }
 {
-    let _vars = problem.vars();
+    problem.denotes_csp();
     let mut runner = Runner::new(alloc, problem)?;
     runner.run(alloc, problem, line, folder, out)?;
     write_record(alloc, folder, line.kept, runner.taken.choices())?;

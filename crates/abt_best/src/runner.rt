@@ -2,11 +2,11 @@
 
 ghost use Rattle.std.specs.Prelude.{◌≡◌, ◌≢◌, ◌<◌, ◌+◌, ◌^◌, ◌++◌, ◌&&◌, ◌==◌, [], false, true, length, IfOk, OnOk, OnErr, Err, is_some, option_copied};
 ghost use Rattle.dcsp_outside.specs.Outside.{Place, Stream};
-ghost use Rattle.dcsp_problem.specs.Problems.{csp_of};
+ghost use Rattle.dcsp_rule.specs.Problems.{csp_of};
 ghost use Rattle.dcsp_problem.specs.WellFormed.{IsProblem};
 ghost use Rattle.dcsp_script.specs.Scripts.{outside};
 ghost use Rattle.dcsp_script.specs.Ways.{Wrote};
-ghost use Rattle.law_replay.specs.Replay.{Verdicts};
+ghost use Rattle.law_runs.specs.Replay.{Verdicts};
 ghost use Rattle.abt_session.specs.Sessions.{run_of, run_script};
 ghost use Rattle.abt_session.specs.Running.{kept, Gives};
 ghost use Rattle.abt_run.specs.Asked.{most_deliveries, seeded_session};
@@ -80,7 +80,7 @@ impl<'p> Runner<'p> {
         ensures made { let asked = best_search problem.now line.entry.seed line.entry.log.now (option_copied line.entry.kept) line.entry.trace in
             OnOk result (HasMade asked (round_count asked) self.new) }
     {
-        let _vars = problem.vars();
+        problem.denotes_csp();
         while !self.search.done() {
             self.make_round(alloc, problem, line, folder, out)?;
         }

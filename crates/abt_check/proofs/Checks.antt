@@ -2,7 +2,7 @@
 use Rattle.std.proofs.Common.{◌≡◌, ℕ, List, Option, Some, None, refl, subst}
 use Rattle.dcsp_defs.specs.Csp.{HasNoSolution}
 use Rattle.dcsp_outside.specs.Outside.{bytes_of}
-use Rattle.dcsp_problem.specs.Problems.{Contents, csp_of}
+use Rattle.dcsp_rule.specs.Problems.{Contents, csp_of}
 use Rattle.ngd_check.specs.declared.Finding.{Finding}
 use Rattle.ngd_check.specs.declared.Finding.TheVariants.{Verified, BadStep, BadDeletion, NotEmpty}
 use Rattle.abt_promise.specs.declared.status.Status.TheVariants.{Good}

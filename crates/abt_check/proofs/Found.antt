@@ -5,7 +5,7 @@ use Rattle.dcsp_outside.specs.declared.folder.Piece.{Piece}
 use Rattle.dcsp_outside.specs.Outside.{Place, SameCounts, Rose}
 use Rattle.dcsp_script.specs.declared.stop.Stop.{Stop}
 use Rattle.dcsp_script.specs.declared.stop.Stop.TheVariants as stops
-use Rattle.dcsp_problem.specs.Problems.{Contents}
+use Rattle.dcsp_rule.specs.Problems.{Contents}
 use Rattle.ngd_check.specs.declared.Finding.{Finding}
 use Rattle.ngd_check.specs.Entries.{steps_of}
 use Rattle.ngd_log.proofs.GoodEntries.{good_lines}

@@ -1,13 +1,13 @@
 -- The two kinds of files are exact, and the promise of the line is lawful.
 use Rattle.std.proofs.Common.{◌≡◌, ℕ, ℤ, Option, List, [], ◌∷◌, refl, ap, subst, ◌∙◌, sym}
 use Rattle.dcsp_defs.specs.declared.Step.{Step}
-use Rattle.dcsp_problem.specs.Problems.{Contents, csp_of}
+use Rattle.dcsp_rule.specs.Problems.{Contents, csp_of}
 use Rattle.ngd_check.specs.declared.Finding.{Finding}
 use Rattle.ngd_check.specs.declared.Finding.TheVariants.{Verified, BadStep, BadDeletion, NotEmpty}
 use Rattle.ngd_check.specs.Findings.{IsFindingOf}
 use Rattle.ngd_check.specs.Entries.{steps_of}
 use Rattle.ngd_check.proofs.Once.{one_finding_of}
-use Rattle.ngd_log.specs.declared.entry.Entry.{Entry}
+use Rattle.dcsp_defs.specs.declared.entry.Entry.{Entry}
 use Rattle.ngd_log.proofs.EntryLaws.{entries_or_bad_line}
 use Rattle.abt_promise.specs.Statuses.{IsFinal, IsRefusal}
 use Rattle.abt_promise.specs.Clauses.{IsLawful}

@@ -8,8 +8,8 @@ use Rattle.dcsp_outside.specs.Handed.{Handed, PartOf, EndOf}
 use Rattle.dcsp_outside.specs.Outside.{Place, IsPrefixOf, FetchesPiece, AddsPiece, gained, handed_piece, bytes_of}
 use Rattle.dcsp_outside.specs.declared.folder.Piece.{Piece}
 use Rattle.dcsp_outside.specs.declared.folder.Piece.TheVariants.{Part, End}
-use Rattle.ngd_log.specs.declared.entry.Entry.{Entry}
-use Rattle.ngd_log.specs.declared.entry.Entry.TheVariants.{Step as A_step, Delete}
+use Rattle.dcsp_defs.specs.declared.entry.Entry.{Entry}
+use Rattle.dcsp_defs.specs.declared.entry.Entry.TheVariants.{Step as A_step, Delete}
 use Rattle.ngd_log.specs.EntryReading.{good_entries}
 use Rattle.ngd_log.specs.Pieces.{IsFed, TakesFront, Completes}
 use Rattle.ngd_check.specs.Entries.{steps_of}

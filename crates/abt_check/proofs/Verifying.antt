@@ -4,7 +4,7 @@ use Rattle.std.specs.List.{concat}
 use Rattle.dcsp_outside.specs.Outside.{bytes_of}
 use Rattle.dcsp_defs.specs.declared.Step.{Step}
 use Rattle.dcsp_defs.specs.Derivation.{IsRefutation}
-use Rattle.dcsp_problem.specs.Problems.{Contents, csp_of}
+use Rattle.dcsp_rule.specs.Problems.{Contents, csp_of}
 use Rattle.dcsp_script.specs.Scripts.{Put}
 use Rattle.ngd_log.specs.declared.standing.Version.TheVariants.{One}
 use Rattle.ngd_log.specs.StepText.{step_line}

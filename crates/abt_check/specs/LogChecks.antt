@@ -5,7 +5,7 @@ use Rattle.dcsp_outside.specs.declared.folder.Piece.{Piece}
 use Rattle.dcsp_outside.specs.declared.folder.Piece.TheVariants.{Part, End}
 use Rattle.dcsp_script.specs.declared.stop.Stop.{Stop}
 use Rattle.dcsp_script.specs.declared.stop.Stop.TheVariants as stops
-use Rattle.ngd_log.specs.declared.entry.Entry.{Entry}
+use Rattle.dcsp_defs.specs.declared.entry.Entry.{Entry}
 use Rattle.ngd_log.specs.EntryReading.{good_entries}
 use Rattle.ngd_log.specs.Pieces.{IsFed}
 use Rattle.ngd_check.specs.Entries.{steps_of}
@@ -14,7 +14,7 @@ use Rattle.dcsp_outside.specs.Handed.{Handed}
 use Rattle.abt_promise.specs.Promises.{TellOf, AreBytesOf}
 use Rattle.abt_input.specs.Kinds.{Kind}
 use Rattle.abt_input.specs.Inputs.{most_log}
-use Rattle.dcsp_problem.specs.Problems.{Contents, csp_of}
+use Rattle.dcsp_rule.specs.Problems.{Contents, csp_of}
 use Rattle.ngd_check.specs.Findings.{IsFindingOf}
 use Rattle.abt_check.specs.declared.log_check.LogCheck.{LogCheck}
 use Rattle.abt_check.specs.declared.log_check.Checked.{Checked}

@@ -1,9 +1,9 @@
 -- The problem that a log is checked against: the model's; or where a bound is given, the one that only solutions with a better value solve.
 use Rattle.std.specs.Prelude.{◌≡◌, ℕ, ℤ, List, length, Option, Some, None, IsSome, Result, Ok, Err, ⊤}
 use Rattle.dcsp_problem.specs.declared.problem.Problem.{Problem}
-use Rattle.dcsp_problem.specs.Problems.{Contents}
-use Rattle.dcsp_problem.specs.Rules.{IsAimOf}
-use Rattle.dcsp_problem.specs.Aims.{aimed_at, narrowed}
+use Rattle.dcsp_rule.specs.Problems.{Contents}
+use Rattle.dcsp_rule.specs.Rules.{IsAimOf}
+use Rattle.dcsp_rule.specs.Aims.{aimed_at, narrowed}
 use Rattle.abt_input.specs.Inputs.{IsModelOf}
 use Rattle.abt_input.specs.Errors.{IsErrorOfModel}
 use Rattle.abt_input.specs.Kinds.{Kind}

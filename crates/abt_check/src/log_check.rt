@@ -2,7 +2,7 @@
 
 ghost use Rattle.std.specs.Prelude.{◌≡◌, ℕ, ◌+◌, ◌++◌, ◌∷◌, [], ◌^◌, ◌≤◌, true, List, length, Some, OnOk, Ok, Err};
 ghost use Rattle.dcsp_defs.specs.Csp.{HasNoSolution};
-ghost use Rattle.dcsp_problem.specs.Problems.{csp_of};
+ghost use Rattle.dcsp_rule.specs.Problems.{csp_of};
 ghost use Rattle.ngd_log.specs.Lent.{lent_entries};
 ghost use Rattle.ngd_check.specs.Entries.{steps_of};
 ghost use Rattle.abt_input.specs.Inputs.{most_log};
@@ -11,7 +11,7 @@ ghost use Rattle.abt_check.specs.Checks.{log_for};
 ghost use Rattle.abt_check.specs.LogChecks.{HasSameTask, HasGoneOn, HasCome};
 
 use abt_input::CommandError;
-use dcsp_list::Memory;
+use dcsp_common::Memory;
 use dcsp_problem::Problem;
 use ngd_check::{Checker, Finding};
 use ngd_log::{Derivation, Lent, LogError, LogReader, Step};

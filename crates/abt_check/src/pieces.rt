@@ -5,7 +5,7 @@ ghost use Rattle.dcsp_outside.specs.Handed.{Handed};
 ghost use Rattle.dcsp_outside.specs.Outside.{Rose, SameCounts};
 ghost use Rattle.dcsp_script.specs.declared.stop.Stop.{Stop as AStop};
 ghost use Rattle.dcsp_defs.specs.Csp.{HasNoSolution};
-ghost use Rattle.dcsp_problem.specs.Problems.{csp_of};
+ghost use Rattle.dcsp_rule.specs.Problems.{csp_of};
 ghost use Rattle.abt_input.specs.Files.{HasRead};
 ghost use Rattle.abt_check.specs.Checks.{log_for};
 ghost use Rattle.abt_check.specs.LogChecks.{HasSameTask, HasCome, StandsAt, LeadsOn, LeadsToEnd, UnlessFaulted, kept_log};

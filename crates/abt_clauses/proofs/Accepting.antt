@@ -7,8 +7,8 @@ use Rattle.std.proofs.lemmas.List.{take-map, length-map, get_or-map}
 use Rattle.std.proofs.lemmas.List.Elements.{All-contains, Contains-append_left, Contains-append_right, Contains-append_cases}
 use Rattle.std.proofs.lemmas.Option.{slice_get_within, get_or_from_slice_get}
 use Rattle.dcsp_meaning.specs.Words.{is_one}
-use Rattle.dcsp_nogood.specs.declared.Pair.{Pair}
-use Rattle.dcsp_nogood.specs.Pairs.{value_at, pair_of}
+use Rattle.dcsp_defs.specs.declared.nogood.Pair.{Pair}
+use Rattle.dcsp_defs.specs.Pairs.{value_at, pair_of}
 use Rattle.dcsp_defs.specs.Words.{In, is_value}
 use Rattle.dcsp_defs.specs.Csp.{Constraint, Nogood, PartialAssignment, is_violated, filled, given_with, domain}
 use Rattle.dcsp_defs.specs.declared.Reason.{Reason}
@@ -17,12 +17,12 @@ use Rattle.dcsp_defs.specs.declared.Step.{Step}
 use Rattle.dcsp_defs.specs.Derivation as derivations
 use Rattle.dcsp_defs.specs.Derivation.{step_at, IsReason, IsRight, IsRightAt, IsRightNowhere, IsDerivation, IsRefutation, IsKnownPair, IsFalseAlone}
 use Rattle.dcsp_defs.proofs.Lists.{In-left, In-right, and_left, and_right, list_all-In, get-In}
-use Rattle.dcsp_problem.specs.declared.rule.Term.{Term}
-use Rattle.dcsp_problem.specs.declared.rule.Term.TheVariants.{Const, Var}
-use Rattle.dcsp_problem.specs.declared.rule.Rule as rules
-use Rattle.dcsp_problem.specs.declared.rule.Rule.TheVariants.{Plain, Sum}
-use Rattle.dcsp_problem.specs.Rules.{IsRuleOf, variable_of, scope_of, rule_truth}
-use Rattle.dcsp_problem.specs.Problems.{Contents, csp_of, constraint_of}
+use Rattle.dcsp_rule.specs.declared.rule.Term.{Term}
+use Rattle.dcsp_rule.specs.declared.rule.Term.TheVariants.{Const, Var}
+use Rattle.dcsp_rule.specs.declared.rule.Rule as rules
+use Rattle.dcsp_rule.specs.declared.rule.Rule.TheVariants.{Plain, Sum}
+use Rattle.dcsp_rule.specs.Rules.{IsRuleOf, variable_of, scope_of, rule_truth}
+use Rattle.dcsp_rule.specs.Problems.{Contents, csp_of, constraint_of}
 use Rattle.dcsp_problem.proofs.RisingNumbers.{Contains-In}
 use Rattle.dcsp_problem.proofs.Scopes.{In-scope}
 use Rattle.rup_check.specs.Literals.{is_true}

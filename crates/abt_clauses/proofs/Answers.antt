@@ -3,7 +3,7 @@ use Rattle.std.proofs.Common.{◌≡◌, ℕ, ◌-◌, ◌<◌, List, Option, So
 use Rattle.std.specs.Prelude.{ℤ, neg_ℤ}
 use Rattle.std.proofs.lemmas.Bool.{cases_lt}
 use Rattle.dcsp_outside.specs.Outside.{bytes_of}
-use Rattle.dcsp_problem.specs.Problems.{Contents}
+use Rattle.dcsp_rule.specs.Problems.{Contents}
 use Rattle.rup_check.specs.Literals.{IsUnsatisfiable}
 use Rattle.rup_check.specs.Propagation.{IsAccepted}
 use Rattle.rup_check.specs.Verdicts.{IsFirstBad, IsVerdict}

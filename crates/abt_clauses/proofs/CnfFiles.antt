@@ -5,7 +5,7 @@ use Rattle.std.specs.Cmp.Lexicographic.{bytes_decides}
 use Rattle.std.proofs.lemmas.List.Concat.{flat_map-cons}
 use Rattle.dcsp_defs.specs.declared.Step.{Step}
 use Rattle.dcsp_outside.specs.Outside.{Place, Stream, Told, bytes_of}
-use Rattle.dcsp_problem.specs.Problems.{Contents}
+use Rattle.dcsp_rule.specs.Problems.{Contents}
 use Rattle.dcsp_script.specs.Scripts.{Create, Append, Put, World, outside, after_write, file_after, FilesAfter}
 use Rattle.dcsp_script.specs.Ways.{Wrote}
 use Rattle.dcsp_script.proofs.After.{file_after-append}

@@ -3,15 +3,15 @@ use Rattle.std.proofs.Common.{◌≡◌, ◌⊎◌, ℕ, zero, suc, ◌+◌, ◌
 use Rattle.std.specs.Prelude.{ℤ, pos, negsuc, neg_ℤ, All, Contains}
 use Rattle.std.proofs.lemmas.List.Elements.{All-contains}
 use Rattle.dcsp_meaning.specs.Words.{is_one}
-use Rattle.dcsp_nogood.specs.declared.Pair.{Pair}
+use Rattle.dcsp_defs.specs.declared.nogood.Pair.{Pair}
 use Rattle.dcsp_outside.specs.Outside.{bytes_of}
 use Rattle.dcsp_defs.specs.Words.{In, below}
 use Rattle.dcsp_defs.specs.Csp.{IsCsp, count}
 use Rattle.dcsp_defs.specs.declared.Step.{Step}
 use Rattle.dcsp_defs.proofs.Lists.{below-In}
-use Rattle.dcsp_problem.specs.declared.rule.Rule.{Rule}
-use Rattle.dcsp_problem.specs.Rules.{IsRuleOf, scope_of}
-use Rattle.dcsp_problem.specs.Problems.{Contents, csp_of}
+use Rattle.dcsp_rule.specs.declared.rule.Rule.{Rule}
+use Rattle.dcsp_rule.specs.Rules.{IsRuleOf, scope_of}
+use Rattle.dcsp_rule.specs.Problems.{Contents, csp_of}
 use Rattle.dcsp_problem.specs.WellFormed.{IsProblem}
 use Rattle.dcsp_problem.proofs.RisingNumbers.{Contains-In}
 use Rattle.dcsp_problem.proofs.OwnerLists.{length-map_below}

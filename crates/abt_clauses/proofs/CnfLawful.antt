@@ -1,7 +1,7 @@
 -- The plan of `cnf` is sound, and so its promise is lawful.
 use Rattle.std.proofs.Common.{◌≡◌, ℕ, List, [], ◌∷◌, map, Option, Some, None}
 use Rattle.dcsp_defs.specs.declared.Step.{Step}
-use Rattle.dcsp_problem.specs.Problems.{Contents}
+use Rattle.dcsp_rule.specs.Problems.{Contents}
 use Rattle.dcsp_script.specs.Scripts.{Put}
 use Rattle.dcsp_script.specs.Texts.{LeavesAlone}
 use Rattle.abt_defs.specs.Runs.{Run}

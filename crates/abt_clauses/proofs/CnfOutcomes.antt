@@ -4,7 +4,7 @@ use Rattle.std.specs.Prelude.{All, IfSome, IsErr, IsErrAnd}
 use Rattle.dcsp_defs.specs.Csp.{IsCsp}
 use Rattle.dcsp_defs.specs.declared.Step.{Step}
 use Rattle.dcsp_defs.specs.Derivation.{IsDerivation}
-use Rattle.dcsp_problem.specs.Problems.{Contents, csp_of}
+use Rattle.dcsp_rule.specs.Problems.{Contents, csp_of}
 use Rattle.dcsp_problem.specs.WellFormed.{IsProblem}
 use Rattle.dcsp_script.specs.declared.stop.Stop.{Stop}
 use Rattle.dcsp_script.specs.declared.stop.Stop.TheVariants as stops
@@ -14,10 +14,10 @@ use Rattle.dcsp_script.proofs.Lines.{then_rest, then_stopped}
 use Rattle.ngd_log.specs.Logs.{AreWritable}
 use Rattle.abt_defs.specs.Runs as runs
 use Rattle.abt_defs.specs.Runs.{Run}
-use Rattle.law_replay.proofs.Stopping.{stops}
-use Rattle.law_replay.proofs.Whole.{verdicts}
-use Rattle.law_sizes.specs.Sizes.{Sizes}
-use Rattle.law_sizes.proofs.Runs.{sizes_hold}
+use Rattle.law_runs.proofs.Stopping.{stops}
+use Rattle.law_runs.proofs.Whole.{verdicts}
+use Rattle.law_runs.specs.Sizes.{Sizes}
+use Rattle.law_runs.proofs.SizeRuns.{sizes_hold}
 use Rattle.abt_session.specs.Running.{IsEnd, IsOutcome}
 use Rattle.abt_session.specs.declared.outcome.End.{End}
 use Rattle.abt_session.specs.declared.outcome.End.TheVariants.{Solved, Refuted, Spent, Capped}

@@ -6,11 +6,11 @@ use Rattle.std.specs.Fmt.{signed_decimal}
 use Rattle.std.proofs.lemmas.Fmt.{length_signed_le}
 use Rattle.std.proofs.lemmas.List.{length-map}
 use Rattle.std.proofs.lemmas.List.Concat.{flat_map-cons}
-use Rattle.dcsp_nogood.specs.Pairs.{IsRising, var_at}
+use Rattle.dcsp_defs.specs.Pairs.{IsRising, var_at}
 use Rattle.dcsp_defs.specs.Csp.{Nogood}
 use Rattle.dcsp_defs.specs.declared.Step.{Step}
 use Rattle.dcsp_defs.specs.Derivation.{IsDerivation}
-use Rattle.dcsp_problem.specs.Problems.{Contents, csp_of}
+use Rattle.dcsp_rule.specs.Problems.{Contents, csp_of}
 use Rattle.rup_check.specs.Literals.{IsLiteral}
 use Rattle.rup_check.specs.ProofText.{literal_text, clause_line, proof_text, IsClause}
 use Rattle.cnf_front.specs.Clauses.{literal_against, clause_of, IsBinary}

@@ -1,7 +1,7 @@
 -- The plan of `rup` is sound, and so its promise is lawful.
 use Rattle.std.proofs.Common.{◌≡◌, ℕ, ℤ, List, [], ◌∷◌, refl, inr}
 use Rattle.std.specs.Prelude.{neg_ℤ}
-use Rattle.dcsp_problem.specs.Problems.{Contents}
+use Rattle.dcsp_rule.specs.Problems.{Contents}
 use Rattle.rup_check.specs.Verdicts.{IsVerdict}
 use Rattle.rup_check.specs.declared.check.Rup.{Rup}
 use Rattle.abt_promise.specs.Promises.{Report}

@@ -8,12 +8,12 @@ use Rattle.dcsp_meaning.specs.declared.kinds.Kind.{Kind}
 use Rattle.dcsp_meaning.specs.declared.kinds.Kind.TheVariants.{BoolClause}
 use Rattle.dcsp_defs.specs.Words.{In}
 use Rattle.dcsp_defs.specs.Csp.{Assignment}
-use Rattle.dcsp_problem.specs.declared.rule.Term.{Term}
-use Rattle.dcsp_problem.specs.declared.rule.Term.TheVariants.{Const, Var}
-use Rattle.dcsp_problem.specs.declared.rule.Members.{Members}
-use Rattle.dcsp_problem.specs.declared.rule.Rule.TheVariants.{Plain, Sum}
-use Rattle.dcsp_problem.specs.Rules.{rule_truth, value_under}
-use Rattle.dcsp_problem.specs.Problems.{Contents, csp_of, constraint_of}
+use Rattle.dcsp_rule.specs.declared.rule.Term.{Term}
+use Rattle.dcsp_rule.specs.declared.rule.Term.TheVariants.{Const, Var}
+use Rattle.dcsp_rule.specs.declared.rule.Members.{Members}
+use Rattle.dcsp_rule.specs.declared.rule.Rule.TheVariants.{Plain, Sum}
+use Rattle.dcsp_rule.specs.Rules.{rule_truth, value_under}
+use Rattle.dcsp_rule.specs.Problems.{Contents, csp_of, constraint_of}
 use Rattle.rup_check.specs.Literals.{is_true, IsUnsatisfiable}
 use Rattle.rup_check.specs.Propagation.{Satisfies}
 use Rattle.rup_check.proofs.PropagationLaws.{contains_head, contains_cons, contains_nil, contains_map, contains_mapped}

@@ -1,7 +1,7 @@
 -- What a run of `cnf` means to a user.
 use Rattle.std.specs.Prelude.{◌≡◌, ◌≢◌, ℕ, ◌^◌, ◌<◌, ℤ, neg_ℤ, List, length, map, Option, Some, IfSome, Contains}
 use Rattle.dcsp_outside.specs.Outside.{Told, bytes_of}
-use Rattle.dcsp_problem.specs.Problems.{Contents}
+use Rattle.dcsp_rule.specs.Problems.{Contents}
 use Rattle.rup_check.specs.ProofText.{proof_text}
 use Rattle.rup_check.specs.Propagation.{IsAccepted}
 use Rattle.rup_check.specs.declared.check.Rup.TheVariants.{Verified}

@@ -1,7 +1,7 @@
 -- What is written of what a formula's run gave.
 use Rattle.std.specs.Prelude.{◌≡◌, List, [], ◌++◌, ℕ, Option, Some, None, All}
 use Rattle.dcsp_defs.specs.declared.Step.{Step}
-use Rattle.dcsp_problem.specs.Problems.{Contents, csp_of}
+use Rattle.dcsp_rule.specs.Problems.{Contents, csp_of}
 use Rattle.cnf_front.specs.Clauses.{IsBinary}
 use Rattle.abt_defs.specs.Runs as runs
 use Rattle.abt_session.specs.Running.{IsOutcome}

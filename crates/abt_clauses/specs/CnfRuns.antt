@@ -3,7 +3,7 @@ use Rattle.std.specs.Prelude.{ℕ, ◌+◌, ℤ, pos, negsuc, false, List, [], �
 use Rattle.dcsp_meaning.specs.Words.{is_one}
 use Rattle.dcsp_defs.specs.Words.{below}
 use Rattle.dcsp_defs.specs.declared.Step.{Step}
-use Rattle.dcsp_problem.specs.Problems.{Contents}
+use Rattle.dcsp_rule.specs.Problems.{Contents}
 use Rattle.dcsp_script.specs.Scripts.{Write, Create, Append, Put}
 use Rattle.rup_check.specs.ProofText.{clause_line}
 use Rattle.abt_defs.specs.Runs.{Run, End, Refuted, Solved, Capped, Spent}

@@ -2,7 +2,7 @@
 use Rattle.std.specs.Prelude.{◌≡◌, ◌↔◌, ℕ, ℤ, neg_ℤ, List, [], ◌∷◌, ◌++◌, codes, decimal, Option, IfSome}
 use Rattle.dcsp_outside.specs.Outside.{bytes_of}
 use Rattle.dcsp_defs.specs.Csp.{HasNoSolution}
-use Rattle.dcsp_problem.specs.Problems.{Contents, csp_of}
+use Rattle.dcsp_rule.specs.Problems.{Contents, csp_of}
 use Rattle.dcsp_script.specs.Scripts.{Put}
 use Rattle.rup_check.specs.Literals.{IsUnsatisfiable}
 use Rattle.rup_check.specs.Propagation.{IsAccepted}

@@ -4,9 +4,9 @@ use Rattle.dcsp_meaning.specs.Words.{is_one}
 use Rattle.dcsp_defs.specs.Csp.{Assignment, IsSolution}
 use Rattle.dcsp_defs.specs.declared.Step.{Step}
 use Rattle.dcsp_defs.specs.Derivation.{IsRefutation}
-use Rattle.dcsp_problem.specs.declared.rule.Rule.{Rule}
-use Rattle.dcsp_problem.specs.Rules.{rule_truth}
-use Rattle.dcsp_problem.specs.Problems.{Contents, csp_of}
+use Rattle.dcsp_rule.specs.declared.rule.Rule.{Rule}
+use Rattle.dcsp_rule.specs.Rules.{rule_truth}
+use Rattle.dcsp_rule.specs.Problems.{Contents, csp_of}
 use Rattle.dcsp_problem.specs.WellFormed.{IsProblem}
 use Rattle.rup_check.specs.Literals.{is_true}
 use Rattle.rup_check.specs.Propagation.{IsAccepted, Satisfies, SatisfiesAll}

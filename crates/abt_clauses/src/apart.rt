@@ -35,7 +35,7 @@ pub fn run_apart(alloc: Global, problem: &Problem, seed: u64) -> Result<Made, Al
     requires { IsFormula problem.now }
     ensures { IfOk result (HasMade problem.now (cnf_run problem.now seed)) }
 {
-    let _vars = problem.vars();
+    problem.denotes_csp();
     let mut apart = SureFolder::new(alloc);
     let outcome = run_in(alloc, problem, seed, &mut apart)?;
     let refutation = refutation_in(alloc, &outcome.end, &apart)?;

@@ -49,7 +49,7 @@ pub fn run_cnf<F: Folder, S: Sink>(
     ensures means { IfOk result (HoldsCnfRun (F.place folder.old).held line.entry.cnf.now line.entry.seed) }
 {
     let problem = read_formula(alloc, folder, line.cnf)?;
-    let _vars = problem.vars();
+    problem.denotes_csp();
     let status = run_formula(alloc, &problem, line, folder, out)?;
     Ok(status)
 }
@@ -67,7 +67,7 @@ fn run_formula<F: Folder, S: Sink>(
         (outside (F.place folder.old) (S.stream out.old)) (outside (F.place folder.new) (S.stream out.new)) result }
     ensures status { IfOk result (λ status. status ≡ endings.end_status (cnf_run problem.now line.entry.seed).end) }
 {
-    let _vars = problem.vars();
+    problem.denotes_csp();
     let made = run_apart(alloc, problem, line.seed)?;
     write_proof(alloc, folder, line.proof, &made.refutation)?;
     tell(alloc, &made.outcome, out)?;

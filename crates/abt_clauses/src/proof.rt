@@ -10,8 +10,7 @@ ghost use Rattle.abt_clauses.specs.CnfRuns.{clause_write, proof_script};
 ghost use Rattle.abt_clauses.specs.CnfOutcomes.{IsBinaryStep};
 
 use cnf_front::write_clause;
-use dcsp_defs::Step;
-use dcsp_nogood::Nogood;
+use dcsp_defs::{Nogood, Step};
 use dcsp_outside::Folder;
 use dcsp_script::{Stop, append, create};
 use ngd_log::Derivation;

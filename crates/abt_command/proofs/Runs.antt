@@ -6,7 +6,7 @@ use Rattle.dcsp_script.specs.Scripts.{World}
 use Rattle.dcsp_script.specs.Ways.{Did, DidPartOf}
 use Rattle.dcsp_defs.specs.Csp.{IsCsp}
 use Rattle.dcsp_defs.specs.Derivation.{IsRefutation}
-use Rattle.dcsp_problem.specs.Problems.{csp_of}
+use Rattle.dcsp_rule.specs.Problems.{csp_of}
 use Rattle.abt_promise.specs.declared.status.Status.{Status}
 use Rattle.abt_promise.specs.Statuses.{IsFinal, IsRefusal}
 use Rattle.abt_promise.specs.Runs.{Ran}

@@ -8,9 +8,9 @@ use Rattle.dcsp_script.specs.Scripts.{World}
 use Rattle.dcsp_script.specs.Ways.{Did, DidPartOf}
 use Rattle.dcsp_defs.specs.Words.{In}
 use Rattle.dcsp_defs.specs.Derivation.{IsRefutation}
-use Rattle.dcsp_problem.specs.Problems.{Contents, constraint_of, csp_of}
+use Rattle.dcsp_rule.specs.Problems.{Contents, constraint_of, csp_of}
 use Rattle.dcsp_problem.specs.WellFormed.{IsProblem}
-use Rattle.dcsp_problem.specs.Aims.{aimed_at, is_better, narrowed_at, narrowed}
+use Rattle.dcsp_rule.specs.Aims.{aimed_at, is_better, narrowed_at, narrowed}
 use Rattle.abt_promise.specs.declared.status.Status.{Status}
 use Rattle.abt_promise.specs.Statuses.{IsFinal, IsRefusal}
 use Rattle.abt_promise.specs.Runs.{Ran}

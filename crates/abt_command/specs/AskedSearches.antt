@@ -1,8 +1,8 @@
 -- The searches for a best value that words ask for.
 use Rattle.std.specs.Prelude.{◌≡◌, ◌≢◌, ℕ, ℤ, List, Option, IfSome, IsSome}
 use Rattle.dcsp_outside.specs.Outside.{bytes_of}
-use Rattle.dcsp_problem.specs.declared.aim.Aim.TheVariants.{Satisfy}
-use Rattle.dcsp_problem.specs.Aims.{aimed_at}
+use Rattle.dcsp_rule.specs.declared.aim.Aim.TheVariants.{Satisfy}
+use Rattle.dcsp_rule.specs.Aims.{aimed_at}
 use Rattle.abt_input.specs.Inputs.{IsModelOf}
 use Rattle.abt_promise.specs.declared.status.Status.{Status}
 use Rattle.abt_promise.specs.declared.status.Status.TheVariants.{Good, No}

@@ -1,7 +1,7 @@
 -- What an answer of a line means beyond its report.
 use Rattle.std.specs.Prelude.{◌≡◌, ℕ, ℤ, List, Option, IfSome, ⊤}
 use Rattle.dcsp_outside.specs.Outside.{bytes_of}
-use Rattle.dcsp_problem.specs.Problems.{Contents}
+use Rattle.dcsp_rule.specs.Problems.{Contents}
 use Rattle.abt_optimum.specs.Best.{HasNoBetter}
 use Rattle.abt_input.specs.Inputs.{IsModelOf}
 use Rattle.dcsp_script.specs.Scripts.{World}

@@ -1,7 +1,7 @@
 -- Who owns what, the messages, and the state of an agent. Agent i owns variable i; a lower number is a higher priority.
 use Rattle.std.specs.Prelude.{ℕ, Bool, false, not, ◌&&◌, List, [], ◌∷◌, map, Option, Some, None, ℤ, ◌==◌}
 use Rattle.std.specs.List.{list_any}
-use Rattle.dcsp_nogood.specs.Pairs.{pair_of}
+use Rattle.dcsp_defs.specs.Pairs.{pair_of}
 use Rattle.dcsp_defs.specs.Csp.{Csp, Constraint, PartialAssignment, Nogood, owns}
 
 -- ---- links at the start

@@ -5,7 +5,7 @@ use Rattle.dcsp_defs.specs.declared.Reason.{Reason}
 use Rattle.dcsp_defs.specs.declared.Reason.TheVariants.{Rule, Earlier}
 use Rattle.dcsp_defs.specs.declared.Step.{Step}
 use Rattle.std.specs.Option.{option_map}
-use Rattle.dcsp_nogood.specs.Pairs.{pair_of}
+use Rattle.dcsp_defs.specs.Pairs.{pair_of}
 use Rattle.dcsp_defs.specs.Words.{below}
 use Rattle.dcsp_defs.specs.Csp.{Csp, Constraint, PartialAssignment, Nogood, is_violated, agrees, with_value, names, domain, owned}
 use Rattle.abt_defs.specs.Agents.{Stamped, StampedNogood, plain, Record, View, values_in, is_among}

@@ -2,8 +2,8 @@
 use Rattle.std.specs.Prelude.{ℕ, ◌+◌, Bool, true, false, not, ◌&&◌, ◌||◌, List, [], ◌∷◌, ◌++◌, map, filter, find, Option, Some, None, ℤ, nat_lt, ◌==◌, if◌then◌else◌}
 use Rattle.std.specs.List.{list_any, list_all}
 use Rattle.std.specs.Ordering.{int_eq}
-use Rattle.dcsp_nogood.specs.declared.Pair.{Pair}
-use Rattle.dcsp_nogood.specs.Pairs.{value_at}
+use Rattle.dcsp_defs.specs.declared.nogood.Pair.{Pair}
+use Rattle.dcsp_defs.specs.Pairs.{value_at}
 use Rattle.dcsp_defs.specs.declared.Step.{Step}
 use Rattle.dcsp_defs.specs.Words.{below, update, is_value}
 use Rattle.dcsp_defs.specs.Csp.{Csp, Nogood, domain, count}

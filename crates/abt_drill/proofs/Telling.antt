@@ -3,9 +3,9 @@ use Rattle.std.proofs.Common.{◌≡◌, ℕ, false, List, ◌++◌, codes, deci
 use Rattle.std.specs.Prelude.{IsOk, IfOk}
 use Rattle.std.specs.declared.vec.Vec.{Vec}
 use Rattle.std.specs.declared.alloc.Global.{Global}
-use Rattle.dcsp_list.specs.declared.Memory.{Memory}
+use Rattle.dcsp_common.specs.declared.list.Memory.{Memory}
 use Rattle.dcsp_defs.specs.Csp.{Csp}
-use Rattle.dcsp_problem.specs.Problems.{Contents, csp_of}
+use Rattle.dcsp_rule.specs.Problems.{Contents, csp_of}
 use Rattle.abt_defs.specs.Network.{Network}
 use Rattle.abt_defs.specs.Runs as runs
 use Rattle.ngd_log.specs.Logs.{log_text}

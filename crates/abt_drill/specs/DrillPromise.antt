@@ -1,6 +1,6 @@
 -- What `drill SEED` promises.
 use Rattle.std.specs.Prelude.{ℕ, [], ◌∷◌}
-use Rattle.dcsp_problem.specs.Problems.{Contents}
+use Rattle.dcsp_rule.specs.Problems.{Contents}
 use Rattle.dcsp_script.specs.Scripts.{Put}
 use Rattle.ngd_log.specs.Logs.{log_text}
 use Rattle.ngd_check.specs.declared.Finding.{Finding}

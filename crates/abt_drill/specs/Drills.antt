@@ -1,6 +1,6 @@
 -- What a drill runs, and what it tells of that.
 use Rattle.std.specs.Prelude.{ℕ, Bool, true, false, ◌||◌, List, ◌++◌, length, codes, decimal, if◌then◌else◌}
-use Rattle.dcsp_problem.specs.Problems.{Contents}
+use Rattle.dcsp_rule.specs.Problems.{Contents}
 use Rattle.ngd_log.specs.Logs.{log_text}
 use Rattle.ngd_check.specs.declared.Finding.{Finding}
 use Rattle.abt_defs.specs.Runs.{Run, End, Refuted, Solved, Capped, Spent}

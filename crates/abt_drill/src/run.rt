@@ -13,7 +13,7 @@ use abt_check::check_log;
 use abt_input::read_model;
 use abt_schedule::{ChoiceList, Seeded};
 use abt_session::{Outcome, run};
-use dcsp_list::Memory;
+use dcsp_common::Memory;
 use dcsp_outside::{SureFolder, SureSink};
 use dcsp_problem::Problem;
 use ngd_check::Finding;

@@ -1,6 +1,6 @@
 -- What a refused formula or proof is told as.
 use Rattle.std.proofs.Common.{◌≡◌, ℕ, ◌≤◌, List, length, Err}
-use Rattle.dcsp_problem.specs.Problems.{Contents}
+use Rattle.dcsp_rule.specs.Problems.{Contents}
 use Rattle.cnf_front.specs.declared.header.CnfError.{CnfError}
 use Rattle.cnf_front.specs.declared.header.CnfError.TheVariants as cnf
 use Rattle.cnf_front.specs.Formulas.{problem_of, Gives}

@@ -2,7 +2,7 @@
 use Rattle.std.proofs.Common.{◌≡◌, ℕ, ◌<◌, List, length, Ok, Err, refl, inl, inr}
 use Rattle.std.specs.Prelude.{ℤ}
 use Rattle.dcsp_defs.specs.declared.Step.{Step}
-use Rattle.dcsp_problem.specs.Problems.{Contents}
+use Rattle.dcsp_rule.specs.Problems.{Contents}
 use Rattle.fzn_model.proofs.Once.{once}
 use Rattle.ngd_log.proofs.LogLaws.{log_or_bad_line}
 use Rattle.abt_schedule.proofs.ScheduleLaws.{schedule_or_bad_line}

@@ -1,7 +1,7 @@
 -- What the bytes of a model, of a log, of a schedule, of a formula or of a proof are.
 use Rattle.std.specs.Prelude.{◌≡◌, ℕ, ℤ, ◌^◌, ◌≤◌, List, length, Ok, Err}
 use Rattle.dcsp_defs.specs.declared.Step.{Step}
-use Rattle.dcsp_problem.specs.Problems.{Contents}
+use Rattle.dcsp_rule.specs.Problems.{Contents}
 use Rattle.ngd_log.specs.Logs.{IsLogOf, IsFirstBad}
 use Rattle.abt_schedule.specs.Schedules as schedules
 use Rattle.cnf_front.specs.Formulas as formulas

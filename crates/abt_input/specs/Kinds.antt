@@ -1,7 +1,7 @@
 -- Kinds of files: what the bytes of one say, or why they are refused.
 use Rattle.std.specs.Prelude.{◌≡◌, ◌⊎◌, ℕ, ℤ, List, Result, Ok, Err, ⊤}
 use Rattle.dcsp_defs.specs.declared.Step.{Step}
-use Rattle.dcsp_problem.specs.Problems.{Contents}
+use Rattle.dcsp_rule.specs.Problems.{Contents}
 use Rattle.abt_promise.specs.Statuses.{IsFinal}
 use Rattle.abt_input.specs.Inputs.{IsModelOf, IsTextOf, HasChoices, IsFormulaOf, HasClauses}
 use Rattle.abt_input.specs.Errors.{IsErrorOfModel, IsErrorOfLog, IsErrorOfSchedule, IsErrorOfCnf, IsErrorOfProof, error_status}

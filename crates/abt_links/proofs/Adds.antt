@@ -3,7 +3,7 @@ use Rattle.std.proofs.Common.{◌≡◌, ◌≢◌, ℕ, suc, ◌+◌, ◌-◌, 
 use Rattle.std.proofs.lemmas.Bool.{cases_eq, cases_lt}
 use Rattle.std.proofs.lemmas.List.{ext_get_or, get_or-map, length-set, length-map, get_or_default}
 use Rattle.std.proofs.lemmas.List.Sums.{sum_by-set, sum_by-cons}
-use Rattle.abt_message.specs.declared.Message.{Message}
+use Rattle.abt_parts.specs.declared.message.Message.{Message}
 use Rattle.abt_links.specs.declared.queues.Ends.{Ends}
 use Rattle.abt_links.specs.Chains.{Cells, cell_at, next_of, message_in, key_after, messages_from, messages_of, no_ends, ends_at, key_in, IsSound, IsAdded}
 use Rattle.abt_links.proofs.Walks.{key_more, length-messages, SameWalk, same_keys, same_messages, own_messages, not_fresh}

@@ -8,7 +8,7 @@ use Rattle.std.proofs.lemmas.List.Quantifiers.{position-Some}
 use Rattle.std.proofs.lemmas.List.Folds.{list_any-append}
 use Rattle.std.proofs.lemmas.List.{length-append}
 use Rattle.std.proofs.lemmas.List.Elements.{filter_agree}
-use Rattle.abt_message.specs.declared.Message.{Message}
+use Rattle.abt_parts.specs.declared.message.Message.{Message}
 use Rattle.abt_defs.specs.Network.{is_empty, pairs}
 use Rattle.abt_links.specs.PairTables.{PairTable, has_pair, members}
 use Rattle.abt_links.specs.Transit.{Transit, is_pair, list_at, link_of, IsOpen, ready_pairs, Sends, Takes, Opens}

@@ -1,7 +1,7 @@
 -- How the pair of a sender and a receiver is found.
 use Rattle.std.specs.Prelude.{◌≡◌, ℕ, List, [], Option, None, position, slice_index_or, unwrap_or}
-use Rattle.dcsp_entries.specs.declared.Entry.{Entry}
-use Rattle.dcsp_entries.specs.Entries.{item_for}
+use Rattle.dcsp_common.specs.declared.entries.Entry.{Entry}
+use Rattle.dcsp_common.specs.Entries.{item_for}
 use Rattle.abt_links.specs.Transit.{is_pair}
 
 -- slots of receivers with the numbers of their pairs

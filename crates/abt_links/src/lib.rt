@@ -15,6 +15,6 @@ mod receivers;
 mod row;
 mod sums;
 
-pub use abt_message::{Memory, Message};
+pub use abt_parts::{Memory, Message};
 pub use links::{Carried, Links};
 pub use pair_set::PairSet;

@@ -6,8 +6,8 @@ ghost use Rattle.abt_links.specs.Transit.{is_pair, link_of, IsOpen, Opens, Sends
 use crate::open_pairs::OpenPairs;
 use crate::pair_set::PairSet;
 use crate::queues::Queues;
-use abt_message::Message;
-use dcsp_list::Memory;
+use abt_parts::Message;
+use dcsp_common::Memory;
 use std::alloc::Global;
 use std::marker::Model;
 

@@ -5,7 +5,7 @@ ghost use Rattle.abt_links.specs.Transit.{is_pair};
 ghost use Rattle.abt_links.specs.OpenPairs.{receivers_of};
 
 use crate::receivers::Receivers;
-use dcsp_list::Memory;
+use dcsp_common::Memory;
 use std::alloc::Global;
 use std::marker::Model;
 

@@ -5,7 +5,7 @@ ghost use Rattle.abt_links.specs.PairTables.{has_pair, members};
 
 use crate::row::Row;
 use crate::sums::Sums;
-use dcsp_list::Memory;
+use dcsp_common::Memory;
 use std::alloc::Global;
 use std::marker::Model;
 

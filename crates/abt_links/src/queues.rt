@@ -1,12 +1,12 @@
 //! Lists of messages, first in and first out, that share one store.
 
 ghost use Rattle.std.specs.Prelude.{◌≡◌, ◌≢◌, ◌<◌, [], ◌∷◌, ◌++◌, ◌-◌, length, take, IfErr, IfOk, OnErr, OnOk, sum_by, slice_index_or, slice_set, IsTrue, ◌↔◌, List};
-ghost use Rattle.abt_message.specs.declared.Message.{Message as TheMessage};
+ghost use Rattle.abt_parts.specs.declared.message.Message.{Message as TheMessage};
 ghost use Rattle.slab.specs.Slab.{ContainsKey, HasRoomFor};
 ghost use Rattle.abt_links.specs.Chains.{IsLinked, IsAdded, IsTaken};
 
-use abt_message::Message;
-use dcsp_list::Memory;
+use abt_parts::Message;
+use dcsp_common::Memory;
 use slab::Slab;
 use std::alloc::Global;
 use std::marker::Model;
@@ -40,7 +40,7 @@ pub(crate) struct Queues {
 
 impl Model for Queues {
     ghost use Rattle.std.specs.Prelude.{List, map};
-    ghost use Rattle.abt_message.specs.declared.Message.{Message};
+    ghost use Rattle.abt_parts.specs.declared.message.Message.{Message};
 
     ghost Value = { List (List Message) };
 

@@ -3,8 +3,7 @@
 ghost use Rattle.std.specs.Prelude.{◌≡◌, ◌==◌, ℕ, [], OnErr, OnOk, Some, if◌then◌else◌};
 ghost use Rattle.abt_links.specs.OpenPairs.{number_in};
 
-use dcsp_entries::{Entry, item_of, put};
-use dcsp_list::Memory;
+use dcsp_common::{Entry, Memory, item_of, put};
 use std::alloc::Global;
 use std::marker::Model;
 
@@ -20,7 +19,7 @@ pub(crate) struct Receivers {
 }
 
 impl Model for Receivers {
-    ghost use Rattle.dcsp_entries.specs.Entries.{AreRising};
+    ghost use Rattle.dcsp_common.specs.Entries.{AreRising};
     ghost use Rattle.abt_links.specs.OpenPairs.{Slots};
 
     ghost Value = { Slots };

@@ -2,7 +2,7 @@
 
 ghost use Rattle.std.specs.Prelude.{◌≡◌, ◌+◌, ◌-◌, ◌<◌, ◌≤◌, ◌^◌, length, IfOk, replicate, slice_set, slice_index, sum, take, drop};
 
-use dcsp_list::Memory;
+use dcsp_common::Memory;
 use std::alloc::Global;
 use std::marker::Model;
 

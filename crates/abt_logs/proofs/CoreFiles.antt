@@ -5,13 +5,13 @@ use Rattle.dcsp_defs.specs.Csp.{HasNoSolution}
 use Rattle.dcsp_defs.specs.declared.Step.{Step}
 use Rattle.dcsp_defs.specs.Derivation.{IsRefutation}
 use Rattle.dcsp_outside.specs.Outside.{Place, Stream, Told, bytes_of}
-use Rattle.dcsp_problem.specs.Problems.{Contents, csp_of}
+use Rattle.dcsp_rule.specs.Problems.{Contents, csp_of}
 use Rattle.dcsp_script.specs.Scripts.{Put, World, outside, put_by, file_after, FilesAfter, PutAfter}
 use Rattle.dcsp_script.specs.Ways.{Wrote}
 use Rattle.dcsp_script.specs.Texts.{LeavesAlone}
 use Rattle.dcsp_script.proofs.After.{file_after-append}
 use Rattle.dcsp_script.proofs.Parts.{left_alone}
-use Rattle.ngd_log.specs.declared.entry.Entry.{Entry}
+use Rattle.dcsp_defs.specs.declared.entry.Entry.{Entry}
 use Rattle.ngd_log.specs.Logs.{log_lines, log_text, AreWritable}
 use Rattle.ngd_log.specs.EntryTexts.{IsLogOfEntries}
 use Rattle.ngd_log.proofs.LogLines.{log_text_is}
@@ -20,9 +20,9 @@ use Rattle.ngd_check.specs.declared.Finding.{Finding}
 use Rattle.ngd_check.specs.declared.Finding.TheVariants.{Verified}
 use Rattle.ngd_check.specs.Findings.{IsFindingOf}
 use Rattle.ngd_check.specs.Entries.{steps_of}
-use Rattle.ngd_core.specs.declared.Core.{Core}
-use Rattle.ngd_core.specs.Cores.{limited}
-use Rattle.ngd_core.specs.Needed.{IsTrimmed}
+use Rattle.ngd_rewrite.specs.declared.cores.Core.{Core}
+use Rattle.ngd_rewrite.specs.Cores.{limited}
+use Rattle.ngd_rewrite.specs.Needed.{IsTrimmed}
 use Rattle.abt_input.specs.Inputs.{most_log, IsModelOf}
 use Rattle.abt_input.specs.Inputs as inputs
 use Rattle.abt_input.proofs.Once.{one_problem}

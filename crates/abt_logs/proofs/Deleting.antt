@@ -3,13 +3,13 @@ use Rattle.std.proofs.Common.{◌≡◌, ℕ, zero, suc, ◌+◌, ◌<◌, List,
 use Rattle.std.proofs.lemmas.List.{map-append, drop_all}
 use Rattle.dcsp_defs.specs.declared.Step.{Step}
 use Rattle.dcsp_script.specs.Scripts.{Write, Append}
-use Rattle.ngd_log.specs.declared.entry.Entry.{Entry}
+use Rattle.dcsp_defs.specs.declared.entry.Entry.{Entry}
 use Rattle.ngd_log.specs.StepText.{step_line}
 use Rattle.ngd_log.specs.Lines.{lines}
 use Rattle.ngd_log.specs.Logs.{step_lines}
 use Rattle.ngd_log.specs.EntryTexts.{deletion_line, entry_lines}
-use Rattle.ngd_upgrade.specs.Upgrade.{ending, as_deletion, upgraded_from, deleted_count}
-use Rattle.ngd_upgrade.proofs.Tables.{left_next}
+use Rattle.ngd_rewrite.specs.Upgrade.{ending, as_deletion, upgraded_from, deleted_count}
+use Rattle.ngd_rewrite.proofs.Tables.{left_next}
 use Rattle.abt_logs.specs.UpgradePromise.{appends}
 use Rattle.ngd_log.proofs.LogLines.{tail}
 use Rattle.abt_logs.proofs.Lines.{lines_left}

@@ -12,10 +12,10 @@ use Rattle.dcsp_script.specs.Texts.{LeavesAlone, appended_by}
 use Rattle.dcsp_script.proofs.After.{file_after-append}
 use Rattle.dcsp_script.proofs.Parts.{left_alone}
 use Rattle.dcsp_script.proofs.Texts.{appended_by-append}
-use Rattle.ngd_log.specs.declared.entry.Entry.{Entry}
+use Rattle.dcsp_defs.specs.declared.entry.Entry.{Entry}
 use Rattle.ngd_log.specs.declared.standing.Version.TheVariants.{Two}
 use Rattle.ngd_log.specs.EntryTexts.{entry_lines, head, entries_text, text_lines}
-use Rattle.ngd_upgrade.specs.Upgrade.{upgraded}
+use Rattle.ngd_rewrite.specs.Upgrade.{upgraded}
 use Rattle.abt_promise.specs.Promises.{IsHeld}
 use Rattle.abt_input.specs.Inputs.{IsTextOf}
 use Rattle.abt_input.proofs.Once.{one_text}

@@ -3,7 +3,7 @@ use Rattle.std.proofs.Common.{ℕ, List, [], ◌∷◌, ◌++◌}
 use Rattle.std.proofs.lemmas.List.Elements.{Contains-push}
 use Rattle.ngd_log.specs.declared.standing.Version.TheVariants.{Two}
 use Rattle.ngd_log.specs.EntryTexts.{text_lines}
-use Rattle.ngd_upgrade.specs.Upgrade.{upgraded}
+use Rattle.ngd_rewrite.specs.Upgrade.{upgraded}
 use Rattle.abt_promise.specs.Clauses.{IsLawful}
 use Rattle.abt_input.specs.Plans.{WritesOwn, IsSoundPlan}
 use Rattle.abt_input.proofs.ExactKinds.{log_exact}

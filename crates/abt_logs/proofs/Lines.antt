@@ -4,14 +4,14 @@ use Rattle.std.specs.Prelude.{IsErr, IsErrAnd}
 use Rattle.std.specs.List.{AllByRecursion}
 use Rattle.std.proofs.lemmas.List.{drop_all}
 use Rattle.dcsp_defs.specs.declared.Step.{Step}
-use Rattle.dcsp_problem.specs.Problems.{Contents}
+use Rattle.dcsp_rule.specs.Problems.{Contents}
 use Rattle.dcsp_script.specs.declared.stop.Stop.{Stop}
 use Rattle.dcsp_script.specs.Scripts.{Append, Put, World}
 use Rattle.dcsp_script.specs.Ways.{Wrote}
 use Rattle.dcsp_script.proofs.Lines.{then_rest, then_stopped}
 use Rattle.ngd_log.specs.StepText.{step_line, IsStepNumber, IsInRange, IsWritable}
 use Rattle.ngd_log.specs.Logs.{step_lines, log_lines, AreWritable}
-use Rattle.ngd_core.specs.declared.Core.{Core}
+use Rattle.ngd_rewrite.specs.declared.cores.Core.{Core}
 use Rattle.abt_logs.specs.UpgradePromise.{appends, file_script}
 use Rattle.abt_logs.specs.CorePromise.{core_text, core_script}
 use Rattle.abt_logs.proofs.Writing.{wrote_as}

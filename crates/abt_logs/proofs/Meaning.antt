@@ -7,9 +7,9 @@ use Rattle.ngd_log.specs.Logs.{AreWritable}
 use Rattle.ngd_log.specs.EntryTexts.{IsTextOf}
 use Rattle.ngd_log.proofs.EntryLaws.{entries_or_bad_line}
 use Rattle.ngd_check.specs.Findings.{IsFinding, IsFindingOf}
-use Rattle.ngd_upgrade.specs.Upgrade.{upgraded}
-use Rattle.ngd_upgrade.proofs.Findings.{one_finding}
-use Rattle.ngd_upgrade.proofs.Texts.{have_text}
+use Rattle.ngd_rewrite.specs.Upgrade.{upgraded}
+use Rattle.ngd_rewrite.proofs.Findings.{one_finding}
+use Rattle.ngd_rewrite.proofs.Texts.{have_text}
 use Rattle.abt_logs.specs.Upgrading.{new_text, IsUpgradeOf}
 
 pub is_upgrade : (steps : List Step) → AreWritable steps → IsUpgradeOf steps (new_text steps)

@@ -4,9 +4,9 @@ use Rattle.std.specs.Prelude.{if◌then◌else◌}
 use Rattle.dcsp_defs.specs.declared.Step.{Step}
 use Rattle.dcsp_defs.specs.Words.{In}
 use Rattle.dcsp_problem.proofs.RisingNumbers.{same_members}
-use Rattle.ngd_core.specs.declared.Core.{Core}
-use Rattle.ngd_core.specs.Needed.{is_cited, renumbered, chosen, count_to, IsTrimmed}
-use Rattle.ngd_core.proofs.Trimming.{renumbered_same}
+use Rattle.ngd_rewrite.specs.declared.cores.Core.{Core}
+use Rattle.ngd_rewrite.specs.Needed.{is_cited, renumbered, chosen, count_to, IsTrimmed}
+use Rattle.ngd_rewrite.proofs.Trimming.{renumbered_same}
 use Rattle.abt_logs.specs.CorePromise.{IsCoreOf}
 
 -- tests that pass alike are the same

@@ -4,7 +4,7 @@ use Rattle.std.specs.declared.alloc.Global.{Global}
 use Rattle.std.specs.declared.vec.Vec.{Vec}
 use Rattle.dcsp_outside.specs.Outside.{Place}
 use Rattle.ngd_log.specs.Logs.{IsLogOf, IsFirstBad}
-use Rattle.ngd_upgrade.specs.Endings.{Chains, AreEndings, steps_in}
+use Rattle.ngd_rewrite.specs.Endings.{Chains, AreEndings, steps_in}
 use Rattle.abt_input.specs.declared.error.CommandError.{CommandError}
 use Rattle.abt_input.specs.declared.error.CommandError.TheVariants.{ModelLong, ModelRefused, NoAim, LogLong, LogLine, ScheduleLong, ScheduleLine, Clauses, Fault, Memory}
 use Rattle.abt_input.specs.Inputs.{IsTextOf, IsBadAt}

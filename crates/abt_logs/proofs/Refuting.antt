@@ -10,9 +10,9 @@ use Rattle.dcsp_defs.specs.declared.Step.{Step}
 use Rattle.dcsp_defs.specs.Csp.{Csp, HasNoSolution}
 use Rattle.dcsp_defs.specs.Derivation.{IsRefutation}
 use Rattle.dcsp_defs.proofs.Lists.{or_left, or_right}
-use Rattle.dcsp_problem.specs.Problems.{Contents, csp_of}
-use Rattle.ngd_log.specs.declared.entry.Entry.{Entry}
-use Rattle.ngd_log.specs.declared.entry.Entry.TheVariants.{Step as A_step, Delete}
+use Rattle.dcsp_rule.specs.Problems.{Contents, csp_of}
+use Rattle.dcsp_defs.specs.declared.entry.Entry.{Entry}
+use Rattle.dcsp_defs.specs.declared.entry.Entry.TheVariants.{Step as A_step, Delete}
 use Rattle.ngd_log.specs.declared.standing.Version.{Version}
 use Rattle.ngd_log.specs.declared.standing.Version.TheVariants.{One}
 use Rattle.ngd_log.specs.StepText.{step_line, IsStepNumber, IsReasonInRange, IsRuleAlone, IsWritable}
@@ -25,10 +25,10 @@ use Rattle.ngd_check.specs.declared.Finding.TheVariants.{Verified}
 use Rattle.ngd_check.specs.Findings.{IsFindingOf}
 use Rattle.ngd_check.specs.Entries.{DoRefute}
 use Rattle.ngd_check.proofs.Forms.{entries_derive, one_form}
-use Rattle.ngd_core.specs.declared.Core.{Core}
-use Rattle.ngd_core.specs.Cores.{limited}
-use Rattle.ngd_core.specs.Needed.{cites, IsNeeded, is_cited_by, renumbered_reason, renumbered, chosen, count_to, IsTrimmed}
-use Rattle.ngd_core.proofs.Trimming.{chosen_count}
+use Rattle.ngd_rewrite.specs.declared.cores.Core.{Core}
+use Rattle.ngd_rewrite.specs.Cores.{limited}
+use Rattle.ngd_rewrite.specs.Needed.{cites, IsNeeded, is_cited_by, renumbered_reason, renumbered, chosen, count_to, IsTrimmed}
+use Rattle.ngd_rewrite.proofs.Trimming.{chosen_count}
 use Rattle.abt_input.specs.Inputs.{most_log}
 use Rattle.abt_logs.specs.CorePromise.{IsCoreOf}
 use Rattle.abt_logs.specs.Trimming.{IsCore}

@@ -7,8 +7,8 @@ use Rattle.itoa.proofs.Decimal.{length_one, length_step_wide}
 use Rattle.dcsp_defs.specs.declared.Reason.{Reason}
 use Rattle.dcsp_defs.specs.declared.Reason.TheVariants.{Rule, Earlier}
 use Rattle.dcsp_defs.specs.declared.Step.{Step}
-use Rattle.ngd_log.specs.declared.entry.Entry.{Entry}
-use Rattle.ngd_log.specs.declared.entry.Entry.TheVariants.{Step as A_step, Delete}
+use Rattle.dcsp_defs.specs.declared.entry.Entry.{Entry}
+use Rattle.dcsp_defs.specs.declared.entry.Entry.TheVariants.{Step as A_step, Delete}
 use Rattle.ngd_log.specs.declared.standing.Version.{Version}
 use Rattle.ngd_log.specs.declared.standing.Version.TheVariants.{One, Two}
 use Rattle.ngd_log.specs.StepText.{reason_text, reasons_text, variable_text, pairs_text, step_line, IsReasonInRange, IsWritable}
@@ -16,7 +16,7 @@ use Rattle.ngd_log.specs.Logs.{step_lines, log_text}
 use Rattle.ngd_log.specs.Entries.{steps_of}
 use Rattle.ngd_log.specs.EntryTexts.{deletion_line, entry_lines, entries_text}
 use Rattle.ngd_check.proofs.Once.{compared}
-use Rattle.ngd_core.specs.Needed.{renumbered_reason, renumbered, chosen, count_to, IsTrimmed}
+use Rattle.ngd_rewrite.specs.Needed.{renumbered_reason, renumbered, chosen, count_to, IsTrimmed}
 use Rattle.abt_input.specs.Inputs.{most_log}
 use Rattle.abt_check.specs.Checks.{HasEntries}
 use Rattle.abt_logs.proofs.Refuting.{count_within, each_step}

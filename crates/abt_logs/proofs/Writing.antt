@@ -11,10 +11,10 @@ use Rattle.dcsp_script.specs.Ways.{Wrote}
 use Rattle.dcsp_script.specs.Left.{HasLeft}
 use Rattle.dcsp_script.proofs.Ways.{did_nothing}
 use Rattle.dcsp_script.proofs.Lines.{then_rest, then_stopped}
-use Rattle.ngd_log.specs.declared.entry.Entry.{Entry}
+use Rattle.dcsp_defs.specs.declared.entry.Entry.{Entry}
 use Rattle.ngd_log.specs.declared.standing.Version.TheVariants.{Two}
 use Rattle.ngd_log.specs.EntryTexts.{text_lines}
-use Rattle.ngd_upgrade.specs.Upgrade.{upgraded, deleted_count}
+use Rattle.ngd_rewrite.specs.Upgrade.{upgraded, deleted_count}
 use Rattle.abt_logs.specs.UpgradePromise.{appends, file_script, counts_text, upgrade_text, upgrade_script}
 
 -- memory is wanted before anything was made

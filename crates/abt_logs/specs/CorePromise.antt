@@ -2,13 +2,13 @@
 use Rattle.std.specs.Prelude.{◌≡◌, ◌↔◌, ℕ, ◌+◌, true, List, [], ◌∷◌, ◌++◌, flat_map, length, codes, decimal}
 use Rattle.dcsp_defs.specs.declared.Step.{Step}
 use Rattle.dcsp_defs.specs.Words.{In, IsRising}
-use Rattle.dcsp_problem.specs.Problems.{Contents}
+use Rattle.dcsp_rule.specs.Problems.{Contents}
 use Rattle.dcsp_script.specs.Scripts.{Write, Put}
 use Rattle.ngd_log.specs.Logs.{log_lines}
 use Rattle.ngd_check.specs.declared.Finding.{Finding}
 use Rattle.ngd_check.specs.declared.Finding.TheVariants.{Verified, BadStep, BadDeletion, NotEmpty}
-use Rattle.ngd_core.specs.declared.Core.{Core}
-use Rattle.ngd_core.specs.Needed.{is_cited, IsTrimmed}
+use Rattle.ngd_rewrite.specs.declared.cores.Core.{Core}
+use Rattle.ngd_rewrite.specs.Needed.{is_cited, IsTrimmed}
 use Rattle.abt_promise.specs.declared.status.Status.TheVariants.{Good}
 use Rattle.abt_promise.specs.Promises.{Promise}
 use Rattle.abt_input.specs.Kinds.{a_model}

@@ -2,7 +2,7 @@
 use Rattle.std.specs.Prelude.{ℕ, List}
 use Rattle.dcsp_defs.specs.declared.Step.{Step}
 use Rattle.ngd_log.specs.Logs.{IsLogOf}
-use Rattle.ngd_upgrade.specs.Endings.{AreEndings, steps_in}
+use Rattle.ngd_rewrite.specs.Endings.{AreEndings, steps_in}
 use Rattle.abt_input.specs.Inputs.{IsTextOf}
 use Rattle.abt_input.specs.Errors.{IsErrorOfLog}
 use Rattle.abt_input.specs.Kinds.{Kind}

@@ -4,16 +4,16 @@ use Rattle.dcsp_defs.specs.Csp.{HasNoSolution}
 use Rattle.dcsp_defs.specs.declared.Step.{Step}
 use Rattle.dcsp_defs.specs.Derivation.{IsRefutation}
 use Rattle.dcsp_outside.specs.Outside.{Told, bytes_of}
-use Rattle.dcsp_problem.specs.Problems.{Contents, csp_of}
+use Rattle.dcsp_rule.specs.Problems.{Contents, csp_of}
 use Rattle.dcsp_script.specs.Scripts.{World}
-use Rattle.ngd_log.specs.declared.entry.Entry.{Entry}
+use Rattle.dcsp_defs.specs.declared.entry.Entry.{Entry}
 use Rattle.ngd_log.specs.Logs.{log_text}
 use Rattle.ngd_log.specs.EntryTexts.{IsLogOfEntries}
 use Rattle.ngd_check.specs.declared.Finding.TheVariants.{Verified}
 use Rattle.ngd_check.specs.Findings.{IsFindingOf}
 use Rattle.ngd_check.specs.Entries.{steps_of}
-use Rattle.ngd_core.specs.declared.Core.{Core}
-use Rattle.ngd_core.specs.Cores.{limited}
+use Rattle.ngd_rewrite.specs.declared.cores.Core.{Core}
+use Rattle.ngd_rewrite.specs.Cores.{limited}
 use Rattle.abt_input.specs.Inputs.{IsModelOf}
 use Rattle.abt_input.specs.Inputs as inputs
 use Rattle.abt_check.specs.Checks.{HasEntries}

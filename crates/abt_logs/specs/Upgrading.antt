@@ -3,12 +3,12 @@ use Rattle.std.specs.Prelude.{◌≡◌, ◌≢◌, ◌↔◌, ℕ, List, Option
 use Rattle.dcsp_defs.specs.Csp.{Csp}
 use Rattle.dcsp_defs.specs.declared.Step.{Step}
 use Rattle.dcsp_outside.specs.Outside.{Told, bytes_of}
-use Rattle.ngd_log.specs.declared.entry.Entry.{Entry}
+use Rattle.dcsp_defs.specs.declared.entry.Entry.{Entry}
 use Rattle.ngd_log.specs.declared.standing.Version.TheVariants.{Two}
 use Rattle.ngd_log.specs.EntryTexts.{entries_text, IsTextOf, IsLogOfEntries}
 use Rattle.ngd_check.specs.declared.Finding.{Finding}
 use Rattle.ngd_check.specs.Findings.{IsFinding, IsFindingOf}
-use Rattle.ngd_upgrade.specs.Upgrade.{upgraded}
+use Rattle.ngd_rewrite.specs.Upgrade.{upgraded}
 use Rattle.abt_input.specs.Inputs as inputs
 
 -- the text that is written of the steps

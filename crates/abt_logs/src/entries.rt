@@ -8,8 +8,8 @@ ghost use Rattle.dcsp_script.specs.Ways.{Wrote};
 ghost use Rattle.ngd_log.specs.declared.standing.Version.{Version};
 ghost use Rattle.ngd_log.specs.Lines.{lines};
 ghost use Rattle.ngd_log.specs.EntryTexts.{entry_lines, text_lines, IsWritableEntry};
-ghost use Rattle.ngd_upgrade.specs.Upgrade.{as_deletion, upgraded, deleted_count};
-ghost use Rattle.ngd_upgrade.specs.Endings.{Follows};
+ghost use Rattle.ngd_rewrite.specs.Upgrade.{as_deletion, upgraded, deleted_count};
+ghost use Rattle.ngd_rewrite.specs.Endings.{Follows};
 ghost use Rattle.abt_logs.specs.OldLogs.{steps_of, IsOldLog};
 ghost use Rattle.abt_logs.specs.UpgradePromise.{appends, file_script};
 
@@ -18,7 +18,7 @@ use dcsp_outside::Folder;
 use dcsp_script::{Stop, append, create};
 use memchr::memchr;
 use ngd_log::{HEAD2, TAIL, write_deletion};
-use ngd_upgrade::Endings;
+use ngd_rewrite::Endings;
 use std::alloc::{AllocError, Global};
 
 /// Writes the log's steps with their deletions as a log of version 2: the name is created, and each line is appended

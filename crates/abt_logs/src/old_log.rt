@@ -6,7 +6,7 @@ ghost use Rattle.abt_logs.specs.OldLogs.{an_old_log};
 use abt_input::{CommandError, read_log_text};
 use dcsp_outside::Folder;
 use ngd_log::LogError;
-use ngd_upgrade::Endings;
+use ngd_rewrite::Endings;
 use std::alloc::Global;
 
 /// A log of version 1.

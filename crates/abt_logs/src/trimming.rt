@@ -20,7 +20,7 @@ use dcsp_problem::Problem;
 use dcsp_script::{Stop, put};
 use itoa::Buffer;
 use ngd_check::Finding;
-use ngd_core::{Core, core_of};
+use ngd_rewrite::{Core, core_of};
 use std::alloc::{AllocError, Global};
 
 /// The words of `core`.

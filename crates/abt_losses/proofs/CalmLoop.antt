@@ -2,11 +2,11 @@
 use Rattle.std.proofs.Common.{◌≡◌, ◌⊎◌, inl, inr, ℕ, ◌+◌, ◌-◌, ◌<◌, ◌≤◌, Bool, false, true, List, [], ◌∷◌, ◌++◌, length, length-append, Result, Ok, Err, sym, ap, ◌∙◌, arith}
 use Rattle.std.specs.Prelude.{IsErr, IsErrAnd}
 use Rattle.dcsp_outside.specs.Outside.{Place, Stream}
-use Rattle.dcsp_problem.specs.Problems.{Contents, csp_of}
+use Rattle.dcsp_rule.specs.Problems.{Contents, csp_of}
 use Rattle.dcsp_script.specs.declared.stop.Stop.{Stop}
 use Rattle.dcsp_script.specs.Scripts.{outside}
 use Rattle.dcsp_script.specs.Ways.{Wrote}
-use Rattle.lossy_defs.specs.Ends.{has_verdict, calm_word}
+use Rattle.law_lossy.specs.Ends.{has_verdict, calm_word}
 use Rattle.abt_lossy.specs.InWorld.{reached}
 use Rattle.abt_losses.specs.Runners.{HasMade, SameTask}
 use Rattle.abt_losses.specs.declared.runner.Runner.{Runner}

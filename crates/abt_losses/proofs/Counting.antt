@@ -2,8 +2,8 @@
 use Rattle.std.proofs.Common.{◌≡◌, ℕ, zero, suc, ◌+◌, ◌*◌, ◌<◌, ◌≤◌, Bool, true, false, cond, ◌||◌, List, [], ◌∷◌, ◌++◌, length, length-append, refl, sym, ap, ◌∙◌, arith}
 use Rattle.dcsp_defs.specs.Csp.{Csp, IsCsp}
 use Rattle.abt_defs.specs.Bound.{message_bound}
-use Rattle.lossy_defs.specs.World.{World, begin, event, after}
-use Rattle.lossy_defs.specs.Ends.{is_quiet, has_verdict, used, calm_word, calm_words, calm}
+use Rattle.law_lossy.specs.World.{World, begin, event, after}
+use Rattle.law_lossy.specs.Ends.{is_quiet, has_verdict, used, calm_word, calm_words, calm}
 use Rattle.law_lossy.specs.Calm.{AreCalmEvents}
 use Rattle.law_lossy.proofs.Calm.{calm_budget}
 use Rattle.law_lossy.proofs.Sizes.{world_is_small, calm_events, no_verdict_yet}

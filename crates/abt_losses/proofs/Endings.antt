@@ -2,7 +2,7 @@
 use Rattle.std.proofs.Common.{◌≡◌, ℕ, cond, List, [], ◌∷◌, ◌++◌, length, Option, Result, Ok, Err, Bor, refl, sym, ap, subst, ◌∙◌, append_assoc}
 use Rattle.std.specs.Prelude.{Bool, IsErr, IsErrAnd, codes, is_some, option_copied}
 use Rattle.dcsp_defs.specs.Csp.{Csp}
-use Rattle.dcsp_problem.specs.Problems.{Contents, csp_of}
+use Rattle.dcsp_rule.specs.Problems.{Contents, csp_of}
 use Rattle.dcsp_script.specs.declared.stop.Stop.{Stop}
 use Rattle.dcsp_script.specs.Scripts.{Write, Create, Append, Put, World as Outside}
 use Rattle.dcsp_script.specs.Ways.{Wrote}
@@ -11,9 +11,9 @@ use Rattle.abt_defs.specs.Runs as runs
 use Rattle.abt_defs.specs.Runs.{Run}
 use Rattle.abt_network.specs.declared.Standing.TheVariants as standing
 use Rattle.abt_lossy.specs.InWorld.{standing_of, reached}
-use Rattle.lossy_defs.specs.World.{World, begin, after}
-use Rattle.lossy_defs.specs.Deliveries.{numbers}
-use Rattle.lossy_defs.specs.Ends.{is_quiet, used, calm_words}
+use Rattle.law_lossy.specs.World.{World, begin, after}
+use Rattle.law_lossy.specs.Deliveries.{numbers}
+use Rattle.law_lossy.specs.Ends.{is_quiet, used, calm_words}
 use Rattle.abt_session.specs.Sessions.{begun_script, step_writes}
 use Rattle.abt_session.specs.Running.{kept, IsEnd, IsOutcome}
 use Rattle.abt_session.specs.declared.outcome.End.TheVariants as ends

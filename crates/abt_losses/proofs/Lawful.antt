@@ -2,7 +2,7 @@
 use Rattle.std.proofs.Common.{◌≡◌, ℕ, List, [], ◌∷◌, ◌++◌, Option}
 use Rattle.std.specs.Prelude.{IfSome, codes}
 use Rattle.dcsp_defs.specs.declared.Step.{Step}
-use Rattle.dcsp_problem.specs.Problems.{csp_of}
+use Rattle.dcsp_rule.specs.Problems.{csp_of}
 use Rattle.dcsp_script.specs.Scripts.{Append, Put}
 use Rattle.dcsp_script.specs.Texts.{LeavesAlone}
 use Rattle.ngd_log.specs.Logs.{step_lines}

@@ -4,15 +4,15 @@ use Rattle.std.specs.Prelude.{Result, Ok, Err, OnOk}
 use Rattle.dcsp_script.specs.declared.stop.Stop.{Stop}
 use Rattle.dcsp_defs.specs.Csp.{Csp}
 use Rattle.dcsp_defs.specs.declared.Step.{Step}
-use Rattle.dcsp_problem.specs.Problems.{Contents, csp_of}
+use Rattle.dcsp_rule.specs.Problems.{Contents, csp_of}
 use Rattle.ngd_log.specs.StepText.{IsStepNumber}
 use Rattle.abt_network.specs.declared.Begun.{Begun}
 use Rattle.abt_network.specs.declared.Begun.TheVariants as begun
 use Rattle.abt_network.specs.declared.Standing.TheVariants.{Open, Quiet, Refuted}
 use Rattle.abt_network.specs.Standing.{steps_of}
-use Rattle.lossy_defs.specs.World.{World, begin, after}
-use Rattle.lossy_defs.specs.Deliveries.{numbers}
-use Rattle.lossy_defs.specs.Ends.{is_quiet, has_verdict}
+use Rattle.law_lossy.specs.World.{World, begin, after}
+use Rattle.law_lossy.specs.Deliveries.{numbers}
+use Rattle.law_lossy.specs.Ends.{is_quiet, has_verdict}
 use Rattle.abt_lossy.specs.declared.parts.Happened.{Happened}
 use Rattle.abt_lossy.specs.InWorld.{LossyState, reached, standing_of, IsAfter, Begins, Happens}
 use Rattle.abt_session.specs.Sessions.{step_writes}

@@ -1,12 +1,12 @@
 -- What a run over the medium means.
 use Rattle.std.proofs.Common.{◌≡◌, ◌↔◌, ℕ, ◌+◌, Bool, true, false, cond, ◌||◌, pos, List, length, refl, sym, ap, ◌∙◌, arith}
 use Rattle.dcsp_defs.specs.Csp.{IsCsp, IsSolution, count}
-use Rattle.dcsp_problem.specs.Problems.{csp_of}
+use Rattle.dcsp_rule.specs.Problems.{csp_of}
 use Rattle.dcsp_problem.proofs.OwnerLists.{get_or-map_below, length-map_below}
 use Rattle.abt_defs.specs.Network.{values}
 use Rattle.abt_defs.specs.Runs.{Refuted, Solved, Capped}
-use Rattle.lossy_defs.specs.World.{World}
-use Rattle.lossy_defs.specs.Ends.{is_quiet, has_verdict}
+use Rattle.law_lossy.specs.World.{World}
+use Rattle.law_lossy.specs.Ends.{is_quiet, has_verdict}
 use Rattle.law_lossy.proofs.Runs.{quiet_is_solved, steps_are_right, handed_up_bounded}
 use Rattle.law_lossy.proofs.Whole.{is_whole}
 use Rattle.abt_schedule.specs.Answers.{word_at, generator_of}

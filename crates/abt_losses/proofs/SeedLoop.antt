@@ -3,11 +3,11 @@ use Rattle.std.proofs.Common.{◌≡◌, ◌⊎◌, inl, inr, ℕ, ◌+◌, ◌<
 use Rattle.std.specs.Prelude.{IsErr, IsErrAnd}
 use Rattle.dcsp_outside.specs.Outside.{Place, Stream}
 use Rattle.dcsp_defs.specs.Words.{below}
-use Rattle.dcsp_problem.specs.Problems.{Contents, csp_of}
+use Rattle.dcsp_rule.specs.Problems.{Contents, csp_of}
 use Rattle.dcsp_script.specs.declared.stop.Stop.{Stop}
 use Rattle.dcsp_script.specs.Scripts.{outside}
 use Rattle.dcsp_script.specs.Ways.{Wrote}
-use Rattle.lossy_defs.specs.Ends.{has_verdict}
+use Rattle.law_lossy.specs.Ends.{has_verdict}
 use Rattle.abt_losses.specs.Runners.{HasMade, SameTask}
 use Rattle.abt_losses.specs.declared.runner.Runner.{Runner}
 use Rattle.abt_losses.proofs.Worlds.{none_used}

@@ -6,7 +6,7 @@ use Rattle.dcsp_outside.specs.Outside.{Place, Stream}
 use Rattle.dcsp_defs.specs.Csp.{Csp}
 use Rattle.dcsp_defs.specs.Words.{below}
 use Rattle.dcsp_defs.specs.declared.Step.{Step}
-use Rattle.dcsp_problem.specs.Problems.{Contents, csp_of}
+use Rattle.dcsp_rule.specs.Problems.{Contents, csp_of}
 use Rattle.dcsp_problem.proofs.OwnerLists.{length-map_below}
 use Rattle.dcsp_script.specs.declared.stop.Stop.{Stop}
 use Rattle.dcsp_script.specs.Scripts.{Write, outside}
@@ -14,8 +14,8 @@ use Rattle.dcsp_script.specs.Ways.{Wrote}
 use Rattle.dcsp_script.specs.Left.{HasLeft}
 use Rattle.dcsp_script.proofs.Left.{left_all, left_more, left_stopped, left_ends}
 use Rattle.dcsp_script.proofs.Ways.{did_nothing}
-use Rattle.lossy_defs.specs.World.{World, begin, event, after}
-use Rattle.lossy_defs.specs.Ends.{has_verdict, is_quiet, used, calm_word, calm_words}
+use Rattle.law_lossy.specs.World.{World, begin, event, after}
+use Rattle.law_lossy.specs.Ends.{has_verdict, is_quiet, used, calm_word, calm_words}
 use Rattle.law_lossy.proofs.Whole.{one_more_event}
 use Rattle.abt_lossy.specs.InWorld.{reached}
 use Rattle.abt_session.proofs.Pieces.{wrote_as}

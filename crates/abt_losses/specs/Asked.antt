@@ -3,13 +3,13 @@ use Rattle.std.specs.Prelude.{ℕ, ℤ, ◌^◌, List, [], ◌∷◌, ◌++◌, 
 use Rattle.dcsp_defs.specs.Words.{below}
 use Rattle.dcsp_defs.specs.Csp.{Csp, count}
 use Rattle.dcsp_defs.specs.declared.Step.{Step}
-use Rattle.dcsp_problem.specs.Problems.{Contents, csp_of}
+use Rattle.dcsp_rule.specs.Problems.{Contents, csp_of}
 use Rattle.dcsp_script.specs.Scripts.{Write, Create, Append, Put}
 use Rattle.abt_defs.specs.Network.{values}
 use Rattle.abt_defs.specs.Runs.{End, Refuted, Solved, Capped}
-use Rattle.lossy_defs.specs.World.{World, begin, after}
-use Rattle.lossy_defs.specs.Deliveries.{numbers}
-use Rattle.lossy_defs.specs.Ends.{is_quiet, all_words}
+use Rattle.law_lossy.specs.World.{World, begin, after}
+use Rattle.law_lossy.specs.Deliveries.{numbers}
+use Rattle.law_lossy.specs.Ends.{is_quiet, all_words}
 use Rattle.abt_schedule.specs.Answers.{word_at, generator_of}
 use Rattle.abt_session.specs.Sessions.{step_writes}
 use Rattle.abt_run.specs.Endings.{verdict_text, counts_text}

@@ -1,6 +1,6 @@
 -- What `lossy MODEL LOG EVENTS SEED [--record FILE]` promises.
 use Rattle.std.specs.Prelude.{ℕ, List, [], ◌∷◌, Option}
-use Rattle.dcsp_problem.specs.Problems.{csp_of}
+use Rattle.dcsp_rule.specs.Problems.{csp_of}
 use Rattle.abt_promise.specs.Promises.{Promise}
 use Rattle.abt_input.specs.Kinds.{a_model}
 use Rattle.abt_input.specs.Plans.{Plan, Answer, Read, promise_by}

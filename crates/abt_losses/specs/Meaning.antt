@@ -3,13 +3,13 @@ use Rattle.std.specs.Prelude.{◌≡◌, ◌≢◌, ◌↔◌, ℕ, ◌+◌, ◌
 use Rattle.dcsp_outside.specs.Outside.{bytes_of}
 use Rattle.dcsp_defs.specs.Csp.{IsSolution, HasNoSolution, IsCsp}
 use Rattle.dcsp_defs.specs.Derivation.{IsRefutation}
-use Rattle.dcsp_problem.specs.Problems.{Contents, csp_of}
+use Rattle.dcsp_rule.specs.Problems.{Contents, csp_of}
 use Rattle.dcsp_script.specs.Scripts.{put_by, FilesAfter}
 use Rattle.ngd_log.specs.Logs.{log_text}
 use Rattle.abt_schedule.specs.Schedules.{schedule_text}
 use Rattle.abt_defs.specs.Bound.{message_bound}
 use Rattle.abt_defs.specs.Runs.{whole}
-use Rattle.lossy_defs.specs.Ends.{is_quiet, has_verdict}
+use Rattle.law_lossy.specs.Ends.{is_quiet, has_verdict}
 use Rattle.law_lossy.specs.Run.{IsWholeRun}
 use Rattle.abt_input.specs.Inputs.{IsModelOf}
 use Rattle.abt_promise.specs.declared.status.Status.{Status}

@@ -2,11 +2,11 @@
 use Rattle.std.specs.Prelude.{◌≡◌, ℕ, ◌+◌, ◌≤◌, ◌++◌, Bool, true, false, List, [], drop, length, map}
 use Rattle.dcsp_defs.specs.Words.{below}
 use Rattle.dcsp_defs.specs.declared.Step.{Step}
-use Rattle.dcsp_problem.specs.Problems.{Contents, csp_of}
+use Rattle.dcsp_rule.specs.Problems.{Contents, csp_of}
 use Rattle.dcsp_script.specs.Scripts.{Write}
-use Rattle.lossy_defs.specs.World.{begin}
-use Rattle.lossy_defs.specs.Deliveries.{numbers}
-use Rattle.lossy_defs.specs.Ends.{calm_words, used}
+use Rattle.law_lossy.specs.World.{begin}
+use Rattle.law_lossy.specs.Deliveries.{numbers}
+use Rattle.law_lossy.specs.Ends.{calm_words, used}
 use Rattle.abt_schedule.specs.Answers.{word_at}
 use Rattle.rand_pcg.specs.Lcg.{Lcg}
 use Rattle.abt_lossy.specs.InWorld.{LossyState, IsAfter, reached}

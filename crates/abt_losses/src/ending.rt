@@ -4,7 +4,7 @@ ghost use Rattle.std.specs.Prelude.{◌≡◌, ℕ, List, [], ◌∷◌, ◌++�
 ghost use Rattle.dcsp_defs.specs.Csp.{count};
 ghost use Rattle.dcsp_defs.specs.Words.{below};
 ghost use Rattle.dcsp_outside.specs.Outside.{Place, Stream};
-ghost use Rattle.dcsp_problem.specs.Problems.{csp_of};
+ghost use Rattle.dcsp_rule.specs.Problems.{csp_of};
 ghost use Rattle.dcsp_script.specs.Scripts.{Put, outside};
 ghost use Rattle.dcsp_script.specs.Ways.{Wrote};
 ghost use Rattle.abt_defs.specs.Network.{values};
@@ -18,8 +18,8 @@ use crate::runner::Runner;
 use abt_lossy::{Lossy, Standing};
 use abt_run::push_outcome;
 use abt_session::{End, Outcome};
+use dcsp_common::Memory;
 use dcsp_domain::IntList;
-use dcsp_list::Memory;
 use dcsp_outside::Sink;
 use dcsp_problem::Problem;
 use dcsp_script::{Stop, put};
@@ -45,7 +45,7 @@ pub fn outcome_of(
     ensures only_memory { OnErr result (result ≡ Err Stop.Memory) }
 {
     law_lossy::handed_up_bounded();
-    let _vars = problem.vars();
+    problem.denotes_csp();
     let end = match runner.medium.state() {
         Standing::Refuted => End::Refuted,
         Standing::Open => End::Capped,

@@ -2,7 +2,7 @@
 
 ghost use Rattle.std.specs.Prelude.{◌≡◌, ◌++◌, IfOk, is_some, option_copied};
 ghost use Rattle.dcsp_outside.specs.Outside.{Place, Stream};
-ghost use Rattle.dcsp_problem.specs.Problems.{csp_of};
+ghost use Rattle.dcsp_rule.specs.Problems.{csp_of};
 ghost use Rattle.dcsp_script.specs.Scripts.{outside};
 ghost use Rattle.dcsp_script.specs.Ways.{Wrote};
 ghost use Rattle.abt_promise.specs.Runs.{CameIn};
@@ -62,7 +62,7 @@ pub fn run_lossy<F: Folder, S: Sink>(
     ensures run { IfOk result (HoldsLossyRun (F.place folder.old).held line.entry.model.now line.entry.events line.entry.seed line.entry.log.now (option_copied line.entry.kept)) }
 {
     let problem = read_model(alloc, folder, line.model)?;
-    let _vars = problem.vars();
+    problem.denotes_csp();
     problems_are_small(&problem);
     lossy_runs_are_right();
     let status = run_problem(alloc, &problem, line, folder, out)?;

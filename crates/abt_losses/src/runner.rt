@@ -2,10 +2,10 @@
 
 ghost use Rattle.std.specs.Prelude.{◌≡◌, ◌<◌, ◌≤◌, ◌+◌, ◌^◌, ◌++◌, ℕ, List, [], ◌∷◌, length, false, Contains, IfOk, OnErr, OnOk, Err, option_to_list};
 ghost use Rattle.dcsp_outside.specs.Outside.{Place, Stream};
-ghost use Rattle.dcsp_problem.specs.Problems.{csp_of};
+ghost use Rattle.dcsp_rule.specs.Problems.{csp_of};
 ghost use Rattle.dcsp_script.specs.Scripts.{Append, Create, outside};
 ghost use Rattle.dcsp_script.specs.Ways.{Wrote};
-ghost use Rattle.lossy_defs.specs.Ends.{calm_word, has_verdict};
+ghost use Rattle.law_lossy.specs.Ends.{calm_word, has_verdict};
 ghost use Rattle.abt_network.specs.Standing.{standing_in, steps_of};
 ghost use Rattle.abt_lossy.specs.InWorld.{reached, CanHappen};
 ghost use Rattle.abt_schedule.specs.Answers.{word_at};

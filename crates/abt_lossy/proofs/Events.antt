@@ -6,17 +6,17 @@ use Rattle.std.proofs.lemmas.Bool.Decides.{nat_tests, eqb_tells}
 use Rattle.dcsp_defs.specs.Words.{In, below}
 use Rattle.dcsp_defs.specs.Csp.{Csp, count}
 use Rattle.dcsp_defs.proofs.Lists.{In-below, get-In}
-use Rattle.law_invariants.proofs.Runs.{In-pairs}
+use Rattle.law_agent.proofs.Runs.{In-pairs}
 use Rattle.abt_defs.specs.Agents.{Message}
 use Rattle.abt_defs.specs.Network.{Network as Net, pairs, run, start}
-use Rattle.dcsp_problem.specs.Problems.{csp_of}
-use Rattle.abt_message.specs.Messages.{message_of}
+use Rattle.dcsp_rule.specs.Problems.{csp_of}
+use Rattle.abt_parts.specs.Messages.{message_of}
 use Rattle.abt_links.specs.Transit.{link_of}
 use Rattle.abt_links.specs.PairTables.{has_pair, members}
 use Rattle.abt_network.specs.Standing.{NetworkState, StandsAt}
-use Rattle.lossy_defs.specs.Packets.{coming, staying}
-use Rattle.lossy_defs.specs.World.{World, begin, reliable, raised, unacknowledged, send_first, send_on, send, come, event, after}
-use Rattle.lossy_defs.specs.Deliveries.{pair_of_packet, pair_of_event, number_of, delivered, numbers}
+use Rattle.law_lossy.specs.Packets.{coming, staying}
+use Rattle.law_lossy.specs.World.{World, begin, reliable, raised, unacknowledged, send_first, send_on, send, come, event, after}
+use Rattle.law_lossy.specs.Deliveries.{pair_of_packet, pair_of_event, number_of, delivered, numbers}
 use Rattle.law_lossy.proofs.Facts.{facts_after, facts_begin, is_unacknowledged}
 use Rattle.law_lossy.proofs.Lists.{raised_row, raised_cell}
 use Rattle.law_lossy.proofs.Events.{effect}

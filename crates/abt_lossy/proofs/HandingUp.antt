@@ -6,8 +6,8 @@ use Rattle.dcsp_defs.specs.Csp.{Csp, count}
 use Rattle.dcsp_defs.specs.declared.Step.{Step}
 use Rattle.abt_defs.specs.Agents.{Message}
 use Rattle.abt_defs.specs.Network.{Network as Net, ready, run, start, deliver, is_empty}
-use Rattle.dcsp_problem.specs.Problems.{csp_of}
-use Rattle.abt_message.specs.Messages.{message_of}
+use Rattle.dcsp_rule.specs.Problems.{csp_of}
+use Rattle.abt_parts.specs.Messages.{message_of}
 use Rattle.abt_links.specs.Transit.{link_of, ready_pairs}
 use Rattle.abt_links.specs.PairTables.{has_pair}
 use Rattle.ngd_log.specs.StepText.{IsInRange}
@@ -15,10 +15,10 @@ use Rattle.abt_network.specs.declared.Delivery.{Delivery}
 use Rattle.abt_network.specs.declared.Standing.{Standing}
 use Rattle.abt_network.specs.declared.Standing.TheVariants.{Open, Quiet, Refuted}
 use Rattle.abt_network.specs.Standing.{NetworkState, StandsAt, standing_in, reached, CanDeliver, Delivers as CodeDelivers, LeadsOn, IsRightStep}
-use Rattle.lossy_defs.specs.Packets.{Data, Acknowledgement, coming, staying}
-use Rattle.lossy_defs.specs.World.{World, begin, reliable, raised, add_packet, acknowledge, hand_up, arrive, come, event, after}
-use Rattle.lossy_defs.specs.Deliveries.{pair_of_event, number_of, delivered, numbers}
-use Rattle.lossy_defs.specs.Facts.{IsRightAcknowledgement}
+use Rattle.law_lossy.specs.Packets.{Data, Acknowledgement, coming, staying}
+use Rattle.law_lossy.specs.World.{World, begin, reliable, raised, add_packet, acknowledge, hand_up, arrive, come, event, after}
+use Rattle.law_lossy.specs.Deliveries.{pair_of_event, number_of, delivered, numbers}
+use Rattle.law_lossy.specs.Facts.{IsRightAcknowledgement}
 use Rattle.law_lossy.proofs.Lists.{raised_tells, coming-In}
 use Rattle.law_lossy.proofs.Facts.{facts_after, facts_begin}
 use Rattle.law_lossy.proofs.Events.{HandsUpNone, Delivers, moves, acknowledge_network}

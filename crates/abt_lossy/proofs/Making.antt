@@ -1,7 +1,7 @@
 -- What callers see of the agents over the medium, before and after a call.
 use Rattle.std.proofs.Common.{◌≡◌, ℕ, ◌+◌, ◌<◌, ◌^◌, Bool, true, false, cond, List, [], ◌∷◌, ◌++◌, length, length-append, option_to_list, refl, sym, ap, ◌∙◌, subst, arith}
 use Rattle.dcsp_defs.specs.Csp.{Csp, IsCsp, HasNoSolution, count}
-use Rattle.dcsp_problem.specs.Problems.{Contents, csp_of}
+use Rattle.dcsp_rule.specs.Problems.{Contents, csp_of}
 use Rattle.abt_defs.specs.Network.{Network as Net, run, start, ready, is_empty, IsSolved}
 use Rattle.abt_network.specs.declared.Begun.{Begun}
 use Rattle.abt_network.specs.declared.Standing.{Standing}
@@ -9,9 +9,9 @@ use Rattle.abt_network.specs.declared.Standing.TheVariants.{Open, Quiet, Refuted
 use Rattle.abt_network.specs.Standing as network
 use Rattle.abt_network.specs.Standing.{NetworkState, StandsAt, Starts, standing_in}
 use Rattle.abt_network.proofs.Quiet.{is_open}
-use Rattle.lossy_defs.specs.World.{World, begin, reliable, event, after}
-use Rattle.lossy_defs.specs.Deliveries.{numbers}
-use Rattle.lossy_defs.specs.Ends.{is_quiet}
+use Rattle.law_lossy.specs.World.{World, begin, reliable, event, after}
+use Rattle.law_lossy.specs.Deliveries.{numbers}
+use Rattle.law_lossy.specs.Ends.{is_quiet}
 use Rattle.law_lossy.proofs.Facts.{facts_after, facts_begin}
 use Rattle.law_lossy.proofs.Runs.{is_run, hands_up_in_order, handed_up_bounded, quiet_is_solved, steps_are_right}
 use Rattle.law_lossy.proofs.Whole.{one_more_event, is_whole, quiet_same}

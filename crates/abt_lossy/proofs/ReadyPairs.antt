@@ -3,10 +3,10 @@ use Rattle.std.proofs.Common.{◌≡◌, ℕ, zero, suc, ◌≤◌, Bool, true, 
 use Rattle.std.proofs.lemmas.Bool.{cases_lt}
 use Rattle.dcsp_defs.specs.Words.{below}
 use Rattle.dcsp_defs.specs.Csp.{count}
-use Rattle.dcsp_problem.specs.Problems.{csp_of}
+use Rattle.dcsp_rule.specs.Problems.{csp_of}
 use Rattle.abt_defs.specs.Network.{Network as Net, pairs, ready, is_empty}
-use Rattle.abt_message.specs.declared.Message.{Message as CodeMessage}
-use Rattle.abt_message.specs.Messages.{message_of}
+use Rattle.abt_parts.specs.declared.message.Message.{Message as CodeMessage}
+use Rattle.abt_parts.specs.Messages.{message_of}
 use Rattle.abt_links.specs.Transit.{link_of, ready_pairs}
 use Rattle.abt_network.specs.Standing.{NetworkState, StandsAt}
 

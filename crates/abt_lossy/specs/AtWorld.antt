@@ -1,7 +1,7 @@
 -- At which world the agents over the medium stand.
 use Rattle.std.specs.Prelude.{◌≡◌, ℕ, ◌+◌, ◌<◌, ◌^◌, Bool, true, false, nat_lt, List, [], ◌∷◌, ◌++◌, length, IfSome, option_to_list}
 use Rattle.dcsp_defs.specs.Csp.{Csp, count}
-use Rattle.dcsp_problem.specs.Problems.{csp_of}
+use Rattle.dcsp_rule.specs.Problems.{csp_of}
 use Rattle.abt_links.specs.Transit.{link_of}
 use Rattle.abt_links.specs.PairTables.{has_pair}
 use Rattle.abt_defs.specs.Network.{run, start}
@@ -9,8 +9,8 @@ use Rattle.abt_network.specs.declared.Standing.{Standing}
 use Rattle.abt_network.specs.declared.Standing.TheVariants.{Open, Quiet, Refuted}
 use Rattle.ngd_log.specs.StepText.{IsInRange}
 use Rattle.abt_network.specs.Standing.{StandsAt, IsRightStep}
-use Rattle.lossy_defs.specs.World.{World, begin, after, event}
-use Rattle.lossy_defs.specs.Deliveries.{delivered, numbers}
+use Rattle.law_lossy.specs.World.{World, begin, after, event}
+use Rattle.law_lossy.specs.Deliveries.{delivered, numbers}
 use Rattle.abt_lossy.specs.Carries.{Carries, CountsFit, acknowledged_of, handed_up_of}
 use Rattle.abt_lossy.specs.declared.parts.Parts.{Parts}
 use Rattle.abt_lossy.specs.declared.parts.Happened.{Happened}

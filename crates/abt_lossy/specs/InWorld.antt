@@ -1,7 +1,7 @@
 -- Where the agents over the medium stand, as callers see them, and what their calls do.
 use Rattle.std.specs.Prelude.{◌≡◌, ℕ, ◌+◌, ◌<◌, ◌≤◌, ◌^◌, Bool, true, false, List, [], ◌∷◌, ◌++◌, length, take, IfSome, if◌then◌else◌, option_to_list}
 use Rattle.dcsp_defs.specs.Csp.{Csp}
-use Rattle.dcsp_problem.specs.Problems.{Contents, csp_of}
+use Rattle.dcsp_rule.specs.Problems.{Contents, csp_of}
 use Rattle.ngd_log.specs.StepText.{IsInRange}
 use Rattle.abt_defs.specs.Network.{run, start, IsSolved}
 use Rattle.abt_defs.specs.Runs.{whole}
@@ -10,9 +10,9 @@ use Rattle.abt_network.specs.declared.Standing.{Standing}
 use Rattle.abt_network.specs.declared.Standing.TheVariants.{Open, Quiet, Refuted}
 use Rattle.abt_network.specs.Standing as network
 use Rattle.abt_network.specs.Standing.{NetworkState, StandsAt, Starts, IsRightStep}
-use Rattle.lossy_defs.specs.World.{World, begin, reliable, event, after}
-use Rattle.lossy_defs.specs.Deliveries.{delivered, numbers, handed_messages}
-use Rattle.lossy_defs.specs.Ends.{is_quiet}
+use Rattle.law_lossy.specs.World.{World, begin, reliable, event, after}
+use Rattle.law_lossy.specs.Deliveries.{delivered, numbers, handed_messages}
+use Rattle.law_lossy.specs.Ends.{is_quiet}
 use Rattle.law_lossy.specs.Run.{IsWholeRun}
 use Rattle.law_lossy.specs.Verdicts.{AreBounded, AreRightSteps}
 use Rattle.abt_lossy.specs.declared.carrier.Carrier.{Carrier}

@@ -1,6 +1,6 @@
 -- What the inside of the agents over the medium keeps.
 use Rattle.std.specs.Prelude.{◌≡◌, ℕ, Bool, true, false, List, length}
-use Rattle.dcsp_problem.specs.Problems.{Contents, csp_of}
+use Rattle.dcsp_rule.specs.Problems.{Contents, csp_of}
 use Rattle.abt_lossy.specs.declared.parts.Parts.{Parts}
 use Rattle.abt_lossy.specs.AtWorld.{IsAt, IsBlank}
 use Rattle.abt_lossy.specs.InWorld.{LossyState}

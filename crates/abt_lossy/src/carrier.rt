@@ -2,12 +2,12 @@
 
 ghost use Rattle.std.specs.Prelude.{◌≡◌, ◌%◌, ◌≢◌, IfOk, OnOk};
 ghost use Rattle.dcsp_defs.specs.Csp.{Csp};
-ghost use Rattle.lossy_defs.specs.World.{begin, raised};
+ghost use Rattle.law_lossy.specs.World.{begin, raised};
 ghost use Rattle.abt_lossy.specs.Carries.{acknowledged_of, handed_up_of, Arrives, Carries, Changes, Comes, CountsFit, HandsUp, Sends};
 
 use crate::counts::Counts;
 use crate::pool::{Packet, Pool};
-use dcsp_list::Memory;
+use dcsp_common::Memory;
 use std::alloc::Global;
 
 /// All that the medium and the two ends of each pair have, but for the messages.

@@ -1,10 +1,10 @@
 //! What the two ends of each pair of agents have counted.
 
 ghost use Rattle.std.specs.Prelude.{◌≡◌, ◌<◌, ◌^◌, ℕ, OnErr, OnOk};
-ghost use Rattle.lossy_defs.specs.World.{raised};
+ghost use Rattle.law_lossy.specs.World.{raised};
 ghost use Rattle.abt_lossy.specs.Carries.{acknowledged_of, handed_up_of};
 
-use dcsp_list::Memory;
+use dcsp_common::Memory;
 use std::alloc::Global;
 use std::collections::BTreeMap;
 use std::marker::Model;

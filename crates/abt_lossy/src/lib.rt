@@ -13,7 +13,7 @@ mod parts;
 mod pool;
 
 pub use abt_network::{Begun, Standing};
-pub use dcsp_list::Memory;
+pub use dcsp_common::Memory;
 pub use lossy::Lossy;
 pub use ngd_log::Step;
 pub use parts::Happened;

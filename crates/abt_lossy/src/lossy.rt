@@ -2,14 +2,14 @@
 
 ghost use Rattle.std.specs.Prelude.{◌≡◌, ◌<◌, ◌≤◌, ◌+◌, ◌^◌, ℕ, List, [], ◌∷◌, ◌++◌, IfOk, IsErr, OnErr, OnOk, false, true, length};
 ghost use Rattle.dcsp_defs.specs.Csp.{HasNoSolution};
-ghost use Rattle.dcsp_problem.specs.Problems.{csp_of};
+ghost use Rattle.dcsp_rule.specs.Problems.{csp_of};
 ghost use Rattle.abt_defs.specs.Network.{IsSolved};
 ghost use Rattle.abt_network.specs.Standing.{standing_in, state_at};
 ghost use Rattle.abt_lossy.specs.InWorld.{reached, standing_of, Begins, CanHappen, Happens, IsAfter, IsOrderly};
 
 use crate::parts::{Happened, Parts};
 use abt_network::{Begun, Standing};
-use dcsp_list::Memory;
+use dcsp_common::Memory;
 use dcsp_problem::Problem;
 use std::alloc::Global;
 use std::marker::Model;
@@ -110,7 +110,7 @@ impl<'p> Lossy<'p> {
         if self.spent {
             return Err(Memory);
         }
-        let _vars = self.problem.vars();
+        self.problem.denotes_csp();
         match self.parts.event(word) {
             Ok(happened) => {
                 self.events += 1;
@@ -132,7 +132,7 @@ impl<'p> Lossy<'p> {
         ensures solved { (words : List ℕ) → IsAfter self.now words → self.now.spent ≡ false → result ≡ Standing.Quiet → IsSolved (csp_of self.now.problem) (reached self.now words).network }
         ensures refuted { (words : List ℕ) → IsAfter self.now words → self.now.spent ≡ false → result ≡ Standing.Refuted → HasNoSolution (csp_of self.now.problem) }
     {
-        let _vars = self.problem.vars();
+        self.problem.denotes_csp();
         self.parts.network.state()
     }
 

@@ -1,7 +1,7 @@
 //! One event of the agents over the medium.
 
 ghost use Rattle.std.specs.Prelude.{◌≡◌, ◌%◌, ◌≢◌, ◌==◌, ◌<◌, ◌&&◌, nat_lt, ℕ, [], IfOk, OnOk, None, if◌then◌else◌};
-ghost use Rattle.dcsp_problem.specs.Problems.{csp_of};
+ghost use Rattle.dcsp_rule.specs.Problems.{csp_of};
 ghost use Rattle.abt_network.specs.Standing.{Starts};
 ghost use Rattle.abt_links.specs.PairTables.{has_pair};
 ghost use Rattle.abt_lossy.specs.Carries.{CountsFit};
@@ -10,7 +10,7 @@ ghost use Rattle.abt_lossy.specs.AtWorld.{is_refuted, may_send, Does, IsAt, IsBl
 use crate::carrier::{Arrival, Carrier};
 use abt_links::PairSet;
 use abt_network::{Begun, Network, Standing, Step};
-use dcsp_list::Memory;
+use dcsp_common::Memory;
 use dcsp_problem::Problem;
 use std::alloc::Global;
 

@@ -1,9 +1,9 @@
 //! The packets on their way.
 
 ghost use Rattle.std.specs.Prelude.{◌≡◌, ◌+◌, [], ◌∷◌, ◌++◌, length, OnErr, OnOk};
-ghost use Rattle.lossy_defs.specs.Packets.{coming, staying};
+ghost use Rattle.law_lossy.specs.Packets.{coming, staying};
 
-use dcsp_list::Memory;
+use dcsp_common::Memory;
 use std::alloc::Global;
 use std::marker::Model;
 

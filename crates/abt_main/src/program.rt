@@ -2,7 +2,7 @@
 
 use abt_command::{Status, run_program};
 use abt_files::{OpenFiles, RealFolder, RealSink, Stream};
-use dcsp_list::Memory;
+use dcsp_common::Memory;
 use dcsp_outside::Sink;
 use std::alloc::Global;
 use std::cell::RefCell;

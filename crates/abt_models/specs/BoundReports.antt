@@ -1,6 +1,6 @@
 -- What `bound MODEL` promises.
 use Rattle.std.specs.Prelude.{ℕ, ◌^◌, List, [], ◌∷◌, ◌++◌, codes, decimal, nat_lt, Option, Some, None, if◌then◌else◌}
-use Rattle.dcsp_problem.specs.Problems.{Contents, csp_of}
+use Rattle.dcsp_rule.specs.Problems.{Contents, csp_of}
 use Rattle.dcsp_script.specs.Scripts.{Put}
 use Rattle.abt_defs.specs.Bound.{message_bound}
 use Rattle.abt_promise.specs.declared.status.Status.TheVariants.{Good}

@@ -13,13 +13,13 @@ use Rattle.dcsp_defs.specs.declared.Reason.TheVariants.{Rule}
 use Rattle.abt_defs.specs.Agents.{Agent, Message, fresh}
 use Rattle.abt_defs.specs.Steps.{Outcome, settle}
 use Rattle.abt_defs.specs.Network.{Network, acted, next_number, sent_to, refutes, is_empty, is_false, empty_network, settle_below, start, start_by}
-use Rattle.law_invariants.proofs.Runs.{start_kept}
-use Rattle.law_right_steps.proofs.Runs.{steps_right}
-use Rattle.law_deliverable.proofs.Sends.{settle_reaches}
-use Rattle.law_deliverable.proofs.Joins.{tells_lower}
-use Rattle.dcsp_problem.specs.Problems.{Contents, csp_of}
-use Rattle.abt_message.specs.declared.Sent.{Sent}
-use Rattle.abt_message.specs.Messages.{messages_of}
+use Rattle.law_agent.proofs.Runs.{start_kept}
+use Rattle.law_agent.proofs.StepRuns.{steps_right}
+use Rattle.law_runs.proofs.Sends.{settle_reaches}
+use Rattle.law_runs.proofs.Joins.{tells_lower}
+use Rattle.dcsp_rule.specs.Problems.{Contents, csp_of}
+use Rattle.abt_parts.specs.declared.message.Sent.{Sent}
+use Rattle.abt_parts.specs.Messages.{messages_of}
 use Rattle.abt_agent.specs.declared.Turn.{Turn}
 use Rattle.abt_agent.specs.declared.Turn.TheVariants.{Quiet, Announced, Derived, Empty}
 use Rattle.abt_agent.specs.Turns.{IsTurn, IsFirstTurn}

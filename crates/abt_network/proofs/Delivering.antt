@@ -8,10 +8,10 @@ use Rattle.abt_defs.specs.Agents.{Agent}
 use Rattle.abt_defs.specs.Steps.{Outcome, receive}
 use Rattle.abt_defs.specs.Network.{Network, is_empty, refutes, sent_to, acted, left, next_number, deliver_head, deliver_at, deliver, ready, pairs}
 use Rattle.abt_defs.specs.Runs as runs
-use Rattle.dcsp_problem.specs.Problems.{Contents, csp_of}
-use Rattle.abt_message.specs.declared.Message.{Message as TheMessage}
-use Rattle.abt_message.specs.declared.Sent.{Sent}
-use Rattle.abt_message.specs.Messages.{message_of, messages_of}
+use Rattle.dcsp_rule.specs.Problems.{Contents, csp_of}
+use Rattle.abt_parts.specs.declared.message.Message.{Message as TheMessage}
+use Rattle.abt_parts.specs.declared.message.Sent.{Sent}
+use Rattle.abt_parts.specs.Messages.{message_of, messages_of}
 use Rattle.abt_agent.specs.declared.Turn.{Turn}
 use Rattle.abt_agent.specs.declared.Turn.TheVariants.{Quiet, Announced, Derived, Empty}
 use Rattle.abt_agent.specs.Turns.{IsTurn}

@@ -5,9 +5,9 @@ use Rattle.std.specs.List.{list_all, enumerate_from}
 use Rattle.std.specs.Option.{option_map}
 use Rattle.dcsp_defs.specs.Csp.{Constraint, is_violated}
 use Rattle.abt_defs.specs.Network.{is_false, is_empty}
-use Rattle.dcsp_problem.specs.declared.rule.Rule.{Rule}
-use Rattle.dcsp_problem.specs.Rules.{no_rule}
-use Rattle.dcsp_problem.specs.Problems.{Contents, csp_of, constraint_of, constraint_at}
+use Rattle.dcsp_rule.specs.declared.rule.Rule.{Rule}
+use Rattle.dcsp_rule.specs.Rules.{no_rule}
+use Rattle.dcsp_rule.specs.Problems.{Contents, csp_of, constraint_of, constraint_at}
 use Rattle.abt_network.specs.Settling.{first_false}
 
 -- where nothing has a value, a false rule is one without variables

@@ -1,6 +1,6 @@
 -- What may come to an agent of a reached network.
 use Rattle.std.proofs.Common.{◌≡◌, ℕ, zero, suc, ◌+◌, ◌<◌, ◌≤◌, ◌^◌, List, [], ◌∷◌, map, length, refl, sym, ◌∙◌, ap, subst, false, inl, Some, arith, slice_get}
-use Rattle.dcsp_nogood.specs.declared.Pair.{Pair}
+use Rattle.dcsp_defs.specs.declared.nogood.Pair.{Pair}
 use Rattle.dcsp_defs.specs.Words.{In}
 use Rattle.dcsp_defs.specs.Csp.{IsCsp}
 use Rattle.dcsp_defs.specs.declared.Step.{Step}
@@ -8,15 +8,15 @@ use Rattle.dcsp_defs.specs.Derivation.{step_at}
 use Rattle.abt_defs.specs.Agents.{Agent, Message, Announce, Refuse, Add_link}
 use Rattle.abt_defs.specs.Steps.{receive}
 use Rattle.abt_defs.specs.Network.{Network, run, start}
-use Rattle.law_invariants.proofs.Runs.{runs, started}
-use Rattle.law_sizes.proofs.Runs.{sizes_hold}
-use Rattle.law_deliverable.specs.Deliverable.{Deliverable, HasLowest}
-use Rattle.law_deliverable.proofs.Takes.{all_deliverable}
-use Rattle.law_deliverable.proofs.Joins.{reaches}
-use Rattle.dcsp_problem.specs.Problems.{Contents, csp_of}
-use Rattle.abt_message.specs.declared.Message.{Message as TheMessage}
-use Rattle.abt_message.specs.declared.Message.TheVariants.{Tell, Refuse as Refused, AddLink}
-use Rattle.abt_message.specs.Messages.{message_of, with_stamps}
+use Rattle.law_agent.proofs.Runs.{runs, started}
+use Rattle.law_runs.proofs.SizeRuns.{sizes_hold}
+use Rattle.law_runs.specs.Deliverable.{Deliverable, HasLowest}
+use Rattle.law_runs.proofs.Takes.{all_deliverable}
+use Rattle.law_runs.proofs.Joins.{reaches}
+use Rattle.dcsp_rule.specs.Problems.{Contents, csp_of}
+use Rattle.abt_parts.specs.declared.message.Message.{Message as TheMessage}
+use Rattle.abt_parts.specs.declared.message.Message.TheVariants.{Tell, Refuse as Refused, AddLink}
+use Rattle.abt_parts.specs.Messages.{message_of, with_stamps}
 use Rattle.abt_agent.specs.Outgoing.{IsStamped}
 use Rattle.abt_agent.specs.States.{State, stands_for, IsFit}
 use Rattle.abt_agent.proofs.Lists.{plain-with_stamps}

@@ -7,9 +7,9 @@ use Rattle.dcsp_defs.specs.Derivation.{IsDerivation, IsRight}
 use Rattle.dcsp_defs.specs.declared.Step.{Step}
 use Rattle.dcsp_defs.proofs.Lists.{get-last}
 use Rattle.abt_defs.specs.Network.{Network, deliver, is_empty, refutes}
-use Rattle.law_replay.specs.Replay.{GoesOn}
-use Rattle.law_replay.proofs.Next.{continues}
-use Rattle.dcsp_problem.specs.Problems.{Contents, csp_of}
+use Rattle.law_runs.specs.Replay.{GoesOn}
+use Rattle.law_runs.proofs.Next.{continues}
+use Rattle.dcsp_rule.specs.Problems.{Contents, csp_of}
 use Rattle.dcsp_problem.specs.WellFormed.{IsProblem}
 use Rattle.ngd_log.specs.StepText.{IsInRange}
 use Rattle.abt_network.proofs.InRange.{right_in}

@@ -6,9 +6,9 @@ use Rattle.dcsp_defs.specs.Words.{In}
 use Rattle.dcsp_defs.proofs.Lists.{In-split}
 use Rattle.abt_defs.specs.Agents as machine
 use Rattle.abt_defs.specs.Network.{sent_to}
-use Rattle.abt_message.specs.Messages.{message_of, messages_of}
-use Rattle.abt_message.specs.declared.Message.{Message}
-use Rattle.abt_message.specs.declared.Sent.{Sent}
+use Rattle.abt_parts.specs.Messages.{message_of, messages_of}
+use Rattle.abt_parts.specs.declared.message.Message.{Message}
+use Rattle.abt_parts.specs.declared.message.Sent.{Sent}
 use Rattle.abt_agent.specs.Outgoing.{IsStamped}
 use Rattle.abt_links.specs.Transit.{Transit, link_of, Posts}
 use Rattle.abt_network.specs.Standing.{messages_on}

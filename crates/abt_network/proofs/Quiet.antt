@@ -2,12 +2,12 @@
 use Rattle.std.proofs.Common.{◌≡◌, ℕ, ◌+◌, ◌<◌, ◌≤◌, Bool, true, false, cond, List, [], ◌∷◌, length, sym, ◌∙◌, ap, subst, arith, refl}
 use Rattle.dcsp_defs.specs.Csp.{IsCsp}
 use Rattle.abt_defs.specs.Network.{is_empty, IsSolved}
-use Rattle.law_no_stall.proofs.Stall.{no_stall}
-use Rattle.law_replay.proofs.Whole.{quiet_if_none}
-use Rattle.law_sizes.proofs.Runs.{sizes_hold}
-use Rattle.law_bounded_store.specs.Stores.{IsBoundedStore}
-use Rattle.law_bounded_store.proofs.Runs.{bounded_stores}
-use Rattle.dcsp_problem.specs.Problems.{csp_of}
+use Rattle.law_runs.proofs.Stall.{no_stall}
+use Rattle.law_runs.proofs.Whole.{quiet_if_none}
+use Rattle.law_runs.proofs.SizeRuns.{sizes_hold}
+use Rattle.law_agent.specs.Stores.{IsBoundedStore}
+use Rattle.law_agent.proofs.StoreRuns.{bounded_stores}
+use Rattle.dcsp_rule.specs.Problems.{csp_of}
 use Rattle.abt_agent.specs.States.{stands_for}
 use Rattle.abt_links.specs.Transit.{ready_pairs}
 use Rattle.abt_network.specs.declared.Standing.TheVariants.{Open, Quiet, Refuted}

@@ -4,9 +4,9 @@ use Rattle.std.specs.Prelude.{All}
 use Rattle.std.proofs.lemmas.Bool.{cases_eq}
 use Rattle.dcsp_defs.specs.Words.{In}
 use Rattle.abt_defs.specs.Agents as machine
-use Rattle.dcsp_problem.specs.Problems.{Contents}
-use Rattle.abt_message.specs.declared.Sent.{Sent}
-use Rattle.abt_message.specs.Messages.{messages_of, sent_of}
+use Rattle.dcsp_rule.specs.Problems.{Contents}
+use Rattle.abt_parts.specs.declared.message.Sent.{Sent}
+use Rattle.abt_parts.specs.Messages.{messages_of, sent_of}
 use Rattle.abt_agent.specs.Outgoing.{IsStamped, Posts}
 use Rattle.abt_agent.specs.States.{State, IsFresh}
 use Rattle.abt_network.specs.Standing.{state_at}

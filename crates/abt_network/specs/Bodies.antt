@@ -4,9 +4,9 @@ use Rattle.dcsp_defs.specs.Words.{In}
 use Rattle.abt_defs.specs.Agents as machine
 use Rattle.abt_defs.specs.Steps.{receive}
 use Rattle.abt_defs.specs.Network.{empty_network}
-use Rattle.dcsp_problem.specs.Problems.{Contents, csp_of}
-use Rattle.abt_message.specs.declared.Message.{Message}
-use Rattle.abt_message.specs.Messages.{message_of}
+use Rattle.dcsp_rule.specs.Problems.{Contents, csp_of}
+use Rattle.abt_parts.specs.declared.message.Message.{Message}
+use Rattle.abt_parts.specs.Messages.{message_of}
 use Rattle.abt_agent.specs.Outgoing.{IsStamped}
 use Rattle.abt_agent.specs.States.{State, stands_for, CanReceive, IsFresh}
 use Rattle.abt_links.specs.Transit.{Transit, link_of}

@@ -3,7 +3,7 @@ use Rattle.std.specs.Prelude.{◌≡◌, ℕ, ◌+◌, List, [], ◌∷◌, ◌+
 use Rattle.dcsp_defs.specs.declared.Step.{Step}
 use Rattle.abt_defs.specs.Network.{Network, deliver, refutes}
 use Rattle.abt_defs.specs.Runs as runs
-use Rattle.dcsp_problem.specs.Problems.{Contents, csp_of}
+use Rattle.dcsp_rule.specs.Problems.{Contents, csp_of}
 use Rattle.abt_agent.specs.States.{State}
 use Rattle.abt_links.specs.Transit.{Transit}
 use Rattle.abt_agent.specs.declared.Turn.{Turn}

@@ -7,7 +7,7 @@ use Rattle.dcsp_defs.specs.declared.Reason.TheVariants.{Rule}
 use Rattle.dcsp_defs.specs.declared.Step.{Step}
 use Rattle.abt_defs.specs.Steps.{settle}
 use Rattle.abt_defs.specs.Network.{Network, acted, empty_network, next_number, is_false, refutes, settle_below}
-use Rattle.dcsp_problem.specs.Problems.{Contents, csp_of}
+use Rattle.dcsp_rule.specs.Problems.{Contents, csp_of}
 use Rattle.abt_agent.specs.States.{State}
 use Rattle.abt_links.specs.Transit.{Transit}
 use Rattle.abt_network.specs.Standing.{Stands}

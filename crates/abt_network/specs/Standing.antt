@@ -10,9 +10,9 @@ use Rattle.abt_defs.specs.Network as machine
 use Rattle.abt_defs.specs.Network.{run, start, deliver, ready, is_empty, refutes}
 use Rattle.abt_defs.specs.Runs as runs
 use Rattle.ngd_log.specs.StepText.{IsInRange}
-use Rattle.dcsp_problem.specs.declared.aim.Aim.TheVariants.{Satisfy}
-use Rattle.dcsp_problem.specs.Problems.{Contents, csp_of}
-use Rattle.abt_message.specs.Messages.{message_of}
+use Rattle.dcsp_rule.specs.declared.aim.Aim.TheVariants.{Satisfy}
+use Rattle.dcsp_rule.specs.Problems.{Contents, csp_of}
+use Rattle.abt_parts.specs.Messages.{message_of}
 use Rattle.abt_agent.specs.States.{State, stands_for}
 use Rattle.abt_links.specs.Transit.{Transit, link_of, ready_pairs}
 use Rattle.abt_network.specs.declared.Begun.{Begun}

@@ -2,7 +2,7 @@
 
 ghost use Rattle.std.specs.Prelude.{◌≡◌, ◌≢◌, ◌<◌, ◌∷◌, ◌++◌, [], ℕ, length, IfOk, OnOk, false, true};
 ghost use Rattle.abt_defs.specs.Network.{Network as TheNetwork, start};
-ghost use Rattle.dcsp_problem.specs.Problems.{csp_of};
+ghost use Rattle.dcsp_rule.specs.Problems.{csp_of};
 ghost use Rattle.abt_agent.specs.States.{IsFresh, Settles};
 ghost use Rattle.abt_agent.specs.Turns.{IsFirstTurn};
 ghost use Rattle.abt_network.specs.Standing.{state_at, Stands, Starts};
@@ -14,10 +14,9 @@ use crate::body::Body;
 use crate::deliver::step_of;
 use crate::post::post;
 use abt_agent::{Agent, Turn};
-use abt_message::Outbox;
-use dcsp_defs::{Reason, ReasonList};
-use dcsp_list::Memory;
-use dcsp_nogood::Nogood;
+use abt_parts::Outbox;
+use dcsp_common::Memory;
+use dcsp_defs::{Nogood, Reason, ReasonList};
 use dcsp_problem::{Lookup, Problem};
 use ngd_log::Step;
 use std::alloc::Global;
@@ -78,7 +77,7 @@ impl<'p> Body<'p> {
         ensures sized { IsSized self.new }
         ensures problem { self.new.problem.now ≡ self.old.problem.now }
     {
-        let _vars = self.problem.vars();
+        self.problem.denotes_csp();
         let turn = start_agent(&mut self.agents, agent, &mut self.out)?;
         post(&mut self.links, agent, &mut self.out)?;
         Ok(step_of(turn))
@@ -127,7 +126,7 @@ impl<'p> Body<'p> {
         ensures sized { IsSized self.new }
         ensures problem { self.new.problem.now ≡ self.old.problem.now }
     {
-        let _vars = self.problem.vars();
+        self.problem.denotes_csp();
         let step = self.begin()?;
         self.begun = true;
         self.deliveries = 0;

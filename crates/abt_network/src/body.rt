@@ -6,8 +6,8 @@ ghost use Rattle.abt_network.specs.Bodies.{IsBlank, IsKept, IsSized};
 use crate::begin::fresh_agents;
 use abt_agent::Agent;
 use abt_links::Links;
-use abt_message::Outbox;
-use dcsp_list::Memory;
+use abt_parts::Outbox;
+use dcsp_common::Memory;
 use dcsp_problem::Problem;
 use std::alloc::Global;
 

@@ -3,7 +3,7 @@
 ghost use Rattle.std.specs.Prelude.{◌≡◌, ◌≢◌, ◌<◌, ◌≤◌, ◌+◌, ◌^◌, ℕ, List, length, IfOk, OnOk, false, true};
 ghost use Rattle.abt_defs.specs.Network.{Network as TheNetwork, refutes};
 ghost use Rattle.abt_defs.specs.Runs.{cargo_of};
-ghost use Rattle.abt_message.specs.Messages.{message_of};
+ghost use Rattle.abt_parts.specs.Messages.{message_of};
 ghost use Rattle.abt_agent.specs.States.{CanReceive, Receives};
 ghost use Rattle.abt_links.specs.Transit.{ready_pairs};
 ghost use Rattle.abt_network.specs.Standing.{cargo_in, reached, state_at, CanDeliver, Delivers, LeadsOn, StandsAt};
@@ -15,8 +15,8 @@ use crate::post::post;
 use crate::{Cargo, Delivery};
 use abt_agent::{Agent, Turn};
 use abt_links::Carried;
-use abt_message::{Message, Outbox};
-use dcsp_list::Memory;
+use abt_parts::{Message, Outbox};
+use dcsp_common::Memory;
 use ngd_log::Step;
 
 /// Hands the message to its receiver.
@@ -96,7 +96,7 @@ impl<'p> Body<'p> {
         ensures steps { self.new.steps ≡ self.old.steps }
         ensures begun { self.new.begun ≡ self.old.begun }
     {
-        let _vars = self.problem.vars();
+        self.problem.denotes_csp();
         let count = self.links.ready_count();
         let Carried { from, to, message } = self.links.take_ready(choice % count);
         let cargo = cargo_of(&message);
@@ -124,7 +124,7 @@ impl<'p> Body<'p> {
         ensures sized { IsSized self.new }
         ensures problem { self.new.problem.now ≡ self.old.problem.now }
     {
-        let _vars = self.problem.vars();
+        self.problem.denotes_csp();
         let delivery = self.pass_on(choice)?;
         self.deliveries += 1;
         self.steps += count_of(&delivery.step);

@@ -12,7 +12,7 @@ mod deliver;
 mod network;
 mod post;
 
-pub use dcsp_list::Memory;
+pub use dcsp_common::Memory;
 pub use network::Network;
 pub use ngd_log::Step;
 

@@ -2,15 +2,15 @@
 
 ghost use Rattle.std.specs.Prelude.{◌≡◌, ◌≢◌, ◌<◌, ◌≤◌, ◌+◌, ◌^◌, ℕ, List, [], IfOk, IsErr, OnErr, OnOk, Some, false, true, length, slice_get};
 ghost use Rattle.abt_defs.specs.Network.{Network as TheNetwork, empty_network, ready, IsSolved};
-ghost use Rattle.law_bounded_store.specs.Stores.{IsBoundedStore};
-ghost use Rattle.dcsp_problem.specs.Problems.{csp_of};
+ghost use Rattle.law_agent.specs.Stores.{IsBoundedStore};
+ghost use Rattle.dcsp_rule.specs.Problems.{csp_of};
 ghost use Rattle.abt_agent.specs.States.{stands_for};
 ghost use Rattle.abt_links.specs.Transit.{link_of, ready_pairs};
 ghost use Rattle.abt_network.specs.Standing.{reached, standing_in, standing_of, state_at, CanDeliver, Delivers, LeadsOn, StandsAt, Starts};
 
 use crate::body::Body;
 use crate::{Begun, Delivery, Standing};
-use dcsp_list::Memory;
+use dcsp_common::Memory;
 use dcsp_problem::Problem;
 use std::alloc::Global;
 use std::marker::Model;
@@ -104,7 +104,7 @@ impl<'p> Network<'p> {
         ensures machine { (net : TheNetwork) → StandsAt self.now net → self.now.spent ≡ false → result ≡ standing_of (csp_of self.now.problem) net }
         ensures solved { (choices : List ℕ) → StandsAt self.now (reached self.now choices) → self.now.spent ≡ false → result ≡ Standing.Quiet → IsSolved (csp_of self.now.problem) (reached self.now choices) }
     {
-        let _vars = self.body.problem.vars();
+        self.body.problem.denotes_csp();
         if self.body.refuted {
             Standing::Refuted
         } else if self.body.links.ready_count() == 0 {
@@ -153,7 +153,7 @@ impl<'p> Network<'p> {
         ensures machine { (net : TheNetwork) → StandsAt self.now net → result ≡ (net.agents agent).value }
         ensures bounded { (choices : List ℕ) → StandsAt self.now (reached self.now choices) → IsBoundedStore (csp_of self.now.problem) agent (stands_for (state_at self.now.agents agent)) }
     {
-        let _vars = self.body.problem.vars();
+        self.body.problem.denotes_csp();
         self.body.agents[agent as usize].value()
     }
 
@@ -163,7 +163,7 @@ impl<'p> Network<'p> {
         ensures few { self.now.spent ≡ false → result ≤ self.now.deliveries + 1 }
         ensures fits { self.now.spent ≡ false → result < 2 ^ 62 }
     {
-        let _vars = self.body.problem.vars();
+        self.body.problem.denotes_csp();
         self.body.steps
     }
 

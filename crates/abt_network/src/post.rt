@@ -2,15 +2,15 @@
 
 ghost use Rattle.std.specs.Prelude.{◌≡◌, ◌<◌, ◌++◌, ℕ, List, [], All, OnOk, if◌then◌else◌, ◌==◌, ◌&&◌, ◌∷◌};
 ghost use Rattle.abt_defs.specs.Network.{sent_to};
-ghost use Rattle.abt_message.specs.Messages.{message_of, messages_of};
-ghost use Rattle.abt_message.specs.declared.Sent.{Sent as TheSent};
+ghost use Rattle.abt_parts.specs.Messages.{message_of, messages_of};
+ghost use Rattle.abt_parts.specs.declared.message.Sent.{Sent as TheSent};
 ghost use Rattle.abt_agent.specs.Outgoing.{IsStamped};
 ghost use Rattle.abt_network.specs.Standing.{messages_on};
 ghost use Rattle.abt_network.specs.Bodies.{AreStamped};
 
 use abt_links::Links;
-use abt_message::{Outbox, Sent};
-use dcsp_list::Memory;
+use abt_parts::{Outbox, Sent};
+use dcsp_common::Memory;
 
 /// Sends one message.
 fn post_one(links: &mut Links, from: u32, sent: Sent) -> Result<(), Memory>

@@ -6,12 +6,12 @@ use Rattle.std.proofs.lemmas.Bool.Decides.{eqb_tells}
 use Rattle.dcsp_defs.specs.Words.{In}
 use Rattle.dcsp_defs.specs.Csp.{Assignment, IsSolution, domain}
 use Rattle.dcsp_defs.proofs.Lists.{filter-from, In-filter}
-use Rattle.dcsp_problem.specs.declared.rule.Term.TheVariants.{Const, Var}
-use Rattle.dcsp_problem.specs.declared.aim.Aim.{Aim}
-use Rattle.dcsp_problem.specs.declared.aim.Aim.TheVariants.{Satisfy, Least, Greatest}
-use Rattle.dcsp_problem.specs.Rules.{IsAimOf}
-use Rattle.dcsp_problem.specs.Problems.{Contents, csp_of, constraint_of}
-use Rattle.dcsp_problem.specs.Aims.{aimed_at, is_better, narrowed}
+use Rattle.dcsp_rule.specs.declared.rule.Term.TheVariants.{Const, Var}
+use Rattle.dcsp_rule.specs.declared.aim.Aim.{Aim}
+use Rattle.dcsp_rule.specs.declared.aim.Aim.TheVariants.{Satisfy, Least, Greatest}
+use Rattle.dcsp_rule.specs.Rules.{IsAimOf}
+use Rattle.dcsp_rule.specs.Problems.{Contents, csp_of, constraint_of}
+use Rattle.dcsp_rule.specs.Aims.{aimed_at, is_better, narrowed}
 use Rattle.dcsp_problem.proofs.Narrowed.{aimed_below, narrowed_is}
 use Rattle.abt_optimum.specs.Best.{aim_value, NarrowingKeepsBetter, NarrowingDecides}
 

@@ -3,8 +3,8 @@ use Rattle.std.proofs.Common.{◌≡◌, ◌∙◌, ℕ, zero, suc, ◌-◌, ◌
 use Rattle.std.specs.Prelude.{ℤ, option_and_then}
 use Rattle.std.specs.Option.{option_map_or}
 use Rattle.std.proofs.lemmas.List.{length-append, length-take-le}
-use Rattle.dcsp_problem.specs.declared.aim.Aim.{Aim}
-use Rattle.dcsp_problem.specs.Problems.{Contents}
+use Rattle.dcsp_rule.specs.declared.aim.Aim.{Aim}
+use Rattle.dcsp_rule.specs.Problems.{Contents}
 use Rattle.dcsp_defs.proofs.Lists.{get-last, get-more}
 use Rattle.abt_optimum.specs.declared.round.Ended.{Ended}
 use Rattle.abt_optimum.specs.declared.round.Ended.TheVariants.{Solved, Refuted, Capped}

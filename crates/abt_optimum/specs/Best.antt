@@ -1,11 +1,11 @@
 -- Which values of the variables are best.
 use Rattle.std.specs.Prelude.{◌≡◌, ◌↔◌, ℤ, pos, true, false, List, length, slice_index_or, IsSome}
 use Rattle.dcsp_defs.specs.Csp.{Assignment, IsSolution, HasNoSolution}
-use Rattle.dcsp_problem.specs.declared.aim.Aim.{Aim}
-use Rattle.dcsp_problem.specs.declared.aim.Aim.TheVariants.{Satisfy, Least, Greatest}
-use Rattle.dcsp_problem.specs.Rules.{value_under, IsAimOf}
-use Rattle.dcsp_problem.specs.Problems.{Contents, csp_of}
-use Rattle.dcsp_problem.specs.Aims.{aimed_at, is_better, narrowed}
+use Rattle.dcsp_rule.specs.declared.aim.Aim.{Aim}
+use Rattle.dcsp_rule.specs.declared.aim.Aim.TheVariants.{Satisfy, Least, Greatest}
+use Rattle.dcsp_rule.specs.Rules.{value_under, IsAimOf}
+use Rattle.dcsp_rule.specs.Problems.{Contents, csp_of}
+use Rattle.dcsp_rule.specs.Aims.{aimed_at, is_better, narrowed}
 
 -- the values of a list, the first variable's first
 abbrev pub assigned : List ℤ → Assignment

@@ -1,8 +1,8 @@
 -- What the code of a search keeps.
 use Rattle.std.specs.Prelude.{◌≤◌, ℕ, ℤ, Bool, true, false, List, length, Option, Some, None}
-use Rattle.dcsp_problem.specs.declared.aim.Aim.{Aim}
-use Rattle.dcsp_problem.specs.Rules.{IsAimOf}
-use Rattle.dcsp_problem.specs.Problems.{Contents}
+use Rattle.dcsp_rule.specs.declared.aim.Aim.{Aim}
+use Rattle.dcsp_rule.specs.Rules.{IsAimOf}
+use Rattle.dcsp_rule.specs.Problems.{Contents}
 use Rattle.abt_optimum.specs.declared.round.Round.{Round}
 use Rattle.abt_optimum.specs.declared.round.RoundEnd.{RoundEnd}
 use Rattle.abt_optimum.specs.declared.round.RoundEnd.TheVariants.{Solved, Refuted, Capped}

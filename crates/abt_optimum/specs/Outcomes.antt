@@ -1,8 +1,8 @@
 -- What a whole search finds.
 use Rattle.std.specs.Prelude.{◌≡◌, ℤ, List, [], ◌∷◌, Option, Some, None, IsSome, IsSomeAnd, IfSome, slice_get}
 use Rattle.dcsp_defs.specs.Csp.{HasNoSolution}
-use Rattle.dcsp_problem.specs.Problems.{csp_of}
-use Rattle.dcsp_problem.specs.Aims.{aimed_at}
+use Rattle.dcsp_rule.specs.Problems.{csp_of}
+use Rattle.dcsp_rule.specs.Aims.{aimed_at}
 use Rattle.abt_optimum.specs.declared.round.Ended.TheVariants as ended
 use Rattle.abt_optimum.specs.declared.round.Round.{Round}
 use Rattle.abt_optimum.specs.declared.best.BestEnd.{BestEnd}

@@ -1,9 +1,9 @@
 -- Searches, as callers see them.
 use Rattle.std.specs.Prelude.{◌≡◌, ◌≢◌, ℤ, List, Option, Some, IfSome, option_map}
 use Rattle.dcsp_defs.specs.Csp.{HasNoSolution}
-use Rattle.dcsp_problem.specs.declared.aim.Aim.{Aim}
-use Rattle.dcsp_problem.specs.declared.aim.Aim.TheVariants.{Satisfy}
-use Rattle.dcsp_problem.specs.Problems.{Contents, csp_of}
+use Rattle.dcsp_rule.specs.declared.aim.Aim.{Aim}
+use Rattle.dcsp_rule.specs.declared.aim.Aim.TheVariants.{Satisfy}
+use Rattle.dcsp_rule.specs.Problems.{Contents, csp_of}
 use Rattle.abt_optimum.specs.declared.round.Ended.TheVariants as ended
 use Rattle.abt_optimum.specs.declared.round.Ended.{Ended}
 use Rattle.abt_optimum.specs.declared.round.Round.{Round}

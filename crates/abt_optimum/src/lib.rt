@@ -9,7 +9,7 @@
 #![tactic(auto)]
 
 ghost use Rattle.std.specs.Prelude.{◌≡◌, ◌<◌, ◌≤◌, List, length, false};
-ghost use Rattle.dcsp_problem.specs.Problems.{Contents};
+ghost use Rattle.dcsp_rule.specs.Problems.{Contents};
 ghost use Rattle.abt_optimum.specs.declared.round.Round.{Round};
 ghost use Rattle.abt_optimum.specs.Best.{NarrowingKeepsBetter, NarrowingDecides};
 ghost use Rattle.abt_optimum.specs.Rounds.{is_done, most_rounds, AreRounds};

@@ -1,7 +1,7 @@
 //! Searches.
 
 ghost use Rattle.std.specs.Prelude.{◌≡◌, ◌≢◌, ◌↔◌, ◌<◌, ◌≤◌, [], ◌∷◌, ◌++◌, length, true, false, IfOk, IsTrue};
-ghost use Rattle.dcsp_problem.specs.Rules.{value_under, IsTermOf, IsAimOf};
+ghost use Rattle.dcsp_rule.specs.Rules.{value_under, IsTermOf, IsAimOf};
 ghost use Rattle.abt_optimum.specs.Best.{assigned, aim_value};
 ghost use Rattle.abt_optimum.specs.Rounds.{best_value, is_done, most_rounds, round_problem};
 ghost use Rattle.abt_optimum.specs.Searches.{end_at, round_after, values_after, EndsRightly, IsSearch};
@@ -10,8 +10,8 @@ ghost use Rattle.abt_optimum.specs.Kept.{end_of, TellsAim};
 
 use crate::best::{Best, BestEnd};
 use crate::round::{Ended, Round, RoundEnd};
+use dcsp_common::Memory;
 use dcsp_domain::IntList;
-use dcsp_list::Memory;
 use dcsp_problem::{Aim, Problem, Term};
 use std::alloc::Global;
 use std::marker::Model;

@@ -3,7 +3,7 @@ use Rattle.std.proofs.Common.{◌≡◌, ◌≢◌, ℕ, zero, suc, ◌+◌, ◌
 use Rattle.std.specs.Prelude.{count_by, not}
 use mathlib.Core.Bool.{beq}
 use Rattle.std.proofs.lemmas.List.{length-set, get_or-set_same, get_or-set_other}
-use Rattle.abt_store.proofs.Counts.{count_by-cons}
+use Rattle.abt_parts.proofs.Counts.{count_by-cons}
 use Rattle.dcsp_row.specs.declared.marks.Marks.{Marks}
 use Rattle.abt_reason.specs.Firsts.{IsFirst}
 use Rattle.abt_reason.specs.Grids.{at_value, count_of, is_marked_at, marks, no_marks, row_at, rows_of, with_row, IsGrid}

@@ -4,7 +4,7 @@ use Rattle.std.specs.Prelude.{count_by}
 use Rattle.std.proofs.lemmas.Bool.{cases_eq}
 use Rattle.std.proofs.lemmas.List.{length-set, get_or-set_same, get_or-set_other}
 use Rattle.std.proofs.lemmas.List.Sums.{sum_by-set, count_by-le-length}
-use Rattle.abt_store.proofs.Counts.{count_by-cons}
+use Rattle.abt_parts.proofs.Counts.{count_by-cons}
 use Rattle.abt_reason.specs.Firsts.{IsFirst}
 use Rattle.abt_reason.specs.Grids.{at_value, row_at, marks, count_of, IsGrid}
 use Rattle.abt_reason.proofs.FirstLaws.{first_alike}

@@ -9,7 +9,7 @@ use Rattle.dcsp_row.specs.declared.marks.Marks.{Marks}
 use Rattle.dcsp_row.specs.Marks.{is_marked, is_row, FitsSize}
 use Rattle.dcsp_row.specs.Rows.{is_ruled_out, own_at}
 use Rattle.dcsp_defs.specs.Csp.{PartialAssignment, domain}
-use Rattle.dcsp_problem.specs.Problems.{Contents, csp_of}
+use Rattle.dcsp_rule.specs.Problems.{Contents, csp_of}
 use Rattle.dcsp_problem.specs.Index.{owned_rules}
 use Rattle.abt_reason.specs.Cached.{IsRightAt, size_of}
 use Rattle.abt_reason.specs.Grids.{is_marked_at, marks, marks_at, mixed_row, mixed_rows, no_marks, row_at, row_of, rows_of, AreSized}

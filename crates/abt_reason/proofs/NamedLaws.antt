@@ -11,7 +11,7 @@ use Rattle.dcsp_problem.specs.WellFormed.{IsProblem}
 use Rattle.dcsp_problem.specs.Index.{owned_rules}
 use Rattle.dcsp_defs.specs.Csp.{Constraint, IsConstraint, owned, owns}
 use Rattle.abt_defs.specs.Agents.{is_among}
-use Rattle.dcsp_problem.specs.Problems.{Contents, csp_of, constraint_of, constraint_at}
+use Rattle.dcsp_rule.specs.Problems.{Contents, csp_of, constraint_of, constraint_at}
 use Rattle.abt_reason.specs.declared.named.Naming.{Naming}
 use Rattle.abt_reason.specs.Named.{naming, ListsScopes}
 

@@ -2,9 +2,9 @@
 use Rattle.std.specs.Prelude.{◌≡◌, ◌≢◌, ℕ, ◌<◌, All, Bool, true, List, [], ◌∷◌, ◌++◌, length, Option}
 use Rattle.dcsp_domain.specs.Sets.{IsRising}
 use Rattle.dcsp_defs.specs.Csp.{PartialAssignment, domain}
-use Rattle.dcsp_problem.specs.Problems.{Contents, csp_of}
+use Rattle.dcsp_rule.specs.Problems.{Contents, csp_of}
 use Rattle.dcsp_problem.specs.Index.{owned_rules}
-use Rattle.abt_store.specs.declared.Recorded.{Recorded}
+use Rattle.abt_parts.specs.declared.recorded.Recorded.{Recorded}
 use Rattle.dcsp_row.specs.declared.marks.Marks.{Marks}
 use Rattle.dcsp_row.specs.Marks.{is_marked, is_row, FitsSize}
 use Rattle.dcsp_row.specs.Rows.{is_ruled_out, own_at}

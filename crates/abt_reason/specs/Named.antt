@@ -3,7 +3,7 @@ use Rattle.std.specs.Prelude.{◌≡◌, ℕ, ◌<◌, true, List, All, Contains
 use Rattle.std.specs.List.Sorted.{IsNonDecreasingBy}
 use Rattle.dcsp_defs.specs.Csp.{IsConstraint}
 use Rattle.abt_defs.specs.Agents.{is_among}
-use Rattle.dcsp_problem.specs.Problems.{Contents, csp_of, constraint_at}
+use Rattle.dcsp_rule.specs.Problems.{Contents, csp_of, constraint_at}
 use Rattle.abt_reason.specs.declared.named.Naming.{Naming}
 
 -- the rule at a place has the variable in its scope

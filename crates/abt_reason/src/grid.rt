@@ -4,14 +4,14 @@
 //! copied through memory from call to call.
 
 ghost use Rattle.std.specs.Prelude.{◌≡◌, ◌≢◌, ◌<◌, ◌≤◌, ◌+◌, ◌^◌, ℕ, Bool, All, IfOk, IfSome, IsTrue, None, length, true, false, slice_index_or, ◌||◌, ◌==◌};
-ghost use Rattle.dcsp_problem.specs.Problems.{rule_at};
+ghost use Rattle.dcsp_rule.specs.Problems.{rule_at};
 ghost use Rattle.dcsp_row.specs.Easy.{has_span};
 ghost use Rattle.dcsp_row.specs.Spans.{is_within};
 ghost use Rattle.dcsp_row.specs.Marks.{has_room_for, is_marked, is_row, FitsSize};
 ghost use Rattle.abt_reason.specs.Firsts.{IsFirst};
 ghost use Rattle.abt_reason.specs.Grids.{marks_at, is_marked_at, mixed_rows, rows_of, with_row, few_row, is_only, AreMarksBehind, AreSized, CanReplace, CountsMark, CountsRow, HaveRoom, IsBelow, IsChange, IsGrid, IsReplaced, LosesPlace, NoneIfUncounted, NoneUpTo};
 
-use dcsp_list::Memory;
+use dcsp_common::Memory;
 use dcsp_problem::Problem;
 use dcsp_row::{Marks, Row, Span, has_span};
 use std::alloc::Global;

@@ -3,7 +3,7 @@
 ghost use Rattle.std.specs.Prelude.{◌≡◌, ◌≤◌, ◌<◌, ◌^◌, ◌∷◌, [], ◌++◌, ℕ, All, Contains, IfOk, OnOk, IsPermutation, length, map, slice_index_or};
 ghost use Rattle.abt_reason.specs.Named.{naming, ListsScopes, RisesByVariable};
 
-use dcsp_list::Memory;
+use dcsp_common::Memory;
 use dcsp_problem::Problem;
 use std::alloc::Global;
 

@@ -3,9 +3,9 @@
 ghost use Rattle.std.specs.Prelude.{◌≡◌, ◌<◌, ℕ, List, None, [], IfOk, length};
 ghost use Rattle.dcsp_defs.specs.Csp.{PartialAssignment};
 ghost use Rattle.abt_defs.specs.Agents.{values_in};
-ghost use Rattle.dcsp_problem.specs.Problems.{csp_of, AreInDomains};
-ghost use Rattle.abt_store.specs.declared.Recorded.{Recorded as TheRecorded};
-ghost use Rattle.abt_view.specs.Views.{view_of};
+ghost use Rattle.dcsp_rule.specs.Problems.{csp_of, AreInDomains};
+ghost use Rattle.abt_parts.specs.declared.recorded.Recorded.{Recorded as TheRecorded};
+ghost use Rattle.abt_parts.specs.Views.{view_of};
 ghost use Rattle.abt_reason.specs.Causes.{reason_for, value_at};
 ghost use Rattle.abt_reason.specs.Cached.{size_of, StandsFor, StoodBefore, StoodWithoutLast};
 
@@ -13,10 +13,9 @@ use crate::kept::KeptSteps;
 use crate::rules::{FirstRules, Owner};
 use crate::search::earlier;
 use crate::under::{Seat, ViewValues};
-use abt_store::Store;
-use abt_view::View;
+use abt_parts::{Store, View};
+use dcsp_common::Memory;
 use dcsp_defs::Reason;
-use dcsp_list::Memory;
 use dcsp_problem::Problem;
 use std::alloc::Global;
 use std::marker::Model;

@@ -2,8 +2,8 @@
 
 ghost use Rattle.std.specs.Prelude.{◌≡◌, ◌<◌, ◌≤◌, All, IfOk, None, length};
 ghost use Rattle.abt_defs.specs.Agents.{values_in};
-ghost use Rattle.dcsp_problem.specs.Problems.{csp_of, AreInDomains};
-ghost use Rattle.abt_view.specs.Views.{view_of};
+ghost use Rattle.dcsp_rule.specs.Problems.{csp_of, AreInDomains};
+ghost use Rattle.abt_parts.specs.Views.{view_of};
 ghost use Rattle.abt_reason.specs.declared.named.Naming.{Naming as TheNaming};
 ghost use Rattle.abt_reason.specs.Grids.{rows_of};
 ghost use Rattle.abt_reason.specs.Cached.{size_of, rules_of, AreRightAt, AreRows, AreRuleLists, HasMarksOf, IsOwner, IsRightAt, IsRoom, KeepsOthers, KeepsRows, RowsStoodBefore, StaysRight};
@@ -11,8 +11,8 @@ ghost use Rattle.abt_reason.specs.Cached.{size_of, rules_of, AreRightAt, AreRows
 use crate::grid::{OwnedRules, RuledOut};
 use crate::named::{NamedIn, Naming};
 use crate::under::ViewValues;
-use abt_view::View;
-use dcsp_list::Memory;
+use abt_parts::View;
+use dcsp_common::Memory;
 use dcsp_problem::Problem;
 use dcsp_row::{Marks, OpenVariable, Row, fill_row, span_of};
 use std::alloc::Global;

@@ -3,19 +3,19 @@ use Rattle.std.proofs.Common.{◌≡◌, ℕ, zero, suc, ◌+◌, ◌-◌, ◌<�
 use Rattle.std.specs.Prelude.{Bool, is_ok, is_some, option_copied, if◌then◌else◌, OnOk}
 use Rattle.dcsp_defs.specs.Words.{below}
 use Rattle.dcsp_defs.specs.Csp.{count}
-use Rattle.dcsp_problem.specs.Problems.{Contents, csp_of}
+use Rattle.dcsp_rule.specs.Problems.{Contents, csp_of}
 use Rattle.dcsp_problem.proofs.OwnerLists.{length-map_below}
 use Rattle.abt_defs.specs.Network.{values}
 use Rattle.abt_defs.specs.Runs as runs
 use Rattle.abt_defs.specs.Runs.{Run}
-use Rattle.law_replay.specs.Stops.{Stops}
+use Rattle.law_runs.specs.Stops.{Stops}
 use Rattle.abt_session.specs.Answers.{answer_then, first_answers}
 use Rattle.abt_session.specs.Running.{kept, IsEnd, IsOutcome}
 use Rattle.abt_session.specs.declared.outcome.End.{End}
 use Rattle.abt_session.specs.declared.outcome.End.TheVariants.{Solved, Refuted, Spent, Capped}
 use Rattle.abt_session.specs.declared.outcome.Outcome.{Outcome}
 use Rattle.abt_run.specs.Endings.{final_values, verdict_text, counts_text, ending_text, end_status}
-use Rattle.law_replay.proofs.Stopping.{stops}
+use Rattle.law_runs.proofs.Stopping.{stops}
 use Rattle.abt_session.specs.Sessions.{run_of}
 use Rattle.abt_run.specs.Asked.{most_deliveries, listed_session, record_script}
 use Rattle.abt_run.specs.Outcomes.{end_text, outcome_text, outcome_status, HasAllValues}

@@ -6,16 +6,16 @@ use Rattle.std.proofs.lemmas.List.Folds.{concat-append}
 use Rattle.dcsp_defs.specs.Words.{In, below}
 use Rattle.dcsp_defs.specs.Csp.{Csp, Constraint, IsCsp, IsSolution, count, domain}
 use Rattle.dcsp_defs.specs.Derivation.{IsDerivation, IsRefutation}
-use Rattle.dcsp_problem.specs.Problems.{Contents, csp_of}
+use Rattle.dcsp_rule.specs.Problems.{Contents, csp_of}
 use Rattle.dcsp_problem.proofs.OwnerLists.{get_or-map_below}
 use Rattle.abt_defs.specs.Bound.{message_bound}
 use Rattle.abt_defs.specs.Network.{values}
 use Rattle.abt_defs.specs.Runs.{End, Refuted, Solved, Capped, Spent, Run, whole}
-use Rattle.law_replay.specs.Replay.{Verdicts, Repeats}
-use Rattle.law_replay.specs.Stops.{Stops, IsOpen}
-use Rattle.law_replay.proofs.Whole.{verdicts}
-use Rattle.law_replay.proofs.Stopping.{stops}
-use Rattle.law_replay.proofs.Again.{replays}
+use Rattle.law_runs.specs.Replay.{Verdicts, Repeats}
+use Rattle.law_runs.specs.Stops.{Stops, IsOpen}
+use Rattle.law_runs.proofs.Whole.{verdicts}
+use Rattle.law_runs.proofs.Stopping.{stops}
+use Rattle.law_runs.proofs.Again.{replays}
 use Rattle.abt_schedule.specs.Answers.{word_at, generator_of}
 use Rattle.abt_schedule.specs.Schedules.{choice_line, schedule_lines}
 use Rattle.abt_session.specs.Answers.{answer_then, first_answers}
@@ -24,7 +24,7 @@ use Rattle.abt_session.specs.Running.{session_of}
 use Rattle.abt_promise.specs.declared.status.Status.{Status}
 use Rattle.abt_promise.specs.declared.status.Status.TheVariants.{Good, No, Unfinished}
 use Rattle.ngd_log.specs.Logs.{log_text}
-use Rattle.law_sizes.proofs.Runs.{sizes_hold}
+use Rattle.law_runs.proofs.SizeRuns.{sizes_hold}
 use Rattle.law_logs.specs.Logged.{IsSmall}
 use Rattle.law_logs.proofs.Writable.{have_logs}
 use Rattle.abt_input.specs.Inputs.{HasChoices, IsTextOf}

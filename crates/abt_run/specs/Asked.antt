@@ -1,9 +1,9 @@
 -- The runs that the program makes: by the choices of a schedule, or by those of a seed.
 use Rattle.std.specs.Prelude.{ℕ, ◌-◌, ◌^◌, Bool, List, [], ◌∷◌, ◌++◌, length, slice_get, Option, Some, None}
-use Rattle.dcsp_problem.specs.Problems.{Contents}
+use Rattle.dcsp_rule.specs.Problems.{Contents}
 use Rattle.dcsp_script.specs.Scripts.{Write, Create, Append, Put}
 use Rattle.abt_defs.specs.Runs.{Run}
-use Rattle.law_replay.specs.Replay.{Repeats}
+use Rattle.law_runs.specs.Replay.{Repeats}
 use Rattle.abt_schedule.specs.Answers.{word_at, generator_of}
 use Rattle.abt_schedule.specs.Schedules.{schedule_text}
 use Rattle.abt_session.specs.Sessions.{Session, run_of, run_script}

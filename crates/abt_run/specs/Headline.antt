@@ -5,10 +5,10 @@ use Rattle.dcsp_script.specs.Scripts.{World}
 use Rattle.dcsp_script.specs.Texts.{HoldsPartOf}
 use Rattle.dcsp_defs.specs.Csp.{IsCsp, IsSolution}
 use Rattle.dcsp_defs.specs.Derivation.{IsRefutation}
-use Rattle.dcsp_problem.specs.Problems.{Contents, csp_of}
+use Rattle.dcsp_rule.specs.Problems.{Contents, csp_of}
 use Rattle.ngd_log.specs.Logs.{log_text}
 use Rattle.abt_defs.specs.Bound.{message_bound}
-use Rattle.law_replay.specs.Stops.{IsOpen}
+use Rattle.law_runs.specs.Stops.{IsOpen}
 use Rattle.law_logs.specs.Logged.{IsSmall}
 use Rattle.abt_schedule.specs.Schedules.{schedule_text}
 use Rattle.abt_session.specs.Order.{trace_text, log_of_first, HasLines}

@@ -1,6 +1,6 @@
 -- What is printed of what a run gave.
 use Rattle.std.specs.Prelude.{◌≡◌, ℕ, List, [], ◌++◌, length, ⊤}
-use Rattle.dcsp_problem.specs.Problems.{Contents}
+use Rattle.dcsp_rule.specs.Problems.{Contents}
 use Rattle.abt_defs.specs.Runs as runs
 use Rattle.abt_session.specs.declared.outcome.End.{End}
 use Rattle.abt_session.specs.declared.outcome.End.TheVariants.{Solved, Refuted, Spent, Capped}

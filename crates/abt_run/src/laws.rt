@@ -1,7 +1,7 @@
 //! A law of recorded runs.
 
 ghost use Rattle.std.specs.Prelude.{ℕ};
-ghost use Rattle.dcsp_problem.specs.Problems.{Contents};
+ghost use Rattle.dcsp_rule.specs.Problems.{Contents};
 ghost use Rattle.abt_run.specs.Asked.{IsReplayed};
 
 /// A run from a seed is made again by a replay of its record: with the same network and so the same values

@@ -48,7 +48,7 @@ pub fn run_replay<F: Folder, S: Sink>(
     ensures sound { IfOk result (λ status. HoldsProblem (F.place folder.old).held line.entry.model.now) }
 {
     let problem = read_model(alloc, folder, line.model)?;
-    let _vars = problem.vars();
+    problem.denotes_csp();
     problems_are_small(&problem);
     let choices = read_choices(alloc, folder, line.schedule)?;
     let status = run_choices(alloc, &problem, choices, line, folder, out)?;

@@ -9,7 +9,7 @@ use Rattle.abt_defs.specs.Agents.{Agent, Announce, fresh}
 use Rattle.abt_defs.specs.Steps.{Outcome, settle, receive}
 use Rattle.abt_defs.specs.Network.{values}
 use Rattle.abt_defs.specs.Runs.{End, Cargo, Delivery, Run, whole}
-use Rattle.dcsp_nogood.specs.Pairs.{pair_of}
+use Rattle.dcsp_defs.specs.Pairs.{pair_of}
 
 abbrev pub differ : ℕ → ℕ → Constraint
 differ i j = record { scope = i ∷ j ∷ []; test = λ f. not (int_eq (f i) (f j)) }

@@ -8,7 +8,7 @@ use Rattle.abt_defs.specs.Steps.{is_refused, is_newer}
 use Rattle.abt_defs.specs.Network.{values, start}
 use Rattle.abt_defs.specs.Runs.{Refuted, Solved, Capped, Spent, Value, Step_number, Link, whole, starved_choices}
 use Rattle.abt_defs.specs.Bound.{message_bound}
-use Rattle.dcsp_nogood.specs.Pairs.{pair_of}
+use Rattle.dcsp_defs.specs.Pairs.{pair_of}
 use Rattle.abt_defs.specs.Agents.{known}
 use Rattle.abt_samples.specs.Models.{shown, steps_of, step, from, clash, asked, nine, starved, waiting, triangle, eleven, queens, queens_end, alone, two_recorded, told_once}
 

@@ -10,7 +10,7 @@ use Rattle.ngd_log.specs.Reading.{after, integer_at}
 use Rattle.ngd_log.proofs.AfterPrefix.{after_takes, after_again}
 use Rattle.std.proofs.lemmas.List.{append-nil, take-take, length-take, take_more, nil_from_length}
 use Rattle.std.proofs.lemmas.List.Folds.{concat-append}
-use Rattle.dcsp_number.proofs.Chosen.{some_is}
+use Rattle.dcsp_common.proofs.Chosen.{some_is}
 use Rattle.ngd_log.proofs.Fields.{integer_takes, integer_again}
 use Rattle.ngd_log.proofs.LineFeeds.{concat-lines, lines_after, no_lines}
 use Rattle.ngd_log.proofs.LogLines.{tail, tail-IsLine}

@@ -8,10 +8,10 @@ use Rattle.std.proofs.lemmas.Bool.{false≢true, cases_lt}
 use Rattle.std.proofs.lemmas.List.{append-nil, map-append}
 use Rattle.std.proofs.lemmas.Slice.Eq.{bytes_eq-Decides}
 use Rattle.ngd_log.specs.Lines.{lines, IsLine}
-use Rattle.dcsp_number.specs.Reading.{number_at}
-use Rattle.dcsp_number.proofs.Chosen.{some_is}
+use Rattle.dcsp_common.specs.Reading.{number_at}
+use Rattle.dcsp_common.proofs.Chosen.{some_is}
 use Rattle.ngd_log.proofs.Each.{each_append}
-use Rattle.dcsp_number.proofs.Numbers.{begins_decimal, number_again, number_takes}
+use Rattle.dcsp_common.proofs.Decimals.{begins_decimal, number_again, number_takes}
 use Rattle.ngd_log.proofs.LineFeeds.{no_feed_in_decimal, lines-concat}
 use Rattle.ngd_log.proofs.LogLines.{tail, tail-IsLine, cons_head, cons_tail}
 use Rattle.abt_schedule.specs.Schedules.{choice_line, schedule_lines, schedule_text, AreChoices, IsChoiceLine, IsScheduleOf}

@@ -2,7 +2,7 @@
 
 ghost use Rattle.std.specs.Prelude.{◌≡◌, [], ◌∷◌, ◌++◌, OnOk, OnErr};
 
-use dcsp_list::Memory;
+use dcsp_common::Memory;
 use std::alloc::Global;
 use std::marker::Model;
 

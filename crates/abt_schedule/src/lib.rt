@@ -14,7 +14,7 @@ mod seeded;
 
 pub use choice_list::ChoiceList;
 pub use choices::Choices;
-pub use dcsp_list::Memory;
+pub use dcsp_common::Memory;
 pub use listed::Listed;
 pub use schedule::{
     ScheduleError, next_lines, read_schedule, schedule_or_bad_line, schedules_differ,

@@ -5,7 +5,7 @@ ghost use Rattle.std.specs.List.{concat};
 ghost use Rattle.abt_schedule.specs.Schedules.{choice_line, schedule_text, AreChoices, IsScheduleOf, BeginsWithChoice, IsFirstBad, IsCause, IsUnlessMemory, NextLine, ScheduleOrBadLine, SchedulesDiffer};
 
 use crate::listed::Listed;
-use dcsp_list::Memory;
+use dcsp_common::Memory;
 use itoa::Buffer;
 use ngd_log::{after, integer_at};
 use std::alloc::{AllocError, Global};

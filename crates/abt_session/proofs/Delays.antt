@@ -3,12 +3,12 @@ use Rattle.std.proofs.Common.{◌≡◌, ◌≢◌, ℕ, zero, suc, ◌+◌, ◌
 use Rattle.dcsp_defs.specs.Csp.{Csp}
 use Rattle.abt_defs.specs.Network.{Network, ready, deliver, start, is_empty}
 use Rattle.abt_defs.specs.Runs.{End, Refuted, Solved, Capped, Spent, Run, stop, go, starved_choice, starved_choices, starved}
-use Rattle.law_replay.specs.Replay.{Verdicts}
-use Rattle.law_replay.specs.Stops.{IsOpen, Stops}
-use Rattle.law_replay.proofs.Again.{Goes}
-use Rattle.law_replay.proofs.Whole.{delivers_one}
-use Rattle.law_replay.proofs.Stopping.{stops}
-use Rattle.dcsp_problem.specs.Problems.{Contents, csp_of}
+use Rattle.law_runs.specs.Replay.{Verdicts}
+use Rattle.law_runs.specs.Stops.{IsOpen, Stops}
+use Rattle.law_runs.proofs.Again.{Goes}
+use Rattle.law_runs.proofs.Whole.{delivers_one}
+use Rattle.law_runs.proofs.Stopping.{stops}
+use Rattle.dcsp_rule.specs.Problems.{Contents, csp_of}
 use Rattle.abt_network.specs.declared.Standing.{Standing}
 use Rattle.abt_network.specs.declared.Standing.TheVariants as standing
 use Rattle.abt_network.specs.Standing.{NetworkState, StandsAt, CanDeliver, standing_in, standing_of}

@@ -6,7 +6,7 @@ use Rattle.std.proofs.lemmas.List.Sums.{position_or_len_is}
 use Rattle.dcsp_defs.specs.Csp.{Csp}
 use Rattle.abt_defs.specs.Network.{Network, ready, deliver, is_empty}
 use Rattle.abt_defs.specs.Runs.{End, Refuted, Solved, Capped, Spent, Run, stop, stopped, go, delivery, with_delivery, starved_choice, starved_choices}
-use Rattle.law_replay.proofs.Again.{Goes, goes, stop_none, not_empty}
+use Rattle.law_runs.proofs.Again.{Goes, goes, stop_none, not_empty}
 
 -- a starved choice is the number of a nonempty list
 position_below : {X : Type 0} → (f : X → Bool) (xs : List X) → 0 < length xs → unwrap_or (position f xs) 0 < length xs

@@ -8,7 +8,7 @@ use Rattle.dcsp_defs.specs.Words.{In, below}
 use Rattle.dcsp_defs.proofs.Lists.{In-split, In-below, filter-from}
 use Rattle.abt_defs.specs.Network.{Network, ready, deliver, pairs, is_empty}
 use Rattle.abt_defs.specs.Runs.{stop, starved_choice, starved_choices}
-use Rattle.law_invariants.proofs.Runs.{In-pairs}
+use Rattle.law_agent.proofs.Runs.{In-pairs}
 use Rattle.abt_session.proofs.Links.{is_other, unlike_pair}
 
 -- no item comes twice

@@ -11,8 +11,8 @@ use Rattle.dcsp_defs.specs.declared.Step.{Step}
 use Rattle.abt_defs.specs.Agents.{Message}
 use Rattle.abt_defs.specs.Network.{Network, start, ready, deliver, deliver_at, deliver_head}
 use Rattle.abt_defs.specs.Runs.{Delivery, delivery}
-use Rattle.law_replay.specs.Stops.{Stops}
-use Rattle.law_replay.proofs.Stopping.{stops}
+use Rattle.law_runs.specs.Stops.{Stops}
+use Rattle.law_runs.proofs.Stopping.{stops}
 use Rattle.ngd_log.specs.Logs.{step_lines, log_text}
 use Rattle.ngd_log.specs.StepText.{step_line}
 use Rattle.dcsp_outside.specs.Outside.{IsPrefixOf, Told}

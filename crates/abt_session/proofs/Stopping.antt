@@ -4,9 +4,9 @@ use Rattle.std.proofs.Math.Nat.{eq-or-lt_of_le}
 use Rattle.dcsp_defs.specs.Csp.{Csp}
 use Rattle.abt_defs.specs.Network.{Network, ready, deliver, run, start, is_empty}
 use Rattle.abt_defs.specs.Runs.{End, Refuted, Solved, Capped, Spent}
-use Rattle.law_replay.specs.Stops.{after, IsOpen, Stops}
-use Rattle.law_replay.proofs.Next.{run_more}
-use Rattle.law_replay.proofs.Stopping.{stops}
+use Rattle.law_runs.specs.Stops.{after, IsOpen, Stops}
+use Rattle.law_runs.proofs.Next.{run_more}
+use Rattle.law_runs.proofs.Stopping.{stops}
 use Rattle.abt_session.specs.Sessions.{Session, run_of, network_after}
 use Rattle.abt_session.proofs.Places.{at_place, used_up}
 

@@ -4,8 +4,8 @@ use Rattle.std.specs.Prelude.{IsErr, IsErrAnd, IfOk}
 use Rattle.std.proofs.lemmas.List.{take_all, drop_all}
 use Rattle.dcsp_defs.specs.Csp.{Csp}
 use Rattle.abt_defs.specs.Network.{Network, ready, deliver, run, start, is_empty}
-use Rattle.law_replay.specs.Stops.{IsOpen, Stops, list_number}
-use Rattle.law_replay.proofs.Stopping.{stops}
+use Rattle.law_runs.specs.Stops.{IsOpen, Stops, list_number}
+use Rattle.law_runs.proofs.Stopping.{stops}
 use Rattle.dcsp_script.specs.declared.stop.Stop.{Stop}
 use Rattle.dcsp_script.specs.Scripts.{World}
 use Rattle.dcsp_script.specs.Ways.{Wrote}
@@ -16,7 +16,7 @@ use Rattle.abt_network.specs.declared.Standing.TheVariants as standing
 use Rattle.abt_network.specs.Standing.{NetworkState, StandsAt, standing_of}
 use Rattle.abt_session.specs.Answers.{first_answers}
 use Rattle.abt_session.specs.Sessions.{Session, run_of, network_after, choice_writes, deliveries_write}
-use Rattle.dcsp_problem.specs.Problems.{Contents, csp_of}
+use Rattle.dcsp_rule.specs.Problems.{Contents, csp_of}
 use Rattle.abt_session.specs.Running.{kept, session_of, IsOnRun, TakesPart}
 use Rattle.abt_session.specs.Runners.{end_of, Finishes, Leaves, SameTask}
 use Rattle.abt_session.specs.declared.runner.Runner.{Runner}

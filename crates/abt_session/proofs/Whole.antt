@@ -2,7 +2,7 @@
 use Rattle.std.proofs.Common.{◌≡◌, ℕ, Bool, true, false, List, [], ◌∷◌, ◌++◌, codes, Option, Result, Ok, Err, OnOk, refl, sym, ap, subst, append-nil}
 use Rattle.std.specs.Prelude.{Contains, IsErr, IsErrAnd, IfOk}
 use Rattle.std.proofs.lemmas.List.Elements.{Contains-push}
-use Rattle.dcsp_problem.specs.Problems.{Contents}
+use Rattle.dcsp_rule.specs.Problems.{Contents}
 use Rattle.dcsp_script.specs.declared.stop.Stop.{Stop}
 use Rattle.dcsp_script.specs.Scripts.{Append, World}
 use Rattle.dcsp_script.specs.Ways.{Wrote}

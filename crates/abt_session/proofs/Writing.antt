@@ -8,7 +8,7 @@ use Rattle.dcsp_defs.specs.declared.Step.{Step}
 use Rattle.abt_defs.specs.Agents.{Message}
 use Rattle.abt_defs.specs.Network.{Network, ready, deliver, deliver_at, deliver_head}
 use Rattle.abt_defs.specs.Runs.{Delivery, delivery, delivery_at, head_on}
-use Rattle.law_replay.specs.Stops.{IsOpen}
+use Rattle.law_runs.specs.Stops.{IsOpen}
 use Rattle.dcsp_script.specs.Scripts.{Write}
 use Rattle.abt_session.specs.Sessions.{Session, run_of, network_after, step_writes, trace_writes, steps_made, choice_writes, delivery_writes}
 use Rattle.abt_session.proofs.Stopping.{ComesTo, one_more, not_fewer}

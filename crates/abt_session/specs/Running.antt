@@ -3,7 +3,7 @@ use Rattle.std.specs.Prelude.{◌≡◌, ℕ, Bool, List, [], ◌++◌, map, len
 use Rattle.dcsp_defs.specs.Csp.{Csp, count}
 use Rattle.dcsp_defs.specs.Words.{below}
 use Rattle.dcsp_outside.specs.Outside.{IsPrefixOf}
-use Rattle.dcsp_problem.specs.Problems.{Contents, csp_of}
+use Rattle.dcsp_rule.specs.Problems.{Contents, csp_of}
 use Rattle.abt_defs.specs.Network.{Network, values}
 use Rattle.abt_defs.specs.Runs as runs
 use Rattle.abt_network.specs.Standing.{NetworkState, StandsAt, reached}

@@ -5,7 +5,7 @@ use Rattle.dcsp_defs.specs.Csp.{Csp}
 use Rattle.dcsp_defs.specs.declared.Step.{Step}
 use Rattle.abt_defs.specs.Network.{Network, start, deliver}
 use Rattle.abt_defs.specs.Runs.{Delivery, Run, whole, delivery}
-use Rattle.law_replay.specs.Stops.{after}
+use Rattle.law_runs.specs.Stops.{after}
 use Rattle.ngd_log.specs.Logs.{step_lines}
 use Rattle.dcsp_script.specs.Scripts.{Write, Create, Append, Put}
 use Rattle.abt_session.specs.Traces.{trace_line}

@@ -6,7 +6,7 @@ use Rattle.abt_defs.specs.Network.{Network, start, ready, is_empty}
 use Rattle.abt_defs.specs.Bound.{message_bound}
 use Rattle.abt_defs.specs.Runs as runs
 use Rattle.abt_defs.specs.Runs.{starved, starved_choices}
-use Rattle.law_replay.specs.Stops.{IsOpen}
+use Rattle.law_runs.specs.Stops.{IsOpen}
 use Rattle.abt_session.specs.declared.starved_run.StarvedEnd.{StarvedEnd}
 use Rattle.abt_session.specs.declared.starved_run.StarvedEnd.TheVariants.{Solved, Refuted, Open}
 use Rattle.abt_session.specs.declared.starved_run.Starved.{Starved}

@@ -4,15 +4,15 @@ ghost use Rattle.std.specs.Prelude.{◌≡◌, ℕ, ◌<◌, ◌≤◌, map, len
 ghost use Rattle.dcsp_defs.specs.Csp.{count};
 ghost use Rattle.dcsp_defs.specs.Words.{below};
 ghost use Rattle.abt_defs.specs.Network.{Network as TheNetwork, values};
-ghost use Rattle.dcsp_problem.specs.Problems.{csp_of};
+ghost use Rattle.dcsp_rule.specs.Problems.{csp_of};
 ghost use Rattle.abt_network.specs.Standing.{StandsAt};
 ghost use Rattle.abt_session.specs.Runners.{end_of};
 ghost use Rattle.abt_session.specs.Running.{IsOutcome};
 
 use crate::runner::Halt;
 use abt_network::Network;
+use dcsp_common::Memory;
 use dcsp_domain::IntList;
-use dcsp_list::Memory;
 use dcsp_problem::Problem;
 use dcsp_script::Stop;
 use std::alloc::Global;

@@ -3,9 +3,9 @@
 ghost use Rattle.std.specs.Prelude.{◌≡◌, ◌<◌, ◌≤◌, ◌+◌, ◌^◌, ◌++◌, ℕ, [], ◌∷◌, true, false, Contains, IfSome, OnOk, OnErr, Err, option_to_list};
 ghost use Rattle.dcsp_defs.specs.Csp.{IsCsp};
 ghost use Rattle.abt_defs.specs.Network.{Network as TheNetwork, deliver, start};
-ghost use Rattle.law_replay.specs.Stops.{list_number};
+ghost use Rattle.law_runs.specs.Stops.{list_number};
 ghost use Rattle.dcsp_outside.specs.Outside.{Place, Stream};
-ghost use Rattle.dcsp_problem.specs.Problems.{csp_of};
+ghost use Rattle.dcsp_rule.specs.Problems.{csp_of};
 ghost use Rattle.dcsp_problem.specs.WellFormed.{IsProblem};
 ghost use Rattle.dcsp_script.specs.Scripts.{outside};
 ghost use Rattle.dcsp_script.specs.Ways.{Wrote};

@@ -1,10 +1,10 @@
 //! A whole run, with its log and its trace.
 
 ghost use Rattle.std.specs.Prelude.{◌≡◌, ◌≤◌, ◌^◌, ◌+◌, ◌++◌, ℕ, Contains, IfOk, OnOk};
-ghost use Rattle.law_replay.specs.Replay.{Verdicts};
-ghost use Rattle.law_replay.specs.Stops.{Stops};
+ghost use Rattle.law_runs.specs.Replay.{Verdicts};
+ghost use Rattle.law_runs.specs.Stops.{Stops};
 ghost use Rattle.dcsp_outside.specs.Outside.{Place, Stream};
-ghost use Rattle.dcsp_problem.specs.Problems.{csp_of};
+ghost use Rattle.dcsp_rule.specs.Problems.{csp_of};
 ghost use Rattle.dcsp_script.specs.Scripts.{outside};
 ghost use Rattle.dcsp_script.specs.Ways.{Wrote};
 ghost use Rattle.abt_session.specs.Order.{WritesInOrder};
@@ -60,9 +60,9 @@ pub fn run<C: Choices, F: Folder, S: Sink>(
     ensures stops { let s = session_of problem.now most (C.answers choices.old) log_name.now trace in
         Stops (csp_of problem.now) most s.choices (run_of s) }
 {
-    law_replay::verdicts();
-    law_replay::stops();
-    let _vars = problem.vars();
+    law_runs::verdicts();
+    law_runs::stops();
+    problem.denotes_csp();
     let Ok(network) = Network::new(alloc, problem) else {
         return Err(Stop::Memory);
     };

@@ -3,8 +3,8 @@
 ghost use Rattle.std.specs.Prelude.{◌≡◌, ◌<◌, ◌≤◌, ◌^◌, ◌++◌, ◌∷◌, [], true, false, length, IfOk, OnErr, OnOk};
 ghost use Rattle.abt_defs.specs.Network.{Network as TheNetwork, deliver, start};
 ghost use Rattle.abt_defs.specs.Runs.{starved, starved_choice};
-ghost use Rattle.dcsp_problem.specs.Problems.{csp_of};
-ghost use Rattle.law_replay.specs.Replay.{Verdicts};
+ghost use Rattle.dcsp_rule.specs.Problems.{csp_of};
+ghost use Rattle.law_runs.specs.Replay.{Verdicts};
 ghost use Rattle.abt_links.specs.Transit.{ready_pairs};
 ghost use Rattle.abt_network.specs.Standing.{CanDeliver, StandsAt};
 ghost use Rattle.abt_session.specs.Running.{TakesPart};
@@ -12,7 +12,7 @@ ghost use Rattle.abt_session.specs.Starving.{end_at, starving_choices, AreNear, 
 
 use abt_network::{Network, Standing};
 use abt_schedule::ChoiceList;
-use dcsp_list::Memory;
+use dcsp_common::Memory;
 use dcsp_problem::Problem;
 use std::alloc::Global;
 
@@ -57,8 +57,8 @@ pub fn starve(
     ensures near { AreNear most (starving_choices (csp_of problem.now) from to most) }
     ensures verdicts { Verdicts (csp_of problem.now) most (starved (csp_of problem.now) from to most) }
 {
-    law_replay::verdicts();
-    let _vars = problem.vars();
+    law_runs::verdicts();
+    problem.denotes_csp();
     let mut network = Network::new(alloc, problem)?;
     let _begun = network.start()?;
     deliver_others(&mut network, from, to, most, taken)?;

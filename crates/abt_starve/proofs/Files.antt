@@ -4,7 +4,7 @@ use Rattle.std.specs.Prelude.{if◌then◌else◌}
 use Rattle.std.specs.Cmp.Lexicographic.{bytes_decides}
 use Rattle.dcsp_outside.specs.Outside.{Place, Stream, Told, bytes_of}
 use Rattle.dcsp_outside.proofs.Changes.{Told-weaker}
-use Rattle.dcsp_problem.specs.Problems.{Contents, csp_of}
+use Rattle.dcsp_rule.specs.Problems.{Contents, csp_of}
 use Rattle.dcsp_script.specs.Scripts.{Append, World, outside, after_write, file_after, FilesAfter, PutAfter}
 use Rattle.dcsp_script.specs.Ways.{Wrote}
 use Rattle.dcsp_script.specs.Texts.{LeavesAlone}

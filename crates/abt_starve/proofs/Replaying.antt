@@ -6,15 +6,15 @@ use Rattle.std.proofs.lemmas.Fmt.{decimal_digit}
 use Rattle.std.proofs.lemmas.List.{take_all}
 use Rattle.std.proofs.lemmas.List.Folds.{concat-append}
 use Rattle.dcsp_defs.specs.Csp.{Csp}
-use Rattle.dcsp_problem.specs.Problems.{Contents, csp_of}
+use Rattle.dcsp_rule.specs.Problems.{Contents, csp_of}
 use Rattle.dcsp_script.specs.declared.stop.Stop.{Stop}
 use Rattle.dcsp_script.specs.Scripts.{Create, Append, Put, World}
 use Rattle.dcsp_script.specs.Ways.{Wrote}
 use Rattle.dcsp_script.proofs.Lines.{then_rest, then_stopped}
 use Rattle.abt_defs.specs.Bound.{message_bound}
 use Rattle.abt_defs.specs.Runs.{whole, starved}
-use Rattle.law_replay.specs.Replay.{Repeats}
-use Rattle.law_replay.proofs.Again.{replays}
+use Rattle.law_runs.specs.Replay.{Repeats}
+use Rattle.law_runs.proofs.Again.{replays}
 use Rattle.abt_schedule.specs.Schedules.{choice_line, schedule_lines, schedule_text, AreChoices}
 use Rattle.abt_session.specs.Answers.{first_answers}
 use Rattle.abt_session.specs.Starving.{starving_choices, starved_end, AreNear, IsStarved}

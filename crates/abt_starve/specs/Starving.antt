@@ -1,10 +1,10 @@
 -- What a run that starves a link means to a user.
 use Rattle.std.specs.Prelude.{◌≡◌, ◌≢◌, ◌≤◌, ℕ, Bool, List, ◌++◌, Option, Some, IfSome}
 use Rattle.dcsp_outside.specs.Outside.{Told, bytes_of}
-use Rattle.dcsp_problem.specs.Problems.{Contents, csp_of}
+use Rattle.dcsp_rule.specs.Problems.{Contents, csp_of}
 use Rattle.abt_defs.specs.Bound.{message_bound}
 use Rattle.abt_schedule.specs.Schedules.{schedule_text}
-use Rattle.law_replay.specs.Replay.{Repeats}
+use Rattle.law_runs.specs.Replay.{Repeats}
 use Rattle.abt_input.specs.Inputs.{IsModelOf, HasChoices}
 use Rattle.abt_run.specs.Asked.{asked_run, replay}
 use Rattle.abt_starve.specs.StarvePromise.{most_starved, starving_run, choices_of, starved_line}

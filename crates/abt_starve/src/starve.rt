@@ -5,7 +5,7 @@ ghost use Rattle.dcsp_outside.specs.Outside.{Place, Stream};
 ghost use Rattle.dcsp_script.specs.Scripts.{Create, Append, Put, outside};
 ghost use Rattle.dcsp_script.specs.Ways.{Wrote};
 ghost use Rattle.abt_schedule.specs.Schedules.{schedule_text};
-ghost use Rattle.dcsp_problem.specs.Problems.{csp_of};
+ghost use Rattle.dcsp_rule.specs.Problems.{csp_of};
 ghost use Rattle.abt_defs.specs.Bound.{message_bound};
 ghost use Rattle.abt_session.specs.Starving.{starved_end};
 ghost use Rattle.abt_promise.specs.Runs.{CameIn};

@@ -3,14 +3,13 @@
 ghost use Rattle.std.specs.Prelude.{◌≡◌, ◌<◌, ◌∷◌, [], length, true};
 ghost use Rattle.dcsp_defs.specs.Words.{In};
 ghost use Rattle.dcsp_defs.specs.Csp.{domain};
-ghost use Rattle.dcsp_problem.specs.Problems.{csp_of};
+ghost use Rattle.dcsp_rule.specs.Problems.{csp_of};
 ghost use Rattle.abt_agent.specs.States.{IsFit};
 
 use crate::given::{add_between, add_variable, let_go};
 use abt_agent::{Agent, Turn};
-use abt_message::{Message, Outbox, Sent, StampList};
-use dcsp_defs::Reason;
-use dcsp_nogood::{Nogood, Pair};
+use abt_parts::{Message, Outbox, Sent, StampList};
+use dcsp_defs::{Nogood, Pair, Reason};
 use dcsp_problem::{Kind, Problem, ProblemBuilder};
 use std::alloc::Global;
 use std::process::Abort;

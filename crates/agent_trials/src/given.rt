@@ -1,9 +1,9 @@
 //! Problems and rules over two variables, and values that are let go.
 
 ghost use Rattle.std.specs.Prelude.{◌≡◌, ◌<◌, ◌+◌, ◌∷◌, [], length, IsTrue};
-ghost use Rattle.dcsp_problem.specs.Rules.{has_shape};
+ghost use Rattle.dcsp_rule.specs.Rules.{has_shape};
 
-use abt_store::Store;
+use abt_parts::Store;
 use dcsp_problem::{Domain, IntList, Kind, Members, Problem, ProblemBuilder, Rule, Term, TermList};
 use std::alloc::Global;
 use std::process::Abort;

@@ -1,6 +1,6 @@
 //! Messages to be sent.
 
-use abt_message::{Message, Outbox, Sent};
+use abt_parts::{Message, Outbox, Sent};
 use std::process::Abort;
 use std::test::Fail;
 

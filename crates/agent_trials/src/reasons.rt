@@ -1,18 +1,17 @@
 //! The kept reasons, beside the plain search.
 
 ghost use Rattle.std.specs.Prelude.{◌≡◌, ◌<◌, ℕ, None, [], ◌∷◌, length};
-ghost use Rattle.dcsp_nogood.specs.Pairs.{pair_of};
+ghost use Rattle.dcsp_defs.specs.Pairs.{pair_of};
 ghost use Rattle.abt_defs.specs.Agents.{values_in};
-ghost use Rattle.abt_view.specs.Views.{view_of};
-ghost use Rattle.dcsp_problem.specs.Problems.{csp_of, AreInDomains};
+ghost use Rattle.abt_parts.specs.Views.{view_of};
+ghost use Rattle.dcsp_rule.specs.Problems.{csp_of, AreInDomains};
 ghost use Rattle.abt_reason.specs.Cached.{StandsFor};
 ghost use Rattle.abt_reason.specs.Kept.{own_at};
 
 use crate::given::{add_between, add_variable, let_go, let_store_go};
+use abt_parts::{Store, View};
 use abt_reason::{Reason, Reasons, first_violated};
-use abt_store::Store;
-use abt_view::View;
-use dcsp_nogood::{Nogood, Pair};
+use dcsp_defs::{Nogood, Pair};
 use dcsp_problem::{Domain, IntList, Kind, Problem, ProblemBuilder, Rel, Rule, Term, TermList};
 use std::alloc::Global;
 use std::process::Abort;

@@ -1,8 +1,8 @@
 //! The nogoods that an agent keeps.
 
 use crate::given::let_store_go;
-use abt_store::Store;
-use dcsp_nogood::{Nogood, Pair};
+use abt_parts::Store;
+use dcsp_defs::{Nogood, Pair};
 use std::alloc::Global;
 use std::process::Abort;
 

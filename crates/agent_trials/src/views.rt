@@ -1,6 +1,6 @@
 //! What an agent is told of others.
 
-use abt_view::View;
+use abt_parts::View;
 use std::test::Fail;
 
 #[test]

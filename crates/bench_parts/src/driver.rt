@@ -3,13 +3,13 @@
 ghost use Rattle.std.specs.Prelude.{◌≡◌, ◌+◌, ◌<◌, IfSome, length, true};
 ghost use Rattle.dcsp_defs.specs.Words.{In};
 ghost use Rattle.dcsp_defs.specs.Csp.{domain};
-ghost use Rattle.dcsp_problem.specs.Problems.{csp_of};
+ghost use Rattle.dcsp_rule.specs.Problems.{csp_of};
 ghost use Rattle.abt_agent.specs.States.{IsFit};
 
 use crate::problem::{AGENT, VARIABLES};
 use abt_agent::{Agent, Turn};
-use abt_message::{Message, Outbox, StampList};
-use dcsp_nogood::{Nogood, Pair};
+use abt_parts::{Message, Outbox, StampList};
+use dcsp_defs::{Nogood, Pair};
 use dcsp_problem::Problem;
 use std::alloc::Global;
 

@@ -4,8 +4,8 @@ ghost use Rattle.std.specs.Prelude.{◌≡◌, length};
 
 use crate::driver::{Counts, Driver};
 use crate::problem::{AGENT, VALUES, VARIABLES};
-use abt_view::StampedValue;
-use dcsp_nogood::Pair;
+use abt_parts::StampedValue;
+use dcsp_defs::Pair;
 use dcsp_problem::Problem;
 use std::alloc::Global;
 

@@ -6,12 +6,12 @@ use Rattle.std.proofs.lemmas.List.Elements.{All-contains, All-append, All-map, C
 use Rattle.std.proofs.lemmas.Option.{slice_get_within, get_or_from_slice_get}
 use Rattle.rup_check.specs.Literals.{IsLiteral}
 use Rattle.dcsp_meaning.specs.declared.kinds.Kind.{Kind}
-use Rattle.dcsp_problem.specs.declared.rule.Term.{Term}
-use Rattle.dcsp_problem.specs.declared.rule.Term.TheVariants.{Const, Var}
-use Rattle.dcsp_problem.specs.declared.rule.Members.{Members}
-use Rattle.dcsp_problem.specs.declared.rule.Rule.{Rule}
-use Rattle.dcsp_problem.specs.declared.rule.Rule.TheVariants.{Plain, Sum}
-use Rattle.dcsp_problem.specs.Rules.{IsTermOf, IsRuleOf, no_rule}
+use Rattle.dcsp_rule.specs.declared.rule.Term.{Term}
+use Rattle.dcsp_rule.specs.declared.rule.Term.TheVariants.{Const, Var}
+use Rattle.dcsp_rule.specs.declared.rule.Members.{Members}
+use Rattle.dcsp_rule.specs.declared.rule.Rule.{Rule}
+use Rattle.dcsp_rule.specs.declared.rule.Rule.TheVariants.{Plain, Sum}
+use Rattle.dcsp_rule.specs.Rules.{IsTermOf, IsRuleOf, no_rule}
 use Rattle.cnf_front.specs.Clauses.{literal_of, negation_of, rule_clause, IsVariable, IsClauseRule}
 
 pub known_first : (v : ℕ) (s f t : List Term) → All (IsTermOf v) (s ++ f ++ t) → All (IsTermOf v) f

@@ -1,7 +1,7 @@
 //! The clauses of a DIMACS text.
 ghost use Rattle.std.specs.Prelude.{◌≡◌, ℕ, ◌+◌, ◌<◌, ◌≤◌, ◌^◌, ◌∷◌, ◌++◌, List, [], length, OnOk, OnErr, IfOk, IfErr, IfSome, unsigned_abs, Err, All, pos, replicate, take};
-ghost use Rattle.dcsp_problem.specs.Rules.{IsTermOf};
-ghost use Rattle.dcsp_problem.specs.declared.aim.Aim.TheVariants.{Satisfy};
+ghost use Rattle.dcsp_rule.specs.Rules.{IsTermOf};
+ghost use Rattle.dcsp_rule.specs.declared.aim.Aim.TheVariants.{Satisfy};
 ghost use Rattle.cnf_front.specs.Clauses.{IsClauseRule};
 ghost use Rattle.cnf_front.specs.Dimacs.{words};
 ghost use Rattle.cnf_front.specs.declared.words.Stand.TheVariants.{Start};

@@ -2,9 +2,9 @@
 ghost use Rattle.std.specs.Prelude.{◌≡◌, ℕ, ℤ, ◌+◌, ◌≤◌, ◌<◌, ◌^◌, List, [], ◌∷◌, ◌++◌, map, length, OnOk, OnErr, All, neg_ℤ};
 ghost use Rattle.rup_check.specs.Literals.{IsLiteral};
 ghost use Rattle.cnf_front.specs.Clauses.{literal_of, negation_of, rule_clause, IsVariable, IsClauseRule, AddsSome};
-ghost use Rattle.dcsp_problem.specs.Rules.{IsTermOf, IsRuleOf};
+ghost use Rattle.dcsp_rule.specs.Rules.{IsTermOf, IsRuleOf};
 
-use dcsp_list::Memory;
+use dcsp_common::Memory;
 use dcsp_problem::{Problem, Rule, Term};
 use rup_check::ClauseList;
 use std::alloc::Global;

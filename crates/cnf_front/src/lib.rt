@@ -8,7 +8,7 @@ mod words;
 mod writer;
 
 pub use clauses::cnf_of;
-pub use dcsp_list::Memory;
+pub use dcsp_common::Memory;
 pub use formula::formula_of;
 pub use header::CnfError;
 pub use writer::write_clause;

@@ -1,12 +1,10 @@
 //! A nogood as a line of a proof.
 ghost use Rattle.std.specs.Prelude.{◌≡◌, ◌∷◌, ◌++◌, flat_map, codes, IfOk, OnOk, OnErr, All};
-ghost use Rattle.std.specs.Fmt.{signed_decimal};
 ghost use Rattle.rup_check.specs.ProofText.{clause_line, literal_text};
 ghost use Rattle.cnf_front.specs.Clauses.{clause_of, literal_against, IsBinary};
 
-use dcsp_list::Memory;
-use dcsp_nogood::{Nogood, Pair};
-use itoa::Buffer;
+use dcsp_common::{Memory, push_signed};
+use dcsp_defs::{Nogood, Pair};
 use std::alloc::{AllocError, Global};
 
 /// Appends the line of a nogood's clause: `-N` for each pair of variable N, counted from 1, and 1, and `N` for each
@@ -47,7 +45,7 @@ fn push_literal(line: &mut Vec<u8>, pair: Pair) -> Result<(), AllocError>
     requires { IsBinary pair }
     ensures { OnOk result (line.new.items ≡ line.old.items ++ literal_text (literal_against pair.var pair.value)) }
 {
-    push_number(line, literal_against(pair))?;
+    push_signed(line, literal_against(pair))?;
     line.extend_from_slice(b" ")
 }
 
@@ -58,10 +56,4 @@ fn literal_against(pair: Pair) -> i64
 {
     let variable = i64::from(pair.var) + 1;
     if pair.value == 0 { variable } else { -variable }
-}
-
-fn push_number(line: &mut Vec<u8>, number: i64) -> Result<(), AllocError>
-    ensures { OnOk result (line.new.items ≡ line.old.items ++ signed_decimal number) }
-{
-    line.extend_from_slice(Buffer::new().format(number).as_bytes())
 }

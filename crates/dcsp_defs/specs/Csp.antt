@@ -1,8 +1,8 @@
 -- Constraint satisfaction problems, their solutions, and nogoods. Nothing here speaks of agents.
 use Rattle.std.specs.Prelude.{◌≡◌, ℕ, ◌-◌, ◌<◌, Bool, true, not, ◌&&◌, List, [], map, filter, length, slice_get, slice_index_or, Option, Some, ℤ, pos, is_some, unwrap_or}
 use Rattle.std.specs.List.{list_all, enumerate_from}
-use Rattle.dcsp_nogood.specs.declared.Pair.{Pair}
-use Rattle.dcsp_nogood.specs.Pairs.{value_at}
+use Rattle.dcsp_defs.specs.declared.nogood.Pair.{Pair}
+use Rattle.dcsp_defs.specs.Pairs.{value_at}
 use Rattle.dcsp_defs.specs.Words.{In, IsRising, IsRisingIntegers, is_value, is_number, update}
 
 -- a constraint: the variables that it is about, and a test of an assignment

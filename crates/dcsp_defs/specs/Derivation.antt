@@ -1,8 +1,8 @@
 -- Derivation steps, when they are right, and refutations. Steps are numbered from 1.
 use Rattle.std.specs.Prelude.{◌≡◌, ℕ, zero, suc, ◌-◌, ◌<◌, true, List, [], ◌∷◌, take, length, slice_get, Option, Some, None, MatchOption, IsSomeAnd, ℤ, pos, false}
 use Rattle.std.specs.List.{AllZip}
-use Rattle.dcsp_nogood.specs.declared.Pair.{Pair}
-use Rattle.dcsp_nogood.specs.Pairs.{value_at, IsRising}
+use Rattle.dcsp_defs.specs.declared.nogood.Pair.{Pair}
+use Rattle.dcsp_defs.specs.Pairs.{value_at, IsRising}
 use Rattle.dcsp_defs.specs.declared.Reason.{Reason}
 use Rattle.dcsp_defs.specs.declared.Reason.TheVariants.{Rule, Earlier}
 use Rattle.dcsp_defs.specs.declared.Step.{Step}

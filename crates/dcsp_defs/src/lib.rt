@@ -1,14 +1,23 @@
-//! Constraint satisfaction problems, derivations and refutations: the definitions that speak of no agent.
+//! Constraint satisfaction problems, nogoods, derivations and refutations, and the entries of logs: what speaks of no
+//! agent.
 //!
 //! The definitions stand in `specs/`. A problem is abstract here: a domain for each variable, and
 //! constraints, each of which is a scope and a test of values that looks at the scope alone.
 #![tactic(auto)]
 
+mod derivation;
+mod entry;
+mod lent;
+mod nogood;
+
 ghost use Rattle.dcsp_defs.specs.Csp.{Csp};
 ghost use Rattle.dcsp_defs.specs.Derivation.{NogoodsExclude, RefutationsRefute};
 
-use dcsp_list::ItemList;
-use dcsp_nogood::Nogood;
+use dcsp_common::ItemList;
+pub use derivation::Derivation;
+pub use entry::{Entries, Entry, NumberList};
+pub use lent::{Lent, LentStep};
+pub use nogood::{MergeError, Nogood, NogoodError, Pair, values_determine};
 
 /// Why a step rules a value out.
 #[derive(Clone, Copy, Debug, PartialEq, Eq)]

@@ -6,8 +6,8 @@ ghost use Rattle.dcsp_domain.specs.Sets.{IsRising, IsSetOf, set_of, has};
 ghost use Rattle.dcsp_domain.specs.Ranges.{count_between, numbers_from, numbers_between};
 ghost use Rattle.dcsp_domain.specs.Refusals.{IsRefusalAt};
 
-use dcsp_list::ItemList;
-pub use dcsp_list::Memory;
+use dcsp_common::ItemList;
+pub use dcsp_common::Memory;
 use std::alloc::{AllocError, AllocFailed, Global};
 use std::marker::Model;
 

@@ -8,5 +8,5 @@
 mod lines;
 mod problems;
 
-pub use dcsp_list::Memory;
+pub use dcsp_common::Memory;
 pub use problems::{colouring, pigeons, queens, sparse};

@@ -6,7 +6,7 @@ ghost use Rattle.dcsp_gen.specs.Words.{TakesWords};
 ghost use Rattle.dcsp_gen.specs.Problems.{pairs_of, pairs, queen_lines, queens_text, edge_line, colouring_text, thrice, neighbour_line, sparse_text, apart_line, pigeons_text};
 
 use crate::lines::{push_array, push_diagonals, push_differ, push_solve, push_variables};
-use dcsp_list::Memory;
+use dcsp_common::Memory;
 use rand_core::SeedableRng;
 use rand_core::utils::NextWord;
 use rand_pcg::Pcg32;

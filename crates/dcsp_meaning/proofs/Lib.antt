@@ -1,3 +1,4 @@
 pub mod Quotients
 pub mod Divided
 pub mod KindNames
+pub mod Steps

@@ -4,7 +4,7 @@ ghost use Rattle.std.specs.Prelude.{◌≡◌, ◌≤◌, [], ◌∷◌, ◌++�
 ghost use Rattle.dcsp_outside.specs.Outside.{one_more};
 ghost use Rattle.dcsp_outside.specs.Memory.{kept_at, kept_next};
 
-use dcsp_list::Memory;
+use dcsp_common::Memory;
 use std::alloc::Global;
 use std::marker::Model;
 

@@ -7,7 +7,7 @@ ghost use Rattle.dcsp_outside.specs.Outside.{ChangesName, Fetches, FetchesPiece,
 
 use crate::file_table::FileTable;
 use crate::folder::{Fetched, FolderError, Piece};
-use dcsp_list::Memory;
+use dcsp_common::Memory;
 use std::alloc::Global;
 use std::marker::Model;
 

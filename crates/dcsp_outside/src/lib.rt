@@ -15,7 +15,7 @@ mod sink;
 mod sure_folder;
 mod sure_sink;
 
-pub use dcsp_list::Memory;
+pub use dcsp_common::Memory;
 pub use folder::{Fetched, Folder, FolderError, MOST_PIECE, Piece};
 pub use handing::Transcript;
 pub use memory_folder::MemoryFolder;

@@ -10,7 +10,7 @@ use crate::call_plan::{CallPlan, Failure};
 use crate::folder::{Fetched, Folder, FolderError, Piece};
 use crate::handing::Transcript;
 use crate::kept_files::{KeptFiles, fetch_bytes, fetch_piece_of, first_of};
-use dcsp_list::Memory;
+use dcsp_common::Memory;
 use std::alloc::Global;
 use std::marker::Model;
 

@@ -7,7 +7,7 @@ ghost use Rattle.dcsp_outside.specs.Memory.{fails_next, kept_of, is_put_failure,
 use crate::call_plan::{CallPlan, Failure};
 use crate::kept_files::first_of;
 use crate::sink::{Sink, SinkError};
-use dcsp_list::Memory;
+use dcsp_common::Memory;
 use std::alloc::Global;
 use std::marker::Model;
 

@@ -8,7 +8,7 @@ ghost use Rattle.dcsp_outside.specs.Outside.{ChangesName, Fetches, FetchesPiece,
 use crate::folder::{Fetched, Folder, FolderError, Piece};
 use crate::handing::Transcript;
 use crate::kept_files::{KeptFiles, fetch_bytes, fetch_piece_of};
-use dcsp_list::Memory;
+use dcsp_common::Memory;
 use std::alloc::Global;
 use std::marker::Model;
 

@@ -7,11 +7,7 @@ pub mod Counts
 pub mod OwnerLists
 pub mod Violations
 pub mod Reading
-pub mod MemberLaws
 pub mod PairLaws
-pub mod PartLaws
-pub mod SmallLaws
-pub mod FormLaws
 pub mod Narrow
 pub mod Narrowed
 pub mod PieceLaws

@@ -4,15 +4,15 @@ use Rattle.std.specs.Prelude.{ℤ, filter_map, Option, Some, None}
 use Rattle.std.specs.Option.{option_map, option_to_list}
 use Rattle.std.proofs.lemmas.List.Elements.{filter_map-append}
 use Rattle.dcsp_meaning.specs.Table.{truth}
-use Rattle.dcsp_linear.specs.Sums.{sum_of, stands}
+use Rattle.dcsp_meaning.specs.Sums.{sum_of, stands}
 use Rattle.dcsp_defs.specs.Words.{In}
 use Rattle.dcsp_defs.proofs.Lists.{In-left, In-right}
-use Rattle.dcsp_problem.specs.declared.rule.Term.{Term}
-use Rattle.dcsp_problem.specs.declared.rule.Term.TheVariants.{Const, Var}
-use Rattle.dcsp_problem.specs.declared.rule.Rule.{Rule}
-use Rattle.dcsp_problem.specs.declared.rule.Rule.TheVariants.{Plain, Sum}
-use Rattle.dcsp_problem.specs.Members.{is_member}
-use Rattle.dcsp_problem.specs.Rules.{variable_of, value_under, variables_of, weighted_values, is_told, rule_truth}
+use Rattle.dcsp_rule.specs.declared.rule.Term.{Term}
+use Rattle.dcsp_rule.specs.declared.rule.Term.TheVariants.{Const, Var}
+use Rattle.dcsp_rule.specs.declared.rule.Rule.{Rule}
+use Rattle.dcsp_rule.specs.declared.rule.Rule.TheVariants.{Plain, Sum}
+use Rattle.dcsp_rule.specs.Members.{is_member}
+use Rattle.dcsp_rule.specs.Rules.{variable_of, value_under, variables_of, weighted_values, is_told, rule_truth}
 
 -- a fact of each variable among these terms
 pub record OfEach (P : ℕ → Type 0) (terms : List Term) : Type 0 where

@@ -11,9 +11,9 @@ use Rattle.std.proofs.lemmas.List.Folds.{list_any-append}
 use Rattle.std.proofs.lemmas.List.Elements.{All-contains}
 use Rattle.dcsp_defs.specs.Words.{In, below, is_number}
 use Rattle.dcsp_defs.proofs.Lists.{In-filter, below-In, list_any-In, In-list_any, and_left}
-use Rattle.dcsp_problem.specs.declared.rule.Rule.{Rule}
-use Rattle.dcsp_problem.specs.Rules.{scope_of}
-use Rattle.dcsp_problem.specs.Problems.{Contents, constraint_of, csp_of}
+use Rattle.dcsp_rule.specs.declared.rule.Rule.{Rule}
+use Rattle.dcsp_rule.specs.Rules.{scope_of}
+use Rattle.dcsp_rule.specs.Problems.{Contents, constraint_of, csp_of}
 use Rattle.dcsp_problem.specs.Owners.{last_of}
 use Rattle.dcsp_problem.specs.Lower.{is_among, set_below, joins, lower_owners, ends_after, lower_among, Adds}
 use Rattle.dcsp_problem.proofs.OwnerLists.{map_below, get_or-map_below}

@@ -5,13 +5,13 @@ use Rattle.std.specs.List.{list_all}
 use Rattle.std.proofs.lemmas.List.Elements.{All-get_or}
 use Rattle.std.proofs.lemmas.Option.{unwrap_or-slice_get}
 use Rattle.dcsp_domain.specs.Sets.{has}
-use Rattle.dcsp_linear.specs.declared.TheConstants.{WIDEST}
+use Rattle.dcsp_meaning.specs.declared.linear.TheConstants.{WIDEST}
 use Rattle.dcsp_defs.specs.Words.{In}
 use Rattle.dcsp_defs.specs.Csp.{Assignment, PartialAssignment, domain, filled}
 use Rattle.dcsp_defs.proofs.Lists.{list_all-In}
-use Rattle.dcsp_problem.specs.Rules.{variables_of, IsRuleOf, no_rule}
-use Rattle.dcsp_problem.specs.Widths.{rule_width, rule_sizes}
-use Rattle.dcsp_problem.specs.Problems.{Contents, csp_of, rule_at, constraint_at, value_in, within_domains}
+use Rattle.dcsp_rule.specs.Rules.{variables_of, IsRuleOf, no_rule}
+use Rattle.dcsp_rule.specs.Widths.{rule_width, rule_sizes}
+use Rattle.dcsp_rule.specs.Problems.{Contents, csp_of, rule_at, constraint_at, value_in, within_domains}
 use Rattle.dcsp_problem.specs.WellFormed.{IsProblem}
 use Rattle.dcsp_problem.proofs.Scopes.{In-scope, variables_below}
 use Rattle.dcsp_problem.proofs.WidthLaws.{IsInDomain, sizes_within}

@@ -7,25 +7,25 @@ use Rattle.std.proofs.lemmas.List.Sums.{sum_by-set, sum_by-cons}
 use Rattle.std.proofs.lemmas.Nat.{mul-le}
 use Rattle.dcsp_domain.specs.Sets.{IsDomain}
 use Rattle.dcsp_domain.proofs.Domains.{domain_of_filter, length_filter}
-use Rattle.dcsp_linear.specs.Sums.{greatest_size}
-use Rattle.dcsp_linear.specs.declared.TheConstants.{WIDEST}
+use Rattle.dcsp_meaning.specs.Sums.{greatest_size}
+use Rattle.dcsp_meaning.specs.declared.linear.TheConstants.{WIDEST}
 use Rattle.dcsp_defs.specs.Words.{below}
 use Rattle.dcsp_defs.specs.Csp.{Constraint, owned}
-use Rattle.dcsp_problem.specs.declared.rule.Term.{Term}
-use Rattle.dcsp_problem.specs.declared.rule.Term.TheVariants.{Const, Var}
-use Rattle.dcsp_problem.specs.declared.rule.Rule.{Rule}
-use Rattle.dcsp_problem.specs.declared.rule.Rule.TheVariants.{Plain, Sum}
-use Rattle.dcsp_problem.specs.Rules.{IsRuleOf, IsAimOf, scope_of}
+use Rattle.dcsp_rule.specs.declared.rule.Term.{Term}
+use Rattle.dcsp_rule.specs.declared.rule.Term.TheVariants.{Const, Var}
+use Rattle.dcsp_rule.specs.declared.rule.Rule.{Rule}
+use Rattle.dcsp_rule.specs.declared.rule.Rule.TheVariants.{Plain, Sum}
+use Rattle.dcsp_rule.specs.Rules.{IsRuleOf, IsAimOf, scope_of}
 use Rattle.dcsp_problem.specs.Outputs.{IsOutputOf}
-use Rattle.dcsp_problem.specs.Widths.{greatest_among, greatest_of, rule_width}
-use Rattle.dcsp_problem.specs.Problems.{Contents, constraint_of}
-use Rattle.dcsp_problem.specs.declared.form.Form.{Form}
+use Rattle.dcsp_rule.specs.Widths.{greatest_among, greatest_of, rule_width}
+use Rattle.dcsp_rule.specs.Problems.{Contents, constraint_of}
+use Rattle.dcsp_rule.specs.declared.form.Form.{Form}
 use Rattle.dcsp_problem.specs.Index.{IsIndexed}
 use Rattle.dcsp_problem.specs.Lower.{joins}
 use Rattle.dcsp_problem.specs.WellFormed.{IsProblem}
-use Rattle.dcsp_problem.specs.declared.aim.Aim.{Aim}
-use Rattle.dcsp_problem.specs.declared.aim.Aim.TheVariants.{Satisfy, Least, Greatest}
-use Rattle.dcsp_problem.specs.Aims.{aimed_at, is_better, narrowed_domains, narrowed_at, narrowed}
+use Rattle.dcsp_rule.specs.declared.aim.Aim.{Aim}
+use Rattle.dcsp_rule.specs.declared.aim.Aim.TheVariants.{Satisfy, Least, Greatest}
+use Rattle.dcsp_rule.specs.Aims.{aimed_at, is_better, narrowed_domains, narrowed_at, narrowed}
 
 -- each value's absolute value is at most the greatest of all
 greatest_filter : (p : ℤ → Bool) (xs : List ℤ) → greatest_among (filter p xs) ≤ greatest_among xs

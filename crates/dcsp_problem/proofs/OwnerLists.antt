@@ -8,9 +8,9 @@ use Rattle.std.proofs.Math.Seq.{set-append_seam, get_or-append_seam}
 use Rattle.std.proofs.lemmas.List.Elements.{All-cons}
 use Rattle.dcsp_defs.specs.Words.{below, is_number}
 use Rattle.dcsp_defs.specs.Csp.{Constraint, owns}
-use Rattle.dcsp_problem.specs.declared.rule.Rule.{Rule}
-use Rattle.dcsp_problem.specs.Rules.{scope_of}
-use Rattle.dcsp_problem.specs.Problems.{Contents, constraint_of}
+use Rattle.dcsp_rule.specs.declared.rule.Rule.{Rule}
+use Rattle.dcsp_rule.specs.Rules.{scope_of}
+use Rattle.dcsp_rule.specs.Problems.{Contents, constraint_of}
 use Rattle.dcsp_problem.specs.Index.{owned_rules}
 use Rattle.dcsp_problem.specs.Owners.{last_of, owned_from, owned_among, with_owned}
 

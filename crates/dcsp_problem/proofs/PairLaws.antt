@@ -6,11 +6,11 @@ use Rattle.std.proofs.lemmas.Bool.{eqb-true, eq-eqb, or_cases, both_ways, false_
 use Rattle.dcsp_defs.specs.Words.{In}
 use Rattle.dcsp_defs.specs.Csp.{PartialAssignment, filled, is_violated}
 use Rattle.dcsp_defs.proofs.Lists.{list_all-In, In-list_all}
-use Rattle.dcsp_problem.specs.declared.pair.Pair.{Pair}
-use Rattle.dcsp_problem.specs.declared.rule.Rule.{Rule}
-use Rattle.dcsp_problem.specs.Rules.{scope_of, mentions, IsRuleOf}
-use Rattle.dcsp_problem.specs.Pairs.{is_missed, is_of_pair, pair_truth, IsPairOf, IsSmall}
-use Rattle.dcsp_problem.specs.Problems.{constraint_of}
+use Rattle.dcsp_rule.specs.declared.pair.Pair.{Pair}
+use Rattle.dcsp_rule.specs.declared.rule.Rule.{Rule}
+use Rattle.dcsp_rule.specs.Rules.{scope_of, mentions, IsRuleOf}
+use Rattle.dcsp_rule.specs.Pairs.{is_missed, is_of_pair, pair_truth, IsPairOf, IsSmall}
+use Rattle.dcsp_rule.specs.Problems.{constraint_of}
 use Rattle.dcsp_problem.proofs.RisingNumbers.{In-filter_below}
 use Rattle.dcsp_problem.proofs.Scopes.{In-scope, from_mentioned}
 

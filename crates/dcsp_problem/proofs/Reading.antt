@@ -6,10 +6,10 @@ use Rattle.std.proofs.lemmas.List.{append_assoc, take_more, get_or_default, get_
 use Rattle.std.proofs.lemmas.List.Elements.{filter_map-append, All-get_or, All-tail, All-head}
 use Rattle.std.proofs.lemmas.Option.{unwrap_or-slice_get, get_or_from_slice_get}
 use Rattle.dcsp_defs.specs.Csp.{IsConstraint, filled}
-use Rattle.dcsp_problem.specs.declared.rule.Term.{Term}
-use Rattle.dcsp_problem.specs.declared.rule.Rule.{Rule}
-use Rattle.dcsp_problem.specs.Rules.{variable_of, scope_of, rule_truth, mentions, IsRuleOf, no_rule}
-use Rattle.dcsp_problem.specs.Problems.{Contents, csp_of, rule_at, constraint_at}
+use Rattle.dcsp_rule.specs.declared.rule.Term.{Term}
+use Rattle.dcsp_rule.specs.declared.rule.Rule.{Rule}
+use Rattle.dcsp_rule.specs.Rules.{variable_of, scope_of, rule_truth, mentions, IsRuleOf, no_rule}
+use Rattle.dcsp_rule.specs.Problems.{Contents, csp_of, rule_at, constraint_at}
 use Rattle.dcsp_problem.specs.WellFormed.{IsProblem}
 use Rattle.dcsp_problem.specs.Owners.{last_of}
 use Rattle.dcsp_problem.proofs.RisingNumbers.{In-get_or, In-filter_below}

@@ -8,10 +8,10 @@ use Rattle.std.proofs.lemmas.Bool.Decides.{Decides-eqb}
 use Rattle.std.proofs.lemmas.List.Elements.{All-contains}
 use Rattle.dcsp_defs.specs.Words.{In, below}
 use Rattle.dcsp_defs.proofs.Lists.{In-filter, In-filter_map, below-In, list_any-In, In-list_any}
-use Rattle.dcsp_problem.specs.declared.rule.Term.{Term}
-use Rattle.dcsp_problem.specs.declared.rule.Term.TheVariants.{Const, Var}
-use Rattle.dcsp_problem.specs.declared.rule.Rule.{Rule}
-use Rattle.dcsp_problem.specs.Rules.{variable_of, terms_of, variables_of, mentions, scope_of, IsTermOf, IsRuleOf}
+use Rattle.dcsp_rule.specs.declared.rule.Term.{Term}
+use Rattle.dcsp_rule.specs.declared.rule.Term.TheVariants.{Const, Var}
+use Rattle.dcsp_rule.specs.declared.rule.Rule.{Rule}
+use Rattle.dcsp_rule.specs.Rules.{variable_of, terms_of, variables_of, mentions, scope_of, IsTermOf, IsRuleOf}
 use Rattle.dcsp_problem.proofs.RisingNumbers.{In-filter_below, rising-filter_below, same_members, rising-sorted_set, In-sorted_set, In-from_sorted_set, Contains-In}
 
 -- a rule mentions the variables among its terms

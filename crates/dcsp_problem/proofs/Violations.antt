@@ -9,7 +9,7 @@ use Rattle.dcsp_domain.specs.Sets.{has}
 use Rattle.dcsp_defs.specs.Words.{In}
 use Rattle.dcsp_defs.specs.Csp.{Csp, Constraint, PartialAssignment, IsConstraint, domain, count, filled, is_violated}
 use Rattle.dcsp_defs.proofs.Lists.{list_any-In, In-list_any, In-list_all}
-use Rattle.dcsp_problem.specs.Problems.{value_in, within_domains, AreInDomains}
+use Rattle.dcsp_rule.specs.Problems.{value_in, within_domains, AreInDomains}
 
 -- a value of the domain is kept
 value_kept : (values : List ℤ) (v : ℤ) → In v values → value_in values (Some v) ≡ Some v

@@ -5,9 +5,9 @@ use Rattle.std.proofs.lemmas.List.Elements.{All-contains}
 use Rattle.dcsp_domain.specs.Sets.{IsDomain, IsRising}
 use Rattle.dcsp_defs.specs.Words.{In, IsRisingIntegers}
 use Rattle.dcsp_defs.specs.Csp.{IsConstraint, IsCsp}
-use Rattle.dcsp_problem.specs.declared.rule.Rule.{Rule}
-use Rattle.dcsp_problem.specs.Rules.{mentions, IsRuleOf, no_rule}
-use Rattle.dcsp_problem.specs.Problems.{Contents, constraint_of, csp_of, constraint_at}
+use Rattle.dcsp_rule.specs.declared.rule.Rule.{Rule}
+use Rattle.dcsp_rule.specs.Rules.{mentions, IsRuleOf, no_rule}
+use Rattle.dcsp_rule.specs.Problems.{Contents, constraint_of, csp_of, constraint_at}
 use Rattle.dcsp_problem.specs.WellFormed.{IsProblem}
 use Rattle.dcsp_problem.proofs.RisingNumbers.{Contains-In, In-filter_below, rising-filter_below}
 use Rattle.dcsp_problem.proofs.Scopes.{In-scope}

@@ -11,18 +11,18 @@ use Rattle.std.proofs.lemmas.List.Sums.{sum_by-cons}
 use Rattle.std.proofs.lemmas.Option.{get_or_from_slice_get}
 use Rattle.dcsp_domain.specs.Sets.{IsRising, has}
 use Rattle.dcsp_domain.proofs.Rising.{Rises, rises_from_rising, has_cases, has_first}
-use Rattle.dcsp_linear.specs.Sums.{size_of as product_size, greatest_size}
-use Rattle.dcsp_linear.specs.declared.TheConstants.{WIDEST}
-use Rattle.dcsp_linear.proofs.Steps.{greatest-drop}
+use Rattle.dcsp_meaning.specs.Sums.{size_of as product_size, greatest_size}
+use Rattle.dcsp_meaning.specs.declared.linear.TheConstants.{WIDEST}
+use Rattle.dcsp_meaning.proofs.Steps.{greatest-drop}
 use Rattle.dcsp_defs.specs.Words.{In}
 use Rattle.dcsp_defs.specs.Csp.{Assignment}
 use Rattle.dcsp_defs.proofs.Lists.{In-left, In-right}
-use Rattle.dcsp_problem.specs.declared.rule.Term.{Term}
-use Rattle.dcsp_problem.specs.declared.rule.Term.TheVariants.{Const, Var}
-use Rattle.dcsp_problem.specs.declared.rule.Rule.{Rule}
-use Rattle.dcsp_problem.specs.declared.rule.Rule.TheVariants.{Plain, Sum}
-use Rattle.dcsp_problem.specs.Rules.{value_under, terms_of, weighted_values, IsTermOf, IsRuleOf}
-use Rattle.dcsp_problem.specs.Widths.{greatest_among, greatest_of, rule_width, rule_sizes}
+use Rattle.dcsp_rule.specs.declared.rule.Term.{Term}
+use Rattle.dcsp_rule.specs.declared.rule.Term.TheVariants.{Const, Var}
+use Rattle.dcsp_rule.specs.declared.rule.Rule.{Rule}
+use Rattle.dcsp_rule.specs.declared.rule.Rule.TheVariants.{Plain, Sum}
+use Rattle.dcsp_rule.specs.Rules.{value_under, terms_of, weighted_values, IsTermOf, IsRuleOf}
+use Rattle.dcsp_rule.specs.Widths.{greatest_among, greatest_of, rule_width, rule_sizes}
 use Rattle.dcsp_problem.proofs.RisingNumbers.{Contains-In}
 use Rattle.dcsp_problem.proofs.Local.{OfEach, of_left, of_right, of_first, of_rest}
 

@@ -2,10 +2,10 @@
 use Rattle.std.specs.Prelude.{◌≡◌, ℕ, List, map, length}
 use Rattle.dcsp_defs.specs.Words.{below}
 use Rattle.dcsp_defs.specs.Csp.{Constraint, owned}
-use Rattle.dcsp_problem.specs.declared.form.Form.{Form}
-use Rattle.dcsp_problem.specs.Rules.{scope_of}
-use Rattle.dcsp_problem.specs.Forms.{AreForms}
-use Rattle.dcsp_problem.specs.Problems.{Contents, csp_of, value_count, term_count}
+use Rattle.dcsp_rule.specs.declared.form.Form.{Form}
+use Rattle.dcsp_rule.specs.Rules.{scope_of}
+use Rattle.dcsp_rule.specs.Forms.{AreForms}
+use Rattle.dcsp_rule.specs.Problems.{Contents, csp_of, value_count, term_count}
 use Rattle.dcsp_problem.specs.Lower.{lower_owners}
 use Rattle.dcsp_problem.specs.WellFormed.{IsProblem}
 

@@ -1,14 +1,6 @@
-pub mod Members
-pub mod Rules
-pub mod Widths
-pub mod Problems
-pub mod Aims
 pub mod Limits
 pub mod Outputs
 pub mod WellFormed
-pub mod Pairs
-pub mod Parts
-pub mod Forms
 pub mod Index
 pub mod Owners
 pub mod Lower

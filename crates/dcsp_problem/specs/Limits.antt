@@ -1,16 +1,16 @@
 -- Limits of a problem, and why a variable or a rule is not added to it.
 use Rattle.std.specs.Prelude.{◌≡◌, ℕ, ◌+◌, ℤ, List, [], ◌∷◌, ◌++◌, length, find, nat_lt, Option, Some, None, Result, Ok, Err, if◌then◌else◌}
 use Rattle.std.specs.Option.{option_map}
-use Rattle.dcsp_linear.specs.Sums.{widest}
+use Rattle.dcsp_meaning.specs.Sums.{widest}
 use Rattle.dcsp_problem.specs.declared.limits.Which.{Which}
 use Rattle.dcsp_problem.specs.declared.limits.Which.TheVariants.{DomainSize, Variables, DomainValues, Rules, Terms, Elements}
 use Rattle.dcsp_problem.specs.declared.limits.BuildError.{BuildError}
 use Rattle.dcsp_problem.specs.declared.limits.BuildError.TheVariants.{Limit, WideSum, Memory}
-use Rattle.dcsp_problem.specs.declared.rule.Rule.{Rule}
-use Rattle.dcsp_problem.specs.declared.rule.Rule.TheVariants.{Plain, Sum}
-use Rattle.dcsp_problem.specs.Rules.{size_of}
-use Rattle.dcsp_problem.specs.Widths.{rule_width}
-use Rattle.dcsp_problem.specs.Problems.{Contents, value_count, term_count}
+use Rattle.dcsp_rule.specs.declared.rule.Rule.{Rule}
+use Rattle.dcsp_rule.specs.declared.rule.Rule.TheVariants.{Plain, Sum}
+use Rattle.dcsp_rule.specs.Rules.{size_of}
+use Rattle.dcsp_rule.specs.Widths.{rule_width}
+use Rattle.dcsp_rule.specs.Problems.{Contents, value_count, term_count}
 
 -- the greatest number that is allowed
 abbrev pub most : Which → ℕ

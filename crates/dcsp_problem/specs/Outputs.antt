@@ -1,11 +1,11 @@
 -- What is told of a solution.
 use Rattle.std.specs.Prelude.{◌≡◌, ℕ, ◌*◌, ◌≤◌, ℤ, List, [], ◌∷◌, length, All}
 use Rattle.dcsp_domain.specs.Ranges.{count_between}
-use Rattle.dcsp_problem.specs.declared.output.Output.{Output}
-use Rattle.dcsp_problem.specs.declared.output.Shape.{Shape}
-use Rattle.dcsp_problem.specs.declared.output.Shape.TheVariants.{One, Ranges}
+use Rattle.dcsp_rule.specs.declared.output.Output.{Output}
+use Rattle.dcsp_rule.specs.declared.output.Shape.{Shape}
+use Rattle.dcsp_rule.specs.declared.output.Shape.TheVariants.{One, Ranges}
 use Rattle.dcsp_problem.specs.declared.limits.Which.TheVariants.{Elements}
-use Rattle.dcsp_problem.specs.Rules.{IsTermOf}
+use Rattle.dcsp_rule.specs.Rules.{IsTermOf}
 use Rattle.dcsp_problem.specs.Limits.{most}
 
 -- the product of the ranges' sizes

@@ -1,23 +1,20 @@
 //! Problems as they are built.
 
 ghost use Rattle.std.specs.Prelude.{◌≡◌, ◌≤◌, ◌<◌, ◌+◌, ◌-◌, ◌^◌, ◌++◌, ◌∷◌, [], length, All, IsTrue, IfOk, IfErr, OnOk, OnErr, MatchOption, Ok, Err};
-ghost use Rattle.dcsp_problem.specs.Members.{values_of};
-ghost use Rattle.dcsp_problem.specs.Rules.{IsTermOf, IsAimOf, terms_of, size_of, has_shape};
+ghost use Rattle.dcsp_rule.specs.Members.{values_of};
+ghost use Rattle.dcsp_rule.specs.Rules.{IsTermOf, IsAimOf, terms_of, size_of, has_shape};
 ghost use Rattle.dcsp_problem.specs.Outputs.{IsOutputOf};
 ghost use Rattle.dcsp_problem.specs.Limits.{first_past, list_counts, variable_refusal, rule_refusal, Refuses};
 
-use crate::aim::Aim;
-use crate::form::forms_of;
 use crate::index::owned_lists;
 use crate::limits::{BuildError, Which, within};
 use crate::lower::lower_table;
-use crate::output::Output;
 use crate::problem::{Problem, SharedPart, Tables};
-use crate::rule::{Members, Rule};
 use crate::table::NumberTable;
 use crate::widths::within_width;
+use dcsp_common::Memory;
 use dcsp_domain::Domain;
-use dcsp_list::Memory;
+use dcsp_rule::{Aim, Members, Output, Rule, forms_of};
 use std::alloc::Global;
 use std::marker::Model;
 
@@ -36,7 +33,7 @@ pub struct ProblemBuilder {
 }
 
 impl Model for ProblemBuilder {
-    ghost use Rattle.dcsp_problem.specs.Problems.{Contents};
+    ghost use Rattle.dcsp_rule.specs.Problems.{Contents};
     ghost use Rattle.dcsp_problem.specs.Index.{IsTallied};
 
     ghost Value = { Contents };

@@ -4,12 +4,12 @@ ghost use Rattle.std.specs.Prelude.{◌≡◌, ◌≤◌, ◌<◌, ◌^◌, ◌+
 ghost use Rattle.std.specs.List.{filter_map};
 ghost use Rattle.std.specs.Option.{option_to_list};
 ghost use Rattle.dcsp_defs.specs.Words.{below};
-ghost use Rattle.dcsp_problem.specs.Rules.{IsRuleOf, scope_of, variable_of, variables_of};
+ghost use Rattle.dcsp_rule.specs.Rules.{IsRuleOf, scope_of, variable_of, variables_of};
 ghost use Rattle.dcsp_problem.specs.Owners.{owned_among, with_owned};
 
-use crate::rule::{NumberList, Rule, Term};
 use crate::table::NumberTable;
-use dcsp_list::Memory;
+use dcsp_common::Memory;
+use dcsp_rule::{NumberList, Rule, Term};
 use std::alloc::{AllocError, Global};
 
 /// The variables among the rule's terms, rising.

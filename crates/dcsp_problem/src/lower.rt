@@ -5,9 +5,9 @@ ghost use Rattle.dcsp_defs.specs.Words.{below};
 ghost use Rattle.dcsp_problem.specs.Lower.{is_among, ends_after, lower_among, Adds};
 
 use crate::index::empty_lists;
-use crate::rule::NumberList;
 use crate::table::NumberTable;
-use dcsp_list::Memory;
+use dcsp_common::Memory;
+use dcsp_rule::NumberList;
 use std::alloc::Global;
 
 /// For each of so many variables the later ones that are last in a scope with it, where these are the rules' scopes.

@@ -4,25 +4,19 @@ ghost use Rattle.std.specs.Prelude.{◌≡◌, ◌≤◌, ◌<◌, ℕ, ℤ, pos
 ghost use Rattle.std.specs.List.{list_all};
 ghost use Rattle.dcsp_domain.specs.Sets.{has};
 ghost use Rattle.dcsp_defs.specs.Csp.{domain, owner, is_violated, IsConstraint, IsCsp};
-ghost use Rattle.dcsp_problem.specs.Problems.{csp_of, constraint_at, rule_at, within_domains, AreInDomains};
+ghost use Rattle.dcsp_rule.specs.Problems.{csp_of, constraint_at, rule_at, within_domains, AreInDomains};
 ghost use Rattle.dcsp_problem.specs.WellFormed.{IsProblem};
-ghost use Rattle.dcsp_problem.specs.Rules.{IsAimOf};
-ghost use Rattle.dcsp_problem.specs.Aims.{aimed_at, is_better, narrowed_domains, narrowed};
-ghost use Rattle.dcsp_problem.specs.Pairs.{compares_variable, IsPairOf, IsSmallSum};
-ghost use Rattle.dcsp_problem.specs.Forms.{IsFormOf};
+ghost use Rattle.dcsp_rule.specs.Rules.{IsAimOf};
+ghost use Rattle.dcsp_rule.specs.Aims.{aimed_at, is_better, narrowed_domains, narrowed};
+ghost use Rattle.dcsp_rule.specs.Pairs.{compares_variable, IsPairOf, IsSmallSum};
+ghost use Rattle.dcsp_rule.specs.Forms.{IsFormOf};
 ghost use Rattle.dcsp_problem.specs.Index.{IsIndexed, owned_rules};
 ghost use Rattle.dcsp_problem.specs.Lower.{lower_owners};
 
-use crate::aim::Aim;
-use crate::form::Form;
-use crate::ground::is_true_under;
-use crate::lookup::{Assignment, Lookup, WithinDomains};
-use crate::output::Output;
-use crate::pair::Pair;
-use crate::rule::Rule;
 use crate::table::NumberTable;
+use dcsp_common::Memory;
 use dcsp_domain::Domain;
-use dcsp_list::Memory;
+use dcsp_rule::{Aim, Assignment, Form, Lookup, Output, Pair, Rule, WithinDomains, is_true_under};
 use std::alloc::Global;
 use std::marker::Model;
 use std::rc::Rc;
@@ -58,7 +52,7 @@ pub struct Tables {
 }
 
 impl Model for Problem {
-    ghost use Rattle.dcsp_problem.specs.Problems.{Contents};
+    ghost use Rattle.dcsp_rule.specs.Problems.{Contents};
     ghost use Rattle.dcsp_problem.specs.Index.{IsIndexed};
 
     ghost Value = { Contents };
@@ -98,6 +92,14 @@ impl Problem {
         ensures problem { IsProblem self.now }
     {
         self.domains.len() as u32
+    }
+
+    /// Every problem denotes a well-formed abstract problem, and keeps the limits.
+    pub fn denotes_csp(&self)
+        ensures csp { IsCsp (csp_of self.now) }
+        ensures problem { IsProblem self.now }
+    {
+        let _vars = self.vars();
     }
 
     /// The domain of a variable.

@@ -1,13 +1,13 @@
 //! Many lists of numbers in one array.
 
 ghost use Rattle.std.specs.Prelude.{◌≡◌, ◌<◌, ◌++◌, ◌∷◌, ℕ, [], List, map, length, All, Some, IfOk, OnOk, slice_get};
-ghost use Rattle.dcsp_problem.specs.Rules.{IsRuleOf, scope_of};
+ghost use Rattle.dcsp_rule.specs.Rules.{IsRuleOf, scope_of};
 ghost use Rattle.dcsp_problem.specs.Lower.{set_below};
 ghost use Rattle.dcsp_problem.specs.Pieces.{pieces, AreCuts};
 
 use crate::index::scope_list;
-use crate::rule::{NumberList, Rule};
-use dcsp_list::Memory;
+use dcsp_common::Memory;
+use dcsp_rule::{NumberList, Rule};
 use std::alloc::{AllocError, Global};
 use std::marker::Model;
 

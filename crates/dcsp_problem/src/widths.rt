@@ -1,15 +1,15 @@
 //! How wide a rule's sum may become.
 
 ghost use Rattle.std.specs.Prelude.{◌≡◌, map, length, All, IsTrue, nat_lt, Some, None, if◌then◌else◌};
-ghost use Rattle.dcsp_linear.specs.Sums.{widest, width_of};
-ghost use Rattle.dcsp_problem.specs.Rules.{IsTermOf, terms_of, has_shape};
-ghost use Rattle.dcsp_problem.specs.Widths.{greatest_among, greatest_of, rule_width};
+ghost use Rattle.dcsp_meaning.specs.Sums.{widest, width_of};
+ghost use Rattle.dcsp_rule.specs.Rules.{IsTermOf, terms_of, has_shape};
+ghost use Rattle.dcsp_rule.specs.Widths.{greatest_among, greatest_of, rule_width};
 ghost use Rattle.dcsp_problem.specs.Limits.{Refuses};
 
 use crate::limits::BuildError;
-use crate::rule::{Rule, Term};
 use dcsp_domain::Domain;
-use dcsp_linear::{WIDEST, plus_greatest};
+use dcsp_meaning::{WIDEST, plus_greatest};
+use dcsp_rule::{Rule, Term};
 
 /// Refuses a rule whose sum is too wide over these domains.
 pub fn within_width(domains: &[Domain], rule: &Rule) -> Result<(), BuildError>

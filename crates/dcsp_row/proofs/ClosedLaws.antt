@@ -5,12 +5,12 @@ use Rattle.std.specs.List.{list_any}
 use Rattle.dcsp_meaning.specs.declared.kinds.Kind.{Kind}
 use Rattle.dcsp_meaning.specs.declared.kinds.Kind.TheVariants.{IntEq, IntNe, IntLe, IntLt}
 use Rattle.dcsp_meaning.specs.Table.{is_shape}
-use Rattle.dcsp_problem.specs.declared.rule.Term.{Term}
-use Rattle.dcsp_problem.specs.declared.rule.Term.TheVariants.{Const, Var}
-use Rattle.dcsp_problem.specs.declared.rule.Rule.{Rule}
-use Rattle.dcsp_problem.specs.declared.rule.Rule.TheVariants.{Plain, Sum}
-use Rattle.dcsp_problem.specs.Rules.{has_shape, mentions, variable_of}
-use Rattle.dcsp_problem.specs.Pairs.{compares_variable, is_comparison}
+use Rattle.dcsp_rule.specs.declared.rule.Term.{Term}
+use Rattle.dcsp_rule.specs.declared.rule.Term.TheVariants.{Const, Var}
+use Rattle.dcsp_rule.specs.declared.rule.Rule.{Rule}
+use Rattle.dcsp_rule.specs.declared.rule.Rule.TheVariants.{Plain, Sum}
+use Rattle.dcsp_rule.specs.Rules.{has_shape, mentions, variable_of}
+use Rattle.dcsp_rule.specs.Pairs.{compares_variable, is_comparison}
 use Rattle.dcsp_row.specs.Easy.{has_span, is_plain}
 
 -- a comparison takes no lists

@@ -8,11 +8,11 @@ use Rattle.std.proofs.lemmas.Int.{ints}
 use Rattle.std.proofs.Math.IntN.{zero-*ℤ, suc_ℤ-*ℤ, *ℤ-negsuc, *ℤ_comm}
 use Rattle.dcsp_domain.specs.Sets.{IsRising}
 use Rattle.dcsp_row.specs.declared.cut.Cut.{Cut}
-use Rattle.dcsp_linear.specs.declared.Rel.{Rel}
-use Rattle.dcsp_linear.specs.declared.Rel.TheVariants.{Equal, Differ, AtMost}
-use Rattle.dcsp_linear.specs.Sums.{stands}
+use Rattle.dcsp_meaning.specs.declared.linear.Rel.{Rel}
+use Rattle.dcsp_meaning.specs.declared.linear.Rel.TheVariants.{Equal, Differ, AtMost}
+use Rattle.dcsp_meaning.specs.Sums.{stands}
 use Rattle.dcsp_meaning.specs.Words.{is_one, same}
-use Rattle.dcsp_problem.specs.Rules.{is_told}
+use Rattle.dcsp_rule.specs.Rules.{is_told}
 use Rattle.dcsp_row.specs.declared.line.Line.{Line}
 use Rattle.dcsp_row.specs.Lines.{line_at, own_part}
 use Rattle.dcsp_row.specs.Cuts.{is_in}

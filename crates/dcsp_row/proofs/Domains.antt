@@ -7,7 +7,7 @@ use Rattle.std.proofs.lemmas.Bool.Decides.{eqb_tells}
 use Rattle.std.proofs.lemmas.Option.{unwrap_or-slice_get}
 use Rattle.dcsp_defs.specs.Words.{In}
 use Rattle.dcsp_defs.specs.Csp.{Csp, PartialAssignment, domain, with_value}
-use Rattle.dcsp_problem.specs.Problems.{AreInDomains}
+use Rattle.dcsp_rule.specs.Problems.{AreInDomains}
 use Rattle.dcsp_row.specs.Rows.{own_at, MarksBelow}
 
 -- a view's values with one of the agent's domain

@@ -3,7 +3,7 @@ use Rattle.std.proofs.Common.{◌≡◌, ℕ, ◌+◌, ◌<◌, ◌≤◌, ℤ, 
 use Rattle.std.specs.Prelude.{IfSome, is_some}
 use Rattle.std.proofs.lemmas.List.{drop_more}
 use Rattle.std.proofs.Math.ListN.{drop_of_length-le}
-use Rattle.dcsp_problem.specs.declared.rule.Term.{Term}
+use Rattle.dcsp_rule.specs.declared.rule.Term.{Term}
 use Rattle.dcsp_row.specs.Easy.{is_variable, own_coefs}
 use Rattle.dcsp_row.specs.Lines.{open_coef}
 use Rattle.dcsp_row.specs.declared.span.Span.{Span}

@@ -1,7 +1,7 @@
 -- Sets of numbers that are one number, or all below one, or all others than these.
 use Rattle.std.specs.Prelude.{ℕ, ◌+◌, ◌^◌, ℤ, Bool, not, int_lt, if◌then◌else◌}
 use Rattle.std.specs.Ordering.{int_eq}
-use Rattle.dcsp_linear.specs.Sums.{widest}
+use Rattle.dcsp_meaning.specs.Sums.{widest}
 use Rattle.dcsp_row.specs.declared.cut.Part.{Part}
 use Rattle.dcsp_row.specs.declared.cut.Part.TheVariants.{Only, Below}
 use Rattle.dcsp_row.specs.declared.cut.Cut.{Cut}

@@ -1,7 +1,7 @@
 -- Sums in which one variable is left open.
 use Rattle.std.specs.Prelude.{◌≡◌, ℕ, ◌+◌, ◌*◌, ◌≤◌, ℤ, pos, ◌+ℤ◌, ◌*ℤ◌, Bool, true, false, not, List, [], ◌∷◌, Option, Some, None, ◌&&◌, is_some, unsigned_abs, unwrap_or}
-use Rattle.dcsp_linear.specs.Sums.{stands}
-use Rattle.dcsp_problem.specs.Rules.{is_told}
+use Rattle.dcsp_meaning.specs.Sums.{stands}
+use Rattle.dcsp_rule.specs.Rules.{is_told}
 use Rattle.dcsp_row.specs.declared.known.ValueOrOpen.{ValueOrOpen}
 use Rattle.dcsp_row.specs.declared.known.ValueOrOpen.TheVariants.{Open, Value}
 use Rattle.dcsp_row.specs.declared.line.Line.{Line}

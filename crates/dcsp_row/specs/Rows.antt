@@ -1,9 +1,9 @@
 -- Which values of a variable a rule rules out.
 use Rattle.std.specs.Prelude.{◌≡◌, ℕ, ◌<◌, ℤ, pos, Bool, false, not, List, length, slice_index_or, ◌≤◌}
 use Rattle.dcsp_defs.specs.Csp.{PartialAssignment, domain, filled, is_violated, with_value}
-use Rattle.dcsp_problem.specs.declared.rule.Rule.{Rule}
-use Rattle.dcsp_problem.specs.Rules.{rule_truth}
-use Rattle.dcsp_problem.specs.Problems.{Contents, csp_of, constraint_at}
+use Rattle.dcsp_rule.specs.declared.rule.Rule.{Rule}
+use Rattle.dcsp_rule.specs.Rules.{rule_truth}
+use Rattle.dcsp_rule.specs.Problems.{Contents, csp_of, constraint_at}
 
 -- the value at a place
 abbrev pub own_at : List ℤ → ℕ → ℤ

@@ -2,14 +2,14 @@
 
 ghost use Rattle.std.specs.Prelude.{◌≡◌, ◌<◌, ◌≤◌, ◌*ℤ◌, ℕ, ℤ, pos, IfSome, int_lt, length, nat_lt, not, unsigned_abs};
 ghost use Rattle.std.specs.Ordering.{int_eq};
-ghost use Rattle.dcsp_linear.specs.Sums.{stands};
+ghost use Rattle.dcsp_meaning.specs.Sums.{stands};
 ghost use Rattle.dcsp_row.specs.Cuts.{is_in, is_of, number_of, farthest};
 ghost use Rattle.dcsp_row.specs.Rows.{own_at};
 ghost use Rattle.dcsp_row.specs.Spans.{SpansWhere};
 
 use crate::span::Span;
 use dcsp_domain::Domain;
-use dcsp_linear::Rel;
+use dcsp_meaning::Rel;
 
 /// One number, or all numbers below one.
 #[derive(Clone, Copy)]

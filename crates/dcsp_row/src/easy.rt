@@ -1,9 +1,9 @@
 //! Rules that rule out one run of values, or all values outside one, whatever is known.
 
 ghost use Rattle.std.specs.Prelude.{◌≡◌, ◌<◌, IsTrue, length};
-ghost use Rattle.dcsp_problem.specs.Problems.{rule_at};
-ghost use Rattle.dcsp_problem.specs.Pairs.{is_comparison};
-ghost use Rattle.dcsp_problem.specs.Rules.{has_shape};
+ghost use Rattle.dcsp_rule.specs.Problems.{rule_at};
+ghost use Rattle.dcsp_rule.specs.Pairs.{is_comparison};
+ghost use Rattle.dcsp_rule.specs.Rules.{has_shape};
 ghost use Rattle.dcsp_row.specs.Easy.{has_span, is_once, is_truth, is_variable, own_coefs};
 
 use dcsp_problem::{Kind, Problem, Rule, Term};

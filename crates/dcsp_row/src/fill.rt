@@ -5,12 +5,12 @@
 
 ghost use Rattle.std.specs.Prelude.{◌≡◌, ◌<◌, ◌≤◌, ℤ, length, IfSome, IsTrue, is_some, not};
 ghost use Rattle.dcsp_defs.specs.Csp.{domain};
-ghost use Rattle.dcsp_problem.specs.Problems.{csp_of, rule_at, AreInDomains};
-ghost use Rattle.dcsp_linear.specs.Sums.{widest};
+ghost use Rattle.dcsp_rule.specs.Problems.{csp_of, rule_at, AreInDomains};
+ghost use Rattle.dcsp_meaning.specs.Sums.{widest};
 ghost use Rattle.dcsp_defs.specs.Csp.{filled, with_value};
-ghost use Rattle.dcsp_problem.specs.Rules.{has_shape};
-ghost use Rattle.dcsp_problem.specs.Pairs.{is_missed, IsSmall};
-ghost use Rattle.dcsp_problem.specs.Widths.{rule_sizes};
+ghost use Rattle.dcsp_rule.specs.Rules.{has_shape};
+ghost use Rattle.dcsp_rule.specs.Pairs.{is_missed, IsSmall};
+ghost use Rattle.dcsp_rule.specs.Widths.{rule_sizes};
 ghost use Rattle.dcsp_row.specs.Easy.{has_span, is_plain};
 ghost use Rattle.dcsp_row.specs.Lines.{is_line, is_off, line_size};
 ghost use Rattle.dcsp_row.specs.Rows.{is_false, is_ruled_out, IsRow, TellsFalse, FitAtEach};

@@ -2,7 +2,7 @@
 
 ghost use Rattle.std.specs.Prelude.{◌≡◌, ◌<◌, length};
 ghost use Rattle.dcsp_defs.specs.Csp.{domain};
-ghost use Rattle.dcsp_problem.specs.Problems.{csp_of, AreInDomains};
+ghost use Rattle.dcsp_rule.specs.Problems.{csp_of, AreInDomains};
 ghost use Rattle.dcsp_row.specs.Rows.{IsRow};
 
 use crate::known::{OpenVariable, WithValue};

@@ -1,17 +1,17 @@
 //! Sums in which one variable is left open.
 
 ghost use Rattle.std.specs.Prelude.{◌≡◌, ◌+◌, ◌*◌, ◌<◌, ◌≤◌, ◌^◌, ◌+ℤ◌, ◌*ℤ◌, ◌++◌, ℕ, ℤ, IfSome, IsNone, is_some, ◌&&◌, length, option_to_list, unsigned_abs, sum_by};
-ghost use Rattle.dcsp_linear.specs.Sums.{sum_of, size_of, widest};
+ghost use Rattle.dcsp_meaning.specs.Sums.{sum_of, size_of, widest};
 ghost use Rattle.dcsp_defs.specs.Csp.{filled, with_value};
-ghost use Rattle.dcsp_problem.specs.Rules.{weighted_values};
-ghost use Rattle.dcsp_problem.specs.Pairs.{pair_sum, IsSmall};
+ghost use Rattle.dcsp_rule.specs.Rules.{weighted_values};
+ghost use Rattle.dcsp_rule.specs.Pairs.{pair_sum, IsSmall};
 ghost use Rattle.dcsp_row.specs.Rows.{FitAtEach};
 ghost use Rattle.dcsp_row.specs.Easy.{own_coefs};
 ghost use Rattle.dcsp_row.specs.Lines.{line_at, line_size, open_coef, value_or_open_at, AddsTerm};
 
 use crate::known::{OpenVariable, ValueOrOpen, known_value, value_or_open};
 use dcsp_domain::Domain;
-use dcsp_linear::{plus_product, product};
+use dcsp_meaning::{plus_product, product};
 use dcsp_problem::{Lookup, Pair, Term};
 
 /// A sum: its known part, and the coefficient of the open variable, if that is among its terms.

@@ -2,9 +2,9 @@
 
 ghost use Rattle.std.specs.Prelude.{◌≡◌, ◌<◌, ◌≤◌, ◌^◌, ℤ, Some, IfSome, IsTrue, is_some, length, false, not, option_to_list, slice_index_or, unsigned_abs, unwrap_or};
 ghost use Rattle.std.specs.Option.{option_map};
-ghost use Rattle.dcsp_linear.specs.Sums.{stands, widest};
+ghost use Rattle.dcsp_meaning.specs.Sums.{stands, widest};
 ghost use Rattle.dcsp_defs.specs.Csp.{filled, with_value};
-ghost use Rattle.dcsp_problem.specs.Rules.{is_told, value_under};
+ghost use Rattle.dcsp_rule.specs.Rules.{is_told, value_under};
 ghost use Rattle.dcsp_row.specs.Rows.{own_at, MarksWhere, FitAtEach};
 ghost use Rattle.dcsp_row.specs.Easy.{is_truth};
 ghost use Rattle.dcsp_row.specs.Lines.{is_known, is_line, is_off, line_at, line_size, told_at};
@@ -16,7 +16,7 @@ use crate::line::{Line, sum_at};
 use crate::row::Row;
 use crate::span::Span;
 use dcsp_domain::Domain;
-use dcsp_linear::Rel;
+use dcsp_meaning::Rel;
 use dcsp_problem::{Lookup, Term};
 
 /// Whether a sum's truth is told, and by what.

@@ -1,7 +1,7 @@
 //! What items are, and why tokens have none.
 
+use dcsp_common::Memory;
 use dcsp_domain::{IntList, RangeList};
-use dcsp_list::Memory;
 
 /// A constant, a name, a range or a listed set. `at` is the place of its first byte.
 #[derive(Debug, Drop)]
@@ -21,7 +21,7 @@ pub enum Atom {
 }
 
 /// Atoms in the order of a text.
-pub type AtomList = dcsp_list::ItemList<Atom>;
+pub type AtomList = dcsp_common::ItemList<Atom>;
 
 /// An expression.
 #[derive(Debug, Drop)]
@@ -33,7 +33,7 @@ pub enum Expr {
 }
 
 /// Expressions in the order of a text.
-pub type ExprList = dcsp_list::ItemList<Expr>;
+pub type ExprList = dcsp_common::ItemList<Expr>;
 
 /// What a declaration's values are drawn from.
 #[derive(Debug, Drop)]
@@ -115,7 +115,7 @@ pub enum Item {
 }
 
 /// Items in the order of a text.
-pub type ItemList = dcsp_list::ItemList<Item>;
+pub type ItemList = dcsp_common::ItemList<Item>;
 
 /// Why tokens have no list of items.
 #[derive(Clone, Copy, Debug, PartialEq, Eq)]

@@ -15,7 +15,7 @@ mod marking;
 mod reading;
 mod single;
 
+pub use dcsp_common::Memory;
 pub use dcsp_domain::{IntList, RangeList};
-pub use dcsp_list::Memory;
 pub use item::{Atom, AtomList, Base, Expr, ExprList, Goal, Item, ItemError, ItemList, Marked};
 pub use reading::{items, items_end_at_semicolons, items_stay_read, next_item, one_answer};

@@ -7,7 +7,7 @@ ghost use Rattle.fzn_item.specs.Productions.{Production, IsListOf};
 ghost use Rattle.fzn_item.specs.Readers.{Reads};
 
 use crate::single::{Stop, one_of};
-use dcsp_list::ItemList;
+use dcsp_common::ItemList;
 use fzn_token::{Mark, Token, TokenKind};
 use std::alloc::Global;
 

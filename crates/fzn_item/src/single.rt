@@ -5,7 +5,7 @@ ghost use Rattle.std.specs.Int.{w64};
 ghost use Rattle.fzn_item.specs.Productions.{OneOf, IsInteger};
 ghost use Rattle.fzn_item.specs.Readers.{Finds};
 
-use dcsp_list::Memory;
+use dcsp_common::Memory;
 use fzn_token::{Token, TokenKind};
 
 /// Why a reader gives nothing.

@@ -15,7 +15,7 @@ use Rattle.fzn_item.specs.Productions.{Fails}
 use Rattle.fzn_item.specs.Items.{ToSemicolon, IsItem, AreItemsTo, GivesNext}
 use Rattle.fzn_item.proofs.ItemLaws.{items_push}
 use Rattle.fzn_item.proofs.Endings.{items_end_law, items_stay_law, refusals_stay_law}
-use Rattle.dcsp_problem.specs.Problems.{Contents}
+use Rattle.dcsp_rule.specs.Problems.{Contents}
 use Rattle.fzn_model.specs.declared.refusal.ItemRefusal.{ItemRefusal}
 use Rattle.fzn_model.specs.declared.refusal.Stop.{Stop}
 use Rattle.fzn_model.specs.declared.refusal.Stop.TheVariants as stop

@@ -10,18 +10,18 @@ use Rattle.fzn_item.specs.declared.item.Marked.{Marked}
 use Rattle.fzn_item.specs.declared.item.Marked.TheVariants as marked
 use Rattle.dcsp_meaning.specs.declared.kinds.Kind.{Kind}
 use Rattle.dcsp_meaning.specs.declared.kinds.Kind.TheVariants.{IntEq, BoolEq, SetIn}
-use Rattle.dcsp_problem.specs.declared.rule.Term.{Term}
-use Rattle.dcsp_problem.specs.declared.rule.Term.TheVariants.{Var}
-use Rattle.dcsp_problem.specs.declared.rule.Members.{Members}
-use Rattle.dcsp_problem.specs.declared.rule.Members.TheVariants as members
-use Rattle.dcsp_problem.specs.declared.rule.Rule.TheVariants.{Plain}
-use Rattle.dcsp_problem.specs.declared.output.Output.{Output}
-use Rattle.dcsp_problem.specs.declared.output.Shape.TheVariants as shape
+use Rattle.dcsp_rule.specs.declared.rule.Term.{Term}
+use Rattle.dcsp_rule.specs.declared.rule.Term.TheVariants.{Var}
+use Rattle.dcsp_rule.specs.declared.rule.Members.{Members}
+use Rattle.dcsp_rule.specs.declared.rule.Members.TheVariants as members
+use Rattle.dcsp_rule.specs.declared.rule.Rule.TheVariants.{Plain}
+use Rattle.dcsp_rule.specs.declared.output.Output.{Output}
+use Rattle.dcsp_rule.specs.declared.output.Shape.TheVariants as shape
 use Rattle.dcsp_problem.specs.declared.limits.Which.{Which}
 use Rattle.dcsp_problem.specs.declared.limits.Which.TheVariants as which
 use Rattle.dcsp_problem.specs.Limits.{most}
 use Rattle.dcsp_problem.specs.Outputs.{range_product}
-use Rattle.dcsp_problem.specs.Problems.{Contents}
+use Rattle.dcsp_rule.specs.Problems.{Contents}
 use Rattle.fzn_scope.specs.declared.names.Declared.{Declared}
 use Rattle.fzn_scope.specs.declared.names.Declared.TheVariants as declared
 use Rattle.fzn_model.specs.declared.refusal.ItemRefusal.{ItemRefusal}

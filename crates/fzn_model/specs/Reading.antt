@@ -10,7 +10,7 @@ use Rattle.fzn_scope.specs.Checks.{◌>>=◌, refused_if, Stops}
 use Rattle.fzn_model.specs.Checks.{refusal_of}
 use Rattle.fzn_scope.specs.Known.{AreKnown}
 use Rattle.fzn_scope.specs.Names.{Scope}
-use Rattle.dcsp_problem.specs.declared.rule.Term.{Term}
+use Rattle.dcsp_rule.specs.declared.rule.Term.{Term}
 use Rattle.fzn_model.specs.declared.resolver.Resolver.{Resolver}
 use Rattle.fzn_model.specs.declared.resolver.Constraint.{Constraint}
 use Rattle.fzn_model.specs.declared.declaration.Declaration.{Declaration}
@@ -24,7 +24,7 @@ use Rattle.fzn_token.specs.Reading.{Refuses, TakesRest}
 use Rattle.fzn_item.specs.declared.item.Expr.{Expr}
 use Rattle.fzn_item.specs.declared.item.Item.{Item}
 use Rattle.fzn_item.specs.declared.item.ItemError.{ItemError}
-use Rattle.dcsp_problem.specs.Problems.{Contents}
+use Rattle.dcsp_rule.specs.Problems.{Contents}
 use Rattle.fzn_model.specs.declared.model.ModelError.{ModelError}
 use Rattle.fzn_model.specs.Declarations.{SoFar, parameter, variable, elements, is_shaped, array}
 use Rattle.fzn_model.specs.Items.{declared_by, declare, constraint, start, after, after_all, finished}

@@ -1,7 +1,7 @@
 //! Arrays: their elements, and the sets that these are in.
 
 ghost use Rattle.std.specs.Prelude.{◌≡◌, ℕ, ◌≤◌, length, All, OnOk, IfOk, Ok};
-ghost use Rattle.dcsp_problem.specs.Rules.{IsTermOf};
+ghost use Rattle.dcsp_rule.specs.Rules.{IsTermOf};
 ghost use Rattle.dcsp_problem.specs.Limits.{most};
 ghost use Rattle.fzn_scope.specs.Checks.{Gives};
 ghost use Rattle.fzn_model.specs.Checks.{refusal_of};

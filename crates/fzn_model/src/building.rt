@@ -1,7 +1,7 @@
 //! A problem with one thing more, or the refusal at the place of the item that adds it.
 
 ghost use Rattle.std.specs.Prelude.{◌≡◌, ◌+◌, length, All, IsTrue, IfOk, OnOk};
-ghost use Rattle.dcsp_problem.specs.Rules.{IsTermOf, terms_of, has_shape};
+ghost use Rattle.dcsp_rule.specs.Rules.{IsTermOf, terms_of, has_shape};
 ghost use Rattle.fzn_model.specs.Building.{with_variable, with_rule};
 ghost use Rattle.fzn_model.specs.Reading.{Leaves, stop_at};
 

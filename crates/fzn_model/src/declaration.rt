@@ -2,7 +2,7 @@
 
 ghost use Rattle.std.specs.Prelude.{◌≡◌, ℕ, ◌<◌, length, OnOk, IfOk, IfErr, IfSome, Ok, Err};
 ghost use Rattle.fzn_item.specs.declared.item.Base.TheVariants as base;
-ghost use Rattle.dcsp_problem.specs.Rules.{IsTermOf};
+ghost use Rattle.dcsp_rule.specs.Rules.{IsTermOf};
 ghost use Rattle.fzn_scope.specs.Checks.{Gives};
 ghost use Rattle.fzn_model.specs.Checks.{refusal_of};
 ghost use Rattle.fzn_scope.specs.Known.{AreKnown};

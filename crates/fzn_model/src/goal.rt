@@ -1,7 +1,7 @@
 //! Goals: what is wanted of a solution.
 
 ghost use Rattle.std.specs.Prelude.{◌≡◌, ℕ, IfOk};
-ghost use Rattle.dcsp_problem.specs.Rules.{IsAimOf};
+ghost use Rattle.dcsp_rule.specs.Rules.{IsAimOf};
 ghost use Rattle.fzn_scope.specs.Known.{AreKnown};
 ghost use Rattle.fzn_model.specs.Items.{aim_of};
 

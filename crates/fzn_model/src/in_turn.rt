@@ -10,7 +10,7 @@ ghost use Rattle.fzn_model.specs.Reading.{gave, then_item, problem_given, IsSoun
 use crate::model::ModelError;
 use crate::refusal::{ItemRefusal, Stop};
 use crate::resolver::Resolver;
-use dcsp_list::Memory;
+use dcsp_common::Memory;
 use dcsp_problem::Problem;
 use fzn_item::{Item, ItemError, next_item};
 use fzn_token::TokenReader;

@@ -17,7 +17,7 @@ mod output;
 mod refusal;
 mod resolver;
 
-pub use dcsp_list::Memory;
+pub use dcsp_common::Memory;
 pub use dcsp_problem::{Problem, Which};
 pub use in_turn::problem_of;
 pub use laws::{first_refusal, one_answer};

@@ -1,7 +1,7 @@
 //! Why a text has no problem.
 
 use crate::refusal::{ItemRefusal, Stop};
-use dcsp_list::Memory;
+use dcsp_common::Memory;
 use dcsp_problem::Which;
 use fzn_item::ItemError;
 use fzn_scope::Refusal;

@@ -2,7 +2,7 @@
 
 ghost use Rattle.std.specs.Prelude.{◌≡◌, ◌<◌, ◌≤◌, ◌^◌, ◌+◌, ◌*◌, length, true, All, OnOk, Ok, Some};
 ghost use Rattle.dcsp_domain.specs.Ranges.{count_between};
-ghost use Rattle.dcsp_problem.specs.Rules.{IsTermOf};
+ghost use Rattle.dcsp_rule.specs.Rules.{IsTermOf};
 ghost use Rattle.dcsp_problem.specs.Outputs.{range_product, IsOutputOf};
 ghost use Rattle.fzn_model.specs.Building.{with_output};
 ghost use Rattle.fzn_model.specs.Declarations.{is_boolean, is_shaped, variable_output, array_output};

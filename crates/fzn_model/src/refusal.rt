@@ -3,7 +3,7 @@
 ghost use Rattle.std.specs.Prelude.{◌≡◌};
 ghost use Rattle.fzn_model.specs.Checks.{ill_typed};
 
-use dcsp_list::Memory;
+use dcsp_common::Memory;
 use dcsp_problem::Which;
 use fzn_scope::Refusal;
 use std::alloc::{AllocError, AllocFailed};

@@ -3,7 +3,7 @@ use Rattle.std.specs.Prelude.{ℕ, ◌==◌, Bool, true, false, List, [], ◌∷
 use Rattle.std.specs.Str.{bytes_eq}
 use Rattle.dcsp_meaning.specs.declared.kinds.Kind.{Kind}
 use Rattle.dcsp_meaning.specs.declared.kinds.Kind.TheVariants as kind
-use Rattle.dcsp_linear.specs.declared.Rel.TheVariants.{Equal, AtMost, Differ}
+use Rattle.dcsp_meaning.specs.declared.linear.Rel.TheVariants.{Equal, AtMost, Differ}
 use Rattle.dcsp_meaning.specs.Table.{is_reified, plain_of}
 use Rattle.dcsp_meaning.specs.Names.{kind_named}
 use Rattle.fzn_scope.specs.declared.form.Place.{Place}

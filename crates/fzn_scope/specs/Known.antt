@@ -1,6 +1,6 @@
 -- Terms of variables that exist.
 use Rattle.std.specs.Prelude.{ℕ, List, All}
-use Rattle.dcsp_problem.specs.Rules.{IsTermOf}
+use Rattle.dcsp_rule.specs.Rules.{IsTermOf}
 use Rattle.fzn_scope.specs.declared.names.Declared.{Declared}
 use Rattle.fzn_scope.specs.declared.names.Declared.TheVariants as declared
 use Rattle.fzn_scope.specs.Names.{Scope}

@@ -1,7 +1,7 @@
 //! From a constraint's arguments to its rule.
 
 ghost use Rattle.std.specs.Prelude.{◌≡◌, ℕ, Ok, All, IfOk, IfErr, OnOk, IsTrue, length, map};
-ghost use Rattle.dcsp_problem.specs.Rules.{IsTermOf, has_shape, terms_of};
+ghost use Rattle.dcsp_rule.specs.Rules.{IsTermOf, has_shape, terms_of};
 ghost use Rattle.fzn_scope.specs.Checks.{refusal_of, Gives, Stops};
 ghost use Rattle.fzn_scope.specs.Known.{AreKnown};
 ghost use Rattle.fzn_scope.specs.Rules.{no_arguments, with_argument, arguments_after, constant_of, scalar_at, truth_of, rule_of, lengths_agree, form_at, constraint_rule};

@@ -5,8 +5,7 @@ ghost use Rattle.fzn_scope.specs.Forms.{form_among, sums, form_named, whole, coe
 ghost use Rattle.dcsp_meaning.specs.Table.{plain_of, is_reified};
 
 use crate::place::Wanted;
-use dcsp_linear::Rel;
-use dcsp_meaning::Kind;
+use dcsp_meaning::{Kind, Rel};
 
 /// What the place of an argument asks for.
 #[derive(Clone, Copy, Debug, PartialEq, Eq)]

@@ -3,7 +3,7 @@
 ghost use Rattle.std.specs.Prelude.{◌≡◌, [], ◌∷◌, ◌++◌, None, OnOk, OnErr, option_copied};
 ghost use Rattle.fzn_scope.specs.Names.{declared_as, bytes_at};
 
-use dcsp_list::Memory;
+use dcsp_common::Memory;
 use dcsp_problem::{Members, Term, TermList};
 use indexmap::IndexMap;
 use std::alloc::Global;

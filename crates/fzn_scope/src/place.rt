@@ -1,7 +1,7 @@
 //! What expressions mean at the places that ask for them.
 
 ghost use Rattle.std.specs.Prelude.{◌≡◌, ℕ, [], Ok, All, IfOk, option_copied};
-ghost use Rattle.dcsp_problem.specs.Rules.{IsTermOf};
+ghost use Rattle.dcsp_rule.specs.Rules.{IsTermOf};
 ghost use Rattle.fzn_scope.specs.Known.{AreKnown};
 ghost use Rattle.fzn_scope.specs.Checks.{refusal_of, Gives};
 ghost use Rattle.fzn_scope.specs.Names.{declared_as, bytes_at};

@@ -1,6 +1,6 @@
 //! Why an expression means nothing where it stands.
 
-use dcsp_list::Memory;
+use dcsp_common::Memory;
 use std::alloc::{AllocError, AllocFailed};
 
 /// Why an expression or the name of a constraint is refused. `at` is a place of the text, in bytes from 0.

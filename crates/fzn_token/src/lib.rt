@@ -18,7 +18,7 @@ mod quoted;
 mod reader;
 mod token;
 
-pub use dcsp_list::Memory;
+pub use dcsp_common::Memory;
 pub use lexer::{one_answer, tokens};
 pub use reader::TokenReader;
 pub use token::{LexError, Mark, Token, TokenKind, TokenList, Word};

@@ -1,6 +1,6 @@
 //! What tokens are, and why a text has none.
 
-use dcsp_list::{ItemList, Memory};
+use dcsp_common::{ItemList, Memory};
 
 /// A keyword.
 #[derive(Clone, Copy, Debug, PartialEq, Eq)]

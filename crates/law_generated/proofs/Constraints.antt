@@ -5,19 +5,19 @@ use Rattle.std.specs.List.{AllByRecursion}
 use Rattle.std.proofs.lemmas.List.Sums.{sum_by-append}
 use Rattle.fzn_item.specs.declared.item.Item.{Item}
 use Rattle.dcsp_domain.specs.Ranges.{numbers_between}
-use Rattle.dcsp_linear.specs.declared.TheConstants.{WIDEST}
+use Rattle.dcsp_meaning.specs.declared.linear.TheConstants.{WIDEST}
 use Rattle.dcsp_problem.specs.declared.limits.Which.TheVariants.{Rules, Terms}
-use Rattle.dcsp_problem.specs.declared.rule.Rule.{Rule}
-use Rattle.dcsp_problem.specs.declared.output.Output.{Output}
+use Rattle.dcsp_rule.specs.declared.rule.Rule.{Rule}
+use Rattle.dcsp_rule.specs.declared.output.Output.{Output}
 use Rattle.dcsp_problem.specs.Limits.{rule_refusal}
-use Rattle.dcsp_problem.specs.Rules.{size_of}
-use Rattle.dcsp_problem.specs.Widths.{greatest_among, greatest_of, rule_width}
+use Rattle.dcsp_rule.specs.Rules.{size_of}
+use Rattle.dcsp_rule.specs.Widths.{greatest_among, greatest_of, rule_width}
 use Rattle.dcsp_problem.proofs.Counts.{past_later}
 use Rattle.dcsp_gen.specs.Lines.{name}
 use Rattle.fzn_scope.specs.Names.{Scope}
 use Rattle.fzn_model.specs.Items.{after, after_all}
-use Rattle.law_generated_items.specs.Lines.{Line, Declare, Print, Differ, Above, Below, Solve}
-use Rattle.law_generated_items.specs.Says.{Says, AreSaid}
+use Rattle.law_generated.specs.Lines.{Line, Declare, Print, Differ, Above, Below, Solve}
+use Rattle.law_generated.specs.Says.{Says, AreSaid}
 use Rattle.law_generated.specs.Problems.{variable, differ_rule, differ_not_by_rule, rules_of, AreAmong, IsConstraint}
 use Rattle.law_generated.proofs.Limits.{free_rule, greatest_between}
 use Rattle.law_generated.proofs.Steps.{so_far, problem_so_far, StandsFor, after_one, differ_step, differ_not_by_step}

@@ -3,8 +3,8 @@ use Rattle.std.proofs.Common.{◌≡◌, ℕ, ◌-◌, ◌*◌, ◌%◌, ◌==�
 use Rattle.std.specs.List.{range_with_len, AllByRecursion}
 use Rattle.std.proofs.lemmas.List.FromFn.{length-range_with_len}
 use Rattle.dcsp_gen.specs.Problems.{pairs, thrice}
-use Rattle.law_generated_items.specs.Lines.{Line, Print, Differ, Solve, variables, queens_apart, queens, edge, colouring, neighbour, sparse, pigeons_apart, pigeons, lines_with_words}
-use Rattle.law_generated_items.specs.Says.{AreSaid}
+use Rattle.law_generated.specs.Lines.{Line, Print, Differ, Solve, variables, queens_apart, queens, edge, colouring, neighbour, sparse, pigeons_apart, pigeons, lines_with_words}
+use Rattle.law_generated.specs.Says.{AreSaid}
 use Rattle.law_generated.specs.Problems.{IsConstraint, AreWithin, all_lines, problem_of}
 use Rattle.law_generated.specs.Generated.{Resolve, GeneratedLinesResolve}
 use Rattle.law_generated.proofs.Lists.{all_weaker, all_flat_map, all_range, all_words, few_in_all, few_words}

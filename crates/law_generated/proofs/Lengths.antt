@@ -6,10 +6,10 @@ use Rattle.std.proofs.lemmas.Fmt.{length-decimal-le}
 use Rattle.dcsp_gen.specs.Lines.{name, names, differ_not_by_line}
 use Rattle.dcsp_gen.specs.Problems.{pairs, thrice}
 use Rattle.fzn_model.specs.Models.{longest_text}
-use Rattle.law_generated_items.specs.Lines.{Line, Declare, Print, Differ, Above, Below, Solve, line_text, variables, queens_apart, queens, edge, colouring, neighbour, sparse, pigeons_apart, pigeons, lines_with_words}
-use Rattle.law_generated_items.specs.Laws.{HasSmallNumbers, IsSmall, lines_text}
-use Rattle.law_generated_items.proofs.Texts.{texts_are_lines}
-use Rattle.law_generated_items.proofs.Limits.{numbers_are_small}
+use Rattle.law_generated.specs.Lines.{Line, Declare, Print, Differ, Above, Below, Solve, line_text, variables, queens_apart, queens, edge, colouring, neighbour, sparse, pigeons_apart, pigeons, lines_with_words}
+use Rattle.law_generated.specs.Laws.{HasSmallNumbers, IsSmall, lines_text}
+use Rattle.law_generated.proofs.ItemTexts.{texts_are_lines}
+use Rattle.law_generated.proofs.ItemLimits.{numbers_are_small}
 use Rattle.law_generated.specs.Problems.{IsConstraint, AreWithin, all_lines}
 use Rattle.law_generated.specs.Generated.{AreShort}
 use Rattle.law_generated.proofs.Generators.{with_array, without_array, queens_few, queens_within, colouring_few, colouring_within, sparse_few, sparse_within, pigeons_few, pigeons_within}

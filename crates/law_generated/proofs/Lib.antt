@@ -1,3 +1,17 @@
+pub mod Places
+pub mod Numbers
+pub mod Tokens
+pub mod Pieces
+pub mod PieceKinds
+pub mod Derivations
+pub mod Arrays
+pub mod LinePieces
+pub mod VariableNames
+pub mod LineTokens
+pub mod LineItems
+pub mod WholeItems
+pub mod ItemTexts
+pub mod ItemLimits
 pub mod Names
 pub mod Limits
 pub mod Steps

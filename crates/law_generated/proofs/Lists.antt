@@ -1,7 +1,7 @@
 -- What holds of each item of lists that are made of lists.
 use Rattle.std.proofs.Common.{◌≡◌, ℕ, zero, suc, ◌+◌, ◌*◌, ◌<◌, ◌≤◌, List, [], ◌∷◌, ◌++◌, map, flat_map, length, length-append, arith}
 use Rattle.std.specs.List.{range_with_len, AllByRecursion}
-use Rattle.law_generated_items.specs.Lines.{Line, lines_with_words}
+use Rattle.law_generated.specs.Lines.{Line, lines_with_words}
 
 pub all_weaker : {X : Type 0} (P Q : X → Type 0) (xs : List X) → ((x : X) → P x → Q x) → AllByRecursion P xs → AllByRecursion Q xs
 all_weaker P Q [] f h = tt

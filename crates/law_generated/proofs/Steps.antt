@@ -13,13 +13,13 @@ use Rattle.fzn_item.specs.declared.item.Base.TheVariants as base
 use Rattle.fzn_item.specs.declared.item.Marked.TheVariants as marked
 use Rattle.fzn_item.specs.declared.item.Item.{Item}
 use Rattle.dcsp_domain.specs.Ranges.{count_between, numbers_between}
-use Rattle.dcsp_problem.specs.declared.rule.Term.{Term}
-use Rattle.dcsp_problem.specs.declared.rule.Term.TheVariants.{Var}
-use Rattle.dcsp_problem.specs.declared.rule.Rule.{Rule}
-use Rattle.dcsp_problem.specs.declared.output.Output.{Output}
-use Rattle.dcsp_problem.specs.declared.aim.Aim.TheVariants.{Satisfy}
+use Rattle.dcsp_rule.specs.declared.rule.Term.{Term}
+use Rattle.dcsp_rule.specs.declared.rule.Term.TheVariants.{Var}
+use Rattle.dcsp_rule.specs.declared.rule.Rule.{Rule}
+use Rattle.dcsp_rule.specs.declared.output.Output.{Output}
+use Rattle.dcsp_rule.specs.declared.aim.Aim.TheVariants.{Satisfy}
 use Rattle.dcsp_problem.specs.Limits.{variable_refusal, rule_refusal}
-use Rattle.dcsp_problem.specs.Problems.{Contents}
+use Rattle.dcsp_rule.specs.Problems.{Contents}
 use Rattle.dcsp_gen.specs.Lines.{name}
 use Rattle.fzn_scope.specs.declared.names.Declared.TheVariants as declared
 use Rattle.fzn_scope.specs.Checks.{◌>>=◌}
@@ -28,7 +28,7 @@ use Rattle.fzn_scope.specs.Places.{term_of, terms_after}
 use Rattle.fzn_scope.specs.Rules.{constraint_rule}
 use Rattle.fzn_model.specs.Declarations.{SoFar, variable as with_one, array, elements, with_members}
 use Rattle.fzn_model.specs.Items.{declare, after, after_all, constraint, solve, finished}
-use Rattle.law_generated_items.specs.Says.{IsNamed, AreNamed, IsVariable, IsArray, IsDiffer, IsDifferNotBy, IsSolve}
+use Rattle.law_generated.specs.Says.{IsNamed, AreNamed, IsVariable, IsArray, IsDiffer, IsDifferNotBy, IsSolve}
 use Rattle.law_generated.specs.Problems.{variable, differ_rule, differ_not_by_rule, array_output}
 use Rattle.law_generated.proofs.Limits.{within_test, count_is}
 

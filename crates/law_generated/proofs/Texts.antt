@@ -3,11 +3,11 @@ use Rattle.std.proofs.Common.{◌≡◌, ℕ, ◌≤◌, inr, List, Ok, codes, r
 use Rattle.std.specs.List.{AllByRecursion}
 use Rattle.dcsp_gen.specs.Problems.{queens_text, colouring_text, sparse_text, pigeons_text}
 use Rattle.fzn_model.specs.Models.{Answers, answer_of}
-use Rattle.law_generated_items.specs.Lines.{Line, queens, colouring, sparse, pigeons}
-use Rattle.law_generated_items.specs.Laws.{IsSmallLetter, HasSmallNumbers, lines_text, AreRead}
-use Rattle.law_generated_items.proofs.Whole.{lines_are_read}
-use Rattle.law_generated_items.proofs.Texts.{texts_are_lines}
-use Rattle.law_generated_items.proofs.Limits.{numbers_are_small}
+use Rattle.law_generated.specs.Lines.{Line, queens, colouring, sparse, pigeons}
+use Rattle.law_generated.specs.Laws.{IsSmallLetter, HasSmallNumbers, lines_text, AreRead}
+use Rattle.law_generated.proofs.WholeItems.{lines_are_read}
+use Rattle.law_generated.proofs.ItemTexts.{texts_are_lines}
+use Rattle.law_generated.proofs.ItemLimits.{numbers_are_small}
 use Rattle.law_generated.specs.Problems.{problem_of}
 use Rattle.law_generated.specs.Generated.{Resolve, QueensHaveProblem, ColouringHasProblem, SparseHasProblem, PigeonsHaveProblem, HasProblem}
 use Rattle.law_generated.proofs.Generators.{generated_lines_resolve}

@@ -8,14 +8,14 @@ use Rattle.std.proofs.lemmas.Bool.Decides.{eqb_tells}
 use Rattle.std.proofs.lemmas.List.Sums.{sum_by_push}
 use Rattle.fzn_item.specs.declared.item.Item.{Item}
 use Rattle.dcsp_domain.specs.Ranges.{numbers_between}
-use Rattle.dcsp_problem.specs.declared.rule.Term.TheVariants.{Var}
+use Rattle.dcsp_rule.specs.declared.rule.Term.TheVariants.{Var}
 use Rattle.dcsp_gen.specs.Lines.{name}
 use Rattle.fzn_scope.specs.declared.names.Declared.{Declared}
 use Rattle.fzn_scope.specs.declared.names.Declared.TheVariants as declared
 use Rattle.fzn_scope.specs.Names.{Scope, declared_as}
 use Rattle.fzn_model.specs.Items.{after_all}
-use Rattle.law_generated_items.specs.Lines.{Line, Declare}
-use Rattle.law_generated_items.specs.Says.{AreSaid}
+use Rattle.law_generated.specs.Lines.{Line, Declare}
+use Rattle.law_generated.specs.Says.{AreSaid}
 use Rattle.law_generated.specs.Problems.{variable, domains_of}
 use Rattle.law_generated.proofs.Names.{declared-old, declared-last, declared-not, distinct, longer}
 use Rattle.law_generated.proofs.Limits.{length_between, free_variable}

@@ -5,8 +5,8 @@ use Rattle.std.specs.List.{range_with_len, AllByRecursion}
 use Rattle.std.proofs.lemmas.Grind.{flat_map-append}
 use Rattle.fzn_item.specs.declared.item.Item.{Item}
 use Rattle.dcsp_domain.specs.Ranges.{numbers_between}
-use Rattle.dcsp_problem.specs.declared.output.Output.{Output}
-use Rattle.dcsp_problem.specs.Problems.{Contents}
+use Rattle.dcsp_rule.specs.declared.output.Output.{Output}
+use Rattle.dcsp_rule.specs.Problems.{Contents}
 use Rattle.dcsp_gen.specs.Lines.{name}
 use Rattle.fzn_scope.specs.declared.names.Declared.{Declared}
 use Rattle.fzn_scope.specs.declared.names.Declared.TheVariants as declared
@@ -15,8 +15,8 @@ use Rattle.fzn_scope.specs.Checks.{◌>>=◌}
 use Rattle.fzn_scope.specs.Names.{Scope}
 use Rattle.fzn_model.specs.Declarations.{SoFar}
 use Rattle.fzn_model.specs.Items.{after_all, finished, resolved}
-use Rattle.law_generated_items.specs.Lines.{Line, Declare, Print, Differ, Above, Below, Solve, variables}
-use Rattle.law_generated_items.specs.Says.{AreSaid}
+use Rattle.law_generated.specs.Lines.{Line, Declare, Print, Differ, Above, Below, Solve, variables}
+use Rattle.law_generated.specs.Says.{AreSaid}
 use Rattle.law_generated.specs.Problems.{variable, domains_of, rules_of, outputs_of, array_output, problem_of, IsConstraint, all_lines, LinesSayProblem, LinesHaveProblem}
 use Rattle.law_generated.proofs.Names.{declared-old}
 use Rattle.law_generated.proofs.Steps.{so_far, problem_so_far, StandsFor, after_one, array_step, solve_step}

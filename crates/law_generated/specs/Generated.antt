@@ -1,12 +1,12 @@
 -- Generated texts have problems: those that their lines say.
 use Rattle.std.specs.Prelude.{◌≡◌, ℕ, ◌≤◌, List, Ok, codes, length}
 use Rattle.dcsp_gen.specs.Problems.{queens_text, colouring_text, sparse_text, pigeons_text}
-use Rattle.dcsp_problem.specs.Problems.{Contents}
+use Rattle.dcsp_rule.specs.Problems.{Contents}
 use Rattle.fzn_item.specs.declared.item.Item.{Item}
 use Rattle.fzn_model.specs.Items.{resolved}
 use Rattle.fzn_model.specs.Models.{longest_text, Answers}
-use Rattle.law_generated_items.specs.Lines.{Line, queens, colouring, sparse, pigeons}
-use Rattle.law_generated_items.specs.Says.{AreSaid}
+use Rattle.law_generated.specs.Lines.{Line, queens, colouring, sparse, pigeons}
+use Rattle.law_generated.specs.Says.{AreSaid}
 use Rattle.law_generated.specs.Problems.{problem_of}
 
 -- items that say these lines, in any text, have the problem of the lines

@@ -1,2 +1,5 @@
+pub mod Lines
+pub mod Says
+pub mod Laws
 pub mod Problems
 pub mod Generated

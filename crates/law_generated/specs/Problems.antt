@@ -3,20 +3,20 @@ use Rattle.std.specs.Prelude.{◌≡◌, ℕ, ◌-◌, ◌*◌, ◌^◌, ◌≤�
 use Rattle.std.specs.List.{range_with_len, AllByRecursion}
 use Rattle.dcsp_domain.specs.Ranges.{numbers_between}
 use Rattle.dcsp_meaning.specs.declared.kinds.Kind.TheVariants.{IntNe}
-use Rattle.dcsp_linear.specs.declared.Rel.TheVariants as rel
-use Rattle.dcsp_problem.specs.declared.rule.Term.{Term}
-use Rattle.dcsp_problem.specs.declared.rule.Term.TheVariants.{Const, Var}
-use Rattle.dcsp_problem.specs.declared.rule.Members.TheVariants.{Listed}
-use Rattle.dcsp_problem.specs.declared.rule.Rule.{Rule}
-use Rattle.dcsp_problem.specs.declared.rule.Rule.TheVariants.{Plain, Sum}
-use Rattle.dcsp_problem.specs.declared.output.Output.{Output}
-use Rattle.dcsp_problem.specs.declared.output.Shape.TheVariants.{Ranges}
-use Rattle.dcsp_problem.specs.declared.aim.Aim.TheVariants.{Satisfy}
-use Rattle.dcsp_problem.specs.Problems.{Contents}
+use Rattle.dcsp_meaning.specs.declared.linear.Rel.TheVariants as rel
+use Rattle.dcsp_rule.specs.declared.rule.Term.{Term}
+use Rattle.dcsp_rule.specs.declared.rule.Term.TheVariants.{Const, Var}
+use Rattle.dcsp_rule.specs.declared.rule.Members.TheVariants.{Listed}
+use Rattle.dcsp_rule.specs.declared.rule.Rule.{Rule}
+use Rattle.dcsp_rule.specs.declared.rule.Rule.TheVariants.{Plain, Sum}
+use Rattle.dcsp_rule.specs.declared.output.Output.{Output}
+use Rattle.dcsp_rule.specs.declared.output.Shape.TheVariants.{Ranges}
+use Rattle.dcsp_rule.specs.declared.aim.Aim.TheVariants.{Satisfy}
+use Rattle.dcsp_rule.specs.Problems.{Contents}
 use Rattle.fzn_item.specs.declared.item.Item.{Item}
 use Rattle.fzn_model.specs.Items.{resolved}
-use Rattle.law_generated_items.specs.Lines.{Line, Declare, Print, Differ, Above, Below, Solve, variables}
-use Rattle.law_generated_items.specs.Says.{AreSaid}
+use Rattle.law_generated.specs.Lines.{Line, Declare, Print, Differ, Above, Below, Solve, variables}
+use Rattle.law_generated.specs.Says.{AreSaid}
 
 -- the variable with this number, counted from 1 in lines and from 0 in a problem
 abbrev pub variable : ℕ → Term

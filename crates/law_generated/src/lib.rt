@@ -1,10 +1,28 @@
-//! Generated texts have problems: those that their lines say.
+//! Generated problems as lines: their texts are the texts of these lines, each line is read as its item, and the
+//! texts have the problems that their lines say.
 #![tactic(auto)]
 
 ghost use Rattle.dcsp_gen.specs.Problems.{pigeons_text, queens_text, sparse_text};
 ghost use Rattle.law_generated.specs.Generated.{AreShort, ColouringHasProblem, GeneratedLinesResolve, HasProblem, PigeonsHaveProblem, QueensHaveProblem, SparseHasProblem};
+ghost use Rattle.law_generated.specs.Laws.{LinesAreRead, NumbersAreSmall, TextsAreLines};
 ghost use Rattle.law_generated.specs.Problems.{LinesHaveProblem, LinesSayProblem};
 ghost use Rattle.std.specs.Prelude.{ℕ};
+
+/// The text of lines whose numbers are small has tokens, and these are items, one for each line, that say what
+/// the line says.
+pub fn lines_are_read()
+    ensures { LinesAreRead }
+{}
+
+/// The texts of the generators are those of their lines.
+pub fn texts_are_lines()
+    ensures { TextsAreLines }
+{}
+
+/// The numbers of the generators' lines are small, up to the generators' limits.
+pub fn numbers_are_small()
+    ensures { NumbersAreSmall }
+{}
 
 /// Lines that declare variables, perhaps print them, state constraints on them and ask for any solution say a
 /// problem, and items that say these lines have it, within the limits of a problem.

@@ -3,7 +3,7 @@
 ghost use Rattle.std.specs.Prelude.{ℤ, FitsSigned};
 ghost use Rattle.std.specs.Int.{w64};
 ghost use Rattle.dcsp_defs.specs.Words.{In};
-ghost use Rattle.dcsp_problem.specs.Problems.{csp_of};
+ghost use Rattle.dcsp_rule.specs.Problems.{csp_of};
 ghost use Rattle.law_logs.specs.Logged.{IsSmall};
 
 use dcsp_domain::Domain;

@@ -9,13 +9,13 @@ use Rattle.dcsp_defs.proofs.Lists.{In-filter, In-list_all}
 use Rattle.abt_defs.specs.Agents.{Message}
 use Rattle.abt_defs.specs.Network.{Network, pairs, ready, deliver, run, start, is_empty, IsQuiet}
 use Rattle.abt_defs.specs.Bound.{message_bound}
-use Rattle.law_message_bound.proofs.Below.{unfinished_below}
-use Rattle.law_message_bound.proofs.Sums.{sum-le}
-use Rattle.lossy_defs.specs.Packets.{Packet, place, coming, staying, Data, Acknowledgement}
-use Rattle.lossy_defs.specs.World.{World, begin, reliable, raised, unacknowledged, add_packet, send_first, send_on, acknowledge, hand_up, arrive, come, event, after}
-use Rattle.lossy_defs.specs.Deliveries.{pair_of_event, numbers}
-use Rattle.lossy_defs.specs.Ends.{is_quiet, has_verdict, calm_word, calm}
-use Rattle.lossy_defs.specs.Facts.{IsRightData, Facts}
+use Rattle.law_runs.proofs.Below.{unfinished_below}
+use Rattle.law_runs.proofs.Sums.{sum-le}
+use Rattle.law_lossy.specs.Packets.{Packet, place, coming, staying, Data, Acknowledgement}
+use Rattle.law_lossy.specs.World.{World, begin, reliable, raised, unacknowledged, add_packet, send_first, send_on, acknowledge, hand_up, arrive, come, event, after}
+use Rattle.law_lossy.specs.Deliveries.{pair_of_event, numbers}
+use Rattle.law_lossy.specs.Ends.{is_quiet, has_verdict, calm_word, calm}
+use Rattle.law_lossy.specs.Facts.{IsRightData, Facts}
 use Rattle.law_lossy.specs.Verdicts.{total}
 use Rattle.law_lossy.specs.Calm.{CalmBudget}
 use Rattle.law_lossy.proofs.Facts.{facts_event, facts_after, facts_begin, is_unacknowledged}

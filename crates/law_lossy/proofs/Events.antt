@@ -11,10 +11,10 @@ use Rattle.dcsp_defs.proofs.Lists.{In-left, In-right, In-map, In-filter, below-I
 use Rattle.abt_defs.specs.Agents.{Message}
 use Rattle.abt_defs.specs.Steps.{receive}
 use Rattle.abt_defs.specs.Network.{Network, acted, next_number, pairs, ready, sent_to, left, deliver, deliver_at, deliver_head, is_empty}
-use Rattle.lossy_defs.specs.Packets.{Packet, coming, staying, Data, Acknowledgement}
-use Rattle.lossy_defs.specs.World.{World, reliable, raised, unacknowledged, add_packet, send_first, send_on, send, acknowledge, hand_up, come, event}
-use Rattle.lossy_defs.specs.Deliveries.{pair_of_packet, pair_of_event, number_of}
-use Rattle.lossy_defs.specs.Facts.{IsRightData, Facts}
+use Rattle.law_lossy.specs.Packets.{Packet, coming, staying, Data, Acknowledgement}
+use Rattle.law_lossy.specs.World.{World, reliable, raised, unacknowledged, add_packet, send_first, send_on, send, acknowledge, hand_up, come, event}
+use Rattle.law_lossy.specs.Deliveries.{pair_of_packet, pair_of_event, number_of}
+use Rattle.law_lossy.specs.Facts.{IsRightData, Facts}
 use Rattle.law_lossy.proofs.Lists.{coming-In, drop_get, raised_tells, first_place}
 use Rattle.law_lossy.proofs.Facts.{facts_up}
 

@@ -6,13 +6,13 @@ use Rattle.std.proofs.lemmas.Option.{slice_get_within}
 use Rattle.dcsp_defs.specs.Words.{In, below}
 use Rattle.dcsp_defs.specs.Csp.{Csp, count}
 use Rattle.dcsp_defs.proofs.Lists.{In-split, In-below, filter-from, get-In}
-use Rattle.law_invariants.proofs.Runs.{In-pairs}
+use Rattle.law_agent.proofs.Runs.{In-pairs}
 use Rattle.abt_defs.specs.Agents.{Message}
 use Rattle.abt_defs.specs.Steps.{receive}
 use Rattle.abt_defs.specs.Network.{next_number, pairs, sent_to}
-use Rattle.lossy_defs.specs.Packets.{Packet, coming, staying, Data, Acknowledgement}
-use Rattle.lossy_defs.specs.World.{World, begin, raised, unacknowledged, add_packet, send_first, send_on, send, acknowledge, hand_up, arrive, come, event, after}
-use Rattle.lossy_defs.specs.Facts.{IsRightData, IsRightAcknowledgement, IsRight, Facts}
+use Rattle.law_lossy.specs.Packets.{Packet, coming, staying, Data, Acknowledgement}
+use Rattle.law_lossy.specs.World.{World, begin, raised, unacknowledged, add_packet, send_first, send_on, send, acknowledge, hand_up, arrive, come, event, after}
+use Rattle.law_lossy.specs.Facts.{IsRightData, IsRightAcknowledgement, IsRight, Facts}
 use Rattle.law_lossy.specs.Links.{FactsHold}
 use Rattle.law_lossy.proofs.Lists.{In-staying, coming-In, get_left, raised_tells, raised_up, raised_here}
 

@@ -7,8 +7,8 @@ use Rattle.std.proofs.lemmas.List.Folds.{find_at}
 use Rattle.std.proofs.lemmas.Option.{slice_get_within}
 use Rattle.dcsp_defs.specs.Words.{In}
 use Rattle.dcsp_defs.proofs.Lists.{In-split, find-some, find-found, get-In}
-use Rattle.lossy_defs.specs.Packets.{Packet, place, coming, staying}
-use Rattle.lossy_defs.specs.World.{raised}
+use Rattle.law_lossy.specs.Packets.{Packet, place, coming, staying}
+use Rattle.law_lossy.specs.World.{raised}
 
 In-take : {X : Type 0} → (n : ℕ) (x : X) (xs : List X) → In x (take n xs) → In x xs
 In-take zero x xs h = absurd h

@@ -5,7 +5,7 @@ use Rattle.dcsp_defs.specs.Words.{In, below}
 use Rattle.dcsp_defs.specs.Csp.{Csp, count}
 use Rattle.dcsp_defs.proofs.Lists.{In-split, In-below, filter-from, get-In, and_left, and_right, and_both}
 use Rattle.abt_defs.specs.Network.{pairs, ready, is_empty}
-use Rattle.law_invariants.proofs.Runs.{In-pairs}
+use Rattle.law_agent.proofs.Runs.{In-pairs}
 use Rattle.law_lossy.specs.Run.{NumbersArePlaces}
 use Rattle.law_lossy.proofs.Lists.{first_place}
 

@@ -9,19 +9,19 @@ use Rattle.dcsp_defs.proofs.Lists.{In-below, list_all-In, In-list_all}
 use Rattle.abt_defs.specs.Agents.{Message}
 use Rattle.abt_defs.specs.Steps.{receive}
 use Rattle.abt_defs.specs.Network.{Network, next_number, sent_to, pairs, deliver, run, start, start_by, is_false, IsQuiet, IsSolved}
-use Rattle.law_invariants.proofs.Runs.{In-pairs}
-use Rattle.law_no_stall.proofs.Stall.{no_stall}
-use Rattle.law_right_steps.proofs.Runs.{steps_right}
-use Rattle.law_right_steps.proofs.Ends.{refuted_refutes}
+use Rattle.law_agent.proofs.Runs.{In-pairs}
+use Rattle.law_runs.proofs.Stall.{no_stall}
+use Rattle.law_agent.proofs.StepRuns.{steps_right}
+use Rattle.law_agent.proofs.Ends.{refuted_refutes}
 use Rattle.dcsp_defs.specs.Derivation.{IsDerivation, IsRefutation}
 use Rattle.dcsp_defs.proofs.Sound.{refutations_refute}
-use Rattle.law_message_bound.proofs.Runs.{bounded, no_deliveries}
-use Rattle.law_message_bound.proofs.Sums.{sum-zero, sum-same}
-use Rattle.lossy_defs.specs.Packets.{Packet, coming}
-use Rattle.lossy_defs.specs.World.{World, begin, reliable, raised, hand_up, event, after}
-use Rattle.lossy_defs.specs.Deliveries.{pair_of_event, number_of, delivered, numbers, message_in, message_on, handed_messages}
-use Rattle.lossy_defs.specs.Ends.{is_quiet}
-use Rattle.lossy_defs.specs.Facts.{Facts}
+use Rattle.law_runs.proofs.BoundRuns.{bounded, no_deliveries}
+use Rattle.law_runs.proofs.Sums.{sum-zero, sum-same}
+use Rattle.law_lossy.specs.Packets.{Packet, coming}
+use Rattle.law_lossy.specs.World.{World, begin, reliable, raised, hand_up, event, after}
+use Rattle.law_lossy.specs.Deliveries.{pair_of_event, number_of, delivered, numbers, message_in, message_on, handed_messages}
+use Rattle.law_lossy.specs.Ends.{is_quiet}
+use Rattle.law_lossy.specs.Facts.{Facts}
 use Rattle.law_lossy.specs.Links.{HandsUpInOrder}
 use Rattle.law_lossy.specs.Run.{IsRun}
 use Rattle.law_lossy.specs.Verdicts.{QuietIsSolved, StepsAreRight, total, HandedUpBounded}

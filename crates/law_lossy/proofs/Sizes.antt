@@ -8,10 +8,10 @@ use Rattle.law_lossy.proofs.Calm.{calm_budget}
 use Rattle.dcsp_defs.specs.Csp.{Csp}
 use Rattle.abt_defs.specs.Agents.{Message}
 use Rattle.abt_defs.specs.Network.{Network}
-use Rattle.lossy_defs.specs.Packets.{Packet, place, coming, staying, Data, Acknowledgement}
-use Rattle.lossy_defs.specs.World.{World, begin, raised, unacknowledged, add_packet, send_first, send_on, send, acknowledge, hand_up, come, event, after}
-use Rattle.lossy_defs.specs.Ends.{is_quiet, has_verdict, calm_word, calm_words, calm}
-use Rattle.lossy_defs.specs.Facts.{Facts}
+use Rattle.law_lossy.specs.Packets.{Packet, place, coming, staying, Data, Acknowledgement}
+use Rattle.law_lossy.specs.World.{World, begin, raised, unacknowledged, add_packet, send_first, send_on, send, acknowledge, hand_up, come, event, after}
+use Rattle.law_lossy.specs.Ends.{is_quiet, has_verdict, calm_word, calm_words, calm}
+use Rattle.law_lossy.specs.Facts.{Facts}
 use Rattle.law_lossy.specs.Links.{WorldIsSmall}
 use Rattle.law_lossy.specs.Calm.{NoVerdictYet, CalmEvents}
 use Rattle.law_lossy.proofs.Facts.{facts_event, facts_begin}

@@ -5,15 +5,15 @@ use Rattle.std.proofs.lemmas.Bool.Decides.{nat_tests}
 use Rattle.dcsp_defs.specs.Words.{In, below}
 use Rattle.dcsp_defs.specs.Csp.{Csp, count}
 use Rattle.dcsp_defs.proofs.Lists.{In-below, filter-from}
-use Rattle.law_invariants.proofs.Runs.{In-pairs}
+use Rattle.law_agent.proofs.Runs.{In-pairs}
 use Rattle.abt_defs.specs.Agents.{Message}
 use Rattle.abt_defs.specs.Network.{Network, pairs, ready, deliver, is_empty, IsQuiet}
 use Rattle.abt_defs.specs.Runs.{End, Refuted, Solved, Capped, Spent, Run, stop, stopped, go}
-use Rattle.law_replay.proofs.Again.{stop_none}
-use Rattle.lossy_defs.specs.World.{World, begin, reliable, event, after}
-use Rattle.lossy_defs.specs.Deliveries.{pair_of_event, number_of, delivered, numbers}
-use Rattle.lossy_defs.specs.Ends.{is_quiet}
-use Rattle.lossy_defs.specs.Facts.{Facts}
+use Rattle.law_runs.proofs.Again.{stop_none}
+use Rattle.law_lossy.specs.World.{World, begin, reliable, event, after}
+use Rattle.law_lossy.specs.Deliveries.{pair_of_event, number_of, delivered, numbers}
+use Rattle.law_lossy.specs.Ends.{is_quiet}
+use Rattle.law_lossy.specs.Facts.{Facts}
 use Rattle.law_lossy.specs.Run.{OneMoreEvent, IsWhole}
 use Rattle.law_lossy.proofs.Facts.{facts_event, facts_after, facts_begin}
 use Rattle.law_lossy.proofs.Events.{moves, same_reliable}

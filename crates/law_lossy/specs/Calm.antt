@@ -2,8 +2,8 @@
 use Rattle.std.specs.Prelude.{◌≡◌, ℕ, suc, ◌+◌, ◌*◌, ◌<◌, ◌≤◌, true, false, List, length, if◌then◌else◌}
 use Rattle.dcsp_defs.specs.Csp.{Csp, IsCsp}
 use Rattle.abt_defs.specs.Bound.{message_bound}
-use Rattle.lossy_defs.specs.World.{World, begin, event, after}
-use Rattle.lossy_defs.specs.Ends.{has_verdict, calm, calm_word, calm_words}
+use Rattle.law_lossy.specs.World.{World, begin, event, after}
+use Rattle.law_lossy.specs.Ends.{has_verdict, calm, calm_word, calm_words}
 
 -- After any events a verdict stands within two calm events for each packet of the pool and three for each message of the bound.
 abbrev pub CalmBudget : Csp → Type 0

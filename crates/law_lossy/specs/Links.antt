@@ -1,9 +1,9 @@
 -- What the numbers, the acknowledgements and the sending again keep of each link.
 use Rattle.std.specs.Prelude.{◌≡◌, ℕ, ◌≤◌, List, take, length}
 use Rattle.dcsp_defs.specs.Csp.{Csp}
-use Rattle.lossy_defs.specs.World.{World, begin, after}
-use Rattle.lossy_defs.specs.Deliveries.{handed_messages}
-use Rattle.lossy_defs.specs.Facts.{Facts}
+use Rattle.law_lossy.specs.World.{World, begin, after}
+use Rattle.law_lossy.specs.Deliveries.{handed_messages}
+use Rattle.law_lossy.specs.Facts.{Facts}
 
 -- The facts on counts and packets hold after all events, a refutation too.
 abbrev pub FactsHold : Csp → Type 0

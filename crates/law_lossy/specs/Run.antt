@@ -3,9 +3,9 @@ use Rattle.std.specs.Prelude.{◌≡◌, ℕ, ◌<◌, ◌≤◌, false, ◌⊎�
 use Rattle.dcsp_defs.specs.Csp.{Csp}
 use Rattle.abt_defs.specs.Network.{Network, start, run, ready, deliver}
 use Rattle.abt_defs.specs.Runs.{End, Refuted, Solved, Capped, Spent, Run, whole}
-use Rattle.lossy_defs.specs.World.{World, begin, reliable, event, after}
-use Rattle.lossy_defs.specs.Deliveries.{number_of, delivered, numbers}
-use Rattle.lossy_defs.specs.Ends.{is_quiet}
+use Rattle.law_lossy.specs.World.{World, begin, reliable, event, after}
+use Rattle.law_lossy.specs.Deliveries.{number_of, delivered, numbers}
+use Rattle.law_lossy.specs.Ends.{is_quiet}
 
 -- After any events the world is where the run over reliable links is, under the numbers of all that was handed up.
 abbrev pub IsRun : Csp → Type 0

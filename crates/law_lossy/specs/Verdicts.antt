@@ -5,9 +5,9 @@ use Rattle.dcsp_defs.specs.Csp.{Csp, IsCsp, HasNoSolution, count}
 use Rattle.dcsp_defs.specs.Derivation.{IsDerivation, IsRefutation}
 use Rattle.abt_defs.specs.Network.{IsSolved}
 use Rattle.abt_defs.specs.Bound.{message_bound}
-use Rattle.lossy_defs.specs.World.{World, begin, after}
-use Rattle.lossy_defs.specs.Deliveries.{numbers}
-use Rattle.lossy_defs.specs.Ends.{is_quiet}
+use Rattle.law_lossy.specs.World.{World, begin, after}
+use Rattle.law_lossy.specs.Deliveries.{numbers}
+use Rattle.law_lossy.specs.Ends.{is_quiet}
 
 -- In a quiet world that is not refuted nobody waits, and the agents' values are a solution.
 abbrev pub QuietIsSolved : Csp → Type 0

@@ -1,4 +1,7 @@
-//! The laws of agents over a medium that loses, repeats and reorders packets.
+//! Agents over a medium that loses, repeats and reorders packets: the world of packets as definitions, and its laws.
+//!
+//! Each link between two agents is kept in order by numbered data, acknowledgements and sending
+//! again. The agents are those of `abt_defs`.
 #![tactic(auto)]
 
 ghost use Rattle.dcsp_defs.specs.Csp.{Csp};

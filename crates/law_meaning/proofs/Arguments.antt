@@ -6,17 +6,17 @@ use Rattle.std.proofs.lemmas.Bool.{eqb-true}
 use Rattle.std.proofs.lemmas.List.Elements.{filter_map-append}
 use Rattle.dcsp_defs.proofs.Lists.{and_left, and_right}
 use Rattle.fzn_item.specs.declared.item.Expr.{Expr}
-use Rattle.dcsp_linear.specs.declared.Rel.{Rel}
-use Rattle.dcsp_linear.specs.Sums.{sum_of, stands}
+use Rattle.dcsp_meaning.specs.declared.linear.Rel.{Rel}
+use Rattle.dcsp_meaning.specs.Sums.{sum_of, stands}
 use Rattle.dcsp_meaning.specs.Table.{truth}
 use Rattle.dcsp_meaning.specs.Words.{argument}
 use Rattle.dcsp_defs.specs.Csp.{Assignment}
-use Rattle.dcsp_problem.specs.declared.rule.Term.{Term}
-use Rattle.dcsp_problem.specs.declared.rule.Term.TheVariants.{Const}
-use Rattle.dcsp_problem.specs.declared.rule.Members.{Members}
-use Rattle.dcsp_problem.specs.declared.rule.Members.TheVariants.{Listed}
-use Rattle.dcsp_problem.specs.Members.{is_member}
-use Rattle.dcsp_problem.specs.Rules.{value_under, rule_truth, is_told}
+use Rattle.dcsp_rule.specs.declared.rule.Term.{Term}
+use Rattle.dcsp_rule.specs.declared.rule.Term.TheVariants.{Const}
+use Rattle.dcsp_rule.specs.declared.rule.Members.{Members}
+use Rattle.dcsp_rule.specs.declared.rule.Members.TheVariants.{Listed}
+use Rattle.dcsp_rule.specs.Members.{is_member}
+use Rattle.dcsp_rule.specs.Rules.{value_under, rule_truth, is_told}
 use Rattle.fzn_scope.specs.declared.place.Wanted.{Wanted}
 use Rattle.fzn_scope.specs.declared.form.Place.{Place}
 use Rattle.fzn_scope.specs.declared.form.Place.TheVariants as place

@@ -3,11 +3,11 @@ use Rattle.std.proofs.Common.{◌≡◌, ℕ, Bool, true, false, not, List, [], 
 use Rattle.std.specs.Prelude.{map, ℤ, ◌==◌, if◌then◌else◌}
 use Rattle.std.proofs.lemmas.Bool.{eqb-true}
 use Rattle.fzn_item.specs.declared.item.Expr.{Expr}
-use Rattle.dcsp_linear.specs.declared.Rel.{Rel}
+use Rattle.dcsp_meaning.specs.declared.linear.Rel.{Rel}
 use Rattle.dcsp_meaning.specs.declared.kinds.Kind.TheVariants as kind
 use Rattle.dcsp_defs.specs.Csp.{Assignment}
-use Rattle.dcsp_problem.specs.declared.rule.Rule.{Rule}
-use Rattle.dcsp_problem.specs.Rules.{rule_truth}
+use Rattle.dcsp_rule.specs.declared.rule.Rule.{Rule}
+use Rattle.dcsp_rule.specs.Rules.{rule_truth}
 use Rattle.fzn_scope.specs.declared.form.Form.{Form}
 use Rattle.fzn_scope.specs.declared.form.Form.TheVariants.{Plain, Sum}
 use Rattle.fzn_scope.specs.declared.refusal.Refusal.TheVariants as refusal

@@ -14,18 +14,18 @@ use Rattle.dcsp_meaning.specs.Words.{is_one, same}
 use Rattle.dcsp_defs.specs.Words.{In}
 use Rattle.dcsp_defs.specs.Csp.{Assignment}
 use Rattle.dcsp_defs.proofs.Lists.{In-map, or_cases}
-use Rattle.dcsp_problem.specs.declared.rule.Term.{Term}
-use Rattle.dcsp_problem.specs.declared.rule.Term.TheVariants.{Const, Var}
-use Rattle.dcsp_problem.specs.declared.rule.Members.{Members}
-use Rattle.dcsp_problem.specs.declared.rule.Members.TheVariants as members
-use Rattle.dcsp_problem.specs.declared.rule.Rule.{Rule}
-use Rattle.dcsp_problem.specs.declared.rule.Rule.TheVariants.{Plain}
-use Rattle.dcsp_problem.specs.declared.output.Output.{Output}
+use Rattle.dcsp_rule.specs.declared.rule.Term.{Term}
+use Rattle.dcsp_rule.specs.declared.rule.Term.TheVariants.{Const, Var}
+use Rattle.dcsp_rule.specs.declared.rule.Members.{Members}
+use Rattle.dcsp_rule.specs.declared.rule.Members.TheVariants as members
+use Rattle.dcsp_rule.specs.declared.rule.Rule.{Rule}
+use Rattle.dcsp_rule.specs.declared.rule.Rule.TheVariants.{Plain}
+use Rattle.dcsp_rule.specs.declared.output.Output.{Output}
 use Rattle.dcsp_problem.specs.declared.limits.Which.TheVariants as which
 use Rattle.dcsp_problem.specs.Limits.{most, variable_refusal, rule_refusal}
-use Rattle.dcsp_problem.specs.Members.{is_member}
-use Rattle.dcsp_problem.specs.Rules.{value_under, rule_truth}
-use Rattle.dcsp_problem.specs.Problems.{Contents}
+use Rattle.dcsp_rule.specs.Members.{is_member}
+use Rattle.dcsp_rule.specs.Rules.{value_under, rule_truth}
+use Rattle.dcsp_rule.specs.Problems.{Contents}
 use Rattle.fzn_scope.specs.declared.names.Declared.{Declared}
 use Rattle.fzn_scope.specs.declared.names.Declared.TheVariants as declared
 use Rattle.fzn_scope.specs.declared.place.Wanted.{Wanted}

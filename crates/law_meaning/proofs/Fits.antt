@@ -3,9 +3,9 @@ use Rattle.std.proofs.Common.{◌≡◌, ℕ, ◌+◌, pos, true, false, List, [
 use Rattle.std.specs.Prelude.{◌↔◌, ℤ}
 use Rattle.dcsp_defs.specs.Words.{In}
 use Rattle.dcsp_defs.specs.Csp.{Assignment}
-use Rattle.dcsp_problem.specs.declared.rule.Term.{Term}
-use Rattle.dcsp_problem.specs.declared.rule.Term.TheVariants.{Const, Var}
-use Rattle.dcsp_problem.specs.declared.rule.Rule.{Rule}
+use Rattle.dcsp_rule.specs.declared.rule.Term.{Term}
+use Rattle.dcsp_rule.specs.declared.rule.Term.TheVariants.{Const, Var}
+use Rattle.dcsp_rule.specs.declared.rule.Rule.{Rule}
 use Rattle.fzn_item.specs.declared.item.Item.{Item}
 use Rattle.fzn_scope.specs.declared.names.Declared.{Declared}
 use Rattle.fzn_scope.specs.declared.names.Declared.TheVariants as declared

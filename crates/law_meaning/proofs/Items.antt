@@ -12,11 +12,11 @@ use Rattle.fzn_item.specs.declared.item.Item.TheVariants as item
 use Rattle.dcsp_defs.specs.Csp.{Assignment}
 use Rattle.dcsp_defs.proofs.Lists.{get-last}
 use Rattle.fzn_scope.specs.declared.place.Wanted.{Wanted}
-use Rattle.dcsp_problem.specs.declared.rule.Term.TheVariants.{Var}
-use Rattle.dcsp_problem.specs.declared.rule.Rule.{Rule}
-use Rattle.dcsp_problem.specs.declared.aim.Aim.{Aim}
+use Rattle.dcsp_rule.specs.declared.rule.Term.TheVariants.{Var}
+use Rattle.dcsp_rule.specs.declared.rule.Rule.{Rule}
+use Rattle.dcsp_rule.specs.declared.aim.Aim.{Aim}
 use Rattle.dcsp_problem.specs.Limits.{rule_refusal}
-use Rattle.dcsp_problem.specs.Problems.{Contents}
+use Rattle.dcsp_rule.specs.Problems.{Contents}
 use Rattle.fzn_scope.specs.declared.names.Declared.TheVariants as declared
 use Rattle.fzn_model.specs.declared.refusal.ItemRefusal.TheVariants as refusal
 use Rattle.fzn_scope.specs.Names.{Scope, declared_as, bytes_at}

@@ -5,7 +5,7 @@ use Rattle.std.proofs.Common.{inl, inr}
 use Rattle.std.specs.Str.{bytes_eq}
 use Rattle.std.proofs.lemmas.Slice.Eq.{bytes_eq-Decides}
 use Rattle.dcsp_defs.specs.Csp.{Assignment}
-use Rattle.dcsp_problem.specs.Rules.{value_under}
+use Rattle.dcsp_rule.specs.Rules.{value_under}
 use Rattle.fzn_scope.specs.declared.names.Declared.{Declared}
 use Rattle.fzn_scope.specs.declared.names.Declared.TheVariants as declared
 use Rattle.fzn_scope.specs.Names.{Scope, declared_as}

@@ -6,12 +6,12 @@ use Rattle.fzn_item.specs.declared.item.Goal.{Goal}
 use Rattle.fzn_item.specs.declared.item.Goal.TheVariants as goals
 use Rattle.fzn_item.specs.declared.item.Item.{Item}
 use Rattle.dcsp_defs.specs.Csp.{Assignment, IsSolution}
-use Rattle.dcsp_problem.specs.declared.rule.Term.{Term}
-use Rattle.dcsp_problem.specs.declared.aim.Aim.{Aim}
-use Rattle.dcsp_problem.specs.declared.aim.Aim.TheVariants.{Satisfy, Least, Greatest}
-use Rattle.dcsp_problem.specs.Rules.{value_under}
-use Rattle.dcsp_problem.specs.Problems.{Contents, csp_of}
-use Rattle.dcsp_problem.specs.Aims.{is_better}
+use Rattle.dcsp_rule.specs.declared.rule.Term.{Term}
+use Rattle.dcsp_rule.specs.declared.aim.Aim.{Aim}
+use Rattle.dcsp_rule.specs.declared.aim.Aim.TheVariants.{Satisfy, Least, Greatest}
+use Rattle.dcsp_rule.specs.Rules.{value_under}
+use Rattle.dcsp_rule.specs.Problems.{Contents, csp_of}
+use Rattle.dcsp_rule.specs.Aims.{is_better}
 use Rattle.law_meaning.specs.Environments.{Value, Number, Environment, expr_value}
 use Rattle.law_meaning.specs.Meaning.{goals_of, Satisfies, SatisfiesText, IsAskedBy, IsMeaningOf}
 use Rattle.law_meaning.specs.Best.{asked_of, betters, Attains, NoneBetters, IsBestFor, IsAt, HasNoneBetter, IsBestSolution, BoundsAgree, BestAgree}

@@ -6,11 +6,11 @@ use Rattle.fzn_item.specs.declared.item.Atom.TheVariants as atom
 use Rattle.fzn_item.specs.declared.item.Expr.{Expr}
 use Rattle.fzn_item.specs.declared.item.Expr.TheVariants as expr
 use Rattle.dcsp_defs.specs.Csp.{Assignment}
-use Rattle.dcsp_problem.specs.declared.rule.Term.{Term}
-use Rattle.dcsp_problem.specs.declared.rule.Term.TheVariants.{Const}
-use Rattle.dcsp_problem.specs.declared.rule.Members.{Members}
-use Rattle.dcsp_problem.specs.declared.rule.Members.TheVariants.{Between, Listed}
-use Rattle.dcsp_problem.specs.Rules.{value_under}
+use Rattle.dcsp_rule.specs.declared.rule.Term.{Term}
+use Rattle.dcsp_rule.specs.declared.rule.Term.TheVariants.{Const}
+use Rattle.dcsp_rule.specs.declared.rule.Members.{Members}
+use Rattle.dcsp_rule.specs.declared.rule.Members.TheVariants.{Between, Listed}
+use Rattle.dcsp_rule.specs.Rules.{value_under}
 use Rattle.fzn_scope.specs.declared.names.Declared.{Declared}
 use Rattle.fzn_scope.specs.declared.names.Declared.TheVariants as declared
 use Rattle.fzn_scope.specs.declared.place.Wanted.{Wanted}

@@ -7,7 +7,7 @@ use Rattle.fzn_item.specs.declared.item.Item.{Item}
 use Rattle.fzn_item.specs.Items.{AreItemsTo}
 use Rattle.fzn_item.proofs.OneAnswer.{one_answer_law}
 use Rattle.dcsp_defs.specs.Csp.{Assignment, IsSolution}
-use Rattle.dcsp_problem.specs.Problems.{Contents, csp_of}
+use Rattle.dcsp_rule.specs.Problems.{Contents, csp_of}
 use Rattle.fzn_scope.specs.declared.names.Declared.{Declared}
 use Rattle.fzn_model.specs.declared.refusal.ItemRefusal.{ItemRefusal}
 use Rattle.fzn_scope.specs.Names.{declared_as}

@@ -5,12 +5,12 @@ use Rattle.fzn_item.specs.declared.item.Expr.{Expr}
 use Rattle.fzn_item.specs.declared.item.Goal.{Goal}
 use Rattle.fzn_item.specs.declared.item.Goal.TheVariants as goals
 use Rattle.dcsp_defs.specs.Csp.{Assignment, IsSolution}
-use Rattle.dcsp_problem.specs.declared.rule.Term.{Term}
-use Rattle.dcsp_problem.specs.declared.aim.Aim.{Aim}
-use Rattle.dcsp_problem.specs.declared.aim.Aim.TheVariants.{Least, Greatest}
-use Rattle.dcsp_problem.specs.Rules.{value_under}
-use Rattle.dcsp_problem.specs.Problems.{Contents, csp_of}
-use Rattle.dcsp_problem.specs.Aims.{is_better}
+use Rattle.dcsp_rule.specs.declared.rule.Term.{Term}
+use Rattle.dcsp_rule.specs.declared.aim.Aim.{Aim}
+use Rattle.dcsp_rule.specs.declared.aim.Aim.TheVariants.{Least, Greatest}
+use Rattle.dcsp_rule.specs.Rules.{value_under}
+use Rattle.dcsp_rule.specs.Problems.{Contents, csp_of}
+use Rattle.dcsp_rule.specs.Aims.{is_better}
 use Rattle.fzn_model.specs.Models.{Answers}
 use Rattle.law_meaning.specs.Environments.{Number, expr_value}
 use Rattle.law_meaning.specs.Meaning.{goals_of, SatisfiesText}

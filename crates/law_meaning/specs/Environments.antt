@@ -5,8 +5,8 @@ use Rattle.fzn_item.specs.declared.item.Atom.{Atom}
 use Rattle.fzn_item.specs.declared.item.Atom.TheVariants as atom
 use Rattle.fzn_item.specs.declared.item.Expr.{Expr}
 use Rattle.fzn_item.specs.declared.item.Expr.TheVariants as expr
-use Rattle.dcsp_problem.specs.declared.rule.Members.{Members}
-use Rattle.dcsp_problem.specs.declared.rule.Members.TheVariants.{Between, Listed}
+use Rattle.dcsp_rule.specs.declared.rule.Members.{Members}
+use Rattle.dcsp_rule.specs.declared.rule.Members.TheVariants.{Between, Listed}
 use Rattle.fzn_scope.specs.Names.{bytes_at}
 
 -- an integer or a Boolean, which is 1 where it is true and 0 where it is false; the numbers of an array; or a set

@@ -7,12 +7,12 @@ use Rattle.fzn_item.specs.declared.item.Base.TheVariants as base
 use Rattle.fzn_item.specs.declared.item.Item.{Item}
 use Rattle.fzn_item.specs.declared.item.Item.TheVariants as item
 use Rattle.dcsp_domain.specs.Sets.{has}
-use Rattle.dcsp_linear.specs.Sums.{sum_of, stands}
+use Rattle.dcsp_meaning.specs.Sums.{sum_of, stands}
 use Rattle.dcsp_meaning.specs.Table.{truth}
 use Rattle.dcsp_meaning.specs.Words.{argument}
 use Rattle.dcsp_defs.specs.Words.{In}
-use Rattle.dcsp_problem.specs.Members.{is_member}
-use Rattle.dcsp_problem.specs.Rules.{is_told}
+use Rattle.dcsp_rule.specs.Members.{is_member}
+use Rattle.dcsp_rule.specs.Rules.{is_told}
 use Rattle.fzn_scope.specs.declared.form.Form.{Form}
 use Rattle.fzn_scope.specs.declared.form.Form.TheVariants.{Plain, Sum}
 use Rattle.fzn_scope.specs.Names.{bytes_at}

@@ -11,11 +11,11 @@ use Rattle.fzn_item.specs.declared.item.Item.TheVariants as item
 use Rattle.fzn_item.specs.Items.{AreItemsTo}
 use Rattle.dcsp_defs.specs.Words.{In}
 use Rattle.dcsp_defs.specs.Csp.{Assignment, IsSolution}
-use Rattle.dcsp_problem.specs.declared.rule.Term.{Term}
-use Rattle.dcsp_problem.specs.declared.aim.Aim.{Aim}
-use Rattle.dcsp_problem.specs.declared.aim.Aim.TheVariants.{Satisfy, Least, Greatest}
-use Rattle.dcsp_problem.specs.Rules.{value_under}
-use Rattle.dcsp_problem.specs.Problems.{Contents, csp_of}
+use Rattle.dcsp_rule.specs.declared.rule.Term.{Term}
+use Rattle.dcsp_rule.specs.declared.aim.Aim.{Aim}
+use Rattle.dcsp_rule.specs.declared.aim.Aim.TheVariants.{Satisfy, Least, Greatest}
+use Rattle.dcsp_rule.specs.Rules.{value_under}
+use Rattle.dcsp_rule.specs.Problems.{Contents, csp_of}
 use Rattle.fzn_scope.specs.Names.{bytes_at}
 use Rattle.fzn_model.specs.Items.{resolved}
 use Rattle.fzn_model.specs.Models.{Answers}

@@ -6,7 +6,7 @@ use Rattle.std.proofs.lemmas.List.Concat.{flat_map-append}
 use Rattle.dcsp_defs.proofs.Lists.{and_left, and_right, and_both}
 use Rattle.fzn_item.specs.declared.item.Item.{Item}
 use Rattle.fzn_item.specs.declared.item.Item.TheVariants as item
-use Rattle.dcsp_problem.specs.Problems.{Contents}
+use Rattle.dcsp_rule.specs.Problems.{Contents}
 use Rattle.fzn_model.specs.declared.refusal.ItemRefusal.{ItemRefusal}
 use Rattle.fzn_model.specs.declared.refusal.ItemRefusal.TheVariants as refusal
 use Rattle.fzn_scope.specs.Checks.{◌>>=◌}

@@ -6,8 +6,8 @@ use Rattle.std.proofs.lemmas.List.Sums.{sum_by-cons}
 use Rattle.dcsp_defs.proofs.Lists.{and_left, and_right}
 use Rattle.fzn_item.specs.declared.item.Expr.{Expr}
 use Rattle.dcsp_meaning.specs.declared.kinds.Kind.TheVariants as kind
-use Rattle.dcsp_problem.specs.declared.rule.Members.{Members}
-use Rattle.dcsp_problem.specs.Members.{values_of}
+use Rattle.dcsp_rule.specs.declared.rule.Members.{Members}
+use Rattle.dcsp_rule.specs.Members.{values_of}
 use Rattle.fzn_scope.specs.declared.place.Wanted.{Wanted}
 use Rattle.fzn_scope.specs.declared.form.Place.{Place}
 use Rattle.fzn_scope.specs.declared.form.Place.TheVariants as place

@@ -9,21 +9,21 @@ use Rattle.dcsp_domain.specs.Sets.{set_of as values_of_list}
 use Rattle.fzn_item.specs.declared.item.Expr.{Expr}
 use Rattle.fzn_item.specs.declared.item.Base.{Base}
 use Rattle.fzn_item.specs.declared.item.Base.TheVariants as base
-use Rattle.dcsp_linear.specs.Sums.{widest}
+use Rattle.dcsp_meaning.specs.Sums.{widest}
 use Rattle.dcsp_meaning.specs.declared.kinds.Kind.{Kind}
 use Rattle.dcsp_meaning.specs.declared.kinds.Kind.TheVariants.{SetIn}
 use Rattle.dcsp_problem.specs.declared.limits.Which.TheVariants.{DomainSize, Variables, DomainValues, Rules, Terms, Elements}
-use Rattle.dcsp_problem.specs.declared.rule.Term.{Term}
-use Rattle.dcsp_problem.specs.declared.rule.Term.TheVariants.{Var}
-use Rattle.dcsp_problem.specs.declared.rule.Members.{Members}
-use Rattle.dcsp_problem.specs.declared.rule.Members.TheVariants as members
-use Rattle.dcsp_problem.specs.declared.rule.Rule.{Rule}
-use Rattle.dcsp_problem.specs.declared.rule.Rule.TheVariants.{Plain}
-use Rattle.dcsp_problem.specs.declared.output.Output.{Output}
+use Rattle.dcsp_rule.specs.declared.rule.Term.{Term}
+use Rattle.dcsp_rule.specs.declared.rule.Term.TheVariants.{Var}
+use Rattle.dcsp_rule.specs.declared.rule.Members.{Members}
+use Rattle.dcsp_rule.specs.declared.rule.Members.TheVariants as members
+use Rattle.dcsp_rule.specs.declared.rule.Rule.{Rule}
+use Rattle.dcsp_rule.specs.declared.rule.Rule.TheVariants.{Plain}
+use Rattle.dcsp_rule.specs.declared.output.Output.{Output}
 use Rattle.dcsp_problem.specs.Limits.{most}
-use Rattle.dcsp_problem.specs.Members.{values_of}
-use Rattle.dcsp_problem.specs.Rules.{size_of}
-use Rattle.dcsp_problem.specs.Problems.{Contents, term_count}
+use Rattle.dcsp_rule.specs.Members.{values_of}
+use Rattle.dcsp_rule.specs.Rules.{size_of}
+use Rattle.dcsp_rule.specs.Problems.{Contents, term_count}
 use Rattle.fzn_scope.specs.declared.names.Declared.{Declared}
 use Rattle.fzn_scope.specs.declared.names.Declared.TheVariants as declared
 use Rattle.fzn_scope.specs.declared.place.Wanted.{Wanted}

@@ -9,15 +9,15 @@ use Rattle.fzn_item.specs.declared.item.Goal.{Goal}
 use Rattle.fzn_item.specs.declared.item.Goal.TheVariants as goals
 use Rattle.fzn_item.specs.declared.item.Item.TheVariants as item
 use Rattle.dcsp_problem.specs.declared.limits.Which.TheVariants.{Elements}
-use Rattle.dcsp_problem.specs.declared.aim.Aim.{Aim}
-use Rattle.dcsp_problem.specs.declared.aim.Aim.TheVariants.{Least, Greatest}
-use Rattle.dcsp_problem.specs.declared.rule.Term.{Term}
-use Rattle.dcsp_problem.specs.declared.rule.Term.TheVariants.{Var}
-use Rattle.dcsp_problem.specs.declared.rule.Rule.{Rule}
+use Rattle.dcsp_rule.specs.declared.aim.Aim.{Aim}
+use Rattle.dcsp_rule.specs.declared.aim.Aim.TheVariants.{Least, Greatest}
+use Rattle.dcsp_rule.specs.declared.rule.Term.{Term}
+use Rattle.dcsp_rule.specs.declared.rule.Term.TheVariants.{Var}
+use Rattle.dcsp_rule.specs.declared.rule.Rule.{Rule}
 use Rattle.dcsp_problem.specs.Limits.{most}
-use Rattle.dcsp_problem.specs.Rules.{size_of}
-use Rattle.dcsp_problem.specs.Widths.{greatest_among}
-use Rattle.dcsp_problem.specs.Problems.{Contents}
+use Rattle.dcsp_rule.specs.Rules.{size_of}
+use Rattle.dcsp_rule.specs.Widths.{greatest_among}
+use Rattle.dcsp_rule.specs.Problems.{Contents}
 use Rattle.fzn_scope.specs.declared.names.Declared.{Declared}
 use Rattle.fzn_scope.specs.declared.names.Declared.TheVariants as declared
 use Rattle.fzn_scope.specs.declared.place.Wanted.{Wanted}

@@ -5,18 +5,18 @@ use Rattle.std.proofs.lemmas.Bool.{eqb-true}
 use Rattle.std.proofs.lemmas.List.{length-map}
 use Rattle.std.proofs.lemmas.List.Sums.{sum_by-cons}
 use Rattle.fzn_item.specs.declared.item.Expr.{Expr}
-use Rattle.dcsp_linear.specs.declared.Rel.{Rel}
-use Rattle.dcsp_linear.specs.Sums.{widest}
-use Rattle.dcsp_linear.specs.Sums.{greatest_size}
+use Rattle.dcsp_meaning.specs.declared.linear.Rel.{Rel}
+use Rattle.dcsp_meaning.specs.Sums.{widest}
+use Rattle.dcsp_meaning.specs.Sums.{greatest_size}
 use Rattle.dcsp_problem.specs.declared.limits.Which.{Which}
 use Rattle.dcsp_problem.specs.declared.limits.Which.TheVariants.{Rules, Terms, Elements}
-use Rattle.dcsp_problem.specs.declared.rule.Term.{Term}
-use Rattle.dcsp_problem.specs.declared.rule.Term.TheVariants.{Const, Var}
-use Rattle.dcsp_problem.specs.declared.rule.Rule.{Rule}
-use Rattle.dcsp_problem.specs.Members.{values_of}
-use Rattle.dcsp_problem.specs.Rules.{size_of}
-use Rattle.dcsp_problem.specs.Widths.{greatest_of, rule_width}
-use Rattle.dcsp_problem.specs.Problems.{Contents, term_count}
+use Rattle.dcsp_rule.specs.declared.rule.Term.{Term}
+use Rattle.dcsp_rule.specs.declared.rule.Term.TheVariants.{Const, Var}
+use Rattle.dcsp_rule.specs.declared.rule.Rule.{Rule}
+use Rattle.dcsp_rule.specs.Members.{values_of}
+use Rattle.dcsp_rule.specs.Rules.{size_of}
+use Rattle.dcsp_rule.specs.Widths.{greatest_of, rule_width}
+use Rattle.dcsp_rule.specs.Problems.{Contents, term_count}
 use Rattle.dcsp_problem.specs.Limits.{list_counts, rule_counts}
 use Rattle.fzn_scope.specs.declared.form.Place.{Place}
 use Rattle.fzn_scope.specs.declared.form.Place.TheVariants as place

@@ -11,7 +11,7 @@ use Rattle.fzn_item.proofs.ExprLaws.{any_unique}
 use Rattle.fzn_item.proofs.ItemLaws.{to_semicolon_unique, item_unique}
 use Rattle.fzn_item.proofs.OneAnswer.{one_answer_law}
 use Rattle.fzn_item.proofs.Endings.{items_end_law, items_stay_law, refusals_stay_law}
-use Rattle.dcsp_problem.specs.Problems.{Contents}
+use Rattle.dcsp_rule.specs.Problems.{Contents}
 use Rattle.fzn_model.specs.Declarations.{SoFar}
 use Rattle.fzn_model.specs.Items.{start, after, after_all, finished, resolved}
 use Rattle.law_reader.specs.Ignored.{can_mark, IgnoredLeftOut, none, predicate, item, IgnoredCanBeLeftOut, IgnoredChangesNothing}

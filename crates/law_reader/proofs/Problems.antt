@@ -8,7 +8,7 @@ use Rattle.fzn_item.specs.declared.item.Item.{Item}
 use Rattle.fzn_item.specs.declared.item.ItemError.{ItemError}
 use Rattle.fzn_item.specs.declared.item.ItemError.TheVariants as syntactic
 use Rattle.fzn_item.specs.Items as parsing
-use Rattle.dcsp_problem.specs.Problems.{Contents}
+use Rattle.dcsp_rule.specs.Problems.{Contents}
 use Rattle.fzn_scope.specs.declared.refusal.Refusal.TheVariants as meaning
 use Rattle.fzn_model.specs.declared.refusal.ItemRefusal.{ItemRefusal}
 use Rattle.fzn_model.specs.declared.refusal.ItemRefusal.TheVariants as refusal

@@ -6,7 +6,7 @@ use Rattle.fzn_token.specs.Tokens.{AreTokens}
 use Rattle.fzn_item.specs.declared.item.Item.{Item}
 use Rattle.fzn_item.specs.Items.{AreItemsTo}
 use Rattle.dcsp_defs.specs.Words.{In}
-use Rattle.dcsp_problem.specs.Problems.{Contents}
+use Rattle.dcsp_rule.specs.Problems.{Contents}
 use Rattle.fzn_scope.specs.declared.refusal.Refusal.TheVariants as meaning
 use Rattle.fzn_model.specs.declared.refusal.ItemRefusal.{ItemRefusal}
 use Rattle.fzn_model.specs.declared.refusal.ItemRefusal.TheVariants as refusal

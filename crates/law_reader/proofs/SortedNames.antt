@@ -4,11 +4,11 @@ use Rattle.std.specs.Prelude.{ℤ, if◌then◌else◌}
 use Rattle.std.specs.List.{AllByRecursion}
 use Rattle.std.specs.Str.{bytes_eq}
 use Rattle.std.proofs.Math.ListN.{get_or-append}
-use Rattle.dcsp_problem.specs.declared.rule.Term.{Term}
-use Rattle.dcsp_problem.specs.declared.rule.Term.TheVariants.{Const, Var}
-use Rattle.dcsp_problem.specs.Members.{values_of}
-use Rattle.dcsp_problem.specs.Rules.{IsTermOf}
-use Rattle.dcsp_problem.specs.Widths.{greatest_among, greatest_of}
+use Rattle.dcsp_rule.specs.declared.rule.Term.{Term}
+use Rattle.dcsp_rule.specs.declared.rule.Term.TheVariants.{Const, Var}
+use Rattle.dcsp_rule.specs.Members.{values_of}
+use Rattle.dcsp_rule.specs.Rules.{IsTermOf}
+use Rattle.dcsp_rule.specs.Widths.{greatest_among, greatest_of}
 use Rattle.fzn_scope.specs.declared.names.Declared.{Declared}
 use Rattle.fzn_scope.specs.declared.names.Declared.TheVariants as declared
 use Rattle.fzn_scope.specs.Names.{Scope, declared_as}

@@ -2,7 +2,7 @@
 use Rattle.std.specs.Prelude.{ℕ, ◌+◌, ◌*◌, ◌==◌, Bool, true, false, not, ◌&&◌, List, [], ◌∷◌, length, flat_map, sum_by, zip, nat_lt, slice_index_or, Option, Some, None}
 use Rattle.std.specs.List.{list_all}
 use Rattle.fzn_item.specs.declared.item.Expr.{Expr}
-use Rattle.dcsp_linear.specs.Sums.{widest}
+use Rattle.dcsp_meaning.specs.Sums.{widest}
 use Rattle.dcsp_problem.specs.declared.limits.Which.{Which}
 use Rattle.dcsp_problem.specs.declared.limits.Which.TheVariants.{Elements}
 use Rattle.dcsp_problem.specs.Limits.{most}

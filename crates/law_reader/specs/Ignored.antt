@@ -11,7 +11,7 @@ use Rattle.fzn_item.specs.declared.item.Marked.TheVariants as marked
 use Rattle.fzn_item.specs.Productions.{IsMark, Fails}
 use Rattle.fzn_item.specs.Marks.{IsMarkedAnnotation}
 use Rattle.fzn_item.specs.Items.{ToSemicolon}
-use Rattle.dcsp_problem.specs.Problems.{Contents}
+use Rattle.dcsp_rule.specs.Problems.{Contents}
 use Rattle.fzn_model.specs.Models.{Answers}
 use Rattle.law_reader.specs.Gapped.{AreAlike}
 

@@ -7,19 +7,19 @@ use Rattle.dcsp_domain.specs.Ranges.{count_between, numbers_between}
 use Rattle.dcsp_domain.specs.Sets.{IsDomain, set_of as values_of}
 use Rattle.dcsp_domain.proofs.Domains.{domain_of_set, domain_of_range}
 use Rattle.dcsp_defs.proofs.Lists.{and_left, and_right}
-use Rattle.dcsp_problem.specs.declared.rule.Term.{Term}
-use Rattle.dcsp_problem.specs.declared.rule.Term.TheVariants.{Var}
-use Rattle.dcsp_problem.specs.declared.rule.Members.{Members}
-use Rattle.dcsp_problem.specs.declared.rule.Members.TheVariants as members
-use Rattle.dcsp_problem.specs.declared.rule.Rule.{Rule}
-use Rattle.dcsp_problem.specs.declared.rule.Rule.TheVariants as rule
+use Rattle.dcsp_rule.specs.declared.rule.Term.{Term}
+use Rattle.dcsp_rule.specs.declared.rule.Term.TheVariants.{Var}
+use Rattle.dcsp_rule.specs.declared.rule.Members.{Members}
+use Rattle.dcsp_rule.specs.declared.rule.Members.TheVariants as members
+use Rattle.dcsp_rule.specs.declared.rule.Rule.{Rule}
+use Rattle.dcsp_rule.specs.declared.rule.Rule.TheVariants as rule
 use Rattle.dcsp_meaning.specs.Table.{is_shape}
-use Rattle.dcsp_problem.specs.declared.output.Output.{Output}
-use Rattle.dcsp_problem.specs.declared.aim.Aim.{Aim}
+use Rattle.dcsp_rule.specs.declared.output.Output.{Output}
+use Rattle.dcsp_rule.specs.declared.aim.Aim.{Aim}
 use Rattle.dcsp_problem.specs.declared.limits.Which.{Which}
 use Rattle.dcsp_problem.specs.declared.limits.Which.TheVariants as which
-use Rattle.dcsp_problem.specs.Problems.{Contents}
-use Rattle.dcsp_problem.specs.Rules.{IsTermOf, IsRuleOf, IsAimOf, terms_of, has_shape}
+use Rattle.dcsp_rule.specs.Problems.{Contents}
+use Rattle.dcsp_rule.specs.Rules.{IsTermOf, IsRuleOf, IsAimOf, terms_of, has_shape}
 use Rattle.dcsp_problem.specs.Outputs.{IsOutputOf, AreRangesOf, range_product}
 use Rattle.dcsp_problem.specs.Limits.{most, first_past, list_counts}
 use Rattle.dcsp_problem.specs.WellFormed.{IsProblem}
@@ -55,10 +55,10 @@ use Rattle.fzn_model.proofs.Counts.{tokens_so_far}
 use Rattle.fzn_item.specs.declared.item.Item.TheVariants as item
 use Rattle.fzn_item.specs.declared.item.Goal.{Goal}
 use Rattle.fzn_item.specs.declared.item.Goal.TheVariants as goals
-use Rattle.dcsp_problem.specs.declared.aim.Aim.TheVariants.{Satisfy, Least, Greatest}
+use Rattle.dcsp_rule.specs.declared.aim.Aim.TheVariants.{Satisfy, Least, Greatest}
 use Rattle.dcsp_meaning.specs.declared.kinds.Kind.TheVariants.{SetIn}
-use Rattle.dcsp_linear.specs.Sums.{widest}
-use Rattle.dcsp_problem.specs.Widths.{rule_width}
+use Rattle.dcsp_meaning.specs.Sums.{widest}
+use Rattle.dcsp_rule.specs.Widths.{rule_width}
 use Rattle.std.proofs.lemmas.Bool.{not-false}
 use Rattle.fzn_scope.specs.Rules.{constraint_rule}
 use Rattle.fzn_model.proofs.Meanings.{meant}

@@ -6,16 +6,16 @@ use Rattle.std.proofs.lemmas.Bool.Decides.{leb_tells, nat_tests}
 use Rattle.std.proofs.lemmas.List.{length_push}
 use Rattle.std.proofs.lemmas.List.Elements.{All-push}
 use Rattle.dcsp_domain.specs.Sets.{IsDomain}
-use Rattle.dcsp_linear.specs.Sums.{widest}
+use Rattle.dcsp_meaning.specs.Sums.{widest}
 use Rattle.dcsp_problem.specs.declared.limits.Which.{Which}
 use Rattle.dcsp_problem.specs.declared.limits.Which.TheVariants.{Variables, DomainValues, Rules, Terms}
 use Rattle.dcsp_problem.specs.declared.limits.BuildError.TheVariants as errors
-use Rattle.dcsp_problem.specs.declared.output.Output.{Output}
-use Rattle.dcsp_problem.specs.declared.rule.Rule.{Rule}
-use Rattle.dcsp_problem.specs.Problems.{Contents, value_count, term_count}
-use Rattle.dcsp_problem.specs.Rules.{IsRuleOf, size_of}
+use Rattle.dcsp_rule.specs.declared.output.Output.{Output}
+use Rattle.dcsp_rule.specs.declared.rule.Rule.{Rule}
+use Rattle.dcsp_rule.specs.Problems.{Contents, value_count, term_count}
+use Rattle.dcsp_rule.specs.Rules.{IsRuleOf, size_of}
 use Rattle.dcsp_problem.specs.Outputs.{IsOutputOf}
-use Rattle.dcsp_problem.specs.Widths.{rule_width}
+use Rattle.dcsp_rule.specs.Widths.{rule_width}
 use Rattle.dcsp_problem.specs.WellFormed.{IsProblem}
 use Rattle.dcsp_problem.specs.Limits.{most, first_past, limit_of, list_counts, rule_counts, rule_refusal, variable_counts, variable_refusal}
 use Rattle.dcsp_problem.specs.Index.{IsTallied}

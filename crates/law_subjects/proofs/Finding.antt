@@ -5,8 +5,8 @@ use Rattle.std.specs.List.{AllZip}
 use Rattle.std.specs.Ordering.{int_eq}
 use Rattle.std.proofs.lemmas.Bool.Decides.{Decides-int_eq, leb_tells}
 use Rattle.std.proofs.lemmas.List.{append-nil}
-use Rattle.dcsp_nogood.specs.declared.Pair.{Pair}
-use Rattle.dcsp_nogood.specs.Pairs.{IsRising, var_at, value_at}
+use Rattle.dcsp_defs.specs.declared.nogood.Pair.{Pair}
+use Rattle.dcsp_defs.specs.Pairs.{IsRising, var_at, value_at}
 use Rattle.dcsp_defs.specs.Words.{In}
 use Rattle.dcsp_defs.specs.Csp.{Csp, Constraint, Nogood, PartialAssignment, is_violated, agrees, given_with, domain, count}
 use Rattle.dcsp_defs.specs.Derivation.{IsKnownPair, IsFalseAlone, IsRightNowhere, EndsEmpty}
@@ -14,8 +14,8 @@ use Rattle.dcsp_defs.specs.declared.Step.{Step}
 use Rattle.dcsp_defs.specs.declared.Reason.{Reason}
 use Rattle.dcsp_defs.specs.declared.Reason.TheVariants.{Rule, Earlier}
 use Rattle.dcsp_defs.proofs.Lists.{get-more, get-last}
-use Rattle.ngd_log.specs.declared.entry.Entry.{Entry}
-use Rattle.ngd_log.specs.declared.entry.Entry.TheVariants.{Step as A_step, Delete}
+use Rattle.dcsp_defs.specs.declared.entry.Entry.{Entry}
+use Rattle.dcsp_defs.specs.declared.entry.Entry.TheVariants.{Step as A_step, Delete}
 use Rattle.ngd_check.specs.declared.Finding.{Finding}
 use Rattle.ngd_check.specs.declared.Finding.TheVariants.{Verified, BadStep, BadDeletion, NotEmpty}
 use Rattle.ngd_check.specs.Citing.{Cited, AgreesWith, IsReasonUnder, IsReasonCiting, IsRightAtCiting}

@@ -8,8 +8,8 @@ use Rattle.std.proofs.lemmas.Bool.Decides.{eqb_tells, Decides-int_eq}
 use Rattle.dcsp_gen.specs.Problems.{pairs, pairs_of, thrice}
 use Rattle.dcsp_defs.specs.Words.{In}
 use Rattle.dcsp_defs.specs.Csp.{Assignment, IsSolution}
-use Rattle.dcsp_problem.specs.Problems.{csp_of}
-use Rattle.law_generated_items.specs.Lines.{Line, Differ, Print, queens, queens_apart, colouring, edge, lines_with_words, neighbour, pigeons, pigeons_apart}
+use Rattle.dcsp_rule.specs.Problems.{csp_of}
+use Rattle.law_generated.specs.Lines.{Line, Differ, Print, queens, queens_apart, colouring, edge, lines_with_words, neighbour, pigeons, pigeons_apart}
 use Rattle.law_generated.specs.Problems.{problem_of, rules_of}
 use Rattle.law_subjects.specs.Generated.{value_of, AreWithinHigh, drawn, QueensArePlaced, ColouringsAreProper, PigeonsDoNotFit, SparseGraphsAreColoured, SixQueensArePlaced}
 use Rattle.law_generated.proofs.Lists.{all_map, all_flat_map, all_range}

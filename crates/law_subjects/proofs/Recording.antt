@@ -5,7 +5,7 @@ use Rattle.std.proofs.Math.Nat.{mod-lt}
 use Rattle.dcsp_defs.specs.Csp.{Csp, count}
 use Rattle.abt_defs.specs.Network.{Network, ready, deliver, start, is_empty}
 use Rattle.abt_defs.specs.Runs.{stop, stopped, with_delivery, delivery, go, whole}
-use Rattle.law_orders.proofs.Choices.{few_ready}
+use Rattle.law_runs.proofs.Choices.{few_ready}
 use Rattle.law_subjects.specs.Recording.{NumbersAreSmall}
 use Rattle.law_subjects.proofs.Starving.{goes_on}
 

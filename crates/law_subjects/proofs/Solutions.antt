@@ -12,10 +12,10 @@ use Rattle.dcsp_domain.proofs.RangeLaws.{numbers_between_has}
 use Rattle.dcsp_defs.specs.Words.{In}
 use Rattle.dcsp_defs.specs.Csp.{Assignment, Constraint, Csp, IsSolution}
 use Rattle.dcsp_defs.proofs.Lists.{list_any-In, In-list_any, and_left, and_right}
-use Rattle.dcsp_problem.specs.declared.rule.Rule.{Rule}
-use Rattle.dcsp_problem.specs.Rules.{rule_truth}
-use Rattle.dcsp_problem.specs.Problems.{csp_of, constraint_of}
-use Rattle.law_generated_items.specs.Lines.{Line, Declare, Print, Differ, Above, Below, Solve}
+use Rattle.dcsp_rule.specs.declared.rule.Rule.{Rule}
+use Rattle.dcsp_rule.specs.Rules.{rule_truth}
+use Rattle.dcsp_rule.specs.Problems.{csp_of, constraint_of}
+use Rattle.law_generated.specs.Lines.{Line, Declare, Print, Differ, Above, Below, Solve}
 use Rattle.law_generated.specs.Problems.{rules_of, problem_of, all_lines, AreWithin}
 use Rattle.law_subjects.specs.Generated.{value_of, AreWithinHigh}
 use Rattle.law_generated.proofs.Lists.{all_flat_map}

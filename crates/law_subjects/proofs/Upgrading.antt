@@ -8,12 +8,12 @@ use Rattle.dcsp_defs.specs.declared.Step.{Step}
 use Rattle.dcsp_defs.specs.declared.Reason.{Reason}
 use Rattle.dcsp_defs.specs.declared.Reason.TheVariants.{Rule, Earlier}
 use Rattle.dcsp_defs.proofs.Lists.{In-left, In-right, list_any-In, In-list_any, In-filter, filter-from}
-use Rattle.ngd_log.specs.declared.entry.Entry.{Entry}
-use Rattle.ngd_log.specs.declared.entry.Entry.TheVariants.{Step as A_step, Delete}
+use Rattle.dcsp_defs.specs.declared.entry.Entry.{Entry}
+use Rattle.dcsp_defs.specs.declared.entry.Entry.TheVariants.{Step as A_step, Delete}
 use Rattle.ngd_log.specs.Entries.{steps_of}
-use Rattle.ngd_upgrade.specs.Upgrade.{is_citation, cites, last_citing, end_of, numbers, ending, as_deletion, upgraded_from}
-use Rattle.ngd_upgrade.proofs.Findings.{steps_same_as}
-use Rattle.ngd_upgrade.proofs.Numbers.{in_numbers}
+use Rattle.ngd_rewrite.specs.Upgrade.{is_citation, cites, last_citing, end_of, numbers, ending, as_deletion, upgraded_from}
+use Rattle.ngd_rewrite.proofs.Findings.{steps_same_as}
+use Rattle.ngd_rewrite.proofs.Numbers.{in_numbers}
 use Rattle.law_subjects.specs.Upgrading.{Cites, IsLastUse, deleted, DeletesAtLastUse}
 
 -- ---- the last use

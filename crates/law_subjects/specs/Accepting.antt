@@ -1,7 +1,7 @@
 -- What an accepted text denotes.
 use Rattle.std.specs.Prelude.{ℕ, ◌≤◌, List, length, Ok}
 use Rattle.dcsp_defs.specs.Csp.{IsCsp}
-use Rattle.dcsp_problem.specs.Problems.{Contents, csp_of}
+use Rattle.dcsp_rule.specs.Problems.{Contents, csp_of}
 use Rattle.dcsp_problem.specs.WellFormed.{IsProblem}
 use Rattle.fzn_model.specs.Models.{Answers, longest_text}
 

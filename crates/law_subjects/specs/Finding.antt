@@ -1,6 +1,6 @@
 -- What a check finds.
 use Rattle.dcsp_defs.specs.Csp.{Csp}
-use Rattle.ngd_log.specs.declared.entry.Entry.{Entry}
+use Rattle.dcsp_defs.specs.declared.entry.Entry.{Entry}
 use Rattle.std.specs.Prelude.{List}
 use Rattle.ngd_check.specs.declared.Finding.{Finding}
 use Rattle.ngd_check.specs.Findings.{IsFindingOf}

@@ -2,13 +2,13 @@
 use Rattle.std.specs.Prelude.{◌≡◌, ◌≢◌, ◌↔◌, ◌⊎◌, ℕ, ◌+◌, ◌-◌, ◌≤◌, ℤ, pos, negsuc, codes, replicate, Some, Bool, true, false, List, [], ◌∷◌, ◌++◌, length, map, Ok, Err, ◌==◌, ⊤}
 use Rattle.dcsp_defs.specs.Words.{In}
 use Rattle.dcsp_meaning.specs.declared.kinds.Kind.TheVariants.{BoolClause}
-use Rattle.dcsp_problem.specs.Problems.{Contents}
-use Rattle.dcsp_problem.specs.declared.aim.Aim.TheVariants.{Satisfy}
-use Rattle.dcsp_problem.specs.declared.rule.Term.{Term}
-use Rattle.dcsp_problem.specs.declared.rule.Term.TheVariants.{Var}
-use Rattle.dcsp_problem.specs.declared.rule.Members.TheVariants.{Listed}
-use Rattle.dcsp_problem.specs.declared.rule.Rule.{Rule}
-use Rattle.dcsp_problem.specs.declared.rule.Rule.TheVariants.{Plain}
+use Rattle.dcsp_rule.specs.Problems.{Contents}
+use Rattle.dcsp_rule.specs.declared.aim.Aim.TheVariants.{Satisfy}
+use Rattle.dcsp_rule.specs.declared.rule.Term.{Term}
+use Rattle.dcsp_rule.specs.declared.rule.Term.TheVariants.{Var}
+use Rattle.dcsp_rule.specs.declared.rule.Members.TheVariants.{Listed}
+use Rattle.dcsp_rule.specs.declared.rule.Rule.{Rule}
+use Rattle.dcsp_rule.specs.declared.rule.Rule.TheVariants.{Plain}
 use Rattle.dcsp_problem.specs.declared.limits.Which.{Which}
 use Rattle.cnf_front.specs.declared.header.CnfError.TheVariants.{Syntax, Limit}
 use Rattle.cnf_front.specs.declared.words.Stand.TheVariants.{Start}

@@ -3,8 +3,8 @@ use Rattle.std.specs.Prelude.{◌≡◌, ◌↔◌, ◌⊎◌, ℕ, suc, ◌-◌
 use Rattle.dcsp_gen.specs.Problems.{pairs}
 use Rattle.dcsp_defs.specs.Words.{In}
 use Rattle.dcsp_defs.specs.Csp.{Assignment, IsSolution, HasNoSolution}
-use Rattle.dcsp_problem.specs.Problems.{csp_of}
-use Rattle.law_generated_items.specs.Lines.{queens, colouring, sparse, pigeons}
+use Rattle.dcsp_rule.specs.Problems.{csp_of}
+use Rattle.law_generated.specs.Lines.{queens, colouring, sparse, pigeons}
 use Rattle.law_generated.specs.Problems.{problem_of}
 
 -- the value of the variable with this number

@@ -1,6 +1,6 @@
 -- What agents hold in a network that a run reaches.
 use Rattle.std.specs.Prelude.{◌≡◌, ℕ, ◌<◌, ℤ, List, Some}
-use Rattle.dcsp_nogood.specs.declared.Pair.{Pair}
+use Rattle.dcsp_defs.specs.declared.nogood.Pair.{Pair}
 use Rattle.dcsp_defs.specs.Words.{In}
 use Rattle.dcsp_defs.specs.Csp.{Csp, IsCsp, domain, count}
 use Rattle.dcsp_defs.specs.Derivation.{IsKnownPair}

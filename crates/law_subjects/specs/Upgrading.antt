@@ -4,10 +4,10 @@ use Rattle.dcsp_defs.specs.Words.{In}
 use Rattle.dcsp_defs.specs.Derivation.{step_at}
 use Rattle.dcsp_defs.specs.declared.Step.{Step}
 use Rattle.dcsp_defs.specs.declared.Reason.TheVariants.{Earlier}
-use Rattle.ngd_log.specs.declared.entry.Entry.{Entry}
-use Rattle.ngd_log.specs.declared.entry.Entry.TheVariants.{Step as A_step, Delete}
+use Rattle.dcsp_defs.specs.declared.entry.Entry.{Entry}
+use Rattle.dcsp_defs.specs.declared.entry.Entry.TheVariants.{Step as A_step, Delete}
 use Rattle.ngd_log.specs.Entries.{steps_of}
-use Rattle.ngd_upgrade.specs.Upgrade.{upgraded}
+use Rattle.ngd_rewrite.specs.Upgrade.{upgraded}
 
 -- the step with the first number cites the step with the second
 abbrev pub Cites : List Step → ℕ → ℕ → Type 0

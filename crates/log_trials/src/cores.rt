@@ -3,8 +3,8 @@
 use crate::given::{add_between, add_variable, derivation_of, let_go, let_steps_go, smallest};
 use dcsp_problem::{Kind, Problem, ProblemBuilder};
 use ngd_check::{Finding, check};
-use ngd_core::{Core, core_of};
 use ngd_log::{Derivation, Step};
+use ngd_rewrite::{Core, core_of};
 use std::alloc::Global;
 use std::process::Abort;
 

@@ -4,7 +4,7 @@ ghost use Rattle.std.specs.Prelude.{◌≤◌, IfOk, All, length};
 ghost use Rattle.cnf_front.specs.Clauses.{IsClauseRule};
 
 use cnf_front::{CnfError, cnf_of, formula_of, write_clause};
-use dcsp_nogood::{Nogood, Pair};
+use dcsp_defs::{Nogood, Pair};
 use dcsp_problem::{Problem, Which};
 use rup_check::{ClauseList, Rup, check_rup, read_proof};
 use std::alloc::Global;

@@ -3,7 +3,7 @@
 ghost use Rattle.std.specs.Prelude.{◌≡◌, ◌≤◌, ◌+◌, ◌^◌, length, IfOk, Option, Some};
 ghost use Rattle.ngd_log.specs.StepText.{IsStepNumber, IsInRange};
 
-use dcsp_nogood::{Nogood, Pair};
+use dcsp_defs::{Nogood, Pair};
 use ngd_log::{
     Derivation, Entries, Entry, HEAD, HEAD2, LogError, LogReader, Reason, ReasonList, Step, TAIL,
     read_log, write_deletion, write_step,

@@ -1,7 +1,7 @@
 //! Derivations as entries, with deletions.
 
 use ngd_log::{Entries, Entry, read_log};
-use ngd_upgrade::{Endings, upgraded};
+use ngd_rewrite::{Endings, upgraded};
 use std::alloc::Global;
 use std::process::Abort;
 

@@ -1,6 +1,6 @@
 //! A list that grows.
 
-use dcsp_list::ItemList;
+use dcsp_common::ItemList;
 use std::test::Fail;
 
 #[test]

@@ -1,6 +1,6 @@
 //! Nogoods of pairs, and their merges.
 
-use dcsp_nogood::{MergeError, Nogood, NogoodError, Pair};
+use dcsp_defs::{MergeError, Nogood, NogoodError, Pair};
 use std::alloc::Global;
 use std::process::Abort;
 

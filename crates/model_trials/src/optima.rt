@@ -1,7 +1,7 @@
 //! Searches, told round by round.
 
 ghost use Rattle.std.specs.Prelude.{◌≡◌, ℕ, ℤ, pos, [], ◌∷◌};
-ghost use Rattle.dcsp_problem.specs.Rules.{IsAimOf};
+ghost use Rattle.dcsp_rule.specs.Rules.{IsAimOf};
 
 use crate::problems::let_go;
 use abt_optimum::{Best, BestEnd, IntList, RoundEnd, Search};

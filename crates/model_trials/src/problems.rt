@@ -2,7 +2,7 @@
 
 ghost use Rattle.std.specs.Prelude.{◌≡◌, ◌+◌, pos, negsuc, All, IsTrue, [], ◌∷◌, length};
 ghost use Rattle.dcsp_meaning.specs.Table.{is_shape};
-ghost use Rattle.dcsp_problem.specs.Rules.{IsTermOf, has_shape, terms_of};
+ghost use Rattle.dcsp_rule.specs.Rules.{IsTermOf, has_shape, terms_of};
 
 use dcsp_problem::{
     Aim, BuildError, Domain, IntList, Kind, Lookup, Members, NameText, Output, Problem,

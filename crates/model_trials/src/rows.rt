@@ -1,11 +1,11 @@
 //! Worked rows over a variable with the values from 0 to 70.
 
 ghost use Rattle.std.specs.Prelude.{◌≡◌, None, Some, [], ◌∷◌, pos, All, IsTrue};
-ghost use Rattle.dcsp_problem.specs.Rules.{IsTermOf, has_shape, terms_of};
+ghost use Rattle.dcsp_rule.specs.Rules.{IsTermOf, has_shape, terms_of};
 ghost use Rattle.dcsp_row.specs.Marks.{FitsSize};
 
 use crate::problems::let_go;
-use dcsp_linear::Rel;
+use dcsp_meaning::Rel;
 use dcsp_problem::{
     Domain, IntList, Kind, Lookup, Members, Problem, ProblemBuilder, Rule, Term, TermList,
 };

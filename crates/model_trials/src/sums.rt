@@ -1,9 +1,9 @@
 //! Sums in each relation, and their widths.
 
 ghost use Rattle.std.specs.Prelude.{◌≤◌};
-ghost use Rattle.dcsp_linear.specs.Sums.{sizes_of};
+ghost use Rattle.dcsp_meaning.specs.Sums.{sizes_of};
 
-use dcsp_linear::{Rel, WIDEST, Weighted, sum_holds, width};
+use dcsp_meaning::{Rel, WIDEST, Weighted, sum_holds, width};
 
 /// Terms that stand in a list.
 #[derive(Drop)]

@@ -1,7 +1,7 @@
 //! Small problems.
 
 ghost use Rattle.std.specs.Prelude.{◌≡◌, ◌<◌, ◌+◌, ◌∷◌, [], length, IsTrue};
-ghost use Rattle.dcsp_problem.specs.Rules.{has_shape};
+ghost use Rattle.dcsp_rule.specs.Rules.{has_shape};
 
 use dcsp_problem::{Domain, IntList, Kind, Members, Problem, ProblemBuilder, Rule, Term, TermList};
 use std::alloc::Global;

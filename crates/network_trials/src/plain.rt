@@ -4,8 +4,8 @@ ghost use Rattle.std.specs.Prelude.{◌≡◌, length};
 
 use crate::seats::{Letter, Seat};
 use abt_agent::{Step, Turn};
-use abt_message::{Message, Outbox, Sent};
 use abt_network::Cargo;
+use abt_parts::{Message, Outbox, Sent};
 use dcsp_problem::Problem;
 use std::alloc::Global;
 use std::process::Abort;

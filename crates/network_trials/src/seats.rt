@@ -2,16 +2,16 @@
 
 ghost use Rattle.std.specs.Prelude.{◌≡◌, ◌-◌, ◌<◌, Some, length, slice_get, true};
 ghost use Rattle.std.specs.Option.{option_map};
-ghost use Rattle.dcsp_nogood.specs.declared.Pair.{Pair as ThePair};
+ghost use Rattle.dcsp_defs.specs.declared.nogood.Pair.{Pair as ThePair};
 ghost use Rattle.dcsp_defs.specs.Words.{In};
 ghost use Rattle.dcsp_defs.specs.Csp.{domain};
-ghost use Rattle.dcsp_problem.specs.Problems.{csp_of};
+ghost use Rattle.dcsp_rule.specs.Problems.{csp_of};
 ghost use Rattle.abt_agent.specs.Outgoing.{ArePositive};
 ghost use Rattle.abt_agent.specs.States.{IsFit, IsNogoodFor, IsToldBy};
 
 use abt_agent::{Agent, Turn};
-use abt_message::{Message, Outbox};
-use dcsp_nogood::Pair;
+use abt_parts::{Message, Outbox};
+use dcsp_defs::Pair;
 use dcsp_problem::Problem;
 use std::alloc::Global;
 use std::process::Abort;

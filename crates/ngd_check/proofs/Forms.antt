@@ -4,8 +4,8 @@ use Rattle.dcsp_defs.specs.declared.Step.{Step}
 use Rattle.dcsp_defs.specs.Csp.{Csp}
 use Rattle.dcsp_defs.specs.Derivation.{IsRight, IsDerivation, EndsEmpty}
 use Rattle.dcsp_defs.proofs.Sound.{nogoods_exclude, refutations_refute}
-use Rattle.ngd_log.specs.declared.entry.Entry.{Entry}
-use Rattle.ngd_log.specs.declared.entry.Entry.TheVariants.{Step as A_step, Delete}
+use Rattle.dcsp_defs.specs.declared.entry.Entry.{Entry}
+use Rattle.dcsp_defs.specs.declared.entry.Entry.TheVariants.{Step as A_step, Delete}
 use Rattle.ngd_check.specs.Citing.{IsRightCiting, nogood_at}
 use Rattle.ngd_check.specs.Entries.{steps_of, is_deleted, cited_after, IsRightEntry, AreRight, entries_of, EntriesExclude, EntriesRefute, AreOneForm}
 use Rattle.ngd_check.proofs.Citing.{CitesAll, right_more, right_to, right_from}

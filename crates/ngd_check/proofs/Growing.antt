@@ -7,8 +7,8 @@ use Rattle.dcsp_defs.specs.declared.Step.{Step}
 use Rattle.dcsp_defs.specs.Csp.{Csp, Nogood}
 use Rattle.dcsp_defs.specs.Derivation.{EndsEmpty}
 use Rattle.dcsp_defs.proofs.Lists.{get-more, get-last}
-use Rattle.ngd_log.specs.declared.entry.Entry.{Entry}
-use Rattle.ngd_log.specs.declared.entry.Entry.TheVariants.{Step as A_step, Delete}
+use Rattle.dcsp_defs.specs.declared.entry.Entry.{Entry}
+use Rattle.dcsp_defs.specs.declared.entry.Entry.TheVariants.{Step as A_step, Delete}
 use Rattle.ngd_check.specs.Citing.{nogood_at}
 use Rattle.ngd_check.specs.Entries.{steps_of, is_deleted, cited_after, IsRightEntry, AreRight}
 use Rattle.ngd_check.specs.Progress.{kept_at}

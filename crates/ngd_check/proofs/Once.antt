@@ -5,8 +5,8 @@ use Rattle.dcsp_defs.specs.Csp.{Csp}
 use Rattle.dcsp_defs.specs.Derivation.{IsRight, IsDerivation}
 use Rattle.ngd_check.specs.declared.Finding.{Finding}
 use Rattle.ngd_check.specs.declared.Finding.TheVariants.{Verified, BadStep, BadDeletion, NotEmpty}
-use Rattle.ngd_log.specs.declared.entry.Entry.{Entry}
-use Rattle.ngd_log.specs.declared.entry.Entry.TheVariants.{Step as A_step, Delete}
+use Rattle.dcsp_defs.specs.declared.entry.Entry.{Entry}
+use Rattle.dcsp_defs.specs.declared.entry.Entry.TheVariants.{Step as A_step, Delete}
 use Rattle.ngd_check.specs.Entries.{steps_of, IsRightEntry, AreRight}
 use Rattle.ngd_check.specs.Findings.{IsFirstWrong, IsFinding, IsFirstWrongEntry, IsFirstWrongStep, IsFirstWrongDeletion, IsFindingOf}
 

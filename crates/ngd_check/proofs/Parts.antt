@@ -4,14 +4,14 @@ use Rattle.std.specs.Ordering.{int_eq}
 use Rattle.std.proofs.lemmas.Bool.Decides.{Decides-int_eq, eqb_tells}
 use Rattle.std.specs.List.{list_all}
 use Rattle.std.proofs.lemmas.List.{length-map}
-use Rattle.dcsp_nogood.specs.declared.Pair.{Pair}
-use Rattle.dcsp_nogood.specs.Pairs.{value_at}
+use Rattle.dcsp_defs.specs.declared.nogood.Pair.{Pair}
+use Rattle.dcsp_defs.specs.Pairs.{value_at}
 use Rattle.dcsp_domain.specs.Sets.{has}
 use Rattle.dcsp_defs.specs.Words.{In}
 use Rattle.dcsp_defs.specs.Csp.{Csp, Constraint, PartialAssignment, is_violated, with_value, domain}
 use Rattle.dcsp_defs.specs.Derivation.{IsKnownPair, IsFalseAlone, IsFalseRule}
 use Rattle.dcsp_defs.proofs.Lists.{In-list_any, list_any-In}
-use Rattle.dcsp_problem.specs.Problems.{Contents, csp_of, constraint_of, AreInDomains}
+use Rattle.dcsp_rule.specs.Problems.{Contents, csp_of, constraint_of, AreInDomains}
 
 pub within : {X : Type 0} (xs : List X) (n : ℕ) (x : X) → slice_get xs n ≡ Some x → n < length xs
 within [] n x h = absurd cc

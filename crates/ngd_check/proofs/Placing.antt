@@ -3,8 +3,8 @@ use Rattle.std.proofs.Common.{◌≡◌, ℕ, ◌+◌, ◌<◌, ℤ, pos, List, 
 use Rattle.std.proofs.lemmas.List.{take_more, map-append}
 use Rattle.std.proofs.lemmas.List.Elements.{All-append, All-cons, All-nil}
 use Rattle.std.proofs.lemmas.Option.{slice_get-get_or, get_or_from_slice_get}
-use Rattle.dcsp_nogood.specs.declared.Pair.{Pair}
-use Rattle.dcsp_nogood.specs.Pairs.{no_pair}
+use Rattle.dcsp_defs.specs.declared.nogood.Pair.{Pair}
+use Rattle.dcsp_defs.specs.Pairs.{no_pair}
 use Rattle.dcsp_defs.specs.Words.{In}
 use Rattle.dcsp_defs.specs.Csp.{Csp, Nogood, domain, count}
 use Rattle.dcsp_defs.specs.Derivation.{IsKnownPair}

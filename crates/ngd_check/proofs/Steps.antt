@@ -4,12 +4,12 @@ use Rattle.std.specs.List.{list_any}
 use Rattle.std.proofs.lemmas.Bool.Decides.{eqb_tells}
 use Rattle.dcsp_defs.specs.declared.Step.{Step}
 use Rattle.dcsp_defs.specs.Csp.{Nogood, IsCsp, HasNoSolution}
-use Rattle.dcsp_problem.specs.Problems.{csp_of}
-use Rattle.ngd_log.specs.declared.lent.Lent.{Lent}
-use Rattle.ngd_log.specs.declared.lent.Lent.TheVariants as lents
+use Rattle.dcsp_rule.specs.Problems.{csp_of}
+use Rattle.dcsp_defs.specs.declared.lent.Lent.{Lent}
+use Rattle.dcsp_defs.specs.declared.lent.Lent.TheVariants as lents
 use Rattle.ngd_log.specs.Lent.{lent_entries}
-use Rattle.ngd_log.specs.declared.entry.Entry.{Entry}
-use Rattle.ngd_log.specs.declared.entry.Entry.TheVariants.{Step as A_step, Delete}
+use Rattle.dcsp_defs.specs.declared.entry.Entry.{Entry}
+use Rattle.dcsp_defs.specs.declared.entry.Entry.TheVariants.{Step as A_step, Delete}
 use Rattle.ngd_check.specs.declared.Finding.{Finding}
 use Rattle.ngd_check.specs.Citing.{IsRightCiting}
 use Rattle.ngd_check.specs.Findings.{IsFirstWrongStep, IsFirstWrongDeletion}

@@ -6,8 +6,8 @@ use native.Mathlib.Decide.{dec_lt}
 use Rattle.dcsp_defs.specs.declared.Step.{Step}
 use Rattle.dcsp_defs.specs.Csp.{Csp, Nogood}
 use Rattle.dcsp_defs.proofs.Lists.{get-last, or_cases, In-list_any}
-use Rattle.ngd_log.specs.declared.entry.Entry.{Entry}
-use Rattle.ngd_log.specs.declared.entry.Entry.TheVariants.{Step as A_step, Delete}
+use Rattle.dcsp_defs.specs.declared.entry.Entry.{Entry}
+use Rattle.dcsp_defs.specs.declared.entry.Entry.TheVariants.{Step as A_step, Delete}
 use Rattle.ngd_check.specs.declared.Finding.{Finding}
 use Rattle.ngd_check.specs.declared.Finding.TheVariants.{Verified, BadStep, BadDeletion, NotEmpty}
 use Rattle.ngd_check.specs.Citing.{IsRightCiting}

@@ -5,8 +5,8 @@ use Rattle.dcsp_defs.specs.declared.Step.{Step}
 use Rattle.dcsp_defs.specs.Words.{In}
 use Rattle.dcsp_defs.specs.Csp.{Csp, Assignment, IsCsp, IsSolution, HasNoSolution, Extends}
 use Rattle.dcsp_defs.specs.Derivation.{step_at, EndsEmpty, IsDerivation, IsRefutation}
-use Rattle.ngd_log.specs.declared.entry.Entry.{Entry}
-use Rattle.ngd_log.specs.declared.entry.Entry.TheVariants.{Step as A_step, Delete}
+use Rattle.dcsp_defs.specs.declared.entry.Entry.{Entry}
+use Rattle.dcsp_defs.specs.declared.entry.Entry.TheVariants.{Step as A_step, Delete}
 pub use Rattle.ngd_log.specs.Entries.{steps_of, entries_of}
 use Rattle.ngd_check.specs.Citing.{Cited, IsRightCiting, nogood_at}
 

@@ -1,9 +1,9 @@
 -- Pairs as variables and places in their domains.
 use Rattle.std.specs.Prelude.{◌≡◌, ℕ, zero, suc, ◌<◌, ◌≤◌, pos, List, map, length, Option, Some, None, All, slice_index_or}
 use Rattle.std.specs.Option.{option_map}
-use Rattle.dcsp_nogood.specs.declared.Pair.{Pair}
+use Rattle.dcsp_defs.specs.declared.nogood.Pair.{Pair}
 use Rattle.dcsp_defs.specs.Csp.{Csp, Nogood, domain, count}
-use Rattle.dcsp_problem.specs.Problems.{Contents}
+use Rattle.dcsp_rule.specs.Problems.{Contents}
 use Rattle.ngd_check.specs.declared.arena.Placed.{Placed}
 use Rattle.ngd_check.specs.declared.arena.TheConstants.{NO_VAR}
 

@@ -2,8 +2,8 @@
 use Rattle.std.specs.Prelude.{◌≡◌, ◌↔◌, ◌≤◌, ℕ, zero, suc, ℤ, Bool, true, List, length, slice_index_or, Option, None, MatchOption}
 use Rattle.dcsp_defs.specs.Csp.{Csp, IsCsp, Nogood}
 use Rattle.dcsp_defs.specs.Derivation.{EndsEmpty}
-use Rattle.dcsp_problem.specs.Problems.{Contents, csp_of}
-use Rattle.ngd_log.specs.declared.entry.Entry.{Entry}
+use Rattle.dcsp_rule.specs.Problems.{Contents, csp_of}
+use Rattle.dcsp_defs.specs.declared.entry.Entry.{Entry}
 use Rattle.ngd_check.specs.declared.Finding.{Finding}
 use Rattle.ngd_check.specs.declared.Finding.TheVariants.{Verified, BadStep, BadDeletion, NotEmpty}
 use Rattle.ngd_check.specs.Citing.{Cited}

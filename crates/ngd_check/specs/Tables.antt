@@ -1,6 +1,6 @@
 -- Tables of values by variable.
 use Rattle.std.specs.Prelude.{◌≡◌, ℕ, ℤ, List, Option, None, slice_index_or}
-use Rattle.dcsp_nogood.specs.Pairs.{value_at}
+use Rattle.dcsp_defs.specs.Pairs.{value_at}
 use Rattle.dcsp_defs.specs.Csp.{Nogood}
 
 -- no variable has a value

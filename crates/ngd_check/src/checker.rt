@@ -2,9 +2,9 @@
 
 ghost use Rattle.std.specs.Prelude.{◌≡◌, ◌↔◌, IsTrue, IfOk, [], ◌∷◌, ◌++◌, None, Some, List, OnOk, OnErr};
 ghost use Rattle.dcsp_defs.specs.Csp.{HasNoSolution};
-ghost use Rattle.dcsp_problem.specs.Problems.{csp_of};
-ghost use Rattle.ngd_log.specs.declared.entry.Entry.{Entry};
-ghost use Rattle.ngd_log.specs.declared.entry.Entry.TheVariants.{Step as A_step, Delete};
+ghost use Rattle.dcsp_rule.specs.Problems.{csp_of};
+ghost use Rattle.dcsp_defs.specs.declared.entry.Entry.{Entry};
+ghost use Rattle.dcsp_defs.specs.declared.entry.Entry.TheVariants.{Step as A_step, Delete};
 ghost use Rattle.ngd_log.specs.Lent.{lent_entries};
 ghost use Rattle.ngd_check.specs.Findings.{IsFindingOf};
 ghost use Rattle.ngd_check.specs.Citing.{IsRightCiting};
@@ -18,7 +18,7 @@ use crate::kept::Kept;
 use crate::places::place_each;
 use crate::present::Present;
 use crate::step::is_right_by;
-use dcsp_list::Memory;
+use dcsp_common::Memory;
 use dcsp_problem::Problem;
 use ngd_log::{Lent, LentStep};
 use std::alloc::Global;

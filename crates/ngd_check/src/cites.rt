@@ -1,7 +1,7 @@
 //! The nogoods that a step's reasons may cite.
 
 ghost use Rattle.std.specs.Prelude.{◌≡◌, ◌↔◌, ◌++◌, ◌∷◌, [], ◌<◌, ◌≤◌, ℕ, None, Some, Option, List, IsTrue, OnOk, OnErr, length, is_some, slice_get};
-ghost use Rattle.dcsp_nogood.specs.declared.Pair.{Pair};
+ghost use Rattle.dcsp_defs.specs.declared.nogood.Pair.{Pair};
 ghost use Rattle.dcsp_defs.specs.Csp.{with_value};
 ghost use Rattle.ngd_check.specs.Citing.{AgreesWith, nogood_at};
 

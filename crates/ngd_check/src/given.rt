@@ -1,14 +1,14 @@
 //! The values that a step has at hand.
 
 ghost use Rattle.std.specs.Prelude.{◌≡◌, None, All};
-ghost use Rattle.dcsp_nogood.specs.Pairs.{value_at};
+ghost use Rattle.dcsp_defs.specs.Pairs.{value_at};
 ghost use Rattle.dcsp_defs.specs.Csp.{with_value, agrees};
-ghost use Rattle.dcsp_problem.specs.Problems.{csp_of};
+ghost use Rattle.dcsp_rule.specs.Problems.{csp_of};
 ghost use Rattle.ngd_check.specs.Places.{IsPlaced, pairs_of};
 
 use crate::arena::Placed;
 use crate::places::pair_at;
-use dcsp_nogood::{Nogood, Pair};
+use dcsp_defs::{Nogood, Pair};
 use dcsp_problem::{Lookup, Problem};
 
 /// Values that are known, with a value of a further variable.

@@ -3,7 +3,7 @@
 ghost use Rattle.std.specs.Prelude.{◌≡◌, ◌↔◌, ◌++◌, ◌∷◌, [], ◌<◌, ◌≤◌, ◌^◌, ℕ, None, Some, Option, List, IsTrue, OnOk, OnErr, length, is_some, All, true, if◌then◌else◌, ◌==◌};
 ghost use Rattle.std.specs.List.{list_any};
 ghost use Rattle.dcsp_defs.specs.Csp.{with_value};
-ghost use Rattle.dcsp_problem.specs.Problems.{csp_of};
+ghost use Rattle.dcsp_rule.specs.Problems.{csp_of};
 ghost use Rattle.ngd_check.specs.Citing.{AgreesWith};
 ghost use Rattle.ngd_check.specs.Places.{IsPlaced, IsNumber, pairs_of, list_at};
 ghost use Rattle.ngd_check.specs.Progress.{kept_at};
@@ -11,7 +11,7 @@ ghost use Rattle.ngd_check.specs.Progress.{kept_at};
 use crate::arena::{Arena, Placed};
 use crate::cites::Cites;
 use crate::given::Given;
-use dcsp_list::Memory;
+use dcsp_common::Memory;
 use dcsp_problem::{Lookup, Problem};
 use std::alloc::Global;
 use std::marker::Model;
@@ -24,7 +24,7 @@ pub struct Kept<'p> {
 }
 
 impl<'p> Model for Kept<'p> {
-    ghost use Rattle.dcsp_problem.specs.Problems.{csp_of};
+    ghost use Rattle.dcsp_rule.specs.Problems.{csp_of};
     ghost use Rattle.ngd_check.specs.Places.{KeptFor, nogoods_of, AreLists};
 
     ghost Value = { KeptFor };

@@ -15,10 +15,10 @@ ghost use Rattle.std.specs.Prelude.{◌≡◌, ◌↔◌, IsTrue, List};
 ghost use Rattle.dcsp_defs.specs.declared.Step.{Step};
 ghost use Rattle.dcsp_defs.specs.Derivation.{EndsEmpty};
 ghost use Rattle.dcsp_defs.specs.Csp.{Csp, IsCsp, HasNoSolution};
-ghost use Rattle.dcsp_problem.specs.Problems.{csp_of};
+ghost use Rattle.dcsp_rule.specs.Problems.{csp_of};
 ghost use Rattle.ngd_check.specs.Findings.{IsFinding, IsFindingOf, IsFoundAlike};
 ghost use Rattle.ngd_check.specs.Entries.{EntriesExclude, EntriesRefute, AreOneForm};
-ghost use Rattle.ngd_log.specs.declared.entry.Entry.{Entry};
+ghost use Rattle.dcsp_defs.specs.declared.entry.Entry.{Entry};
 
 pub use checker::Checker;
 use cites::NogoodsOf;

@@ -2,12 +2,12 @@
 
 ghost use Rattle.std.specs.Prelude.{◌≡◌, ◌↔◌, ◌++◌, ◌∷◌, [], OnOk, IfOk, IfSome, IsNone, IsTrue, All};
 ghost use Rattle.dcsp_defs.specs.Derivation.{IsKnownPair};
-ghost use Rattle.dcsp_problem.specs.Problems.{csp_of};
+ghost use Rattle.dcsp_rule.specs.Problems.{csp_of};
 ghost use Rattle.ngd_check.specs.Places.{ArePlaced, IsPlaced, IsPlacedAt, pair_of};
 
 use crate::arena::Placed;
-use dcsp_list::Memory;
-use dcsp_nogood::Pair;
+use dcsp_common::Memory;
+use dcsp_defs::Pair;
 use dcsp_problem::Problem;
 
 /// Finds the place of each pair's value in the domain of its variable, and tells whether each pair has one.

@@ -1,11 +1,11 @@
 //! The values of one nogood, by variable.
 
 ghost use Rattle.std.specs.Prelude.{◌≡◌, ◌≤◌, ◌<◌, ℕ, None, [], OnOk, OnErr, All, length, slice_index_or};
-ghost use Rattle.dcsp_nogood.specs.Pairs.{value_at};
+ghost use Rattle.dcsp_defs.specs.Pairs.{value_at};
 ghost use Rattle.ngd_check.specs.Tables.{IsClear, Gives};
 
-use dcsp_list::Memory;
-use dcsp_nogood::Pair;
+use dcsp_common::Memory;
+use dcsp_defs::Pair;
 use dcsp_problem::Lookup;
 use std::alloc::Global;
 use std::marker::Model;

@@ -2,20 +2,20 @@
 
 ghost use Rattle.std.specs.Prelude.{All, ◌≡◌, ◌<◌, ◌≤◌, ◌↔◌, ℕ, ℤ, length, IsTrue, IfOk, Some, slice_get};
 ghost use Rattle.std.specs.List.{AllZip};
-ghost use Rattle.dcsp_nogood.specs.declared.Pair.{Pair};
-ghost use Rattle.dcsp_nogood.specs.Pairs.{value_at};
+ghost use Rattle.dcsp_defs.specs.declared.nogood.Pair.{Pair};
+ghost use Rattle.dcsp_defs.specs.Pairs.{value_at};
 ghost use Rattle.dcsp_defs.specs.Words.{In};
 ghost use Rattle.dcsp_defs.specs.Csp.{domain, with_value};
 ghost use Rattle.dcsp_defs.specs.Derivation.{IsKnownPair, IsFalseAlone, IsRightNowhere};
-ghost use Rattle.dcsp_problem.specs.Problems.{csp_of, AreInDomains};
+ghost use Rattle.dcsp_rule.specs.Problems.{csp_of, AreInDomains};
 ghost use Rattle.ngd_check.specs.Tables.{IsClear};
 ghost use Rattle.ngd_check.specs.Citing.{IsReasonUnder, IsRightAtCiting, IsRightCiting};
 
 use crate::cites::Cites;
 use crate::given::{Given, Nothing, Searched};
 use crate::present::Present;
-use dcsp_list::Memory;
-use dcsp_nogood::Pair;
+use dcsp_common::Memory;
+use dcsp_defs::Pair;
 use dcsp_problem::{Lookup, Problem};
 use ngd_log::{LentStep, Reason, Step};
 

@@ -5,9 +5,9 @@ use Rattle.std.specs.Char.{is_ascii_digit}
 use Rattle.std.specs.Cmp.Lexicographic.{pointwise}
 use Rattle.std.proofs.lemmas.Bool.{false≢true, eqb-true, eq-eqb, ne_eqb}
 use denote.Ref.{Bor}
-use Rattle.dcsp_number.proofs.Chosen.{chosen, some_is}
-use Rattle.dcsp_number.proofs.Numbers.{BeginsWithDigit}
-use Rattle.dcsp_number.specs.Reading.{Reads}
+use Rattle.dcsp_common.proofs.Chosen.{chosen, some_is}
+use Rattle.dcsp_common.proofs.Decimals.{BeginsWithDigit}
+use Rattle.dcsp_common.specs.Reading.{Reads}
 use Rattle.ngd_log.specs.Reading.{after}
 
 -- as a test of the front

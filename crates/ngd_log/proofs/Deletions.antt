@@ -11,7 +11,7 @@ use Rattle.ngd_log.specs.EntryTexts.{deletion_line}
 use Rattle.ngd_log.specs.EntryReading.{numbers_at, rises_after, has_number, deletion_at}
 use Rattle.ngd_log.specs.Reading.{after, step_number_at, is_line_feed}
 use Rattle.ngd_log.specs.Lines.{IsLine}
-use Rattle.dcsp_number.proofs.Chosen.{passed, bind_then}
+use Rattle.dcsp_common.proofs.Chosen.{passed, bind_then}
 use Rattle.ngd_log.proofs.AfterPrefix.{after_other}
 use Rattle.ngd_log.proofs.Fields.{step_number_takes, step_number_again}
 use Rattle.ngd_log.proofs.ItemLaws.{items_text, items_takes, items_again, fewer}

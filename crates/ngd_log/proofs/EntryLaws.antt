@@ -1,7 +1,7 @@
 -- Each text is that of entries or has one first bad line, and different texts differ.
 use Rattle.std.proofs.Common.{◌≡◌, ℕ, ◌⊎◌, List, [], ◌∷◌, ◌++◌, inl, inr, refl, sym, ap, subst, ◌∙◌, append_assoc}
 use Rattle.std.proofs.lemmas.List.{append-nil}
-use Rattle.ngd_log.specs.declared.entry.Entry.{Entry}
+use Rattle.dcsp_defs.specs.declared.entry.Entry.{Entry}
 use Rattle.ngd_log.specs.declared.standing.Version.{Version}
 use Rattle.ngd_log.specs.Lines.{lines}
 use Rattle.ngd_log.specs.EntryTexts.{entry_line, next_number, entry_lines, entries_text, text_lines, IsLogOfEntries, AreTextLines, IsFirstBadLine, EntriesOrBadLine, TextsDiffer}

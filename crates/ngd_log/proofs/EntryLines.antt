@@ -7,8 +7,8 @@ use Rattle.std.proofs.lemmas.List.{append-nil, length_push}
 use Rattle.std.proofs.lemmas.List.Folds.{concat-append}
 use Rattle.std.proofs.lemmas.Slice.Eq.{bytes_eq-Decides}
 use Rattle.dcsp_defs.specs.declared.Step.{Step}
-use Rattle.ngd_log.specs.declared.entry.Entry.{Entry}
-use Rattle.ngd_log.specs.declared.entry.Entry.TheVariants.{Step as A_step, Delete}
+use Rattle.dcsp_defs.specs.declared.entry.Entry.{Entry}
+use Rattle.dcsp_defs.specs.declared.entry.Entry.TheVariants.{Step as A_step, Delete}
 use Rattle.ngd_log.specs.declared.standing.Version.{Version}
 use Rattle.ngd_log.specs.declared.standing.Version.TheVariants.{One, Two}
 use Rattle.ngd_log.specs.StepText.{step_line, IsStepNumber, IsWritable, IsStepLine}
@@ -17,9 +17,9 @@ use Rattle.ngd_log.specs.Entries.{steps_of}
 use Rattle.ngd_log.specs.EntryTexts.{deletion_line, entry_line, next_number, entry_lines, head, entries_text, text_lines, IsNumbered, IsEntryLine, IsWritableEntry, HaveText, IsTextOf}
 use Rattle.ngd_log.specs.EntryReading.{step_entry, either_entry, entry_of, deletion_at, version_of}
 use Rattle.ngd_log.specs.Reading.{after, step_of}
-use Rattle.dcsp_number.proofs.Chosen.{bind_then, some_is}
+use Rattle.dcsp_common.proofs.Chosen.{bind_then, some_is}
 use Rattle.ngd_log.proofs.AfterPrefix.{after_takes, after_again, after_no_digit}
-use Rattle.dcsp_number.proofs.Numbers.{begins_decimal}
+use Rattle.dcsp_common.proofs.Decimals.{begins_decimal}
 use Rattle.ngd_log.proofs.Each.{each_push, each_append}
 use Rattle.ngd_log.proofs.ItemLaws.{items_text}
 use Rattle.ngd_log.proofs.LineLaws.{rest_text, step_line_is, step_takes, step_again}

@@ -5,15 +5,15 @@ use Rattle.std.specs.Int.{w64}
 use Rattle.std.specs.Fmt.{signed_decimal}
 use Rattle.std.proofs.lemmas.Bool.{eqb-true, ltb-true, lt-ltb, leb-true, le-leb}
 use Rattle.dcsp_defs.proofs.Lists.{and_left, and_right}
-use Rattle.dcsp_nogood.specs.declared.Pair.{Pair}
+use Rattle.dcsp_defs.specs.declared.nogood.Pair.{Pair}
 use Rattle.dcsp_defs.specs.declared.Reason.{Reason}
 use Rattle.dcsp_defs.specs.declared.Reason.TheVariants.{Rule, Earlier}
 use Rattle.ngd_log.specs.StepText.{pair_text, reason_text, IsVariable, IsStepNumber, IsReasonInRange}
-use Rattle.dcsp_number.specs.Reading.{◌>>=◌, begins_with_digit, number_at}
+use Rattle.dcsp_common.specs.Reading.{◌>>=◌, begins_with_digit, number_at}
 use Rattle.ngd_log.specs.Reading.{after, negative, plain, signed_at, integer_at, counted_at, step_number_at, pair_at, reason_at}
-use Rattle.dcsp_number.proofs.Chosen.{chosen, passed, bind_then, some_is}
+use Rattle.dcsp_common.proofs.Chosen.{chosen, passed, bind_then, some_is}
 use Rattle.ngd_log.proofs.AfterPrefix.{after_takes, after_again, after_no_digit}
-use Rattle.dcsp_number.proofs.Numbers.{number_takes, number_again, begins_decimal}
+use Rattle.dcsp_common.proofs.Decimals.{number_takes, number_again, begins_decimal}
 
 -- what reading a field took: this text, and a value for which P holds
 pub record Took (bytes text rest : List ℕ) (P : Type 0) : Type 0 where

@@ -1,7 +1,7 @@
 -- The entries of the good lines of a text.
 use Rattle.std.proofs.Common.{◌≡◌, ℕ, ◌+◌, ◌⊎◌, List, [], ◌∷◌, ◌++◌, length, Option, Some, None, inl, inr, refl, sym, ap, subst, ◌∙◌, append_assoc, arith}
 use Rattle.std.proofs.lemmas.List.{append-nil}
-use Rattle.ngd_log.specs.declared.entry.Entry.{Entry}
+use Rattle.dcsp_defs.specs.declared.entry.Entry.{Entry}
 use Rattle.ngd_log.specs.declared.standing.Version.{Version}
 use Rattle.ngd_log.specs.Lines.{lines, HasNoLineFeed, IsLine}
 use Rattle.ngd_log.specs.Entries.{steps_of}

@@ -4,12 +4,12 @@ use Rattle.std.specs.Prelude.{codes, flat_map}
 use Rattle.std.specs.List.{AllByRecursion}
 use Rattle.std.specs.Char.{is_ascii_digit}
 use Rattle.std.proofs.lemmas.List.{length-append}
-use Rattle.dcsp_nogood.specs.declared.Pair.{Pair}
+use Rattle.dcsp_defs.specs.declared.nogood.Pair.{Pair}
 use Rattle.dcsp_defs.specs.declared.Reason.{Reason}
 use Rattle.ngd_log.specs.StepText.{pair_text, pairs_text, reason_text, reasons_text, IsReasonInRange}
-use Rattle.dcsp_number.specs.Reading.{◌>>=◌, begins_with_digit}
+use Rattle.dcsp_common.specs.Reading.{◌>>=◌, begins_with_digit}
 use Rattle.ngd_log.specs.Reading.{after, if_next, items_at, pair_at, pairs_from, pairs_before, pairs_at, reason_at, reasons_at}
-use Rattle.dcsp_number.proofs.Chosen.{bind_then, some_is}
+use Rattle.dcsp_common.proofs.Chosen.{bind_then, some_is}
 use Rattle.ngd_log.proofs.AfterPrefix.{after_takes, after_again}
 use Rattle.ngd_log.proofs.Fields.{Took, IsPair, pair_takes, pair_again, reason_takes, reason_again}
 

@@ -1,7 +1,7 @@
 -- Reading items behind separators, one after the other, as a loop does.
 use Rattle.std.proofs.Common.{◌≡◌, ℕ, zero, suc, List, [], ◌∷◌, ◌++◌, Option, Some, None, refl, sym, ap, ◌∙◌, append_assoc}
 use Rattle.std.proofs.lemmas.List.{append-nil}
-use Rattle.dcsp_number.specs.Reading.{◌>>=◌}
+use Rattle.dcsp_common.specs.Reading.{◌>>=◌}
 use Rattle.ngd_log.specs.Reading.{after, items_at}
 
 -- the items that were read before, and those that are still read

@@ -9,16 +9,16 @@ use Rattle.std.specs.Fmt.{signed_decimal}
 use Rattle.std.proofs.lemmas.Bool.{false≢true, ne_eqb}
 use Rattle.std.proofs.lemmas.List.{take_more, take-append-drop}
 use Rattle.dcsp_defs.proofs.Lists.{and_left, and_right}
-use Rattle.dcsp_nogood.specs.declared.Pair.{Pair}
+use Rattle.dcsp_defs.specs.declared.nogood.Pair.{Pair}
 use Rattle.dcsp_defs.specs.declared.Reason.{Reason}
 use Rattle.dcsp_defs.specs.declared.Reason.TheVariants.{Rule, Earlier}
 use Rattle.dcsp_defs.specs.declared.Step.{Step}
 use Rattle.ngd_log.specs.StepText.{pair_text, pairs_text, reason_text, reasons_text, variable_text, step_line, IsVariable, IsStepNumber, IsReasonInRange, IsWritable}
 use Rattle.ngd_log.specs.Lines.{lines, with_byte, HasNoLineFeed, IsLine}
-use Rattle.dcsp_number.proofs.Chosen.{chosen}
+use Rattle.dcsp_common.proofs.Chosen.{chosen}
 use Rattle.ngd_log.proofs.Each.{each_append, each_both}
 use Rattle.ngd_log.proofs.Fields.{IsPair}
-use Rattle.dcsp_number.proofs.Numbers.{decimal_digits}
+use Rattle.dcsp_common.proofs.Decimals.{decimal_digits}
 
 -- ---- a step's line has one line feed
 

@@ -5,16 +5,16 @@ use Rattle.std.specs.Int.{w64}
 use Rattle.std.specs.List.{AllByRecursion}
 use Rattle.std.proofs.lemmas.List.{append-nil}
 use Rattle.std.proofs.lemmas.Bool.{eqb-true, eq-eqb}
-use Rattle.dcsp_nogood.specs.declared.Pair.{Pair}
+use Rattle.dcsp_defs.specs.declared.nogood.Pair.{Pair}
 use Rattle.dcsp_defs.specs.declared.Reason.{Reason}
 use Rattle.dcsp_defs.specs.declared.Reason.TheVariants.{Rule}
 use Rattle.dcsp_defs.specs.declared.Step.{Step}
 use Rattle.ngd_log.specs.StepText.{pairs_text, reasons_text, variable_text, step_line, IsVariable, IsStepNumber, IsReasonInRange, IsWritable, IsStepLine}
 use Rattle.ngd_log.specs.declared.reader.LineError.{LineError}
 use Rattle.ngd_log.specs.declared.reader.LineError.TheVariants.{Bad, Memory}
-use Rattle.dcsp_number.specs.Reading.{◌>>=◌}
+use Rattle.dcsp_common.specs.Reading.{◌>>=◌}
 use Rattle.ngd_log.specs.Reading.{Gives, after, counted_at, step_number_at, pairs_at, reasons_at, nogood_of, is_line_feed, variable_step, rule_step, form_at, step_of}
-use Rattle.dcsp_number.proofs.Chosen.{chosen, passed, bind_then, some_is}
+use Rattle.dcsp_common.proofs.Chosen.{chosen, passed, bind_then, some_is}
 use Rattle.ngd_log.proofs.AfterPrefix.{after_takes, after_again}
 use Rattle.ngd_log.proofs.Each.{each_gives, each_both}
 use Rattle.ngd_log.proofs.Rising.{nogood_of-rising, nogood_of-rises}

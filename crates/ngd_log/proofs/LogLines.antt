@@ -11,7 +11,7 @@ use Rattle.ngd_log.specs.StepText.{step_line, IsStepNumber, IsWritable, IsStepLi
 use Rattle.ngd_log.specs.Lines.{lines, IsLine}
 use Rattle.ngd_log.specs.Logs.{step_lines, log_lines, open_log, log_text, AreWritable, IsLogOf}
 use Rattle.ngd_log.proofs.Each.{each_push, each_append}
-use Rattle.dcsp_number.proofs.Numbers.{begins_decimal}
+use Rattle.dcsp_common.proofs.Decimals.{begins_decimal}
 use Rattle.ngd_log.proofs.LineLaws.{rest_text, step_line_is}
 use Rattle.ngd_log.proofs.LineFeeds.{step_line-IsLine, lines-concat}
 

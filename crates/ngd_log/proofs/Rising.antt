@@ -2,10 +2,10 @@
 use Rattle.std.proofs.Common.{◌≡◌, ℕ, zero, suc, ◌+◌, ◌<◌, Bool, true, false, ◌&&◌, nat_lt, List, [], ◌∷◌, Some, None, cond, refl, sym, ap, arith, ◌-◌, ◌≤◌, length, take, drop}
 use Rattle.std.proofs.lemmas.Bool.{ltb-true, lt-ltb}
 use Rattle.dcsp_defs.proofs.Lists.{and_left, and_right, and_both}
-use Rattle.dcsp_nogood.specs.declared.Pair.{Pair}
+use Rattle.dcsp_defs.specs.declared.nogood.Pair.{Pair}
 use Rattle.std.specs.Prelude.{slice_index_or}
 use Rattle.std.proofs.lemmas.List.{take_all}
-use Rattle.dcsp_nogood.specs.Pairs.{no_pair, IsRising}
+use Rattle.dcsp_defs.specs.Pairs.{no_pair, IsRising}
 use Rattle.ngd_log.specs.Reading.{rises, nogood_of}
 
 -- pairs that pass the test rise

@@ -4,8 +4,8 @@ use Rattle.std.specs.Prelude.{codes}
 use Rattle.std.specs.List.{AllByRecursion, concat}
 use Rattle.std.proofs.lemmas.List.{append-nil, length-append, length_push}
 use Rattle.std.proofs.lemmas.List.Folds.{concat-append}
-use Rattle.ngd_log.specs.declared.entry.Entry.{Entry}
-use Rattle.ngd_log.specs.declared.entry.Entry.TheVariants.{Step as A_step, Delete}
+use Rattle.dcsp_defs.specs.declared.entry.Entry.{Entry}
+use Rattle.dcsp_defs.specs.declared.entry.Entry.TheVariants.{Step as A_step, Delete}
 use Rattle.ngd_log.specs.declared.log.LogError.{LogError}
 use Rattle.ngd_log.specs.declared.log.LogError.TheVariants.{Line, Memory}
 use Rattle.ngd_log.specs.declared.standing.Version.{Version}

@@ -1,11 +1,11 @@
 -- Reading a line of an entry from left to right, on lists.
 use Rattle.std.specs.Prelude.{ℕ, Bool, true, false, ◌&&◌, List, [], ◌∷◌, length, Option, Some, None, nat_lt, if◌then◌else◌, codes}
 use Rattle.std.specs.Str.{bytes_eq}
-use Rattle.ngd_log.specs.declared.entry.Entry.{Entry}
-use Rattle.ngd_log.specs.declared.entry.Entry.TheVariants.{Step as A_step, Delete}
+use Rattle.dcsp_defs.specs.declared.entry.Entry.{Entry}
+use Rattle.dcsp_defs.specs.declared.entry.Entry.TheVariants.{Step as A_step, Delete}
 use Rattle.ngd_log.specs.declared.standing.Version.{Version}
 use Rattle.ngd_log.specs.declared.standing.Version.TheVariants.{One, Two}
-use Rattle.dcsp_number.specs.Reading.{◌>>=◌}
+use Rattle.dcsp_common.specs.Reading.{◌>>=◌}
 use Rattle.ngd_log.specs.Reading.{after, items_at, step_number_at, is_line_feed, step_of}
 use Rattle.ngd_log.specs.Lines.{lines}
 use Rattle.ngd_log.specs.EntryTexts.{next_number}

@@ -1,14 +1,14 @@
 -- What a reader lends of the line that it read last.
 use Rattle.std.specs.Prelude.{Bool, true, false, List, [], ◌∷◌, Option, Some, None}
-use Rattle.dcsp_nogood.specs.Pairs.{IsRising}
+use Rattle.dcsp_defs.specs.Pairs.{IsRising}
 use Rattle.dcsp_defs.specs.declared.Step.{Step}
 use Rattle.ngd_log.specs.declared.reader.Gathered.{Gathered}
 use Rattle.ngd_log.specs.declared.standing.Kind.{Kind}
 use Rattle.ngd_log.specs.declared.standing.Kind.TheVariants as kinds
-use Rattle.ngd_log.specs.declared.lent.Lent.{Lent}
-use Rattle.ngd_log.specs.declared.lent.Lent.TheVariants as lents
-use Rattle.ngd_log.specs.declared.entry.Entry.{Entry}
-use Rattle.ngd_log.specs.declared.entry.Entry.TheVariants.{Step as A_step, Delete}
+use Rattle.dcsp_defs.specs.declared.lent.Lent.{Lent}
+use Rattle.dcsp_defs.specs.declared.lent.Lent.TheVariants as lents
+use Rattle.dcsp_defs.specs.declared.entry.Entry.{Entry}
+use Rattle.dcsp_defs.specs.declared.entry.Entry.TheVariants.{Step as A_step, Delete}
 
 -- whether this is a step
 abbrev pub is_step : Kind → Bool

@@ -1,7 +1,7 @@
 -- A log that is read in pieces: what the reader stands for, when it refuses, and what it appends.
 use Rattle.std.specs.Prelude.{◌≡◌, ◌≢◌, if◌then◌else◌, ℕ, ◌+◌, ◌-◌, ◌<◌, ◌≤◌, ◌⊎◌, List, [], ◌∷◌, ◌++◌, length, codes, flat_map, slice_get, Vec, Option, Some, None, IsSomeAnd, Result, Err, IsOk}
 use Rattle.std.specs.List.{AllByRecursion, concat}
-use Rattle.ngd_log.specs.declared.entry.Entry.{Entry}
+use Rattle.dcsp_defs.specs.declared.entry.Entry.{Entry}
 use Rattle.ngd_log.specs.declared.log.LogError.{LogError}
 use Rattle.ngd_log.specs.declared.log.LogError.TheVariants.{Line, Memory}
 use Rattle.ngd_log.specs.declared.body.Body.{Body}

@@ -3,8 +3,8 @@ use Rattle.std.specs.Prelude.{◌≡◌, ℕ, ◌+◌, ◌^◌, ◌<◌, ◌≤�
 use Rattle.std.specs.Int.{w64}
 use Rattle.std.specs.List.{AllByRecursion}
 use Rattle.std.specs.Fmt.{signed_decimal}
-use Rattle.dcsp_nogood.specs.declared.Pair.{Pair}
-use Rattle.dcsp_nogood.specs.Pairs.{IsRising}
+use Rattle.dcsp_defs.specs.declared.nogood.Pair.{Pair}
+use Rattle.dcsp_defs.specs.Pairs.{IsRising}
 use Rattle.dcsp_defs.specs.declared.Reason.{Reason}
 use Rattle.dcsp_defs.specs.declared.Reason.TheVariants.{Rule, Earlier}
 use Rattle.dcsp_defs.specs.declared.Step.{Step}

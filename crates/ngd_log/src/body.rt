@@ -1,20 +1,20 @@
 //! What a reader of a log keeps between pieces, and how it takes a line and a piece.
 ghost use Rattle.std.specs.Prelude.{◌≡◌, ◌≢◌, None, ℕ, ◌+◌, ◌≤◌, ◌^◌, [], ◌++◌, List, length, OnOk, OnErr};
 ghost use Rattle.std.specs.List.{AllByRecursion};
-ghost use Rattle.ngd_log.specs.declared.entry.Entry.{Entry as AnEntry};
+ghost use Rattle.dcsp_defs.specs.declared.entry.Entry.{Entry as AnEntry};
 ghost use Rattle.ngd_log.specs.EntryReading.{version_of};
 ghost use Rattle.ngd_log.specs.Lent.{lent_in, RisesIn};
 ghost use Rattle.ngd_log.specs.Lines.{IsLine, HasNoLineFeed};
 ghost use Rattle.ngd_log.specs.Pieces.{kept, Feeds, Follows, IsNextPlace, IsWithin, IsSound, IsLentAlone};
 
 use crate::deletion::HEAD2;
-use crate::entry::Entries;
 use crate::entry_reader::{owned_entry, read_entry};
 use crate::log::{LogError, split_line};
 use crate::reader::{Gathered, LineError};
 use crate::standing::{Kind, Place, Standing, Version};
 use crate::writer::{HEAD, TAIL};
-use dcsp_list::Memory;
+use dcsp_common::Memory;
+use dcsp_defs::Entries;
 
 /// What a reader of a log keeps.
 #[derive(Drop)]

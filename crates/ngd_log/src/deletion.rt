@@ -3,8 +3,7 @@ ghost use Rattle.std.specs.Prelude.{◌≡◌, ◌++◌, OnOk, OnErr, IfOk};
 ghost use Rattle.ngd_log.specs.Entries.{IsDeletion};
 ghost use Rattle.ngd_log.specs.EntryTexts.{deletion_line};
 
-use crate::writer::push_number;
-use dcsp_list::Memory;
+use dcsp_common::{Memory, push_number};
 use std::alloc::{AllocError, Global};
 
 /// The first line of a log of version 2.

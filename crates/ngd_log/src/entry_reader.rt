@@ -4,11 +4,11 @@ ghost use Rattle.ngd_log.specs.Reading.{Gives};
 ghost use Rattle.ngd_log.specs.EntryReading.{numbers_at, rises_after, deletion_at, step_entry, entry_of};
 ghost use Rattle.ngd_log.specs.Lent.{entry_in};
 
-use crate::entry::{Entry, NumberList};
 use crate::field::{after, step_number_at};
 use crate::reader::{Gathered, LineError, is_line_feed, owned_step, step_of};
 use crate::standing::{Kind, Version};
-use dcsp_list::Memory;
+use dcsp_common::Memory;
+use dcsp_defs::{Entry, NumberList};
 use std::alloc::Global;
 
 /// Reads the numbers, each behind a space.

@@ -3,12 +3,11 @@
 //! They are inlined into the loops over a line's pairs and reasons, which are the time of reading a log: there a text
 //! of known length is compared by its bytes, and no result goes through memory.
 ghost use Rattle.std.specs.Prelude.{◌≡◌, ℕ, ◌+◌, ◌≤◌, length, IfSome};
-ghost use Rattle.dcsp_number.specs.Reading.{Reads};
+ghost use Rattle.dcsp_common.specs.Reading.{Reads};
 ghost use Rattle.ngd_log.specs.Reading.{after, integer_at, counted_at, step_number_at, pair_at, reason_at};
 
-use dcsp_defs::Reason;
-use dcsp_nogood::Pair;
-use dcsp_number::number_at;
+use dcsp_common::number_at;
+use dcsp_defs::{Pair, Reason};
 
 /// The greatest number of a variable.
 pub(crate) const VARIABLES: u32 = 4096;

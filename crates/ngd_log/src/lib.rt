@@ -12,24 +12,20 @@
 
 mod body;
 mod deletion;
-mod derivation;
-mod entry;
 mod entry_reader;
 mod field;
-mod lent;
 mod log;
 mod pieces;
 mod reader;
 mod standing;
 mod writer;
 
-pub use dcsp_defs::{Reason, ReasonList, Step};
-pub use dcsp_list::Memory;
+pub use dcsp_common::Memory;
+pub use dcsp_defs::{
+    Derivation, Entries, Entry, Lent, LentStep, NumberList, Reason, ReasonList, Step,
+};
 pub use deletion::{HEAD2, write_deletion};
-pub use derivation::Derivation;
-pub use entry::{Entries, Entry, NumberList};
 pub use field::{after, integer_at};
-pub use lent::{Lent, LentStep};
 pub use log::{LogError, log_or_bad_line, logs_differ, next_lines, read_log};
 pub use pieces::{
     LogReader, entries_or_bad_line, good_lines, one_answer, read_pieces, texts_differ,

@@ -4,9 +4,9 @@ ghost use Rattle.dcsp_defs.specs.declared.Step.{Step};
 ghost use Rattle.ngd_log.specs.Lines.{lines, HasNoLineFeed, IsLine};
 ghost use Rattle.ngd_log.specs.Logs.{IsLogOf, IsFirstBad, LogOrBadLine, LogsDiffer, AreWritable, NextLine, IsUnlessMemory, IsCause};
 
-use crate::derivation::Derivation;
 use crate::reader::{Gathered, LineError, read_step};
 use crate::writer::{HEAD, TAIL};
+use dcsp_defs::Derivation;
 use std::alloc::Global;
 
 /// Why a text gives no derivation.

@@ -1,18 +1,17 @@
 //! Reading a log in pieces.
 ghost use Rattle.std.specs.Prelude.{◌≡◌, ◌⊎◌, ◌↔◌, ℕ, ◌+◌, ◌<◌, ◌≤◌, ◌^◌, [], ◌++◌, List, length, Some, IfSome, IfNone, IfOk, OnOk, IsOk, IsErr, IsErrOf, Err};
-ghost use Rattle.ngd_log.specs.declared.entry.Entry.{Entry as AnEntry};
+ghost use Rattle.dcsp_defs.specs.declared.entry.Entry.{Entry as AnEntry};
 ghost use Rattle.ngd_log.specs.EntryTexts.{EntriesOrBadLine, TextsDiffer, IsOneAnswer, IsHeadedTwo, IsLogOfEntries, IsFirstBadLine};
 ghost use Rattle.ngd_log.specs.EntryReading.{good_entries};
 ghost use Rattle.ngd_log.specs.Pieces.{refusal_of, Tells, joined, IsFed, TakesFront, Completes, IsRefused, GoodLines};
 ghost use Rattle.ngd_log.specs.Lent.{lent_entries};
 
 use crate::body::{Body, take_line, take_part, take_piece};
-use crate::entry::Entries;
-use crate::lent::{Lent, LentStep};
 use crate::log::{LogError, split_line};
 use crate::reader::Gathered;
 use crate::standing::{Kind, Standing};
-use dcsp_list::Memory;
+use dcsp_common::Memory;
+use dcsp_defs::{Entries, Lent, LentStep};
 use std::alloc::Global;
 use std::marker::Model;
 

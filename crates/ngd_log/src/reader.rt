@@ -7,8 +7,7 @@ ghost use Rattle.ngd_log.specs.Reading.{Gives, pairs_from, pairs_at, reasons_at,
 ghost use Rattle.ngd_log.specs.Lent.{step_in};
 
 use crate::field::{RULES, VARIABLES, after, counted_at, pair_at, reason_at, step_number_at};
-use dcsp_defs::{Reason, ReasonList, Step};
-use dcsp_nogood::{Nogood, Pair};
+use dcsp_defs::{Nogood, Pair, Reason, ReasonList, Step};
 use std::alloc::{AllocFailed, Global};
 
 /// Why a line gives no step.
@@ -27,10 +26,10 @@ impl<T: Drop> From<AllocFailed<T>> for LineError {
     }
 }
 
-impl<T: Drop> From<(T, dcsp_list::Memory)> for LineError {
+impl<T: Drop> From<(T, dcsp_common::Memory)> for LineError {
     ghost from_gives = { λ _ e. e ≡ OutOfMemory };
 
-    fn from(_refused: (T, dcsp_list::Memory)) -> LineError {
+    fn from(_refused: (T, dcsp_common::Memory)) -> LineError {
         LineError::Memory
     }
 }

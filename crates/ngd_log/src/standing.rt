@@ -4,7 +4,7 @@ ghost use Rattle.std.specs.Prelude.{◌≡◌, OnOk, OnErr};
 ghost use Rattle.ngd_log.specs.Pieces.{refusal_of, fault_of, Tells};
 
 use crate::log::LogError;
-use dcsp_list::Memory;
+use dcsp_common::Memory;
 
 /// The version of a log.
 #[derive(Clone, Copy, Debug, PartialEq, Eq)]

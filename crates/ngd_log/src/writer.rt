@@ -6,13 +6,12 @@
 ghost use Rattle.std.specs.Prelude.{◌≡◌, ℕ, ◌+◌, ◌/◌, ◌%◌, ◌<◌, ◌≤◌, [], ◌∷◌, ◌++◌, flat_map, codes, decimal, length, IfOk, OnOk, OnErr, FitsSigned, vec_len, vec_capacity};
 ghost use Rattle.std.specs.Int.{w64};
 ghost use Rattle.std.specs.List.{AllByRecursion};
-ghost use Rattle.dcsp_nogood.specs.Pairs.{IsRising};
+ghost use Rattle.dcsp_defs.specs.Pairs.{IsRising};
 ghost use Rattle.std.specs.Fmt.{signed_decimal};
 ghost use Rattle.ngd_log.specs.StepText.{pair_text, pairs_text, reason_text, reasons_text, variable_text, step_line, IsStepNumber, IsInRange, IsWritable};
 
-use dcsp_defs::{Reason, Step};
-use dcsp_list::Memory;
-use dcsp_nogood::Pair;
+use dcsp_common::Memory;
+use dcsp_defs::{Pair, Reason, Step};
 use itoa::Buffer;
 use std::alloc::AllocError;
 use std::mem::replace;
@@ -211,13 +210,6 @@ fn with_number(line: Vec<u8>, number: u64) -> Result<Vec<u8>, AllocError>
 {
     let line = with_room(line, 6)?;
     with_digits(line, number, 0)
-}
-
-/// Appends a number in decimal digits.
-pub(crate) fn push_number(line: &mut Vec<u8>, number: u64) -> Result<(), AllocError>
-    ensures { OnOk result (line.new.items ≡ line.old.items ++ decimal number) }
-{
-    line.extend_from_slice(Buffer::new().format(number).as_bytes())
 }
 
 /// The line and a value in decimal digits, after `-` where it is negative. There is room for the sign and

@@ -1,6 +1,6 @@
 //! Constraints over names in scope, their rules and refusals.
 
-use dcsp_list::Memory;
+use dcsp_common::Memory;
 use dcsp_problem::{Members, Rel, Rule, Term, TermList};
 use fzn_item::{Item, ItemError, ItemList, items};
 use fzn_scope::{Context, Declared, Names, Refusal, Stop, bytes_at};

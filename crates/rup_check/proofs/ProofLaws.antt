@@ -12,7 +12,7 @@ use Rattle.rup_check.specs.ProofText.{literal_text, clause_line, proof_text, IsC
 use Rattle.rup_check.specs.Reading.{literal_at, after_byte, after_end}
 use Rattle.rup_check.specs.declared.reader.ProofError.{ProofError}
 use Rattle.rup_check.specs.declared.reader.ProofError.TheVariants.{Line, Memory}
-use Rattle.dcsp_number.proofs.Chosen.{some_is}
+use Rattle.dcsp_common.proofs.Chosen.{some_is}
 use Rattle.rup_check.proofs.ReadingLaws.{literal_takes, literal_again, after_end_takes, after_end_again, end_no_literal}
 
 pub all_push : {X : Type 0} (P : X → Type 0) (xs : List X) (x : X) → AllByRecursion P xs → P x → AllByRecursion P (xs ++ x ∷ [])

@@ -5,10 +5,10 @@ use Rattle.std.specs.Char.{is_ascii_digit}
 use Rattle.std.proofs.lemmas.Bool.{and_parts, eqb-true, eq-eqb, ne_eqb, ltb-true, lt-ltb, leb-true, le-leb, false≢true}
 use Rattle.rup_check.specs.Literals.{IsLiteral}
 use Rattle.rup_check.specs.ProofText.{literal_text}
-use Rattle.dcsp_number.specs.Reading.{◌>>=◌, number_at}
+use Rattle.dcsp_common.specs.Reading.{◌>>=◌, number_at}
 use Rattle.rup_check.specs.Reading.{after_byte, spaced, variable_at, negated, itself, literal_at, after_end}
-use Rattle.dcsp_number.proofs.Chosen.{chosen, some_is, bind_then}
-use Rattle.dcsp_number.proofs.Numbers.{BeginsWithDigit, begins_decimal, number_again, number_takes}
+use Rattle.dcsp_common.proofs.Chosen.{chosen, some_is, bind_then}
+use Rattle.dcsp_common.proofs.Decimals.{BeginsWithDigit, begins_decimal, number_again, number_takes}
 
 -- the byte that was taken
 pub after_byte_takes : (c : ℕ) (bytes rest : List ℕ) → after_byte c bytes ≡ Some rest → bytes ≡ c ∷ rest

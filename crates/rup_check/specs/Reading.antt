@@ -1,7 +1,7 @@
 -- Reading literals from left to right. What is read is a value and the bytes after it; what is no literal gives none.
 use Rattle.std.specs.Prelude.{ℕ, ◌&&◌, List, [], ◌∷◌, Option, Some, None, ℤ, pos, neg_ℤ, nat_lt, nat_le, ◌==◌, if◌then◌else◌}
 use Rattle.std.specs.Str.{byte}
-use Rattle.dcsp_number.specs.Reading.{◌>>=◌, number_at}
+use Rattle.dcsp_common.specs.Reading.{◌>>=◌, number_at}
 
 -- what stands after this byte
 unfoldable pub after_byte : ℕ → List ℕ → Option (List ℕ)

@@ -8,7 +8,7 @@ ghost use Rattle.rup_check.specs.Looks.{IsOpen, OthersFalse, SaysTrue};
 ghost use Rattle.rup_check.specs.Watches.{IsClean, Extends};
 
 use crate::places::flipped;
-use dcsp_list::Memory;
+use dcsp_common::Memory;
 use std::alloc::Global;
 
 /// A set of literals.

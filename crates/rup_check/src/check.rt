@@ -13,7 +13,7 @@ use crate::clauses::ClauseList;
 use crate::places::{Known, PlaceList};
 use crate::propagation::{add_clause, has_property};
 use crate::watches::Watches;
-use dcsp_list::Memory;
+use dcsp_common::Memory;
 use std::alloc::Global;
 
 /// The answer on a proof.

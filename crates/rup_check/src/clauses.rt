@@ -4,7 +4,7 @@ ghost use Rattle.std.specs.List.{All};
 ghost use Rattle.rup_check.specs.Literals.{IsLiteral};
 
 use crate::places::PlaceList;
-use dcsp_list::Memory;
+use dcsp_common::Memory;
 use std::alloc::Global;
 use std::marker::Model;
 

@@ -12,5 +12,5 @@ mod watches;
 
 pub use check::{Rup, check_rup};
 pub use clauses::ClauseList;
-pub use dcsp_list::Memory;
+pub use dcsp_common::Memory;
 pub use reader::{ProofError, proofs_are_exact, read_proof};

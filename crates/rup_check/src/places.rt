@@ -9,7 +9,7 @@ ghost use Rattle.rup_check.specs.Watches.{Extends};
 ghost use Rattle.rup_check.specs.Assignments.{flipped};
 ghost use Rattle.rup_check.specs.Parts.{parts, part_start, AreEnds};
 
-use dcsp_list::Memory;
+use dcsp_common::Memory;
 use std::alloc::Global;
 use std::marker::Model;
 

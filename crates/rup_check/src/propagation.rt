@@ -11,7 +11,7 @@ use crate::assignment::{Assignment, begin, undo};
 use crate::places::{Known, flipped};
 use crate::turns::visit;
 use crate::watches::{Kind, Watches, kind_of};
-use dcsp_list::Memory;
+use dcsp_common::Memory;
 use std::alloc::Global;
 
 /// Looks at the lists of the negations of what stands on the trail from this place on: whether a clause is false.

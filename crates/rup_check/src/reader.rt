@@ -2,11 +2,10 @@
 ghost use Rattle.std.specs.Prelude.{◌≡◌, ℕ, ℤ, [], ◌∷◌, ◌++◌, ◌<◌, ◌≤◌, List, length, MatchOption, OnOk, IfOk, IfErr, IfSome, IsErrOf, Ok, Err};
 ghost use Rattle.rup_check.specs.ProofText.{IsProofOf, IsFirstBadLine, IsUnlessMemory, IsCause, IsNextClause, BeginsWithClause, ProofOrBadLine};
 ghost use Rattle.rup_check.specs.Reading.{after_byte, variable_at, literal_at, after_end};
-ghost use Rattle.dcsp_number.specs.Reading.{Reads};
+ghost use Rattle.dcsp_common.specs.Reading.{Reads};
 
 use crate::clauses::ClauseList;
-use dcsp_list::Memory;
-use dcsp_number::number_at;
+use dcsp_common::{Memory, number_at};
 use std::alloc::Global;
 
 /// Why a text gives no proof.

@@ -9,7 +9,7 @@ ghost use Rattle.rup_check.specs.Watches.{IsTurn, IsPairOf, IsEntry, IsClean, Ex
 use crate::assignment::{Assignment, other_open};
 use crate::places::{Known, flipped};
 use crate::watches::{Pair, Watches, push_to};
-use dcsp_list::{ItemList, Memory};
+use dcsp_common::{ItemList, Memory};
 use std::alloc::Global;
 use std::mem;
 

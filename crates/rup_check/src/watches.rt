@@ -4,7 +4,7 @@ ghost use Rattle.std.specs.List.{All};
 ghost use Rattle.rup_check.specs.Watches.{IsKind, AreListed, no_pair};
 
 use crate::assignment::{Assignment, first_open, has_true, other_open};
-use dcsp_list::{ItemList, Memory};
+use dcsp_common::{ItemList, Memory};
 use std::alloc::Global;
 
 /// The two watched literals of a clause.

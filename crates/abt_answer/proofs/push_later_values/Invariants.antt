@@ -1,5 +1,5 @@
 use Rattle.std.proofs.Common.{◌≡◌, ◌++◌, ℕ, pos, codes, flat_map, take, slice_index_or}
-use Rattle.dcsp_problem.specs.Rules.{value_under}
+use Rattle.dcsp_rule.specs.Rules.{value_under}
 use Rattle.abt_answer.specs.Solutions.{value_text}
 use Rattle.abt_answer.proofs.push_later_values.Given as goal
 

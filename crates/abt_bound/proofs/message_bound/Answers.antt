@@ -1,7 +1,7 @@
 use Rattle.std.proofs.Common.{◌≡◌, ◌∙◌, ◌-◌, ◌^◌, ap, length, arith, rules}
 use Rattle.std.specs.Prelude.{None, Some}
 use Rattle.dcsp_defs.specs.Csp.{count}
-use Rattle.dcsp_problem.specs.Problems.{csp_of}
+use Rattle.dcsp_rule.specs.Problems.{csp_of}
 use Rattle.abt_bound.proofs.Bounds.{product_some, product_fits, counted_is, bound_above, none_is, none_tells, some_tells}
 use Rattle.abt_bound.proofs.message_bound.Goals as goal
 

@@ -1,6 +1,6 @@
 use Rattle.std.proofs.Common.{◌≡◌, ◌<◌, ◌^◌}
 use Rattle.std.specs.Option.{SomeIff}
-use Rattle.dcsp_problem.specs.Problems.{csp_of}
+use Rattle.dcsp_rule.specs.Problems.{csp_of}
 use Rattle.abt_defs.specs.Bound.{product_below}
 use Rattle.abt_bound.specs.Partial.{bound_below}
 use Rattle.abt_bound.proofs.message_bound.Given as goal

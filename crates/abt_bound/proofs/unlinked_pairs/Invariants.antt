@@ -1,6 +1,6 @@
 use Rattle.std.proofs.Common.{◌≡◌, ◌≤◌, ◌*◌}
 use Rattle.dcsp_defs.specs.Words.{sum_below}
-use Rattle.dcsp_problem.specs.Problems.{csp_of}
+use Rattle.dcsp_rule.specs.Problems.{csp_of}
 use Rattle.abt_bound.proofs.Pairs.{counted_lower}
 use Rattle.abt_bound.proofs.unlinked_pairs.Given as goal
 

@@ -1,4 +1,4 @@
-use Rattle.law_invariants.proofs.Sounds.{sounds}
+use Rattle.law_agent.proofs.Sounds.{sounds}
 use Rattle.law_subjects.proofs.reached_hold_values_of_domains.Goals as goal
 
 pub returns : goal.returns

@@ -5,7 +5,7 @@ use Rattle.dcsp_defs.proofs.Derivations.{derivation_push}
 use Rattle.std.proofs.lemmas.Option.{slice_get-get_or}
 use Rattle.dcsp_defs.specs.declared.Step.{Step}
 use Rattle.dcsp_defs.specs.Derivation.{IsDerivation}
-use Rattle.dcsp_problem.specs.Problems.{csp_of}
+use Rattle.dcsp_rule.specs.Problems.{csp_of}
 use Rattle.ngd_check.proofs.Citing.{right_to, right_from}
 use Rattle.ngd_check.proofs.finding_of.Goals as goal
 

@@ -1,6 +1,6 @@
 use Rattle.std.proofs.Common.{take}
 use Rattle.dcsp_defs.specs.Derivation.{IsDerivation}
-use Rattle.dcsp_problem.specs.Problems.{csp_of}
+use Rattle.dcsp_rule.specs.Problems.{csp_of}
 use Rattle.ngd_check.proofs.finding_of.Given as goal
 
 -- the steps so far are right

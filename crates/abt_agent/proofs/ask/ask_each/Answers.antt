@@ -1,6 +1,6 @@
 use Rattle.std.proofs.Common.{cond, [], ◌∷◌, get_or, sym, subst}
 use Rattle.std.specs.Prelude.{take}
-use Rattle.dcsp_nogood.specs.Pairs.{no_pair}
+use Rattle.dcsp_defs.specs.Pairs.{no_pair}
 use Rattle.abt_defs.specs.Agents.{Add_link}
 use Rattle.abt_defs.specs.Steps as steps
 use Rattle.abt_agent.specs.Asks.{unlinked_names, is_unlinked}

@@ -2,7 +2,7 @@ use Rattle.std.proofs.Common.{[], ◌∷◌, ℤ, get_or, rules, sym, subst, w64
 use Rattle.std.proofs.lemmas.Int.{to_z-of_z}
 use Rattle.abt_defs.specs.Agents.{Announce}
 use Rattle.abt_defs.specs.Steps as steps
-use Rattle.abt_view.specs.Views.{stamped_of}
+use Rattle.abt_parts.specs.Views.{stamped_of}
 use Rattle.abt_agent.specs.Outgoing.{Posts}
 use Rattle.abt_agent.proofs.Lists.{each_next}
 use Rattle.abt_agent.proofs.Posting.{posts_then}

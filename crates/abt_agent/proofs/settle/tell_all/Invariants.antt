@@ -1,7 +1,7 @@
 use Rattle.std.proofs.Common.{take}
 use Rattle.abt_defs.specs.Agents.{Announce}
 use Rattle.abt_defs.specs.Steps as steps
-use Rattle.abt_view.specs.Views.{stamped_of}
+use Rattle.abt_parts.specs.Views.{stamped_of}
 use Rattle.abt_agent.specs.Outgoing.{Posts}
 use Rattle.abt_agent.proofs.settle.tell_all.Given as goal
 

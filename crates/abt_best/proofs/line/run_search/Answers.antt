@@ -33,19 +33,19 @@ pub finish-searched-requires-clause-over : goal.finish-searched-requires-clause-
 finish-searched-requires-clause-over g c =
     let line = c.args.line in
     let asked = best_search c.args.problem.now line.seed line.log.now (option_copied line.kept) line.trace in
-    over_is asked c.run.new.self c.in_ok-run.ensures.made c.vars-vars.ensures.problem c.requires
+    over_is asked c.run.new.self c.in_ok-run.ensures.made c.denotes_csp.ensures.problem c.requires
 
 pub finish-searched-requires-clause-search : goal.finish-searched-requires-clause-search
 finish-searched-requires-clause-search g c =
     let line = c.args.line in
     let asked = best_search c.args.problem.now line.seed line.log.now (option_copied line.kept) line.trace in
-    searched_is asked c.run.new.self c.in_ok-run.ensures.made c.vars-vars.ensures.problem c.requires
+    searched_is asked c.run.new.self c.in_ok-run.ensures.made c.denotes_csp.ensures.problem c.requires
 
 pub tell-requires : goal.tell-requires
 tell-requires g c =
     let line = c.args.line in
     let asked = best_search c.args.problem.now line.seed line.log.now (option_copied line.kept) line.trace in
-    has_values asked c.run.new.self c.in_ok-run.ensures.made c.vars-vars.ensures.problem c.requires c.finish-searched.result.best.end c.finish-searched.ensures.found
+    has_values asked c.run.new.self c.in_ok-run.ensures.made c.denotes_csp.ensures.problem c.requires c.finish-searched.result.best.end c.finish-searched.ensures.found
 
 pub returns-in_err-tell-clause-wrote : goal.returns-in_err-tell-clause-wrote
 returns-in_err-tell-clause-wrote g c =

@@ -40,8 +40,8 @@ returns-in_default g c =
     record {
       came = kept (solve_plan l.log.now l.seed (option_copied l.kept) l.trace) (solve_sound l.model.now l.log.now l.seed (option_copied l.kept) l.trace)
           (came_read e (keeps_search c.in_ok-problem.problem l.log.now l.seed (option_copied l.kept) l.trace _ (λ s. c.in_default.not-Satisfy (c.aim.ensures.aim ∙ s)) (came_answer_with _ c.in_ok-status.ensures.status c.in_ok-status.ensures.wrote)));
-      sound = holds_problem held l.model.now c.in_ok-problem.problem (read_held e) c.vars-vars.ensures.csp c.problems_are_small.ensures;
-      whole = holds_whole held l.model.now c.in_ok-problem.problem (read_held e) c.vars-vars.ensures.problem;
+      sound = holds_problem held l.model.now c.in_ok-problem.problem (read_held e) c.denotes_csp.ensures.csp c.problems_are_small.ensures;
+      whole = holds_whole held l.model.now c.in_ok-problem.problem (read_held e) c.denotes_csp.ensures.problem;
     }
 
 pub returns-in_err-status-2-clause-came : goal.returns-in_err-status-2-clause-came
@@ -57,7 +57,7 @@ returns-clause-came g c =
     (came_read c.in_ok-problem.ensures (keeps_run c.in_ok-problem.problem l.log.now l.seed (option_copied l.kept) l.trace _ (sym c.aim.ensures.aim ∙ c.in-Satisfy.is) (came_answer_with _ c.in_ok-status-2.ensures.status c.in_ok-status-2.ensures.wrote)))
 
 pub returns-clause-sound : goal.returns-clause-sound
-returns-clause-sound g c = holds_problem (g.F.Folder.place c.args.folder.now).held c.args.line.model.now c.in_ok-problem.problem (read_held c.in_ok-problem.ensures) c.vars-vars.ensures.csp c.problems_are_small.ensures
+returns-clause-sound g c = holds_problem (g.F.Folder.place c.args.folder.now).held c.args.line.model.now c.in_ok-problem.problem (read_held c.in_ok-problem.ensures) c.denotes_csp.ensures.csp c.problems_are_small.ensures
 
 pub returns-clause-whole : goal.returns-clause-whole
-returns-clause-whole g c = holds_whole (g.F.Folder.place c.args.folder.now).held c.args.line.model.now c.in_ok-problem.problem (read_held c.in_ok-problem.ensures) c.vars-vars.ensures.problem
+returns-clause-whole g c = holds_whole (g.F.Folder.place c.args.folder.now).held c.args.line.model.now c.in_ok-problem.problem (read_held c.in_ok-problem.ensures) c.denotes_csp.ensures.problem

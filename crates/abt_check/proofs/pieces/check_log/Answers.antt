@@ -1,6 +1,6 @@
 use Rattle.std.proofs.Common.{Err, ap, subst, ◌∙◌}
 use Rattle.dcsp_defs.specs.Csp.{HasNoSolution}
-use Rattle.dcsp_problem.specs.Problems.{csp_of}
+use Rattle.dcsp_rule.specs.Problems.{csp_of}
 use Rattle.abt_check.specs.Checks.{log_for}
 use Rattle.abt_check.proofs.Taking.{whole_come}
 use Rattle.abt_check.proofs.Found.{stopped_check}

@@ -10,6 +10,6 @@ returns c =
     let gives = c.in_ok-outcome.ensures.gives in
     record {
       outcome = gives;
-      refutation = c.in_ok-refutation.ensures run.net.steps c.in_ok-outcome.ensures.log (steps_writable p c.args.seed c.vars-vars.ensures.csp c.requires c.vars-vars.ensures.problem) ∙ refutation_is p run run.net.steps c.in_ok-outcome.outcome.end gives.end;
-      binary = steps_binary p c.args.seed c.vars-vars.ensures.csp c.requires;
+      refutation = c.in_ok-refutation.ensures run.net.steps c.in_ok-outcome.ensures.log (steps_writable p c.args.seed c.denotes_csp.ensures.csp c.requires c.denotes_csp.ensures.problem) ∙ refutation_is p run run.net.steps c.in_ok-outcome.outcome.end gives.end;
+      binary = steps_binary p c.args.seed c.denotes_csp.ensures.csp c.requires;
     }

@@ -27,7 +27,7 @@ returns-clause-came g c =
     (came_read c.in_ok-problem.ensures.read (came_answer_with _ c.in_ok-status.ensures.status c.in_ok-status.ensures.wrote))
 
 pub returns-clause-means : goal.returns-clause-means
-returns-clause-means g c = holds_cnf_run _ _ _ _ _ (read_held c.in_ok-problem.ensures.read) c.vars-vars.ensures.csp c.vars-vars.ensures.problem c.in_ok-status.ensures.status
+returns-clause-means g c = holds_cnf_run _ _ _ _ _ (read_held c.in_ok-problem.ensures.read) c.denotes_csp.ensures.csp c.denotes_csp.ensures.problem c.in_ok-status.ensures.status
 
 pub returns-clause-writes : goal.returns-clause-writes
 returns-clause-writes g c = let e = c.in_ok-problem.ensures.read in holds_proof _ _ _ _ _ c.in_ok-status.ensures.status _ _ _ _ e.held (read_held e) c.in_ok-status.ensures.wrote

@@ -1,5 +1,5 @@
 use Rattle.std.proofs.Common.{Err, subst, ◌∙◌}
-use Rattle.dcsp_problem.specs.Problems.{Contents}
+use Rattle.dcsp_rule.specs.Problems.{Contents}
 use Rattle.cnf_front.specs.Formulas.{problem_of, Gives}
 use Rattle.abt_input.proofs.Files.{unless_fault}
 use Rattle.abt_input.proofs.Cnfs.{told_of_cnf, cnf_no_fault}

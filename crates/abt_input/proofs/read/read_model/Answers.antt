@@ -1,5 +1,5 @@
 use Rattle.std.proofs.Common.{Err, subst, ◌∙◌}
-use Rattle.dcsp_problem.specs.Problems.{Contents}
+use Rattle.dcsp_rule.specs.Problems.{Contents}
 use Rattle.fzn_model.specs.Models.{AnswersOrLacks}
 use Rattle.abt_input.proofs.Models.{told_as, no_fault}
 use Rattle.abt_input.proofs.Files.{unless_fault}

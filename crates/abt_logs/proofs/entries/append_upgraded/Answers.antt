@@ -7,9 +7,9 @@ use Rattle.ngd_log.specs.Lines.{lines}
 use Rattle.ngd_log.specs.Logs.{step_lines}
 use Rattle.ngd_log.specs.EntryTexts.{IsWritableEntry}
 use Rattle.ngd_log.proofs.LogLines.{head, tail, lines_of_whole}
-use Rattle.ngd_upgrade.specs.Upgrade.{ending, as_deletion, upgraded, deleted_count}
-use Rattle.ngd_upgrade.proofs.Tables.{deleted_more, few_more, few_most}
-use Rattle.ngd_upgrade.proofs.Texts.{ending_writable}
+use Rattle.ngd_rewrite.specs.Upgrade.{ending, as_deletion, upgraded, deleted_count}
+use Rattle.ngd_rewrite.proofs.Tables.{deleted_more, few_more, few_most}
+use Rattle.ngd_rewrite.proofs.Texts.{ending_writable}
 use Rattle.abt_logs.specs.OldLogs.{steps_of}
 use Rattle.abt_logs.proofs.Writing.{left_memory}
 use Rattle.abt_logs.proofs.Deleting.{entry_left, deletion_as, step_of, text_left, last_left, last_deletes}

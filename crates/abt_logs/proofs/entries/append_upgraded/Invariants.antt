@@ -7,7 +7,7 @@ use Rattle.dcsp_script.specs.Left.{HasLeft}
 use Rattle.ngd_log.specs.Lines.{lines}
 use Rattle.ngd_log.specs.Logs.{step_lines}
 use Rattle.ngd_log.specs.EntryTexts.{entry_lines}
-use Rattle.ngd_upgrade.specs.Upgrade.{end_of, numbers, upgraded_from, upgraded, deleted_count}
+use Rattle.ngd_rewrite.specs.Upgrade.{end_of, numbers, upgraded_from, upgraded, deleted_count}
 use Rattle.abt_logs.specs.OldLogs.{steps_of}
 use Rattle.abt_logs.specs.UpgradePromise.{appends}
 use Rattle.abt_logs.proofs.entries.append_upgraded.Given as goal

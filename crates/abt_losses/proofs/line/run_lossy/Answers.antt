@@ -25,7 +25,7 @@ returns-clause-came g c =
     (came_read c.in_ok-problem.ensures (came_answer_with _ c.in_ok-status.ensures.status c.in_ok-status.ensures.wrote))
 
 pub returns-clause-sound : goal.returns-clause-sound
-returns-clause-sound g c = holds_problem (g.F.Folder.place c.args.folder.now).held c.args.line.model.now c.in_ok-problem.problem (read_held c.in_ok-problem.ensures) c.vars-vars.ensures.csp c.problems_are_small.ensures
+returns-clause-sound g c = holds_problem (g.F.Folder.place c.args.folder.now).held c.args.line.model.now c.in_ok-problem.problem (read_held c.in_ok-problem.ensures) c.denotes_csp.ensures.csp c.problems_are_small.ensures
 
 pub returns-clause-run : goal.returns-clause-run
-returns-clause-run g c = holds_run (g.F.Folder.place c.args.folder.now).held c.args.line.model.now c.args.line.events c.args.line.seed c.args.line.log.now _ c.in_ok-problem.problem (read_held c.in_ok-problem.ensures) c.vars-vars.ensures.csp c.lossy_runs_are_right.ensures c.in_ok-status.status c.in_ok-status.ensures.status
+returns-clause-run g c = holds_run (g.F.Folder.place c.args.folder.now).held c.args.line.model.now c.args.line.events c.args.line.seed c.args.line.log.now _ c.in_ok-problem.problem (read_held c.in_ok-problem.ensures) c.denotes_csp.ensures.csp c.lossy_runs_are_right.ensures c.in_ok-status.status c.in_ok-status.ensures.status

@@ -1,7 +1,7 @@
 use Rattle.std.proofs.Common.{sym, ◌∙◌, ap, arith, inl, inr}
 use Rattle.std.proofs.lemmas.Bool.{cases_eq}
 use Rattle.abt_defs.specs.Network.{is_false}
-use Rattle.dcsp_problem.specs.Problems.{constraint_at}
+use Rattle.dcsp_rule.specs.Problems.{constraint_at}
 use Rattle.abt_network.proofs.FirstFalse.{nothing_known, is_first, is_none}
 use Rattle.abt_network.proofs.begin.first_false.Goals as goal
 

@@ -1,6 +1,6 @@
 use Rattle.std.proofs.Common.{◌≡◌, ◌<◌, ℕ, false}
 use Rattle.abt_defs.specs.Network.{is_false}
-use Rattle.dcsp_problem.specs.Problems.{constraint_at}
+use Rattle.dcsp_rule.specs.Problems.{constraint_at}
 use Rattle.abt_network.proofs.begin.first_false.Given as goal
 
 abbrev pub invariant-loop-rule : goal.invariant-loop-rule

@@ -1,7 +1,7 @@
 use Rattle.std.proofs.Common.{◌≡◌, ℕ, ◌<◌, ◌+◌, ◌||◌, ◌∷◌, ◌++◌, [], ◌∙◌, ap, sym, subst, false, length, get_or, arith, rules, List}
 use Rattle.std.specs.Prelude.{IsTrue}
 use Rattle.std.proofs.lemmas.List.{length_push}
-use Rattle.dcsp_problem.specs.Problems.{rule_at}
+use Rattle.dcsp_rule.specs.Problems.{rule_at}
 use Rattle.dcsp_row.specs.declared.marks.Marks.{Marks}
 use Rattle.dcsp_row.specs.Easy.{has_span}
 use Rattle.dcsp_row.specs.Marks.{is_marked, is_row, FitsSize}

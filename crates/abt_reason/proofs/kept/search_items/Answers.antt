@@ -2,7 +2,7 @@ use Rattle.std.proofs.Common.{◌≡◌, ◌<◌, ◌∙◌, ap, length, None, �
 use Rattle.std.proofs.lemmas.List.{length-set}
 use Rattle.dcsp_defs.specs.Csp.{PartialAssignment, with_value}
 use Rattle.abt_defs.specs.Agents.{values_in}
-use Rattle.abt_view.specs.Views.{view_of}
+use Rattle.abt_parts.specs.Views.{view_of}
 use Rattle.abt_reason.specs.Causes.{first_step}
 use Rattle.abt_reason.specs.Kept.{own_at}
 use Rattle.abt_reason.proofs.Loops.{done_more}

@@ -1,6 +1,6 @@
 use Rattle.std.proofs.Common.{◌<◌, ◌∙◌, ap, length, get_or, arith, ℕ, List}
 use Rattle.abt_defs.specs.Agents.{values_in}
-use Rattle.abt_view.specs.Views.{view_of}
+use Rattle.abt_parts.specs.Views.{view_of}
 use Rattle.abt_reason.specs.Cached.{size_of}
 use Rattle.abt_reason.proofs.MarkLaws.{others_at, right_at}
 use Rattle.abt_reason.proofs.rules.refresh.Goals as goal

@@ -1,8 +1,8 @@
 use Rattle.std.proofs.Common.{◌≢◌, ◌≡◌, ◌∙◌, sym, subst, ℕ, List, Bool, below_more, get_or, inl, inr}
 use Rattle.std.proofs.lemmas.Bool.{cases_eq}
 use Rattle.abt_defs.specs.Agents.{values_in}
-use Rattle.abt_view.specs.Views.{view_of}
-use Rattle.dcsp_problem.specs.Problems.{Contents}
+use Rattle.abt_parts.specs.Views.{view_of}
+use Rattle.dcsp_rule.specs.Problems.{Contents}
 use Rattle.dcsp_defs.specs.Csp.{PartialAssignment}
 use Rattle.std.proofs.lemmas.List.{get_or_default}
 use Rattle.abt_reason.specs.declared.named.Naming.{Naming}

@@ -1,6 +1,6 @@
 use Rattle.std.proofs.Common.{ℕ, ◌<◌, get_or}
 use Rattle.abt_defs.specs.Agents.{values_in}
-use Rattle.abt_view.specs.Views.{view_of}
+use Rattle.abt_parts.specs.Views.{view_of}
 use Rattle.abt_reason.specs.declared.named.Naming.{Naming}
 use Rattle.abt_reason.specs.Grids.{rows_of}
 use Rattle.abt_reason.specs.Cached.{size_of, AreRows, IsRightAt, IsRoom}

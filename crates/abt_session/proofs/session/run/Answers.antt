@@ -1,5 +1,5 @@
 use Rattle.std.proofs.Common.{refl, ℕ}
-use Rattle.dcsp_problem.specs.Problems.{csp_of}
+use Rattle.dcsp_rule.specs.Problems.{csp_of}
 use Rattle.abt_session.specs.Answers.{first_answers}
 use Rattle.dcsp_script.specs.Scripts.{outside}
 use Rattle.abt_session.specs.Sessions.{run_script}
@@ -13,13 +13,13 @@ pub returns-in_default-clause-takes_part : goal.returns-in_default-clause-takes_
 returns-in_default-clause-takes_part g c = takes_none c.args.keep _ c.args.taken.now c.args.taken.now refl
 
 pub returns-in_default-clause-verdicts : goal.returns-in_default-clause-verdicts
-returns-in_default-clause-verdicts g c = c.verdicts.ensures (csp_of c.args.problem.now) c.vars-vars.ensures.csp c.args.most (first_answers c.args.most (g.C.Choices.answers c.args.choices.now))
+returns-in_default-clause-verdicts g c = c.verdicts.ensures (csp_of c.args.problem.now) c.denotes_csp.ensures.csp c.args.most (first_answers c.args.most (g.C.Choices.answers c.args.choices.now))
 
 pub returns-in_default-clause-stops : goal.returns-in_default-clause-stops
 returns-in_default-clause-stops g c = c.stops.ensures (csp_of c.args.problem.now) c.args.most (first_answers c.args.most (g.C.Choices.answers c.args.choices.now))
 
 pub returns-in_err-result-clause-verdicts : goal.returns-in_err-result-clause-verdicts
-returns-in_err-result-clause-verdicts g c = c.verdicts.ensures (csp_of c.args.problem.now) c.vars-vars.ensures.csp c.args.most (first_answers c.args.most (g.C.Choices.answers c.args.choices.now))
+returns-in_err-result-clause-verdicts g c = c.verdicts.ensures (csp_of c.args.problem.now) c.denotes_csp.ensures.csp c.args.most (first_answers c.args.most (g.C.Choices.answers c.args.choices.now))
 
 pub returns-in_err-result-clause-stops : goal.returns-in_err-result-clause-stops
 returns-in_err-result-clause-stops g c = c.stops.ensures (csp_of c.args.problem.now) c.args.most (first_answers c.args.most (g.C.Choices.answers c.args.choices.now))
@@ -30,7 +30,7 @@ returns-clause-wrote g c =
     made_then_memory c.outcome_of.result c.outcome_of.ensures.only_memory left.wrote
 
 pub returns-clause-verdicts : goal.returns-clause-verdicts
-returns-clause-verdicts g c = c.verdicts.ensures (csp_of c.args.problem.now) c.vars-vars.ensures.csp c.args.most (first_answers c.args.most (g.C.Choices.answers c.args.choices.now))
+returns-clause-verdicts g c = c.verdicts.ensures (csp_of c.args.problem.now) c.denotes_csp.ensures.csp c.args.most (first_answers c.args.most (g.C.Choices.answers c.args.choices.now))
 
 pub returns-clause-stops : goal.returns-clause-stops
 returns-clause-stops g c = c.stops.ensures (csp_of c.args.problem.now) c.args.most (first_answers c.args.most (g.C.Choices.answers c.args.choices.now))

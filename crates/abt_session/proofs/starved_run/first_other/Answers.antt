@@ -1,5 +1,5 @@
 use Rattle.std.proofs.Common.{◌≤◌, length, sym, subst}
-use Rattle.dcsp_problem.specs.Problems.{csp_of}
+use Rattle.dcsp_rule.specs.Problems.{csp_of}
 use Rattle.abt_defs.specs.Network.{ready}
 use Rattle.abt_session.proofs.Links.{found_first, found_none, tested}
 use Rattle.abt_session.proofs.starved_run.first_other.Goals as goal

@@ -1,5 +1,5 @@
 use Rattle.std.proofs.Common.{◌≡◌, ℕ, ◌<◌, Some, slice_get}
-use Rattle.dcsp_problem.specs.Problems.{csp_of}
+use Rattle.dcsp_rule.specs.Problems.{csp_of}
 use Rattle.abt_defs.specs.Network.{Network, ready}
 use Rattle.abt_network.specs.Standing.{StandsAt}
 use Rattle.abt_session.proofs.starved_run.first_other.Given as goal

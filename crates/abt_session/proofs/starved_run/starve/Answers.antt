@@ -1,5 +1,5 @@
 use Rattle.std.proofs.Common.{◌∙◌}
-use Rattle.dcsp_problem.specs.Problems.{csp_of}
+use Rattle.dcsp_rule.specs.Problems.{csp_of}
 use Rattle.abt_defs.specs.Network.{start}
 use Rattle.abt_session.specs.Starving.{starving_choices}
 use Rattle.abt_session.proofs.Links.{own_numbers}
@@ -15,7 +15,7 @@ returns-in_err-network-clause-near c = are_near (csp_of c.args.problem.now) c.ar
 pub returns-in_err-network-clause-verdicts : goal.returns-in_err-network-clause-verdicts
 returns-in_err-network-clause-verdicts c =
     let p = csp_of c.args.problem.now in
-    c.verdicts.ensures p c.vars-vars.ensures.csp c.args.most (starving_choices p c.args.from c.args.to c.args.most)
+    c.verdicts.ensures p c.denotes_csp.ensures.csp c.args.most (starving_choices p c.args.from c.args.to c.args.most)
 
 pub returns-in_err-_begun-clause-numbers : goal.returns-in_err-_begun-clause-numbers
 returns-in_err-_begun-clause-numbers c = own_numbers (csp_of c.args.problem.now) c.args.from c.args.to c.args.most (start (csp_of c.args.problem.now))
@@ -26,7 +26,7 @@ returns-in_err-_begun-clause-near c = are_near (csp_of c.args.problem.now) c.arg
 pub returns-in_err-_begun-clause-verdicts : goal.returns-in_err-_begun-clause-verdicts
 returns-in_err-_begun-clause-verdicts c =
     let p = csp_of c.args.problem.now in
-    c.verdicts.ensures p c.vars-vars.ensures.csp c.args.most (starving_choices p c.args.from c.args.to c.args.most)
+    c.verdicts.ensures p c.denotes_csp.ensures.csp c.args.most (starving_choices p c.args.from c.args.to c.args.most)
 
 pub returns-in_err-deliver_others-clause-numbers : goal.returns-in_err-deliver_others-clause-numbers
 returns-in_err-deliver_others-clause-numbers c = own_numbers (csp_of c.args.problem.now) c.args.from c.args.to c.args.most (start (csp_of c.args.problem.now))
@@ -37,14 +37,14 @@ returns-in_err-deliver_others-clause-near c = are_near (csp_of c.args.problem.no
 pub returns-in_err-deliver_others-clause-verdicts : goal.returns-in_err-deliver_others-clause-verdicts
 returns-in_err-deliver_others-clause-verdicts c =
     let p = csp_of c.args.problem.now in
-    c.verdicts.ensures p c.vars-vars.ensures.csp c.args.most (starving_choices p c.args.from c.args.to c.args.most)
+    c.verdicts.ensures p c.denotes_csp.ensures.csp c.args.most (starving_choices p c.args.from c.args.to c.args.most)
 
 pub returns-clause-starved : goal.returns-clause-starved
 returns-clause-starved c =
     let p = csp_of c.args.problem.now in
     told_of c.args.problem.now c.start.new.self.problem c.args.from c.args.to c.args.most c.deliver_others.new.network (c.in_ok-_begun.ensures.problem ∙ c.in_ok-network.ensures.problem) c.in_ok-deliver_others.ensures.problem
     c.in_ok-deliver_others.ensures.stands c.end_of.result c.end_of.ensures c.deliveries.result c.deliveries.ensures
-    (c.verdicts.ensures p c.vars-vars.ensures.csp c.args.most (starving_choices p c.args.from c.args.to c.args.most))
+    (c.verdicts.ensures p c.denotes_csp.ensures.csp c.args.most (starving_choices p c.args.from c.args.to c.args.most))
 
 pub returns-clause-numbers : goal.returns-clause-numbers
 returns-clause-numbers c = own_numbers (csp_of c.args.problem.now) c.args.from c.args.to c.args.most (start (csp_of c.args.problem.now))
@@ -55,4 +55,4 @@ returns-clause-near c = are_near (csp_of c.args.problem.now) c.args.from c.args.
 pub returns-clause-verdicts : goal.returns-clause-verdicts
 returns-clause-verdicts c =
     let p = csp_of c.args.problem.now in
-    c.verdicts.ensures p c.vars-vars.ensures.csp c.args.most (starving_choices p c.args.from c.args.to c.args.most)
+    c.verdicts.ensures p c.denotes_csp.ensures.csp c.args.most (starving_choices p c.args.from c.args.to c.args.most)

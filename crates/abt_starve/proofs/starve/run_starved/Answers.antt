@@ -1,5 +1,5 @@
 use Rattle.std.proofs.Common.{◌∙◌, ap, ◌++◌, ◌-◌}
-use Rattle.dcsp_problem.specs.Problems.{csp_of}
+use Rattle.dcsp_rule.specs.Problems.{csp_of}
 use Rattle.abt_session.specs.Starving.{starving_choices}
 use Rattle.abt_session.proofs.Pieces.{memory_at_once}
 use Rattle.abt_session.proofs.Whole.{on_ok}

@@ -1,4 +1,4 @@
-use Rattle.dcsp_problem.specs.Problems.{csp_of}
+use Rattle.dcsp_rule.specs.Problems.{csp_of}
 use Rattle.abt_reason.proofs.Standing.{nothing_known}
 use Rattle.agent_trials.proofs.reasons.equals_the_search.Goals as goal
 

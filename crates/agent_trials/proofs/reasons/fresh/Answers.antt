@@ -1,8 +1,8 @@
 use Rattle.std.proofs.Common.{◌≡◌, sym, subst, List, Ok, Result, Err, None, []}
 use Rattle.std.specs.Prelude.{IfOk}
 use Rattle.abt_defs.specs.Agents.{View, values_in}
-use Rattle.abt_view.specs.Views.{view_of}
-use Rattle.abt_store.specs.declared.Recorded.{Recorded}
+use Rattle.abt_parts.specs.Views.{view_of}
+use Rattle.abt_parts.specs.declared.recorded.Recorded.{Recorded}
 use Rattle.abt_reason.specs.Cached.{Cached, StandsFor}
 use Rattle.agent_trials.proofs.reasons.fresh.Goals as goal
 

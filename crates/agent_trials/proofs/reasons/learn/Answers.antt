@@ -1,13 +1,13 @@
 use Rattle.std.proofs.Common.{◌≡◌, ◌<◌, ◌∙◌, ap, sym, subst, length, cond, arith, rules, w64, SFits, to_z, of_z, Some, ℤ}
 use Rattle.std.specs.Prelude.{pos}
 use Rattle.std.proofs.lemmas.Int.{to_z-of_z}
-use Rattle.dcsp_nogood.specs.declared.Pair.{Pair}
+use Rattle.dcsp_defs.specs.declared.nogood.Pair.{Pair}
 use Rattle.dcsp_defs.specs.Words.{In, update}
 use Rattle.dcsp_defs.specs.Csp.{domain}
-use Rattle.dcsp_problem.specs.Problems.{Contents, csp_of, AreInDomains}
+use Rattle.dcsp_rule.specs.Problems.{Contents, csp_of, AreInDomains}
 use Rattle.dcsp_problem.proofs.RisingNumbers.{In-get_or}
 use Rattle.abt_defs.specs.Agents.{Stamped, View, values_in}
-use Rattle.abt_view.specs.Views.{view_of}
+use Rattle.abt_parts.specs.Views.{view_of}
 use Rattle.abt_reason.specs.Kept.{own_at}
 use Rattle.abt_reason.proofs.Standing.{stood_before_learning, learnt_in_domains}
 use Rattle.agent_trials.proofs.reasons.learn.Goals as goal

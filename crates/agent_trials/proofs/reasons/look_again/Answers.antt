@@ -1,7 +1,7 @@
 use Rattle.std.proofs.Common.{refl, inl}
 use Rattle.abt_defs.specs.Agents.{values_in}
-use Rattle.abt_view.specs.Views.{view_of}
-use Rattle.dcsp_problem.specs.Problems.{csp_of}
+use Rattle.abt_parts.specs.Views.{view_of}
+use Rattle.dcsp_rule.specs.Problems.{csp_of}
 use Rattle.abt_reason.proofs.Standing.{nothing_known}
 use Rattle.agent_trials.proofs.reasons.look_again.Goals as goal
 

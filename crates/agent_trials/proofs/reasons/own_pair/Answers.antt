@@ -1,7 +1,7 @@
 use Rattle.std.proofs.Common.{◌≡◌, ap, ◌∙◌, sym, rules, w64, SFits}
 use Rattle.std.specs.Prelude.{pos}
 use Rattle.std.proofs.lemmas.Int.{to_z-of_z}
-use Rattle.dcsp_nogood.specs.Pairs.{pair_of}
+use Rattle.dcsp_defs.specs.Pairs.{pair_of}
 use Rattle.abt_reason.specs.Kept.{own_at}
 use Rattle.abt_reason.proofs.Loops.{get_or_found}
 use Rattle.agent_trials.proofs.reasons.own_pair.Goals as goal

@@ -1,6 +1,6 @@
 use Rattle.std.proofs.Common.{◌≡◌}
 use Rattle.abt_defs.specs.Agents.{values_in}
-use Rattle.abt_view.specs.Views.{view_of}
+use Rattle.abt_parts.specs.Views.{view_of}
 use Rattle.abt_reason.specs.Cached.{StandsFor}
 use Rattle.agent_trials.proofs.reasons.record_each.Given as goal
 

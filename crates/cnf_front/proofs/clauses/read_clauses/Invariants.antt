@@ -1,6 +1,6 @@
 use Rattle.std.proofs.Common.{◌≡◌, ◌+◌, length}
 use Rattle.std.specs.Prelude.{All}
-use Rattle.dcsp_problem.specs.Rules.{IsTermOf}
+use Rattle.dcsp_rule.specs.Rules.{IsTermOf}
 use Rattle.cnf_front.specs.Dimacs.{words}
 use Rattle.cnf_front.specs.Formulas.{clauses_from, terms_so_far, no_literals}
 use Rattle.cnf_front.proofs.clauses.read_clauses.Given as goal

@@ -2,11 +2,11 @@ use Rattle.std.proofs.Common.{◌≡◌, ℕ, ◌*◌, ◌<◌, ◌∙◌, ap, p
 use Rattle.std.specs.Prelude.{unsigned_abs}
 use Rattle.std.proofs.lemmas.Int.{to_z-of_z}
 use Rattle.std.proofs.lemmas.List.{get_or_default}
-use Rattle.dcsp_problem.specs.declared.rule.Term.TheVariants.{Const}
-use Rattle.dcsp_linear.specs.Sums.{width_of}
-use Rattle.dcsp_linear.specs.declared.TheConstants.{WIDEST}
-use Rattle.dcsp_linear.proofs.Steps.{greatest-end}
-use Rattle.dcsp_problem.specs.Widths.{greatest_of}
+use Rattle.dcsp_rule.specs.declared.rule.Term.TheVariants.{Const}
+use Rattle.dcsp_meaning.specs.Sums.{width_of}
+use Rattle.dcsp_meaning.specs.declared.linear.TheConstants.{WIDEST}
+use Rattle.dcsp_meaning.proofs.Steps.{greatest-end}
+use Rattle.dcsp_rule.specs.Widths.{greatest_of}
 use Rattle.dcsp_problem.proofs.WidthLaws.{width_here, is_wider, is_narrower}
 use Rattle.dcsp_problem.proofs.widths.is_wide.Goals as goal
 

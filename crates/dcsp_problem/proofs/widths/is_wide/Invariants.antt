@@ -1,7 +1,7 @@
 use Rattle.std.proofs.Common.{◌≡◌, ◌+◌, ◌≤◌, drop, map, sum_by, zip}
-use Rattle.dcsp_linear.specs.Sums.{greatest_size, width_of}
-use Rattle.dcsp_linear.specs.declared.TheConstants.{WIDEST}
-use Rattle.dcsp_problem.specs.Widths.{greatest_of}
+use Rattle.dcsp_meaning.specs.Sums.{greatest_size, width_of}
+use Rattle.dcsp_meaning.specs.declared.linear.TheConstants.{WIDEST}
+use Rattle.dcsp_rule.specs.Widths.{greatest_of}
 use Rattle.dcsp_problem.proofs.widths.is_wide.Given as goal
 
 abbrev pub invariant-loop-place : goal.invariant-loop-place

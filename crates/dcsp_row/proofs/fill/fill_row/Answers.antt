@@ -1,11 +1,11 @@
 use Rattle.std.proofs.Common.{◌<◌, ◌≤◌, length, arith, ◌∙◌, ap, sym, subst, ℤ, List}
 use Rattle.dcsp_defs.specs.Csp.{domain, filled, with_value}
-use Rattle.dcsp_problem.specs.declared.rule.Rule.{Rule}
-use Rattle.dcsp_problem.specs.Rules.{no_rule}
-use Rattle.dcsp_problem.specs.Problems.{csp_of, constraint_at}
+use Rattle.dcsp_rule.specs.declared.rule.Rule.{Rule}
+use Rattle.dcsp_rule.specs.Rules.{no_rule}
+use Rattle.dcsp_rule.specs.Problems.{csp_of, constraint_at}
 use Rattle.std.specs.Prelude.{pos}
-use Rattle.dcsp_linear.specs.Sums.{widest}
-use Rattle.dcsp_problem.specs.Widths.{rule_sizes}
+use Rattle.dcsp_meaning.specs.Sums.{widest}
+use Rattle.dcsp_rule.specs.Widths.{rule_sizes}
 use Rattle.dcsp_problem.proofs.RisingNumbers.{In-get_or}
 use Rattle.dcsp_problem.proofs.Narrow.{narrow_of_known}
 use Rattle.dcsp_row.specs.Rows.{own_at, TellsFalse}

@@ -1,12 +1,12 @@
 use Rattle.std.proofs.Common.{◌≡◌, ◌≢◌, ℕ, ◌<◌, ◌≤◌, length, get_or, arith, ◌∙◌, ap, sym, subst, ℤ, List, not, true, false}
 use Rattle.std.specs.Prelude.{IfSome, IsTrue, pos}
 use Rattle.dcsp_defs.specs.Csp.{domain, filled, with_value}
-use Rattle.dcsp_problem.specs.declared.rule.Rule.{Rule}
-use Rattle.dcsp_problem.specs.Rules.{has_shape, mentions, no_rule, scope_of, IsRuleOf}
-use Rattle.dcsp_problem.specs.Pairs.{compares_variable, is_missed}
-use Rattle.dcsp_problem.specs.Problems.{csp_of, constraint_at, rule_at}
-use Rattle.dcsp_linear.specs.Sums.{widest}
-use Rattle.dcsp_problem.specs.Widths.{rule_sizes}
+use Rattle.dcsp_rule.specs.declared.rule.Rule.{Rule}
+use Rattle.dcsp_rule.specs.Rules.{has_shape, mentions, no_rule, scope_of, IsRuleOf}
+use Rattle.dcsp_rule.specs.Pairs.{compares_variable, is_missed}
+use Rattle.dcsp_rule.specs.Problems.{csp_of, constraint_at, rule_at}
+use Rattle.dcsp_meaning.specs.Sums.{widest}
+use Rattle.dcsp_rule.specs.Widths.{rule_sizes}
 use Rattle.dcsp_defs.specs.Words.{In}
 use Rattle.dcsp_problem.proofs.RisingNumbers.{In-filter_below, In-get_or}
 use Rattle.std.proofs.lemmas.Bool.{eqb-false}

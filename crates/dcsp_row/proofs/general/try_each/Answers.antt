@@ -2,7 +2,7 @@ use Rattle.std.proofs.Common.{◌≡◌, ◌∙◌, ap, sym, subst, ℤ, List, a
 use Rattle.std.specs.Prelude.{pos}
 use Rattle.std.proofs.lemmas.Int.{to_z-of_z}
 use Rattle.dcsp_defs.specs.Csp.{domain, with_value}
-use Rattle.dcsp_problem.specs.Problems.{csp_of, AreInDomains}
+use Rattle.dcsp_rule.specs.Problems.{csp_of, AreInDomains}
 use Rattle.dcsp_problem.proofs.RisingNumbers.{In-get_or}
 use Rattle.dcsp_row.specs.Rows.{own_at, is_ruled_out}
 use Rattle.dcsp_row.proofs.Domains.{one_marked, get_or_found, own_in_domains}

@@ -1,5 +1,5 @@
 use Rattle.dcsp_defs.specs.Csp.{domain}
-use Rattle.dcsp_problem.specs.Problems.{csp_of}
+use Rattle.dcsp_rule.specs.Problems.{csp_of}
 use Rattle.dcsp_row.specs.Rows.{is_ruled_out, MarksBelow}
 use Rattle.dcsp_row.proofs.general.try_each.Given as goal
 

@@ -1,7 +1,7 @@
 use Rattle.std.proofs.Common.{◌∙◌, ◌+ℤ◌, ◌*ℤ◌, ap, sym, arith, rules, w64, SFits}
 use Rattle.std.specs.Int.{w128}
 use Rattle.std.proofs.lemmas.Int.{to_z-of_z, fits_signed_from_abs}
-use Rattle.dcsp_linear.proofs.Steps.{unsigned_abs-add}
+use Rattle.dcsp_meaning.proofs.Steps.{unsigned_abs-add}
 use Rattle.dcsp_row.proofs.LineLaws.{two_products}
 use Rattle.dcsp_row.proofs.line.line_of_pair.Goals as goal
 

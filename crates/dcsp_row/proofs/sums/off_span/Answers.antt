@@ -2,8 +2,8 @@ use Rattle.std.proofs.Common.{◌≡◌, ◌≢◌, ◌∙◌, ap, sym, ℤ, pos
 use Rattle.std.specs.Int.{w128}
 use Rattle.std.proofs.lemmas.Int.{ints, to_z-of_z}
 use Rattle.std.specs.Prelude.{unwrap_or}
-use Rattle.dcsp_linear.specs.Sums.{stands}
-use Rattle.dcsp_problem.specs.Rules.{is_told}
+use Rattle.dcsp_meaning.specs.Sums.{stands}
+use Rattle.dcsp_rule.specs.Rules.{is_told}
 use Rattle.dcsp_row.specs.declared.sums.SumTruth.{SumTruth}
 use Rattle.dcsp_row.specs.Lines.{line_at, told_at}
 use Rattle.dcsp_row.specs.Rows.{own_at}

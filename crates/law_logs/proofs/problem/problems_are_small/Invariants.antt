@@ -2,7 +2,7 @@ use Rattle.std.proofs.Common.{ℕ, ℤ, ◌<◌, FitsSigned}
 use Rattle.std.specs.Int.{w64}
 use Rattle.dcsp_defs.specs.Words.{In}
 use Rattle.dcsp_defs.specs.Csp.{domain}
-use Rattle.dcsp_problem.specs.Problems.{csp_of}
+use Rattle.dcsp_rule.specs.Problems.{csp_of}
 use Rattle.law_logs.proofs.problem.problems_are_small.Given as goal
 
 -- the values of the variables so far have 64 bits

@@ -1,7 +1,7 @@
 use Rattle.std.proofs.Common.{◌≡◌, ◌↔◌, IsTrue, IfOk, List, true, sym, subst, All}
-use Rattle.dcsp_nogood.specs.declared.Pair.{Pair}
+use Rattle.dcsp_defs.specs.declared.nogood.Pair.{Pair}
 use Rattle.dcsp_defs.specs.Derivation.{IsKnownPair}
-use Rattle.dcsp_problem.specs.Problems.{Contents, csp_of}
+use Rattle.dcsp_rule.specs.Problems.{Contents, csp_of}
 use Rattle.ngd_check.specs.Citing.{IsRightCiting}
 use Rattle.ngd_check.specs.Progress.{kept_at}
 use Rattle.ngd_check.proofs.Zips.{in_all}

@@ -1,8 +1,8 @@
 use Rattle.std.proofs.Common.{List, take, ◌+◌, arith, subst, sym}
 use Rattle.std.proofs.lemmas.List.Elements.{All-more}
-use Rattle.dcsp_nogood.specs.Pairs.{no_pair}
+use Rattle.dcsp_defs.specs.Pairs.{no_pair}
 use Rattle.dcsp_defs.specs.Derivation.{IsKnownPair}
-use Rattle.dcsp_problem.specs.Problems.{csp_of}
+use Rattle.dcsp_rule.specs.Problems.{csp_of}
 use Rattle.ngd_check.specs.declared.arena.Placed.{Placed}
 use Rattle.ngd_check.specs.Places.{ArePlaced}
 use Rattle.ngd_check.proofs.Placing.{placed_known, placed_more}

@@ -1,7 +1,7 @@
 use Rattle.std.proofs.Common.{take}
 use Rattle.std.specs.Prelude.{All}
 use Rattle.dcsp_defs.specs.Derivation.{IsKnownPair}
-use Rattle.dcsp_problem.specs.Problems.{csp_of}
+use Rattle.dcsp_rule.specs.Problems.{csp_of}
 use Rattle.ngd_check.specs.Places.{ArePlaced}
 use Rattle.ngd_check.proofs.places.place_each.Given as goal
 

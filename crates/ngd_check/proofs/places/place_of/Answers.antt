@@ -2,7 +2,7 @@ use Rattle.std.proofs.Common.{rules, ◌≡◌, ◌∙◌, ap, subst, arith, Lis
 use Rattle.std.specs.Prelude.{ℤ}
 use Rattle.std.proofs.lemmas.Int.{to_z-of_z}
 use Rattle.dcsp_domain.specs.Sets.{has}
-use Rattle.dcsp_problem.specs.Problems.{csp_of}
+use Rattle.dcsp_rule.specs.Problems.{csp_of}
 use Rattle.ngd_check.proofs.Parts.{In-has, within}
 use Rattle.ngd_check.proofs.Placing.{found_place}
 use Rattle.ngd_check.proofs.places.place_of.Goals as goal

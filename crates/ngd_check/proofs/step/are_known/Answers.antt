@@ -1,9 +1,9 @@
 use Rattle.std.proofs.Common.{refl, arith}
 use Rattle.std.proofs.lemmas.List.{take_all}
 use Rattle.std.proofs.lemmas.List.Elements.{All-more}
-use Rattle.dcsp_nogood.specs.Pairs.{no_pair}
+use Rattle.dcsp_defs.specs.Pairs.{no_pair}
 use Rattle.dcsp_defs.specs.Derivation.{IsKnownPair}
-use Rattle.dcsp_problem.specs.Problems.{csp_of}
+use Rattle.dcsp_rule.specs.Problems.{csp_of}
 use Rattle.ngd_check.proofs.step.are_known.Goals as goal
 
 pub loop-pair-preserved : goal.loop-pair-preserved

@@ -7,7 +7,7 @@ use Rattle.dcsp_defs.specs.declared.Reason.TheVariants.{Rule}
 use Rattle.dcsp_defs.specs.Words.{In}
 use Rattle.dcsp_defs.proofs.Lists.{get-In}
 use Rattle.dcsp_defs.specs.Csp.{with_value}
-use Rattle.dcsp_problem.specs.Problems.{csp_of}
+use Rattle.dcsp_rule.specs.Problems.{csp_of}
 use Rattle.ngd_check.specs.Citing.{IsReasonUnder}
 use Rattle.ngd_check.proofs.Parts.{more_in_domains}
 use Rattle.ngd_check.proofs.Zips.{zip_length, zip_at, zip_more}

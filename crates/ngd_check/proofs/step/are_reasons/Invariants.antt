@@ -1,7 +1,7 @@
 use Rattle.std.proofs.Common.{take}
 use Rattle.std.specs.List.{AllZip}
 use Rattle.dcsp_defs.specs.Csp.{domain, with_value}
-use Rattle.dcsp_problem.specs.Problems.{csp_of}
+use Rattle.dcsp_rule.specs.Problems.{csp_of}
 use Rattle.ngd_check.specs.Citing.{IsReasonUnder}
 use Rattle.ngd_check.proofs.step.are_reasons.Given as goal
 

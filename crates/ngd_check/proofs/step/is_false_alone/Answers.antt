@@ -1,5 +1,5 @@
 use Rattle.std.proofs.Common.{sym, ◌∙◌, arith, ltb-true}
-use Rattle.dcsp_problem.specs.Problems.{csp_of}
+use Rattle.dcsp_rule.specs.Problems.{csp_of}
 use Rattle.ngd_check.proofs.Parts.{within, as_many, violated_alone, alone_violated}
 use Rattle.ngd_check.proofs.step.is_false_alone.Goals as goal
 

@@ -1,7 +1,7 @@
 use Rattle.std.proofs.Common.{◌↔◌, IsTrue, sym, subst, arith, ltb-true}
 use Rattle.dcsp_defs.specs.declared.Reason.{Reason}
 use Rattle.dcsp_defs.specs.Csp.{with_value}
-use Rattle.dcsp_problem.specs.Problems.{csp_of}
+use Rattle.dcsp_rule.specs.Problems.{csp_of}
 use Rattle.ngd_check.specs.Citing.{IsReasonUnder}
 use Rattle.ngd_check.proofs.Parts.{within, as_many, false_rule}
 use Rattle.ngd_check.proofs.step.is_reason.Goals as goal

@@ -1,9 +1,9 @@
 use Rattle.std.proofs.Common.{◌≡◌, Option, Some, None, refl, arith, false, is_some, sym, ap, ◌∙◌, subst}
 use Rattle.std.specs.Prelude.{ℤ}
 use Rattle.std.specs.List.{AllZip}
-use Rattle.dcsp_nogood.specs.Pairs.{value_at}
+use Rattle.dcsp_defs.specs.Pairs.{value_at}
 use Rattle.dcsp_defs.specs.Csp.{PartialAssignment, domain, with_value}
-use Rattle.dcsp_problem.specs.Problems.{csp_of, AreInDomains}
+use Rattle.dcsp_rule.specs.Problems.{csp_of, AreInDomains}
 use Rattle.ngd_check.specs.Citing.{IsReasonUnder}
 use Rattle.ngd_check.proofs.Parts.{pairs_in_domains}
 use Rattle.ngd_check.proofs.Zips.{all_in}

@@ -1,7 +1,7 @@
 use Rattle.std.proofs.Common.{◌≡◌, ℕ, ◌+◌, ◌≤◌, List, ◌++◌, length, take, Vec, get_or, Global, Result, Ok, Err, IsOk, inl, inr, sym, ap, subst, ◌∙◌, arith}
 use Rattle.std.specs.Prelude.{IsErrOf}
 use Rattle.std.proofs.lemmas.List.{take_all}
-use Rattle.ngd_log.specs.declared.entry.Entry.{Entry as AnEntry}
+use Rattle.dcsp_defs.specs.declared.entry.Entry.{Entry as AnEntry}
 use Rattle.ngd_log.specs.declared.log.LogError.{LogError}
 use Rattle.ngd_log.specs.declared.log.LogError.TheVariants.{Line, Memory}
 use Rattle.ngd_log.specs.EntryTexts.{IsLogOfEntries}

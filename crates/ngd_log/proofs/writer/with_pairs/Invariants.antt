@@ -2,7 +2,7 @@ use Rattle.std.proofs.Common.{◌≡◌, ◌++◌, take, FitsSigned}
 use Rattle.std.specs.Prelude.{codes, flat_map}
 use Rattle.std.specs.Int.{w64}
 use Rattle.std.specs.List.{AllByRecursion}
-use Rattle.dcsp_nogood.specs.declared.Pair.{Pair}
+use Rattle.dcsp_defs.specs.declared.nogood.Pair.{Pair}
 use Rattle.ngd_log.specs.StepText.{pair_text}
 use Rattle.ngd_log.proofs.writer.with_pairs.Given as goal
 

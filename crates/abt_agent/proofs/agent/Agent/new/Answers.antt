@@ -1,5 +1,5 @@
 use Rattle.std.proofs.Common.{ℕ, ap, refl}
-use Rattle.dcsp_problem.specs.Problems.{Contents}
+use Rattle.dcsp_rule.specs.Problems.{Contents}
 use Rattle.abt_agent.proofs.agent.Agent.new.Goals as goal
 
 pub returns : goal.returns

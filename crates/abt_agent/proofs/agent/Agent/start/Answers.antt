@@ -1,7 +1,7 @@
 use Rattle.std.proofs.Common.{◌≡◌, false, subst, sym}
-use Rattle.law_bounded_store.specs.Stores.{IsBoundedStore}
-use Rattle.law_right_steps.specs.Merges.{IsUnionOfReasons}
-use Rattle.dcsp_problem.specs.Problems.{csp_of}
+use Rattle.law_agent.specs.Stores.{IsBoundedStore}
+use Rattle.law_agent.specs.Merges.{IsUnionOfReasons}
+use Rattle.dcsp_rule.specs.Problems.{csp_of}
 use Rattle.abt_agent.specs.States.{State, IsFresh, Acts, stands_for}
 use Rattle.abt_agent.specs.Rights.{IsRightTurn}
 use Rattle.abt_agent.specs.Bodies.{agent_of}
@@ -30,4 +30,4 @@ returns-in-Ok-clause-bounded c =
 pub returns-in-Ok-clause-merges : goal.returns-in-Ok-clause-merges
 returns-in-Ok-clause-merges c =
     subst (λ (s : State). IsUnionOfReasons (csp_of s.problem) s.me (agent_of c.first_settle.new.self)) c.self.view_is
-    (c.sound_merges.ensures (csp_of c.self.inside.body.known.problem.now) c.vars-vars.ensures.csp c.self.inside.body.known.me (agent_of c.first_settle.new.self) (moved_sound c.first_settle.new.self.known c.self.inside.body.known (agent_of c.first_settle.new.self) (sym c.in-Ok.ensures.owner) c.in-Ok.ensures.good.sound))
+    (c.sound_merges.ensures (csp_of c.self.inside.body.known.problem.now) c.denotes_csp.ensures.csp c.self.inside.body.known.me (agent_of c.first_settle.new.self) (moved_sound c.first_settle.new.self.known c.self.inside.body.known (agent_of c.first_settle.new.self) (sym c.in-Ok.ensures.owner) c.in-Ok.ensures.good.sound))

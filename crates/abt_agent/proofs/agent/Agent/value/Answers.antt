@@ -1,7 +1,7 @@
 use Rattle.std.proofs.Common.{◌≡◌, subst, false}
-use Rattle.law_bounded_store.specs.Stores.{IsBoundedStore}
-use Rattle.law_right_steps.specs.Merges.{IsUnionOfReasons}
-use Rattle.dcsp_problem.specs.Problems.{csp_of}
+use Rattle.law_agent.specs.Stores.{IsBoundedStore}
+use Rattle.law_agent.specs.Merges.{IsUnionOfReasons}
+use Rattle.dcsp_rule.specs.Problems.{csp_of}
 use Rattle.abt_agent.specs.States.{State, stands_for}
 use Rattle.abt_agent.specs.Bodies.{agent_of}
 use Rattle.abt_agent.proofs.agent.Agent.value.Goals as goal
@@ -14,4 +14,4 @@ returns-clause-bounded c =
 pub returns-clause-merges : goal.returns-clause-merges
 returns-clause-merges c =
     subst (λ (s : State). s.spent ≡ false → IsUnionOfReasons (csp_of s.problem) s.me (stands_for s)) c.self.view_is
-    (λ good. c.sound_merges.ensures (csp_of c.self.inside.body.known.problem.now) c.vars-vars.ensures.csp c.self.inside.body.known.me (agent_of c.self.inside.body) (c.self.invariant good).sound)
+    (λ good. c.sound_merges.ensures (csp_of c.self.inside.body.known.problem.now) c.denotes_csp.ensures.csp c.self.inside.body.known.me (agent_of c.self.inside.body) (c.self.invariant good).sound)

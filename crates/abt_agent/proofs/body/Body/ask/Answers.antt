@@ -2,8 +2,8 @@ use Rattle.std.proofs.Common.{List, ℕ, sym, subst, ◌∙◌}
 use Rattle.dcsp_defs.specs.Csp.{names}
 use Rattle.abt_defs.specs.Agents.{Add_link, is_among}
 use Rattle.abt_defs.specs.Steps as steps
-use Rattle.abt_view.specs.Views.{view_of}
-use Rattle.abt_store.specs.Stores.{records_of}
+use Rattle.abt_parts.specs.Views.{view_of}
+use Rattle.abt_parts.specs.Stores.{records_of}
 use Rattle.abt_agent.specs.Outgoing.{Posts}
 use Rattle.abt_agent.proofs.Asks.{asked_is, none_asked, none_marked}
 use Rattle.abt_agent.proofs.Posting.{posts_none}

@@ -1,5 +1,5 @@
 use Rattle.std.proofs.Common.{subst}
-use Rattle.dcsp_problem.specs.Problems.{csp_of}
+use Rattle.dcsp_rule.specs.Problems.{csp_of}
 use Rattle.abt_agent.specs.Bodies.{agent_of, Does}
 use Rattle.abt_agent.proofs.Fresh.{same_number, first_turn}
 use Rattle.abt_agent.proofs.Receives.{ok_then}
@@ -22,4 +22,4 @@ pub returns-clause-right : goal.returns-clause-right
 returns-clause-right c made =
     let none : (x : Record) → In x (agent_of c.args.self.now).recorded → ⊥ = λ x u. subst (λ (a : Agent). In x a.recorded) c.requires.fresh u in
     ok_then c.settle.result (λ turn d. settle_right (csp_of c.args.self.now.known.problem.now) made c.args.self.now.known.me (agent_of c.args.self.now)
-    (c.agents_step_right.ensures (csp_of c.args.self.now.known.problem.now) c.vars-vars.ensures.csp c.args.self.now.known.me c.requires.good.sized.in_step.me_exists made (agent_of c.args.self.now) c.requires.good.sound (λ x u. absurd (none x u))) 0 turn d.turn_is) c.settle.ensures.does
+    (c.agents_step_right.ensures (csp_of c.args.self.now.known.problem.now) c.denotes_csp.ensures.csp c.args.self.now.known.me c.requires.good.sized.in_step.me_exists made (agent_of c.args.self.now) c.requires.good.sound (λ x u. absurd (none x u))) 0 turn d.turn_is) c.settle.ensures.does

@@ -1,9 +1,9 @@
 use Rattle.std.proofs.Common.{ℕ, sym, subst, ap, ◌∙◌}
-use Rattle.dcsp_nogood.specs.Pairs.{IsRising as PairsRise}
-use Rattle.dcsp_problem.specs.Problems.{Contents}
+use Rattle.dcsp_defs.specs.Pairs.{IsRising as PairsRise}
+use Rattle.dcsp_rule.specs.Problems.{Contents}
 use Rattle.abt_defs.specs.Steps as steps
-use Rattle.abt_message.specs.Messages.{with_stamps}
-use Rattle.abt_store.specs.Stores.{record_of}
+use Rattle.abt_parts.specs.Messages.{with_stamps}
+use Rattle.abt_parts.specs.Stores.{record_of}
 use Rattle.abt_agent.specs.Bodies.{agent_of, AreProper, IsProper}
 use Rattle.abt_agent.proofs.Learns.{left_proper, heeded, asked_for}
 use Rattle.abt_agent.proofs.Proper.{proper_nogood}

@@ -1,11 +1,11 @@
 use Rattle.std.proofs.Common.{◌≡◌, sym, ap, ◌∙◌, not, ◌&&◌, Some, None, Bool, true, false, rules, w64, SFits, refl}
 use Rattle.std.proofs.lemmas.Int.{to_z-of_z}
 use Rattle.std.specs.Option.{option_map}
-use Rattle.dcsp_nogood.specs.declared.Pair.{Pair}
-use Rattle.dcsp_nogood.specs.Pairs.{value_at}
-use Rattle.dcsp_problem.specs.Problems.{csp_of}
+use Rattle.dcsp_defs.specs.declared.nogood.Pair.{Pair}
+use Rattle.dcsp_defs.specs.Pairs.{value_at}
+use Rattle.dcsp_rule.specs.Problems.{csp_of}
 use Rattle.abt_defs.specs.Steps as steps
-use Rattle.abt_store.specs.Stores.{records_of}
+use Rattle.abt_parts.specs.Stores.{records_of}
 use Rattle.abt_agent.specs.Bodies.{agent_of}
 use Rattle.abt_agent.proofs.Proper.{lowest_proper, refused_same}
 use Rattle.abt_agent.proofs.body.Body.is_wanted.Goals as goal

@@ -1,11 +1,11 @@
 use Rattle.std.proofs.Common.{◌≡◌, ◌&&◌, ap, ◌∙◌, ◌+◌, take, drop, sym, subst, ℕ, ℤ, to_z, of_z, get_or, rules, w64, SFits}
 use Rattle.std.proofs.lemmas.Int.{to_z-of_z}
-use Rattle.dcsp_nogood.specs.Pairs.{no_pair}
+use Rattle.dcsp_defs.specs.Pairs.{no_pair}
 use Rattle.dcsp_defs.specs.Words.{In}
 use Rattle.dcsp_defs.specs.Csp.{domain}
-use Rattle.dcsp_problem.specs.Problems.{Contents, csp_of}
+use Rattle.dcsp_rule.specs.Problems.{Contents, csp_of}
 use Rattle.abt_defs.specs.Steps as steps
-use Rattle.abt_message.specs.Messages.{with_stamps}
+use Rattle.abt_parts.specs.Messages.{with_stamps}
 use Rattle.abt_agent.specs.Bodies.{agent_of}
 use Rattle.abt_agent.proofs.Fits.{fits_next, learn_next}
 use Rattle.abt_agent.proofs.Members.{In-get_or}

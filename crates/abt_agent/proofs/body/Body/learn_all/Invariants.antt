@@ -1,6 +1,6 @@
 use Rattle.std.proofs.Common.{◌≡◌, drop, take}
 use Rattle.abt_defs.specs.Steps as steps
-use Rattle.abt_message.specs.Messages.{with_stamps}
+use Rattle.abt_parts.specs.Messages.{with_stamps}
 use Rattle.abt_agent.specs.Bodies.{agent_of, owner_of, IsSized}
 use Rattle.abt_agent.proofs.body.Body.learn_all.Given as goal
 

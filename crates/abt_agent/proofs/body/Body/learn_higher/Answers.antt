@@ -1,6 +1,6 @@
 use Rattle.std.proofs.Common.{◌≡◌, ◌<◌, true, ◌∙◌, rules}
 use Rattle.abt_defs.specs.Steps as steps
-use Rattle.abt_view.specs.Views.{view_of, stamped_of}
+use Rattle.abt_parts.specs.Views.{view_of, stamped_of}
 use Rattle.abt_agent.specs.Bodies.{agent_of}
 use Rattle.abt_agent.proofs.Fits.{fits_learnt}
 use Rattle.abt_agent.proofs.body.Body.learn_higher.Goals as goal

@@ -2,9 +2,9 @@ use Rattle.std.proofs.Common.{refl, rules, w64, SFits, sym, subst, List, ℕ, �
 use Rattle.std.specs.Prelude.{IfOk}
 use Rattle.abt_defs.specs.Agents as agents
 use Rattle.abt_defs.specs.Steps as steps
-use Rattle.dcsp_problem.specs.Problems.{csp_of}
-use Rattle.abt_message.specs.declared.Message.{Message}
-use Rattle.abt_message.specs.Messages.{message_of, with_stamps}
+use Rattle.dcsp_rule.specs.Problems.{csp_of}
+use Rattle.abt_parts.specs.declared.message.Message.{Message}
+use Rattle.abt_parts.specs.Messages.{message_of, with_stamps}
 use Rattle.abt_agent.specs.declared.Turn.{Turn}
 use Rattle.abt_agent.specs.Bodies.{agent_of, Does}
 use Rattle.abt_agent.specs.Rights.{BringsOfStep}
@@ -30,7 +30,7 @@ returns-in-Tell-clause-right c made rooted brings =
     let does = subst (λ (z : ℤ). IfOk c.receive_tell.result (λ (turn : Turn). Does (steps.receive (csp_of p) c.args.self.now.known.me c.args.number a c.args.from (agents.Announce (record { value = z; stamp = c.in-Tell.stamp }))) c.args.self.now c.receive_tell.new.self c.args.out.now c.receive_tell.new.out turn))
     (to_z-of_z w64 c.in-Tell.value in_range) c.receive_tell.ensures.does in
     ok_then c.receive_tell.result
-    (λ turn d. told_right (csp_of p) made c.args.self.now.known.me a (c.agents_step_right.ensures (csp_of p) c.vars-vars.ensures.csp c.args.self.now.known.me c.requires.good.sized.in_step.me_exists made a c.requires.good.sound rooted) c.args.number turn
+    (λ turn d. told_right (csp_of p) made c.args.self.now.known.me a (c.agents_step_right.ensures (csp_of p) c.denotes_csp.ensures.csp c.args.self.now.known.me c.requires.good.sized.in_step.me_exists made a c.requires.good.sound rooted) c.args.number turn
     c.args.from (record { value = c.in-Tell.value; stamp = c.in-Tell.stamp }) fit.higher fit.value_in d.turn_is)
     does
 
@@ -41,7 +41,7 @@ returns-in-Refuse-clause-right c made rooted brings =
     let fit = subst (λ (m : Message). IsFit p c.args.self.now.known.me c.args.number c.args.from m) c.in-Refuse.is c.requires.fit in
     let of_step = subst (λ (m : Message). BringsOfStep made m) c.in-Refuse.is brings in
     ok_both c.receive_refuse.result
-    (λ up turn d. refused_right (csp_of p) made c.args.self.now.known.me a (c.agents_step_right.ensures (csp_of p) c.vars-vars.ensures.csp c.args.self.now.known.me c.requires.good.sized.in_step.me_exists made a c.requires.good.sound rooted) c.args.number turn
+    (λ up turn d. refused_right (csp_of p) made c.args.self.now.known.me a (c.agents_step_right.ensures (csp_of p) c.denotes_csp.ensures.csp c.args.self.now.known.me c.requires.good.sized.in_step.me_exists made a c.requires.good.sound rooted) c.args.number turn
     c.args.from c.in-Refuse.step c.in-Refuse.nogood c.items.result.now (proper_nogood p c.args.self.now.known.me c.in-Refuse.nogood c.in-Refuse.stamps c.requires.good.sized.in_step.me_exists up fit.0) of_step d.turn_is)
     c.receive_refuse.ensures.rising (c.receive_refuse.ensures.does c.args.from)
 
@@ -50,6 +50,6 @@ returns-in-AddLink-clause-right c made rooted brings =
     let p = c.args.self.now.known.problem.now in
     let a = agent_of c.args.self.now in
     ok_then c.receive_link.result
-    (λ turn d. linked_right (csp_of p) made c.args.self.now.known.me a (c.agents_step_right.ensures (csp_of p) c.vars-vars.ensures.csp c.args.self.now.known.me c.requires.good.sized.in_step.me_exists made a c.requires.good.sound rooted) c.args.number turn
+    (λ turn d. linked_right (csp_of p) made c.args.self.now.known.me a (c.agents_step_right.ensures (csp_of p) c.denotes_csp.ensures.csp c.args.self.now.known.me c.requires.good.sized.in_step.me_exists made a c.requires.good.sound rooted) c.args.number turn
     c.args.from (steps.receive (csp_of p) c.args.self.now.known.me c.args.number a c.args.from agents.Add_link) refl d.turn_is)
     (c.receive_link.ensures.does c.args.number)

@@ -1,6 +1,6 @@
 use Rattle.std.proofs.Common.{◌+◌, false, ℕ, ℤ, List, Some, to_z, of_z, rules, sym, subst, w64, SFits}
 use Rattle.std.proofs.lemmas.Int.{to_z-of_z}
-use Rattle.dcsp_problem.specs.Problems.{csp_of}
+use Rattle.dcsp_rule.specs.Problems.{csp_of}
 use Rattle.abt_defs.specs.Agents.{Announce}
 use Rattle.abt_defs.specs.Steps as steps
 use Rattle.abt_agent.specs.declared.Turn.TheVariants.{Announced}

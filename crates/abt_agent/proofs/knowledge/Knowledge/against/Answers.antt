@@ -1,7 +1,7 @@
 use Rattle.std.proofs.Common.{sym, ap, ◌∙◌, rules, w64, SFits}
 use Rattle.std.specs.Option.{option_map}
 use Rattle.std.proofs.lemmas.Int.{to_z-of_z}
-use Rattle.abt_store.specs.Stores.{place_against}
+use Rattle.abt_parts.specs.Stores.{place_against}
 use Rattle.abt_agent.specs.declared.search.Cause.TheVariants.{KeptNogood}
 use Rattle.abt_agent.proofs.Against.{against_placed}
 use Rattle.abt_agent.proofs.knowledge.Knowledge.against.Goals as goal

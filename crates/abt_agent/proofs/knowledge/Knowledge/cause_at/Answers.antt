@@ -3,8 +3,8 @@ use Rattle.std.proofs.lemmas.Int.{to_z-of_z}
 use Rattle.dcsp_defs.specs.declared.Reason.TheVariants.{Rule, Earlier}
 use Rattle.dcsp_defs.specs.Csp.{domain}
 use Rattle.abt_defs.specs.Agents.{values_in}
-use Rattle.dcsp_problem.specs.Problems.{csp_of}
-use Rattle.abt_view.specs.Views.{view_of}
+use Rattle.dcsp_rule.specs.Problems.{csp_of}
+use Rattle.abt_parts.specs.Views.{view_of}
 use Rattle.abt_reason.specs.Causes.{value_at}
 use Rattle.abt_agent.specs.Causes.{first_against}
 use Rattle.abt_agent.proofs.Causes.{reason_moved, no_reason, rule_reason, step_reason, step_some}

@@ -1,7 +1,7 @@
 use Rattle.std.proofs.Common.{◌∙◌, ap, length, List, ℕ, arith}
-use Rattle.dcsp_nogood.specs.declared.Pair.{Pair}
-use Rattle.abt_message.specs.Messages.{with_stamps}
-use Rattle.abt_view.specs.Views.{view_of}
+use Rattle.dcsp_defs.specs.declared.nogood.Pair.{Pair}
+use Rattle.abt_parts.specs.Messages.{with_stamps}
+use Rattle.abt_parts.specs.Views.{view_of}
 use Rattle.abt_agent.specs.States.{has_mark}
 use Rattle.abt_agent.specs.Causes.{told_of}
 use Rattle.abt_agent.proofs.Blamed.{told_next, told_end}

@@ -1,8 +1,8 @@
 use Rattle.std.proofs.Common.{◌≡◌, ◌≤◌, ◌-◌, length, filter}
 use Rattle.std.specs.Prelude.{filter_map}
 use Rattle.dcsp_defs.specs.Words.{below}
-use Rattle.abt_message.specs.Messages.{with_stamps}
-use Rattle.abt_view.specs.Views.{view_of}
+use Rattle.abt_parts.specs.Messages.{with_stamps}
+use Rattle.abt_parts.specs.Views.{view_of}
 use Rattle.abt_agent.specs.Outgoing.{ArePositive}
 use Rattle.abt_agent.specs.States.{has_mark}
 use Rattle.abt_agent.specs.Causes.{told_of}

@@ -2,8 +2,8 @@ use Rattle.std.proofs.Common.{ap, ◌∙◌, not, is_some, Option}
 use Rattle.dcsp_defs.specs.declared.Reason.{Reason}
 use Rattle.dcsp_defs.specs.Csp.{domain}
 use Rattle.abt_defs.specs.Agents.{values_in}
-use Rattle.dcsp_problem.specs.Problems.{csp_of}
-use Rattle.abt_view.specs.Views.{view_of}
+use Rattle.dcsp_rule.specs.Problems.{csp_of}
+use Rattle.abt_parts.specs.Views.{view_of}
 use Rattle.abt_reason.specs.Causes.{value_at}
 use Rattle.abt_agent.proofs.Causes.{flip, reason_moved, reason_some}
 use Rattle.abt_agent.proofs.knowledge.Knowledge.is_free_at.Goals as goal

@@ -3,9 +3,9 @@ use Rattle.std.proofs.lemmas.Int.{to_z-of_z}
 use Rattle.dcsp_defs.specs.Words.{update}
 use Rattle.abt_defs.specs.Agents.{View, values_in}
 use Rattle.abt_reason.specs.Cached.{StandsFor}
-use Rattle.dcsp_problem.specs.Problems.{Contents, csp_of, AreInDomains}
-use Rattle.abt_view.specs.Views.{view_of}
-use Rattle.abt_store.specs.Stores.{fits}
+use Rattle.dcsp_rule.specs.Problems.{Contents, csp_of, AreInDomains}
+use Rattle.abt_parts.specs.Views.{view_of}
+use Rattle.abt_parts.specs.Stores.{fits}
 use Rattle.abt_agent.specs.Outgoing.{IsStampedView}
 use Rattle.abt_agent.proofs.Tracks.{new_domains, new_stamps, stood_before}
 use Rattle.abt_agent.proofs.knowledge.Knowledge.learn.Goals as goal

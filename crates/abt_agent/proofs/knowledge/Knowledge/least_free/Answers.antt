@@ -4,8 +4,8 @@ use Rattle.std.proofs.lemmas.Int.{to_z-of_z}
 use Rattle.std.proofs.lemmas.Option.{slice_get-get_or}
 use Rattle.dcsp_defs.specs.Csp.{domain}
 use Rattle.abt_defs.specs.Agents.{values_in}
-use Rattle.dcsp_problem.specs.Problems.{csp_of}
-use Rattle.abt_view.specs.Views.{view_of}
+use Rattle.dcsp_rule.specs.Problems.{csp_of}
+use Rattle.abt_parts.specs.Views.{view_of}
 use Rattle.abt_agent.specs.Causes.{cause_for}
 use Rattle.abt_agent.proofs.Causes.{free_here, free_later, flip}
 use Rattle.abt_agent.proofs.knowledge.Knowledge.least_free.Goals as goal

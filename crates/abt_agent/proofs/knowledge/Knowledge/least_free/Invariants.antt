@@ -1,8 +1,8 @@
 use Rattle.std.proofs.Common.{◌≡◌, drop}
 use Rattle.dcsp_defs.specs.Csp.{domain}
 use Rattle.abt_defs.specs.Agents.{values_in}
-use Rattle.dcsp_problem.specs.Problems.{csp_of}
-use Rattle.abt_view.specs.Views.{view_of}
+use Rattle.dcsp_rule.specs.Problems.{csp_of}
+use Rattle.abt_parts.specs.Views.{view_of}
 use Rattle.abt_agent.specs.Causes.{least_free}
 use Rattle.abt_agent.proofs.knowledge.Knowledge.least_free.Given as goal
 

@@ -2,8 +2,8 @@ use Rattle.std.proofs.Common.{List, [], Some, ◌≡◌, sym, subst, ap, ◌∙�
 use Rattle.std.proofs.lemmas.List.{length-replicate}
 use Rattle.dcsp_defs.specs.Csp.{PartialAssignment}
 use Rattle.abt_defs.specs.Agents.{View, values_in}
-use Rattle.abt_view.specs.Views.{view_of}
-use Rattle.abt_store.specs.declared.Recorded.{Recorded}
+use Rattle.abt_parts.specs.Views.{view_of}
+use Rattle.abt_parts.specs.declared.recorded.Recorded.{Recorded}
 use Rattle.abt_reason.specs.Cached.{StandsFor}
 use Rattle.abt_agent.proofs.knowledge.Knowledge.new.Goals as goal
 

@@ -1,5 +1,5 @@
 use Rattle.std.proofs.Common.{◌∙◌, ap, sym}
-use Rattle.abt_view.specs.Views.{stamped_of, stamped_in}
+use Rattle.abt_parts.specs.Views.{stamped_of, stamped_in}
 use Rattle.abt_agent.proofs.knowledge.Knowledge.stamped_value.Goals as goal
 
 pub returns-clause-stamped : goal.returns-clause-stamped

@@ -18,13 +18,13 @@ pub make_round-requires-clause-few : goal.make_round-requires-clause-few
 make_round-requires-clause-few g c =
     let line = c.args.line in
     let asked = best_search c.args.problem.now line.seed line.log.now (option_copied line.kept) line.trace in
-    (room_is asked c.vars-vars.ensures.problem _ _ _ _ c.loop-alloc.invariant (c.done.ensures.room c.loop-alloc-test.true)).few
+    (room_is asked c.denotes_csp.ensures.problem _ _ _ _ c.loop-alloc.invariant (c.done.ensures.room c.loop-alloc-test.true)).few
 
 pub loop-alloc-smaller : goal.loop-alloc-smaller
 loop-alloc-smaller g c =
     let line = c.args.line in
     let asked = best_search c.args.problem.now line.seed line.log.now (option_copied line.kept) line.trace in
-    let room = (room_is asked c.vars-vars.ensures.problem _ _ _ _ c.loop-alloc.invariant (c.done.ensures.room c.loop-alloc-test.true)).room in
+    let room = (room_is asked c.denotes_csp.ensures.problem _ _ _ _ c.loop-alloc.invariant (c.done.ensures.room c.loop-alloc-test.true)).room in
     let more = c.in_ok-make_round.ensures.made.rounds in
     omega (arith, room, more)
 
@@ -38,7 +38,7 @@ pub returns-in_err-make_round-clause-wrote : goal.returns-in_err-make_round-clau
 returns-in_err-make_round-clause-wrote g c =
     let line = c.args.line in
     let asked = best_search c.args.problem.now line.seed line.log.now (option_copied line.kept) line.trace in
-    let room = room_is asked c.vars-vars.ensures.problem _ _ _ _ c.loop-alloc.invariant (c.done.ensures.room c.loop-alloc-test.true) in
+    let room = room_is asked c.denotes_csp.ensures.problem _ _ _ _ c.loop-alloc.invariant (c.done.ensures.room c.loop-alloc-test.true) in
     let still = sym c.done.ensures.done ∙ c.loop-alloc-test.true in
     let within = within_is asked _ _ _ _ c.loop-alloc.invariant room still in
     turn_stopped asked c.loop-alloc.self.rounds c.loop-alloc.self _ _ _ c.loop-alloc.invariant within _ c.from_residual.ensures c.in_err-make_round.ensures.wrote

@@ -1,5 +1,5 @@
 use Rattle.std.proofs.Common.{subst, sym, ℕ, List, [], ◌∷◌, ◌++◌}
-use Rattle.abt_message.specs.declared.Message.{Message}
+use Rattle.abt_parts.specs.declared.message.Message.{Message}
 use Rattle.abt_links.specs.Transit.{Transit, Opens}
 use Rattle.abt_links.proofs.LinkLaws.{pair-opens}
 use Rattle.abt_links.proofs.links.Links.open_pair.Goals as goal

@@ -1,6 +1,6 @@
 use Rattle.std.proofs.Common.{◌≡◌, ℕ, List, Some, subst, sym}
 use Rattle.std.specs.List.{position}
-use Rattle.abt_message.specs.declared.Message.{Message}
+use Rattle.abt_parts.specs.declared.message.Message.{Message}
 use Rattle.abt_links.specs.Transit.{Transit, is_pair, Sends}
 use Rattle.abt_links.proofs.LinkLaws.{sent-whole, sent-lists}
 use Rattle.abt_links.proofs.links.Links.put_last.Goals as goal

@@ -1,6 +1,6 @@
 use Rattle.std.proofs.Common.{◌≡◌, ◌-◌, ◌<◌, List, [], length, get_or, sym, ap, ◌∙◌, arith}
 use Rattle.std.proofs.lemmas.List.{length-map, get_or-map}
-use Rattle.abt_message.specs.declared.Message.{Message}
+use Rattle.abt_parts.specs.declared.message.Message.{Message}
 use Rattle.abt_links.specs.Chains.{ends_at, no_ends, messages_of}
 use Rattle.abt_links.proofs.Walks.{length-messages}
 use Rattle.abt_links.proofs.Shorter.{sound_shorter}

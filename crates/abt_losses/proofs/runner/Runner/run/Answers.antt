@@ -1,9 +1,9 @@
 use Rattle.std.proofs.Common.{[], ◌∷◌, codes, map, ap, subst, ◌∙◌, arith}
 use Rattle.dcsp_defs.specs.Words.{below}
 use Rattle.dcsp_script.specs.Scripts.{Append}
-use Rattle.dcsp_problem.specs.Problems.{csp_of}
+use Rattle.dcsp_rule.specs.Problems.{csp_of}
 use Rattle.dcsp_problem.proofs.OwnerLists.{length-map_below}
-use Rattle.lossy_defs.specs.World.{begin}
+use Rattle.law_lossy.specs.World.{begin}
 use Rattle.abt_schedule.specs.Answers.{word_at}
 use Rattle.abt_session.proofs.Pieces.{wrote_as}
 use Rattle.abt_session.proofs.Whole.{on_ok}

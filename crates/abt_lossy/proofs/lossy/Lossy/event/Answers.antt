@@ -1,5 +1,5 @@
 use Rattle.std.proofs.Common.{◌≡◌, false, ℕ, ◌+◌, ◌∷◌, [], ◌++◌, ◌∙◌, subst}
-use Rattle.dcsp_problem.specs.Problems.{csp_of}
+use Rattle.dcsp_rule.specs.Problems.{csp_of}
 use Rattle.abt_lossy.specs.InWorld.{LossyState, CanHappen, Happens, IsAfter}
 use Rattle.abt_lossy.specs.Kept.{shown}
 use Rattle.abt_lossy.proofs.Making.{can_be_made, can_of, happens, keeps, still_begun, orderly}
@@ -28,7 +28,7 @@ returns-in-Ok-clause-happens c words =
     (happens i.problem.now i.parts c.event.new.self i.events i.spent i.spent c.args.word c.in-Ok.happened (c.self.invariant.kept c.if-self.false) can c.in-Ok.ensures.does words)
 
 pub returns-in-Ok-clause-orderly : goal.returns-in-Ok-clause-orderly
-returns-in-Ok-clause-orderly c = λ words a. orderly (csp_of c.self.inside.problem.now) c.vars-vars.ensures.csp (words ++ c.args.word ∷ [])
+returns-in-Ok-clause-orderly c = λ words a. orderly (csp_of c.self.inside.problem.now) c.denotes_csp.ensures.csp (words ++ c.args.word ∷ [])
 
 pub returns-in-Ok-clause-begun : goal.returns-in-Ok-clause-begun
 returns-in-Ok-clause-begun c =

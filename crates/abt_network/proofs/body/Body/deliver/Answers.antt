@@ -1,5 +1,5 @@
 use Rattle.std.proofs.Common.{◌≡◌, ◌+◌, ◌++◌, ◌∷◌, [], true, false, sym, ap, subst, ◌∙◌, arith}
-use Rattle.dcsp_problem.specs.Problems.{Contents, csp_of}
+use Rattle.dcsp_rule.specs.Problems.{Contents, csp_of}
 use Rattle.abt_defs.specs.Network.{run, start}
 use Rattle.abt_network.specs.Standing.{StandsAt, reached}
 use Rattle.abt_network.specs.Bodies.{shown}
@@ -13,7 +13,7 @@ pass_on-requires-clause-some c = (is_open (shown c.args.self.now false) c.requir
 
 pub pass_on-requires-clause-few : goal.pass_on-requires-clause-few
 pass_on-requires-clause-few c =
-    let few = few_steps c.args.self.now c.vars-vars.ensures.csp c.requires.kept in
+    let few = few_steps c.args.self.now c.denotes_csp.ensures.csp c.requires.kept in
     let most = c.requires.kept.few in
     omega (arith, few, most)
 
@@ -23,11 +23,11 @@ pass_on-requires-clause-expects c =
     let r = c.requires.kept.reached c.requires.can.begun in
     let most = c.requires.kept.few in
     let same = r.stands.deliveries in
-    expects b.problem.now b.agents.items b.links b.steps r.choices c.vars-vars.ensures.csp (sym r.stands.refuted ∙ (is_open (shown b false) c.requires.can.open_).0) (omega (arith, most, same)) r.stands.steps r.stands.parts c.requires.kept.tidy.seated c.requires.kept.tidy.stamped
+    expects b.problem.now b.agents.items b.links b.steps r.choices c.denotes_csp.ensures.csp (sym r.stands.refuted ∙ (is_open (shown b false) c.requires.can.open_).0) (omega (arith, most, same)) r.stands.steps r.stands.parts c.requires.kept.tidy.seated c.requires.kept.tidy.stamped
 
 pub overflow_add-self-2 : goal.overflow_add-self-2
 overflow_add-self-2 c =
-    let few = few_steps c.args.self.now c.vars-vars.ensures.csp c.requires.kept in
+    let few = few_steps c.args.self.now c.denotes_csp.ensures.csp c.requires.kept in
     let most = c.requires.kept.few in
     let same = c.in_ok-delivery.ensures.steps in
     let one = c.count_of.ensures.few in
@@ -50,9 +50,9 @@ returns-clause-leads c choices st =
     let s = shown c.args.self.now false in
     let s' = shown (record c.pass_on.new.self { refuted = c.refutes-self.result; deliveries = c.pass_on.new.self.deliveries + 1; steps = c.pass_on.new.self.steps + c.count_of.result }) false in
     let open_ = is_open s c.requires.can.open_ in
-    let few = few_steps c.args.self.now c.vars-vars.ensures.csp c.requires.kept in
+    let few = few_steps c.args.self.now c.denotes_csp.ensures.csp c.requires.kept in
     let most = c.requires.kept.few in
-    leads_of s s' choices c.args.choice c.in_ok-delivery.delivery c.vars-vars.ensures.csp c.vars-vars.ensures.problem (omega (arith, few, most)) open_.0 open_.1 c.requires.kept.tidy.sized.linked st (returns-clause-delivers c (reached s choices) st)
+    leads_of s s' choices c.args.choice c.in_ok-delivery.delivery c.denotes_csp.ensures.csp c.denotes_csp.ensures.problem (omega (arith, few, most)) open_.0 open_.1 c.requires.kept.tidy.sized.linked st (returns-clause-delivers c (reached s choices) st)
 
 pub returns-clause-kept : goal.returns-clause-kept
 returns-clause-kept c =

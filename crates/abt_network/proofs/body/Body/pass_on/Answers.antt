@@ -1,8 +1,8 @@
 use Rattle.std.proofs.Common.{◌+◌, ◌∙◌, length, ap, subst, arith}
 use Rattle.dcsp_defs.specs.Words.{In}
 use Rattle.abt_defs.specs.Steps.{Outcome, receive}
-use Rattle.dcsp_problem.specs.Problems.{csp_of}
-use Rattle.abt_message.specs.Messages.{message_of}
+use Rattle.dcsp_rule.specs.Problems.{csp_of}
+use Rattle.abt_parts.specs.Messages.{message_of}
 use Rattle.abt_agent.specs.States.{stands_for}
 use Rattle.abt_network.specs.Standing.{state_at}
 use Rattle.abt_network.proofs.Sending.{went_is, went_stamped, receivers_exist, seated_after}

@@ -1,7 +1,7 @@
 use Rattle.std.proofs.Common.{◌≡◌, ◌+◌, ◌∙◌, length, sym, ap, subst, arith, Option}
 use Rattle.dcsp_defs.specs.declared.Step.{Step}
 use Rattle.abt_defs.specs.Network.{empty_network, settle_below}
-use Rattle.dcsp_problem.specs.Problems.{Contents, csp_of}
+use Rattle.dcsp_rule.specs.Problems.{Contents, csp_of}
 use Rattle.abt_agent.specs.States.{IsFresh}
 use Rattle.abt_network.specs.Standing.{Stands, state_at}
 use Rattle.abt_network.specs.Settling.{HasSettled, HaveSettled}

@@ -1,6 +1,6 @@
 use Rattle.std.proofs.Common.{◌≡◌, None}
 use Rattle.abt_defs.specs.Network.{empty_network, settle_below}
-use Rattle.dcsp_problem.specs.Problems.{csp_of}
+use Rattle.dcsp_rule.specs.Problems.{csp_of}
 use Rattle.abt_network.specs.Bodies.{AreFreshFrom, IsTidy}
 use Rattle.abt_network.specs.Settling.{HaveSettled}
 use Rattle.abt_network.proofs.body.Body.settle_all.Given as goal

@@ -2,7 +2,7 @@ use Rattle.std.proofs.Common.{length, sym, ap, subst, ◌∙◌}
 use Rattle.dcsp_defs.specs.Words.{In}
 use Rattle.abt_defs.specs.Steps.{Outcome, settle}
 use Rattle.abt_defs.specs.Network.{next_number}
-use Rattle.dcsp_problem.specs.Problems.{csp_of}
+use Rattle.dcsp_rule.specs.Problems.{csp_of}
 use Rattle.abt_agent.specs.Turns.{IsTurn}
 use Rattle.abt_agent.specs.States.{stands_for}
 use Rattle.abt_network.specs.Standing.{state_at}
@@ -19,7 +19,7 @@ post-requires-clause-receivers c =
     let i = c.args.agent in
     let old = state_at c.args.self.now.agents.items i in
     receivers_exist c.args.self.now.out c.start_agent.new.out (settle (csp_of old.problem) old.me 0 (stands_for old)).sent (length p.domains) c.args.self.now.links.agents (c.in_ok-turn.ensures.does 0).sent c.requires.tidy.none_out
-    (λ x u. settle_exists (csp_of p) c.vars-vars.ensures.csp i 0 (stands_for old) c.requires.exists c.requires.fresh.agent x (subst (λ (o : Outcome). In x o.sent) (same_settle p i 0 old c.requires.fresh) u))
+    (λ x u. settle_exists (csp_of p) c.denotes_csp.ensures.csp i 0 (stands_for old) c.requires.exists c.requires.fresh.agent x (subst (λ (o : Outcome). In x o.sent) (same_settle p i 0 old c.requires.fresh) u))
     (sym c.requires.tidy.sized.linked)
 
 pub post-requires-clause-stamps : goal.post-requires-clause-stamps

@@ -1,6 +1,6 @@
 use Rattle.std.proofs.Common.{[], refl, sym, subst, arith, true, false, Some, None}
 use Rattle.abt_defs.specs.Network.{run, start}
-use Rattle.dcsp_problem.specs.Problems.{Contents, csp_of}
+use Rattle.dcsp_rule.specs.Problems.{Contents, csp_of}
 use Rattle.abt_network.specs.declared.Begun.TheVariants as begun
 use Rattle.abt_network.specs.Standing.{StandsAt}
 use Rattle.abt_network.specs.Bodies.{shown}
@@ -12,7 +12,7 @@ pub returns-in-Some-clause-starts : goal.returns-in-Some-clause-starts
 returns-in-Some-clause-starts c =
     let p = c.args.self.now.problem.now in
     let s = shown (record c.begin.new.self { refuted = true; deliveries = 0; steps = 1; begun = true }) false in
-    starts_of p s (begun.Refuted c.in-Some.step) (Some c.in-Some.step) c.vars-vars.ensures.csp c.vars-vars.ensures.problem (subst (HaveSettled p s.agents s.links (start (csp_of p))) c.in-Some.is c.in_ok-step.ensures.begins) refl refl c.in_ok-step.ensures.problem refl refl refl
+    starts_of p s (begun.Refuted c.in-Some.step) (Some c.in-Some.step) c.denotes_csp.ensures.csp c.denotes_csp.ensures.problem (subst (HaveSettled p s.agents s.links (start (csp_of p))) c.in-Some.is c.in_ok-step.ensures.begins) refl refl c.in_ok-step.ensures.problem refl refl refl
 
 pub returns-in-Some-clause-kept : goal.returns-in-Some-clause-kept
 returns-in-Some-clause-kept c =
@@ -40,7 +40,7 @@ pub returns-in-None-clause-starts : goal.returns-in-None-clause-starts
 returns-in-None-clause-starts c =
     let p = c.args.self.now.problem.now in
     let s = shown (record c.begin.new.self { refuted = false; deliveries = 0; steps = 0; begun = true }) false in
-    starts_of p s begun.Running None c.vars-vars.ensures.csp c.vars-vars.ensures.problem (subst (HaveSettled p s.agents s.links (start (csp_of p))) c.in-None.is c.in_ok-step.ensures.begins) refl refl c.in_ok-step.ensures.problem refl refl refl
+    starts_of p s begun.Running None c.denotes_csp.ensures.csp c.denotes_csp.ensures.problem (subst (HaveSettled p s.agents s.links (start (csp_of p))) c.in-None.is c.in_ok-step.ensures.begins) refl refl c.in_ok-step.ensures.problem refl refl refl
 
 pub returns-in-None-clause-kept : goal.returns-in-None-clause-kept
 returns-in-None-clause-kept c =

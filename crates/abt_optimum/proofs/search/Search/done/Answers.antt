@@ -1,5 +1,5 @@
 use Rattle.std.proofs.Common.{◌∙◌, sym, ap}
-use Rattle.dcsp_problem.specs.declared.aim.Aim.{Aim}
+use Rattle.dcsp_rule.specs.declared.aim.Aim.{Aim}
 use Rattle.abt_optimum.specs.Rounds.{is_done}
 use Rattle.abt_optimum.proofs.Fewer.{few, room}
 use Rattle.abt_optimum.proofs.search.Search.done.Goals as goal

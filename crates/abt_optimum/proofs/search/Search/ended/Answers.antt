@@ -1,5 +1,5 @@
 use Rattle.std.proofs.Common.{◌≡◌, ◌∙◌, false, sym, ap, subst, arith}
-use Rattle.dcsp_problem.specs.declared.aim.Aim.{Aim}
+use Rattle.dcsp_rule.specs.declared.aim.Aim.{Aim}
 use Rattle.abt_optimum.specs.Rounds.{is_done, best_value, round_problem}
 use Rattle.abt_optimum.specs.Searches.{SearchState, end_at, EndsRightly}
 use Rattle.abt_optimum.specs.Kept.{shown}

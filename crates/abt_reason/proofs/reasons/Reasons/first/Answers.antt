@@ -3,7 +3,7 @@ use Rattle.std.specs.Option.{option_map}
 use Rattle.std.proofs.lemmas.List.{get_or_default}
 use Rattle.dcsp_defs.specs.declared.Reason.TheVariants.{Rule, Earlier}
 use Rattle.dcsp_defs.specs.Csp.{PartialAssignment}
-use Rattle.abt_store.specs.declared.Recorded.{Recorded}
+use Rattle.abt_parts.specs.declared.recorded.Recorded.{Recorded}
 use Rattle.abt_reason.specs.Firsts.{IsFirst}
 use Rattle.abt_reason.specs.declared.named.Naming.{Naming}
 use Rattle.dcsp_row.specs.declared.marks.Marks.{Marks}

@@ -1,7 +1,7 @@
 use Rattle.std.proofs.Common.{◌≡◌, ◌<◌, ◌∙◌, subst, get_or, true, false, refl}
 use Rattle.abt_defs.specs.Agents.{values_in, is_among}
-use Rattle.abt_view.specs.Views.{view_of}
-use Rattle.dcsp_problem.specs.Problems.{constraint_at}
+use Rattle.abt_parts.specs.Views.{view_of}
+use Rattle.dcsp_rule.specs.Problems.{constraint_at}
 use Rattle.dcsp_problem.specs.Index.{owned_rules}
 use Rattle.abt_reason.specs.declared.named.Naming.{Naming}
 use Rattle.abt_reason.specs.Named.{naming}

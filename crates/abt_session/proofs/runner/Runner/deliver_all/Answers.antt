@@ -1,6 +1,6 @@
 use Rattle.std.proofs.Common.{◌+◌, ◌≡◌, ◌∷◌, [], sym, ap, ◌∙◌, refl, arith}
-use Rattle.law_replay.specs.Stops.{list_number}
-use Rattle.dcsp_problem.specs.Problems.{csp_of}
+use Rattle.law_runs.specs.Stops.{list_number}
+use Rattle.dcsp_rule.specs.Problems.{csp_of}
 use Rattle.dcsp_script.specs.Scripts.{outside}
 use Rattle.abt_session.specs.Sessions.{network_after}
 use Rattle.abt_session.specs.Running.{session_of}

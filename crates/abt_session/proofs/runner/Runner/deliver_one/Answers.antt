@@ -1,5 +1,5 @@
 use Rattle.std.proofs.lemmas.Result.{IfOk-at_ok}
-use Rattle.dcsp_problem.specs.Problems.{csp_of}
+use Rattle.dcsp_rule.specs.Problems.{csp_of}
 use Rattle.abt_network.specs.Standing.{reached, delivery_of}
 use Rattle.abt_session.proofs.Pieces.{memory_at_once, stopped_so, made_then_memory, made_counts, wrote_as}
 use Rattle.abt_session.proofs.Writing.{writes_by_number}

@@ -1,10 +1,10 @@
 use Rattle.std.proofs.Common.{◌≤◌, List, ℤ, ◌+◌, arith, ap, sym, subst, length}
 use Rattle.std.specs.Prelude.{All}
 use Rattle.std.proofs.lemmas.Result.{err_from_is_err_and}
-use Rattle.dcsp_linear.specs.declared.TheConstants.{WIDEST}
-use Rattle.dcsp_problem.specs.Rules.{IsTermOf, terms_of}
-use Rattle.dcsp_problem.specs.Widths.{rule_width}
-use Rattle.dcsp_problem.specs.Problems.{Contents}
+use Rattle.dcsp_meaning.specs.declared.linear.TheConstants.{WIDEST}
+use Rattle.dcsp_rule.specs.Rules.{IsTermOf, terms_of}
+use Rattle.dcsp_rule.specs.Widths.{rule_width}
+use Rattle.dcsp_rule.specs.Problems.{Contents}
 use Rattle.dcsp_problem.specs.Limits.{rule_refusal, IsErrorOf}
 use Rattle.dcsp_problem.proofs.Counts.{counts_fit, counts_pass, narrow_from, tallied_rule, refused_for_list, refused_for_number, refused_for_terms}
 use Rattle.dcsp_problem.proofs.builder.ProblemBuilder.add_rule.Goals as goal

@@ -1,5 +1,5 @@
 use Rattle.std.proofs.Common.{◌+◌, arith, ap}
-use Rattle.dcsp_problem.specs.Problems.{Contents}
+use Rattle.dcsp_rule.specs.Problems.{Contents}
 use Rattle.dcsp_problem.proofs.Counts.{tallied_variable}
 use Rattle.dcsp_problem.proofs.builder.ProblemBuilder.add_var.Goals as goal
 

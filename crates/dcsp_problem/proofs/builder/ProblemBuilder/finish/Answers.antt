@@ -1,10 +1,10 @@
 use Rattle.std.proofs.Common.{◌≡◌, ℕ, List, map, arith, ap, length, ◌∙◌, sym, subst}
 use Rattle.std.specs.Prelude.{All, IsTrue}
 use Rattle.dcsp_defs.specs.Words.{below}
-use Rattle.dcsp_problem.specs.declared.rule.Rule.{Rule}
-use Rattle.dcsp_problem.specs.Rules.{IsRuleOf, has_shape, scope_of}
-use Rattle.dcsp_problem.specs.Problems.{Contents}
-use Rattle.dcsp_problem.specs.Forms.{AreForms}
+use Rattle.dcsp_rule.specs.declared.rule.Rule.{Rule}
+use Rattle.dcsp_rule.specs.Rules.{IsRuleOf, has_shape, scope_of}
+use Rattle.dcsp_rule.specs.Problems.{Contents}
+use Rattle.dcsp_rule.specs.Forms.{AreForms}
 use Rattle.dcsp_problem.specs.Owners.{owned_among}
 use Rattle.dcsp_problem.specs.Lower.{lower_among}
 use Rattle.dcsp_problem.proofs.OwnerLists.{owned_lists_are}

@@ -1,8 +1,8 @@
 use Rattle.std.proofs.Common.{◌∙◌, arith, ap, get_or, length, subst}
 use Rattle.dcsp_problem.specs.declared.problem.SharedPart.{SharedPart}
-use Rattle.dcsp_problem.specs.Problems.{Contents, rule_at}
-use Rattle.dcsp_problem.specs.Forms.{IsFormOf}
-use Rattle.dcsp_problem.proofs.FormLaws.{form_at}
+use Rattle.dcsp_rule.specs.Problems.{Contents, rule_at}
+use Rattle.dcsp_rule.specs.Forms.{IsFormOf}
+use Rattle.dcsp_rule.proofs.FormLaws.{form_at}
 use Rattle.dcsp_problem.proofs.problem.Problem.form.Goals as goal
 
 pub returns-clause-form : goal.returns-clause-form

@@ -2,7 +2,7 @@ use Rattle.std.proofs.Common.{◌≡◌, ◌∙◌, [], arith, ap, length, sym, 
 use Rattle.std.specs.Prelude.{Some, slice_get}
 use Rattle.std.proofs.lemmas.Option.{get_or_from_slice_get}
 use Rattle.dcsp_problem.specs.declared.problem.SharedPart.{SharedPart}
-use Rattle.dcsp_problem.specs.Problems.{Contents, csp_of}
+use Rattle.dcsp_rule.specs.Problems.{Contents, csp_of}
 use Rattle.dcsp_problem.specs.Lower.{lower_owners}
 use Rattle.dcsp_problem.proofs.OwnerLists.{length-map_below}
 use Rattle.dcsp_problem.proofs.RisingNumbers.{In-get_or}

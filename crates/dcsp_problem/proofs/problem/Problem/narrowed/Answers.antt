@@ -1,8 +1,8 @@
 use Rattle.std.proofs.Common.{◌≡◌, ◌∙◌, length, sym, subst}
 use Rattle.std.specs.Prelude.{Some}
 use Rattle.dcsp_problem.specs.declared.problem.SharedPart.{SharedPart}
-use Rattle.dcsp_problem.specs.Problems.{Contents}
-use Rattle.dcsp_problem.specs.Aims.{aimed_at}
+use Rattle.dcsp_rule.specs.Problems.{Contents}
+use Rattle.dcsp_rule.specs.Aims.{aimed_at}
 use Rattle.dcsp_problem.specs.Index.{IsIndexed}
 use Rattle.dcsp_problem.proofs.Narrowed.{is_indexed_narrowed, aimed_below}
 use Rattle.dcsp_problem.proofs.problem.Problem.narrowed.Goals as goal

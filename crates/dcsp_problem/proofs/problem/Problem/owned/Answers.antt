@@ -2,7 +2,7 @@ use Rattle.std.proofs.Common.{◌≡◌, ◌∙◌, [], arith, ap, length, sym, 
 use Rattle.std.specs.Prelude.{Some, slice_get}
 use Rattle.std.proofs.lemmas.Option.{get_or_from_slice_get}
 use Rattle.dcsp_problem.specs.declared.problem.SharedPart.{SharedPart}
-use Rattle.dcsp_problem.specs.Problems.{Contents}
+use Rattle.dcsp_rule.specs.Problems.{Contents}
 use Rattle.dcsp_problem.specs.Index.{owned_rules}
 use Rattle.dcsp_problem.proofs.OwnerLists.{owned_at, owned_inside, length-map_below}
 use Rattle.dcsp_problem.proofs.problem.Problem.owned.Goals as goal

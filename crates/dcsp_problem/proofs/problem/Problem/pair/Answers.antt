@@ -1,6 +1,6 @@
 use Rattle.std.proofs.Common.{subst, sym}
 use Rattle.std.specs.Prelude.{IsSome, Option}
-use Rattle.dcsp_problem.specs.declared.pair.Pair.{Pair}
+use Rattle.dcsp_rule.specs.declared.pair.Pair.{Pair}
 use Rattle.dcsp_problem.proofs.problem.Problem.pair.Goals as goal
 
 pub returns-clause-summed : goal.returns-clause-summed

@@ -2,8 +2,8 @@ use Rattle.std.proofs.Common.{◌∙◌, ap}
 use Rattle.std.specs.Prelude.{not, slice_get}
 use Rattle.std.proofs.Math.Bool.{not-not}
 use Rattle.dcsp_defs.specs.Csp.{filled}
-use Rattle.dcsp_problem.specs.Rules.{rule_truth}
-use Rattle.dcsp_problem.specs.Problems.{csp_of, constraint_at, rule_at}
+use Rattle.dcsp_rule.specs.Rules.{rule_truth}
+use Rattle.dcsp_rule.specs.Problems.{csp_of, constraint_at, rule_at}
 use Rattle.dcsp_problem.proofs.Reading.{truth_of_values}
 use Rattle.dcsp_problem.proofs.Violations.{listed_are_in, listed_violates}
 use Rattle.dcsp_problem.proofs.problem.Problem.rule_holds.Goals as goal

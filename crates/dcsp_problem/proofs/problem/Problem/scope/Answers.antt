@@ -3,8 +3,8 @@ use Rattle.std.specs.Prelude.{Some, slice_get}
 use Rattle.std.proofs.lemmas.List.{length-map}
 use Rattle.std.proofs.lemmas.Option.{get_or_from_slice_get}
 use Rattle.dcsp_problem.specs.declared.problem.SharedPart.{SharedPart}
-use Rattle.dcsp_problem.specs.Rules.{scope_of}
-use Rattle.dcsp_problem.specs.Problems.{Contents, rule_at}
+use Rattle.dcsp_rule.specs.Rules.{scope_of}
+use Rattle.dcsp_rule.specs.Problems.{Contents, rule_at}
 use Rattle.dcsp_problem.proofs.Reading.{scope_is, scope_inside, constraint_ok}
 use Rattle.dcsp_problem.proofs.problem.Problem.scope.Goals as goal
 

@@ -1,7 +1,7 @@
 use Rattle.std.proofs.Common.{◌≡◌, ◌∙◌, List, ℤ, ap, arith, length, subst, sym}
 use Rattle.std.specs.Prelude.{[], slice_index_or}
 use Rattle.dcsp_defs.specs.Csp.{is_violated, IsConstraint}
-use Rattle.dcsp_problem.specs.Problems.{Contents, csp_of, constraint_at, value_in, AreInDomains}
+use Rattle.dcsp_rule.specs.Problems.{Contents, csp_of, constraint_at, value_in, AreInDomains}
 use Rattle.dcsp_problem.proofs.Reading.{constraint_ok}
 use Rattle.dcsp_problem.proofs.Violations.{violated_same, within_are_in}
 use Rattle.dcsp_problem.proofs.problem.Problem.violated_by.Goals as goal

@@ -1,10 +1,10 @@
 use Rattle.std.proofs.Common.{◌≡◌, ap, length, subst, sym, ◌∙◌}
 use Rattle.std.specs.Prelude.{not, ◌&&◌, IfSome, Option, Some, None}
 use Rattle.dcsp_defs.specs.Csp.{filled}
-use Rattle.dcsp_problem.specs.Problems.{csp_of, constraint_at, rule_at}
-use Rattle.dcsp_problem.specs.declared.pair.Pair.{Pair}
-use Rattle.dcsp_problem.specs.Pairs.{IsPairOf}
-use Rattle.dcsp_problem.specs.Forms.{form_has, found_truth, pair_in, pair_or_truth}
+use Rattle.dcsp_rule.specs.Problems.{csp_of, constraint_at, rule_at}
+use Rattle.dcsp_rule.specs.declared.pair.Pair.{Pair}
+use Rattle.dcsp_rule.specs.Pairs.{IsPairOf}
+use Rattle.dcsp_rule.specs.Forms.{form_has, found_truth, pair_in, pair_or_truth}
 use Rattle.dcsp_problem.proofs.Reading.{constraint_ok, rule_read}
 use Rattle.dcsp_problem.proofs.Narrow.{a_rule, narrow_of_known}
 use Rattle.dcsp_problem.proofs.PairLaws.{missed_is}

@@ -1,7 +1,7 @@
 use Rattle.std.proofs.Common.{◌∙◌, ◌<◌, ℕ, List, [], ◌∷◌, ◌++◌, map, take, arith, ap, length, sym, subst}
 use Rattle.std.proofs.lemmas.List.{take_all}
-use Rattle.dcsp_problem.specs.declared.rule.Rule.{Rule}
-use Rattle.dcsp_problem.specs.Rules.{IsRuleOf, scope_of}
+use Rattle.dcsp_rule.specs.declared.rule.Rule.{Rule}
+use Rattle.dcsp_rule.specs.Rules.{IsRuleOf, scope_of}
 use Rattle.dcsp_problem.proofs.PieceLaws.{changed_more}
 use Rattle.dcsp_problem.proofs.table.NumberTable.of_scopes.Goals as goal
 

@@ -1,7 +1,7 @@
 use Rattle.std.proofs.Common.{◌≡◌, ℕ, map, take}
 use Rattle.std.specs.Prelude.{All}
 use Rattle.dcsp_problem.specs.Pieces.{pieces, AreCuts}
-use Rattle.dcsp_problem.specs.Rules.{IsRuleOf, scope_of}
+use Rattle.dcsp_rule.specs.Rules.{IsRuleOf, scope_of}
 use Rattle.dcsp_problem.proofs.table.NumberTable.of_scopes.Given as goal
 
 abbrev pub invariant-loop-rule : goal.invariant-loop-rule

@@ -1,5 +1,5 @@
 use Rattle.std.specs.Prelude.{All, IsTrue}
-use Rattle.dcsp_problem.specs.Rules.{IsTermOf, terms_of, has_shape}
+use Rattle.dcsp_rule.specs.Rules.{IsTermOf, terms_of, has_shape}
 use Rattle.fzn_scope.specs.Known.{AreKnown}
 use Rattle.fzn_scope.specs.Rules.{constraint_rule}
 use Rattle.fzn_scope.proofs.Steps.{if_given, if_given_each}

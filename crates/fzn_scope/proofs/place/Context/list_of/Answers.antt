@@ -1,6 +1,6 @@
 use Rattle.std.proofs.Common.{All, [], option_copied}
 use Rattle.std.proofs.lemmas.List.Elements.{All-nil}
-use Rattle.dcsp_problem.specs.Rules.{IsTermOf}
+use Rattle.dcsp_rule.specs.Rules.{IsTermOf}
 use Rattle.fzn_scope.specs.Known.{AreKnown}
 use Rattle.fzn_scope.specs.Names.{bytes_at}
 use Rattle.fzn_scope.specs.Places.{terms_after, terms_named}

@@ -1,4 +1,4 @@
-use Rattle.dcsp_problem.specs.Rules.{IsTermOf}
+use Rattle.dcsp_rule.specs.Rules.{IsTermOf}
 use Rattle.fzn_scope.specs.Known.{AreKnown}
 use Rattle.fzn_scope.specs.Places.{term_of}
 use Rattle.fzn_scope.proofs.Steps.{if_meant_each}

@@ -1,6 +1,6 @@
 use Rattle.std.proofs.Common.{sym, ap, ◌∙◌, subst}
 use Rattle.dcsp_defs.specs.Csp.{IsCsp}
-use Rattle.dcsp_problem.specs.Problems.{csp_of}
+use Rattle.dcsp_rule.specs.Problems.{csp_of}
 use Rattle.ngd_check.specs.Progress.{Progress}
 use Rattle.ngd_check.proofs.Steps.{progress_refutes}
 use Rattle.ngd_check.proofs.checker.Checker.finding.Goals as goal

@@ -1,6 +1,6 @@
 use Rattle.std.proofs.Common.{◌≡◌, ◌∷◌, ◌++◌, [], refl, sym, ap, ◌∙◌, subst, None}
-use Rattle.ngd_log.specs.declared.entry.Entry.TheVariants.{Delete}
-use Rattle.dcsp_problem.specs.Problems.{Contents, csp_of}
+use Rattle.dcsp_defs.specs.declared.entry.Entry.TheVariants.{Delete}
+use Rattle.dcsp_rule.specs.Problems.{Contents, csp_of}
 use Rattle.ngd_check.specs.Findings.{IsFirstWrongDeletion}
 use Rattle.ngd_check.specs.Progress.{Progress, HasTaken}
 use Rattle.ngd_check.proofs.Steps.{progress_deletion, progress_wrong_deletion}

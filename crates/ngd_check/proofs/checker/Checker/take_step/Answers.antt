@@ -1,6 +1,6 @@
 use Rattle.std.proofs.Common.{◌≡◌, ◌+◌, ◌∷◌, ◌++◌, [], sym, ap, ◌∙◌, subst, None, Some, List}
-use Rattle.ngd_log.specs.declared.entry.Entry.TheVariants.{Step as A_step}
-use Rattle.dcsp_problem.specs.Problems.{Contents, csp_of}
+use Rattle.dcsp_defs.specs.declared.entry.Entry.TheVariants.{Step as A_step}
+use Rattle.dcsp_rule.specs.Problems.{Contents, csp_of}
 use Rattle.dcsp_defs.specs.Csp.{Nogood}
 use Rattle.ngd_check.specs.Findings.{IsFirstWrongStep}
 use Rattle.ngd_check.specs.declared.arena.Placed.{Placed}

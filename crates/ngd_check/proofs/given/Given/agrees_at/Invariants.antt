@@ -1,6 +1,6 @@
 use Rattle.std.proofs.Common.{◌≡◌, drop}
 use Rattle.dcsp_defs.specs.Csp.{with_value, agrees}
-use Rattle.dcsp_problem.specs.Problems.{csp_of}
+use Rattle.dcsp_rule.specs.Problems.{csp_of}
 use Rattle.ngd_check.specs.Places.{pairs_of}
 use Rattle.ngd_check.proofs.given.Given.agrees_at.Given as goal
 

@@ -1,6 +1,6 @@
 use Rattle.std.proofs.Common.{◌≡◌, ◌==◌, None, true, cond, is_some, sym, ap, ◌∙◌, subst, All}
 use Rattle.std.specs.List.{list_any}
-use Rattle.dcsp_problem.specs.Problems.{csp_of}
+use Rattle.dcsp_rule.specs.Problems.{csp_of}
 use Rattle.ngd_check.specs.Places.{KeptFor}
 use Rattle.ngd_check.specs.Progress.{kept_at}
 use Rattle.ngd_check.proofs.KeptLists.{numbered, lists_dropped, kept_dropped}

@@ -1,5 +1,5 @@
 use Rattle.std.proofs.Common.{is_some, sym, ap, ◌∙◌, arith}
-use Rattle.dcsp_problem.specs.Problems.{csp_of}
+use Rattle.dcsp_rule.specs.Problems.{csp_of}
 use Rattle.ngd_check.specs.Places.{KeptFor, pairs_of}
 use Rattle.ngd_check.specs.Progress.{kept_at}
 use Rattle.ngd_check.proofs.KeptLists.{kept_list, list_before, some_alike}

@@ -1,7 +1,7 @@
 use Rattle.std.proofs.Common.{◌≡◌, Some, None, Option, refl, sym, ap, ◌∙◌, arith}
 use Rattle.std.specs.Option.{option_map}
 use Rattle.dcsp_defs.specs.Csp.{with_value, Nogood}
-use Rattle.dcsp_problem.specs.Problems.{csp_of}
+use Rattle.dcsp_rule.specs.Problems.{csp_of}
 use Rattle.ngd_check.specs.Places.{KeptFor, pairs_of}
 use Rattle.ngd_check.specs.Progress.{kept_at}
 use Rattle.ngd_check.proofs.Citing.{agrees_with}

@@ -1,7 +1,7 @@
 use Rattle.std.proofs.Common.{◌∙◌, sym, ap, List, [], ◌∷◌, Some}
-use Rattle.dcsp_nogood.specs.declared.Pair.{Pair}
+use Rattle.dcsp_defs.specs.declared.nogood.Pair.{Pair}
 use Rattle.dcsp_defs.specs.declared.Reason.{Reason}
-use Rattle.ngd_log.specs.declared.entry.Entry.TheVariants.{Step as A_step, Delete}
+use Rattle.dcsp_defs.specs.declared.entry.Entry.TheVariants.{Step as A_step, Delete}
 use Rattle.ngd_log.specs.Lent.{lent_in}
 use Rattle.ngd_log.specs.Pieces.{Kept}
 use Rattle.ngd_log.proofs.pieces.LogReader.lent.Goals as goal

@@ -1,0 +1,8 @@
+mod Slots
+pub mod Counts
+pub mod Fitting
+pub mod IndexLaws
+pub mod NamingLaws
+pub mod PlaceLaws
+pub mod PlacedLaws
+pub mod TakenLaws

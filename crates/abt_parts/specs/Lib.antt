@@ -1,0 +1,5 @@
+pub mod Messages
+pub mod Views
+pub mod Stores
+pub mod Places
+pub mod Index

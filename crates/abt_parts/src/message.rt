@@ -1,0 +1,104 @@
+//! What agents send each other, and the list of what is to be sent.
+//!
+//! The messages are those of asynchronous backtracking (Yokoo, Durfee, Ishida and Kuwabara, IEEE
+//! TKDE 10(5), 1998), with stamps on their values. `specs/` says which message of the definitions
+//! each of them is.
+
+ghost use Rattle.std.specs.Prelude.{◌≡◌, ◌↔◌, ◌+◌, [], ◌∷◌, ◌++◌, drop, length, slice_get, IfErr, IsTrue, OnErr, OnOk};
+
+use dcsp_common::{ItemList, Memory};
+use dcsp_defs::Nogood;
+use std::alloc::Global;
+use std::collections::VecDeque;
+use std::marker::Model;
+
+/// Stamps in a given order. A value's stamp is how many values its agent had taken then, this one
+/// included.
+pub type StampList = ItemList<u64>;
+
+/// What one agent sends another.
+#[derive(Debug, Drop)]
+pub enum Message {
+    /// The sender's value and its stamp, which is above 0: the paper's `ok?`.
+    Tell {
+        value: i64,
+        stamp: u64,
+    },
+    /// A nogood with one stamp for each of its pairs, and the number of the step that derived it,
+    /// counted from 1.
+    Refuse {
+        nogood: Nogood,
+        stamps: StampList,
+        step: u64,
+    },
+    /// A request to be told the receiver's values from now on.
+    AddLink,
+}
+
+/// A message and its receiver.
+#[derive(Debug, Drop)]
+pub struct Sent {
+    /// The agent that receives it, counted from 0.
+    pub to: u32,
+    pub message: Message,
+}
+
+/// Messages that are to be sent, first in and first out.
+#[derive(Debug, Drop)]
+pub struct Outbox {
+    waiting: VecDeque<Sent>,
+}
+
+impl Model for Outbox {
+    ghost use Rattle.std.specs.Prelude.{List};
+    ghost use Rattle.abt_parts.specs.declared.message.Sent.{Sent};
+
+    ghost Value = { List Sent };
+
+    ghost view = { λ outbox. outbox.waiting.items };
+}
+
+impl Outbox {
+    /// No message.
+    pub fn new(alloc: Global) -> Outbox
+        ensures { result ≡ [] }
+    {
+        Outbox {
+            waiting: VecDeque::new(alloc),
+        }
+    }
+
+    /// Adds a message at the end. A refusal hands it back and changes nothing.
+    pub fn push(&mut self, sent: Sent) -> Result<(), (Sent, Memory)>
+        ensures ok { OnOk result (self.new ≡ self.old ++ sent ∷ []) }
+        ensures handed_back { IfErr result (λ refused. refused.0 ≡ sent) }
+        ensures err { OnErr result (self.new ≡ self.old) }
+    {
+        match self.waiting.push_back(sent) {
+            Ok(()) => Ok(()),
+            Err(failed) => Err((failed.value, Memory)),
+        }
+    }
+
+    /// Takes the first message out; `None` exactly if there is none. The others are not moved.
+    pub fn take_first(&mut self) -> Option<Sent>
+        ensures first { result ≡ slice_get self.old 0 }
+        ensures rest { self.new ≡ drop 1 self.old }
+    {
+        self.waiting.pop_front()
+    }
+
+    /// The number of messages.
+    pub fn len(&self) -> usize
+        ensures { result ≡ length self.now }
+    {
+        self.waiting.len()
+    }
+
+    /// Whether there is no message.
+    pub fn is_empty(&self) -> bool
+        ensures { IsTrue result ↔ (self.now ≡ []) }
+    {
+        self.waiting.is_empty()
+    }
+}

@@ -1,7 +1,0 @@
-pub mod Counts
-pub mod Fitting
-pub mod IndexLaws
-pub mod NamingLaws
-pub mod PlaceLaws
-pub mod PlacedLaws
-pub mod TakenLaws

@@ -1,0 +1,3 @@
+pub mod EntryNumbers
+pub mod Chosen
+pub mod Decimals

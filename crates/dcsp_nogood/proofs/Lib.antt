@@ -1,4 +1,0 @@
-pub mod Determined
-pub mod Merging
-pub mod PairsLemmas
-pub mod Searched

@@ -1,0 +1,4 @@
+pub mod MemberLaws
+pub mod PartLaws
+pub mod SmallLaws
+pub mod FormLaws

@@ -1,8 +1,0 @@
--- What the agents of a reached network have recorded.
-use Rattle.dcsp_defs.specs.Csp.{Csp}
-use Rattle.law_invariants.proofs.Sounds.{sounds}
-use Rattle.law_bounded_store.specs.Stores.{BoundedStores}
-use Rattle.law_bounded_store.proofs.Lengths.{bounded_store}
-
-pub bounded_stores : (p : Csp) → BoundedStores p
-bounded_stores p ok cs i = bounded_store p i _ ((sounds p ok cs).sound i)

@@ -1,3 +1,0 @@
-pub mod Sends
-pub mod Joins
-pub mod Takes

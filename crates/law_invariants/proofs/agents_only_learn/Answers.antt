@@ -1,5 +1,0 @@
-use Rattle.law_invariants.proofs.Staying.{only_learns}
-use Rattle.law_invariants.proofs.agents_only_learn.Goals as goal
-
-pub returns : goal.returns
-returns c = only_learns

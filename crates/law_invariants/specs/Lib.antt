@@ -1,3 +1,0 @@
-pub mod Invariants
-pub mod OneAgent
-pub mod Staying

@@ -1,5 +1,0 @@
-use Rattle.law_orders.proofs.Links.{first_in_first_out}
-use Rattle.law_orders.proofs.first_in_first_out.Goals as goal
-
-pub returns : goal.returns
-returns c = first_in_first_out

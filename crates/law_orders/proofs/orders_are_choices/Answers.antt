@@ -1,5 +1,0 @@
-use Rattle.law_orders.proofs.Choices.{orders_are_choices}
-use Rattle.law_orders.proofs.orders_are_choices.Goals as goal
-
-pub returns : goal.returns
-returns c = orders_are_choices

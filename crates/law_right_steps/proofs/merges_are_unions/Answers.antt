@@ -1,5 +1,0 @@
-use Rattle.law_right_steps.proofs.Merges.{merges_are_unions}
-use Rattle.law_right_steps.proofs.merges_are_unions.Goals as goal
-
-pub returns : goal.returns
-returns c = merges_are_unions

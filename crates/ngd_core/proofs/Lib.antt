@@ -1,4 +1,0 @@
-pub mod Limiting
-pub mod Marking
-pub mod Refuting
-pub mod Trimming

@@ -1,7 +1,0 @@
-use Rattle.std.proofs.Common.{◌≡◌, filter}
-use Rattle.dcsp_defs.specs.Words.{below}
-use Rattle.ngd_core.specs.Marks.{has_mark}
-use Rattle.ngd_core.proofs.rules.marked_places.Given as goal
-
-abbrev pub invariant-loop-place : goal.invariant-loop-place
-invariant-loop-place l = l.places ≡ filter (has_mark l.marks) (below l.place)

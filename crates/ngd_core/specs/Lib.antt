@@ -1,3 +1,0 @@
-pub mod Needed
-pub mod Cores
-pub mod Marks

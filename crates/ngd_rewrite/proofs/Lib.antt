@@ -1,0 +1,12 @@
+pub mod Limiting
+pub mod Marking
+pub mod Refuting
+pub mod Trimming
+pub mod Numbers
+pub mod EndLaws
+pub mod Findings
+pub mod Tables
+pub mod Texts
+pub mod GroupLaws
+pub mod ChainLaws
+pub mod LogEnds

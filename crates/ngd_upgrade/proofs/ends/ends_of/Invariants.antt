@@ -1,7 +1,0 @@
-use Rattle.std.proofs.Common.{take}
-use Rattle.ngd_upgrade.specs.Endings.{AreEnds}
-use Rattle.ngd_upgrade.proofs.ends.ends_of.Given as goal
-
--- where each step ends among the steps so far
-abbrev pub invariant-loop-step : goal.invariant-loop-step
-invariant-loop-step l = AreEnds (take l.step-index l.steps) l.ends.items
