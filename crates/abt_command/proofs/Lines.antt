@@ -20,19 +20,19 @@ use Rattle.abt_words.specs.Rows.{Number, Place, Row, row_of, the_rows}
 use Rattle.abt_words.specs.Saying.{Value, Absent, Fill, Said, IsSaidBy, names_differ, setting_of, name_in, given_name}
 use Rattle.abt_words.proofs.Once.{one_said, rows_are_apart}
 use Rattle.abt_words.proofs.Read.{of_each, number_within, a_name, names_apart, if_name}
-use Rattle.abt_models.proofs.Lawful.{bound_lawful, print_lawful}
-use Rattle.abt_run.proofs.Lawful.{replay_lawful}
-use Rattle.abt_best.proofs.Lawful.{solve_lawful}
+use Rattle.line_model.proofs.Lawful.{bound_lawful, print_lawful}
+use Rattle.line_replay.proofs.Lawful.{replay_lawful}
+use Rattle.line_solve.proofs.Lawful.{solve_lawful}
 use Rattle.abt_command.specs.Lines.{Line, Help, Version, Usage, Check, Replay, Solve, Bound, Queens, Colouring, Drill, Upgrade, Core, Starve, Lossy, Rup, Cnf, IsLine, IsSomeLine, line_named, line_by, number_at}
 use Rattle.abt_command.specs.LinePromises.{promise_of}
-use Rattle.abt_check.proofs.Lawful.{check_lawful}
-use Rattle.abt_drill.proofs.Lawful.{drill_lawful}
-use Rattle.abt_logs.proofs.Lawful.{upgrade_lawful}
-use Rattle.abt_logs.proofs.CoreLawful.{core_lawful}
-use Rattle.abt_starve.proofs.Lawful.{starve_lawful}
-use Rattle.abt_losses.proofs.Lawful.{lossy_lawful}
-use Rattle.abt_clauses.proofs.Lawful.{rup_lawful}
-use Rattle.abt_clauses.proofs.CnfLawful.{cnf_lawful}
+use Rattle.line_check.proofs.Lawful.{check_lawful}
+use Rattle.line_drill.proofs.Lawful.{drill_lawful}
+use Rattle.line_rewrite.proofs.Lawful.{upgrade_lawful}
+use Rattle.line_rewrite.proofs.CoreLawful.{core_lawful}
+use Rattle.line_starve.proofs.Lawful.{starve_lawful}
+use Rattle.line_lossy.proofs.Lawful.{lossy_lawful}
+use Rattle.line_cnf.proofs.Lawful.{rup_lawful}
+use Rattle.line_cnf.proofs.CnfLawful.{cnf_lawful}
 
 -- words are at most one line
 pub one_line : (words : List (List ℕ)) (line other : Line) → IsLine words line → IsLine words other → line ≡ other

@@ -12,8 +12,8 @@ use Rattle.dcsp_rule.specs.Problems.{Contents, csp_of}
 use Rattle.abt_optimum.specs.Best.{HasNoBetter}
 use Rattle.abt_optimum.proofs.Narrowing.{decides}
 use Rattle.abt_input.proofs.Once.{one_problem}
-use Rattle.abt_check.specs.Taking.{narrowing, taking_of}
-use Rattle.abt_check.specs.Checks.{IsRefuted, IsRefutedBy}
+use Rattle.line_check.specs.Taking.{narrowing, taking_of}
+use Rattle.line_check.specs.Checks.{IsRefuted, IsRefutedBy}
 use Rattle.abt_command.specs.Lines.{Line, Check}
 use Rattle.abt_command.specs.Meanings.{Means, HoldsNoBetter}
 

@@ -14,17 +14,17 @@ use Rattle.abt_promise.proofs.Following.{report_part, report_did}
 use Rattle.ngd_log.specs.Logs.{log_text}
 use Rattle.law_logs.specs.Logged.{IsSmall}
 use Rattle.abt_input.specs.Inputs.{IsModelOf, IsTextOf}
-use Rattle.abt_check.specs.Verifying.{IsVerified}
-use Rattle.abt_check.proofs.Verifying.{refutation_verified}
-use Rattle.abt_run.specs.Endings.{assigned, final_values, end_status}
-use Rattle.abt_run.specs.Asked.{Asked, asked_run, asked_script, run_report, replay, solve}
-use Rattle.abt_run.specs.ReplayPromise.{replay_promise}
-use Rattle.abt_best.specs.SolvePromise.{solve_promise}
-use Rattle.abt_run.specs.Headline.{HoldsProblem, IsOther, HoldsRun, IsRun, IsSolvedRun, IsRefutedRun, IsUnfinishedRun, IsBoundedRun, WritesOrdered}
-use Rattle.abt_run.proofs.Lawful.{no_refusal, replay_lawful}
-use Rattle.abt_best.proofs.Lawful.{solve_lawful, reports_run}
-use Rattle.abt_run.proofs.Headlines.{HasOwnRecord, is_run, part_ordered}
-use Rattle.abt_run.proofs.Verdicts.{solved, refuted, bounded, replay_unfinished, solve_unfinished, refuted_log}
+use Rattle.line_check.specs.Verifying.{IsVerified}
+use Rattle.line_check.proofs.Verifying.{refutation_verified}
+use Rattle.line_replay.specs.Endings.{assigned, final_values, end_status}
+use Rattle.line_replay.specs.Asked.{Asked, asked_run, asked_script, run_report, replay, solve}
+use Rattle.line_replay.specs.ReplayPromise.{replay_promise}
+use Rattle.line_solve.specs.SolvePromise.{solve_promise}
+use Rattle.line_replay.specs.Headline.{HoldsProblem, IsOther, HoldsRun, IsRun, IsSolvedRun, IsRefutedRun, IsUnfinishedRun, IsBoundedRun, WritesOrdered}
+use Rattle.line_replay.proofs.Lawful.{no_refusal, replay_lawful}
+use Rattle.line_solve.proofs.Lawful.{solve_lawful, reports_run}
+use Rattle.line_replay.proofs.Headlines.{HasOwnRecord, is_run, part_ordered}
+use Rattle.line_replay.proofs.Verdicts.{solved, refuted, bounded, replay_unfinished, solve_unfinished, refuted_log}
 use Rattle.law_meaning.specs.Meaning.{SatisfiesText}
 use Rattle.law_meaning.proofs.Whole.{solutions_satisfy}
 use Rattle.abt_command.specs.Meanings.{Means}

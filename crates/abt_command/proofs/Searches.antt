@@ -18,22 +18,22 @@ use Rattle.abt_promise.proofs.Following.{report_part, report_did}
 use Rattle.ngd_log.specs.Logs.{log_text}
 use Rattle.law_logs.specs.Logged.{IsSmall}
 use Rattle.abt_input.specs.Inputs.{IsModelOf, IsTextOf}
-use Rattle.abt_check.specs.Taking.{taking_of}
-use Rattle.abt_check.specs.Verifying.{IsVerifiedBy}
-use Rattle.abt_check.proofs.Verifying.{refutation_verified_by}
-use Rattle.abt_run.specs.Endings.{assigned}
-use Rattle.abt_run.specs.Headline.{HoldsProblem}
-use Rattle.abt_run.proofs.Verdicts.{run_log}
+use Rattle.line_check.specs.Taking.{taking_of}
+use Rattle.line_check.specs.Verifying.{IsVerifiedBy}
+use Rattle.line_check.proofs.Verifying.{refutation_verified_by}
+use Rattle.line_replay.specs.Endings.{assigned}
+use Rattle.line_replay.specs.Headline.{HoldsProblem}
+use Rattle.line_replay.proofs.Verdicts.{run_log}
 use Rattle.abt_optimum.specs.Best.{aim_value}
-use Rattle.abt_best.specs.Searching.{AskedSearch, round_count, session_after, last_run}
-use Rattle.abt_best.specs.BestAnswers.{search_status}
-use Rattle.abt_best.specs.SearchScripts.{search_script, search_report}
-use Rattle.abt_best.specs.SolvePromise.{solve_promise, HoldsWholeProblem}
-use Rattle.abt_best.specs.BestHeadline.{HoldsSearch, IsSearched, PrintsBest, IsBestSearch, IsRefutedSearch, IsUnfinishedSearch, IsBoundedSearch, SearchOrdered}
-use Rattle.abt_best.proofs.Lawful.{solve_lawful, no_refusal_best, reports_search}
-use Rattle.abt_best.proofs.Headlines.{OwnsRecord, is_searched, part_ordered}
-use Rattle.abt_best.proofs.Searches.{is_csp_after}
-use Rattle.abt_best.proofs.Verdicts.{is_best, is_refuted, is_unfinished, is_bounded}
+use Rattle.line_solve.specs.Searching.{AskedSearch, round_count, session_after, last_run}
+use Rattle.line_solve.specs.BestAnswers.{search_status}
+use Rattle.line_solve.specs.SearchScripts.{search_script, search_report}
+use Rattle.line_solve.specs.SolvePromise.{solve_promise, HoldsWholeProblem}
+use Rattle.line_solve.specs.BestHeadline.{HoldsSearch, IsSearched, PrintsBest, IsBestSearch, IsRefutedSearch, IsUnfinishedSearch, IsBoundedSearch, SearchOrdered}
+use Rattle.line_solve.proofs.Lawful.{solve_lawful, no_refusal_best, reports_search}
+use Rattle.line_solve.proofs.Headlines.{OwnsRecord, is_searched, part_ordered}
+use Rattle.line_solve.proofs.Searches.{is_csp_after}
+use Rattle.line_solve.proofs.Verdicts.{is_best, is_refuted, is_unfinished, is_bounded}
 use Rattle.law_meaning.specs.Meaning.{SatisfiesText}
 use Rattle.law_meaning.proofs.Whole.{solutions_satisfy}
 use Rattle.abt_command.specs.Meanings.{Means}

@@ -6,10 +6,10 @@ use Rattle.dcsp_rule.specs.Problems.{Contents}
 use Rattle.abt_input.specs.Inputs.{IsModelOf, HasChoices}
 use Rattle.abt_promise.specs.declared.status.Status.{Status}
 use Rattle.abt_promise.specs.declared.status.Status.TheVariants.{Good, No}
-use Rattle.abt_check.specs.Verifying.{IsVerified}
+use Rattle.line_check.specs.Verifying.{IsVerified}
 use Rattle.law_meaning.specs.Meaning.{SatisfiesText}
-use Rattle.abt_run.specs.Endings.{assigned, final_values}
-use Rattle.abt_run.specs.Asked.{Asked, asked_run, replay, solve}
+use Rattle.line_replay.specs.Endings.{assigned, final_values}
+use Rattle.line_replay.specs.Asked.{Asked, asked_run, replay, solve}
 use Rattle.abt_command.specs.Lines.{Line, Help, Version, Usage, Check, Replay, Solve, Bound, Queens, Colouring, Drill, Upgrade, Core, Starve, Lossy, Rup, Cnf, IsLine}
 
 -- the words ask for this run, where these are the files: a replay of a model that has a problem and a schedule that has choices, or a run from a seed of a model that asks for any solution

@@ -6,13 +6,13 @@ use Rattle.dcsp_rule.specs.Aims.{aimed_at}
 use Rattle.abt_input.specs.Inputs.{IsModelOf}
 use Rattle.abt_promise.specs.declared.status.Status.{Status}
 use Rattle.abt_promise.specs.declared.status.Status.TheVariants.{Good, No}
-use Rattle.abt_check.specs.Taking.{narrowing}
-use Rattle.abt_check.specs.Verifying.{IsVerifiedBy, IsVerified}
+use Rattle.line_check.specs.Taking.{narrowing}
+use Rattle.line_check.specs.Verifying.{IsVerifiedBy, IsVerified}
 use Rattle.law_meaning.specs.Meaning.{SatisfiesText}
-use Rattle.abt_run.specs.Endings.{assigned}
+use Rattle.line_replay.specs.Endings.{assigned}
 use Rattle.abt_optimum.specs.Best.{aim_value}
-use Rattle.abt_best.specs.Searching.{AskedSearch}
-use Rattle.abt_best.specs.BestHeadline.{PrintsBest}
+use Rattle.line_solve.specs.Searching.{AskedSearch}
+use Rattle.line_solve.specs.BestHeadline.{PrintsBest}
 use Rattle.abt_command.specs.Lines.{Solve, IsLine}
 use Rattle.abt_command.specs.AskedRuns.{AskForModel}
 

@@ -10,20 +10,20 @@ use Rattle.abt_promise.specs.Runs.{Ran}
 use Rattle.abt_command.specs.declared.plain.TheConstants.{VERSION}
 use Rattle.abt_words.specs.Rows.{the_rows}
 use Rattle.abt_words.specs.Texts.{help_text, usage_text}
-use Rattle.abt_models.specs.BoundReports.{bound_promise}
-use Rattle.abt_models.specs.Generated.{print_promise, queens_promise, colouring_promise}
-use Rattle.abt_run.specs.ReplayPromise.{replay_promise}
-use Rattle.abt_best.specs.SolvePromise.{solve_promise}
-use Rattle.abt_drill.specs.DrillPromise.{drill_promise}
-use Rattle.abt_logs.specs.UpgradePromise.{upgrade_promise}
-use Rattle.abt_logs.specs.CorePromise.{core_promise}
-use Rattle.abt_starve.specs.StarvePromise.{starve_promise}
-use Rattle.abt_losses.specs.LossyPromise.{lossy_promise}
-use Rattle.abt_clauses.specs.RupPromise.{rup_promise}
-use Rattle.abt_clauses.specs.CnfPromise.{cnf_promise}
+use Rattle.line_model.specs.BoundReports.{bound_promise}
+use Rattle.line_model.specs.Generated.{print_promise, queens_promise, colouring_promise}
+use Rattle.line_replay.specs.ReplayPromise.{replay_promise}
+use Rattle.line_solve.specs.SolvePromise.{solve_promise}
+use Rattle.line_drill.specs.DrillPromise.{drill_promise}
+use Rattle.line_rewrite.specs.UpgradePromise.{upgrade_promise}
+use Rattle.line_rewrite.specs.CorePromise.{core_promise}
+use Rattle.line_starve.specs.StarvePromise.{starve_promise}
+use Rattle.line_lossy.specs.LossyPromise.{lossy_promise}
+use Rattle.line_cnf.specs.RupPromise.{rup_promise}
+use Rattle.line_cnf.specs.CnfPromise.{cnf_promise}
 use Rattle.abt_command.specs.Lines.{Line, Help, Version, Usage, Check, Replay, Solve, Bound, Queens, Colouring, Drill, Upgrade, Core, Starve, Lossy, Rup, Cnf, IsLine, IsNoLine}
-use Rattle.abt_check.specs.Taking.{taking_of}
-use Rattle.abt_check.specs.CheckReports.{check_promise}
+use Rattle.line_check.specs.Taking.{taking_of}
+use Rattle.line_check.specs.CheckReports.{check_promise}
 
 -- the promise of a line
 abbrev pub promise_of : Line → Promise

@@ -7,16 +7,16 @@ use Rattle.abt_input.specs.Inputs.{IsModelOf}
 use Rattle.dcsp_script.specs.Scripts.{World}
 use Rattle.abt_promise.specs.declared.status.Status.{Status}
 use Rattle.abt_promise.specs.declared.status.Status.TheVariants.{Good, No}
-use Rattle.abt_check.specs.Taking.{taking_of}
-use Rattle.abt_check.specs.Checks.{IsRefutedBy}
-use Rattle.abt_run.specs.Headline.{HoldsProblem}
-use Rattle.abt_best.specs.SolvePromise.{HoldsWholeProblem}
-use Rattle.abt_clauses.specs.RupPromise.{HoldsRefuted, TellsExactly}
-use Rattle.abt_clauses.specs.CnfHeadline.{HoldsCnfRun, HoldsProof}
-use Rattle.abt_logs.specs.Upgrading.{HoldsUpgrade}
-use Rattle.abt_logs.specs.Trimming.{HoldsCore, CreatesNothing}
-use Rattle.abt_starve.specs.Starving.{HoldsStarved, TellsStarved}
-use Rattle.abt_losses.specs.Meaning.{HoldsLossyRun}
+use Rattle.line_check.specs.Taking.{taking_of}
+use Rattle.line_check.specs.Checks.{IsRefutedBy}
+use Rattle.line_replay.specs.Headline.{HoldsProblem}
+use Rattle.line_solve.specs.SolvePromise.{HoldsWholeProblem}
+use Rattle.line_cnf.specs.RupPromise.{HoldsRefuted, TellsExactly}
+use Rattle.line_cnf.specs.CnfHeadline.{HoldsCnfRun, HoldsProof}
+use Rattle.line_rewrite.specs.Upgrading.{HoldsUpgrade}
+use Rattle.line_rewrite.specs.Trimming.{HoldsCore, CreatesNothing}
+use Rattle.line_starve.specs.Starving.{HoldsStarved, TellsStarved}
+use Rattle.line_lossy.specs.Meaning.{HoldsLossyRun}
 use Rattle.abt_command.specs.Lines.{Line, Help, Version, Usage, Check, Replay, Solve, Bound, Queens, Colouring, Drill, Upgrade, Core, Starve, Lossy, Rup, Cnf}
 
 -- `solve`: the model's problem is well-formed, keeps the limits, and logs can name all that it has

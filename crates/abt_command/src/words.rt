@@ -7,13 +7,13 @@ ghost use Rattle.abt_words.specs.Saying.{IsSaidBy};
 ghost use Rattle.abt_words.specs.Values.{said_in};
 ghost use Rattle.abt_command.specs.Lines.{IsLine, IsNoLine, line_by, line_named, line_of, number_at};
 
-use abt_check::Check;
-use abt_clauses::Cnf;
-use abt_logs::CoreLine;
-use abt_losses::Losses;
-use abt_run::{Replay, Solve};
-use abt_starve::Starve;
 use abt_words::{LineName, Said, said_of};
+use line_check::Check;
+use line_cnf::Cnf;
+use line_lossy::Losses;
+use line_replay::{Replay, Solve};
+use line_rewrite::CoreLine;
+use line_starve::Starve;
 
 /// What the words ask for.
 pub enum Order<'w> {

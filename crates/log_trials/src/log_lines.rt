@@ -2,9 +2,9 @@
 
 use crate::given::Outside;
 use abt_input::CommandError;
-use abt_logs::{CoreLine, run_core, run_upgrade};
 use abt_promise::Status;
 use dcsp_outside::{MemoryFolder, MemorySink};
+use line_rewrite::{CoreLine, run_core, run_upgrade};
 use std::alloc::Global;
 use std::process::Abort;
 

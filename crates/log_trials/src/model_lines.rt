@@ -2,10 +2,10 @@
 
 use crate::given::Outside;
 use abt_input::CommandError;
-use abt_models::{run_bound, run_colouring, run_queens};
 use abt_promise::Status;
 use dcsp_gen::{pigeons, queens};
 use dcsp_outside::{MemoryFolder, MemorySink};
+use line_model::{run_bound, run_colouring, run_queens};
 use std::alloc::Global;
 use std::process::Abort;
 use std::test::Fail;

@@ -1,5 +1,0 @@
-use Rattle.abt_check.proofs.Lawful.{check_lawful}
-use Rattle.abt_check.proofs.laws.check_is_lawful.Goals as goal
-
-pub returns : goal.returns
-returns c = check_lawful

@@ -1,6 +1,0 @@
-use Rattle.abt_clauses.specs.CnfRuns.{value_literal}
-use Rattle.abt_clauses.proofs.Printed.{printed_more}
-use Rattle.abt_clauses.proofs.answer.push_values.Goals as goal
-
-pub loop-variable-preserved : goal.loop-variable-preserved
-loop-variable-preserved c = printed_more (value_literal c.args.values.now) c.loop-variable.variable _ _ _ c.loop-variable.invariant c.in_ok-push_literal.ensures

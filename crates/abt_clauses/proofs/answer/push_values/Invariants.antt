@@ -1,9 +1,0 @@
-use Rattle.std.proofs.Common.{◌≡◌, ◌++◌, map}
-use Rattle.std.specs.Prelude.{flat_map}
-use Rattle.dcsp_defs.specs.Words.{below}
-use Rattle.rup_check.specs.ProofText.{literal_text}
-use Rattle.abt_clauses.specs.CnfRuns.{value_literal}
-use Rattle.abt_clauses.proofs.answer.push_values.Given as goal
-
-abbrev pub invariant-loop-variable : goal.invariant-loop-variable
-invariant-loop-variable l = l.into.items ≡ l.fn.into.items ++ flat_map literal_text (map (value_literal l.values) (below l.variable))

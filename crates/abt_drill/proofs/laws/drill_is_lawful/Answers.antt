@@ -1,5 +1,0 @@
-use Rattle.abt_drill.proofs.Lawful.{drill_lawful}
-use Rattle.abt_drill.proofs.laws.drill_is_lawful.Goals as goal
-
-pub returns : goal.returns
-returns c = drill_lawful

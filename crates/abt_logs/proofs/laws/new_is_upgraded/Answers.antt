@@ -1,9 +1,0 @@
-use Rattle.abt_logs.proofs.Files.{upgrade_appended}
-use Rattle.abt_logs.proofs.Meaning.{is_upgrade}
-use Rattle.abt_logs.proofs.laws.new_is_upgraded.Goals as goal
-
-pub returns-clause-text : goal.returns-clause-text
-returns-clause-text c = upgrade_appended
-
-pub returns-clause-upgrade : goal.returns-clause-upgrade
-returns-clause-upgrade c = is_upgrade

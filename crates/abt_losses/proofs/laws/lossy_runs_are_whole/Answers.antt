@@ -1,8 +1,0 @@
-use Rattle.abt_losses.proofs.Files.{files_are_whole, answers_are_put}
-use Rattle.abt_losses.proofs.laws.lossy_runs_are_whole.Goals as goal
-
-pub returns-clause-files : goal.returns-clause-files
-returns-clause-files c = files_are_whole
-
-pub returns-clause-answers : goal.returns-clause-answers
-returns-clause-answers c = answers_are_put

@@ -1,5 +1,0 @@
-use Rattle.std.proofs.Common.{◌∙◌}
-use Rattle.abt_models.proofs.bound.tell.Goals as goal
-
-pub returns : goal.returns
-returns g c = λ folder. rw (c.bytes.ensures ∙ c.in_ok-reply.ensures) at (c.put.ensures folder)

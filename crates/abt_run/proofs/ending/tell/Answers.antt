@@ -1,5 +1,0 @@
-use Rattle.abt_session.proofs.Pieces.{line_put}
-use Rattle.abt_run.proofs.ending.tell.Goals as goal
-
-pub returns-in-Ok : goal.returns-in-Ok
-returns-in-Ok g c = λ folder. line_put _ _ c.deref.ensures.value c.in-Ok.ensures c.new-text.ensures.items (c.put.ensures folder)

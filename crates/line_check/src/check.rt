@@ -1,0 +1,81 @@
+//! Checking a log against a model.
+
+ghost use Rattle.std.specs.Prelude.{◌≡◌, [], ◌∷◌, Ok, IfOk};
+ghost use Rattle.dcsp_outside.specs.Outside.{Place};
+ghost use Rattle.dcsp_script.specs.Scripts.{Put, outside};
+ghost use Rattle.dcsp_script.specs.Ways.{Wrote};
+ghost use Rattle.abt_promise.specs.Runs.{CameIn};
+ghost use Rattle.abt_input.specs.Errors.{way_of};
+ghost use Rattle.abt_input.specs.Replies.{reply_bytes};
+ghost use Rattle.line_check.specs.Checks.{IsRefutedBy, finding_status, finding_text};
+ghost use Rattle.line_check.specs.Taking.{taking_of};
+ghost use Rattle.line_check.specs.CheckReports.{check_promise};
+
+use crate::asked::take_problem;
+use crate::pieces::check_log;
+use abt_input::{CommandError, Reply, numbered};
+use abt_promise::Status;
+use dcsp_outside::{Folder, Sink};
+use dcsp_script::{Stop, put};
+use ngd_check::Finding;
+use std::alloc::{AllocError, Global};
+
+/// The words of `check`.
+#[derive(Clone, Copy)]
+pub struct Check<'w> {
+    /// The name of the model.
+    pub model: &'w str,
+    /// The name of the log.
+    pub log: &'w str,
+    /// The value at the model's aim than which no solution is to have a better one, where one is given.
+    pub better: Option<i64>,
+}
+
+/// The status of a finding.
+pub fn finding_status(finding: Finding) -> Status
+    ensures { result ≡ finding_status finding }
+{
+    match finding {
+        Finding::Verified => Status::Good,
+        Finding::BadStep { .. } | Finding::BadDeletion { .. } | Finding::NotEmpty => Status::No,
+    }
+}
+
+/// The line that tells a finding.
+pub fn finding_reply(alloc: Global, finding: Finding) -> Result<Reply, AllocError>
+    ensures { IfOk result (λ reply. reply_bytes reply ≡ finding_text finding) }
+{
+    match finding {
+        Finding::Verified => Ok(Reply::Fixed(b"verified\n")),
+        Finding::BadStep { step } => numbered(alloc, b"rejected step ", step),
+        Finding::BadDeletion { after } => numbered(alloc, b"rejected deletion after step ", after),
+        Finding::NotEmpty => Ok(Reply::Fixed(b"rejected not empty\n")),
+    }
+}
+
+/// Puts the finding's line on `out`, in one piece.
+fn tell<S: Sink>(alloc: Global, finding: Finding, out: &mut S) -> Result<(), Stop>
+    ensures { (folder : Place) → Wrote (Put (finding_text finding) ∷ [])
+        (outside folder (S.stream out.old)) (outside folder (S.stream out.new)) result }
+{
+    let reply = finding_reply(alloc, finding)?;
+    put(out, reply.bytes())
+}
+
+/// Checks the log against the problem that is taken of the model, and puts the finding's line on `out`.
+pub fn run_check<F: Folder, S: Sink>(
+    alloc: Global,
+    folder: &mut F,
+    line: Check<'_>,
+    out: &mut S,
+) -> Result<Status, CommandError>
+    ensures came { CameIn (check_promise (taking_of line.entry.better) line.entry.model.now line.entry.log.now)
+        (outside (F.place folder.old) (S.stream out.old))
+        (outside (F.place folder.new) (S.stream out.new)) (way_of result) }
+    ensures verified { result ≡ Ok Status.Good → IsRefutedBy (taking_of line.entry.better) (F.place folder.old).held line.entry.model.now }
+{
+    let problem = take_problem(alloc, folder, line.model, line.better)?;
+    let finding = check_log(alloc, folder, &problem, line.log)?;
+    tell(alloc, finding, out)?;
+    Ok(finding_status(finding))
+}

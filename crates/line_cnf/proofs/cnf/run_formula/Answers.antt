@@ -1,0 +1,23 @@
+use Rattle.std.proofs.Common.{◌∙◌}
+use Rattle.line_replay.proofs.Outcomes.{status_is}
+use Rattle.line_cnf.specs.CnfRuns.{cnf_run}
+use Rattle.line_cnf.proofs.CnfOutcomes.{made_binary, nothing_made, proof_stopped, answer_stopped, answer_put}
+use Rattle.line_cnf.proofs.cnf.run_formula.Goals as goal
+
+pub returns-in_err-made-clause-wrote : goal.returns-in_err-made-clause-wrote
+returns-in_err-made-clause-wrote g c = nothing_made _ _ _ c.from_residual.ensures
+
+pub write_proof-requires : goal.write_proof-requires
+write_proof-requires g c = made_binary c.args.problem.now (cnf_run c.args.problem.now c.args.line.seed) c.in_ok-made.made c.in_ok-made.ensures
+
+pub returns-in_err-write_proof-clause-wrote : goal.returns-in_err-write_proof-clause-wrote
+returns-in_err-write_proof-clause-wrote g c = proof_stopped c.args.problem.now c.args.line.proof.now (cnf_run c.args.problem.now c.args.line.seed) c.in_ok-made.made c.in_ok-made.ensures _ c.from_residual-in_err-write_proof.ensures (c.in_err-write_proof.ensures _)
+
+pub returns-in_err-tell-clause-wrote : goal.returns-in_err-tell-clause-wrote
+returns-in_err-tell-clause-wrote g c = answer_stopped c.args.problem.now c.args.line.proof.now (cnf_run c.args.problem.now c.args.line.seed) c.in_ok-made.made c.in_ok-made.ensures _ c.from_residual-in_err-tell.ensures (c.in_ok-write_proof.ensures _) (c.in_err-tell.ensures _)
+
+pub returns-clause-wrote : goal.returns-clause-wrote
+returns-clause-wrote g c = answer_put c.args.problem.now c.args.line.proof.now (cnf_run c.args.problem.now c.args.line.seed) c.in_ok-made.made c.in_ok-made.ensures _ (c.in_ok-write_proof.ensures _) (c.in_ok-tell.ensures _)
+
+pub returns-clause-status : goal.returns-clause-status
+returns-clause-status g c = c.status_of.ensures ∙ status_is c.args.problem.now (cnf_run c.args.problem.now c.args.line.seed) c.in_ok-made.made.outcome.end c.in_ok-made.ensures.outcome.end

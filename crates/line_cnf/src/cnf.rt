@@ -1,0 +1,75 @@
+//! The line `cnf CNF PROOF [--seed N]`.
+
+ghost use Rattle.std.specs.Prelude.{◌≡◌, IfOk};
+ghost use Rattle.dcsp_outside.specs.Outside.{Place, Stream};
+ghost use Rattle.dcsp_script.specs.Scripts.{outside};
+ghost use Rattle.dcsp_script.specs.Ways.{Wrote};
+ghost use Rattle.abt_promise.specs.Runs.{CameIn};
+ghost use Rattle.abt_input.specs.Errors.{way_of};
+ghost use Rattle.line_replay.specs.Endings as endings;
+ghost use Rattle.line_cnf.specs.CnfRuns.{cnf_run, cnf_script};
+ghost use Rattle.line_cnf.specs.CnfOutcomes.{IsFormula};
+ghost use Rattle.line_cnf.specs.CnfPromise.{cnf_promise};
+ghost use Rattle.line_cnf.specs.CnfHeadline.{HoldsCnfRun, HoldsProof};
+
+use crate::answer::{status_of, tell};
+use crate::apart::run_apart;
+use crate::proof::write_proof;
+use abt_input::{CommandError, read_formula};
+use abt_promise::Status;
+use dcsp_outside::{Folder, Sink};
+use dcsp_problem::Problem;
+use dcsp_script::Stop;
+use std::alloc::Global;
+
+/// The words of `cnf`.
+#[derive(Clone, Copy)]
+pub struct Cnf<'w> {
+    /// The name of the formula.
+    pub cnf: &'w str,
+    /// The name that a proof is written under.
+    pub proof: &'w str,
+    /// The seed of the run's choices.
+    pub seed: u64,
+}
+
+/// Runs the agents of the formula's problem under the choices of the seed, and tells whether the formula can be
+/// satisfied. Where it cannot, a proof is written first.
+pub fn run_cnf<F: Folder, S: Sink>(
+    alloc: Global,
+    folder: &mut F,
+    line: Cnf<'_>,
+    out: &mut S,
+) -> Result<Status, CommandError>
+    ensures came { CameIn (cnf_promise line.entry.cnf.now line.entry.proof.now line.entry.seed)
+        (outside (F.place folder.old) (S.stream out.old))
+        (outside (F.place folder.new) (S.stream out.new)) (way_of result) }
+    ensures writes { IfOk result (λ status. HoldsProof line.entry.cnf.now line.entry.proof.now line.entry.seed status
+        (F.place folder.old).held (F.place folder.new).held) }
+    ensures means { IfOk result (HoldsCnfRun (F.place folder.old).held line.entry.cnf.now line.entry.seed) }
+{
+    let problem = read_formula(alloc, folder, line.cnf)?;
+    problem.denotes_csp();
+    let status = run_formula(alloc, &problem, line, folder, out)?;
+    Ok(status)
+}
+
+/// Runs the agents, writes a refutation as a proof, and tells how the run ended.
+fn run_formula<F: Folder, S: Sink>(
+    alloc: Global,
+    problem: &Problem,
+    line: Cnf<'_>,
+    folder: &mut F,
+    out: &mut S,
+) -> Result<Status, Stop>
+    requires { IsFormula problem.now }
+    ensures wrote { Wrote (cnf_script problem.now line.entry.proof.now (cnf_run problem.now line.entry.seed))
+        (outside (F.place folder.old) (S.stream out.old)) (outside (F.place folder.new) (S.stream out.new)) result }
+    ensures status { IfOk result (λ status. status ≡ endings.end_status (cnf_run problem.now line.entry.seed).end) }
+{
+    problem.denotes_csp();
+    let made = run_apart(alloc, problem, line.seed)?;
+    write_proof(alloc, folder, line.proof, &made.refutation)?;
+    tell(alloc, &made.outcome, out)?;
+    Ok(status_of(&made.outcome.end))
+}

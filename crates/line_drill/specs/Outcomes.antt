@@ -1,0 +1,39 @@
+-- What is told of what a run gave.
+use Rattle.std.specs.Prelude.{ℕ, Bool, true, false, ◌||◌, List, ◌++◌, codes, decimal, if◌then◌else◌}
+use Rattle.abt_session.specs.declared.outcome.End.{End}
+use Rattle.abt_session.specs.declared.outcome.End.TheVariants.{Solved, Refuted, Spent, Capped}
+use Rattle.abt_session.specs.declared.outcome.Outcome.{Outcome}
+use Rattle.ngd_check.specs.declared.Finding.{Finding}
+use Rattle.line_check.specs.Checks.{finding_text}
+use Rattle.abt_promise.specs.declared.status.Status.{Status}
+use Rattle.abt_promise.specs.declared.status.Status.TheVariants.{Good, Unfinished}
+
+-- the word for an end
+abbrev pub outcome_word : End → List ℕ
+outcome_word (Solved values) = codes "solved"
+outcome_word Refuted = codes "refuted"
+outcome_word Spent = codes "unfinished"
+outcome_word Capped = codes "unfinished"
+
+-- how a run of the problem of this name ended
+abbrev pub outcome_text : List ℕ → Outcome → List ℕ
+outcome_text name outcome = name ++ outcome_word outcome.end ++ codes " deliveries " ++ decimal outcome.deliveries
+
+-- whether a run ended without a verdict
+abbrev pub is_open_end : End → Bool
+is_open_end (Solved values) = false
+is_open_end Refuted = false
+is_open_end Spent = true
+is_open_end Capped = true
+
+-- the four lines
+abbrev pub told_text : Outcome → Outcome → Outcome → Finding → List ℕ
+told_text sparse queens pigeons finding =
+    outcome_text (codes "sparse 500 ") sparse ++ codes "\n"
+    ++ outcome_text (codes "queens 6 ") queens ++ codes "\n"
+    ++ outcome_text (codes "pigeons 5 ") pigeons ++ codes " steps " ++ decimal pigeons.steps ++ codes "\n"
+    ++ codes "pigeons 5 " ++ finding_text finding
+
+-- the status of three runs
+abbrev pub told_status : Outcome → Outcome → Outcome → Status
+told_status sparse queens pigeons = if is_open_end sparse.end || is_open_end queens.end || is_open_end pigeons.end then Unfinished else Good

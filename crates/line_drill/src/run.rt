@@ -1,0 +1,107 @@
+//! The run of a generated problem.
+
+ghost use Rattle.std.specs.Prelude.{◌≡◌, ℕ, false, List, Some, IfOk, OnOk, IsOk};
+ghost use Rattle.std.specs.FinMap as map;
+ghost use Rattle.ngd_log.specs.Logs.{log_text};
+ghost use Rattle.abt_session.specs.Running.{Gives};
+ghost use Rattle.abt_input.specs.Inputs.{IsModelOf};
+ghost use Rattle.line_check.specs.Checks.{IsFoundFor};
+ghost use Rattle.line_replay.specs.Asked.{seeded_session};
+ghost use Rattle.line_drill.specs.Drills.{log_name, run_from};
+
+use abt_input::read_model;
+use abt_schedule::{ChoiceList, Seeded};
+use abt_session::{Outcome, run};
+use dcsp_common::Memory;
+use dcsp_outside::{SureFolder, SureSink};
+use dcsp_problem::Problem;
+use line_check::check_log;
+use ngd_check::Finding;
+use std::alloc::{AllocError, Global};
+
+/// The most deliveries of a run.
+const MOST_DELIVERIES: u64 = 1 << 40;
+
+/// A problem that was run.
+#[derive(Drop)]
+pub struct Trial {
+    pub problem: Problem,
+    pub outcome: Outcome,
+    /// Where the log of the run is.
+    pub folder: SureFolder,
+}
+
+/// Runs the problem of a generated text under the choices of the seed.
+///
+/// A generated text has a problem and a sure folder never fails, so what is answered in place of a trial
+/// is want of memory.
+pub fn try_text(
+    alloc: Global,
+    text: Result<Vec<u8>, Memory>,
+    seed: u64,
+) -> Result<Trial, AllocError>
+    ensures model { IfOk result (λ trial. IfOk text (λ bytes. IsModelOf bytes.items trial.problem)) }
+    ensures gives { IfOk result (λ trial. Gives (seeded_session trial.problem seed log_name false) trial.outcome) }
+    ensures log { IfOk result (λ trial. map.get trial.folder.files log_name ≡ Some (log_text (run_from trial.problem seed).net.steps)) }
+    ensures made { OnOk result (IsOk text) }
+{
+    let Ok(text) = text else {
+        return Err(AllocError);
+    };
+    let mut folder = SureFolder::new(alloc);
+    let Ok(()) = folder.place("model", &text) else {
+        return Err(AllocError);
+    };
+    let Ok(problem) = read_model(alloc, &mut folder, "model") else {
+        return Err(AllocError);
+    };
+    let outcome = run_problem(alloc, &problem, seed, &mut folder)?;
+    Ok(Trial {
+        problem,
+        outcome,
+        folder,
+    })
+}
+
+/// Runs the problem, with its log in the folder.
+fn run_problem(
+    alloc: Global,
+    problem: &Problem,
+    seed: u64,
+    folder: &mut SureFolder,
+) -> Result<Outcome, AllocError>
+    ensures gives { IfOk result (Gives (seeded_session problem.now seed log_name false)) }
+    ensures log { OnOk result (map.get folder.new.files log_name ≡ Some (log_text (run_from problem.now seed).net.steps)) }
+{
+    let mut choices = Seeded::new(seed);
+    let mut taken = ChoiceList::new(alloc);
+    let mut out = SureSink::new(alloc);
+    match run(
+        alloc,
+        problem,
+        &mut choices,
+        MOST_DELIVERIES,
+        folder,
+        "drill",
+        &mut out,
+        false,
+        &mut taken,
+        false,
+    ) {
+        Ok(outcome) => Ok(outcome),
+        Err(_) => Err(AllocError),
+    }
+}
+
+impl Trial {
+    /// What is found of the log.
+    pub fn check(&mut self, alloc: Global) -> Result<Finding, AllocError>
+        ensures found { (log : List ℕ) → map.get self.old.folder.files log_name ≡ Some log → IfOk result (IsFoundFor self.old.problem log) }
+        ensures same { (self.new.problem ≡ self.old.problem) × (self.new.outcome ≡ self.old.outcome) }
+    {
+        match check_log(alloc, &mut self.folder, &self.problem, "drill") {
+            Ok(finding) => Ok(finding),
+            Err(_) => Err(AllocError),
+        }
+    }
+}

@@ -1,0 +1,108 @@
+-- What a run over the medium means.
+use Rattle.std.proofs.Common.{◌≡◌, ◌↔◌, ℕ, ◌+◌, Bool, true, false, cond, ◌||◌, pos, List, length, refl, sym, ap, ◌∙◌, arith}
+use Rattle.dcsp_defs.specs.Csp.{IsCsp, IsSolution, count}
+use Rattle.dcsp_rule.specs.Problems.{csp_of}
+use Rattle.dcsp_problem.proofs.OwnerLists.{get_or-map_below, length-map_below}
+use Rattle.abt_defs.specs.Network.{values}
+use Rattle.abt_defs.specs.Runs.{Refuted, Solved, Capped}
+use Rattle.law_lossy.specs.World.{World}
+use Rattle.law_lossy.specs.Ends.{is_quiet, has_verdict}
+use Rattle.law_lossy.proofs.Runs.{quiet_is_solved, steps_are_right, handed_up_bounded}
+use Rattle.law_lossy.proofs.Whole.{is_whole}
+use Rattle.abt_schedule.specs.Answers.{word_at, generator_of}
+use Rattle.abt_promise.specs.declared.status.Status.{Status}
+use Rattle.abt_promise.specs.declared.status.Status.TheVariants.{Good, No, Unfinished}
+use Rattle.line_replay.specs.Endings.{assigned, end_status}
+use Rattle.line_replay.proofs.Verdicts.{same_solution}
+use Rattle.line_lossy.specs.Asked.{Asked, lossy, most_calm, seeded_words, run_words, run_world, end_of, world_values}
+use Rattle.line_lossy.specs.Meaning.{IsRefutedRun, IsSolvedRun, IsUnfinishedRun, IsBoundedRun, IsLossyRun, RunsAreRight}
+use Rattle.line_lossy.proofs.Counting.{all_made, soon, past_budget}
+
+-- ---- statuses
+
+-- the status, by whether the world is refuted and whether it is quiet
+abbrev status_by : Bool → Bool → Status
+status_by a b = end_status (cond a Refuted (cond b Solved Capped))
+
+is_no : (a b : Bool) → (status_by a b ≡ No) ↔ (a ≡ true)
+is_no true b = (λ h. refl, λ h. refl)
+is_no false true = (λ h. absurd cc, λ h. absurd cc)
+is_no false false = (λ h. absurd cc, λ h. absurd cc)
+
+is_good : (a b : Bool) → (status_by a b ≡ Good) ↔ ((b ≡ true) × (a ≡ false))
+is_good true b = (λ h. absurd cc, λ h. absurd (let z = h.1 in cc))
+is_good false true = (λ h. (refl, refl), λ h. refl)
+is_good false false = (λ h. absurd cc, λ h. absurd (let z = h.0 in cc))
+
+is_unfinished : (a b : Bool) → (status_by a b ≡ Unfinished) ↔ ((a || b) ≡ false)
+is_unfinished true b = (λ h. absurd cc, λ h. absurd cc)
+is_unfinished false true = (λ h. absurd cc, λ h. absurd cc)
+is_unfinished false false = (λ h. refl, λ h. refl)
+
+-- ---- one run
+
+module _ (asked : Asked) (ok : IsCsp (csp_of asked.problem)) (status : Status) (status_is : status ≡ end_status (end_of (csp_of asked.problem) (run_world asked))) where
+  abbrev w : World
+  w = run_world asked
+
+  abbrev given : List ℕ
+  given = seeded_words asked.seed asked.events
+
+  given_long : length given ≡ asked.events
+  given_long = length-map_below (word_at (generator_of asked.seed)) asked.events
+
+  abbrev tells_no : (status_by w.network.refuted (is_quiet (csp_of asked.problem) w) ≡ No) ↔ (w.network.refuted ≡ true)
+  tells_no = is_no w.network.refuted (is_quiet (csp_of asked.problem) w)
+
+  abbrev tells_good : (status_by w.network.refuted (is_quiet (csp_of asked.problem) w) ≡ Good) ↔ ((is_quiet (csp_of asked.problem) w ≡ true) × (w.network.refuted ≡ false))
+  tells_good = is_good w.network.refuted (is_quiet (csp_of asked.problem) w)
+
+  abbrev tells_unfinished : (status_by w.network.refuted (is_quiet (csp_of asked.problem) w) ≡ Unfinished) ↔ (has_verdict (csp_of asked.problem) w ≡ false)
+  tells_unfinished = is_unfinished w.network.refuted (is_quiet (csp_of asked.problem) w)
+
+  refuted : IsRefutedRun asked status
+  refuted =
+      let steps = steps_are_right (csp_of asked.problem) ok (run_words asked) in
+      record {
+        exactly = (λ h. tells_no.0 (sym status_is ∙ h), λ h. status_is ∙ tells_no.1 h);
+        refutation = λ h. steps.refuted (tells_no.0 (sym status_is ∙ h));
+        no_solution = λ h. steps.no_solution (tells_no.0 (sym status_is ∙ h));
+      }
+
+  solution : status ≡ Good → IsSolution (csp_of asked.problem) (assigned (world_values asked.problem w))
+  solution h =
+      let good = tells_good.0 (sym status_is ∙ h) in
+      let solved = quiet_is_solved (csp_of asked.problem) ok (run_words asked) good.1 good.0 in
+      same_solution (csp_of asked.problem) ok (assigned (world_values asked.problem w)) (values w.network) (λ i l. get_or-map_below (values w.network) (count (csp_of asked.problem)) i (pos 0) l) solved.solution
+
+  solved : IsSolvedRun asked status
+  solved = record { exactly = (λ h. tells_good.0 (sym status_is ∙ h), λ h. status_is ∙ tells_good.1 h); solution = solution }
+
+  unfinished : IsUnfinishedRun asked status
+  unfinished = record {
+    exactly = (λ h. tells_unfinished.0 (sym status_is ∙ h), λ h. status_is ∙ tells_unfinished.1 h);
+    all_made = λ h. let all = all_made (csp_of asked.problem) ok given most_calm (tells_unfinished.0 (sym status_is ∙ h)) in all ∙ ap (λ k. k + most_calm) given_long;
+    budget = λ small h. let past = past_budget (csp_of asked.problem) ok given most_calm (tells_unfinished.0 (sym status_is ∙ h)) in let long = given_long in absurd (omega (arith, small, past, long));
+  }
+
+  bounded : IsBoundedRun asked
+  bounded =
+      let counts = handed_up_bounded (csp_of asked.problem) ok (run_words asked) in
+      record {
+        deliveries = counts.bound;
+        numbered = counts.numbered;
+        events = let l = soon (csp_of asked.problem) ok given most_calm in let long = given_long in omega (arith, l, long);
+      }
+
+  pub is_right : IsLossyRun asked status
+  is_right = record {
+    status_is = status_is;
+    refuted = refuted;
+    solved = solved;
+    unfinished = unfinished;
+    bounded = bounded;
+    reliable = is_whole (csp_of asked.problem) (run_words asked);
+  }
+
+pub runs_are_right : RunsAreRight
+runs_are_right p events seed log kept ok status is = is_right (lossy p events seed log kept) ok status is

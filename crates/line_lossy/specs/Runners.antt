@@ -1,0 +1,70 @@
+-- A run over the medium on its way.
+use Rattle.std.specs.Prelude.{◌≡◌, ℕ, ◌+◌, ◌≤◌, ◌++◌, Bool, true, false, List, [], drop, length, map}
+use Rattle.dcsp_defs.specs.Words.{below}
+use Rattle.dcsp_defs.specs.declared.Step.{Step}
+use Rattle.dcsp_rule.specs.Problems.{Contents, csp_of}
+use Rattle.dcsp_script.specs.Scripts.{Write}
+use Rattle.law_lossy.specs.World.{begin}
+use Rattle.law_lossy.specs.Deliveries.{numbers}
+use Rattle.law_lossy.specs.Ends.{calm_words, used}
+use Rattle.abt_schedule.specs.Answers.{word_at}
+use Rattle.rand_pcg.specs.Lcg.{Lcg}
+use Rattle.abt_lossy.specs.InWorld.{LossyState, IsAfter, reached}
+use Rattle.abt_session.specs.Running.{kept, IsOutcome}
+use Rattle.abt_session.specs.Sessions.{step_writes}
+use Rattle.line_lossy.specs.Asked.{Asked, end_of, run_words, run_world}
+use Rattle.line_lossy.specs.declared.runner.Runner.{Runner}
+use Rattle.line_lossy.specs.declared.ending.Ended.{Ended}
+
+-- the numbers of all that these events of its problem hand up
+abbrev pub numbers_after : LossyState → List ℕ → List ℕ
+numbers_after s words = numbers (csp_of s.problem) words (begin (csp_of s.problem))
+
+-- these events were made; the steps were counted, and what was handed up was counted and, where that is asked for, taken down
+pub record HasMade (words : List ℕ) (r : Runner) : Type 0 where
+  pub after : IsAfter r.medium words
+  pub begun : r.medium.begun ≡ true
+  pub sound : r.medium.spent ≡ false
+  pub steps : r.steps ≡ length (reached r.medium words).network.steps
+  pub deliveries : r.deliveries ≡ length (numbers_after r.medium words)
+  pub taken : r.taken ≡ kept r.keep (numbers_after r.medium words)
+  pub few_steps : r.steps ≤ r.medium.events + 1
+  pub few_deliveries : r.deliveries ≤ r.medium.events
+
+-- where these steps grew to those, an append for each that is new
+abbrev pub new_writes : List ℕ → List Step → List Step → List Write
+new_writes log before now = step_writes log (length before + 1) (drop (length before) now)
+
+-- the appends of the steps that the world of these later words has beyond that of the earlier ones
+abbrev pub writes_between : LossyState → List ℕ → List ℕ → List ℕ → List Write
+writes_between s log earlier later = new_writes log (reached s earlier).network.steps (reached s later).network.steps
+
+-- the first words of a generator, so many of them, until a verdict stands
+abbrev pub seeded_until_verdict : LossyState → Lcg → ℕ → List ℕ
+seeded_until_verdict s generator events = used (csp_of s.problem) (map (word_at generator) (below events)) (begin (csp_of s.problem))
+
+-- these words and calm ones after them, at most so many, until a verdict stands
+abbrev pub calmed : LossyState → List ℕ → ℕ → List ℕ
+calmed s words most = words ++ calm_words (csp_of s.problem) most (reached s words)
+
+-- what events leave as it was
+pub record SameTask (old new : Runner) : Type 0 where
+  pub problem : new.medium.problem ≡ old.medium.problem
+  pub log : new.log.now ≡ old.log.now
+  pub keep : new.keep ≡ old.keep
+
+-- it is to run this problem, with this log, and nothing was made yet
+pub record IsFresh (p : Contents) (log_name : List ℕ) (keeps : Bool) (r : Runner) : Type 0 where
+  pub problem : r.medium.problem ≡ p
+  pub log : r.log.now ≡ log_name
+  pub keep : r.keep ≡ keeps
+  pub sound : r.medium.spent ≡ false
+  pub fresh : r.medium.begun ≡ false
+  pub steps : r.steps ≡ 0
+  pub deliveries : r.deliveries ≡ 0
+  pub taken : r.taken ≡ []
+
+-- what the run gives: its end, with the values where it is solved, and its counts
+pub record IsEnded (asked : Asked) (ended : Ended) : Type 0 where
+  pub outcome : IsOutcome (csp_of asked.problem) (run_world asked).network (end_of (csp_of asked.problem) (run_world asked)) ended.outcome
+  pub events : ended.events ≡ length (run_words asked)

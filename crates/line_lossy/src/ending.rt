@@ -1,0 +1,115 @@
+//! How a run over the medium ended, and as text.
+
+ghost use Rattle.std.specs.Prelude.{◌≡◌, ℕ, List, [], ◌∷◌, ◌++◌, map, length, codes, decimal, Err, IfOk, OnErr, OnOk};
+ghost use Rattle.dcsp_defs.specs.Csp.{count};
+ghost use Rattle.dcsp_defs.specs.Words.{below};
+ghost use Rattle.dcsp_outside.specs.Outside.{Place, Stream};
+ghost use Rattle.dcsp_rule.specs.Problems.{csp_of};
+ghost use Rattle.dcsp_script.specs.Scripts.{Put, outside};
+ghost use Rattle.dcsp_script.specs.Ways.{Wrote};
+ghost use Rattle.abt_defs.specs.Network.{values};
+ghost use Rattle.abt_lossy.specs.InWorld.{reached, IsAfter};
+ghost use Rattle.abt_session.specs.Running.{IsOutcome};
+ghost use Rattle.line_replay.specs.Outcomes.{outcome_text, HasAllValues};
+ghost use Rattle.line_lossy.specs.Asked.{end_of, events_text};
+ghost use Rattle.line_lossy.specs.Runners.{HasMade};
+
+use crate::runner::Runner;
+use abt_lossy::{Lossy, Standing};
+use abt_session::{End, Outcome};
+use dcsp_common::Memory;
+use dcsp_domain::IntList;
+use dcsp_outside::Sink;
+use dcsp_problem::Problem;
+use dcsp_script::{Stop, put};
+use itoa::Buffer;
+use line_replay::push_outcome;
+use std::alloc::{AllocError, Global};
+
+/// How a run over the medium ended.
+#[derive(Debug, Drop)]
+pub struct Ended {
+    pub outcome: Outcome,
+    /// How many events were made.
+    pub events: u64,
+}
+
+/// What the run gives that has stopped.
+pub fn outcome_of(
+    alloc: Global,
+    problem: &Problem,
+    runner: &Runner<'_, '_>,
+) -> Result<Outcome, Stop>
+    requires problem { runner.now.medium.problem ≡ problem.now }
+    ensures gives { (words : List ℕ) → HasMade words runner.now → IfOk result (IsOutcome (csp_of problem.now) (reached runner.now.medium words).network (end_of (csp_of problem.now) (reached runner.now.medium words))) }
+    ensures only_memory { OnErr result (result ≡ Err Stop.Memory) }
+{
+    law_lossy::handed_up_bounded();
+    problem.denotes_csp();
+    let end = match runner.medium.state() {
+        Standing::Refuted => End::Refuted,
+        Standing::Open => End::Capped,
+        Standing::Quiet => {
+            let Ok(list) = values_of(alloc, problem, &runner.medium) else {
+                return Err(Stop::Memory);
+            };
+            End::Solved(list)
+        }
+    };
+    Ok(Outcome {
+        end,
+        deliveries: runner.deliveries,
+        steps: runner.steps,
+    })
+}
+
+/// The values of all agents, in order.
+fn values_of(alloc: Global, problem: &Problem, medium: &Lossy<'_>) -> Result<IntList, Memory>
+    requires { medium.now.problem ≡ problem.now }
+    ensures { (words : List ℕ) → IsAfter medium.now words → IfOk result (λ list. list ≡ map (values (reached medium.now words).network) (below (count (csp_of problem.now)))) }
+{
+    let mut list = IntList::new(alloc);
+    for agent in 0..problem.vars() {
+        let value = medium.value(agent).unwrap_or(0);
+        if list.push(value).is_err() {
+            return Err(Memory);
+        }
+    }
+    Ok(list)
+}
+
+/// Puts how the run ended, in one piece: its solution or what stands in its place, and how many deliveries, steps
+/// and events were made.
+pub fn tell<S: Sink>(
+    alloc: Global,
+    problem: &Problem,
+    ended: &Ended,
+    out: &mut S,
+) -> Result<(), Stop>
+    requires { HasAllValues problem.now ended.now.outcome.end }
+    ensures { (folder : Place) → Wrote (Put (outcome_text problem.now ended.now.outcome ++ events_text ended.now.events) ∷ [])
+        (outside folder (S.stream out.old)) (outside folder (S.stream out.new)) result }
+{
+    let mut text = Vec::new(alloc);
+    match push_ended(problem, ended, &mut text) {
+        Ok(()) => put(out, &text),
+        Err(_) => Err(Stop::Memory),
+    }
+}
+
+fn push_ended(problem: &Problem, ended: &Ended, into: &mut Vec<u8>) -> Result<(), AllocError>
+    requires { HasAllValues problem.now ended.now.outcome.end }
+    ensures { OnOk result (into.new.items ≡ into.old.items ++ (outcome_text problem.now ended.now.outcome ++ events_text ended.now.events)) }
+{
+    push_outcome(problem, &ended.outcome, None, into)?;
+    push_events(ended.events, into)
+}
+
+/// How many events were made.
+fn push_events(events: u64, into: &mut Vec<u8>) -> Result<(), AllocError>
+    ensures { OnOk result (into.new.items ≡ into.old.items ++ events_text events) }
+{
+    into.extend_from_slice(b"% events ")?;
+    into.extend_from_slice(Buffer::new().format(events).as_bytes())?;
+    into.extend_from_slice(b"\n")
+}

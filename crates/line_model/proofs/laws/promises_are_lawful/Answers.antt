@@ -1,0 +1,13 @@
+use Rattle.abt_schedule.specs.Answers.{generator_of, word_at}
+use Rattle.dcsp_gen.specs.Problems.{queens_text, colouring_text}
+use Rattle.line_model.proofs.Lawful.{print_lawful, bound_lawful}
+use Rattle.line_model.proofs.laws.promises_are_lawful.Goals as goal
+
+pub returns-clause-bound : goal.returns-clause-bound
+returns-clause-bound c = λ model. bound_lawful model
+
+pub returns-clause-queens : goal.returns-clause-queens
+returns-clause-queens c = λ n. print_lawful (queens_text n)
+
+pub returns-clause-colouring : goal.returns-clause-colouring
+returns-clause-colouring c = λ n k seed. print_lawful (colouring_text n k (word_at (generator_of seed)))

@@ -1,0 +1,47 @@
+//! Printing generated models.
+
+ghost use Rattle.std.specs.Prelude.{◌≤◌};
+ghost use Rattle.dcsp_outside.specs.Outside.{Place};
+ghost use Rattle.dcsp_script.specs.Scripts.{outside};
+ghost use Rattle.abt_promise.specs.Runs.{CameIn};
+ghost use Rattle.abt_input.specs.Errors.{way_of};
+ghost use Rattle.line_model.specs.Generated.{queens_promise, colouring_promise};
+
+use crate::text::print;
+use abt_input::CommandError;
+use abt_promise::Status;
+use dcsp_gen::{colouring, queens};
+use dcsp_outside::Sink;
+use std::alloc::Global;
+
+/// Puts the queens problem of `n` queens on `out`, from 1 to 200.
+pub fn run_queens<S: Sink>(alloc: Global, n: u32, out: &mut S) -> Result<Status, CommandError>
+    requires least { 1 ≤ n }
+    requires most { n ≤ 200 }
+    ensures { (folder : Place) → CameIn (queens_promise n)
+        (outside folder (S.stream out.old)) (outside folder (S.stream out.new)) (way_of result) }
+{
+    match queens(alloc, n) {
+        Ok(text) => print(out, &text),
+        Err(_) => Err(CommandError::Memory),
+    }
+}
+
+/// Puts the colouring problem of `n` nodes, from 1 to 200, with `k` colours and the edges of `seed` on `out`.
+pub fn run_colouring<S: Sink>(
+    alloc: Global,
+    n: u32,
+    k: u32,
+    seed: u64,
+    out: &mut S,
+) -> Result<Status, CommandError>
+    requires least { 1 ≤ n }
+    requires most { n ≤ 200 }
+    ensures { (folder : Place) → CameIn (colouring_promise n k seed)
+        (outside folder (S.stream out.old)) (outside folder (S.stream out.new)) (way_of result) }
+{
+    match colouring(alloc, n, k, seed) {
+        Ok(text) => print(out, &text),
+        Err(_) => Err(CommandError::Memory),
+    }
+}

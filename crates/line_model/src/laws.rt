@@ -1,0 +1,13 @@
+//! What the promises of these lines keep.
+
+ghost use Rattle.std.specs.Prelude.{ℕ, List};
+ghost use Rattle.abt_promise.specs.Clauses.{IsLawful};
+ghost use Rattle.line_model.specs.BoundReports.{bound_promise};
+ghost use Rattle.line_model.specs.Generated.{queens_promise, colouring_promise};
+
+/// Each promise keeps what every line of words keeps.
+pub fn promises_are_lawful()
+    ensures bound { (model : List ℕ) → IsLawful (bound_promise model) }
+    ensures queens { (n : ℕ) → IsLawful (queens_promise n) }
+    ensures colouring { (n k seed : ℕ) → IsLawful (colouring_promise n k seed) }
+{}

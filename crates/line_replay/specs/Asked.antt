@@ -1,0 +1,83 @@
+-- The runs that the program makes: by the choices of a schedule, or by those of a seed.
+use Rattle.std.specs.Prelude.{ℕ, ◌-◌, ◌^◌, Bool, List, [], ◌∷◌, ◌++◌, length, slice_get, Option, Some, None}
+use Rattle.dcsp_rule.specs.Problems.{Contents}
+use Rattle.dcsp_script.specs.Scripts.{Write, Create, Append, Put}
+use Rattle.abt_defs.specs.Runs.{Run}
+use Rattle.law_runs.specs.Replay.{Repeats}
+use Rattle.abt_schedule.specs.Answers.{word_at, generator_of}
+use Rattle.abt_schedule.specs.Schedules.{schedule_text}
+use Rattle.abt_session.specs.Sessions.{Session, run_of, run_script}
+use Rattle.abt_session.specs.Running.{session_of}
+use Rattle.abt_promise.specs.Promises.{Report, answered}
+use Rattle.line_replay.specs.Endings.{end_status, ending_text, unused_text}
+
+-- the most deliveries of a run
+abbrev pub most_deliveries : ℕ
+most_deliveries = 2 ^ 40
+
+-- a run that a line asks for
+pub record Asked : Type 0 where
+  pub problem : Contents
+  pub session : Session
+  -- the name of the record, where one is asked for
+  pub kept : Option (List ℕ)
+  -- after so many deliveries it is over, with or without a verdict
+  pub limit : ℕ
+  -- how many choices it leaves, where that is told
+  pub unused : Option ℕ
+
+-- the run that is asked for
+abbrev pub asked_run : Asked → Run
+asked_run asked = run_of asked.session
+
+-- the session under the choices of a list
+abbrev pub listed_session : Contents → List ℕ → List ℕ → Bool → Session
+listed_session p choices log trace = session_of p most_deliveries (λ k. slice_get choices k) log trace
+
+-- the session under the choices of a seed
+abbrev pub seeded_session : Contents → ℕ → List ℕ → Bool → Session
+seeded_session p seed log trace = session_of p most_deliveries (λ k. Some (word_at (generator_of seed) k)) log trace
+
+-- how many of the choices a run leaves
+abbrev pub left_over : List ℕ → Run → ℕ
+left_over choices run = length choices - run.net.deliveries
+
+-- a replay of these choices
+abbrev pub replay : Contents → List ℕ → List ℕ → Bool → Asked
+replay p choices log trace = record {
+  problem = p;
+  session = listed_session p choices log trace;
+  kept = None;
+  limit = length choices;
+  unused = Some (left_over choices (run_of (listed_session p choices log trace)));
+}
+
+-- a run from this seed
+abbrev pub solve : Contents → ℕ → List ℕ → Option (List ℕ) → Bool → Asked
+solve p seed log kept trace = record { problem = p; session = seeded_session p seed log trace; kept = kept; limit = most_deliveries; unused = None }
+
+-- all that is put when the run has ended
+abbrev pub answer_text : Asked → List ℕ
+answer_text asked = ending_text asked.problem (asked_run asked) ++ unused_text asked.unused
+
+-- the record of these numbers, where one is asked for: it is created, and its text is appended at once
+abbrev pub record_script : Option (List ℕ) → List ℕ → List Write
+record_script None numbers = []
+record_script (Some name) numbers = Create name ∷ Append name (schedule_text numbers) ∷ []
+
+-- the run writes its log and its trace, then comes the record, and the answer is put last
+abbrev pub asked_script : Asked → List Write
+asked_script asked = run_script asked.session ++ (record_script asked.kept (asked_run asked).numbers ++ Put (answer_text asked) ∷ [])
+
+-- the names that a run creates: its log, and its record where one is asked for
+abbrev pub created_names : List ℕ → Option (List ℕ) → List (List ℕ)
+created_names log None = log ∷ []
+created_names log (Some name) = log ∷ name ∷ []
+
+-- what is reported of the run
+abbrev pub run_report : Asked → Report
+run_report asked = answered (end_status (asked_run asked).end) (asked_script asked)
+
+-- A run from this seed and a replay of its numbers are one run, whatever their logs and traces.
+abbrev pub IsReplayed : Contents → ℕ → Type 0
+IsReplayed p seed = (log again : List ℕ) (trace told : Bool) → let first = run_of (seeded_session p seed log trace) in Repeats first (run_of (listed_session p first.numbers again told))

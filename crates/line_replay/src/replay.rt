@@ -1,0 +1,80 @@
+//! The line `replay MODEL SCHEDULE LOG [--trace]`.
+
+ghost use Rattle.std.specs.Prelude.{◌≡◌, IfOk};
+ghost use Rattle.dcsp_outside.specs.Outside.{Place, Stream};
+ghost use Rattle.dcsp_script.specs.Scripts.{outside};
+ghost use Rattle.dcsp_script.specs.Ways.{Wrote};
+ghost use Rattle.abt_promise.specs.Runs.{CameIn};
+ghost use Rattle.abt_input.specs.Errors.{way_of};
+ghost use Rattle.line_replay.specs.Endings as endings;
+ghost use Rattle.line_replay.specs.Headline.{HoldsProblem};
+ghost use Rattle.line_replay.specs.Asked.{asked_run, asked_script, replay};
+ghost use Rattle.line_replay.specs.ReplayPromise.{replay_promise};
+
+use crate::ending::{end_status, tell};
+use crate::record::{Task, run_recorded};
+use abt_input::{CommandError, read_choices, read_model};
+use abt_promise::Status;
+use abt_schedule::Listed;
+use dcsp_outside::{Folder, Sink};
+use dcsp_problem::Problem;
+use dcsp_script::Stop;
+use law_logs::problems_are_small;
+use std::alloc::Global;
+
+/// The words of `replay`.
+#[derive(Clone, Copy)]
+pub struct Replay<'w> {
+    /// The name of the model.
+    pub model: &'w str,
+    /// The name of the schedule whose choices the run takes.
+    pub schedule: &'w str,
+    /// The name of the run's log.
+    pub log: &'w str,
+    /// Whether the trace is put.
+    pub trace: bool,
+}
+
+/// Runs the model under the choices of the schedule, which is read after it.
+pub fn run_replay<F: Folder, S: Sink>(
+    alloc: Global,
+    folder: &mut F,
+    line: Replay<'_>,
+    out: &mut S,
+) -> Result<Status, CommandError>
+    ensures came { CameIn (replay_promise line.entry.model.now line.entry.schedule.now line.entry.log.now line.entry.trace)
+        (outside (F.place folder.old) (S.stream out.old))
+        (outside (F.place folder.new) (S.stream out.new)) (way_of result) }
+    ensures sound { IfOk result (λ status. HoldsProblem (F.place folder.old).held line.entry.model.now) }
+{
+    let problem = read_model(alloc, folder, line.model)?;
+    problem.denotes_csp();
+    problems_are_small(&problem);
+    let choices = read_choices(alloc, folder, line.schedule)?;
+    let status = run_choices(alloc, &problem, choices, line, folder, out)?;
+    Ok(status)
+}
+
+/// Runs the problem under the choices, and tells how the run ended.
+fn run_choices<F: Folder, S: Sink>(
+    alloc: Global,
+    problem: &Problem,
+    choices: Listed,
+    line: Replay<'_>,
+    folder: &mut F,
+    out: &mut S,
+) -> Result<Status, Stop>
+    ensures wrote { Wrote (asked_script (replay problem.now choices line.entry.log.now line.entry.trace))
+        (outside (F.place folder.old) (S.stream out.old)) (outside (F.place folder.new) (S.stream out.new)) result }
+    ensures status { IfOk result (λ status. status ≡ endings.end_status (asked_run (replay problem.now choices line.entry.log.now line.entry.trace)).end) }
+{
+    let task = Task {
+        log: line.log,
+        kept: None,
+        trace: line.trace,
+    };
+    let mut choices = choices;
+    let outcome = run_recorded(alloc, problem, &mut choices, task, folder, out)?;
+    tell(alloc, problem, &outcome, Some(choices.left()), out)?;
+    Ok(end_status(&outcome.end))
+}

@@ -1,0 +1,175 @@
+//! The line `core MODEL LOG TRIMMED`.
+
+ghost use Rattle.std.specs.Prelude.{◌≡◌, ◌↔◌, ◌∷◌, ◌++◌, [], length, flat_map, true, IfOk, OnOk, Ok};
+ghost use Rattle.dcsp_outside.specs.Outside.{Place};
+ghost use Rattle.dcsp_script.specs.Scripts.{Put, outside};
+ghost use Rattle.dcsp_script.specs.Ways.{Wrote};
+ghost use Rattle.ngd_log.specs.Logs.{AreWritable};
+ghost use Rattle.abt_promise.specs.Runs.{CameIn};
+ghost use Rattle.abt_input.specs.Errors.{way_of};
+ghost use Rattle.line_check.specs.Checks.{finding_text};
+ghost use Rattle.line_rewrite.specs.CorePromise.{rule_line, count_line, core_text, core_script, core_promise};
+ghost use Rattle.line_rewrite.specs.Trimming.{HoldsCore, CreatesNothing};
+
+use crate::steps::write_steps;
+use abt_input::{CommandError, read_model};
+use abt_promise::Status;
+use dcsp_outside::{Folder, Sink};
+use dcsp_problem::Problem;
+use dcsp_script::{Stop, put};
+use itoa::Buffer;
+use line_check::{Checked, check_and_keep, finding_reply};
+use ngd_check::Finding;
+use ngd_rewrite::{Core, core_of};
+use std::alloc::{AllocError, Global};
+
+/// The words of `core`.
+#[derive(Clone, Copy)]
+pub struct CoreLine<'w> {
+    /// The name of the model.
+    pub model: &'w str,
+    /// The name of the log.
+    pub log: &'w str,
+    /// The name that the trimmed log is written under.
+    pub trimmed: &'w str,
+}
+
+/// A model's problem, and what is found of a log for it.
+#[derive(Drop)]
+struct Found {
+    /// The model's problem.
+    problem: Problem,
+    /// What is found of the log's entries, and its steps.
+    checked: Checked,
+}
+
+/// Checks the log against the model. Where it refutes the problem, the steps that its end needs are written under
+/// the new name, renumbered from 1, and the rules that these cite are told, with how many rules and steps are kept.
+/// Else the finding is told, and nothing is written. A refusal is that of the model or else of the log, as `check`
+/// has it; else an error is a fault or want of memory.
+pub fn run_core<F: Folder, S: Sink>(
+    alloc: Global,
+    folder: &mut F,
+    line: CoreLine<'_>,
+    out: &mut S,
+) -> Result<Status, CommandError>
+    ensures came { CameIn (core_promise line.entry.model.now line.entry.log.now line.entry.trimmed.now)
+        (outside (F.place folder.old) (S.stream out.old))
+        (outside (F.place folder.new) (S.stream out.new)) (way_of result) }
+    ensures trims { result ≡ Ok Status.Good
+        → HoldsCore line.entry.model.now line.entry.log.now line.entry.trimmed.now
+        (outside (F.place folder.old) (S.stream out.old))
+        (outside (F.place folder.new) (S.stream out.new)) }
+    ensures rejects { result ≡ Ok Status.No
+        → CreatesNothing (outside (F.place folder.old) (S.stream out.old))
+        (outside (F.place folder.new) (S.stream out.new)) }
+{
+    let problem = read_model(alloc, folder, line.model)?;
+    let checked = check_and_keep(alloc, folder, &problem, line.log)?;
+    let found = Found { problem, checked };
+    if !is_verified(found.checked.finding) {
+        reject(alloc, found.checked.finding, out)?;
+        return Ok(Status::No);
+    }
+    let Ok(core) = core_of(alloc, &found.problem, &found.checked.steps) else {
+        return Err(CommandError::Memory);
+    };
+    write_core(alloc, folder, line.trimmed, &found, &core, out)?;
+    Ok(Status::Good)
+}
+
+/// Whether the log is a refutation.
+fn is_verified(finding: Finding) -> bool
+    ensures { (result ≡ true) ↔ (finding ≡ Finding.Verified) }
+{
+    match finding {
+        Finding::Verified => true,
+        Finding::BadStep { .. } | Finding::BadDeletion { .. } | Finding::NotEmpty => false,
+    }
+}
+
+/// Puts the finding's line on `out`, in one piece.
+fn reject<S: Sink>(alloc: Global, finding: Finding, out: &mut S) -> Result<(), Stop>
+    ensures { (folder : Place) → Wrote (Put (finding_text finding) ∷ [])
+        (outside folder (S.stream out.old)) (outside folder (S.stream out.new)) result }
+{
+    let reply = finding_reply(alloc, finding)?;
+    put(out, reply.bytes())
+}
+
+/// Writes the trimmed steps under the name, and tells the core.
+fn write_core<F: Folder, S: Sink>(
+    alloc: Global,
+    folder: &mut F,
+    trimmed: &str,
+    found: &Found,
+    core: &Core,
+    out: &mut S,
+) -> Result<(), Stop>
+    requires { AreWritable core.now.steps }
+    ensures { Wrote (core_script trimmed.now found.now.problem found.now.checked.steps core.now)
+        (outside (F.place folder.old) (S.stream out.old))
+        (outside (F.place folder.new) (S.stream out.new)) result }
+{
+    write_steps(alloc, folder, trimmed, core.steps.steps())?;
+    let rules = found.problem.rules() as u64;
+    tell(alloc, core, rules, found.checked.steps.len(), out)
+}
+
+/// Puts what tells of the core on `out`, in one piece.
+fn tell<S: Sink>(
+    alloc: Global,
+    core: &Core,
+    rules: u64,
+    steps: u64,
+    out: &mut S,
+) -> Result<(), Stop>
+    ensures { (folder : Place) → Wrote (Put (core_text rules steps core.now) ∷ [])
+        (outside folder (S.stream out.old)) (outside folder (S.stream out.new)) result }
+{
+    let text = text_of(alloc, core, rules, steps)?;
+    put(out, &text)
+}
+
+/// A line for each rule of the core, and then how many rules and steps are kept.
+fn text_of(alloc: Global, core: &Core, rules: u64, steps: u64) -> Result<Vec<u8>, AllocError>
+    ensures { IfOk result (λ text. text.items ≡ core_text rules steps core.now) }
+{
+    let mut text = rule_lines(alloc, core.rules.items())?;
+    add_count(&mut text, b"rules", core.rules.len() as u64, rules)?;
+    add_count(&mut text, b"steps", core.steps.len(), steps)?;
+    Ok(text)
+}
+
+/// The lines of the rules.
+fn rule_lines(alloc: Global, rules: &[u32]) -> Result<Vec<u8>, AllocError>
+    ensures { IfOk result (λ text. text.items ≡ flat_map rule_line rules.now) }
+{
+    let mut text = Vec::new(alloc);
+    for rule in rules {
+        add_rule(&mut text, *rule)?;
+    }
+    Ok(text)
+}
+
+/// Adds the line of a rule.
+fn add_rule(text: &mut Vec<u8>, rule: u32) -> Result<(), AllocError>
+    ensures { OnOk result (text.new.items ≡ text.old.items ++ rule_line rule) }
+{
+    text.extend_from_slice(b"c")?;
+    text.extend_from_slice(Buffer::new().format(rule as u64 + 1).as_bytes())?;
+    text.extend_from_slice(b"\n")
+}
+
+/// Adds the line that tells how many things of this kind are kept of all of them.
+fn add_count(text: &mut Vec<u8>, kind: &[u8], kept: u64, total: u64) -> Result<(), AllocError>
+    ensures { OnOk result (text.new.items ≡ text.old.items ++ count_line kind.now kept total) }
+{
+    text.extend_from_slice(b"% ")?;
+    text.extend_from_slice(kind)?;
+    text.extend_from_slice(b" ")?;
+    text.extend_from_slice(Buffer::new().format(kept).as_bytes())?;
+    text.extend_from_slice(b" of ")?;
+    text.extend_from_slice(Buffer::new().format(total).as_bytes())?;
+    text.extend_from_slice(b"\n")
+}

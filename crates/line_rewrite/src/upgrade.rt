@@ -1,0 +1,78 @@
+//! The line `upgrade LOG NEW`.
+
+ghost use Rattle.std.specs.Prelude.{◌≡◌, ◌∷◌, [], IfOk, OnOk};
+ghost use Rattle.dcsp_outside.specs.Outside.{Place};
+ghost use Rattle.dcsp_script.specs.Scripts.{Put, outside};
+ghost use Rattle.dcsp_script.specs.Ways.{Wrote};
+ghost use Rattle.abt_promise.specs.Runs.{CameIn};
+ghost use Rattle.abt_input.specs.Errors.{way_of};
+ghost use Rattle.line_rewrite.specs.OldLogs.{steps_of, IsOldLog};
+ghost use Rattle.line_rewrite.specs.UpgradePromise.{counts_text, upgrade_script, upgrade_promise};
+ghost use Rattle.line_rewrite.specs.Upgrading.{HoldsUpgrade};
+
+use crate::entries::write_upgraded;
+use crate::old_log::{OldLog, read_old_log};
+use abt_input::CommandError;
+use abt_promise::Status;
+use dcsp_outside::{Folder, Sink};
+use dcsp_script::{Stop, put};
+use itoa::Buffer;
+use std::alloc::{AllocError, Global};
+
+/// Writes the log, which is of version 1, under the new name as one of version 2: its steps in order, and after each
+/// but the last a deletion of the steps that no later one cites. Then it tells how many steps there are, and how
+/// many of them are deleted.
+pub fn run_upgrade<F: Folder, S: Sink>(
+    alloc: Global,
+    folder: &mut F,
+    log: &str,
+    new: &str,
+    out: &mut S,
+) -> Result<Status, CommandError>
+    ensures came { CameIn (upgrade_promise log.now new.now)
+        (outside (F.place folder.old) (S.stream out.old))
+        (outside (F.place folder.new) (S.stream out.new)) (way_of result) }
+    ensures writes { OnOk result (HoldsUpgrade log.now new.now (F.place folder.old).held (F.place folder.new).held) }
+{
+    let old = read_old_log(alloc, folder, log)?;
+    upgrade(alloc, folder, &old, new, out)?;
+    Ok(Status::Good)
+}
+
+/// Writes the log's steps with their deletions under the name, and tells their counts.
+fn upgrade<F: Folder, S: Sink>(
+    alloc: Global,
+    folder: &mut F,
+    log: &OldLog,
+    new: &str,
+    out: &mut S,
+) -> Result<(), Stop>
+    requires { IsOldLog log.now }
+    ensures { Wrote (upgrade_script new.now (steps_of log.now))
+        (outside (F.place folder.old) (S.stream out.old))
+        (outside (F.place folder.new) (S.stream out.new)) result }
+{
+    let deleted = write_upgraded(alloc, folder, new, log)?;
+    tell(alloc, log.endings.len() as u64, deleted, out)
+}
+
+/// Puts the line that tells the counts on `out`, in one piece.
+fn tell<S: Sink>(alloc: Global, steps: u64, deleted: u64, out: &mut S) -> Result<(), Stop>
+    ensures { (folder : Place) → Wrote (Put (counts_text steps deleted) ∷ [])
+        (outside folder (S.stream out.old)) (outside folder (S.stream out.new)) result }
+{
+    let line = counts_line(alloc, steps, deleted)?;
+    put(out, &line)
+}
+
+/// The line that tells how many steps there are, and how many of them are deleted.
+fn counts_line(alloc: Global, steps: u64, deleted: u64) -> Result<Vec<u8>, AllocError>
+    ensures { IfOk result (λ line. line.items ≡ counts_text steps deleted) }
+{
+    let mut line = Vec::from_slice(alloc, b"upgraded steps ")?;
+    line.extend_from_slice(Buffer::new().format(steps).as_bytes())?;
+    line.extend_from_slice(b" deleted ")?;
+    line.extend_from_slice(Buffer::new().format(deleted).as_bytes())?;
+    line.extend_from_slice(b"\n")?;
+    Ok(line)
+}

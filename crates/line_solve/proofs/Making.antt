@@ -1,0 +1,164 @@
+-- What the code of a search makes of its rounds.
+use Rattle.std.proofs.Common.{◌≡◌, ◌∙◌, ℕ, zero, suc, ◌+◌, ◌-◌, ◌*◌, ◌^◌, ◌<◌, ◌≤◌, ◌==◌, ◌&&◌, ℤ, Bool, true, false, List, [], ◌∷◌, ◌++◌, length, Option, Some, None, Result, Ok, Err, refl, sym, ap, subst, arith, append-nil, length-append}
+use Rattle.std.specs.Prelude.{IfOk, OnOk, is_some, option_copied}
+use Rattle.std.specs.Borrow.{Bor}
+use Rattle.std.proofs.Math.Dec.{eqb-suc-zero}
+use Rattle.dcsp_script.specs.declared.stop.Stop.{Stop}
+use Rattle.dcsp_script.specs.Scripts.{World, Put}
+use Rattle.dcsp_script.specs.Ways.{Wrote}
+use Rattle.dcsp_defs.specs.Csp.{Csp}
+use Rattle.dcsp_rule.specs.Problems.{Contents, csp_of}
+use Rattle.dcsp_problem.specs.WellFormed.{IsProblem}
+use Rattle.dcsp_rule.specs.Aims.{narrowed}
+use Rattle.abt_defs.specs.Network.{Network}
+use Rattle.abt_defs.specs.Runs as runs
+use Rattle.abt_defs.specs.Runs.{Run}
+use Rattle.law_runs.specs.Replay.{Verdicts}
+use Rattle.law_runs.proofs.Stopping.{stops}
+use Rattle.abt_session.specs.Sessions.{Session, run_of}
+use Rattle.abt_session.specs.Running.{kept, IsEnd, Gives}
+use Rattle.abt_session.specs.declared.outcome.End.{End}
+use Rattle.abt_session.specs.declared.outcome.End.TheVariants as ends
+use Rattle.abt_session.specs.declared.outcome.Outcome.{Outcome}
+use Rattle.line_replay.specs.Endings.{final_values}
+use Rattle.line_replay.specs.Asked.{most_deliveries, seeded_session}
+use Rattle.abt_optimum.specs.Rounds.{best_value, round_problem}
+use Rattle.abt_optimum.specs.Searches.{SearchState, EndsRightly}
+use Rattle.line_solve.specs.Searching.{AskedSearch, best_search, next_problem, next_session, end_as, next_end, told_end, with_round, search_after, problem_after, session_after, run_after, first_run, deliveries_in}
+use Rattle.line_solve.specs.SearchScripts.{round_line, line_script}
+use Rattle.line_solve.specs.declared.runner.Runner.{Runner}
+use Rattle.line_solve.specs.Runners.{Tells, IsFresh, taken_after, steps_of_last, HasMade, SameRounds}
+use Rattle.line_solve.proofs.Rounds.{is_over, starts, goes_on, same_problem}
+use Rattle.line_solve.proofs.Searches.{ends_rightly, is_csp_after}
+use Rattle.line_solve.proofs.LastRounds.{first_is}
+
+pub tells_of : (p : Contents) (s : Session) (r : Result Outcome Stop) → IfOk r (Gives s) → Verdicts (csp_of p) most_deliveries (run_of s) → IfOk r (Tells p s)
+tells_of p s (Ok outcome) gives right = record { gives = gives; right = right }
+tells_of p s (Err stop) gives right = tt
+
+-- the line of a round, where traces are asked for
+pub line_traced : {T : Type 0} {a b : World} {r : Result T Stop} (trace : Bool) (number : ℕ) → trace ≡ true → Wrote (Put (round_line number) ∷ []) a b r → Wrote (line_script trace number) a b r
+line_traced {a = a} {b = b} {r = r} trace number e w = subst (λ (t : Bool). Wrote (line_script t number) a b r) (sym e) w
+
+-- the session on the narrowed problem is that of the round that follows
+pub next_is : (p q : Contents) (seed : ℕ) (log : List ℕ) (kept : Option (List ℕ)) (trace : Bool) (s : SearchState) (value : ℤ) → best_value s.rounds ≡ Some value → q ≡ narrowed p value
+    → seeded_session q seed log trace ≡ next_session (best_search p seed log kept trace) s
+next_is p q seed log kept trace s value e f = ap (λ (x : Contents). seeded_session x seed log trace) (f ∙ ap (round_problem p) (sym e))
+
+-- ---- how a round ended
+
+-- the end that is told is that of the run
+pub told_is : (p : Contents) (run : Run) (end : End) → IsEnd (csp_of p) run.net run.end end → told_end end ≡ end_as p run run.end
+told_is p run (ends.Solved values) h = rw (h.0, h.1) refl
+told_is p run ends.Refuted h = rw h refl
+told_is p run ends.Spent h = rw h refl
+told_is p run ends.Capped h = rw h refl
+
+module _ (asked : AskedSearch) (ok : IsProblem asked.problem) (n : ℕ) where
+  -- and is right
+  pub told_right : (end : End) → IsEnd (csp_of (problem_after asked n)) (run_after asked n).net (run_after asked n).end end → Verdicts (csp_of (problem_after asked n)) most_deliveries (run_after asked n) → EndsRightly (problem_after asked n) (told_end end)
+  told_right end h law =
+      let right = ends_rightly (problem_after asked n) most_deliveries (run_after asked n) (run_after asked n).end (is_csp_after asked ok n) refl law in
+      subst (EndsRightly (problem_after asked n)) (sym (told_is (problem_after asked n) (run_after asked n) end h)) right
+
+-- ---- counts
+
+-- the rounds make no more deliveries than that
+pub few_deliveries : (asked : AskedSearch) (n : ℕ) → deliveries_in asked n ≤ n * most_deliveries
+few_deliveries asked zero = omega arith
+few_deliveries asked (suc n) =
+    let before = few_deliveries asked n in
+    let one = (stops (session_after asked n).problem most_deliveries (session_after asked n).choices).at_most in
+    omega (arith, before, one)
+
+-- the numbers of the first round alone are taken down
+pub takes_first : (keep : Bool) (n : ℕ) (first numbers : List ℕ) → (n ≡ 0 → numbers ≡ first) → taken_after keep n first ++ kept (keep && n == 0) numbers ≡ taken_after keep (n + 1) first
+takes_first keep zero first numbers same = by keep
+  where
+    by : (keep : Bool) → kept (keep && 0 == 0) numbers ≡ kept keep first
+    by true = same refl
+    by false = refl
+takes_first keep (suc n) first numbers same = let e : suc (suc n) ≡ suc n + 1 = omega arith in by keep ∙ ap (λ (i : ℕ). taken_after keep i first) e
+  where
+    by : (keep : Bool) → kept keep first ++ kept (keep && suc n == 0) numbers ≡ kept keep first
+    by true = ap (λ (b : Bool). first ++ kept b numbers) (eqb-suc-zero n) ∙ append-nil first
+    by false = refl
+
+module _ (asked : AskedSearch) (n : ℕ) (r q t : Runner) (outcome : Outcome) (made : HasMade asked n r) (still : is_over r.search ≡ false) (same : SameRounds r q) where
+  -- one round more
+  pub made_more : Tells (next_problem asked r.search) (next_session asked r.search) outcome
+      → q.taken ≡ r.taken ++ kept (is_some asked.kept && r.rounds == 0) (run_of (next_session asked r.search)).numbers
+      → t.search ≡ with_round q.search (told_end outcome.end) → t.rounds ≡ q.rounds + 1 → t.deliveries ≡ q.deliveries + outcome.deliveries → t.steps ≡ outcome.steps → t.taken ≡ q.taken
+      → HasMade asked (n + 1) t
+  made_more tells takes search rounds deliveries steps taken =
+      let next : n + 1 ≡ suc n = omega arith in
+      let s = made.search in
+      let same_search : q.search ≡ search_after asked n = same.search ∙ s in
+      let open_ : is_over (search_after asked n) ≡ false = subst (λ (z : SearchState). is_over z ≡ false) s still in
+      let end : told_end outcome.end ≡ next_end asked (search_after asked n) = told_is (next_problem asked r.search) (run_of (next_session asked r.search)) outcome.end tells.gives.end ∙ ap (next_end asked) s in
+      let is : t.search ≡ search_after asked (suc n) = search ∙ ap (λ (z : SearchState). with_round z (told_end outcome.end)) same_search ∙ ap (with_round (search_after asked n)) end ∙ sym (goes_on asked n open_) in
+      let size : length t.search.rounds ≡ n + 1 = ap (λ (z : SearchState). length z.rounds) search ∙ length-append q.search.rounds (_ ∷ []) ∙ ap (λ (z : SearchState). length z.rounds + 1) same.search ∙ ap (λ (i : ℕ). i + 1) made.many in
+      let run : run_of (next_session asked r.search) ≡ run_after asked n = ap (λ (z : SearchState). run_of (next_session asked z)) s in
+      record {
+        search = is ∙ ap (search_after asked) (sym next);
+        many = size;
+        rounds = rounds ∙ ap (λ (i : ℕ). i + 1) (same.rounds ∙ made.rounds);
+        deliveries = deliveries ∙ ap (λ (i : ℕ). i + outcome.deliveries) (same.deliveries ∙ made.deliveries) ∙ ap (λ (i : ℕ). deliveries_in asked n + i) (tells.gives.deliveries ∙ ap (λ (x : Run). x.net.deliveries) run) ∙ ap (deliveries_in asked) (sym next);
+        steps = steps ∙ tells.gives.steps ∙ ap (λ (x : Run). length x.net.steps) run ∙ ap (steps_of_last asked) (sym next);
+        taken = taken ∙ takes ∙ ap (λ (l : List ℕ). l ++ kept (is_some asked.kept && r.rounds == 0) (run_of (next_session asked r.search)).numbers) made.taken
+            ∙ ap (λ (i : ℕ). taken_after (is_some asked.kept) n (first_run asked).numbers ++ kept (is_some asked.kept && i == 0) (run_of (next_session asked r.search)).numbers) made.rounds
+            ∙ takes_first (is_some asked.kept) n (first_run asked).numbers (run_of (next_session asked r.search)).numbers (λ none. ap (λ (x : Run). x.numbers) (run ∙ ap (run_after asked) none ∙ first_is asked));
+      }
+
+-- ---- the round that follows
+
+module _ (asked : AskedSearch) (n : ℕ) (r : Runner) (made : HasMade asked n r) where
+  pub session_next : next_session asked r.search ≡ session_after asked n
+  session_next = ap (next_session asked) made.search
+
+  pub problem_is : r.search.problem ≡ asked.problem
+  problem_is = ap (λ (s : SearchState). s.problem) made.search ∙ same_problem asked n
+
+module _ (asked : AskedSearch) (n : ℕ) (r q : Runner) (outcome : Outcome) (made : HasMade asked n r) where
+  -- its counts are small
+  pub few_more : n < 2 ^ 20 → SameRounds r q → Tells (next_problem asked r.search) (next_session asked r.search) outcome → (q.rounds < 2 ^ 62) × (q.deliveries + outcome.deliveries < 2 ^ 62)
+  few_more small same tells =
+      let rounds = same.rounds ∙ made.rounds in
+      let deliveries = same.deliveries ∙ made.deliveries in
+      let few = few_deliveries asked n in
+      let one = tells.gives.deliveries in
+      let most = tells.right.at_most in
+      (omega arith, omega arith)
+
+  -- and it ended rightly
+  pub right_next : IsProblem asked.problem → SameRounds r q → Tells (next_problem asked r.search) (next_session asked r.search) outcome → EndsRightly (round_problem q.search.problem (best_value q.search.rounds)) (told_end outcome.end)
+  right_next ok same tells =
+      let s = search_after asked n in
+      let q_is : q.search ≡ s = same.search ∙ made.search in
+      let at : EndsRightly (next_problem asked r.search) (told_end outcome.end) = right_at r.search made.search tells in
+      subst (λ (z : SearchState). EndsRightly (round_problem z.problem (best_value z.rounds)) (told_end outcome.end)) (sym q_is)
+      (subst (λ (p : Contents). EndsRightly (round_problem p (best_value s.rounds)) (told_end outcome.end)) (sym (same_problem asked n)) (subst (λ (z : SearchState). EndsRightly (next_problem asked z) (told_end outcome.end)) made.search at))
+    where
+      right_at : (z : SearchState) → z ≡ search_after asked n → Tells (next_problem asked z) (next_session asked z) outcome → EndsRightly (next_problem asked z) (told_end outcome.end)
+      right_at z e tells =
+          let law = subst (λ (x : SearchState). Tells (next_problem asked x) (next_session asked x) outcome) e tells in
+          subst (λ (x : SearchState). EndsRightly (next_problem asked x) (told_end outcome.end)) (sym e) (told_right asked ok n outcome.end law.gives.end law.right)
+
+-- no round was made yet
+pub made_none : (asked : AskedSearch) (r : Runner) → IsFresh asked.problem r → HasMade asked 0 r
+made_none asked r h = record {
+  search = h.search ∙ sym (starts asked);
+  many = ap (λ (s : SearchState). length s.rounds) h.search;
+  rounds = h.rounds;
+  deliveries = h.deliveries;
+  steps = h.steps;
+  taken = h.taken;
+}
+
+-- the same numbers of an equal session are taken down
+pub takes_as : (name : Option (Bor (List ℕ))) (rounds : ℕ) (old now : List ℕ) (r : Result Outcome Stop) {s t : Session} → s ≡ t → OnOk r (now ≡ old ++ kept (is_some name && rounds == 0) (run_of s).numbers) → OnOk r (now ≡ old ++ kept (is_some (option_copied name) && rounds == 0) (run_of t).numbers)
+takes_as name rounds old now r {s = s} {t = t} e h = subst (λ (x : Session). OnOk r (now ≡ old ++ kept (is_some (option_copied name) && rounds == 0) (run_of x).numbers)) e (by name h)
+  where
+    by : (name : Option (Bor (List ℕ))) → OnOk r (now ≡ old ++ kept (is_some name && rounds == 0) (run_of s).numbers) → OnOk r (now ≡ old ++ kept (is_some (option_copied name) && rounds == 0) (run_of s).numbers)
+    by None h = h
+    by (Some name) h = h

@@ -1,0 +1,47 @@
+-- The problem of each round is well-formed, and its bound is at most that of the whole problem.
+use Rattle.std.proofs.Common.{◌≡◌, ◌∙◌, ℕ, zero, suc, ◌<◌, ◌≤◌, ℤ, Bool, List, [], ◌∷◌, length, filter, map, Option, Some, None, refl, sym, ap, subst, arith}
+use Rattle.std.specs.Prelude.{slice_set, slice_index_or}
+use Rattle.std.proofs.lemmas.List.{length-set}
+use Rattle.dcsp_domain.proofs.Domains.{length_filter}
+use Rattle.dcsp_defs.specs.Csp.{Csp, IsCsp}
+use Rattle.dcsp_rule.specs.Problems.{Contents, constraint_of, csp_of}
+use Rattle.dcsp_problem.specs.WellFormed.{IsProblem}
+use Rattle.dcsp_rule.specs.Aims.{aimed_at, is_better, narrowed_domains, narrowed_at, narrowed}
+use Rattle.dcsp_problem.proofs.Narrowed.{is_problem_narrowed, aimed_below}
+use Rattle.abt_defs.specs.Bound.{message_bound}
+use Rattle.abt_optimum.specs.Rounds.{round_problem}
+use Rattle.line_solve.proofs.Bounds.{AreNoLonger, bound_smaller}
+
+-- the domains, where of one only the values that pass the test stay
+abbrev cut : (ℤ → Bool) → ℕ → List (List ℤ) → List (List ℤ)
+cut test var domains = slice_set domains var (filter test (slice_index_or domains var []))
+
+no_longer : (test : ℤ → Bool) (domains : List (List ℤ)) (var i : ℕ) → length (slice_index_or (cut test var domains) i []) ≤ length (slice_index_or domains i [])
+no_longer test [] var i = omega arith
+no_longer test (d ∷ ds) zero zero = length_filter test d
+no_longer test (d ∷ ds) zero (suc i) = omega arith
+no_longer test (d ∷ ds) (suc var) zero = omega arith
+no_longer test (d ∷ ds) (suc var) (suc i) = no_longer test ds var i
+
+module _ (p : Contents) (bound : ℤ) (h : IsProblem p) where
+  narrowed_problem : (o : Option ℕ) → aimed_at p.aim ≡ o → IsProblem (narrowed_at o p bound)
+  narrowed_problem None e = h
+  narrowed_problem (Some var) e = is_problem_narrowed p bound var (aimed_below (length p.domains) p.aim var h.aim e) h
+
+  narrowed_bound : (o : Option ℕ) → message_bound (csp_of (narrowed_at o p bound)) ≤ message_bound (csp_of p)
+  narrowed_bound None = omega arith
+  narrowed_bound (Some var) =
+      let domains = narrowed_domains p.aim bound var p.domains in
+      let same : length domains ≡ length p.domains = length-set p.domains var (filter (is_better p.aim bound) (slice_index_or p.domains var [])) in
+      let less = bound_smaller (map (constraint_of (length p.domains)) p.rules) domains p.domains (record { count = same; each = no_longer (is_better p.aim bound) p.domains var }) in
+      subst (λ (n : ℕ). message_bound (record { domains = domains; constraints = map (constraint_of n) p.rules }) ≤ message_bound (csp_of p)) (sym same) less
+
+-- the problem of a round is a problem
+pub round_is_problem : (p : Contents) (better : Option ℤ) → IsProblem p → IsProblem (round_problem p better)
+round_is_problem p None h = h
+round_is_problem p (Some bound) h = narrowed_problem p bound h (aimed_at p.aim) refl
+
+-- and has no greater bound than the whole one
+pub round_bound : (p : Contents) (better : Option ℤ) → IsProblem p → message_bound (csp_of (round_problem p better)) ≤ message_bound (csp_of p)
+round_bound p None h = omega arith
+round_bound p (Some bound) h = narrowed_bound p bound h (aimed_at p.aim)

@@ -1,0 +1,58 @@
+-- What is printed of a search that is over, and its status.
+use Rattle.std.specs.Prelude.{ℕ, ℤ, Bool, true, false, List, ◌++◌, length, codes, decimal, Option, Some, None}
+use Rattle.std.specs.Option.{option_map_or}
+use Rattle.dcsp_rule.specs.Problems.{Contents}
+use Rattle.abt_answer.specs.Solutions.{solution_text}
+use Rattle.abt_promise.specs.declared.status.Status.{Status}
+use Rattle.abt_promise.specs.declared.status.Status.TheVariants.{Good, No, Unfinished}
+use Rattle.line_replay.specs.Endings.{assigned, counts_text}
+use Rattle.abt_optimum.specs.declared.round.Ended.{Ended}
+use Rattle.abt_optimum.specs.declared.round.Ended.TheVariants as ended
+use Rattle.abt_optimum.specs.declared.round.Round.{Round}
+use Rattle.abt_optimum.specs.declared.best.BestEnd.{BestEnd}
+use Rattle.abt_optimum.specs.declared.best.BestEnd.TheVariants.{Optimal, NoSolution, Open}
+use Rattle.abt_optimum.specs.Rounds.{last_round}
+use Rattle.abt_optimum.specs.Searches.{SearchState}
+use Rattle.abt_optimum.specs.Kept.{end_of}
+use Rattle.line_solve.specs.Searching.{AskedSearch, whole_search, round_count, last_run, deliveries_in}
+
+-- whether a round ended capped
+abbrev pub is_capped : Ended → Bool
+is_capped (ended.Solved value) = false
+is_capped ended.Refuted = false
+is_capped ended.Capped = true
+
+-- whether the last of the rounds was capped
+abbrev pub ends_capped : List Round → Bool
+ends_capped rounds = option_map_or (λ (round : Round). is_capped round.end) (last_round rounds) false
+
+-- what a search that is over has found
+abbrev pub found : SearchState → BestEnd
+found s = end_of (ends_capped s.rounds) s.values
+
+-- its lines: a solution, and a line that says whether it is best; or the line that stands in its place
+abbrev pub best_text : Contents → BestEnd → List ℕ
+best_text p (Optimal values) = solution_text p (assigned values) ++ codes "==========\n"
+best_text p NoSolution = codes "=====UNSATISFIABLE=====\n"
+best_text p (Open None) = codes "=====UNKNOWN=====\n"
+best_text p (Open (Some values)) = solution_text p (assigned values)
+
+-- its status
+abbrev pub best_status : BestEnd → Status
+best_status (Optimal values) = Good
+best_status NoSolution = No
+best_status (Open values) = Unfinished
+
+-- the line that tells how many rounds were made
+abbrev pub rounds_text : ℕ → List ℕ
+rounds_text rounds = codes "% rounds " ++ decimal rounds ++ codes "\n"
+
+-- all that is put when the search is over; the deliveries are those of all rounds, the steps those of the last
+abbrev pub answer_text : AskedSearch → List ℕ
+answer_text asked =
+    best_text asked.problem (found (whole_search asked))
+    ++ (rounds_text (round_count asked) ++ counts_text (deliveries_in asked (round_count asked)) (length (last_run asked).net.steps))
+
+-- the status of the search
+abbrev pub search_status : AskedSearch → Status
+search_status asked = best_status (found (whole_search asked))

@@ -1,0 +1,163 @@
+-- What a search that a line asks for means to a user: its headline, sentence by sentence.
+use Rattle.std.specs.Prelude.{◌≡◌, ◌≢◌, ◌↔◌, ℕ, zero, suc, ◌+◌, ◌-◌, ◌<◌, ◌≤◌, ℤ, true, List, [], ◌++◌, length, Option, Some, Contains, IfSome, IsSome, if◌then◌else◌}
+use Rattle.dcsp_outside.specs.Outside.{IsPrefixOf, Told}
+use Rattle.dcsp_script.specs.Scripts.{World}
+use Rattle.dcsp_script.specs.Ways.{Did}
+use Rattle.dcsp_script.specs.Texts.{HoldsPartOf}
+use Rattle.dcsp_defs.specs.Csp.{HasNoSolution}
+use Rattle.dcsp_defs.specs.Derivation.{IsRefutation}
+use Rattle.dcsp_rule.specs.Problems.{Contents, csp_of}
+use Rattle.dcsp_rule.specs.Aims.{aimed_at, narrowed}
+use Rattle.ngd_log.specs.Logs.{log_text}
+use Rattle.abt_defs.specs.Bound.{message_bound}
+use Rattle.abt_defs.specs.Runs as runs
+use Rattle.law_runs.specs.Stops.{IsOpen}
+use Rattle.abt_schedule.specs.Schedules.{schedule_text}
+use Rattle.abt_session.specs.Order.{trace_text, WritesInOrder}
+use Rattle.abt_promise.specs.declared.status.Status.{Status}
+use Rattle.abt_promise.specs.declared.status.Status.TheVariants.{Good, No, Unfinished}
+use Rattle.line_replay.specs.Endings.{assigned, final_values}
+use Rattle.line_replay.specs.Asked.{most_deliveries}
+use Rattle.abt_optimum.specs.declared.best.BestEnd.TheVariants.{Optimal, Open}
+use Rattle.abt_optimum.specs.Best.{aim_value, Solves, IsBest}
+use Rattle.abt_optimum.specs.Rounds.{is_done, most_rounds, AreRounds}
+use Rattle.line_solve.specs.Searching.{AskedSearch, whole_search, round_count, problem_after, session_after, run_after, first_run, last_run}
+use Rattle.line_solve.specs.BestAnswers.{found, answer_text, search_status}
+use Rattle.line_solve.specs.SearchScripts.{round_line, line_script, rounds_script}
+
+-- ---- what was written
+
+-- what a round puts before its trace: its line, where traces are asked for
+abbrev pub line_text : AskedSearch → ℕ → List ℕ
+line_text asked n = if asked.trace then round_line (n + 1) else []
+
+-- the lines and the traces of the first rounds, so many of them
+unfoldable pub traces_of_first : AskedSearch → ℕ → List ℕ
+traces_of_first asked zero = []
+traces_of_first asked (suc n) = traces_of_first asked n ++ (line_text asked n ++ trace_text (session_after asked n))
+
+-- all that goes to `out`: the rounds, where traces are asked for, and the answer
+abbrev pub whole_text : AskedSearch → List ℕ
+whole_text asked = traces_of_first asked (round_count asked) ++ answer_text asked
+
+-- the name is not that of the log or of the record
+abbrev pub IsOther : AskedSearch → List ℕ → Type 0
+IsOther asked name = (name ≢ asked.log) × IfSome asked.kept (λ record_name. name ≢ record_name)
+
+-- the log is that of the last round's derivation, the record that of the first round's numbers, and every other name is as before
+pub record HoldsSearch (asked : AskedSearch) (files now : List ℕ → Option (List ℕ)) : Type 0 where
+  pub log : now asked.log ≡ Some (log_text (last_run asked).net.steps)
+  pub recorded : IfSome asked.kept (λ name. now name ≡ Some (schedule_text (first_run asked).numbers))
+  pub others : (name : List ℕ) → IsOther asked name → now name ≡ files name
+
+-- The search: with a status of 0, 1 or 5 its rounds were printed, logged and recorded whole.
+pub record IsSearched (asked : AskedSearch) (status : Status) (old new : World) : Type 0 where
+  pub status_is : status ≡ search_status asked
+  pub out : Told old.out.written new.out.written (λ before now. now ≡ before ++ whole_text asked)
+  pub files : Told old.folder.held new.folder.held (HoldsSearch asked)
+
+-- ---- what it means
+
+-- The rounds: each one follows those before it, the last of them ends the search, and there are no more than what is aimed at has values, and one.
+pub record HasRounds (asked : AskedSearch) : Type 0 where
+  pub rounds : AreRounds asked.problem (whole_search asked).rounds
+  pub done : is_done asked.problem.aim (whole_search asked).rounds ≡ true
+  pub few : round_count asked ≤ most_rounds asked.problem
+
+-- these values were printed: they are a solution, no solution has a better value, and where the aim is at a variable, the derivation that was logged refutes the problem narrowed to their value
+pub record PrintsBest (asked : AskedSearch) (values : List ℤ) : Type 0 where
+  pub printed : found (whole_search asked) ≡ Optimal values
+  pub best : IsBest asked.problem values
+  pub shown : IsSome (aimed_at asked.problem.aim) → IsRefutation (csp_of (narrowed asked.problem (aim_value asked.problem.aim (assigned values)))) (last_run asked).net.steps
+
+-- Best: with status 0 the values that were printed are best.
+abbrev pub IsBestSearch : AskedSearch → Status → Type 0
+IsBestSearch asked status = status ≡ Good → (values : List ℤ) × PrintsBest asked values
+
+-- the derivation that was logged is a refutation of the whole problem, which has no solution
+pub record LogsRefutation (asked : AskedSearch) : Type 0 where
+  pub refutes : IsRefutation (csp_of asked.problem) (last_run asked).net.steps
+  pub none : HasNoSolution (csp_of asked.problem)
+
+-- Refuted: status 1 comes exactly where the first round is refuted, and then the whole problem is.
+pub record IsRefutedSearch (asked : AskedSearch) (status : Status) : Type 0 where
+  pub exactly : (status ≡ No) ↔ ((first_run asked).end ≡ runs.Refuted)
+  pub refutes : status ≡ No → LogsRefutation asked
+
+-- the last round was stopped with a message in transit, after the most deliveries
+pub record EndsOpen (asked : AskedSearch) : Type 0 where
+  pub in_transit : IsOpen (csp_of (problem_after asked (round_count asked - 1))) (last_run asked).net
+  pub most : (last_run asked).net.deliveries ≡ most_deliveries
+
+-- these values, if there are any, are those of the round before the last, and a solution
+pub record PrintsLast (asked : AskedSearch) (values : Option (List ℤ)) : Type 0 where
+  pub printed : found (whole_search asked) ≡ Open values
+  pub solves : IfSome values (Solves asked.problem)
+  pub last : IfSome values (λ list. list ≡ final_values (problem_after asked (round_count asked - 2)) (run_after asked (round_count asked - 2)))
+  -- there are none only where there is no round before
+  pub some : 1 < round_count asked → IsSome values
+
+-- Unfinished: status 5 comes exactly where the last round was stopped open; what was printed then is the solution of the round before, if there is one.
+pub record IsUnfinishedSearch (asked : AskedSearch) (status : Status) : Type 0 where
+  pub exactly : (status ≡ Unfinished) ↔ EndsOpen asked
+  pub prints : status ≡ Unfinished → PrintsLast asked (whole_search asked).values
+
+-- The bound: there are no more rounds than stated above, and each delivers no more messages than the whole problem's bound; so where that is not above the most deliveries, status 5 never comes.
+pub record IsBoundedSearch (asked : AskedSearch) (status : Status) : Type 0 where
+  pub rounds : HasRounds asked
+  pub bounded : (n : ℕ) → n < round_count asked → (run_after asked n).net.deliveries ≤ message_bound (csp_of asked.problem)
+  pub verdict : message_bound (csp_of asked.problem) ≤ most_deliveries → status ≢ Unfinished
+
+-- ---- the order of writing
+
+-- what the log holds after so many rounds, where it held this before them
+abbrev pub log_after : AskedSearch → ℕ → Option (List ℕ) → Option (List ℕ)
+log_after asked zero file = file
+log_after asked (suc n) file = Some (log_text (run_after asked n).net.steps)
+
+-- the log is that of the last of so many rounds, and every other name is as before
+pub record HoldsRounds (asked : AskedSearch) (n : ℕ) (files now : List ℕ → Option (List ℕ)) : Type 0 where
+  pub log : now asked.log ≡ log_after asked n (files asked.log)
+  pub others : (name : List ℕ) → name ≢ asked.log → now name ≡ files name
+
+-- so many whole rounds were made, and nothing else
+pub record MadeRounds (asked : AskedSearch) (n : ℕ) (old new : World) : Type 0 where
+  pub did : Did (rounds_script asked n) old new
+  pub out : Told old.out.written new.out.written (λ before now. now ≡ before ++ traces_of_first asked n)
+  pub files : Told old.folder.held new.folder.held (HoldsRounds asked n)
+
+-- some first bytes of the text were put, and nothing else was done
+pub record AddsBytes (text : List ℕ) (old new : World) : Type 0 where
+  pub gained : List ℕ
+  pub begins : IsPrefixOf gained text
+  pub out : Told old.out.written new.out.written (λ before now. now ≡ before ++ gained)
+  pub created : new.folder.created ≡ old.folder.created
+  pub files : Told old.folder.held new.folder.held (λ files now. (name : List ℕ) → now name ≡ files name)
+
+-- the round with so many before it, wherever it was stopped: in its line, or after its line in its run, which wrote in order
+pub data WritesRound (asked : AskedSearch) (n : ℕ) (old new : World) : Type 0 where
+  in_line : AddsBytes (line_text asked n) old new → WritesRound asked n old new
+  in_run : (moment : World) → Did (line_script asked.trace (n + 1)) old moment → WritesInOrder (session_after asked n) moment new → WritesRound asked n old new
+
+-- the files before and after the end of a search, where `out` gained these bytes of the answer and these names were created
+pub record KeepsEnding (asked : AskedSearch) (names : List (List ℕ)) (gained : List ℕ) (files now : List ℕ → Option (List ℕ)) : Type 0 where
+  -- the record, once created, holds a first part of its text; else it is as before, or holds no bytes
+  pub record_part : IfSome asked.kept (λ name. HoldsPartOf name (schedule_text (first_run asked).numbers) (Contains names name) (files name) (now name))
+  -- once a byte of the answer was put, it holds its whole text
+  pub answer_last : 0 < length gained → IfSome asked.kept (λ name. now name ≡ Some (schedule_text (first_run asked).numbers))
+  -- every other name, that of the log too, is as it was after the last round
+  pub others : (name : List ℕ) → IfSome asked.kept (λ record_name. name ≢ record_name) → now name ≡ files name
+
+-- the end of a search, wherever it was stopped: the record, and then the answer
+pub record WritesEnding (asked : AskedSearch) (old new : World) : Type 0 where
+  pub names : List (List ℕ)
+  pub created : new.folder.created ≡ old.folder.created ++ names
+  pub gained : List ℕ
+  pub out : Told old.out.written new.out.written (λ before now. now ≡ before ++ gained)
+  pub begins : IsPrefixOf gained (answer_text asked)
+  pub files : Told old.folder.held new.folder.held (KeepsEnding asked names gained)
+
+-- The order of writing: whatever the status, there was a moment at which whole rounds had been made and nothing else, and from that moment on the next round, or the end, wrote in order. So a log that was not created in the round at hand is that of the round before, or holds no bytes.
+pub data SearchOrdered (asked : AskedSearch) (old new : World) : Type 0 where
+  in_round : (n : ℕ) → n < round_count asked → (moment : World) → MadeRounds asked n old moment → WritesRound asked n moment new → SearchOrdered asked old new
+  in_ending : (moment : World) → MadeRounds asked (round_count asked) old moment → WritesEnding asked moment new → SearchOrdered asked old new

@@ -1,0 +1,106 @@
+-- The searches that `solve` makes where a model has an aim: rounds, each of which is a run from the same seed.
+use Rattle.std.specs.Prelude.{ℕ, zero, suc, ◌-◌, Bool, List, [], ◌∷◌, ◌++◌, length, Option, None, if◌then◌else◌}
+use Rattle.dcsp_defs.specs.Words.{sum_below}
+use Rattle.dcsp_rule.specs.Problems.{Contents}
+use Rattle.abt_defs.specs.Runs as runs
+use Rattle.abt_defs.specs.Runs.{Run}
+use Rattle.abt_session.specs.declared.outcome.End as outcomes
+use Rattle.abt_session.specs.declared.outcome.End.TheVariants as ends
+use Rattle.abt_session.specs.Sessions.{Session, run_of}
+use Rattle.line_replay.specs.Endings.{final_values}
+use Rattle.line_replay.specs.Asked.{seeded_session}
+use Rattle.abt_optimum.specs.declared.round.RoundEnd.{RoundEnd}
+use Rattle.abt_optimum.specs.declared.round.RoundEnd.TheVariants.{Solved, Refuted, Capped}
+use Rattle.abt_optimum.specs.Rounds.{best_value, is_done, round_problem, most_rounds}
+use Rattle.abt_optimum.specs.Searches.{SearchState, round_after, values_after}
+
+-- a search that a line asks for
+pub record AskedSearch : Type 0 where
+  pub problem : Contents
+  -- each round has the choices of this seed anew
+  pub seed : ℕ
+  -- the name of the log, which each round creates anew
+  pub log : List ℕ
+  -- the name of the record, where one is asked for
+  pub kept : Option (List ℕ)
+  -- whether the rounds and their traces are put
+  pub trace : Bool
+
+-- this search
+abbrev pub best_search : Contents → ℕ → List ℕ → Option (List ℕ) → Bool → AskedSearch
+best_search p seed log kept trace = record { problem = p; seed = seed; log = log; kept = kept; trace = trace }
+
+-- ---- a round
+
+-- the problem of the round that follows: the whole one, narrowed to what is better than the best value found so far
+abbrev pub next_problem : AskedSearch → SearchState → Contents
+next_problem asked s = round_problem asked.problem (best_value s.rounds)
+
+-- the session of that round
+abbrev pub next_session : AskedSearch → SearchState → Session
+next_session asked s = seeded_session (next_problem asked s) asked.seed asked.log asked.trace
+
+-- how a run of the problem ended, as a search takes it; the choices of a seed are never used up
+abbrev pub end_as : Contents → Run → runs.End → RoundEnd
+end_as p run runs.Solved = Solved (final_values p run)
+end_as p run runs.Refuted = Refuted
+end_as p run runs.Capped = Capped
+end_as p run runs.Spent = Capped
+
+-- how that round ends
+abbrev pub next_end : AskedSearch → SearchState → RoundEnd
+next_end asked s = end_as (next_problem asked s) (run_of (next_session asked s)) (run_of (next_session asked s)).end
+
+-- how a round ended, by what its run gave
+abbrev pub told_end : outcomes.End → RoundEnd
+told_end (ends.Solved values) = Solved values
+told_end ends.Refuted = Refuted
+told_end ends.Spent = Capped
+told_end ends.Capped = Capped
+
+-- a search after one more round, which ended so
+abbrev pub with_round : SearchState → RoundEnd → SearchState
+with_round s end = record s { rounds = s.rounds ++ round_after s.problem.aim s.rounds end ∷ []; values = values_after s.values end }
+
+-- a search after the round that follows, if one does
+abbrev pub one_more : AskedSearch → SearchState → SearchState
+one_more asked s = if is_done s.problem.aim s.rounds then s else with_round s (next_end asked s)
+
+-- ---- all rounds
+
+-- the search after so many rounds, or after all that it has
+unfoldable pub search_after : AskedSearch → ℕ → SearchState
+search_after asked zero = record { problem = asked.problem; rounds = []; values = None }
+search_after asked (suc n) = one_more asked (search_after asked n)
+
+-- the whole search
+abbrev pub whole_search : AskedSearch → SearchState
+whole_search asked = search_after asked (most_rounds asked.problem)
+
+-- how many rounds it has
+abbrev pub round_count : AskedSearch → ℕ
+round_count asked = length (whole_search asked).rounds
+
+-- the problem of the round with so many before it
+abbrev pub problem_after : AskedSearch → ℕ → Contents
+problem_after asked n = next_problem asked (search_after asked n)
+
+-- its session
+abbrev pub session_after : AskedSearch → ℕ → Session
+session_after asked n = next_session asked (search_after asked n)
+
+-- its run
+abbrev pub run_after : AskedSearch → ℕ → Run
+run_after asked n = run_of (session_after asked n)
+
+-- the run of the first round, which is on the whole problem
+abbrev pub first_run : AskedSearch → Run
+first_run asked = run_of (seeded_session asked.problem asked.seed asked.log asked.trace)
+
+-- the run of the last round
+abbrev pub last_run : AskedSearch → Run
+last_run asked = run_after asked (round_count asked - 1)
+
+-- how many deliveries the first rounds make, so many of them
+abbrev pub deliveries_in : AskedSearch → ℕ → ℕ
+deliveries_in asked n = sum_below (λ k. (run_after asked k).net.deliveries) n

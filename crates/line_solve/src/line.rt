@@ -1,0 +1,71 @@
+//! The line `solve MODEL LOG [--seed N] [--record FILE] [--trace]`.
+
+ghost use Rattle.std.specs.Prelude.{◌≡◌, ◌≢◌, IfOk, option_copied};
+ghost use Rattle.dcsp_outside.specs.Outside.{Place, Stream};
+ghost use Rattle.dcsp_script.specs.Scripts.{outside};
+ghost use Rattle.dcsp_script.specs.Ways.{Wrote};
+ghost use Rattle.abt_promise.specs.Runs.{CameIn};
+ghost use Rattle.abt_input.specs.Errors.{way_of};
+ghost use Rattle.line_replay.specs.Headline.{HoldsProblem};
+ghost use Rattle.line_solve.specs.Searching.{best_search};
+ghost use Rattle.line_solve.specs.BestAnswers.{search_status};
+ghost use Rattle.line_solve.specs.SearchScripts.{search_script};
+ghost use Rattle.line_solve.specs.SolvePromise.{solve_promise, HoldsWholeProblem};
+
+use crate::answer::{best_status, tell};
+use crate::runner::Runner;
+use abt_input::{CommandError, read_model};
+use abt_promise::Status;
+use dcsp_outside::{Folder, Sink};
+use dcsp_problem::{Aim, Problem};
+use dcsp_script::Stop;
+use law_logs::problems_are_small;
+use line_replay::{Solve, run_seed, write_record};
+use std::alloc::Global;
+
+/// Runs the model under the choices of the seed, or where it asks for the best value of a term, searches for that in
+/// rounds, each of which is a run under these choices.
+pub fn run_solve<F: Folder, S: Sink>(
+    alloc: Global,
+    folder: &mut F,
+    line: Solve<'_>,
+    out: &mut S,
+) -> Result<Status, CommandError>
+    ensures came { CameIn (solve_promise line.entry.model.now line.entry.log.now line.entry.seed (option_copied line.entry.kept) line.entry.trace)
+        (outside (F.place folder.old) (S.stream out.old))
+        (outside (F.place folder.new) (S.stream out.new)) (way_of result) }
+    ensures sound { IfOk result (λ status. HoldsProblem (F.place folder.old).held line.entry.model.now) }
+    ensures whole { IfOk result (λ status. HoldsWholeProblem (F.place folder.old).held line.entry.model.now) }
+{
+    let problem = read_model(alloc, folder, line.model)?;
+    problem.denotes_csp();
+    problems_are_small(&problem);
+    let Aim::Satisfy = problem.aim() else {
+        let status = run_search(alloc, &problem, line, folder, out)?;
+        return Ok(status);
+    };
+    let status = run_seed(alloc, &problem, line, folder, out)?;
+    Ok(status)
+}
+
+/// Searches for the best value of what the problem aims at, and tells what was found.
+fn run_search<F: Folder, S: Sink>(
+    alloc: Global,
+    problem: &Problem,
+    line: Solve<'_>,
+    folder: &mut F,
+    out: &mut S,
+) -> Result<Status, Stop>
+    requires { problem.now.aim ≢ Aim.Satisfy }
+    ensures wrote { Wrote (search_script (best_search problem.now line.entry.seed line.entry.log.now (option_copied line.entry.kept) line.entry.trace))
+        (outside (F.place folder.old) (S.stream out.old)) (outside (F.place folder.new) (S.stream out.new)) result }
+    ensures status { IfOk result (λ status. status ≡ search_status (best_search problem.now line.entry.seed line.entry.log.now (option_copied line.entry.kept) line.entry.trace)) }
+{
+    problem.denotes_csp();
+    let mut runner = Runner::new(alloc, problem)?;
+    runner.run(alloc, problem, line, folder, out)?;
+    write_record(alloc, folder, line.kept, runner.taken.choices())?;
+    let searched = runner.finish();
+    tell(alloc, problem, &searched, out)?;
+    Ok(best_status(&searched.best.end))
+}

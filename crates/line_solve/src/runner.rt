@@ -1,0 +1,220 @@
+//! A search on its way.
+
+ghost use Rattle.std.specs.Prelude.{◌≡◌, ◌≢◌, ◌<◌, ◌+◌, ◌^◌, ◌++◌, ◌&&◌, ◌==◌, [], false, true, length, IfOk, OnOk, OnErr, Err, is_some, option_copied};
+ghost use Rattle.dcsp_outside.specs.Outside.{Place, Stream};
+ghost use Rattle.dcsp_rule.specs.Problems.{csp_of};
+ghost use Rattle.dcsp_problem.specs.WellFormed.{IsProblem};
+ghost use Rattle.dcsp_script.specs.Scripts.{outside};
+ghost use Rattle.dcsp_script.specs.Ways.{Wrote};
+ghost use Rattle.law_runs.specs.Replay.{Verdicts};
+ghost use Rattle.abt_session.specs.Sessions.{run_of, run_script};
+ghost use Rattle.abt_session.specs.Running.{kept, Gives};
+ghost use Rattle.line_replay.specs.Asked.{most_deliveries, seeded_session};
+ghost use Rattle.abt_optimum.specs.Rounds.{best_value, is_done, round_problem};
+ghost use Rattle.abt_optimum.specs.Searches.{EndsRightly, IsSearch};
+ghost use Rattle.line_solve.specs.Searching.{best_search, next_problem, next_session, round_count, told_end, with_round};
+ghost use Rattle.line_solve.specs.BestAnswers.{found};
+ghost use Rattle.line_solve.specs.SearchScripts.{line_script, round_script, rounds_script};
+
+use crate::answer::{Searched, put_round};
+use abt_optimum::{RoundEnd, Search};
+use abt_schedule::{ChoiceList, Seeded};
+use abt_session::{End, Outcome, run};
+use dcsp_outside::{Folder, Sink};
+use dcsp_problem::{Aim, Problem};
+use dcsp_script::Stop;
+use line_replay::Solve;
+use std::alloc::Global;
+
+/// The most deliveries of a round.
+const MOST_DELIVERIES: u64 = 1 << 40;
+
+/// A search on its way.
+#[derive(Drop)]
+pub struct Runner<'p> {
+    pub search: Search<'p>,
+    /// How many rounds have ended.
+    pub rounds: u64,
+    /// How many deliveries they made.
+    pub deliveries: u64,
+    /// How many steps the last of them made.
+    pub steps: u64,
+    /// The numbers of the first one, where a record is asked for.
+    pub taken: ChoiceList,
+}
+
+impl<'p> Runner<'p> {
+    ghost use Rattle.line_solve.specs.Runners.{HasMade, IsFresh, SameRounds, Tells};
+
+    /// A search of which no round has ended.
+    pub fn new(alloc: Global, problem: &'p Problem) -> Result<Runner<'p>, Stop>
+        requires { problem.now.aim ≢ Aim.Satisfy }
+        ensures fresh { IfOk result (IsFresh problem.now) }
+        ensures only_memory { OnErr result (result ≡ Err Stop.Memory) }
+    {
+        let Ok(search) = Search::new(alloc, problem) else {
+            return Err(Stop::Memory);
+        };
+        Ok(Runner {
+            search,
+            rounds: 0,
+            deliveries: 0,
+            steps: 0,
+            taken: ChoiceList::new(alloc),
+        })
+    }
+
+    /// Makes all rounds.
+    pub fn run<F: Folder, S: Sink>(
+        &mut self,
+        alloc: Global,
+        problem: &Problem,
+        line: Solve<'_>,
+        folder: &mut F,
+        out: &mut S,
+    ) -> Result<(), Stop>
+        requires { IsFresh problem.now self.old }
+        ensures wrote { let asked = best_search problem.now line.entry.seed line.entry.log.now (option_copied line.entry.kept) line.entry.trace in
+            Wrote (rounds_script asked (round_count asked))
+            (outside (F.place folder.old) (S.stream out.old)) (outside (F.place folder.new) (S.stream out.new)) result }
+        ensures made { let asked = best_search problem.now line.entry.seed line.entry.log.now (option_copied line.entry.kept) line.entry.trace in
+            OnOk result (HasMade asked (round_count asked) self.new) }
+    {
+        problem.denotes_csp();
+        while !self.search.done() {
+            self.make_round(alloc, problem, line, folder, out)?;
+        }
+        Ok(())
+    }
+
+    /// Makes the round that follows: its line is put, where traces are asked for, and then it is run.
+    fn make_round<F: Folder, S: Sink>(
+        &mut self,
+        alloc: Global,
+        problem: &Problem,
+        line: Solve<'_>,
+        folder: &mut F,
+        out: &mut S,
+    ) -> Result<(), Stop>
+        requires made { let asked = best_search problem.now line.seed line.log.now (option_copied line.kept) line.trace in
+            HasMade asked self.old.rounds self.old }
+        requires goes_on { is_done self.old.search.problem.aim self.old.search.rounds ≡ false }
+        requires few { self.old.rounds < 2 ^ 20 }
+        requires problem { IsProblem problem.now }
+        ensures wrote { let asked = best_search problem.now line.entry.seed line.entry.log.now (option_copied line.entry.kept) line.entry.trace in
+            Wrote (round_script asked self.old.rounds)
+            (outside (F.place folder.old) (S.stream out.old)) (outside (F.place folder.new) (S.stream out.new)) result }
+        ensures made { let asked = best_search problem.now line.entry.seed line.entry.log.now (option_copied line.entry.kept) line.entry.trace in
+            OnOk result (HasMade asked (self.old.rounds + 1) self.new) }
+    {
+        put_round(alloc, line.trace, self.rounds + 1, out)?;
+        let outcome = self.run_next(alloc, problem, line, folder, out)?;
+        self.count(outcome);
+        Ok(())
+    }
+
+    /// Runs the problem of the round that follows, narrowed to better values than the best one found so far.
+    fn run_next<F: Folder, S: Sink>(
+        &mut self,
+        alloc: Global,
+        problem: &Problem,
+        line: Solve<'_>,
+        folder: &mut F,
+        out: &mut S,
+    ) -> Result<Outcome, Stop>
+        requires goes_on { is_done self.old.search.problem.aim self.old.search.rounds ≡ false }
+        requires problem { self.old.search.problem ≡ problem.now }
+        ensures wrote { let s = next_session (best_search problem.now line.entry.seed line.entry.log.now (option_copied line.entry.kept) line.entry.trace) self.old.search in
+            Wrote (run_script s) (outside (F.place folder.old) (S.stream out.old)) (outside (F.place folder.new) (S.stream out.new)) result }
+        ensures tells { let asked = best_search problem.now line.entry.seed line.entry.log.now (option_copied line.entry.kept) line.entry.trace in
+            IfOk result (Tells (next_problem asked self.old.search) (next_session asked self.old.search)) }
+        ensures takes { let asked = best_search problem.now line.entry.seed line.entry.log.now (option_copied line.entry.kept) line.entry.trace in
+            OnOk result (self.new.taken ≡ self.old.taken ++ kept (is_some asked.kept && self.old.rounds == 0) (run_of (next_session asked self.old.search)).numbers) }
+        ensures same { SameRounds self.old self.new }
+    {
+        match self.search.better() {
+            None => self.run_on(alloc, problem, line, folder, out),
+            Some(better) => {
+                let Ok(narrowed) = problem.narrowed(better) else {
+                    return Err(Stop::Memory);
+                };
+                self.run_on(alloc, &narrowed, line, folder, out)
+            }
+        }
+    }
+
+    /// Runs the problem of a round, under the choices of the seed anew.
+    fn run_on<F: Folder, S: Sink>(
+        &mut self,
+        alloc: Global,
+        problem: &Problem,
+        line: Solve<'_>,
+        folder: &mut F,
+        out: &mut S,
+    ) -> Result<Outcome, Stop>
+        ensures wrote { Wrote (run_script (seeded_session problem.now line.entry.seed line.entry.log.now line.entry.trace))
+            (outside (F.place folder.old) (S.stream out.old)) (outside (F.place folder.new) (S.stream out.new)) result }
+        ensures tells { IfOk result (Tells problem.now (seeded_session problem.now line.entry.seed line.entry.log.now line.entry.trace)) }
+        ensures takes { OnOk result (self.new.taken ≡ self.old.taken ++ kept (is_some line.entry.kept && self.old.rounds == 0)
+            (run_of (seeded_session problem.now line.entry.seed line.entry.log.now line.entry.trace)).numbers) }
+        ensures same { SameRounds self.old self.new }
+    {
+        let mut choices = Seeded::new(line.seed);
+        let keep = line.kept.is_some() && self.rounds == 0;
+        run(
+            alloc,
+            problem,
+            &mut choices,
+            MOST_DELIVERIES,
+            folder,
+            line.log,
+            out,
+            line.trace,
+            &mut self.taken,
+            keep,
+        )
+    }
+
+    /// Counts a round that was made.
+    fn count(&mut self, outcome: Outcome)
+        requires goes_on { is_done self.old.search.problem.aim self.old.search.rounds ≡ false }
+        requires right { EndsRightly (round_problem self.old.search.problem (best_value self.old.search.rounds)) (told_end outcome.end) }
+        requires few { (self.old.rounds < 2 ^ 62) × (self.old.deliveries + outcome.deliveries < 2 ^ 62) }
+        ensures search { self.new.search ≡ with_round self.old.search (told_end outcome.end) }
+        ensures rounds { self.new.rounds ≡ self.old.rounds + 1 }
+        ensures deliveries { self.new.deliveries ≡ self.old.deliveries + outcome.deliveries }
+        ensures steps { self.new.steps ≡ outcome.steps }
+        ensures taken { self.new.taken ≡ self.old.taken }
+    {
+        self.rounds += 1;
+        self.deliveries += outcome.deliveries;
+        self.steps = outcome.steps;
+        self.search.ended(round_end(outcome.end));
+    }
+
+    /// What the search found, and how much work it was.
+    pub fn finish(self) -> Searched
+        requires over { is_done self.search.problem.aim self.search.rounds ≡ true }
+        requires search { IsSearch self.search }
+        ensures found { result.best.end ≡ found self.entry.search }
+        ensures rounds { result.best.rounds ≡ length self.entry.search.rounds }
+        ensures work { (result.deliveries ≡ self.entry.deliveries) × (result.steps ≡ self.entry.steps) }
+    {
+        Searched {
+            best: self.search.outcome(),
+            deliveries: self.deliveries,
+            steps: self.steps,
+        }
+    }
+}
+
+/// How a round ended that was made under the choices of a seed, which are never used up.
+fn round_end(end: End) -> RoundEnd
+    ensures { result ≡ told_end end }
+{
+    match end {
+        End::Solved(values) => RoundEnd::Solved(values),
+        End::Refuted => RoundEnd::Refuted,
+        End::Spent | End::Capped => RoundEnd::Capped,
+    }
+}

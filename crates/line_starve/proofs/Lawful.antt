@@ -1,0 +1,17 @@
+-- The plan of `starve` is sound, and so its promise is lawful.
+use Rattle.std.proofs.Common.{ℕ, List, [], ◌∷◌}
+use Rattle.std.proofs.lemmas.List.Elements.{Contains-push}
+use Rattle.abt_promise.specs.Clauses.{IsLawful}
+use Rattle.abt_input.specs.Plans.{IsSoundPlan}
+use Rattle.abt_input.proofs.ExactKinds.{model_exact}
+use Rattle.abt_input.proofs.OwnWrites.{own_none, own_put, own_create, own_append}
+use Rattle.abt_input.proofs.PlanLaws.{plan_lawful}
+use Rattle.line_starve.specs.StarvePromise.{starve_plan, starve_promise}
+
+pub starve_sound : (model : List ℕ) (from to : ℕ) (file : List ℕ) → IsSoundPlan (model ∷ []) (file ∷ []) (starve_plan from to file)
+starve_sound model from to file =
+    let here = Contains-push [] file in
+    (model_exact, λ p. record { final = tt; no_refusal = λ h. h; names = own_create here (own_append here (own_put own_none)) })
+
+pub starve_lawful : (model : List ℕ) (from to : ℕ) (file : List ℕ) → IsLawful (starve_promise model from to file)
+starve_lawful model from to file = plan_lawful (starve_plan from to file) (starve_sound model from to file)

@@ -1,0 +1,141 @@
+//! The line `starve MODEL FROM TO FILE`.
+
+ghost use Rattle.std.specs.Prelude.{◌≡◌, ◌≤◌, ◌∷◌, ◌-◌, [], IfOk, OnOk};
+ghost use Rattle.dcsp_outside.specs.Outside.{Place, Stream};
+ghost use Rattle.dcsp_script.specs.Scripts.{Create, Append, Put, outside};
+ghost use Rattle.dcsp_script.specs.Ways.{Wrote};
+ghost use Rattle.abt_schedule.specs.Schedules.{schedule_text};
+ghost use Rattle.dcsp_rule.specs.Problems.{csp_of};
+ghost use Rattle.abt_defs.specs.Bound.{message_bound};
+ghost use Rattle.abt_session.specs.Starving.{starved_end};
+ghost use Rattle.abt_promise.specs.Runs.{CameIn};
+ghost use Rattle.abt_input.specs.Inputs.{HasChoices};
+ghost use Rattle.abt_input.specs.Errors.{way_of};
+ghost use Rattle.line_starve.specs.StarvePromise.{choices_of, end_word, most_starved, starve_promise, starve_script, starved_line, starving_run};
+ghost use Rattle.line_starve.specs.Starving.{HoldsStarved, IsReplayed, TellsStarved};
+
+use abt_input::{CommandError, read_model};
+use abt_promise::Status;
+use abt_schedule::{ChoiceList, write_schedule};
+use abt_session::{Starved, StarvedEnd};
+use dcsp_outside::{Folder, Sink};
+use dcsp_problem::Problem;
+use dcsp_script::{Stop, append, create, put};
+use itoa::Buffer;
+use std::alloc::{AllocError, Global};
+
+/// The most deliveries of a run that starves a link.
+const MOST_DELIVERIES: u64 = 7_000_000;
+
+/// The words of `starve`.
+#[derive(Clone, Copy)]
+pub struct Starve<'w> {
+    /// The name of the model.
+    pub model: &'w str,
+    /// The variable whose agent sends over the link, counted from 1.
+    pub from: u32,
+    /// The variable whose agent the link leads to, counted from 1.
+    pub to: u32,
+    /// The name of the file that takes the run's choices.
+    pub file: &'w str,
+}
+
+/// Runs the model so that the link from one variable's agent to another's is starved, writes the choices of
+/// the run as a schedule, and tells how the run ended and how many deliveries it made.
+pub fn run_starve<F: Folder, S: Sink>(
+    alloc: Global,
+    folder: &mut F,
+    line: Starve<'_>,
+    out: &mut S,
+) -> Result<Status, CommandError>
+    requires from { 1 ≤ line.from }
+    requires to { 1 ≤ line.to }
+    ensures came { CameIn (starve_promise line.entry.model.now line.entry.from line.entry.to line.entry.file.now)
+        (outside (F.place folder.old) (S.stream out.old))
+        (outside (F.place folder.new) (S.stream out.new)) (way_of result) }
+    ensures writes { OnOk result (HoldsStarved line.entry.model.now line.entry.from line.entry.to line.entry.file.now
+        (F.place folder.old).held (F.place folder.new).held) }
+    ensures tells { OnOk result (TellsStarved line.entry.model.now line.entry.from line.entry.to
+        (F.place folder.old).held (S.stream out.old).written (S.stream out.new).written) }
+{
+    let problem = read_model(alloc, folder, line.model)?;
+    run_starved(alloc, &problem, line, MOST_DELIVERIES, folder, out)?;
+    Ok(Status::Good)
+}
+
+/// Makes the run of the problem, with at most `most` deliveries, writes its choices and tells how it ended.
+fn run_starved<F: Folder, S: Sink>(
+    alloc: Global,
+    problem: &Problem,
+    line: Starve<'_>,
+    most: u64,
+    folder: &mut F,
+    out: &mut S,
+) -> Result<(), Stop>
+    requires from { 1 ≤ line.from }
+    requires to { 1 ≤ line.to }
+    requires most { most ≤ most_starved }
+    ensures wrote { Wrote (starve_script line.entry.file.now (choices_of problem.now line.entry.from line.entry.to most) (starving_run problem.now line.entry.from line.entry.to most))
+        (outside (F.place folder.old) (S.stream out.old)) (outside (F.place folder.new) (S.stream out.new)) result }
+    ensures schedule { OnOk result (HasChoices (schedule_text (choices_of problem.now line.entry.from line.entry.to most)) (choices_of problem.now line.entry.from line.entry.to most)) }
+    ensures replayed { OnOk result (IsReplayed problem.now line.entry.from line.entry.to most) }
+    ensures bound { OnOk result ((starving_run problem.now line.entry.from line.entry.to most).net.deliveries ≤ message_bound (csp_of problem.now)) }
+{
+    let mut taken = ChoiceList::new(alloc);
+    let Ok(told) = abt_session::starve(alloc, problem, line.from - 1, line.to - 1, most, &mut taken)
+    else {
+        return Err(Stop::Memory);
+    };
+    write_choices(alloc, folder, line.file, taken.choices())?;
+    tell(alloc, told, out)
+}
+
+/// Writes the schedule of the choices under the name.
+fn write_choices<F: Folder>(
+    alloc: Global,
+    folder: &mut F,
+    file: &str,
+    choices: &[u32],
+) -> Result<(), Stop>
+    ensures { (out : Stream) → Wrote (Create file.now ∷ Append file.now (schedule_text choices.now) ∷ [])
+        (outside (F.place folder.old) out) (outside (F.place folder.new) out) result }
+{
+    let mut text = Vec::new(alloc);
+    let Ok(()) = write_schedule(choices, &mut text) else {
+        return Err(Stop::Memory);
+    };
+    create(folder, file)?;
+    append(folder, file, &text)
+}
+
+/// Puts the line that tells how the run ended on `out`, in one piece.
+fn tell<S: Sink>(alloc: Global, told: Starved, out: &mut S) -> Result<(), Stop>
+    ensures { (folder : Place) → Wrote (Put (starved_line (starved_end told.end) told.deliveries) ∷ [])
+        (outside folder (S.stream out.old)) (outside folder (S.stream out.new)) result }
+{
+    let line = line_of(alloc, told)?;
+    put(out, &line)
+}
+
+/// The line that tells how the run ended, and how many deliveries it made.
+fn line_of(alloc: Global, told: Starved) -> Result<Vec<u8>, AllocError>
+    ensures { IfOk result (λ line. line.items ≡ starved_line (starved_end told.end) told.deliveries) }
+{
+    let mut line = Vec::from_slice(alloc, b"starved ")?;
+    line.extend_from_slice(word_of(told.end))?;
+    line.extend_from_slice(b" deliveries ")?;
+    line.extend_from_slice(Buffer::new().format(told.deliveries).as_bytes())?;
+    line.extend_from_slice(b"\n")?;
+    Ok(line)
+}
+
+/// How a run ended, in a word.
+fn word_of(end: StarvedEnd) -> &'static [u8]
+    ensures { result.now ≡ end_word (starved_end end) }
+{
+    match end {
+        StarvedEnd::Solved => b"solved",
+        StarvedEnd::Refuted => b"refuted",
+        StarvedEnd::Open => b"open",
+    }
+}
