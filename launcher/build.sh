@@ -32,7 +32,7 @@ copy_crates() {
     for part in "$here/crates/$name"/*; do
       case ${part##*/} in out | must-fail) ;; *) cp -r "$part" "$room/crates/$name" ;; esac
     done
-    grep -E "^$name[ :]" "$here/crates.txt" >>"$room/crates.txt"
+    grep -E "^${name}[ :]" "$here/crates.txt" >>"$room/crates.txt"
   done
   cp "$here/HANDLES" "$room"
 }
@@ -113,6 +113,6 @@ keep_unproved() {
     tail -n 20 "$room/log" >&2
     stop 70 "the trial run of the sources made no program"
   fi
-  mkdir -p "${1%/*}" && rm -f "${1%/*}"/unproved-* && mv "$room/kept" "$1" || stop 70 "no program could be kept in ${1%/*}"
+  mkdir -p "${1%/*}" && rm -f "${1%/*}"/unproved-* && chmod 755 "$room/kept" && mv "$room/kept" "$1" || stop 70 "no program could be kept in ${1%/*}"
   leave_room
 }

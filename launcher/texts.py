@@ -22,12 +22,21 @@ def printable(text):
 
 def shown(word):
     """Returns a word as it is, or with escapes where it has characters that cannot be seen."""
-    return word if word.isprintable() else repr(word)[1:-1]
+    return word if word.isprintable() else "".join(it if it.isprintable() else escape(it) for it in word)
 
 
 def quoted(word):
     """Returns a word as it is typed in a shell."""
-    return shlex.quote(word) if word.isprintable() else "$" + repr(word)
+    return shlex.quote(word) if word.isprintable() else f"$'{''.join(map(escape, word))}'"
+
+
+def escape(sign):
+    """Returns a character as it stands between `$'` and `'`."""
+    if sign in "\\'":
+        return "\\" + sign
+    if sign.isprintable():
+        return sign
+    return "".join(f"\\x{it:02x}" for it in sign.encode("utf-8", "surrogateescape")) if sign != "\n" else "\\n"
 
 
 # ---- files that are read again
