@@ -200,7 +200,10 @@ def missing(tells, name):
     folder, base = os.path.split(name)
     if folder and not os.path.isdir(folder):
         return f"{tells}: there is no folder {quoted(folder)}; this makes it: mkdir -p {quoted(folder)}"
-    near = difflib.get_close_matches(base, os.listdir(folder or "."), 1)
+    try:
+        near = difflib.get_close_matches(base, os.listdir(folder or "."), 1)
+    except OSError:
+        near = []
     also = f"; did you mean {quoted(os.path.join(folder, near[0]))}?" if near else ""
     return f"{tells} is not there{also}"
 

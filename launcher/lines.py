@@ -249,8 +249,9 @@ def overview(rows):
     return [
         "usage:",
         *(f"  {usage(it)}" for it in rows),
-        "abt --help tells what each line does; abt LINE --help tells what its words are.",
-        "A first answer, at the top of a clone: abt solve examples/meeting.fzn out.ngd --trace",
+        "abt --help tells what each line does; abt LINE --help tells what its words are",
+        "the launcher's own: --unproved before a line, --install PREFIX, --pack FILE; README.md tells of them",
+        "a first answer, at the top of a clone: ./abt solve examples/meeting.fzn out.ngd --trace",
     ]
 
 

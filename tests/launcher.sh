@@ -93,7 +93,7 @@ echo "== words"
 printf 'var 0..1: x;\nvar 0..1: y;\nconstraint int_ne(x,y);\nsolve satisfy;\n' > m
 row "no words" 2 "usage:
 abt solve MODEL LOG [--seed N] [--record FILE] [--trace]
-A first answer" 
+a first answer"
 row "-h" 2 "abt check MODEL LOG [--better N]" -h
 row "help" 2 "abt bound MODEL" help
 row "solve --help" 2 "usage: abt solve MODEL LOG [--seed N] [--record FILE] [--trace]
@@ -107,6 +107,7 @@ row "--seed -1" 2 "N is a number from 0 to 2^64 - 1, in digits; -1 is none" solv
 row "--trace twice" 2 "--trace is given twice" solve m l --trace --trace
 row "slove" 2 "did you mean: abt solve m l" slove m l
 row "equal names" 2 "MODEL and LOG are both m: each file of a line has a name of its own" solve m m
+row "solve - without a log" 2 "LOG is missing, as in: abt solve /dev/stdin out.ngd" solve -
 row "starve m 0 1" 2 "FILE is missing
 variables are numbered from 1" starve m 0 1
 row "starve m x y" 2 "FILE is missing
@@ -141,6 +142,8 @@ elif command -v setpriv > /dev/null && chmod -R a+rX "$room" && chmod a+w . && c
     at_terminal setpriv --reuid 65534 --regid 65534 --clear-groups "$abt" solve shut l.other > out 2> err || got=$?
     judge "no rights" 6 "MODEL shut may not be read"
     rm -f l.other shut
+else
+    echo "skipped a model without rights: root has all"
 fi
 
 echo "== refused models"
@@ -274,7 +277,12 @@ for words in "check <(cat m1.fzn) <(cat m1.ngd)" "solve meeting.fzn >(cat > l.pi
 done
 sleep 0.2
 tell "what went into pipes" "$(cmp -s l.pipe meeting.ngd && cmp -s t.pipe m1.ngd && echo 1)"
-"$program" gen queens 20 > long.fzn
+# eleven variables with ten values, no two alike: minutes of work
+{
+    for v in {1..11}; do echo "var 1..10: p$v;"; done
+    for v in {1..11}; do for ((w = v + 1; w <= 11; w++)); do echo "constraint int_ne(p$v,p$w);"; done; done
+    echo "solve satisfy;"
+} > long.fzn
 got=0
 TYPED=$'\x03' at_terminal "$abt" solve long.fzn long.ngd > out 2> err || got=$?
 tell "an interrupt" "$([ $got = 130 ] && grep -q 'abt: interrupted before an answer: long.ngd may hold a first part only' err && echo 1)"
