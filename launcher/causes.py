@@ -83,13 +83,12 @@ def unreadable(name):
 
 def nearer(refusal, data, place):
     """Returns which name may have been meant by one that is not declared, or that text follows the last item, or None."""
-    if "syntax" in refusal and re.search(rb"(?m)^\s*solve\b[^;]*;", data[:place]):
+    if "syntax" in refusal and texts.has_solve_item(data[:place]):
         return ["the solve item is the last one: leave out what follows it"]
     word = re.match(rb"\w+", data[place : place + 80])
     if not word or "undeclared" not in refusal:
         return None
-    known = re.findall(r":\s*(\w+)", texts.decoded(data[: place + 1]))
-    near = difflib.get_close_matches(word[0].decode(), [it for it in known if it != word[0].decode()], 1)
+    near = difflib.get_close_matches(word[0].decode(), texts.declared(data[:place]), 1)
     return [f"did you mean {near[0]}?"] if near else None
 
 

@@ -10,6 +10,14 @@ WIDTH = 60
 PIECE = 1 << 20
 # The greatest model or formula that the program reads.
 MOST = 16_777_216
+# Where a solve item begins.
+SOLVE = re.compile(rb"(?:\A|;)\s*solve\b")
+# What stands in models in MiniZinc, and not in FlatZinc: some words before brackets or texts, operators, and constraints
+# that begin with a term and an operator.
+MINIZINC = re.compile(
+    rb"\b(?:include|forall|exists|sum|output|enum)\b\s*[\"(\[]|/\\|\\/|->"
+    rb"|\bconstraint\s+[A-Za-z_0-9\[\],. ]{1,200}\s*(?:!=|<|>|=|\+|-|\*)"
+)
 
 
 # ---- how words and bytes are shown
@@ -112,7 +120,7 @@ def last_bytes(name, most=PIECE):
 def line_and_column(data, place):
     """Returns the line and the column of a byte, both from 1; a column counts characters."""
     start = data.rfind(b"\n", 0, place) + 1
-    return data.count(b"\n", 0, place) + 1, len(decoded(data[start:place])) + 1
+    return data.count(b"\n", 0, place) + 1, len(data[start:place].decode("utf-8", "replace")) + 1
 
 
 def marked(data, place):
@@ -142,6 +150,7 @@ def cut(data):
 
 def kind(data):
     """Returns which of the program's formats a text begins as, or None."""
+    data = data[: 1 << 16]
     if re.match(rb"ngd\b", data):
         return "log"
     if re.match(rb"schedule\b", data):
@@ -158,7 +167,7 @@ def is_minizinc(name, data):
     if name.endswith((".mzn", ".dzn")):
         return True
     bare = re.sub(rb"%[^\n]*", b"", data[: PIECE])
-    return bool(re.search(rb"\b(?:include|forall|exists|sum|output|enum)\b\s*[\"(\[]|/\\|\\/|->|\bconstraint\s+[A-Za-z_0-9\[\],. ]+\s*(?:!=|<|>|=|\+|-|\*)", bare))
+    return bool(re.search(MINIZINC, bare))
 
 
 def variables(data):
@@ -169,8 +178,19 @@ def variables(data):
 
 def aim(data):
     """Returns `least` or `greatest` and what the model asks it of, or None where it asks for any solution."""
-    bare = re.sub(rb"%[^\n]*", b"", data[-(PIECE) :])
-    found = re.findall(rb"\bsolve\b[^;]*?\b(minimize|maximize)\s+(\w+)\s*;", bare)
-    if not found:
+    bare = re.sub(rb"%[^\n]*", b"", data[-PIECE:])
+    found = [it.start() for it in re.finditer(SOLVE, bare)]
+    wanted = re.match(rb"[^;]*?\b(minimize|maximize)\s+(\w+)\s*;", bare[found[-1] + 1 :]) if found else None
+    if not wanted:
         return None
-    return "least" if found[-1][0] == b"minimize" else "greatest", found[-1][1].decode("utf-8", "replace")
+    return "least" if wanted[1] == b"minimize" else "greatest", wanted[2].decode("utf-8", "replace")
+
+
+def has_solve_item(data):
+    """Whether a solve item ends in a text."""
+    return bool(re.search(SOLVE.pattern + rb"[^;]*;", re.sub(rb"%[^\n]*", b"", data)))
+
+
+def declared(data):
+    """Returns names that stand behind a colon, as declared ones do, and not too many of them."""
+    return list(dict.fromkeys(it.decode("utf-8", "replace") for it in re.findall(rb":\s*([A-Za-z_]\w*)", data)))[:5000]
