@@ -200,7 +200,7 @@ def missing(tells, name):
     if folder and not os.path.isdir(folder):
         return f"{tells}: there is no folder {quoted(folder)}; this makes it: mkdir -p {quoted(folder)}"
     try:
-        near = difflib.get_close_matches(base, os.listdir(folder or "."), 1)
+        near = difflib.get_close_matches(base, os.listdir(folder or "."), 1, 0.8)
     except OSError:
         near = []
     also = f"; did you mean {quoted(os.path.join(folder, near[0]))}?" if near else ""

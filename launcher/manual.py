@@ -40,32 +40,40 @@ def commands(top):
 
 
 def roff(markdown):
-    """Returns the lines of a page for a text with headings, paragraphs, tables and indented examples."""
-    told = []
+    """Returns the lines of a page for a text with headings, paragraphs, lists, tables and indented examples."""
+    told, top = [], 0
     for block in re.split(r"\n\s*\n", markdown.strip("\n")):
         rows = block.split("\n")
         heading = re.fullmatch(r"(#+) (.*)", rows[0])
         if heading:
-            told.append(f".{'SH' if len(heading[1]) < 3 else 'SS'} {styled(heading[2]).upper() if len(heading[1]) < 3 else styled(heading[2])}")
+            top = top or len(heading[1])
+            told.append(f".SH {escaped(heading[2]).upper()}" if len(heading[1]) == top else f".SS {styled(heading[2])}")
             rows = rows[1:]
-        if rows and rows[0].startswith("|"):
-            told += table(rows)
-        elif rows and rows[0].startswith("    "):
-            told += verbatim(it[4:] for it in rows)
-        elif rows:
-            told += [".PP", *map(styled, rows)]
+        told += block_of(rows)
     return told
+
+
+def block_of(rows):
+    """Returns the lines for a table, a list, an example or a paragraph."""
+    if not rows:
+        return []
+    if rows[0].startswith("|"):
+        return table(rows)
+    if rows[0].startswith("- "):
+        return [line for it in rows for line in (r".IP \(bu 2", styled(it[2:]))] + [".PP"]
+    return verbatim(it[4:] for it in rows) if rows[0].startswith("    ") else [".PP", *map(styled, rows)]
 
 
 def table(rows):
     """Returns an item for each row of a table but its head: what its first cell says, and then the others."""
     told = []
-    heads = cells(rows[0])
+    _, _, *heads = cells(rows[0])
     for row in rows[2:]:
-        first, *others = cells(row)
-        told += [".TP", styled(first) or r"\&", *(styled(it) for it in others[:1] if it)]
-        told += [line for head, it in zip(heads[2:], others[1:]) if it for line in (".IP", styled(f"{head}: {it}"))]
-    return told
+        first, second, *others = cells(row)
+        told += [".TP", styled(first) or r"\&", *([styled(second)] if second else [])]
+        for head, it in zip(heads, others):
+            told += [".IP", styled(f"{head}: {it}")] if it and head else [".br", styled(it)] if it else []
+    return [*told, ".PP"]
 
 
 def cells(row):
