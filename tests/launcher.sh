@@ -438,7 +438,7 @@ if command -v minizinc > /dev/null; then
 fi
 if command -v man > /dev/null; then
     man --warnings -E UTF-8 -l "$prefix/share/man/man1/abt.1" > out 2> err
-    tell "the manual page" "$([ ! -s err ] && grep -q 'abt solve MODEL LOG' out && grep -q '^COMMANDS' out && echo 1)"
+    tell "the manual page" "$([ ! -s err ] && grep -q 'abt solve MODEL LOG' out && grep -qE '^(THE )?COMMANDS' out && echo 1)"
 fi
 mkdir "$prefix/other" && mkdir -p "$prefix/other/lib/abt"
 in_clone "$room/shut" --install "$prefix/other"
