@@ -5,7 +5,7 @@ first_build=1045
 # ends where the toolchain is not there
 want_toolchain() {
   command -v rt >/dev/null ||
-    stop 70 "the program has to be built, and the toolchain's rt is not on the path: add its folder to PATH"
+    stop 70 "the program has to be built, and the toolchain's rt is not on the path: README.md says whence it comes"
 }
 
 # makes the folder $room, which goes when the launcher ends, and takes the running command $making along
@@ -59,7 +59,8 @@ tell_progress() {
 # what it proved.
 build() {
   want_toolchain
-  echo "abt: proving and building the program, once: some twenty minutes on four processors; --unproved before the words answers within two minutes, without a proof" >&2
+  echo "abt: proving and building the program, once: some twenty minutes on four processors" >&2
+  echo "abt: --unproved before the words answers within two minutes, without a proof" >&2
   make_room
   copy_crates
   local names=$(crates) count all seen=-1 now next=0
@@ -99,10 +100,11 @@ unproved_program() {
 # reads a pipe, and so waits; meanwhile the program is the one executable file below its folder for temporary files.
 keep_unproved() {
   want_toolchain
-  echo "abt: making the program of the sources, once, without a proof: half a minute on a machine that does nothing else, two on a busy one" >&2
+  echo "abt: making the program of the sources, once, without a proof: half a minute, or two on a busy machine" >&2
   make_room
   mkfifo "$room/model"
-  (cd "$here/crates/abt_main" && TMPDIR=$room exec rt try --seconds 60 -- bound "$room/model") </dev/null >"$room/log" 2>&1 &
+  (cd "$here/crates/abt_main" && TMPDIR=$room exec rt try --seconds 60 -- bound "$room/model") \
+    </dev/null >"$room/log" 2>&1 &
   making=$!
   (exec 3>"$room/model" && find "$room" -type f -perm -u+x -exec cp {} "$room/kept" \;) &
   local copying=$!
@@ -113,6 +115,7 @@ keep_unproved() {
     tail -n 20 "$room/log" >&2
     stop 70 "the trial run of the sources made no program"
   fi
-  mkdir -p "${1%/*}" && rm -f "${1%/*}"/unproved-* && chmod 755 "$room/kept" && mv "$room/kept" "$1" || stop 70 "no program could be kept in ${1%/*}"
+  mkdir -p "${1%/*}" && rm -f "${1%/*}"/unproved-* && chmod 755 "$room/kept" && mv "$room/kept" "$1" ||
+    stop 70 "no program could be kept in ${1%/*}"
   leave_room
 }

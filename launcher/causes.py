@@ -15,7 +15,12 @@ from texts import quoted
 # The content that a refusal speaks of, by the word that it begins with.
 CONTENTS = {"model": "model", "cnf": "formula", "log": "log", "schedule": "schedule", "proof": "proof"}
 # The line of words that reads such a content.
-READERS = {"model": "abt solve MODEL LOG", "formula": "abt cnf CNF PROOF", "log": "abt check MODEL LOG", "schedule": "abt replay MODEL SCHEDULE LOG"}
+READERS = {
+    "model": "abt solve MODEL LOG",
+    "formula": "abt cnf CNF PROOF",
+    "log": "abt check MODEL LOG",
+    "schedule": "abt replay MODEL SCHEDULE LOG",
+}
 
 
 def help_after(rows, status, said, words):
@@ -220,7 +225,8 @@ def unwritable(tells, name):
         return f"{tells}: the disk is full: free some room, or write it elsewhere; what was written is a first part"
     limit = resource.getrlimit(resource.RLIMIT_FSIZE)[0]
     if is_there and limit != resource.RLIM_INFINITY and os.path.getsize(name) >= limit // 2:
-        return f"{tells}: the limit on the size of files is {limit} bytes: ulimit -f unlimited; what was written is a first part"
+        part = "what was written is a first part"
+        return f"{tells}: the limit on the size of files is {limit} bytes: ulimit -f unlimited; {part}"
     return None
 
 
@@ -257,7 +263,7 @@ def help_rejected(line):
     aim = texts.aim(texts.read_again(model) or b"")
     if aim and not bound:
         return [
-            f"{quoted(model)} asks for the {aim[0]} {aim[1]}, and the log of solve then refutes better values alone. It is checked so:",
+            f"{quoted(model)} asks for the {aim[0]} {aim[1]}, and the log of solve then refutes better values alone:",
             f"  abt check {quoted(model)} {quoted(log)} --better N    (N is the value of {aim[1]} that solve printed)",
         ]
     told = [f"the log does not show that {quoted(model)} has no {'better value than ' + bound[0] if bound else 'solution'}"]
@@ -266,7 +272,8 @@ def help_rejected(line):
         return [*told, "its last step is no empty nogood: it is the log of a run that found a solution, or was stopped"]
     if bound and aim:
         return [*told, f"N is the value of {aim[1]} that solve printed before `==========`, and the log is that run's"]
-    return [*told, "a log speaks of one model: it is checked with the very file that was solved", "step K stands on the line of the log that begins with K"]
+    told.append("a log speaks of one model: it is checked with the very file that was solved")
+    return [*told, "step K stands on the line of the log that begins with K"]
 
 
 def help_used_up(line):

@@ -12,6 +12,8 @@ Place = namedtuple("Place", "sort shown rest")
 Row = namedtuple("Row", "keyword places options")
 # Words that are a line: its row, and each place that has a word, with that word.
 Line = namedtuple("Line", "row given")
+# A file's name for each content.
+EXAMPLES = {"model": "model.fzn", "log": "out.ngd", "schedule": "out.sch", "formula": "formula.cnf", "proof": "out.rup"}
 
 
 def read_rows(name):
@@ -67,7 +69,7 @@ def example(place):
     """Returns a word that can stand in a place."""
     if place.sort != "file":
         return place.rest[0]
-    return {"model": "model.fzn", "log": "out.ngd", "schedule": "out.sch", "formula": "formula.cnf", "proof": "out.rup"}.get(place.rest[0], "out")
+    return EXAMPLES.get(place.rest[0], "out")
 
 
 def places_of(row):
@@ -89,7 +91,8 @@ def find_line(rows, words):
     for row in rows:
         if row.keyword == words[: len(row.keyword)] and not wrong_with(row, words):
             names, chosen = split_words(row, words[len(row.keyword) :])
-            return Line(row, [*zip(row.places, names), *((row.options[it], value) for it, value in chosen if value is not None)])
+            behind = [(row.options[it], value) for it, value in chosen if value is not None]
+            return Line(row, [*zip(row.places, names), *behind])
     return None
 
 
@@ -203,9 +206,9 @@ def wrong_name(place, word):
     if not word:
         return f"{place.shown} is empty: {meaning(place)}"
     if word == "-":
-        return f"- stands for standard input only in the place of the model or formula; for {place.shown} write /dev/stdin or /dev/stdout"
+        return f"- is standard input in the place of a model or formula alone; for {place.shown} write /dev/stdin or /dev/stdout"
     if word.startswith("-"):
-        return f"{place.shown} begins with -, as options do: {meaning(place)}; a file with such a name is written ./{texts.shown(word)}"
+        return f"{place.shown} begins with -, as options do; a file with such a name is written ./{texts.shown(word)}"
     return None
 
 
@@ -214,7 +217,8 @@ def wrong_names(files):
     for at, (place, name) in enumerate(files):
         for earlier, other in files[:at]:
             if name == other:
-                return f"{earlier.shown} and {place.shown} are both {texts.quoted(name)}: each file of a line has a name of its own"
+                both = f"{earlier.shown} and {place.shown} are both {texts.quoted(name)}"
+                return f"{both}: each file of a line has a name of its own"
     return None
 
 
@@ -257,19 +261,23 @@ def overview(rows):
 
 def unknown(rows, words):
     """Returns what may have been meant by words whose first one begins no line."""
-    word = words[0]
-    keywords = sorted({it.keyword[0] for it in rows})
-    near = difflib.get_close_matches(word, keywords, 1) or [it for it in keywords if it.strip("-") == word.strip("-").lower()]
-    if word in ("-v", "-V"):
-        near = ["--version"]
+    told = f"no line begins with {texts.quoted(words[0])}"
+    near = nearest(rows, words[0])
     if near:
-        found = [it for it in rows if it.keyword[0] == near[0]]
-        typed = " ".join(texts.quoted(it) for it in [near[0], *words[1:]])
-        again = [f"did you mean {near[0]}?"] if not find_line(rows, [near[0], *words[1:]]) else [f"did you mean: abt {typed}"]
-        return [f"no line begins with {texts.quoted(word)}: {again[0]}", *(f"usage: {usage(it)}" for it in found)]
-    if os.path.isfile(word) or word == "-":
-        return [f"a line begins with what is to be done: abt solve {texts.quoted(word)} out.ngd", *overview(rows)]
-    return [f"no line begins with {texts.quoted(word)}", *overview(rows)]
+        again = [near, *words[1:]]
+        meant = f"abt {' '.join(map(texts.quoted, again))}" if find_line(rows, again) else f"{near}?"
+        return [f"{told}: did you mean {meant}", *(f"usage: {usage(it)}" for it in rows if it.keyword[0] == near)]
+    if os.path.isfile(words[0]) or words[0] == "-":
+        told = f"a line begins with what is to be done, as in: abt solve {texts.quoted(words[0])} out.ngd"
+    return [told, *overview(rows)]
+
+
+def nearest(rows, word):
+    """Returns the word that begins a line and is most like this one, or None."""
+    keywords = sorted({it.keyword[0] for it in rows})
+    same = [it for it in keywords if it.strip("-") == word.strip("-").lower()]
+    near = ["--version"] if word in ("-v", "-V") else same or difflib.get_close_matches(word, keywords, 1)
+    return near[0] if near else None
 
 
 def named_variables(row, words):

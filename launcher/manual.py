@@ -22,7 +22,8 @@ def page(rows, here, version):
         ".SH ENVIRONMENT",
         ".TP",
         r"\fBABT_HELP\fR",
-        "Where it is 1 the launcher explains refusals in lines of its own on standard error, as it does at a terminal; where it is 0 it never does.",
+        "Where it is 1 the launcher explains refusals in lines of its own on standard error, as it does at a terminal;",
+        "where it is 0 it never does.",
         ".SH SEE ALSO",
         "The documents beside the program, in lib/abt.",
     ]

@@ -98,14 +98,14 @@ row "-h" 2 "abt check MODEL LOG [--better N]" -h
 row "help" 2 "abt bound MODEL" help
 row "solve --help" 2 "usage: abt solve MODEL LOG [--seed N] [--record FILE] [--trace]
 LOG is the file that a log is written to" solve --help
-row "version" 2 "did you mean: abt --version" version
+row "version" 2 "did you mean abt --version" version
 row "a log is forgotten" 2 "LOG is missing, as in: abt solve m out.ngd" solve m
 row "--seed=7" 2 "--seed=7 is written with a blank: --seed 7" solve m l --seed=7
 row "options first" 2 "options follow the names: abt solve m l --seed 7" solve --seed 7 m l
 row "--seed without a number" 2 "--seed wants a word after it: N is a number from 0 to 2^64 - 1" solve m l --seed
 row "--seed -1" 2 "N is a number from 0 to 2^64 - 1, in digits; -1 is none" solve m l --seed -1
 row "--trace twice" 2 "--trace is given twice" solve m l --trace --trace
-row "slove" 2 "did you mean: abt solve m l" slove m l
+row "slove" 2 "did you mean abt solve m l" slove m l
 row "equal names" 2 "MODEL and LOG are both m: each file of a line has a name of its own" solve m m
 row "solve - without a log" 2 "LOG is missing, as in: abt solve /dev/stdin out.ngd" solve -
 row "starve m 0 1" 2 "FILE is missing
@@ -119,7 +119,9 @@ row "gen queens 500" 2 "N is a number from 1 to 200; 500 is out of range" gen qu
 row "gen" 2 "the word after gen is queens or colouring" gen
 row "an unknown option" 2 "solve has no option --sed: did you mean --seed?" solve m l --sed 7
 row "a word too many" 2 "b is one word too many" solve m l b
-row "a model alone" 2 "a line begins with what is to be done: abt solve m out.ngd" m
+row "a model alone" 2 "a line begins with what is to be done, as in: abt solve m out.ngd" m
+row "an empty log's name" 2 "LOG is empty: LOG is the file that a log is written to" solve m ''
+row "- as log" 2 "- is standard input in the place of a model or formula alone" solve m -
 row "leading zeros" 2 "007 is not so written" solve m l --seed 007
 row "an empty name" 2 "MODEL is empty" solve '' l
 row "a name like an option" 2 "solve has no option -x: it has --seed, --record, --trace" solve m -x
@@ -228,7 +230,7 @@ for words in "solve m l" "check m1.fzn m1.ngd" "solve m1.fzn l" "--help" "--vers
 done
 got=0
 ABT_HELP=1 "$abt" slove m l > out 2> err || got=$?
-judge "ABT_HELP=1 without a terminal" 2 "did you mean: abt solve m l"
+judge "ABT_HELP=1 without a terminal" 2 "did you mean abt solve m l"
 ABT_HELP=0 at_terminal "$abt" slove m l > out 2> err
 tell "ABT_HELP=0 at a terminal" "$([ "$(cat err)" = "abt: bad words" ] && echo 1)"
 
@@ -407,8 +409,28 @@ touch "$room/clone/crates/high" "$room/clone/crates/low/src/lib.rt"
 in_clone "$room/shut" bound m
 tell "a newer source of a crate below is seen" "$([ $? = 70 ] && echo 1)"
 
+rm -rf "$room/clone/out" "$room/clone/crates/abt_main/out"
+mkdir "$room/broken" && printf '#!/bin/sh\necho refused\nexit 1\n' > "$room/broken/rt" && chmod +x "$room/broken/rt"
+in_clone "$room/broken" bound m
+tell "a build that fails" "$([ $? = 70 ] && grep -q refused err && grep -q 'the build failed' err && echo 1)"
+in_clone "$room/broken" --unproved bound m
+tell "a trial run that fails" "$([ $? = 70 ] && grep -q refused err && grep -q 'made no program' err && echo 1)"
+mkdir "$room/slow" && printf '#!/bin/sh\npwd > "$CALLED"\nexec sleep 97.31\n' > "$room/slow/rt" && chmod +x "$room/slow/rt"
+for words in "bound m" "--unproved bound m"; do
+    # shellcheck disable=SC2086
+    PATH=$room/slow:/usr/bin:/bin "$clone" $words > out 2> err &
+    sleep 1.5
+    kill $! && wait $!
+    tell "a build that is ended: $words" "$([ $? = 70 ] && ! pgrep -f "^sleep 97.31$" > /dev/null && echo 1)"
+done
+mkdir "$room/few"
+for tool in bash env awk sed grep find xargs sort sha256sum readlink dirname cat; do ln -s "$(command -v $tool)" "$room/few"; done
+got=0
+env PATH="$room/few" "$(python3 -c 'import sys; print(sys.executable)')" "$room/terminal.py" "$abt" solve m > out 2> err || got=$?
+tell "without python3 nothing is added" "$([ $got = 2 ] && [ "$(cat err)" = "abt: bad words" ] && echo 1)"
+
 echo "== installed, and packed"
-touch "$room/clone/crates/abt_main/out/abt_main"
+in_clone "$room/bin" bound m
 cp -r "$repository"/{README.md,docs,examples,minizinc} "$room/clone"
 prefix="$room/a place/with \"quotes\""
 mkdir -p "$prefix"
