@@ -109,8 +109,8 @@ keep_unproved() {
   (exec 3>"$room/model" && find "$room" -type f -perm -u+x -exec cp {} "$room/kept" \;) &
   local copying=$!
   wait "$making"
-  kill "$copying" 2>/dev/null
-  wait "$copying" 2>/dev/null
+  # a trial that ended before it read leaves the pipe to be opened here
+  wait "$copying" 4<>"$room/model"
   if [ ! -x "$room/kept" ]; then
     tail -n 20 "$room/log" >&2
     stop 70 "the trial run of the sources made no program"

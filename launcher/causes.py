@@ -72,7 +72,7 @@ def help_refused(line, words, said):
     if " line " in refusal:
         return help_line(line, words, found[0], int(number[0]), what, helps)
     data = texts.read_again(name)
-    other = other_kind(line, words, found[0], data)
+    other = other_kind(line, words, found[0], data) or minizinc(name, data, refusal)
     if data is None or not number:
         told = [f"{quoted(name)}: {what}"]
         return [*told, *(other or [helps]), *(unreadable(name) if data is None else [])]
@@ -110,8 +110,6 @@ def other_kind(line, words, given, data):
     if not data:
         return [f"{quoted(name)} is empty"]
     kind = texts.kind(data)
-    if content == "model" and kind in (None, "model") and texts.is_minizinc(name, data):
-        return [f"{quoted(name)} is a model in MiniZinc, and FlatZinc is read here. This writes it:", *flatten(name)]
     if kind in (None, content):
         return None
     told = f"{quoted(name)} is a {kind}, and {place.shown} is to be a {content}"
@@ -119,6 +117,14 @@ def other_kind(line, words, given, data):
     if swapped:
         return [told, f"the names are swapped: abt {' '.join(quoted(exchanged(it, name, swapped[0])) for it in words)}"]
     return [told, *([f"it is read by: {READERS[kind]}"] if kind in READERS else [])]
+
+
+def minizinc(name, data, refusal):
+    """Returns what is told of a model in MiniZinc, by its name or by what FlatZinc has no words for, or None."""
+    unread = refusal.startswith(("model: bad byte", "model: syntax"))
+    if name.endswith((".mzn", ".dzn")) or (data and unread and texts.is_minizinc(data)):
+        return [f"{quoted(name)} is a model in MiniZinc, and FlatZinc is read here. This writes it:", *flatten(name)]
+    return None
 
 
 def flatten(name):

@@ -162,12 +162,9 @@ def kind(data):
     return None
 
 
-def is_minizinc(name, data):
-    """Whether a text is a model in MiniZinc, by its name or by what FlatZinc lacks."""
-    if name.endswith((".mzn", ".dzn")):
-        return True
-    bare = re.sub(rb"%[^\n]*", b"", data[: PIECE])
-    return bool(re.search(MINIZINC, bare))
+def is_minizinc(data):
+    """Whether a text has words or signs that models in MiniZinc have, and FlatZinc has not."""
+    return bool(re.search(MINIZINC, re.sub(rb"%[^\n]*", b"", data[:PIECE])))
 
 
 def variables(data):

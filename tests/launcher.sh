@@ -152,6 +152,9 @@ echo "== refused models"
 row "a model in MiniZinc" 3 "meeting.mzn:10:22: 
 meeting.mzn is a model in MiniZinc, and FlatZinc is read here
 minizinc -c -G std meeting.mzn    (to meeting.fzn)" solve meeting.mzn l
+printf 'include "globals.mzn";\nvar 0..1: x;\nsolve satisfy;\n' > unnamed
+row "a model in MiniZinc by another name" 3 "unnamed:1:1: 
+unnamed is a model in MiniZinc" solve unnamed l
 row "model and log are swapped" 3 "m1.ngd is a log, and MODEL is to be a model
 the names are swapped: abt check m1.fzn m1.ngd" check m1.ngd m1.fzn
 # refused WHAT TELLS TEXT: the model of this text is refused.
