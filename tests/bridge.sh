@@ -3,6 +3,7 @@
 # stub stands in the program's place, which tells how it was called, and answers what a row says.
 set -u
 bridge=$(cd "$(dirname "$0")/../minizinc" && pwd)/abt-fzn
+top=$(dirname "$bridge")/..
 room=$(mktemp -d)
 trap 'rm -rf "$room"' EXIT
 cd "$room" || exit 70
@@ -59,9 +60,14 @@ row 'statistics' 0 "$solved$took" '' 0 \
   "$solved%%%mzn-stat: deliveries=9\n%%%mzn-stat: steps=2\n%%%mzn-stat: agents=2\n%%%mzn-stat: bound=\"6\"\n%%%mzn-stat-end\n" '' -s m.fzn
 row 'more is said' 0 "$solved$took" '' 0 "$solved" 'abt-fzn: ./stub solve m.fzn /dev/null --seed 0\n' -v m.fzn
 said='abt: model: unbounded at 26\n'
-row 'a refused model' 3 '' "$said" 3 '' "${said}abt-fzn: this line: var int: y;\n" m.fzn
-row 'a place within a line' 3 '' 'abt: model: ill-typed at 36\n' 3 '' 'abt: model: ill-typed at 36\nabt-fzn: this line: var int: y;\n' m.fzn
-row 'no place' 3 '' 'abt: model: no solve item\n' 3 '' 'abt: model: no solve item\n' m.fzn
+# helps REFUSAL: what the table of refusals says of it.
+helps() { sed -n "s/^$1 | \(.*\) | \(.*\)/abt-fzn: \1\\\\nabt-fzn: \2\\\\n/p" "$top/launcher/refusals.txt"; }
+row 'a refused model' 3 '' "$said" 3 '' "${said}abt-fzn: this line: var int: y;\n$(helps 'model: unbounded at N')" m.fzn
+row 'a place within a line' 3 '' 'abt: model: ill-typed at 36\n' 3 '' \
+  "abt: model: ill-typed at 36\nabt-fzn: this line: var int: y;\n$(helps 'model: ill-typed at N')" m.fzn
+row 'a limit' 3 '' 'abt: model: limit domain-size 65537 at 0\n' 3 '' \
+  "abt: model: limit domain-size 65537 at 0\nabt-fzn: this line: var 1..2: x:: output_var;\n$(helps 'model: limit domain-size N at N')" m.fzn
+row 'no place' 3 '' 'abt: model: no solve item\n' 3 '' "abt: model: no solve item\n$(helps 'model: no solve item')" m.fzn
 row 'a fault' 6 '' 'abt: fault\n' 6 '' 'abt: fault\n' m.fzn
 row 'no memory' 7 '' 'abt: memory\n' 7 '' 'abt: memory\n' m.fzn
 row 'bad words' 2 '' 'abt: bad words\n' 2 '' 'abt: bad words\nabt-fzn: the program refused the words solve m.fzn -l --seed 0\n' --abt-log -l m.fzn
@@ -70,7 +76,6 @@ row 'an unknown flag' 0 '' '' 2 '' 'abt-fzn: there is no flag -t\n' -t 1000 m.fz
 row 'a flag without its word' 0 '' '' 2 '' 'abt-fzn: -r asks for a word after it\n' m.fzn -r
 row 'no model' 0 '' '' 2 '' 'abt-fzn: no model\n' -s
 
-top=$(dirname "$bridge")/..
 version=$(sed -n 's/^pub const VERSION.*"abt \([0-9.]*\)\\n.*/\1/p' "$top/crates/abt_command/src/plain.rt")
 grep -q "\"version\": \"$version\"" "$top/minizinc/abt.msc" || {
   echo "FAILED  the configuration has another version than the program, $version"
