@@ -1,0 +1,98 @@
+// ---- The table of agents: values, views, nogoods
+
+const MOST_CHIPS = 24, MOST_PAIRS = 40;
+const agentRows = [];
+
+function buildAgents() {
+  for (const agent of order) {
+    const name = element('button', { class: 'name-button', onclick: () => choose(settings.agent === agent ? null : agent) });
+    const cells = [element('td'), element('td'), element('td')];
+    const row = element('tr', {}, element('th', { scope: 'row' }, name), ...cells);
+    agentRows[agent] = { row, name, cells, drawn: null, look: '' };
+    byId('agent-rows').append(row);
+    byId('filter').append(element('option', { value: String(agent) }));
+  }
+}
+
+/* The names, which change where numbers are asked for. */
+function nameAgents() {
+  const options = byId('filter').options;
+  order.forEach((agent, place) => {
+    agentRows[agent].name.textContent = nameOf(agent);
+    agentRows[agent].name.title = page.variables[agent].name;
+    agentRows[agent].drawn = null;
+    options[place + 1].textContent = nameOf(agent, 40);
+  });
+}
+
+function drawAgents(state, event) {
+  for (const agent of order) {
+    const drawn = agentRows[agent], part = state.agents[agent];
+    const look = [event.receiver === agent ? 'now' : '', settings.agent === agent ? 'chosen' : ''].join(' ').trim();
+    if (drawn.look !== look) drawn.row.className = drawn.look = look;
+    if (drawn.drawn === part) continue;
+    drawn.drawn = part;
+    drawn.cells[0].replaceChildren(...valueChips(agent, part));
+    drawn.cells[1].replaceChildren(...viewPairs(part).map(pairChip), ...rest(part.view.size - MOST_PAIRS));
+    drawn.cells[2].replaceChildren(...part.kept.slice(0, MOST_PAIRS).map(nogoodSign), ...rest(part.kept.length - MOST_PAIRS));
+  }
+  drawChosen(state);
+}
+
+function rest(count) {
+  return count > 0 ? [element('span', { class: 'sub' }, `and ${grouped(count)} more`)] : [];
+}
+
+/* The pairs of the view in the order of the agents. */
+function viewPairs(part) {
+  return [...part.view].map(([of, value]) => ({ of, value })).sort((a, b) => placeOf[a.of] - placeOf[b.of]).slice(0, MOST_PAIRS);
+}
+
+function nogoodSign(step) {
+  return element('span', { class: 'pair nogood-number', title: nogoodText(log.step(step).nogood) }, 'n' + step);
+}
+
+/* The values of the domain; of a large one, its own value and those that are ruled out. */
+function valueChips(agent, part) {
+  const reasons = reasonsOf(part), size = domainSize(agent), large = size > MOST_CHIPS;
+  let values = large ? [...reasons.keys()] : domainOf(agent);
+  if (large && part.value !== null && !reasons.has(part.value)) values = [part.value, ...values];
+  const chips = values.slice(0, MOST_CHIPS).map(value => valueChip(agent, part, value, reasons.get(value)));
+  if (large) chips.push(element('span', { class: 'sub' }, `${grouped(reasons.size)} of ${grouped(size)} ruled out`));
+  if (part.waits) chips.push(element('span', { class: 'waiting' }, ' waits'));
+  return chips;
+}
+
+function valueChip(agent, part, value, reason) {
+  const own = value === part.value, made = chip(agent, value, own ? 'current' : reason ? 'out' : 'free');
+  if (reason) {
+    made.append(element('span', { class: 'why' }, reason));
+    if (own) made.classList.add('fallen');
+    made.title = `ruled out by ${reason}: ${reasonText(reason)}`;
+  } else made.title = own ? 'its value' : 'free';
+  return made;
+}
+
+// -- the chosen agent, with all in words
+
+function drawChosen(state) {
+  const agent = settings.agent, box = byId('chosen');
+  if (agent === null) return box.replaceChildren();
+  const part = state.agents[agent], { name, label } = page.variables[agent];
+  const lines = [...reasonsOf(part)].slice(0, 100)
+    .map(([value, reason]) => `${valueText(agent, value)} is ruled out by ${reason}: ${reasonText(reason)}`);
+  const listOf = words => words.length ? element('ul', {}, ...words.map(line => element('li', {}, line))) : '';
+  const own = part.value === null ? 'no value' : valueText(agent, part.value);
+  box.replaceChildren(
+    element('h3', {}, `${label}, agent ${numberOf(agent)}` + (name === label ? '' : `, ${shorten(name, 72)} in the FlatZinc`)),
+    element('span', {}, `It has ${own}${part.waits ? ' and waits' : ''}. Its domain is ${domainText(agent)}.`),
+    listOf(lines), element('span', {}, part.kept.length ? 'It keeps:' : 'It keeps no nogood.'),
+    listOf(part.kept.slice(0, 100).map(step => `n${step}: ${nogoodText(log.step(step).nogood)}`)));
+}
+
+function domainText(agent) {
+  const { bool, ranges } = page.variables[agent];
+  if (bool) return 'false, true';
+  const parts = ranges.slice(0, 12).map(([low, high]) => low === high ? low : `${low}..${high}`);
+  return (parts.join(', ') || 'empty').replaceAll('-', MINUS) + (ranges.length > 12 ? ', …' : '');
+}

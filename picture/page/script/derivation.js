@@ -1,0 +1,167 @@
+// ---- Derivations as trees, whose parts are made when they are unfolded
+
+const MOST_UNFOLDED = 2000, MOST_LISTED = 200;
+
+/* A tree in the given section. `steps` has the steps of a log; `place` tells the event that made a step, or null;
+   `domain` tells the values of an agent. */
+class Tree {
+  constructor(section, steps, prefix, place, domain) {
+    Object.assign(this, { section, steps, prefix, place, domain });
+    this.box = section.querySelector('.tree');
+    this.parents = new Map();      // of each step the one under which it is shown whole, and null at the top
+    section.querySelector('.unfold').onclick = () => this.unfoldAll();
+    section.querySelector('.fold').onclick = () => this.box.querySelectorAll('details').forEach(part => { part.open = false; });
+    section.querySelector('.save').onclick = () => saveTree(this);
+  }
+
+  /* Shows what the step stands on, and tells how many steps these are. A step is shown whole where it comes first. */
+  showProof(root) {
+    const waiting = [[root, null]];
+    while (waiting.length) {
+      const [number, parent] = waiting.pop();
+      if (this.parents.has(number)) continue;
+      this.parents.set(number, parent);
+      const cited = [...new Set(this.steps.step(number).reasons)].filter(reason => reason[0] === 'n');
+      for (const reason of cited.reverse()) waiting.push([Number(reason.slice(1)), number]);
+    }
+    this.box.append(this.part(root, null));
+    this.unfold(this.partOf(root));
+    if (this.steps.step(root).reasons.length <= 6) this.partOf(root).querySelectorAll(':scope > details').forEach(part => this.unfold(part));
+    return this.parents.size;
+  }
+
+  /* Shows all steps in their order, as far as they are not too many. */
+  showList() {
+    for (let number = 1; number <= this.steps.count; number += 1) this.parents.set(number, null);
+    this.listMore();
+  }
+
+  listMore() {
+    const begun = this.box.childElementCount;
+    const end = Math.min(this.steps.count, begun + MOST_LISTED);
+    for (let number = begun + 1; number <= end; number += 1) this.box.append(this.part(number, null));
+    if (end === this.steps.count) return;
+    const more = element('button', { class: 'small no-print', onclick: () => { more.remove(); this.listMore(); } },
+      `Show more of the ${grouped(this.steps.count)} nogoods`);
+    this.box.append(more);
+  }
+
+  id(number) {
+    return `${this.prefix}${number}`;
+  }
+
+  partOf(number) {
+    return byId(this.id(number));
+  }
+
+  /* The step as it is shown under `parent`, after what stands `before` it. */
+  part(number, parent, before = []) {
+    const step = this.steps.step(number);
+    const words = [...before, element('span', { class: 'nogood-number' }, 'n' + number), ' ', ...nogoodParts(step.nogood)];
+    if (this.parents.get(number) !== parent) {
+      const link = element('a', { href: '#' + this.id(number), onclick: pressed => { pressed.preventDefault(); this.reveal(number); } }, 'shown elsewhere');
+      return element('div', { class: 'case' }, ...words, ' ', link);
+    }
+    const summary = element('summary', {}, ...words);
+    if (step.maker !== null) summary.append(element('span', { class: 'sub' }, ' by ' + nameOf(step.maker)));
+    const place = this.place(number);
+    if (place !== null) {
+      const show = pressed => { pressed.preventDefault(); go(place, true); };
+      summary.append(element('button', { class: 'at', title: 'Show where it was derived', onclick: show }, place ? 'delivery ' + place : 'start'));
+    }
+    const part = element('details', { id: this.id(number) }, summary);
+    part.addEventListener('toggle', () => part.open && this.fill(part, step));
+    part.step = step;
+    return part;
+  }
+
+  /* Makes what stands below a step: for each value of its agent the reason, values of one reason together. */
+  fill(part, step) {
+    if (part.filled) return;
+    part.filled = true;
+    if (step.maker === null) {
+      part.append(element('div', { class: 'case' }, element('span', { class: 'nogood-number' }, step.reasons[0]), ' ', reasonText(step.reasons[0]), ' is false'));
+      return;
+    }
+    const groups = new Map(), values = this.domain(step.maker);
+    step.reasons.forEach((reason, place) => groups.set(reason, [...(groups.get(reason) || []), values[place]]));
+    for (const [reason, ruledOut] of groups) {
+      const chips = ruledOut.slice(0, MOST_CHIPS).map(value => chip(step.maker, value, 'current'));
+      const before = [nameOf(step.maker), ' = ', ...chips, ...rest(ruledOut.length - MOST_CHIPS), ' ✗ '];
+      part.append(reason[0] === 'n' ? this.part(Number(reason.slice(1)), step.number, before)
+        : element('div', { class: 'case' }, ...before, element('span', { class: 'nogood-number' }, reason), ' ', element('span', { class: 'reason' }, reasonText(reason))));
+    }
+  }
+
+  unfold(part) {
+    this.fill(part, part.step);
+    part.open = true;
+  }
+
+  /* Unfolds all parts, as far as they are not too many. */
+  unfoldAll() {
+    const waiting = [...this.box.querySelectorAll(':scope > details')].reverse();
+    for (let count = 0; waiting.length && count < MOST_UNFOLDED; count += 1) {
+      const part = waiting.pop();
+      this.unfold(part);
+      waiting.push(...[...part.querySelectorAll(':scope > details')].reverse());
+    }
+  }
+
+  /* Unfolds what leads to a step, and moves to it. */
+  reveal(number) {
+    const path = [];
+    for (let at = number; at !== null && at !== undefined; at = this.parents.get(at)) path.unshift(at);
+    for (const at of path) if (this.partOf(at)) this.unfold(this.partOf(at));
+    const part = this.partOf(number);
+    if (!part) return;
+    part.scrollIntoView({ block: 'center', behavior: stillness.matches ? 'auto' : 'smooth' });
+    const summary = part.firstChild;
+    summary.focus({ preventScroll: true });
+    summary.classList.remove('flash');
+    summary.getBoundingClientRect();
+    summary.classList.add('flash');
+  }
+}
+
+const trees = [];
+
+function buildDerivation() {
+  const section = byId('derivation'), hint = byId('derivation-hint'), title = byId('derivation-title');
+  const tree = new Tree(section, log, 'n', number => story.madeAt[number], domainOf);
+  trees.push(tree);
+  if (story.verdict === 'refuted') {
+    title.textContent = 'Why there is no solution';
+    const needed = tree.showProof(log.count);
+    hint.textContent = `The empty nogood, and what each value of its agent fell to. It needs ${grouped(needed)} of the ${grouped(log.count)} nogoods derived.`;
+    return;
+  }
+  title.textContent = 'What was derived';
+  hint.textContent = log.count
+    ? `${counted(log.count, 'nogood')}, in order. Each follows from the constraints, whatever the agents’ values are.` : 'No nogood was needed.';
+  section.querySelector('.tools').hidden = log.count === 0;
+  tree.showList();
+}
+
+/* The refutation of better values, from the last round of a search. */
+function buildLastRound() {
+  const text = textOf('last-log');
+  if (text === null) return;
+  byId('last-round').hidden = false;
+  const steps = readLog(text), aimed = page.aim.variable, better = page.aim.sense === 'minimize' ? 'less' : 'greater';
+  const domain = agent => agent === aimed && page.best !== null ? betterValues() : domainOf(agent);
+  const tree = new Tree(byId('last-round'), steps, 'last-n', () => null, domain);
+  trees.push(tree);
+  const needed = tree.showProof(steps.count);
+  byId('last-round-title').textContent = page.best === null ? 'Why there is no better value'
+    : `Why no value of ${nameOf(aimed)} is better than ${valueText(aimed, page.best)}`;
+  byId('last-round-hint').textContent = 'This is the last round of the search, another run than the one above: '
+    + (page.best === null ? `${nameOf(aimed)} had only better values left. ` : `${nameOf(aimed)} had only the values ${better} than ${valueText(aimed, page.best)} left. `)
+    + `Its empty nogood needs ${grouped(needed)} of its ${grouped(steps.count)} nogoods.`;
+}
+
+/* The values of the aim's variable that are better than the best value found. */
+function betterValues() {
+  const values = domainOf(page.aim.variable), place = values.indexOf(page.best);
+  return page.aim.sense === 'minimize' ? values.slice(0, place) : values.slice(place + 1);
+}

@@ -1,0 +1,243 @@
+// ---- The graph of agents, with the messages in transit
+
+const MOST_DOTS = 300, MOST_EDGES = 3000;
+const stillness = matchMedia('(prefers-reduced-motion: reduce)');
+
+/* Agents stand in the order of their priorities: `order[place]` is the agent, `placeOf[agent]` its place. */
+const order = page.order;
+const placeOf = new Int32Array(agentCount);
+order.forEach((agent, place) => { placeOf[agent] = place; });
+
+const graph = (() => {
+  const width = 540, height = agentCount === 2 ? 210 : agentCount > 12 ? 500 : 420;
+  const named = agentCount <= 12 ? 'beside' : agentCount <= 40 ? 'radial' : 'none';
+  const margin = { beside: 62, radial: 106, none: 16 }[named];
+  const rim = Math.PI * (width + height - 4 * margin) / 2;
+  const radius = agentCount <= 8 ? 29 : clamp(rim / agentCount / 2.5, 1.5, agentCount <= 12 ? 22 : 16);
+  const across = width / 2 - radius - margin, up = height / 2 - radius - (named === 'beside' ? 30 : margin - 14);
+  const placed = order.map((agent, place) => {
+    if (agentCount === 1) return { x: width / 2, y: height / 2, angle: 0 };
+    if (agentCount === 2) return { x: width * (.24 + .52 * place), y: height / 2, angle: Math.PI / 2 };
+    const angle = -Math.PI / 2 + 2 * Math.PI * place / agentCount;
+    return { x: width / 2 + across * Math.cos(angle), y: height / 2 + up * Math.sin(angle), angle };
+  });
+  const spots = placeOf.length ? Array.from(placeOf, place => placed[place]) : [];
+  return { width, height, radius, named, spots, nodes: [], edges: new Map(), dots: new Map(), layers: {} };
+})();
+
+/* Where the bent line from one agent to another bends to. */
+function bendOf(from, to) {
+  const a = graph.spots[from], b = graph.spots[to], length = Math.hypot(b.x - a.x, b.y - a.y) || 1;
+  const bend = Math.min(26, length * .12);
+  return { x: (a.x + b.x) / 2 - (b.y - a.y) / length * bend, y: (a.y + b.y) / 2 + (b.x - a.x) / length * bend, length };
+}
+
+/* The point at this share of the way from one agent to another. */
+function pointBetween(from, to, share) {
+  const a = graph.spots[from], b = graph.spots[to], bend = bendOf(from, to), near = graph.radius / bend.length;
+  const at = near + share * (1 - 2.3 * near), left = 1 - at;
+  return {
+    x: left * left * a.x + 2 * left * at * bend.x + at * at * b.x,
+    y: left * left * a.y + 2 * left * at * bend.y + at * at * b.y,
+  };
+}
+
+function buildGraph() {
+  const { layers } = graph;
+  for (const layer of ['edges', 'nodes', 'dots']) layers[layer] = shape('g');
+  buildEdges();
+  for (const agent of order) graph.nodes[agent] = buildNode(agent);
+  for (const agent of order) layers.nodes.append(graph.nodes[agent].group);
+  const look = 'drawing' + (agentCount > 14 ? ' many' : '');
+  byId('graph').append(shape('svg', { viewBox: `0 0 ${graph.width} ${graph.height}`, class: look, 'aria-hidden': 'true' },
+    [layers.edges, layers.nodes, layers.dots]));
+}
+
+/* A line for each ordered pair of agents that some message goes over, shown from its first message on. */
+function buildEdges() {
+  for (const message of story.messages) {
+    const key = message.from + '>' + message.to;
+    if (graph.edges.has(key) || graph.edges.size >= MOST_EDGES) continue;
+    const a = graph.spots[message.from], b = graph.spots[message.to], bend = bendOf(message.from, message.to);
+    const added = story.linked.has(pairKey(message.from, message.to));
+    const path = shape('path', { d: `M${a.x},${a.y}Q${bend.x},${bend.y} ${b.x},${b.y}` });
+    graph.edges.set(key, { path, added, from: message.from, to: message.to, since: added ? message.sent : 0, look: null });
+    graph.layers.edges.append(path);
+  }
+}
+
+function buildNode(agent) {
+  const { radius } = graph, spot = graph.spots[agent];
+  const value = shape('text', { class: 'value', 'font-size': radius > 20 ? 16 : radius > 12 ? 12 : 9 });
+  const body = shape('circle', { class: 'body', r: radius });
+  const kept = shape('text');
+  const badge = shape('g', { class: 'badge', transform: `translate(${radius * .78},${-radius * .78})` },
+    [shape('circle', { r: radius > 20 ? 9 : radius > 9 ? 7 : 3 }), kept]);
+  const name = shape('text', nameSpot(spot));
+  const title = shape('title');
+  const group = shape('g', { transform: `translate(${spot.x},${spot.y})` },
+    [shape('circle', { class: 'halo', r: radius + Math.min(5, radius / 3) }), body, value, badge, name, title]);
+  group.onclick = () => choose(settings.agent === agent ? null : agent);
+  return { group, value, body, badge, kept, name, title, drawn: null };
+}
+
+/* How the name of a node is put: beside it, or along the radius where there are many. */
+function nameSpot(spot) {
+  const { radius, height, width } = graph;
+  if (graph.named !== 'radial') return { class: 'name', y: spot.y >= height / 2 - 4 ? radius + 16 : -radius - 16 };
+  const turn = Math.atan2(spot.y - height / 2, spot.x - width / 2), left = Math.cos(turn) < -.001;
+  const away = radius + 10, degrees = turn * 180 / Math.PI + (left ? 180 : 0);
+  return { class: 'name radial' + (left ? ' left' : ''), x: left ? -away : away, transform: `rotate(${degrees})` };
+}
+
+/* The names, which change where numbers are asked for. */
+function nameNodes() {
+  for (let agent = 0; agent < agentCount; agent += 1) {
+    const { name, title } = graph.nodes[agent];
+    const label = page.variables[agent].label;
+    title.textContent = nameOf(agent);
+    if (graph.named === 'none') continue;
+    name.textContent = settings.numbers ? `${numberOf(agent)} ${shorten(label, graph.named === 'radial' ? 12 : 13)}`
+      : shorten(label, graph.named === 'radial' ? 16 : 19);
+  }
+}
+
+function drawGraph(state, event, jumped) {
+  const message = event.message;
+  for (let agent = 0; agent < agentCount; agent += 1) {
+    const look = 'node' + (state.agents[agent].waits ? ' waits' : '') + (message && message.to === agent ? ' now' : '')
+      + (settings.agent === agent ? ' chosen' : '');
+    drawNode(agent, state.agents[agent], look);
+  }
+  for (const [key, edge] of graph.edges) {
+    const now = message && key === message.from + '>' + message.to;
+    const look = 'edge' + (edge.added ? ' added' : '') + (edge.since > state.at ? ' unseen-yet' : '')
+      + (now ? ' now ' + message.kind : '') + (edge.from === settings.agent || edge.to === settings.agent ? ' mine' : '');
+    if (edge.look !== look) edge.path.setAttribute('class', edge.look = look);
+  }
+  drawDots(state, jumped);
+  byId('transit').textContent = state.transit.size
+    ? counted(state.transit.size, 'message') + ' in transit' + (state.transit.size > MOST_DOTS ? `, ${MOST_DOTS} of them drawn` : '')
+    : 'nothing in transit';
+  byId('graph').setAttribute('aria-label', graphLabel(state));
+}
+
+function drawNode(agent, part, look) {
+  const node = graph.nodes[agent];
+  if (node.look !== look) node.group.setAttribute('class', node.look = look);
+  if (node.drawn === part) return;
+  node.drawn = part;
+  node.body.style.fill = colourOf(agent, part.value);
+  node.value.style.fill = inkOn(agent, part.value);
+  node.value.textContent = part.value === null || graph.radius < 6 ? ''
+    : shorten(graph.radius > 20 ? valueText(agent, part.value) : shortValue(agent, part.value), 6);
+  node.badge.style.display = part.kept.length ? '' : 'none';
+  node.kept.textContent = graph.radius > 9 ? part.kept.length : '';
+}
+
+/* The messages in transit: on each line the first to be delivered is the nearest to its receiver. */
+function drawDots(state, jumped) {
+  const ranks = new Map(), spots = new Map();
+  for (const id of state.transit) {
+    if (spots.size === MOST_DOTS) break;
+    const message = story.messages[id], key = message.from + '>' + message.to, rank = ranks.get(key) || 0;
+    ranks.set(key, rank + 1);
+    const gap = Math.min(.2, 21 / bendOf(message.from, message.to).length);
+    const spot = pointBetween(message.from, message.to, Math.max(.1, .8 - gap * rank));
+    spots.set(id, { ...spot, opacity: rank > 5 ? 0 : 1 });
+  }
+  for (const [id, dot] of [...graph.dots]) {
+    if (spots.has(id)) continue;
+    removeDot(dot, story.messages[id], !jumped && story.messages[id].got === state.at);
+    graph.dots.delete(id);
+  }
+  for (const [id, spot] of spots) putDot(id, spot, !jumped && story.messages[id].sent === state.at);
+}
+
+function moveDot(dot, x, y, opacity) {
+  dot.style.transform = `translate(${x}px,${y}px)`;
+  dot.style.opacity = opacity;
+}
+
+function removeDot(dot, message, arrives) {
+  if (!arrives || stillness.matches) return dot.remove();
+  const spot = graph.spots[message.to];
+  moveDot(dot, spot.x, spot.y, 0);
+  setTimeout(() => dot.remove(), 420);
+}
+
+function putDot(id, spot, leaves) {
+  let dot = graph.dots.get(id);
+  if (!dot) {
+    const message = story.messages[id];
+    dot = buildDot(message);
+    graph.dots.set(id, dot);
+    graph.layers.dots.append(dot);
+    if (leaves && !stillness.matches) {
+      moveDot(dot, graph.spots[message.from].x, graph.spots[message.from].y, 0);
+      dot.getBoundingClientRect();
+    }
+  }
+  moveDot(dot, spot.x, spot.y, spot.opacity);
+}
+
+function buildDot(message) {
+  const text = shape('text');
+  let body;
+  if (message.kind === 'ok') {
+    text.textContent = shorten(shortValue(message.from, message.cargo), 7);
+    text.style.fill = inkOn(message.from, message.cargo);
+    const width = Math.max(17, 7 * text.textContent.length + 9);
+    body = shape('rect', { class: 'pill', x: -width / 2, y: -8.5, width, height: 17, rx: 8.5 });
+    body.style.fill = colourOf(message.from, message.cargo);
+  } else if (message.kind === 'nogood') {
+    text.textContent = 'n' + message.cargo;
+    const width = 7 * text.textContent.length + 10;
+    body = shape('rect', { class: 'pill', x: -width / 2, y: -8.5, width, height: 17, rx: 3 });
+    body.style.fill = 'var(--nogood)';
+    text.style.fill = 'var(--card)';
+  } else {
+    text.textContent = '+';
+    body = shape('circle', { class: 'pill', r: 8 });
+    body.style.fill = 'var(--link)';
+    text.style.fill = 'var(--card)';
+  }
+  return shape('g', { class: 'dot' }, [body, text]);
+}
+
+function graphLabel(state) {
+  if (agentCount > 30) return counted(agentCount, 'agent') + '; their values stand in the table of agents';
+  const values = order.map(agent => {
+    const part = state.agents[agent];
+    return nameOf(agent) + ' ' + (part.value === null ? 'no value' : valueText(agent, part.value)) + (part.waits ? ', waits' : '');
+  });
+  const transit = [...state.transit].slice(0, 30).map(id => {
+    const { kind, cargo, from, to } = story.messages[id];
+    const what = kind === 'ok' ? 'value ' + valueText(from, cargo) : kind === 'nogood' ? 'nogood n' + cargo : 'link request';
+    return `${what} from ${nameOf(from)} to ${nameOf(to)}`;
+  });
+  return `Values: ${values.join('; ')}. In transit: ${transit.join('; ') || 'nothing'}.`;
+}
+
+// -- the legend
+
+function buildLegend() {
+  const picture = (...kids) => shape('svg', { class: 'drawing', width: 52, height: 18, viewBox: '0 0 52 18', 'aria-hidden': 'true' }, kids);
+  const arrow = kind => picture(shape('path', { class: 'line ' + kind, d: 'M4,9H40' }), shape('path', { class: 'tip ' + kind, d: 'M39,5L48,9L39,13z' }));
+  const ring = (look, ...kids) => picture(shape('g', { class: look, transform: 'translate(26,9)' }, [shape('circle', { class: 'halo', r: 7 }), ...kids]));
+  const put = (sample, words) => byId('legend').append(element('div', {}, element('span', { class: 'sample' }, sample), element('span', {}, words)));
+  put(arrow('ok'), 'ok?: an agent tells its value');
+  put(arrow('nogood'), 'a nogood: values that cannot stand together, told to the lowest of the agents in it');
+  put(arrow('link'), 'a link request: an agent asks to be told the values of another');
+  put(picture(shape('rect', { x: 16, y: 1, width: 20, height: 16, rx: 8, fill: FEW[0] })), 'a message in transit or an agent’s value; each value has a colour of its own');
+  put(ring('now'), 'the agent that got the message of this delivery');
+  put(ring('waits'), 'the agent waits: it has sent a nogood, and its view has not changed since');
+  put(ring('node', shape('g', { class: 'badge' }, [shape('circle', { r: 8 }), Object.assign(shape('text'), { textContent: '2' })])), 'how many nogoods the agent keeps');
+  put(picture(shape('path', { class: 'diamond', d: 'M26,1l8,8l-8,8l-8,-8z' })), 'a nogood is derived here');
+  put(picture(shape('rect', { x: 21, y: 0, width: 10, height: 18, fill: FEW[1] }), shape('rect', { class: 'taking', x: 19, y: 8, width: 14, height: 2 })), 'in the chart, an agent’s value over time; the bar shows where it is taken');
+  put(picture(waitPattern('legend-waits'), shape('rect', { x: 21, y: 0, width: 10, height: 18, fill: FEW[1] }), shape('rect', { x: 21, y: 0, width: 10, height: 18, fill: 'url(#legend-waits)' })), 'hatched: the agent waits');
+  put(picture(shape('path', { class: 'chain', d: 'M4,9H48' })), 'the causal chain: each message was sent when the one before it was delivered, or later by the same agent');
+  put(element('span', { class: 'chip out' }, element('span', {}, '9'), element('span', { class: 'why' }, 'c2')), 'a value that is ruled out, with the reason: constraint c2 of the model, or nogood n2');
+  put('⟦x < y⟧', 'true or false: whether the constraint in the brackets holds; [x < y] is the same as 1 or 0');
+  put('¬ ∧ ∨ ⇔', 'not; and; or; exactly where');
+}

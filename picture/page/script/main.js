@@ -1,0 +1,57 @@
+// ---- The page as it opens
+
+const MOST_RULES = 1000;
+
+function showHead() {
+  const verdicts = { solved: '✓ solved', refuted: '✗ no solution', open: 'unfinished' };
+  byId('verdict').textContent = verdicts[story.verdict];
+  byId('verdict').classList.add(story.verdict);
+  byId('lead').textContent = `${counted(agentCount, 'agent')}, ${counted(page.rules.length, 'constraint')}` + searchWords();
+}
+
+/* Of a model with an aim: which round is shown, and how the search ended. */
+function searchWords() {
+  if (!page.aim) return '';
+  const { sense, variable } = page.aim;
+  if (variable === null) return '; the aim is a number, so any solution is best';
+  const words = `; this is round 1 of a search for the ${sense === 'minimize' ? 'least' : 'greatest'} ${nameOf(variable)}`;
+  return page.best === null ? words : `${words}, which is ${valueText(variable, page.best)}`;
+}
+
+function buildRules() {
+  byId('rules-count').textContent = grouped(page.rules.length);
+  whenOpened('rules-box', () => byId('rules').replaceChildren(...page.rules.slice(0, MOST_RULES).map((text, place) =>
+    element('li', {}, element('span', { class: 'nogood-number' }, 'c' + (place + 1)), ' ', text)), ...rest(page.rules.length - MOST_RULES)));
+}
+
+function changeTheme() {
+  const root = document.documentElement;
+  root.dataset.theme = getComputedStyle(root).colorScheme === 'dark' ? 'light' : 'dark';
+}
+
+function open() {
+  byId('app').hidden = false;
+  if (agentCount > 10) byId('grid').classList.add('many');
+  buildGraph();
+  buildLegend();
+  buildAgents();
+  nameNodes();
+  nameAgents();
+  buildChart();
+  buildDerivation();
+  buildLastRound();
+  buildFigures();
+  buildStrip();
+  buildRules();
+  showHead();
+  whenOpened('texts-box', buildTexts);
+  whenOpened('words-box', showWords);
+  byId('save-chart').onclick = saveChart;
+  byId('theme').onclick = changeTheme;
+  addEventListener('beforeprint', preparePrint);
+  listen();
+  go(addressed() ?? 0, true);
+  document.documentElement.dataset.opened = Math.round(performance.now());
+}
+
+open();
