@@ -39,13 +39,14 @@ def make_page(model, story, log, measures, title, order=None, last_log=None, bet
         best = None if last_log is None else best_value(read, story, last_log, better)
     except TextError as error:
         raise Refused(4, str(error)) from None
-    run = {'title': title, 'order': places, 'best': best and str(best[0]), **model_data(read)}
+    run = {'title': title, 'order': places, 'best': None if best is None else str(best), **model_data(read)}
     texts = {'model': model, 'story': story, 'log': log, 'measures': measures, 'last-log': last_log}
     return fill(title, run, {name: text for name, text in texts.items() if text is not None})
 
 
 def best_value(model, story, last_log, better):
-    """The value at the aim than which the log of the last round refutes every better one, as a list of one."""
+    """The value at the aim than which the log of the last round refutes every better one, or None where neither the
+    log nor the caller tells it."""
     sense, aimed = model.aim or (None, None)
     if aimed is None:
         raise TextError('last log: the model aims at no variable')
@@ -58,13 +59,13 @@ def best_value(model, story, last_log, better):
     if better is not None and better not in values:
         raise TextError('last log: %d is no value of the aim' % better)
     if log.narrowed is None:
-        return [better]
+        return better
     if log.narrowed == len(values):
         raise TextError('last log: it is of the whole problem')
     found = values[log.narrowed] if sense == 'minimize' else values[-log.narrowed - 1]
     if better not in (None, found):
         raise TextError('last log: it is of better values than %d' % found)
-    return [found]
+    return found
 
 
 def model_data(model):
@@ -124,6 +125,7 @@ def words_of(arguments):
 def main(arguments):
     words = words_of(arguments)
     title = words.title or os.path.splitext(os.path.basename(words.model))[0]
+    title = title.encode('utf-8', 'surrogateescape').decode('utf-8', 'replace')
     try:
         texts = [read_text(name) for name in (words.model, words.story, words.log, words.measures)]
         extra = [name and read_text(name) for name in (words.order, words.last_log)]

@@ -6,8 +6,8 @@ const agentRows = [];
 function buildAgents() {
   for (const agent of order) {
     const name = element('button', { class: 'name-button', onclick: () => choose(settings.agent === agent ? null : agent) });
-    const cells = [element('td'), element('td'), element('td')];
-    const row = element('tr', {}, element('th', { scope: 'row' }, name), ...cells);
+    const cells = ['values', 'knows', 'keeps'].map(look => element('div', { role: 'cell', class: look }));
+    const row = element('div', { role: 'row', class: 'agent-row' }, element('div', { role: 'rowheader' }, name), ...cells);
     agentRows[agent] = { row, name, cells, drawn: null, look: '' };
     byId('agent-rows').append(row);
     byId('filter').append(element('option', { value: String(agent) }));
@@ -28,15 +28,23 @@ function nameAgents() {
 function drawAgents(state, event) {
   for (const agent of order) {
     const drawn = agentRows[agent], part = state.agents[agent];
-    const look = [event.receiver === agent ? 'now' : '', settings.agent === agent ? 'chosen' : ''].join(' ').trim();
+    const look = 'agent-row' + (event.receiver === agent ? ' now' : '') + (settings.agent === agent ? ' chosen' : '');
     if (drawn.look !== look) drawn.row.className = drawn.look = look;
-    if (drawn.drawn === part) continue;
+    if (saySame(drawn.drawn, part)) continue;
     drawn.drawn = part;
     drawn.cells[0].replaceChildren(...valueChips(agent, part));
     drawn.cells[1].replaceChildren(...viewPairs(part).map(pairChip), ...rest(part.view.size - MOST_PAIRS));
     drawn.cells[2].replaceChildren(...part.kept.slice(0, MOST_PAIRS).map(nogoodSign), ...rest(part.kept.length - MOST_PAIRS));
   }
+  if (event.receiver !== null) bringToSight(byId('agents-scroll'), agentRows[event.receiver].row);
   drawChosen(state);
+}
+
+/* Scrolls the box as far as is needed for the row to be seen whole under the head of the table. */
+function bringToSight(box, row) {
+  const top = row.offsetTop - 30, bottom = row.offsetTop + row.offsetHeight;
+  if (top < box.scrollTop) box.scrollTop = top;
+  else if (bottom > box.scrollTop + box.clientHeight) box.scrollTop = bottom - box.clientHeight;
 }
 
 function rest(count) {
@@ -44,8 +52,8 @@ function rest(count) {
 }
 
 /* The pairs of the view in the order of the agents. */
-function viewPairs(part) {
-  return [...part.view].map(([of, value]) => ({ of, value })).sort((a, b) => placeOf[a.of] - placeOf[b.of]).slice(0, MOST_PAIRS);
+function viewPairs(part, most = MOST_PAIRS) {
+  return [...part.view].map(([of, value]) => ({ of, value })).sort((a, b) => placeOf[a.of] - placeOf[b.of]).slice(0, most);
 }
 
 function nogoodSign(step) {
@@ -86,7 +94,8 @@ function drawChosen(state) {
   box.replaceChildren(
     element('h3', {}, `${label}, agent ${numberOf(agent)}` + (name === label ? '' : `, ${shorten(name, 72)} in the FlatZinc`)),
     element('span', {}, `It has ${own}${part.waits ? ' and waits' : ''}. Its domain is ${domainText(agent)}.`),
-    listOf(lines), element('span', {}, part.kept.length ? 'It keeps:' : 'It keeps no nogood.'),
+    listOf(lines), element('span', {}, part.view.size ? `It knows ${viewPairs(part, 500).map(pairText).join(', ')}. ` : 'It knows no values of others. '),
+    element('span', {}, part.kept.length ? 'It keeps:' : 'It keeps no nogood.'),
     listOf(part.kept.slice(0, 100).map(step => `n${step}: ${nogoodText(log.step(step).nogood)}`)));
 }
 

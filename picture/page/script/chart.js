@@ -55,14 +55,24 @@ function markChart(number) {
     column.width = chart.column + 'px';
     column.height = rowCount() * ROW + 'px';
   }
-  const names = byId('chart-names').offsetHeight;
+  const message = story.delivered[number], names = byId('chart-names').offsetHeight;
+  if (message) bringColumnToSight(message);
   if (y < box.scrollTop + 2 * ROW || y + names > box.scrollTop + box.clientHeight - 3 * ROW) box.scrollTop = y - box.clientHeight * .5 + names;
   drawRowsInSight();
 }
 
+/* Scrolls sideways as far as is needed to see the receiver and the label of the message. */
+function bringColumnToSight(message) {
+  const box = byId('chart'), { rail, label, width } = levelEnd(message);
+  const left = Math.min(rail, label - width / 2) - 24, right = Math.max(rail, label + width / 2) + 24;
+  if (left < box.scrollLeft) box.scrollLeft = left;
+  else if (right > box.scrollLeft + box.clientWidth) box.scrollLeft = right - box.clientWidth;
+}
+
 function namesDrawing() {
-  const turned = chart.column < 84, letters = turned ? 17 : Math.floor(chart.column / 8);
-  const longest = Math.max(0, ...order.map(agent => shorten(page.variables[agent].label, letters).length));
+  const longestLabel = order.reduce((longest, agent) => Math.max(longest, page.variables[agent].label.length), 0);
+  const turned = 8 * longestLabel > chart.column, letters = turned ? (agentCount <= 12 ? 28 : 22) : longestLabel;
+  const longest = Math.min(longestLabel, letters);
   const height = (turned ? 20 + longest * 4.3 : 26) + (settings.numbers ? 16 : 0);
   const names = shape('svg', { class: 'drawing', width: chart.width, height, viewBox: `0 0 ${chart.width} ${height}`, 'aria-hidden': 'true' });
   for (const agent of order) {
@@ -79,9 +89,9 @@ function namesDrawing() {
 /* The drawing of these rows. */
 function drawRows(from, to) {
   const height = (to - from) * ROW + (to === rowCount() ? 10 : 0);
-  const layers = { rails: shape('g'), arrows: shape('g'), labels: shape('g') };
+  const layers = { rails: shape('g'), chain: shape('g'), arrows: shape('g'), labels: shape('g') };
   const view = { from, to, height, layers, pattern: 'waits-' + from, y: number => (heightOf(number) - from) * ROW };
-  let state = stateAt(eventAt(from) - 1);
+  let state = seek(chart.state, eventAt(from) - 1);
   const rails = startRails(view, state), reach = new Set(state.transit);
   for (let row = from; row < to; row += 1) {
     const number = eventAt(row);
@@ -92,17 +102,21 @@ function drawRows(from, to) {
     if (event.message) reach.add(event.message.id);
     drawRow(view, event, before, number ? state.agents[event.receiver] : null);
   }
+  chart.state = state;
   endRails(view, rails);
-  drawArrows(view, new Set([...reach, ...state.transit]));
-  return shape('svg', { class: 'drawing', width: chart.width, height, viewBox: `0 0 ${chart.width} ${height}`, 'aria-hidden': 'true' },
-    [waitPattern(view.pattern), layers.rails, layers.arrows, layers.labels]);
+  view.reach = new Set([...reach, ...state.transit]);
+  drawArrows(view);
+  drawChain(view);
+  const drawing = shape('svg', { class: 'drawing', width: chart.width, height, viewBox: `0 0 ${chart.width} ${height}`, 'aria-hidden': 'true' },
+    [waitPattern(view.pattern), layers.rails, layers.chain, layers.arrows, layers.labels]);
+  return Object.assign(drawing, { view });
 }
 
-/* The arrows of these messages; of those that only pass, at most so many. */
-function drawArrows(view, ids) {
+/* The arrows of the messages that reach into these rows; of those that only pass, at most so many. */
+function drawArrows(view) {
   const end = eventAt(view.to - 1);
   let passing = 0;
-  for (const id of ids) {
+  for (const id of view.reach) {
     const message = story.messages[id];
     if (settings.agent !== null && message.from !== settings.agent && message.to !== settings.agent) continue;
     if (message.got === null || message.got > end) passing += 1;
@@ -199,10 +213,20 @@ function drawArrow(view, message) {
     return;
   }
   const y = view.y(message.got), tip = level.rail + level.side * 8;
-  const way = `M${beginning},${begun}L${level.bend},${y}H`;
-  if (chart.chain.has(message.id)) view.layers.arrows.append(shape('path', { class: 'chain', d: way + level.rail }));
-  view.layers.arrows.append(shape('path', { class: 'line ' + message.kind, d: way + tip }),
+  view.layers.arrows.append(shape('path', { class: 'line ' + message.kind, d: `M${beginning},${begun}L${level.bend},${y}H${tip}` }),
     shape('path', { class: 'tip ' + message.kind, d: `M${level.rail},${y}L${tip},${y - 4}V${y + 4}z` }));
+}
+
+/* The messages of the causal chain that is shown, drawn below the arrows. */
+function drawChain(view) {
+  const parts = [];
+  for (const id of view.reach) {
+    if (!chart.chain.has(id)) continue;
+    const message = story.messages[id], level = levelEnd(message);
+    const beginning = columnOf(message.from) - level.side * 6, begun = view.y(message.sent) + 2;
+    parts.push(shape('path', { class: 'chain', d: `M${beginning},${begun}L${level.bend},${view.y(message.got)}H${level.rail}` }));
+  }
+  view.layers.chain.replaceChildren(...parts);
 }
 
 function drawLabel(view, message, y) {

@@ -5,7 +5,13 @@ const GUTTER = 52;                    // for the numbers of deliveries
 const MOST_AT_ONCE = 1500;            // rows of a printed or saved chart
 const MOST_PASSING = 1000;            // arrows that only pass a piece
 
-const chart = { column: 0, width: 0, outcome: agentCount <= 6 ? 265 : 215, rows: null, pieces: new Map(), chain: new Set() };
+const chart = {
+  column: 0, width: 0, outcome: agentCount <= 8 ? 310 : 230, shortValues: false,
+  rows: null,                         // the events that are shown, null for all
+  pieces: new Map(),                  // the drawn pieces by their numbers
+  chain: new Set(),                   // the messages of the causal chain that is shown
+  state: blankState(),                // where the last drawn piece ended
+};
 
 function labelWidth(text) {
   return 6.8 * text.length + 9;
@@ -22,7 +28,7 @@ function widestValue() {
 }
 
 function measureColumns(room) {
-  const least = Math.max(agentCount <= 30 ? 46 : 34, agentCount <= 12 ? widestValue() + 16 : 0);
+  const least = Math.max(agentCount <= 12 ? 46 : agentCount <= 30 ? 42 : 34, agentCount <= 12 ? widestValue() + 16 : 0);
   const fair = Math.floor((room - 16 - GUTTER - chart.outcome) / Math.max(1, agentCount));
   chart.column = clamp(fair, least, Math.max(least, 150));
   chart.shortValues = chart.column < 60;

@@ -1,6 +1,6 @@
 // ---- Derivations as trees, whose parts are made when they are unfolded
 
-const MOST_UNFOLDED = 2000, MOST_LISTED = 200;
+const MOST_UNFOLDED = 2000, MOST_LISTED = 40;
 
 /* A tree in the given section. `steps` has the steps of a log; `place` tells the event that made a step, or null;
    `domain` tells the values of an agent. */

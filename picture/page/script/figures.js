@@ -18,9 +18,20 @@ function buildFigures() {
   whenOpened('learned-box', () => byId('learned').replaceChildren(agentCount > MOST_COLUMNS ? learnedList(measures) : learnedTable(measures)));
 }
 
-/* Makes the inside of a part of the page when it is opened, anew each time. */
+/* Parts of the page whose inside is made when they are opened, anew each time. */
+const makers = new Map();
+
 function whenOpened(id, make) {
+  makers.set(id, make);
   byId(id).addEventListener('toggle', () => byId(id).open && make());
+}
+
+/* Opens such a part at once, and tells whether it was closed. */
+function openPart(id) {
+  const wasOpen = byId(id).open;
+  byId(id).open = true;
+  if (makers.has(id)) makers.get(id)();
+  return !wasOpen;
 }
 
 function eachTable(measures) {

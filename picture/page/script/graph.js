@@ -1,6 +1,6 @@
 // ---- The graph of agents, with the messages in transit
 
-const MOST_DOTS = 300, MOST_EDGES = 3000;
+const MOST_DOTS = 150, MOST_EDGES = 400;
 const stillness = matchMedia('(prefers-reduced-motion: reduce)');
 
 /* Agents stand in the order of their priorities: `order[place]` is the agent, `placeOf[agent]` its place. */
@@ -53,17 +53,46 @@ function buildGraph() {
     [layers.edges, layers.nodes, layers.dots]));
 }
 
-/* A line for each ordered pair of agents that some message goes over, shown from its first message on. */
+/* A line for each ordered pair of agents that some message goes over, shown from its first message on. Where they are
+   many, those that are there from the start are one shape, and the others are drawn only where they are meant. */
 function buildEdges() {
   for (const message of story.messages) {
     const key = message.from + '>' + message.to;
-    if (graph.edges.has(key) || graph.edges.size >= MOST_EDGES) continue;
-    const a = graph.spots[message.from], b = graph.spots[message.to], bend = bendOf(message.from, message.to);
+    if (graph.edges.has(key)) continue;
     const added = story.linked.has(pairKey(message.from, message.to));
-    const path = shape('path', { d: `M${a.x},${a.y}Q${bend.x},${bend.y} ${b.x},${b.y}` });
-    graph.edges.set(key, { path, added, from: message.from, to: message.to, since: added ? message.sent : 0, look: null });
-    graph.layers.edges.append(path);
+    graph.edges.set(key, { path: null, added, from: message.from, to: message.to, since: added ? message.sent : 0, look: null });
   }
+  graph.merged = graph.edges.size > MOST_EDGES;
+  const edges = [...graph.edges.values()];
+  if (graph.merged) {
+    graph.layers.edges.append(shape('path', { class: 'edge merged', d: edges.filter(edge => !edge.added).map(wayOf).join('') }), graph.layers.meant = shape('g'));
+  } else {
+    for (const edge of edges) graph.layers.edges.append(edge.path = shape('path', { d: wayOf(edge) }));
+  }
+}
+
+function wayOf({ from, to }) {
+  const a = graph.spots[from], b = graph.spots[to], bend = bendOf(from, to);
+  return `M${a.x},${a.y}Q${bend.x},${bend.y} ${b.x},${b.y}`;
+}
+
+/* How an edge looks: whether it is there yet, carried the message of this delivery, or is of the chosen agent. */
+function edgeLook(edge, state, message) {
+  const now = message && message.from === edge.from && message.to === edge.to;
+  const mine = edge.from === settings.agent || edge.to === settings.agent;
+  return 'edge' + (edge.added ? ' added' : '') + (edge.since > state.at ? ' unseen-yet' : '')
+    + (now ? ' now ' + message.kind : '') + (mine ? ' mine' : '');
+}
+
+function drawEdges(state, message) {
+  const meant = [];
+  for (const edge of graph.edges.values()) {
+    const look = edgeLook(edge, state, message);
+    if (graph.merged) {
+      if (/ (now|mine)/.test(look)) meant.push(shape('path', { class: look, d: wayOf(edge) }));
+    } else if (edge.look !== look) edge.path.setAttribute('class', edge.look = look);
+  }
+  if (graph.merged) graph.layers.meant.replaceChildren(...meant);
 }
 
 function buildNode(agent) {
@@ -97,8 +126,8 @@ function nameNodes() {
     const label = page.variables[agent].label;
     title.textContent = nameOf(agent);
     if (graph.named === 'none') continue;
-    name.textContent = settings.numbers ? `${numberOf(agent)} ${shorten(label, graph.named === 'radial' ? 12 : 13)}`
-      : shorten(label, graph.named === 'radial' ? 16 : 19);
+    name.textContent = settings.numbers ? `${numberOf(agent)} ${shorten(label, graph.named === 'radial' ? 12 : 19)}`
+      : shorten(label, graph.named === 'radial' ? 16 : 24);
   }
 }
 
@@ -109,12 +138,7 @@ function drawGraph(state, event, jumped) {
       + (settings.agent === agent ? ' chosen' : '');
     drawNode(agent, state.agents[agent], look);
   }
-  for (const [key, edge] of graph.edges) {
-    const now = message && key === message.from + '>' + message.to;
-    const look = 'edge' + (edge.added ? ' added' : '') + (edge.since > state.at ? ' unseen-yet' : '')
-      + (now ? ' now ' + message.kind : '') + (edge.from === settings.agent || edge.to === settings.agent ? ' mine' : '');
-    if (edge.look !== look) edge.path.setAttribute('class', edge.look = look);
-  }
+  drawEdges(state, message);
   drawDots(state, jumped);
   byId('transit').textContent = state.transit.size
     ? counted(state.transit.size, 'message') + ' in transit' + (state.transit.size > MOST_DOTS ? `, ${MOST_DOTS} of them drawn` : '')
@@ -125,7 +149,7 @@ function drawGraph(state, event, jumped) {
 function drawNode(agent, part, look) {
   const node = graph.nodes[agent];
   if (node.look !== look) node.group.setAttribute('class', node.look = look);
-  if (node.drawn === part) return;
+  if (saySame(node.drawn, part)) return;
   node.drawn = part;
   node.body.style.fill = colourOf(agent, part.value);
   node.value.style.fill = inkOn(agent, part.value);

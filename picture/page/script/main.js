@@ -13,9 +13,9 @@ function showHead() {
 function searchWords() {
   if (!page.aim) return '';
   const { sense, variable } = page.aim;
-  if (variable === null) return '; the aim is a number, so any solution is best';
-  const words = `; this is round 1 of a search for the ${sense === 'minimize' ? 'least' : 'greatest'} ${nameOf(variable)}`;
-  return page.best === null ? words : `${words}, which is ${valueText(variable, page.best)}`;
+  if (variable === null) return '. The aim is a number, so any solution is best';
+  const words = `. Round 1 of a search for the ${sense === 'minimize' ? 'least' : 'greatest'} value of ${nameOf(variable)}`;
+  return page.best === null ? words : `${words}; the search found ${valueText(variable, page.best)}`;
 }
 
 function buildRules() {
@@ -49,6 +49,7 @@ function open() {
   byId('save-chart').onclick = saveChart;
   byId('theme').onclick = changeTheme;
   addEventListener('beforeprint', preparePrint);
+  addEventListener('afterprint', clearPrint);
   listen();
   go(addressed() ?? 0, true);
   document.documentElement.dataset.opened = Math.round(performance.now());

@@ -5,7 +5,7 @@ const player = { state: stateAt(0), event: null, timer: null, hash: null };
 /* Shows the run after this delivery. `jumped` leaves out the movement of messages. */
 function go(wanted, jumped) {
   const number = clamp(wanted, 0, last), forward = player.event !== null && number === player.state.at + 1;
-  if (!forward && !(player.event !== null && number === player.state.at)) player.state = stateAt(number - 1);
+  if (!forward && !(player.event !== null && number === player.state.at)) player.state = seek(player.state, number - 1);
   if (player.state.at < number) {
     const event = eventOf(story, number);
     const before = event.receiver === null ? null : player.state.agents[event.receiver];
@@ -92,7 +92,7 @@ function choose(agent) {
 
 function showChain() {
   chart.chain = chainOf(settings.chain, player.state.at);
-  layChart();
+  for (const piece of chart.pieces.values()) drawChain(piece.view);
 }
 
 /* Names everything anew, after the choice of numbers. */

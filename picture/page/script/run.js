@@ -1,6 +1,7 @@
 // ---- The state of the agents after an event: a fold over the lines of the story
 
-const SPACING = 1024;      // events between two states that are kept
+const SPACING = 1024;                         // events between two states that are kept
+const NEAR_SPACING = 64, MOST_NEAR = 128;     // and where the reader is, and how many of these there are at most
 
 const story = readStory(textOf('story'));
 const log = readLog(textOf('log'));
@@ -21,6 +22,15 @@ function ownPart(state, agent) {
     state.own.add(agent);
   }
   return state.agents[agent];
+}
+
+/* Whether two parts say the same; parts that were folded anew are other objects. */
+function saySame(a, b) {
+  if (a === b) return true;
+  if (!a || !b || a.value !== b.value || a.waits !== b.waits || a.out !== b.out) return false;
+  if (a.view.size !== b.view.size || a.kept.length !== b.kept.length) return false;
+  for (const [of, value] of a.view) if (b.view.get(of) !== value) return false;
+  return a.kept.every((step, place) => step === b.kept[place]);
 }
 
 function applyDeed(state, deed) {
@@ -58,22 +68,37 @@ const transitCounts = [];
   while (state.at < last) {
     step(state);
     transitCounts.push(state.transit.size);
-    if (state.at % SPACING === 0) {
-      keptStates.push({ agents: state.agents.slice(), transit: Int32Array.from(state.transit) });
-      state.own.clear();
-    }
+    if (state.at % SPACING === 0) keptStates.push(keptOf(state));
   }
 })();
+
+/* Nearer states, of the part of the run that was gone through last. */
+const nearStates = new Map();
 
 /* The state after this event. */
 function stateAt(number) {
   if (number < 0) return blankState();
-  const kept = keptStates[Math.floor(number / SPACING)];
-  const state = {
-    at: number - number % SPACING, agents: kept.agents.slice(), transit: new Set(kept.transit), own: new Set(),
-  };
-  while (state.at < number) step(state);
+  const begun = number - number % SPACING;
+  let from = number - number % NEAR_SPACING;
+  while (from > begun && !nearStates.has(from)) from -= NEAR_SPACING;
+  const kept = from === begun ? keptStates[begun / SPACING] : nearStates.get(from);
+  const state = { at: from, agents: kept.agents.slice(), transit: new Set(kept.transit), own: new Set() };
+  while (state.at < number) {
+    step(state);
+    if (state.at % NEAR_SPACING === 0) keepNear(state);
+  }
   return state;
+}
+
+function keepNear(state) {
+  if (nearStates.size > MOST_NEAR) nearStates.clear();
+  nearStates.set(state.at, keptOf(state));
+}
+
+/* What is kept of a state, whose parts are not changed from then on. */
+function keptOf(state) {
+  state.own.clear();
+  return { agents: state.agents.slice(), transit: Int32Array.from(state.transit) };
 }
 
 /* The state brought to a later event, from where it is or from a kept state, whichever is nearer. */

@@ -84,15 +84,25 @@ function buildTexts() {
   byId('texts').replaceChildren(...parts);
 }
 
-// -- paper
+// -- paper: a large tree is printed as far as it is unfolded
+
+const MOST_ON_PAPER = 100;
+
+let opened = [];      // the parts of the page that were opened for paper alone
 
 function preparePrint() {
   const { from, to } = rowsToKeep(), pieces = [];
-  for (let row = from; row < to; row += PIECE) pieces.push(namesDrawing(), drawRows(row, Math.min(to, row + PIECE)));
+  for (let row = from; row < to; row += PIECE) {
+    pieces.push(element('div', { class: 'paper-piece' }, namesDrawing(), drawRows(row, Math.min(to, row + PIECE))));
+  }
   byId('chart-print').replaceChildren(...pieces);
-  for (const box of ['legend-box', 'rules-box', 'words-box']) byId(box).open = true;
+  opened = ['legend-box', 'rules-box', 'words-box'].filter(openPart);
   if (last <= MOST_AT_ONCE) fillWords(0, last);
-  else showWords();
+  for (const tree of trees) if (tree.parents.size <= MOST_ON_PAPER) tree.unfoldAll();
+}
+
+function clearPrint() {
+  byId('chart-print').replaceChildren();
+  for (const id of opened) byId(id).open = false;
   wordsFrom = null;
-  for (const tree of trees) tree.unfoldAll();
 }

@@ -62,7 +62,7 @@ function answer(event, before, after) {
     const to = event.sent.filter(message => message.kind === 'nogood').map(message => message.to);
     return ` None of its values is left: it derives n${made.step}, ${nogoodText(nogood)}, sends it to ${someNames(to)} and waits.`;
   }
-  if (event.message.kind === 'link') return told.length ? ' It tells it.' : '';
+  if (event.message.kind === 'link') return told.length ? ` ${nameOf(event.receiver)} answers that it has ${valueText(event.receiver, event.sent[0].cargo)}.` : '';
   if (!event.deeds.length) return '';
   return after.waits ? ' It still waits.' : ` Its value ${valueText(event.receiver, after.value)} stays.`;
 }
@@ -84,7 +84,7 @@ function sentenceOf(event, before, after) {
 /* The event in a few words, with the look that they have in the chart. */
 function outcomeOf(event, before, after) {
   if (event.number === 0) return { look: '', words: agentCount ? 'all take a first value' : '' };
-  const name = shorten(page.variables[event.receiver].label, 14) + ' ';
+  const name = shorten(page.variables[event.receiver].label, agentCount <= 8 ? 24 : 16) + ' ';
   const made = deedsNamed(event, 'makes')[0], took = deedsNamed(event, 'takes')[0], refused = deedsNamed(event, 'refuses')[0];
   if (made) return { look: 'nogood', words: `${name}derives n${made.step}` + (log.step(made.step).nogood.length ? '' : ', which is empty') };
   if (took) return { look: 'takes', words: name + (before.value === took.value ? 'stays at ' : 'changes to ') + valueText(event.receiver, took.value) };
