@@ -179,7 +179,9 @@ function drawRow(view, event, before, after) {
   }
   if (event.message) drawLabel(view, event.message, y);
   const { look, words } = outcomeOf(event, before, after);
-  const outcome = shape('text', { class: 'outcome ' + look, x: GUTTER + agentCount * chart.column + 16, y }, [words]);
+  const letters = Math.floor((chart.outcome - 24) / 6.8) - words.length - 1;
+  const name = event.message ? shorten(page.variables[event.receiver].label, Math.max(8, letters)) + ' ' : '';
+  const outcome = shape('text', { class: 'outcome ' + look, x: GUTTER + agentCount * chart.column + 16, y }, [name + words]);
   outcome.append(shape('title', {}, [sentenceOf(event, before, after)]));
   labels.append(outcome);
 }

@@ -6,7 +6,8 @@ const MOST_AT_ONCE = 1500;            // rows of a printed or saved chart
 const MOST_PASSING = 1000;            // arrows that only pass a piece
 
 const chart = {
-  column: 0, width: 0, outcome: agentCount <= 8 ? 310 : 230, shortValues: false,
+  column: 0, width: 0, shortValues: false,
+  outcome: 0,                         // the room for what came of each delivery
   rows: null,                         // the events that are shown, null for all
   pieces: new Map(),                  // the drawn pieces by their numbers
   chain: new Set(),                   // the messages of the causal chain that is shown
@@ -19,7 +20,7 @@ function labelWidth(text) {
 
 /* The widest label of a value, as the chart writes it. */
 function widestValue() {
-  let widest = 5;
+  let widest = 1;
   for (let agent = 0; agent < agentCount; agent += 1) {
     const { bool, ranges } = page.variables[agent];
     if (!bool) for (const ends of ranges) widest = Math.max(widest, ends[0].length, ends[1].length);
@@ -29,6 +30,8 @@ function widestValue() {
 
 function measureColumns(room) {
   const least = Math.max(agentCount <= 12 ? 46 : agentCount <= 30 ? 42 : 34, agentCount <= 12 ? widestValue() + 16 : 0);
+  const left = room - 16 - GUTTER - agentCount * least;
+  chart.outcome = clamp(left, 200, agentCount <= 8 ? 310 : 230);
   const fair = Math.floor((room - 16 - GUTTER - chart.outcome) / Math.max(1, agentCount));
   chart.column = clamp(fair, least, Math.max(least, 150));
   chart.shortValues = chart.column < 60;

@@ -136,7 +136,7 @@ function buildDerivation() {
     hint.textContent = `The empty nogood, and what each value of its agent fell to. It needs ${grouped(needed)} of the ${grouped(log.count)} nogoods derived.`;
     return;
   }
-  title.textContent = 'What was derived';
+  title.textContent = 'What was derived' + (page.aim && page.aim.variable !== null ? ' in round 1' : '');
   hint.textContent = log.count
     ? `${counted(log.count, 'nogood')}, in order. Each follows from the constraints, whatever the agents’ values are.` : 'No nogood was needed.';
   section.querySelector('.tools').hidden = log.count === 0;

@@ -264,4 +264,5 @@ function buildLegend() {
   put(element('span', { class: 'chip out' }, element('span', {}, '9'), element('span', { class: 'why' }, 'c2')), 'a value that is ruled out, with the reason: constraint c2 of the model, or nogood n2');
   put('⟦x < y⟧', 'true or false: whether the constraint in the brackets holds; [x < y] is the same as 1 or 0');
   put('¬ ∧ ∨ ⇔', 'not; and; or; exactly where');
+  put('← →', 'keys: one delivery back and on, Home to the start, End to the end; space plays and pauses, n goes to the next nogood');
 }

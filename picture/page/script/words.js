@@ -81,15 +81,14 @@ function sentenceOf(event, before, after) {
   return words;
 }
 
-/* The event in a few words, with the look that they have in the chart. */
+/* The event in a few words, with the look that they have in the chart; they follow the name of the agent. */
 function outcomeOf(event, before, after) {
   if (event.number === 0) return { look: '', words: agentCount ? 'all take a first value' : '' };
-  const name = shorten(page.variables[event.receiver].label, agentCount <= 8 ? 24 : 16) + ' ';
   const made = deedsNamed(event, 'makes')[0], took = deedsNamed(event, 'takes')[0], refused = deedsNamed(event, 'refuses')[0];
-  if (made) return { look: 'nogood', words: `${name}derives n${made.step}` + (log.step(made.step).nogood.length ? '' : ', which is empty') };
-  if (took) return { look: 'takes', words: name + (before.value === took.value ? 'stays at ' : 'changes to ') + valueText(event.receiver, took.value) };
-  if (event.message.kind === 'link') return { look: '', words: name + 'answers' };
-  if (!event.deeds.length) return { look: '', words: name + 'has newer news' };
+  if (made) return { look: 'nogood', words: `derives n${made.step}` + (log.step(made.step).nogood.length ? '' : ', which is empty') };
+  if (took) return { look: 'takes', words: (before.value === took.value ? 'stays at ' : 'changes to ') + valueText(event.receiver, took.value) };
+  if (event.message.kind === 'link') return { look: '', words: 'answers' };
+  if (!event.deeds.length) return { look: '', words: 'has newer news' };
   const dropped = refused ? `drops n${refused.step}, ` : '';
-  return { look: '', words: name + dropped + (after.waits ? 'waits' : 'keeps ' + valueText(event.receiver, after.value)) };
+  return { look: '', words: dropped + (after.waits ? 'waits' : 'keeps ' + valueText(event.receiver, after.value)) };
 }
