@@ -152,27 +152,27 @@ class Reader:
 
     def whole(self):
         word = self.next()
-        try:
-            return int(word, 0) if 'x' in word or 'o' in word else int(word)
-        except ValueError:
+        if self.tokens[self.place - 1][0] != 'whole':
             self.place -= 1
             self.refuse()
+        return number_of(word)
 
-    def listed(self, end):
+    def listed(self, end, read):
         """What stands between commas up to this mark."""
         found = []
         while not self.took(end):
-            found.append(self.expression())
+            found.append(read())
             if self.peek() != end:
                 self.take(',')
         return found
 
     def expression(self):
+        return self.listed(']', self.atom) if self.took('[') else self.atom()
+
+    def atom(self):
         kind = self.tokens[self.place][0] if self.place < len(self.tokens) else None
-        if self.took('['):
-            return self.listed(']')
         if self.took('{'):
-            return tuple(self.listed('}'))
+            return tuple(self.listed('}', self.whole))
         if kind == 'whole':
             low = self.whole()
             return range(low, self.whole() + 1) if self.took('..') else low
@@ -229,17 +229,20 @@ class Reader:
 
     def set_of(self, base):
         """The set that these tokens of a type write."""
-        if len(base) == 3 and base[1] == '..':
-            return range(int(base[0], 0), int(base[2], 0) + 1)
-        if base and base[0] == '{':
-            return tuple(int(word, 0) for word in base[1:-1] if word != ',')
+        try:
+            if len(base) == 3 and base[1] == '..':
+                return range(number_of(base[0]), number_of(base[2]) + 1)
+            if base and base[0] == '{':
+                return tuple(number_of(word) for word in base[1:-1] if word != ',')
+        except ValueError:
+            pass
         self.refuse()
 
     def constraint(self):
         self.take('constraint')
         name = self.next()
         self.take('(')
-        arguments = self.listed(')')
+        arguments = self.listed(')', self.expression)
         marks = self.skip_to(';')
         defines = None
         if 'defines_var' in marks[:-2]:
@@ -257,9 +260,17 @@ class Reader:
 
 
 def output_ranges(marks):
-    """The ranges of `output_array([A..B,..])` among the tokens of a declaration's annotations."""
-    if 'output_array' not in marks:
+    """The ranges of `output_array([A..B,..])` among the tokens of a declaration's annotations, or None."""
+    if 'output_array' not in marks or ']' not in marks:
         return None
     begun = marks.index('output_array') + 3
-    words = marks[begun:marks.index(']', begun)]
-    return [[int(words[at], 0), int(words[at + 2], 0)] for at in range(0, len(words) - 2, 4)]
+    words = marks[begun:marks.index(']')]
+    try:
+        return [[number_of(words[at]), number_of(words[at + 2])] for at in range(0, len(words) - 2, 4)]
+    except ValueError:
+        return None
+
+
+def number_of(word):
+    """The integer that a token writes, in decimal, hexadecimal or octal digits."""
+    return int(word, 0) if 'x' in word or 'o' in word else int(word)

@@ -11,13 +11,14 @@ import json
 import os
 import re
 import sys
+from dataclasses import dataclass
 
 from flatzinc import ModelError, read_model
 from signs import Signs
 from texts import StoryReader, TextError, agree, read_log, read_measures, read_order
 
 HERE = os.path.dirname(os.path.abspath(__file__))
-SCRIPTS = ('elements', 'texts', 'run', 'names', 'words', 'graph', 'chart_rows', 'chart', 'agents', 'derivation',
+SCRIPTS = ('elements', 'texts', 'run', 'names', 'words', 'graph', 'chart_rows', 'chart', 'legend', 'agents', 'derivation',
            'figures', 'strip', 'player', 'saving', 'main')
 
 
@@ -27,32 +28,43 @@ class Refused(Exception):
         self.status = status
 
 
-def make_page(model, story, log, measures, title, order=None, last_log=None, better=None):
-    """The page of a run, as text, from the texts of its files. Raises `Refused`."""
+@dataclass
+class Texts:
+    """The texts of a run; the last two where there are such."""
+    model: str
+    story: str
+    log: str
+    measures: str
+    order: str = None
+    last_log: str = None
+
+
+def make_page(texts, title, better=None):
+    """The page of a run, as text. `better` is the best value of a search. Raises `Refused`."""
     try:
-        read = read_model(model)
+        model = read_model(texts.model)
     except ModelError as error:
         raise Refused(3, 'model: %s is not read' % error) from None
     try:
-        agree(StoryReader(read).read(story), read_log('log', log, read), read_measures(measures))
-        places = list(range(len(read.variables))) if order is None else read_order(order, read)
-        best = None if last_log is None else best_value(read, story, last_log, better)
+        agree(StoryReader(model).read(texts.story), read_log('log', texts.log, model), read_measures(texts.measures))
+        order = list(range(len(model.variables))) if texts.order is None else read_order(texts.order, model)
+        best = None if texts.last_log is None else best_value(model, texts, better)
     except TextError as error:
         raise Refused(4, str(error)) from None
-    run = {'title': title, 'order': places, 'best': None if best is None else str(best), **model_data(read)}
-    texts = {'model': model, 'story': story, 'log': log, 'measures': measures, 'last-log': last_log}
-    return fill(title, run, {name: text for name, text in texts.items() if text is not None})
+    run = {'title': title, 'order': order, 'best': None if best is None else str(best), **model_data(model)}
+    shown = {'model': texts.model, 'story': texts.story, 'log': texts.log, 'measures': texts.measures, 'last-log': texts.last_log}
+    return fill(title, run, {name: text for name, text in shown.items() if text is not None})
 
 
-def best_value(model, story, last_log, better):
+def best_value(model, texts, better):
     """The value at the aim than which the log of the last round refutes every better one, or None where neither the
     log nor the caller tells it."""
     sense, aimed = model.aim or (None, None)
     if aimed is None:
         raise TextError('last log: the model aims at no variable')
-    if not story.endswith('\nend solved\n'):
+    if not texts.story.endswith('\nend solved\n'):
         raise TextError('last log: the run was not solved, so it had no other round')
-    log = read_log('last log', last_log, model, aimed)
+    log = read_log('last log', texts.last_log, model, aimed)
     if not log.refutes:
         raise TextError('last log: it does not refute')
     values = [value for low, high in model.variables[aimed].ranges for value in range(low, high + 1)]
@@ -126,10 +138,9 @@ def main(arguments):
     words = words_of(arguments)
     title = words.title or os.path.splitext(os.path.basename(words.model))[0]
     title = title.encode('utf-8', 'surrogateescape').decode('utf-8', 'replace')
+    files = (words.model, words.story, words.log, words.measures, words.order, words.last_log)
     try:
-        texts = [read_text(name) for name in (words.model, words.story, words.log, words.measures)]
-        extra = [name and read_text(name) for name in (words.order, words.last_log)]
-        page = make_page(*texts, title, *extra, words.better)
+        page = make_page(Texts(*(name and read_text(name) for name in files)), title, words.better)
         with open(words.page, 'w', encoding='utf-8') as file:
             file.write(page)
     except Refused as refused:

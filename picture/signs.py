@@ -16,7 +16,23 @@ JOINED = {'int_plus': ' + ', 'int_times': '·', 'int_div': ' div ', 'int_mod': '
           'bool_and': ' ∧ ', 'bool_or': ' ∨ ', 'bool_xor': ' ⊕ '}
 CALLED = {'int_min': 'min', 'int_max': 'max'}
 GATHERED = {'array_bool_and': ' ∧ ', 'array_bool_or': ' ∨ '}
+SHAPES = {
+    'int_lin_eq': 'lls', 'int_lin_ne': 'lls', 'int_lin_le': 'lls', 'bool_lin_eq': 'lls', 'bool_lin_le': 'lls',
+    'int_abs': 'ss', 'bool2int': 'ss', 'set_in': 'ss', 'bool_clause': 'll', 'array_bool_xor': 'l',
+    'array_bool_and': 'ls', 'array_bool_or': 'ls', 'fzn_all_different_int': 'l', 'fzn_table_int': 'll', 'fzn_table_bool': 'll',
+}
 LOOKED_UP = ('array_int_element', 'array_var_int_element', 'array_bool_element', 'array_var_bool_element')
+
+
+def is_shaped(name, arguments):
+    """Whether the arguments are as the constraint's signs want them: `l` a list, `s` none."""
+    if name.endswith('_reif'):
+        return len(arguments) > 1 and not isinstance(arguments[-1], list) and is_shaped(name[:-len('_reif')], arguments[:-1])
+    if name == 'bool_xor' and len(arguments) == 2:
+        return is_shaped('bool_not', arguments)
+    shape = SHAPES.get(name) or ('ss' if name in COMPARED else 'sls' if name in LOOKED_UP else 'sss')
+    return len(shape) == len(arguments) and all(
+        isinstance(argument, list) == (letter == 'l') for letter, argument in zip(shape, arguments))
 
 
 def shorten(text, most):
@@ -52,7 +68,8 @@ class Signs:
 
     def label_defined(self):
         """Labels by defining constraints; each pass labels what stands on those labelled before."""
-        waiting = [rule for rule in self.model.rules if self.defined_by(rule) is not None]
+        waiting = [rule for rule in self.model.rules
+                   if is_shaped(rule.name, rule.arguments) and self.defined_by(rule) is not None]
         for _ in range(8):
             rest = []
             for rule in waiting:
@@ -143,7 +160,9 @@ class Signs:
         return between.join(shown)
 
     def body(self, name, arguments):
-        """The text of a constraint."""
+        """The text of a constraint; one that is not known here is shown as it is written."""
+        if not is_shaped(name, arguments):
+            return '%s(%s)' % (name, self.terms(arguments))
         if name.endswith('_reif'):
             return '%s ⇔ %s' % (self.term(arguments[-1]), self.body(name[:-len('_reif')], arguments[:-1]))
         if name in COMPARED:

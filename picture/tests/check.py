@@ -16,7 +16,7 @@ import generate  # noqa: E402
 from browser import Browser  # noqa: E402
 from examples import HOSTILE, NAMES, example, small, text  # noqa: E402
 from folding import states_of  # noqa: E402
-from make import make_page  # noqa: E402
+from make import Texts, make_page  # noqa: E402
 
 MOST_TO_OPEN, MOST_TO_STEP = 3.0, .050
 
@@ -66,9 +66,10 @@ class Check:
             print('FAILED  %s%s' % (what, more and ': %s' % (more,)))
 
     def page(self, name, texts):
+        """The file of a page of these texts, `title` among them."""
         path = os.path.join(self.room, name + '.html')
         with open(path, 'w', encoding='utf-8') as file:
-            file.write(make_page(**texts))
+            file.write(make_page(Texts(**{part: given for part, given in texts.items() if part != 'title'}), texts['title']))
         return path
 
     def quiet(self, what):

@@ -12,7 +12,7 @@ def text(*path):
 
 
 def example(name):
-    """Model, story, log and measures of a run of an example, as words of `make_page`."""
+    """The texts of a run of an example, by the names that `Texts` has, and its title."""
     own_log = os.path.join(HERE, 'texts', name + '.log')
     found = {'model': text(MODELS, name + '.fzn'), 'story': text(HERE, 'texts', name + '.story'),
              'log': text(own_log) if os.path.exists(own_log) else text(MODELS, name + '.ngd'),

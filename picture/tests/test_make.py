@@ -13,13 +13,17 @@ sys.path.insert(0, os.path.join(HERE, '..'))
 
 from examples import HOSTILE, MODELS, NAMES, example, small, text  # noqa: E402
 from flatzinc import ModelError, read_model  # noqa: E402
-from make import Refused, make_page  # noqa: E402
+from make import Refused, Texts, make_page  # noqa: E402
 from signs import Signs  # noqa: E402
 
 
 def block(page, name):
     """The data of a block of the page."""
     return json.loads(re.search('<script type="application/json" id="%s">(.*?)</script>' % name, page)[1])
+
+
+def page_of(title, better=None, **texts):
+    return make_page(Texts(**texts), title, better)
 
 
 def labels(model):
@@ -36,14 +40,14 @@ class Pages(unittest.TestCase):
     def test_texts_stand_in_the_page(self):
         for name in NAMES:
             texts = example(name)
-            page = make_page(**texts)
+            page = page_of(**texts)
             for part in ('model', 'story', 'log', 'measures'):
                 self.assertEqual(block(page, 'text-' + part), texts[part], name)
             self.assertEqual(block(page, 'run')['title'], name)
             self.assertEqual([address for address in re.findall(r'https?://[^"\'\s]*', page) if 'w3.org' not in address], [], name)
 
     def test_hostile_texts_are_escaped(self):
-        page = make_page(**small()['hostile'])
+        page = page_of(**small()['hostile'])
         self.assertEqual(page.count('</script>'), 6)     # the run, four texts, the script
         self.assertNotIn('<img', page)
         self.assertEqual(block(page, 'run')['title'], HOSTILE)
@@ -51,26 +55,26 @@ class Pages(unittest.TestCase):
         self.assertIn('{{STORY}}', page)
 
     def test_long_names_are_shortened_and_told_apart(self):
-        found = block(make_page(**small()['hostile']), 'run')['variables']
+        found = block(page_of(**small()['hostile']), 'run')['variables']
         self.assertEqual(len({variable['label'] for variable in found}), 3)
         self.assertLess(max(len(variable['label']) for variable in found), 80)
 
     def test_small_runs_make_pages(self):
         for name, texts in small().items():
-            self.assertIn('<h1>', make_page(**texts), name)
+            self.assertIn('<h1>', page_of(**texts), name)
 
     def test_the_best_value_is_found_in_the_last_log(self):
         texts = example('makespan')
-        self.assertEqual(block(make_page(**texts), 'run')['best'], '7')
-        self.assertEqual(block(make_page(**texts, better=7), 'run')['best'], '7')
-        self.assertRaisesRegex(Refused, 'better values than 7', make_page, **texts, better=8)
-        self.assertRaisesRegex(Refused, 'no value of the aim', make_page, **texts, better=99)
+        self.assertEqual(block(page_of(**texts), 'run')['best'], '7')
+        self.assertEqual(block(page_of(**texts, better=7), 'run')['best'], '7')
+        self.assertRaisesRegex(Refused, 'better values than 7', page_of, **texts, better=8)
+        self.assertRaisesRegex(Refused, 'no value of the aim', page_of, **texts, better=99)
 
 
 class Refusals(unittest.TestCase):
     def refuses(self, message, **changed):
         texts = {**example('meeting'), **changed}
-        self.assertRaisesRegex(Refused, message, make_page, **texts)
+        self.assertRaisesRegex(Refused, message, page_of, **texts)
 
     def test_texts_of_different_runs(self):
         other = example('pigeons')
@@ -105,7 +109,7 @@ class Refusals(unittest.TestCase):
         self.refuses('order: it is no order', order='order 1\n1\nend\n')
         self.refuses('last log: the model aims at no variable', last_log=example('makespan')['last_log'])
         texts = example('makespan')
-        self.assertRaisesRegex(Refused, 'does not refute', make_page, **{**texts, 'last_log': texts['log']})
+        self.assertRaisesRegex(Refused, 'does not refute', page_of, **{**texts, 'last_log': texts['log']})
 
     def test_a_refused_call_writes_nothing(self):
         with tempfile.TemporaryDirectory() as room:
@@ -118,7 +122,7 @@ class Refusals(unittest.TestCase):
             self.assertTrue(refused.stderr.startswith('picture: log: line 2 does not fit the model'), refused.stderr)
             call[call.index('--log') + 1] = os.path.join(MODELS, 'meeting.ngd')
             self.assertEqual(subprocess.run(call).returncode, 0)
-            self.assertEqual(text(page), make_page(**example('meeting')))
+            self.assertEqual(text(page), page_of(**example('meeting')))
 
 
 class Models(unittest.TestCase):
@@ -137,6 +141,7 @@ class Models(unittest.TestCase):
             'array_bool_and([p,q],p)': 'p ⇔ (p ∧ q)', 'int_eq_reif(a,1,p)': 'p ⇔ a = 1', 'set_in(a,{1,3})': 'a ∈ {1, 3}',
             'array_int_element(a,[4,5],b)': 'b = [4, 5][a]', 'fzn_all_different_int([a,b,c])': 'all different: a, b, c',
             'fzn_table_int([a,b],[0,1,2,3])': '(a, b) ∈ {(0, 1), (2, 3)}', 'int_le(a,-3)': 'a ≤ −3', 'bool_xor(p,q)': 'p ≠ q',
+            'int_eq(a)': 'int_eq(a)', 'int_lin_le(a,b,c)': 'int_lin_le(a, b, c)', 'no_such(a,[b,1])': 'no_such(a, [b, 1])',
         }
         for constraint, shown in table.items():
             self.assertEqual(rules(head + 'constraint %s;\nsolve satisfy;\n' % constraint), [shown])
@@ -152,7 +157,8 @@ class Models(unittest.TestCase):
         self.assertEqual(read_model(model).aim, ('minimize', 1))
 
     def test_texts_that_are_no_models(self):
-        for model in ('var 1..2: x', 'constraint int_eq(x,1);', 'solve minimize;', 'array [1..1] of var int: a = 3;', 'var ?: x;'):
+        for model in ('var 1..2: x', 'constraint int_eq(x,1);', 'solve minimize;', 'array [1..1] of var int: a = 3;', 'var ?: x;',
+                      'var [[[[: x;', 'constraint int_eq([[1]]);', 'var 1..true: x;', 'solve', 'var', 'array [1..' + '[' * 9999):
             self.assertRaises(ModelError, read_model, model)
 
 

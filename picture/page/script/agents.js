@@ -5,9 +5,10 @@ const agentRows = [];
 
 function buildAgents() {
   for (const agent of order) {
-    const name = element('button', { class: 'name-button', onclick: () => choose(settings.agent === agent ? null : agent) });
+    const name = element('button', { class: 'name-button', onclick: () => chooseOrNot(agent) });
     const cells = ['values', 'knows', 'keeps'].map(look => element('div', { role: 'cell', class: look }));
-    const row = element('div', { role: 'row', class: 'agent-row' }, element('div', { role: 'rowheader' }, name), ...cells);
+    const head = element('div', { role: 'rowheader' }, name);
+    const row = element('div', { role: 'row', class: 'agent-row' }, head, ...cells);
     agentRows[agent] = { row, name, cells, drawn: null, look: '' };
     byId('agent-rows').append(row);
     byId('filter').append(element('option', { value: String(agent) }));
@@ -32,9 +33,10 @@ function drawAgents(state, event) {
     if (drawn.look !== look) drawn.row.className = drawn.look = look;
     if (saySame(drawn.drawn, part)) continue;
     drawn.drawn = part;
-    drawn.cells[0].replaceChildren(...valueChips(agent, part));
-    drawn.cells[1].replaceChildren(...viewPairs(part).map(pairChip), ...rest(part.view.size - MOST_PAIRS));
-    drawn.cells[2].replaceChildren(...part.kept.slice(0, MOST_PAIRS).map(nogoodSign), ...rest(part.kept.length - MOST_PAIRS));
+    const [values, knows, keeps] = drawn.cells;
+    values.replaceChildren(...valueChips(agent, part));
+    knows.replaceChildren(...viewPairs(part).map(pairChip), ...rest(part.view.size - MOST_PAIRS));
+    keeps.replaceChildren(...part.kept.slice(0, MOST_PAIRS).map(nogoodSign), ...rest(part.kept.length - MOST_PAIRS));
   }
   if (event.receiver !== null) bringToSight(byId('agents-scroll'), agentRows[event.receiver].row);
   drawChosen(state);
@@ -53,11 +55,14 @@ function rest(count) {
 
 /* The pairs of the view in the order of the agents. */
 function viewPairs(part, most = MOST_PAIRS) {
-  return [...part.view].map(([of, value]) => ({ of, value })).sort((a, b) => placeOf[a.of] - placeOf[b.of]).slice(0, most);
+  const pairs = [...part.view].map(([of, value]) => ({ of, value }));
+  return pairs.sort((a, b) => placeOf[a.of] - placeOf[b.of]).slice(0, most);
 }
 
 function nogoodSign(step) {
-  return element('span', { class: 'pair nogood-number', title: nogoodText(log.step(step).nogood) }, 'n' + step);
+  const sign = signed('n' + step);
+  sign.title = nogoodText(log.step(step).nogood);
+  return sign;
 }
 
 /* The values of the domain; of a large one, its own value and those that are ruled out. */
@@ -84,19 +89,26 @@ function valueChip(agent, part, value, reason) {
 // -- the chosen agent, with all in words
 
 function drawChosen(state) {
-  const agent = settings.agent, box = byId('chosen');
-  if (agent === null) return box.replaceChildren();
+  const agent = settings.agent;
+  if (agent === null) return byId('chosen').replaceChildren();
   const part = state.agents[agent], { name, label } = page.variables[agent];
-  const lines = [...reasonsOf(part)].slice(0, 100)
-    .map(([value, reason]) => `${valueText(agent, value)} is ruled out by ${reason}: ${reasonText(reason)}`);
-  const listOf = words => words.length ? element('ul', {}, ...words.map(line => element('li', {}, line))) : '';
+  const head = `${label}, agent ${numberOf(agent)}` + (name === label ? '' : `, ${shorten(name, 72)} in the FlatZinc`);
   const own = part.value === null ? 'no value' : valueText(agent, part.value);
-  box.replaceChildren(
-    element('h3', {}, `${label}, agent ${numberOf(agent)}` + (name === label ? '' : `, ${shorten(name, 72)} in the FlatZinc`)),
+  const view = viewPairs(part, 500).map(pairText).join(', ');
+  const ruledOut = [...reasonsOf(part)].slice(0, 100)
+    .map(([value, reason]) => `${valueText(agent, value)} is ruled out by ${reason}: ${reasonText(reason)}`);
+  const kept = part.kept.slice(0, 100).map(step => `n${step}: ${nogoodText(log.step(step).nogood)}`);
+  byId('chosen').replaceChildren(
+    element('h3', {}, head),
     element('span', {}, `It has ${own}${part.waits ? ' and waits' : ''}. Its domain is ${domainText(agent)}.`),
-    listOf(lines), element('span', {}, part.view.size ? `It knows ${viewPairs(part, 500).map(pairText).join(', ')}. ` : 'It knows no values of others. '),
-    element('span', {}, part.kept.length ? 'It keeps:' : 'It keeps no nogood.'),
-    listOf(part.kept.slice(0, 100).map(step => `n${step}: ${nogoodText(log.step(step).nogood)}`)));
+    ...listIfAny(ruledOut),
+    element('span', {}, view ? `It knows ${view}. ` : 'It knows no values of others. '),
+    element('span', {}, kept.length ? 'It keeps:' : 'It keeps no nogood.'),
+    ...listIfAny(kept));
+}
+
+function listIfAny(lines) {
+  return lines.length ? [element('ul', {}, ...lines.map(line => element('li', {}, line)))] : [];
 }
 
 function domainText(agent) {

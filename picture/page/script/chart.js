@@ -20,13 +20,16 @@ function layChart() {
   rows.style.height = rowCount() * ROW + 10 + 'px';
   rows.style.width = chart.width + 'px';
   byId('chart-band').style.width = byId('chart-veil').style.width = `max(100%, ${chart.width}px)`;
-  byId('chart').setAttribute('aria-label', `Message sequence chart of ${counted(last, 'delivery', 'deliveries')}; the same stands in words below`);
+  const deliveries = counted(last, 'delivery', 'deliveries');
+  byId('chart').setAttribute('aria-label', `Message sequence chart of ${deliveries}; the same stands in words below`);
   drawRowsInSight();
 }
 
 function drawRowsInSight() {
-  const box = byId('chart'), top = box.scrollTop - 300, bottom = box.scrollTop + box.clientHeight + 300;
-  const from = Math.max(0, Math.floor(top / ROW / PIECE)), to = Math.min(Math.ceil(rowCount() / PIECE) - 1, Math.floor(bottom / ROW / PIECE));
+  const box = byId('chart'), height = PIECE * ROW;
+  const from = Math.max(0, Math.floor((box.scrollTop - 300) / height));
+  const end = Math.floor((box.scrollTop + box.clientHeight + 300) / height);
+  const to = Math.min(Math.ceil(rowCount() / PIECE) - 1, end);
   for (const [number, piece] of [...chart.pieces]) {
     if (number >= from && number <= to) continue;
     piece.remove();
@@ -36,7 +39,7 @@ function drawRowsInSight() {
     if (chart.pieces.has(number)) continue;
     const piece = drawRows(number * PIECE, Math.min(rowCount(), (number + 1) * PIECE));
     piece.classList.add('piece');
-    piece.style.top = number * PIECE * ROW + 'px';
+    piece.style.top = number * height + 'px';
     byId('chart-rows').append(piece);
     chart.pieces.set(number, piece);
   }
@@ -57,7 +60,8 @@ function markChart(number) {
   }
   const message = story.delivered[number], names = byId('chart-names').offsetHeight;
   if (message) bringColumnToSight(message);
-  if (y < box.scrollTop + 2 * ROW || y + names > box.scrollTop + box.clientHeight - 3 * ROW) box.scrollTop = y - box.clientHeight * .5 + names;
+  const isSeen = y >= box.scrollTop + 2 * ROW && y + names <= box.scrollTop + box.clientHeight - 3 * ROW;
+  if (!isSeen) box.scrollTop = y - box.clientHeight * .5 + names;
   drawRowsInSight();
 }
 
@@ -74,10 +78,11 @@ function namesDrawing() {
   const turned = 8 * longestLabel > chart.column, letters = turned ? (agentCount <= 12 ? 28 : 22) : longestLabel;
   const longest = Math.min(longestLabel, letters);
   const height = (turned ? 20 + longest * 4.3 : 26) + (settings.numbers ? 16 : 0);
-  const names = shape('svg', { class: 'drawing', width: chart.width, height, viewBox: `0 0 ${chart.width} ${height}`, 'aria-hidden': 'true' });
+  const names = drawing(chart.width, height, []), y = height - (settings.numbers ? 24 : 9);
   for (const agent of order) {
-    const x = columnOf(agent), y = height - (settings.numbers ? 24 : 9), { name, label } = page.variables[agent];
-    const spot = turned ? { class: 'column-name turned', transform: `translate(${x - 2},${y}) rotate(-38)` } : { class: 'column-name', x, y, 'text-anchor': 'middle' };
+    const x = columnOf(agent), { name, label } = page.variables[agent];
+    const spot = turned ? { class: 'column-name turned', transform: `translate(${x - 2},${y}) rotate(-38)` }
+      : { class: 'column-name', x, y, 'text-anchor': 'middle' };
     const text = shape('text', spot, [shorten(label, letters)]);
     text.append(shape('title', {}, [name === label ? name : `${label} (${name})`]));
     names.append(text);
@@ -107,9 +112,8 @@ function drawRows(from, to) {
   view.reach = new Set([...reach, ...state.transit]);
   drawArrows(view);
   drawChain(view);
-  const drawing = shape('svg', { class: 'drawing', width: chart.width, height, viewBox: `0 0 ${chart.width} ${height}`, 'aria-hidden': 'true' },
-    [waitPattern(view.pattern), layers.rails, layers.chain, layers.arrows, layers.labels]);
-  return Object.assign(drawing, { view });
+  const parts = [waitPattern(view.pattern), layers.rails, layers.chain, layers.arrows, layers.labels];
+  return Object.assign(drawing(chart.width, height, parts), { view });
 }
 
 /* The arrows of the messages that reach into these rows; of those that only pass, at most so many. */
@@ -163,8 +167,12 @@ function drawRail(view, rail, until) {
 }
 
 function waitPattern(id) {
-  const parts = [shape('rect', { width: 5, height: 5, fill: 'var(--card)', opacity: .15 }), shape('rect', { width: 2.4, height: 5, fill: 'var(--nogood)' })];
-  return shape('defs', {}, [shape('pattern', { id, width: 5, height: 5, patternUnits: 'userSpaceOnUse', patternTransform: 'rotate(45)' }, parts)]);
+  const parts = [
+    shape('rect', { width: 5, height: 5, fill: 'var(--card)', opacity: .15 }),
+    shape('rect', { width: 2.4, height: 5, fill: 'var(--nogood)' }),
+  ];
+  const turned = { patternUnits: 'userSpaceOnUse', patternTransform: 'rotate(45)' };
+  return shape('defs', {}, [shape('pattern', { id, width: 5, height: 5, ...turned }, parts)]);
 }
 
 // -- rows: the number, the outcome, values that are taken, nogoods that are derived
@@ -173,15 +181,17 @@ function drawRow(view, event, before, after) {
   const { labels } = view.layers, y = view.y(event.number);
   if (event.number) labels.append(shape('text', { class: 'row-number', x: GUTTER - 14, y: y + 4 }, [event.number]));
   for (const deed of event.deeds) {
-    const x = columnOf(deed.agent === null ? order[0] || 0 : deed.agent);
-    if (deed.name === 'makes' && deed.agent !== null) labels.append(shape('path', { class: 'diamond', d: `M${x},${y - 8}l8,8l-8,8l-8,-8z` }));
+    if (deed.agent === null) continue;
+    const x = columnOf(deed.agent);
+    if (deed.name === 'makes') labels.append(shape('path', { class: 'diamond', d: `M${x},${y - 8}l8,8l-8,8l-8,-8z` }));
     if (deed.name === 'takes' && !(before && before.value === deed.value)) drawTaking(view, event, deed, x, y);
   }
   if (event.message) drawLabel(view, event.message, y);
   const { look, words } = outcomeOf(event, before, after);
   const letters = Math.floor((chart.outcome - 24) / 6.8) - words.length - 1;
   const name = event.message ? shorten(page.variables[event.receiver].label, Math.max(8, letters)) + ' ' : '';
-  const outcome = shape('text', { class: 'outcome ' + look, x: GUTTER + agentCount * chart.column + 16, y }, [name + words]);
+  const x = GUTTER + agentCount * chart.column + 16;
+  const outcome = shape('text', { class: 'outcome ' + look, x, y }, [name + words]);
   outcome.append(shape('title', {}, [sentenceOf(event, before, after)]));
   labels.append(outcome);
 }
@@ -189,8 +199,9 @@ function drawRow(view, event, before, after) {
 /* The value that is taken stands on the side of the rail that the message does not come from. */
 function drawTaking(view, event, deed, x, y) {
   const left = event.message && columnOf(event.message.from) > x;
+  const spot = left ? { x: x - 11, y, 'text-anchor': 'end' } : { x: x + 11, y };
   view.layers.labels.append(shape('rect', { class: 'taking', x: x - 7, y: y - 1, width: 14, height: 2 }),
-    shape('text', { class: 'value-label', x: left ? x - 11 : x + 11, y, 'text-anchor': left ? 'end' : 'start' }, [chartValue(deed.agent, deed.value)]));
+    shape('text', { class: 'value-label', ...spot }, [chartValue(deed.agent, deed.value)]));
 }
 
 // -- arrows: slanted from the sending, and level at the delivery, where the label stands
@@ -207,16 +218,19 @@ function levelEnd(message) {
   return { rail: x + side * 7, bend: x + side * Math.max(12, length), label: x + side * (16 + width / 2), width, side };
 }
 
+/* The way of an arrow up to its level end. */
+function wayTo(view, message, level, y) {
+  return `M${columnOf(message.from) - level.side * 6},${view.y(message.sent) + 2}L${level.bend},${y}`;
+}
+
 function drawArrow(view, message) {
-  const level = levelEnd(message), beginning = columnOf(message.from) - level.side * 6, begun = view.y(message.sent) + 2;
-  if (message.got === null) {
-    const y = (rowCount() - view.from) * ROW + 6;
-    view.layers.arrows.append(shape('path', { class: `line ${message.kind} undelivered`, d: `M${beginning},${begun}L${level.bend},${y}` }));
-    return;
-  }
-  const y = view.y(message.got), tip = level.rail + level.side * 8;
-  view.layers.arrows.append(shape('path', { class: 'line ' + message.kind, d: `M${beginning},${begun}L${level.bend},${y}H${tip}` }),
-    shape('path', { class: 'tip ' + message.kind, d: `M${level.rail},${y}L${tip},${y - 4}V${y + 4}z` }));
+  const level = levelEnd(message), isOpen = message.got === null;
+  const y = isOpen ? (rowCount() - view.from) * ROW + 6 : view.y(message.got), tip = level.rail + level.side * 8;
+  const way = wayTo(view, message, level, y), look = `line ${message.kind}` + (isOpen ? ' undelivered' : '');
+  view.layers.arrows.append(shape('path', { class: look, d: isOpen ? way : `${way}H${tip}` }));
+  if (isOpen) return;
+  const head = `M${level.rail},${y}L${tip},${y - 4}V${y + 4}z`;
+  view.layers.arrows.append(shape('path', { class: 'tip ' + message.kind, d: head }));
 }
 
 /* The messages of the causal chain that is shown, drawn below the arrows. */
@@ -225,15 +239,16 @@ function drawChain(view) {
   for (const id of view.reach) {
     if (!chart.chain.has(id)) continue;
     const message = story.messages[id], level = levelEnd(message);
-    const beginning = columnOf(message.from) - level.side * 6, begun = view.y(message.sent) + 2;
-    parts.push(shape('path', { class: 'chain', d: `M${beginning},${begun}L${level.bend},${view.y(message.got)}H${level.rail}` }));
+    const way = wayTo(view, message, level, view.y(message.got)) + 'H' + level.rail;
+    parts.push(shape('path', { class: 'chain', d: way }));
   }
   view.layers.chain.replaceChildren(...parts);
 }
 
 function drawLabel(view, message, y) {
   const { label, width } = levelEnd(message), { kind } = message;
-  const box = shape('rect', { class: 'label-box ' + kind, x: label - width / 2, y: y - 8, width, height: 16, rx: kind === 'ok' ? 8 : 3 });
+  const box = shape('rect', { class: 'label-box ' + kind, x: label - width / 2, y: y - 8, width, height: 16 });
+  box.setAttribute('rx', kind === 'ok' ? 8 : 3);
   const text = shape('text', { class: 'message-label ' + kind, x: label, y: y + .5 }, [cargoText(message)]);
   if (kind === 'ok') {
     box.style.fill = colourOf(message.from, message.cargo);

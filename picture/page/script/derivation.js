@@ -1,6 +1,6 @@
 // ---- Derivations as trees, whose parts are made when they are unfolded
 
-const MOST_UNFOLDED = 2000, MOST_LISTED = 40;
+const MOST_UNFOLDED = 2000, MOST_LISTED = 40, MOST_BELOW = 6;
 
 /* A tree in the given section. `steps` has the steps of a log; `place` tells the event that made a step, or null;
    `domain` tells the values of an agent. */
@@ -10,7 +10,7 @@ class Tree {
     this.box = section.querySelector('.tree');
     this.parents = new Map();      // of each step the one under which it is shown whole, and null at the top
     section.querySelector('.unfold').onclick = () => this.unfoldAll();
-    section.querySelector('.fold').onclick = () => this.box.querySelectorAll('details').forEach(part => { part.open = false; });
+    section.querySelector('.fold').onclick = () => this.foldAll();
     section.querySelector('.save').onclick = () => saveTree(this);
   }
 
@@ -24,9 +24,11 @@ class Tree {
       const cited = [...new Set(this.steps.step(number).reasons)].filter(reason => reason[0] === 'n');
       for (const reason of cited.reverse()) waiting.push([Number(reason.slice(1)), number]);
     }
-    this.box.append(this.part(root, null));
-    this.unfold(this.partOf(root));
-    if (this.steps.step(root).reasons.length <= 6) this.partOf(root).querySelectorAll(':scope > details').forEach(part => this.unfold(part));
+    const top = this.part(root, null);
+    this.box.append(top);
+    this.unfold(top);
+    const below = [...top.querySelectorAll(':scope > details')];
+    if (below.length <= MOST_BELOW) below.forEach(part => this.unfold(part));
     return this.parents.size;
   }
 
@@ -57,22 +59,24 @@ class Tree {
   /* The step as it is shown under `parent`, after what stands `before` it. */
   part(number, parent, before = []) {
     const step = this.steps.step(number);
-    const words = [...before, element('span', { class: 'nogood-number' }, 'n' + number), ' ', ...nogoodParts(step.nogood)];
-    if (this.parents.get(number) !== parent) {
-      const link = element('a', { href: '#' + this.id(number), onclick: pressed => { pressed.preventDefault(); this.reveal(number); } }, 'shown elsewhere');
-      return element('div', { class: 'case' }, ...words, ' ', link);
-    }
+    const words = [...before, signed('n' + number), ' ', ...nogoodParts(step.nogood)];
+    if (this.parents.get(number) !== parent) return element('div', { class: 'case' }, ...words, ' ', this.linkTo(number));
     const summary = element('summary', {}, ...words);
     if (step.maker !== null) summary.append(element('span', { class: 'sub' }, ' by ' + nameOf(step.maker)));
     const place = this.place(number);
-    if (place !== null) {
-      const show = pressed => { pressed.preventDefault(); go(place, true); };
-      summary.append(element('button', { class: 'at', title: 'Show where it was derived', onclick: show }, place ? 'delivery ' + place : 'start'));
-    }
+    if (place !== null) summary.append(placeButton(place));
     const part = element('details', { id: this.id(number) }, summary);
     part.addEventListener('toggle', () => part.open && this.fill(part, step));
     part.step = step;
     return part;
+  }
+
+  linkTo(number) {
+    const follow = pressed => {
+      pressed.preventDefault();
+      this.reveal(number);
+    };
+    return element('a', { href: '#' + this.id(number), onclick: follow }, 'shown elsewhere');
   }
 
   /* Makes what stands below a step: for each value of its agent the reason, values of one reason together. */
@@ -80,7 +84,8 @@ class Tree {
     if (part.filled) return;
     part.filled = true;
     if (step.maker === null) {
-      part.append(element('div', { class: 'case' }, element('span', { class: 'nogood-number' }, step.reasons[0]), ' ', reasonText(step.reasons[0]), ' is false'));
+      const [reason] = step.reasons;
+      part.append(element('div', { class: 'case' }, signed(reason), ' ', reasonText(reason), ' is false'));
       return;
     }
     const groups = new Map(), values = this.domain(step.maker);
@@ -88,14 +93,19 @@ class Tree {
     for (const [reason, ruledOut] of groups) {
       const chips = ruledOut.slice(0, MOST_CHIPS).map(value => chip(step.maker, value, 'current'));
       const before = [nameOf(step.maker), ' = ', ...chips, ...rest(ruledOut.length - MOST_CHIPS), ' ✗ '];
+      const constraint = () => [signed(reason), ' ', element('span', { class: 'reason' }, reasonText(reason))];
       part.append(reason[0] === 'n' ? this.part(Number(reason.slice(1)), step.number, before)
-        : element('div', { class: 'case' }, ...before, element('span', { class: 'nogood-number' }, reason), ' ', element('span', { class: 'reason' }, reasonText(reason))));
+        : element('div', { class: 'case' }, ...before, ...constraint()));
     }
   }
 
   unfold(part) {
     this.fill(part, part.step);
     part.open = true;
+  }
+
+  foldAll() {
+    for (const part of this.box.querySelectorAll('details')) part.open = false;
   }
 
   /* Unfolds all parts, as far as they are not too many. */
@@ -124,6 +134,16 @@ class Tree {
   }
 }
 
+/* A button in a summary that shows the delivery at which the step was made. */
+function placeButton(place) {
+  const show = pressed => {
+    pressed.preventDefault();
+    go(place, true);
+  };
+  const about = { class: 'at', title: 'Show where it was derived', onclick: show };
+  return element('button', about, place ? 'delivery ' + place : 'start');
+}
+
 const trees = [];
 
 function buildDerivation() {
@@ -133,12 +153,14 @@ function buildDerivation() {
   if (story.verdict === 'refuted') {
     title.textContent = 'Why there is no solution';
     const needed = tree.showProof(log.count);
-    hint.textContent = `The empty nogood, and what each value of its agent fell to. It needs ${grouped(needed)} of the ${grouped(log.count)} nogoods derived.`;
+    hint.textContent = 'The empty nogood, and what each value of its agent fell to. '
+      + `It needs ${grouped(needed)} of the ${grouped(log.count)} nogoods derived.`;
     return;
   }
   title.textContent = 'What was derived' + (page.aim && page.aim.variable !== null ? ' in round 1' : '');
   hint.textContent = log.count
-    ? `${counted(log.count, 'nogood')}, in order. Each follows from the constraints, whatever the agents’ values are.` : 'No nogood was needed.';
+    ? `${counted(log.count, 'nogood')}, in order. Each follows from the constraints, whatever the agents’ values are.`
+    : 'No nogood was needed.';
   section.querySelector('.tools').hidden = log.count === 0;
   tree.showList();
 }
@@ -153,10 +175,11 @@ function buildLastRound() {
   const tree = new Tree(byId('last-round'), steps, 'last-n', () => null, domain);
   trees.push(tree);
   const needed = tree.showProof(steps.count);
-  byId('last-round-title').textContent = page.best === null ? 'Why there is no better value'
-    : `Why no value of ${nameOf(aimed)} is better than ${valueText(aimed, page.best)}`;
+  const name = nameOf(aimed), best = page.best === null ? null : valueText(aimed, page.best);
+  byId('last-round-title').textContent = best === null ? 'Why there is no better value'
+    : `Why no value of ${name} is better than ${best}`;
   byId('last-round-hint').textContent = 'This is the last round of the search, another run than the one above: '
-    + (page.best === null ? `${nameOf(aimed)} had only better values left. ` : `${nameOf(aimed)} had only the values ${better} than ${valueText(aimed, page.best)} left. `)
+    + (best === null ? `${name} had only better values left. ` : `${name} had only the values ${better} than ${best} left. `)
     + `Its empty nogood needs ${grouped(needed)} of its ${grouped(steps.count)} nogoods.`;
 }
 

@@ -33,6 +33,16 @@ function shorten(text, most) {
   return text.slice(0, most - tail - 1) + '…' + text.slice(text.length - tail);
 }
 
+/* A number of the page's small signs, such as n3 or c2. */
+function signed(text) {
+  return element('span', { class: 'nogood-number' }, text);
+}
+
+/* The outermost element of a drawing. */
+function drawing(width, height, children, look = 'drawing') {
+  return shape('svg', { class: look, width, height, viewBox: `0 0 ${width} ${height}`, 'aria-hidden': 'true' }, children);
+}
+
 function counted(count, one, many = one + 's') {
   return `${grouped(count)} ${count === 1 ? one : many}`;
 }

@@ -4,8 +4,10 @@ const MOST_COLUMNS = 60;
 
 function buildFigures() {
   const measures = readMeasures(textOf('measures')), figure = name => measures.figures.get(name) ?? '?';
+  const kinds = [['ok', 'ok?'], ['nogood', 'nogood'], ['link', 'link']]
+    .map(([kind, word]) => `${grouped(figure('deliveries ' + kind))} ${word}`);
   const tiles = [
-    ['deliveries', `deliveries: ${grouped(figure('deliveries ok'))} ok?, ${grouped(figure('deliveries nogood'))} nogood, ${grouped(figure('deliveries link'))} link`],
+    ['deliveries', `deliveries: ${kinds.join(', ')}`],
     ['steps', 'nogoods derived'],
     ['longest-chain', 'messages in the longest causal chain'],
     ['concurrent-checks', `non-concurrent checks, of ${grouped(figure('checks'))} in all`],
@@ -13,9 +15,13 @@ function buildFigures() {
     ['transit', 'messages in transit at once, at the most'],
     ['links-added', 'links added'],
   ];
-  byId('tiles').append(...tiles.map(([name, words]) => element('div', { class: 'tile' }, element('b', {}, grouped(figure(name))), element('span', {}, words))));
+  for (const [name, words] of tiles) {
+    const number = element('b', {}, grouped(figure(name)));
+    byId('tiles').append(element('div', { class: 'tile' }, number, element('span', {}, words)));
+  }
   whenOpened('each-box', () => byId('each').replaceChildren(eachTable(measures)));
-  whenOpened('learned-box', () => byId('learned').replaceChildren(agentCount > MOST_COLUMNS ? learnedList(measures) : learnedTable(measures)));
+  const learned = agentCount > MOST_COLUMNS ? learnedList : learnedTable;
+  whenOpened('learned-box', () => byId('learned').replaceChildren(learned(measures)));
 }
 
 /* Parts of the page whose inside is made when they are opened, anew each time. */
@@ -35,29 +41,37 @@ function openPart(id) {
 }
 
 function eachTable(measures) {
-  const heads = ['Agent', 'sent: ok?', 'nogood', 'link', 'got: ok?', 'nogood', 'link', 'checks of constraints', 'of nogoods', 'nogoods kept, at most', 'values taken'];
-  const rows = measures.agents.map(({ agent, numbers }) =>
-    element('tr', {}, element('th', { scope: 'row' }, nameOf(agent, 40)), ...numbers.map(number => element('td', {}, grouped(number)))));
+  const heads = ['Agent', 'sent: ok?', 'nogood', 'link', 'got: ok?', 'nogood', 'link', 'checks of constraints', 'of nogoods',
+    'nogoods kept, at most', 'values taken'];
+  const rows = measures.agents.map(({ agent, numbers }) => {
+    const cells = numbers.map(number => element('td', {}, grouped(number)));
+    return element('tr', {}, element('th', { scope: 'row' }, nameOf(agent, 40)), ...cells);
+  });
   return element('table', {}, element('tr', {}, ...heads.map(head => element('th', { scope: 'col' }, head))), ...rows);
 }
 
 function learnedTable(measures) {
   const found = new Map(measures.learned.map(entry => [entry.by + ' ' + entry.of, entry]));
   const short = agent => agentCount <= 8 ? shorten(nameOf(agent), 16) : numberOf(agent);
-  const full = agent => agentCount <= 8 || settings.numbers ? nameOf(agent, 40) : `${nameOf(agent, 40)} (${numberOf(agent)})`;
-  const head = element('tr', {}, element('th', {}, ''), ...order.map(of => element('th', { scope: 'col', title: nameOf(of) }, short(of))));
-  const rows = order.map(by => element('tr', {}, element('th', { scope: 'row' }, full(by)), ...order.map(of => {
-    const entry = found.get(by + ' ' + of);
-    if (!entry) return element('td', {}, by === of ? '·' : '');
-    const cell = element('td', { class: 'share' }, `${entry.count}/${entry.all}`);
-    cell.style.setProperty('--part', entry.count / entry.all);
-    return cell;
-  })));
-  return element('table', {}, head, ...rows);
+  const named = agentCount <= 8 || settings.numbers;
+  const full = agent => named ? nameOf(agent, 40) : `${nameOf(agent, 40)} (${numberOf(agent)})`;
+  const heads = order.map(of => element('th', { scope: 'col', title: nameOf(of) }, short(of)));
+  const rows = order.map(by => {
+    const cells = order.map(of => by === of ? element('td', {}, '·') : shareCell(found.get(by + ' ' + of)));
+    return element('tr', {}, element('th', { scope: 'row' }, full(by)), ...cells);
+  });
+  return element('table', {}, element('tr', {}, element('th'), ...heads), ...rows);
+}
+
+function shareCell(entry) {
+  if (!entry) return element('td');
+  const cell = element('td', { class: 'share' }, `${entry.count}/${entry.all}`);
+  cell.style.setProperty('--part', entry.count / entry.all);
+  return cell;
 }
 
 function learnedList(measures) {
   const lines = measures.learned.slice(0, 1000)
-    .map(entry => element('li', {}, `${nameOf(entry.by)} learned ${entry.count} of ${entry.all} values of ${nameOf(entry.of)}`));
+    .map(({ by, of, count, all }) => element('li', {}, `${nameOf(by)} learned ${count} of ${all} values of ${nameOf(of)}`));
   return element('ul', {}, ...lines, ...rest(measures.learned.length - 1000));
 }

@@ -49,8 +49,7 @@ function buildGraph() {
   for (const agent of order) graph.nodes[agent] = buildNode(agent);
   for (const agent of order) layers.nodes.append(graph.nodes[agent].group);
   const look = 'drawing' + (agentCount > 14 ? ' many' : '');
-  byId('graph').append(shape('svg', { viewBox: `0 0 ${graph.width} ${graph.height}`, class: look, 'aria-hidden': 'true' },
-    [layers.edges, layers.nodes, layers.dots]));
+  byId('graph').append(drawing(graph.width, graph.height, [layers.edges, layers.nodes, layers.dots], look));
 }
 
 /* A line for each ordered pair of agents that some message goes over, shown from its first message on. Where they are
@@ -60,12 +59,15 @@ function buildEdges() {
     const key = message.from + '>' + message.to;
     if (graph.edges.has(key)) continue;
     const added = story.linked.has(pairKey(message.from, message.to));
-    graph.edges.set(key, { path: null, added, from: message.from, to: message.to, since: added ? message.sent : 0, look: null });
+    const since = added ? message.sent : 0;
+    graph.edges.set(key, { path: null, added, from: message.from, to: message.to, since, look: null });
   }
   graph.merged = graph.edges.size > MOST_EDGES;
   const edges = [...graph.edges.values()];
   if (graph.merged) {
-    graph.layers.edges.append(shape('path', { class: 'edge merged', d: edges.filter(edge => !edge.added).map(wayOf).join('') }), graph.layers.meant = shape('g'));
+    const ways = edges.filter(edge => !edge.added).map(wayOf).join('');
+    graph.layers.meant = shape('g');
+    graph.layers.edges.append(shape('path', { class: 'edge merged', d: ways }), graph.layers.meant);
   } else {
     for (const edge of edges) graph.layers.edges.append(edge.path = shape('path', { d: wayOf(edge) }));
   }
@@ -106,7 +108,7 @@ function buildNode(agent) {
   const title = shape('title');
   const group = shape('g', { transform: `translate(${spot.x},${spot.y})` },
     [shape('circle', { class: 'halo', r: radius + Math.min(5, radius / 3) }), body, value, badge, name, title]);
-  group.onclick = () => choose(settings.agent === agent ? null : agent);
+  group.onclick = () => chooseOrNot(agent);
   return { group, value, body, badge, kept, name, title, drawn: null };
 }
 
@@ -140,9 +142,9 @@ function drawGraph(state, event, jumped) {
   }
   drawEdges(state, message);
   drawDots(state, jumped);
-  byId('transit').textContent = state.transit.size
-    ? counted(state.transit.size, 'message') + ' in transit' + (state.transit.size > MOST_DOTS ? `, ${MOST_DOTS} of them drawn` : '')
-    : 'nothing in transit';
+  const transit = state.transit.size;
+  byId('transit').textContent = !transit ? 'nothing in transit'
+    : counted(transit, 'message') + ' in transit' + (transit > MOST_DOTS ? `, ${MOST_DOTS} of them drawn` : '');
   byId('graph').setAttribute('aria-label', graphLabel(state));
 }
 
@@ -233,36 +235,14 @@ function graphLabel(state) {
   if (agentCount > 30) return counted(agentCount, 'agent') + '; their values stand in the table of agents';
   const values = order.map(agent => {
     const part = state.agents[agent];
-    return nameOf(agent) + ' ' + (part.value === null ? 'no value' : valueText(agent, part.value)) + (part.waits ? ', waits' : '');
+    const value = part.value === null ? 'no value' : valueText(agent, part.value);
+    return `${nameOf(agent)} ${value}${part.waits ? ', waits' : ''}`;
   });
   const transit = [...state.transit].slice(0, 30).map(id => {
     const { kind, cargo, from, to } = story.messages[id];
-    const what = kind === 'ok' ? 'value ' + valueText(from, cargo) : kind === 'nogood' ? 'nogood n' + cargo : 'link request';
+    const told = kind === 'nogood' ? 'nogood n' + cargo : 'link request';
+    const what = kind === 'ok' ? 'value ' + valueText(from, cargo) : told;
     return `${what} from ${nameOf(from)} to ${nameOf(to)}`;
   });
   return `Values: ${values.join('; ')}. In transit: ${transit.join('; ') || 'nothing'}.`;
-}
-
-// -- the legend
-
-function buildLegend() {
-  const picture = (...kids) => shape('svg', { class: 'drawing', width: 52, height: 18, viewBox: '0 0 52 18', 'aria-hidden': 'true' }, kids);
-  const arrow = kind => picture(shape('path', { class: 'line ' + kind, d: 'M4,9H40' }), shape('path', { class: 'tip ' + kind, d: 'M39,5L48,9L39,13z' }));
-  const ring = (look, ...kids) => picture(shape('g', { class: look, transform: 'translate(26,9)' }, [shape('circle', { class: 'halo', r: 7 }), ...kids]));
-  const put = (sample, words) => byId('legend').append(element('div', {}, element('span', { class: 'sample' }, sample), element('span', {}, words)));
-  put(arrow('ok'), 'ok?: an agent tells its value');
-  put(arrow('nogood'), 'a nogood: values that cannot stand together, told to the lowest of the agents in it');
-  put(arrow('link'), 'a link request: an agent asks to be told the values of another');
-  put(picture(shape('rect', { x: 16, y: 1, width: 20, height: 16, rx: 8, fill: FEW[0] })), 'a message in transit or an agent’s value; each value has a colour of its own');
-  put(ring('now'), 'the agent that got the message of this delivery');
-  put(ring('waits'), 'the agent waits: it has sent a nogood, and its view has not changed since');
-  put(ring('node', shape('g', { class: 'badge' }, [shape('circle', { r: 8 }), Object.assign(shape('text'), { textContent: '2' })])), 'how many nogoods the agent keeps');
-  put(picture(shape('path', { class: 'diamond', d: 'M26,1l8,8l-8,8l-8,-8z' })), 'a nogood is derived here');
-  put(picture(shape('rect', { x: 21, y: 0, width: 10, height: 18, fill: FEW[1] }), shape('rect', { class: 'taking', x: 19, y: 8, width: 14, height: 2 })), 'in the chart, an agent’s value over time; the bar shows where it is taken');
-  put(picture(waitPattern('legend-waits'), shape('rect', { x: 21, y: 0, width: 10, height: 18, fill: FEW[1] }), shape('rect', { x: 21, y: 0, width: 10, height: 18, fill: 'url(#legend-waits)' })), 'hatched: the agent waits');
-  put(picture(shape('path', { class: 'chain', d: 'M4,9H48' })), 'the causal chain: each message was sent when the one before it was delivered, or later by the same agent');
-  put(element('span', { class: 'chip out' }, element('span', {}, '9'), element('span', { class: 'why' }, 'c2')), 'a value that is ruled out, with the reason: constraint c2 of the model, or nogood n2');
-  put('⟦x < y⟧', 'true or false: whether the constraint in the brackets holds; [x < y] is the same as 1 or 0');
-  put('¬ ∧ ∨ ⇔', 'not; and; or; exactly where');
-  put('← →', 'keys: one delivery back and on, Home to the start, End to the end; space plays and pauses, n goes to the next nogood');
 }

@@ -6,7 +6,8 @@ function showHead() {
   const verdicts = { solved: '✓ solved', refuted: '✗ no solution', open: 'unfinished' };
   byId('verdict').textContent = verdicts[story.verdict];
   byId('verdict').classList.add(story.verdict);
-  byId('lead').textContent = `${counted(agentCount, 'agent')}, ${counted(page.rules.length, 'constraint')}` + searchWords();
+  const counts = [counted(agentCount, 'agent'), counted(page.rules.length, 'constraint')];
+  byId('lead').textContent = counts.join(', ') + searchWords();
 }
 
 /* Of a model with an aim: which round is shown, and how the search ended. */
@@ -14,14 +15,18 @@ function searchWords() {
   if (!page.aim) return '';
   const { sense, variable } = page.aim;
   if (variable === null) return '. The aim is a number, so any solution is best';
-  const words = `. Round 1 of a search for the ${sense === 'minimize' ? 'least' : 'greatest'} value of ${nameOf(variable)}`;
+  const wanted = sense === 'minimize' ? 'least' : 'greatest';
+  const words = `. Round 1 of a search for the ${wanted} value of ${nameOf(variable)}`;
   return page.best === null ? words : `${words}; the search found ${valueText(variable, page.best)}`;
 }
 
 function buildRules() {
   byId('rules-count').textContent = grouped(page.rules.length);
-  whenOpened('rules-box', () => byId('rules').replaceChildren(...page.rules.slice(0, MOST_RULES).map((text, place) =>
-    element('li', {}, element('span', { class: 'nogood-number' }, 'c' + (place + 1)), ' ', text)), ...rest(page.rules.length - MOST_RULES)));
+  whenOpened('rules-box', () => {
+    const line = (text, place) => element('li', {}, signed('c' + (place + 1)), ' ', text);
+    const lines = page.rules.slice(0, MOST_RULES).map(line);
+    byId('rules').replaceChildren(...lines, ...rest(page.rules.length - MOST_RULES));
+  });
 }
 
 function changeTheme() {

@@ -65,9 +65,10 @@ function domainOf(agent, most = Infinity) {
 }
 
 // -- colours: one for each value, whoever has it. Each value is also written, so no colour is needed to read the page.
+// Those for few values were chosen so that any two are apart in sight of all colours, and where one of three is missing.
 
-const FEW = ['#56a5d8', '#f0a63a', '#3aa77f', '#c78bd0', '#f3dc5b', '#5566b8', '#a7846a', '#9fd0c0',
-  '#1f5f8b', '#f6cfa0', '#1d6b4f', '#8a4f96', '#b9c4f0', '#6b4a33', '#e58a8a', '#5c6470'];
+const FEW = ['#56a5d8', '#f0a63a', '#24644f', '#f2df7e', '#4a3fb0', '#7d5912', '#c4e9d0', '#99a366',
+  '#7d126b', '#eb7099', '#9970eb', '#94e0f0', '#7d1224', '#737345', '#b42d9d', '#b4872d'];
 const MANY = ['#00336f', '#3f4c6b', '#666970', '#8b8779', '#b4a76f', '#dfca5a', '#ffe945'];
 const TRUE_FALSE = ['#c3cad5', '#4a5f86'];
 

@@ -1,19 +1,17 @@
 // ---- Moving through the run
 
-const player = { state: stateAt(0), event: null, timer: null, hash: null };
+const player = { state: blankState(), event: null, sentence: '', timer: null, naming: null };
 
 /* Shows the run after this delivery. `jumped` leaves out the movement of messages. */
 function go(wanted, jumped) {
-  const number = clamp(wanted, 0, last), forward = player.event !== null && number === player.state.at + 1;
-  if (!forward && !(player.event !== null && number === player.state.at)) player.state = seek(player.state, number - 1);
-  if (player.state.at < number) {
-    const event = eventOf(story, number);
-    const before = event.receiver === null ? null : player.state.agents[event.receiver];
-    advance(player.state);
-    player.event = event;
-    player.sentence = sentenceOf(event, before, event.receiver === null ? null : player.state.agents[event.receiver]);
-  }
-  drawEvent(jumped || !forward);
+  const number = clamp(wanted, 0, last), isNext = number === player.state.at + 1;
+  player.state = seek(player.state, number - 1);
+  const { state } = player, event = eventOf(story, number), { receiver } = event;
+  const before = receiver === null ? null : state.agents[receiver];
+  advance(state);
+  player.event = event;
+  player.sentence = sentenceOf(event, before, receiver === null ? null : state.agents[receiver]);
+  drawEvent(jumped || !isNext);
 }
 
 /* Shows the state of the player in all parts of the page. */
@@ -24,7 +22,8 @@ function drawEvent(jumped) {
   if (settings.chain === 'here') showChain();
   markChart(number);
   markStrip(number);
-  const count = number ? `Delivery ${grouped(number)} of ${grouped(last)}` : `Start of ${counted(last, 'delivery', 'deliveries')}`;
+  const count = number ? `Delivery ${grouped(number)} of ${grouped(last)}`
+    : `Start of ${counted(last, 'delivery', 'deliveries')}`;
   byId('count').textContent = count;
   byId('sentence').textContent = player.sentence;
   if (!player.timer) byId('live').textContent = `${count}. ${player.sentence}`;
@@ -39,8 +38,8 @@ function drawEvent(jumped) {
 
 /* The address names the delivery, a moment after the last move, so that it can be handed on. */
 function nameInAddress(number) {
-  clearTimeout(player.hash);
-  player.hash = setTimeout(() => {
+  clearTimeout(player.naming);
+  player.naming = setTimeout(() => {
     if (addressed() !== number) history.replaceState(null, '', '#d=' + number);
   }, 250);
 }
@@ -77,13 +76,20 @@ function goToNextNogood() {
   else byId('live').textContent = 'No nogood is derived after this.';
 }
 
+const WHOLE_CHART = byId('chart-hint').textContent;
+
+function chooseOrNot(agent) {
+  choose(settings.agent === agent ? null : agent);
+}
+
 /* Shows an agent alone in the chart and marks it everywhere, or all agents. */
 function choose(agent) {
   settings.agent = agent;
   chart.rows = agent === null ? null : eventsWith(agent);
   byId('filter').value = agent === null ? '' : String(agent);
-  byId('chart-hint').textContent = agent === null ? 'Time runs down; an arrow leads from a message’s sending to its delivery.'
-    : `The ${counted(chart.rows.length - 1, 'delivery', 'deliveries')} to or from ${nameOf(agent, 30)}; play and step go from one to the next.`;
+  const count = agent === null ? '' : counted(chart.rows.length - 1, 'delivery', 'deliveries');
+  byId('chart-hint').textContent = agent === null ? WHOLE_CHART
+    : `The ${count} to or from ${nameOf(agent, 30)}; steps go from one to the next.`;
   layChart();
   drawEvent(true);
   const box = byId('chart');
@@ -115,9 +121,12 @@ function showWords() {
 
 function fillWords(from, to) {
   const lines = [];
-  walk(from, to, (event, before, after) => lines.push(element('li', { value: event.number }, sentenceOf(event, before, after))));
+  walk(from, to, (event, before, after) => {
+    lines.push(element('li', { value: event.number }, sentenceOf(event, before, after)));
+  });
   byId('words').replaceChildren(...lines);
-  byId('words-range').textContent = to - from === last ? '' : `deliveries ${grouped(from)} to ${grouped(to)}, around the one that is shown`;
+  byId('words-range').textContent = to - from === last ? ''
+    : `deliveries ${grouped(from)} to ${grouped(to)}, around the one that is shown`;
 }
 
 // -- buttons and keys
@@ -134,8 +143,15 @@ function listen() {
   byId('slider').max = last;
   byId('slider').oninput = () => move(Number(byId('slider').value), true);
   byId('filter').onchange = () => choose(byId('filter').value === '' ? null : Number(byId('filter').value));
-  byId('chain').onchange = () => { settings.chain = byId('chain').value; showChain(); };
-  byId('numbers').onchange = () => { settings.numbers = byId('numbers').checked; nameAll(); player.event = null; go(player.state.at, true); };
+  byId('chain').onchange = () => {
+    settings.chain = byId('chain').value;
+    showChain();
+  };
+  byId('numbers').onchange = () => {
+    settings.numbers = byId('numbers').checked;
+    nameAll();
+    go(player.state.at, true);
+  };
   addEventListener('hashchange', () => addressed() !== null && move(addressed(), true));
   addEventListener('keydown', pressKey);
 }

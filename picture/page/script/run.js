@@ -10,7 +10,8 @@ const agentCount = page.variables.length;
 
 /* The state before the start. What `agents` holds is shared with kept states, and copied before it is changed. */
 function blankState() {
-  const agents = Array.from({ length: agentCount }, () => ({ value: null, waits: false, view: new Map(), kept: [], out: '' }));
+  const part = () => ({ value: null, waits: false, view: new Map(), kept: [], out: '' });
+  const agents = Array.from({ length: agentCount }, part);
   return { at: -1, agents, transit: new Set(), own: new Set() };
 }
 

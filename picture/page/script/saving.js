@@ -6,13 +6,14 @@ const TREE_LINE = 22, TREE_INDENT = 22;
 function drawingRules() {
   const rules = [...document.styleSheets[0].cssRules];
   const colours = rules[0].cssText.replace(':root', 'svg');
-  return [colours, ...rules.filter(rule => (rule.selectorText || '').startsWith('.drawing')).map(rule => rule.cssText)].join('\n');
+  const ofDrawings = rules.filter(rule => (rule.selectorText || '').startsWith('.drawing'));
+  return [colours, ...ofDrawings.map(rule => rule.cssText)].join('\n');
 }
 
 function saveDrawing(parts, width, height, name) {
   const style = shape('style', {}, [drawingRules()]);
   const ground = shape('rect', { width, height, fill: '#fff' });
-  const whole = shape('svg', { xmlns: SVG, class: 'drawing', width, height, viewBox: `0 0 ${width} ${height}` }, [style, ground, ...parts]);
+  const whole = drawing(width, height, [style, ground, ...parts]);
   saveFile(new XMLSerializer().serializeToString(whole), 'image/svg+xml', name + '.svg');
 }
 
@@ -69,17 +70,19 @@ function lineText(line) {
 // -- the texts
 
 const MOST_SHOWN = 200000;
+const TEXTS = [
+  ['story', 'Story', 'story.txt'], ['log', 'Log', 'log.ngd'], ['measures', 'Measures', 'measures.txt'],
+  ['model', 'Model', 'model.fzn'], ['last-log', 'Log of the last round', 'last-round.ngd'],
+];
 
 function buildTexts() {
-  const texts = { story: 'Story', log: 'Log', measures: 'Measures', model: 'Model', 'last-log': 'Log of the last round' };
-  const endings = { story: 'story.txt', log: 'log.ngd', measures: 'measures.txt', model: 'model.fzn', 'last-log': 'last-round.ngd' };
   const parts = [];
-  for (const name in texts) {
+  for (const [name, head, file] of TEXTS) {
     const text = textOf(name);
     if (text === null) continue;
-    const save = element('button', { class: 'small', onclick: () => saveFile(text, 'text/plain', endings[name]) }, 'Save');
+    const save = element('button', { class: 'small', onclick: () => saveFile(text, 'text/plain', file) }, 'Save');
     const shown = text.length > MOST_SHOWN ? text.slice(0, MOST_SHOWN) + '…' : text;
-    parts.push(element('h3', {}, texts[name] + ' ', save), element('pre', { tabindex: '0' }, shown));
+    parts.push(element('h3', {}, head + ' ', save), element('pre', { tabindex: '0' }, shown));
   }
   byId('texts').replaceChildren(...parts);
 }

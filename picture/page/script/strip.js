@@ -29,7 +29,8 @@ function buildStrip() {
   strip.append(shape('path', { d: area + `L${bins},${STRIP_HEIGHT}z`, fill: 'var(--rail)', opacity: .6 }));
   const colours = { ok: 'var(--rail)', nogood: 'var(--nogood)', link: 'var(--link)', made: 'var(--nogood)' };
   for (const name in marks) strip.append(shape('path', { d: marks[name], fill: colours[name] }));
-  strip.cursor = shape('rect', { y: 0, height: STRIP_HEIGHT, width: Math.max(1, bins / 300), fill: 'var(--accent)', opacity: .5 });
+  const width = Math.max(1, bins / 300);
+  strip.cursor = shape('rect', { y: 0, height: STRIP_HEIGHT, width, fill: 'var(--accent)', opacity: .5 });
   strip.perBin = per;
   strip.append(strip.cursor);
 }

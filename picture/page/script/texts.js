@@ -74,7 +74,8 @@ function deedsOf(story, number) {
   for (const line of story.text.slice(story.starts[number], story.starts[number + 1]).split('\n')) {
     const words = line.split(' ');
     if (words.length < 3 || words[1].includes('>')) continue;
-    const deed = { agent: words[1] === '-' ? null : indexOf(words[1]), name: words[2], step: null, of: null, value: null, reasons: '' };
+    const agent = words[1] === '-' ? null : indexOf(words[1]);
+    const deed = { agent, name: words[2], step: null, of: null, value: null, reasons: '' };
     if (deed.name === 'knows') {
       const sign = words[3].indexOf('=');
       deed.of = indexOf(words[3].slice(0, sign));
@@ -106,7 +107,8 @@ function readLog(text) {
     if (text[at] !== 'd') starts.push(at);
     at = text.indexOf('\n', at) + 1;
   }
-  return { count: starts.length - 1, step: number => readStep(text.slice(starts[number], text.indexOf('\n', starts[number]))) };
+  const line = number => text.slice(starts[number], text.indexOf('\n', starts[number]));
+  return { count: starts.length - 1, step: number => readStep(line(number)) };
 }
 
 function readStep(line) {
@@ -128,7 +130,8 @@ function readMeasures(text) {
   for (const line of text.split('\n')) {
     const words = line.split(' ');
     if (/^v\d+$/.test(words[0]) && words[1] === 'learned') {
-      measures.learned.push({ by: indexOf(words[0]), of: indexOf(words[2]), count: Number(words[3]), all: Number(words[5]) });
+      const [by, , of, count, , all] = words;
+      measures.learned.push({ by: indexOf(by), of: indexOf(of), count: Number(count), all: Number(all) });
     } else if (/^v\d+$/.test(words[0])) {
       measures.agents.push({ agent: indexOf(words[0]), numbers: words.slice(1).filter(word => /^\d+$/.test(word)) });
     } else {

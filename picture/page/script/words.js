@@ -21,7 +21,8 @@ function startSentence(event) {
     return `Start. ${signedReason(reason)}, which has no variables, is false: there is no solution.`;
   }
   if (!agentCount) return 'The model has no variables, so there is nothing to agree on: it is solved.';
-  const first = 'Start. Each agent takes the least value that its own constraints allow, and tells it to the agents below it that listen.';
+  const first = 'Start. Each agent takes the least value that its own constraints allow, '
+    + 'and tells it to the agents below it that listen.';
   if (made.length) return `${first} ${nameOf(made[0].agent)} has no such value: there is no solution.`;
   return last === 0 && story.verdict === 'solved' ? first + ' No message is needed: the values are a solution.' : first;
 }
@@ -39,10 +40,13 @@ function arrival(event) {
     return known.length ? told : told + ' It has newer news of it, so nothing changes.';
   }
   if (message.kind === 'link') return `${sender} asks ${receiver} to be told its values.`;
-  let told = `${receiver} gets nogood n${message.cargo} from ${sender}: ${nogoodText(log.step(Number(message.cargo)).nogood)}.`;
+  const { nogood } = log.step(Number(message.cargo));
+  let told = `${receiver} gets nogood n${message.cargo} from ${sender}: ${nogoodText(nogood)}.`;
   if (known.length) told += ` From it, it learns ${listed(known.map(pairText))}.`;
   if (deedsNamed(event, 'keeps').length) told += ' It keeps it.';
-  if (deedsNamed(event, 'refuses').length) told += ' It does not keep it, since it knows of other values or has one against this value already.';
+  if (deedsNamed(event, 'refuses').length) {
+    told += ' It does not keep it, since it knows of other values or has one against this value already.';
+  }
   return told;
 }
 
@@ -58,11 +62,14 @@ function answer(event, before, after) {
   }
   if (made) {
     const { nogood } = log.step(made.step);
-    if (!nogood.length) return ` None of its values is left: it derives n${made.step}, the empty nogood. There is no solution.`;
     const to = event.sent.filter(message => message.kind === 'nogood').map(message => message.to);
-    return ` None of its values is left: it derives n${made.step}, ${nogoodText(nogood)}, sends it to ${someNames(to)} and waits.`;
+    return ` None of its values is left: it derives n${made.step}, ${nogoodText(nogood)}`
+      + (nogood.length ? `, sends it to ${someNames(to)} and waits.` : '. There is no solution.');
   }
-  if (event.message.kind === 'link') return told.length ? ` ${nameOf(event.receiver)} answers that it has ${valueText(event.receiver, event.sent[0].cargo)}.` : '';
+  if (event.message.kind === 'link') {
+    const [sent] = event.sent;
+    return sent ? ` ${nameOf(event.receiver)} answers that it has ${valueText(event.receiver, sent.cargo)}.` : '';
+  }
   if (!event.deeds.length) return '';
   return after.waits ? ' It still waits.' : ` Its value ${valueText(event.receiver, after.value)} stays.`;
 }
@@ -72,21 +79,32 @@ function sentenceOf(event, before, after) {
   if (event.number === 0) return startSentence(event);
   let words = arrival(event);
   const forgotten = deedsNamed(event, 'forgets').map(deed => 'n' + deed.step);
-  if (forgotten.length) words += ` It forgets ${listed(forgotten)}, which ${forgotten.length > 1 ? 'do' : 'does'} not fit what it knows now.`;
+  if (forgotten.length) {
+    words += ` It forgets ${listed(forgotten)}, which ${forgotten.length > 1 ? 'do' : 'does'} not fit what it knows now.`;
+  }
   const asked = event.sent.filter(message => message.kind === 'link').map(message => message.to);
   if (asked.length) words += ` It asks ${someNames(asked)} for a link.`;
   words += answer(event, before, after);
-  if (event.number === last && story.verdict === 'solved') words += ' Nothing is in transit any more: the values are a solution.';
-  if (event.number === last && story.verdict === 'open') words += ' The run was stopped here, with messages in transit.';
-  return words;
+  const endings = {
+    solved: ' Nothing is in transit any more: the values are a solution.',
+    open: ' The run was stopped here, with messages in transit.',
+    refuted: '',
+  };
+  return event.number === last ? words + endings[story.verdict] : words;
 }
 
 /* The event in a few words, with the look that they have in the chart; they follow the name of the agent. */
 function outcomeOf(event, before, after) {
   if (event.number === 0) return { look: '', words: agentCount ? 'all take a first value' : '' };
-  const made = deedsNamed(event, 'makes')[0], took = deedsNamed(event, 'takes')[0], refused = deedsNamed(event, 'refuses')[0];
-  if (made) return { look: 'nogood', words: `derives n${made.step}` + (log.step(made.step).nogood.length ? '' : ', which is empty') };
-  if (took) return { look: 'takes', words: (before.value === took.value ? 'stays at ' : 'changes to ') + valueText(event.receiver, took.value) };
+  const [made, took, refused] = ['makes', 'takes', 'refuses'].map(name => deedsNamed(event, name)[0]);
+  if (made) {
+    const isEmpty = !log.step(made.step).nogood.length;
+    return { look: 'nogood', words: `derives n${made.step}${isEmpty ? ', which is empty' : ''}` };
+  }
+  if (took) {
+    const change = before.value === took.value ? 'stays at ' : 'changes to ';
+    return { look: 'takes', words: change + valueText(event.receiver, took.value) };
+  }
   if (event.message.kind === 'link') return { look: '', words: 'answers' };
   if (!event.deeds.length) return { look: '', words: 'has newer news' };
   const dropped = refused ? `drops n${refused.step}, ` : '';
