@@ -16,6 +16,9 @@ TOKEN = re.compile(r'''
 ''', re.VERBOSE)
 
 
+LONGEST_NUMBER = 100     # characters; the program takes numbers of 64 bits, with leading zeros
+
+
 class ModelError(Exception):
     """The text is not read; the message names the line."""
 
@@ -82,7 +85,7 @@ def tokens_of(text):
     place, found = 0, []
     while place < len(text):
         match = TOKEN.match(text, place)
-        if match is None:
+        if match is None or match.lastgroup == 'whole' and len(match.group()) > LONGEST_NUMBER:
             raise ModelError('line %d' % (text.count('\n', 0, place) + 1))
         if match.lastgroup != 'gap':
             found.append((match.lastgroup, match.group(), place))

@@ -46,13 +46,14 @@ def make_page(texts, title, better=None):
     except ModelError as error:
         raise Refused(3, 'model: %s is not read' % error) from None
     try:
-        agree(StoryReader(model).read(texts.story), read_log('log', texts.log, model), read_measures(texts.measures))
+        agree(StoryReader(model).read(texts.story), read_log('log', texts.log, model), read_measures(texts.measures, model))
         order = list(range(len(model.variables))) if texts.order is None else read_order(texts.order, model)
         best = None if texts.last_log is None else best_value(model, texts, better)
     except TextError as error:
         raise Refused(4, str(error)) from None
     run = {'title': title, 'order': order, 'best': None if best is None else str(best), **model_data(model)}
-    shown = {'model': texts.model, 'story': texts.story, 'log': texts.log, 'measures': texts.measures, 'last-log': texts.last_log}
+    shown = {'model': texts.model, 'story': texts.story, 'log': texts.log, 'measures': texts.measures,
+             'last-log': texts.last_log}
     return fill(title, run, {name: text for name, text in shown.items() if text is not None})
 
 

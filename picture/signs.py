@@ -19,7 +19,8 @@ GATHERED = {'array_bool_and': ' ∧ ', 'array_bool_or': ' ∨ '}
 SHAPES = {
     'int_lin_eq': 'lls', 'int_lin_ne': 'lls', 'int_lin_le': 'lls', 'bool_lin_eq': 'lls', 'bool_lin_le': 'lls',
     'int_abs': 'ss', 'bool2int': 'ss', 'set_in': 'ss', 'bool_clause': 'll', 'array_bool_xor': 'l',
-    'array_bool_and': 'ls', 'array_bool_or': 'ls', 'fzn_all_different_int': 'l', 'fzn_table_int': 'll', 'fzn_table_bool': 'll',
+    'array_bool_and': 'ls', 'array_bool_or': 'ls', 'fzn_all_different_int': 'l',
+    'fzn_table_int': 'll', 'fzn_table_bool': 'll',
 }
 LOOKED_UP = ('array_int_element', 'array_var_int_element', 'array_bool_element', 'array_var_bool_element')
 
@@ -27,7 +28,8 @@ LOOKED_UP = ('array_int_element', 'array_var_int_element', 'array_bool_element',
 def is_shaped(name, arguments):
     """Whether the arguments are as the constraint's signs want them: `l` a list, `s` none."""
     if name.endswith('_reif'):
-        return len(arguments) > 1 and not isinstance(arguments[-1], list) and is_shaped(name[:-len('_reif')], arguments[:-1])
+        rest = arguments[:-1]
+        return bool(rest) and not isinstance(arguments[-1], list) and is_shaped(name[:-len('_reif')], rest)
     if name == 'bool_xor' and len(arguments) == 2:
         return is_shaped('bool_not', arguments)
     shape = SHAPES.get(name) or ('ss' if name in COMPARED else 'sls' if name in LOOKED_UP else 'sss')

@@ -7,13 +7,15 @@ import re
 from collections import Counter, deque
 from dataclasses import dataclass, field
 
-VALUE = r'-?\d{1,19}'
-CARGO = r'(?:ok %s|nogood \d+|link)' % VALUE
-DELIVERY = re.compile(r'(\d+) v(\d+)>v(\d+) (%s)' % CARGO)
-DEED = re.compile(r'(\d+) (?:v(\d+)|-) (?:(knows) v(\d+)=(%s)|(forgets|keeps|refuses|makes) n(\d+)'
-                  r'|(out)((?: %s:[cn]\d+)*)|(takes) (%s)|(sends) v(\d+) (%s))' % (VALUE, VALUE, VALUE, CARGO))
-STEP = re.compile(r'(\d+) (?:v(\d+)|-) \[((?:v\d+=%s(?:,v\d+=%s)*)?)\] <-((?: [cn]\d+)*)' % (VALUE, VALUE))
-PAIR = re.compile(r'v(\d+)=(%s)' % VALUE)
+NUMBER = '(?:0|[1-9][0-9]{0,18})'
+VALUE = '(?:0|-?[1-9][0-9]{0,18})'
+CARGO = r'(?:ok %s|nogood %s|link)' % (VALUE, NUMBER)
+DELIVERY = re.compile(r'(N) v(N)>v(N) (C)'.replace('N', NUMBER).replace('C', CARGO))
+DEED = re.compile(r'(N) (?:v(N)|-) (?:(knows) v(N)=(V)|(forgets|keeps|refuses|makes) n(N)'
+                  r'|(out)((?: V:[cn]N)*)|(takes) (V)|(sends) v(N) (C))'
+                  .replace('N', NUMBER).replace('V', VALUE).replace('C', CARGO))
+STEP = re.compile(r'(N) (?:v(N)|-) \[((?:vN=V(?:,vN=V)*)?)\] <-((?: [cn]N)*)'.replace('N', NUMBER).replace('V', VALUE))
+PAIR = re.compile(r'v(N)=(V)'.replace('N', NUMBER).replace('V', VALUE))
 VERDICTS = ('solved', 'refuted', 'open')
 
 
@@ -32,7 +34,7 @@ class Run:
 
 
 def lines_of(name, text, head):
-    """The lines after the head; each line of such a text ends with a line feed."""
+    """The lines of a text, of which the first must be one of these; each ends with a line feed."""
     lines = text.split('\n')
     if lines[0] not in head:
         raise TextError('%s: line 1 is not %s' % (name, ' or '.join(head)))
@@ -65,6 +67,9 @@ class StoryReader:
     def is_agent(self, number):
         return 1 <= int(number) <= len(self.model.variables)
 
+    def is_value(self, agent, value):
+        return self.is_agent(agent) and self.model.variables[int(agent) - 1].has(int(value))
+
     def delivery(self, match):
         number, sender, receiver, cargo = match.groups()
         waiting = self.lists.get((sender, receiver))
@@ -87,13 +92,13 @@ class StoryReader:
         if not self.is_agent(agent):
             return False
         if match[3]:
-            return self.is_agent(match[4])
+            return self.is_value(match[4], match[5])
         if match[6]:
             return self.step(agent, match[7]) if match[6] == 'makes' else 1 <= int(match[7]) <= self.run.steps
         if match[8]:
-            return self.reasons_fit(match[9])
+            return self.reasons_fit(agent, match[9])
         if match[10]:
-            return self.model.variables[int(agent) - 1].has(int(match[11]))
+            return self.is_value(agent, match[11])
         return self.sending(agent, match[13], match[14])
 
     def step(self, agent, number):
@@ -101,16 +106,20 @@ class StoryReader:
         self.run.makers.append(None if agent is None else int(agent) - 1)
         return int(number) == self.run.steps
 
-    def reasons_fit(self, text):
+    def reasons_fit(self, agent, text):
         for word in text.split():
-            reason = word[word.index(':') + 1:]
+            value, reason = word.split(':')
+            if not self.is_value(agent, value):
+                return False
             most = len(self.model.rules) if reason[0] == 'c' else self.run.steps
             if not 1 <= int(reason[1:]) <= most:
                 return False
         return True
 
     def sending(self, sender, receiver, cargo):
-        if not self.is_agent(receiver):
+        if not self.is_agent(receiver) or receiver == sender:
+            return False
+        if cargo.startswith('ok ') and not self.is_value(sender, cargo[3:]):
             return False
         if cargo.startswith('nogood ') and not 1 <= int(cargo[7:]) <= self.run.steps:
             return False
@@ -168,25 +177,36 @@ def step_fits(match, model, log, aimed):
 
 # -- the measures
 
-def read_measures(text):
-    """The numbers that the measures have in common with the other texts."""
+HEADS = ('end (solved|refuted|open)', 'deliveries (N) ok (N) nogood (N) link (N)', 'steps (N)')
+FIGURE = r'[a-z-]+ [0-9]+(?: [a-z]+ [0-9]+)*'
+OF_AGENT = r'v(N) sent N N N got N N N checks [0-9]+ [0-9]+ recorded N values N'
+LEARNED = r'v(N) learned v(N) N of N'
+MEASURED = [re.compile(pattern.replace('N', NUMBER)) for pattern in (FIGURE, OF_AGENT, LEARNED)]
+
+
+def read_measures(text, model):
+    """The numbers that the measures have in common with the other texts; the other lines must have their form."""
     lines = lines_of('measures', text, ['measures 1'])
-    found = Run()
-    patterns = (r'end (solved|refuted|open)', r'deliveries (\d+) ok (\d+) nogood (\d+) link (\d+)', r'steps (\d+)')
-    for number, pattern in enumerate(patterns, 2):
-        match = re.fullmatch(pattern, lines[number - 1]) if number <= len(lines) else None
-        if match is None:
-            raise TextError('measures: line %d does not fit' % number)
-        if number == 2:
-            found.verdict = match[1]
-        elif number == 3:
-            found.deliveries = int(match[1])
-            found.kinds = Counter({kind: int(match[at]) for at, kind in enumerate(('ok', 'nogood', 'link'), 2)})
-        else:
-            found.steps = int(match[1])
     if lines[-1] != 'end':
         raise TextError('measures: it has no last line')
-    return found
+    heads = [re.fullmatch(pattern.replace('N', NUMBER), line) for pattern, line in zip(HEADS, lines[1:])]
+    for number, line in enumerate(lines[1:-1], 2):
+        fits = heads[number - 2] if number < len(heads) + 2 else is_measure(line, model)
+        if not fits:
+            raise TextError('measures: line %d does not fit' % number)
+    if len(lines) < len(HEADS) + 2:
+        raise TextError('measures: line %d does not fit' % len(lines))
+    end, deliveries, steps = heads
+    kinds = Counter(ok=int(deliveries[2]), nogood=int(deliveries[3]), link=int(deliveries[4]))
+    return Run(int(deliveries[1]), kinds, int(steps[1]), end[1])
+
+
+def is_measure(line, model):
+    for pattern in MEASURED:
+        match = pattern.fullmatch(line)
+        if match:
+            return all(1 <= int(agent) <= len(model.variables) for agent in match.groups())
+    return False
 
 
 # -- the order

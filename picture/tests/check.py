@@ -9,14 +9,10 @@ import tempfile
 import time
 import xml.dom.minidom
 
-HERE = os.path.dirname(os.path.abspath(__file__))
-sys.path.insert(0, os.path.join(HERE, '..'))
-
-import generate  # noqa: E402
-from browser import Browser  # noqa: E402
-from examples import HOSTILE, NAMES, example, small, text  # noqa: E402
-from folding import states_of  # noqa: E402
-from make import Texts, make_page  # noqa: E402
+import generate
+from browser import Browser
+from examples import HOSTILE, NAMES, example, page_of, small, text
+from folding import states_of
 
 MOST_TO_OPEN, MOST_TO_STEP = 3.0, .050
 
@@ -28,7 +24,8 @@ OVERLAPS = '''(async () => {
     spots.forEach(([part, a], place) => {
       for (const [other, b] of spots.slice(place + 1)) {
         if (b.top >= a.bottom - 1) break;
-        if (Math.min(a.right, b.right) - Math.max(a.left, b.left) > 1) found.add(part.textContent.slice(0, 40) + ' / ' + other.textContent.slice(0, 40));
+        const words = [part, other].map(each => each.textContent.slice(0, 40) || each.className.baseVal);
+        if (Math.min(a.right, b.right) - Math.max(a.left, b.left) > 1) found.add(words.join(' / '));
       }
     });
   };
@@ -40,18 +37,26 @@ OVERLAPS = '''(async () => {
   compare([...document.querySelectorAll('#chart-names :is(.column-name:not(.turned), .column-number)')]);
   compare([...document.querySelectorAll('#graph .name:not(.radial)')]);
   const turned = [...document.querySelectorAll('#chart-names .turned')].map(part => part.transform.baseVal[0].matrix.e);
-  turned.forEach((x, place) => place && (x - turned[place - 1]) * Math.sin(38 * Math.PI / 180) < 12 && found.add('names of columns'));
+  const apart = turned.slice(1).map((x, place) => (x - turned[place]) * Math.sin(38 * Math.PI / 180));
+  if (apart.some(distance => distance < 12)) found.add('names of columns');
   return [...found];
 })()'''
 
 # What the table of agents shows, agent by agent: value, waits, ruled out values, view, kept nogoods.
 SHOWN = '''[...document.querySelectorAll('#agent-rows .agent-row')].map(row => {
-  const words = (parts, cut) => [...parts].map(part => part.textContent.slice(cut || 0));
+  const words = parts => [...parts].map(part => part.textContent);
   const own = row.querySelector('.chip.current');
   return { value: own ? own.firstChild.textContent : null, waits: !!row.querySelector('.waiting'),
-    out: [...row.querySelectorAll('.chip:has(.why)')].map(part => part.firstChild.textContent + ':' + part.lastChild.textContent),
+    out: [...row.querySelectorAll('.chip:has(.why)')].map(part => words([part.firstChild, part.lastChild]).join(':')),
     view: words(row.querySelectorAll('.knows .pair')), kept: words(row.querySelectorAll('.nogood-number')) };
 })'''
+
+
+# The controls that a screen reader has no name for.
+NAMELESS = '''[...document.querySelectorAll('button, select, input, summary, [tabindex="0"]')].filter(part =>
+  !['aria-label', 'aria-labelledby'].some(name => part.getAttribute(name))
+  && !part.textContent.trim() && !part.labels?.length
+).map(part => part.outerHTML.slice(0, 80))'''
 
 
 class Check:
@@ -69,7 +74,7 @@ class Check:
         """The file of a page of these texts, `title` among them."""
         path = os.path.join(self.room, name + '.html')
         with open(path, 'w', encoding='utf-8') as file:
-            file.write(make_page(Texts(**{part: given for part, given in texts.items() if part != 'title'}), texts['title']))
+            file.write(page_of(**texts))
         return path
 
     def quiet(self, what):
@@ -132,10 +137,19 @@ def check_keys(check, name, path, last):
                and 'Play' in browser.value('document.getElementById("play").textContent'))
     told = browser.value('document.getElementById("live").textContent')
     browser.press('ArrowRight')
-    check.tell(name + ': the live region tells each step', browser.value('document.getElementById("live").textContent') not in ('', told))
+    tells = browser.value('document.getElementById("live").textContent')
+    check.tell(name + ': the live region tells each step', tells not in ('', told))
     time.sleep(.4)
     check.tell(name + ': the address names the delivery', browser.value('location.hash') == '#d=' + check.count())
     check.quiet(name + ', keys')
+
+
+def slide(browser, number):
+    browser.value('{ const slider = document.getElementById("slider"); slider.value = %d; slider.oninput(); }' % number)
+
+
+def choose(browser, control, value):
+    browser.value('{ const control = document.getElementById("%s"); control.value = "%s"; control.onchange(); }' % (control, value))
 
 
 def check_controls(check, name, path, last, texts):
@@ -150,29 +164,35 @@ def check_controls(check, name, path, last, texts):
         browser.click(button)
         seen.append(int(check.count()))
     check.tell(name + ': buttons', seen[:4] == [4, 3, last, 0] and 0 < seen[4] <= last, seen)
-    browser.value('{ const slider = document.getElementById("slider"); slider.value = 5; slider.oninput(); }')
+    slide(browser, 5)
     check.tell(name + ': the slider moves', '5 of' in browser.value('document.getElementById("count").textContent'))
     longest = int(texts['measures'].split('longest-chain ')[1].split()[0])
-    browser.value('{ const chain = document.getElementById("chain"); chain.value = "longest"; chain.onchange(); }')
-    browser.value(OVERLAPS)
+    choose(browser, 'chain', 'longest')
     browser.click('save-chart')
     saved = check.downloaded('-chart.svg')
-    check.tell(name + ': the chart is saved with the longest chain', saved.count('class="chain"') == longest, saved.count('class="chain"'))
+    drawn = saved.count('class="chain"')
+    check.tell(name + ': the chart is saved with the longest chain', drawn == longest, drawn)
     xml.dom.minidom.parseString(saved or '<none/>')
     for agent in ('1', ''):
-        browser.value('{ const filter = document.getElementById("filter"); filter.value = "%s"; filter.onchange(); }' % agent)
+        choose(browser, 'filter', agent)
         browser.click('next')
         browser.click('numbers')
         overlaps = browser.value(OVERLAPS)
         check.tell('%s, agent %s: no labels overlap' % (name, agent or 'all'), overlaps == [], overlaps)
-    browser.value('document.querySelectorAll("details").forEach(part => { part.open = true; }); document.querySelectorAll(".unfold").forEach(part => part.click())')
-    nameless = browser.value('''[...document.querySelectorAll('button, select, input, summary, [tabindex="0"]')]
-        .filter(part => !(part.getAttribute('aria-label') || part.getAttribute('aria-labelledby') || part.textContent.trim() || part.labels?.length)).map(part => part.outerHTML.slice(0, 80))''')
+    check_looks(check, name)
+    check.quiet(name + ', controls')
+
+
+def check_looks(check, name):
+    """With all parts open: names of controls, dark colours, paper."""
+    browser = check.browser
+    browser.value('document.querySelectorAll("details").forEach(part => { part.open = true; })')
+    browser.value('document.querySelectorAll(".unfold").forEach(part => part.click())')
+    nameless = browser.value(NAMELESS)
     check.tell(name + ': each control has a name', nameless == [], nameless)
     browser.click('theme')
     check.tell(name + ': light and dark', browser.value('getComputedStyle(document.documentElement).colorScheme') == 'dark')
     browser.paper(os.path.join(check.room, name + '.pdf'))
-    check.quiet(name + ', controls')
 
 
 def check_fold(check, name, path, texts):
@@ -207,25 +227,35 @@ def check_saved(check, name):
 # -- small and hostile runs
 
 def check_small(check):
+    browser = check.browser
     for name, texts in small().items():
         path = check.page(name, texts)
         for width in (1440, 360):
-            check.browser.open(path, width=width)
-            check.browser.value('document.querySelectorAll("details").forEach(part => { part.open = true; })')
+            browser.open(path, width=width)
+            browser.value('document.querySelectorAll("details").forEach(part => { part.open = true; })')
             for key in ('ArrowRight', 'n', 'End', 'ArrowLeft', 'Home', ' ', ' '):
-                check.browser.press(key)
-            check.browser.value('for (const node of document.querySelectorAll(".name-button")) { node.click(); node.click(); }')
-            wide = check.browser.value('document.documentElement.scrollWidth')
+                browser.press(key)
+            browser.value('for (const name of document.querySelectorAll(".name-button")) { name.click(); name.click(); }')
+            wide = browser.value('document.documentElement.scrollWidth')
             check.tell('%s, %d wide: nothing stands out to the right' % (name, width), wide <= width, wide)
-        check.browser.click('save-chart')
+        browser.click('numbers')
+        browser.click('save-chart')
         check.tell(name + ': the chart is saved', '<svg' in check.downloaded('-chart.svg'))
-        check.browser.paper(os.path.join(check.room, 'small.pdf'))
+        browser.paper(os.path.join(check.room, 'small.pdf'))
         check.quiet(name)
         if name == 'hostile':
-            title = check.browser.value('document.querySelector("h1").textContent')
-            check.tell('hostile: the title is shown as it is', title == HOSTILE, title)
-            scripts = check.browser.value('[...document.scripts].filter(part => part.type !== "application/json").length')
-            check.tell('hostile: no element comes of a text', scripts == 1 and check.browser.value('document.images.length') == 0)
+            check_hostile(check)
+        if name == 'backwards':
+            names = browser.value('[...document.querySelectorAll(".column-name")].map(part => part.firstChild.data)')
+            check.tell('backwards: the agents stand in the order that is given', names == ['y', 'x'], names)
+
+
+def check_hostile(check):
+    title = check.browser.value('document.querySelector("h1").textContent')
+    check.tell('hostile: the title is shown as it is', title == HOSTILE, title)
+    scripts = check.browser.value('[...document.scripts].filter(part => part.type !== "application/json").length')
+    images = check.browser.value('document.images.length')
+    check.tell('hostile: no element comes of a text', (scripts, images) == (1, 0), (scripts, images))
 
 
 # -- a long run
@@ -258,11 +288,10 @@ def check_long(check):
     middle, most = statistics.median(times) / 1000, max(times) / 1000
     check.tell('a step takes %.0f ms, the longest %.0f ms' % (middle * 1000, most * 1000), middle < MOST_TO_STEP)
     run = check.browser.value('JSON.parse(document.getElementById("run").textContent)')
-    wanted = {number: state for number, state in enumerate(states_of(text(check.room, 'story.txt'), run['variables'], {2047, 60000, 99999}))
-              if state}
-    for number, state in wanted.items():
-        check.browser.value('{ const slider = document.getElementById("slider"); slider.value = %d; slider.oninput(); }' % number)
-        check.tell('long: the state after delivery %d' % number, check.browser.value(SHOWN) == state)
+    for number, state in enumerate(states_of(text(check.room, 'story.txt'), run['variables'], {2047, 60000, 99999})):
+        if state:
+            slide(check.browser, number)
+            check.tell('long: the state after delivery %d' % number, check.browser.value(SHOWN) == state)
     check.quiet('long')
 
 

@@ -84,11 +84,15 @@ class Generator:
     def derive(self, number, agent):
         self.steps += 1
         pairs = ','.join('v%d=%d' % (k + 1, self.values[k]) for k in self.upper[agent])
-        reasons = ['n%d' % self.random.randint(max(1, self.steps - 50), self.steps - 1) if self.steps > 1 and self.random.random() < .3
-                   else 'c%d' % self.random.randint(1, len(self.rules)) for _ in range(DOMAIN)]
-        self.log.append('%d v%d [%s] <- %s' % (self.steps, agent + 1, pairs, ' '.join(reasons)))
+        reasons = ' '.join(self.reason() for _ in range(DOMAIN))
+        self.log.append('%d v%d [%s] <- %s' % (self.steps, agent + 1, pairs, reasons))
         self.tell(number, agent, 'makes n%d' % self.steps)
         self.send(number, agent, self.upper[agent][-1], 'nogood %d' % self.steps)
+
+    def reason(self):
+        if self.steps > 1 and self.random.random() < .3:
+            return 'n%d' % self.random.randint(max(1, self.steps - 50), self.steps - 1)
+        return 'c%d' % self.random.randint(1, len(self.rules))
 
     def model(self):
         lines = ['var 1..%d: x%d;' % (DOMAIN, i + 1) for i in range(self.agents)]
@@ -96,8 +100,8 @@ class Generator:
         return '\n'.join(lines) + '\nsolve satisfy;\n'
 
     def measures(self):
-        lines = ['measures 1', 'end open',
-                 'deliveries %d ok %d nogood %d link %d' % (self.deliveries, *(self.kinds[k] for k in ('ok', 'nogood', 'link'))),
+        kinds = [self.kinds[kind] for kind in ('ok', 'nogood', 'link')]
+        lines = ['measures 1', 'end open', 'deliveries %d ok %d nogood %d link %d' % (self.deliveries, *kinds),
                  'steps %d' % self.steps, 'checks 0 constraints 0 nogoods 0', 'concurrent-checks 0 constraints 0',
                  'longest-chain 0', 'recorded 0', 'transit 0', 'links-added %d' % self.kinds['link'], 'end']
         return '\n'.join(lines) + '\n'

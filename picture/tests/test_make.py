@@ -8,22 +8,15 @@ import sys
 import tempfile
 import unittest
 
-HERE = os.path.dirname(os.path.abspath(__file__))
-sys.path.insert(0, os.path.join(HERE, '..'))
-
-from examples import HOSTILE, MODELS, NAMES, example, small, text  # noqa: E402
-from flatzinc import ModelError, read_model  # noqa: E402
-from make import Refused, Texts, make_page  # noqa: E402
-from signs import Signs  # noqa: E402
+from examples import HERE, HOSTILE, MODELS, NAMES, PAGES, SHOWN, example, page_of, small, text
+from flatzinc import ModelError, read_model
+from make import Refused
+from signs import Signs
 
 
 def block(page, name):
     """The data of a block of the page."""
     return json.loads(re.search('<script type="application/json" id="%s">(.*?)</script>' % name, page)[1])
-
-
-def page_of(title, better=None, **texts):
-    return make_page(Texts(**texts), title, better)
 
 
 def labels(model):
@@ -44,7 +37,11 @@ class Pages(unittest.TestCase):
             for part in ('model', 'story', 'log', 'measures'):
                 self.assertEqual(block(page, 'text-' + part), texts[part], name)
             self.assertEqual(block(page, 'run')['title'], name)
-            self.assertEqual([address for address in re.findall(r'https?://[^"\'\s]*', page) if 'w3.org' not in address], [], name)
+            self.assertEqual(set(re.findall(r'https?://[^"\'\s]*', page)), {'http://www.w3.org/2000/svg'}, name)
+
+    def test_pages_of_the_examples_are_as_made_now(self):
+        for name in SHOWN:
+            self.assertEqual(text(PAGES, name + '.html'), page_of(**example(name)), 'python3 picture/tests/examples.py')
 
     def test_hostile_texts_are_escaped(self):
         page = page_of(**small()['hostile'])
@@ -98,11 +95,25 @@ class Refusals(unittest.TestCase):
         self.refuses('story: line', story=story.replace('1 v2>v4 ok 9', '1 v2>v4 ok 10'))
         self.refuses('story: line', story=story.replace('\n2 v5>v6', '\n3 v5>v6', 1))
         self.refuses('story: line', story=story.replace('v1 takes 9', 'v1 takes 8'))
+        self.refuses('story: line', story=story.replace('v1 takes 9', 'v1 takes 09'))
+        self.refuses('story: line', story=story.replace('0 v1 sends v3 ok 9', '0 v1 sends v3 ok 8'))
+        self.refuses('story: line', story=story.replace('1 v4 knows v2=9', '1 v4 knows v2=8'))
+        self.refuses('story: line', story=story.replace('out 11:c2 15:c2', 'out 12:c2 15:c2'))
+        self.refuses('story: line', story=story.replace('out 11:c2 15:c2', 'out 11:c2 15:c6'))
         self.refuses('story: line', story=story.replace('makes n1', 'makes n2'))
         self.refuses('story: line', story=story.replace('sends v3 ok 9', 'sends v33 ok 9'))
+        self.refuses('story: line', story=story.replace('\n3 v1>v3', '\n' + '9' * 9999 + ' v1>v3', 1))
         self.refuses('story: it has no last line', story=story.replace('end solved\n', ''))
         self.refuses('story: the last line is not whole', story=story[:-1])
         self.refuses('story: line 1', story=story.replace('story 1', 'story 2'))
+
+    def test_measures_that_are_none(self):
+        measures = example('meeting')['measures']
+        for old, new in (('transit 7', 'transit'), ('v6 learned v5', 'v7 learned v5'), ('v1 sent 7', 'v1 sent'),
+                         ('steps 7', 'step 7'), ('end solved', 'end well')):
+            self.refuses('measures: line', measures=measures.replace(old, new))
+        self.refuses('measures: line', measures='measures 1\nend solved\nend\n')
+        self.refuses('measures: it has no last line', measures=measures[:-4])
 
     def test_models_and_orders(self):
         self.refuses('model: line 1 is not read', model='var 1..2 x;\n')
@@ -114,8 +125,9 @@ class Refusals(unittest.TestCase):
     def test_a_refused_call_writes_nothing(self):
         with tempfile.TemporaryDirectory() as room:
             page = os.path.join(room, 'page.html')
-            words = [page, '--model', os.path.join(MODELS, 'meeting.fzn'), '--story', os.path.join(HERE, 'texts', 'meeting.story'),
-                     '--log', os.path.join(MODELS, 'pigeons.ngd'), '--measures', os.path.join(HERE, 'texts', 'meeting.measures')]
+            story, measures = (os.path.join(HERE, 'texts', 'meeting.' + part) for part in ('story', 'measures'))
+            words = [page, '--model', os.path.join(MODELS, 'meeting.fzn'), '--story', story,
+                     '--log', os.path.join(MODELS, 'pigeons.ngd'), '--measures', measures]
             call = [sys.executable, os.path.join(HERE, '..', 'make.py'), *words]
             refused = subprocess.run(call, capture_output=True, text=True)
             self.assertEqual((refused.returncode, refused.stdout, os.listdir(room)), (4, '', []))
@@ -127,7 +139,8 @@ class Refusals(unittest.TestCase):
 
 class Models(unittest.TestCase):
     def test_rules_are_numbered_as_the_program_does(self):
-        model = ('var 1..3: x;\nvar 1..3: y = x;\narray [1..2] of var 2..3: a = [x,y];\nconstraint int_ne(x,y);\nsolve satisfy;\n')
+        model = ('var 1..3: x;\nvar 1..3: y = x;\narray [1..2] of var 2..3: a = [x,y];\n'
+                 'constraint int_ne(x,y);\nsolve satisfy;\n')
         self.assertEqual(rules(model), ['y = x', 'x ∈ 2..3', 'y ∈ 2..3', 'x ≠ y'])
 
     def test_constraints_in_signs(self):
@@ -138,9 +151,11 @@ class Models(unittest.TestCase):
             'int_lin_ne([1,-1],[a,b],0)': 'a ≠ b', 'int_lin_le([-1,-2],[a,b],3)': 'a + 2·b + 3 ≥ 0',
             'int_times(a,b,c)': 'c = (a·b)', 'int_max(a,b,c)': 'c = max(a, b)', 'int_abs(a,b)': 'b = |a|',
             'bool_clause([p],[q])': 'p ∨ ¬q', 'bool_clause([],[])': 'false', 'array_bool_or([p,q],true)': 'p ∨ q',
-            'array_bool_and([p,q],p)': 'p ⇔ (p ∧ q)', 'int_eq_reif(a,1,p)': 'p ⇔ a = 1', 'set_in(a,{1,3})': 'a ∈ {1, 3}',
+            'array_bool_and([p,q],p)': 'p ⇔ (p ∧ q)', 'int_eq_reif(a,1,p)': 'p ⇔ a = 1',
+            'set_in(a,{1,3})': 'a ∈ {1, 3}',
             'array_int_element(a,[4,5],b)': 'b = [4, 5][a]', 'fzn_all_different_int([a,b,c])': 'all different: a, b, c',
-            'fzn_table_int([a,b],[0,1,2,3])': '(a, b) ∈ {(0, 1), (2, 3)}', 'int_le(a,-3)': 'a ≤ −3', 'bool_xor(p,q)': 'p ≠ q',
+            'fzn_table_int([a,b],[0,1,2,3])': '(a, b) ∈ {(0, 1), (2, 3)}', 'int_le(a,-3)': 'a ≤ −3',
+            'bool_xor(p,q)': 'p ≠ q',
             'int_eq(a)': 'int_eq(a)', 'int_lin_le(a,b,c)': 'int_lin_le(a, b, c)', 'no_such(a,[b,1])': 'no_such(a, [b, 1])',
         }
         for constraint, shown in table.items():
@@ -149,7 +164,8 @@ class Models(unittest.TestCase):
     def test_introduced_variables_are_shown_by_their_constraints(self):
         model = ('var 0..9: a;\nvar 0..9: b;\nvar bool: X_INTRODUCED_1_ ::var_is_introduced :: is_defined_var;\n'
                  'var 0..1: X_INTRODUCED_2_ ::var_is_introduced;\nvar 0..9: X_INTRODUCED_3_;\nvar -9..9: X_INTRODUCED_4_;\n'
-                 'var 0..9: X_INTRODUCED_5_;\narray [1..2] of var int: xs:: output_array([0..0,1..2]) = [X_INTRODUCED_3_,a];\n'
+                 'var 0..9: X_INTRODUCED_5_;\n'
+                 'array [1..2] of var int: xs:: output_array([0..0,1..2]) = [X_INTRODUCED_3_,a];\n'
                  'constraint int_le_reif(a,b,X_INTRODUCED_1_);\nconstraint bool2int(X_INTRODUCED_1_,X_INTRODUCED_2_);\n'
                  'constraint int_lin_eq([1,-1,-1],[a,b,X_INTRODUCED_4_],0):: defines_var(X_INTRODUCED_4_);\n'
                  'constraint int_abs(X_INTRODUCED_4_,X_INTRODUCED_5_);\nsolve minimize b;\n')
@@ -157,8 +173,9 @@ class Models(unittest.TestCase):
         self.assertEqual(read_model(model).aim, ('minimize', 1))
 
     def test_texts_that_are_no_models(self):
-        for model in ('var 1..2: x', 'constraint int_eq(x,1);', 'solve minimize;', 'array [1..1] of var int: a = 3;', 'var ?: x;',
-                      'var [[[[: x;', 'constraint int_eq([[1]]);', 'var 1..true: x;', 'solve', 'var', 'array [1..' + '[' * 9999):
+        for model in ('var 1..2: x', 'constraint int_eq(x,1);', 'solve minimize;', 'array [1..1] of var int: a = 3;',
+                      'var ?: x;', 'var [[[[: x;', 'constraint int_eq([[1]]);', 'var 1..true: x;', 'solve', 'var',
+                      'array [1..' + '[' * 9999, 'var 1..%s: x;' % ('9' * 9999)):
             self.assertRaises(ModelError, read_model, model)
 
 

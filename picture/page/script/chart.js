@@ -1,18 +1,28 @@
 // ---- The message sequence chart, of which only the rows in sight are drawn
 
 function buildChart() {
-  measureColumns(byId('chart').clientWidth || 900);
   byId('chart').addEventListener('scroll', drawRowsInSight);
   byId('chart-rows').onclick = pressed => {
     const row = Math.floor((pressed.clientY - byId('chart-rows').getBoundingClientRect().top) / ROW);
     go(eventAt(clamp(row, 0, rowCount() - 1)), true);
   };
-  new ResizeObserver(drawRowsInSight).observe(byId('chart'));
+  new ResizeObserver(fitChart).observe(byId('chart'));
   layChart();
 }
 
-/* Lays the chart anew, as after a change of its rows, names or chain. */
+/* Lays the chart anew where the room for it has changed. */
+function fitChart() {
+  const room = byId('chart').clientWidth;
+  if (room === 0) return;
+  if (room === chart.room) return drawRowsInSight();
+  layChart();
+  markChart(player.state.at);
+}
+
+/* Lays the chart anew, as after a change of its rows, names or room. */
 function layChart() {
+  chart.room = byId('chart').clientWidth;
+  measureColumns(chart.room || 900);
   for (const piece of chart.pieces.values()) piece.remove();
   chart.pieces.clear();
   byId('chart-names').replaceChildren(namesDrawing());

@@ -6,7 +6,7 @@ const MOST_AT_ONCE = 1500;            // rows of a printed or saved chart
 const MOST_PASSING = 1000;            // arrows that only pass a piece
 
 const chart = {
-  column: 0, width: 0, shortValues: false,
+  room: 0, column: 0, width: 0, shortValues: false,
   outcome: 0,                         // the room for what came of each delivery
   rows: null,                         // the events that are shown, null for all
   pieces: new Map(),                  // the drawn pieces by their numbers

@@ -144,7 +144,14 @@ function placeButton(place) {
   return element('button', about, place ? 'delivery ' + place : 'start');
 }
 
-const trees = [];
+let trees = [];
+
+function buildTrees() {
+  for (const tree of trees) tree.box.replaceChildren();
+  trees = [];
+  buildDerivation();
+  buildLastRound();
+}
 
 function buildDerivation() {
   const section = byId('derivation'), hint = byId('derivation-hint'), title = byId('derivation-title');

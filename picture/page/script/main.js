@@ -43,8 +43,7 @@ function open() {
   nameNodes();
   nameAgents();
   buildChart();
-  buildDerivation();
-  buildLastRound();
+  buildTrees();
   buildFigures();
   buildStrip();
   buildRules();

@@ -106,6 +106,9 @@ function nameAll() {
   nameNodes();
   nameAgents();
   layChart();
+  wordsFrom = null;
+  buildTrees();
+  for (const [id, make] of makers) if (byId(id).open) make();
 }
 
 // -- the run in words, some deliveries around the one that is shown

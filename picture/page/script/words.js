@@ -37,7 +37,7 @@ function arrival(event) {
   const known = deedsNamed(event, 'knows');
   if (message.kind === 'ok') {
     const told = `${receiver} is told that ${sender} has ${valueText(message.from, message.cargo)}.`;
-    return known.length ? told : told + ' It has newer news of it, so nothing changes.';
+    return known.length ? told : told + ' It has this or newer news of it already, so nothing changes.';
   }
   if (message.kind === 'link') return `${sender} asks ${receiver} to be told its values.`;
   const { nogood } = log.step(Number(message.cargo));
@@ -56,6 +56,7 @@ function answer(event, before, after) {
   const told = event.sent.filter(message => message.kind === 'ok').map(message => message.to);
   if (took) {
     const value = valueText(event.receiver, took.value);
+    if (before.value === null) return ` It takes ${value}.`;
     const change = before.value === took.value ? ` Its value ${value} can stay; it takes it anew.`
       : ` Its value ${valueText(event.receiver, before.value)} is ruled out: it takes ${value}.`;
     return change + (told.length ? ` It tells ${someNames(told)}.` : '');
@@ -106,7 +107,7 @@ function outcomeOf(event, before, after) {
     return { look: 'takes', words: change + valueText(event.receiver, took.value) };
   }
   if (event.message.kind === 'link') return { look: '', words: 'answers' };
-  if (!event.deeds.length) return { look: '', words: 'has newer news' };
+  if (!event.deeds.length) return { look: '', words: 'knew already' };
   const dropped = refused ? `drops n${refused.step}, ` : '';
   return { look: '', words: dropped + (after.waits ? 'waits' : 'keeps ' + valueText(event.receiver, after.value)) };
 }
