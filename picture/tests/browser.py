@@ -50,7 +50,7 @@ class Browser:
         self.problems, self.events = [], []
         target = self.call('Target.createTarget', url='about:blank')['targetId']
         self.session = self.call('Target.attachToTarget', targetId=target, flatten=True)['sessionId']
-        for domain in ('Page', 'Runtime', 'Log', 'Network'):
+        for domain in ('Page', 'Runtime', 'Log', 'Network', 'Performance'):
             self.call(domain + '.enable')
         self.call('Browser.setDownloadBehavior', behavior='allow', downloadPath=self.room, eventsEnabled=True)
 
@@ -140,6 +140,11 @@ class Browser:
         if 'exceptionDetails' in answer:
             raise BrowserError(answer['exceptionDetails'].get('exception', {}).get('description', script))
         return answer['result'].get('value')
+
+    def process_seconds(self):
+        """The processor time that the page's process has taken, which other work on the machine does not lengthen."""
+        metrics = self.call('Performance.getMetrics')['metrics']
+        return next(metric['value'] for metric in metrics if metric['name'] == 'ProcessTime')
 
     def press(self, key):
         about = {'key': key, 'windowsVirtualKeyCode': KEYS[key], 'code': key if len(key) > 1 else 'Key' + key.upper()}

@@ -85,7 +85,7 @@ function bringColumnToSight(message) {
 
 function namesDrawing() {
   const longestLabel = order.reduce((longest, agent) => Math.max(longest, page.variables[agent].label.length), 0);
-  const turned = 8 * longestLabel > chart.column, letters = turned ? (agentCount <= 12 ? 28 : 22) : longestLabel;
+  const turned = 8 * longestLabel > chart.column, letters = turned ? (agentCount <= 30 ? 28 : 22) : longestLabel;
   const longest = Math.min(longestLabel, letters);
   const height = (turned ? 20 + longest * 4.3 : 26) + (settings.numbers ? 16 : 0);
   const names = drawing(chart.width, height, []), y = height - (settings.numbers ? 24 : 9);

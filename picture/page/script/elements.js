@@ -1,3 +1,6 @@
+// The parts of this script are joined into one function, so what a part defines is known to those behind it. The texts
+// were checked by the maker of the page.
+
 // ---- Making elements
 
 const SVG = 'http://www.w3.org/2000/svg';

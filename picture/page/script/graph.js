@@ -129,7 +129,7 @@ function nameNodes() {
     title.textContent = nameOf(agent);
     if (graph.named === 'none') continue;
     name.textContent = settings.numbers ? `${numberOf(agent)} ${shorten(label, graph.named === 'radial' ? 12 : 19)}`
-      : shorten(label, graph.named === 'radial' ? 16 : 24);
+      : shorten(label, graph.named === 'radial' ? 18 : 24);
   }
 }
 

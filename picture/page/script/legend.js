@@ -2,8 +2,16 @@
 
 function buildLegend() {
   for (const [sign, words] of [...messageSigns(), ...agentSigns(), ...chartSigns(), ...wordSigns()]) {
-    byId('legend').append(element('div', {}, element('span', { class: 'sample' }, sign), element('span', {}, words)));
+    byId('legend').append(legendLine(sign, words));
   }
+  const keys = legendLine('← →', 'keys: one delivery back and on, Home to the start, End to the end; '
+    + 'space plays and pauses, n goes to the next nogood');
+  keys.classList.add('no-print');
+  byId('legend').append(keys);
+}
+
+function legendLine(sign, words) {
+  return element('div', {}, element('span', { class: 'sample' }, sign), element('span', {}, words));
 }
 
 function sample(...children) {
@@ -52,7 +60,5 @@ function wordSigns() {
     [ruledOut, 'a value that is ruled out, with the reason: constraint c2 of the model, or nogood n2'],
     ['⟦x < y⟧', 'true or false: whether the constraint in the brackets holds; [x < y] is the same as 1 or 0'],
     ['¬ ∧ ∨ ⇔', 'not; and; or; exactly where'],
-    ['← →', 'keys: one delivery back and on, Home to the start, End to the end; '
-      + 'space plays and pauses, n goes to the next nogood'],
   ];
 }

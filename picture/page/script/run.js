@@ -35,7 +35,7 @@ function saySame(a, b) {
 }
 
 function applyDeed(state, deed) {
-  if (deed.agent === null || deed.name === 'sends' || deed.name === 'refuses') return;
+  if (deed.agent === null || deed.name === 'refuses') return;
   const part = ownPart(state, deed.agent);
   if (deed.name === 'knows') part.view.set(deed.of, deed.value);
   else if (deed.name === 'forgets') part.kept = part.kept.filter(step => step !== deed.step);

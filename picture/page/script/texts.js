@@ -34,28 +34,29 @@ function readStory(text) {
   }
 }
 
-/* Notes a line that delivers or sends a message, or makes a step. */
+/* Notes a line that delivers or sends a message, or makes a step; the others are read when they are needed. */
 function noteLine(story, lists, line, at) {
-  const words = line.split(' ');
-  if (words[1].includes('>')) {
-    const message = lists.get(words[1]).shift();
-    message.got = story.delivered.length;
-    story.starts.push(at);
-    story.firstSent.push(story.messages.length);
-    story.delivered.push(message);
-  } else if (words[2] === 'sends') {
-    const message = {
-      id: story.messages.length, from: indexOf(words[1]), to: indexOf(words[3]), kind: words[4], cargo: words[5],
-      sent: story.delivered.length - 1, got: null,
-    };
-    const key = words[1] + '>' + words[3];
-    if (!lists.has(key)) lists.set(key, []);
-    lists.get(key).push(message);
-    story.messages.push(message);
-    if (message.kind === 'link') story.linked.add(pairKey(message.from, message.to));
-  } else if (words[2] === 'makes') {
-    story.madeAt.push(story.delivered.length - 1);
-  }
+  const name = line.indexOf(' ', line.indexOf(' ') + 1) + 1, arrow = line.indexOf('>');
+  if (arrow > 0 && arrow < name) noteDelivery(story, lists, line.slice(line.indexOf(' ') + 1, name - 1), at);
+  else if (line.startsWith('sends', name)) noteSending(story, lists, line.split(' '));
+  else if (line.startsWith('makes', name)) story.madeAt.push(story.delivered.length - 1);
+}
+
+function noteDelivery(story, lists, pair, at) {
+  const message = lists.get(pair).shift();
+  message.got = story.delivered.length;
+  story.starts.push(at);
+  story.firstSent.push(story.messages.length);
+  story.delivered.push(message);
+}
+
+function noteSending(story, lists, [, sender, , receiver, kind, cargo]) {
+  const from = indexOf(sender), to = indexOf(receiver), pair = sender + '>' + receiver;
+  const message = { id: story.messages.length, from, to, kind, cargo, sent: story.delivered.length - 1, got: null };
+  if (!lists.has(pair)) lists.set(pair, []);
+  lists.get(pair).push(message);
+  story.messages.push(message);
+  if (kind === 'link') story.linked.add(pairKey(from, to));
 }
 
 /* The number, from 0, that a word such as v3 names. */
@@ -68,24 +69,26 @@ function pairKey(a, b) {
   return a < b ? a + ' ' + b : b + ' ' + a;
 }
 
-/* What the agents did in an event, in the order of the story. */
+/* What the agents did in an event, in the order of the story, but for what they sent. */
 function deedsOf(story, number) {
   const deeds = [];
   for (const line of story.text.slice(story.starts[number], story.starts[number + 1]).split('\n')) {
-    const words = line.split(' ');
-    if (words.length < 3 || words[1].includes('>')) continue;
-    const agent = words[1] === '-' ? null : indexOf(words[1]);
-    const deed = { agent, name: words[2], step: null, of: null, value: null, reasons: '' };
-    if (deed.name === 'knows') {
-      const sign = words[3].indexOf('=');
-      deed.of = indexOf(words[3].slice(0, sign));
-      deed.value = words[3].slice(sign + 1);
-    } else if (deed.name === 'takes') deed.value = words[3];
-    else if (deed.name === 'out') deed.reasons = words.slice(3).join(' ');
-    else if (deed.name !== 'sends') deed.step = Number(words[3].slice(1));
-    deeds.push(deed);
+    const name = line.indexOf(' ', line.indexOf(' ') + 1) + 1;
+    if (name && !line.startsWith('sends', name) && !/>/.test(line)) deeds.push(deedOf(line.split(' ')));
   }
   return deeds;
+}
+
+function deedOf([, agent, name, ...rest]) {
+  const deed = { agent: agent === '-' ? null : indexOf(agent), name, step: null, of: null, value: null, reasons: '' };
+  if (name === 'knows') {
+    const sign = rest[0].indexOf('=');
+    deed.of = indexOf(rest[0].slice(0, sign));
+    deed.value = rest[0].slice(sign + 1);
+  } else if (name === 'takes') deed.value = rest[0];
+  else if (name === 'out') deed.reasons = rest.join(' ');
+  else deed.step = Number(rest[0].slice(1));
+  return deed;
 }
 
 /* An event with all that is told of it. */
