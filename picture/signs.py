@@ -16,25 +16,31 @@ JOINED = {'int_plus': ' + ', 'int_times': '·', 'int_div': ' div ', 'int_mod': '
           'bool_and': ' ∧ ', 'bool_or': ' ∨ ', 'bool_xor': ' ⊕ '}
 CALLED = {'int_min': 'min', 'int_max': 'max'}
 GATHERED = {'array_bool_and': ' ∧ ', 'array_bool_or': ' ∨ '}
+# the arguments of constraints: `s` no list, `l` a list, `n` a list of numbers
 SHAPES = {
-    'int_lin_eq': 'lls', 'int_lin_ne': 'lls', 'int_lin_le': 'lls', 'bool_lin_eq': 'lls', 'bool_lin_le': 'lls',
+    'int_lin_eq': 'nls', 'int_lin_ne': 'nls', 'int_lin_le': 'nls', 'bool_lin_eq': 'nls', 'bool_lin_le': 'nls',
     'int_abs': 'ss', 'bool2int': 'ss', 'set_in': 'ss', 'bool_clause': 'll', 'array_bool_xor': 'l',
     'array_bool_and': 'ls', 'array_bool_or': 'ls', 'fzn_all_different_int': 'l',
-    'fzn_table_int': 'll', 'fzn_table_bool': 'll',
+    'fzn_table_int': 'ln', 'fzn_table_bool': 'ln',
 }
 LOOKED_UP = ('array_int_element', 'array_var_int_element', 'array_bool_element', 'array_var_bool_element')
 
 
 def is_shaped(name, arguments):
-    """Whether the arguments are as the constraint's signs want them: `l` a list, `s` none."""
+    """Whether the arguments are as the constraint's signs want them."""
     if name.endswith('_reif'):
         rest = arguments[:-1]
         return bool(rest) and not isinstance(arguments[-1], list) and is_shaped(name[:-len('_reif')], rest)
     if name == 'bool_xor' and len(arguments) == 2:
         return is_shaped('bool_not', arguments)
     shape = SHAPES.get(name) or ('ss' if name in COMPARED else 'sls' if name in LOOKED_UP else 'sss')
-    return len(shape) == len(arguments) and all(
-        isinstance(argument, list) == (letter == 'l') for letter, argument in zip(shape, arguments))
+    return len(shape) == len(arguments) and all(map(is_formed, shape, arguments))
+
+
+def is_formed(letter, argument):
+    if letter == 's' or not isinstance(argument, list):
+        return letter == 's' and not isinstance(argument, list)
+    return letter == 'l' or all(isinstance(entry, int) for entry in argument)
 
 
 def shorten(text, most):
@@ -79,7 +85,7 @@ class Signs:
                 if number is None:
                     continue
                 if all(self.labels[k] is not None for k in variables_of(rule.arguments) if k != number):
-                    self.labels[number] = shorten(self.meaning(rule, number), LONGEST_LABEL)
+                    self.labels[number] = shorten(self.meaning(rule), LONGEST_LABEL)
                     if not (rule.name.endswith('_reif') or rule.name == 'bool2int'):
                         self.naming.add(id(rule))
                 else:
@@ -93,33 +99,38 @@ class Signs:
         last = rule.arguments[-1] if rule.arguments else None
         number = last.number if isinstance(last, Reference) else None
         if rule.name in SUMMED:
-            number = rule.defines if rule.name.endswith('_eq') else None
+            number = None if self.solved_place(rule) is None else rule.defines
         elif not (rule.name.endswith('_reif') or rule.name in DEFINING):
             return None
         return number if number is not None and self.labels[number] is None else None
 
-    def meaning(self, rule, number):
-        """What the variable with this number is worth by this constraint."""
+    def meaning(self, rule):
+        """What the variable that the constraint defines is equal to."""
         if rule.name.endswith('_reif'):
             return '⟦' + self.body(rule.name[:-len('_reif')], rule.arguments[:-1]) + '⟧'
         if rule.name == 'bool2int':
             truth = self.term(rule.arguments[0])
             return '[' + (truth[1:-1] if truth.startswith('⟦') else truth) + ']'
         if rule.name in SUMMED:
-            return self.solved(rule, number)
+            return self.solved(rule)
         if rule.name == 'bool_not':
             return '¬' + self.term(rule.arguments[0])
         return self.left_side(rule.name, rule.arguments)
 
-    def solved(self, rule, number):
-        """The sum of the other terms where the variable has the coefficient 1 or -1, else its name."""
-        factors, terms, total = rule.arguments[:3]
-        places = [place for place, term in enumerate(terms) if term == Reference(number)]
-        if len(places) != 1 or factors[places[0]] not in (1, -1):
-            return self.model.variables[number].name
-        sign = factors[places[0]]
-        rest = [(-sign * factor, term) for place, (factor, term) in enumerate(zip(factors, terms))
-                if place != places[0]]
+    def solved_place(self, rule):
+        """Where in a sum the variable stands that the sum defines, if it can be solved for it."""
+        factors, terms, total = rule.arguments
+        places = [place for place, term in enumerate(terms) if term == Reference(rule.defines)]
+        fits = len(factors) == len(terms) and isinstance(total, int)
+        solvable = rule.name.endswith('_eq') and fits and len(places) == 1
+        return places[0] if solvable and factors[places[0]] in (1, -1) else None
+
+    def solved(self, rule):
+        """What the variable that a sum defines is equal to."""
+        factors, terms, total = rule.arguments
+        solved = self.solved_place(rule)
+        sign = factors[solved]
+        rest = [(-sign * factor, term) for place, (factor, term) in enumerate(zip(factors, terms)) if place != solved]
         if total:
             rest.append((sign * total, 1))
         return '(' + self.sum_of(rest) + ')'

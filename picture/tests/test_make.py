@@ -156,7 +156,9 @@ class Models(unittest.TestCase):
             'array_int_element(a,[4,5],b)': 'b = [4, 5][a]', 'fzn_all_different_int([a,b,c])': 'all different: a, b, c',
             'fzn_table_int([a,b],[0,1,2,3])': '(a, b) ∈ {(0, 1), (2, 3)}', 'int_le(a,-3)': 'a ≤ −3',
             'bool_xor(p,q)': 'p ≠ q',
-            'int_eq(a)': 'int_eq(a)', 'int_lin_le(a,b,c)': 'int_lin_le(a, b, c)', 'no_such(a,[b,1])': 'no_such(a, [b, 1])',
+            'int_eq(a)': 'int_eq(a)', 'int_lin_le(a,b,c)': 'int_lin_le(a, b, c)',
+            'int_lin_le([a],[b],1)': 'int_lin_le([a], [b], 1)', 'int_lin_le([1,1],[a,b],-3)': 'a + b ≤ −3',
+            'int_lin_eq([1],[a],b)': 'a = b', 'no_such(a,[b,1])': 'no_such(a, [b, 1])',
         }
         for constraint, shown in table.items():
             self.assertEqual(rules(head + 'constraint %s;\nsolve satisfy;\n' % constraint), [shown])
