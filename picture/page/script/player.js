@@ -36,11 +36,13 @@ function drawEvent(jumped) {
   nameInAddress(number);
 }
 
-/* The address names the delivery, a moment after the last move, so that it can be handed on. */
+/* The address names the delivery, a moment after the last move, so that it can be handed on; but not where the reader
+   has changed it meanwhile. */
 function nameInAddress(number) {
+  const { hash } = location;
   clearTimeout(player.naming);
   player.naming = setTimeout(() => {
-    if (addressed() !== number) history.replaceState(null, '', '#d=' + number);
+    if (location.hash === hash && addressed() !== number) history.replaceState(null, '', '#d=' + number);
   }, 250);
 }
 
