@@ -8,7 +8,7 @@ cd "$(dirname "$0")/.." || exit 1
 if [ $# -gt 0 ]; then
   rows=$("$1" --usage) || exit 1
 else
-  rows=$(sed -n '/^const USAGE/,/^";/{s/^const USAGE: &\[u8\] = b"//;/^";/d;p}' crates/abt_trials/src/plain.rt)
+  rows=$(sed -n '/^const USAGE/,/^";/{s/^const USAGE: &\[u8\] =//;s/^ *b"//;/^";/d;/^$/d;p}' crates/abt_trials/src/plain.rt)
 fi
 failed=0
 wrong() { echo "usage: $1" >&2; failed=1; }
@@ -28,7 +28,7 @@ said_of() {
 section() { awk -v head="$1" '$0 == head { on = 1; next } /^## / { on = 0 } on' docs/COMMANDS.md; }
 
 forms=0
-table=$(sed -n '/^## Commands/,/^| Status /p' README.md)
+table=$(sed -n '/^## Commands/,/^## Through/p' README.md)
 set -f
 while read -r line; do
   form= keyword=yes words=()
