@@ -60,13 +60,20 @@ done
 tell "$kills runs were killed; each log is a first part of the whole one, $lines of them in whole lines" 1
 
 echo "== a disk that is full"
+# The launcher and the bridge have the signal of such a limit ignored; the bare program is killed by it.
 (
-    trap '' XFSZ
+    [ "$program" = "$repository/abt" ] || trap '' XFSZ
     ulimit -f 8
     "$program" solve long.fzn limited.ngd > limited.out 2> limited.err
     echo $? > limited.status
 )
 tell "a limit on the file's size: status 6" "$([ "$(cat limited.status)" = 6 ] && [ "$(cat limited.err)" = "abt: fault" ] && [ ! -s limited.out ] && is_part limited.ngd whole.ngd && echo 1)"
+(
+    ulimit -f 8
+    ABT_PROGRAM=$program "$repository/minizinc/abt-fzn" --abt-log bridged.ngd long.fzn > bridged.out 2> bridged.err
+    echo $? > bridged.status
+)
+tell "the same through the bridge: status 6" "$([ "$(cat bridged.status)" = 6 ] && [ "$(cat bridged.err)" = "abt: fault" ] && [ ! -s bridged.out ] && is_part bridged.ngd whole.ngd && echo 1)"
 mkdir tiny
 if mount -t tmpfs -o size=16k none tiny 2> /dev/null; then
     ends "a small file system" 6 "abt: fault" solve long.fzn tiny/l.ngd
@@ -91,7 +98,7 @@ for words in "solve twice.fzn ./twice.fzn" "solve twice.fzn hard.fzn" "solve twi
     ends "$words" 6 "abt: fault" $words
 done
 tell "what was read is as it was" "$(sha256sum -c --quiet twice > /dev/null 2>&1 && echo 1)"
-"$program" solve pair.fzn /dev/null --record /dev/null > out 2> err
+"$program" solve pair.fzn /dev/null --record //dev/null > out 2> err
 tell "the null device under two names: status 1" "$([ $? = 1 ] && [ ! -s err ] && echo 1)"
 
 echo "== few numbers for files, and a small stack"
@@ -141,7 +148,8 @@ tell "what the lines only read is as it was" "$(sha256sum -c --quiet given > /de
 # sweep KIND NUMBER WORDS..: the line, with KIND set to each number up to this one, or to some 20 of them where they are
 # more than 2,000. Each run must end as the line does otherwise, with the same streams and files; or, unless reads and
 # writes are only short, with status 7 and `abt: memory` or status 6 and `abt: fault`, and first parts of what it writes
-# otherwise; or with its refusal's status, and a first part of the refusal's line. It tells how many did what.
+# otherwise; or, where calls on files fail, with its refusal's status, and a first part of the refusal's line. It tells
+# how many did what.
 sweep() {
     local kind=$1 most=$2 step=1 number got right=0 lacks=0 faults=0 unsaid=0 wrong=""
     shift 2
@@ -156,7 +164,7 @@ sweep() {
             lacks=$((lacks + 1))
         elif [ $got = 6 ] && [[ $kind = FAIL_IO* ]] && said_fault "$kind" && are_parts; then
             faults=$((faults + 1))
-        elif [ $got = "$status" ] && [[ $status = [234] && $kind = FAIL* ]] && is_part err whole/err && are_parts; then
+        elif [ $got = "$status" ] && [[ $status = [234] && $kind = FAIL_IO* ]] && is_part err whole/err && are_parts; then
             unsaid=$((unsaid + 1))
         else
             wrong="$wrong $number:$got"
