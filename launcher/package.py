@@ -22,8 +22,9 @@ import manual
 HERE = os.path.dirname(os.path.realpath(__file__))
 TOP = os.path.dirname(HERE)
 # What a package has beside the program, so far as it is there.
-FILES = ["abt", "README.md", "docs/COMMANDS.md", "docs/FORMATS.md", "docs/MINIZINC.md", "docs/TUTORIAL.md"]
-FOLDERS = ["launcher", "minizinc", "examples"]
+DOCS = ["CLAIMS.md", "COMMANDS.md", "COSTS.md", "DEFINITIONS.md", "FORMATS.md", "GLOSSARY.md", "MINIZINC.md", "THEORY.md", "TUTORIAL.md"]
+FILES = ["abt", "README.md", "CHANGELOG.md", "CITATION.cff", "LICENSE", "docs/page.png", *(f"docs/{name}" for name in DOCS)]
+FOLDERS = ["launcher", "minizinc", "examples", "picture"]
 
 
 class Refused(Exception):
@@ -57,7 +58,7 @@ def stage(folder):
             os.makedirs(os.path.dirname(f"{folder}/{name}"), exist_ok=True)
             shutil.copy(f"{TOP}/{name}", f"{folder}/{name}")
     for name in FOLDERS:
-        leave = shutil.ignore_patterns("__pycache__", "check.sh", "build.sh")
+        leave = shutil.ignore_patterns("__pycache__", "check.sh", "build.sh", "tests")
         shutil.copytree(f"{TOP}/{name}", f"{folder}/{name}", ignore=leave)
     with open(f"{folder}/SOURCES", "w", encoding="utf-8") as it:
         it.write(sums_of_sources())
