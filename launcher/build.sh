@@ -8,12 +8,12 @@ want_toolchain() {
     stop 70 "the program has to be built, and the toolchain's rt is not on the path: README.md says whence it comes"
 }
 
-# makes the folder $room, which goes when the launcher ends, and takes the running command $making along
+# makes the folder $room, which goes when the launcher ends, and takes the running commands $making and $copying along
 make_room() {
   room=$(mktemp -d) || stop 70 "no room for a build below ${TMPDIR:-/tmp}"
-  making=
+  making= copying=
   trap 'rm -rf "$room"' EXIT
-  trap 'kill $making 2>/dev/null; wait $making; exit 70' INT TERM
+  trap 'kill $making $copying 2>/dev/null; wait $making; exit 70' INT TERM
 }
 
 # lets go of what make_room made
@@ -107,7 +107,7 @@ keep_unproved() {
     </dev/null >"$room/log" 2>&1 &
   making=$!
   (exec 3>"$room/model" && find "$room" -type f -perm -u+x -exec cp {} "$room/kept" \;) &
-  local copying=$!
+  copying=$!
   wait "$making"
   # a trial that ended before it read leaves the pipe to be opened here
   wait "$copying" 4<>"$room/model"

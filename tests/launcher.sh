@@ -6,7 +6,7 @@ set -u
 repository=$(cd "$(dirname "$0")/.." && pwd)
 program=$(readlink -f "${1:-$repository/crates/abt_main/out/abt_main}")
 if [ ! -x "$program" ]; then
-    "$repository/abt" --unproved --version > /dev/null || exit 1
+    "$repository/abt" --unproved gen queens 4 > /dev/null || exit 1
     program=$(echo "$repository"/out/unproved-*)
 fi
 room=$(mktemp -d)
@@ -24,7 +24,7 @@ mkdir "$room/place" "$room/typed"
 cp -r "$repository/abt" "$repository/launcher" "$room/place"
 cp "$program" "$room/place/program" && chmod 755 "$room/place/program"
 abt=$room/place/abt
-cp "$repository"/examples/* "$room/typed"
+cp "$repository"/examples/*.* "$room/typed"
 cd "$room/typed" || exit 1
 
 # terminal.py COMMAND..: with standard error on a pseudo-terminal; what comes there is put on standard error, and the
