@@ -434,7 +434,7 @@ tell "without python3 nothing is added" "$([ $got = 2 ] && [ "$(cat err)" = "abt
 
 echo "== installed, and packed"
 in_clone "$room/bin" bound m
-cp -r "$repository"/{README.md,docs,examples,minizinc} "$room/clone"
+cp -r "$repository"/{README.md,CHANGELOG.md,CITATION.cff,LICENSE,docs,examples,minizinc,picture} "$room/clone"
 prefix="$room/a place/with \"quotes\""
 mkdir -p "$prefix"
 in_clone "$room/shut" --install "$prefix"
