@@ -2,3 +2,4 @@ pub mod Lines
 pub mod Runs
 pub mod Searches
 pub mod Meanings
+pub mod Checks

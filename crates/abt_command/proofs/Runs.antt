@@ -1,12 +1,16 @@
 -- What a run that the words ask for left, sentence by sentence.
-use Rattle.std.proofs.Common.{◌≡◌, ◌≢◌, ◌≤◌, ◌^◌, arith, ℕ, List, [], ◌∷◌, Option, Some, None, refl, sym, subst, inr}
+use Rattle.std.proofs.Common.{◌≡◌, ◌≢◌, ◌≤◌, ◌^◌, arith, ℕ, List, [], ◌∷◌, Option, Some, None, refl, sym, ap, subst, inr}
 use Rattle.std.specs.Prelude.{Bool, IfSome, option_to_list}
 use Rattle.dcsp_outside.specs.Outside.{Stream, Told, bytes_of}
 use Rattle.dcsp_script.specs.Scripts.{World}
 use Rattle.dcsp_script.specs.Ways.{Did, DidPartOf}
-use Rattle.dcsp_defs.specs.Csp.{IsCsp}
+use Rattle.dcsp_defs.specs.Csp.{Csp, IsCsp, IsSolution}
 use Rattle.dcsp_defs.specs.Derivation.{IsRefutation}
 use Rattle.dcsp_rule.specs.Problems.{csp_of}
+use Rattle.abt_defs.specs.Runs.{Solved, Refuted, whole}
+use Rattle.law_runs.specs.Replay.{Verdicts}
+use Rattle.law_runs.proofs.Whole.{verdicts}
+use Rattle.law_subjects.proofs.Accepting.{accepted_are_problems}
 use Rattle.abt_promise.specs.declared.status.Status.{Status}
 use Rattle.abt_promise.specs.Statuses.{IsFinal, IsRefusal}
 use Rattle.abt_promise.specs.Runs.{Ran}
@@ -30,7 +34,7 @@ use Rattle.law_meaning.proofs.Whole.{solutions_satisfy}
 use Rattle.abt_command.specs.Meanings.{Means}
 use Rattle.abt_command.specs.Lines.{Line, Help, Version, Usage, Check, Replay, Solve, Bound, Queens, Colouring, Drill, Upgrade, Core, Starve, Lossy, Rup, Cnf, IsLine, IsNoLine}
 use Rattle.abt_command.specs.LinePromises.{promise_of}
-use Rattle.abt_command.specs.AskedRuns.{AsksFor, replays, solves, EachRun, RunsModel, AskForModel, IsCheckedRun, IsSatisfyingRun}
+use Rattle.abt_command.specs.AskedRuns.{AsksFor, replays, solves, EachRun, RunsModel, AskForModel, IsCheckedRun, IsSatisfyingRun, IsTrueRun, EachTrueRun}
 use Rattle.abt_command.proofs.Lines.{one_line, solve_names, replay_names}
 
 -- words that are no line ask for no run
@@ -41,6 +45,52 @@ asks_for_none words (Some files) P none = λ asked asks. absurd (so asked asks)
     so : (asked : Asked) → AsksFor words files asked → ⊥
     so asked (replays m s l t h p mp cs hc e) = none (Replay m s l t) h
     so asked (solves m l n k t h p mp aim e) = none (Solve m l n k t) h
+
+-- ---- the run that is asked for, whatever comes of it
+
+-- what its end means
+run_law : (asked : Asked) → asked.session.problem ≡ csp_of asked.problem → IsCsp (csp_of asked.problem) → Verdicts (csp_of asked.problem) asked.session.most (asked_run asked)
+run_law asked same ok = subst (λ (p : Csp). Verdicts (csp_of asked.problem) asked.session.most (whole p asked.session.most asked.session.choices)) (sym same) (verdicts (csp_of asked.problem) ok asked.session.most asked.session.choices)
+
+module _ (words : List (List ℕ)) (files : List ℕ → Option (List ℕ)) where
+  -- its problem is the model's
+  same_problem : (asked : Asked) → AsksFor words files asked → asked.session.problem ≡ csp_of asked.problem
+  same_problem asked (replays m s l t h p mp cs hc e) = rw e refl
+  same_problem asked (solves m l n k t h p mp aim e) = rw e refl
+
+  -- which is well-formed, since its text was accepted
+  well_formed_text : (asked : Asked) → AsksFor words files asked → IsCsp (csp_of asked.problem)
+  well_formed_text asked (replays m s l t h p mp cs hc e) = rw e ((accepted_are_problems (bytes_of (files m))).well_formed p mp.short mp.reads)
+  well_formed_text asked (solves m l n k t h p mp aim e) = rw e ((accepted_are_problems (bytes_of (files m))).well_formed p mp.short mp.reads)
+
+  -- the model of the run has a name of its own
+  own_model : (asked : Asked) → AsksFor words files asked → (model : List ℕ) → AskForModel words model → IsOther asked model × IsModelOf (bytes_of (files model)) asked.problem
+  own_model asked (replays m s l t h p mp cs hc e) model a =
+      let is : m ≡ model = subst (λ x. RunsModel x model) (one_line words a.line (Replay m s l t) a.is h) a.runs in
+      rw (e, sym is) ((replay_names words m s l t h, tt), mp)
+  own_model asked (solves m l n k t h p mp aim e) model a =
+      let is : m ≡ model = subst (λ x. RunsModel x model) (one_line words a.line (Solve m l n k t) a.is h) a.runs in
+      rw (e, sym is) (((solve_names words m l n k t h).log_is_other, (solve_names words m l n k t h).record_is_other), mp)
+
+  module _ (asked : Asked) (asks : AsksFor words files asked) where
+    solves_whole : (asked_run asked).end ≡ Solved → IsSolution (csp_of asked.problem) (assigned (final_values asked.problem (asked_run asked)))
+    solves_whole e = solved asked (same_problem asked asks) (well_formed_text asked asks) (end_status (asked_run asked).end) refl (ap end_status e)
+
+    satisfies_whole : (asked_run asked).end ≡ Solved → (model : List ℕ) → AskForModel words model → SatisfiesText (bytes_of (files model)) (assigned (final_values asked.problem (asked_run asked)))
+    satisfies_whole e model runs = (solutions_satisfy (bytes_of (files model)) asked.problem (own_model asked asks model runs).1.reads (assigned (final_values asked.problem (asked_run asked)))).0 (solves_whole e)
+
+    is_true : IsTrueRun words files asked
+    is_true = record {
+      solved = solves_whole;
+      satisfies = satisfies_whole;
+      refuted = λ e. refuted asked (same_problem asked asks) (well_formed_text asked asks) (end_status (asked_run asked).end) refl (ap end_status e);
+      bounded = (run_law asked (same_problem asked asks) (well_formed_text asked asks)).bound;
+      undecided = λ e. (run_law asked (same_problem asked asks) (well_formed_text asked asks)).unfinished e;
+    }
+
+pub runs_are_true : (words : List (List ℕ)) (held : Option (List ℕ → Option (List ℕ))) → EachTrueRun words held
+runs_are_true words None = tt
+runs_are_true words (Some files) = λ asked asks. is_true words files asked asks
 
 module _ (words : List (List ℕ)) (line : Line) (is : IsLine words line) (a b : World) (err now : Stream) (status : Status) (line_ran : Ran (promise_of line) a b err now status)
     (means : IsFinal status → (IsRefusal status → ⊥) → Means line a b status) where
@@ -82,10 +132,6 @@ module _ (words : List (List ℕ)) (line : Line) (is : IsLine words line) (a b :
     own asked (replays m s l t h p mp cs hc e) = rw e tt
     own asked (solves m l n k t h p mp aim e) = rw e (solve_names words m l n k t h).record_is_own
 
-    same_problem : (asked : Asked) → AsksFor words files asked → asked.session.problem ≡ csp_of asked.problem
-    same_problem asked (replays m s l t h p mp cs hc e) = rw e refl
-    same_problem asked (solves m l n k t h p mp aim e) = rw e refl
-
     -- the model's problem is well-formed
     of_model : (l : Line) (name : List ℕ) → IsLine words l → RunsModel l name → IsFinal status → (IsRefusal status → ⊥) → HoldsProblem (Some files) name
     of_model l name h r f n = subst (λ held. HoldsProblem held name) told (sound name (subst (λ x. RunsModel x name) (sym (one_line words line l is h)) r) f n)
@@ -98,15 +144,6 @@ module _ (words : List (List ℕ)) (line : Line) (is : IsLine words line) (a b :
     small : (asked : Asked) → AsksFor words files asked → IsFinal status → (IsRefusal status → ⊥) → IsSmall (csp_of asked.problem)
     small asked (replays m s l t h p mp cs hc e) f n = rw e (of_model (Replay m s l t) m h refl f n p mp).1
     small asked (solves m l n k t h p mp aim e) f no_refused = rw e (of_model (Solve m l n k t) m h refl f no_refused p mp).1
-
-    -- the model of the run has a name of its own
-    own_model : (asked : Asked) → AsksFor words files asked → (model : List ℕ) → AskForModel words model → IsOther asked model × IsModelOf (bytes_of (files model)) asked.problem
-    own_model asked (replays m s l t h p mp cs hc e) model a =
-        let is : m ≡ model = subst (λ x. RunsModel x model) (one_line words a.line (Replay m s l t) a.is h) a.runs in
-        rw (e, sym is) ((replay_names words m s l t h, tt), mp)
-    own_model asked (solves m l n k t h p mp aim e) model a =
-        let is : m ≡ model = subst (λ x. RunsModel x model) (one_line words a.line (Solve m l n k t) a.is h) a.runs in
-        rw (e, sym is) (((solve_names words m l n k t h).log_is_other, (solve_names words m l n k t h).record_is_other), mp)
 
     at_most : (asked : Asked) → AsksFor words files asked → asked.session.most ≤ 2 ^ 40
     at_most asked (replays m s l t h p mp cs hc e) = rw e (omega arith)
@@ -133,13 +170,13 @@ module _ (words : List (List ℕ)) (line : Line) (is : IsLine words line) (a b :
   run_solved = each (λ asked. IsSolvedRun asked status) (λ files told asked asks good.
       let f = subst IsFinal (sym good) tt in
       let i = (did_run files told asked asks f).0 in
-      solved asked (same_problem files told asked asks) (well_formed files told asked asks f (not_refused files told asked i)) status i good)
+      solved asked (same_problem words files asked asks) (well_formed files told asked asks f (not_refused files told asked i)) status i good)
 
   pub run_refuted : EachRun words a.folder.held (λ asked. IsRefutedRun asked status)
   run_refuted = each (λ asked. IsRefutedRun asked status) (λ files told asked asks answer.
       let f = subst IsFinal (sym answer) tt in
       let i = (did_run files told asked asks f).0 in
-      refuted asked (same_problem files told asked asks) (well_formed files told asked asks f (not_refused files told asked i)) status i answer)
+      refuted asked (same_problem words files asked asks) (well_formed files told asked asks f (not_refused files told asked i)) status i answer)
 
   pub run_unfinished : EachRun words a.folder.held (λ asked. IsFinal status → IsUnfinishedRun asked status)
   run_unfinished = each (λ asked. IsFinal status → IsUnfinishedRun asked status) (λ files told asked asks f. at_limit files told asked asks (did_run files told asked asks f).0)
@@ -147,7 +184,7 @@ module _ (words : List (List ℕ)) (line : Line) (is : IsLine words line) (a b :
   pub run_bounded : EachRun words a.folder.held (λ asked. IsFinal status → IsBoundedRun asked status)
   run_bounded = each (λ asked. IsFinal status → IsBoundedRun asked status) (λ files told asked asks f.
       let i = (did_run files told asked asks f).0 in
-      bounded asked (same_problem files told asked asks) (well_formed files told asked asks f (not_refused files told asked i)) status i (at_limit files told asked asks i))
+      bounded asked (same_problem words files asked asks) (well_formed files told asked asks f (not_refused files told asked i)) status i (at_limit files told asked asks i))
 
   pub run_ordered : EachRun words a.folder.held (λ asked. WritesOrdered asked a b)
   run_ordered = each (λ asked. WritesOrdered asked a b) (λ files told asked asks. part_ordered asked (own files told asked asks) a b (made_part files told asked asks))
@@ -157,11 +194,11 @@ module _ (words : List (List ℕ)) (line : Line) (is : IsLine words line) (a b :
       let f = subst IsFinal (sym answer) tt in
       let d = did_run files told asked asks f in
       let no_refused = not_refused files told asked d.0 in
-      let same = same_problem files told asked asks in
+      let same = same_problem words files asked asks in
       let ok = well_formed files told asked asks f no_refused in
       let refutes = refuted asked same ok status d.0 answer in
       let log = refuted_log asked same (at_most files told asked asks) ok (small files told asked asks f no_refused) refutes in
-      let mine = own_model files told asked asks model runs in
+      let mine = own_model words files asked asks model runs in
       by_held asked model files told mine log refutes (is_run asked (own files told asked asks) a b status d.0 d.1).files)
     where
       by_held : (asked : Asked) (model : List ℕ) (files : List ℕ → Option (List ℕ)) → a.folder.held ≡ Some files → IsOther asked model × IsModelOf (bytes_of (files model)) asked.problem → IsTextOf (log_text (asked_run asked).net.steps) (asked_run asked).net.steps → IsRefutation (csp_of asked.problem) (asked_run asked).net.steps
@@ -178,6 +215,6 @@ module _ (words : List (List ℕ)) (line : Line) (is : IsLine words line) (a b :
   run_satisfies = each (λ asked. IsSatisfyingRun words a.folder.held asked status) (λ files told asked asks good model runs.
       let f = subst IsFinal (sym good) tt in
       let i = (did_run files told asked asks f).0 in
-      let solves = solved asked (same_problem files told asked asks) (well_formed files told asked asks f (not_refused files told asked i)) status i good in
-      let mine = own_model files told asked asks model runs in
+      let solves = solved asked (same_problem words files asked asks) (well_formed files told asked asks f (not_refused files told asked i)) status i good in
+      let mine = own_model words files asked asks model runs in
       subst (λ held. IfSome held (λ now. SatisfiesText (bytes_of (now model)) (assigned (final_values asked.problem (asked_run asked))))) (sym told) ((solutions_satisfy (bytes_of (files model)) asked.problem mine.1.reads (assigned (final_values asked.problem (asked_run asked)))).0 solves))

@@ -1,8 +1,12 @@
 -- The runs that words ask for.
-use Rattle.std.specs.Prelude.{◌≡◌, ℕ, Bool, List, Option, IfSome}
+use Rattle.std.specs.Prelude.{◌≡◌, ◌⊎◌, ◌<◌, ◌≤◌, ℕ, Bool, List, Option, IfSome}
 use Rattle.dcsp_outside.specs.Outside.{bytes_of}
+use Rattle.dcsp_defs.specs.Csp.{IsSolution}
+use Rattle.dcsp_defs.specs.Derivation.{IsRefutation}
+use Rattle.abt_defs.specs.Bound.{message_bound}
+use Rattle.abt_defs.specs.Runs.{Refuted, Solved, Capped, Spent}
 use Rattle.dcsp_rule.specs.declared.aim.Aim.TheVariants.{Satisfy}
-use Rattle.dcsp_rule.specs.Problems.{Contents}
+use Rattle.dcsp_rule.specs.Problems.{Contents, csp_of}
 use Rattle.abt_input.specs.Inputs.{IsModelOf, HasChoices}
 use Rattle.abt_promise.specs.declared.status.Status.{Status}
 use Rattle.abt_promise.specs.declared.status.Status.TheVariants.{Good, No}
@@ -58,3 +62,15 @@ IsCheckedRun words held asked status = status ≡ No → (model : List ℕ) → 
 abbrev pub IsSatisfyingRun : List (List ℕ) → Option (List ℕ → Option (List ℕ)) → Asked → Status → Type 0
 IsSatisfyingRun words held asked status = status ≡ Good → (model : List ℕ) → AskForModel words model
     → IfSome held (λ files. SatisfiesText (bytes_of (files model)) (assigned (final_values asked.problem (asked_run asked))))
+
+-- Whatever comes of the call: where the run ends solved, its values are a solution and satisfy the model's text; where it ends refuted, its derivation is a refutation; it delivers no more messages than the bound, and fewer where it ends undecided.
+pub record IsTrueRun (words : List (List ℕ)) (files : List ℕ → Option (List ℕ)) (asked : Asked) : Type 0 where
+  pub solved : (asked_run asked).end ≡ Solved → IsSolution (csp_of asked.problem) (assigned (final_values asked.problem (asked_run asked)))
+  pub satisfies : (asked_run asked).end ≡ Solved → (model : List ℕ) → AskForModel words model → SatisfiesText (bytes_of (files model)) (assigned (final_values asked.problem (asked_run asked)))
+  pub refuted : (asked_run asked).end ≡ Refuted → IsRefutation (csp_of asked.problem) (asked_run asked).net.steps
+  pub bounded : (asked_run asked).net.deliveries ≤ message_bound (csp_of asked.problem)
+  pub undecided : ((asked_run asked).end ≡ Capped) ⊎ ((asked_run asked).end ≡ Spent) → (asked_run asked).net.deliveries < message_bound (csp_of asked.problem)
+
+-- each run that the words ask for is true so, where the folder tells its files
+abbrev pub EachTrueRun : List (List ℕ) → Option (List ℕ → Option (List ℕ)) → Type 0
+EachTrueRun words held = IfSome held (λ files. (asked : Asked) → AsksFor words files asked → IsTrueRun words files asked)

@@ -1,14 +1,16 @@
 -- What an answer of a line means beyond its report.
-use Rattle.std.specs.Prelude.{◌≡◌, ℕ, ℤ, List, Option, IfSome, ⊤}
+use Rattle.std.specs.Prelude.{◌≡◌, ◌↔◌, ℕ, ℤ, List, Option, IfSome, ⊤}
 use Rattle.dcsp_outside.specs.Outside.{bytes_of}
-use Rattle.dcsp_rule.specs.Problems.{Contents}
+use Rattle.dcsp_defs.specs.declared.entry.Entry.{Entry}
+use Rattle.dcsp_rule.specs.Problems.{Contents, csp_of}
+use Rattle.ngd_check.specs.Entries.{DoRefute}
 use Rattle.abt_optimum.specs.Best.{HasNoBetter}
 use Rattle.abt_input.specs.Inputs.{IsModelOf}
 use Rattle.dcsp_script.specs.Scripts.{World}
 use Rattle.abt_promise.specs.declared.status.Status.{Status}
 use Rattle.abt_promise.specs.declared.status.Status.TheVariants.{Good, No}
-use Rattle.line_check.specs.Taking.{taking_of}
-use Rattle.line_check.specs.Checks.{IsRefutedBy}
+use Rattle.line_check.specs.Taking.{Taking, taking_of}
+use Rattle.line_check.specs.Checks.{HasEntries, IsRefutedBy}
 use Rattle.line_replay.specs.Headline.{HoldsProblem}
 use Rattle.line_solve.specs.SolvePromise.{HoldsWholeProblem}
 use Rattle.line_cnf.specs.RupPromise.{HoldsRefuted, TellsExactly}
@@ -23,6 +25,19 @@ use Rattle.abt_command.specs.Lines.{Line, Help, Version, Usage, Check, Replay, S
 pub record IsSolveAnswer (old : Option (List ℕ → Option (List ℕ))) (model : List ℕ) : Type 0 where
   pub sound : HoldsProblem old model
   pub whole : HoldsWholeProblem old model
+
+-- `check`: a problem is taken of the model, and the log has entries; the status is 0 exactly where these refute the problem, and 1 where they do not
+pub record IsCheckAnswer (t : Taking) (model log : List ℕ) (status : Status) : Type 0 where
+  pub problem : Contents
+  pub taken : t.Is model problem
+  pub entries : List Entry
+  pub log_is : HasEntries log entries
+  pub accepted : (status ≡ Good) ↔ DoRefute (csp_of problem) entries
+  pub rejected : (status ≡ No) ↔ (DoRefute (csp_of problem) entries → ⊥)
+
+-- the same of the files under these names, where the folder tells them; the problem is the model's, or where a bound is given, the one with better values alone
+abbrev pub AnswersCheck : Option ℤ → Option (List ℕ → Option (List ℕ)) → List ℕ → List ℕ → Status → Type 0
+AnswersCheck better files model log status = IfSome files (λ f. IsCheckAnswer (taking_of better) (bytes_of (f model)) (bytes_of (f log)) status)
 
 -- `rup`: the status is 0 exactly where the proof is accepted, and then the formula cannot be satisfied
 pub record IsRupAnswer (old : Option (List ℕ → Option (List ℕ))) (cnf proof : List ℕ) (status : Status) : Type 0 where

@@ -12,10 +12,10 @@ ghost use Rattle.abt_promise.specs.Clauses.{HasCause, IsComplete, GainsText, Lea
 ghost use Rattle.abt_input.specs.Errors.{way_of, error_text};
 ghost use Rattle.line_check.specs.Checks.{IsRefuted};
 ghost use Rattle.line_replay.specs.Headline.{IsRun, IsSolvedRun, IsRefutedRun, IsUnfinishedRun, IsBoundedRun, WritesOrdered};
-ghost use Rattle.abt_command.specs.AskedRuns.{EachRun, IsCheckedRun, IsSatisfyingRun};
+ghost use Rattle.abt_command.specs.AskedRuns.{EachRun, EachTrueRun, IsCheckedRun, IsSatisfyingRun};
 ghost use Rattle.line_solve.specs.BestHeadline.{IsSearched, IsBestSearch, IsRefutedSearch, IsUnfinishedSearch, IsBoundedSearch, SearchOrdered};
 ghost use Rattle.abt_command.specs.AskedSearches.{EachSearch, IsCheckedSearch, IsSatisfyingSearch};
-ghost use Rattle.abt_command.specs.Meanings.{Means, HoldsNoBetter, IsRupAnswer, IsCnfAnswer, IsCoreAnswer, IsStarvedAnswer};
+ghost use Rattle.abt_command.specs.Meanings.{Means, AnswersCheck, HoldsNoBetter, IsRupAnswer, IsCnfAnswer, IsCoreAnswer, IsStarvedAnswer};
 ghost use Rattle.line_rewrite.specs.Upgrading.{HoldsUpgrade};
 ghost use Rattle.line_lossy.specs.Meaning.{HoldsLossyRun};
 ghost use Rattle.abt_command.specs.Lines as lines;
@@ -177,6 +177,9 @@ pub fn run_command<F: Folder, S: Sink>(
         → result ≡ Status.Good → IsRefuted (F.place folder.old).held model }
     ensures no_better { (model log : List ℕ) (bound : ℤ) → IsLine (map string_bytes words.now) (lines.Check model log (Some bound))
         → result ≡ Status.Good → HoldsNoBetter (F.place folder.old).held model bound }
+    ensures exact { (model log : List ℕ) (better : Option ℤ) → IsLine (map string_bytes words.now) (lines.Check model log better)
+        → IsFinal result → (IsRefusal result → ⊥) → AnswersCheck better (F.place folder.old).held model log result }
+    ensures true_runs { EachTrueRun (map string_bytes words.now) (F.place folder.old).held }
     ensures the_run { EachRun (map string_bytes words.now) (F.place folder.old).held (λ asked. IsFinal result → IsRun asked result
         (outside (F.place folder.old) (S.stream out.old)) (outside (F.place folder.new) (S.stream out.new))) }
     ensures solved { EachRun (map string_bytes words.now) (F.place folder.old).held (λ asked. IsSolvedRun asked result) }

@@ -8,5 +8,5 @@ mod Formulas
 mod Refusals
 mod Clauses
 mod Building
-mod Accepting
+pub mod Accepting
 mod Finding

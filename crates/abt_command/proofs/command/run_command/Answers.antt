@@ -4,10 +4,11 @@ use Rattle.abt_promise.specs.Statuses.{IsFinal, IsRefusal}
 use Rattle.abt_promise.proofs.Following.{ran_answers, ran_cause, ran_complete, ran_creates, ran_faults, ran_lacks, ran_others, ran_refused, ran_stays, ran_text}
 use Rattle.abt_command.specs.Lines.{Check, Core, Starve, Lossy, Rup, Cnf, Upgrade, line_of}
 use Rattle.abt_command.proofs.Meanings.{means_of, refuted_by, no_better_by}
+use Rattle.abt_command.proofs.Checks.{check_told}
 use Rattle.abt_command.specs.LinePromises.{promise_of}
 use Rattle.abt_command.proofs.Lines.{one_line, lawful}
 use Rattle.abt_command.proofs.Searches.{asks_no_search, the_search, search_best, search_refuted, search_checked, search_satisfies, search_unfinished, search_bounded, search_ordered}
-use Rattle.abt_command.proofs.Runs.{asks_for_none, the_run, run_solved, run_refuted, run_checked, run_satisfies, run_unfinished, run_bounded, run_ordered}
+use Rattle.abt_command.proofs.Runs.{runs_are_true, asks_for_none, the_run, run_solved, run_refuted, run_checked, run_satisfies, run_unfinished, run_bounded, run_ordered}
 use Rattle.abt_command.proofs.command.run_command.Goals as goal
 
 pub returns-in-Some-clause-answers : goal.returns-in-Some-clause-answers
@@ -45,6 +46,15 @@ returns-in-Some-clause-verified g c = λ model log is good. refuted_by _ _ _ (on
 
 pub returns-in-Some-clause-no_better : goal.returns-in-Some-clause-no_better
 returns-in-Some-clause-no_better g c = λ model log bound is good. no_better_by _ _ _ (one_line _ (line_of c.in-Some.order) (Check model log (Some bound)) c.in-Some.ensures.some is) good c.run_order.ensures.means
+
+pub returns-in-Some-clause-exact : goal.returns-in-Some-clause-exact
+returns-in-Some-clause-exact g c = check_told _ (line_of c.in-Some.order) c.in-Some.ensures.some _ _ _ _ c.run_order.result c.run_order.ensures.ran
+
+pub returns-in-Some-clause-true_runs : goal.returns-in-Some-clause-true_runs
+returns-in-Some-clause-true_runs g c = runs_are_true _ _
+
+pub returns-in-None-clause-true_runs : goal.returns-in-None-clause-true_runs
+returns-in-None-clause-true_runs g c = runs_are_true _ _
 
 pub returns-in-Some-clause-runs : goal.returns-in-Some-clause-runs
 returns-in-Some-clause-runs g c = inl (line_of c.in-Some.order, c.in-Some.ensures.some, c.run_order.ensures.ran)
