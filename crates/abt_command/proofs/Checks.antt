@@ -21,7 +21,7 @@ use Rattle.abt_input.specs.declared.error.CommandError.{CommandError}
 use Rattle.abt_input.specs.declared.error.CommandError.TheVariants.{ModelLong, ModelRefused, NoAim, LogLong, LogLine, ScheduleLong, ScheduleLine, Clauses, Fault, Memory}
 use Rattle.abt_input.specs.Errors.{error_status, error_text}
 use Rattle.abt_input.specs.Plans.{PlanReports}
-use Rattle.line_check.specs.Taking.{Taking, taking_of}
+use Rattle.line_check.specs.Taking.{taking_of}
 use Rattle.line_check.specs.Checks.{IsErrorOfEntries, IsFoundFor, finding_status, finding_text}
 use Rattle.line_check.specs.CheckReports.{check_plan, check_promise}
 use Rattle.line_check.proofs.Taken.{IsOfModel, settled}

@@ -7,7 +7,7 @@ use Rattle.dcsp_script.specs.Ways.{Did, DidPartOf}
 use Rattle.dcsp_defs.specs.Csp.{Csp, IsCsp, IsSolution}
 use Rattle.dcsp_defs.specs.Derivation.{IsRefutation}
 use Rattle.dcsp_rule.specs.Problems.{csp_of}
-use Rattle.abt_defs.specs.Runs.{Solved, Refuted, whole}
+use Rattle.abt_defs.specs.Runs.{Solved, whole}
 use Rattle.law_runs.specs.Replay.{Verdicts}
 use Rattle.law_runs.proofs.Whole.{verdicts}
 use Rattle.law_subjects.proofs.Accepting.{accepted_are_problems}
