@@ -4,7 +4,6 @@ use abt_files::{OpenFiles, RealFolder, RealSink, Stream};
 use dcsp_outside::{Folder, FolderError};
 use std::alloc::Global;
 use std::cell::RefCell;
-use std::fs::Files;
 use std::io::Stdout;
 
 /// As long as a line of a log often is: 190 bytes.
@@ -12,7 +11,7 @@ const LINE: [u8; 190] = [b'x'; 190];
 
 /// Makes a file of this folder, appends so many lines to it, each by a call of its own, and tells
 /// whether all was written.
-pub fn append_lines<R: Files + Drop>(alloc: Global, system: R, output: Stdout, count: u32) -> bool {
+pub fn append_lines(alloc: Global, system: HostRuntime, output: Stdout, count: u32) -> bool {
     let open = RefCell::new(OpenFiles::new(alloc, system));
     let mut folder = RealFolder::new(alloc, &open);
     let out = RealSink::new(Stream::Output(output), &open);
