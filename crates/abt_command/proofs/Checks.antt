@@ -25,8 +25,7 @@ use Rattle.line_check.specs.Taking.{taking_of}
 use Rattle.line_check.specs.Checks.{IsErrorOfEntries, IsFoundFor, finding_status, finding_text}
 use Rattle.line_check.specs.CheckReports.{check_plan, check_promise}
 use Rattle.line_check.proofs.Taken.{IsOfModel, settled}
-use Rattle.abt_command.specs.Lines.{Line, Check, IsLine}
-use Rattle.abt_command.specs.LinePromises.{promise_of}
+use Rattle.abt_command.specs.Lines.{Line, Check, IsLine, promise_of}
 use Rattle.abt_command.specs.Meanings.{IsCheckAnswer, AnswersCheck}
 use Rattle.abt_command.proofs.Lines.{one_line, lawful}
 

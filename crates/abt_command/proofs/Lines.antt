@@ -1,7 +1,8 @@
 -- Lines of words, and how they end.
 use Rattle.std.proofs.Common.{◌≡◌, ◌≢◌, ℕ, ◌≤◌, Bool, true, List, [], ◌∷◌, ◌++◌, get_or, slice_get, Option, Some, Result, Ok, Err, refl, sym, ap, subst, ◌∙◌, arith, codes}
-use Rattle.std.specs.Prelude.{IfSome, IfOk}
+use Rattle.std.specs.Prelude.{IfSome}
 use Rattle.dcsp_outside.specs.Outside.{Stream}
+use Rattle.dcsp_script.specs.Scripts.{World}
 use Rattle.abt_promise.specs.declared.status.Status.{Status}
 use Rattle.abt_promise.specs.Statuses.{IsFinal, IsRefusal}
 use Rattle.abt_promise.specs.Promises.{IsSaid}
@@ -11,20 +12,19 @@ use Rattle.abt_input.specs.declared.error.CommandError.{CommandError}
 use Rattle.abt_input.specs.declared.error.CommandError.TheVariants.{ModelLong, ModelRefused, NoAim, LogLong, LogLine, ScheduleLong, ScheduleLine, Clauses, Fault, Memory}
 use Rattle.abt_input.specs.Errors.{error_status, error_text, way_of}
 use Rattle.abt_input.proofs.Cnfs.{clauses_refuse}
-use Rattle.abt_words.specs.declared.row.LineName.{LineName}
-use Rattle.abt_words.specs.declared.row.LineName.TheVariants as names
+use Rattle.abt_words.specs.declared.rows.LineName.{LineName}
 use Rattle.abt_words.specs.declared.row.Content.TheVariants.{Model, Log}
 use Rattle.abt_words.specs.declared.row.Access.TheVariants.{Read, Written}
-use Rattle.abt_words.specs.declared.rows.TheConstants.{SOLVE, REPLAY, CHECK, UPGRADE, CORE, STARVE, LOSSY, BOUND, QUEENS, COLOURING, DRILL, CNF, RUP, HELP, VERSION, USAGE}
+use Rattle.abt_words.specs.declared.rows.TheConstants.{SOLVE, REPLAY, STARVE, QUEENS, COLOURING}
 use Rattle.abt_words.specs.Rows.{Number, Place, Row, row_of, the_rows}
 use Rattle.abt_words.specs.Saying.{Value, Absent, Fill, Said, IsSaidBy, names_differ, setting_of, name_in, given_name}
 use Rattle.abt_words.proofs.Once.{one_said, rows_are_apart}
 use Rattle.abt_words.proofs.Read.{of_each, number_within, a_name, names_apart, if_name}
 use Rattle.line_model.proofs.Lawful.{bound_lawful, print_lawful}
+use Rattle.line_replay.specs.Headline.{HoldsProblem}
 use Rattle.line_replay.proofs.Lawful.{replay_lawful}
 use Rattle.line_solve.proofs.Lawful.{solve_lawful}
-use Rattle.abt_command.specs.Lines.{Line, Help, Version, Usage, Check, Replay, Solve, Bound, Queens, Colouring, Drill, Upgrade, Core, Starve, Lossy, Rup, Cnf, IsLine, IsSomeLine, line_named, line_by, number_at}
-use Rattle.abt_command.specs.LinePromises.{promise_of}
+use Rattle.abt_command.specs.Lines.{Line, Help, Version, Usage, Check, Replay, Solve, Bound, Queens, Colouring, Drill, Upgrade, Core, Starve, Lossy, Rup, Cnf, IsLine, IsSomeLine, Meaning, Nothing, Holds, AnswerMeans, CameMeans, Means, line_named, line_by, number_at, promise_of, value_of}
 use Rattle.line_check.proofs.Lawful.{check_lawful}
 use Rattle.line_drill.proofs.Lawful.{drill_lawful}
 use Rattle.line_rewrite.proofs.Lawful.{upgrade_lawful}
@@ -38,96 +38,44 @@ use Rattle.line_cnf.proofs.CnfLawful.{cnf_lawful}
 pub one_line : (words : List (List ℕ)) (line other : Line) → IsLine words line → IsLine words other → line ≡ other
 one_line words line other h k = h.line_is ∙ (ap line_by (one_said the_rows rows_are_apart words h.said k.said h.is_said k.is_said) ∙ sym k.line_is)
 
+-- the same is in both
+pub one_some : {T : Type 0} {x y : T} → Some x ≡ Some y → x ≡ y
+one_some e = cc
+
 -- ---- rows of lines
 
--- the row of each name
-abbrev pub row_named : LineName → Row
-row_named names.Solve = row_of SOLVE
-row_named names.Replay = row_of REPLAY
-row_named names.Check = row_of CHECK
-row_named names.Upgrade = row_of UPGRADE
-row_named names.Core = row_of CORE
-row_named names.Starve = row_of STARVE
-row_named names.Lossy = row_of LOSSY
-row_named names.Bound = row_of BOUND
-row_named names.Queens = row_of QUEENS
-row_named names.Colouring = row_of COLOURING
-row_named names.Drill = row_of DRILL
-row_named names.Cnf = row_of CNF
-row_named names.Rup = row_of RUP
-row_named names.Help = row_of HELP
-row_named names.Version = row_of VERSION
-row_named names.Usage = row_of USAGE
-
-pub its_row : (i : ℕ) (row : Row) → slice_get the_rows i ≡ Some row → row ≡ row_named row.line
+-- a row that stands among the rows is that of the line which is made from it
+pub its_row : (said : Said) (i : ℕ) (row : Row) → slice_get the_rows i ≡ Some row → row ≡ (value_of (line_named row.line said)).row
 unfolding the_rows
-its_row = of_each (λ row. row ≡ row_named row.line) the_rows (refl, (refl, (refl, (refl, (refl, (refl, (refl, (refl, (refl, (refl, (refl, (refl, (refl, (refl, (refl, (refl, tt))))))))))))))))
-
--- the name of each line
-abbrev name_of : Line → LineName
-name_of Help = names.Help
-name_of Version = names.Version
-name_of Usage = names.Usage
-name_of (Check m l b) = names.Check
-name_of (Replay m c l t) = names.Replay
-name_of (Solve m l n k t) = names.Solve
-name_of (Bound m) = names.Bound
-name_of (Queens n) = names.Queens
-name_of (Colouring n k s) = names.Colouring
-name_of (Drill s) = names.Drill
-name_of (Upgrade l n) = names.Upgrade
-name_of (Core m l t) = names.Core
-name_of (Starve m a b f) = names.Starve
-name_of (Lossy m l e s k) = names.Lossy
-name_of (Rup c p) = names.Rup
-name_of (Cnf c p s) = names.Cnf
-
-named : (name : LineName) (said : Said) → name_of (line_named name said) ≡ name
-named names.Solve said = refl
-named names.Replay said = refl
-named names.Check said = refl
-named names.Upgrade said = refl
-named names.Core said = refl
-named names.Starve said = refl
-named names.Lossy said = refl
-named names.Bound said = refl
-named names.Queens said = refl
-named names.Colouring said = refl
-named names.Drill said = refl
-named names.Cnf said = refl
-named names.Rup said = refl
-named names.Help said = refl
-named names.Version said = refl
-named names.Usage said = refl
+its_row said = of_each (λ row. row ≡ (value_of (line_named row.line said)).row) the_rows (refl, (refl, (refl, (refl, (refl, (refl, (refl, (refl, (refl, (refl, (refl, (refl, (refl, (refl, (refl, (refl, tt))))))))))))))))
 
 -- what the words of a line say: its row, the values of which fill its places and have names that differ
-pub record Spoken (line : Line) (row : Row) : Type 0 where
+pub record Spoken (line : Line) : Type 0 where
   pub said : Said
-  pub row_is : said.row ≡ row
-  pub fill : Fill row.places said.values
+  pub row_is : said.row ≡ (value_of line).row
+  pub fill : Fill (value_of line).row.places said.values
   pub differ : names_differ (said.values ++ said.settings) ≡ true
-  pub line_is : line ≡ line_named (name_of line) said
+  pub line_is : line ≡ line_named (value_of line).row.line said
 
-pub spoken : (words : List (List ℕ)) (line : Line) → IsLine words line → Spoken line (row_named (name_of line))
+pub spoken : (words : List (List ℕ)) (line : Line) → IsLine words line → Spoken line
 spoken words line h =
-    let name : h.said.row.line ≡ name_of line = sym (named h.said.row.line h.said) ∙ ap name_of (sym h.line_is) in
-    let row = its_row h.is_said.place h.said.row h.is_said.row ∙ ap row_named name in
+    let row = its_row h.said h.is_said.place h.said.row h.is_said.row ∙ sym (ap (λ l. (value_of l).row) h.line_is) in
     record {
       said = h.said;
       row_is = row;
       fill = subst (λ (r : Row). Fill r.places h.said.values) row h.is_said.says.fill;
       differ = h.is_said.says.names;
-      line_is = h.line_is ∙ ap (λ n. line_named n h.said) name;
+      line_is = h.line_is ∙ ap (λ (r : Row). line_named r.line h.said) row;
     }
 
 -- ---- numbers
 
 -- a number that is said is at most what its row says
 pub at_most : (words : List (List ℕ)) (said : Said) → IsSaidBy the_rows words said → (name : LineName) → said.row.line ≡ name
-    → (i : ℕ) (place : Place) (least most : ℕ) → slice_get (row_named name).places i ≡ Some place → place.kind ≡ Number least most → number_at said i ≤ most
+    → (i : ℕ) (place : Place) (least most : ℕ) → slice_get (value_of (line_named name said)).row.places i ≡ Some place → place.kind ≡ Number least most → number_at said i ≤ most
 at_most words said is name e i place least most s k =
-    let row = its_row is.place said.row is.row ∙ ap row_named e in
-    (number_within (row_named name).places said.values i place least most s k (subst (λ (r : Row). Fill r.places said.values) row is.says.fill)).1
+    let row = its_row said is.place said.row is.row ∙ ap (λ n. (value_of (line_named n said)).row) e in
+    (number_within (value_of (line_named name said)).row.places said.values i place least most s k (subst (λ (r : Row). Fill r.places said.values) row is.says.fill)).1
 
 pub queens_within : (n : ℕ) → IsSomeLine (Queens n) → (1 ≤ n) × (n ≤ 200)
 queens_within n some =
@@ -198,7 +146,7 @@ solve_names words model log seed kept trace h =
     let r : kept ≡ given_name (get_or s.said.settings 1 Absent) = the_kept s ∙ k in
     same_names _ _ _ _ _ _ m l r (record { log_is_other = apart.0; record_is_other = apart.1; record_is_own = apart.2 })
   where
-    the_kept : (s : Spoken (Solve model log seed kept trace) (row_of SOLVE)) → kept ≡ given_name (setting_of s.said.row.options s.said.settings (codes "--record"))
+    the_kept : (s : Spoken (Solve model log seed kept trace)) → kept ≡ given_name (setting_of s.said.row.options s.said.settings (codes "--record"))
     the_kept s = let e = s.line_is in cc
 
 replay_apart : (values settings : List Value) → Fill (row_of REPLAY).places values → names_differ (values ++ settings) ≡ true → name_in (get_or values 0 Absent) ≢ name_in (get_or values 2 Absent)
@@ -218,24 +166,31 @@ replay_names words model schedule log trace h =
 
 -- ---- promises
 
--- each line's promise is lawful
+-- a line's promise is lawful; and where it makes a run of a model and answers, the model's problem is one
+pub record IsSound (line : Line) : Type 0 where
+  pub lawful : IsLawful (promise_of line)
+  pub problem : (a b : World) (status : Status) → IfSome (value_of line).runs (λ model. Means line a b status → HoldsProblem a.folder.held model)
+
+pub sound : (line : Line) → IsSound line
+sound Help = record { lawful = print_lawful _; problem = λ a b s. tt }
+sound Version = record { lawful = print_lawful _; problem = λ a b s. tt }
+sound Usage = record { lawful = print_lawful _; problem = λ a b s. tt }
+sound (Check m l better) = record { lawful = check_lawful better m l; problem = λ a b s. tt }
+sound (Replay m c l t) = record { lawful = replay_lawful m c l t; problem = λ a b s h. h }
+sound (Solve m l n r t) = record { lawful = solve_lawful m l n r t; problem = λ a b s h. h.sound }
+sound (Bound m) = record { lawful = bound_lawful m; problem = λ a b s. tt }
+sound (Queens n) = record { lawful = print_lawful _; problem = λ a b s. tt }
+sound (Colouring n k c) = record { lawful = print_lawful _; problem = λ a b s. tt }
+sound (Drill c) = record { lawful = drill_lawful c; problem = λ a b s. tt }
+sound (Upgrade m o) = record { lawful = upgrade_lawful m o; problem = λ a b s. tt }
+sound (Core m o t) = record { lawful = core_lawful m o t; problem = λ a b s. tt }
+sound (Starve m c d o) = record { lawful = starve_lawful m c d o; problem = λ a b s. tt }
+sound (Lossy m o n c k) = record { lawful = lossy_lawful m o n c k; problem = λ a b s. tt }
+sound (Rup m o) = record { lawful = rup_lawful m o; problem = λ a b s. tt }
+sound (Cnf m o c) = record { lawful = cnf_lawful m o c; problem = λ a b s. tt }
+
 pub lawful : (line : Line) → IsLawful (promise_of line)
-lawful Help = print_lawful _
-lawful Version = print_lawful _
-lawful Usage = print_lawful _
-lawful (Check m l b) = check_lawful b m l
-lawful (Replay m c l t) = replay_lawful m c l t
-lawful (Solve m l n r t) = solve_lawful m l n r t
-lawful (Bound m) = bound_lawful m
-lawful (Queens n) = print_lawful _
-lawful (Colouring n k s) = print_lawful _
-lawful (Drill s) = drill_lawful s
-lawful (Upgrade m o) = upgrade_lawful m o
-lawful (Core m o t) = core_lawful m o t
-lawful (Starve m a c o) = starve_lawful m a c o
-lawful (Lossy m o n c k) = lossy_lawful m o n c k
-lawful (Rup m o) = rup_lawful m o
-lawful (Cnf m o s) = cnf_lawful m o s
+lawful line = (sound line).lawful
 
 -- what is said of an error
 pub concluded : (e : CommandError) (err now : Stream) (status : Status) → status ≡ error_status e → IsSaid (error_text e) err now → Concludes (way_of (Err e)) err now status
@@ -265,6 +220,7 @@ an_answer (Err Fault) err now status h f n = absurd (subst IsFinal h.0 f)
 an_answer (Err Memory) err now status h f n = absurd (subst IsFinal h.0 f)
 
 -- what holds of an answer
-pub if_answered : (P : Status → Type 0) (came : Result Status CommandError) (status : Status) → came ≡ Ok status → IfOk came P → P status
-if_answered P (Ok x) status e h = subst P (let same : x ≡ status = cc in same) h
-if_answered P (Err x) status e h = absurd cc
+pub if_answered : (m : Meaning) (old new : World) (came : Result Status CommandError) (status : Status) → came ≡ Ok status → CameMeans m old new came → AnswerMeans m old new status
+if_answered Nothing old new came status e h = tt
+if_answered (Holds P) old new (Ok x) status e h = subst (P old new) (let same : x ≡ status = cc in same) h
+if_answered (Holds P) old new (Err x) status e h = absurd cc

@@ -1,6 +1,6 @@
 -- What the answers of lines mean.
 use Rattle.std.proofs.Common.{◌≡◌, ℕ, ℤ, List, Option, Some, None, Result, Ok, Err, sym, ap, subst}
-use Rattle.std.specs.Prelude.{IfOk, OnOk, ⊤}
+use Rattle.std.specs.Prelude.{IfOk, OnOk}
 use Rattle.dcsp_script.specs.Scripts.{World}
 use Rattle.abt_promise.specs.declared.status.Status.{Status}
 use Rattle.abt_promise.specs.declared.status.Status.TheVariants.{Good, No}
@@ -14,8 +14,8 @@ use Rattle.abt_optimum.proofs.Narrowing.{decides}
 use Rattle.abt_input.proofs.Once.{one_problem}
 use Rattle.line_check.specs.Taking.{narrowing, taking_of}
 use Rattle.line_check.specs.Checks.{IsRefuted, IsRefutedBy}
-use Rattle.abt_command.specs.Lines.{Line, Check}
-use Rattle.abt_command.specs.Meanings.{Means, HoldsNoBetter}
+use Rattle.abt_command.specs.Lines.{Line, Check, Means}
+use Rattle.abt_command.specs.Meanings.{HoldsNoBetter}
 
 -- the same of the same line
 pub means_of : {line other : Line} (old now : World) (status : Status) → line ≡ other → Means line old now status → Means other old now status
@@ -42,11 +42,6 @@ none_better (Some f) model bound h = λ p is.
 pub no_better_by : {line : Line} {model log : List ℕ} {bound : ℤ} (old now : World) (status : Status) → line ≡ Check model log (Some bound) → status ≡ Good
     → (IsFinal status → (IsRefusal status → ⊥) → Means line old now status) → HoldsNoBetter old.folder.held model bound
 no_better_by {model = model} {bound = bound} old now status e good h = none_better old.folder.held model bound (verified_by old now status e good h)
-
--- nothing is asked of an answer
-pub any_answer : (r : Result Status CommandError) → IfOk r (λ status. ⊤)
-any_answer (Ok x) = tt
-any_answer (Err e) = tt
 
 -- status 0 alone is asked of
 pub good_alone : {P : Type 0} (r : Result Status CommandError) → (r ≡ Ok Good → P) → IfOk r (λ status. status ≡ Good → P)

@@ -31,11 +31,9 @@ use Rattle.line_replay.proofs.Headlines.{HasOwnRecord, is_run, part_ordered}
 use Rattle.line_replay.proofs.Verdicts.{solved, refuted, bounded, replay_unfinished, solve_unfinished, refuted_log}
 use Rattle.law_meaning.specs.Meaning.{SatisfiesText}
 use Rattle.law_meaning.proofs.Whole.{solutions_satisfy}
-use Rattle.abt_command.specs.Meanings.{Means}
-use Rattle.abt_command.specs.Lines.{Line, Help, Version, Usage, Check, Replay, Solve, Bound, Queens, Colouring, Drill, Upgrade, Core, Starve, Lossy, Rup, Cnf, IsLine, IsNoLine}
-use Rattle.abt_command.specs.LinePromises.{promise_of}
+use Rattle.abt_command.specs.Lines.{Line, Replay, Solve, IsLine, IsNoLine, Means, promise_of, value_of}
 use Rattle.abt_command.specs.AskedRuns.{AsksFor, replays, solves, EachRun, RunsModel, AskForModel, IsCheckedRun, IsSatisfyingRun, IsTrueRun, EachTrueRun}
-use Rattle.abt_command.proofs.Lines.{one_line, solve_names, replay_names}
+use Rattle.abt_command.proofs.Lines.{one_line, one_some, sound, solve_names, replay_names}
 
 -- words that are no line ask for no run
 pub asks_for_none : (words : List (List ℕ)) (held : Option (List ℕ → Option (List ℕ))) (P : Asked → Type 0) → IsNoLine words → EachRun words held P
@@ -66,10 +64,10 @@ module _ (words : List (List ℕ)) (files : List ℕ → Option (List ℕ)) wher
   -- the model of the run has a name of its own
   own_model : (asked : Asked) → AsksFor words files asked → (model : List ℕ) → AskForModel words model → IsOther asked model × IsModelOf (bytes_of (files model)) asked.problem
   own_model asked (replays m s l t h p mp cs hc e) model a =
-      let is : m ≡ model = subst (λ x. RunsModel x model) (one_line words a.line (Replay m s l t) a.is h) a.runs in
+      let is : m ≡ model = one_some (subst (λ x. RunsModel x model) (one_line words a.line (Replay m s l t) a.is h) a.runs) in
       rw (e, sym is) ((replay_names words m s l t h, tt), mp)
   own_model asked (solves m l n k t h p mp aim e) model a =
-      let is : m ≡ model = subst (λ x. RunsModel x model) (one_line words a.line (Solve m l n k t) a.is h) a.runs in
+      let is : m ≡ model = one_some (subst (λ x. RunsModel x model) (one_line words a.line (Solve m l n k t) a.is h) a.runs) in
       rw (e, sym is) (((solve_names words m l n k t h).log_is_other, (solve_names words m l n k t h).record_is_other), mp)
 
   module _ (asked : Asked) (asks : AsksFor words files asked) where
@@ -94,26 +92,8 @@ runs_are_true words (Some files) = λ asked asks. is_true words files asked asks
 
 module _ (words : List (List ℕ)) (line : Line) (is : IsLine words line) (a b : World) (err now : Stream) (status : Status) (line_ran : Ran (promise_of line) a b err now status)
     (means : IsFinal status → (IsRefusal status → ⊥) → Means line a b status) where
-  sound : (model : List ℕ) → RunsModel line model → IsFinal status → (IsRefusal status → ⊥) → HoldsProblem a.folder.held model
-  sound model runs f n = of_line line runs (means f n)
-    where
-      of_line : (l : Line) → RunsModel l model → Means l a b status → HoldsProblem a.folder.held model
-      of_line Help r h = absurd r
-      of_line Version r h = absurd r
-      of_line Usage r h = absurd r
-      of_line (Check m l n) r h = absurd r
-      of_line (Bound m) r h = absurd r
-      of_line (Queens n) r h = absurd r
-      of_line (Colouring n k c) r h = absurd r
-      of_line (Drill c) r h = absurd r
-      of_line (Upgrade m n) r h = absurd r
-      of_line (Core m o n) r h = absurd r
-      of_line (Starve m a c o) r h = absurd r
-      of_line (Lossy m o n c k) r h = absurd r
-      of_line (Rup m p) r h = absurd r
-      of_line (Cnf m p c) r h = absurd r
-      of_line (Replay m c l t) r h = subst (HoldsProblem a.folder.held) r h
-      of_line (Solve m l c k t) r h = subst (HoldsProblem a.folder.held) r h.sound
+  runs_problem : (model : List ℕ) → RunsModel line model → IsFinal status → (IsRefusal status → ⊥) → HoldsProblem a.folder.held model
+  runs_problem model runs f n = subst (λ r. IfSome r (λ m. Means line a b status → HoldsProblem a.folder.held m)) runs ((sound line).problem a b status) (means f n)
 
   as_line : (l : Line) → IsLine words l → Ran (promise_of l) a b err now status
   as_line l h = subst (λ x. Ran (promise_of x) a b err now status) (one_line words line l is h) line_ran
@@ -134,7 +114,7 @@ module _ (words : List (List ℕ)) (line : Line) (is : IsLine words line) (a b :
 
     -- the model's problem is well-formed
     of_model : (l : Line) (name : List ℕ) → IsLine words l → RunsModel l name → IsFinal status → (IsRefusal status → ⊥) → HoldsProblem (Some files) name
-    of_model l name h r f n = subst (λ held. HoldsProblem held name) told (sound name (subst (λ x. RunsModel x name) (sym (one_line words line l is h)) r) f n)
+    of_model l name h r f n = subst (λ held. HoldsProblem held name) told (runs_problem name (subst (λ x. RunsModel x name) (sym (one_line words line l is h)) r) f n)
 
     well_formed : (asked : Asked) → AsksFor words files asked → IsFinal status → (IsRefusal status → ⊥) → IsCsp (csp_of asked.problem)
     well_formed asked (replays m s l t h p mp cs hc e) f n = rw e (of_model (Replay m s l t) m h refl f n p mp).0

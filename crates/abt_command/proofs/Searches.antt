@@ -36,12 +36,10 @@ use Rattle.line_solve.proofs.Searches.{is_csp_after}
 use Rattle.line_solve.proofs.Verdicts.{is_best, is_refuted, is_unfinished, is_bounded}
 use Rattle.law_meaning.specs.Meaning.{SatisfiesText}
 use Rattle.law_meaning.proofs.Whole.{solutions_satisfy}
-use Rattle.abt_command.specs.Meanings.{Means}
-use Rattle.abt_command.specs.Lines.{Line, Solve, IsLine, IsNoLine}
-use Rattle.abt_command.specs.LinePromises.{promise_of}
+use Rattle.abt_command.specs.Lines.{Line, Solve, IsLine, IsNoLine, Means, promise_of}
 use Rattle.abt_command.specs.AskedRuns.{RunsModel, AskForModel}
 use Rattle.abt_command.specs.AskedSearches.{AsksForSearch, EachSearch, IsCheckedSearch, IsSatisfyingSearch}
-use Rattle.abt_command.proofs.Lines.{one_line, solve_names}
+use Rattle.abt_command.proofs.Lines.{one_line, one_some, solve_names}
 
 -- ---- logs can name what is left of a problem that is narrowed
 
@@ -130,7 +128,7 @@ module _ (words : List (List ℕ)) (line : Line) (is : IsLine words line) (a b :
     -- the model of the search has a name of its own
     own_model : (model : List ℕ) → AskForModel words model → (model ≢ asked.log) × IfSome asked.kept (λ k. model ≢ k) × IsModelOf (bytes_of (files model)) asked.problem
     own_model model asks_model =
-        let same : asks.model ≡ model = subst (λ x. RunsModel x model) (one_line words asks_model.line the_line asks_model.is asks.line_is) asks_model.runs in
+        let same : asks.model ≡ model = one_some (subst (λ x. RunsModel x model) (one_line words asks_model.line the_line asks_model.is asks.line_is) asks_model.runs) in
         subst (λ m. (m ≢ asked.log) × IfSome asked.kept (λ k. m ≢ k) × IsModelOf (bytes_of (files m)) asked.problem) same ((solve_names words asks.model asked.log asked.seed asked.kept asked.trace asks.line_is).log_is_other, (solve_names words asks.model asked.log asked.seed asked.kept asked.trace asks.line_is).record_is_other, asks.model_is)
 
     -- the log of the last round is a text of its steps

@@ -1,5 +1,5 @@
 -- The runs that words ask for.
-use Rattle.std.specs.Prelude.{◌≡◌, ◌⊎◌, ◌<◌, ◌≤◌, ℕ, Bool, List, Option, IfSome}
+use Rattle.std.specs.Prelude.{◌≡◌, ◌⊎◌, ◌<◌, ◌≤◌, ℕ, Bool, List, Option, Some, IfSome}
 use Rattle.dcsp_outside.specs.Outside.{bytes_of}
 use Rattle.dcsp_defs.specs.Csp.{IsSolution}
 use Rattle.dcsp_defs.specs.Derivation.{IsRefutation}
@@ -14,7 +14,7 @@ use Rattle.line_check.specs.Verifying.{IsVerified}
 use Rattle.law_meaning.specs.Meaning.{SatisfiesText}
 use Rattle.line_replay.specs.Endings.{assigned, final_values}
 use Rattle.line_replay.specs.Asked.{Asked, asked_run, replay, solve}
-use Rattle.abt_command.specs.Lines.{Line, Help, Version, Usage, Check, Replay, Solve, Bound, Queens, Colouring, Drill, Upgrade, Core, Starve, Lossy, Rup, Cnf, IsLine}
+use Rattle.abt_command.specs.Lines.{Line, Replay, Solve, IsLine, value_of}
 
 -- the words ask for this run, where these are the files: a replay of a model that has a problem and a schedule that has choices, or a run from a seed of a model that asks for any solution
 pub data AsksFor (words : List (List ℕ)) (files : List ℕ → Option (List ℕ)) (asked : Asked) : Type 0 where
@@ -31,22 +31,7 @@ EachRun words held P = IfSome held (λ files. (asked : Asked) → AsksFor words 
 
 -- the line runs the model under this name
 abbrev pub RunsModel : Line → List ℕ → Type 0
-RunsModel Help name = ⊥
-RunsModel Version name = ⊥
-RunsModel Usage name = ⊥
-RunsModel (Check model log better) name = ⊥
-RunsModel (Bound model) name = ⊥
-RunsModel (Queens n) name = ⊥
-RunsModel (Colouring n k seed) name = ⊥
-RunsModel (Drill seed) name = ⊥
-RunsModel (Upgrade log new) name = ⊥
-RunsModel (Core model log trimmed) name = ⊥
-RunsModel (Starve model from to file) name = ⊥
-RunsModel (Lossy model log events seed kept) name = ⊥
-RunsModel (Rup cnf proof) name = ⊥
-RunsModel (Cnf cnf proof seed) name = ⊥
-RunsModel (Replay model schedule log trace) name = model ≡ name
-RunsModel (Solve model log seed kept trace) name = model ≡ name
+RunsModel line name = (value_of line).runs ≡ Some name
 
 -- the words ask for a run of the model under this name
 pub record AskForModel (words : List (List ℕ)) (model : List ℕ) : Type 0 where

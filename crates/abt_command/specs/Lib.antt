@@ -1,5 +1,5 @@
+pub mod Meanings
 pub mod Lines
 pub mod LinePromises
 pub mod AskedRuns
 pub mod AskedSearches
-pub mod Meanings

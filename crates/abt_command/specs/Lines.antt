@@ -1,11 +1,32 @@
--- The lines of words that the program takes.
-use Rattle.std.specs.Prelude.{◌≡◌, ℕ, ℤ, List, Bool, Option, option_copied, unwrap_or, codes}
-use Rattle.abt_words.specs.declared.row.LineName.{LineName}
-use Rattle.abt_words.specs.declared.row.LineName.TheVariants as names
-use Rattle.abt_words.specs.Rows.{the_rows}
+-- The lines of words that the program takes, each with all that is said of it.
+use Rattle.std.specs.Prelude.{◌≡◌, ℕ, ℤ, List, Bool, Option, Some, None, Result, IfOk, ⊤, option_copied, unwrap_or, codes}
+use Rattle.abt_words.specs.declared.rows.LineName.{LineName}
+use Rattle.abt_words.specs.declared.rows.LineName.TheVariants as names
+use Rattle.abt_words.specs.declared.rows.TheConstants.{SOLVE, REPLAY, CHECK, UPGRADE, CORE, STARVE, LOSSY, BOUND, QUEENS, COLOURING, DRILL, CNF, RUP, HELP, VERSION, USAGE}
+use Rattle.abt_words.specs.Rows.{Row, row_of, the_rows}
 use Rattle.abt_words.specs.Saying.{Said, IsSaidBy, value_at, setting_at, name_in, number_in, given_name, given_number, given_signed, is_given}
-use Rattle.abt_command.specs.declared.words.Order.{Order}
-use Rattle.abt_command.specs.declared.words.Order.TheVariants as orders
+use Rattle.abt_words.specs.Texts.{help_text, usage_text}
+use Rattle.dcsp_script.specs.Scripts.{World}
+use Rattle.abt_promise.specs.declared.status.Status.{Status}
+use Rattle.abt_promise.specs.Promises.{Promise}
+use Rattle.abt_input.specs.declared.error.CommandError.{CommandError}
+use Rattle.line_model.specs.BoundReports.{bound_promise}
+use Rattle.line_model.specs.Generated.{print_promise, queens_promise, colouring_promise}
+use Rattle.line_check.specs.Taking.{taking_of}
+use Rattle.line_check.specs.CheckReports.{check_promise}
+use Rattle.line_replay.specs.ReplayPromise.{replay_promise}
+use Rattle.line_solve.specs.SolvePromise.{solve_promise}
+use Rattle.line_drill.specs.DrillPromise.{drill_promise}
+use Rattle.line_rewrite.specs.UpgradePromise.{upgrade_promise}
+use Rattle.line_rewrite.specs.CorePromise.{core_promise}
+use Rattle.line_starve.specs.StarvePromise.{starve_promise}
+use Rattle.line_lossy.specs.LossyPromise.{lossy_promise}
+use Rattle.line_cnf.specs.RupPromise.{rup_promise}
+use Rattle.line_cnf.specs.CnfPromise.{cnf_promise}
+use Rattle.abt_command.specs.Meanings.{means_check, means_replay, means_solve, means_upgrade, means_core, means_starve, means_lossy, means_rup, means_cnf}
+use Rattle.abt_command.specs.declared.plain.TheConstants as plain
+use Rattle.abt_command.specs.declared.order.Order.{Order}
+use Rattle.abt_command.specs.declared.order.Order.TheVariants as orders
 
 -- what the words ask for: what the program takes, which version it is, what its rows are, to check a log against a model or against a better value, to run a model's agents under the choices of a schedule or of a seed, to tell a model's message bound, to print a generated model, to run three of these, to write a log with deletions, to tell which constraints a refutation uses, to write the choices of a starved run, to run a model's agents over a medium that loses, to check a proof against a formula, or to run a formula's agents
 pub data Line : Type 0 where
@@ -88,3 +109,65 @@ line_of (orders.Starve line) = Starve line.model.now line.from line.to line.file
 line_of (orders.Lossy line) = Lossy line.model.now line.log.now line.events line.seed (option_copied line.kept)
 line_of (orders.Rup cnf proof) = Rup cnf.now proof.now
 line_of (orders.Cnf line) = Cnf line.cnf.now line.proof.now line.seed
+
+-- ---- what is said of a line
+
+-- what an answer of a line means beyond its report: nothing, or that this holds of the outside before and after, and of its status
+pub data Meaning : Type 1 where
+  Nothing : Meaning
+  Holds : (World → World → Status → Type 0) → Meaning
+
+-- an answer means this
+abbrev pub AnswerMeans : Meaning → World → World → Status → Type 0
+AnswerMeans Nothing old new status = ⊤
+AnswerMeans (Holds P) old new status = P old new status
+
+-- if a line came to an answer, it means this
+abbrev pub CameMeans : Meaning → World → World → Result Status CommandError → Type 0
+CameMeans Nothing old new came = ⊤
+CameMeans (Holds P) old new came = IfOk came (P old new)
+
+-- its row of words, its promise, what its answers mean beyond its report, and the model of which it makes a run
+pub record LineValue : Type 1 where
+  pub row : Row
+  pub promise : Promise
+  pub meaning : Meaning
+  pub runs : Option (List ℕ)
+
+-- a line whose report says all
+abbrev pub reporting : Row → Promise → LineValue
+reporting row promise = record { row = row; promise = promise; meaning = Nothing; runs = None }
+
+-- a line whose answers mean more
+abbrev pub meaning_more : Row → Promise → (World → World → Status → Type 0) → LineValue
+meaning_more row promise P = record { row = row; promise = promise; meaning = Holds P; runs = None }
+
+-- a line that makes a run of a model
+abbrev pub running : Row → Promise → (World → World → Status → Type 0) → List ℕ → LineValue
+running row promise P model = record { row = row; promise = promise; meaning = Holds P; runs = Some model }
+
+abbrev pub value_of : Line → LineValue
+value_of Help = reporting (row_of HELP) (print_promise (help_text the_rows))
+value_of Version = reporting (row_of VERSION) (print_promise plain.VERSION.now)
+value_of Usage = reporting (row_of USAGE) (print_promise (usage_text the_rows))
+value_of (Check model log better) = meaning_more (row_of CHECK) (check_promise (taking_of better) model log) (means_check model better)
+value_of (Replay model schedule log trace) = running (row_of REPLAY) (replay_promise model schedule log trace) (means_replay model) model
+value_of (Solve model log seed kept trace) = running (row_of SOLVE) (solve_promise model log seed kept trace) (means_solve model) model
+value_of (Bound model) = reporting (row_of BOUND) (bound_promise model)
+value_of (Queens n) = reporting (row_of QUEENS) (queens_promise n)
+value_of (Colouring n k seed) = reporting (row_of COLOURING) (colouring_promise n k seed)
+value_of (Drill seed) = reporting (row_of DRILL) (drill_promise seed)
+value_of (Upgrade log new) = meaning_more (row_of UPGRADE) (upgrade_promise log new) (means_upgrade log new)
+value_of (Core model log trimmed) = meaning_more (row_of CORE) (core_promise model log trimmed) (means_core model log trimmed)
+value_of (Starve model from to file) = meaning_more (row_of STARVE) (starve_promise model from to file) (means_starve model from to file)
+value_of (Lossy model log events seed kept) = meaning_more (row_of LOSSY) (lossy_promise model log events seed kept) (means_lossy model log events seed kept)
+value_of (Rup cnf proof) = meaning_more (row_of RUP) (rup_promise cnf proof) (means_rup cnf proof)
+value_of (Cnf cnf proof seed) = meaning_more (row_of CNF) (cnf_promise cnf proof seed) (means_cnf cnf proof seed)
+
+-- the promise of a line
+abbrev pub promise_of : Line → Promise
+promise_of line = (value_of line).promise
+
+-- what the line's answer with this status means, with the outside before and after
+abbrev pub Means : Line → World → World → Status → Type 0
+Means line = AnswerMeans (value_of line).meaning

@@ -1,5 +1,5 @@
 -- What an answer of a line means beyond its report.
-use Rattle.std.specs.Prelude.{◌≡◌, ◌↔◌, ℕ, ℤ, List, Option, IfSome, ⊤}
+use Rattle.std.specs.Prelude.{◌≡◌, ◌↔◌, ℕ, ℤ, List, Option, IfSome}
 use Rattle.dcsp_outside.specs.Outside.{bytes_of}
 use Rattle.dcsp_defs.specs.declared.entry.Entry.{Entry}
 use Rattle.dcsp_rule.specs.Problems.{Contents, csp_of}
@@ -19,7 +19,6 @@ use Rattle.line_rewrite.specs.Upgrading.{HoldsUpgrade}
 use Rattle.line_rewrite.specs.Trimming.{HoldsCore, CreatesNothing}
 use Rattle.line_starve.specs.Starving.{HoldsStarved, TellsStarved}
 use Rattle.line_lossy.specs.Meaning.{HoldsLossyRun}
-use Rattle.abt_command.specs.Lines.{Line, Help, Version, Usage, Check, Replay, Solve, Bound, Queens, Colouring, Drill, Upgrade, Core, Starve, Lossy, Rup, Cnf}
 
 -- `solve`: the model's problem is well-formed, keeps the limits, and logs can name all that it has
 pub record IsSolveAnswer (old : Option (List ℕ → Option (List ℕ))) (model : List ℕ) : Type 0 where
@@ -63,21 +62,33 @@ pub record IsStarvedAnswer (model : List ℕ) (from to : ℕ) (file : List ℕ) 
 abbrev pub HoldsNoBetter : Option (List ℕ → Option (List ℕ)) → List ℕ → ℤ → Type 0
 HoldsNoBetter files model bound = IfSome files (λ f. (problem : Contents) → IsModelOf (bytes_of (f model)) problem → HasNoBetter problem bound)
 
--- what the line's answer with this status means, with the outside before and after
-abbrev pub Means : Line → World → World → Status → Type 0
-Means Help old new status = ⊤
-Means Version old new status = ⊤
-Means Usage old new status = ⊤
-Means (Check model log better) old new status = status ≡ Good → IsRefutedBy (taking_of better) old.folder.held model
-Means (Replay model schedule log trace) old new status = HoldsProblem old.folder.held model
-Means (Solve model log seed kept trace) old new status = IsSolveAnswer old.folder.held model
-Means (Bound model) old new status = ⊤
-Means (Queens n) old new status = ⊤
-Means (Colouring n k seed) old new status = ⊤
-Means (Drill seed) old new status = ⊤
-Means (Upgrade log new_log) old new status = HoldsUpgrade log new_log old.folder.held new.folder.held
-Means (Core model log trimmed) old new status = IsCoreAnswer model log trimmed old new status
-Means (Starve model from to file) old new status = IsStarvedAnswer model from to file old new
-Means (Lossy model log events seed kept) old new status = HoldsLossyRun old.folder.held model events seed log kept status
-Means (Rup cnf proof) old new status = IsRupAnswer old.folder.held cnf proof status
-Means (Cnf cnf proof seed) old new status = IsCnfAnswer old.folder.held new.folder.held cnf proof seed status
+-- ---- what an answer of each line means, with the outside before and after, and its status
+
+-- a verified log refutes what is taken of the model
+abbrev pub means_check : List ℕ → Option ℤ → World → World → Status → Type 0
+means_check model better old new status = status ≡ Good → IsRefutedBy (taking_of better) old.folder.held model
+
+-- the model's problem is one
+abbrev pub means_replay : List ℕ → World → World → Status → Type 0
+means_replay model old new status = HoldsProblem old.folder.held model
+
+abbrev pub means_solve : List ℕ → World → World → Status → Type 0
+means_solve model old new status = IsSolveAnswer old.folder.held model
+
+abbrev pub means_upgrade : (log new_log : List ℕ) → World → World → Status → Type 0
+means_upgrade log new_log old new status = HoldsUpgrade log new_log old.folder.held new.folder.held
+
+abbrev pub means_core : (model log trimmed : List ℕ) → World → World → Status → Type 0
+means_core model log trimmed old new status = IsCoreAnswer model log trimmed old new status
+
+abbrev pub means_starve : (model : List ℕ) (from to : ℕ) (file : List ℕ) → World → World → Status → Type 0
+means_starve model from to file old new status = IsStarvedAnswer model from to file old new
+
+abbrev pub means_lossy : (model log : List ℕ) (events seed : ℕ) (kept : Option (List ℕ)) → World → World → Status → Type 0
+means_lossy model log events seed kept old new status = HoldsLossyRun old.folder.held model events seed log kept status
+
+abbrev pub means_rup : (cnf proof : List ℕ) → World → World → Status → Type 0
+means_rup cnf proof old new status = IsRupAnswer old.folder.held cnf proof status
+
+abbrev pub means_cnf : (cnf proof : List ℕ) (seed : ℕ) → World → World → Status → Type 0
+means_cnf cnf proof seed old new status = IsCnfAnswer old.folder.held new.folder.held cnf proof seed status

@@ -15,27 +15,17 @@ ghost use Rattle.line_replay.specs.Headline.{IsRun, IsSolvedRun, IsRefutedRun, I
 ghost use Rattle.abt_command.specs.AskedRuns.{EachRun, EachTrueRun, IsCheckedRun, IsSatisfyingRun};
 ghost use Rattle.line_solve.specs.BestHeadline.{IsSearched, IsBestSearch, IsRefutedSearch, IsUnfinishedSearch, IsBoundedSearch, SearchOrdered};
 ghost use Rattle.abt_command.specs.AskedSearches.{EachSearch, IsCheckedSearch, IsSatisfyingSearch};
-ghost use Rattle.abt_command.specs.Meanings.{Means, AnswersCheck, HoldsNoBetter, IsRupAnswer, IsCnfAnswer, IsCoreAnswer, IsStarvedAnswer};
+ghost use Rattle.abt_command.specs.Meanings.{AnswersCheck, HoldsNoBetter, IsRupAnswer, IsCnfAnswer, IsCoreAnswer, IsStarvedAnswer};
 ghost use Rattle.line_rewrite.specs.Upgrading.{HoldsUpgrade};
 ghost use Rattle.line_lossy.specs.Meaning.{HoldsLossyRun};
 ghost use Rattle.abt_command.specs.Lines as lines;
-ghost use Rattle.abt_command.specs.Lines.{Line, IsLine, IsSomeLine, IsNoLine, line_of};
-ghost use Rattle.abt_command.specs.LinePromises.{promise_of, EachPromise, HasRun};
+ghost use Rattle.abt_command.specs.Lines.{Line, IsLine, IsSomeLine, IsNoLine, Means, line_of, promise_of};
+ghost use Rattle.abt_command.specs.LinePromises.{EachPromise, HasRun};
 
-use crate::plain::{VERSION, print_help, print_usage};
-use crate::words::{Order, words_of};
+use crate::order::{Order, words_of};
 use abt_input::{CommandError, error_line, error_status};
 use abt_promise::{Status, say};
 use dcsp_outside::{Folder, Sink};
-use line_check::run_check;
-use line_cnf::{run_cnf, run_rup};
-use line_drill::run_drill;
-use line_lossy::run_lossy;
-use line_model::{print, run_bound, run_colouring, run_queens};
-use line_replay::run_replay;
-use line_rewrite::{run_core, run_upgrade};
-use line_solve::run_solve;
-use line_starve::run_starve;
 use std::alloc::Global;
 
 /// Puts the error's line on `err`.
@@ -58,40 +48,6 @@ fn conclude<S: Sink>(came: Result<Status, CommandError>, err: &mut S) -> Status
     }
 }
 
-/// Runs the line, up to what is said of it on `err`.
-fn run_line<F: Folder, S: Sink>(
-    alloc: Global,
-    order: Order<'_>,
-    folder: &mut F,
-    out: &mut S,
-) -> Result<Status, CommandError>
-    requires { IsSomeLine (line_of order) }
-    ensures came { CameIn (promise_of (line_of order.entry))
-        (outside (F.place folder.old) (S.stream out.old))
-        (outside (F.place folder.new) (S.stream out.new)) (way_of result) }
-    ensures means { IfOk result (Means (line_of order.entry)
-        (outside (F.place folder.old) (S.stream out.old)) (outside (F.place folder.new) (S.stream out.new))) }
-{
-    match order {
-        Order::Help => print_help(alloc, out),
-        Order::Version => print(out, VERSION),
-        Order::Usage => print_usage(alloc, out),
-        Order::Check(line) => run_check(alloc, folder, line, out),
-        Order::Replay(line) => run_replay(alloc, folder, line, out),
-        Order::Solve(line) => run_solve(alloc, folder, line, out),
-        Order::Bound { model } => run_bound(alloc, folder, model, out),
-        Order::GenQueens { n } => run_queens(alloc, n, out),
-        Order::GenColouring { n, k, seed } => run_colouring(alloc, n, k, seed, out),
-        Order::Drill { seed } => run_drill(alloc, seed, out),
-        Order::Upgrade { log, new } => run_upgrade(alloc, folder, log, new, out),
-        Order::Core(line) => run_core(alloc, folder, line, out),
-        Order::Starve(line) => run_starve(alloc, folder, line, out),
-        Order::Lossy(line) => run_lossy(alloc, folder, line, out),
-        Order::Rup { cnf, proof } => run_rup(alloc, folder, cnf, proof, out),
-        Order::Cnf(line) => run_cnf(alloc, folder, line, out),
-    }
-}
-
 /// Runs the line, and says on `err` what stopped it or refused its input.
 fn run_order<F: Folder, S: Sink>(
     alloc: Global,
@@ -108,11 +64,11 @@ fn run_order<F: Folder, S: Sink>(
     ensures means { IsFinal result → (IsRefusal result → ⊥)
         → Means (line_of order.entry) (outside (F.place folder.old) (S.stream out.old)) (outside (F.place folder.new) (S.stream out.new)) result }
 {
-    let came = run_line(alloc, order, folder, out);
+    let came = order.run(alloc, folder, out);
     conclude(came, err)
 }
 
-/// A law of the lines: a list of words is at most one line, and each line's promise has one report
+/// A law of the lines: a list of words is at most one line, and each line's promise has at most one report
 /// for the bytes of its files, changes only names that it creates, and fetches only its own names.
 pub fn lines_are_lawful()
     ensures one_line { (words : List (List ℕ)) (line other : Line)

@@ -153,7 +153,7 @@ pub struct OpenFiles<D, W> {
 }
 
 impl<D: Disk> OpenFiles<D, D::File> {
-    ghost use Rattle.abt_files.specs.Waiting.{NoneWaits, IsAmong, text_of};
+    ghost use Rattle.abt_files.specs.Waiting.{NoneWaits, IsAmong, IsNamed, KeepsFiles, AppendsTo, MadeFresh};
 
     /// No file is open, and none was read.
     pub fn new(alloc: Global, disk: D) -> OpenFiles<D, D::File> {
@@ -168,11 +168,10 @@ impl<D: Disk> OpenFiles<D, D::File> {
 
     /// Makes the name a file without bytes, also where it was created before. Room is made first, so
     /// that a file is not emptied and then given up for want of memory.
-    pub(crate) fn create(&mut self, name: &str) -> Result<(), FolderError> {
-        let place = match self.place_of(name) {
-            Some(place) => place,
-            None => self.make_room(name)?,
-        };
+    pub(crate) fn create(&mut self, name: &str) -> Result<(), FolderError>
+        ensures fresh { OnOk result (MadeFresh D.File.contents name.now self.old.files.items self.new.files.items) }
+    {
+        let place = self.place_for(name)?;
         let file = self.open_fresh(place, name)?;
         let id = self.disk.identity(&file);
         self.files[place].begin(id, file);
@@ -215,7 +214,9 @@ impl<D: Disk> OpenFiles<D, D::File> {
     }
 
     /// Adds bytes at the end of a name that was created.
-    pub(crate) fn append(&mut self, name: &str, bytes: &[u8]) -> Result<(), FolderError> {
+    pub(crate) fn append(&mut self, name: &str, bytes: &[u8]) -> Result<(), FolderError>
+        ensures text { OnOk result (AppendsTo D.File.contents name.now bytes.now self.old.files.items self.new.files.items) }
+    {
         match self.place_of(name) {
             Some(place) => self.files[place].append(bytes),
             None => Err(FolderError::Failed),
@@ -318,23 +319,38 @@ impl<D: Disk> OpenFiles<D, D::File> {
 
     /// The place of a name that was created, or that room was made for.
     fn place_of(&self, name: &str) -> Option<usize>
-        ensures { IfSome result (λ place. place < vec_len self.now.files) }
+        ensures { IfSome result (IsNamed name.now self.now.files.items) }
     {
-        self.files
-            .iter()
-            .position(|file| file.name.as_str() == name)
+        for place in 0..self.files.len() {
+            if self.files[place].name.as_str() == name {
+                return Some(place);
+            }
+        }
+        None
+    }
+
+    /// The place of a name, for which room is made where there is none.
+    fn place_for(&mut self, name: &str) -> Result<usize, FolderError>
+        ensures named { IfOk result (IsNamed name.now self.new.files.items) }
+        ensures others { KeepsFiles self.old.files.items self.new.files.items }
+    {
+        match self.place_of(name) {
+            Some(place) => Ok(place),
+            None => self.make_room(name),
+        }
     }
 
     /// Makes room for a further name, and tells its place.
     fn make_room(&mut self, name: &str) -> Result<usize, FolderError>
-        ensures { IfOk result (λ place. place < vec_len self.new.files) }
+        ensures named { IfOk result (IsNamed name.now self.new.files.items) }
+        ensures others { KeepsFiles self.old.files.items self.new.files.items }
     {
         let file = OpenFile::with_room(self.alloc, name)?;
         let place = self.files.len();
-        match self.files.push(file) {
-            Ok(()) => Ok(place),
-            Err(_) => Err(FolderError::Memory),
+        if self.files.push(file).is_err() {
+            return Err(FolderError::Memory);
         }
+        Ok(place)
     }
 
     /// Writes all that waits, to each file that is not broken. `Failed` comes where some file is.

@@ -1,7 +1,7 @@
 -- Rows: what a line of words is.
 use Rattle.std.specs.Prelude.{ℕ, List, map, Option, option_map}
 use Rattle.std.proofs.Common.{Bor}
-use Rattle.abt_words.specs.declared.row.LineName.{LineName}
+use Rattle.abt_words.specs.declared.rows.LineName.{LineName}
 use Rattle.abt_words.specs.declared.row.Content.{Content}
 use Rattle.abt_words.specs.declared.row.Access.{Access}
 use Rattle.abt_words.specs.declared.row.KindOf.{KindOf}

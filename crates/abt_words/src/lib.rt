@@ -13,13 +13,8 @@ mod texts;
 mod value;
 
 pub use laws::words_say_one_thing;
-pub use row::{
-    Access, Content, Kind, KindOf, LineName, LineOption, OptionOf, Place, PlaceOf, Row, RowOf,
-};
-pub use rows::{
-    BOUND, CHECK, CNF, COLOURING, CORE, DRILL, HELP, LOSSY, QUEENS, REPLAY, ROWS, RUP, SOLVE,
-    STARVE, UPGRADE, USAGE, VERSION,
-};
+pub use row::{Access, Content, Kind, KindOf, LineOption, OptionOf, Place, PlaceOf, Row, RowOf};
+pub use rows::{LineName, ROWS};
 pub use said::{MOST, Said, said_by, said_of};
 pub use texts::{help, usage};
 pub use value::Value;

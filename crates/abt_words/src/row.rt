@@ -3,26 +3,7 @@
 //! The texts and lists that the types refer to are arguments of the types, since a contract can speak of a
 //! constant only where no field's own type is a reference.
 
-/// The lines of the program, in the order in which help shows them.
-#[derive(Clone, Copy, Debug, PartialEq, Eq)]
-pub enum LineName {
-    Solve,
-    Replay,
-    Check,
-    Upgrade,
-    Core,
-    Starve,
-    Lossy,
-    Bound,
-    Queens,
-    Colouring,
-    Drill,
-    Cnf,
-    Rup,
-    Help,
-    Version,
-    Usage,
-}
+use crate::rows::LineName;
 
 /// What a file holds.
 #[derive(Clone, Copy, Debug)]

@@ -1,8 +1,27 @@
 //! The rows of the program.
 
-use crate::row::{
-    Access, Content, KindOf, LineName, LineOption, OptionOf, Place, PlaceOf, Row, RowOf,
-};
+use crate::row::{Access, Content, KindOf, LineOption, OptionOf, Place, PlaceOf, Row, RowOf};
+
+/// The lines of the program, in the order in which help shows them.
+#[derive(Clone, Copy, Debug, PartialEq, Eq)]
+pub enum LineName {
+    Solve,
+    Replay,
+    Check,
+    Upgrade,
+    Core,
+    Starve,
+    Lossy,
+    Bound,
+    Queens,
+    Colouring,
+    Drill,
+    Cnf,
+    Rup,
+    Help,
+    Version,
+    Usage,
+}
 
 /// A model that is read.
 const MODEL: Place = PlaceOf {

@@ -1,8 +1,8 @@
 use Rattle.std.proofs.Common.{subst}
 use Rattle.abt_command.specs.Lines.{IsSomeLine, line_of}
-use Rattle.abt_command.proofs.Meanings.{always, always_both, any_answer, good_alone, good_or_no, both_facts}
+use Rattle.abt_command.proofs.Meanings.{always, always_both, good_alone, good_or_no, both_facts}
 use Rattle.abt_command.proofs.Lines.{queens_within, colouring_within, starve_within}
-use Rattle.abt_command.proofs.command.run_line.Goals as goal
+use Rattle.abt_command.proofs.order.Order.run.Goals as goal
 
 pub run_queens-requires-clause-least : goal.run_queens-requires-clause-least
 run_queens-requires-clause-least g c = (queens_within _ (subst (λ o. IsSomeLine (line_of o)) c.in-GenQueens.is c.requires)).0
@@ -25,15 +25,6 @@ returns-in-GenColouring-clause-came g c = rw c.in-GenColouring.is (c.run_colouri
 pub returns-in-Drill-clause-came : goal.returns-in-Drill-clause-came
 returns-in-Drill-clause-came g c = rw c.in-Drill.is (c.run_drill.ensures _)
 
-pub returns-in-Help-clause-means : goal.returns-in-Help-clause-means
-returns-in-Help-clause-means g c = rw c.in-Help.is (any_answer c.print_help.result)
-
-pub returns-in-Version-clause-means : goal.returns-in-Version-clause-means
-returns-in-Version-clause-means g c = rw c.in-Version.is (any_answer c.print.result)
-
-pub returns-in-Usage-clause-means : goal.returns-in-Usage-clause-means
-returns-in-Usage-clause-means g c = rw c.in-Usage.is (any_answer c.print_usage.result)
-
 pub returns-in-Check-clause-means : goal.returns-in-Check-clause-means
 returns-in-Check-clause-means g c = rw c.in-Check.is (good_alone c.run_check.result c.run_check.ensures.verified)
 
@@ -42,18 +33,6 @@ returns-in-Replay-clause-means g c = rw c.in-Replay.is c.run_replay.ensures.soun
 
 pub returns-in-Solve-clause-means : goal.returns-in-Solve-clause-means
 returns-in-Solve-clause-means g c = rw c.in-Solve.is (both_facts _ c.run_solve.result (λ status x y. record { sound = x; whole = y }) c.run_solve.ensures.sound c.run_solve.ensures.whole)
-
-pub returns-in-Bound-clause-means : goal.returns-in-Bound-clause-means
-returns-in-Bound-clause-means g c = rw c.in-Bound.is (any_answer c.run_bound.result)
-
-pub returns-in-GenQueens-clause-means : goal.returns-in-GenQueens-clause-means
-returns-in-GenQueens-clause-means g c = rw c.in-GenQueens.is (any_answer c.run_queens.result)
-
-pub returns-in-GenColouring-clause-means : goal.returns-in-GenColouring-clause-means
-returns-in-GenColouring-clause-means g c = rw c.in-GenColouring.is (any_answer c.run_colouring.result)
-
-pub returns-in-Drill-clause-means : goal.returns-in-Drill-clause-means
-returns-in-Drill-clause-means g c = rw c.in-Drill.is (any_answer c.run_drill.result)
 
 pub returns-in-Rup-clause-means : goal.returns-in-Rup-clause-means
 returns-in-Rup-clause-means g c = rw c.in-Rup.is (both_facts _ c.run_rup.result (λ s p q. record { exact = p; refutes = q }) c.run_rup.ensures.exact c.run_rup.ensures.refutes)

@@ -1,19 +1,31 @@
-//! The words that the program is started with.
+//! What the words ask for, and how it is run.
 
 ghost use Rattle.std.specs.Prelude.{◌≡◌, ◌≤◌, ℕ, List, map, string_bytes, IfSome, IsNone};
-ghost use Rattle.abt_words.specs.declared.row.LineName.TheVariants as names;
+ghost use Rattle.dcsp_outside.specs.Outside.{Place};
+ghost use Rattle.dcsp_script.specs.Scripts.{outside};
+ghost use Rattle.abt_promise.specs.Runs.{CameIn};
+ghost use Rattle.abt_input.specs.Errors.{way_of};
+ghost use Rattle.abt_words.specs.declared.rows.LineName.TheVariants as names;
 ghost use Rattle.abt_words.specs.Rows.{the_rows};
 ghost use Rattle.abt_words.specs.Saying.{IsSaidBy};
 ghost use Rattle.abt_words.specs.Values.{said_in};
-ghost use Rattle.abt_command.specs.Lines.{IsLine, IsNoLine, line_by, line_named, line_of, number_at};
+ghost use Rattle.abt_command.specs.Lines.{CameMeans, IsLine, IsNoLine, IsSomeLine, line_by, line_named, line_of, number_at, promise_of, value_of};
 
+use crate::plain::{VERSION, print_help, print_usage};
+use abt_input::CommandError;
+use abt_promise::Status;
 use abt_words::{LineName, Said, said_of};
-use line_check::Check;
-use line_cnf::Cnf;
-use line_lossy::Losses;
-use line_replay::{Replay, Solve};
-use line_rewrite::CoreLine;
-use line_starve::Starve;
+use dcsp_outside::{Folder, Sink};
+use line_check::{Check, run_check};
+use line_cnf::{Cnf, run_cnf, run_rup};
+use line_drill::run_drill;
+use line_lossy::{Losses, run_lossy};
+use line_model::{print, run_bound, run_colouring, run_queens};
+use line_replay::{Replay, Solve, run_replay};
+use line_rewrite::{CoreLine, run_core, run_upgrade};
+use line_solve::run_solve;
+use line_starve::{Starve, run_starve};
+use std::alloc::Global;
 
 /// What the words ask for.
 pub enum Order<'w> {
@@ -54,6 +66,42 @@ pub enum Order<'w> {
     /// `cnf CNF PROOF [--seed N]`: a run of the formula's agents under the choices of a seed, which is 0 where
     /// none is given. A proof is written where the formula cannot be satisfied.
     Cnf(Cnf<'w>),
+}
+
+impl Order<'_> {
+    /// Runs the line, up to what is said of it on `err`.
+    pub fn run<F: Folder, S: Sink>(
+        self,
+        alloc: Global,
+        folder: &mut F,
+        out: &mut S,
+    ) -> Result<Status, CommandError>
+        requires { IsSomeLine (line_of self) }
+        ensures came { CameIn (promise_of (line_of self.entry))
+            (outside (F.place folder.old) (S.stream out.old))
+            (outside (F.place folder.new) (S.stream out.new)) (way_of result) }
+        ensures means { CameMeans (value_of (line_of self.entry)).meaning
+            (outside (F.place folder.old) (S.stream out.old)) (outside (F.place folder.new) (S.stream out.new)) result }
+    {
+        match self {
+            Order::Help => print_help(alloc, out),
+            Order::Version => print(out, VERSION),
+            Order::Usage => print_usage(alloc, out),
+            Order::Check(line) => run_check(alloc, folder, line, out),
+            Order::Replay(line) => run_replay(alloc, folder, line, out),
+            Order::Solve(line) => run_solve(alloc, folder, line, out),
+            Order::Bound { model } => run_bound(alloc, folder, model, out),
+            Order::GenQueens { n } => run_queens(alloc, n, out),
+            Order::GenColouring { n, k, seed } => run_colouring(alloc, n, k, seed, out),
+            Order::Drill { seed } => run_drill(alloc, seed, out),
+            Order::Upgrade { log, new } => run_upgrade(alloc, folder, log, new, out),
+            Order::Core(line) => run_core(alloc, folder, line, out),
+            Order::Starve(line) => run_starve(alloc, folder, line, out),
+            Order::Lossy(line) => run_lossy(alloc, folder, line, out),
+            Order::Rup { cnf, proof } => run_rup(alloc, folder, cnf, proof, out),
+            Order::Cnf(line) => run_cnf(alloc, folder, line, out),
+        }
+    }
 }
 
 /// The order that the words are, after the program's own name. `None` comes exactly where the words are no

@@ -1,8 +1,8 @@
 use Rattle.std.proofs.Common.{refl}
-use Rattle.abt_words.specs.declared.row.LineName.TheVariants as names
+use Rattle.abt_words.specs.declared.rows.LineName.TheVariants as names
 use Rattle.abt_words.specs.Values.{said_in}
 use Rattle.abt_command.proofs.Lines.{at_most}
-use Rattle.abt_command.proofs.words.order_of.Goals as goal
+use Rattle.abt_command.proofs.order.order_of.Goals as goal
 
 pub starve_of-requires-clause-from : goal.starve_of-requires-clause-from
 starve_of-requires-clause-from c = at_most c.requires.0 (said_in c.args.said.now) c.requires.1 names.Starve c.in-Starve.is 1 _ 1 4096 refl refl
