@@ -1,6 +1,6 @@
 -- What was appended to a file, and what of it waits.
 use Rattle.std.specs.Prelude.{◌≡◌, ℕ, List, [], Option, Some, None, All, Contains, slice_get, slice_set, string_bytes, vec_len}
-use Rattle.std.specs.Io.KnownBytes.{append_known, Appends, IsAtEnd}
+use Rattle.std.specs.Io.KnownBytes.{append_known, Appends, Keeps, IsAtEnd}
 use Rattle.abt_files.specs.declared.disk.FileId.{FileId}
 use Rattle.abt_files.specs.declared.open_files.OpenFile.{OpenFile}
 
@@ -31,6 +31,15 @@ pub record IsNamed {W : Type 0} (name : List ℕ) (files : List (OpenFile W)) (p
 -- each file of before stands where it stood, and as it was
 abbrev pub KeepsFiles : {W : Type 0} → (old new : List (OpenFile W)) → Type 0
 KeepsFiles {W} old new = (place : ℕ) (file : OpenFile W) → slice_get old place ≡ Some file → slice_get new place ≡ Some file
+
+-- a file has the name and the text that it had
+pub record KeepsText {W : Type 0} (contents : W → Option (List ℕ)) (old new : OpenFile W) : Type 0 where
+  pub name : new.name ≡ old.name
+  pub text : Keeps (text_of contents old) (text_of contents new)
+
+-- each file of before stands where it stood, and has its name and its text
+abbrev pub KeepTexts : {W : Type 0} → (W → Option (List ℕ)) → (old new : List (OpenFile W)) → Type 0
+KeepTexts {W} contents old new = (place : ℕ) (file : OpenFile W) → slice_get old place ≡ Some file → (now : OpenFile W) × (slice_get new place ≡ Some now) × KeepsText contents file now
 
 -- the text of one file of this name has these bytes more, and no other file changed
 pub record AppendsTo {W : Type 0} (contents : W → Option (List ℕ)) (name bytes : List ℕ) (old new : List (OpenFile W)) : Type 0 where

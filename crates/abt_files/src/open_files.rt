@@ -153,7 +153,7 @@ pub struct OpenFiles<D, W> {
 }
 
 impl<D: Disk> OpenFiles<D, D::File> {
-    ghost use Rattle.abt_files.specs.Waiting.{NoneWaits, IsAmong, IsNamed, KeepsFiles, AppendsTo, MadeFresh};
+    ghost use Rattle.abt_files.specs.Waiting.{NoneWaits, IsAmong, IsNamed, KeepsFiles, KeepTexts, AppendsTo, MadeFresh};
 
     /// No file is open, and none was read.
     pub fn new(alloc: Global, disk: D) -> OpenFiles<D, D::File> {
@@ -355,13 +355,12 @@ impl<D: Disk> OpenFiles<D, D::File> {
 
     /// Writes all that waits, to each file that is not broken. `Failed` comes where some file is.
     pub(crate) fn write_waiting(&mut self) -> Result<(), FolderError>
-        ensures { NoneWaits self.new.files.items }
+        ensures waits { NoneWaits self.new.files.items }
+        ensures texts { OnOk result (KeepTexts D.File.contents self.old.files.items self.new.files.items) }
     {
         let mut wrote = Ok(());
         for place in 0..self.files.len() {
-            if let Err(error) = self.files[place].write_waiting() {
-                wrote = Err(error);
-            }
+            wrote = self.files[place].write_waiting().and(wrote);
         }
         wrote
     }

@@ -1,5 +1,4 @@
-use Rattle.std.proofs.Common.{rules, ◌≡◌, sym, List, ◌∷◌, [], ◌++◌, length, subst, Some, slice_get}
-use Rattle.abt_files.specs.Waiting.{IsNamed}
+use Rattle.std.proofs.Common.{rules, ◌≡◌, sym, ◌∷◌, [], ◌++◌, length, subst, Some, slice_get}
 use Rattle.abt_files.proofs.Places.{get_front, get_last}
 use Rattle.abt_files.proofs.open_files.OpenFiles+D+D+File.make_room.Goals as goal
 

@@ -1,6 +1,5 @@
-use Rattle.std.proofs.Common.{rules, length, ◌<◌, refl, string_bytes}
+use Rattle.std.proofs.Common.{rules, length, ◌<◌, refl}
 use Rattle.std.proofs.lemmas.Option.{slice_get_read}
-use Rattle.abt_files.specs.Waiting.{IsNamed}
 use Rattle.abt_files.proofs.open_files.OpenFiles+D+D+File.place_of.Goals as goal
 
 pub returns-then-eq : goal.returns-then-eq
