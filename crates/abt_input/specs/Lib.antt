@@ -1,5 +1,4 @@
 pub mod ModelTexts
-pub mod Replies
 pub mod Inputs
 pub mod ClausesErrors
 pub mod Errors

@@ -10,10 +10,8 @@ mod error;
 mod line;
 mod model_text;
 mod read;
-mod reply;
 
 pub use clauses_error::ClausesError;
 pub use error::{CommandError, error_line, error_status, stop_error};
 pub use line::Line;
 pub use read::{read_choices, read_formula, read_log_text, read_model, read_proof};
-pub use reply::{Reply, numbered};

@@ -1,24 +1,23 @@
 //! Checking a log against a model.
 
-ghost use Rattle.std.specs.Prelude.{◌≡◌, [], ◌∷◌, Ok, IfOk};
+ghost use Rattle.std.specs.Prelude.{◌≡◌, [], ◌∷◌, Ok};
 ghost use Rattle.dcsp_outside.specs.Outside.{Place};
 ghost use Rattle.dcsp_script.specs.Scripts.{Put, outside};
 ghost use Rattle.dcsp_script.specs.Ways.{Wrote};
 ghost use Rattle.abt_promise.specs.Runs.{CameIn};
 ghost use Rattle.abt_input.specs.Errors.{way_of};
-ghost use Rattle.abt_input.specs.Replies.{reply_bytes};
 ghost use Rattle.line_check.specs.Checks.{IsRefutedBy, finding_status, finding_text};
 ghost use Rattle.line_check.specs.Taking.{taking_of};
 ghost use Rattle.line_check.specs.CheckReports.{check_promise};
 
 use crate::asked::take_problem;
 use crate::pieces::check_log;
-use abt_input::{CommandError, Reply, numbered};
+use abt_input::{CommandError, Line};
 use abt_promise::Status;
 use dcsp_outside::{Folder, Sink};
 use dcsp_script::{Stop, put};
 use ngd_check::Finding;
-use std::alloc::{AllocError, Global};
+use std::alloc::Global;
 
 /// The words of `check`.
 #[derive(Clone, Copy)]
@@ -42,24 +41,24 @@ pub fn finding_status(finding: Finding) -> Status
 }
 
 /// The line that tells a finding.
-pub fn finding_reply(alloc: Global, finding: Finding) -> Result<Reply, AllocError>
-    ensures { IfOk result (λ reply. reply_bytes reply ≡ finding_text finding) }
+pub fn finding_line(finding: Finding) -> Line
+    ensures { result ≡ finding_text finding }
 {
     match finding {
-        Finding::Verified => Ok(Reply::Fixed(b"verified\n")),
-        Finding::BadStep { step } => numbered(alloc, b"rejected step ", step),
-        Finding::BadDeletion { after } => numbered(alloc, b"rejected deletion after step ", after),
-        Finding::NotEmpty => Ok(Reply::Fixed(b"rejected not empty\n")),
+        Finding::Verified => Line::of(b"verified\n"),
+        Finding::BadStep { step } => Line::numbered(b"rejected step ", step),
+        Finding::BadDeletion { after } => Line::numbered(b"rejected deletion after step ", after),
+        Finding::NotEmpty => Line::of(b"rejected not empty\n"),
     }
 }
 
 /// Puts the finding's line on `out`, in one piece.
-fn tell<S: Sink>(alloc: Global, finding: Finding, out: &mut S) -> Result<(), Stop>
+fn tell<S: Sink>(finding: Finding, out: &mut S) -> Result<(), Stop>
     ensures { (folder : Place) → Wrote (Put (finding_text finding) ∷ [])
         (outside folder (S.stream out.old)) (outside folder (S.stream out.new)) result }
 {
-    let reply = finding_reply(alloc, finding)?;
-    put(out, reply.bytes())
+    let line = finding_line(finding);
+    put(out, line.bytes())
 }
 
 /// Checks the log against the problem that is taken of the model, and puts the finding's line on `out`.
@@ -76,6 +75,6 @@ pub fn run_check<F: Folder, S: Sink>(
 {
     let problem = take_problem(alloc, folder, line.model, line.better)?;
     let finding = check_log(alloc, folder, &problem, line.log)?;
-    tell(alloc, finding, out)?;
+    tell(finding, out)?;
     Ok(finding_status(finding))
 }

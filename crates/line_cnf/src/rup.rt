@@ -11,11 +11,10 @@ ghost use Rattle.cnf_front.specs.Clauses.{IsClauseRule};
 ghost use Rattle.abt_promise.specs.declared.status.Status.TheVariants.{Good};
 ghost use Rattle.abt_promise.specs.Runs.{CameIn};
 ghost use Rattle.abt_input.specs.Errors.{way_of};
-ghost use Rattle.abt_input.specs.Replies.{reply_bytes};
 ghost use Rattle.line_cnf.specs.Satisfying.{clauses_of};
 ghost use Rattle.line_cnf.specs.RupPromise.{rup_status, rup_text, rup_promise, HoldsRefuted, TellsExactly};
 
-use abt_input::{CommandError, Reply, numbered, read_formula, read_proof};
+use abt_input::{CommandError, Line, read_formula, read_proof};
 use abt_promise::Status;
 use cnf_front::formula_of;
 use dcsp_outside::{Folder, Sink};
@@ -45,7 +44,7 @@ pub fn run_rup<F: Folder, S: Sink>(
     let problem = read_formula(alloc, folder, cnf)?;
     let clauses = read_proof(alloc, folder, proof)?;
     let answer = check(alloc, &problem, &clauses)?;
-    tell(alloc, answer, out)?;
+    tell(answer, out)?;
     Ok(rup_status(answer))
 }
 
@@ -77,21 +76,21 @@ fn rup_status(answer: Rup) -> Status
 }
 
 /// The line that tells an answer.
-fn rup_reply(alloc: Global, answer: Rup) -> Result<Reply, AllocError>
-    ensures { IfOk result (λ reply. reply_bytes reply ≡ rup_text answer) }
+fn rup_line(answer: Rup) -> Line
+    ensures { result ≡ rup_text answer }
 {
     match answer {
-        Rup::Verified => Ok(Reply::Fixed(b"verified\n")),
-        Rup::BadClause { number } => numbered(alloc, b"rejected clause ", number),
-        Rup::NotEmpty => Ok(Reply::Fixed(b"rejected not empty\n")),
+        Rup::Verified => Line::of(b"verified\n"),
+        Rup::BadClause { number } => Line::numbered(b"rejected clause ", number),
+        Rup::NotEmpty => Line::of(b"rejected not empty\n"),
     }
 }
 
 /// Puts the line of an answer on `out`, in one piece.
-fn tell<S: Sink>(alloc: Global, answer: Rup, out: &mut S) -> Result<(), Stop>
+fn tell<S: Sink>(answer: Rup, out: &mut S) -> Result<(), Stop>
     ensures { (folder : Place) → Wrote (Put (rup_text answer) ∷ [])
         (outside folder (S.stream out.old)) (outside folder (S.stream out.new)) result }
 {
-    let reply = rup_reply(alloc, answer)?;
-    put(out, reply.bytes())
+    let line = rup_line(answer);
+    put(out, line.bytes())
 }

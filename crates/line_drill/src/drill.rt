@@ -17,7 +17,7 @@ use abt_session::{End, Outcome};
 use dcsp_gen::{pigeons, queens, sparse};
 use dcsp_outside::Sink;
 use dcsp_script::put;
-use line_check::finding_reply;
+use line_check::finding_line;
 use ngd_check::Finding;
 use std::alloc::{AllocError, Global};
 
@@ -58,8 +58,7 @@ fn text_of(
     text.extend_from_slice(b" steps ")?;
     push_number(&mut text, pigeons.steps)?;
     text.extend_from_slice(b"\npigeons 5 ")?;
-    let reply = finding_reply(alloc, finding)?;
-    text.extend_from_slice(reply.bytes())?;
+    text.extend_from_slice(finding_line(finding).bytes())?;
     Ok(text)
 }
 

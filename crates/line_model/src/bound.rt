@@ -1,42 +1,43 @@
 //! Telling the message bound of a model.
 
-ghost use Rattle.std.specs.Prelude.{◌≡◌, [], ◌∷◌, IfOk};
+ghost use Rattle.std.specs.Prelude.{◌≡◌, [], ◌∷◌};
 ghost use Rattle.dcsp_outside.specs.Outside.{Place};
 ghost use Rattle.dcsp_script.specs.Scripts.{Put, outside};
 ghost use Rattle.dcsp_script.specs.Ways.{Wrote};
 ghost use Rattle.abt_promise.specs.Runs.{CameIn};
 ghost use Rattle.abt_input.specs.Errors.{way_of};
-ghost use Rattle.abt_input.specs.Replies.{reply_bytes};
 ghost use Rattle.line_model.specs.BoundReports.{bound_line, bound_promise};
 
 use abt_bound::message_bound;
-use abt_input::{CommandError, Reply, read_model};
+use abt_input::{CommandError, Line, read_model};
 use abt_promise::Status;
 use dcsp_outside::{Folder, Sink};
 use dcsp_script::{Stop, put};
 use itoa::Buffer;
-use std::alloc::{AllocError, Global};
+use std::alloc::Global;
 
 /// The line that tells a bound, `None` for one above 2^128 - 1.
-fn bound_reply(alloc: Global, bound: Option<u128>) -> Result<Reply, AllocError>
-    ensures { IfOk result (λ reply. reply_bytes reply ≡ bound_line bound) }
+fn bound_line(bound: Option<u128>) -> Line
+    ensures { result ≡ bound_line bound }
 {
-    let Some(bound) = bound else {
-        return Ok(Reply::Fixed(b"bound over\n"));
-    };
-    let mut line = Vec::from_slice(alloc, b"bound ")?;
-    line.extend_from_slice(Buffer::new().format(bound).as_bytes())?;
-    line.extend_from_slice(b"\n")?;
-    Ok(Reply::Made(line))
+    match bound {
+        Some(bound) => {
+            let mut digits = Buffer::new();
+            Line::of(b"bound ")
+                .with(digits.format(bound).as_bytes())
+                .with(b"\n")
+        }
+        None => Line::of(b"bound over\n"),
+    }
 }
 
 /// Puts the bound's line on `out`, in one piece.
-fn tell<S: Sink>(alloc: Global, bound: Option<u128>, out: &mut S) -> Result<(), Stop>
+fn tell<S: Sink>(bound: Option<u128>, out: &mut S) -> Result<(), Stop>
     ensures { (folder : Place) → Wrote (Put (bound_line bound) ∷ [])
         (outside folder (S.stream out.old)) (outside folder (S.stream out.new)) result }
 {
-    let reply = bound_reply(alloc, bound)?;
-    put(out, reply.bytes())
+    let line = bound_line(bound);
+    put(out, line.bytes())
 }
 
 /// Puts the line that tells the model's message bound on `out`.
@@ -51,6 +52,6 @@ pub fn run_bound<F: Folder, S: Sink>(
         (outside (F.place folder.new) (S.stream out.new)) (way_of result) }
 {
     let problem = read_model(alloc, folder, model)?;
-    tell(alloc, message_bound(&problem), out)?;
+    tell(message_bound(&problem), out)?;
     Ok(Status::Good)
 }

@@ -18,7 +18,7 @@ use dcsp_outside::{Folder, Sink};
 use dcsp_problem::Problem;
 use dcsp_script::{Stop, put};
 use itoa::Buffer;
-use line_check::{Checked, check_and_keep, finding_reply};
+use line_check::{Checked, check_and_keep, finding_line};
 use ngd_check::Finding;
 use ngd_rewrite::{Core, core_of};
 use std::alloc::{AllocError, Global};
@@ -68,7 +68,7 @@ pub fn run_core<F: Folder, S: Sink>(
     let checked = check_and_keep(alloc, folder, &problem, line.log)?;
     let found = Found { problem, checked };
     if !is_verified(found.checked.finding) {
-        reject(alloc, found.checked.finding, out)?;
+        reject(found.checked.finding, out)?;
         return Ok(Status::No);
     }
     let Ok(core) = core_of(alloc, &found.problem, &found.checked.steps) else {
@@ -89,12 +89,12 @@ fn is_verified(finding: Finding) -> bool
 }
 
 /// Puts the finding's line on `out`, in one piece.
-fn reject<S: Sink>(alloc: Global, finding: Finding, out: &mut S) -> Result<(), Stop>
+fn reject<S: Sink>(finding: Finding, out: &mut S) -> Result<(), Stop>
     ensures { (folder : Place) → Wrote (Put (finding_text finding) ∷ [])
         (outside folder (S.stream out.old)) (outside folder (S.stream out.new)) result }
 {
-    let reply = finding_reply(alloc, finding)?;
-    put(out, reply.bytes())
+    let line = finding_line(finding);
+    put(out, line.bytes())
 }
 
 /// Writes the trimmed steps under the name, and tells the core.

@@ -1,6 +1,6 @@
 //! The line `upgrade LOG NEW`.
 
-ghost use Rattle.std.specs.Prelude.{◌≡◌, ◌∷◌, [], IfOk, OnOk};
+ghost use Rattle.std.specs.Prelude.{◌≡◌, ◌∷◌, [], OnOk};
 ghost use Rattle.dcsp_outside.specs.Outside.{Place};
 ghost use Rattle.dcsp_script.specs.Scripts.{Put, outside};
 ghost use Rattle.dcsp_script.specs.Ways.{Wrote};
@@ -12,12 +12,12 @@ ghost use Rattle.line_rewrite.specs.Upgrading.{HoldsUpgrade};
 
 use crate::entries::write_upgraded;
 use crate::old_log::{OldLog, read_old_log};
-use abt_input::CommandError;
+use abt_input::{CommandError, Line};
 use abt_promise::Status;
 use dcsp_outside::{Folder, Sink};
 use dcsp_script::{Stop, put};
 use itoa::Buffer;
-use std::alloc::{AllocError, Global};
+use std::alloc::Global;
 
 /// Writes the log, which is of version 1, under the new name as one of version 2: its steps in order, and after each
 /// but the last a deletion of the steps that no later one cites. Then it tells how many steps there are, and how
@@ -53,26 +53,27 @@ fn upgrade<F: Folder, S: Sink>(
         (outside (F.place folder.new) (S.stream out.new)) result }
 {
     let deleted = write_upgraded(alloc, folder, new, log)?;
-    tell(alloc, log.endings.len() as u64, deleted, out)
+    tell(log.endings.len() as u64, deleted, out)
 }
 
 /// Puts the line that tells the counts on `out`, in one piece.
-fn tell<S: Sink>(alloc: Global, steps: u64, deleted: u64, out: &mut S) -> Result<(), Stop>
+fn tell<S: Sink>(steps: u64, deleted: u64, out: &mut S) -> Result<(), Stop>
     ensures { (folder : Place) → Wrote (Put (counts_text steps deleted) ∷ [])
         (outside folder (S.stream out.old)) (outside folder (S.stream out.new)) result }
 {
-    let line = counts_line(alloc, steps, deleted)?;
-    put(out, &line)
+    let line = counts_line(steps, deleted);
+    put(out, line.bytes())
 }
 
 /// The line that tells how many steps there are, and how many of them are deleted.
-fn counts_line(alloc: Global, steps: u64, deleted: u64) -> Result<Vec<u8>, AllocError>
-    ensures { IfOk result (λ line. line.items ≡ counts_text steps deleted) }
+fn counts_line(steps: u64, deleted: u64) -> Line
+    ensures { result ≡ counts_text steps deleted }
 {
-    let mut line = Vec::from_slice(alloc, b"upgraded steps ")?;
-    line.extend_from_slice(Buffer::new().format(steps).as_bytes())?;
-    line.extend_from_slice(b" deleted ")?;
-    line.extend_from_slice(Buffer::new().format(deleted).as_bytes())?;
-    line.extend_from_slice(b"\n")?;
-    Ok(line)
+    let mut count = Buffer::new();
+    let mut gone = Buffer::new();
+    Line::of(b"upgraded steps ")
+        .with(count.format(steps).as_bytes())
+        .with(b" deleted ")
+        .with(gone.format(deleted).as_bytes())
+        .with(b"\n")
 }

@@ -1,6 +1,6 @@
 //! The line `starve MODEL FROM TO FILE`.
 
-ghost use Rattle.std.specs.Prelude.{◌≡◌, ◌≤◌, ◌∷◌, ◌-◌, [], IfOk, OnOk};
+ghost use Rattle.std.specs.Prelude.{◌≡◌, ◌≤◌, ◌∷◌, ◌-◌, [], length, IfOk, OnOk};
 ghost use Rattle.dcsp_outside.specs.Outside.{Place, Stream};
 ghost use Rattle.dcsp_script.specs.Scripts.{Create, Append, Put, outside};
 ghost use Rattle.dcsp_script.specs.Ways.{Wrote};
@@ -14,7 +14,7 @@ ghost use Rattle.abt_input.specs.Errors.{way_of};
 ghost use Rattle.line_starve.specs.StarvePromise.{choices_of, end_word, most_starved, starve_promise, starve_script, starved_line, starving_run};
 ghost use Rattle.line_starve.specs.Starving.{HoldsStarved, IsReplayed, TellsStarved};
 
-use abt_input::{CommandError, read_model};
+use abt_input::{CommandError, Line, read_model};
 use abt_promise::Status;
 use abt_schedule::{ChoiceList, write_schedule};
 use abt_session::{Starved, StarvedEnd};
@@ -22,7 +22,7 @@ use dcsp_outside::{Folder, Sink};
 use dcsp_problem::Problem;
 use dcsp_script::{Stop, append, create, put};
 use itoa::Buffer;
-use std::alloc::{AllocError, Global};
+use std::alloc::Global;
 
 /// The most deliveries of a run that starves a link.
 const MOST_DELIVERIES: u64 = 7_000_000;
@@ -87,7 +87,7 @@ fn run_starved<F: Folder, S: Sink>(
         return Err(Stop::Memory);
     };
     write_choices(alloc, folder, line.file, taken.choices())?;
-    tell(alloc, told, out)
+    tell(told, out)
 }
 
 /// Writes the schedule of the choices under the name.
@@ -109,29 +109,30 @@ fn write_choices<F: Folder>(
 }
 
 /// Puts the line that tells how the run ended on `out`, in one piece.
-fn tell<S: Sink>(alloc: Global, told: Starved, out: &mut S) -> Result<(), Stop>
+fn tell<S: Sink>(told: Starved, out: &mut S) -> Result<(), Stop>
     ensures { (folder : Place) → Wrote (Put (starved_line (starved_end told.end) told.deliveries) ∷ [])
         (outside folder (S.stream out.old)) (outside folder (S.stream out.new)) result }
 {
-    let line = line_of(alloc, told)?;
-    put(out, &line)
+    let line = line_of(told);
+    put(out, line.bytes())
 }
 
 /// The line that tells how the run ended, and how many deliveries it made.
-fn line_of(alloc: Global, told: Starved) -> Result<Vec<u8>, AllocError>
-    ensures { IfOk result (λ line. line.items ≡ starved_line (starved_end told.end) told.deliveries) }
+fn line_of(told: Starved) -> Line
+    ensures { result ≡ starved_line (starved_end told.end) told.deliveries }
 {
-    let mut line = Vec::from_slice(alloc, b"starved ")?;
-    line.extend_from_slice(word_of(told.end))?;
-    line.extend_from_slice(b" deliveries ")?;
-    line.extend_from_slice(Buffer::new().format(told.deliveries).as_bytes())?;
-    line.extend_from_slice(b"\n")?;
-    Ok(line)
+    let mut digits = Buffer::new();
+    Line::of(b"starved ")
+        .with(word_of(told.end))
+        .with(b" deliveries ")
+        .with(digits.format(told.deliveries).as_bytes())
+        .with(b"\n")
 }
 
 /// How a run ended, in a word.
 fn word_of(end: StarvedEnd) -> &'static [u8]
-    ensures { result.now ≡ end_word (starved_end end) }
+    ensures word { result.now ≡ end_word (starved_end end) }
+    ensures short { length result.now ≤ 16 }
 {
     match end {
         StarvedEnd::Solved => b"solved",
