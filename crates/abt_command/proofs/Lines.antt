@@ -15,7 +15,7 @@ use Rattle.abt_input.proofs.Cnfs.{clauses_refuse}
 use Rattle.abt_words.specs.declared.rows.LineName.{LineName}
 use Rattle.abt_words.specs.declared.row.Content.TheVariants.{Model, Log}
 use Rattle.abt_words.specs.declared.row.Access.TheVariants.{Read, Written}
-use Rattle.abt_words.specs.declared.rows.TheConstants.{SOLVE, REPLAY, STARVE, QUEENS, COLOURING}
+use Rattle.abt_words.specs.declared.rows.TheConstants.{SOLVE, REPLAY, STARVE, QUEENS, COLOURING, SPARSE, PIGEONS}
 use Rattle.abt_words.specs.Rows.{Number, Place, Row, row_of, the_rows}
 use Rattle.abt_words.specs.Saying.{Value, Absent, Fill, Said, IsSaidBy, names_differ, setting_of, name_in, given_name}
 use Rattle.abt_words.proofs.Once.{one_said, rows_are_apart}
@@ -24,7 +24,7 @@ use Rattle.line_model.proofs.Lawful.{bound_lawful, print_lawful}
 use Rattle.line_replay.specs.Headline.{HoldsProblem}
 use Rattle.line_replay.proofs.Lawful.{replay_lawful}
 use Rattle.line_solve.proofs.Lawful.{solve_lawful}
-use Rattle.abt_command.specs.Lines.{Line, Help, Version, Usage, Check, Replay, Solve, Bound, Queens, Colouring, Drill, Upgrade, Core, Starve, Lossy, Rup, Cnf, IsLine, IsSomeLine, Meaning, Nothing, Holds, AnswerMeans, CameMeans, Means, line_named, line_by, number_at, promise_of, value_of}
+use Rattle.abt_command.specs.Lines.{Line, Help, Version, Usage, Check, Replay, Solve, Bound, Queens, Colouring, Sparse, Pigeons, Drill, Upgrade, Core, Starve, Lossy, Rup, Cnf, IsLine, IsSomeLine, Meaning, Nothing, Holds, AnswerMeans, CameMeans, Means, line_named, line_by, number_at, promise_of, value_of}
 use Rattle.line_check.proofs.Lawful.{check_lawful}
 use Rattle.line_drill.proofs.Lawful.{drill_lawful}
 use Rattle.line_rewrite.proofs.Lawful.{upgrade_lawful}
@@ -47,7 +47,7 @@ one_some e = cc
 -- a row that stands among the rows is that of the line which is made from it
 pub its_row : (said : Said) (i : ℕ) (row : Row) → slice_get the_rows i ≡ Some row → row ≡ (value_of (line_named row.line said)).row
 unfolding the_rows
-its_row said = of_each (λ row. row ≡ (value_of (line_named row.line said)).row) the_rows (refl, (refl, (refl, (refl, (refl, (refl, (refl, (refl, (refl, (refl, (refl, (refl, (refl, (refl, (refl, (refl, tt))))))))))))))))
+its_row said = of_each (λ row. row ≡ (value_of (line_named row.line said)).row) the_rows (refl, (refl, (refl, (refl, (refl, (refl, (refl, (refl, (refl, (refl, (refl, (refl, (refl, (refl, (refl, (refl, (refl, (refl, tt))))))))))))))))))
 
 -- what the words of a line say: its row, the values of which fill its places and have names that differ
 pub record Spoken (line : Line) : Type 0 where
@@ -94,6 +94,24 @@ colouring_within n k seed some =
   where
     the_nodes : (m n k l a b : ℕ) → Colouring m k a ≡ Colouring n l b → m ≡ n
     the_nodes m n k l a b e = cc
+
+pub sparse_within : (n seed : ℕ) → IsSomeLine (Sparse n seed) → (1 ≤ n) × (n ≤ 4096)
+sparse_within n seed some =
+    let s = spoken some.0 (Sparse n seed) some.1 in
+    let is : n ≡ number_at s.said 0 = the_nodes _ _ _ _ s.line_is in
+    subst (λ m. (1 ≤ m) × (m ≤ 4096)) (sym is) (number_within (row_of SPARSE).places s.said.values 0 _ 1 4096 refl refl s.fill)
+  where
+    the_nodes : (m n a b : ℕ) → Sparse m a ≡ Sparse n b → m ≡ n
+    the_nodes m n a b e = cc
+
+pub pigeons_within : (n : ℕ) → IsSomeLine (Pigeons n) → (2 ≤ n) × (n ≤ 200)
+pigeons_within n some =
+    let s = spoken some.0 (Pigeons n) some.1 in
+    let is : n ≡ number_at s.said 0 = the_pigeons n (number_at s.said 0) s.line_is in
+    subst (λ m. (2 ≤ m) × (m ≤ 200)) (sym is) (number_within (row_of PIGEONS).places s.said.values 0 _ 2 200 refl refl s.fill)
+  where
+    the_pigeons : (m n : ℕ) → Pigeons m ≡ Pigeons n → m ≡ n
+    the_pigeons m n e = cc
 
 pub starve_within : (model : List ℕ) (from to : ℕ) (file : List ℕ) → IsSomeLine (Starve model from to file) → (1 ≤ from) × (1 ≤ to)
 starve_within model from to file some =
@@ -181,6 +199,8 @@ sound (Solve m l n r t) = record { lawful = solve_lawful m l n r t; problem = λ
 sound (Bound m) = record { lawful = bound_lawful m; problem = λ a b s. tt }
 sound (Queens n) = record { lawful = print_lawful _; problem = λ a b s. tt }
 sound (Colouring n k c) = record { lawful = print_lawful _; problem = λ a b s. tt }
+sound (Sparse n c) = record { lawful = print_lawful _; problem = λ a b s. tt }
+sound (Pigeons n) = record { lawful = print_lawful _; problem = λ a b s. tt }
 sound (Drill c) = record { lawful = drill_lawful c; problem = λ a b s. tt }
 sound (Upgrade m o) = record { lawful = upgrade_lawful m o; problem = λ a b s. tt }
 sound (Core m o t) = record { lawful = core_lawful m o t; problem = λ a b s. tt }

@@ -2,7 +2,7 @@
 use Rattle.std.specs.Prelude.{◌≡◌, ℕ, ℤ, List, Bool, Option, Some, None, Result, IfOk, ⊤, option_copied, unwrap_or, codes}
 use Rattle.abt_words.specs.declared.rows.LineName.{LineName}
 use Rattle.abt_words.specs.declared.rows.LineName.TheVariants as names
-use Rattle.abt_words.specs.declared.rows.TheConstants.{SOLVE, REPLAY, CHECK, UPGRADE, CORE, STARVE, LOSSY, BOUND, QUEENS, COLOURING, DRILL, CNF, RUP, HELP, VERSION, USAGE}
+use Rattle.abt_words.specs.declared.rows.TheConstants.{SOLVE, REPLAY, CHECK, UPGRADE, CORE, STARVE, LOSSY, BOUND, QUEENS, COLOURING, SPARSE, PIGEONS, DRILL, CNF, RUP, HELP, VERSION, USAGE}
 use Rattle.abt_words.specs.Rows.{Row, row_of, the_rows}
 use Rattle.abt_words.specs.Saying.{Said, IsSaidBy, value_at, setting_at, name_in, number_in, given_name, given_number, given_signed, is_given}
 use Rattle.abt_words.specs.Texts.{help_text, usage_text}
@@ -11,7 +11,7 @@ use Rattle.abt_promise.specs.declared.status.Status.{Status}
 use Rattle.abt_promise.specs.Promises.{Promise}
 use Rattle.abt_input.specs.declared.error.CommandError.{CommandError}
 use Rattle.line_model.specs.BoundReports.{bound_promise}
-use Rattle.line_model.specs.Generated.{print_promise, queens_promise, colouring_promise}
+use Rattle.line_model.specs.Generated.{print_promise, queens_promise, colouring_promise, sparse_promise, pigeons_promise}
 use Rattle.line_check.specs.Taking.{taking_of}
 use Rattle.line_check.specs.CheckReports.{check_promise}
 use Rattle.line_replay.specs.ReplayPromise.{replay_promise}
@@ -39,6 +39,8 @@ pub data Line : Type 0 where
   Bound : (model : List ℕ) → Line
   Queens : (n : ℕ) → Line
   Colouring : (n k seed : ℕ) → Line
+  Sparse : (n seed : ℕ) → Line
+  Pigeons : (n : ℕ) → Line
   Drill : (seed : ℕ) → Line
   Upgrade : (log new : List ℕ) → Line
   Core : (model log trimmed : List ℕ) → Line
@@ -65,6 +67,8 @@ line_named names.Solve said = Solve (name_at said 0) (name_at said 1) (unwrap_or
 line_named names.Bound said = Bound (name_at said 0)
 line_named names.Queens said = Queens (number_at said 0)
 line_named names.Colouring said = Colouring (number_at said 0) (number_at said 1) (number_at said 2)
+line_named names.Sparse said = Sparse (number_at said 0) (number_at said 1)
+line_named names.Pigeons said = Pigeons (number_at said 0)
 line_named names.Drill said = Drill (number_at said 0)
 line_named names.Upgrade said = Upgrade (name_at said 0) (name_at said 1)
 line_named names.Core said = Core (name_at said 0) (name_at said 1) (name_at said 2)
@@ -102,6 +106,8 @@ line_of (orders.Solve line) = Solve line.model.now line.log.now line.seed (optio
 line_of (orders.Bound model) = Bound model.now
 line_of (orders.GenQueens n) = Queens n
 line_of (orders.GenColouring n k seed) = Colouring n k seed
+line_of (orders.GenSparse n seed) = Sparse n seed
+line_of (orders.GenPigeons n) = Pigeons n
 line_of (orders.Drill seed) = Drill seed
 line_of (orders.Upgrade log new) = Upgrade log.now new.now
 line_of (orders.Core line) = Core line.model.now line.log.now line.trimmed.now
@@ -156,6 +162,8 @@ value_of (Solve model log seed kept trace) = running (row_of SOLVE) (solve_promi
 value_of (Bound model) = reporting (row_of BOUND) (bound_promise model)
 value_of (Queens n) = reporting (row_of QUEENS) (queens_promise n)
 value_of (Colouring n k seed) = reporting (row_of COLOURING) (colouring_promise n k seed)
+value_of (Sparse n seed) = reporting (row_of SPARSE) (sparse_promise n seed)
+value_of (Pigeons n) = reporting (row_of PIGEONS) (pigeons_promise n)
 value_of (Drill seed) = reporting (row_of DRILL) (drill_promise seed)
 value_of (Upgrade log new) = meaning_more (row_of UPGRADE) (upgrade_promise log new) (means_upgrade log new)
 value_of (Core model log trimmed) = meaning_more (row_of CORE) (core_promise model log trimmed) (means_core model log trimmed)

@@ -20,7 +20,7 @@ use line_check::{Check, run_check};
 use line_cnf::{Cnf, run_cnf, run_rup};
 use line_drill::run_drill;
 use line_lossy::{Losses, run_lossy};
-use line_model::{print, run_bound, run_colouring, run_queens};
+use line_model::{print, run_bound, run_colouring, run_pigeons, run_queens, run_sparse};
 use line_replay::{Replay, Solve, run_replay};
 use line_rewrite::{CoreLine, run_core, run_upgrade};
 use line_solve::run_solve;
@@ -49,6 +49,10 @@ pub enum Order<'w> {
     GenQueens { n: u32 },
     /// `gen colouring N K SEED`: the colouring of `n` nodes, from 1 to 200, with `k` colours, from 1 to 16.
     GenColouring { n: u32, k: u32, seed: u64 },
+    /// `gen sparse N SEED`: the colouring of `n` nodes, from 1 to 4,096, with few edges.
+    GenSparse { n: u32, seed: u64 },
+    /// `gen pigeons N`: the problem of so many pigeons, from 2 to 200, in one hole less.
+    GenPigeons { n: u32 },
     /// `drill SEED`: runs of three generated models under the choices of a seed.
     Drill { seed: u64 },
     /// `upgrade LOG NEW`: NEW takes the log with the deletions that it allows.
@@ -93,6 +97,8 @@ impl Order<'_> {
             Order::Bound { model } => run_bound(alloc, folder, model, out),
             Order::GenQueens { n } => run_queens(alloc, n, out),
             Order::GenColouring { n, k, seed } => run_colouring(alloc, n, k, seed, out),
+            Order::GenSparse { n, seed } => run_sparse(alloc, n, seed, out),
+            Order::GenPigeons { n } => run_pigeons(alloc, n, out),
             Order::Drill { seed } => run_drill(alloc, seed, out),
             Order::Upgrade { log, new } => run_upgrade(alloc, folder, log, new, out),
             Order::Core(line) => run_core(alloc, folder, line, out),
@@ -130,6 +136,8 @@ fn order_of<'w>(said: &Said<'w>) -> Order<'w>
         LineName::Bound => bound_of(said),
         LineName::Queens => queens_of(said),
         LineName::Colouring => colouring_of(said),
+        LineName::Sparse => sparse_of(said),
+        LineName::Pigeons => pigeons_of(said),
         LineName::Drill => drill_of(said),
         LineName::Cnf => cnf_of(said),
         LineName::Rup => rup_of(said),
@@ -243,6 +251,25 @@ fn colouring_of<'w>(said: &Said<'w>) -> Order<'w>
         n: said.value(0).number() as u32,
         k: said.value(1).number() as u32,
         seed: said.value(2).number(),
+    }
+}
+
+fn sparse_of<'w>(said: &Said<'w>) -> Order<'w>
+    requires { number_at (said_in said.now) 0 ≤ 4096 }
+    ensures { line_of result ≡ line_named names.Sparse (said_in said.now) }
+{
+    Order::GenSparse {
+        n: said.value(0).number() as u32,
+        seed: said.value(1).number(),
+    }
+}
+
+fn pigeons_of<'w>(said: &Said<'w>) -> Order<'w>
+    requires { number_at (said_in said.now) 0 ≤ 200 }
+    ensures { line_of result ≡ line_named names.Pigeons (said_in said.now) }
+{
+    Order::GenPigeons {
+        n: said.value(0).number() as u32,
     }
 }
 

@@ -18,7 +18,7 @@ struct Line {
 /// Each of the two literals, and neither.
 const FORMULA: &[u8] = b"p cnf 2 3\n1 2 0\n-1 0\n-2 0\n";
 
-const LINES: [Line; 15] = [
+const LINES: [Line; 17] = [
     Line {
         words: &["check", "m.fzn", "l.ngd"],
         files: [("m.fzn", PAIR), ("l.ngd", PAIR_LOG)],
@@ -46,6 +46,16 @@ const LINES: [Line; 15] = [
     },
     Line {
         words: &["gen", "colouring", "4", "2", "7"],
+        files: [NO_FILE, NO_FILE],
+        creates: &[],
+    },
+    Line {
+        words: &["gen", "sparse", "4", "7"],
+        files: [NO_FILE, NO_FILE],
+        creates: &[],
+    },
+    Line {
+        words: &["gen", "pigeons", "3"],
         files: [NO_FILE, NO_FILE],
         creates: &[],
     },

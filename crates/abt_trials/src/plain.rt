@@ -37,6 +37,8 @@ const HELP: &[u8] = b"abt: asynchronous backtracking over FlatZinc, with certifi
   abt gen queens N      prints the problem of N queens, 1 to 200
   abt gen colouring N K SEED
                         prints a colouring of N nodes, 1 to 200, with K colours, 1 to 16
+  abt gen sparse N SEED prints a colouring of N nodes, 1 to 4,096, with few edges
+  abt gen pigeons N     prints the problem of N pigeons, 2 to 200, in one hole less
   abt drill SEED        runs three generated models, and checks the log of the last
   abt cnf CNF PROOF [--seed N]
                         runs the agents of a formula in DIMACS: prints `s SATISFIABLE` and its
@@ -56,8 +58,8 @@ Status  0 done, and the answer is good     4 the log, schedule or proof was refu
         2 the words are no line above      6 a file or a stream failed
         3 the model or formula was refused 7 memory ran out
 
-With 2, 3, 4, 6 and 7 a line on standard error says why. README.md tells what is
-proved, docs/FORMATS.md the formats and the lines that refuse a file.
+With 2, 3, 4, 6 and 7 a line on standard error says why. docs/CLAIMS.md tells what
+is proved, docs/FORMATS.md the formats and the lines that refuse a file.
 ";
 
 /// What `--usage` prints; tests/usage.sh reads it here.
@@ -72,6 +74,8 @@ lossy file:MODEL:model:read file:LOG:log:written number:EVENTS:0:1000000 number:
 bound file:MODEL:model:read
 gen queens number:N:1:200
 gen colouring number:N:1:200 number:K:1:16 number:SEED:0:18446744073709551615
+gen sparse number:N:1:4096 number:SEED:0:18446744073709551615
+gen pigeons number:N:2:200
 drill number:SEED:0:18446744073709551615
 cnf file:CNF:formula:read file:PROOF:proof:written --seed=number:N:0:18446744073709551615
 rup file:CNF:formula:read file:PROOF:proof:read

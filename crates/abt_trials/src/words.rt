@@ -6,7 +6,7 @@ use std::alloc::Global;
 use std::process::Abort;
 
 /// Words of each line but `drill`, which runs long.
-const LINES: [&[&str]; 33] = [
+const LINES: [&[&str]; 37] = [
     &["solve", "m", "l"],
     &["solve", "m", "l", "--seed", "0"],
     &["solve", "m", "l", "--seed", "18446744073709551615"],
@@ -34,6 +34,10 @@ const LINES: [&[&str]; 33] = [
     &["gen", "queens", "1"],
     &["gen", "colouring", "1", "1", "0"],
     &["gen", "colouring", "1", "16", "18446744073709551615"],
+    &["gen", "sparse", "1", "0"],
+    &["gen", "sparse", "4096", "18446744073709551615"],
+    &["gen", "pigeons", "2"],
+    &["gen", "pigeons", "200"],
     &["cnf", "c", "p"],
     &["cnf", "c", "p", "--seed", "1"],
     &["rup", "c", "p"],
@@ -44,7 +48,7 @@ const LINES: [&[&str]; 33] = [
 
 /// Words that are no line: too few or too many; options twice, first, without a value or of another line; names
 /// that are equal, empty or begin with `-`; numbers with a sign, with a leading zero or out of range.
-const NO_LINES: [&[&str]; 117] = [
+const NO_LINES: [&[&str]; 124] = [
     &["solve", "m", "l", "--seed", "18446744073709551616"],
     &["solve", "m", "l", "--seed", "00"],
     &["solve", "m", "l", "--seed", "+1"],
@@ -132,6 +136,13 @@ const NO_LINES: [&[&str]; 117] = [
     &["gen", "colouring", "0", "1", "0"],
     &["gen", "colouring", "1", "1", "18446744073709551616"],
     &["gen", "colouring", "1", "1"],
+    &["gen", "sparse", "0", "0"],
+    &["gen", "sparse", "4097", "0"],
+    &["gen", "sparse", "1"],
+    &["gen", "sparse", "1", "18446744073709551616"],
+    &["gen", "pigeons", "1"],
+    &["gen", "pigeons", "201"],
+    &["gen", "pigeons", "2", "0"],
     &["queens", "1"],
     &["drill"],
     &["drill", "-1"],

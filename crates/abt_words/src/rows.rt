@@ -15,6 +15,8 @@ pub enum LineName {
     Bound,
     Queens,
     Colouring,
+    Sparse,
+    Pigeons,
     Drill,
     Cnf,
     Rup,
@@ -296,6 +298,39 @@ pub const COLOURING: Row = RowOf {
     tells: &["prints a colouring of N nodes, 1 to 200, with K colours, 1 to 16"],
 };
 
+/// `gen sparse N SEED`: a sparse colouring of so many nodes.
+pub const SPARSE: Row = RowOf {
+    line: LineName::Sparse,
+    keyword: &["gen", "sparse"],
+    places: &[
+        PlaceOf {
+            shown: "N",
+            kind: KindOf::Number {
+                least: 1,
+                most: 4096,
+            },
+        },
+        SEED,
+    ],
+    options: &[],
+    tells: &["prints a colouring of N nodes, 1 to 4,096, with few edges"],
+};
+
+/// `gen pigeons N`: so many pigeons in one hole less.
+pub const PIGEONS: Row = RowOf {
+    line: LineName::Pigeons,
+    keyword: &["gen", "pigeons"],
+    places: &[PlaceOf {
+        shown: "N",
+        kind: KindOf::Number {
+            least: 2,
+            most: 200,
+        },
+    }],
+    options: &[],
+    tells: &["prints the problem of N pigeons, 2 to 200, in one hole less"],
+};
+
 /// `drill SEED`: runs of three generated models.
 pub const DRILL: Row = RowOf {
     line: LineName::Drill,
@@ -376,6 +411,6 @@ pub const USAGE: Row = RowOf {
 
 /// Every line of words, in the order in which help and usage show them.
 pub const ROWS: &[Row] = &[
-    SOLVE, REPLAY, CHECK, UPGRADE, CORE, STARVE, LOSSY, BOUND, QUEENS, COLOURING, DRILL, CNF, RUP,
-    HELP, VERSION, USAGE,
+    SOLVE, REPLAY, CHECK, UPGRADE, CORE, STARVE, LOSSY, BOUND, QUEENS, COLOURING, SPARSE, PIGEONS,
+    DRILL, CNF, RUP, HELP, VERSION, USAGE,
 ];

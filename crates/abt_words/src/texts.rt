@@ -25,8 +25,8 @@ Status  0 done, and the answer is good     4 the log, schedule or proof was refu
         2 the words are no line above      6 a file or a stream failed
         3 the model or formula was refused 7 memory ran out
 
-With 2, 3, 4, 6 and 7 a line on standard error says why. README.md tells what is
-proved, docs/FORMATS.md the formats and the lines that refuse a file.
+With 2, 3, 4, 6 and 7 a line on standard error says why. docs/CLAIMS.md tells what
+is proved, docs/FORMATS.md the formats and the lines that refuse a file.
 ";
 
 /// The texts, each with something before it and something behind it.

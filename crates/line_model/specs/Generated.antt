@@ -5,7 +5,7 @@ use Rattle.abt_promise.specs.declared.status.Status.TheVariants.{Good}
 use Rattle.abt_promise.specs.Promises.{Promise}
 use Rattle.abt_input.specs.Plans.{Plan, Answer, promise_by}
 use Rattle.abt_schedule.specs.Answers.{generator_of, word_at}
-use Rattle.dcsp_gen.specs.Problems.{queens_text, colouring_text}
+use Rattle.dcsp_gen.specs.Problems.{queens_text, colouring_text, sparse_text, pigeons_text}
 
 -- a line that puts one text on `out`
 abbrev pub print_plan : List ℕ → Plan
@@ -22,3 +22,11 @@ queens_promise n = print_promise (queens_text n)
 -- `gen colouring N K SEED`
 abbrev pub colouring_promise : ℕ → ℕ → ℕ → Promise
 colouring_promise n k seed = print_promise (colouring_text n k (word_at (generator_of seed)))
+
+-- `gen sparse N SEED`
+abbrev pub sparse_promise : ℕ → ℕ → Promise
+sparse_promise n seed = print_promise (sparse_text n (word_at (generator_of seed)))
+
+-- `gen pigeons N`
+abbrev pub pigeons_promise : ℕ → Promise
+pigeons_promise n = print_promise (pigeons_text n)

@@ -5,12 +5,12 @@ ghost use Rattle.dcsp_outside.specs.Outside.{Place};
 ghost use Rattle.dcsp_script.specs.Scripts.{outside};
 ghost use Rattle.abt_promise.specs.Runs.{CameIn};
 ghost use Rattle.abt_input.specs.Errors.{way_of};
-ghost use Rattle.line_model.specs.Generated.{queens_promise, colouring_promise};
+ghost use Rattle.line_model.specs.Generated.{queens_promise, colouring_promise, sparse_promise, pigeons_promise};
 
 use crate::text::print;
 use abt_input::CommandError;
 use abt_promise::Status;
-use dcsp_gen::{colouring, queens};
+use dcsp_gen::{colouring, pigeons, queens, sparse};
 use dcsp_outside::Sink;
 use std::alloc::Global;
 
@@ -41,6 +41,37 @@ pub fn run_colouring<S: Sink>(
         (outside folder (S.stream out.old)) (outside folder (S.stream out.new)) (way_of result) }
 {
     match colouring(alloc, n, k, seed) {
+        Ok(text) => print(out, &text),
+        Err(_) => Err(CommandError::Memory),
+    }
+}
+
+/// Puts the sparse colouring of `n` nodes, from 1 to 4,096, with the edges of `seed` on `out`.
+pub fn run_sparse<S: Sink>(
+    alloc: Global,
+    n: u32,
+    seed: u64,
+    out: &mut S,
+) -> Result<Status, CommandError>
+    requires least { 1 ≤ n }
+    requires most { n ≤ 4096 }
+    ensures { (folder : Place) → CameIn (sparse_promise n seed)
+        (outside folder (S.stream out.old)) (outside folder (S.stream out.new)) (way_of result) }
+{
+    match sparse(alloc, n, seed) {
+        Ok(text) => print(out, &text),
+        Err(_) => Err(CommandError::Memory),
+    }
+}
+
+/// Puts the problem of `n` pigeons, from 2 to 200, in one hole less on `out`.
+pub fn run_pigeons<S: Sink>(alloc: Global, n: u32, out: &mut S) -> Result<Status, CommandError>
+    requires least { 2 ≤ n }
+    requires most { n ≤ 200 }
+    ensures { (folder : Place) → CameIn (pigeons_promise n)
+        (outside folder (S.stream out.old)) (outside folder (S.stream out.new)) (way_of result) }
+{
+    match pigeons(alloc, n) {
         Ok(text) => print(out, &text),
         Err(_) => Err(CommandError::Memory),
     }

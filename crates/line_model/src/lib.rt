@@ -1,5 +1,6 @@
 //! The lines of words that are about models alone: `bound MODEL` tells how many messages a run can deliver at
-//! most, `gen queens N` and `gen colouring N K SEED` print a model. No line here runs an agent.
+//! most, `gen queens N`, `gen colouring N K SEED`, `gen sparse N SEED` and `gen pigeons N` print a model. No line
+//! here runs an agent.
 #![tactic(auto)]
 
 mod bound;
@@ -8,6 +9,6 @@ mod laws;
 mod text;
 
 pub use bound::run_bound;
-pub use generated::{run_colouring, run_queens};
+pub use generated::{run_colouring, run_pigeons, run_queens, run_sparse};
 pub use laws::promises_are_lawful;
 pub use text::print;

@@ -21,3 +21,9 @@ colouring_of-requires-clause-nodes c = at_most c.requires.0 (said_in c.args.said
 
 pub colouring_of-requires-clause-colours : goal.colouring_of-requires-clause-colours
 colouring_of-requires-clause-colours c = at_most c.requires.0 (said_in c.args.said.now) c.requires.1 names.Colouring c.in-Colouring.is 1 _ 1 16 refl refl
+
+pub sparse_of-requires : goal.sparse_of-requires
+sparse_of-requires c = at_most c.requires.0 (said_in c.args.said.now) c.requires.1 names.Sparse c.in-Sparse.is 0 _ 1 4096 refl refl
+
+pub pigeons_of-requires : goal.pigeons_of-requires
+pigeons_of-requires c = at_most c.requires.0 (said_in c.args.said.now) c.requires.1 names.Pigeons c.in-Pigeons.is 0 _ 2 200 refl refl

@@ -1,5 +1,5 @@
 use Rattle.abt_schedule.specs.Answers.{generator_of, word_at}
-use Rattle.dcsp_gen.specs.Problems.{queens_text, colouring_text}
+use Rattle.dcsp_gen.specs.Problems.{queens_text, colouring_text, sparse_text, pigeons_text}
 use Rattle.line_model.proofs.Lawful.{print_lawful, bound_lawful}
 use Rattle.line_model.proofs.laws.promises_are_lawful.Goals as goal
 
@@ -11,3 +11,9 @@ returns-clause-queens c = λ n. print_lawful (queens_text n)
 
 pub returns-clause-colouring : goal.returns-clause-colouring
 returns-clause-colouring c = λ n k seed. print_lawful (colouring_text n k (word_at (generator_of seed)))
+
+pub returns-clause-sparse : goal.returns-clause-sparse
+returns-clause-sparse c = λ n seed. print_lawful (sparse_text n (word_at (generator_of seed)))
+
+pub returns-clause-pigeons : goal.returns-clause-pigeons
+returns-clause-pigeons c = λ n. print_lawful (pigeons_text n)

@@ -1,7 +1,7 @@
 use Rattle.std.proofs.Common.{subst}
 use Rattle.abt_command.specs.Lines.{IsSomeLine, line_of}
 use Rattle.abt_command.proofs.Meanings.{always, always_both, good_alone, good_or_no, both_facts}
-use Rattle.abt_command.proofs.Lines.{queens_within, colouring_within, starve_within}
+use Rattle.abt_command.proofs.Lines.{queens_within, colouring_within, sparse_within, pigeons_within, starve_within}
 use Rattle.abt_command.proofs.order.Order.run.Goals as goal
 
 pub run_queens-requires-clause-least : goal.run_queens-requires-clause-least
@@ -21,6 +21,24 @@ returns-in-GenQueens-clause-came g c = rw c.in-GenQueens.is (c.run_queens.ensure
 
 pub returns-in-GenColouring-clause-came : goal.returns-in-GenColouring-clause-came
 returns-in-GenColouring-clause-came g c = rw c.in-GenColouring.is (c.run_colouring.ensures _)
+
+pub run_sparse-requires-clause-least : goal.run_sparse-requires-clause-least
+run_sparse-requires-clause-least g c = (sparse_within _ _ (subst (λ o. IsSomeLine (line_of o)) c.in-GenSparse.is c.requires)).0
+
+pub run_sparse-requires-clause-most : goal.run_sparse-requires-clause-most
+run_sparse-requires-clause-most g c = (sparse_within _ _ (subst (λ o. IsSomeLine (line_of o)) c.in-GenSparse.is c.requires)).1
+
+pub run_pigeons-requires-clause-least : goal.run_pigeons-requires-clause-least
+run_pigeons-requires-clause-least g c = (pigeons_within _ (subst (λ o. IsSomeLine (line_of o)) c.in-GenPigeons.is c.requires)).0
+
+pub run_pigeons-requires-clause-most : goal.run_pigeons-requires-clause-most
+run_pigeons-requires-clause-most g c = (pigeons_within _ (subst (λ o. IsSomeLine (line_of o)) c.in-GenPigeons.is c.requires)).1
+
+pub returns-in-GenSparse-clause-came : goal.returns-in-GenSparse-clause-came
+returns-in-GenSparse-clause-came g c = rw c.in-GenSparse.is (c.run_sparse.ensures _)
+
+pub returns-in-GenPigeons-clause-came : goal.returns-in-GenPigeons-clause-came
+returns-in-GenPigeons-clause-came g c = rw c.in-GenPigeons.is (c.run_pigeons.ensures _)
 
 pub returns-in-Drill-clause-came : goal.returns-in-Drill-clause-came
 returns-in-Drill-clause-came g c = rw c.in-Drill.is (c.run_drill.ensures _)
