@@ -1,6 +1,6 @@
 -- What a run that the words ask for left, sentence by sentence.
-use Rattle.std.proofs.Common.{◌≡◌, ◌≢◌, ◌≤◌, ◌^◌, arith, ℕ, List, [], ◌∷◌, Option, Some, None, refl, sym, ap, subst, inr}
-use Rattle.std.specs.Prelude.{Bool, IfSome, option_to_list}
+use Rattle.std.proofs.Common.{◌≡◌, ◌≤◌, ◌^◌, arith, ℕ, List, Option, Some, None, refl, sym, ap, subst, inr}
+use Rattle.std.specs.Prelude.{IfSome}
 use Rattle.dcsp_outside.specs.Outside.{Stream, Told, bytes_of}
 use Rattle.dcsp_script.specs.Scripts.{World}
 use Rattle.dcsp_script.specs.Ways.{Did, DidPartOf}
@@ -31,7 +31,7 @@ use Rattle.line_replay.proofs.Headlines.{HasOwnRecord, is_run, part_ordered}
 use Rattle.line_replay.proofs.Verdicts.{solved, refuted, bounded, replay_unfinished, solve_unfinished, refuted_log}
 use Rattle.law_meaning.specs.Meaning.{SatisfiesText}
 use Rattle.law_meaning.proofs.Whole.{solutions_satisfy}
-use Rattle.abt_command.specs.Lines.{Line, Replay, Solve, IsLine, IsNoLine, Means, promise_of, value_of}
+use Rattle.abt_command.specs.Lines.{Line, Replay, Solve, IsLine, IsNoLine, Means, promise_of}
 use Rattle.abt_command.specs.AskedRuns.{AsksFor, replays, solves, EachRun, RunsModel, AskForModel, IsCheckedRun, IsSatisfyingRun, IsTrueRun, EachTrueRun}
 use Rattle.abt_command.proofs.Lines.{one_line, one_some, sound, solve_names, replay_names}
 

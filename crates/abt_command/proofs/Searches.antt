@@ -29,7 +29,7 @@ use Rattle.line_solve.specs.Searching.{AskedSearch, round_count, session_after, 
 use Rattle.line_solve.specs.BestAnswers.{search_status}
 use Rattle.line_solve.specs.SearchScripts.{search_script, search_report}
 use Rattle.line_solve.specs.SolvePromise.{solve_promise, HoldsWholeProblem}
-use Rattle.line_solve.specs.BestHeadline.{HoldsSearch, IsSearched, PrintsBest, IsBestSearch, IsRefutedSearch, IsUnfinishedSearch, IsBoundedSearch, SearchOrdered}
+use Rattle.line_solve.specs.BestHeadline.{HoldsSearch, IsSearched, IsBestSearch, IsRefutedSearch, IsUnfinishedSearch, IsBoundedSearch, SearchOrdered}
 use Rattle.line_solve.proofs.Lawful.{solve_lawful, no_refusal_best, reports_search}
 use Rattle.line_solve.proofs.Headlines.{OwnsRecord, is_searched, part_ordered}
 use Rattle.line_solve.proofs.Searches.{is_csp_after}
