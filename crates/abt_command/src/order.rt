@@ -192,11 +192,12 @@ fn upgrade_of<'w>(said: &Said<'w>) -> Order<'w>
 fn core_of<'w>(said: &Said<'w>) -> Order<'w>
     ensures { line_of result ≡ line_named names.Core (said_in said.now) }
 {
+    let better = said.setting("--better").given_signed();
     Order::Core(CoreLine {
         model: said.value(0).name(),
         log: said.value(1).name(),
         trimmed: said.value(2).name(),
-        better: said.setting("--better").given_signed(),
+        better,
     })
 }
 
