@@ -203,7 +203,7 @@ sound (Sparse n c) = record { lawful = print_lawful _; problem = λ a b s. tt }
 sound (Pigeons n) = record { lawful = print_lawful _; problem = λ a b s. tt }
 sound (Drill c) = record { lawful = drill_lawful c; problem = λ a b s. tt }
 sound (Upgrade m o) = record { lawful = upgrade_lawful m o; problem = λ a b s. tt }
-sound (Core m o t) = record { lawful = core_lawful m o t; problem = λ a b s. tt }
+sound (Core m o t b) = record { lawful = core_lawful b m o t; problem = λ a b s. tt }
 sound (Starve m c d o) = record { lawful = starve_lawful m c d o; problem = λ a b s. tt }
 sound (Lossy m o n c k) = record { lawful = lossy_lawful m o n c k; problem = λ a b s. tt }
 sound (Rup m o) = record { lawful = rup_lawful m o; problem = λ a b s. tt }

@@ -43,7 +43,7 @@ pub data Line : Type 0 where
   Pigeons : (n : ℕ) → Line
   Drill : (seed : ℕ) → Line
   Upgrade : (log new : List ℕ) → Line
-  Core : (model log trimmed : List ℕ) → Line
+  Core : (model log trimmed : List ℕ) (better : Option ℤ) → Line
   Starve : (model : List ℕ) (from to : ℕ) (file : List ℕ) → Line
   Lossy : (model log : List ℕ) (events seed : ℕ) (kept : Option (List ℕ)) → Line
   Rup : (cnf proof : List ℕ) → Line
@@ -71,7 +71,7 @@ line_named names.Sparse said = Sparse (number_at said 0) (number_at said 1)
 line_named names.Pigeons said = Pigeons (number_at said 0)
 line_named names.Drill said = Drill (number_at said 0)
 line_named names.Upgrade said = Upgrade (name_at said 0) (name_at said 1)
-line_named names.Core said = Core (name_at said 0) (name_at said 1) (name_at said 2)
+line_named names.Core said = Core (name_at said 0) (name_at said 1) (name_at said 2) (given_signed (setting_at said (codes "--better")))
 line_named names.Starve said = Starve (name_at said 0) (number_at said 1) (number_at said 2) (name_at said 3)
 line_named names.Lossy said = Lossy (name_at said 0) (name_at said 1) (number_at said 2) (number_at said 3) (given_name (setting_at said (codes "--record")))
 line_named names.Rup said = Rup (name_at said 0) (name_at said 1)
@@ -110,7 +110,7 @@ line_of (orders.GenSparse n seed) = Sparse n seed
 line_of (orders.GenPigeons n) = Pigeons n
 line_of (orders.Drill seed) = Drill seed
 line_of (orders.Upgrade log new) = Upgrade log.now new.now
-line_of (orders.Core line) = Core line.model.now line.log.now line.trimmed.now
+line_of (orders.Core line) = Core line.model.now line.log.now line.trimmed.now line.better
 line_of (orders.Starve line) = Starve line.model.now line.from line.to line.file.now
 line_of (orders.Lossy line) = Lossy line.model.now line.log.now line.events line.seed (option_copied line.kept)
 line_of (orders.Rup cnf proof) = Rup cnf.now proof.now
@@ -166,7 +166,7 @@ value_of (Sparse n seed) = reporting (row_of SPARSE) (sparse_promise n seed)
 value_of (Pigeons n) = reporting (row_of PIGEONS) (pigeons_promise n)
 value_of (Drill seed) = reporting (row_of DRILL) (drill_promise seed)
 value_of (Upgrade log new) = meaning_more (row_of UPGRADE) (upgrade_promise log new) (means_upgrade log new)
-value_of (Core model log trimmed) = meaning_more (row_of CORE) (core_promise model log trimmed) (means_core model log trimmed)
+value_of (Core model log trimmed better) = meaning_more (row_of CORE) (core_promise (taking_of better) model log trimmed) (means_core model log trimmed better)
 value_of (Starve model from to file) = meaning_more (row_of STARVE) (starve_promise model from to file) (means_starve model from to file)
 value_of (Lossy model log events seed kept) = meaning_more (row_of LOSSY) (lossy_promise model log events seed kept) (means_lossy model log events seed kept)
 value_of (Rup cnf proof) = meaning_more (row_of RUP) (rup_promise cnf proof) (means_rup cnf proof)

@@ -49,8 +49,8 @@ pub record IsCnfAnswer (old now : Option (List ℕ → Option (List ℕ))) (cnf 
   pub writes : HoldsProof cnf proof seed status old now
 
 -- `core`: with status 0 the log was trimmed and its core told, with status 1 nothing was created
-pub record IsCoreAnswer (model log trimmed : List ℕ) (old new : World) (status : Status) : Type 0 where
-  pub trims : status ≡ Good → HoldsCore model log trimmed old new
+pub record IsCoreAnswer (better : Option ℤ) (model log trimmed : List ℕ) (old new : World) (status : Status) : Type 0 where
+  pub trims : status ≡ Good → HoldsCore (taking_of better) model log trimmed old new
   pub rejects : status ≡ No → CreatesNothing old new
 
 -- `starve`: the choices of the run were written, and the line that was put tells how it ended
@@ -78,8 +78,8 @@ means_solve model old new status = IsSolveAnswer old.folder.held model
 abbrev pub means_upgrade : (log new_log : List ℕ) → World → World → Status → Type 0
 means_upgrade log new_log old new status = HoldsUpgrade log new_log old.folder.held new.folder.held
 
-abbrev pub means_core : (model log trimmed : List ℕ) → World → World → Status → Type 0
-means_core model log trimmed old new status = IsCoreAnswer model log trimmed old new status
+abbrev pub means_core : (model log trimmed : List ℕ) (better : Option ℤ) → World → World → Status → Type 0
+means_core model log trimmed better old new status = IsCoreAnswer better model log trimmed old new status
 
 abbrev pub means_starve : (model : List ℕ) (from to : ℕ) (file : List ℕ) → World → World → Status → Type 0
 means_starve model from to file old new status = IsStarvedAnswer model from to file old new

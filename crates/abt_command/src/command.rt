@@ -168,8 +168,8 @@ pub fn run_command<F: Folder, S: Sink>(
     // And a log that was upgraded, or trimmed.
     ensures upgraded { (log new : List ℕ) → IsLine (map string_bytes words.now) (lines.Upgrade log new)
         → result ≡ Status.Good → HoldsUpgrade log new (F.place folder.old).held (F.place folder.new).held }
-    ensures trimmed { (model log trimmed : List ℕ) → IsLine (map string_bytes words.now) (lines.Core model log trimmed)
-        → IsFinal result → (IsRefusal result → ⊥) → IsCoreAnswer model log trimmed
+    ensures trimmed { (model log trimmed : List ℕ) (better : Option ℤ) → IsLine (map string_bytes words.now) (lines.Core model log trimmed better)
+        → IsFinal result → (IsRefusal result → ⊥) → IsCoreAnswer better model log trimmed
         (outside (F.place folder.old) (S.stream out.old)) (outside (F.place folder.new) (S.stream out.new)) result }
 
     // And a run that starves a link, or that is made over a medium that loses, repeats and reorders.

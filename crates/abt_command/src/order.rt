@@ -57,7 +57,7 @@ pub enum Order<'w> {
     Drill { seed: u64 },
     /// `upgrade LOG NEW`: NEW takes the log with the deletions that it allows.
     Upgrade { log: &'w str, new: &'w str },
-    /// `core MODEL LOG TRIMMED`: which constraints the refutation uses; TRIMMED takes the steps that it needs.
+    /// `core MODEL LOG TRIMMED [--better N]`: which constraints the refutation uses; TRIMMED takes the steps that it needs.
     Core(CoreLine<'w>),
     /// `starve MODEL FROM TO FILE`: FILE takes the choices of the run that delivers from one agent to another, both
     /// counted from 1 and at most 4,096, only where nothing else is in transit.
@@ -192,10 +192,12 @@ fn upgrade_of<'w>(said: &Said<'w>) -> Order<'w>
 fn core_of<'w>(said: &Said<'w>) -> Order<'w>
     ensures { line_of result ≡ line_named names.Core (said_in said.now) }
 {
+    let better = said.setting("--better").given_signed();
     Order::Core(CoreLine {
         model: said.value(0).name(),
         log: said.value(1).name(),
         trimmed: said.value(2).name(),
+        better,
     })
 }
 

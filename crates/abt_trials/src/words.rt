@@ -6,7 +6,7 @@ use std::alloc::Global;
 use std::process::Abort;
 
 /// Words of each line but `drill`, which runs long.
-const LINES: [&[&str]; 37] = [
+const LINES: [&[&str]; 38] = [
     &["solve", "m", "l"],
     &["solve", "m", "l", "--seed", "0"],
     &["solve", "m", "l", "--seed", "18446744073709551615"],
@@ -25,6 +25,7 @@ const LINES: [&[&str]; 37] = [
     &["check", "m", "l", "--better", "-9223372036854775808"],
     &["upgrade", "l", "n"],
     &["core", "m", "l", "t"],
+    &["core", "m", "l", "t", "--better", "-5"],
     &["starve", "m", "1", "1", "f"],
     &["starve", "m", "4096", "4096", "f"],
     &["lossy", "m", "l", "0", "0"],
@@ -99,7 +100,7 @@ const NO_LINES: [&[&str]; 124] = [
     &["core", "m", "l", "l"],
     &["core", "m", "l", "m"],
     &["core", "m", "l"],
-    &["core", "m", "l", "t", "--better", "1"],
+    &["core", "m", "l", "t", "--better"],
     &["starve", "m", "0", "1", "f"],
     &["starve", "m", "1", "0", "f"],
     &["starve", "m", "4097", "1", "f"],

@@ -178,7 +178,7 @@ pub const UPGRADE: Row = RowOf {
     ],
 };
 
-/// `core MODEL LOG TRIMMED`: which constraints a refutation uses.
+/// `core MODEL LOG TRIMMED [--better N]`: which constraints a refutation uses.
 pub const CORE: Row = RowOf {
     line: LineName::Core,
     keyword: &["core"],
@@ -193,10 +193,17 @@ pub const CORE: Row = RowOf {
             },
         },
     ],
-    options: &[],
+    options: &[OptionOf {
+        word: "--better",
+        value: Some(PlaceOf {
+            shown: "N",
+            kind: KindOf::Signed,
+        }),
+    }],
     tells: &[
         "prints which constraints the refutation uses, as `c1`, and writes",
-        "the steps that it needs to TRIMMED",
+        "the steps that it needs to TRIMMED; with --better, of the model",
+        "with only the better values than N at what it aims at",
     ],
 };
 

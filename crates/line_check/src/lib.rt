@@ -8,6 +8,7 @@ mod laws;
 mod log_check;
 mod pieces;
 
+pub use asked::take_problem;
 pub use check::{Check, finding_line, finding_status, run_check};
 pub use laws::check_is_lawful;
 pub use log_check::Checked;

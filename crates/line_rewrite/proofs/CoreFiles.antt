@@ -1,5 +1,5 @@
 -- What is held and told once a core was written.
-use Rattle.std.proofs.Common.{◌≡◌, ℕ, ◌≤◌, List, [], ◌∷◌, ◌++◌, length, Option, Some, None, Ok, sym, ap, subst, ◌∙◌, append-nil}
+use Rattle.std.proofs.Common.{◌≡◌, ℕ, ℤ, ◌≤◌, List, [], ◌∷◌, ◌++◌, length, Option, Some, None, Ok, sym, ap, subst, ◌∙◌, append-nil}
 use Rattle.std.specs.Prelude.{◌≢◌, IfSome}
 use Rattle.dcsp_defs.specs.Csp.{HasNoSolution}
 use Rattle.dcsp_defs.specs.declared.Step.{Step}
@@ -23,12 +23,13 @@ use Rattle.ngd_check.specs.Entries.{steps_of}
 use Rattle.ngd_rewrite.specs.declared.cores.Core.{Core}
 use Rattle.ngd_rewrite.specs.Cores.{limited}
 use Rattle.ngd_rewrite.specs.Needed.{IsTrimmed}
-use Rattle.abt_input.specs.Inputs.{most_log, IsModelOf}
+use Rattle.abt_input.specs.Inputs.{most_log}
 use Rattle.abt_input.specs.Inputs as inputs
-use Rattle.abt_input.proofs.Once.{one_problem}
 use Rattle.line_check.specs.Checks.{HasEntries}
-use Rattle.line_check.specs.Verifying.{IsVerified}
-use Rattle.line_check.proofs.Verifying.{refutation_verified}
+use Rattle.line_check.specs.Taking.{taking_of}
+use Rattle.line_check.specs.Verifying.{IsVerifiedBy}
+use Rattle.line_check.proofs.Taken.{settled}
+use Rattle.line_check.proofs.Verifying.{refutation_verified_by}
 use Rattle.line_check.specs.declared.log_check.Checked.{Checked}
 use Rattle.line_check.specs.LogChecks.{IsKeptFor}
 use Rattle.abt_promise.specs.Promises.{IsHeld}
@@ -42,16 +43,16 @@ use Rattle.line_rewrite.proofs.Refuting.{steps_refute, log_writable, is_core}
 -- ---- what was found
 
 -- the bytes under the names, where the folder tells them, with what is found of them
-pub record IsFoundIn (files : Option (List ℕ → Option (List ℕ))) (m l : List ℕ) (p : Contents) (checked : Checked) : Type 0 where
+pub record IsFoundIn (better : Option ℤ) (files : Option (List ℕ → Option (List ℕ))) (m l : List ℕ) (p : Contents) (checked : Checked) : Type 0 where
   model : List ℕ
   log : List ℕ
   model_held : IsHeld files m model
   log_held : IsHeld files l log
-  model_is : IsModelOf model p
+  model_is : (taking_of better).Is model p
   log_is : IsKeptFor p log checked
 
-pub found_in : (files mid : Option (List ℕ → Option (List ℕ))) (m l : List ℕ) (p : Contents) (checked : Checked) → mid ≡ files → (model : List ℕ) × IsHeld files m model × IsModelOf model p → (log : List ℕ) × IsHeld mid l log × IsKeptFor p log checked → IsFoundIn files m l p checked
-found_in files mid m l p checked same h k = record { model = h.0; log = k.0; model_held = h.1; log_held = subst (λ f. IsHeld f l k.0) same k.1; model_is = h.2; log_is = k.2 }
+pub found_in : (better : Option ℤ) (files mid : Option (List ℕ → Option (List ℕ))) (m l : List ℕ) (p : Contents) (checked : Checked) → mid ≡ files → (model : List ℕ) × IsHeld files m model × (taking_of better).Is model p → (log : List ℕ) × IsHeld mid l log × IsKeptFor p log checked → IsFoundIn better files m l p checked
+found_in better files mid m l p checked same h k = record { model = h.0; log = k.0; model_held = h.1; log_held = subst (λ f. IsHeld f l k.0) same k.1; model_is = h.2; log_is = k.2 }
 
 module _ (p : Contents) (log : List ℕ) (checked : Checked) (k : IsKeptFor p log checked) where
   -- the steps of a log that is verified are a refutation
@@ -100,36 +101,36 @@ told_put name lines text (Some before) (Some now) t = t ∙ ap (λ (x : List ℕ
 -- ---- what it means
 
 -- the model is as it was, and the trimmed log refutes its problem
-check_verifies : (m l t : List ℕ) (p : Contents) (checked : Checked) (core : Core) (files now : Option (List ℕ → Option (List ℕ))) → IsFoundIn files m l p checked → IsCore p checked.steps core → Told files now (WritesTrimmed core t) → m ≢ t → IfSome now (λ after. IsVerified after m t)
-check_verifies m l t p checked core None None h is told unlike = tt
-check_verifies m l t p checked core None (Some after) h is told unlike = absurd told
-check_verifies m l t p checked core (Some files) None h is told unlike = tt
-check_verifies m l t p checked core (Some files) (Some after) h is told unlike =
-    refutation_verified after m t p core.steps
-    (subst (λ (x : List ℕ). IsModelOf x p) (h.model_held ∙ ap bytes_of (sym (told.others m unlike))) h.model_is)
+check_verifies : (better : Option ℤ) (m l t : List ℕ) (p : Contents) (checked : Checked) (core : Core) (files now : Option (List ℕ → Option (List ℕ))) → IsFoundIn better files m l p checked → IsCore p checked.steps core → Told files now (WritesTrimmed core t) → m ≢ t → IfSome now (λ after. IsVerifiedBy (taking_of better) after m t)
+check_verifies better m l t p checked core None None h is told unlike = tt
+check_verifies better m l t p checked core None (Some after) h is told unlike = absurd told
+check_verifies better m l t p checked core (Some files) None h is told unlike = tt
+check_verifies better m l t p checked core (Some files) (Some after) h is told unlike =
+    refutation_verified_by better after m t p core.steps
+    (subst (λ (x : List ℕ). (taking_of better).Is x p) (h.model_held ∙ ap bytes_of (sym (told.others m unlike))) h.model_is)
     (subst (λ (x : Option (List ℕ)). inputs.IsTextOf (bytes_of x) core.steps) (sym told.written) is.log)
     is.refutes
 
 -- what was done for what was found was done for the model and the log under the names
-told_core : (files : Option (List ℕ → Option (List ℕ))) (m l t : List ℕ) (p : Contents) (checked : Checked) (old new : World) → IsFoundIn files m l p checked → HasTrimmed p checked.steps m t old new
-    → IfSome files (λ g. (problem : Contents) (entries : List Entry) → IsModelOf (bytes_of (g m)) problem → HasEntries (bytes_of (g l)) entries → HasTrimmed problem (steps_of entries) m t old new)
-told_core None m l t p checked old new h has = tt
-told_core (Some g) m l t p checked old new h has = λ problem entries is_model is_log.
+told_core : (better : Option ℤ) (files : Option (List ℕ → Option (List ℕ))) (m l t : List ℕ) (p : Contents) (checked : Checked) (old new : World) → IsFoundIn better files m l p checked → HasTrimmed (taking_of better) p checked.steps m t old new
+    → IfSome files (λ g. (problem : Contents) (entries : List Entry) → (taking_of better).Is (bytes_of (g m)) problem → HasEntries (bytes_of (g l)) entries → HasTrimmed (taking_of better) problem (steps_of entries) m t old new)
+told_core better None m l t p checked old new h has = tt
+told_core better (Some g) m l t p checked old new h has = λ problem entries is_model is_log.
     let k = h.log_is in
-    let problems : p ≡ problem = one_problem (bytes_of (g m)) p problem (subst (λ (x : List ℕ). IsModelOf x p) h.model_held h.model_is) is_model in
+    let problems : p ≡ problem = (settled better).one (bytes_of (g m)) p problem (subst (λ (x : List ℕ). (taking_of better).Is x p) h.model_held h.model_is) is_model in
     let lists : k.entries ≡ entries = (entries_or_bad_line (bytes_of (g l))).one_list k.entries entries (subst (λ (x : List ℕ). IsLogOfEntries x k.entries) h.log_held k.log_is.reads) is_log.reads in
-    subst (λ (x : Contents). HasTrimmed x (steps_of entries) m t old new) problems (subst (λ (s : List Step). HasTrimmed p s m t old new) (k.steps ∙ ap steps_of lists) has)
+    subst (λ (x : Contents). HasTrimmed (taking_of better) x (steps_of entries) m t old new) problems (subst (λ (s : List Step). HasTrimmed (taking_of better) p s m t old new) (k.steps ∙ ap steps_of lists) has)
 
-module _ (m l t : List ℕ) (a b : Place) (out : Stream) (held : b.held ≡ a.held) (p : Contents) (checked : Checked) (core : Core) where
-  pub holds_core : {T : Type 0} (x : T) (w : World) → IsFoundIn a.held m l p checked → IsCoreOf checked.steps core → IsRefutation (csp_of p) core.steps → HasNoSolution (limited (csp_of p) core.rules) → Wrote (core_script t p checked.steps core) (outside b out) w (Ok x) → HoldsCore m l t (outside a out) w
+module _ (better : Option ℤ) (m l t : List ℕ) (a b : Place) (out : Stream) (held : b.held ≡ a.held) (p : Contents) (checked : Checked) (core : Core) where
+  pub holds_core : {T : Type 0} (x : T) (w : World) → IsFoundIn better a.held m l p checked → IsCoreOf checked.steps core → IsRefutation (csp_of p) core.steps → HasNoSolution (limited (csp_of p) core.rules) → Wrote (core_script t p checked.steps core) (outside b out) w (Ok x) → HoldsCore (taking_of better) m l t (outside a out) w
   holds_core x w h is refutes none wrote =
       let done = wrote.ended.after in
       let core_is = is_core p checked.steps core (found_writable p h.log checked h.log_is) (found_short p h.log checked h.log_is core.steps is.trimmed) is refutes none in
       let files_are = told_trimmed t p checked.steps core a.held w.folder.held (subst (λ (x : Option (List ℕ → Option (List ℕ))). Told x w.folder.held (FilesAfter (core_script t p checked.steps core))) held done.files) in
-      told_core a.held m l t p checked (outside a out) w h (record {
+      told_core better a.held m l t p checked (outside a out) w h (record {
         core = core;
         is = core_is;
         files = files_are;
-        checks = check_verifies m l t p checked core a.held w.folder.held h core_is files_are;
+        checks = check_verifies better m l t p checked core a.held w.folder.held h core_is files_are;
         told = told_put t (log_lines core.steps) (core_text (length p.rules) (length checked.steps) core) out.written w.out.written done.out;
       })

@@ -1,5 +1,5 @@
 -- The plan of `core` is sound, and so its promise is lawful.
-use Rattle.std.proofs.Common.{◌≡◌, ◌↔◌, ℕ, Bool, true, false, List, [], ◌∷◌, length, refl}
+use Rattle.std.proofs.Common.{◌≡◌, ◌↔◌, ℕ, ℤ, Option, Bool, true, false, List, [], ◌∷◌, length, refl}
 use Rattle.std.specs.Prelude.{◌≢◌}
 use Rattle.dcsp_defs.specs.declared.Step.{Step}
 use Rattle.dcsp_rule.specs.Problems.{Contents}
@@ -12,13 +12,13 @@ use Rattle.abt_promise.specs.declared.status.Status.TheVariants.{Good, No}
 use Rattle.abt_promise.specs.Runs.{Way}
 use Rattle.abt_promise.specs.Clauses.{IsLawful}
 use Rattle.abt_input.specs.Plans.{Find, Answer, IsSoundPlan}
-use Rattle.abt_input.proofs.ExactKinds.{model_exact}
 use Rattle.abt_input.proofs.Keeping.{Keeps}
 use Rattle.abt_input.proofs.OwnWrites.{own_none, own_put}
 use Rattle.abt_input.proofs.PlanLaws.{plan_lawful}
 use Rattle.line_check.specs.Checks.{finding_status}
 use Rattle.line_check.specs.CheckReports.{finding_plan}
-use Rattle.line_check.proofs.Lawful.{kept_exact}
+use Rattle.line_check.specs.Taking.{taking_of}
+use Rattle.line_check.proofs.Lawful.{model_exact, kept_exact}
 use Rattle.line_rewrite.specs.CorePromise.{core_text, core_script, IsCoreOf, trimming_plan, core_plan, core_promise}
 use Rattle.line_rewrite.proofs.Lawful.{file_own}
 use Rattle.line_rewrite.proofs.OneCore.{one_core}
@@ -55,8 +55,8 @@ rejected_status NotEmpty n = refl
 pub rejected : {P : Type 0} (b : Bool) → b ≡ false → (b ≡ true) ↔ P → P → ⊥
 rejected b e is p = let no = is.1 p in cc
 
-pub core_sound : (model log trimmed : List ℕ) → IsSoundPlan (model ∷ log ∷ []) (trimmed ∷ []) (core_plan trimmed)
-core_sound model log trimmed = (model_exact, λ problem. (kept_exact problem, λ checked. trimming_sound trimmed problem checked.steps checked.finding))
+pub core_sound : (better : Option ℤ) (model log trimmed : List ℕ) → IsSoundPlan (model ∷ log ∷ []) (trimmed ∷ []) (core_plan (taking_of better) trimmed)
+core_sound better model log trimmed = (model_exact better, λ problem. (kept_exact problem, λ checked. trimming_sound trimmed problem checked.steps checked.finding))
 
-pub core_lawful : (model log trimmed : List ℕ) → IsLawful (core_promise model log trimmed)
-core_lawful model log trimmed = plan_lawful (core_plan trimmed) (core_sound model log trimmed)
+pub core_lawful : (better : Option ℤ) (model log trimmed : List ℕ) → IsLawful (core_promise (taking_of better) model log trimmed)
+core_lawful better model log trimmed = plan_lawful (core_plan (taking_of better) trimmed) (core_sound better model log trimmed)

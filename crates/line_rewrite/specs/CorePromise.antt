@@ -1,4 +1,4 @@
--- What `core MODEL LOG TRIMMED` promises.
+-- What `core MODEL LOG TRIMMED [--better N]` promises.
 use Rattle.std.specs.Prelude.{◌≡◌, ◌↔◌, ℕ, ◌+◌, true, List, [], ◌∷◌, ◌++◌, flat_map, length, codes, decimal}
 use Rattle.dcsp_defs.specs.declared.Step.{Step}
 use Rattle.dcsp_defs.specs.Words.{In, IsRising}
@@ -11,8 +11,8 @@ use Rattle.ngd_rewrite.specs.declared.cores.Core.{Core}
 use Rattle.ngd_rewrite.specs.Needed.{is_cited, IsTrimmed}
 use Rattle.abt_promise.specs.declared.status.Status.TheVariants.{Good}
 use Rattle.abt_promise.specs.Promises.{Promise}
-use Rattle.abt_input.specs.Kinds.{a_model}
 use Rattle.abt_input.specs.Plans.{Plan, Answer, Read, Find, promise_by}
+use Rattle.line_check.specs.Taking.{Taking, model_by}
 use Rattle.line_check.specs.LogChecks.{kept_log}
 use Rattle.line_check.specs.CheckReports.{finding_plan}
 use Rattle.line_rewrite.specs.UpgradePromise.{file_script}
@@ -51,9 +51,9 @@ trimming_plan trimmed problem steps (BadDeletion after) = finding_plan (BadDelet
 trimming_plan trimmed problem steps NotEmpty = finding_plan NotEmpty
 
 -- the model is read, and then the log, as `check` reads them
-abbrev pub core_plan : List ℕ → Plan
-core_plan trimmed = Read a_model (λ problem. Read (kept_log problem) (λ checked. trimming_plan trimmed problem checked.steps checked.finding))
+abbrev pub core_plan : Taking → List ℕ → Plan
+core_plan t trimmed = Read (model_by t) (λ problem. Read (kept_log problem) (λ checked. trimming_plan trimmed problem checked.steps checked.finding))
 
 -- the line's promise
-abbrev pub core_promise : List ℕ → List ℕ → List ℕ → Promise
-core_promise model log trimmed = promise_by (model ∷ log ∷ []) (trimmed ∷ []) (core_plan trimmed)
+abbrev pub core_promise : Taking → List ℕ → List ℕ → List ℕ → Promise
+core_promise t model log trimmed = promise_by (model ∷ log ∷ []) (trimmed ∷ []) (core_plan t trimmed)

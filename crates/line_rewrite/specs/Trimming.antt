@@ -14,10 +14,10 @@ use Rattle.ngd_check.specs.Findings.{IsFindingOf}
 use Rattle.ngd_check.specs.Entries.{steps_of}
 use Rattle.ngd_rewrite.specs.declared.cores.Core.{Core}
 use Rattle.ngd_rewrite.specs.Cores.{limited}
-use Rattle.abt_input.specs.Inputs.{IsModelOf}
 use Rattle.abt_input.specs.Inputs as inputs
 use Rattle.line_check.specs.Checks.{HasEntries}
-use Rattle.line_check.specs.Verifying.{IsVerified}
+use Rattle.line_check.specs.Taking.{Taking}
+use Rattle.line_check.specs.Verifying.{IsVerifiedBy}
 use Rattle.line_rewrite.specs.CorePromise.{core_text, IsCoreOf}
 
 -- The core of a log's steps, which refute the problem.
@@ -36,20 +36,20 @@ pub record WritesTrimmed (core : Core) (trimmed_name : List ℕ) (files now : Li
   pub written : now trimmed_name ≡ Some (log_text core.steps)
   pub others : (name : List ℕ) → name ≢ trimmed_name → now name ≡ files name
 
--- The steps of a log that refutes the problem were trimmed, and their core was told.
-pub record HasTrimmed (problem : Contents) (steps : List Step) (model_name trimmed_name : List ℕ) (old new : World) : Type 0 where
+-- The steps of a log that refutes the problem, which is taken so, were trimmed, and their core was told.
+pub record HasTrimmed (t : Taking) (problem : Contents) (steps : List Step) (model_name trimmed_name : List ℕ) (old new : World) : Type 0 where
   pub core : Core
   pub is : IsCore problem steps core
   pub files : Told old.folder.held new.folder.held (WritesTrimmed core trimmed_name)
-  -- whatever `check` then leaves of the model and the trimmed log, it verified the log or was stopped
-  pub checks : model_name ≢ trimmed_name → IfSome new.folder.held (λ now. IsVerified now model_name trimmed_name)
+  -- whatever `check` then leaves of the model, taken so, and the trimmed log, it verified the log or was stopped
+  pub checks : model_name ≢ trimmed_name → IfSome new.folder.held (λ now. IsVerifiedBy t now model_name trimmed_name)
   -- the rules of the core, and how many rules and steps are kept
   pub told : Told old.out.written new.out.written (λ before now. now ≡ before ++ core_text (length problem.rules) (length steps) core)
 
--- Where the folder tells its files, the steps of the log were trimmed for the model's problem.
-abbrev pub HoldsCore : List ℕ → List ℕ → List ℕ → World → World → Type 0
-HoldsCore model_name log_name trimmed_name old new =
-    IfSome old.folder.held (λ files. (problem : Contents) (entries : List Entry) → IsModelOf (bytes_of (files model_name)) problem → HasEntries (bytes_of (files log_name)) entries → HasTrimmed problem (steps_of entries) model_name trimmed_name old new)
+-- Where the folder tells its files, the steps of the log were trimmed for the problem that is taken of the model.
+abbrev pub HoldsCore : Taking → List ℕ → List ℕ → List ℕ → World → World → Type 0
+HoldsCore t model_name log_name trimmed_name old new =
+    IfSome old.folder.held (λ files. (problem : Contents) (entries : List Entry) → t.Is (bytes_of (files model_name)) problem → HasEntries (bytes_of (files log_name)) entries → HasTrimmed t problem (steps_of entries) model_name trimmed_name old new)
 
 -- nothing was written under any name
 pub record CreatesNothing (old new : World) : Type 0 where

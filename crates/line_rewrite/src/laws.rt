@@ -1,10 +1,11 @@
 //! What the promise of `upgrade` keeps, and what it means.
 
-ghost use Rattle.std.specs.Prelude.{◌≡◌, ℕ, List};
+ghost use Rattle.std.specs.Prelude.{◌≡◌, ℕ, ℤ, List, Option};
 ghost use Rattle.dcsp_defs.specs.declared.Step.{Step as A_step};
 ghost use Rattle.dcsp_script.specs.Texts.{appended_by};
 ghost use Rattle.ngd_log.specs.Logs.{AreWritable};
 ghost use Rattle.abt_promise.specs.Clauses.{IsLawful};
+ghost use Rattle.line_check.specs.Taking.{taking_of};
 ghost use Rattle.line_rewrite.specs.CorePromise.{core_promise};
 ghost use Rattle.line_rewrite.specs.UpgradePromise.{upgrade_script, upgrade_promise};
 ghost use Rattle.line_rewrite.specs.Upgrading.{new_text, IsUpgradeOf};
@@ -23,5 +24,5 @@ pub fn new_is_upgraded()
 
 /// The promise of `core` keeps what every line of words keeps.
 pub fn core_is_lawful()
-    ensures { (model log trimmed : List ℕ) → IsLawful (core_promise model log trimmed) }
+    ensures { (better : Option ℤ) (model log trimmed : List ℕ) → IsLawful (core_promise (taking_of better) model log trimmed) }
 {}

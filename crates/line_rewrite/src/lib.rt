@@ -1,6 +1,6 @@
 //! The lines of words that make a log of another: `upgrade LOG NEW` writes a log of version 1 as one of version 2,
-//! in which each step is deleted after the last step that cites it; `core MODEL LOG TRIMMED` writes the steps that a
-//! refutation needs, and tells the rules that these cite.
+//! in which each step is deleted after the last step that cites it; `core MODEL LOG TRIMMED [--better N]` writes the
+//! steps that a refutation needs, and tells the rules that these cite.
 #![tactic(auto)]
 
 mod entries;

@@ -1,4 +1,4 @@
-//! The line `core MODEL LOG TRIMMED`.
+//! The line `core MODEL LOG TRIMMED [--better N]`.
 
 ghost use Rattle.std.specs.Prelude.{◌≡◌, ◌↔◌, ◌∷◌, ◌++◌, [], length, flat_map, true, IfOk, OnOk, Ok};
 ghost use Rattle.dcsp_outside.specs.Outside.{Place};
@@ -8,17 +8,18 @@ ghost use Rattle.ngd_log.specs.Logs.{AreWritable};
 ghost use Rattle.abt_promise.specs.Runs.{CameIn};
 ghost use Rattle.abt_input.specs.Errors.{way_of};
 ghost use Rattle.line_check.specs.Checks.{finding_text};
+ghost use Rattle.line_check.specs.Taking.{taking_of};
 ghost use Rattle.line_rewrite.specs.CorePromise.{rule_line, count_line, core_text, core_script, core_promise};
 ghost use Rattle.line_rewrite.specs.Trimming.{HoldsCore, CreatesNothing};
 
 use crate::steps::write_steps;
-use abt_input::{CommandError, read_model};
+use abt_input::CommandError;
 use abt_promise::Status;
 use dcsp_outside::{Folder, Sink};
 use dcsp_problem::Problem;
 use dcsp_script::{Stop, put};
 use itoa::Buffer;
-use line_check::{Checked, check_and_keep, finding_line};
+use line_check::{Checked, check_and_keep, finding_line, take_problem};
 use ngd_check::Finding;
 use ngd_rewrite::{Core, core_of};
 use std::alloc::{AllocError, Global};
@@ -32,6 +33,8 @@ pub struct CoreLine<'w> {
     pub log: &'w str,
     /// The name that the trimmed log is written under.
     pub trimmed: &'w str,
+    /// The value at the model's aim than which no solution is to have a better one, where one is given.
+    pub better: Option<i64>,
 }
 
 /// A model's problem, and what is found of a log for it.
@@ -43,7 +46,7 @@ struct Found {
     checked: Checked,
 }
 
-/// Checks the log against the model. Where it refutes the problem, the steps that its end needs are written under
+/// Checks the log against the problem that is taken of the model. Where it refutes the problem, the steps that its end needs are written under
 /// the new name, renumbered from 1, and the rules that these cite are told, with how many rules and steps are kept.
 /// Else the finding is told, and nothing is written. A refusal is that of the model or else of the log, as `check`
 /// has it; else an error is a fault or want of memory.
@@ -53,18 +56,18 @@ pub fn run_core<F: Folder, S: Sink>(
     line: CoreLine<'_>,
     out: &mut S,
 ) -> Result<Status, CommandError>
-    ensures came { CameIn (core_promise line.entry.model.now line.entry.log.now line.entry.trimmed.now)
+    ensures came { CameIn (core_promise (taking_of line.entry.better) line.entry.model.now line.entry.log.now line.entry.trimmed.now)
         (outside (F.place folder.old) (S.stream out.old))
         (outside (F.place folder.new) (S.stream out.new)) (way_of result) }
     ensures trims { result ≡ Ok Status.Good
-        → HoldsCore line.entry.model.now line.entry.log.now line.entry.trimmed.now
+        → HoldsCore (taking_of line.entry.better) line.entry.model.now line.entry.log.now line.entry.trimmed.now
         (outside (F.place folder.old) (S.stream out.old))
         (outside (F.place folder.new) (S.stream out.new)) }
     ensures rejects { result ≡ Ok Status.No
         → CreatesNothing (outside (F.place folder.old) (S.stream out.old))
         (outside (F.place folder.new) (S.stream out.new)) }
 {
-    let problem = read_model(alloc, folder, line.model)?;
+    let problem = take_problem(alloc, folder, line.model, line.better)?;
     let checked = check_and_keep(alloc, folder, &problem, line.log)?;
     let found = Found { problem, checked };
     if !is_verified(found.checked.finding) {

@@ -132,9 +132,14 @@ const PAIR_MODEL: &[u8] =
 const CHAIN_MODEL: &[u8] =
     b"var 0..1: x;\nvar 0..0: y;\nvar 0..0: z;\nconstraint int_ne(x,y);\nconstraint int_ne(y,z);\nsolve satisfy;\n";
 
-/// What comes of trimming a log.
+/// Two variables of which the first, the greater one, is to be least: it is 1.
+const LEAST_MODEL: &[u8] =
+    b"var 0..2: x;\nvar 1..2: y;\nconstraint int_le(y,x);\nsolve minimize x;\n";
+
+/// What comes of trimming a log, of the model with only better values than this where one is given.
 fn trimmed(
     alloc: Global,
+    better: Option<i64>,
     folder: &mut MemoryFolder,
     out: &mut MemorySink,
 ) -> Result<Status, CommandError> {
@@ -142,23 +147,24 @@ fn trimmed(
         model: "a.fzn",
         log: "old.ngd",
         trimmed: "new.ngd",
+        better,
     };
     run_core(alloc, folder, line, out)
 }
 
-/// Trimming a log of the model comes to this status, with this new log and this on `out`.
+/// Trimming a log of the model comes to this, with this new log and this on `out`.
 fn expect_trimmed(
     rt: &impl Abort,
     alloc: Global,
-    (model, log): (&[u8], &[u8]),
-    status: Status,
+    (model, better, log): (&[u8], Option<i64>, &[u8]),
+    expected: Result<Status, CommandError>,
     new: Option<&[u8]>,
     told: &[u8],
 ) {
     let mut outside = Outside::with_file(rt, alloc, ("a.fzn", model), (0, 0));
     outside.folder.place("old.ngd", log).expect(rt, "memory");
-    let came = trimmed(alloc, &mut outside.folder, &mut outside.out);
-    assert!(rt; came == Ok(status));
+    let came = trimmed(alloc, better, &mut outside.folder, &mut outside.out);
+    assert!(rt; came == expected);
     outside.expect_file(rt, "new.ngd", new);
     outside.expect_told(rt, told);
     outside.end();
@@ -169,8 +175,8 @@ fn trims_logs(rt: HostRuntime) {
     let log = b"ngd 1\n1 v2 [v1=0] <- c1\n2 v3 [v2=0] <- c2\n3 v2 [] <- n2\nend\n";
     let new = b"ngd 1\n1 v3 [v2=0] <- c2\n2 v2 [] <- n1\nend\n";
     let told = b"c2\n% rules 1 of 2\n% steps 2 of 3\n";
-    let given: (&[u8], &[u8]) = (CHAIN_MODEL, log);
-    expect_trimmed(&rt, rt.alloc(), given, Status::Good, Some(new), told);
+    let given: (&[u8], Option<i64>, &[u8]) = (CHAIN_MODEL, None, log);
+    expect_trimmed(&rt, rt.alloc(), given, Ok(Status::Good), Some(new), told);
 }
 
 #[test]
@@ -178,8 +184,8 @@ fn trims_nothing_from_one_step(rt: HostRuntime) {
     let model = b"var 5..3: x;\nsolve satisfy;\n";
     let log = b"ngd 1\n1 v1 [] <-\nend\n";
     let told = b"% rules 0 of 0\n% steps 1 of 1\n";
-    let given: (&[u8], &[u8]) = (model, log);
-    expect_trimmed(&rt, rt.alloc(), given, Status::Good, Some(log), told);
+    let given: (&[u8], Option<i64>, &[u8]) = (model, None, log);
+    expect_trimmed(&rt, rt.alloc(), given, Ok(Status::Good), Some(log), told);
 }
 
 #[test]
@@ -187,14 +193,27 @@ fn trims_logs_with_deletions(rt: HostRuntime) {
     let log =
         b"ngd 2\n1 v2 [v1=0] <- c1 c2\n2 v2 [v1=0] <- c1 c2\nd 1\n3 v2 [v1=1] <- c2 c1\n4 v1 [] <- n2 n3\nend\n";
     let told = b"c1\nc2\n% rules 2 of 2\n% steps 3 of 4\n";
-    let given: (&[u8], &[u8]) = (PAIR_MODEL, log);
-    expect_trimmed(&rt, rt.alloc(), given, Status::Good, Some(PAIR), told);
+    let given: (&[u8], Option<i64>, &[u8]) = (PAIR_MODEL, None, log);
+    expect_trimmed(&rt, rt.alloc(), given, Ok(Status::Good), Some(PAIR), told);
 }
 
 #[test]
 fn rejects_logs(rt: HostRuntime) {
     let log = b"ngd 1\n1 v2 [v1=0] <- c1 c2\n2 v2 [v1=1] <- c2 c1\nend\n";
-    let given: (&[u8], &[u8]) = (PAIR_MODEL, log);
+    let given: (&[u8], Option<i64>, &[u8]) = (PAIR_MODEL, None, log);
     let told = b"rejected not empty\n";
-    expect_trimmed(&rt, rt.alloc(), given, Status::No, None, told);
+    expect_trimmed(&rt, rt.alloc(), given, Ok(Status::No), None, told);
+}
+
+#[test]
+fn trims_logs_of_better_values(rt: HostRuntime) {
+    let log = b"ngd 1\n1 v2 [v1=0] <- c1 c1\n2 v1 [] <- n1\nend\n";
+    let told = b"c1\n% rules 1 of 1\n% steps 2 of 2\n";
+    let given: (&[u8], Option<i64>, &[u8]) = (LEAST_MODEL, Some(1), log);
+    expect_trimmed(&rt, rt.alloc(), given, Ok(Status::Good), Some(log), told);
+    let given: (&[u8], Option<i64>, &[u8]) = (LEAST_MODEL, Some(2), log);
+    let told = b"rejected step 2\n";
+    expect_trimmed(&rt, rt.alloc(), given, Ok(Status::No), None, told);
+    let given: (&[u8], Option<i64>, &[u8]) = (PAIR_MODEL, Some(1), PAIR);
+    expect_trimmed(&rt, rt.alloc(), given, Err(CommandError::NoAim), None, b"");
 }

@@ -8,15 +8,15 @@ use Rattle.rup_check.specs.Propagation.{Conflicts, IsFalsified}
 use Rattle.rup_check.specs.Assignments.{flipped, Has, IsAssignment, IsSound}
 use Rattle.rup_check.specs.Looks.{IsOpen, IsUnit, OthersFalse}
 use Rattle.rup_check.specs.Sets.{KeepsSound, HasFalse}
-use Rattle.rup_check.specs.Watches.{IsPairOf, IsState, IsKept, HasOneOf, IsEntry, IsEnded, IsRest, IsRoot, AreListed, Extends, no_pair}
+use Rattle.rup_check.specs.Watches.{IsPairOf, IsState, IsKept, NeedsNoWatch, IsCovered, IsCoveredBySome, Covers, IsEntry, IsEnded, IsRest, IsRoot, AreListed, Extends, no_pair}
 use Rattle.rup_check.specs.declared.watches.Pair.{Pair}
 use Rattle.rup_check.proofs.WatchLaws.{ListsGrow, grown, pushed, grown_cases}
 use Rattle.rup_check.proofs.MarkLaws.{unit_sound, has_kept}
-use Rattle.rup_check.proofs.StateLaws.{marked_more, settled_down}
+use Rattle.rup_check.proofs.StateLaws.{covered_on, marked_more, settled_down}
 use Rattle.rup_check.proofs.RunLaws.{contains_front}
 use Rattle.rup_check.proofs.PropagationLaws.{forced_grow, conflicts_grow}
 
-module _ (formula : List (List ℕ)) (pairs : List Pair) (lists lists' : List (List ℕ)) (units units' base : List ℕ) (marks : List Bool) (done : List ℕ) (clause : List ℕ) (p : Pair) (s : IsState formula pairs lists units base marks done) (sized : length lists' ≡ length lists) (lists_grow : ListsGrow lists lists') (units_grow : (x : ℕ) → Contains units x → Contains units' x) (entries' : (x k : ℕ) → Contains (get_or lists' x []) k → Contains (get_or lists x []) k ⊎ ((k ≡ length formula) × IsPairOf clause p)) (here : IsKept lists' base marks done clause p (length formula) ⊎ HasOneOf units' clause) where
+module _ (formula : List (List ℕ)) (pairs : List Pair) (lists lists' : List (List ℕ)) (units units' base : List ℕ) (marks : List Bool) (done : List ℕ) (clause : List ℕ) (p : Pair) (s : IsState formula pairs lists units base marks done) (sized : length lists' ≡ length lists) (lists_grow : ListsGrow lists lists') (units_grow : (x : ℕ) → Contains units x → Contains units' x) (entries' : (x k : ℕ) → Contains (get_or lists' x []) k → Contains (get_or lists x []) k ⊎ ((k ≡ length formula) × IsPairOf clause p)) (here : IsKept lists' base marks done clause p (length formula) ⊎ NeedsNoWatch formula units' clause (length formula)) where
   old_clause : (k : ℕ) → k < length formula → get_or (formula ++ clause ∷ []) k [] ≡ get_or formula k []
   old_clause k l = get_or_append_left formula (clause ∷ []) [] k l
 
@@ -53,11 +53,22 @@ module _ (formula : List (List ℕ)) (pairs : List Pair) (lists lists' : List (L
     rooted = t.rooted;
   }
 
-  short_on : (c : List ℕ) → HasOneOf units c → HasOneOf units' c
-  short_on c (x, u, m) = (x, units_grow x u, m)
+  covered_more : (c : List ℕ) (k : ℕ) → k ≤ length formula → IsCovered formula units' c k → IsCovered (formula ++ clause ∷ []) units' c k
+  covered_more c k l t = record { by = t.by; earlier = t.earlier; covers = (let e = t.earlier in subst (λ z. Covers units' z c) (sym (old_clause t.by (omega arith))) t.covers) }
+
+  short_here : (c : List ℕ) (k : ℕ) → k ≤ length formula → NeedsNoWatch formula units' c k → NeedsNoWatch (formula ++ clause ∷ []) units' c k
+  short_here c k l (inl h) = inl h
+  short_here c k l (inr t) = inr (covered_more c k l t)
+
+  short_on : (c : List ℕ) (k : ℕ) → k ≤ length formula → NeedsNoWatch formula units c k → NeedsNoWatch (formula ++ clause ∷ []) units' c k
+  short_on c k l (inl (x, u, m)) = inl (x, units_grow x u, m)
+  short_on c k l (inr t) = inr (covered_more c k l (covered_on formula units units' c k units_grow t))
 
   abbrev Tended : List ℕ → Pair → ℕ → Type 0
-  Tended c q k = IsKept lists' base marks done c q k ⊎ HasOneOf units' c
+  Tended c q k = IsKept lists' base marks done c q k ⊎ NeedsNoWatch (formula ++ clause ∷ []) units' c k
+
+  tended_here : Tended clause p (length formula)
+  tended_here = elim here [ inl t ↦ inl t | inr t ↦ inr (short_here clause (length formula) (omega arith) t) ]
 
   pub state_grown : IsState (formula ++ clause ∷ []) (pairs ++ p ∷ []) lists' units' base marks done
   state_grown = record {
@@ -67,10 +78,10 @@ module _ (formula : List (List ℕ)) (pairs : List Pair) (lists lists' : List (L
     done_marked = s.done_marked;
     base_marked = s.base_marked;
     clauses = λ k l. (elim (cases_eq k (length formula)) [
-      | inl f ↦ subst (λ z. Tended (get_or (formula ++ clause ∷ []) z []) (get_or (pairs ++ p ∷ []) z no_pair) z) (sym f) (subst (λ z. Tended z (get_or (pairs ++ p ∷ []) (length formula) no_pair) (length formula)) (sym new_clause) (subst (λ z. Tended clause z (length formula)) (sym new_pair) here))
+      | inl f ↦ subst (λ z. Tended (get_or (formula ++ clause ∷ []) z []) (get_or (pairs ++ p ∷ []) z no_pair) z) (sym f) (subst (λ z. Tended z (get_or (pairs ++ p ∷ []) (length formula) no_pair) (length formula)) (sym new_clause) (subst (λ z. Tended clause z (length formula)) (sym new_pair) tended_here))
       | inr n ↦ (let m : k < length formula = omega (arith, longer) in subst (λ z. Tended z (get_or (pairs ++ p ∷ []) k no_pair) k) (sym (old_clause k m)) (subst (λ z. Tended (get_or formula k []) z k) (sym (old_pair k m)) (elim (s.clauses k m) [
         | inl t ↦ inl (kept_on k t)
-        | inr t ↦ inr (short_on (get_or formula k []) t)
+        | inr t ↦ inr (short_on (get_or formula k []) k (omega arith) t)
       ])))
     ]);
   }
@@ -103,7 +114,11 @@ module _ (formula more : List (List ℕ)) (pairs pairs' : List Pair) (lists : Li
 
   pub rest_true : pairs' ≡ pairs ++ no_pair ∷ [] → (x : ℕ) → Contains clause x → Has marks x → IsRest more pairs' lists marks trail
   rest_true e x m h =
-      rest_by no_pair lists e (state_grown formula pairs lists lists trail trail trail marks trail clause no_pair r.state refl (lists_same lists) (λ y g. g) (λ y k g. inl g) (inr (x, r.assigned.listed x h, m)))
+      rest_by no_pair lists e (state_grown formula pairs lists lists trail trail trail marks trail clause no_pair r.state refl (lists_same lists) (λ y g. g) (λ y k g. inl g) (inr (inl (x, r.assigned.listed x h, m))))
+
+  pub rest_covered : pairs' ≡ pairs ++ no_pair ∷ [] → IsCoveredBySome formula trail clause → IsRest more pairs' lists marks trail
+  rest_covered e t =
+      rest_by no_pair lists e (state_grown formula pairs lists lists trail trail trail marks trail clause no_pair r.state refl (lists_same lists) (λ y g. g) (λ y k g. inl g) (inr (inr t)))
 
   pub root_false : IsFalsified flipped (Has marks) clause → Conflicts flipped more []
   root_false f =
@@ -149,7 +164,7 @@ module _ (formula more : List (List ℕ)) (pairs pairs' : List Pair) (lists : Li
     unit_state =
         subst (λ z. IsState z pairs' lists trail' trail marks' trail) (sym more_is) (subst (λ z. IsState (formula ++ clause ∷ []) z lists trail' trail marks' trail) (sym e)
         (marked_more (formula ++ clause ∷ []) (pairs ++ no_pair ∷ []) lists trail' trail marks marks' trail
-        (state_grown formula pairs lists lists trail trail' trail marks trail clause no_pair r.state refl (lists_same lists) (λ y g. subst (λ z. Contains z y) (sym trail_is) (Contains-append_left trail (x ∷ []) y g)) (λ y k g. inl g) (inr (x, subst (λ z. Contains z x) (sym trail_is) (Contains-push trail x), u.here.among)))
+        (state_grown formula pairs lists lists trail trail' trail marks trail clause no_pair r.state refl (lists_same lists) (λ y g. subst (λ z. Contains z y) (sym trail_is) (Contains-append_left trail (x ∷ []) y g)) (λ y k g. inl g) (inr (inl (x, subst (λ z. Contains z x) (sym trail_is) (Contains-push trail x), u.here.among))))
         (λ y g. subst (λ z. Has z y) (sym marks_are) (has_kept marks x y in_marks g))))
 
     pub unit_root_sound : IsSound more [] marks'
@@ -165,6 +180,12 @@ module _ (formula more : List (List ℕ)) (pairs pairs' : List Pair) (lists : Li
       sound = keeps [] unit_root_sound;
       state = settled_down more pairs'' lists' trail' trail marks'' trail'' a (λ y h. contains_front trail' trail'' y extends h) s;
     }
+
+-- a clause that another covers
+pub root_covered : (formula more : List (List ℕ)) (pairs pairs' : List Pair) (lists lists' : List (List ℕ)) (marks : List Bool) (trail clause : List ℕ) (b : Bool) → more ≡ formula ++ clause ∷ [] → IsRoot formula pairs lists marks trail b → pairs' ≡ pairs ++ no_pair ∷ [] → lists' ≡ lists → IsCoveredBySome formula trail clause → IsRoot more pairs' lists' marks trail b
+root_covered formula more pairs pairs' lists lists' marks trail clause true m r e l t = still_refuted formula more clause m r
+root_covered formula more pairs pairs' lists lists' marks trail clause false m r e l t =
+    subst (λ z. IsRest more pairs' z marks trail) (sym l) (rest_covered formula more pairs pairs' lists marks trail clause m r e t)
 
 -- ---- what a clause is
 

@@ -15,3 +15,4 @@ pub mod NumberLaws
 pub mod ReadingLaws
 pub mod ProofLaws
 pub mod TotalLaws
+pub mod FoundLaws

@@ -4,11 +4,11 @@ use Rattle.std.specs.List.{Contains, All, count_by, sum_by}
 use Rattle.std.proofs.lemmas.List.{get_or_default, get_or-set_other, get_or-set_same, get_or_append_left, get_or_push, length-set}
 use Rattle.std.proofs.lemmas.List.Elements.{Contains-append_left, Contains-get_or, Contains-push, Contains-push_cases, All-push, All-contains}
 use Rattle.std.proofs.lemmas.List.Sums.{sum_by-set}
-use Rattle.std.proofs.lemmas.Bool.{cases_eq}
+use Rattle.std.proofs.lemmas.Bool.{cases_eq, cases_lt}
 use Rattle.rup_check.specs.Propagation.{IsFalsified, Forced, unit}
 use Rattle.rup_check.specs.Assignments.{flipped, Has, IsAssignment}
 use Rattle.rup_check.specs.Sets.{KeepsSound, IsFinished}
-use Rattle.rup_check.specs.Looks.{IsOpen, IsQuiet, IsUnit, OthersFalse}
+use Rattle.rup_check.specs.Looks.{IsOpen, IsQuiet, IsUnit, IsClosedBetween, OthersFalse}
 
 pub falsified_from_index : (marks : List Bool) (clause : List ℕ) → ((k : ℕ) → k < length clause → Has marks (flipped (get_or clause k 0))) → IsFalsified flipped (Has marks) clause
 falsified_from_index marks clause h y (k, l, e) = subst (λ w. Has marks (flipped w)) (get_or_default clause k 0 y l ∙ e) (h k l)
@@ -21,6 +21,13 @@ pub others_from_index : (marks : List Bool) (clause : List ℕ) (but : ℕ) → 
 others_from_index marks clause but h y (k, l, e) n =
     let same : get_or clause k 0 ≡ y = get_or_default clause k 0 y l ∙ e in
     subst (λ w. Has marks (flipped w)) same (h k l (λ z. n (sym same ∙ z)))
+
+-- the places before the middle, and those from there on
+pub others_from_parts : (marks : List Bool) (clause : List ℕ) (but middle : ℕ) → IsClosedBetween marks clause but 0 middle → IsClosedBetween marks clause but middle (length clause) → OthersFalse marks clause but
+others_from_parts marks clause but middle front back = others_from_index marks clause but (λ k l n. (elim (cases_lt k middle) [
+  | inl below ↦ front k (omega arith) below n
+  | inr above ↦ back k above l n
+]))
 
 false_of : (b : Bool) → (b ≡ true → ⊥) → b ≡ false
 false_of true n = absurd (n refl)

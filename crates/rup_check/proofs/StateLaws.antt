@@ -6,7 +6,7 @@ use Rattle.std.proofs.lemmas.List.{get_or-set_other, get_or-set_same, length-set
 use Rattle.std.proofs.lemmas.List.Elements.{Contains-push_cases}
 use Rattle.rup_check.specs.Assignments.{flipped, Has, IsAssignment}
 use Rattle.rup_check.specs.Sets.{Grows}
-use Rattle.rup_check.specs.Watches.{IsListed, IsSettled, IsSettledAt, IsRooted, IsWatch, IsEntry, IsState, no_pair}
+use Rattle.rup_check.specs.Watches.{IsListed, IsSettled, IsSettledAt, IsRooted, IsWatch, IsEntry, IsState, IsCovered, no_pair}
 use Rattle.rup_check.specs.declared.watches.Pair.{Pair}
 use Rattle.rup_check.proofs.PropagationLaws.{contains_nil}
 
@@ -94,6 +94,14 @@ module _ (formula : List (List ℕ)) (pairs : List Pair) (lists : List (List ℕ
   pub marked_more : Grows marks marks' → IsState formula pairs lists units base marks' done
   marked_more grows = with_done done (λ y h. grows y (s.base_marked y h)) (λ y h. grows y (s.done_marked y h)) (λ pair t r. record { first = λ h. grows pair.second (t.first h); second = λ h. grows pair.first (t.second h) })
 
+-- what is covered stays covered where there are more units
+pub covered_on : (formula : List (List ℕ)) (units units' clause : List ℕ) (k : ℕ) → ((y : ℕ) → Contains units y → Contains units' y) → IsCovered formula units clause k → IsCovered formula units' clause k
+covered_on formula units units' clause k more t = record {
+  by = t.by;
+  earlier = t.earlier;
+  covers = λ x m. (elim (t.covers x m) [ inl here ↦ inl here | inr u ↦ inr (more (flipped x) u) ]);
+}
+
 -- all that is marked is done
 pub settled_down : (formula : List (List ℕ)) (pairs : List Pair) (lists : List (List ℕ)) (units base : List ℕ) (marks : List Bool) (trail : List ℕ) → IsAssignment marks trail → ((y : ℕ) → Contains units y → Contains trail y) → IsState formula pairs lists units base marks trail → IsState formula pairs lists trail trail marks trail
 settled_down formula pairs lists units base marks trail a within s = record {
@@ -103,7 +111,8 @@ settled_down formula pairs lists units base marks trail a within s = record {
   done_marked = s.done_marked;
   base_marked = s.done_marked;
   clauses = λ k l. (elim (s.clauses k l) [
-    | inr (x, u, m) ↦ inr (x, within x u, m)
+    | inr (inl (x, u, m)) ↦ inr (inl (x, within x u, m))
+    | inr (inr t) ↦ inr (inr (covered_on formula units trail (get_or formula k []) k within t))
     | inl t ↦ inl record {
       pair_of = t.pair_of;
       first = t.first;

@@ -127,8 +127,8 @@ module _ (lists after : List (List ℕ)) (held held' pending rest : List ℕ) (q
   }
 
   -- the pair becomes the other and a literal that is not false
-  pub tended_moved : (clause : List ℕ) (pair : Pair) (other to : ℕ) → IsOther pair q other → IsOpen marks clause to → to ≢ other → to ≤ 8191 → ((y : ℕ) → Contains done y → Has marks y) → ((y : ℕ) → Contains base y → Has marks y) → Has marks (flipped q) → (Has marks q → ⊥) → Contains (get_or after to []) at → IsTended lists held pending q base marks done clause pair at → IsTended after held' rest q base marks' done clause (record { first = other; second = to }) at
-  tended_moved clause pair other to o open_ n to_small done_marked base_marked q_false q_absent there t =
+  pub tended_moved : (clause : List ℕ) (pair : Pair) (other to hint : ℕ) → IsOther pair q other → IsOpen marks clause to → to ≢ other → to ≤ 8191 → ((y : ℕ) → Contains done y → Has marks y) → ((y : ℕ) → Contains base y → Has marks y) → Has marks (flipped q) → (Has marks q → ⊥) → Contains (get_or after to []) at → IsTended lists held pending q base marks done clause pair at → IsTended after held' rest q base marks' done clause (record { first = other; second = to; at = hint }) at
+  tended_moved clause pair other to hint o open_ n to_small done_marked base_marked q_false q_absent there t =
       let f = other_facts clause pair other o t in
       record {
         pair_of = record { first = f.among; second = open_.among; apart = λ e. n (sym e); first_small = f.small; second_small = to_small };
@@ -192,14 +192,14 @@ module _ (formula : List (List ℕ)) (pairs : List Pair) (lists : List (List ℕ
       step_on pairs lists held marks' held_same lists_same grows refl refl (λ x j g. inl g) (λ k ne. refl) entry.pair_of (tended_stays lists lists held held (rest ++ at ∷ []) rest q marks marks' base done at refl held_same.others lists_same grows (get_or formula at []) (get_or pairs at no_pair) other o h (λ g. g))
 
   -- the clause goes to another list
-  pub step_moved : (held' : List ℕ) (other to : ℕ) → IsWithout held held' at → to ≤ 8191 → IsClean marks → Has marks (flipped q) → q ≤ 8191 → IsOther (get_or pairs at no_pair) q other → IsOpen marks (get_or formula at []) to → to ≢ other → IsWatch formula (set pairs at (record { first = other; second = to })) (set lists to (get_or lists to [] ++ at ∷ [])) units base held' rest q marks done
-  step_moved held' other to without small clean q_false q_small o open_ n =
+  pub step_moved : (held' : List ℕ) (other to hint : ℕ) → IsWithout held held' at → to ≤ 8191 → IsClean marks → Has marks (flipped q) → q ≤ 8191 → IsOther (get_or pairs at no_pair) q other → IsOpen marks (get_or formula at []) to → to ≢ other → IsWatch formula (set pairs at (record { first = other; second = to; at = hint })) (set lists to (get_or lists to [] ++ at ∷ [])) units base held' rest q marks done
+  step_moved held' other to hint without small clean q_false q_small o open_ n =
       let sized : length lists ≡ 8192 = w.sized in
       let l : to < length lists = omega arith in
       let counted : length pairs ≡ length formula = w.counted in
       let in_range : at < length formula = entry.in_range in
       let m : at < length pairs = omega arith in
-      let new : Pair = record { first = other; second = to } in
+      let new : Pair = record { first = other; second = to; at = hint } in
       let same : get_or (set pairs at new) at no_pair ≡ new = get_or-set_same pairs at new no_pair m in
       let other_of : Contains (get_or formula at []) other = (elim o [
         | inl s ↦ subst (λ z. Contains (get_or formula at []) z) (sym s.1) entry.pair_of.second
@@ -211,7 +211,7 @@ module _ (formula : List (List ℕ)) (pairs : List Pair) (lists : List (List ℕ
       ]) in
       step_on (set pairs at new) (set lists to (get_or lists to [] ++ at ∷ [])) held' marks without (grown lists to at l) (λ x h. h) (length-set pairs at new) (length-set lists to (get_or lists to [] ++ at ∷ [])) (λ x j g. grown_cases lists to at x j l g) (λ k ne. get_or-set_other pairs at k new no_pair ne)
       (subst (λ p. IsPairOf (get_or formula at []) p) (sym same) record { first = other_of; second = open_.among; apart = λ e. n (sym e); first_small = other_small; second_small = small })
-      (λ t. subst (λ p. IsTended (set lists to (get_or lists to [] ++ at ∷ [])) held' rest q base marks done (get_or formula at []) p at) (sym same) (tended_moved lists (set lists to (get_or lists to [] ++ at ∷ [])) held held' (rest ++ at ∷ []) rest q marks marks base done at refl without.others (grown lists to at l) (λ x h. h) (get_or formula at []) (get_or pairs at no_pair) other to o open_ n small w.done_marked w.base_marked q_false (λ h. clean q h q_false) (pushed lists to at l) t))
+      (λ t. subst (λ p. IsTended (set lists to (get_or lists to [] ++ at ∷ [])) held' rest q base marks done (get_or formula at []) p at) (sym same) (tended_moved lists (set lists to (get_or lists to [] ++ at ∷ [])) held held' (rest ++ at ∷ []) rest q marks marks base done at refl without.others (grown lists to at l) (λ x h. h) (get_or formula at []) (get_or pairs at no_pair) other to hint o open_ n small w.done_marked w.base_marked q_false (λ h. clean q h q_false) (pushed lists to at l) t))
 
 -- ---- the arms of a turn, over plain variables
 
@@ -224,13 +224,13 @@ module _ (formula : List (List ℕ)) (pairs : List Pair) (lists : List (List ℕ
   arm_stay (other, o, h) units base held rest done w =
       step_stays formula pairs lists units base held rest q marks done number entry w marks other (λ x g. g) (subst (λ p. IsOther p q other) pair_is o) h
 
-  pub arm_move : (pairs' : List Pair) (lists' : List (List ℕ)) (other to : ℕ) → pairs' ≡ set pairs number (record { first = other; second = to }) → lists' ≡ set lists to (get_or lists to [] ++ number ∷ []) → IsClean marks → Has marks (flipped q) → q ≤ 8191 → IsTurn marks (get_or formula number []) pair q (turn.Move other to) → IsTaken formula number q pairs lists marks pairs' lists' marks look.Leaves
-  arm_move pairs' lists' other to d e clean q_false small t units base held held' rest done without w =
-      subst (λ z. IsWatch formula z lists' units base held' rest q marks done) (sym d) (subst (λ z. IsWatch formula (set pairs number (record { first = other; second = to })) z units base held' rest q marks done) (sym e) (step_moved formula pairs lists units base held rest q marks done number entry w held' other to without t.3 clean q_false small (subst (λ p. IsOther p q other) pair_is t.0) t.1 t.2))
+  pub arm_move : (pairs' : List Pair) (lists' : List (List ℕ)) (other to hint : ℕ) → pairs' ≡ set pairs number (record { first = other; second = to; at = hint }) → lists' ≡ set lists to (get_or lists to [] ++ number ∷ []) → IsClean marks → Has marks (flipped q) → q ≤ 8191 → IsTurn marks (get_or formula number []) pair q (turn.Move other to hint) → IsTaken formula number q pairs lists marks pairs' lists' marks look.Leaves
+  arm_move pairs' lists' other to hint d e clean q_false small t units base held held' rest done without w =
+      subst (λ z. IsWatch formula z lists' units base held' rest q marks done) (sym d) (subst (λ z. IsWatch formula (set pairs number (record { first = other; second = to; at = hint })) z units base held' rest q marks done) (sym e) (step_moved formula pairs lists units base held rest q marks done number entry w held' other to hint without t.3 clean q_false small (subst (λ p. IsOther p q other) pair_is t.0) t.1 t.2))
 
   -- the list of q is not the one that the clause goes to
-  pub arm_out : (lists' : List (List ℕ)) (other to : ℕ) → lists' ≡ set lists to (get_or lists to [] ++ number ∷ []) → Has marks (flipped q) → IsTurn marks (get_or formula number []) pair q (turn.Move other to) → get_or lists' q [] ≡ get_or lists q []
-  arm_out lists' other to e q_false t =
+  pub arm_out : (lists' : List (List ℕ)) (other to hint : ℕ) → lists' ≡ set lists to (get_or lists to [] ++ number ∷ []) → Has marks (flipped q) → IsTurn marks (get_or formula number []) pair q (turn.Move other to hint) → get_or lists' q [] ≡ get_or lists q []
+  arm_out lists' other to hint e q_false t =
       ap (λ z. get_or z q []) e ∙ get_or-set_other lists to q (get_or lists to [] ++ number ∷ []) [] (λ f. t.1.open_ (subst (λ z. Has marks (flipped z)) f q_false))
 
   pub arm_force : (marks' : List Bool) (other : ℕ) → length marks ≡ 8192 → marks' ≡ set marks other true → IsTurn marks (get_or formula number []) pair q (turn.Force other) → IsTaken formula number q pairs lists marks pairs lists marks' look.Stays

@@ -10,3 +10,4 @@ pub mod Looks
 pub mod Sets
 pub mod Watches
 pub mod Kept
+pub mod Found

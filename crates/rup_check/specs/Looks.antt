@@ -1,5 +1,5 @@
 -- What the marks say of a clause.
-use Rattle.std.specs.Prelude.{◌≢◌, ◌≤◌, ℕ, List, ◌⊎◌, Bool, true, false}
+use Rattle.std.specs.Prelude.{◌≢◌, ◌<◌, ◌≤◌, ℕ, length, slice_index_or, List, ◌⊎◌, Bool, true, false}
 use Rattle.std.specs.List.{Contains}
 use Rattle.rup_check.specs.Assignments.{flipped, Has}
 
@@ -11,6 +11,16 @@ OthersFalse marks clause x = (y : ℕ) → Contains clause y → y ≢ x → Has
 pub record IsOpen (marks : List Bool) (clause : List ℕ) (x : ℕ) : Type 0 where
   pub among : Contains clause x
   pub open_ : Has marks (flipped x) → ⊥
+
+-- at this place is another literal, which is not false
+pub record IsOtherOpen (marks : List Bool) (clause : List ℕ) (but place : ℕ) : Type 0 where
+  pub within : place < length clause
+  pub other : slice_index_or clause place 0 ≢ but
+  pub here : IsOpen marks clause (slice_index_or clause place 0)
+
+-- each other literal at these places is false
+abbrev pub IsClosedBetween : List Bool → List ℕ → ℕ → ℕ → ℕ → Type 0
+IsClosedBetween marks clause but low high = (k : ℕ) → low ≤ k → k < high → slice_index_or clause k 0 ≢ but → Has marks (flipped (slice_index_or clause k 0))
 
 -- the clause has a true literal, or two that are not false
 abbrev pub IsQuiet : List Bool → List ℕ → Type 0

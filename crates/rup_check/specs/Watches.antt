@@ -39,6 +39,24 @@ pub record IsSettledAt (marks : List Bool) (q : ℕ) (pair : Pair) : Type 0 wher
 abbrev pub HasOneOf : List ℕ → List ℕ → Type 0
 HasOneOf units clause = (x : ℕ) × Contains units x × Contains clause x
 
+-- each literal of the first clause is one of the other, or its negation is among these
+abbrev pub Covers : List ℕ → List ℕ → List ℕ → Type 0
+Covers units clause other = (x : ℕ) → Contains clause x → Contains other x ⊎ Contains units (flipped x)
+
+-- a clause before number k covers this one, so it needs no watch
+pub record IsCovered (formula : List (List ℕ)) (units clause : List ℕ) (k : ℕ) : Type 0 where
+  pub by : ℕ
+  pub earlier : by < k
+  pub covers : Covers units (slice_index_or formula by []) clause
+
+-- clause number k is true by the units, or covered: it needs no watch
+abbrev pub NeedsNoWatch : List (List ℕ) → List ℕ → List ℕ → ℕ → Type 0
+NeedsNoWatch formula units clause k = HasOneOf units clause ⊎ IsCovered formula units clause k
+
+-- one of the clauses covers this one
+abbrev pub IsCoveredBySome : List (List ℕ) → List ℕ → List ℕ → Type 0
+IsCoveredBySome formula units clause = IsCovered formula units clause (length formula)
+
 -- where one of the pair is false by these literals, the other is among them
 pub record IsRooted (base : List ℕ) (pair : Pair) : Type 0 where
   pub first : Contains base (flipped pair.first) → Contains base pair.second
@@ -61,20 +79,20 @@ IsOther pair q other = ((pair.first ≡ q) × (other ≡ pair.second)) ⊎ ((pai
 abbrev pub IsTurn : List Bool → List ℕ → Pair → ℕ → Turn → Type 0
 IsTurn marks clause pair q turn.Drop = (pair.first ≢ q) × (pair.second ≢ q)
 IsTurn marks clause pair q turn.Stay = (other : ℕ) × IsOther pair q other × Has marks other
-IsTurn marks clause pair q (turn.Move other to) = IsOther pair q other × IsOpen marks clause to × (to ≢ other) × (to ≤ 8191)
+IsTurn marks clause pair q (turn.Move other to at) = IsOther pair q other × IsOpen marks clause to × (to ≢ other) × (to ≤ 8191)
 IsTurn marks clause pair q (turn.Force other) = IsOther pair q other × IsUnit marks clause other
 IsTurn marks clause pair q turn.Conflict = IsFalsified flipped (Has marks) clause
 
 -- a pair past the end
 abbrev pub no_pair : Pair
-no_pair = record { first = 0; second = 0 }
+no_pair = record { first = 0; second = 0; at = 0 }
 
 -- the number is of a clause with a pair
 pub record IsEntry (formula : List (List ℕ)) (pairs : List Pair) (number : ℕ) : Type 0 where
   pub in_range : number < length formula
   pub pair_of : IsPairOf (slice_index_or formula number []) (slice_index_or pairs number no_pair)
 
--- every clause is tended or has one of the units, while the list of q is looked at
+-- every clause is tended or needs no watch, while the list of q is looked at
 pub record IsWatch (formula : List (List ℕ)) (pairs : List Pair) (lists : List (List ℕ)) (units base : List ℕ) (held pending : List ℕ) (q : ℕ) (marks : List Bool) (done : List ℕ) : Type 0 where
   pub counted : length pairs ≡ length formula
   pub sized : length lists ≡ 8192
@@ -82,7 +100,7 @@ pub record IsWatch (formula : List (List ℕ)) (pairs : List Pair) (lists : List
   pub left : (k : ℕ) → Contains held k → IsEntry formula pairs k
   pub done_marked : (y : ℕ) → Contains done y → Has marks y
   pub base_marked : (y : ℕ) → Contains base y → Has marks y
-  pub clauses : (k : ℕ) → k < length formula → IsTended lists held pending q base marks done (slice_index_or formula k []) (slice_index_or pairs k no_pair) k ⊎ HasOneOf units (slice_index_or formula k [])
+  pub clauses : (k : ℕ) → k < length formula → IsTended lists held pending q base marks done (slice_index_or formula k []) (slice_index_or pairs k no_pair) k ⊎ NeedsNoWatch formula units (slice_index_or formula k []) k
 
 -- no literal is marked beside its negation
 abbrev pub IsClean : List Bool → Type 0
@@ -110,14 +128,14 @@ pub record IsKept (lists : List (List ℕ)) (base : List ℕ) (marks : List Bool
   pub settled : IsSettled marks done pair
   pub rooted : IsRooted base pair
 
--- every clause is kept or has one of the units, where the lists of the negations of what is done were looked at
+-- every clause is kept or needs no watch, where the lists of the negations of what is done were looked at
 pub record IsState (formula : List (List ℕ)) (pairs : List Pair) (lists : List (List ℕ)) (units base : List ℕ) (marks : List Bool) (done : List ℕ) : Type 0 where
   pub counted : length pairs ≡ length formula
   pub sized : length lists ≡ 8192
   pub entries : (x k : ℕ) → Contains (slice_index_or lists x []) k → IsEntry formula pairs k
   pub done_marked : (y : ℕ) → Contains done y → Has marks y
   pub base_marked : (y : ℕ) → Contains base y → Has marks y
-  pub clauses : (k : ℕ) → k < length formula → IsKept lists base marks done (slice_index_or formula k []) (slice_index_or pairs k no_pair) k ⊎ HasOneOf units (slice_index_or formula k [])
+  pub clauses : (k : ℕ) → k < length formula → IsKept lists base marks done (slice_index_or formula k []) (slice_index_or pairs k no_pair) k ⊎ NeedsNoWatch formula units (slice_index_or formula k []) k
 
 -- the state from which something was looked at is kept: false says that this is done now, true that a clause is false
 abbrev pub IsEnded : List (List ℕ) → List ℕ → List ℕ → List Pair → List (List ℕ) → List Bool → List ℕ → Bool → Type 0

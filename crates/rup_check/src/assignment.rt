@@ -4,7 +4,7 @@ ghost use Rattle.std.specs.List.{All};
 ghost use Rattle.rup_check.specs.Propagation.{IsFalsified};
 ghost use Rattle.rup_check.specs.Assignments.{flipped, Has, IsAssignment};
 ghost use Rattle.rup_check.specs.Sets.{IsBeginning, IsPut};
-ghost use Rattle.rup_check.specs.Looks.{IsOpen, OthersFalse, SaysTrue};
+ghost use Rattle.rup_check.specs.Looks.{IsOpen, IsOtherOpen, IsClosedBetween, OthersFalse, SaysTrue};
 ghost use Rattle.rup_check.specs.Watches.{IsClean, Extends};
 
 use crate::places::flipped;
@@ -127,6 +127,41 @@ pub(crate) fn other_open(marks: &[bool], clause: &[u16], but: u16) -> Option<u16
         }
     }
     None
+}
+
+/// The last place from `low` on and below `high` whose literal is not false, and is not this one.
+fn last_open(marks: &[bool], clause: &[u16], but: u16, low: usize, high: usize) -> Option<usize>
+    requires size { length marks.now ≡ 8192 }
+    requires small { All (λ x. x ≤ 8191) clause.now }
+    requires order { low ≤ high }
+    requires within { high ≤ length clause.now }
+    ensures { MatchOption result (IsClosedBetween marks.now clause.now but low high) (IsOtherOpen marks.now clause.now but) }
+{
+    let mut left = high;
+    while left > low {
+        left -= 1;
+        let literal = clause[left];
+        if literal != but && !marks[flipped(literal) as usize] {
+            return Some(left);
+        }
+    }
+    None
+}
+
+/// A place whose literal is not false, and is not this one. Places before `from` are looked at first, backwards, and
+/// then those at the end: where the search for a clause begins at the place that was found for it last, what was found
+/// false since then is not looked at again.
+#[tactic(auto, using(crate::proofs::MarkLaws::others_from_parts))]
+pub(crate) fn open_before(marks: &[bool], clause: &[u16], but: u16, from: usize) -> Option<usize>
+    requires size { length marks.now ≡ 8192 }
+    requires small { All (λ x. x ≤ 8191) clause.now }
+    ensures { MatchOption result (OthersFalse marks.now clause.now but) (IsOtherOpen marks.now clause.now but) }
+{
+    let middle = from.min(clause.len());
+    if let Some(place) = last_open(marks, clause, but, 0, middle) {
+        return Some(place);
+    }
+    last_open(marks, clause, but, middle, clause.len())
 }
 
 /// Puts the negations of the clause's literals into the set: whether it stopped at a literal that is in the set.

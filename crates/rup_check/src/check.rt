@@ -11,7 +11,7 @@ ghost use Rattle.rup_check.specs.declared.check.Rup.TheVariants.{Verified};
 use crate::assignment::Assignment;
 use crate::clauses::ClauseList;
 use crate::places::{Known, PlaceList};
-use crate::propagation::{add_clause, has_property};
+use crate::propagation::{add_clause, add_found, has_property};
 use crate::watches::Watches;
 use dcsp_common::Memory;
 use std::alloc::Global;
@@ -70,11 +70,12 @@ fn first_bad(
             count: first + number,
         };
         let clause = proof.clause(number);
-        let good = has_property(alloc, &known, clause, watches, assignment)?;
+        let found = has_property(alloc, &known, clause, watches, assignment)?;
+        let good = found.is_good();
         if !good {
             return Ok(Some(number));
         }
-        add_clause(alloc, &known, watches, assignment)?;
+        add_found(alloc, &known, found, watches, assignment)?;
     }
     Ok(None)
 }

@@ -6,9 +6,9 @@ ghost use Rattle.rup_check.specs.Assignments.{flipped, Has, IsAssignment};
 ghost use Rattle.rup_check.specs.Sets.{KeepsSound, Grows};
 ghost use Rattle.rup_check.specs.Watches.{IsTurn, IsPairOf, IsEntry, IsClean, Extends};
 
-use crate::assignment::{Assignment, other_open};
+use crate::assignment::{Assignment, open_before};
 use crate::places::{Known, flipped};
-use crate::watches::{Pair, Watches, push_to};
+use crate::watches::{Pair, Watches, hint_of, push_to};
 use dcsp_common::{ItemList, Memory};
 use std::alloc::Global;
 use std::mem;
@@ -20,8 +20,8 @@ pub enum Turn {
     Drop,
     /// The other watched literal is true.
     Stay,
-    /// It watches the other and this literal from now on.
-    Move { other: u16, to: u16 },
+    /// It watches the other and the literal at this place from now on.
+    Move { other: u16, to: u16, at: u16 },
     /// The other is forced.
     Force { other: u16 },
     /// Each literal is false.
@@ -57,8 +57,13 @@ fn turn_of(known: &Known, number: usize, pair: Pair, literal: u16, assignment: &
     if assignment.has(other) {
         return Turn::Stay;
     }
-    match other_open(&assignment.marks, known.clause(number), other) {
-        Some(to) => Turn::Move { other, to },
+    let clause = known.clause(number);
+    match open_before(&assignment.marks, clause, other, pair.at as usize) {
+        Some(place) => Turn::Move {
+            other,
+            to: clause[place],
+            at: hint_of(place),
+        },
         None => {
             if assignment.has(flipped(other)) {
                 Turn::Conflict
@@ -114,10 +119,11 @@ fn take_turn(
     match turn_of(known, clause, watches.pair(clause), literal, assignment) {
         Turn::Drop => Ok(Look::Leaves),
         Turn::Stay => Ok(Look::Stays),
-        Turn::Move { other, to } => {
+        Turn::Move { other, to, at } => {
             watches.pairs[clause] = Pair {
                 first: other,
                 second: to,
+                at,
             };
             push_to(&mut watches.lists, to, number)?;
             Ok(Look::Leaves)
@@ -126,7 +132,10 @@ fn take_turn(
             assignment.add(other)?;
             Ok(Look::Stays)
         }
-        Turn::Conflict => Ok(Look::IsFalse),
+        Turn::Conflict => {
+            watches.last = clause;
+            Ok(Look::IsFalse)
+        }
     }
 }
 

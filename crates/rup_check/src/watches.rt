@@ -12,6 +12,13 @@ use std::alloc::Global;
 pub struct Pair {
     pub first: u16,
     pub second: u16,
+    /// Where the search for the next one begins: a hint, which nothing rests on.
+    pub at: u16,
+}
+
+/// The hint at a place; one that is too far is the last.
+pub(crate) fn hint_of(place: usize) -> u16 {
+    place.min(u16::MAX as usize) as u16
 }
 
 /// What the assignment makes of a clause.
@@ -36,6 +43,8 @@ pub struct Watches {
     pub(crate) lists: Vec<ItemList<u32>>,
     /// Whether propagation from nothing has a conflict.
     pub(crate) refuted: bool,
+    /// The clause that was found false last: a hint, which nothing rests on.
+    pub(crate) last: usize,
 }
 
 impl Watches {
@@ -50,6 +59,7 @@ impl Watches {
             pairs: Vec::new(alloc),
             lists,
             refuted: false,
+            last: 0,
         })
     }
 
@@ -70,6 +80,7 @@ impl Watches {
         let none = Pair {
             first: 0,
             second: 0,
+            at: 0,
         };
         match self.pairs.push(none) {
             Ok(()) => Ok(()),
@@ -114,7 +125,11 @@ pub(crate) fn kind_of(assignment: &Assignment, clause: &[u16]) -> Kind
     };
     match other_open(marks, clause, first) {
         None => Kind::Unit(first),
-        Some(second) => Kind::Long(Pair { first, second }),
+        Some(second) => Kind::Long(Pair {
+            first,
+            second,
+            at: u16::MAX,
+        }),
     }
 }
 

@@ -84,8 +84,8 @@ returns-in-Some-clause-upgraded g c = λ log new is good.
     means_of _ _ _ (one_line _ (line_of c.in-Some.order) (Upgrade log new) c.in-Some.ensures.some is) (c.run_order.ensures.means (subst IsFinal (sym good) tt) (λ r. subst IsRefusal good r))
 
 pub returns-in-Some-clause-trimmed : goal.returns-in-Some-clause-trimmed
-returns-in-Some-clause-trimmed g c = λ model log trimmed is final answers.
-    means_of _ _ _ (one_line _ (line_of c.in-Some.order) (Core model log trimmed) c.in-Some.ensures.some is) (c.run_order.ensures.means final answers)
+returns-in-Some-clause-trimmed g c = λ model log trimmed better is final answers.
+    means_of _ _ _ (one_line _ (line_of c.in-Some.order) (Core model log trimmed better) c.in-Some.ensures.some is) (c.run_order.ensures.means final answers)
 
 pub returns-in-Some-clause-starved : goal.returns-in-Some-clause-starved
 returns-in-Some-clause-starved g c = λ model from to file is good.

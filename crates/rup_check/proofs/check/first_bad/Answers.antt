@@ -1,7 +1,9 @@
-use Rattle.std.proofs.Common.{below_more, rules, arith, ◌≡◌, ◌<◌, ◌+◌, ◌++◌, length, take, subst, sym, ap, length-append}
+use Rattle.std.proofs.Common.{below_more, rules, arith, ◌≡◌, ◌<◌, ◌+◌, ◌++◌, length, take, subst, sym, ap, ◌∙◌, length-append}
 use Rattle.rup_check.specs.Kept.{IsReady}
 use Rattle.rup_check.specs.Sets.{IsAnswer}
 use Rattle.rup_check.proofs.EndLaws.{answer_good, answer_bad, ready_front, one_on}
+use Rattle.rup_check.specs.Found.{IsFound}
+use Rattle.rup_check.proofs.FoundLaws.{answer_of_found, next_clause}
 use Rattle.rup_check.proofs.check.first_bad.Goals as goal
 
 pub loop-number-init : goal.loop-number-init
@@ -28,12 +30,12 @@ returns-then-not-good c =
     let l : c.loop-number.number < length c.args.proof.now = omega arith in
     record {
       in_range = l;
-      bad = answer_bad c.args.formula.now c.args.proof.now c.loop-number.number (c.len-first.result + c.loop-number.number) c.clause-clause.result.now (ap (λ z. z + c.loop-number.number) first) c.clause-clause.ensures.value (subst (λ b. IsAnswer (take (c.len-first.result + c.loop-number.number) (c.args.formula.now ++ c.args.proof.now)) c.clause-clause.result.now b) c.if-not-good.true c.in_ok-good.ensures.answer);
+      bad = answer_bad c.args.formula.now c.args.proof.now c.loop-number.number (c.len-first.result + c.loop-number.number) c.clause-clause.result.now (ap (λ z. z + c.loop-number.number) first) c.clause-clause.ensures.value (subst (λ b. IsAnswer (take (c.len-first.result + c.loop-number.number) (c.args.formula.now ++ c.args.proof.now)) c.clause-clause.result.now b) (sym c.is_good-good.ensures ∙ c.if-not-good.true) (answer_of_found _ _ _ c.in_ok-found.found c.in_ok-found.ensures.found));
       before = c.loop-number.invariant.good;
     }
 
-pub add_clause-requires-clause-next : goal.add_clause-requires-clause-next
-add_clause-requires-clause-next c =
+pub add_found-requires-clause-next : goal.add_found-requires-clause-next
+add_found-requires-clause-next c =
     let first : c.len-first.result ≡ length c.args.formula.now = search rules in
     let l : c.loop-number.number < length c.args.proof.now = omega arith in
     omega (arith, length-append c.args.formula.now c.args.proof.now)
@@ -43,9 +45,15 @@ loop-number-preserved c =
     let first : c.len-first.result ≡ length c.args.formula.now = search rules in
     let l : c.loop-number.number < length c.args.proof.now = omega arith in
     record {
-      good = below_more _ _ c.loop-number.invariant.good (answer_good c.args.formula.now c.args.proof.now c.loop-number.number (c.len-first.result + c.loop-number.number) c.clause-clause.result.now (ap (λ z. z + c.loop-number.number) first) c.clause-clause.ensures.value (subst (λ b. IsAnswer (take (c.len-first.result + c.loop-number.number) (c.args.formula.now ++ c.args.proof.now)) c.clause-clause.result.now b) c.if-not-good.false c.in_ok-good.ensures.answer));
-      ready = subst (λ z. IsReady (take z (c.args.formula.now ++ c.args.proof.now)) c.add_clause.new.watches c.add_clause.new.assignment) (one_on c.len-first.result (length c.args.formula.now) c.loop-number.number first) c.in_ok-add_clause.ensures;
+      good = below_more _ _ c.loop-number.invariant.good (answer_good c.args.formula.now c.args.proof.now c.loop-number.number (c.len-first.result + c.loop-number.number) c.clause-clause.result.now (ap (λ z. z + c.loop-number.number) first) c.clause-clause.ensures.value (subst (λ b. IsAnswer (take (c.len-first.result + c.loop-number.number) (c.args.formula.now ++ c.args.proof.now)) c.clause-clause.result.now b) (sym c.is_good-good.ensures ∙ c.if-not-good.false) (answer_of_found _ _ _ c.in_ok-found.found c.in_ok-found.ensures.found)));
+      ready = subst (λ z. IsReady (take z (c.args.formula.now ++ c.args.proof.now)) c.add_found.new.watches c.add_found.new.assignment) (one_on c.len-first.result (length c.args.formula.now) c.loop-number.number first) c.in_ok-add_found.ensures;
     }
 
 pub returns : goal.returns
 returns c = λ k l. c.loop-number.invariant.good k (omega arith)
+
+pub add_found-requires-clause-found : goal.add_found-requires-clause-found
+add_found-requires-clause-found c =
+    let first : c.len-first.result ≡ length c.args.formula.now = search rules in
+    subst (λ z. IsFound (take (c.len-first.result + c.loop-number.number) (c.args.formula.now ++ c.args.proof.now)) c.has_property.new.assignment.trail.items z c.in_ok-found.found)
+    (c.clause-clause.ensures.value ∙ next_clause c.args.formula.now c.args.proof.now c.len-first.result c.loop-number.number first) c.in_ok-found.ensures.found

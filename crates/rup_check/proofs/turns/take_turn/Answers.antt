@@ -14,11 +14,11 @@ returns-in-Stay-clause-taken c =
 
 pub returns-in_ok-push_to-in-Move-clause-taken : goal.returns-in_ok-push_to-in-Move-clause-taken
 returns-in_ok-push_to-in-Move-clause-taken c =
-    arm_move (clauses_of c.args.known.now) c.args.watches.now.pairs.items c.args.watches.now.lists.items c.args.literal c.args.assignment.now.marks.items c.args.number c.pair.result c.requires.entry c.pair.ensures _ _ c.in-Move.other c.in-Move.to refl c.in_ok-push_to-in-Move.ensures c.requires.clean c.requires.false_ c.requires.small c.in-Move.ensures
+    arm_move (clauses_of c.args.known.now) c.args.watches.now.pairs.items c.args.watches.now.lists.items c.args.literal c.args.assignment.now.marks.items c.args.number c.pair.result c.requires.entry c.pair.ensures _ _ c.in-Move.other c.in-Move.to c.in-Move.at refl c.in_ok-push_to-in-Move.ensures c.requires.clean c.requires.false_ c.requires.small c.in-Move.ensures
 
 pub returns-in_ok-push_to-in-Move-clause-out : goal.returns-in_ok-push_to-in-Move-clause-out
 returns-in_ok-push_to-in-Move-clause-out c =
-    arm_out (clauses_of c.args.known.now) c.args.watches.now.pairs.items c.args.watches.now.lists.items c.args.literal c.args.assignment.now.marks.items c.args.number c.pair.result c.requires.entry c.pair.ensures _ c.in-Move.other c.in-Move.to c.in_ok-push_to-in-Move.ensures c.requires.false_ c.in-Move.ensures
+    arm_out (clauses_of c.args.known.now) c.args.watches.now.pairs.items c.args.watches.now.lists.items c.args.literal c.args.assignment.now.marks.items c.args.number c.pair.result c.requires.entry c.pair.ensures _ c.in-Move.other c.in-Move.to c.in-Move.at c.in_ok-push_to-in-Move.ensures c.requires.false_ c.in-Move.ensures
 
 pub returns-in_ok-add-in-Force-clause-sound : goal.returns-in_ok-add-in-Force-clause-sound
 returns-in_ok-add-in-Force-clause-sound c =
