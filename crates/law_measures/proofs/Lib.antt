@@ -1,0 +1,5 @@
+pub mod Going
+pub mod Making
+pub mod Weights
+pub mod Histories
+pub mod Sums
