@@ -1,0 +1,4 @@
+pub mod CarryLaws
+pub mod WayLaws
+pub mod RowLaws
+pub mod ClockLaws
