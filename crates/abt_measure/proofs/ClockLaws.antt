@@ -41,3 +41,7 @@ module _ (old new : ClockState) (mid : List (List Carried)) (latency : ℕ) (e :
 pub on_ok : {T E A B : Type 0} → (r : Result T E) → OnOk r A → (A → B) → OnOk r B
 on_ok (Ok x) h f = f h
 on_ok (Err e) h f = tt
+
+pub on_three : {T E A B C D : Type 0} → (r : Result T E) → OnOk r A → OnOk r B → OnOk r C → (A → B → C → D) → OnOk r D
+on_three (Ok x) h g k f = f h g k
+on_three (Err e) h g k f = tt

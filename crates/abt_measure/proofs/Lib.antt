@@ -2,3 +2,4 @@ pub mod CarryLaws
 pub mod WayLaws
 pub mod RowLaws
 pub mod ClockLaws
+pub mod CountLaws

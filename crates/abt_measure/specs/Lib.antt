@@ -1,3 +1,4 @@
 pub mod Carrying
 pub mod Clocks
 pub mod Rows
+pub mod Counting

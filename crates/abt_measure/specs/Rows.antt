@@ -50,3 +50,7 @@ row_after r got c recorded sent = record {
   nogoods = r.nogoods + c.nogoods;
   recorded = max r.recorded recorded;
 }
+
+-- what stands past the last row
+abbrev pub blank_row : Row
+blank_row = let none : Kinds = record { ok = 0; nogood = 0; link = 0 } in record { sent = none; got = none; constraints = 0; nogoods = 0; recorded = 0 }

@@ -112,6 +112,13 @@ impl RunClock {
         Ok(greater(own, came))
     }
 
+    /// How much work so many checks are by its weights.
+    pub fn work(&self, constraints: u64, nogoods: u64) -> Result<u64, Memory>
+        ensures { IfOk result (λ work. work ≡ self.now.weights.constraint * constraints + self.now.weights.nogood * nogoods) }
+    {
+        self.weights.work(constraints, nogoods)
+    }
+
     /// The greatest clock of an agent.
     pub fn greatest(&self) -> u64
         ensures { result ≡ (clocks_of self.now).greatest }

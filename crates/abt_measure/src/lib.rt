@@ -7,9 +7,11 @@
 
 mod carried;
 mod clock;
+mod counts;
 mod row;
 mod ways;
 
 pub use clock::{RunClock, Weights};
+pub use counts::{Came, Rows, count_by_clock};
 pub use dcsp_common::Memory;
 pub use row::{Kinds, Row};
