@@ -3,3 +3,4 @@ pub mod WayLaws
 pub mod RowLaws
 pub mod ClockLaws
 pub mod CountLaws
+pub mod LearnLaws

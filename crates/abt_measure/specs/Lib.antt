@@ -2,3 +2,4 @@ pub mod Carrying
 pub mod Clocks
 pub mod Rows
 pub mod Counting
+pub mod Learning

@@ -8,10 +8,12 @@
 mod carried;
 mod clock;
 mod counts;
+mod learned;
 mod row;
 mod ways;
 
 pub use clock::{RunClock, Weights};
 pub use counts::{Came, Rows, count_by_clock};
 pub use dcsp_common::Memory;
+pub use learned::Learned;
 pub use row::{Kinds, Row};
