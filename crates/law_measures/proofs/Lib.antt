@@ -3,3 +3,4 @@ pub mod Making
 pub mod Weights
 pub mod Histories
 pub mod Sums
+pub mod Next
