@@ -42,6 +42,6 @@ pub on_ok : {T E A B : Type 0} → (r : Result T E) → OnOk r A → (A → B) �
 on_ok (Ok x) h f = f h
 on_ok (Err e) h f = tt
 
-pub on_three : {T E A B C D : Type 0} → (r : Result T E) → OnOk r A → OnOk r B → OnOk r C → (A → B → C → D) → OnOk r D
-on_three (Ok x) h g k f = f h g k
-on_three (Err e) h g k f = tt
+pub on_two : {T E A B C : Type 0} → (r : Result T E) → OnOk r A → OnOk r B → (A → B → C) → OnOk r C
+on_two (Ok x) h g f = f h g
+on_two (Err e) h g f = tt

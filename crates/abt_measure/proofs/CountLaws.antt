@@ -25,6 +25,7 @@ use Rattle.abt_measure.specs.declared.counts.Came.{Came}
 use Rattle.abt_measure.specs.Carrying.{receivers_of}
 use Rattle.abt_measure.specs.Clocks.{ClockState, as_weights, clocks_of}
 use Rattle.abt_measure.specs.Rows.{as_row, came_kinds, kind_counts, kinds_sent, more_kinds, no_kinds, no_row, row_after}
+use Rattle.abt_measure.specs.Measuring.{received_in}
 use Rattle.abt_measure.specs.Counting.{kind_in, row_at, sender_in, told_came, AreRows, IsAct, IsClock}
 use Rattle.abt_measure.proofs.RowLaws.{same_kinds, kinds_none}
 
@@ -142,3 +143,27 @@ none_counted [] after e h zero = e
 none_counted [] after e h (suc k) = refl
 none_counted (x ∷ xs) after e h zero = h 0
 none_counted (x ∷ xs) after e h (suc k) = none_counted xs after e (λ j. h (suc j)) k
+
+-- ---- messages
+
+pub received_told : (o : Option (ℕ × Message)) → received_in (told_came o) ≡ length (message_in o)
+received_told None = refl
+received_told (Some x) = refl
+
+length-told : (sent : List (ℕ × Message)) → length (map told_sent sent) ≡ length sent
+length-told [] = refl
+length-told (x ∷ xs) = ap suc (length-told xs)
+
+pub sent_more : (acts : List Act) (a : Act) (old new : ℕ) (sent : List SentTo) → new ≡ old + length sent → sent ≡ map told_sent a.sent → old ≡ sum_by (λ (x : Act). length x.sent) acts → new ≡ sum_by (λ (x : Act). length x.sent) (acts ++ a ∷ [])
+sent_more acts a old new sent e f h =
+    let l = ap (λ (z : List SentTo). length z) f ∙ length-told a.sent in
+    let o = one_sum (λ (x : Act). length x.sent) acts a in omega arith
+
+pub got_more : (acts : List Act) (a : Act) (old new got : ℕ) (came : Option Came) → new ≡ old + got → got ≡ received_in came → came ≡ told_came a.came → old ≡ sum_by (λ (x : Act). length (messages_got x)) acts → new ≡ sum_by (λ (x : Act). length (messages_got x)) (acts ++ a ∷ [])
+got_more acts a old new got came e g f h =
+    let l = ap received_in f ∙ received_told a.came in
+    let o = one_sum (λ (x : Act). length (messages_got x)) acts a in omega arith
+
+-- the clock with its weights by name
+pub by_weights : (p : Csp) (w : clocks.Weights) (acts more : List Act) (old new : ClockState) → IsClock p w acts old → (IsClock p (as_weights old.weights) acts old → IsClock p (as_weights old.weights) more new) → IsClock p w more new
+by_weights p w acts more old new h f = subst (λ (x : clocks.Weights). IsClock p x more new) h.weights (f (subst (λ (x : clocks.Weights). IsClock p x acts old) (sym h.weights) h))

@@ -3,3 +3,4 @@ pub mod Clocks
 pub mod Rows
 pub mod Counting
 pub mod Learning
+pub mod Measuring

@@ -88,7 +88,7 @@ impl RunClock {
         requires exists { agent < length self.old.agents }
         requires receivers { All (λ (x : TheSentTo). x.to < length self.old.agents) sent.now }
         ensures ticks { OnOk result (clocks_of self.new ≡ tick self.old.weights.latency (record { agent = agent; sender = sender; work = work; receivers = receivers_of sent.now }) (clocks_of self.old)) }
-        ensures long { OnOk result (length self.new.agents ≡ length self.old.agents) }
+        ensures long { length self.new.agents ≡ length self.old.agents }
         ensures weights { OnOk result (self.new.weights ≡ self.old.weights) }
     {
         let reached = self.reach(agent, sender)?;
@@ -103,6 +103,7 @@ impl RunClock {
         requires { agent < length self.old.agents }
         ensures reached { IfOk result (λ clock. clock ≡ reached self.old.weights.latency agent sender (clocks_of self.old)) }
         ensures taken { OnOk result (IsTaken sender agent self.old self.new) }
+        ensures long { length self.new.agents ≡ length self.old.agents }
     {
         let own = self.agents[agent as usize];
         let Some(sender) = sender else {

@@ -53,8 +53,9 @@ pub fn count_by_clock(
 ) -> Result<(), Memory>
     requires exists { agent < length clock.old.agents }
     requires receivers { All (λ (x : TheSentTo). x.to < length clock.old.agents) sent.now }
-    ensures { (p : Csp) (acts : List Act) (a : Act) (recorded : ℕ) → IsClock p (as_weights clock.old.weights) acts clock.old → IsAct p a agent came checks recorded sent.now
+    ensures counts { (p : Csp) (acts : List Act) (a : Act) (recorded : ℕ) → IsClock p (as_weights clock.old.weights) acts clock.old → IsAct p a agent came checks recorded sent.now
         → OnOk result (IsClock p (as_weights clock.old.weights) (acts ++ a ∷ []) clock.new) }
+    ensures long { length clock.new.agents ≡ length clock.old.agents }
 {
     let work = clock.work(checks.constraints, checks.nogoods)?;
     clock.act(agent, sender_of(came), work, sent)
@@ -78,7 +79,8 @@ impl Model for Rows {
 impl Rows {
     /// Of so many agents, before the start.
     pub fn new(alloc: Global, agents: u32) -> Result<Rows, Memory>
-        ensures { (p : Csp) → agents ≡ count p → IfOk result (AreRows p []) }
+        ensures none { (p : Csp) → agents ≡ count p → IfOk result (AreRows p []) }
+        ensures long { IfOk result (λ rows. length rows ≡ agents) }
     {
         let mut rows = Vec::new(alloc);
         for _agent in 0..agents {
@@ -99,8 +101,9 @@ impl Rows {
         sent: &[SentTo],
     ) -> Result<(), Memory>
         requires { agent < length self.old }
-        ensures { (p : Csp) (acts : List Act) (a : Act) → AreRows p acts self.old → IsAct p a agent came checks recorded sent.now
+        ensures counts { (p : Csp) (acts : List Act) (a : Act) → AreRows p acts self.old → IsAct p a agent came checks recorded sent.now
             → OnOk result (AreRows p (acts ++ a ∷ []) self.new) }
+        ensures long { length self.new ≡ length self.old }
     {
         let row = &mut self.rows[agent as usize];
         row.act(kind_of(came), checks, recorded, sent)

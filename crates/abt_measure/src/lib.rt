@@ -9,6 +9,7 @@ mod carried;
 mod clock;
 mod counts;
 mod learned;
+mod measures;
 mod row;
 mod ways;
 
@@ -16,4 +17,5 @@ pub use clock::{RunClock, Weights};
 pub use counts::{Came, Rows, count_by_clock};
 pub use dcsp_common::Memory;
 pub use learned::Learned;
+pub use measures::Measures;
 pub use row::{Kinds, Row};

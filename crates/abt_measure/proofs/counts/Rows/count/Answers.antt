@@ -9,8 +9,8 @@ use Rattle.abt_measure.proofs.ClockLaws.{on_ok}
 use Rattle.abt_measure.proofs.CountLaws.{rows_more}
 use Rattle.abt_measure.proofs.counts.Rows.count.Goals as goal
 
-pub returns : goal.returns
-returns c = λ p acts a h act.
+pub returns-clause-counts : goal.returns-clause-counts
+returns-clause-counts c = λ p acts a h act.
     let old = c.args.self.now in
     let i = c.args.agent in
     let row = c.index_mut-row.result.now in
