@@ -4,3 +4,4 @@ pub mod RowLaws
 pub mod ClockLaws
 pub mod CountLaws
 pub mod LearnLaws
+pub mod DeliveryLaws

@@ -8,6 +8,7 @@
 mod carried;
 mod clock;
 mod counts;
+mod delivery;
 mod learned;
 mod measures;
 mod row;

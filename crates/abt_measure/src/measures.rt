@@ -4,10 +4,10 @@ ghost use Rattle.std.specs.Prelude.{◌≡◌, ◌<◌, ◌∷◌, ◌++◌, [],
 ghost use Rattle.dcsp_defs.specs.Csp.{Csp, count};
 ghost use Rattle.abt_defs.specs.Events.{Act};
 ghost use Rattle.abt_parts.specs.declared.message.SentTo.{SentTo as TheSentTo};
-ghost use Rattle.abt_measure.specs.Measuring.{received_in, HasNoEvents, IsCounted, SameEvents};
+ghost use Rattle.abt_measure.specs.Measuring.{received_in, EndsEvent, HasNoEvents, IsCounted, SameEvents};
 ghost use Rattle.abt_measure.specs.Counting.{IsAct};
 
-use crate::clock::{RunClock, Weights, plus};
+use crate::clock::{RunClock, Weights, greater, plus};
 use crate::counts::{Came, Rows, count_by_clock};
 use abt_agent::Checks;
 use abt_parts::SentTo;
@@ -107,6 +107,20 @@ impl Measures {
         count_by_clock(&mut self.messages, agent, came, checks, sent)?;
         self.sent = plus(self.sent, sent.len() as u64)?;
         self.got = plus(self.got, received(came))?;
+        Ok(())
+    }
+}
+
+impl Measures {
+    /// An event is over, in which one agent had recorded so many nogoods before it, and has so many then; in the start
+    /// none has any.
+    pub fn end_event(&mut self, before: u64, after: u64) -> Result<(), Memory>
+        ensures ends { OnOk result (EndsEvent before after self.old self.new) }
+        ensures long { length self.new.rows ≡ length self.old.rows }
+    {
+        self.recorded = plus(self.recorded.saturating_sub(before), after)?;
+        self.most_recorded = greater(self.most_recorded, self.recorded);
+        self.most_in_transit = greater(self.most_in_transit, self.sent.saturating_sub(self.got));
         Ok(())
     }
 }
