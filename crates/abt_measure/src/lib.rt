@@ -17,6 +17,7 @@ mod ways;
 pub use clock::{RunClock, Weights};
 pub use counts::{Came, Rows, count_by_clock};
 pub use dcsp_common::Memory;
+pub use delivery::{Coming, deliver_one};
 pub use learned::Learned;
 pub use measures::Measures;
 pub use row::{Kinds, Row};

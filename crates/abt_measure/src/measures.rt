@@ -3,12 +3,14 @@
 ghost use Rattle.std.specs.Prelude.{◌≡◌, ◌<◌, ◌∷◌, ◌++◌, [], All, List, IfOk, OnOk, length};
 ghost use Rattle.dcsp_defs.specs.Csp.{Csp, count};
 ghost use Rattle.abt_defs.specs.Events.{Act};
+ghost use Rattle.abt_defs.specs.Clocks.{clock, all_checks, constraints_alone, messages_alone};
 ghost use Rattle.abt_parts.specs.declared.message.SentTo.{SentTo as TheSentTo};
 ghost use Rattle.abt_measure.specs.Measuring.{received_in, EndsEvent, HasNoEvents, IsCounted, SameEvents};
 ghost use Rattle.abt_measure.specs.Counting.{IsAct};
 
 use crate::clock::{RunClock, Weights, greater, plus};
 use crate::counts::{Came, Rows, count_by_clock};
+use crate::row::Row;
 use abt_agent::Checks;
 use abt_parts::SentTo;
 use dcsp_common::Memory;
@@ -122,6 +124,50 @@ impl Measures {
         self.most_recorded = greater(self.most_recorded, self.recorded);
         self.most_in_transit = greater(self.most_in_transit, self.sent.saturating_sub(self.got));
         Ok(())
+    }
+}
+
+impl Measures {
+    /// The rows of all agents.
+    pub fn rows(&self) -> &[Row]
+        ensures { result.now ≡ self.now.rows }
+    {
+        self.rows.rows()
+    }
+
+    /// The clock of checks of both kinds.
+    pub fn all_checks(&self) -> u64
+        ensures { (p : Csp) (acts : List Act) → IsCounted p acts self.now → result ≡ clock p all_checks acts }
+    {
+        self.all.greatest()
+    }
+
+    /// The clock of checks of constraints.
+    pub fn constraints_alone(&self) -> u64
+        ensures { (p : Csp) (acts : List Act) → IsCounted p acts self.now → result ≡ clock p constraints_alone acts }
+    {
+        self.constraints.greatest()
+    }
+
+    /// The clock of messages, which is the longest chain of them.
+    pub fn longest_chain(&self) -> u64
+        ensures { (p : Csp) (acts : List Act) → IsCounted p acts self.now → result ≡ clock p messages_alone acts }
+    {
+        self.messages.greatest()
+    }
+
+    /// The greatest number of messages in transit after an event.
+    pub fn most_in_transit(&self) -> u64
+        ensures { result ≡ self.now.most_in_transit }
+    {
+        self.most_in_transit
+    }
+
+    /// The greatest number of nogoods that all agents had recorded after an event.
+    pub fn most_recorded(&self) -> u64
+        ensures { result ≡ self.now.most_recorded }
+    {
+        self.most_recorded
     }
 }
 
