@@ -16,3 +16,4 @@ pub mod Asks
 pub mod Rights
 pub mod Acting
 pub mod Tracks
+pub mod Examining

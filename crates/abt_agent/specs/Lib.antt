@@ -6,3 +6,4 @@ pub mod Causes
 pub mod Rules
 pub mod Asks
 pub mod Rights
+pub mod Examined

@@ -1,7 +1,9 @@
 //! The agent that callers see.
 
-ghost use Rattle.std.specs.Prelude.{◌≡◌, ◌<◌, IfOk, IsErr, OnErr, OnOk, ℕ, List, false, length, true};
+ghost use Rattle.std.specs.Prelude.{◌≡◌, ◌<◌, IfOk, IsErr, OnErr, OnOk, ℕ, ℤ, List, Some, false, length, true};
 ghost use Rattle.dcsp_defs.specs.declared.Step.{Step as TheStep};
+ghost use Rattle.dcsp_defs.specs.Words.{In};
+ghost use Rattle.dcsp_defs.specs.Csp.{domain};
 ghost use Rattle.law_agent.specs.Stores.{IsBoundedStore};
 ghost use Rattle.law_agent.specs.Merges.{IsUnionOfReasons};
 ghost use Rattle.dcsp_rule.specs.Problems.{csp_of};
@@ -10,9 +12,15 @@ ghost use Rattle.abt_agent.specs.Turns.{IsFirstTurn};
 ghost use Rattle.law_agent.specs.Sources.{AreOfSteps};
 ghost use Rattle.abt_agent.specs.Rights.{BringsOfStep, IsRightTurn};
 ghost use Rattle.abt_parts.specs.Stores.{records_of};
+ghost use Rattle.abt_parts.specs.Messages.{message_of};
+ghost use Rattle.abt_defs.specs.Agents.{known};
+ghost use Rattle.abt_defs.specs.Checks.{checks, settles_on};
+ghost use Rattle.abt_agent.specs.Examined.{as_checks};
+ghost use Rattle.abt_agent.specs.Outgoing.{IsStamped};
 
 use crate::Turn;
 use crate::body::Body;
+use crate::checks::Checks;
 use abt_parts::{Message, Outbox};
 use dcsp_common::Memory;
 use dcsp_problem::Problem;
@@ -127,6 +135,7 @@ impl<'p> Agent<'p> {
     /// to a nogood never clashes, and the nogood that it would derive is their union.
     pub fn value(&self) -> Option<i64>
         ensures value { result ≡ self.now.value }
+        ensures in_domain { self.now.spent ≡ false → (v : ℤ) → result ≡ Some v → In v (domain (csp_of self.now.problem) self.now.me) }
         ensures bounded { self.now.spent ≡ false → IsBoundedStore (csp_of self.now.problem) self.now.me (stands_for self.now) }
         ensures merges { self.now.spent ≡ false → IsUnionOfReasons (csp_of self.now.problem) self.now.me (stands_for self.now) }
     {
@@ -148,5 +157,32 @@ impl<'p> Agent<'p> {
         ensures { result ≡ self.now.stamp }
     {
         self.body.stamp
+    }
+
+    /// How many nogoods the agent has recorded.
+    pub fn recorded(&self) -> usize
+        ensures { result ≡ length (stands_for self.now).recorded }
+    {
+        self.body.known.store.len()
+    }
+
+    /// Whether the agent settles when it receives this message from another agent.
+    pub fn settles_on(&self, from: u32, message: &Message) -> bool
+        requires { IsStamped message.now }
+        ensures { result ≡ settles_on self.now.me (stands_for self.now) from (message_of message.now) }
+    {
+        self.body.settles_on(from, message)
+    }
+
+    /// How much the agent looks at as it settles with this value of its own, one of its domain, or with none: by
+    /// what it was told and the nogoods that it has recorded.
+    pub fn checks(&self, own: Option<i64>) -> Result<Checks, Memory>
+        requires { self.now.spent ≡ false → (v : ℤ) → own ≡ Some v → In v (domain (csp_of self.now.problem) self.now.me) }
+        ensures { IfOk result (λ sum. as_checks sum ≡ checks (csp_of self.now.problem) self.now.me (known (stands_for self.now)) (stands_for self.now).recorded own) }
+    {
+        if self.spent {
+            return Err(Memory);
+        }
+        self.body.known.checks(own)
     }
 }

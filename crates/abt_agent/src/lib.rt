@@ -10,6 +10,7 @@
 mod agent;
 mod ask;
 mod body;
+mod checks;
 mod knowledge;
 mod learn;
 mod marks;
@@ -19,6 +20,7 @@ mod search;
 mod settle;
 
 pub use agent::Agent;
+pub use checks::Checks;
 pub use dcsp_common::Memory;
 pub use ngd_log::Step;
 

@@ -10,7 +10,8 @@ ghost use Rattle.dcsp_rule.specs.Problems.{csp_of};
 ghost use Rattle.abt_parts.specs.Messages.{message_of, with_stamps};
 ghost use Rattle.abt_parts.specs.Views.{stamped_of};
 ghost use Rattle.abt_agent.specs.Bodies.{agent_of, owner_of, Does, DoesReceive, IsGood};
-ghost use Rattle.abt_agent.specs.Outgoing.{Posts};
+ghost use Rattle.abt_defs.specs.Checks.{settles_on};
+ghost use Rattle.abt_agent.specs.Outgoing.{IsStamped, Posts};
 ghost use Rattle.abt_agent.specs.States.{IsFit, IsNogoodFor, IsToldBy};
 ghost use Rattle.abt_agent.specs.Turns.{IsFirstTurn};
 ghost use Rattle.law_agent.specs.Sources.{AreOfSteps};
@@ -119,6 +120,23 @@ impl<'p> Body<'p> {
             return Ok(Turn::Quiet);
         }
         self.settle(number, out)
+    }
+
+    /// Whether the agent settles when it receives this message from another agent.
+    pub fn settles_on(&self, from: u32, message: &Message) -> bool
+        requires { IsStamped message.now }
+        ensures { result ≡ settles_on self.now.known.me (agent_of self.now) from (message_of message.now) }
+    {
+        match message {
+            Message::Tell { stamp, .. } => match self.known.view.stamp_of(from) {
+                Some(known) => known < *stamp,
+                None => true,
+            },
+            Message::Refuse { nogood, stamps, .. } => {
+                !self.is_idle(nogood.pairs(), stamps.items())
+            }
+            Message::AddLink => false,
+        }
     }
 
     /// Whether the agent goes on waiting when it is told this.

@@ -51,7 +51,7 @@ impl<'p> Knowledge<'p> {
     }
 
     /// The value at a place of the agent's domain.
-    fn value_at(&self, place: usize) -> i64
+    pub fn value_at(&self, place: usize) -> i64
         requires agent { self.now.me < length self.now.problem.now.domains }
         requires place { place < length (domain (csp_of self.now.problem.now) self.now.me) }
         ensures { result ≡ value_at self.now.problem.now self.now.me place }

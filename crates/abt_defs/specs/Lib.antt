@@ -4,3 +4,7 @@ pub mod Steps
 pub mod Network
 pub mod Runs
 pub mod Bound
+pub mod Events
+pub mod Checks
+pub mod Clocks
+pub mod Measures

@@ -1,6 +1,6 @@
 //! The messages in transit.
 
-ghost use Rattle.std.specs.Prelude.{◌≡◌, ◌≢◌, ◌<◌, ◌≤◌, [], IfErr, IfOk, OnErr, OnOk, Some, position, slice_get, length};
+ghost use Rattle.std.specs.Prelude.{◌≡◌, ◌≢◌, ◌<◌, ◌≤◌, [], IfErr, IfOk, OnErr, OnOk, Some, position, option_copied, slice_get, length};
 ghost use Rattle.abt_links.specs.Transit.{is_pair, link_of, IsOpen, Opens, Sends, Posts, Keeps, Takes, ready_pairs, message_count};
 
 use crate::open_pairs::OpenPairs;
@@ -148,6 +148,16 @@ impl Links {
         match self.opened.find(from, to) {
             Some(place) => self.queues.count(place),
             None => 0,
+        }
+    }
+
+    /// The first message in transit from one agent to another, if there is one.
+    pub fn first(&self, from: u32, to: u32) -> Option<&Message>
+        ensures { option_copied result ≡ slice_get (link_of self.now from to) 0 }
+    {
+        match self.opened.find(from, to) {
+            Some(place) => self.queues.first(place),
+            None => None,
         }
     }
 

@@ -1,6 +1,6 @@
 //! Lists of messages, first in and first out, that share one store.
 
-ghost use Rattle.std.specs.Prelude.{◌≡◌, ◌≢◌, ◌<◌, [], ◌∷◌, ◌++◌, ◌-◌, length, take, IfErr, IfOk, OnErr, OnOk, sum_by, slice_index_or, slice_set, IsTrue, ◌↔◌, List};
+ghost use Rattle.std.specs.Prelude.{◌≡◌, ◌≢◌, ◌<◌, [], ◌∷◌, ◌++◌, ◌-◌, length, take, IfErr, IfOk, OnErr, OnOk, sum_by, option_copied, slice_get, slice_index_or, slice_set, IsTrue, ◌↔◌, List};
 ghost use Rattle.abt_parts.specs.declared.message.Message.{Message as TheMessage};
 ghost use Rattle.slab.specs.Slab.{ContainsKey, HasRoomFor};
 ghost use Rattle.abt_links.specs.Chains.{IsLinked, IsAdded, IsTaken};
@@ -115,6 +115,21 @@ impl Queues {
         let (message, rest) = take(&mut self.cells, ends);
         self.ends[place] = rest;
         message
+    }
+
+    /// The first message of a list, if it has one.
+    pub(crate) fn first(&self, place: usize) -> Option<&Message>
+        requires { place < length self.now }
+        ensures { option_copied result ≡ slice_get (slice_index_or self.now place []) 0 }
+    {
+        let ends = self.ends[place];
+        if ends.count == 0 {
+            return None;
+        }
+        match self.cells.get(ends.first as usize) {
+            Some(cell) => Some(&cell.message),
+            None => None,
+        }
     }
 
     /// How many messages a list has.

@@ -1,5 +1,6 @@
 -- The code's delivery is that of the definitions.
-use Rattle.std.proofs.Common.{◌≡◌, ◌≢◌, ℕ, ◌+◌, ◌<◌, ◌%◌, List, [], ◌∷◌, ◌++◌, length, map, filter, cond, eqb, eq-eqb, refl, sym, ◌∙◌, ap, subst, Bool, true, false, not, ◌&&◌, ◌⊎◌, inl, inr, Option, Some, slice_get, option_to_list}
+use Rattle.std.proofs.Common.{◌≡◌, ◌≢◌, ℕ, ◌+◌, ◌<◌, ◌%◌, List, [], ◌∷◌, ◌++◌, length, map, filter, cond, eqb, eq-eqb, refl, sym, ◌∙◌, ap, subst, Bool, true, false, not, ◌&&◌, ◌⊎◌, inl, inr, Option, Some, slice_get, option_to_list, append-nil}
+use Rattle.std.specs.List.{flat_map}
 use Rattle.std.proofs.lemmas.Bool.{cases_eq, cases_Bool, eqb-true, ne_eqb, cond-true, cond-false, and_from}
 use Rattle.std.proofs.lemmas.List.Elements.{filter_agree}
 use Rattle.dcsp_defs.specs.Words.{In}
@@ -8,17 +9,19 @@ use Rattle.abt_defs.specs.Agents.{Agent}
 use Rattle.abt_defs.specs.Steps.{Outcome, receive}
 use Rattle.abt_defs.specs.Network.{Network, is_empty, refutes, sent_to, acted, left, next_number, deliver_head, deliver_at, deliver, ready, pairs}
 use Rattle.abt_defs.specs.Runs as runs
+use Rattle.abt_defs.specs.Events.{Act, act_of, acts_at, choice_acts, head_acts}
 use Rattle.dcsp_rule.specs.Problems.{Contents, csp_of}
 use Rattle.abt_parts.specs.declared.message.Message.{Message as TheMessage}
 use Rattle.abt_parts.specs.declared.message.Sent.{Sent}
-use Rattle.abt_parts.specs.Messages.{message_of, messages_of}
+use Rattle.abt_parts.specs.Messages.{message_of, messages_of, told_sent}
 use Rattle.abt_agent.specs.declared.Turn.{Turn}
 use Rattle.abt_agent.specs.declared.Turn.TheVariants.{Quiet, Announced, Derived, Empty}
 use Rattle.abt_agent.specs.Turns.{IsTurn}
 use Rattle.abt_agent.specs.States.{State, stands_for}
 use Rattle.abt_links.specs.Transit.{Transit, link_of, ready_pairs, Takes}
 use Rattle.abt_network.specs.declared.Delivery.{Delivery}
-use Rattle.abt_network.specs.Standing.{messages_on, state_at, Stands, delivery_of, cargo_in}
+use Rattle.abt_parts.specs.declared.message.SentTo.{SentTo}
+use Rattle.abt_network.specs.Standing.{messages_on, state_at, Stands, TellsSent, delivery_of, cargo_in}
 use Rattle.abt_network.specs.Bodies.{IsSeated, Expects, ExpectsAll, AreStamped}
 use Rattle.abt_network.specs.Passing.{step_in, PassesOn}
 
@@ -146,3 +149,16 @@ module _ (p : Contents) (agents agents' : List State) (t mid t' : Transit) (net 
     refuted = ap (λ (x : Network). x.refuted) leads ∙ ap refutes made;
     deliveries = ap (λ (x : Network). x.deliveries) leads;
   }
+
+  -- ---- what the receiver sends
+
+  acts_are : choice_acts (csp_of p) choice net ≡ act_of d.to (Some (d.from, message_of m)) (net.agents d.to) o ∷ []
+  acts_are =
+      ap (λ x. acts_at (csp_of p) x net) chosen_is
+      ∙ ap (λ l. head_acts (csp_of p) d.from d.to l net) head_is
+      ∙ ap (λ (x : Outcome). act_of d.to (Some (d.from, message_of m)) (net.agents d.to) x ∷ []) outcome_is
+
+  pub sends : (told : List SentTo) → told ≡ map told_sent (messages_of went) → TellsSent p told net choice
+  sends told e =
+      e ∙ ap (map told_sent) (sent ∙ sym (append-nil o.sent))
+      ∙ ap (λ (acts : List Act). map told_sent (flat_map (λ (a : Act). a.sent) acts)) (sym acts_are)

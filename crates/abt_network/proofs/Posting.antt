@@ -1,16 +1,17 @@
 -- Part of an outbox is sent.
-use Rattle.std.proofs.Common.{◌≡◌, ℕ, suc, ◌<◌, List, [], ◌∷◌, ◌++◌, cond, eqb, eq-eqb, drop, arith, Some, inl, inr, slice_get, sym, ◌∙◌, ap, subst, append_assoc, Bool, true, false, ◌&&◌}
-use Rattle.std.specs.Prelude.{All}
+use Rattle.std.proofs.Common.{◌≡◌, ℕ, suc, ◌<◌, List, [], ◌∷◌, ◌++◌, cond, eqb, eq-eqb, drop, map, arith, Option, Some, refl, inl, inr, slice_get, sym, ◌∙◌, ap, subst, append_assoc, Bool, true, false, ◌&&◌}
+use Rattle.std.specs.Prelude.{All, IfSome}
 use Rattle.std.proofs.lemmas.Bool.{cases_eq, ne_eqb}
 use Rattle.dcsp_defs.specs.Words.{In}
 use Rattle.dcsp_defs.proofs.Lists.{In-split}
 use Rattle.abt_defs.specs.Agents as machine
 use Rattle.abt_defs.specs.Network.{sent_to}
-use Rattle.abt_parts.specs.Messages.{message_of, messages_of}
+use Rattle.abt_parts.specs.Messages.{message_of, messages_of, sent_of, told_sent}
 use Rattle.abt_parts.specs.declared.message.Message.{Message}
 use Rattle.abt_parts.specs.declared.message.Sent.{Sent}
 use Rattle.abt_agent.specs.Outgoing.{IsStamped}
 use Rattle.abt_links.specs.Transit.{Transit, link_of, Posts}
+use Rattle.abt_parts.specs.declared.message.SentTo.{SentTo}
 use Rattle.abt_network.specs.Standing.{messages_on}
 use Rattle.abt_network.specs.Bodies.{AreStamped}
 
@@ -33,8 +34,9 @@ first_stamped (x ∷ xs) sent h e = let same : sent ≡ x = cc in subst (λ (y :
 
 -- ---- lists
 
--- what was sent, and what is left, is all that was to be sent
-pub record HasPosted (before now : Transit) (from : ℕ) (all rest : List Sent) : Type 0 where
+-- what was sent and told, and what is left, is all that was to be sent
+pub record HasPosted (before now : Transit) (from : ℕ) (all rest : List Sent) (old told : List SentTo) : Type 0 where
+  pub tells : told ++ map told_sent (messages_of rest) ≡ old ++ map told_sent (messages_of all)
   pub agents : now.agents ≡ before.agents
   pub links : (k i : ℕ) → messages_on now k i ++ cond (eqb k from) (sent_to i (messages_of rest)) [] ≡ messages_on before k i ++ cond (eqb k from) (sent_to i (messages_of all)) []
   pub receivers : All (λ (sent : Sent). sent.to < before.agents) rest
@@ -54,11 +56,17 @@ eqb_comm a b = elim (cases_eq a b) [
   | inr other ↦ ne_eqb a b other ∙ sym (ne_eqb b a (λ e. other (sym e)))
 ]
 
-pub post_step : (before now now' : Transit) (from : ℕ) (all rest rest' : List Sent) (sent : Sent) → HasPosted before now from all rest → Some sent ≡ slice_get rest 0 → rest' ≡ drop 1 rest
+pub post_step : (before now now' : Transit) (from : ℕ) (all rest rest' : List Sent) (old told told' : List SentTo) (sent : Sent) → HasPosted before now from all rest old told → told' ≡ told ++ told_sent (sent_of sent) ∷ [] → Some sent ≡ slice_get rest 0 → rest' ≡ drop 1 rest
     → now'.agents ≡ now.agents → ((k i : ℕ) → messages_on now' k i ≡ cond (eqb k from && eqb i sent.to) (messages_on now k i ++ message_of sent.message ∷ []) (messages_on now k i))
-    → AreStamped now' → HasPosted before now' from all rest'
-post_step before now now' from all [] rest' sent h first left agents links stamped = cc
-post_step before now now' from all (x ∷ xs) rest' sent h first left agents links stamped = record {
+    → AreStamped now' → HasPosted before now' from all rest' old told'
+post_step before now now' from all [] rest' old told told' sent h tells first left agents links stamped = cc
+post_step before now now' from all (x ∷ xs) rest' old told told' sent h tells first left agents links stamped = record {
+  tells =
+      let same : sent ≡ x = cc in
+      ap (λ l. l ++ map told_sent (messages_of rest')) (tells ∙ ap (λ (y : Sent). told ++ told_sent (sent_of y) ∷ []) same)
+      ∙ ap (λ (l : List Sent). (told ++ told_sent (sent_of x) ∷ []) ++ map told_sent (messages_of l)) left
+      ∙ append_assoc told (told_sent (sent_of x) ∷ []) (map told_sent (messages_of xs))
+      ∙ h.tells;
   agents = agents ∙ h.agents;
   links = λ k i.
       let same : sent ≡ x = cc in
@@ -70,3 +78,10 @@ post_step before now now' from all (x ∷ xs) rest' sent h first left agents lin
   stamps = subst (λ (l : List Sent). All (λ (y : Sent). IsStamped y.message) l) (sym left) (λ k d inside. h.stamps (suc k) d (omega arith));
   stamped = stamped;
 }
+
+-- ---- the first message of a list
+
+-- it has its stamps where each has
+pub head_stamped : (l : List Message) (o : Option Message) → o ≡ slice_get l 0 → ((m : Message) → In m l → IsStamped m) → IfSome o IsStamped
+head_stamped [] o e h = subst (λ (z : Option Message). IfSome z IsStamped) (sym e) tt
+head_stamped (x ∷ xs) o e h = subst (λ (z : Option Message). IfSome z IsStamped) (sym e) (h x (inl refl))

@@ -15,7 +15,7 @@ use Rattle.abt_network.specs.Standing.{NetworkState, StandsAt, state_at, reached
 
 -- what callers see
 abbrev pub shown : Body → Bool → NetworkState
-shown b spent = record { problem = b.problem.now; agents = b.agents.items; links = b.links; refuted = b.refuted; deliveries = b.deliveries; steps = b.steps; begun = b.begun; spent = spent }
+shown b spent = record { problem = b.problem.now; agents = b.agents.items; links = b.links; refuted = b.refuted; deliveries = b.deliveries; steps = b.steps; begun = b.begun; sent = b.sent.items; spent = spent }
 
 -- there are as many agents as variables, and links between them
 pub record IsSized (b : Body) : Type 0 where

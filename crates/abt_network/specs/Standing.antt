@@ -1,5 +1,5 @@
 -- How the code's network stands to the network of the definitions.
-use Rattle.std.specs.Prelude.{◌≡◌, ℕ, ◌<◌, ◌≤◌, ◌^◌, Bool, true, false, List, [], ◌∷◌, ◌++◌, map, length, Option, None, Some, option_to_list, slice_index_or, IfSome, if◌then◌else◌}
+use Rattle.std.specs.Prelude.{◌≡◌, ℕ, ◌<◌, ◌≤◌, ◌^◌, Bool, true, false, List, [], ◌∷◌, ◌++◌, map, flat_map, length, Option, None, Some, option_to_list, slice_index_or, IfSome, if◌then◌else◌}
 use Rattle.std.specs.List.{AllByRecursion}
 use Rattle.dcsp_defs.specs.Csp.{Csp}
 use Rattle.dcsp_defs.specs.Derivation.{IsDerivation, IsRight}
@@ -9,10 +9,11 @@ use Rattle.abt_defs.specs.Bound.{message_bound}
 use Rattle.abt_defs.specs.Network as machine
 use Rattle.abt_defs.specs.Network.{run, start, deliver, ready, is_empty, refutes}
 use Rattle.abt_defs.specs.Runs as runs
+use Rattle.abt_defs.specs.Events.{Act, choice_acts}
 use Rattle.ngd_log.specs.StepText.{IsInRange}
 use Rattle.dcsp_rule.specs.declared.aim.Aim.TheVariants.{Satisfy}
 use Rattle.dcsp_rule.specs.Problems.{Contents, csp_of}
-use Rattle.abt_parts.specs.Messages.{message_of}
+use Rattle.abt_parts.specs.Messages.{message_of, told_sent}
 use Rattle.abt_agent.specs.States.{State, stands_for}
 use Rattle.abt_links.specs.Transit.{Transit, link_of, ready_pairs}
 use Rattle.abt_network.specs.declared.Begun.{Begun}
@@ -22,6 +23,7 @@ use Rattle.abt_network.specs.declared.Standing.TheVariants.{Open, Quiet, Refuted
 use Rattle.abt_network.specs.declared.Cargo.{Cargo}
 use Rattle.abt_network.specs.declared.Cargo.TheVariants.{Tell, Refuse, AddLink}
 use Rattle.abt_network.specs.declared.Delivery.{Delivery}
+use Rattle.abt_parts.specs.declared.message.SentTo.{SentTo}
 
 -- what the code's network has
 pub record NetworkState : Type 0 where
@@ -32,6 +34,7 @@ pub record NetworkState : Type 0 where
   pub deliveries : ℕ
   pub steps : ℕ  -- how many were made
   pub begun : Bool
+  pub sent : List SentTo  -- by the last delivery
   pub spent : Bool  -- it ran out of memory
 
 -- the messages in transit from k to i, as the definitions have them
@@ -100,6 +103,16 @@ pub record Delivers (p : Contents) (new : NetworkState) (net : machine.Network) 
   pub told : runs.delivery (csp_of p) choice net ≡ delivery_of d ∷ []
   pub steps : (deliver (csp_of p) choice net).steps ≡ net.steps ++ option_to_list d.step
   pub refuted : (deliver (csp_of p) choice net).refuted ≡ refutes d.step
+
+-- what is told is what the receiver of the delivery sends that the choice makes in this network
+abbrev pub TellsSent : Contents → List SentTo → machine.Network → ℕ → Type 0
+TellsSent p told net choice = told ≡ map told_sent (flat_map (λ (a : Act). a.sent) (choice_acts (csp_of p) choice net))
+
+-- it is agent i of the problem, and has memory
+pub record IsSeat (p : Contents) (i : ℕ) (s : State) : Type 0 where
+  pub problem : s.problem ≡ p
+  pub me : s.me ≡ i
+  pub good : s.spent ≡ false
 
 -- a step that was made is right after these
 abbrev pub IsRightStep : Csp → List Step → Option Step → Type 0

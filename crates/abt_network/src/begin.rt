@@ -79,7 +79,8 @@ impl<'p> Body<'p> {
     {
         self.problem.denotes_csp();
         let turn = start_agent(&mut self.agents, agent, &mut self.out)?;
-        post(&mut self.links, agent, &mut self.out)?;
+        self.sent.clear();
+        post(&mut self.links, agent, &mut self.out, &mut self.sent)?;
         Ok(step_of(turn))
     }
 

@@ -6,7 +6,7 @@ ghost use Rattle.abt_network.specs.Bodies.{IsBlank, IsKept, IsSized};
 use crate::begin::fresh_agents;
 use abt_agent::Agent;
 use abt_links::Links;
-use abt_parts::Outbox;
+use abt_parts::{Outbox, SentTo};
 use dcsp_common::Memory;
 use dcsp_problem::Problem;
 use std::alloc::Global;
@@ -21,6 +21,8 @@ pub struct Body<'p> {
     pub links: Links,
     /// What an agent puts out, until it is sent. It is empty between deliveries.
     pub out: Outbox,
+    /// What is told of the messages that were sent last, in order.
+    pub sent: Vec<SentTo>,
     pub refuted: bool,
     /// How many deliveries were made.
     pub deliveries: u64,
@@ -44,6 +46,7 @@ impl<'p> Body<'p> {
             agents,
             links,
             out: Outbox::new(alloc),
+            sent: Vec::new(alloc),
             refuted: false,
             deliveries: 0,
             steps: 0,

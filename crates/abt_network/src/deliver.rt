@@ -6,7 +6,7 @@ ghost use Rattle.abt_defs.specs.Runs.{cargo_of};
 ghost use Rattle.abt_parts.specs.Messages.{message_of};
 ghost use Rattle.abt_agent.specs.States.{CanReceive, Receives};
 ghost use Rattle.abt_links.specs.Transit.{ready_pairs};
-ghost use Rattle.abt_network.specs.Standing.{cargo_in, reached, state_at, CanDeliver, Delivers, LeadsOn, StandsAt};
+ghost use Rattle.abt_network.specs.Standing.{cargo_in, reached, state_at, CanDeliver, Delivers, LeadsOn, StandsAt, TellsSent};
 ghost use Rattle.abt_network.specs.Bodies.{shown, ExpectsAll, IsKept, IsSized, IsTidy};
 ghost use Rattle.abt_network.specs.Passing.{step_in, steps_made, PassesOn};
 
@@ -88,6 +88,7 @@ impl<'p> Body<'p> {
         requires few { self.old.steps < 2 ^ 62 }
         requires expects { ExpectsAll self.old.problem.now self.old.agents.items self.old.links (self.old.steps + 1) }
         ensures passes { (net : TheNetwork) → StandsAt (shown self.old false) net → IfOk result (λ d. PassesOn self.old.problem.now self.new.agents.items self.new.links net choice d) }
+        ensures sends { (net : TheNetwork) → StandsAt (shown self.old false) net → OnOk result (TellsSent self.old.problem.now self.new.sent.items net choice) }
         ensures tidy { OnOk result (IsTidy self.new) }
         ensures sized { IsSized self.new }
         ensures problem { self.new.problem.now ≡ self.old.problem.now }
@@ -102,7 +103,8 @@ impl<'p> Body<'p> {
         let cargo = cargo_of(&message);
         let next = self.steps + 1;
         let turn = hand_over(&mut self.agents, from, to, message, next, &mut self.out)?;
-        post(&mut self.links, to, &mut self.out)?;
+        self.sent.clear();
+        post(&mut self.links, to, &mut self.out, &mut self.sent)?;
         let step = step_of(turn);
         Ok(Delivery {
             from,
@@ -118,6 +120,7 @@ impl<'p> Body<'p> {
         requires kept { IsKept self.old }
         requires can { CanDeliver (shown self.old false) }
         ensures delivers { (net : TheNetwork) → StandsAt (shown self.old false) net → IfOk result (λ d. Delivers self.old.problem.now (shown self.new false) net choice d) }
+        ensures sends { (net : TheNetwork) → StandsAt (shown self.old false) net → OnOk result (TellsSent self.old.problem.now self.new.sent.items net choice) }
         ensures leads { (choices : List ℕ) → StandsAt (shown self.old false) (reached (shown self.old false) choices) → IfOk result (λ d. LeadsOn (shown self.old false) (shown self.new false) choices choice d) }
         ensures kept { OnOk result (IsKept self.new) }
         ensures begun { OnOk result (self.new.begun ≡ true) }

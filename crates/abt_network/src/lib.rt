@@ -12,6 +12,7 @@ mod deliver;
 mod network;
 mod post;
 
+pub use abt_parts::{MessageKind, SentTo};
 pub use dcsp_common::Memory;
 pub use network::Network;
 pub use ngd_log::Step;

@@ -1,15 +1,20 @@
 //! The network that callers see.
 
-ghost use Rattle.std.specs.Prelude.{◌≡◌, ◌≢◌, ◌<◌, ◌≤◌, ◌+◌, ◌^◌, ℕ, List, [], IfOk, IsErr, OnErr, OnOk, Some, false, true, length, slice_get};
+ghost use Rattle.std.specs.Prelude.{◌≡◌, ◌≢◌, ◌<◌, ◌≤◌, ◌+◌, ◌^◌, ℕ, List, [], IfOk, IfSome, IsErr, OnErr, OnOk, Some, false, true, length, option_copied, slice_get};
+ghost use Rattle.std.specs.Option.{option_map};
 ghost use Rattle.abt_defs.specs.Network.{Network as TheNetwork, empty_network, ready, IsSolved};
 ghost use Rattle.law_agent.specs.Stores.{IsBoundedStore};
 ghost use Rattle.dcsp_rule.specs.Problems.{csp_of};
+ghost use Rattle.abt_parts.specs.Messages.{message_of};
+ghost use Rattle.abt_agent.specs.Outgoing.{IsStamped};
 ghost use Rattle.abt_agent.specs.States.{stands_for};
 ghost use Rattle.abt_links.specs.Transit.{link_of, ready_pairs};
-ghost use Rattle.abt_network.specs.Standing.{reached, standing_in, standing_of, state_at, CanDeliver, Delivers, LeadsOn, StandsAt, Starts};
+ghost use Rattle.abt_network.specs.Standing.{reached, standing_in, standing_of, state_at, CanDeliver, Delivers, IsSeat, LeadsOn, StandsAt, Starts, TellsSent};
 
 use crate::body::Body;
 use crate::{Begun, Delivery, Standing};
+use abt_agent::Agent;
+use abt_parts::{Message, SentTo};
 use dcsp_common::Memory;
 use dcsp_problem::Problem;
 use std::alloc::Global;
@@ -78,6 +83,7 @@ impl<'p> Network<'p> {
     pub fn deliver(&mut self, choice: u32) -> Result<Delivery, Memory>
         requires { self.old.spent ≡ false → CanDeliver self.old }
         ensures delivers { (net : TheNetwork) → StandsAt self.old net → IfOk result (λ d. Delivers self.old.problem self.new net choice d) }
+        ensures sends { (net : TheNetwork) → StandsAt self.old net → OnOk result (TellsSent self.old.problem self.new.sent net choice) }
         ensures leads { (choices : List ℕ) → StandsAt self.old (reached self.old choices) → IfOk result (λ d. LeadsOn self.old self.new choices choice d) }
         ensures begun { IfOk result (λ _. self.new.begun ≡ true) }
         ensures problem { self.new.problem ≡ self.old.problem }
@@ -136,6 +142,33 @@ impl<'p> Network<'p> {
         ensures { result ≡ length (link_of self.now.links from to) }
     {
         self.body.links.waiting(from, to)
+    }
+
+    /// The first message in transit from one agent to another, if there is one. It has its stamps.
+    pub fn first(&self, from: u32, to: u32) -> Option<&Message>
+        ensures first { option_copied result ≡ slice_get (link_of self.now.links from to) 0 }
+        ensures machine { (net : TheNetwork) → StandsAt self.now net → slice_get (net.links from to) 0 ≡ option_map message_of (option_copied result) }
+        ensures stamped { self.now.spent ≡ false → IfSome (option_copied result) IsStamped }
+    {
+        self.body.links.first(from, to)
+    }
+
+    /// What is told of the messages that the last delivery sent, in order.
+    pub fn sent(&self) -> &[SentTo]
+        ensures { result.now ≡ self.now.sent }
+    {
+        &self.body.sent
+    }
+
+    /// An agent.
+    pub fn agent(&self, agent: u32) -> &Agent<'p>
+        requires { agent < length self.now.problem.domains }
+        ensures agent { result.now ≡ state_at self.now.agents agent }
+        ensures machine { (net : TheNetwork) → StandsAt self.now net → stands_for result.now ≡ net.agents agent }
+        ensures seat { self.now.spent ≡ false → IsSeat self.now.problem agent result.now }
+    {
+        self.body.problem.denotes_csp();
+        &self.body.agents[agent as usize]
     }
 
     /// The number of this pair's list, which is ready.

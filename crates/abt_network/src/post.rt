@@ -1,15 +1,15 @@
 //! Sends what an agent has put out.
 
-ghost use Rattle.std.specs.Prelude.{◌≡◌, ◌<◌, ◌++◌, ℕ, List, [], All, OnOk, if◌then◌else◌, ◌==◌, ◌&&◌, ◌∷◌};
+ghost use Rattle.std.specs.Prelude.{◌≡◌, ◌<◌, ◌++◌, ℕ, List, [], All, OnOk, map, if◌then◌else◌, ◌==◌, ◌&&◌, ◌∷◌};
 ghost use Rattle.abt_defs.specs.Network.{sent_to};
-ghost use Rattle.abt_parts.specs.Messages.{message_of, messages_of};
+ghost use Rattle.abt_parts.specs.Messages.{message_of, messages_of, told_sent};
 ghost use Rattle.abt_parts.specs.declared.message.Sent.{Sent as TheSent};
 ghost use Rattle.abt_agent.specs.Outgoing.{IsStamped};
 ghost use Rattle.abt_network.specs.Standing.{messages_on};
 ghost use Rattle.abt_network.specs.Bodies.{AreStamped};
 
 use abt_links::Links;
-use abt_parts::{Outbox, Sent};
+use abt_parts::{Outbox, Sent, SentTo};
 use dcsp_common::Memory;
 
 /// Sends one message.
@@ -29,8 +29,13 @@ fn post_one(links: &mut Links, from: u32, sent: Sent) -> Result<(), Memory>
     Ok(())
 }
 
-/// Sends all messages of the outbox, in order.
-pub fn post(links: &mut Links, from: u32, out: &mut Outbox) -> Result<(), Memory>
+/// Sends all messages of the outbox, in order, and adds to `told` what is told of each.
+pub fn post(
+    links: &mut Links,
+    from: u32,
+    out: &mut Outbox,
+    told: &mut Vec<SentTo>,
+) -> Result<(), Memory>
     requires sender { from < links.old.agents }
     requires receivers { All (λ (sent : TheSent). sent.to < links.old.agents) out.old }
     requires stamps { All (λ (sent : TheSent). IsStamped sent.message) out.old }
@@ -39,9 +44,22 @@ pub fn post(links: &mut Links, from: u32, out: &mut Outbox) -> Result<(), Memory
     ensures lists { (k i : ℕ) → OnOk result (messages_on links.new k i ≡ (if k == from then messages_on links.old k i ++ sent_to i (messages_of out.old) else messages_on links.old k i)) }
     ensures stamped { OnOk result (AreStamped links.new) }
     ensures out { OnOk result (out.new ≡ []) }
+    ensures told { OnOk result (told.new.items ≡ told.old.items ++ map told_sent (messages_of out.old)) }
 {
     while let Some(sent) = out.take_first() {
+        let heading = sent.told();
         post_one(links, from, sent)?;
+        add_told(told, heading)?;
     }
     Ok(())
+}
+
+/// Adds what is told of a message at the end.
+fn add_told(told: &mut Vec<SentTo>, heading: SentTo) -> Result<(), Memory>
+    ensures { OnOk result (told.new.items ≡ told.old.items ++ heading ∷ []) }
+{
+    match told.push(heading) {
+        Ok(()) => Ok(()),
+        Err(_) => Err(Memory),
+    }
 }

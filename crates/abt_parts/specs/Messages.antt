@@ -6,6 +6,9 @@ use Rattle.abt_defs.specs.Agents.{StampedNogood}
 use Rattle.abt_parts.specs.declared.message.Message.{Message}
 use Rattle.abt_parts.specs.declared.message.Message.TheVariants.{Tell, Refuse, AddLink}
 use Rattle.abt_parts.specs.declared.message.Sent.{Sent}
+use Rattle.abt_parts.specs.declared.message.SentTo.{SentTo}
+use Rattle.abt_parts.specs.declared.message.MessageKind.{MessageKind}
+use Rattle.abt_parts.specs.declared.message.MessageKind.TheVariants as kinds
 
 -- the pairs with their stamps; a pair past the last stamp has the stamp 0
 abbrev pub with_stamps : List Pair → List ℕ → StampedNogood
@@ -26,3 +29,13 @@ sent_of sent = (sent.to, message_of sent.message)
 -- all of them, in order
 abbrev pub messages_of : List Sent → List (ℕ × agents.Message)
 messages_of sent = map sent_of sent
+
+-- the kind of a message
+abbrev pub kind_of : agents.Message → MessageKind
+kind_of (agents.Announce told) = kinds.Tell
+kind_of (agents.Refuse step pairs) = kinds.Refuse
+kind_of agents.Add_link = kinds.AddLink
+
+-- what is told of a message that was sent
+abbrev pub told_sent : ℕ × agents.Message → SentTo
+told_sent x = record { to = x.0; kind = kind_of x.1 }

@@ -15,7 +15,7 @@ mod taken;
 mod view;
 
 pub use dcsp_common::Memory;
-pub use message::{Message, Outbox, Sent, StampList};
+pub use message::{Message, MessageKind, Outbox, Sent, SentTo, StampList};
 pub use recorded::Recorded;
 pub use store::Store;
 pub use view::{StampedValue, View};

@@ -5,6 +5,7 @@
 //! each of them is.
 
 ghost use Rattle.std.specs.Prelude.{◌≡◌, ◌↔◌, ◌+◌, [], ◌∷◌, ◌++◌, drop, length, slice_get, IfErr, IsTrue, OnErr, OnOk};
+ghost use Rattle.abt_parts.specs.Messages.{kind_of, message_of, sent_of, told_sent};
 
 use dcsp_common::{ItemList, Memory};
 use dcsp_defs::Nogood;
@@ -35,12 +36,56 @@ pub enum Message {
     AddLink,
 }
 
+/// A kind of message.
+#[derive(Clone, Copy, Debug, PartialEq, Eq)]
+pub enum MessageKind {
+    /// An agent's value.
+    Tell,
+    /// A nogood.
+    Refuse,
+    /// A request to be told values.
+    AddLink,
+}
+
+impl Message {
+    /// Its kind.
+    pub fn kind(&self) -> MessageKind
+        ensures { result ≡ kind_of (message_of self.now) }
+    {
+        match self {
+            Message::Tell { .. } => MessageKind::Tell,
+            Message::Refuse { .. } => MessageKind::Refuse,
+            Message::AddLink => MessageKind::AddLink,
+        }
+    }
+}
+
 /// A message and its receiver.
 #[derive(Debug, Drop)]
 pub struct Sent {
     /// The agent that receives it, counted from 0.
     pub to: u32,
     pub message: Message,
+}
+
+/// What is told of a message that was sent.
+#[derive(Clone, Copy, Debug, PartialEq, Eq)]
+pub struct SentTo {
+    /// The agent that receives it, counted from 0.
+    pub to: u32,
+    pub kind: MessageKind,
+}
+
+impl Sent {
+    /// What is told of it.
+    pub fn told(&self) -> SentTo
+        ensures { result ≡ told_sent (sent_of self.now) }
+    {
+        SentTo {
+            to: self.to,
+            kind: self.message.kind(),
+        }
+    }
 }
 
 /// Messages that are to be sent, first in and first out.

@@ -5,6 +5,7 @@ pub mod ChangedLaws
 pub mod CountLaws
 pub mod Domains
 pub mod FirstLaws
+pub mod FoundRules
 pub mod GridLaws
 pub mod GridSteps
 pub mod KeptLaws

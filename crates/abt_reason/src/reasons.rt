@@ -6,8 +6,9 @@ ghost use Rattle.abt_defs.specs.Agents.{values_in};
 ghost use Rattle.dcsp_rule.specs.Problems.{csp_of, AreInDomains};
 ghost use Rattle.abt_parts.specs.declared.recorded.Recorded.{Recorded as TheRecorded};
 ghost use Rattle.abt_parts.specs.Views.{view_of};
-ghost use Rattle.abt_reason.specs.Causes.{reason_for, value_at};
-ghost use Rattle.abt_reason.specs.Cached.{size_of, StandsFor, StoodBefore, StoodWithoutLast};
+ghost use Rattle.abt_reason.specs.Causes.{is_false, known_at, reason_for, value_at};
+ghost use Rattle.abt_reason.specs.Firsts.{IsFirst};
+ghost use Rattle.abt_reason.specs.Cached.{rules_of, size_of, StandsFor, StoodBefore, StoodWithoutLast};
 
 use crate::kept::KeptSteps;
 use crate::rules::{FirstRules, Owner};
@@ -113,5 +114,14 @@ impl<'p> Reasons<'p> {
             Some(at) => Some(Reason::Rule(self.owned[at as usize])),
             None => earlier(self.kept.steps[place]),
         }
+    }
+
+    /// The place, among the rules that the agent owns, of the first that is violated at the value at a place of
+    /// the agent's domain; `None` exactly if none is.
+    pub fn first_rule(&self, place: usize) -> Option<u32>
+        requires { place < size_of self.now.problem self.now.agent }
+        ensures { (known : PartialAssignment) (items : List TheRecorded) → StandsFor self.now known items → IsFirst (is_false self.now.problem self.now.agent (known_at self.now.problem self.now.agent known place)) (rules_of self.now.problem self.now.agent) result }
+    {
+        self.rules.ruled_out.firsts[place]
     }
 }

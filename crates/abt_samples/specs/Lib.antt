@@ -1,3 +1,4 @@
 pub mod Models
 pub mod Rows
 pub mod LossyRows
+pub mod MeasuredRows

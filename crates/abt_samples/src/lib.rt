@@ -3,6 +3,7 @@
 #![tactic(auto)]
 
 ghost use Rattle.abt_samples.specs.Rows.{RefutedPair, LinkAskedFor, InOrder, StarvedLink, NogoodWhileWaiting, Triangle, FourQueens, OneAgentsReasons, ToldOnce, News};
+ghost use Rattle.abt_samples.specs.MeasuredRows.{RefutedPairMeasured, LinkAskedForMeasured};
 ghost use Rattle.abt_samples.specs.LossyRows.{CalmRefuted, CalmSolved, FourWords, LostAcknowledgement, Reordered, RepeatedAcknowledgement};
 
 /// Two variables that are to differ and to agree.
@@ -83,4 +84,14 @@ pub fn calm_refuted()
 /// The calm run of two variables that are to differ.
 pub fn calm_solved()
     ensures { CalmSolved }
+{}
+
+/// The measures of the first of these runs.
+pub fn refuted_pair_measured()
+    ensures { RefutedPairMeasured }
+{}
+
+/// The measures of the run in which a link is asked for.
+pub fn link_asked_for_measured()
+    ensures { LinkAskedForMeasured }
 {}

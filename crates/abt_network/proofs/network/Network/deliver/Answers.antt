@@ -1,5 +1,5 @@
 use Rattle.std.proofs.Common.{◌≡◌, false, sym, ap, subst, ◌∙◌}
-use Rattle.abt_network.specs.Standing.{NetworkState, StandsAt, Delivers, LeadsOn, reached}
+use Rattle.abt_network.specs.Standing.{NetworkState, StandsAt, Delivers, LeadsOn, TellsSent, reached}
 use Rattle.abt_network.specs.Bodies.{shown}
 use Rattle.abt_network.proofs.network.Network.deliver.Goals as goal
 
@@ -16,3 +16,8 @@ returns-in-Ok-clause-leads c choices st =
     let after : shown c.deliver.new.self false ≡ shown c.deliver.new.self c.self.inside.spent = ap (shown c.deliver.new.self) (sym c.if-self.false) in
     subst (λ (z : NetworkState). LeadsOn c.args.self.now z choices c.args.choice c.in-Ok.delivery) after
     (subst (λ (s : NetworkState). StandsAt s (reached s choices) → LeadsOn s (shown c.deliver.new.self false) choices c.args.choice c.in-Ok.delivery) before (c.in-Ok.ensures.leads choices) st)
+
+pub returns-in-Ok-clause-sends : goal.returns-in-Ok-clause-sends
+returns-in-Ok-clause-sends c net st =
+    let before : shown c.self.inside.body false ≡ c.args.self.now = ap (shown c.self.inside.body) (sym c.if-self.false) ∙ c.self.view_is in
+    (subst (λ (s : NetworkState). StandsAt s net → TellsSent s.problem c.deliver.new.self.sent.items net c.args.choice) before (c.in-Ok.ensures.sends net) st)

@@ -13,36 +13,12 @@ use Rattle.abt_reason.proofs.FirstLaws.{first_alike}
 use Rattle.abt_reason.specs.Causes.{is_false, known_at, value_at, reason_for}
 use Rattle.abt_reason.specs.Cached.{Cached, StandsFor, IsCache, rules_of, size_of}
 use Rattle.abt_reason.proofs.CauseLaws.{reason_rule, reason_step}
+use Rattle.abt_reason.proofs.FoundRules.{within_values, place_in_range, first_rule}
 use Rattle.abt_reason.proofs.reasons.Reasons.first.Goals as goal
 
 -- what stands at the value's place
 stands_at : (places : List (Option ℕ)) (k count : ℕ) (o r : Option ℕ) → length places ≡ count → k < count → o ≡ get_or places k o → o ≡ r → get_or places k None ≡ r
 stands_at places k count o r size within is e = sym (get_or_default places k o None (omega arith)) ∙ sym is ∙ e
-
-within_values : (r : Cached) (shown : Cached) (k : ℕ) → r ≡ shown → k < size_of shown.problem shown.agent → k < size_of r.problem r.agent
-within_values r shown k e l = subst (λ (x : Cached). k < size_of x.problem x.agent) (sym e) l
-
--- the first row that marks the value
-first_row : (r : Cached) (owned : List ℕ) (rows : List Marks) (counts : List ℕ) (firsts : List (Option ℕ)) (namings : List Naming) (room : Marks) (k : ℕ) (o : Option ℕ) → IsCache r owned rows counts firsts namings room → k < size_of r.problem r.agent → o ≡ get_or firsts k o
-    → IsFirst (marks r.rows k) (rules_of r.problem r.agent) o
-first_row r owned rows counts firsts namings room k o inv within is =
-    let are = inv.for_rules.are_rows in
-    let for_firsts : k < length firsts = let size = are.grid.first_each in omega arith in
-    let found = are.grid.right_first k within in
-    let held = rows_of (size_of r.problem r.agent) rows in
-    subst (λ (rs : List (List Bool)). IsFirst (marks rs k) (rules_of r.problem r.agent) o) (sym inv.rows_are)
-    (subst (λ n. IsFirst (marks held k) n o) (count_rows (size_of r.problem r.agent) rows ∙ are.each_rule) (subst (IsFirst (marks held k) (length held)) (sym (is ∙ get_or_default firsts k o None for_firsts)) found))
-
-place_in_range : (r shown : Cached) (owned : List ℕ) (rows : List Marks) (counts : List ℕ) (firsts : List (Option ℕ)) (namings : List Naming) (room : Marks) (k at : ℕ) (o : Option ℕ) → IsCache r owned rows counts firsts namings room → r ≡ shown → k < size_of shown.problem shown.agent
-    → o ≡ get_or firsts k o → o ≡ Some at → at < rules_of r.problem r.agent
-place_in_range r shown owned rows counts firsts namings room k at o inv e l is some =
-    (subst (IsFirst (marks r.rows k) (rules_of r.problem r.agent)) some (first_row r owned rows counts firsts namings room k o inv (within_values r shown k e l) is)).0
-
--- it is the first false rule
-first_rule : (r : Cached) (owned : List ℕ) (rows : List Marks) (counts : List ℕ) (firsts : List (Option ℕ)) (namings : List Naming) (room : Marks) (known : PartialAssignment) (items : List Recorded) (k : ℕ) (o : Option ℕ) → IsCache r owned rows counts firsts namings room → StandsFor r known items
-    → k < size_of r.problem r.agent → o ≡ get_or firsts k o → IsFirst (is_false r.problem r.agent (known_at r.problem r.agent known k)) (rules_of r.problem r.agent) o
-first_rule r owned rows counts firsts namings room known items k o inv stands within is =
-    first_alike (marks r.rows k) (is_false r.problem r.agent (known_at r.problem r.agent known k)) (rules_of r.problem r.agent) o (λ j l. stands.rules j l k within) (first_row r owned rows counts firsts namings room k o inv within is)
 
 pub bounds-self-inside-at : goal.bounds-self-inside-at
 bounds-self-inside-at c =

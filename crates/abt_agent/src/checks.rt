@@ -1,0 +1,176 @@
+//! How much an agent looks at as it settles.
+
+ghost use Rattle.std.specs.Prelude.{◌≡◌, ◌<◌, ◌≤◌, ◌+◌, ℤ, Some, IfOk, filter, is_some, length, take, if◌then◌else◌};
+ghost use Rattle.dcsp_defs.specs.Words.{In, is_value};
+ghost use Rattle.dcsp_defs.specs.Csp.{domain, with_value};
+ghost use Rattle.dcsp_rule.specs.Problems.{constraint_at, csp_of};
+ghost use Rattle.dcsp_problem.specs.Index.{owned_rules};
+ghost use Rattle.abt_defs.specs.Agents.{values_in};
+ghost use Rattle.abt_defs.specs.Checks.{checks, constraint_checks, is_decided, nogood_checks};
+ghost use Rattle.abt_reason.specs.Causes.{value_at};
+ghost use Rattle.abt_parts.specs.Views.{view_of};
+ghost use Rattle.abt_parts.specs.Stores.{records_of};
+ghost use Rattle.abt_agent.specs.Bodies.{IsInStep};
+ghost use Rattle.abt_agent.specs.Examined.{as_checks, checks_but, sum_of, AreLookedAt};
+
+use crate::knowledge::Knowledge;
+use dcsp_common::Memory;
+use dcsp_defs::Reason;
+
+/// How many constraints and how many recorded nogoods are looked at.
+#[derive(Clone, Copy, Debug, PartialEq, Eq)]
+pub struct Checks {
+    pub constraints: u64,
+    pub nogoods: u64,
+}
+
+impl Checks {
+    /// Both. A number past its width counts as want of memory.
+    pub fn plus(self, other: Checks) -> Result<Checks, Memory>
+        ensures { IfOk result (λ sum. as_checks sum ≡ sum_of (as_checks self) (as_checks other)) }
+    {
+        let Some(constraints) = self.constraints.checked_add(other.constraints) else {
+            return Err(Memory);
+        };
+        let Some(nogoods) = self.nogoods.checked_add(other.nogoods) else {
+            return Err(Memory);
+        };
+        Ok(Checks {
+            constraints,
+            nogoods,
+        })
+    }
+}
+
+impl<'p> Knowledge<'p> {
+    /// Whether each variable of the rule, but for the agent's own, has a value in the view.
+    fn is_decided(&self, rule: u32) -> bool
+        requires { rule < length self.now.problem.now.rules }
+        ensures { (v : ℤ) → result ≡ is_decided (with_value self.now.me v (values_in (view_of self.now.view))) (constraint_at self.now.problem.now rule) }
+    {
+        let scope = self.problem.scope(rule);
+        for place in 0..scope.len() {
+            if !self.has_value(scope[place]) {
+                return false;
+            }
+        }
+        true
+    }
+
+    /// Whether the variable is the agent's own, or has a value in the view.
+    fn has_value(&self, var: u32) -> bool
+        ensures { (v : ℤ) → result ≡ is_some (with_value self.now.me v (values_in (view_of self.now.view)) var) }
+    {
+        if var == self.me {
+            return true;
+        }
+        self.view.value_of(var).is_some()
+    }
+
+    /// How many of so many first rules that the agent owns are decided.
+    fn decided_among(&self, end: usize) -> u64
+        requires agent { self.now.me < length self.now.problem.now.domains }
+        requires end { end ≤ length (owned_rules self.now.problem.now self.now.me) }
+        ensures { (v : ℤ) → result ≡ length (filter (λ rule. is_decided (with_value self.now.me v (values_in (view_of self.now.view))) (constraint_at self.now.problem.now rule)) (take end (owned_rules self.now.problem.now self.now.me))) }
+    {
+        let owned = self.problem.owned(self.me);
+        let mut count = 0;
+        for place in 0..end {
+            count += one_if(self.is_decided(owned[place]));
+        }
+        count
+    }
+
+    /// The checks of the value at a place of the agent's domain.
+    fn value_checks(&self, place: usize) -> Checks
+        requires in_step { IsInStep self.now }
+        requires place { place < length (domain (csp_of self.now.problem.now) self.now.me) }
+        ensures constraints { result.constraints ≡ constraint_checks (csp_of self.now.problem.now) self.now.me (values_in (view_of self.now.view)) (value_at self.now.problem.now self.now.me place) }
+        ensures nogoods { result.nogoods ≡ nogood_checks (csp_of self.now.problem.now) self.now.me (values_in (view_of self.now.view)) (records_of self.now.store) (value_at self.now.problem.now self.now.me place) }
+    {
+        let nogoods = match self.reasons.first(place) {
+            Some(Reason::Earlier(_)) => 1,
+            Some(Reason::Rule(_)) | None => 0,
+        };
+        let end = self.looked_at(place);
+        Checks {
+            constraints: self.decided_among(end),
+            nogoods,
+        }
+    }
+
+    /// How many first rules that the agent owns are looked at for the value at a place of its domain: those up to
+    /// the first that is violated, or all.
+    fn looked_at(&self, place: usize) -> usize
+        requires in_step { IsInStep self.now }
+        requires place { place < length (domain (csp_of self.now.problem.now) self.now.me) }
+        ensures within { result ≤ length (owned_rules self.now.problem.now self.now.me) }
+        ensures looked_at { AreLookedAt self.now.problem.now self.now.me (with_value self.now.me (value_at self.now.problem.now self.now.me place) (values_in (view_of self.now.view))) result }
+    {
+        match self.reasons.first_rule(place) {
+            Some(at) => at as usize + 1,
+            None => self.problem.owned(self.me).len(),
+        }
+    }
+
+    /// The checks of the values of the agent's domain but its own, up to the first that is not ruled out, and
+    /// those so far.
+    fn other_checks(&self, own: Option<i64>, so_far: Checks) -> Result<Checks, Memory>
+        requires { IsInStep self.now }
+        ensures { IfOk result (λ sum. as_checks sum ≡ sum_of (as_checks so_far) (checks_but self.now.problem.now self.now.me (values_in (view_of self.now.view)) (records_of self.now.store) own (domain (csp_of self.now.problem.now) self.now.me))) }
+    {
+        let domain = self.problem.domain(self.me);
+        let mut sum = so_far;
+        for place in 0..domain.len() {
+            if is_own(own, self.value_at(place)) {
+                continue;
+            }
+            sum = sum.plus(self.value_checks(place))?;
+            if self.is_free_at(place) {
+                return Ok(sum);
+            }
+        }
+        Ok(sum)
+    }
+
+    /// The checks of the agent as it settles with this value of its own.
+    pub fn checks(&self, own: Option<i64>) -> Result<Checks, Memory>
+        requires in_step { IsInStep self.now }
+        requires own { (v : ℤ) → own ≡ Some v → In v (domain (csp_of self.now.problem.now) self.now.me) }
+        ensures { IfOk result (λ sum. as_checks sum ≡ checks (csp_of self.now.problem.now) self.now.me (values_in (view_of self.now.view)) (records_of self.now.store) own) }
+    {
+        let none = Checks {
+            constraints: 0,
+            nogoods: 0,
+        };
+        let Some(value) = own else {
+            return self.other_checks(own, none);
+        };
+        let Some(place) = self.problem.domain(self.me).place_of(value) else {
+            return Ok(none);
+        };
+        let first = self.value_checks(place);
+        if self.is_free_at(place) {
+            return Ok(first);
+        }
+        self.other_checks(own, first)
+    }
+}
+
+/// 1 where the test passes, else 0.
+fn one_if(passes: bool) -> u64
+    ensures one { result ≡ (if passes then 1 else 0) }
+    ensures few { result ≤ 1 }
+{
+    if passes { 1 } else { 0 }
+}
+
+/// Whether there is a value of the agent's own, and it is this one.
+fn is_own(own: Option<i64>, value: i64) -> bool
+    ensures { result ≡ is_value own value }
+{
+    match own {
+        Some(own) => own == value,
+        None => false,
+    }
+}
