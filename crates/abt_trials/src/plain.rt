@@ -38,7 +38,8 @@ const HELP: &[u8] = b"abt: asynchronous backtracking over FlatZinc, with certifi
   abt gen queens N      prints the problem of N queens, 1 to 200
   abt gen colouring N K SEED
                         prints a colouring of N nodes, 1 to 200, with K colours, 1 to 16
-  abt gen sparse N SEED prints a colouring of N nodes, 1 to 4,096, with few edges
+  abt gen sparse N SEED
+                        prints a colouring of N nodes, 1 to 4,096, with few edges
   abt gen pigeons N     prints the problem of N pigeons, 2 to 200, in one hole less
   abt drill SEED        runs three generated models, and checks the log of the last
   abt cnf CNF PROOF [--seed N]
