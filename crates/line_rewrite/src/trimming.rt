@@ -19,7 +19,7 @@ use dcsp_outside::{Folder, Sink};
 use dcsp_problem::Problem;
 use dcsp_script::{Stop, put};
 use itoa::Buffer;
-use line_check::{Checked, check_and_keep, finding_line, take_problem};
+use line_check::{Checked, check_and_keep, finding_line, is_verified, take_problem};
 use ngd_check::Finding;
 use ngd_rewrite::{Core, core_of};
 use std::alloc::{AllocError, Global};
@@ -79,16 +79,6 @@ pub fn run_core<F: Folder, S: Sink>(
     };
     write_core(alloc, folder, line.trimmed, &found, &core, out)?;
     Ok(Status::Good)
-}
-
-/// Whether the log is a refutation.
-fn is_verified(finding: Finding) -> bool
-    ensures { (result ≡ true) ↔ (finding ≡ Finding.Verified) }
-{
-    match finding {
-        Finding::Verified => true,
-        Finding::BadStep { .. } | Finding::BadDeletion { .. } | Finding::NotEmpty => false,
-    }
 }
 
 /// Puts the finding's line on `out`, in one piece.
