@@ -1,5 +1,7 @@
 //! What the program does, up to the number that it ends with.
 
+ghost use Rattle.abt_main.specs.Ending.{EndsWith};
+
 use abt_command::{Status, run_program};
 use abt_files::{OpenFiles, RealFolder, RealSink, Stream};
 use dcsp_common::Memory;
@@ -12,8 +14,13 @@ use std::io::ErrorKind;
 use std::os::fd::AsRawFd;
 
 /// Runs the command that the program's words ask for, in the folder and with the streams that it was started
-/// with, and gives the number that it ends with.
-pub fn run(rt: HostRuntime) -> u8 {
+/// with, and gives the number that it ends with: that of the status of a run over an outside with which nothing was
+/// done before, or of want of memory for the words.
+// The proof is written out: a search would try all that a run promises.
+#[tactic(none)]
+pub fn run(rt: HostRuntime) -> u8
+    ensures { EndsWith result }
+{
     let alloc = rt.alloc();
     // A stream that was closed before the program began leaves its number free, and no file may take it: what is put
     // on the stream would go there. So the null device takes such numbers, and a put fails.
