@@ -8,7 +8,7 @@ use Rattle.abt_promise.specs.Statuses.{IsRefusal}
 use Rattle.abt_input.specs.declared.error.CommandError.{CommandError}
 use Rattle.abt_input.specs.declared.error.CommandError.TheVariants.{Fault}
 use Rattle.abt_input.specs.declared.clauses_error.ClausesError.{ClausesError}
-use Rattle.abt_input.specs.declared.clauses_error.ClausesError.TheVariants.{CnfLong, CnfRefused, ProofLong, ProofLine}
+use Rattle.abt_input.specs.declared.clauses_error.ClausesError.TheVariants.{CnfLong, CnfRefused, CnfLimit, ProofLong, ProofLine}
 use Rattle.abt_input.specs.ClausesErrors.{clauses_status}
 use Rattle.abt_input.specs.Inputs.{most_cnf}
 use Rattle.abt_input.specs.Errors.{cnf_error}
@@ -30,5 +30,6 @@ cnf_no_fault cnf.Memory d is f = let k = is in let l = f in cc
 pub clauses_refuse : (e : ClausesError) → IsRefusal (clauses_status e)
 clauses_refuse CnfLong = tt
 clauses_refuse (CnfRefused error) = tt
+clauses_refuse (CnfLimit which count) = tt
 clauses_refuse ProofLong = tt
 clauses_refuse (ProofLine number) = tt

@@ -12,7 +12,7 @@ use Rattle.rup_check.proofs.ProofLaws.{accepted, refused}
 use Rattle.abt_promise.specs.Statuses.{IsFinal}
 use Rattle.abt_input.specs.declared.error.CommandError.{CommandError}
 use Rattle.abt_input.specs.declared.error.CommandError.TheVariants.{ModelLong, ModelRefused, NoAim, LogLong, LogLine, ScheduleLong, ScheduleLine, Clauses, Fault, Memory}
-use Rattle.abt_input.specs.declared.clauses_error.ClausesError.TheVariants.{CnfLong, CnfRefused, ProofLong, ProofLine}
+use Rattle.abt_input.specs.declared.clauses_error.ClausesError.TheVariants.{CnfLong, CnfRefused, CnfLimit, ProofLong, ProofLine}
 use Rattle.abt_input.specs.Inputs.{most_model, most_log, most_schedule, most_cnf, IsModelOf, IsRefused, IsTextOf, IsBadAt, HasChoices, IsScheduleBadAt, IsFormulaOf, IsCnfRefused, HasClauses, IsProofBadAt}
 use Rattle.abt_input.proofs.Causes.{HasCause, too_long, refused_for, no_error, one_error, of_causes}
 use Rattle.abt_input.specs.Errors.{IsErrorOfModel, IsErrorOfLog, IsErrorOfSchedule, IsErrorOfCnf, IsErrorOfProof, error_status}
@@ -73,6 +73,7 @@ of_cnf text (ScheduleLine number) h = absurd h
 of_cnf text NoAim h = absurd h
 of_cnf text (Clauses CnfLong) h = long_cnf h refl
 of_cnf text (Clauses (CnfRefused error)) h = no_formula error h refl
+of_cnf text (Clauses (CnfLimit which count)) h = absurd h
 of_cnf text (Clauses ProofLong) h = absurd h
 of_cnf text (Clauses (ProofLine number)) h = absurd h
 of_cnf text Fault h = absurd h
@@ -88,6 +89,7 @@ of_proof text (ScheduleLine number) h = absurd h
 of_proof text NoAim h = absurd h
 of_proof text (Clauses CnfLong) h = absurd h
 of_proof text (Clauses (CnfRefused error)) h = absurd h
+of_proof text (Clauses (CnfLimit which count)) h = absurd h
 of_proof text (Clauses ProofLong) h = long_proof h refl
 of_proof text (Clauses (ProofLine number)) h = bad_clause number h refl
 of_proof text Fault h = absurd h

@@ -4,14 +4,15 @@ use Rattle.abt_promise.specs.declared.status.Status.{Status}
 use Rattle.abt_promise.specs.declared.status.Status.TheVariants as statuses
 use Rattle.cnf_front.specs.declared.header.CnfError.{CnfError}
 use Rattle.cnf_front.specs.declared.header.CnfError.TheVariants as cnf
-use Rattle.abt_input.specs.ModelTexts.{place_text, limit_text}
+use Rattle.abt_input.specs.ModelTexts.{place_text, limit_text, reached_text}
 use Rattle.abt_input.specs.declared.clauses_error.ClausesError.{ClausesError}
-use Rattle.abt_input.specs.declared.clauses_error.ClausesError.TheVariants.{CnfLong, CnfRefused, ProofLong, ProofLine}
+use Rattle.abt_input.specs.declared.clauses_error.ClausesError.TheVariants.{CnfLong, CnfRefused, CnfLimit, ProofLong, ProofLine}
 
 -- the status of an error
 abbrev pub clauses_status : ClausesError → Status
 clauses_status CnfLong = statuses.Model
 clauses_status (CnfRefused error) = statuses.Model
+clauses_status (CnfLimit which count) = statuses.Model
 clauses_status ProofLong = statuses.Text
 clauses_status (ProofLine number) = statuses.Text
 
@@ -25,5 +26,6 @@ cnf_error_text cnf.Memory = codes "abt: memory\n"
 abbrev pub clauses_text : ClausesError → List ℕ
 clauses_text CnfLong = codes "abt: cnf: too long\n"
 clauses_text (CnfRefused error) = cnf_error_text error
+clauses_text (CnfLimit which count) = codes "abt: cnf: limit " ++ reached_text which count ++ codes "\n"
 clauses_text ProofLong = codes "abt: proof: too long\n"
 clauses_text (ProofLine number) = codes "abt: proof: line " ++ decimal number ++ codes "\n"

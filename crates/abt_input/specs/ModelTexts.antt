@@ -18,7 +18,11 @@ which_text Elements = codes "elements"
 abbrev pub place_text : ℕ → List ℕ
 place_text at = decimal at ++ codes "\n"
 
--- which limit would be passed, by how many, and where
+-- which limit would be passed, and by how many
+abbrev pub reached_text : Which → ℕ → List ℕ
+reached_text which count = which_text which ++ codes " " ++ decimal count
+
+-- the same, and where
 abbrev pub limit_text : Which → ℕ → ℕ → List ℕ
 limit_text which count at = which_text which ++ codes " " ++ decimal count ++ codes " at " ++ place_text at
 

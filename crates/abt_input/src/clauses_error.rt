@@ -4,9 +4,10 @@ ghost use Rattle.std.specs.Prelude.{◌≡◌};
 ghost use Rattle.abt_input.specs.ClausesErrors.{clauses_status, clauses_text, cnf_error_text};
 
 use crate::line::Line;
-use crate::model_text::{limit_line, placed};
+use crate::model_text::{limit_line, placed, reached_line};
 use abt_promise::Status;
 use cnf_front::CnfError;
+use fzn_model::Which;
 
 /// Why a formula or a proof was refused.
 #[derive(Clone, Copy, Debug, PartialEq, Eq)]
@@ -15,6 +16,8 @@ pub enum ClausesError {
     CnfLong,
     /// The text is no formula, and this is why. It is never want of memory.
     CnfRefused { error: CnfError },
+    /// The formula that is to be written would have `count` of these, which is more than a formula may have.
+    CnfLimit { which: Which, count: u128 },
     /// The proof has more than 2^62 bytes.
     ProofLong,
     /// The text is no proof, and this is its first bad line, counted from 1.
@@ -26,7 +29,9 @@ pub(crate) fn clauses_status(error: ClausesError) -> Status
     ensures { result ≡ clauses_status error }
 {
     match error {
-        ClausesError::CnfLong | ClausesError::CnfRefused { .. } => Status::Model,
+        ClausesError::CnfLong | ClausesError::CnfRefused { .. } | ClausesError::CnfLimit { .. } => {
+            Status::Model
+        }
         ClausesError::ProofLong | ClausesError::ProofLine { .. } => Status::Text,
     }
 }
@@ -38,6 +43,9 @@ pub(crate) fn clauses_line(error: ClausesError) -> Line
     match error {
         ClausesError::CnfLong => Line::of(b"abt: cnf: too long\n"),
         ClausesError::CnfRefused { error } => cnf_error_line(error),
+        ClausesError::CnfLimit { which, count } => {
+            reached_line(b"abt: cnf: limit ", which, count)
+        }
         ClausesError::ProofLong => Line::of(b"abt: proof: too long\n"),
         ClausesError::ProofLine { number } => Line::numbered(b"abt: proof: line ", number),
     }

@@ -1,7 +1,7 @@
 //! The lines that tell why a model has no problem.
 
 ghost use Rattle.std.specs.Prelude.{◌≡◌, ◌≤◌, ◌++◌, length, decimal, codes};
-ghost use Rattle.abt_input.specs.ModelTexts.{which_text, place_text, limit_text, model_error_text};
+ghost use Rattle.abt_input.specs.ModelTexts.{which_text, place_text, reached_text, limit_text, model_error_text};
 
 use crate::line::Line;
 use fzn_model::{ModelError, Which};
@@ -54,6 +54,19 @@ pub(crate) fn limit_line(before: &[u8], which: Which, count: u128, at: u32) -> L
         .with(many.format(count).as_bytes())
         .with(b" at ")
         .with(place.format(at).as_bytes())
+        .with(b"\n")
+}
+
+/// The line of these first bytes that tells which limit would be passed.
+pub(crate) fn reached_line(before: &[u8], which: Which, count: u128) -> Line
+    requires { length before.now ≤ 24 }
+    ensures { result ≡ before.now ++ reached_text which count ++ codes "\n" }
+{
+    let mut many = Buffer::new();
+    Line::of(before)
+        .with(which_name(which))
+        .with(b" ")
+        .with(many.format(count).as_bytes())
         .with(b"\n")
 }
 

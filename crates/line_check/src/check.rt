@@ -1,6 +1,6 @@
 //! Checking a log against a model.
 
-ghost use Rattle.std.specs.Prelude.{◌≡◌, [], ◌∷◌, Ok};
+ghost use Rattle.std.specs.Prelude.{◌≡◌, ◌↔◌, true, [], ◌∷◌, Ok};
 ghost use Rattle.dcsp_outside.specs.Outside.{Place};
 ghost use Rattle.dcsp_script.specs.Scripts.{Put, outside};
 ghost use Rattle.dcsp_script.specs.Ways.{Wrote};
@@ -40,6 +40,16 @@ pub fn finding_status(finding: Finding) -> Status
     }
 }
 
+/// Whether the log is a refutation.
+pub fn is_verified(finding: Finding) -> bool
+    ensures { (result ≡ true) ↔ (finding ≡ Finding.Verified) }
+{
+    match finding {
+        Finding::Verified => true,
+        Finding::BadStep { .. } | Finding::BadDeletion { .. } | Finding::NotEmpty => false,
+    }
+}
+
 /// The line that tells a finding.
 pub fn finding_line(finding: Finding) -> Line
     ensures { result ≡ finding_text finding }
@@ -53,7 +63,7 @@ pub fn finding_line(finding: Finding) -> Line
 }
 
 /// Puts the finding's line on `out`, in one piece.
-fn tell<S: Sink>(finding: Finding, out: &mut S) -> Result<(), Stop>
+pub fn tell<S: Sink>(finding: Finding, out: &mut S) -> Result<(), Stop>
     ensures { (folder : Place) → Wrote (Put (finding_text finding) ∷ [])
         (outside folder (S.stream out.old)) (outside folder (S.stream out.new)) result }
 {

@@ -8,7 +8,8 @@ mod laws;
 mod log_check;
 mod pieces;
 
-pub use check::{Check, finding_line, finding_status, run_check};
+pub use asked::take_problem;
+pub use check::{Check, finding_line, finding_status, is_verified, run_check, tell};
 pub use laws::check_is_lawful;
 pub use log_check::Checked;
 pub use pieces::{check_and_keep, check_log};

@@ -37,7 +37,7 @@ use Rattle.line_cnf.proofs.Domains.{HasBinary, binary, count_is, domain_is, valu
 -- ---- a literal among those of a clause
 
 -- each item is this one or has S: then this one is among them, or all have S
-parted : {X : Type 0} (S : X → Type 0) (l : X) (xs : List X) → ((y : X) → Contains xs y → (y ≡ l) ⊎ S y) → Contains xs l ⊎ ((y : X) → Contains xs y → S y)
+pub parted : {X : Type 0} (S : X → Type 0) (l : X) (xs : List X) → ((y : X) → Contains xs y → (y ≡ l) ⊎ S y) → Contains xs l ⊎ ((y : X) → Contains xs y → S y)
 parted S l [] h = inr (λ y c. absurd (contains_nil y c))
 parted {X = X} S l (x ∷ xs) h = of (h x (contains_head x xs)) (parted S l xs (λ y c. h y (contains_cons x xs y c)))
   where
@@ -53,7 +53,7 @@ parted {X = X} S l (x ∷ xs) h = of (h x (contains_head x xs)) (parted S l xs (
 -- ---- what the values with v at x are
 
 -- a pair that the nogood has, or that of x and v
-abbrev IsGiven : Nogood → ℕ → ℤ → ℕ → ℤ → Type 0
+abbrev pub IsGiven : Nogood → ℕ → ℤ → ℕ → ℤ → Type 0
 IsGiven pairs x v k w = ((k ≡ x) × (w ≡ v)) ⊎ In (pair_of k w) pairs
 
 value_in : (pairs : Nogood) (k : ℕ) (w : ℤ) → value_at pairs k ≡ Some w → In (pair_of k w) pairs
@@ -66,7 +66,7 @@ value_in (y ∷ ys) k w e = elim (eqb_tells k y.var) [
     same : (y : Pair) → k ≡ y.var → y.value ≡ w → pair_of k w ≡ y
     same y s u = ap (λ (i : ℕ). pair_of i w) s ∙ ap (λ (z : ℤ). pair_of y.var z) (sym u)
 
-is_given : (pairs : Nogood) (x : ℕ) (v : ℤ) (k : ℕ) (w : ℤ) → given_with x v pairs k ≡ Some w → IsGiven pairs x v k w
+pub is_given : (pairs : Nogood) (x : ℕ) (v : ℤ) (k : ℕ) (w : ℤ) → given_with x v pairs k ≡ Some w → IsGiven pairs x v k w
 is_given pairs x v k w e = elim (eqb_tells k x) [
   | inl t ↦ (let q : Some v ≡ Some w = rw t.0 at e in let u : v ≡ w = cc in inl (t.1, sym u))
   | inr t ↦ inr (value_in pairs k w (rw t.0 at e))
@@ -112,11 +112,11 @@ module _ (formula : List (List ℤ)) (pairs : Nogood) where
   both x (inr a) (inl b) = b
   both x (inr a) (inr b) = neither x a b
 
-is_some_value : (o : Option ℤ) → is_some o ≡ true → o ≡ Some (unwrap_or o (pos 0))
+pub is_some_value : (o : Option ℤ) → is_some o ≡ true → o ≡ Some (unwrap_or o (pos 0))
 is_some_value None h = cc
 is_some_value (Some v) h = refl
 
-is_value_some : (o : Option ℤ) (v : ℤ) → is_value o v ≡ true → o ≡ Some v
+pub is_value_some : (o : Option ℤ) (v : ℤ) → is_value o v ≡ true → o ≡ Some v
 is_value_some None v h = cc
 is_value_some (Some w) v h = ap Some ((Decides-int_eq w v).0 h)
 
@@ -128,11 +128,11 @@ true_of_not : (b : Bool) → (not b ≡ true → ⊥) → b ≡ true
 true_of_not true h = refl
 true_of_not false h = absurd (h refl)
 
-some_and : {X : Type 0} → (P : X → Type 0) (o : Option X) → IsSomeAnd o P → (x : X) × (o ≡ Some x) × P x
+pub some_and : {X : Type 0} → (P : X → Type 0) (o : Option X) → IsSomeAnd o P → (x : X) × (o ≡ Some x) × P x
 some_and P None h = absurd h
 some_and P (Some x) h = (x, refl, h)
 
-some_at : {X : Type 0} (xs : List X) (k : ℕ) → k < length xs → (x : X) × (slice_get xs k ≡ Some x)
+pub some_at : {X : Type 0} (xs : List X) (k : ℕ) → k < length xs → (x : X) × (slice_get xs k ≡ Some x)
 some_at [] k l = absurd (omega arith)
 some_at (x ∷ xs) zero l = (x, refl)
 some_at (x ∷ xs) (suc k) l = some_at xs k (omega arith)

@@ -21,7 +21,7 @@ use Rattle.line_cnf.proofs.Steps.{IsFine, all_fine}
 
 -- ---- literals
 
-literal_short : (z : ℤ) → IsLiteral z → length (literal_text z) ≤ 6
+pub literal_short : (z : ℤ) → IsLiteral z → length (literal_text z) ≤ 6
 literal_short (pos n) l = let b : n ≤ 4096 = l.bounded in let s : length (signed_decimal (pos n)) ≤ 5 = length_signed_le 4 (pos n) (omega arith) (omega arith) in let a = length-append (signed_decimal (pos n)) (codes " ") in omega (arith, s, a)
 literal_short (negsuc n) l = let b : suc n ≤ 4096 = l.bounded in let s : length (signed_decimal (negsuc n)) ≤ 5 = length_signed_le 4 (negsuc n) (omega arith) (omega arith) in let a = length-append (signed_decimal (negsuc n)) (codes " ") in omega (arith, s, a)
 
@@ -47,7 +47,7 @@ clause_short (y ∷ ys) h =
     omega (arith, first, rest, a, b)
 
 -- variables that rise are no lower than their places
-at_least : (pairs : Nogood) → IsRising pairs → (k : ℕ) → k < length pairs → k ≤ var_at pairs k
+pub at_least : (pairs : Nogood) → IsRising pairs → (k : ℕ) → k < length pairs → k ≤ var_at pairs k
 at_least pairs r zero l = omega arith
 at_least pairs r (suc k) l = let ih = at_least pairs r k (omega arith) in let e : k + 1 ≡ suc k = omega arith in let up : var_at pairs k < var_at pairs (suc k) = subst (λ n. var_at pairs k < var_at pairs n) e (r k (omega (arith, l))) in omega (arith, ih, up)
 
