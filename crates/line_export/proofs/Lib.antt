@@ -1,0 +1,15 @@
+pub mod Numbering
+pub mod Once
+pub mod Accepting
+pub mod Saying
+pub mod Words
+pub mod ReadBack
+pub mod FormulaText
+pub mod Fine
+pub mod Within
+pub mod Verified
+pub mod Files
+pub mod Lawful
+pub mod Written
+pub mod Naming
+pub mod Refusing

@@ -1,0 +1,56 @@
+use Rattle.std.proofs.Common.{ℕ, ℤ, Bool, List, [], ◌∷◌, ◌++◌, length, map, subst, sym, refl, ap, ◌∙◌, arith}
+use Rattle.std.specs.Prelude.{Contains}
+use Rattle.std.proofs.lemmas.Option.{slice_get_within, get_or_from_slice_get}
+use Rattle.dcsp_script.specs.Scripts.{Append}
+use Rattle.dcsp_script.proofs.Left.{left_all, left_more, left_stopped, left_ends}
+use Rattle.dcsp_script.proofs.Lines.{wrote_nothing, first_wrote, first_stopped, then_rest, then_stopped}
+use Rattle.dcsp_rule.specs.Problems.{csp_of, value_count}
+use Rattle.dcsp_defs.specs.Words.{below}
+use Rattle.rup_check.specs.ProofText.{clause_line}
+use Rattle.line_rewrite.specs.UpgradePromise.{appends, file_script}
+use Rattle.line_rewrite.proofs.Writing.{wrote_as, left_memory, created_here}
+use Rattle.line_export.specs.Clauses.{Clause, proof, nogood_clause}
+use Rattle.line_export.specs.Texts.{atom_line, variable_lines, header_line}
+use Rattle.line_export.proofs.Written.{items_left, items_done, steps_left, steps_done, groups_left, groups_done, below_at, cnf_script}
+use Rattle.std.proofs.Common.{append_assoc}
+use Rattle.dcsp_defs.specs.declared.Step.{Step}
+use Rattle.dcsp_script.specs.Scripts.{Put}
+use Rattle.line_export.specs.Texts.{cnf_lines, counts_text}
+use Rattle.line_export.specs.Clauses.{formula}
+use Rattle.line_export.proofs.export.write.Goals as goal
+
+pub returns-in_err-write_cnf : goal.returns-in_err-write_cnf
+returns-in_err-write_cnf g c =
+    let l = c.args.line in
+    let p = c.args.atoms.now.problem.now in
+    let ss = c.args.steps.now in
+    let one = file_script l.cnf.now (cnf_lines p l.atoms (formula p ss)) in
+    let two = file_script l.proof.now (map clause_line (proof p ss)) in
+    let told_last = Put (counts_text (value_count p) (length (formula p ss)) (length ss)) ∷ [] in
+    let first = ap (λ (cs : List Clause). file_script l.cnf.now (cnf_lines p l.atoms cs)) c.requires.clauses in
+    wrote_as (sym (append_assoc one two told_last)) (then_stopped (two ++ told_last) c.from_residual.ensures (wrote_as first (c.in_err-write_cnf.ensures _)))
+
+pub returns-in_err-write_proof : goal.returns-in_err-write_proof
+returns-in_err-write_proof g c =
+    let l = c.args.line in
+    let p = c.args.atoms.now.problem.now in
+    let ss = c.args.steps.now in
+    let one = file_script l.cnf.now (cnf_lines p l.atoms (formula p ss)) in
+    let two = file_script l.proof.now (map clause_line (proof p ss)) in
+    let told_last = Put (counts_text (value_count p) (length (formula p ss)) (length ss)) ∷ [] in
+    let first = ap (λ (cs : List Clause). file_script l.cnf.now (cnf_lines p l.atoms cs)) c.requires.clauses in
+    let second = ap (λ (ss : List Step). file_script l.proof.now (map clause_line (proof p ss))) c.steps.ensures in
+    wrote_as (sym (append_assoc one two told_last)) (then_rest (wrote_as first (c.in_ok-write_cnf.ensures _)) (then_stopped told_last c.from_residual-in_err-write_proof.ensures (wrote_as second (c.in_err-write_proof.ensures _))))
+
+pub returns : goal.returns
+returns g c =
+    let l = c.args.line in
+    let p = c.args.atoms.now.problem.now in
+    let ss = c.args.steps.now in
+    let one = file_script l.cnf.now (cnf_lines p l.atoms (formula p ss)) in
+    let two = file_script l.proof.now (map clause_line (proof p ss)) in
+    let told_last = Put (counts_text (value_count p) (length (formula p ss)) (length ss)) ∷ [] in
+    let first = ap (λ (cs : List Clause). file_script l.cnf.now (cnf_lines p l.atoms cs)) c.requires.clauses in
+    let second = ap (λ (ss : List Step). file_script l.proof.now (map clause_line (proof p ss))) c.steps.ensures in
+    let told = ap (λ n. counts_text n c.len.result c.len-2.result) (c.from-variables.ensures ∙ c.requires.atoms.count) ∙ ap (λ n. counts_text (value_count p) n c.len-2.result) (c.len.ensures.len ∙ ap (λ (cs : List Clause). length cs) c.requires.clauses) ∙ ap (counts_text (value_count p) (length (formula p c.args.steps.now))) c.len-2.ensures in
+    wrote_as (sym (append_assoc one two told_last)) (then_rest (wrote_as first (c.in_ok-write_cnf.ensures _)) (then_rest (wrote_as second (c.in_ok-write_proof.ensures _)) (wrote_as (ap (λ (t : List ℕ). Put t ∷ []) told) (c.tell.ensures _))))

@@ -1,0 +1,36 @@
+use Rattle.std.proofs.Common.{ℕ, ℤ, Bool, List, [], ◌∷◌, ◌++◌, length, map, subst, sym, refl, ap, ◌∙◌, arith}
+use Rattle.std.specs.Prelude.{Contains}
+use Rattle.std.proofs.lemmas.Option.{slice_get_within, get_or_from_slice_get}
+use Rattle.dcsp_script.specs.Scripts.{Append}
+use Rattle.dcsp_script.proofs.Left.{left_all, left_more, left_stopped, left_ends}
+use Rattle.dcsp_script.proofs.Lines.{wrote_nothing, first_wrote, first_stopped, then_rest, then_stopped}
+use Rattle.dcsp_rule.specs.Problems.{csp_of, value_count}
+use Rattle.dcsp_defs.specs.Words.{below}
+use Rattle.rup_check.specs.ProofText.{clause_line}
+use Rattle.line_rewrite.specs.UpgradePromise.{appends, file_script}
+use Rattle.line_rewrite.proofs.Writing.{wrote_as, left_memory, created_here}
+use Rattle.line_export.specs.Clauses.{Clause, proof, nogood_clause}
+use Rattle.line_export.specs.Texts.{atom_line, variable_lines, header_line}
+use Rattle.line_export.proofs.Written.{items_left, items_done, steps_left, steps_done, groups_left, groups_done, below_at, cnf_script}
+use Rattle.line_export.proofs.Written.{step_in}
+use Rattle.line_export.proofs.write.append_steps.Goals as goal
+
+pub loop-step-init : goal.loop-step-init
+loop-step-init g c = record { left = λ out. left_all _ _; created = c.requires.created; same = refl }
+
+pub append_nogood-requires-clause-pairs : goal.append_nogood-requires-clause-pairs
+append_nogood-requires-clause-pairs g c = (step_in c.args.atoms.now.problem.now c.args.steps.now c.loop-step.step-index c.step-item.result c.loop-step-test.true c.step-item.is c.requires.steps).pairs
+
+pub returns-in_err-append_nogood : goal.returns-in_err-append_nogood
+returns-in_err-append_nogood g c = λ out.
+    left_stopped _ _ _ (steps_left c.args.name.now c.args.atoms.now.problem.now c.args.steps.now c.loop-step.step-index c.step-item.result c.loop-step-test.true c.step-item.is) c.from_residual.ensures (c.loop-step.invariant.left out) (c.in_err-append_nogood.ensures.wrote out)
+
+pub loop-step-preserved : goal.loop-step-preserved
+loop-step-preserved g c = record {
+  left = λ out. left_more _ (steps_left c.args.name.now c.args.atoms.now.problem.now c.args.steps.now c.loop-step.step-index c.step-item.result c.loop-step-test.true c.step-item.is) (c.loop-step.invariant.left out) (c.in_ok-append_nogood.ensures.wrote out);
+  created = subst (λ names. Contains names c.args.name.now) (sym c.in_ok-append_nogood.ensures.created) c.loop-step.invariant.created;
+  same = c.in_ok-append_nogood.ensures.created ∙ c.loop-step.invariant.same;
+}
+
+pub returns : goal.returns
+returns g c = λ out. left_ends _ (steps_done c.args.name.now c.args.atoms.now.problem.now c.args.steps.now c.loop-step.step-index c.loop-step-test.false) (c.loop-step.invariant.left out) wrote_nothing

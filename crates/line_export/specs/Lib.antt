@@ -1,0 +1,6 @@
+pub mod Atoms
+pub mod Clauses
+pub mod Texts
+pub mod Limits
+pub mod ExportPromise
+pub mod Exporting

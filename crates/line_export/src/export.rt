@@ -1,0 +1,101 @@
+//! The line `export MODEL LOG CNF PROOF [--atoms] [--better N]`.
+
+ghost use Rattle.std.specs.Prelude.{◌≡◌, ◌≢◌, All, Ok};
+ghost use Rattle.dcsp_script.specs.Scripts.{outside};
+ghost use Rattle.dcsp_script.specs.Ways.{Wrote};
+ghost use Rattle.abt_promise.specs.Runs.{CameIn};
+ghost use Rattle.abt_input.specs.Errors.{way_of};
+ghost use Rattle.line_check.specs.Taking.{taking_of};
+ghost use Rattle.line_rewrite.specs.Trimming.{CreatesNothing};
+ghost use Rattle.line_export.specs.Atoms.{AreAtoms};
+ghost use Rattle.line_export.specs.Clauses.{formula, IsStepIn};
+ghost use Rattle.line_export.specs.Texts.{export_script};
+ghost use Rattle.line_export.specs.ExportPromise.{export_promise};
+ghost use Rattle.line_export.specs.Exporting.{HoldsExport};
+
+use crate::atoms::Atoms;
+use crate::clauses::ClauseSet;
+use crate::limits::formula_within;
+use crate::write::{tell, write_cnf, write_proof};
+use abt_input::CommandError;
+use abt_promise::Status;
+use dcsp_defs::Derivation;
+use dcsp_outside::{Folder, Sink};
+use dcsp_script::Stop;
+use line_check::{check_and_keep, is_verified, take_problem, tell as tell_finding};
+use std::alloc::Global;
+
+/// The words of `export`.
+#[derive(Clone, Copy)]
+pub struct ExportLine<'w> {
+    /// The name of the model.
+    pub model: &'w str,
+    /// The name of the log.
+    pub log: &'w str,
+    /// The name that the formula is written under.
+    pub cnf: &'w str,
+    /// The name that the proof is written under.
+    pub proof: &'w str,
+    /// Whether the formula tells what each atom says.
+    pub atoms: bool,
+    /// The value at the model's aim than which the log says that there is no better one, where one is given.
+    pub better: Option<i64>,
+}
+
+/// Checks the log against the problem that is taken of the model. Where it refutes it, a formula and a proof are
+/// written that checkers of clauses read, and their sizes are told. Else the finding is told, and nothing is written.
+///
+/// A refusal is that of the model or else of the log, as `check` has it, or else that of a formula that passes a
+/// limit; else an error is a fault or want of memory.
+pub fn run_export<F: Folder, S: Sink>(
+    alloc: Global,
+    folder: &mut F,
+    line: ExportLine<'_>,
+    out: &mut S,
+) -> Result<Status, CommandError>
+    ensures came { CameIn (export_promise (taking_of line.entry.better) line.entry.model.now line.entry.log.now line.entry.cnf.now line.entry.proof.now line.entry.atoms)
+        (outside (F.place folder.old) (S.stream out.old))
+        (outside (F.place folder.new) (S.stream out.new)) (way_of result) }
+    ensures exports { line.entry.cnf.now ≢ line.entry.proof.now → result ≡ Ok Status.Good
+        → HoldsExport (taking_of line.entry.better) line.entry.model.now line.entry.log.now line.entry.cnf.now line.entry.proof.now line.entry.atoms
+        (outside (F.place folder.old) (S.stream out.old))
+        (outside (F.place folder.new) (S.stream out.new)) }
+    ensures rejects { result ≡ Ok Status.No
+        → CreatesNothing (outside (F.place folder.old) (S.stream out.old))
+        (outside (F.place folder.new) (S.stream out.new)) }
+{
+    let problem = take_problem(alloc, folder, line.model, line.better)?;
+    problem.denotes_csp();
+    let checked = check_and_keep(alloc, folder, &problem, line.log)?;
+    if !is_verified(checked.finding) {
+        tell_finding(checked.finding, out)?;
+        return Ok(Status::No);
+    }
+    let atoms = Atoms::of(alloc, &problem)?;
+    let clauses = formula_within(alloc, &atoms, checked.steps.steps())?;
+    write(alloc, folder, line, &atoms, &checked.steps, &clauses, out)?;
+    Ok(Status::Good)
+}
+
+/// Writes formula and proof under their names, and tells their sizes.
+fn write<F: Folder, S: Sink>(
+    alloc: Global,
+    folder: &mut F,
+    line: ExportLine<'_>,
+    atoms: &Atoms<'_>,
+    steps: &Derivation,
+    clauses: &ClauseSet,
+    out: &mut S,
+) -> Result<(), Stop>
+    requires atoms { AreAtoms atoms.now }
+    requires steps { All (IsStepIn atoms.now.problem.now) steps.now }
+    requires clauses { clauses.now ≡ formula atoms.now.problem.now steps.now }
+    ensures { Wrote (export_script line.entry.cnf.now line.entry.proof.now line.entry.atoms atoms.now.problem.now steps.now)
+        (outside (F.place folder.old) (S.stream out.old))
+        (outside (F.place folder.new) (S.stream out.new)) result }
+{
+    write_cnf(alloc, folder, line.cnf, atoms, line.atoms, clauses)?;
+    write_proof(alloc, folder, line.proof, atoms, steps.steps())?;
+    let variables = u64::from(atoms.count);
+    tell(alloc, variables, clauses.len() as u64, steps.len(), out)
+}
