@@ -65,8 +65,10 @@ def help_refused(line, words, said):
     refusal = said.partition("\n")[0][len("abt: ") :]
     what, helps = read_table().get(re.sub("[0-9]+", "N", refusal), (None, None))
     found = files(line, CONTENTS.get(refusal.partition(":")[0]), "read")
-    if not what or not found:
+    if not what:
         return []
+    if not found:
+        return [what, helps]
     name = found[0][1]
     number = re.search(r"[0-9]+$", refusal)
     if " line " in refusal:

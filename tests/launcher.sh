@@ -190,6 +190,10 @@ printf 'p cnf 2 1\n1 3 0\n' > g.cnf
 row "a formula with a wrong literal" 3 "g.cnf:2:3: the word that begins here is not read
   1 3 0
     ^" cnf g.cnf l
+printf 'var 1..4097: x;\nconstraint bool_eq(true,false);\nsolve satisfy;\n' > large.fzn
+printf 'ngd 1\n1 - [] <- c1\nend\n' > large.ngd
+row "an export that is too large" 3 "the formula would have more than 4,096 variables
+check takes the log" export large.fzn large.ngd l k
 row "no aim" 3 "leave out --better" check m1.fzn m1.ngd --better 5
 
 echo "== refused logs and schedules, answers that are no or none"
@@ -328,7 +332,7 @@ import random, subprocess, sys
 # words.py PROGRAM HELP COUNT: whether words are a line is what the program says of as many random words.
 program, help_py, count = sys.argv[1:4]
 draw = random.Random(7)
-keywords = "solve replay check upgrade core starve lossy bound gen cnf rup queens colouring --help --version".split()
+keywords = "solve replay check upgrade core export starve lossy bound gen cnf rup queens colouring --help --version".split()
 others = ["m", "l", "k", "n", "--seed", "--record", "--trace", "--better", "0", "7", "007", "-0", "-5", "200", "500", "4097", "", "-", "-x", "--seed=7",
           str(2**64 - 1), str(2**64), str(-(2**63)), str(2**63), "a b", "\n", "x=1", "٣", "+3"]
 wrong = 0

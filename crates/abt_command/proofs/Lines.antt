@@ -1,5 +1,5 @@
 -- Lines of words, and how they end.
-use Rattle.std.proofs.Common.{◌≡◌, ◌≢◌, ℕ, ◌≤◌, Bool, true, List, [], ◌∷◌, ◌++◌, get_or, slice_get, Option, Some, Result, Ok, Err, refl, sym, ap, subst, ◌∙◌, arith, codes}
+use Rattle.std.proofs.Common.{◌≡◌, ◌≢◌, ℕ, ℤ, ◌≤◌, Bool, true, List, [], ◌∷◌, ◌++◌, get_or, slice_get, Option, Some, Result, Ok, Err, refl, sym, ap, subst, ◌∙◌, arith, codes}
 use Rattle.std.specs.Prelude.{IfSome}
 use Rattle.dcsp_outside.specs.Outside.{Stream}
 use Rattle.dcsp_script.specs.Scripts.{World}
@@ -13,9 +13,9 @@ use Rattle.abt_input.specs.declared.error.CommandError.TheVariants.{ModelLong, M
 use Rattle.abt_input.specs.Errors.{error_status, error_text, way_of}
 use Rattle.abt_input.proofs.Cnfs.{clauses_refuse}
 use Rattle.abt_words.specs.declared.rows.LineName.{LineName}
-use Rattle.abt_words.specs.declared.row.Content.TheVariants.{Model, Log}
+use Rattle.abt_words.specs.declared.row.Content.TheVariants.{Model, Log, Formula, Proof}
 use Rattle.abt_words.specs.declared.row.Access.TheVariants.{Read, Written}
-use Rattle.abt_words.specs.declared.rows.TheConstants.{SOLVE, REPLAY, STARVE, QUEENS, COLOURING, SPARSE, PIGEONS}
+use Rattle.abt_words.specs.declared.rows.TheConstants.{SOLVE, REPLAY, EXPORT, STARVE, QUEENS, COLOURING, SPARSE, PIGEONS}
 use Rattle.abt_words.specs.Rows.{Number, Place, Row, row_of, the_rows}
 use Rattle.abt_words.specs.Saying.{Value, Absent, Fill, Said, IsSaidBy, names_differ, setting_of, name_in, given_name}
 use Rattle.abt_words.proofs.Once.{one_said, rows_are_apart}
@@ -24,11 +24,12 @@ use Rattle.line_model.proofs.Lawful.{bound_lawful, print_lawful}
 use Rattle.line_replay.specs.Headline.{HoldsProblem}
 use Rattle.line_replay.proofs.Lawful.{replay_lawful}
 use Rattle.line_solve.proofs.Lawful.{solve_lawful}
-use Rattle.abt_command.specs.Lines.{Line, Help, Version, Usage, Check, Replay, Solve, Bound, Queens, Colouring, Sparse, Pigeons, Drill, Upgrade, Core, Starve, Lossy, Rup, Cnf, IsLine, IsSomeLine, Meaning, Nothing, Holds, AnswerMeans, CameMeans, Means, line_named, line_by, number_at, promise_of, value_of}
+use Rattle.abt_command.specs.Lines.{Line, Help, Version, Usage, Check, Replay, Solve, Bound, Queens, Colouring, Sparse, Pigeons, Drill, Upgrade, Core, Export, Starve, Lossy, Rup, Cnf, IsLine, IsSomeLine, Meaning, Nothing, Holds, AnswerMeans, CameMeans, Means, line_named, line_by, number_at, promise_of, value_of}
 use Rattle.line_check.proofs.Lawful.{check_lawful}
 use Rattle.line_drill.proofs.Lawful.{drill_lawful}
 use Rattle.line_rewrite.proofs.Lawful.{upgrade_lawful}
 use Rattle.line_rewrite.proofs.CoreLawful.{core_lawful}
+use Rattle.line_export.proofs.Lawful.{export_lawful}
 use Rattle.line_starve.proofs.Lawful.{starve_lawful}
 use Rattle.line_lossy.proofs.Lawful.{lossy_lawful}
 use Rattle.line_cnf.proofs.Lawful.{rup_lawful}
@@ -47,7 +48,7 @@ one_some e = cc
 -- a row that stands among the rows is that of the line which is made from it
 pub its_row : (said : Said) (i : ℕ) (row : Row) → slice_get the_rows i ≡ Some row → row ≡ (value_of (line_named row.line said)).row
 unfolding the_rows
-its_row said = of_each (λ row. row ≡ (value_of (line_named row.line said)).row) the_rows (refl, (refl, (refl, (refl, (refl, (refl, (refl, (refl, (refl, (refl, (refl, (refl, (refl, (refl, (refl, (refl, (refl, (refl, tt))))))))))))))))))
+its_row said = of_each (λ row. row ≡ (value_of (line_named row.line said)).row) the_rows (refl, (refl, (refl, (refl, (refl, (refl, (refl, (refl, (refl, (refl, (refl, (refl, (refl, (refl, (refl, (refl, (refl, (refl, (refl, tt)))))))))))))))))))
 
 -- what the words of a line say: its row, the values of which fill its places and have names that differ
 pub record Spoken (line : Line) : Type 0 where
@@ -182,6 +183,22 @@ replay_names words model schedule log trace h =
     let l : log ≡ name_in (get_or s.said.values 2 Absent) = cc in
     λ e. replay_apart s.said.values s.said.settings s.fill s.differ (sym m ∙ (e ∙ l))
 
+export_apart : (values settings : List Value) → Fill (row_of EXPORT).places values → names_differ (values ++ settings) ≡ true → name_in (get_or values 2 Absent) ≢ name_in (get_or values 3 Absent)
+export_apart [] settings h d = absurd h
+export_apart (v ∷ []) settings h d = absurd h.1
+export_apart (v ∷ w ∷ []) settings h d = absurd h.1.1
+export_apart (v ∷ w ∷ x ∷ []) settings h d = absurd h.1.1.1
+export_apart (v ∷ w ∷ x ∷ y ∷ []) settings h d = names_apart (v ∷ w ∷ x ∷ y ∷ settings) d 2 3 (name_in x) (name_in y) (omega arith) (a_name _ x Formula Written refl h.1.1.0) (a_name _ y Proof Written refl h.1.1.1.0)
+export_apart (v ∷ w ∷ x ∷ y ∷ z ∷ more) settings h d = absurd h.1.1.1.1
+
+-- formula and proof of `export` are under two names
+pub export_names : (words : List (List ℕ)) (model log cnf proof : List ℕ) (told : Bool) (better : Option ℤ) → IsLine words (Export model log cnf proof told better) → cnf ≢ proof
+export_names words model log cnf proof told better h =
+    let s = spoken words (Export model log cnf proof told better) h in
+    let c : cnf ≡ name_in (get_or s.said.values 2 Absent) = cc in
+    let p : proof ≡ name_in (get_or s.said.values 3 Absent) = cc in
+    λ e. export_apart s.said.values s.said.settings s.fill s.differ (sym c ∙ (e ∙ p))
+
 -- ---- promises
 
 -- a line's promise is lawful; and where it makes a run of a model and answers, the model's problem is one
@@ -204,6 +221,7 @@ sound (Pigeons n) = record { lawful = print_lawful _; problem = λ a b s. tt }
 sound (Drill c) = record { lawful = drill_lawful c; problem = λ a b s. tt }
 sound (Upgrade m o) = record { lawful = upgrade_lawful m o; problem = λ a b s. tt }
 sound (Core m o t b) = record { lawful = core_lawful b m o t; problem = λ a b s. tt }
+sound (Export m l c r t n) = record { lawful = export_lawful n m l c r t; problem = λ a b s. tt }
 sound (Starve m c d o) = record { lawful = starve_lawful m c d o; problem = λ a b s. tt }
 sound (Lossy m o n c k) = record { lawful = lossy_lawful m o n c k; problem = λ a b s. tt }
 sound (Rup m o) = record { lawful = rup_lawful m o; problem = λ a b s. tt }

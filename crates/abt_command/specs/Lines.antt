@@ -2,7 +2,7 @@
 use Rattle.std.specs.Prelude.{◌≡◌, ℕ, ℤ, List, Bool, Option, Some, None, Result, IfOk, ⊤, option_copied, unwrap_or, codes}
 use Rattle.abt_words.specs.declared.rows.LineName.{LineName}
 use Rattle.abt_words.specs.declared.rows.LineName.TheVariants as names
-use Rattle.abt_words.specs.declared.rows.TheConstants.{SOLVE, REPLAY, CHECK, UPGRADE, CORE, STARVE, LOSSY, BOUND, QUEENS, COLOURING, SPARSE, PIGEONS, DRILL, CNF, RUP, HELP, VERSION, USAGE}
+use Rattle.abt_words.specs.declared.rows.TheConstants.{SOLVE, REPLAY, CHECK, UPGRADE, CORE, EXPORT, STARVE, LOSSY, BOUND, QUEENS, COLOURING, SPARSE, PIGEONS, DRILL, CNF, RUP, HELP, VERSION, USAGE}
 use Rattle.abt_words.specs.Rows.{Row, row_of, the_rows}
 use Rattle.abt_words.specs.Saying.{Said, IsSaidBy, value_at, setting_at, name_in, number_in, given_name, given_number, given_signed, is_given}
 use Rattle.abt_words.specs.Texts.{help_text, usage_text}
@@ -19,16 +19,17 @@ use Rattle.line_solve.specs.SolvePromise.{solve_promise}
 use Rattle.line_drill.specs.DrillPromise.{drill_promise}
 use Rattle.line_rewrite.specs.UpgradePromise.{upgrade_promise}
 use Rattle.line_rewrite.specs.CorePromise.{core_promise}
+use Rattle.line_export.specs.ExportPromise.{export_promise}
 use Rattle.line_starve.specs.StarvePromise.{starve_promise}
 use Rattle.line_lossy.specs.LossyPromise.{lossy_promise}
 use Rattle.line_cnf.specs.RupPromise.{rup_promise}
 use Rattle.line_cnf.specs.CnfPromise.{cnf_promise}
-use Rattle.abt_command.specs.Meanings.{means_check, means_replay, means_solve, means_upgrade, means_core, means_starve, means_lossy, means_rup, means_cnf}
+use Rattle.abt_command.specs.Meanings.{means_check, means_replay, means_solve, means_upgrade, means_core, means_export, means_starve, means_lossy, means_rup, means_cnf}
 use Rattle.abt_command.specs.declared.plain.TheConstants as plain
 use Rattle.abt_command.specs.declared.order.Order.{Order}
 use Rattle.abt_command.specs.declared.order.Order.TheVariants as orders
 
--- what the words ask for: what the program takes, which version it is, what its rows are, to check a log against a model or against a better value, to run a model's agents under the choices of a schedule or of a seed, to tell a model's message bound, to print a generated model, to run three of these, to write a log with deletions, to tell which constraints a refutation uses, to write the choices of a starved run, to run a model's agents over a medium that loses, to check a proof against a formula, or to run a formula's agents
+-- what the words ask for: what the program takes, which version it is, what its rows are, to check a log against a model or against a better value, to run a model's agents under the choices of a schedule or of a seed, to tell a model's message bound, to print a generated model, to run three of these, to write a log with deletions, to tell which constraints a refutation uses, to write it for checkers of clauses, to write the choices of a starved run, to run a model's agents over a medium that loses, to check a proof against a formula, or to run a formula's agents
 pub data Line : Type 0 where
   Help : Line
   Version : Line
@@ -44,6 +45,7 @@ pub data Line : Type 0 where
   Drill : (seed : ℕ) → Line
   Upgrade : (log new : List ℕ) → Line
   Core : (model log trimmed : List ℕ) (better : Option ℤ) → Line
+  Export : (model log cnf proof : List ℕ) (told : Bool) (better : Option ℤ) → Line
   Starve : (model : List ℕ) (from to : ℕ) (file : List ℕ) → Line
   Lossy : (model log : List ℕ) (events seed : ℕ) (kept : Option (List ℕ)) → Line
   Rup : (cnf proof : List ℕ) → Line
@@ -72,6 +74,7 @@ line_named names.Pigeons said = Pigeons (number_at said 0)
 line_named names.Drill said = Drill (number_at said 0)
 line_named names.Upgrade said = Upgrade (name_at said 0) (name_at said 1)
 line_named names.Core said = Core (name_at said 0) (name_at said 1) (name_at said 2) (given_signed (setting_at said (codes "--better")))
+line_named names.Export said = Export (name_at said 0) (name_at said 1) (name_at said 2) (name_at said 3) (is_given (setting_at said (codes "--atoms"))) (given_signed (setting_at said (codes "--better")))
 line_named names.Starve said = Starve (name_at said 0) (number_at said 1) (number_at said 2) (name_at said 3)
 line_named names.Lossy said = Lossy (name_at said 0) (name_at said 1) (number_at said 2) (number_at said 3) (given_name (setting_at said (codes "--record")))
 line_named names.Rup said = Rup (name_at said 0) (name_at said 1)
@@ -111,6 +114,7 @@ line_of (orders.GenPigeons n) = Pigeons n
 line_of (orders.Drill seed) = Drill seed
 line_of (orders.Upgrade log new) = Upgrade log.now new.now
 line_of (orders.Core line) = Core line.model.now line.log.now line.trimmed.now line.better
+line_of (orders.Export line) = Export line.model.now line.log.now line.cnf.now line.proof.now line.atoms line.better
 line_of (orders.Starve line) = Starve line.model.now line.from line.to line.file.now
 line_of (orders.Lossy line) = Lossy line.model.now line.log.now line.events line.seed (option_copied line.kept)
 line_of (orders.Rup cnf proof) = Rup cnf.now proof.now
@@ -167,6 +171,7 @@ value_of (Pigeons n) = reporting (row_of PIGEONS) (pigeons_promise n)
 value_of (Drill seed) = reporting (row_of DRILL) (drill_promise seed)
 value_of (Upgrade log new) = meaning_more (row_of UPGRADE) (upgrade_promise log new) (means_upgrade log new)
 value_of (Core model log trimmed better) = meaning_more (row_of CORE) (core_promise (taking_of better) model log trimmed) (means_core model log trimmed better)
+value_of (Export model log cnf proof told better) = meaning_more (row_of EXPORT) (export_promise (taking_of better) model log cnf proof told) (means_export model log cnf proof told better)
 value_of (Starve model from to file) = meaning_more (row_of STARVE) (starve_promise model from to file) (means_starve model from to file)
 value_of (Lossy model log events seed kept) = meaning_more (row_of LOSSY) (lossy_promise model log events seed kept) (means_lossy model log events seed kept)
 value_of (Rup cnf proof) = meaning_more (row_of RUP) (rup_promise cnf proof) (means_rup cnf proof)

@@ -1,5 +1,5 @@
 -- What an answer of a line means beyond its report.
-use Rattle.std.specs.Prelude.{◌≡◌, ◌↔◌, ℕ, ℤ, List, Option, IfSome}
+use Rattle.std.specs.Prelude.{◌≡◌, ◌≢◌, ◌↔◌, Bool, ℕ, ℤ, List, Option, IfSome}
 use Rattle.dcsp_outside.specs.Outside.{bytes_of}
 use Rattle.dcsp_defs.specs.declared.entry.Entry.{Entry}
 use Rattle.dcsp_rule.specs.Problems.{Contents, csp_of}
@@ -17,6 +17,7 @@ use Rattle.line_cnf.specs.RupPromise.{HoldsRefuted, TellsExactly}
 use Rattle.line_cnf.specs.CnfHeadline.{HoldsCnfRun, HoldsProof}
 use Rattle.line_rewrite.specs.Upgrading.{HoldsUpgrade}
 use Rattle.line_rewrite.specs.Trimming.{HoldsCore, CreatesNothing}
+use Rattle.line_export.specs.Exporting.{HoldsExport}
 use Rattle.line_starve.specs.Starving.{HoldsStarved, TellsStarved}
 use Rattle.line_lossy.specs.Meaning.{HoldsLossyRun}
 
@@ -53,6 +54,11 @@ pub record IsCoreAnswer (better : Option ℤ) (model log trimmed : List ℕ) (ol
   pub trims : status ≡ Good → HoldsCore (taking_of better) model log trimmed old new
   pub rejects : status ≡ No → CreatesNothing old new
 
+-- `export`: with status 0 formula and proof were written and told, with status 1 nothing was created
+pub record IsExportAnswer (model log cnf proof : List ℕ) (told : Bool) (better : Option ℤ) (old new : World) (status : Status) : Type 0 where
+  pub exports : status ≡ Good → HoldsExport (taking_of better) model log cnf proof told old new
+  pub rejects : status ≡ No → CreatesNothing old new
+
 -- `starve`: the choices of the run were written, and the line that was put tells how it ended
 pub record IsStarvedAnswer (model : List ℕ) (from to : ℕ) (file : List ℕ) (old new : World) : Type 0 where
   pub writes : HoldsStarved model from to file old.folder.held new.folder.held
@@ -80,6 +86,10 @@ means_upgrade log new_log old new status = HoldsUpgrade log new_log old.folder.h
 
 abbrev pub means_core : (model log trimmed : List ℕ) (better : Option ℤ) → World → World → Status → Type 0
 means_core model log trimmed better old new status = IsCoreAnswer better model log trimmed old new status
+
+-- under two names
+abbrev pub means_export : (model log cnf proof : List ℕ) (told : Bool) (better : Option ℤ) → World → World → Status → Type 0
+means_export model log cnf proof told better old new status = cnf ≢ proof → IsExportAnswer model log cnf proof told better old new status
 
 abbrev pub means_starve : (model : List ℕ) (from to : ℕ) (file : List ℕ) → World → World → Status → Type 0
 means_starve model from to file old new status = IsStarvedAnswer model from to file old new

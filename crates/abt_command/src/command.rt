@@ -1,6 +1,6 @@
 //! Running a command over a folder and two streams.
 
-ghost use Rattle.std.specs.Prelude.{◌≡◌, ◌↔◌, ℕ, ℤ, List, Option, Some, None, [], Ok, map, string_bytes, codes, IfOk};
+ghost use Rattle.std.specs.Prelude.{◌≡◌, ◌↔◌, ℕ, ℤ, Bool, List, Option, Some, None, [], Ok, map, string_bytes, codes, IfOk};
 ghost use Rattle.dcsp_outside.specs.Outside.{Place};
 ghost use Rattle.dcsp_script.specs.Scripts.{outside};
 ghost use Rattle.dcsp_script.specs.Ways.{Did, CountsStay};
@@ -15,7 +15,7 @@ ghost use Rattle.line_replay.specs.Headline.{IsRun, IsSolvedRun, IsRefutedRun, I
 ghost use Rattle.abt_command.specs.AskedRuns.{EachRun, EachTrueRun, IsCheckedRun, IsSatisfyingRun};
 ghost use Rattle.line_solve.specs.BestHeadline.{IsSearched, IsBestSearch, IsRefutedSearch, IsUnfinishedSearch, IsBoundedSearch, SearchOrdered};
 ghost use Rattle.abt_command.specs.AskedSearches.{EachSearch, IsCheckedSearch, IsSatisfyingSearch};
-ghost use Rattle.abt_command.specs.Meanings.{AnswersCheck, HoldsNoBetter, IsRupAnswer, IsCnfAnswer, IsCoreAnswer, IsStarvedAnswer};
+ghost use Rattle.abt_command.specs.Meanings.{AnswersCheck, HoldsNoBetter, IsRupAnswer, IsCnfAnswer, IsCoreAnswer, IsExportAnswer, IsStarvedAnswer};
 ghost use Rattle.line_rewrite.specs.Upgrading.{HoldsUpgrade};
 ghost use Rattle.line_lossy.specs.Meaning.{HoldsLossyRun};
 ghost use Rattle.abt_command.specs.Lines as lines;
@@ -170,6 +170,12 @@ pub fn run_command<F: Folder, S: Sink>(
         → result ≡ Status.Good → HoldsUpgrade log new (F.place folder.old).held (F.place folder.new).held }
     ensures trimmed { (model log trimmed : List ℕ) (better : Option ℤ) → IsLine (map string_bytes words.now) (lines.Core model log trimmed better)
         → IsFinal result → (IsRefusal result → ⊥) → IsCoreAnswer better model log trimmed
+        (outside (F.place folder.old) (S.stream out.old)) (outside (F.place folder.new) (S.stream out.new)) result }
+
+    // And a refutation that was exported: formula and proof are there, the formula says no more than the problem, and
+    // `rup` over the folder that is left verifies the proof or is stopped.
+    ensures exported { (model log cnf proof : List ℕ) (told : Bool) (better : Option ℤ) → IsLine (map string_bytes words.now) (lines.Export model log cnf proof told better)
+        → IsFinal result → (IsRefusal result → ⊥) → IsExportAnswer model log cnf proof told better
         (outside (F.place folder.old) (S.stream out.old)) (outside (F.place folder.new) (S.stream out.new)) result }
 
     // And a run that starves a link, or that is made over a medium that loses, repeats and reorders.

@@ -19,6 +19,7 @@ use dcsp_outside::{Folder, Sink};
 use line_check::{Check, run_check};
 use line_cnf::{Cnf, run_cnf, run_rup};
 use line_drill::run_drill;
+use line_export::{ExportLine, run_export};
 use line_lossy::{Losses, run_lossy};
 use line_model::{print, run_bound, run_colouring, run_pigeons, run_queens, run_sparse};
 use line_replay::{Replay, Solve, run_replay};
@@ -59,6 +60,10 @@ pub enum Order<'w> {
     Upgrade { log: &'w str, new: &'w str },
     /// `core MODEL LOG TRIMMED [--better N]`: which constraints the refutation uses; TRIMMED takes the steps that it needs.
     Core(CoreLine<'w>),
+    /// `export MODEL LOG CNF PROOF [--atoms] [--better N]`: CNF and PROOF take the refutation as a formula and a proof
+    /// about it, with comments that tell what its variables say where they are asked for; or where a bound is given,
+    /// the refutation of a better value at the model's aim.
+    Export(ExportLine<'w>),
     /// `starve MODEL FROM TO FILE`: FILE takes the choices of the run that delivers from one agent to another, both
     /// counted from 1 and at most 4,096, only where nothing else is in transit.
     Starve(Starve<'w>),
@@ -102,6 +107,7 @@ impl Order<'_> {
             Order::Drill { seed } => run_drill(alloc, seed, out),
             Order::Upgrade { log, new } => run_upgrade(alloc, folder, log, new, out),
             Order::Core(line) => run_core(alloc, folder, line, out),
+            Order::Export(line) => run_export(alloc, folder, line, out),
             Order::Starve(line) => run_starve(alloc, folder, line, out),
             Order::Lossy(line) => run_lossy(alloc, folder, line, out),
             Order::Rup { cnf, proof } => run_rup(alloc, folder, cnf, proof, out),
@@ -131,6 +137,7 @@ fn order_of<'w>(said: &Said<'w>) -> Order<'w>
         LineName::Check => check_of(said),
         LineName::Upgrade => upgrade_of(said),
         LineName::Core => core_of(said),
+        LineName::Export => export_of(said),
         LineName::Starve => starve_of(said),
         LineName::Lossy => lossy_of(said),
         LineName::Bound => bound_of(said),
@@ -197,6 +204,20 @@ fn core_of<'w>(said: &Said<'w>) -> Order<'w>
         model: said.value(0).name(),
         log: said.value(1).name(),
         trimmed: said.value(2).name(),
+        better,
+    })
+}
+
+fn export_of<'w>(said: &Said<'w>) -> Order<'w>
+    ensures { line_of result ≡ line_named names.Export (said_in said.now) }
+{
+    let better = said.setting("--better").given_signed();
+    Order::Export(ExportLine {
+        model: said.value(0).name(),
+        log: said.value(1).name(),
+        cnf: said.value(2).name(),
+        proof: said.value(3).name(),
+        atoms: said.setting("--atoms").is_given(),
         better,
     })
 }

@@ -18,7 +18,7 @@ struct Line {
 /// Each of the two literals, and neither.
 const FORMULA: &[u8] = b"p cnf 2 3\n1 2 0\n-1 0\n-2 0\n";
 
-const LINES: [Line; 17] = [
+const LINES: [Line; 18] = [
     Line {
         words: &["check", "m.fzn", "l.ngd"],
         files: [("m.fzn", PAIR), ("l.ngd", PAIR_LOG)],
@@ -73,6 +73,11 @@ const LINES: [Line; 17] = [
         words: &["core", "m.fzn", "l.ngd", "t.ngd"],
         files: [("m.fzn", PAIR), ("l.ngd", PAIR_LOG)],
         creates: &["t.ngd"],
+    },
+    Line {
+        words: &["export", "m.fzn", "l.ngd", "f.cnf", "p.rup", "--atoms"],
+        files: [("m.fzn", PAIR), ("l.ngd", PAIR_LOG)],
+        creates: &["f.cnf", "p.rup"],
     },
     Line {
         words: &["starve", "m.fzn", "1", "2", "s.sch"],

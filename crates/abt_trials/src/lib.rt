@@ -6,6 +6,8 @@ mod best;
 #[cfg(test)]
 mod checks;
 #[cfg(test)]
+mod exported;
+#[cfg(test)]
 mod formulas;
 #[cfg(test)]
 mod given;

@@ -28,6 +28,10 @@ const HELP: &[u8] = b"abt: asynchronous backtracking over FlatZinc, with certifi
                         prints which constraints the refutation uses, as `c1`, and writes
                         the steps that it needs to TRIMMED; with --better, of the model
                         with only the better values than N at what it aims at
+  abt export MODEL LOG CNF PROOF [--atoms] [--better N]
+                        writes the refutation as a formula in DIMACS, CNF, and a PROOF that
+                        SAT checkers read; with --atoms, comments tell what each variable of
+                        the formula says; with --better, the log is that of a best value
   abt starve MODEL FROM TO FILE
                         writes to FILE the choices of a run that delivers from the agent of
                         variable FROM to that of TO only where nothing else is in transit
@@ -71,6 +75,7 @@ replay file:MODEL:model:read file:SCHEDULE:schedule:read file:LOG:log:written --
 check file:MODEL:model:read file:LOG:log:read --better=signed:N:-9223372036854775808:9223372036854775807
 upgrade file:LOG:log:read file:NEW:log:written
 core file:MODEL:model:read file:LOG:log:read file:TRIMMED:log:written --better=signed:N:-9223372036854775808:9223372036854775807
+export file:MODEL:model:read file:LOG:log:read file:CNF:formula:written file:PROOF:proof:written --atoms --better=signed:N:-9223372036854775808:9223372036854775807
 starve file:MODEL:model:read number:FROM:1:4096 number:TO:1:4096 file:FILE:schedule:written
 lossy file:MODEL:model:read file:LOG:log:written number:EVENTS:0:1000000 number:SEED:0:18446744073709551615 --record=file:FILE:schedule:written
 bound file:MODEL:model:read

@@ -49,13 +49,14 @@ impl Folder for WantingFolder {
     }
 }
 
-const LINES: [&[&str]; 10] = [
+const LINES: [&[&str]; 11] = [
     &["check", "m.fzn", "m.ngd"],
     &["solve", "m.fzn", "m.ngd"],
     &["replay", "m.fzn", "m.sch", "m.ngd"],
     &["bound", "m.fzn"],
     &["upgrade", "l.ngd", "n.ngd"],
     &["core", "m.fzn", "l.ngd", "t.ngd"],
+    &["export", "m.fzn", "l.ngd", "f.cnf", "p.rup"],
     &["starve", "m.fzn", "1", "2", "s.sch"],
     &["lossy", "m.fzn", "l.ngd", "5", "0"],
     &["rup", "f.cnf", "p.rup"],

@@ -6,7 +6,7 @@ use std::alloc::Global;
 use std::process::Abort;
 
 /// Words of each line but `drill`, which runs long.
-const LINES: [&[&str]; 38] = [
+const LINES: [&[&str]; 43] = [
     &["solve", "m", "l"],
     &["solve", "m", "l", "--seed", "0"],
     &["solve", "m", "l", "--seed", "18446744073709551615"],
@@ -26,6 +26,11 @@ const LINES: [&[&str]; 38] = [
     &["upgrade", "l", "n"],
     &["core", "m", "l", "t"],
     &["core", "m", "l", "t", "--better", "-5"],
+    &["export", "m", "l", "c", "p"],
+    &["export", "m", "l", "c", "p", "--atoms"],
+    &["export", "m", "l", "c", "p", "--better", "-5"],
+    &["export", "m", "l", "c", "p", "--atoms", "--better", "0"],
+    &["export", "m", "l", "c", "p", "--better", "0", "--atoms"],
     &["starve", "m", "1", "1", "f"],
     &["starve", "m", "4096", "4096", "f"],
     &["lossy", "m", "l", "0", "0"],
@@ -49,7 +54,7 @@ const LINES: [&[&str]; 38] = [
 
 /// Words that are no line: too few or too many; options twice, first, without a value or of another line; names
 /// that are equal, empty or begin with `-`; numbers with a sign, with a leading zero or out of range.
-const NO_LINES: [&[&str]; 124] = [
+const NO_LINES: [&[&str]; 135] = [
     &["solve", "m", "l", "--seed", "18446744073709551616"],
     &["solve", "m", "l", "--seed", "00"],
     &["solve", "m", "l", "--seed", "+1"],
@@ -101,6 +106,17 @@ const NO_LINES: [&[&str]; 124] = [
     &["core", "m", "l", "m"],
     &["core", "m", "l"],
     &["core", "m", "l", "t", "--better"],
+    &["export", "m", "l", "c", "c"],
+    &["export", "m", "l", "l", "p"],
+    &["export", "m", "l", "c", "m"],
+    &["export", "m", "m", "c", "p"],
+    &["export", "m", "l", "c"],
+    &["export", "m", "l", "c", "p", "q"],
+    &["export", "m", "l", "c", "p", "--atoms", "--atoms"],
+    &["export", "m", "l", "c", "p", "--better"],
+    &["export", "m", "l", "c", "p", "--better", "01"],
+    &["export", "m", "l", "c", "p", "--trace"],
+    &["export", "--atoms", "m", "l", "c", "p"],
     &["starve", "m", "0", "1", "f"],
     &["starve", "m", "1", "0", "f"],
     &["starve", "m", "4097", "1", "f"],

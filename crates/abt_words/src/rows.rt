@@ -10,6 +10,7 @@ pub enum LineName {
     Check,
     Upgrade,
     Core,
+    Export,
     Starve,
     Lossy,
     Bound,
@@ -70,6 +71,15 @@ const FORMULA: Place = PlaceOf {
     },
 };
 
+/// A proof that is written.
+const NEW_PROOF: Place = PlaceOf {
+    shown: "PROOF",
+    kind: KindOf::File {
+        content: Content::Proof,
+        access: Access::Written,
+    },
+};
+
 /// The number from which the choices of a run are drawn.
 const SEED: Place = PlaceOf {
     shown: "SEED",
@@ -88,6 +98,15 @@ const SEED_OPTION: LineOption = OptionOf {
             least: 0,
             most: u64::MAX,
         },
+    }),
+};
+
+/// The option that gives a value than which a better one is refuted.
+const BETTER_OPTION: LineOption = OptionOf {
+    word: "--better",
+    value: Some(PlaceOf {
+        shown: "N",
+        kind: KindOf::Signed,
     }),
 };
 
@@ -142,13 +161,7 @@ pub const CHECK: Row = RowOf {
     line: LineName::Check,
     keyword: &["check"],
     places: &[MODEL, LOG],
-    options: &[OptionOf {
-        word: "--better",
-        value: Some(PlaceOf {
-            shown: "N",
-            kind: KindOf::Signed,
-        }),
-    }],
+    options: &[BETTER_OPTION],
     tells: &[
         "checks whether the log refutes the model: prints `verified`,",
         "`rejected step K`, `rejected deletion after step K` or",
@@ -193,17 +206,41 @@ pub const CORE: Row = RowOf {
             },
         },
     ],
-    options: &[OptionOf {
-        word: "--better",
-        value: Some(PlaceOf {
-            shown: "N",
-            kind: KindOf::Signed,
-        }),
-    }],
+    options: &[BETTER_OPTION],
     tells: &[
         "prints which constraints the refutation uses, as `c1`, and writes",
         "the steps that it needs to TRIMMED; with --better, of the model",
         "with only the better values than N at what it aims at",
+    ],
+};
+
+/// `export MODEL LOG CNF PROOF`: a refutation as a formula, and a proof that checkers of clauses read.
+pub const EXPORT: Row = RowOf {
+    line: LineName::Export,
+    keyword: &["export"],
+    places: &[
+        MODEL,
+        LOG,
+        PlaceOf {
+            shown: "CNF",
+            kind: KindOf::File {
+                content: Content::Formula,
+                access: Access::Written,
+            },
+        },
+        NEW_PROOF,
+    ],
+    options: &[
+        OptionOf {
+            word: "--atoms",
+            value: None,
+        },
+        BETTER_OPTION,
+    ],
+    tells: &[
+        "writes the refutation as a formula in DIMACS, CNF, and a PROOF that",
+        "SAT checkers read; with --atoms, comments tell what each variable of",
+        "the formula says; with --better, the log is that of a best value",
     ],
 };
 
@@ -353,13 +390,7 @@ pub const CNF: Row = RowOf {
     keyword: &["cnf"],
     places: &[
         FORMULA,
-        PlaceOf {
-            shown: "PROOF",
-            kind: KindOf::File {
-                content: Content::Proof,
-                access: Access::Written,
-            },
-        },
+        NEW_PROOF,
     ],
     options: &[SEED_OPTION],
     tells: &[
@@ -418,6 +449,6 @@ pub const USAGE: Row = RowOf {
 
 /// Every line of words, in the order in which help and usage show them.
 pub const ROWS: &[Row] = &[
-    SOLVE, REPLAY, CHECK, UPGRADE, CORE, STARVE, LOSSY, BOUND, QUEENS, COLOURING, SPARSE, PIGEONS,
+    SOLVE, REPLAY, CHECK, UPGRADE, CORE, EXPORT, STARVE, LOSSY, BOUND, QUEENS, COLOURING, SPARSE, PIGEONS,
     DRILL, CNF, RUP, HELP, VERSION, USAGE,
 ];

@@ -56,7 +56,7 @@ pub fn run_export<F: Folder, S: Sink>(
     ensures came { CameIn (export_promise (taking_of line.entry.better) line.entry.model.now line.entry.log.now line.entry.cnf.now line.entry.proof.now line.entry.atoms)
         (outside (F.place folder.old) (S.stream out.old))
         (outside (F.place folder.new) (S.stream out.new)) (way_of result) }
-    ensures exports { line.entry.cnf.now ≢ line.entry.proof.now → result ≡ Ok Status.Good
+    ensures exports { result ≡ Ok Status.Good → line.entry.cnf.now ≢ line.entry.proof.now
         → HoldsExport (taking_of line.entry.better) line.entry.model.now line.entry.log.now line.entry.cnf.now line.entry.proof.now line.entry.atoms
         (outside (F.place folder.old) (S.stream out.old))
         (outside (F.place folder.new) (S.stream out.new)) }

@@ -2,10 +2,10 @@ use Rattle.std.proofs.Common.{Some, None, inl, inr, refl, sym, subst}
 use Rattle.dcsp_script.proofs.Ways.{did_nothing}
 use Rattle.abt_promise.specs.Statuses.{IsFinal, IsRefusal}
 use Rattle.abt_promise.proofs.Following.{ran_answers, ran_cause, ran_complete, ran_creates, ran_faults, ran_lacks, ran_others, ran_refused, ran_stays, ran_text}
-use Rattle.abt_command.specs.Lines.{Check, Core, Starve, Lossy, Rup, Cnf, Upgrade, line_of, promise_of}
+use Rattle.abt_command.specs.Lines.{Check, Core, Export, Starve, Lossy, Rup, Cnf, Upgrade, line_of, promise_of}
 use Rattle.abt_command.proofs.Meanings.{means_of, refuted_by, no_better_by}
 use Rattle.abt_command.proofs.Checks.{check_told}
-use Rattle.abt_command.proofs.Lines.{one_line, lawful}
+use Rattle.abt_command.proofs.Lines.{one_line, lawful, export_names}
 use Rattle.abt_command.proofs.Searches.{asks_no_search, the_search, search_best, search_refuted, search_checked, search_satisfies, search_unfinished, search_bounded, search_ordered}
 use Rattle.abt_command.proofs.Runs.{runs_are_true, asks_for_none, the_run, run_solved, run_refuted, run_checked, run_satisfies, run_unfinished, run_bounded, run_ordered}
 use Rattle.abt_command.proofs.command.run_command.Goals as goal
@@ -86,6 +86,10 @@ returns-in-Some-clause-upgraded g c = λ log new is good.
 pub returns-in-Some-clause-trimmed : goal.returns-in-Some-clause-trimmed
 returns-in-Some-clause-trimmed g c = λ model log trimmed better is final answers.
     means_of _ _ _ (one_line _ (line_of c.in-Some.order) (Core model log trimmed better) c.in-Some.ensures.some is) (c.run_order.ensures.means final answers)
+
+pub returns-in-Some-clause-exported : goal.returns-in-Some-clause-exported
+returns-in-Some-clause-exported g c = λ model log cnf proof told better is final answers.
+    means_of _ _ _ (one_line _ (line_of c.in-Some.order) (Export model log cnf proof told better) c.in-Some.ensures.some is) (c.run_order.ensures.means final answers) (export_names _ model log cnf proof told better is)
 
 pub returns-in-Some-clause-starved : goal.returns-in-Some-clause-starved
 returns-in-Some-clause-starved g c = λ model from to file is good.

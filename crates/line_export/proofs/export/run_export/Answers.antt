@@ -111,7 +111,7 @@ returns-clause-came g c =
     (keeps_written l.cnf.now l.proof.now l.atoms p checked.steps checked.finding verified (came_answer (wrote_as script c.in_ok-write.ensures)))))
 
 pub returns-clause-exports : goal.returns-clause-exports
-returns-clause-exports g c = λ unlike good.
+returns-clause-exports g c = λ good unlike.
     let l = c.args.line in
     let p = c.in_ok-problem.problem in
     let checked = c.in_ok-checked.checked in

@@ -70,6 +70,9 @@ run_starve-requires-clause-to g c = (starve_within _ _ _ _ (subst (λ o. IsSomeL
 pub returns-in-Core-clause-means : goal.returns-in-Core-clause-means
 returns-in-Core-clause-means g c = rw c.in-Core.is (good_or_no _ c.run_core.result (λ s p q. record { trims = p; rejects = q }) c.run_core.ensures.trims c.run_core.ensures.rejects)
 
+pub returns-in-Export-clause-means : goal.returns-in-Export-clause-means
+returns-in-Export-clause-means g c = rw c.in-Export.is (good_or_no _ c.run_export.result (λ s p q. λ unlike. record { exports = λ good. p good unlike; rejects = q }) c.run_export.ensures.exports c.run_export.ensures.rejects)
+
 pub returns-in-Starve-clause-means : goal.returns-in-Starve-clause-means
 returns-in-Starve-clause-means g c = rw c.in-Starve.is (always_both _ c.run_starve.result (λ p q. record { writes = p; tells = q }) c.run_starve.ensures.writes c.run_starve.ensures.tells)
 
