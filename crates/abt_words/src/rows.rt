@@ -388,10 +388,7 @@ pub const DRILL: Row = RowOf {
 pub const CNF: Row = RowOf {
     line: LineName::Cnf,
     keyword: &["cnf"],
-    places: &[
-        FORMULA,
-        NEW_PROOF,
-    ],
+    places: &[FORMULA, NEW_PROOF],
     options: &[SEED_OPTION],
     tells: &[
         "runs the agents of a formula in DIMACS: prints `s SATISFIABLE` and its",
@@ -449,6 +446,6 @@ pub const USAGE: Row = RowOf {
 
 /// Every line of words, in the order in which help and usage show them.
 pub const ROWS: &[Row] = &[
-    SOLVE, REPLAY, CHECK, UPGRADE, CORE, EXPORT, STARVE, LOSSY, BOUND, QUEENS, COLOURING, SPARSE, PIGEONS,
-    DRILL, CNF, RUP, HELP, VERSION, USAGE,
+    SOLVE, REPLAY, CHECK, UPGRADE, CORE, EXPORT, STARVE, LOSSY, BOUND, QUEENS, COLOURING, SPARSE,
+    PIGEONS, DRILL, CNF, RUP, HELP, VERSION, USAGE,
 ];
