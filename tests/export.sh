@@ -1,7 +1,9 @@
 #!/usr/bin/env bash
 # Outside the gate: what `abt export` writes, read by other programs. Exports the refutations of the examples and 200
 # generated ones, and hands each to `rup`; to drat-trim, where there is one; and the formula to the solver cadical (Debian's
-# package `cadical`), where there is one, which is to find that nothing satisfies it. Then meets each limit of formulas.
+# package `cadical`), where there is one, which is to find that nothing satisfies it. The logs themselves, and each once with one
+# digit changed, are read by tests/own_checker.py, which was written from docs/FORMATS.md alone, and is to find what `check`
+# finds. Then meets each limit of formulas.
 #     tests/export.sh PROGRAM
 set -u
 program=$(realpath "${1:?the program}")
@@ -15,6 +17,7 @@ wrong() { echo "export: $1" >&2; failed=$((failed + 1)); }
 has() { command -v "$1" > /dev/null; }
 has drat-trim || echo "skipped drat-trim: there is none here"
 has cadical || echo "skipped cadical: there is none here (apt-get install cadical)"
+has python3 || echo "skipped a checker of one's own, and limits of clauses and literals: there is no python3 here"
 
 # Exports a log, with these further words, and hands what is written to whoever reads it.
 opinions() {
@@ -31,8 +34,26 @@ opinions() {
     fi
 }
 
+# A log, and the same with one digit changed, which may make it no log, are to the own checker what they are to `check`.
+own() {
+    local name=$1 model=$2 log=$3 seed=$4 found told
+    has python3 || return
+    python3 - "$log" "$seed" > spoiled.ngd << 'END'
+import random, sys
+text, draw = open(sys.argv[1], encoding="utf-8").read(), random.Random(int(sys.argv[2]))
+at = draw.choice([at for at, byte in enumerate(text) if byte.isdigit()])
+print(text[:at] + draw.choice("0123456789") + text[at + 1 :], end="")
+END
+    for log in "$log" spoiled.ngd; do
+        found=$("$program" check "$model" "$log" 2> err)
+        told=$(python3 "$repository/tests/own_checker.py" "$model" "$log")
+        [ "$told" = "$found" ] || [[ -z $found && $told == rejected* ]] || wrong "$name: $told, and check finds $found"
+    done
+}
+
 for log in "$repository"/examples/*.ngd; do
     model=${log%.ngd}.fzn
+    own "$(basename "$model")" "$model" "$log" 1
     [ "$("$program" check "$model" "$log")" = verified ] || continue
     opinions "$(basename "$model")" "$model" "$log"
     opinions "$(basename "$model") --atoms" "$model" "$log" --atoms
@@ -58,6 +79,7 @@ for seed in $(seq 1 1000); do
         "$program" upgrade l.ngd n.ngd > out && mv n.ngd l.ngd
     fi
     opinions "generated $seed" m.fzn l.ngd
+    own "generated $seed" m.fzn l.ngd "$seed"
 done
 [ "$exported" = 200 ] || wrong "only $exported generated refutations were exported"
 echo "$exported exports of generated refutations"
@@ -118,8 +140,6 @@ if has python3; then
     # 5 * (2 * 3 * 28 * 32 * 39) + (2 + 3 + 28 + 32 + 39) = 1,048,424 literals
     excluding 2 3 28 32 39 - 152; limit "1,048,576 literals" ""
     excluding 2 3 28 32 39 - 153; limit "1,048,577 literals" "terms 1048577"
-else
-    echo "skipped limits of clauses and literals: no python3"
 fi
 
 echo "$failed failed"
