@@ -332,7 +332,7 @@ import random, subprocess, sys
 # words.py PROGRAM HELP COUNT: whether words are a line is what the program says of as many random words.
 program, help_py, count = sys.argv[1:4]
 draw = random.Random(7)
-keywords = "solve replay check upgrade core export starve lossy bound gen cnf rup queens colouring --help --version".split()
+keywords = "solve replay check upgrade core export starve lossy bound gen cnf rup queens colouring sparse pigeons --help --version".split()
 others = ["m", "l", "k", "n", "--seed", "--record", "--trace", "--better", "0", "7", "007", "-0", "-5", "200", "500", "4097", "", "-", "-x", "--seed=7",
           str(2**64 - 1), str(2**64), str(-(2**63)), str(2**63), "a b", "\n", "x=1", "٣", "+3"]
 wrong = 0
@@ -495,7 +495,7 @@ completes() {
 for shell in bash fish; do
     command -v $shell > /dev/null || continue
     completes $shell "abt so" solve
-    completes $shell "abt gen " "colouring queens"
+    completes $shell "abt gen " "colouring pigeons queens sparse"
     completes $shell "abt solve m1.f" m1.fzn
     completes $shell "abt solve m l --" "--record --seed --trace"
     completes $shell "abt solve m l --record m1.n" m1.ngd
