@@ -339,7 +339,7 @@ wrong = 0
 for at in range(int(count)):
     words = [draw.choice(keywords), *(draw.choice(others) for _ in range(draw.randrange(7)))]
     if words[0] == "gen" and draw.random() < 0.8:
-        words[1:] = [draw.choice(["queens", "colouring"]), *(draw.choice(["1", "5", "16", "17", "200", "201", "01"]) for _ in range(draw.randrange(4)))]
+        words[1:] = [draw.choice(["queens", "colouring", "sparse", "pigeons"]), *(draw.choice(["1", "2", "5", "16", "17", "200", "201", "4096", "4097", "01"]) for _ in range(draw.randrange(4)))]
     if words[0] in ("solve", "lossy", "starve", "check") and draw.random() < 0.6:
         numbers = {"solve": [], "check": [], "lossy": ["0"], "starve": ["1"]}[words[0]]
         words[1:3] = {"starve": ["m", "1", "2", "f"], "lossy": ["m", "l", "5", "7"]}.get(words[0], ["m", "l"])
