@@ -31,6 +31,7 @@ row() {
   rm -f called
   "$bridge" "$@" >out 2>err
   got=$?
+  sed -i 's/^\(%%%mzn-stat: solveTime=\)[0-9]*\.[0-9]*$/\1T/' out
   if [ $got = "$good" ] && cmp -s out good.out && cmp -s err good.err; then echo "ok      $what"; else
     echo "FAILED  $what: status $got" && cat out err
     failed=$((failed + 1))
@@ -52,12 +53,17 @@ called solve m.fzn /dev/null --seed 0
 row 'a refutation' 1 "=====UNSATISFIABLE=====\n$took" '' 0 '=====UNSATISFIABLE=====\n' '' m.fzn
 row 'no verdict' 5 "=====UNKNOWN=====\n$took" '' 0 '=====UNKNOWN=====\n' '' m.fzn
 row 'a best value' 0 "$solved==========\n% rounds 2\n$took" '' 0 "$solved==========\n" '' -i -a aim.fzn
+called solve aim.fzn /dev/null --seed 0 --each
 row 'no better value known' 5 "$solved% rounds 2\n$took" '' 0 "$solved" '' aim.fzn
 row 'files and seed' 0 "$solved$took" '' 0 "$solved" '' --abt-log l --abt-record r --abt-model c -r 18446744073709551615 m.fzn
 called solve m.fzn l --seed 18446744073709551615 --record r
 cmp -s m.fzn c || { echo "FAILED  the kept model differs" && failed=$((failed + 1)); }
 row 'statistics' 0 "$solved$took" '' 0 \
-  "$solved%%%mzn-stat: deliveries=9\n%%%mzn-stat: steps=2\n%%%mzn-stat: agents=2\n%%%mzn-stat: bound=\"6\"\n%%%mzn-stat-end\n" '' -s m.fzn
+  "$solved%%%mzn-stat: deliveries=9\n%%%mzn-stat: steps=2\n%%%mzn-stat: nSolutions=1\n%%%mzn-stat: solveTime=T\n%%%mzn-stat: agents=2\n%%%mzn-stat: bound=\"6\"\n%%%mzn-stat-end\n" '' -s m.fzn
+row 'statistics of a best value' 0 "$solved==========\n% rounds 2\n" '' 0 \
+  "$solved==========\n%%%mzn-stat: rounds=2\n%%%mzn-stat: objective=1\n%%%mzn-stat: nSolutions=1\n%%%mzn-stat: solveTime=T\n%%%mzn-stat: agents=1\n%%%mzn-stat: bound=\"6\"\n%%%mzn-stat-end\n" '' -s aim.fzn
+row 'one solution' 0 "$solved$took" '' 0 "$solved" '' -n 1 m.fzn
+row 'two solutions' 0 '' '' 2 '' 'abt-fzn: -n 2: this solver finds one solution\n' -n 2 m.fzn
 row 'more is said' 0 "$solved$took" '' 0 "$solved" 'abt-fzn: ./stub solve m.fzn /dev/null --seed 0\n' -v m.fzn
 said='abt: model: unbounded at 26\n'
 # helps REFUSAL: what the table of refusals says of it.
@@ -68,6 +74,9 @@ row 'a place within a line' 3 '' 'abt: model: ill-typed at 36\n' 3 '' \
 row 'a limit' 3 '' 'abt: model: limit domain-size 65537 at 0\n' 3 '' \
   "abt: model: limit domain-size 65537 at 0\nabt-fzn: this line: var 1..2: x:: output_var;\n$(helps 'model: limit domain-size N at N')" m.fzn
 row 'no place' 3 '' 'abt: model: no solve item\n' 3 '' "abt: model: no solve item\n$(helps 'model: no solve item')" m.fzn
+printf 'var set of 1..4: s:: output_var;\nsolve  satisfy;\n' >sets.fzn
+row 'variables of sets' 3 '' 'abt: model: unsupported at 0\n' 3 '' \
+  "abt: model: unsupported at 0\nabt-fzn: this line: var set of 1..4: s:: output_var;\n$(helps 'model: unsupported at N')abt-fzn: the model has variables of sets: without -G std, this solver's own library makes Booleans of them\n" sets.fzn
 row 'a fault' 6 '' 'abt: fault\n' 6 '' 'abt: fault\n' m.fzn
 row 'no memory' 7 '' 'abt: memory\n' 7 '' 'abt: memory\n' m.fzn
 row 'bad words' 2 '' 'abt: bad words\n' 2 '' 'abt: bad words\nabt-fzn: the program refused the words solve m.fzn -l --seed 0\n' --abt-log -l m.fzn
@@ -75,6 +84,42 @@ row 'all solutions' 0 '' '' 2 '' 'abt-fzn: -a: this solver does not list all sol
 row 'an unknown flag' 0 '' '' 2 '' 'abt-fzn: there is no flag -t\n' -t 1000 m.fzn
 row 'a flag without its word' 0 '' '' 2 '' 'abt-fzn: -r asks for a word after it\n' m.fzn -r
 row 'no model' 0 '' '' 2 '' 'abt-fzn: no model\n' -s
+
+
+# files that are told twice, or that a user may want to keep
+printf 'var 1..2: x;\nsolve satisfy;\n' >own.mzn
+printf 'notes\n' >notes
+printf 'ngd 1\nend\n' >old.ngd
+row 'one name for log and record' 0 '' '' 2 '' 'abt-fzn: --abt-log and --abt-record name one file, x\n' --abt-log x --abt-record ./x m.fzn
+row 'one name for log and model' 0 '' '' 2 '' 'abt-fzn: --abt-log and --abt-model name one file, x\n' --abt-log x --abt-model x m.fzn
+row 'the model kept in itself' 0 '' '' 2 '' 'abt-fzn: --abt-model and the model name one file, m.fzn\n' --abt-model m.fzn m.fzn
+ln -s m.fzn other.fzn
+row 'the model by another name' 0 '' '' 2 '' 'abt-fzn: --abt-log and the model name one file, other.fzn\n' --abt-log other.fzn m.fzn
+row 'the log over a model of MiniZinc' 0 '' '' 2 '' "abt-fzn: --abt-log: own.mzn has the name of a file of MiniZinc's\n" --abt-log own.mzn m.fzn
+row 'the log over notes' 0 '' '' 2 '' 'abt-fzn: --abt-log: notes is there, and is not what would be written over it\n' --abt-log notes m.fzn
+row 'a log over a log' 0 "$solved$took" '' 0 "$solved" '' --abt-log old.ngd m.fzn
+[ "$(cat own.mzn m.fzn notes | md5sum)" = "$( (printf 'var 1..2: x;\nsolve satisfy;\n'; printf 'var 1..2: x:: output_var;\nvar int: y;\nsolve  satisfy;\n'; printf 'notes\n') | md5sum)" ] ||
+  { echo "FAILED  a file that was refused changed" && failed=$((failed + 1)); }
+
+# ended WHAT SIGNAL WHOM: where the driver, or the bridge, is ended by a signal, no program is left after four seconds.
+printf '#!/bin/sh\necho $$ >program\nexec sleep 30\n' >slow
+chmod +x slow
+ended() {
+  rm -f program bridge
+  ABT_PROGRAM=./slow sh -c '"$1" m.fzn & echo $! >bridge; wait' driver "$bridge" >/dev/null 2>&1 &
+  driver=$!
+  while [ ! -s program ] || [ ! -s bridge ]; do sleep 0.1; done
+  case $3 in driver) kill -s "$2" "$driver" ;; bridge) kill -s "$2" "$(cat bridge)" ;; esac
+  sleep 4
+  if kill -0 "$(cat program)" 2>/dev/null; then
+    echo "FAILED  $1: the program runs on" && failed=$((failed + 1))
+    kill "$(cat program)"
+  else echo "ok      $1"; fi
+  wait "$driver" 2>/dev/null
+}
+ended 'a driver that is killed' KILL driver
+ended 'a bridge that is killed' KILL bridge
+ended 'a bridge that is told to end' TERM bridge
 
 version=$(sed -n 's/^pub const VERSION.*"abt \([0-9.]*\)\\n.*/\1/p' "$top/crates/abt_command/src/plain.rt")
 grep -q "\"version\": \"$version\"" "$top/minizinc/abt.msc" || {

@@ -23,7 +23,7 @@ use Rattle.abt_parts.specs.declared.recorded.Recorded.{Recorded}
 use Rattle.abt_parts.specs.Stores.{record_of, records_of}
 use Rattle.abt_parts.specs.Views.{view_of}
 use Rattle.abt_defs.specs.Steps.{is_free, choice, is_named}
-use Rattle.abt_agent.specs.declared.body.Body.{Body}
+use Rattle.abt_agent.specs.declared.body.AgentBody.{AgentBody}
 use Rattle.abt_agent.specs.Bodies.{agent_of}
 use Rattle.abt_reason.specs.Causes.{reason_for, value_at}
 use Rattle.abt_agent.specs.declared.search.Cause.{Cause}
@@ -296,7 +296,7 @@ flip a true e = ap not (sym e)
 flip a false e = ap not (sym e)
 
 -- whether nothing rules out the agent's own value
-pub own_is : (p : Contents) (me : ℕ) (b : Body) (v w : ℤ) (free : Bool) → free ≡ not (is_some (cause_for p me (values_in (view_of b.known.view)) b.known.store w)) → w ≡ v → b.value ≡ Some v
+pub own_is : (p : Contents) (me : ℕ) (b : AgentBody) (v w : ℤ) (free : Bool) → free ≡ not (is_some (cause_for p me (values_in (view_of b.known.view)) b.known.store w)) → w ≡ v → b.value ≡ Some v
     → free ≡ is_free (csp_of p) me (agent_of b) b.value
 own_is p me b v w free f same e =
     f
@@ -304,7 +304,7 @@ own_is p me b v w free f same e =
     ∙ ap not (sym (ruled_is p me (values_in (view_of b.known.view)) b.known.store v))
     ∙ ap (is_free (csp_of p) me (agent_of b)) (sym e)
 
-pub least_chosen : (p : Contents) (me : ℕ) (b : Body) (least : Option ℤ) → least ≡ least_free p me (values_in (view_of b.known.view)) b.known.store (domain (csp_of p) me) → false ≡ is_free (csp_of p) me (agent_of b) b.value
+pub least_chosen : (p : Contents) (me : ℕ) (b : AgentBody) (least : Option ℤ) → least ≡ least_free p me (values_in (view_of b.known.view)) b.known.store (domain (csp_of p) me) → false ≡ is_free (csp_of p) me (agent_of b) b.value
     → least ≡ choice (csp_of p) me (agent_of b)
 least_chosen p me b least f n =
     f

@@ -1,12 +1,12 @@
 -- What is counted as an agent looks at constraints and nogoods.
-use Rattle.std.proofs.Common.{◌≡◌, ◌≢◌, ℕ, zero, suc, ◌+◌, ◌<◌, ◌≤◌, Bool, true, false, cond, not, List, [], ◌∷◌, ◌++◌, filter, length, map, take, drop, get_or, slice_get, Option, Some, None, ℤ, is_some, option_map, Result, Ok, Err, refl, sym, ap, ◌∙◌, subst, arith}
+use Rattle.std.proofs.Common.{◌≡◌, ℕ, zero, suc, ◌+◌, ◌<◌, Bool, true, false, cond, not, List, [], ◌∷◌, ◌++◌, filter, length, map, take, get_or, slice_get, Option, Some, None, ℤ, Result, Ok, Err, refl, sym, ap, ◌∙◌, subst, arith}
 use Rattle.std.specs.Prelude.{IfOk}
-use Rattle.std.specs.List.{list_all, sum_by}
+use Rattle.std.specs.List.{sum_by}
 use Rattle.std.proofs.lemmas.List.{take_more}
 use Rattle.std.proofs.lemmas.List.Elements.{filter-append}
 use Rattle.std.proofs.lemmas.List.Sums.{sum_by-cons}
 use Rattle.dcsp_defs.specs.Words.{is_value}
-use Rattle.dcsp_defs.specs.Csp.{Constraint, PartialAssignment, is_violated, with_value, domain, owned}
+use Rattle.dcsp_defs.specs.Csp.{Constraint, PartialAssignment, is_violated, with_value, owned}
 use Rattle.dcsp_rule.specs.Problems.{Contents, csp_of, constraint_at}
 use Rattle.dcsp_problem.specs.Index.{owned_rules}
 use Rattle.abt_defs.specs.Agents.{Record}

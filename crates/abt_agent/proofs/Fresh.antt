@@ -19,7 +19,7 @@ use Rattle.dcsp_problem.specs.Index.{owned_rules}
 use Rattle.dcsp_problem.specs.Lower.{joins, lower_owners}
 use Rattle.abt_parts.specs.Views.{view_of}
 use Rattle.abt_parts.specs.Stores.{records_of}
-use Rattle.abt_agent.specs.declared.body.Body.{Body}
+use Rattle.abt_agent.specs.declared.body.AgentBody.{AgentBody}
 use Rattle.abt_agent.specs.declared.Turn.{Turn}
 use Rattle.abt_agent.specs.declared.Turn.TheVariants.{Quiet, Announced, Derived, Empty}
 use Rattle.abt_agent.specs.Turns.{IsTurn, IsFirstTurn}
@@ -116,7 +116,7 @@ marks_are f n h k = elim (cases_lt k n) [
 
 -- ---- the whole
 
-pub fresh_is : (p : Contents) → ((i : ℕ) → Sound (csp_of p) i (fresh (csp_of p) i)) → (me : ℕ) (b : Body) → b.value ≡ None → b.stamp ≡ 0 → b.waits ≡ false → view_of b.known.view ≡ (λ k. None) → b.known.store ≡ []
+pub fresh_is : (p : Contents) → ((i : ℕ) → Sound (csp_of p) i (fresh (csp_of p) i)) → (me : ℕ) (b : AgentBody) → b.value ≡ None → b.stamp ≡ 0 → b.waits ≡ false → view_of b.known.view ≡ (λ k. None) → b.known.store ≡ []
     → b.tells.items ≡ lower_owners (csp_of p) me → b.linked ≡ map (shares (csp_of p) me) (below me)
     → agent_of b ≡ fresh (csp_of p) me
 fresh_is p sound me b v s w view store tells linked =
@@ -125,7 +125,7 @@ fresh_is p sound me b v s w view store tells linked =
     let kept = ap records_of store in
     λ x. record { value = v x; stamp = s x; waits = w x; view = view x; recorded = kept x; tells = λ j. tell j x; linked = λ k. link k x }
 
-pub fresh_good : (p : Contents) → ((i : ℕ) → Sound (csp_of p) i (fresh (csp_of p) i)) → (me : ℕ) (b : Body) → owner_of b.known ≡ (p, me) → IsInStep b.known → b.tells.items ≡ lower_owners (csp_of p) me → length b.linked ≡ me
+pub fresh_good : (p : Contents) → ((i : ℕ) → Sound (csp_of p) i (fresh (csp_of p) i)) → (me : ℕ) (b : AgentBody) → owner_of b.known ≡ (p, me) → IsInStep b.known → b.tells.items ≡ lower_owners (csp_of p) me → length b.linked ≡ me
     → agent_of b ≡ fresh (csp_of p) me → IsGood b
 fresh_good p sound me b e in_step tells linked f = record {
   sized = record {

@@ -15,7 +15,7 @@ use Rattle.abt_agent.specs.Outgoing.{Posts}
 use Rattle.abt_agent.proofs.Posting.{posts_none}
 use Rattle.abt_parts.specs.Views.{view_of}
 use Rattle.abt_parts.specs.Stores.{records_of}
-use Rattle.abt_agent.specs.declared.body.Body.{Body}
+use Rattle.abt_agent.specs.declared.body.AgentBody.{AgentBody}
 use Rattle.abt_agent.specs.declared.Turn.TheVariants.{Derived, Empty}
 use Rattle.abt_agent.specs.Bodies.{agent_of, IsSized, Does}
 
@@ -43,7 +43,7 @@ refused number a step (q ∷ qs) (s ∷ ss) last e =
     ap (λ (k : ℕ). record { agent = record a { waits = true }; sent = (k, Refuse number (with_stamps (q ∷ qs) (s ∷ ss))) ∷ []; step = Some step })
     (lowest_is q (record { value = q.value; stamp = s }) qs ss last (subst (λ (z : ℕ). Some last ≡ slice_get (q ∷ qs) z) l e))
 
-module _ (number : ℕ) (b : Body) (sized : IsSized b) (out : List Sent) (s : Step) (stamps : List ℕ)
+module _ (number : ℕ) (b : AgentBody) (sized : IsSized b) (out : List Sent) (s : Step) (stamps : List ℕ)
     (step : s ≡ step_of (csp_of b.known.problem.now) b.known.me (view_of b.known.view) (records_of b.known.store)) (pairs : with_stamps s.nogood stamps ≡ derived (csp_of b.known.problem.now) b.known.me (view_of b.known.view) (records_of b.known.store)) where
   abbrev p : Csp
   p = csp_of b.known.problem.now

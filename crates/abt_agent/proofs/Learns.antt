@@ -10,7 +10,7 @@ use Rattle.dcsp_rule.specs.Problems.{Contents, csp_of}
 use Rattle.abt_parts.specs.declared.message.Sent.{Sent}
 use Rattle.abt_parts.specs.Messages.{with_stamps}
 use Rattle.abt_agent.specs.declared.knowledge.Knowledge.{Knowledge}
-use Rattle.abt_agent.specs.declared.body.Body.{Body}
+use Rattle.abt_agent.specs.declared.body.AgentBody.{AgentBody}
 use Rattle.abt_agent.specs.Bodies.{owner_of, IsInStep, IsSized}
 use Rattle.abt_agent.specs.Outgoing.{Posts}
 use Rattle.abt_agent.proofs.Lists.{plain-with_stamps}
@@ -36,7 +36,7 @@ asked_for me nogood ps stamps a out went p e =
     subst (λ z. Posts out went (steps.to_each Add_link (steps.unlinked me z a))) (p ∙ sym (plain-with_stamps nogood stamps)) e
 
 -- what is known has changed, of the same agent
-pub sized_still : (b : Body) (known : Knowledge) → IsSized b → owner_of known ≡ owner_of b.known → IsInStep known → IsSized (record b { known = known })
+pub sized_still : (b : AgentBody) (known : Knowledge) → IsSized b → owner_of known ≡ owner_of b.known → IsInStep known → IsSized (record b { known = known })
 sized_still b known sized e in_step = record {
   in_step = in_step;
   linked = sized.linked ∙ sym (ap (λ (x : Contents × ℕ). x.1) e);

@@ -16,7 +16,7 @@ use Rattle.abt_parts.specs.Messages.{with_stamps}
 use Rattle.abt_agent.specs.Outgoing.{Posts}
 use Rattle.abt_agent.proofs.Posting.{posts_then}
 use Rattle.abt_agent.specs.declared.knowledge.Knowledge.{Knowledge}
-use Rattle.abt_agent.specs.declared.body.Body.{Body}
+use Rattle.abt_agent.specs.declared.body.AgentBody.{AgentBody}
 use Rattle.abt_agent.specs.declared.Turn.{Turn}
 use Rattle.abt_agent.specs.declared.Turn.TheVariants.{Quiet, Announced, Derived, Empty}
 use Rattle.abt_agent.specs.Turns.{IsTurn}
@@ -39,34 +39,34 @@ pub moved_sound : (k l : Knowledge) (a : Agent) → owner_of l ≡ owner_of k �
 moved_sound k l a e h = subst (λ (x : Contents × ℕ). Sound (csp_of x.0) x.1 a) (sym e) h
 
 -- what the agent does leaves what always holds of it
-stays : (before : Body) → IsGood before → ((p : Csp) → AgentsStaySound p) → StaysSound (csp_of before.known.problem.now) before.known.me (agent_of before)
+stays : (before : AgentBody) → IsGood before → ((p : Csp) → AgentsStaySound p) → StaysSound (csp_of before.known.problem.now) before.known.me (agent_of before)
 stays before h law = law (csp_of before.known.problem.now) before.known.me h.sized.in_step.me_exists (agent_of before) h.sound
 
 -- a body of the same owner, of which that holds
-still_good : (before after : Body) (a : Agent) → owner_of after.known ≡ owner_of before.known → IsSized after → agent_of after ≡ a → Sound (csp_of before.known.problem.now) before.known.me a → IsGood after
+still_good : (before after : AgentBody) (a : Agent) → owner_of after.known ≡ owner_of before.known → IsSized after → agent_of after ≡ a → Sound (csp_of before.known.problem.now) before.known.me a → IsGood after
 still_good before after a e sized f h = record {
   sized = sized;
   sound = moved_sound before.known after.known (agent_of after) e (subst (Sound (csp_of before.known.problem.now) before.known.me) (sym f) h);
 }
 
-pub good_learned : ((p : Csp) → AgentsStaySound p) → (from : ℕ) (s : Stamped) (before after : Body) → IsGood before → owner_of after.known ≡ owner_of before.known → IsSized after → from < before.known.me → In s.value (domain (csp_of before.known.problem.now) from)
+pub good_learned : ((p : Csp) → AgentsStaySound p) → (from : ℕ) (s : Stamped) (before after : AgentBody) → IsGood before → owner_of after.known ≡ owner_of before.known → IsSized after → from < before.known.me → In s.value (domain (csp_of before.known.problem.now) from)
     → agent_of after ≡ steps.learn from s (agent_of before) → IsGood after
 good_learned law from s before after h e sized higher there a =
     still_good before after (steps.learn from s (agent_of before)) e sized a ((stays before h law).learned from s higher there)
 
-pub good_heeded : ((p : Csp) → AgentsStaySound p) → (step : ℕ) (nogood : List Pair) (stamps : List ℕ) (before after : Body) → IsGood before → owner_of after.known ≡ owner_of before.known → IsSized after → Proper (csp_of before.known.problem.now) before.known.me nogood
+pub good_heeded : ((p : Csp) → AgentsStaySound p) → (step : ℕ) (nogood : List Pair) (stamps : List ℕ) (before after : AgentBody) → IsGood before → owner_of after.known ≡ owner_of before.known → IsSized after → Proper (csp_of before.known.problem.now) before.known.me nogood
     → agent_of after ≡ steps.heed before.known.me step (with_stamps nogood stamps) (agent_of before) → IsGood after
 good_heeded law step nogood stamps before after h e sized proper a =
     still_good before after (steps.heed before.known.me step (with_stamps nogood stamps) (agent_of before)) e sized a
     ((stays before h law).heeded step (with_stamps nogood stamps) (subst (Proper (csp_of before.known.problem.now) before.known.me) (sym (plain-with_stamps nogood stamps)) proper))
 
-pub good_settled : ((p : Csp) → AgentsStaySound p) → (number : ℕ) (before after : Body) (out went : List Sent) (r : Result Turn Memory) → IsGood before → owner_of after.known ≡ owner_of before.known
+pub good_settled : ((p : Csp) → AgentsStaySound p) → (number : ℕ) (before after : AgentBody) (out went : List Sent) (r : Result Turn Memory) → IsGood before → owner_of after.known ≡ owner_of before.known
     → IfOk r (λ turn. Does (steps.settle (csp_of before.known.problem.now) before.known.me number (agent_of before)) before after out went turn) → OnOk r (IsGood after)
 good_settled law number before after out went (Ok turn) h e d =
     still_good before after (steps.settle (csp_of before.known.problem.now) before.known.me number (agent_of before)).agent e d.sized d.agent ((stays before h law).settled number)
 good_settled law number before after out went (Err f) h e d = tt
 
-pub good_linked : ((p : Csp) → AgentsStaySound p) → (number from : ℕ) (before after : Body) (out went : List Sent) (r : Result Turn Memory) → IsGood before → from < length before.known.problem.now.domains → owner_of after.known ≡ owner_of before.known
+pub good_linked : ((p : Csp) → AgentsStaySound p) → (number from : ℕ) (before after : AgentBody) (out went : List Sent) (r : Result Turn Memory) → IsGood before → from < length before.known.problem.now.domains → owner_of after.known ≡ owner_of before.known
     → IfOk r (λ turn. DoesReceive number from Add_link before after out went turn) → OnOk r (IsGood after)
 good_linked law number from before after out went (Ok turn) h l e d =
     still_good before after (record (agent_of before) { tells = update (agent_of before).tells from true }) e d.sized d.agent ((stays before h law).linked from l)
@@ -81,7 +81,7 @@ turn_same a b sent o (Derived s) e h = h
 turn_same a b sent o (Empty s) e h = h
 
 -- messages sent before settling come first
-after_first : (o : Outcome) (before mid after : Body) (out first went : List Sent) (sent : List (ℕ × Message)) (turn : Turn)
+after_first : (o : Outcome) (before mid after : AgentBody) (out first went : List Sent) (sent : List (ℕ × Message)) (turn : Turn)
     → mid.stamp ≡ before.stamp → Posts out first sent → Does o mid after first went turn
     → Does (steps.first_sent sent o) before after out went turn
 after_first o before mid after out first went sent turn e f d = record {
@@ -92,7 +92,7 @@ after_first o before mid after out first went sent turn e f d = record {
 }
 
 -- the agent heeds the nogood, and goes on waiting
-stays_idle : (before after : Body) (b : Agent) (out went : List Sent) (sent : List (ℕ × Message))
+stays_idle : (before after : AgentBody) (b : Agent) (out went : List Sent) (sent : List (ℕ × Message))
     → agent_of after ≡ b → after.stamp ≡ before.stamp → Posts out went sent → IsSized after
     → Does (steps.first_sent sent (steps.stay b)) before after out went Quiet
 stays_idle before after b out went sent e f m sized = record {
@@ -102,7 +102,7 @@ stays_idle before after b out went sent e f m sized = record {
   sized = sized;
 }
 
-module _ (learns : (i : ℕ) (a : Agent) → OnlyLearns i a) (number from step : ℕ) (nogood ps : List Pair) (stamps : List ℕ) (before mid : Body) (out first : List Sent)
+module _ (learns : (i : ℕ) (a : Agent) → OnlyLearns i a) (number from step : ℕ) (nogood ps : List Pair) (stamps : List ℕ) (before mid : AgentBody) (out first : List Sent)
     (p : ps ≡ nogood) (heeds : agent_of mid ≡ steps.heed before.known.me step (with_stamps nogood stamps) (agent_of before))
     (asks : Posts out first (steps.to_each Add_link (steps.unlinked before.known.me (plain (with_stamps nogood stamps)) (agent_of before)))) where
   abbrev csp : Csp
@@ -136,7 +136,7 @@ module _ (learns : (i : ℕ) (a : Agent) → OnlyLearns i a) (number from step :
       subst (λ o. Does o before mid out first Quiet) (idle_is true e)
       (stays_idle before mid heeded out first requests heeds same_stamp asks sized)
 
-  pub refused_settles : (after : Body) (went : List Sent) (turn : Turn) → owner_of mid.known ≡ owner_of before.known → false ≡ (a.waits && not (steps.is_news me (with_stamps ps stamps) a))
+  pub refused_settles : (after : AgentBody) (went : List Sent) (turn : Turn) → owner_of mid.known ≡ owner_of before.known → false ≡ (a.waits && not (steps.is_news me (with_stamps ps stamps) a))
       → Does (steps.settle (csp_of mid.known.problem.now) mid.known.me number (agent_of mid)) mid after first went turn
       → DoesReceive number from (Refuse step (with_stamps nogood stamps)) before after out went turn
   refused_settles after went turn o e d =

@@ -1,15 +1,17 @@
 -- The reasons are kept up with view and store.
-use Rattle.std.proofs.Common.{◌≡◌, ◌≢◌, ℕ, ◌<◌, cond, List, Some, refl, sym, ap, subst, ◌∙◌, inl, inr}
+use Rattle.std.proofs.Common.{◌≡◌, ◌≢◌, ℕ, ◌<◌, cond, List, Some, length, refl, sym, ap, subst, ◌∙◌, inl, inr}
 use Rattle.std.specs.Prelude.{filter}
-use Rattle.std.proofs.lemmas.Bool.{ne_eqb, eq-eqb}
+use Rattle.std.proofs.lemmas.Bool.{cases_eq, ne_eqb, eq-eqb}
 use Rattle.std.proofs.lemmas.Bool.Decides.{eqb_tells}
+use Rattle.std.proofs.Math.Path.{fun_ext}
 use Rattle.dcsp_defs.specs.Words.{In, update}
-use Rattle.dcsp_defs.specs.Csp.{Csp, domain}
+use Rattle.dcsp_defs.specs.Csp.{Csp, PartialAssignment, domain}
 use Rattle.abt_defs.specs.Agents.{Stamped, View, values_in, value_in}
 use Rattle.dcsp_rule.specs.Problems.{AreInDomains}
 use Rattle.abt_parts.specs.declared.recorded.Recorded.{Recorded}
 use Rattle.abt_parts.specs.Stores.{fits}
 use Rattle.abt_reason.specs.Cached.{Cached, StandsFor, StoodBefore}
+use Rattle.abt_reason.proofs.AfterLaws.{all_left}
 use Rattle.abt_agent.specs.Outgoing.{IsStampedView}
 
 module _ (old new : View) (from : ℕ) (s : Stamped) (e : new ≡ update old from (Some s)) where
@@ -48,3 +50,17 @@ module _ (old new : View) (from : ℕ) (s : Stamped) (e : new ≡ update old fro
     others = same_others;
     left = inr (s.value, new_value, left);
   }
+
+  -- where the value was known, all values are as they were
+  same_values : values_in old from ≡ Some s.value → values_in old ≡ values_in new
+  same_values was = fun_ext (λ k. elim (cases_eq k from) [
+    | inl same ↦ ap (values_in old) same ∙ was ∙ sym new_value ∙ sym (ap (values_in new) same)
+    | inr other ↦ same_others k other
+  ])
+
+  -- and where nothing was forgotten, the reasons are those that they were
+  pub stands_still : (r : Cached) (before items : List Recorded) → StandsFor r (values_in old) before → items ≡ filter (fits from s.value) before
+      → values_in old from ≡ Some s.value → length items ≡ length before → StandsFor r (values_in new) items
+  stands_still r before items stood left was size =
+      let same : items ≡ before = left ∙ all_left (fits from s.value) before (sym (ap length left) ∙ size) in
+      subst (λ (known : PartialAssignment). StandsFor r known items) (same_values was) (subst (λ (xs : List Recorded). StandsFor r (values_in old) xs) (sym same) stood)

@@ -12,7 +12,7 @@ use Rattle.abt_parts.specs.Views.{view_of}
 use Rattle.abt_parts.specs.declared.recorded.Recorded.{Recorded}
 use Rattle.abt_parts.specs.Stores.{records_of}
 use Rattle.abt_agent.specs.declared.knowledge.Knowledge.{Knowledge}
-use Rattle.abt_agent.specs.declared.body.Body.{Body}
+use Rattle.abt_agent.specs.declared.body.AgentBody.{AgentBody}
 use Rattle.abt_agent.specs.declared.Turn.{Turn}
 use Rattle.abt_agent.specs.Turns.{IsTurn}
 use Rattle.abt_agent.specs.Outgoing.{IsStampedView, Posts}
@@ -23,7 +23,7 @@ abbrev pub owner_of : Knowledge → Contents × ℕ
 owner_of k = (k.problem.now, k.me)
 
 -- the agent of the definitions that the code's agent stands for
-abbrev pub agent_of : Body → Agent
+abbrev pub agent_of : AgentBody → Agent
 agent_of b = record {
   value = b.value;
   stamp = b.stamp;
@@ -45,7 +45,7 @@ pub record IsInStep (k : Knowledge) : Type 0 where
   pub stands : StandsFor k.reasons (values_in (view_of k.view)) k.store
 
 -- what is known is in step, the table of links has a place for each higher agent, and the agents that are told rise and exist
-pub record IsSized (b : Body) : Type 0 where
+pub record IsSized (b : AgentBody) : Type 0 where
   pub in_step : IsInStep b.known
   pub linked : length b.linked ≡ b.known.me
   pub tells : IsRising b.tells.items
@@ -60,21 +60,21 @@ abbrev pub AreProper : Contents → ℕ → List Recorded → Type 0
 AreProper p me kept = (x : Record) → In x (records_of kept) → IsProper p me x.pairs
 
 -- what always holds of the agent
-abbrev pub IsSound : Body → Type 0
+abbrev pub IsSound : AgentBody → Type 0
 IsSound b = Sound (csp_of b.known.problem.now) b.known.me (agent_of b)
 
 -- the tables are as long as they must be, and the agent's own facts hold
-pub record IsGood (b : Body) : Type 0 where
+pub record IsGood (b : AgentBody) : Type 0 where
   pub sized : IsSized b
   pub sound : IsSound b
 
 -- the code did what the definitions' agent does
-pub record Does (o : Outcome) (before after : Body) (out went : List Sent) (turn : Turn) : Type 0 where
+pub record Does (o : Outcome) (before after : AgentBody) (out went : List Sent) (turn : Turn) : Type 0 where
   pub agent : agent_of after ≡ o.agent
   pub sent : Posts out went o.sent
   pub turn_is : IsTurn (agent_of before) o turn
   pub sized : IsSized after
 
 -- the code did what the definitions' agent does when it receives this message from another one, where a step that it makes has this number
-abbrev pub DoesReceive : ℕ → ℕ → Message → Body → Body → List Sent → List Sent → Turn → Type 0
+abbrev pub DoesReceive : ℕ → ℕ → Message → AgentBody → AgentBody → List Sent → List Sent → Turn → Type 0
 DoesReceive number from m before after out went turn = Does (receive (csp_of before.known.problem.now) before.known.me number (agent_of before) from m) before after out went turn

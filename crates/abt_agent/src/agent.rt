@@ -19,7 +19,7 @@ ghost use Rattle.abt_agent.specs.Examined.{as_checks};
 ghost use Rattle.abt_agent.specs.Outgoing.{IsStamped};
 
 use crate::Turn;
-use crate::body::Body;
+use crate::body::AgentBody;
 use crate::checks::Checks;
 use abt_parts::{Message, Outbox};
 use dcsp_common::Memory;
@@ -33,7 +33,7 @@ use std::marker::Model;
 /// `Memory` from then on.
 #[derive(Drop)]
 pub struct Agent<'p> {
-    body: Body<'p>,
+    body: AgentBody<'p>,
     spent: bool,
 }
 
@@ -55,7 +55,7 @@ impl<'p> Agent<'p> {
         requires { agent < length problem.now.domains }
         ensures { IfOk result (λ a. IsFresh problem.now agent a) }
     {
-        let body = Body::new(alloc, problem, agent)?;
+        let body = AgentBody::new(alloc, problem, agent)?;
         Ok(Agent { body, spent: false })
     }
 

@@ -11,7 +11,7 @@ ghost use Rattle.abt_agent.specs.Bodies.{agent_of, owner_of, IsSized};
 ghost use Rattle.abt_agent.specs.Outgoing.{IsStamped, Posts};
 ghost use Rattle.abt_agent.specs.Asks.{unlinked_names, is_unlinked};
 
-use crate::body::Body;
+use crate::body::AgentBody;
 use crate::marks::mark_pairs;
 use abt_parts::{Message, Outbox, Sent};
 use dcsp_common::Memory;
@@ -70,7 +70,7 @@ fn ask_each(linked: &Row, pairs: &[Pair], out: &mut Outbox) -> Result<(), Memory
     Ok(())
 }
 
-impl<'p> Body<'p> {
+impl<'p> AgentBody<'p> {
     /// Asks for the links that the pairs want, and counts them as asked.
     pub fn ask(&mut self, pairs: &[Pair], out: &mut Outbox) -> Result<(), Memory>
         requires sized { IsSized self.old }

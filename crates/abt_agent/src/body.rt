@@ -18,7 +18,7 @@ use std::alloc::Global;
 
 /// What an agent has.
 #[derive(Drop)]
-pub struct Body<'p> {
+pub struct AgentBody<'p> {
     pub known: Knowledge<'p>,
     pub value: Option<i64>,
     /// How many values it has taken.
@@ -33,9 +33,9 @@ pub struct Body<'p> {
     pub room: Row,
 }
 
-impl<'p> Body<'p> {
+impl<'p> AgentBody<'p> {
     /// What an agent has before its start.
-    pub fn new(alloc: Global, problem: &'p Problem, me: u32) -> Result<Body<'p>, Memory>
+    pub fn new(alloc: Global, problem: &'p Problem, me: u32) -> Result<AgentBody<'p>, Memory>
         requires { me < length problem.now.domains }
         ensures owner { IfOk result (λ body. owner_of body.known ≡ (problem.now, me)) }
         ensures agent { IfOk result (λ body. agent_of body ≡ fresh (csp_of problem.now) me) }
@@ -47,7 +47,7 @@ impl<'p> Body<'p> {
         let tells = first_tells(alloc, problem, me)?;
         let linked = first_linked(alloc, problem, me)?;
         let room = Row::new(alloc, 0)?;
-        Ok(Body {
+        Ok(AgentBody {
             known,
             value: None,
             stamp: 0,

@@ -1,10 +1,11 @@
 //! What an agent was told, which nogoods it keeps, and why its values are ruled out.
 
-ghost use Rattle.std.specs.Prelude.{◌≡◌, ◌<◌, ◌∷◌, ◌++◌, [], IfOk, None, OnOk, Some, false, length, if◌then◌else◌};
+ghost use Rattle.std.specs.Prelude.{◌≡◌, ◌<◌, ◌∷◌, ◌++◌, [], IfOk, None, OnOk, Some, false, length, true, if◌then◌else◌};
 ghost use Rattle.std.specs.Option.{ForSome};
 ghost use Rattle.dcsp_defs.specs.Words.{In, update};
 ghost use Rattle.dcsp_defs.specs.Csp.{domain};
 ghost use Rattle.dcsp_rule.specs.Problems.{csp_of};
+ghost use Rattle.abt_defs.specs.Agents.{values_in};
 ghost use Rattle.abt_defs.specs.Steps as steps;
 ghost use Rattle.abt_parts.specs.Views.{view_of, stamped_of};
 ghost use Rattle.abt_parts.specs.Stores.{is_ruled_out, lowest_value, records_of};
@@ -64,12 +65,28 @@ impl<'p> Knowledge<'p> {
         ensures owner { owner_of self.new ≡ owner_of self.old }
         ensures in_step { IsInStep self.new }
     {
+        let was_known = self.knows(from, told.value);
         if !self.view.learn(from, told.value, told.stamp) {
             return false;
         }
+        let kept = self.store.len();
         self.store.forget(from, told.value);
+        // A newer stamp alone changes no reason.
+        if was_known && self.store.len() == kept {
+            return true;
+        }
         self.reasons.after_view(from, &self.view, &self.store);
         true
+    }
+
+    /// Whether the view has this value of the agent.
+    fn knows(&self, from: u32, value: i64) -> bool
+        ensures { result ≡ true → values_in (view_of self.now.view) from ≡ Some value }
+    {
+        match self.view.value_of(from) {
+            Some(known) => known == value,
+            None => false,
+        }
     }
 
     /// Keeps a nogood, as the first for its value of the agent.

@@ -14,12 +14,12 @@ ghost use Rattle.abt_parts.specs.Stores.{is_ruled_out, lowest_value, record_of, 
 ghost use Rattle.abt_agent.specs.Bodies.{agent_of, owner_of, AreProper, IsProper, IsSized};
 ghost use Rattle.abt_agent.specs.Outgoing.{AreStampsOf};
 
-use crate::body::Body;
+use crate::body::AgentBody;
 use abt_parts::{Recorded, StampedValue};
 use dcsp_common::Memory;
 use dcsp_defs::{Nogood, Pair};
 
-impl<'p> Body<'p> {
+impl<'p> AgentBody<'p> {
     /// Takes in a value that is newer than what the view has, and forgets what disagrees with it. True
     /// exactly if it is newer.
     pub fn learn(&mut self, from: u32, told: StampedValue) -> bool

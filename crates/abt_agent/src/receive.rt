@@ -20,12 +20,12 @@ ghost use Rattle.abt_parts.specs.Stores.{records_of};
 
 use crate::Turn;
 use crate::ask::post;
-use crate::body::Body;
+use crate::body::AgentBody;
 use abt_parts::{Message, Outbox, Recorded, StampedValue};
 use dcsp_common::Memory;
 use dcsp_defs::Pair;
 
-impl<'p> Body<'p> {
+impl<'p> AgentBody<'p> {
     /// Settles before anything is told, where no step's number matters.
     pub fn first_settle(&mut self, out: &mut Outbox) -> Result<Turn, Memory>
         requires good { IsGood self.old }

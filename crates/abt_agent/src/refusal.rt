@@ -25,7 +25,7 @@ use std::alloc::Global;
 
 /// A step, and the stamps of its nogood.
 #[derive(Debug, Drop)]
-pub struct Refusal {
+pub struct StampedStep {
     pub step: Step,
     pub stamps: StampList,
 }
@@ -40,7 +40,7 @@ struct Basis {
 impl<'p> Knowledge<'p> {
     /// The step at the agent's variable that the reasons against all its values make. The row is room for
     /// marks, whatever it has.
-    pub fn refuse(&self, marks: &mut Row) -> Result<Refusal, Memory>
+    pub fn refuse(&self, marks: &mut Row) -> Result<StampedStep, Memory>
         requires in_step { IsInStep self.now }
         requires proper { AreProper self.now.problem.now self.now.me self.now.store }
         ensures step { IfOk result (λ refusal. refusal.step ≡ step_of (csp_of self.now.problem.now) self.now.me (view_of self.now.view) (records_of self.now.store)) }
@@ -55,7 +55,7 @@ impl<'p> Knowledge<'p> {
             nogood,
             reasons,
         };
-        Ok(Refusal { step, stamps })
+        Ok(StampedStep { step, stamps })
     }
 
     /// What a step cites against the agent's values, in order. The higher agents that this names are

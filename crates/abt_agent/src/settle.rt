@@ -11,8 +11,8 @@ ghost use Rattle.abt_agent.specs.Outgoing.{Posts};
 
 use crate::Turn;
 use crate::ask::post;
-use crate::body::Body;
-use crate::refusal::Refusal;
+use crate::body::AgentBody;
+use crate::refusal::StampedStep;
 use abt_parts::{Message, Outbox, StampedValue};
 use dcsp_common::Memory;
 
@@ -31,7 +31,7 @@ fn tell_all(tells: &[u32], told: StampedValue, out: &mut Outbox) -> Result<(), M
     Ok(())
 }
 
-impl<'p> Body<'p> {
+impl<'p> AgentBody<'p> {
     /// Whether there is a value, and it is not ruled out.
     fn is_own_free(&self) -> bool
         requires { IsGood self.now }
@@ -83,7 +83,7 @@ impl<'p> Body<'p> {
         ensures does { IfOk result (λ turn. Does (steps.take_or_refuse (csp_of self.old.known.problem.now) self.old.known.me number (agent_of self.old) None) self.old self.new out.old out.new turn) }
         ensures owner { owner_of self.new.known ≡ owner_of self.old.known }
     {
-        let Refusal { step, stamps } = self.known.refuse(&mut self.room)?;
+        let StampedStep { step, stamps } = self.known.refuse(&mut self.room)?;
         match step.nogood.lowest() {
             None => Ok(Turn::Empty(step)),
             Some(lowest) => {

@@ -1,6 +1,7 @@
 -- Lines of words, and how they end.
-use Rattle.std.proofs.Common.{◌≡◌, ◌≢◌, ℕ, ℤ, ◌≤◌, Bool, true, List, [], ◌∷◌, ◌++◌, get_or, slice_get, Option, Some, Result, Ok, Err, refl, sym, ap, subst, ◌∙◌, arith, codes}
+use Rattle.std.proofs.Common.{◌≡◌, ◌≢◌, ℕ, ℤ, ◌≤◌, ◌^◌, Bool, true, List, [], ◌∷◌, ◌++◌, get_or, slice_get, Option, Some, None, unwrap_or, Result, Ok, Err, refl, sym, ap, subst, ◌∙◌, arith, codes, ◌+◌, false, nat_lt}
 use Rattle.std.specs.Prelude.{IfSome}
+use Rattle.std.proofs.lemmas.Bool.Decides.{nat_tests}
 use Rattle.dcsp_outside.specs.Outside.{Stream}
 use Rattle.dcsp_script.specs.Scripts.{World}
 use Rattle.abt_promise.specs.declared.status.Status.{Status}
@@ -17,14 +18,17 @@ use Rattle.abt_words.specs.declared.row.Content.TheVariants.{Model, Log, Formula
 use Rattle.abt_words.specs.declared.row.Access.TheVariants.{Read, Written}
 use Rattle.abt_words.specs.declared.rows.TheConstants.{SOLVE, REPLAY, EXPORT, STARVE, QUEENS, COLOURING, SPARSE, PIGEONS}
 use Rattle.abt_words.specs.Rows.{Number, Place, Row, row_of, the_rows}
-use Rattle.abt_words.specs.Saying.{Value, Absent, Fill, Said, IsSaidBy, names_differ, setting_of, name_in, given_name}
+use Rattle.abt_words.specs.Saying.{Value, Absent, Fill, Said, IsSaidBy, names_differ, setting_of, name_in, given_name, given_number, Gives, none_given}
 use Rattle.abt_words.proofs.Once.{one_said, rows_are_apart}
-use Rattle.abt_words.proofs.Read.{of_each, number_within, a_name, names_apart, if_name}
+use Rattle.abt_words.proofs.Read.{of_each, number_within, given_within, a_name, names_apart, if_name}
 use Rattle.line_model.proofs.Lawful.{bound_lawful, print_lawful}
+use Rattle.line_replay.specs.Settings.{Settings}
+use Rattle.line_replay.specs.Asked.{most_deliveries}
 use Rattle.line_replay.specs.Headline.{HoldsProblem}
 use Rattle.line_replay.proofs.Lawful.{replay_lawful}
 use Rattle.line_solve.proofs.Lawful.{solve_lawful}
-use Rattle.abt_command.specs.Lines.{Line, Help, Version, Usage, Check, Replay, Solve, Bound, Queens, Colouring, Sparse, Pigeons, Drill, Upgrade, Core, Export, Starve, Lossy, Rup, Cnf, IsLine, IsSomeLine, Meaning, Nothing, Holds, AnswerMeans, CameMeans, Means, line_named, line_by, number_at, promise_of, value_of}
+use Rattle.abt_command.specs.declared.request.Request.{Request}
+use Rattle.abt_command.specs.Lines.{Line, Help, Version, Usage, Check, Replay, Solve, Bound, Queens, Colouring, Sparse, Pigeons, Drill, Upgrade, Core, Export, Starve, Lossy, Measure, Survey, Rup, Cnf, IsLine, IsNoLine, IsRequest, IsSomeLine, Meaning, Nothing, Holds, AnswerMeans, CameMeans, Means, line_named, line_by, last_seed, line_of, number_at, promise_of, value_of}
 use Rattle.line_check.proofs.Lawful.{check_lawful}
 use Rattle.line_drill.proofs.Lawful.{drill_lawful}
 use Rattle.line_rewrite.proofs.Lawful.{upgrade_lawful}
@@ -32,12 +36,29 @@ use Rattle.line_rewrite.proofs.CoreLawful.{core_lawful}
 use Rattle.line_export.proofs.Lawful.{export_lawful}
 use Rattle.line_starve.proofs.Lawful.{starve_lawful}
 use Rattle.line_lossy.proofs.Lawful.{lossy_lawful}
+use Rattle.line_measure.proofs.Lawful.{measure_lawful, survey_lawful}
 use Rattle.line_cnf.proofs.Lawful.{rup_lawful}
 use Rattle.line_cnf.proofs.CnfLawful.{cnf_lawful}
 
 -- words are at most one line
 pub one_line : (words : List (List ℕ)) (line other : Line) → IsLine words line → IsLine words other → line ≡ other
 one_line words line other h k = h.line_is ∙ (ap line_by (one_said the_rows rows_are_apart words h.said k.said h.is_said k.is_said) ∙ sym k.line_is)
+
+-- a request that stands for what the words say is their line
+pub is_line : (words : List (List ℕ)) (said : Said) (request : Request) → IsSaidBy the_rows words said → IsRequest request (line_by said) → IsLine words (line_of request)
+is_line words said request is o = record { said = said; is_said = is; line_is = o.line_is; within = ap (λ l. (value_of l).within) o.line_is ∙ o.within }
+
+-- words whose numbers do not go together are no line
+pub no_line : (words : List (List ℕ)) (said : Said) → IsSaidBy the_rows words said → (value_of (line_by said)).within ≡ false → IsNoLine words
+no_line words said is e line h =
+    let same : line ≡ line_by said = h.line_is ∙ ap line_by (one_said the_rows rows_are_apart words h.said said h.is_said is) in
+    let within : (value_of line).within ≡ (value_of (line_by said)).within = ap (λ l. (value_of l).within) same in
+    let true_there = h.within in cc
+
+-- what holds of a request holds of the one that was made
+pub some_order : {X : Type 0} {P Q : X → Type 0} (o : Option X) → ((x : X) → P x → Q x) → IfSome o P → IfSome o Q
+some_order None f h = h
+some_order (Some x) f h = f x h
 
 -- the same is in both
 pub one_some : {T : Type 0} {x y : T} → Some x ≡ Some y → x ≡ y
@@ -48,13 +69,15 @@ one_some e = cc
 -- a row that stands among the rows is that of the line which is made from it
 pub its_row : (said : Said) (i : ℕ) (row : Row) → slice_get the_rows i ≡ Some row → row ≡ (value_of (line_named row.line said)).row
 unfolding the_rows
-its_row said = of_each (λ row. row ≡ (value_of (line_named row.line said)).row) the_rows (refl, (refl, (refl, (refl, (refl, (refl, (refl, (refl, (refl, (refl, (refl, (refl, (refl, (refl, (refl, (refl, (refl, (refl, (refl, tt)))))))))))))))))))
+its_row said = of_each (λ row. row ≡ (value_of (line_named row.line said)).row) the_rows (refl, (refl, (refl, (refl, (refl, (refl, (refl, (refl, (refl, (refl, (refl, (refl, (refl, (refl, (refl, (refl, (refl, (refl, (refl, (refl, (refl, tt)))))))))))))))))))))
 
 -- what the words of a line say: its row, the values of which fill its places and have names that differ
 pub record Spoken (line : Line) : Type 0 where
   pub said : Said
   pub row_is : said.row ≡ (value_of line).row
   pub fill : Fill (value_of line).row.places said.values
+  pub options : List (List ℕ)
+  pub gives : Gives (value_of line).row.options options (none_given (value_of line).row.options) said.settings
   pub differ : names_differ (said.values ++ said.settings) ≡ true
   pub line_is : line ≡ line_named (value_of line).row.line said
 
@@ -65,6 +88,8 @@ spoken words line h =
       said = h.said;
       row_is = row;
       fill = subst (λ (r : Row). Fill r.places h.said.values) row h.is_said.says.fill;
+      options = h.is_said.says.options;
+      gives = subst (λ (r : Row). Gives r.options h.is_said.says.options (none_given r.options) h.said.settings) row h.is_said.says.gives;
       differ = h.is_said.says.names;
       line_is = h.line_is ∙ ap (λ (r : Row). line_named r.line h.said) row;
     }
@@ -77,6 +102,17 @@ pub at_most : (words : List (List ℕ)) (said : Said) → IsSaidBy the_rows word
 at_most words said is name e i place least most s k =
     let row = its_row said is.place said.row is.row ∙ ap (λ n. (value_of (line_named n said)).row) e in
     (number_within (value_of (line_named name said)).row.places said.values i place least most s k (subst (λ (r : Row). Fill r.places said.values) row is.says.fill)).1
+
+-- and at least what its row says
+pub at_least : (words : List (List ℕ)) (said : Said) → IsSaidBy the_rows words said → (name : LineName) → said.row.line ≡ name
+    → (i : ℕ) (place : Place) (least most : ℕ) → slice_get (value_of (line_named name said)).row.places i ≡ Some place → place.kind ≡ Number least most → least ≤ number_at said i
+at_least words said is name e i place least most s k =
+    let row = its_row said is.place said.row is.row ∙ ap (λ n. (value_of (line_named n said)).row) e in
+    (number_within (value_of (line_named name said)).row.places said.values i place least most s k (subst (λ (r : Row). Fill r.places said.values) row is.says.fill)).0
+
+-- the seeds of a survey have 64 bits
+pub survey_within : (model : List ℕ) (count from : ℕ) → IsSomeLine (Survey model count from) → from + count ≤ 2 ^ 64
+survey_within model count from some = let w : nat_lt (last_seed from count) (2 ^ 64) ≡ true = some.1.within in grind (arith, nat_tests)
 
 pub queens_within : (n : ℕ) → IsSomeLine (Queens n) → (1 ≤ n) × (n ≤ 200)
 queens_within n some =
@@ -129,20 +165,35 @@ starve_within model from to file some =
     the_to : (a b : List ℕ) (m n k l : ℕ) (f g : List ℕ) → Starve a m k f ≡ Starve b n l g → k ≡ l
     the_to a b m n k l f g e = cc
 
+-- a number of choices, where one is given, is at most as many as a run may have deliveries
+or_most : (given : Option ℕ) → IfSome given (λ n. n ≤ most_deliveries) → unwrap_or given most_deliveries ≤ most_deliveries
+or_most None h = omega arith
+or_most (Some n) h = h
+
+the_settings : (m n l k : List ℕ) (a b : Settings) → Solve m l a ≡ Solve n k b → a ≡ b
+the_settings m n l k a b e = cc
+
+pub solve_within : (model log : List ℕ) (settings : Settings) → IsSomeLine (Solve model log settings) → settings.choices ≤ most_deliveries
+solve_within model log settings some =
+    let s = spoken some.0 (Solve model log settings) some.1 in
+    let k = ap (λ (r : Row). unwrap_or (given_number (setting_of r.options s.said.settings (codes "--choices"))) most_deliveries) s.row_is in
+    let is : settings.choices ≡ unwrap_or (given_number (get_or s.said.settings 1 Absent)) most_deliveries = ap (λ (x : Settings). x.choices) (the_settings _ _ _ _ _ _ s.line_is) ∙ k in
+    subst (λ n. n ≤ most_deliveries) (sym is) (or_most (given_number (get_or s.said.settings 1 Absent)) (given_within (row_of SOLVE).options 1 _ _ 0 (2 ^ 40) refl refl refl s.gives))
+
 -- ---- names
 
 solve_apart : (values settings : List Value) → Fill (row_of SOLVE).places values → names_differ (values ++ settings) ≡ true
     → (name_in (get_or values 0 Absent) ≢ name_in (get_or values 1 Absent))
-    × IfSome (given_name (get_or settings 1 Absent)) (λ k. name_in (get_or values 0 Absent) ≢ k)
-    × IfSome (given_name (get_or settings 1 Absent)) (λ k. k ≡ name_in (get_or values 1 Absent) → ⊥)
+    × IfSome (given_name (get_or settings 2 Absent)) (λ k. name_in (get_or values 0 Absent) ≢ k)
+    × IfSome (given_name (get_or settings 2 Absent)) (λ k. k ≡ name_in (get_or values 1 Absent) → ⊥)
 solve_apart [] settings h d = absurd h
 solve_apart (v ∷ []) settings h d = absurd h.1
 solve_apart (v ∷ w ∷ []) settings h d =
     let a = a_name _ v Model Read refl h.0 in
     let b = a_name _ w Log Written refl h.1.0 in (
       names_apart (v ∷ w ∷ settings) d 0 1 (name_in v) (name_in w) (omega arith) a b,
-      if_name (get_or settings 1 Absent) (λ k. name_in v ≢ k) (λ k e. names_apart (v ∷ w ∷ settings) d 0 3 (name_in v) k (omega arith) a e),
-      if_name (get_or settings 1 Absent) (λ k. k ≡ name_in w → ⊥) (λ k e g. names_apart (v ∷ w ∷ settings) d 1 3 (name_in w) k (omega arith) b e (sym g)),
+      if_name (get_or settings 2 Absent) (λ k. name_in v ≢ k) (λ k e. names_apart (v ∷ w ∷ settings) d 0 4 (name_in v) k (omega arith) a e),
+      if_name (get_or settings 2 Absent) (λ k. k ≡ name_in w → ⊥) (λ k e g. names_apart (v ∷ w ∷ settings) d 1 4 (name_in w) k (omega arith) b e (sym g)),
     )
 solve_apart (v ∷ w ∷ x ∷ more) settings h d = absurd h.1.1
 
@@ -155,18 +206,18 @@ pub record SolveNames (model log : List ℕ) (kept : Option (List ℕ)) : Type 0
 same_names : (m n l k : List ℕ) (r s : Option (List ℕ)) → m ≡ n → l ≡ k → r ≡ s → SolveNames n k s → SolveNames m l r
 same_names m n l k r s e f g h = rw (e, f, g) h
 
-pub solve_names : (words : List (List ℕ)) (model log : List ℕ) (seed : ℕ) (kept : Option (List ℕ)) (trace : Bool) → IsLine words (Solve model log seed kept trace) → SolveNames model log kept
-solve_names words model log seed kept trace h =
-    let s = spoken words (Solve model log seed kept trace) h in
+pub solve_names : (words : List (List ℕ)) (model log : List ℕ) (settings : Settings) → IsLine words (Solve model log settings) → SolveNames model log settings.kept
+solve_names words model log settings h =
+    let s = spoken words (Solve model log settings) h in
     let k = ap (λ (r : Row). given_name (setting_of r.options s.said.settings (codes "--record"))) s.row_is in
     let apart = solve_apart s.said.values s.said.settings s.fill s.differ in
     let m : model ≡ name_in (get_or s.said.values 0 Absent) = cc in
     let l : log ≡ name_in (get_or s.said.values 1 Absent) = cc in
-    let r : kept ≡ given_name (get_or s.said.settings 1 Absent) = the_kept s ∙ k in
+    let r : settings.kept ≡ given_name (get_or s.said.settings 2 Absent) = the_kept s ∙ k in
     same_names _ _ _ _ _ _ m l r (record { log_is_other = apart.0; record_is_other = apart.1; record_is_own = apart.2 })
   where
-    the_kept : (s : Spoken (Solve model log seed kept trace)) → kept ≡ given_name (setting_of s.said.row.options s.said.settings (codes "--record"))
-    the_kept s = let e = s.line_is in cc
+    the_kept : (s : Spoken (Solve model log settings)) → settings.kept ≡ given_name (setting_of s.said.row.options s.said.settings (codes "--record"))
+    the_kept s = ap (λ (x : Settings). x.kept) (the_settings _ _ _ _ _ _ s.line_is)
 
 replay_apart : (values settings : List Value) → Fill (row_of REPLAY).places values → names_differ (values ++ settings) ≡ true → name_in (get_or values 0 Absent) ≢ name_in (get_or values 2 Absent)
 replay_apart [] settings h d = absurd h
@@ -212,7 +263,7 @@ sound Version = record { lawful = print_lawful _; problem = λ a b s. tt }
 sound Usage = record { lawful = print_lawful _; problem = λ a b s. tt }
 sound (Check m l better) = record { lawful = check_lawful better m l; problem = λ a b s. tt }
 sound (Replay m c l t) = record { lawful = replay_lawful m c l t; problem = λ a b s h. h }
-sound (Solve m l n r t) = record { lawful = solve_lawful m l n r t; problem = λ a b s h. h.sound }
+sound (Solve m l s) = record { lawful = solve_lawful m l s; problem = λ a b s h. h.sound }
 sound (Bound m) = record { lawful = bound_lawful m; problem = λ a b s. tt }
 sound (Queens n) = record { lawful = print_lawful _; problem = λ a b s. tt }
 sound (Colouring n k c) = record { lawful = print_lawful _; problem = λ a b s. tt }
@@ -224,6 +275,8 @@ sound (Core m o t b) = record { lawful = core_lawful b m o t; problem = λ a b s
 sound (Export m l c r t n) = record { lawful = export_lawful n m l c r t; problem = λ a b s. tt }
 sound (Starve m c d o) = record { lawful = starve_lawful m c d o; problem = λ a b s. tt }
 sound (Lossy m o n c k) = record { lawful = lossy_lawful m o n c k; problem = λ a b s. tt }
+sound (Measure m c) = record { lawful = measure_lawful m c; problem = λ a b s. tt }
+sound (Survey m n c) = record { lawful = survey_lawful m c n; problem = λ a b s. tt }
 sound (Rup m o) = record { lawful = rup_lawful m o; problem = λ a b s. tt }
 sound (Cnf m o c) = record { lawful = cnf_lawful m o c; problem = λ a b s. tt }
 

@@ -16,7 +16,7 @@ use Rattle.abt_promise.specs.Statuses.{IsFinal, IsRefusal}
 use Rattle.abt_promise.specs.Runs.{Ran}
 use Rattle.abt_promise.proofs.Following.{report_part, report_did}
 use Rattle.ngd_log.specs.Logs.{log_text}
-use Rattle.law_logs.specs.Logged.{IsSmall}
+use Rattle.ngd_check.specs.Logged.{IsSmall}
 use Rattle.abt_input.specs.Inputs.{IsModelOf, IsTextOf}
 use Rattle.line_check.specs.Verifying.{IsVerified}
 use Rattle.line_check.proofs.Verifying.{refutation_verified}
@@ -33,7 +33,7 @@ use Rattle.law_meaning.specs.Meaning.{SatisfiesText}
 use Rattle.law_meaning.proofs.Whole.{solutions_satisfy}
 use Rattle.abt_command.specs.Lines.{Line, Replay, Solve, IsLine, IsNoLine, Means, promise_of}
 use Rattle.abt_command.specs.AskedRuns.{AsksFor, replays, solves, EachRun, RunsModel, AskForModel, IsCheckedRun, IsSatisfyingRun, IsTrueRun, EachTrueRun}
-use Rattle.abt_command.proofs.Lines.{one_line, one_some, sound, solve_names, replay_names}
+use Rattle.abt_command.proofs.Lines.{one_line, one_some, sound, solve_names, solve_within, replay_names}
 
 -- words that are no line ask for no run
 pub asks_for_none : (words : List (List ℕ)) (held : Option (List ℕ → Option (List ℕ))) (P : Asked → Type 0) → IsNoLine words → EachRun words held P
@@ -42,7 +42,7 @@ asks_for_none words (Some files) P none = λ asked asks. absurd (so asked asks)
   where
     so : (asked : Asked) → AsksFor words files asked → ⊥
     so asked (replays m s l t h p mp cs hc e) = none (Replay m s l t) h
-    so asked (solves m l n k t h p mp aim e) = none (Solve m l n k t) h
+    so asked (solves m l s h p mp aim e) = none (Solve m l s) h
 
 -- ---- the run that is asked for, whatever comes of it
 
@@ -54,21 +54,21 @@ module _ (words : List (List ℕ)) (files : List ℕ → Option (List ℕ)) wher
   -- its problem is the model's
   same_problem : (asked : Asked) → AsksFor words files asked → asked.session.problem ≡ csp_of asked.problem
   same_problem asked (replays m s l t h p mp cs hc e) = rw e refl
-  same_problem asked (solves m l n k t h p mp aim e) = rw e refl
+  same_problem asked (solves m l s h p mp aim e) = rw e refl
 
   -- which is well-formed, since its text was accepted
   well_formed_text : (asked : Asked) → AsksFor words files asked → IsCsp (csp_of asked.problem)
   well_formed_text asked (replays m s l t h p mp cs hc e) = rw e ((accepted_are_problems (bytes_of (files m))).well_formed p mp.short mp.reads)
-  well_formed_text asked (solves m l n k t h p mp aim e) = rw e ((accepted_are_problems (bytes_of (files m))).well_formed p mp.short mp.reads)
+  well_formed_text asked (solves m l s h p mp aim e) = rw e ((accepted_are_problems (bytes_of (files m))).well_formed p mp.short mp.reads)
 
   -- the model of the run has a name of its own
   own_model : (asked : Asked) → AsksFor words files asked → (model : List ℕ) → AskForModel words model → IsOther asked model × IsModelOf (bytes_of (files model)) asked.problem
   own_model asked (replays m s l t h p mp cs hc e) model a =
       let is : m ≡ model = one_some (subst (λ x. RunsModel x model) (one_line words a.line (Replay m s l t) a.is h) a.runs) in
       rw (e, sym is) ((replay_names words m s l t h, tt), mp)
-  own_model asked (solves m l n k t h p mp aim e) model a =
-      let is : m ≡ model = one_some (subst (λ x. RunsModel x model) (one_line words a.line (Solve m l n k t) a.is h) a.runs) in
-      rw (e, sym is) (((solve_names words m l n k t h).log_is_other, (solve_names words m l n k t h).record_is_other), mp)
+  own_model asked (solves m l s h p mp aim e) model a =
+      let is : m ≡ model = one_some (subst (λ x. RunsModel x model) (one_line words a.line (Solve m l s) a.is h) a.runs) in
+      rw (e, sym is) (((solve_names words m l s h).log_is_other, (solve_names words m l s h).record_is_other), mp)
 
   module _ (asked : Asked) (asks : AsksFor words files asked) where
     solves_whole : (asked_run asked).end ≡ Solved → IsSolution (csp_of asked.problem) (assigned (final_values asked.problem (asked_run asked)))
@@ -102,15 +102,15 @@ module _ (words : List (List ℕ)) (line : Line) (is : IsLine words line) (a b :
     -- with a final status the run's whole script was made, and with any a part of it
     did_run : (asked : Asked) → AsksFor words files asked → IsFinal status → (status ≡ end_status (asked_run asked).end) × Did (asked_script asked) a b
     did_run asked (replays m s l t h p mp cs hc e) f = subst (λ x. (status ≡ end_status (asked_run x).end) × Did (asked_script x) a b) (sym e) (report_did (replay_promise m s l t) (replay_lawful m s l t) a b err now files told (run_report (replay p cs l t)) (inr (p, mp, inr (cs, hc, refl))) status (as_line (Replay m s l t) h) f)
-    did_run asked (solves m l n k t h p mp aim e) f = subst (λ x. (status ≡ end_status (asked_run x).end) × Did (asked_script x) a b) (sym e) (report_did (solve_promise m l n k t) (solve_lawful m l n k t) a b err now files told (run_report (solve p n l k t)) (reports_run p l n k t (bytes_of (files m)) mp aim) status (as_line (Solve m l n k t) h) f)
+    did_run asked (solves m l s h p mp aim e) f = subst (λ x. (status ≡ end_status (asked_run x).end) × Did (asked_script x) a b) (sym e) (report_did (solve_promise m l s) (solve_lawful m l s) a b err now files told (run_report (solve p l s)) (reports_run p l s (bytes_of (files m)) mp aim) status (as_line (Solve m l s) h) f)
 
     made_part : (asked : Asked) → AsksFor words files asked → DidPartOf (asked_script asked) a b
     made_part asked (replays m s l t h p mp cs hc e) = subst (λ x. DidPartOf (asked_script x) a b) (sym e) (report_part (replay_promise m s l t) (replay_lawful m s l t) a b err now files told (run_report (replay p cs l t)) (inr (p, mp, inr (cs, hc, refl))) status (as_line (Replay m s l t) h))
-    made_part asked (solves m l n k t h p mp aim e) = subst (λ x. DidPartOf (asked_script x) a b) (sym e) (report_part (solve_promise m l n k t) (solve_lawful m l n k t) a b err now files told (run_report (solve p n l k t)) (reports_run p l n k t (bytes_of (files m)) mp aim) status (as_line (Solve m l n k t) h))
+    made_part asked (solves m l s h p mp aim e) = subst (λ x. DidPartOf (asked_script x) a b) (sym e) (report_part (solve_promise m l s) (solve_lawful m l s) a b err now files told (run_report (solve p l s)) (reports_run p l s (bytes_of (files m)) mp aim) status (as_line (Solve m l s) h))
 
     own : (asked : Asked) → AsksFor words files asked → HasOwnRecord asked
     own asked (replays m s l t h p mp cs hc e) = rw e tt
-    own asked (solves m l n k t h p mp aim e) = rw e (solve_names words m l n k t h).record_is_own
+    own asked (solves m l s h p mp aim e) = rw e (solve_names words m l s h).record_is_own
 
     -- the model's problem is well-formed
     of_model : (l : Line) (name : List ℕ) → IsLine words l → RunsModel l name → IsFinal status → (IsRefusal status → ⊥) → HoldsProblem (Some files) name
@@ -118,20 +118,20 @@ module _ (words : List (List ℕ)) (line : Line) (is : IsLine words line) (a b :
 
     well_formed : (asked : Asked) → AsksFor words files asked → IsFinal status → (IsRefusal status → ⊥) → IsCsp (csp_of asked.problem)
     well_formed asked (replays m s l t h p mp cs hc e) f n = rw e (of_model (Replay m s l t) m h refl f n p mp).0
-    well_formed asked (solves m l n k t h p mp aim e) f no_refused = rw e (of_model (Solve m l n k t) m h refl f no_refused p mp).0
+    well_formed asked (solves m l s h p mp aim e) f no_refused = rw e (of_model (Solve m l s) m h refl f no_refused p mp).0
 
     -- logs can name all that the model's problem has
     small : (asked : Asked) → AsksFor words files asked → IsFinal status → (IsRefusal status → ⊥) → IsSmall (csp_of asked.problem)
     small asked (replays m s l t h p mp cs hc e) f n = rw e (of_model (Replay m s l t) m h refl f n p mp).1
-    small asked (solves m l n k t h p mp aim e) f no_refused = rw e (of_model (Solve m l n k t) m h refl f no_refused p mp).1
+    small asked (solves m l s h p mp aim e) f no_refused = rw e (of_model (Solve m l s) m h refl f no_refused p mp).1
 
     at_most : (asked : Asked) → AsksFor words files asked → asked.session.most ≤ 2 ^ 40
     at_most asked (replays m s l t h p mp cs hc e) = rw e (omega arith)
-    at_most asked (solves m l n k t h p mp aim e) = rw e (omega arith)
+    at_most asked (solves m l s h p mp aim e) = rw e (solve_within m l s (words, h))
 
     at_limit : (asked : Asked) → AsksFor words files asked → status ≡ end_status (asked_run asked).end → IsUnfinishedRun asked status
     at_limit asked (replays m s l t h p mp cs hc e) = rw e (λ i. replay_unfinished p (bytes_of (files s)) cs l t status hc i)
-    at_limit asked (solves m l n k t h p mp aim e) = rw e (λ i. solve_unfinished p n l k t status i)
+    at_limit asked (solves m l s h p mp aim e) = rw e (λ i. solve_unfinished p l s status i)
 
     not_refused : (asked : Asked) → status ≡ end_status (asked_run asked).end → IsRefusal status → ⊥
     not_refused asked i r = no_refusal (asked_run asked).end (subst IsRefusal i r)

@@ -16,7 +16,7 @@ use Rattle.abt_promise.specs.Statuses.{IsFinal, IsRefusal}
 use Rattle.abt_promise.specs.Runs.{Ran}
 use Rattle.abt_promise.proofs.Following.{report_part, report_did}
 use Rattle.ngd_log.specs.Logs.{log_text}
-use Rattle.law_logs.specs.Logged.{IsSmall}
+use Rattle.ngd_check.specs.Logged.{IsSmall}
 use Rattle.abt_input.specs.Inputs.{IsModelOf, IsTextOf}
 use Rattle.line_check.specs.Taking.{taking_of}
 use Rattle.line_check.specs.Verifying.{IsVerifiedBy}
@@ -29,9 +29,11 @@ use Rattle.line_solve.specs.Searching.{AskedSearch, round_count, session_after, 
 use Rattle.line_solve.specs.BestAnswers.{search_status}
 use Rattle.line_solve.specs.SearchScripts.{search_script, search_report}
 use Rattle.line_solve.specs.SolvePromise.{solve_promise, HoldsWholeProblem}
-use Rattle.line_solve.specs.BestHeadline.{HoldsSearch, IsSearched, IsBestSearch, IsRefutedSearch, IsUnfinishedSearch, IsBoundedSearch, SearchOrdered}
+use Rattle.line_solve.specs.BestHeadline.{HoldsSearch, IsSearched, IsBestSearch, IsImproving, IsRefutedSearch, IsUnfinishedSearch, IsBoundedSearch, SearchOrdered}
 use Rattle.line_solve.proofs.Lawful.{solve_lawful, no_refusal_best, reports_search}
 use Rattle.line_solve.proofs.Headlines.{OwnsRecord, is_searched, part_ordered}
+use Rattle.law_subjects.proofs.Accepting.{accepted_are_problems}
+use Rattle.line_solve.proofs.Improving.{is_improving}
 use Rattle.line_solve.proofs.Searches.{is_csp_after}
 use Rattle.line_solve.proofs.Verdicts.{is_best, is_refuted, is_unfinished, is_bounded}
 use Rattle.law_meaning.specs.Meaning.{SatisfiesText}
@@ -39,7 +41,7 @@ use Rattle.law_meaning.proofs.Whole.{solutions_satisfy}
 use Rattle.abt_command.specs.Lines.{Line, Solve, IsLine, IsNoLine, Means, promise_of}
 use Rattle.abt_command.specs.AskedRuns.{RunsModel, AskForModel}
 use Rattle.abt_command.specs.AskedSearches.{AsksForSearch, EachSearch, IsCheckedSearch, IsSatisfyingSearch}
-use Rattle.abt_command.proofs.Lines.{one_line, one_some, solve_names}
+use Rattle.abt_command.proofs.Lines.{one_line, one_some, solve_names, solve_within}
 
 -- ---- logs can name what is left of a problem that is narrowed
 
@@ -89,28 +91,33 @@ small_narrowed p bound small = by (aimed_at p.aim)
 -- words that are no line ask for no search
 pub asks_no_search : (words : List (List ℕ)) (held : Option (List ℕ → Option (List ℕ))) (P : AskedSearch → Type 0) → IsNoLine words → EachSearch words held P
 asks_no_search words None P none = tt
-asks_no_search words (Some files) P none = λ asked asks. absurd (none (Solve asks.model asked.log asked.seed asked.kept asked.trace) asks.line_is)
+asks_no_search words (Some files) P none = λ asked asks. absurd (none (Solve asks.model asked.log asked.set) asks.line_is)
+
+-- whatever comes of it, a search finds better values
+pub searches_improve : (words : List (List ℕ)) (held : Option (List ℕ → Option (List ℕ))) → EachSearch words held IsImproving
+searches_improve words None = tt
+searches_improve words (Some files) = λ asked asks. is_improving asked ((accepted_are_problems (bytes_of (files asks.model))).within_limits asked.problem asks.model_is.short asks.model_is.reads)
 
 module _ (words : List (List ℕ)) (line : Line) (is : IsLine words line) (a b : World) (err now : Stream) (status : Status) (line_ran : Ran (promise_of line) a b err now status)
     (means : IsFinal status → (IsRefusal status → ⊥) → Means line a b status) where
   module _ (files : List ℕ → Option (List ℕ)) (told : a.folder.held ≡ Some files) (asked : AskedSearch) (asks : AsksForSearch words files asked) where
     abbrev the_line : Line
-    the_line = Solve asks.model asked.log asked.seed asked.kept asked.trace
+    the_line = Solve asks.model asked.log asked.set
 
     same_line : line ≡ the_line
     same_line = one_line words line the_line is asks.line_is
 
-    line_did : Ran (solve_promise asks.model asked.log asked.seed asked.kept asked.trace) a b err now status
+    line_did : Ran (solve_promise asks.model asked.log asked.set) a b err now status
     line_did = subst (λ x. Ran (promise_of x) a b err now status) same_line line_ran
 
     did_search : IsFinal status → (status ≡ search_status asked) × Did (search_script asked) a b
-    did_search f = report_did (solve_promise asks.model asked.log asked.seed asked.kept asked.trace) (solve_lawful asks.model asked.log asked.seed asked.kept asked.trace) a b err now files told (search_report asked) (reports_search asked.problem asked.log asked.seed asked.kept asked.trace (bytes_of (files asks.model)) asks.model_is asks.aims) status line_did f
+    did_search f = report_did (solve_promise asks.model asked.log asked.set) (solve_lawful asks.model asked.log asked.set) a b err now files told (search_report asked) (reports_search asked.problem asked.log asked.set (bytes_of (files asks.model)) asks.model_is asks.aims) status line_did f
 
     made_part : DidPartOf (search_script asked) a b
-    made_part = report_part (solve_promise asks.model asked.log asked.seed asked.kept asked.trace) (solve_lawful asks.model asked.log asked.seed asked.kept asked.trace) a b err now files told (search_report asked) (reports_search asked.problem asked.log asked.seed asked.kept asked.trace (bytes_of (files asks.model)) asks.model_is asks.aims) status line_did
+    made_part = report_part (solve_promise asks.model asked.log asked.set) (solve_lawful asks.model asked.log asked.set) a b err now files told (search_report asked) (reports_search asked.problem asked.log asked.set (bytes_of (files asks.model)) asks.model_is asks.aims) status line_did
 
     own : OwnsRecord asked
-    own = (solve_names words asks.model asked.log asked.seed asked.kept asked.trace asks.line_is).record_is_own
+    own = (solve_names words asks.model asked.log asked.set asks.line_is).record_is_own
 
     no_refused : status ≡ search_status asked → IsRefusal status → ⊥
     no_refused i r = no_refusal_best _ (subst IsRefusal i r)
@@ -126,14 +133,14 @@ module _ (words : List (List ℕ)) (line : Line) (is : IsLine words line) (a b :
     small f = (subst (λ held. HoldsProblem held asks.model) told (answer f).sound asked.problem asks.model_is).1
 
     -- the model of the search has a name of its own
-    own_model : (model : List ℕ) → AskForModel words model → (model ≢ asked.log) × IfSome asked.kept (λ k. model ≢ k) × IsModelOf (bytes_of (files model)) asked.problem
+    own_model : (model : List ℕ) → AskForModel words model → (model ≢ asked.log) × IfSome asked.set.kept (λ k. model ≢ k) × IsModelOf (bytes_of (files model)) asked.problem
     own_model model asks_model =
         let same : asks.model ≡ model = one_some (subst (λ x. RunsModel x model) (one_line words asks_model.line the_line asks_model.is asks.line_is) asks_model.runs) in
-        subst (λ m. (m ≢ asked.log) × IfSome asked.kept (λ k. m ≢ k) × IsModelOf (bytes_of (files m)) asked.problem) same ((solve_names words asks.model asked.log asked.seed asked.kept asked.trace asks.line_is).log_is_other, (solve_names words asks.model asked.log asked.seed asked.kept asked.trace asks.line_is).record_is_other, asks.model_is)
+        subst (λ m. (m ≢ asked.log) × IfSome asked.set.kept (λ k. m ≢ k) × IsModelOf (bytes_of (files m)) asked.problem) same ((solve_names words asks.model asked.log asked.set asks.line_is).log_is_other, (solve_names words asks.model asked.log asked.set asks.line_is).record_is_other, asks.model_is)
 
     -- the log of the last round is a text of its steps
     log_is : IsFinal status → (p : Contents) → IsSmall (csp_of p) → IsRefutation (csp_of p) (last_run asked).net.steps → IsTextOf (log_text (last_run asked).net.steps) (last_run asked).net.steps
-    log_is f p few refutes = run_log (session_after asked (round_count asked - 1)) (csp_of p) (omega arith) (is_csp_after asked (whole f) (round_count asked - 1)) few refutes.right
+    log_is f p few refutes = run_log (session_after asked (round_count asked - 1)) (csp_of p) (solve_within asks.model asked.log asked.set (words, asks.line_is)) (is_csp_after asked (whole f) (round_count asked - 1)) few refutes.right
 
     -- a check over the folder that was left, of what the log refutes
     verifies : IsFinal status → (better : Option ℤ) (p : Contents) → IsSmall (csp_of p) → IsRefutation (csp_of p) (last_run asked).net.steps → ((now : List ℕ → Option (List ℕ)) (model : List ℕ) → IsModelOf (bytes_of (now model)) asked.problem → (taking_of better).Is (bytes_of (now model)) p)
@@ -144,7 +151,7 @@ module _ (words : List (List ℕ)) (line : Line) (is : IsLine words line) (a b :
         let log = log_is f p few refutes in
         at mine log b.folder.held (subst (λ x. Told x b.folder.held (HoldsSearch asked)) told (is_searched asked own a b status d.0 d.1).files)
       where
-        at : (model ≢ asked.log) × IfSome asked.kept (λ k. model ≢ k) × IsModelOf (bytes_of (files model)) asked.problem → IsTextOf (log_text (last_run asked).net.steps) (last_run asked).net.steps
+        at : (model ≢ asked.log) × IfSome asked.set.kept (λ k. model ≢ k) × IsModelOf (bytes_of (files model)) asked.problem → IsTextOf (log_text (last_run asked).net.steps) (last_run asked).net.steps
             → (held : Option (List ℕ → Option (List ℕ))) → Told (Some files) held (HoldsSearch asked) → IfSome held (λ x. IsVerifiedBy (taking_of better) x model asked.log)
         at mine log None h = tt
         at mine log (Some left) h =

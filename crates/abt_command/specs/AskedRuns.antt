@@ -13,6 +13,7 @@ use Rattle.abt_promise.specs.declared.status.Status.TheVariants.{Good, No}
 use Rattle.line_check.specs.Verifying.{IsVerified}
 use Rattle.law_meaning.specs.Meaning.{SatisfiesText}
 use Rattle.line_replay.specs.Endings.{assigned, final_values}
+use Rattle.line_replay.specs.Settings.{Settings}
 use Rattle.line_replay.specs.Asked.{Asked, asked_run, replay, solve}
 use Rattle.abt_command.specs.Lines.{Line, Replay, Solve, IsLine, value_of}
 
@@ -21,9 +22,9 @@ pub data AsksFor (words : List (List ℕ)) (files : List ℕ → Option (List �
   replays : (model schedule log : List ℕ) (trace : Bool) → IsLine words (Replay model schedule log trace)
       → (problem : Contents) → IsModelOf (bytes_of (files model)) problem → (choices : List ℕ) → HasChoices (bytes_of (files schedule)) choices
       → asked ≡ replay problem choices log trace → AsksFor words files asked
-  solves : (model log : List ℕ) (seed : ℕ) (kept : Option (List ℕ)) (trace : Bool) → IsLine words (Solve model log seed kept trace)
+  solves : (model log : List ℕ) (settings : Settings) → IsLine words (Solve model log settings)
       → (problem : Contents) → IsModelOf (bytes_of (files model)) problem → problem.aim ≡ Satisfy
-      → asked ≡ solve problem seed log kept trace → AsksFor words files asked
+      → asked ≡ solve problem log settings → AsksFor words files asked
 
 -- this holds of each run that the words ask for, where the folder tells its files
 abbrev pub EachRun : List (List ℕ) → Option (List ℕ → Option (List ℕ)) → (Asked → Type 0) → Type 0

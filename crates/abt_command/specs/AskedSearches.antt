@@ -19,7 +19,7 @@ use Rattle.abt_command.specs.AskedRuns.{AskForModel}
 -- the words ask for this search, where these are the files: they are a line of `solve`, and its model asks for the best value of a term
 pub record AsksForSearch (words : List (List ℕ)) (files : List ℕ → Option (List ℕ)) (asked : AskedSearch) : Type 0 where
   pub model : List ℕ
-  pub line_is : IsLine words (Solve model asked.log asked.seed asked.kept asked.trace)
+  pub line_is : IsLine words (Solve model asked.log asked.set)
   pub model_is : IsModelOf (bytes_of (files model)) asked.problem
   pub aims : asked.problem.aim ≢ Satisfy
 

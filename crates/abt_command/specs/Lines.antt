@@ -1,8 +1,8 @@
 -- The lines of words that the program takes, each with all that is said of it.
-use Rattle.std.specs.Prelude.{◌≡◌, ℕ, ℤ, List, Bool, Option, Some, None, Result, IfOk, ⊤, option_copied, unwrap_or, codes}
+use Rattle.std.specs.Prelude.{◌≡◌, ℕ, ◌+◌, ◌-◌, ◌^◌, ℤ, List, Bool, true, nat_lt, Option, Some, None, Result, IfOk, ⊤, option_copied, unwrap_or, codes}
 use Rattle.abt_words.specs.declared.rows.LineName.{LineName}
 use Rattle.abt_words.specs.declared.rows.LineName.TheVariants as names
-use Rattle.abt_words.specs.declared.rows.TheConstants.{SOLVE, REPLAY, CHECK, UPGRADE, CORE, EXPORT, STARVE, LOSSY, BOUND, QUEENS, COLOURING, SPARSE, PIGEONS, DRILL, CNF, RUP, HELP, VERSION, USAGE}
+use Rattle.abt_words.specs.declared.rows.TheConstants.{SOLVE, REPLAY, CHECK, UPGRADE, CORE, EXPORT, STARVE, LOSSY, MEASURE, SURVEY, BOUND, QUEENS, COLOURING, SPARSE, PIGEONS, DRILL, CNF, RUP, HELP, VERSION, USAGE}
 use Rattle.abt_words.specs.Rows.{Row, row_of, the_rows}
 use Rattle.abt_words.specs.Saying.{Said, IsSaidBy, value_at, setting_at, name_in, number_in, given_name, given_number, given_signed, is_given}
 use Rattle.abt_words.specs.Texts.{help_text, usage_text}
@@ -14,6 +14,8 @@ use Rattle.line_model.specs.BoundReports.{bound_promise}
 use Rattle.line_model.specs.Generated.{print_promise, queens_promise, colouring_promise, sparse_promise, pigeons_promise}
 use Rattle.line_check.specs.Taking.{taking_of}
 use Rattle.line_check.specs.CheckReports.{check_promise}
+use Rattle.line_replay.specs.Settings.{Settings, settings_of}
+use Rattle.line_replay.specs.Asked.{most_deliveries}
 use Rattle.line_replay.specs.ReplayPromise.{replay_promise}
 use Rattle.line_solve.specs.SolvePromise.{solve_promise}
 use Rattle.line_drill.specs.DrillPromise.{drill_promise}
@@ -22,21 +24,22 @@ use Rattle.line_rewrite.specs.CorePromise.{core_promise}
 use Rattle.line_export.specs.ExportPromise.{export_promise}
 use Rattle.line_starve.specs.StarvePromise.{starve_promise}
 use Rattle.line_lossy.specs.LossyPromise.{lossy_promise}
+use Rattle.line_measure.specs.MeasurePromise.{measure_promise, survey_promise}
 use Rattle.line_cnf.specs.RupPromise.{rup_promise}
 use Rattle.line_cnf.specs.CnfPromise.{cnf_promise}
 use Rattle.abt_command.specs.Meanings.{means_check, means_replay, means_solve, means_upgrade, means_core, means_export, means_starve, means_lossy, means_rup, means_cnf}
 use Rattle.abt_command.specs.declared.plain.TheConstants as plain
-use Rattle.abt_command.specs.declared.order.Order.{Order}
-use Rattle.abt_command.specs.declared.order.Order.TheVariants as orders
+use Rattle.abt_command.specs.declared.request.Request.{Request}
+use Rattle.abt_command.specs.declared.request.Request.TheVariants as orders
 
--- what the words ask for: what the program takes, which version it is, what its rows are, to check a log against a model or against a better value, to run a model's agents under the choices of a schedule or of a seed, to tell a model's message bound, to print a generated model, to run three of these, to write a log with deletions, to tell which constraints a refutation uses, to write it for checkers of clauses, to write the choices of a starved run, to run a model's agents over a medium that loses, to check a proof against a formula, or to run a formula's agents
+-- what the words ask for: what the program takes, which version it is, what its rows are, to check a log against a model or against a better value, to run a model's agents under the choices of a schedule or of a seed, to tell a model's message bound, to print a generated model, to run three of these, to write a log with deletions, to tell which constraints a refutation uses, to write it for checkers of clauses, to write the choices of a starved run, to run a model's agents over a medium that loses, to measure a run under the choices of a schedule or those of many seeds, to check a proof against a formula, or to run a formula's agents
 pub data Line : Type 0 where
   Help : Line
   Version : Line
   Usage : Line
   Check : (model log : List ℕ) (better : Option ℤ) → Line
   Replay : (model schedule log : List ℕ) (trace : Bool) → Line
-  Solve : (model log : List ℕ) (seed : ℕ) (kept : Option (List ℕ)) (trace : Bool) → Line
+  Solve : (model log : List ℕ) (settings : Settings) → Line
   Bound : (model : List ℕ) → Line
   Queens : (n : ℕ) → Line
   Colouring : (n k seed : ℕ) → Line
@@ -48,6 +51,8 @@ pub data Line : Type 0 where
   Export : (model log cnf proof : List ℕ) (told : Bool) (better : Option ℤ) → Line
   Starve : (model : List ℕ) (from to : ℕ) (file : List ℕ) → Line
   Lossy : (model log : List ℕ) (events seed : ℕ) (kept : Option (List ℕ)) → Line
+  Measure : (model schedule : List ℕ) → Line
+  Survey : (model : List ℕ) (count from : ℕ) → Line
   Rup : (cnf proof : List ℕ) → Line
   Cnf : (cnf proof : List ℕ) (seed : ℕ) → Line
 
@@ -58,6 +63,16 @@ name_at said place = name_in (value_at said place)
 abbrev pub number_at : Said → ℕ → ℕ
 number_at said place = number_in (value_at said place)
 
+-- what the options of `solve` set; there are as many choices as a run may have deliveries where no number of them is given
+abbrev pub settings_at : Said → Settings
+settings_at said = record {
+  seed = unwrap_or (given_number (setting_at said (codes "--seed"))) 0;
+  choices = unwrap_or (given_number (setting_at said (codes "--choices"))) most_deliveries;
+  kept = given_name (setting_at said (codes "--record"));
+  trace = is_given (setting_at said (codes "--trace"));
+  each = is_given (setting_at said (codes "--each"));
+}
+
 -- the line of a row, made from what the words say of it; a seed is 0 where none is given
 abbrev pub line_named : LineName → Said → Line
 line_named names.Help said = Help
@@ -65,7 +80,7 @@ line_named names.Version said = Version
 line_named names.Usage said = Usage
 line_named names.Check said = Check (name_at said 0) (name_at said 1) (given_signed (setting_at said (codes "--better")))
 line_named names.Replay said = Replay (name_at said 0) (name_at said 1) (name_at said 2) (is_given (setting_at said (codes "--trace")))
-line_named names.Solve said = Solve (name_at said 0) (name_at said 1) (unwrap_or (given_number (setting_at said (codes "--seed"))) 0) (given_name (setting_at said (codes "--record"))) (is_given (setting_at said (codes "--trace")))
+line_named names.Solve said = Solve (name_at said 0) (name_at said 1) (settings_at said)
 line_named names.Bound said = Bound (name_at said 0)
 line_named names.Queens said = Queens (number_at said 0)
 line_named names.Colouring said = Colouring (number_at said 0) (number_at said 1) (number_at said 2)
@@ -77,6 +92,8 @@ line_named names.Core said = Core (name_at said 0) (name_at said 1) (name_at sai
 line_named names.Export said = Export (name_at said 0) (name_at said 1) (name_at said 2) (name_at said 3) (is_given (setting_at said (codes "--atoms"))) (given_signed (setting_at said (codes "--better")))
 line_named names.Starve said = Starve (name_at said 0) (number_at said 1) (number_at said 2) (name_at said 3)
 line_named names.Lossy said = Lossy (name_at said 0) (name_at said 1) (number_at said 2) (number_at said 3) (given_name (setting_at said (codes "--record")))
+line_named names.Measure said = Measure (name_at said 0) (name_at said 1)
+line_named names.Survey said = Survey (name_at said 0) (number_at said 1) (unwrap_or (given_number (setting_at said (codes "--from"))) 0)
 line_named names.Rup said = Rup (name_at said 0) (name_at said 1)
 line_named names.Cnf said = Cnf (name_at said 0) (name_at said 1) (unwrap_or (given_number (setting_at said (codes "--seed"))) 0)
 
@@ -84,28 +101,14 @@ line_named names.Cnf said = Cnf (name_at said 0) (name_at said 1) (unwrap_or (gi
 abbrev pub line_by : Said → Line
 line_by said = line_named said.row.line said
 
--- the words are this line: they say a row, and the line is made from what they say
-pub record IsLine (words : List (List ℕ)) (line : Line) : Type 0 where
-  pub said : Said
-  pub is_said : IsSaidBy the_rows words said
-  pub line_is : line ≡ line_by said
-
--- some words are this line
-abbrev pub IsSomeLine : Line → Type 0
-IsSomeLine line = (words : List (List ℕ)) × IsLine words line
-
--- the words are no line of the program
-abbrev pub IsNoLine : List (List ℕ) → Type 0
-IsNoLine words = (line : Line) → IsLine words line → ⊥
-
--- the line that an order stands for
-abbrev pub line_of : Order → Line
+-- the line that a request stands for
+abbrev pub line_of : Request → Line
 line_of orders.Help = Help
 line_of orders.Version = Version
 line_of orders.Usage = Usage
 line_of (orders.Check line) = Check line.model.now line.log.now line.better
 line_of (orders.Replay line) = Replay line.model.now line.schedule.now line.log.now line.trace
-line_of (orders.Solve line) = Solve line.model.now line.log.now line.seed (option_copied line.kept) line.trace
+line_of (orders.Solve line) = Solve line.model.now line.log.now (settings_of line.options)
 line_of (orders.Bound model) = Bound model.now
 line_of (orders.GenQueens n) = Queens n
 line_of (orders.GenColouring n k seed) = Colouring n k seed
@@ -117,6 +120,8 @@ line_of (orders.Core line) = Core line.model.now line.log.now line.trimmed.now l
 line_of (orders.Export line) = Export line.model.now line.log.now line.cnf.now line.proof.now line.atoms line.better
 line_of (orders.Starve line) = Starve line.model.now line.from line.to line.file.now
 line_of (orders.Lossy line) = Lossy line.model.now line.log.now line.events line.seed (option_copied line.kept)
+line_of (orders.Measure line) = Measure line.model.now line.schedule.now
+line_of (orders.Survey line) = Survey line.model.now line.count line.from
 line_of (orders.Rup cnf proof) = Rup cnf.now proof.now
 line_of (orders.Cnf line) = Cnf line.cnf.now line.proof.now line.seed
 
@@ -137,24 +142,29 @@ abbrev pub CameMeans : Meaning → World → World → Result Status CommandErro
 CameMeans Nothing old new came = ⊤
 CameMeans (Holds P) old new came = IfOk came (P old new)
 
--- its row of words, its promise, what its answers mean beyond its report, and the model of which it makes a run
+-- its row of words, its promise, what its answers mean beyond its report, the model of which it makes a run, and whether its numbers go together
 pub record LineValue : Type 1 where
   pub row : Row
   pub promise : Promise
   pub meaning : Meaning
   pub runs : Option (List ℕ)
+  pub within : Bool
 
 -- a line whose report says all
 abbrev pub reporting : Row → Promise → LineValue
-reporting row promise = record { row = row; promise = promise; meaning = Nothing; runs = None }
+reporting row promise = record { row = row; promise = promise; meaning = Nothing; runs = None; within = true }
 
 -- a line whose answers mean more
 abbrev pub meaning_more : Row → Promise → (World → World → Status → Type 0) → LineValue
-meaning_more row promise P = record { row = row; promise = promise; meaning = Holds P; runs = None }
+meaning_more row promise P = record { row = row; promise = promise; meaning = Holds P; runs = None; within = true }
 
 -- a line that makes a run of a model
 abbrev pub running : Row → Promise → (World → World → Status → Type 0) → List ℕ → LineValue
-running row promise P model = record { row = row; promise = promise; meaning = Holds P; runs = Some model }
+running row promise P model = record { row = row; promise = promise; meaning = Holds P; runs = Some model; within = true }
+
+-- the last of so many seeds from this one on
+abbrev pub last_seed : ℕ → ℕ → ℕ
+last_seed from count = from + (count - 1)
 
 abbrev pub value_of : Line → LineValue
 value_of Help = reporting (row_of HELP) (print_promise (help_text the_rows))
@@ -162,7 +172,7 @@ value_of Version = reporting (row_of VERSION) (print_promise plain.VERSION.now)
 value_of Usage = reporting (row_of USAGE) (print_promise (usage_text the_rows))
 value_of (Check model log better) = meaning_more (row_of CHECK) (check_promise (taking_of better) model log) (means_check model better)
 value_of (Replay model schedule log trace) = running (row_of REPLAY) (replay_promise model schedule log trace) (means_replay model) model
-value_of (Solve model log seed kept trace) = running (row_of SOLVE) (solve_promise model log seed kept trace) (means_solve model) model
+value_of (Solve model log settings) = running (row_of SOLVE) (solve_promise model log settings) (means_solve model) model
 value_of (Bound model) = reporting (row_of BOUND) (bound_promise model)
 value_of (Queens n) = reporting (row_of QUEENS) (queens_promise n)
 value_of (Colouring n k seed) = reporting (row_of COLOURING) (colouring_promise n k seed)
@@ -174,8 +184,25 @@ value_of (Core model log trimmed better) = meaning_more (row_of CORE) (core_prom
 value_of (Export model log cnf proof told better) = meaning_more (row_of EXPORT) (export_promise (taking_of better) model log cnf proof told) (means_export model log cnf proof told better)
 value_of (Starve model from to file) = meaning_more (row_of STARVE) (starve_promise model from to file) (means_starve model from to file)
 value_of (Lossy model log events seed kept) = meaning_more (row_of LOSSY) (lossy_promise model log events seed kept) (means_lossy model log events seed kept)
+value_of (Measure model schedule) = reporting (row_of MEASURE) (measure_promise model schedule)
+value_of (Survey model count from) = record (reporting (row_of SURVEY) (survey_promise model from count)) { within = nat_lt (last_seed from count) (2 ^ 64) }
 value_of (Rup cnf proof) = meaning_more (row_of RUP) (rup_promise cnf proof) (means_rup cnf proof)
 value_of (Cnf cnf proof seed) = meaning_more (row_of CNF) (cnf_promise cnf proof seed) (means_cnf cnf proof seed)
+
+-- the words are this line: they say a row, the line is made from what they say, and its numbers go together
+pub record IsLine (words : List (List ℕ)) (line : Line) : Type 0 where
+  pub said : Said
+  pub is_said : IsSaidBy the_rows words said
+  pub line_is : line ≡ line_by said
+  pub within : (value_of line).within ≡ true
+
+-- some words are this line
+abbrev pub IsSomeLine : Line → Type 0
+IsSomeLine line = (words : List (List ℕ)) × IsLine words line
+
+-- the words are no line of the program
+abbrev pub IsNoLine : List (List ℕ) → Type 0
+IsNoLine words = (line : Line) → IsLine words line → ⊥
 
 -- the promise of a line
 abbrev pub promise_of : Line → Promise
@@ -184,3 +211,8 @@ promise_of line = (value_of line).promise
 -- what the line's answer with this status means, with the outside before and after
 abbrev pub Means : Line → World → World → Status → Type 0
 Means line = AnswerMeans (value_of line).meaning
+
+-- the request stands for this line, whose numbers go together
+pub record IsRequest (request : Request) (line : Line) : Type 0 where
+  pub line_is : line_of request ≡ line
+  pub within : (value_of line).within ≡ true

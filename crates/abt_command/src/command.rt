@@ -13,7 +13,7 @@ ghost use Rattle.abt_input.specs.Errors.{way_of, error_text};
 ghost use Rattle.line_check.specs.Checks.{IsRefuted};
 ghost use Rattle.line_replay.specs.Headline.{IsRun, IsSolvedRun, IsRefutedRun, IsUnfinishedRun, IsBoundedRun, WritesOrdered};
 ghost use Rattle.abt_command.specs.AskedRuns.{EachRun, EachTrueRun, IsCheckedRun, IsSatisfyingRun};
-ghost use Rattle.line_solve.specs.BestHeadline.{IsSearched, IsBestSearch, IsRefutedSearch, IsUnfinishedSearch, IsBoundedSearch, SearchOrdered};
+ghost use Rattle.line_solve.specs.BestHeadline.{IsSearched, IsBestSearch, IsImproving, IsRefutedSearch, IsUnfinishedSearch, IsBoundedSearch, SearchOrdered};
 ghost use Rattle.abt_command.specs.AskedSearches.{EachSearch, IsCheckedSearch, IsSatisfyingSearch};
 ghost use Rattle.abt_command.specs.Meanings.{AnswersCheck, HoldsNoBetter, IsRupAnswer, IsCnfAnswer, IsCoreAnswer, IsExportAnswer, IsStarvedAnswer};
 ghost use Rattle.line_rewrite.specs.Upgrading.{HoldsUpgrade};
@@ -22,7 +22,7 @@ ghost use Rattle.abt_command.specs.Lines as lines;
 ghost use Rattle.abt_command.specs.Lines.{Line, IsLine, IsSomeLine, IsNoLine, Means, line_of, promise_of};
 ghost use Rattle.abt_command.specs.LinePromises.{EachPromise, HasRun};
 
-use crate::order::{Order, words_of};
+use crate::request::{Request, words_of};
 use abt_input::{CommandError, error_line, error_status};
 use abt_promise::{Status, say};
 use dcsp_outside::{Folder, Sink};
@@ -49,22 +49,22 @@ fn conclude<S: Sink>(came: Result<Status, CommandError>, err: &mut S) -> Status
 }
 
 /// Runs the line, and says on `err` what stopped it or refused its input.
-fn run_order<F: Folder, S: Sink>(
+fn run_request<F: Folder, S: Sink>(
     alloc: Global,
-    order: Order<'_>,
+    request: Request<'_>,
     folder: &mut F,
     out: &mut S,
     err: &mut S,
 ) -> Status
-    requires { IsSomeLine (line_of order) }
-    ensures ran { Ran (promise_of (line_of order.entry))
+    requires { IsSomeLine (line_of request) }
+    ensures ran { Ran (promise_of (line_of request.entry))
         (outside (F.place folder.old) (S.stream out.old))
         (outside (F.place folder.new) (S.stream out.new))
         (S.stream err.old) (S.stream err.new) result }
     ensures means { IsFinal result → (IsRefusal result → ⊥)
-        → Means (line_of order.entry) (outside (F.place folder.old) (S.stream out.old)) (outside (F.place folder.new) (S.stream out.new)) result }
+        → Means (line_of request.entry) (outside (F.place folder.old) (S.stream out.old)) (outside (F.place folder.new) (S.stream out.new)) result }
 {
-    let came = order.run(alloc, folder, out);
+    let came = request.run(alloc, folder, out);
     conclude(came, err)
 }
 
@@ -151,6 +151,7 @@ pub fn run_command<F: Folder, S: Sink>(
     ensures the_search { EachSearch (map string_bytes words.now) (F.place folder.old).held (λ asked. IsFinal result → IsSearched asked result
         (outside (F.place folder.old) (S.stream out.old)) (outside (F.place folder.new) (S.stream out.new))) }
     ensures best { EachSearch (map string_bytes words.now) (F.place folder.old).held (λ asked. IsBestSearch asked result) }
+    ensures each_better { EachSearch (map string_bytes words.now) (F.place folder.old).held IsImproving }
     ensures none_at_all { EachSearch (map string_bytes words.now) (F.place folder.old).held (λ asked. IsFinal result → IsRefutedSearch asked result) }
     ensures best_checks { EachSearch (map string_bytes words.now) (F.place folder.old).held (λ asked. IsCheckedSearch (map string_bytes words.now) (F.place folder.new).held asked result) }
     ensures best_satisfies { EachSearch (map string_bytes words.now) (F.place folder.old).held (λ asked. IsSatisfyingSearch (map string_bytes words.now) (F.place folder.old).held asked result) }
@@ -186,7 +187,7 @@ pub fn run_command<F: Folder, S: Sink>(
         → IsFinal result → (IsRefusal result → ⊥) → HoldsLossyRun (F.place folder.old).held model events seed log kept result }
 {
     match words_of(words) {
-        Some(order) => run_order(alloc, order, folder, out, err),
+        Some(request) => run_request(alloc, request, folder, out, err),
         None => {
             say(err, b"abt: bad words\n");
             Status::Words

@@ -5,10 +5,10 @@
 #![tactic(auto)]
 
 mod command;
-mod order;
 mod plain;
+mod request;
 
 pub use abt_promise::Status;
 pub use command::{lines_are_lawful, run_command, run_program};
-pub use order::{Order, words_of};
 pub use plain::VERSION;
+pub use request::{Request, words_of};

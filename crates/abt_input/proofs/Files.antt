@@ -9,7 +9,7 @@ use Rattle.abt_promise.specs.Promises.{IsHeld, AreBytesOf}
 use Rattle.abt_promise.proofs.Fetched.{fetched_held}
 use Rattle.abt_input.specs.declared.error.CommandError.{CommandError}
 use Rattle.abt_input.specs.declared.error.CommandError.TheVariants.{ModelLong, ModelRefused, NoAim, LogLong, LogLine, ScheduleLong, ScheduleLine, Clauses, Fault, Memory}
-use Rattle.abt_input.specs.Kinds.{Kind, ReadsAs}
+use Rattle.abt_input.specs.Kinds.{FileKind, ReadsAs}
 use Rattle.abt_input.specs.Files.{UnlessFault, HasRead}
 
 -- so many zeros
@@ -61,5 +61,5 @@ unless_fault (Err Fault) p = tt
 unless_fault (Err Memory) p = p
 
 -- what was read, with the bytes that the folder held, where it tells them
-pub read_held : {kind : Kind} {name : List ℕ} {p q : Place} {r : Result kind.Value CommandError} → HasRead kind name p q r → (bytes : List ℕ) × IsHeld p.held name bytes × ReadsAs kind bytes r
+pub read_held : {kind : FileKind} {name : List ℕ} {p q : Place} {r : Result kind.Value CommandError} → HasRead kind name p q r → (bytes : List ℕ) × IsHeld p.held name bytes × ReadsAs kind bytes r
 read_held {name = name} {p = p} {q = q} h = (h.read.0, fetched_held p q name h.read.0 h.read.1, h.read.2)

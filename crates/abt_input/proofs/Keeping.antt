@@ -18,7 +18,7 @@ use Rattle.abt_promise.proofs.Steps.{came_then}
 use Rattle.abt_input.specs.declared.error.CommandError.{CommandError}
 use Rattle.abt_input.specs.declared.error.CommandError.TheVariants.{ModelLong, ModelRefused, NoAim, LogLong, LogLine, ScheduleLong, ScheduleLine, Clauses, Fault, Memory}
 use Rattle.abt_input.specs.Errors.{stop_error, way_of, error_status, error_text}
-use Rattle.abt_input.specs.Kinds.{Kind, IsExact}
+use Rattle.abt_input.specs.Kinds.{FileKind, IsExact}
 use Rattle.abt_input.specs.Files.{HasRead}
 use Rattle.abt_input.specs.Plans.{Plan, Answer, Read, Find, promise_by, IsSoundPlan}
 
@@ -81,7 +81,7 @@ came_found {fetched = fetched} {created = created} {Value = Value} {Is = Is} {ne
 
 -- ---- a read
 
-module _ (kind : Kind) (next : kind.Value → Plan) (name : List ℕ) (fetched created : List (List ℕ)) (p q : Place) (out : Stream) where
+module _ (kind : FileKind) (next : kind.Value → Plan) (name : List ℕ) (fetched created : List (List ℕ)) (p q : Place) (out : Stream) where
   -- the file is refused
   refused : (e : CommandError) (bytes : List ℕ) → IsFetched p q name bytes → kind.Refuses bytes e → IsFinal (error_status e) → Did [] (outside p out) (outside q out) → q.held ≡ p.held → CameIn (promise_by (name ∷ fetched) created (Read kind next)) (outside p out) (outside q out) (Refused (error_status e) (error_text e))
   refused e bytes is refuses final did held = let x = unread_names q q fetched refl in record { inputs = bytes ∷ x.0; are_held = fetched_then p q q name fetched bytes x.0 held is x.1; came = (inl (e, refuses, refl), did, final) }
@@ -105,7 +105,7 @@ module _ (kind : Kind) (next : kind.Value → Plan) (name : List ℕ) (fetched c
         came = inl (record { before = []; later = h.read.0 ∷ x.0; are_first = refl; name = name; fetches = refl; rose = h.fault refl; after = after_read p q out h.held h.created });
       }
 
-module _ {kind : Kind} {next : kind.Value → Plan} {name : List ℕ} {fetched created : List (List ℕ)} {p q : Place} {out : Stream} where
+module _ {kind : FileKind} {next : kind.Value → Plan} {name : List ℕ} {fetched created : List (List ℕ)} {p q : Place} {out : Stream} where
   pub came_unread : {e : CommandError} (r : Result Status CommandError) → IsErr r × IsErrAnd r (λ y. y ≡ e) → HasRead kind name p q (Err e) → Keeps (name ∷ fetched) created (Read kind next) (outside p out) (outside q out) (way_of r)
   came_unread {e = e} r is h = by r is
     where

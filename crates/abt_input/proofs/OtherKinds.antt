@@ -8,11 +8,11 @@ use Rattle.abt_promise.specs.Promises.{IsFetched}
 use Rattle.abt_input.specs.declared.error.CommandError.{CommandError}
 use Rattle.abt_input.specs.declared.error.CommandError.TheVariants.{Fault}
 use Rattle.abt_input.specs.Errors.{stop_error}
-use Rattle.abt_input.specs.Kinds.{Kind, ReadsAs}
+use Rattle.abt_input.specs.Kinds.{FileKind, ReadsAs}
 use Rattle.abt_input.specs.Files.{HasRead}
 use Rattle.abt_input.proofs.Files.{unless_fault}
 
-module _ {kind other : Kind} {name : List ℕ} {p q : Place} where
+module _ {kind other : FileKind} {name : List ℕ} {p q : Place} where
   -- a value gives a value, or an error that is no fault
   pub read_as : {value : kind.Value} (r : Result other.Value CommandError) → HasRead kind name p q (Ok value) → ((bytes : List ℕ) → kind.Is bytes value → ReadsAs other bytes r) → (r ≡ Err Fault → ⊥) → HasRead other name p q r
   read_as r h says sound = record {
@@ -35,7 +35,7 @@ module _ {kind other : Kind} {name : List ℕ} {p q : Place} where
   })
 
 -- a reading that was stopped
-pub stopped_read : (kind : Kind) (name : List ℕ) (p q : Place) (stop : Stop) (r : Result kind.Value CommandError) → IsErr r × IsErrAnd r (λ y. y ≡ stop_error stop) → (bytes : List ℕ) × IsFetched p q name bytes → q.held ≡ p.held → q.created ≡ p.created
+pub stopped_read : (kind : FileKind) (name : List ℕ) (p q : Place) (stop : Stop) (r : Result kind.Value CommandError) → IsErr r × IsErrAnd r (λ y. y ≡ stop_error stop) → (bytes : List ℕ) × IsFetched p q name bytes → q.held ≡ p.held → q.created ≡ p.created
     → (stop ≡ stops.Memory → SameCounts p q) → (stop ≡ stops.Fault → Rose (p.reads name) (q.reads name)) → HasRead kind name p q r
 stopped_read kind name p q stop (Ok x) is bytes held created counts fault = absurd (let no = is.0 in cc)
 stopped_read kind name p q stop (Err y) is bytes held created counts fault = rw is.1 (by stop counts fault)

@@ -13,8 +13,8 @@ abbrev pub clauses_status : ClausesError → Status
 clauses_status CnfLong = statuses.Model
 clauses_status (CnfRefused error) = statuses.Model
 clauses_status (CnfLimit which count) = statuses.Model
-clauses_status ProofLong = statuses.Text
-clauses_status (ProofLine number) = statuses.Text
+clauses_status ProofLong = statuses.Input
+clauses_status (ProofLine number) = statuses.Input
 
 -- the line that tells why a text is no formula
 abbrev pub cnf_error_text : CnfError → List ℕ

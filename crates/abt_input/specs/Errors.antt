@@ -35,10 +35,10 @@ cnf_error error = Clauses (CnfRefused error)
 abbrev pub error_status : CommandError → Status
 error_status ModelLong = statuses.Model
 error_status (ModelRefused error) = statuses.Model
-error_status LogLong = statuses.Text
-error_status (LogLine number) = statuses.Text
-error_status ScheduleLong = statuses.Text
-error_status (ScheduleLine number) = statuses.Text
+error_status LogLong = statuses.Input
+error_status (LogLine number) = statuses.Input
+error_status ScheduleLong = statuses.Input
+error_status (ScheduleLine number) = statuses.Input
 error_status NoAim = statuses.Model
 error_status (Clauses error) = clauses_status error
 error_status Fault = statuses.Fault

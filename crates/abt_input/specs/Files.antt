@@ -4,7 +4,7 @@ use Rattle.std.specs.declared.vec.Vec.{Vec}
 use Rattle.std.specs.declared.alloc.Global.{Global}
 use Rattle.dcsp_outside.specs.Outside.{Place, SameCounts, Rose}
 use Rattle.abt_promise.specs.Promises.{IsFetched}
-use Rattle.abt_input.specs.Kinds.{Kind, ReadsAs}
+use Rattle.abt_input.specs.Kinds.{FileKind, ReadsAs}
 use Rattle.abt_input.specs.declared.read.Unread.{Unread}
 use Rattle.abt_input.specs.declared.read.Unread.TheVariants as unread
 use Rattle.abt_input.specs.declared.error.CommandError.{CommandError}
@@ -36,7 +36,7 @@ abbrev pub IsRead : Place → Place → List ℕ → ℕ → Result (Vec ℕ Glo
 IsRead old new name most result = (bytes : List ℕ) × IsFetched old new name bytes × IsReadOf bytes most result
 
 -- the file under the name was read as this kind, and nothing else was done
-pub record HasRead (kind : Kind) (name : List ℕ) (old new : Place) (result : Result kind.Value CommandError) : Type 0 where
+pub record HasRead (kind : FileKind) (name : List ℕ) (old new : Place) (result : Result kind.Value CommandError) : Type 0 where
   pub read : (bytes : List ℕ) × IsFetched old new name bytes × ReadsAs kind bytes result
   pub held : new.held ≡ old.held
   pub created : new.created ≡ old.created
@@ -53,5 +53,5 @@ abbrev pub HasLogBytes : List ℕ → Vec ℕ Global → Type 0
 HasLogBytes log text = (text.items ≡ log) × (length log ≤ most_log)
 
 -- a log, whatever its bytes say
-abbrev pub any_log : Kind
+abbrev pub any_log : FileKind
 any_log = record { Value = Vec ℕ Global; Is = HasLogBytes; Refuses = IsLongLog }

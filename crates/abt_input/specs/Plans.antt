@@ -7,13 +7,13 @@ use Rattle.abt_promise.specs.Statuses.{IsFinal, IsRefusal}
 use Rattle.abt_promise.specs.Promises.{Report, Promise, answered, refused}
 use Rattle.abt_input.specs.declared.error.CommandError.{CommandError}
 use Rattle.abt_input.specs.Errors.{error_status, error_text}
-use Rattle.abt_input.specs.Kinds.{Kind, IsExact, IsTotal}
+use Rattle.abt_input.specs.Kinds.{FileKind, IsExact, IsTotal}
 
 pub data Plan : Type 1 where
   -- it makes this script, and answers with this status
   Answer : (status : Status) → (script : List Write) → Plan
   -- its next file is read as this kind, and it goes on with what that says
-  Read : (kind : Kind) → (next : kind.Value → Plan) → Plan
+  Read : (kind : FileKind) → (next : kind.Value → Plan) → Plan
   -- it goes on with a value of which this holds, which it finds by itself
   Find : (Value : Type 0) → (Is : Value → Type 0) → (next : Value → Plan) → Plan
 

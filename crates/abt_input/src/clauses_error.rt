@@ -3,7 +3,7 @@
 ghost use Rattle.std.specs.Prelude.{◌≡◌};
 ghost use Rattle.abt_input.specs.ClausesErrors.{clauses_status, clauses_text, cnf_error_text};
 
-use crate::line::Line;
+use crate::line::AnswerLine;
 use crate::model_text::{limit_line, placed, reached_line};
 use abt_promise::Status;
 use cnf_front::CnfError;
@@ -32,27 +32,27 @@ pub(crate) fn clauses_status(error: ClausesError) -> Status
         ClausesError::CnfLong | ClausesError::CnfRefused { .. } | ClausesError::CnfLimit { .. } => {
             Status::Model
         }
-        ClausesError::ProofLong | ClausesError::ProofLine { .. } => Status::Text,
+        ClausesError::ProofLong | ClausesError::ProofLine { .. } => Status::Input,
     }
 }
 
 /// The line that says why a formula or a proof was refused.
-pub(crate) fn clauses_line(error: ClausesError) -> Line
+pub(crate) fn clauses_line(error: ClausesError) -> AnswerLine
     ensures { result ≡ clauses_text error }
 {
     match error {
-        ClausesError::CnfLong => Line::of(b"abt: cnf: too long\n"),
+        ClausesError::CnfLong => AnswerLine::of(b"abt: cnf: too long\n"),
         ClausesError::CnfRefused { error } => cnf_error_line(error),
         ClausesError::CnfLimit { which, count } => {
             reached_line(b"abt: cnf: limit ", which, count)
         }
-        ClausesError::ProofLong => Line::of(b"abt: proof: too long\n"),
-        ClausesError::ProofLine { number } => Line::numbered(b"abt: proof: line ", number),
+        ClausesError::ProofLong => AnswerLine::of(b"abt: proof: too long\n"),
+        ClausesError::ProofLine { number } => AnswerLine::numbered(b"abt: proof: line ", number),
     }
 }
 
 /// The line that tells why a text is no formula.
-fn cnf_error_line(error: CnfError) -> Line
+fn cnf_error_line(error: CnfError) -> AnswerLine
     ensures { result ≡ cnf_error_text error }
 {
     match error {
@@ -60,6 +60,6 @@ fn cnf_error_line(error: CnfError) -> Line
         CnfError::Limit { which, count, at } => {
             limit_line(b"abt: cnf: limit ", which, count, at)
         }
-        CnfError::Memory => Line::of(b"abt: memory\n"),
+        CnfError::Memory => AnswerLine::of(b"abt: memory\n"),
     }
 }

@@ -4,7 +4,7 @@ ghost use Rattle.std.specs.Prelude.{◌≡◌};
 ghost use Rattle.abt_input.specs.Errors.{cnf_error, model_error, stop_error, error_status, error_text};
 
 use crate::clauses_error::{ClausesError, clauses_line, clauses_status};
-use crate::line::Line;
+use crate::line::AnswerLine;
 use crate::model_text::model_error_line;
 use abt_promise::Status;
 use cnf_front::CnfError;
@@ -100,7 +100,7 @@ pub fn error_status(error: CommandError) -> Status
         CommandError::LogLong
         | CommandError::LogLine { .. }
         | CommandError::ScheduleLong
-        | CommandError::ScheduleLine { .. } => Status::Text,
+        | CommandError::ScheduleLine { .. } => Status::Input,
         CommandError::Clauses { error } => clauses_status(error),
         CommandError::Fault => Status::Fault,
         CommandError::Memory => Status::Memory,
@@ -108,19 +108,22 @@ pub fn error_status(error: CommandError) -> Status
 }
 
 /// The line that says why a command gave no answer.
-pub fn error_line(error: CommandError) -> Line
+pub fn error_line(error: CommandError) -> AnswerLine
     ensures { result ≡ error_text error }
 {
     match error {
-        CommandError::ModelLong => Line::of(b"abt: model: too long\n"),
+        CommandError::ModelLong => AnswerLine::of(b"abt: model: too long\n"),
         CommandError::ModelRefused { error } => model_error_line(error),
-        CommandError::NoAim => Line::of(b"abt: model: no aim\n"),
-        CommandError::LogLong => Line::of(b"abt: log: too long\n"),
-        CommandError::LogLine { number } => Line::numbered(b"abt: log: line ", number),
-        CommandError::ScheduleLong => Line::of(b"abt: schedule: too long\n"),
-        CommandError::ScheduleLine { number } => Line::numbered(b"abt: schedule: line ", number),
+        CommandError::NoAim => AnswerLine::of(b"abt: model: no aim\n"),
+        CommandError::LogLong => AnswerLine::of(b"abt: log: too long\n"),
+        CommandError::LogLine { number } => AnswerLine::numbered(b"abt: log: line ", number),
+        CommandError::ScheduleLong => AnswerLine::of(b"abt: schedule: too long\n"),
+        CommandError::ScheduleLine { number } => AnswerLine::numbered(
+            b"abt: schedule: line ",
+            number,
+        ),
         CommandError::Clauses { error } => clauses_line(error),
-        CommandError::Fault => Line::of(b"abt: fault\n"),
-        CommandError::Memory => Line::of(b"abt: memory\n"),
+        CommandError::Fault => AnswerLine::of(b"abt: fault\n"),
+        CommandError::Memory => AnswerLine::of(b"abt: memory\n"),
     }
 }

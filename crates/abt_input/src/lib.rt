@@ -13,5 +13,5 @@ mod read;
 
 pub use clauses_error::ClausesError;
 pub use error::{CommandError, error_line, error_status, stop_error};
-pub use line::Line;
+pub use line::AnswerLine;
 pub use read::{read_choices, read_formula, read_log_text, read_model, read_proof};

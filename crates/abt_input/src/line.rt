@@ -10,12 +10,12 @@ const MOST: usize = 96;
 
 /// The bytes of one line, which take no memory of the heap.
 #[derive(Drop)]
-pub struct Line {
+pub struct AnswerLine {
     bytes: [u8; MOST],
     length: usize,
 }
 
-impl Model for Line {
+impl Model for AnswerLine {
     ghost use Rattle.std.specs.Prelude.{ℕ, ◌≤◌, List, take};
 
     ghost Value = { List ℕ };
@@ -25,13 +25,13 @@ impl Model for Line {
     ghost invariant = { λ line. line.length ≤ 96 };
 }
 
-impl Line {
+impl AnswerLine {
     /// A line of these bytes.
-    pub fn of(bytes: &[u8]) -> Line
+    pub fn of(bytes: &[u8]) -> AnswerLine
         requires { length bytes.now ≤ 96 }
         ensures { result ≡ bytes.now }
     {
-        let mut line = Line {
+        let mut line = AnswerLine {
             bytes: [0; MOST],
             length: 0,
         };
@@ -40,12 +40,12 @@ impl Line {
     }
 
     /// The line of these first bytes and a number.
-    pub fn numbered(before: &[u8], number: u64) -> Line
+    pub fn numbered(before: &[u8], number: u64) -> AnswerLine
         requires { length before.now ≤ 64 }
         ensures { result ≡ before.now ++ decimal number ++ codes "\n" }
     {
         let mut digits = Buffer::new();
-        Line::of(before)
+        AnswerLine::of(before)
             .with(digits.format(number).as_bytes())
             .with(b"\n")
     }
@@ -58,7 +58,7 @@ impl Line {
     }
 
     /// The line with these bytes behind it.
-    pub fn with(mut self, bytes: &[u8]) -> Line
+    pub fn with(mut self, bytes: &[u8]) -> AnswerLine
         requires { length self + length bytes.now ≤ 96 }
         ensures { result ≡ self ++ bytes.now }
     {

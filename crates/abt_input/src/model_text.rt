@@ -3,12 +3,12 @@
 ghost use Rattle.std.specs.Prelude.{◌≡◌, ◌≤◌, ◌++◌, length, decimal, codes};
 ghost use Rattle.abt_input.specs.ModelTexts.{which_text, place_text, reached_text, limit_text, model_error_text};
 
-use crate::line::Line;
+use crate::line::AnswerLine;
 use fzn_model::{ModelError, Which};
 use itoa::Buffer;
 
 /// The line that tells why a model has no problem.
-pub(crate) fn model_error_line(error: ModelError) -> Line
+pub(crate) fn model_error_line(error: ModelError) -> AnswerLine
     ensures { result ≡ model_error_text error }
 {
     match error {
@@ -29,26 +29,26 @@ pub(crate) fn model_error_line(error: ModelError) -> Line
         ModelError::Limit { which, count, at } => {
             limit_line(b"abt: model: limit ", which, count, at)
         }
-        ModelError::NoSolve => Line::of(b"abt: model: no solve item\n"),
-        ModelError::Memory => Line::of(b"abt: memory\n"),
+        ModelError::NoSolve => AnswerLine::of(b"abt: model: no solve item\n"),
+        ModelError::Memory => AnswerLine::of(b"abt: memory\n"),
     }
 }
 
 /// A line that ends in a place.
-pub(crate) fn placed(before: &[u8], at: u32) -> Line
+pub(crate) fn placed(before: &[u8], at: u32) -> AnswerLine
     requires { length before.now ≤ 64 }
     ensures { result ≡ before.now ++ place_text at }
 {
-    Line::numbered(before, u64::from(at))
+    AnswerLine::numbered(before, u64::from(at))
 }
 
 /// The line of these first bytes that tells which limit would be passed, and where.
-pub(crate) fn limit_line(before: &[u8], which: Which, count: u128, at: u32) -> Line
+pub(crate) fn limit_line(before: &[u8], which: Which, count: u128, at: u32) -> AnswerLine
     requires { length before.now ≤ 24 }
     ensures { result ≡ before.now ++ limit_text which count at }
 {
     let (mut many, mut place) = (Buffer::new(), Buffer::new());
-    Line::of(before)
+    AnswerLine::of(before)
         .with(which_name(which))
         .with(b" ")
         .with(many.format(count).as_bytes())
@@ -58,12 +58,12 @@ pub(crate) fn limit_line(before: &[u8], which: Which, count: u128, at: u32) -> L
 }
 
 /// The line of these first bytes that tells which limit would be passed.
-pub(crate) fn reached_line(before: &[u8], which: Which, count: u128) -> Line
+pub(crate) fn reached_line(before: &[u8], which: Which, count: u128) -> AnswerLine
     requires { length before.now ≤ 24 }
     ensures { result ≡ before.now ++ reached_text which count ++ codes "\n" }
 {
     let mut many = Buffer::new();
-    Line::of(before)
+    AnswerLine::of(before)
         .with(which_name(which))
         .with(b" ")
         .with(many.format(count).as_bytes())

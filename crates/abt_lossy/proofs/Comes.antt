@@ -6,10 +6,10 @@ use Rattle.std.proofs.lemmas.List.{length-map, take-map, drop-map, map-append}
 use Rattle.std.proofs.lemmas.Option.{slice_get-map}
 use Rattle.std.proofs.lemmas.Bool.Decides.{eqb_tells}
 use Rattle.dcsp_defs.specs.Csp.{Csp}
-use Rattle.law_lossy.specs.Packets as packets
-use Rattle.law_lossy.specs.Packets.{place, coming, staying}
-use Rattle.law_lossy.specs.World.{World, send, come, event}
-use Rattle.law_lossy.specs.Deliveries.{pair_of_packet, pair_of_event}
+use Rattle.law_runs.specs.Packets as packets
+use Rattle.law_runs.specs.Packets.{place, coming, staying}
+use Rattle.law_runs.specs.Worlds.{World, send, come, event}
+use Rattle.law_runs.specs.Deliveries.{pair_of_packet, pair_of_event}
 use Rattle.abt_lossy.specs.declared.pool.Packet.{Packet}
 use Rattle.abt_lossy.specs.declared.pool.Packet.TheVariants.{Data, Acknowledgement}
 use Rattle.abt_lossy.specs.declared.carrier.Carrier.{Carrier}

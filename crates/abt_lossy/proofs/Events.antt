@@ -14,14 +14,14 @@ use Rattle.abt_parts.specs.Messages.{message_of}
 use Rattle.abt_links.specs.Transit.{link_of}
 use Rattle.abt_links.specs.PairTables.{has_pair, members}
 use Rattle.abt_network.specs.Standing.{NetworkState, StandsAt}
-use Rattle.law_lossy.specs.Packets.{coming, staying}
-use Rattle.law_lossy.specs.World.{World, begin, reliable, raised, unacknowledged, send_first, send_on, send, come, event, after}
-use Rattle.law_lossy.specs.Deliveries.{pair_of_packet, pair_of_event, number_of, delivered, numbers}
-use Rattle.law_lossy.proofs.Facts.{facts_after, facts_begin, is_unacknowledged}
-use Rattle.law_lossy.proofs.Lists.{raised_row, raised_cell}
-use Rattle.law_lossy.proofs.Events.{effect}
-use Rattle.law_lossy.proofs.Runs.{is_run}
-use Rattle.law_lossy.proofs.Whole.{one_more_event}
+use Rattle.law_runs.specs.Packets.{coming, staying}
+use Rattle.law_runs.specs.Worlds.{World, begin, reliable, raised, unacknowledged, send_first, send_on, send, come, event, after}
+use Rattle.law_runs.specs.Deliveries.{pair_of_packet, pair_of_event, number_of, delivered, numbers}
+use Rattle.law_runs.proofs.WorldFacts.{facts_after, facts_begin, is_unacknowledged}
+use Rattle.law_runs.proofs.PacketLists.{raised_row, raised_cell}
+use Rattle.law_runs.proofs.Events.{effect}
+use Rattle.law_runs.proofs.WorldRuns.{is_run}
+use Rattle.law_runs.proofs.WholeWorlds.{one_more_event}
 use Rattle.abt_lossy.specs.declared.parts.Parts.{Parts}
 use Rattle.abt_lossy.specs.declared.parts.Happened.{Happened}
 use Rattle.abt_lossy.specs.declared.carrier.Arrival.TheVariants.{Done, Counted}

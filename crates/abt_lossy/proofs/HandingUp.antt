@@ -15,18 +15,18 @@ use Rattle.abt_network.specs.declared.Delivery.{Delivery}
 use Rattle.abt_network.specs.declared.Standing.{Standing}
 use Rattle.abt_network.specs.declared.Standing.TheVariants.{Open, Quiet, Refuted}
 use Rattle.abt_network.specs.Standing.{NetworkState, StandsAt, standing_in, reached, CanDeliver, Delivers as CodeDelivers, LeadsOn, IsRightStep}
-use Rattle.law_lossy.specs.Packets.{Data, Acknowledgement, coming, staying}
-use Rattle.law_lossy.specs.World.{World, begin, reliable, raised, add_packet, acknowledge, hand_up, arrive, come, event, after}
-use Rattle.law_lossy.specs.Deliveries.{pair_of_event, number_of, delivered, numbers}
-use Rattle.law_lossy.specs.Facts.{IsRightAcknowledgement}
-use Rattle.law_lossy.proofs.Lists.{raised_tells, coming-In}
-use Rattle.law_lossy.proofs.Facts.{facts_after, facts_begin}
-use Rattle.law_lossy.proofs.Events.{HandsUpNone, Delivers, moves, acknowledge_network}
-use Rattle.law_lossy.proofs.Runs.{is_run}
-use Rattle.law_lossy.proofs.Calm.{run_more}
-use Rattle.law_lossy.proofs.Places.{numbers_are_places}
-use Rattle.law_lossy.proofs.Sizes.{world_is_small}
-use Rattle.law_lossy.proofs.Whole.{one_more_event}
+use Rattle.law_runs.specs.Packets.{Data, Acknowledgement, coming, staying}
+use Rattle.law_runs.specs.Worlds.{World, begin, reliable, raised, add_packet, acknowledge, hand_up, arrive, come, event, after}
+use Rattle.law_runs.specs.Deliveries.{pair_of_event, number_of, delivered, numbers}
+use Rattle.law_runs.specs.WorldFacts.{IsRightAcknowledgement}
+use Rattle.law_runs.proofs.PacketLists.{raised_tells, coming-In}
+use Rattle.law_runs.proofs.WorldFacts.{facts_after, facts_begin}
+use Rattle.law_runs.proofs.Events.{HandsUpNone, Delivers, moves, acknowledge_network}
+use Rattle.law_runs.proofs.WorldRuns.{is_run}
+use Rattle.law_runs.proofs.CalmEvents.{run_more}
+use Rattle.law_runs.proofs.PacketPlaces.{numbers_are_places}
+use Rattle.law_runs.proofs.WorldSizes.{world_is_small}
+use Rattle.law_runs.proofs.WholeWorlds.{one_more_event}
 use Rattle.abt_lossy.specs.declared.carrier.Carrier.{Carrier}
 use Rattle.abt_lossy.specs.declared.carrier.Arrival.TheVariants.{Counted, Next}
 use Rattle.abt_lossy.specs.declared.parts.Parts.{Parts}

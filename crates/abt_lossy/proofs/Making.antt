@@ -9,12 +9,12 @@ use Rattle.abt_network.specs.declared.Standing.TheVariants.{Open, Quiet, Refuted
 use Rattle.abt_network.specs.Standing as network
 use Rattle.abt_network.specs.Standing.{NetworkState, StandsAt, Starts, standing_in}
 use Rattle.abt_network.proofs.Quiet.{is_open}
-use Rattle.law_lossy.specs.World.{World, begin, reliable, event, after}
-use Rattle.law_lossy.specs.Deliveries.{numbers}
-use Rattle.law_lossy.specs.Ends.{is_quiet}
-use Rattle.law_lossy.proofs.Facts.{facts_after, facts_begin}
-use Rattle.law_lossy.proofs.Runs.{is_run, hands_up_in_order, handed_up_bounded, quiet_is_solved, steps_are_right}
-use Rattle.law_lossy.proofs.Whole.{one_more_event, is_whole, quiet_same}
+use Rattle.law_runs.specs.Worlds.{World, begin, reliable, event, after}
+use Rattle.law_runs.specs.Deliveries.{numbers}
+use Rattle.law_runs.specs.LossyEnds.{is_quiet}
+use Rattle.law_runs.proofs.WorldFacts.{facts_after, facts_begin}
+use Rattle.law_runs.proofs.WorldRuns.{is_run, hands_up_in_order, handed_up_bounded, quiet_is_solved, steps_are_right}
+use Rattle.law_runs.proofs.WholeWorlds.{one_more_event, is_whole, quiet_same}
 use Rattle.abt_lossy.specs.declared.parts.Parts.{Parts}
 use Rattle.abt_lossy.specs.declared.parts.Happened.{Happened}
 use Rattle.abt_lossy.specs.AtWorld.{IsAt, IsBlank, IsReached, Does}

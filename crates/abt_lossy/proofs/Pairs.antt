@@ -3,7 +3,7 @@ use Rattle.std.proofs.Common.{◌≡◌, ◌≢◌, ℕ, ◌+◌, true, false, c
 use Rattle.std.specs.Ordering.{nat_cmp, ordering_then, is_eq}
 use Rattle.std.specs.declared.cmp.Ordering.TheVariants.{Equal}
 use Rattle.std.proofs.lemmas.Bool.Decides.{nat_tests, eqb_tells}
-use Rattle.law_lossy.specs.World.{raised}
+use Rattle.law_runs.specs.Worlds.{raised}
 use Rattle.abt_lossy.specs.declared.counts.PairCounts.{PairCounts}
 use Rattle.abt_lossy.specs.Carries.{pair_cmp}
 

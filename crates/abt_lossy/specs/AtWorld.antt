@@ -9,8 +9,8 @@ use Rattle.abt_network.specs.declared.Standing.{Standing}
 use Rattle.abt_network.specs.declared.Standing.TheVariants.{Open, Quiet, Refuted}
 use Rattle.ngd_log.specs.StepText.{IsInRange}
 use Rattle.abt_network.specs.Standing.{StandsAt, IsRightStep}
-use Rattle.law_lossy.specs.World.{World, begin, after, event}
-use Rattle.law_lossy.specs.Deliveries.{delivered, numbers}
+use Rattle.law_runs.specs.Worlds.{World, begin, after, event}
+use Rattle.law_runs.specs.Deliveries.{delivered, numbers}
 use Rattle.abt_lossy.specs.Carries.{Carries, CountsFit, acknowledged_of, handed_up_of}
 use Rattle.abt_lossy.specs.declared.parts.Parts.{Parts}
 use Rattle.abt_lossy.specs.declared.parts.Happened.{Happened}

@@ -6,10 +6,10 @@ use Rattle.std.specs.Map.{lookup}
 use Rattle.std.specs.BTreeMap.{is_at}
 use Rattle.dcsp_defs.specs.Csp.{Csp}
 use Rattle.abt_defs.specs.Agents.{Message}
-use Rattle.law_lossy.specs.Packets as packets
-use Rattle.law_lossy.specs.Packets.{coming, staying}
-use Rattle.law_lossy.specs.World.{World, raised, send_first, acknowledge, hand_up, arrive, event}
-use Rattle.law_lossy.specs.Deliveries.{pair_of_packet, pair_of_event}
+use Rattle.law_runs.specs.Packets as packets
+use Rattle.law_runs.specs.Packets.{coming, staying}
+use Rattle.law_runs.specs.Worlds.{World, raised, send_first, acknowledge, hand_up, arrive, event}
+use Rattle.law_runs.specs.Deliveries.{pair_of_packet, pair_of_event}
 use Rattle.abt_lossy.specs.declared.pool.Packet.{Packet}
 use Rattle.abt_lossy.specs.declared.pool.Packet.TheVariants.{Data, Acknowledgement}
 use Rattle.abt_lossy.specs.declared.counts.PairCounts.{PairCounts}

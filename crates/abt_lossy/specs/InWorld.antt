@@ -10,11 +10,11 @@ use Rattle.abt_network.specs.declared.Standing.{Standing}
 use Rattle.abt_network.specs.declared.Standing.TheVariants.{Open, Quiet, Refuted}
 use Rattle.abt_network.specs.Standing as network
 use Rattle.abt_network.specs.Standing.{NetworkState, StandsAt, Starts, IsRightStep}
-use Rattle.law_lossy.specs.World.{World, begin, reliable, event, after}
-use Rattle.law_lossy.specs.Deliveries.{delivered, numbers, handed_messages}
-use Rattle.law_lossy.specs.Ends.{is_quiet}
-use Rattle.law_lossy.specs.Run.{IsWholeRun}
-use Rattle.law_lossy.specs.Verdicts.{AreBounded, AreRightSteps}
+use Rattle.law_runs.specs.Worlds.{World, begin, reliable, event, after}
+use Rattle.law_runs.specs.Deliveries.{delivered, numbers, handed_messages}
+use Rattle.law_runs.specs.LossyEnds.{is_quiet}
+use Rattle.law_runs.specs.LossyRuns.{IsWholeRun}
+use Rattle.law_runs.specs.LossyVerdicts.{AreBounded, AreRightSteps}
 use Rattle.abt_lossy.specs.declared.carrier.Carrier.{Carrier}
 use Rattle.abt_lossy.specs.declared.parts.Happened.{Happened}
 use Rattle.abt_lossy.specs.Carries.{Carries}

@@ -2,7 +2,7 @@
 
 ghost use Rattle.std.specs.Prelude.{◌≡◌, ◌%◌, ◌≢◌, IfOk, OnOk};
 ghost use Rattle.dcsp_defs.specs.Csp.{Csp};
-ghost use Rattle.law_lossy.specs.World.{begin, raised};
+ghost use Rattle.law_runs.specs.Worlds.{begin, raised};
 ghost use Rattle.abt_lossy.specs.Carries.{acknowledged_of, handed_up_of, Arrives, Carries, Changes, Comes, CountsFit, HandsUp, Sends};
 
 use crate::counts::Counts;

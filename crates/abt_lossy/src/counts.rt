@@ -1,7 +1,7 @@
 //! What the two ends of each pair of agents have counted.
 
 ghost use Rattle.std.specs.Prelude.{◌≡◌, ◌<◌, ◌^◌, ℕ, OnErr, OnOk};
-ghost use Rattle.law_lossy.specs.World.{raised};
+ghost use Rattle.law_runs.specs.Worlds.{raised};
 ghost use Rattle.abt_lossy.specs.Carries.{acknowledged_of, handed_up_of};
 
 use dcsp_common::Memory;

@@ -1,7 +1,7 @@
 //! The packets on their way.
 
 ghost use Rattle.std.specs.Prelude.{◌≡◌, ◌+◌, [], ◌∷◌, ◌++◌, length, OnErr, OnOk};
-ghost use Rattle.law_lossy.specs.Packets.{coming, staying};
+ghost use Rattle.law_runs.specs.Packets.{coming, staying};
 
 use dcsp_common::Memory;
 use std::alloc::Global;

@@ -1,11 +1,13 @@
 //! What the program does, up to the number that it ends with.
 
-ghost use Rattle.abt_main.specs.Ending.{EndsWith};
+ghost use Rattle.dcsp_script.specs.Scripts.{outside};
+ghost use Rattle.abt_main.specs.Ending.{EndsRun, EndsWith};
 
 use abt_command::{Status, run_program};
 use abt_files::{OpenFiles, RealFolder, RealSink, Stream};
+use abt_promise::say;
 use dcsp_common::Memory;
-use dcsp_outside::Sink;
+use dcsp_outside::{Folder, Sink};
 use std::alloc::Global;
 use std::cell::RefCell;
 use std::env;
@@ -31,16 +33,33 @@ pub fn run(rt: HostRuntime) -> u8
     let open = RefCell::new(OpenFiles::new(alloc, rt));
     let mut out = RealSink::new(output, &open);
     let mut err = RealSink::new(errors, &open);
-    let Ok(words) = words else {
-        // There is no other place to tell it.
-        let _ = err.put(b"abt: memory\n");
-        return Status::Memory.code();
-    };
     let mut folder = RealFolder::new(alloc, &open);
-    let code = run_program(alloc, &words, &mut folder, &mut out, &mut err);
+    let code = run_given(alloc, words, &mut folder, &mut out, &mut err);
     // An answer lets nothing wait; so only a command that was refused, and has told it, has more to write.
     let _ = out.write_waiting();
     code
+}
+
+/// Runs the command that these words ask for, and gives the number that the program ends with; where there was no
+/// memory for the words, tells that on `err`, does nothing else, and gives the number for want of memory.
+#[tactic(none)]
+pub fn run_given<F: Folder, S: Sink>(
+    alloc: Global,
+    words: Result<Vec<String>, Memory>,
+    folder: &mut F,
+    out: &mut S,
+    err: &mut S,
+) -> u8
+    ensures { EndsRun words (outside (F.place folder.old) (S.stream out.old)) (outside (F.place folder.new) (S.stream out.new))
+        (S.stream err.old) (S.stream err.new) result }
+{
+    match words {
+        Ok(words) => run_program(alloc, &words, folder, out, err),
+        Err(_) => {
+            say(err, b"abt: memory\n");
+            Status::Memory.code()
+        }
+    }
 }
 
 /// The null device, where it took the number of a standard stream that is closed.

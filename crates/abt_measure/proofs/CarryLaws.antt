@@ -1,5 +1,5 @@
 -- What is added to the messages in transit to one agent, and what is taken.
-use Rattle.std.proofs.Common.{◌≡◌, ◌≢◌, ℕ, zero, suc, ◌+◌, ◌<◌, ◌==◌, true, false, cond, inl, inr, List, [], ◌∷◌, ◌++◌, length, get_or, remove, refl, sym, ap, ◌∙◌, arith}
+use Rattle.std.proofs.Common.{◌≡◌, ℕ, zero, suc, ◌<◌, ◌==◌, cond, inl, inr, List, [], ◌∷◌, ◌++◌, length, remove, refl, sym, ap, ◌∙◌, arith}
 use Rattle.std.proofs.lemmas.Bool.Decides.{eqb_tells}
 use Rattle.abt_defs.specs.Clocks.{first_of, rest_of}
 use Rattle.abt_measure.specs.declared.carried.Carried.{Carried}

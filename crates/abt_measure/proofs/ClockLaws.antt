@@ -1,11 +1,11 @@
 -- The code's clocks after an event.
-use Rattle.std.proofs.Common.{◌≡◌, ◌≢◌, ℕ, ◌+◌, ◌<◌, ◌==◌, ◌&&◌, cond, inl, inr, List, [], ◌++◌, length, get_or, set, max, Option, Result, Ok, Err, refl, sym, ap, ◌∙◌, arith}
+use Rattle.std.proofs.Common.{◌≡◌, ℕ, ◌<◌, ◌==◌, ◌&&◌, cond, inl, inr, List, ◌++◌, length, get_or, set, max, Result, Ok, Err, ap, ◌∙◌}
 use Rattle.std.specs.Prelude.{OnOk}
 use Rattle.std.proofs.lemmas.Bool.Decides.{eqb_tells}
 use Rattle.std.proofs.lemmas.List.{get_or-set_same, get_or-set_other}
 use Rattle.std.proofs.Math.Path.{fun_ext}
 use Rattle.dcsp_defs.specs.Words.{update}
-use Rattle.abt_defs.specs.Clocks.{Clocks, Event, rest_of, is_from, reached, clock_after, copies, carried_after, tick}
+use Rattle.abt_defs.specs.Clocks.{Clocks, Event, rest_of, is_from, clock_after, carried_after, tick}
 use Rattle.abt_measure.specs.declared.carried.Carried.{Carried}
 use Rattle.abt_measure.specs.Carrying.{clocks_on, sent_with}
 use Rattle.abt_measure.specs.Clocks.{ClockState, clocks_of}

@@ -1,15 +1,14 @@
 -- One act more.
-use Rattle.std.proofs.Common.{◌≡◌, ◌≢◌, ◌∙◌, ℕ, zero, suc, ◌+◌, ◌*◌, ◌<◌, ◌==◌, Bool, true, false, cond, inl, inr, List, [], ◌∷◌, ◌++◌, filter, map, length, max, get_or, set, Option, Some, None, refl, sym, ap, subst, arith, append-nil, length-append}
+use Rattle.std.proofs.Common.{◌≡◌, ◌∙◌, ℕ, zero, suc, ◌+◌, ◌*◌, ◌<◌, ◌==◌, true, false, cond, inl, inr, List, [], ◌∷◌, ◌++◌, filter, map, length, set, Option, Some, None, refl, sym, ap, subst, arith, append-nil, length-append}
 use Rattle.std.specs.List.{flat_map, sum_by}
 use Rattle.std.proofs.lemmas.Bool.Decides.{eqb_tells}
 use Rattle.std.proofs.lemmas.Grind.{flat_map-append}
 use Rattle.std.proofs.lemmas.List.{map-append, get_or-set_same, get_or-set_other, length-set}
 use Rattle.std.proofs.lemmas.List.Elements.{filter-append}
 use Rattle.std.proofs.lemmas.List.Sums.{sum_by-append}
-use Rattle.dcsp_defs.specs.Csp.{Csp, count}
+use Rattle.dcsp_defs.specs.Csp.{Csp}
 use Rattle.abt_defs.specs.Agents.{Message, Announce, Refuse, Add_link}
 use Rattle.abt_defs.specs.Events.{Act}
-use Rattle.abt_defs.specs.Checks as checks
 use Rattle.abt_defs.specs.Checks.{checks_of}
 use Rattle.abt_defs.specs.Clocks as clocks
 use Rattle.abt_defs.specs.Clocks.{Clocks, Event, event_of, no_clocks, sender_of, tick, ticks, work_of}
@@ -17,14 +16,14 @@ use Rattle.abt_defs.specs.Measures as measures
 use Rattle.abt_defs.specs.Measures.{acts_by, greatest_by, is_link, is_nogood, is_ok, kinds_of, message_in, messages_got, messages_sent, row, row_of}
 use Rattle.abt_parts.specs.declared.message.SentTo.{SentTo}
 use Rattle.abt_parts.specs.Messages.{kind_of, told_sent}
-use Rattle.law_measures.proofs.Going.{ticks-more, greatest-more}
+use Rattle.law_runs.proofs.ActsGoing.{ticks-more, greatest-more}
 use Rattle.abt_agent.specs.declared.checks.Checks.{Checks}
 use Rattle.abt_agent.specs.Examined.{as_checks}
 use Rattle.abt_measure.specs.declared.row.Row.{Row}
 use Rattle.abt_measure.specs.declared.counts.Came.{Came}
 use Rattle.abt_measure.specs.Carrying.{receivers_of}
 use Rattle.abt_measure.specs.Clocks.{ClockState, as_weights, clocks_of}
-use Rattle.abt_measure.specs.Rows.{as_row, came_kinds, kind_counts, kinds_sent, more_kinds, no_kinds, no_row, row_after}
+use Rattle.abt_measure.specs.Rows.{as_row, came_kinds, kind_counts, kinds_sent, more_kinds, no_row, row_after}
 use Rattle.abt_measure.specs.Measuring.{received_in}
 use Rattle.abt_measure.specs.Counting.{kind_in, row_at, sender_in, told_came, AreRows, IsAct, IsClock}
 use Rattle.abt_measure.proofs.RowLaws.{same_kinds, kinds_none}

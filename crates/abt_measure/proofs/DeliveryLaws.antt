@@ -1,24 +1,26 @@
 -- The measures after one delivery more.
-use Rattle.std.proofs.Common.{◌≡◌, ◌≢◌, ◌∙◌, ℕ, zero, suc, ◌+◌, ◌-◌, ◌%◌, ◌<◌, ◌≤◌, Bool, true, false, not, List, [], ◌∷◌, ◌++◌, map, length, max, get_or, slice_get, Option, Result, Ok, Err, Some, inl, inr, refl, sym, ap, subst, arith, append-nil}
+use Rattle.std.proofs.Common.{◌≡◌, ◌≢◌, ◌∙◌, ℕ, zero, suc, ◌-◌, ◌%◌, ◌<◌, ◌≤◌, true, false, not, List, [], ◌∷◌, ◌++◌, map, length, max, get_or, slice_get, Result, Ok, Err, Some, inl, inr, refl, sym, ap, subst, arith, append-nil, IsSome}
 use Rattle.std.specs.Prelude.{OnOk}
 use Rattle.std.specs.List.{flat_map}
 use Rattle.std.proofs.lemmas.Bool.Decides.{eqb_tells}
 use Rattle.dcsp_defs.specs.Words.{In, below, sum_below}
 use Rattle.dcsp_defs.specs.Csp.{Csp, IsCsp, count}
 use Rattle.dcsp_defs.proofs.Lists.{In-below, get-In, filter-from}
-use Rattle.dcsp_rule.specs.Problems.{Contents, csp_of}
-use Rattle.abt_defs.specs.Agents.{Agent, Message}
-use Rattle.abt_defs.specs.Network.{Network, deliver, is_empty, pairs, ready, run, start}
-use Rattle.abt_defs.specs.Events.{Act, acts, choice_acts, later_acts, start_acts}
+use Rattle.dcsp_rule.specs.Problems.{csp_of}
+use Rattle.abt_defs.specs.Agents.{Message}
+use Rattle.abt_defs.specs.Network.{Network, deliver, is_empty, pairs, ready, start}
+use Rattle.abt_defs.specs.Events.{Act, acts, later_acts, start_acts}
 use Rattle.abt_defs.specs.Measures.{in_transit, most_in_transit, recorded_in}
 use Rattle.law_agent.proofs.Runs.{In-pairs}
-use Rattle.law_measures.proofs.Next.{has_head, next_act, choice_is, after_is, recorded_change, run_more, acts_more, transit_more, most_more, receivers_are}
+use Rattle.law_runs.proofs.NextActs.{has_head, next_act, choice_is, after_is, recorded_change, run_more, acts_more, transit_more, most_more, receivers_are}
 use Rattle.abt_parts.specs.declared.message.Message.{Message as TheMessage}
 use Rattle.abt_parts.specs.declared.message.SentTo.{SentTo}
 use Rattle.abt_parts.specs.Messages.{message_of, told_sent}
 use Rattle.abt_links.specs.Transit.{link_of}
 use Rattle.abt_network.specs.Standing.{reached, NetworkState, StandsAt, TellsSent}
 use Rattle.abt_measure.specs.declared.delivery.Coming.{Coming}
+use Rattle.dcsp_defs.specs.declared.nogood.Pair.{Pair}
+use Rattle.abt_measure.specs.Learning.{AreLearned}
 use Rattle.abt_measure.specs.Measuring.{CountsNext, IsComing, IsCounted, IsMeasured, IsNext, MeasureState}
 
 one_below : (f : ℕ → ℕ) (i n : ℕ) → i < n → f i ≤ sum_below f n
@@ -28,12 +30,12 @@ one_below f i (suc n) l = elim (eqb_tells n i) [
   | inr t ↦ let ne : n ≢ i = t.1 in let r = one_below f i n (omega arith) in omega arith
 ]
 
-all_told : (xs : List (ℕ × Message)) (n : ℕ) → ((y : ℕ × Message) → In y xs → y.0 < n) → (k : ℕ) (d : SentTo) → k < length (map told_sent xs) → (get_or (map told_sent xs) k d).to < n
+pub all_told : (xs : List (ℕ × Message)) (n : ℕ) → ((y : ℕ × Message) → In y xs → y.0 < n) → (k : ℕ) (d : SentTo) → k < length (map told_sent xs) → (get_or (map told_sent xs) k d).to < n
 all_told [] n h k d l = absurd (omega arith)
 all_told (x ∷ xs) n h zero d l = h x (inl refl)
 all_told (x ∷ xs) n h (suc k) d l = all_told xs n (λ y u. h y (inr u)) k d (omega arith)
 
-minus_both : (a b c d : ℕ) → a ≡ c → b ≡ d → a - b ≡ c - d
+pub minus_both : (a b c d : ℕ) → a ≡ c → b ≡ d → a - b ≡ c - d
 minus_both a b c d e f = ap (λ z. z - b) e ∙ ap (λ z. c - z) f
 
 pub record Head (l : List Message) : Type 0 where
@@ -113,3 +115,14 @@ module _ (s : NetworkState) (choices : List ℕ) (st : StandsAt s (reached s cho
         → IsMeasured p choices old → (IsNext a i coming told (deliver p c net) → OnOk r (CountsNext p (acts p choices) a coming.before old new)) → OnOk r (IsMeasured p (choices ++ c ∷ []) new)
     measured_ok (Ok x) coming told old new saw e h f = measured_next coming told old new saw e h f
     measured_ok (Err y) coming told old new saw e h f = tt
+
+    -- what was told is that of the run with this choice more
+    pub heard : {T E : Type 0} → (r : Result T E) (m : Message) (new : List (List Pair)) → slice_get (net.links k i) 0 ≡ Some m → (a.came ≡ Some (k, m) → OnOk r (AreLearned (acts p choices ++ a ∷ []) new)) → OnOk r (AreLearned (acts p (choices ++ c ∷ [])) new)
+    heard r m new e f =
+        let first : slice_get (head.message ∷ head.rest) 0 ≡ Some m = ap (λ (l : List Message). slice_get l 0) (sym head.is) ∙ e in
+        let same : head.message ≡ m = cc in
+        subst (λ (l : List Act). OnOk r (AreLearned l new)) (sym (acts_more p net c k i head.message head.rest chosen head.is choices refl alive)) (f (ap (λ z. Some (k, z)) same))
+
+pub has_first : (l : List TheMessage) → l ≢ [] → IsSome (slice_get l 0)
+has_first [] h = absurd (h refl)
+has_first (x ∷ xs) h = refl

@@ -1,6 +1,6 @@
 -- One message more that agents were told.
-use Rattle.std.proofs.Common.{◌≡◌, ◌≢◌, ◌∙◌, ℕ, zero, suc, ◌+◌, ◌<◌, ◌==◌, Bool, true, false, cond, not, inl, inr, List, [], ◌∷◌, ◌++◌, filter, drop, length, get_or, set, Option, Some, refl, sym, ap, subst, arith, append-nil}
-use Rattle.std.specs.List.{flat_map, list_any}
+use Rattle.std.proofs.Common.{◌≡◌, ◌≢◌, ◌∙◌, ℕ, zero, suc, ◌<◌, ◌==◌, true, false, cond, not, inl, inr, List, [], ◌∷◌, ◌++◌, filter, length, set, Some, refl, sym, ap, append-nil}
+use Rattle.std.specs.List.{flat_map}
 use Rattle.std.proofs.lemmas.Bool.Decides.{eqb_tells}
 use Rattle.std.proofs.lemmas.Grind.{flat_map-append}
 use Rattle.std.proofs.lemmas.List.{get_or-set_same, get_or-set_other}
@@ -8,8 +8,8 @@ use Rattle.std.proofs.lemmas.List.Elements.{filter-append}
 use Rattle.dcsp_defs.specs.declared.nogood.Pair.{Pair}
 use Rattle.abt_defs.specs.Agents.{Message}
 use Rattle.abt_defs.specs.Events.{Act}
-use Rattle.abt_defs.specs.Measures.{acts_by, is_pair, learned_pairs, once, told, told_by, told_in}
-use Rattle.law_measures.proofs.Going.{once-append}
+use Rattle.abt_defs.specs.Measures.{acts_by, learned_pairs, once, told, told_in}
+use Rattle.law_runs.proofs.ActsGoing.{once-append}
 use Rattle.abt_measure.specs.Learning.{others, others_told, pairs_at, AreLearned, Learns}
 
 learned_here : (acts : List Act) (a : Act) (i : ℕ) → a.agent ≡ i → learned_pairs (acts ++ a ∷ []) i ≡ once (learned_pairs acts i) (told a)

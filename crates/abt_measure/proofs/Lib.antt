@@ -5,3 +5,6 @@ pub mod ClockLaws
 pub mod CountLaws
 pub mod LearnLaws
 pub mod DeliveryLaws
+pub mod StartLaws
+pub mod RunLaws
+pub mod TotalLaws

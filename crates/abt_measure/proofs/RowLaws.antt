@@ -1,8 +1,7 @@
 -- Rows and kinds.
-use Rattle.std.proofs.Common.{◌≡◌, ◌∙◌, ℕ, ◌+◌, List, [], ◌∷◌, ap, refl, arith}
+use Rattle.std.proofs.Common.{◌≡◌, ◌∙◌, ℕ, ap, arith}
 use Rattle.abt_defs.specs.Measures as measures
-use Rattle.abt_parts.specs.declared.message.SentTo.{SentTo}
-use Rattle.abt_measure.specs.Rows.{no_kinds, more_kinds, kinds_sent}
+use Rattle.abt_measure.specs.Rows.{no_kinds, more_kinds}
 
 pub same_kinds : (a b : measures.Kinds) → a.ok ≡ b.ok → a.nogood ≡ b.nogood → a.link ≡ b.link → a ≡ b
 same_kinds a b e f g =

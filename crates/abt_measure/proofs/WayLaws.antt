@@ -1,9 +1,9 @@
 -- Messages in transit by receiver, and the clocks of agents.
-use Rattle.std.proofs.Common.{◌≡◌, ◌≢◌, ℕ, zero, suc, ◌+◌, ◌<◌, ◌==◌, ◌&&◌, Bool, true, false, cond, inl, inr, List, [], ◌∷◌, ◌++◌, length, get_or, map, set, max, drop, ◌≤◌, add-one, refl, sym, ap, ◌∙◌, arith, append_assoc, append-nil}
+use Rattle.std.proofs.Common.{◌≡◌, ℕ, zero, suc, ◌+◌, ◌<◌, ◌==◌, ◌&&◌, true, false, cond, inl, inr, List, [], ◌∷◌, ◌++◌, length, get_or, set, drop, ◌≤◌, add-one, refl, sym, ap, ◌∙◌, arith, append_assoc, append-nil}
 use Rattle.std.proofs.lemmas.Bool.Decides.{eqb_tells}
 use Rattle.std.proofs.lemmas.List.{get_or-set_same, get_or-set_other}
 use Rattle.std.proofs.Math.Seq.{drop-cons}
-use Rattle.abt_defs.specs.Clocks.{first_of, rest_of, copies}
+use Rattle.abt_defs.specs.Clocks.{rest_of, copies}
 use Rattle.abt_parts.specs.declared.message.SentTo.{SentTo}
 use Rattle.abt_measure.specs.declared.carried.Carried.{Carried}
 use Rattle.abt_measure.specs.Carrying.{clocks_from, clocks_on, receivers_of, sent_with}

@@ -1,12 +1,12 @@
 -- What is counted stands for these acts of a run.
-use Rattle.std.specs.Prelude.{◌≡◌, ℕ, ◌<◌, List, [], ◌∷◌, map, length, sum_by, Option, Some, None, slice_index_or}
+use Rattle.std.specs.Prelude.{◌≡◌, ℕ, ◌<◌, List, map, length, Option, Some, None, slice_index_or}
 use Rattle.dcsp_defs.specs.Csp.{Csp, count}
 use Rattle.abt_defs.specs.Agents.{Message}
 use Rattle.abt_defs.specs.Events.{Act}
 use Rattle.abt_defs.specs.Checks.{checks_of}
 use Rattle.abt_defs.specs.Clocks as clocks
 use Rattle.abt_defs.specs.Clocks.{event_of, no_clocks, ticks}
-use Rattle.abt_defs.specs.Measures.{messages_got, row}
+use Rattle.abt_defs.specs.Measures.{row}
 use Rattle.abt_parts.specs.declared.message.SentTo.{SentTo}
 use Rattle.abt_parts.specs.declared.message.MessageKind.{MessageKind}
 use Rattle.abt_parts.specs.Messages.{kind_of, told_sent}

@@ -1,5 +1,5 @@
 -- What the code keeps of what agents were told.
-use Rattle.std.specs.Prelude.{◌≡◌, ◌≢◌, ℕ, ◌<◌, ◌==◌, not, List, [], filter, length, slice_index_or}
+use Rattle.std.specs.Prelude.{◌≡◌, ◌≢◌, ℕ, ◌==◌, not, List, [], filter, slice_index_or}
 use Rattle.dcsp_defs.specs.declared.nogood.Pair.{Pair}
 use Rattle.abt_defs.specs.Agents.{Message}
 use Rattle.abt_defs.specs.Events.{Act}

@@ -4,3 +4,6 @@ pub mod Rows
 pub mod Counting
 pub mod Learning
 pub mod Measuring
+pub mod Starting
+pub mod Totals
+pub mod Whole

@@ -1,6 +1,6 @@
 -- All that is counted in a run.
 use Rattle.std.specs.Prelude.{◌≡◌, ℕ, ◌+◌, ◌-◌, List, [], ◌∷◌, ◌++◌, map, length, max, sum_by, Option, Some, None}
-use Rattle.dcsp_defs.specs.Csp.{Csp, count}
+use Rattle.dcsp_defs.specs.Csp.{Csp}
 use Rattle.abt_defs.specs.Agents.{Agent, Message}
 use Rattle.abt_defs.specs.Network.{Network, run, start}
 use Rattle.abt_defs.specs.Events.{Act, acts, later_acts, start_acts}

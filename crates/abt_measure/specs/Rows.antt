@@ -1,5 +1,5 @@
 -- What the code's rows stand for.
-use Rattle.std.specs.Prelude.{◌≡◌, ℕ, ◌+◌, Bool, true, false, List, [], ◌∷◌, filter, length, max, Option, Some, None, if◌then◌else◌}
+use Rattle.std.specs.Prelude.{ℕ, ◌+◌, List, [], ◌∷◌, max, Option, Some, None}
 use Rattle.abt_defs.specs.Checks as checks
 use Rattle.abt_defs.specs.Measures as measures
 use Rattle.abt_parts.specs.declared.message.SentTo.{SentTo}

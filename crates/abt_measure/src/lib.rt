@@ -12,6 +12,9 @@ mod delivery;
 mod learned;
 mod measures;
 mod row;
+mod run;
+mod starting;
+mod totals;
 mod ways;
 
 pub use clock::{RunClock, Weights};
@@ -21,3 +24,6 @@ pub use delivery::{Coming, deliver_one};
 pub use learned::Learned;
 pub use measures::Measures;
 pub use row::{Kinds, Row};
+pub use run::{MeasuredRun, measure_run};
+pub use starting::start;
+pub use totals::{Totals, add_up};

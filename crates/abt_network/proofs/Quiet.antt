@@ -12,7 +12,7 @@ use Rattle.abt_agent.specs.States.{stands_for}
 use Rattle.abt_links.specs.Transit.{ready_pairs}
 use Rattle.abt_network.specs.declared.Standing.TheVariants.{Open, Quiet, Refuted}
 use Rattle.abt_network.specs.Standing.{NetworkState, StandsAt, state_at, reached, standing_in}
-use Rattle.abt_network.specs.declared.body.Body.{Body}
+use Rattle.abt_network.specs.declared.body.NetworkBody.{NetworkBody}
 use Rattle.abt_network.specs.Bodies.{IsKept}
 use Rattle.abt_network.proofs.Delivering.{same_ready}
 
@@ -46,7 +46,7 @@ solved s ok linked unrefuted none choices st =
 pub bounded : (s : NetworkState) → IsCsp (csp_of s.problem) → (choices : List ℕ) → StandsAt s (reached s choices) → (i : ℕ) → i < length s.problem.domains → IsBoundedStore (csp_of s.problem) i (stands_for (state_at s.agents i))
 bounded s ok choices st i l = subst (IsBoundedStore (csp_of s.problem) i) (sym (st.parts.states i l)) (bounded_stores (csp_of s.problem) ok choices i)
 
-pub few_steps : (b : Body) → IsCsp (csp_of b.problem.now) → IsKept b → b.steps ≤ b.deliveries + 1
+pub few_steps : (b : NetworkBody) → IsCsp (csp_of b.problem.now) → IsKept b → b.steps ≤ b.deliveries + 1
 few_steps b ok kept = by b.begun refl
   where
     by : (x : Bool) → b.begun ≡ x → b.steps ≤ b.deliveries + 1

@@ -10,15 +10,15 @@ use Rattle.abt_parts.specs.Messages.{message_of}
 use Rattle.abt_agent.specs.Outgoing.{IsStamped}
 use Rattle.abt_agent.specs.States.{State, stands_for, CanReceive, IsFresh}
 use Rattle.abt_links.specs.Transit.{Transit, link_of}
-use Rattle.abt_network.specs.declared.body.Body.{Body}
+use Rattle.abt_network.specs.declared.body.NetworkBody.{NetworkBody}
 use Rattle.abt_network.specs.Standing.{NetworkState, StandsAt, state_at, reached}
 
 -- what callers see
-abbrev pub shown : Body → Bool → NetworkState
+abbrev pub shown : NetworkBody → Bool → NetworkState
 shown b spent = record { problem = b.problem.now; agents = b.agents.items; links = b.links; refuted = b.refuted; deliveries = b.deliveries; steps = b.steps; begun = b.begun; sent = b.sent.items; spent = spent }
 
 -- there are as many agents as variables, and links between them
-pub record IsSized (b : Body) : Type 0 where
+pub record IsSized (b : NetworkBody) : Type 0 where
   pub long : length b.agents.items ≡ length b.problem.now.domains
   pub linked : b.links.agents ≡ length b.problem.now.domains
 
@@ -33,7 +33,7 @@ abbrev pub AreStamped : Transit → Type 0
 AreStamped t = (k i : ℕ) (m : Message) → In m (link_of t k i) → IsStamped m
 
 -- what holds between two deliveries, and during the start between two agents
-pub record IsTidy (b : Body) : Type 0 where
+pub record IsTidy (b : NetworkBody) : Type 0 where
   pub sized : IsSized b
   pub seated : IsSeated b.problem.now b.agents.items
   pub none_out : b.out ≡ []
@@ -49,14 +49,14 @@ abbrev pub AreFreshFrom : Contents → List State → ℕ → Type 0
 AreFreshFrom p agents i = (k : ℕ) → i ≤ k → k < length p.domains → IsFresh p k (state_at agents k)
 
 -- a network of this problem before its start
-pub record IsBlank (p : Contents) (b : Body) : Type 0 where
+pub record IsBlank (p : Contents) (b : NetworkBody) : Type 0 where
   pub problem : b.problem.now ≡ p
   pub begun : b.begun ≡ false
   pub fresh : AreFreshFrom b.problem.now b.agents.items 0
   pub stands : StandsAt (shown b false) (empty_network (csp_of b.problem.now))
 
 -- what always holds of a network that has memory
-pub record IsKept (b : Body) : Type 0 where
+pub record IsKept (b : NetworkBody) : Type 0 where
   pub tidy : IsTidy b
   pub few : b.deliveries ≤ 2 ^ 48
   pub blank : b.begun ≡ false → IsBlank b.problem.now b
@@ -72,6 +72,6 @@ abbrev pub ExpectsAll : Contents → List State → Transit → ℕ → Type 0
 ExpectsAll p agents links next = (from to : ℕ) (m : Message) (rest : List Message) → from < length p.domains → to < length p.domains → link_of links from to ≡ m ∷ rest → Expects p agents next from to m
 
 -- what always holds of a network: it is as large as its problem, and while it has memory the rest is kept
-pub record IsSound (b : Body) (spent : Bool) : Type 0 where
+pub record IsSound (b : NetworkBody) (spent : Bool) : Type 0 where
   pub sized : IsSized b
   pub kept : spent ≡ false → IsKept b

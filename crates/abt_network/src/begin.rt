@@ -10,7 +10,7 @@ ghost use Rattle.abt_network.specs.Bodies.{shown, AreFreshFrom, IsBlank, IsKept,
 ghost use Rattle.abt_network.specs.Settling.{all_settled, first_false, HasSettled, HaveSettled, IsRuleStep};
 
 use crate::Begun;
-use crate::body::Body;
+use crate::body::NetworkBody;
 use crate::deliver::step_of;
 use crate::post::post;
 use abt_agent::{Agent, Turn};
@@ -65,7 +65,7 @@ fn step_of_rule(alloc: Global, rule: u32) -> Result<Step, Memory>
     })
 }
 
-impl<'p> Body<'p> {
+impl<'p> NetworkBody<'p> {
     /// An agent settles, and what it puts out is sent. The step that it made, if it made one, refutes.
     fn settle_one(&mut self, agent: u32) -> Result<Option<Step>, Memory>
         requires tidy { IsTidy self.old }

@@ -13,7 +13,7 @@ use std::alloc::Global;
 
 /// What a network keeps.
 #[derive(Drop)]
-pub struct Body<'p> {
+pub struct NetworkBody<'p> {
     pub problem: &'p Problem,
     pub alloc: Global,
     /// One for each variable, in order.
@@ -32,15 +32,15 @@ pub struct Body<'p> {
     pub begun: bool,
 }
 
-impl<'p> Body<'p> {
+impl<'p> NetworkBody<'p> {
     /// Fresh agents, and nothing in transit.
-    pub fn new(alloc: Global, problem: &'p Problem) -> Result<Body<'p>, Memory>
+    pub fn new(alloc: Global, problem: &'p Problem) -> Result<NetworkBody<'p>, Memory>
         ensures kept { IfOk result (λ body. IsKept body) }
         ensures blank { IfOk result (λ body. IsBlank problem.now body) }
     {
         let agents = fresh_agents(alloc, problem)?;
         let links = Links::new(alloc, problem.vars())?;
-        Ok(Body {
+        Ok(NetworkBody {
             problem,
             alloc,
             agents,

@@ -10,7 +10,7 @@ ghost use Rattle.abt_network.specs.Standing.{cargo_in, reached, state_at, CanDel
 ghost use Rattle.abt_network.specs.Bodies.{shown, ExpectsAll, IsKept, IsSized, IsTidy};
 ghost use Rattle.abt_network.specs.Passing.{step_in, steps_made, PassesOn};
 
-use crate::body::Body;
+use crate::body::NetworkBody;
 use crate::post::post;
 use crate::{Cargo, Delivery};
 use abt_agent::{Agent, Turn};
@@ -80,7 +80,7 @@ fn refutes(step: &Option<Step>) -> bool
     }
 }
 
-impl<'p> Body<'p> {
+impl<'p> NetworkBody<'p> {
     /// Hands the first message of a list to its receiver, and sends what that puts out.
     fn pass_on(&mut self, choice: u32) -> Result<Delivery, Memory>
         requires tidy { IsTidy self.old }

@@ -11,7 +11,7 @@ ghost use Rattle.abt_agent.specs.States.{stands_for};
 ghost use Rattle.abt_links.specs.Transit.{link_of, ready_pairs};
 ghost use Rattle.abt_network.specs.Standing.{reached, standing_in, standing_of, state_at, CanDeliver, Delivers, IsSeat, LeadsOn, StandsAt, Starts, TellsSent};
 
-use crate::body::Body;
+use crate::body::NetworkBody;
 use crate::{Begun, Delivery, Standing};
 use abt_agent::Agent;
 use abt_parts::{Message, SentTo};
@@ -26,7 +26,7 @@ use std::marker::Model;
 /// `Memory` from then on; what its other calls tell is then open.
 #[derive(Drop)]
 pub struct Network<'p> {
-    body: Body<'p>,
+    body: NetworkBody<'p>,
     spent: bool,
 }
 
@@ -50,7 +50,7 @@ impl<'p> Network<'p> {
         ensures begun { IfOk result (λ n. n.begun ≡ false) }
         ensures spent { IfOk result (λ n. n.spent ≡ false) }
     {
-        let body = Body::new(alloc, problem)?;
+        let body = NetworkBody::new(alloc, problem)?;
         Ok(Network { body, spent: false })
     }
 

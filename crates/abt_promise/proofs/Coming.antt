@@ -7,7 +7,7 @@ use Rattle.dcsp_script.specs.Scripts.{Write, World}
 use Rattle.dcsp_script.specs.Ways.{Did, Wrote}
 use Rattle.dcsp_script.proofs.Ways.{did_both, then_ended}
 use Rattle.abt_promise.specs.declared.status.Status.{Status}
-use Rattle.abt_promise.specs.declared.status.Status.TheVariants.{Good, No, Words, Model, Text, Unfinished, Fault, Memory}
+use Rattle.abt_promise.specs.declared.status.Status.TheVariants.{Good, No, Words, Model, Input, Unfinished, Fault, Memory}
 use Rattle.abt_promise.specs.Statuses.{IsFinal}
 use Rattle.abt_promise.specs.Promises.{Report, Promise, answered, refused, AreFetched, SaysAsReported}
 use Rattle.abt_promise.specs.Runs.{Way, Answered, Refused, Stopped, CameTo, CameIn, Concludes, Ran}
@@ -33,7 +33,7 @@ module _ (promise : Promise) (inputs : List (List ℕ)) (a b : World) (err now :
   ended No final report r s t f d said = record { inputs = inputs; are_held = held; report = report; reports = r; status_is = subst (λ x. x ≡ report.status) (sym s) t; did = d; said = said }
   ended Words final report r s t f d said = subst IsFinal (sym s) f
   ended Model final report r s t f d said = record { inputs = inputs; are_held = held; report = report; reports = r; status_is = subst (λ x. x ≡ report.status) (sym s) t; did = d; said = said }
-  ended Text final report r s t f d said = record { inputs = inputs; are_held = held; report = report; reports = r; status_is = subst (λ x. x ≡ report.status) (sym s) t; did = d; said = said }
+  ended Input final report r s t f d said = record { inputs = inputs; are_held = held; report = report; reports = r; status_is = subst (λ x. x ≡ report.status) (sym s) t; did = d; said = said }
   ended Unfinished final report r s t f d said = record { inputs = inputs; are_held = held; report = report; reports = r; status_is = subst (λ x. x ≡ report.status) (sym s) t; did = d; said = said }
   ended Fault final report r s t f d said = absurd (subst IsFinal (sym s) f)
   ended Memory final report r s t f d said = absurd (subst IsFinal (sym s) f)

@@ -10,7 +10,7 @@ use Rattle.dcsp_script.specs.Ways.{CountsStay, RoseAt, IsPieceOf, IsPartOf, Did,
 use Rattle.dcsp_script.specs.Texts.{Touches, LeavesAlone}
 use Rattle.dcsp_script.proofs.Parts.{did_part, start_part, failed_part, put_of_part, part_leaves, left_alone}
 use Rattle.abt_promise.specs.declared.status.Status.{Status}
-use Rattle.abt_promise.specs.declared.status.Status.TheVariants.{Good, No, Words, Model, Text, Unfinished, Fault, Memory}
+use Rattle.abt_promise.specs.declared.status.Status.TheVariants.{Good, No, Words, Model, Input, Unfinished, Fault, Memory}
 use Rattle.abt_promise.specs.Statuses.{IsFinal, IsRefusal}
 use Rattle.abt_promise.specs.Promises.{Report, Promise, AreFetched, inputs_of}
 use Rattle.abt_promise.specs.Runs.{HasFailed, HasLacked, Answers, Faults, Lacks, Ran}
@@ -111,7 +111,7 @@ module _ (promise : Promise) (lawful : IsLawful promise) (a b : World) where
     made No h = of_answers No h
     made Words h = absurd h
     made Model h = of_answers Model h
-    made Text h = of_answers Text h
+    made Input h = of_answers Input h
     made Unfinished h = of_answers Unfinished h
     made Fault h = of_failed h.inputs h.failed
     made Memory h = of_lacked h.inputs h.lacked
@@ -122,7 +122,7 @@ module _ (promise : Promise) (lawful : IsLawful promise) (a b : World) where
     ran_answers No h f = h
     ran_answers Words h f = absurd f
     ran_answers Model h f = h
-    ran_answers Text h f = h
+    ran_answers Input h f = h
     ran_answers Unfinished h f = h
     ran_answers Fault h f = absurd f
     ran_answers Memory h f = absurd f
@@ -150,7 +150,7 @@ module _ (promise : Promise) (lawful : IsLawful promise) (a b : World) where
         final No h f = tt
         final Words h f = h
         final Model h f = tt
-        final Text h f = tt
+        final Input h f = tt
         final Unfinished h f = tt
         final Fault h f = f
         final Memory h f = f
@@ -188,7 +188,7 @@ module _ (promise : Promise) (lawful : IsLawful promise) (a b : World) where
       report_part No h = answers_part No h
       report_part Words h = absurd h
       report_part Model h = answers_part Model h
-      report_part Text h = answers_part Text h
+      report_part Input h = answers_part Input h
       report_part Unfinished h = answers_part Unfinished h
       report_part Fault h = report_failed h.inputs r (on_inputs h.inputs h.are_held) h.failed
       report_part Memory h = report_lacked h.inputs r (on_inputs h.inputs h.are_held) h.lacked
@@ -208,7 +208,7 @@ module _ (promise : Promise) (lawful : IsLawful promise) (a b : World) where
       report_status No h n = answers_status No h
       report_status Words h n = absurd h
       report_status Model h n = answers_status Model h
-      report_status Text h n = answers_status Text h
+      report_status Input h n = answers_status Input h
       report_status Unfinished h n = answers_status Unfinished h
       report_status Fault h n = absurd (n (cause_of h.inputs h.failed))
       report_status Memory h n = inr refl

@@ -6,7 +6,7 @@ use Rattle.dcsp_script.specs.declared.stop.Stop.TheVariants as stops
 use Rattle.dcsp_script.specs.Scripts.{Write, World, IsAfter}
 use Rattle.dcsp_script.specs.Ways.{Did, DidStartOf, FailedIn}
 use Rattle.abt_promise.specs.declared.status.Status.{Status}
-use Rattle.abt_promise.specs.declared.status.Status.TheVariants.{Good, No, Words, Model, Text, Unfinished, Fault, Memory}
+use Rattle.abt_promise.specs.declared.status.Status.TheVariants.{Good, No, Words, Model, Input, Unfinished, Fault, Memory}
 use Rattle.abt_promise.specs.Statuses.{IsFinal, stop_status, stop_text}
 use Rattle.abt_promise.specs.Promises.{Report, Promise, answered, refused, AreFetched, IsSaid, SaysAsReported}
 
@@ -65,7 +65,7 @@ Ran promise old new err now Good = Answers promise old new err now Good
 Ran promise old new err now No = Answers promise old new err now No
 Ran promise old new err now Words = ⊥
 Ran promise old new err now Model = Answers promise old new err now Model
-Ran promise old new err now Text = Answers promise old new err now Text
+Ran promise old new err now Input = Answers promise old new err now Input
 Ran promise old new err now Unfinished = Answers promise old new err now Unfinished
 Ran promise old new err now Fault = Faults promise old new err now
 Ran promise old new err now Memory = Lacks promise old new err now

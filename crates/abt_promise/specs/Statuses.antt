@@ -3,7 +3,7 @@ use Rattle.std.specs.Prelude.{ℕ, List, codes, ⊤}
 use Rattle.dcsp_script.specs.declared.stop.Stop.{Stop}
 use Rattle.dcsp_script.specs.declared.stop.Stop.TheVariants as stops
 use Rattle.abt_promise.specs.declared.status.Status.{Status}
-use Rattle.abt_promise.specs.declared.status.Status.TheVariants.{Good, No, Words, Model, Text, Unfinished, Fault, Memory}
+use Rattle.abt_promise.specs.declared.status.Status.TheVariants.{Good, No, Words, Model, Input, Unfinished, Fault, Memory}
 
 -- the number of each status
 abbrev pub code_of : Status → ℕ
@@ -11,7 +11,7 @@ code_of Good = 0
 code_of No = 1
 code_of Words = 2
 code_of Model = 3
-code_of Text = 4
+code_of Input = 4
 code_of Unfinished = 5
 code_of Fault = 6
 code_of Memory = 7
@@ -22,7 +22,7 @@ IsFinal Good = ⊤
 IsFinal No = ⊤
 IsFinal Words = ⊥
 IsFinal Model = ⊤
-IsFinal Text = ⊤
+IsFinal Input = ⊤
 IsFinal Unfinished = ⊤
 IsFinal Fault = ⊥
 IsFinal Memory = ⊥
@@ -33,7 +33,7 @@ IsRefusal Good = ⊥
 IsRefusal No = ⊥
 IsRefusal Words = ⊤
 IsRefusal Model = ⊤
-IsRefusal Text = ⊤
+IsRefusal Input = ⊤
 IsRefusal Unfinished = ⊥
 IsRefusal Fault = ⊥
 IsRefusal Memory = ⊥

@@ -15,7 +15,7 @@ pub enum Status {
     /// The model was refused.
     Model,
     /// The log was refused.
-    Text,
+    Input,
     /// A run was stopped before it had a verdict.
     Unfinished,
     /// The folder or a stream failed.
@@ -34,7 +34,7 @@ impl Status {
             Status::No => 1,
             Status::Words => 2,
             Status::Model => 3,
-            Status::Text => 4,
+            Status::Input => 4,
             Status::Unfinished => 5,
             Status::Fault => 6,
             Status::Memory => 7,

@@ -3,8 +3,8 @@ use Rattle.std.proofs.Common.{◌≡◌, true, false, [], ◌∷◌, refl, pos}
 use Rattle.dcsp_defs.specs.declared.Reason.TheVariants.{Rule, Earlier}
 use Rattle.dcsp_defs.specs.Pairs.{pair_of}
 use Rattle.abt_samples.specs.Models.{clash, step}
-use Rattle.law_lossy.specs.World.{begin}
-use Rattle.law_lossy.specs.Ends.{calm, calm_words}
+use Rattle.law_runs.specs.Worlds.{begin}
+use Rattle.law_runs.specs.LossyEnds.{calm, calm_words}
 use Rattle.abt_samples.specs.LossyRows.{end}
 
 pub ten : end clash 10 ≡ (false, false, 3, 1)

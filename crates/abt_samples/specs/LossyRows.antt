@@ -6,10 +6,10 @@ use Rattle.dcsp_defs.specs.declared.Reason.TheVariants.{Rule, Earlier}
 use Rattle.abt_defs.specs.Network.{values}
 use Rattle.abt_samples.specs.Models.{bits, clash, csp, differ, starved, step}
 use Rattle.dcsp_defs.specs.Pairs.{pair_of}
-use Rattle.law_lossy.specs.Packets.{Acknowledgement}
-use Rattle.law_lossy.specs.World.{World, begin, event, after}
-use Rattle.law_lossy.specs.Deliveries.{delivered, numbers}
-use Rattle.law_lossy.specs.Ends.{all_words, calm, calm_words, is_quiet}
+use Rattle.law_runs.specs.Packets.{Acknowledgement}
+use Rattle.law_runs.specs.Worlds.{World, begin, event, after}
+use Rattle.law_runs.specs.Deliveries.{delivered, numbers}
+use Rattle.law_runs.specs.LossyEnds.{all_words, calm, calm_words, is_quiet}
 
 -- what each event hands up, and how many packets the pool then has
 abbrev pub shown : Csp → List ℕ → World → List (Option ℕ × ℕ)

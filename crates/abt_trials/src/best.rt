@@ -24,7 +24,38 @@ const NONE: &[u8] =
 const CONSTANT: &[u8] =
     b"var 0..1: x :: output_var;\nvar 0..1: y :: output_var;\nconstraint int_ne(x,y);\nsolve maximize 7;\n";
 
-const CASES: [Case; 7] = [
+const CASES: [Case; 10] = [
+    // Each solution is put when it is found, and the last one not once more.
+    Case {
+        words: &["solve", "m.fzn", "l.ngd", "--each"],
+        files: [("m.fzn", GREATEST), NO_FILE],
+        code: 0,
+        out: b"x = -2;\ny = -3;\n----------\nx = -1;\ny = -2;\n----------\n\
+==========\n% rounds 3\n% deliveries 14\n% steps 4\n",
+        err: b"",
+        log: b"ngd 1\n1 v2 [v1=-3] <- c1 c1 c1 c1 c1\n2 v2 [v1=-2] <- c1 c1 c1 c1 c1\n\
+3 v2 [v1=-1] <- c1 c1 c1 c1 c1\n4 v1 [] <- n1 n2 n3\nend\n",
+        record: b"",
+    },
+    // Each round has five choices, and the second one uses them up.
+    Case {
+        words: &["solve", "m.fzn", "l.ngd", "--choices", "5", "--each"],
+        files: [("m.fzn", LEAST), NO_FILE],
+        code: 5,
+        out: b"x = 1;\ny = 2;\n----------\n% rounds 2\n% deliveries 6\n% steps 3\n",
+        err: b"",
+        log: b"ngd 1\n1 v2 [v1=1] <- c1\n2 v2 [v1=2] <- c1\n3 v2 [v1=3] <- c1\nend\n",
+        record: b"",
+    },
+    Case {
+        words: &["solve", "m.fzn", "l.ngd", "--choices", "0"],
+        files: [("m.fzn", LEAST), NO_FILE],
+        code: 5,
+        out: b"=====UNKNOWN=====\n% rounds 1\n% deliveries 0\n% steps 0\n",
+        err: b"",
+        log: b"ngd 1\nend\n",
+        record: b"",
+    },
     Case {
         words: &["solve", "m.fzn", "l.ngd"],
         files: [("m.fzn", LEAST), ("l.ngd", b"what stood here")],

@@ -20,6 +20,8 @@ mod logs;
 #[cfg(test)]
 mod losses;
 #[cfg(test)]
+mod measured;
+#[cfg(test)]
 mod plain;
 #[cfg(test)]
 mod refutations;

@@ -9,12 +9,14 @@ use std::process::Abort;
 /// What `--help` prints.
 const HELP: &[u8] = b"abt: asynchronous backtracking over FlatZinc, with certified answers
 
-  abt solve MODEL LOG [--seed N] [--record FILE] [--trace]
+  abt solve MODEL LOG [--seed N] [--choices N] [--record FILE] [--trace] [--each]
                         runs the agents of the model, with deliveries chosen from a seed:
                         prints a solution, `=====UNSATISFIABLE=====` or `=====UNKNOWN=====`,
                         and writes the log of its derivations; FILE holds the choices. Where
                         the model asks for the least or the greatest value, prints the best
-                        solution and `==========`, and LOG refutes every better value
+                        solution and `==========`, and LOG refutes every better value. With
+                        --choices the run, or each round of a search, has N choices alone;
+                        with --each a search prints each solution as soon as it is found
   abt replay MODEL SCHEDULE LOG [--trace]
                         runs them under the choices of a schedule, as a record is
   abt check MODEL LOG [--better N]
@@ -38,6 +40,12 @@ const HELP: &[u8] = b"abt: asynchronous backtracking over FlatZinc, with certifi
   abt lossy MODEL LOG EVENTS SEED [--record FILE]
                         runs the agents over a medium that loses, repeats and reorders in
                         EVENTS events, 0 to 1000000, drawn from SEED, and then calms down
+  abt measure MODEL SCHEDULE
+                        prints the measures of a run under the choices of a schedule, as a
+                        record is: messages, checks, nogoods, and what each agent learned
+  abt survey MODEL COUNT [--from SEED]
+                        prints a table of the measures of the runs of COUNT seeds from SEED
+                        on, 0 if not given: names of columns, and a line for each seed
   abt bound MODEL       prints how many messages a run delivers at most
   abt gen queens N      prints the problem of N queens, 1 to 200
   abt gen colouring N K SEED
@@ -70,7 +78,7 @@ is proved, docs/FORMATS.md the formats and the lines that refuse a file.
 
 /// What `--usage` prints; tests/usage.sh reads it here.
 const USAGE: &[u8] =
-    b"solve file:MODEL:model:read file:LOG:log:written --seed=number:N:0:18446744073709551615 --record=file:FILE:schedule:written --trace
+    b"solve file:MODEL:model:read file:LOG:log:written --seed=number:N:0:18446744073709551615 --choices=number:N:0:1099511627776 --record=file:FILE:schedule:written --trace --each
 replay file:MODEL:model:read file:SCHEDULE:schedule:read file:LOG:log:written --trace
 check file:MODEL:model:read file:LOG:log:read --better=signed:N:-9223372036854775808:9223372036854775807
 upgrade file:LOG:log:read file:NEW:log:written
@@ -78,6 +86,8 @@ core file:MODEL:model:read file:LOG:log:read file:TRIMMED:log:written --better=s
 export file:MODEL:model:read file:LOG:log:read file:CNF:formula:written file:PROOF:proof:written --atoms --better=signed:N:-9223372036854775808:9223372036854775807
 starve file:MODEL:model:read number:FROM:1:4096 number:TO:1:4096 file:FILE:schedule:written
 lossy file:MODEL:model:read file:LOG:log:written number:EVENTS:0:1000000 number:SEED:0:18446744073709551615 --record=file:FILE:schedule:written
+measure file:MODEL:model:read file:SCHEDULE:schedule:read
+survey file:MODEL:model:read number:COUNT:1:1000000 --from=number:SEED:0:18446744073709551615
 bound file:MODEL:model:read
 gen queens number:N:1:200
 gen colouring number:N:1:200 number:K:1:16 number:SEED:0:18446744073709551615

@@ -14,7 +14,34 @@ const PAIR_TRACE: &[u8] =
 /// The choice 0, nine times.
 const NINE: &[u8] = b"schedule 1\n0\n0\n0\n0\n0\n0\n0\n0\n0\nend\n";
 
-const CASES: [Case; 16] = [
+const CASES: [Case; 18] = [
+    // The choices are used up before the last delivery, and with it.
+    Case {
+        words: &[
+            "solve",
+            "m.fzn",
+            "l.ngd",
+            "--choices",
+            "3",
+            "--record",
+            "r.sch",
+        ],
+        files: [("m.fzn", PAIR), NO_FILE],
+        code: 5,
+        out: b"=====UNKNOWN=====\n% deliveries 3\n% steps 2\n",
+        err: b"",
+        log: b"ngd 1\n1 v2 [v1=0] <- c1 c2\n2 v2 [v1=1] <- c2 c1\nend\n",
+        record: b"schedule 1\n0\n0\n0\nend\n",
+    },
+    Case {
+        words: &["solve", "m.fzn", "l.ngd", "--choices", "4"],
+        files: [("m.fzn", PAIR), NO_FILE],
+        code: 1,
+        out: b"=====UNSATISFIABLE=====\n% deliveries 4\n% steps 3\n",
+        err: b"",
+        log: PAIR_LOG,
+        record: b"",
+    },
     Case {
         words: &[
             "solve",

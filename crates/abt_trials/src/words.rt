@@ -6,10 +6,27 @@ use std::alloc::Global;
 use std::process::Abort;
 
 /// Words of each line but `drill`, which runs long.
-const LINES: [&[&str]; 43] = [
+const LINES: [&[&str]; 51] = [
+    &["measure", "m", "s"],
+    &["survey", "m", "1"],
+    &["survey", "m", "1000000", "--from", "18446744073708551616"],
     &["solve", "m", "l"],
     &["solve", "m", "l", "--seed", "0"],
     &["solve", "m", "l", "--seed", "18446744073709551615"],
+    &["solve", "m", "l", "--choices", "0"],
+    &["solve", "m", "l", "--choices", "1099511627776"],
+    &[
+        "solve",
+        "m",
+        "l",
+        "--trace",
+        "--choices",
+        "7",
+        "--seed",
+        "1",
+    ],
+    &["solve", "m", "l", "--each"],
+    &["solve", "m", "l", "--each", "--trace"],
     &["solve", "m", "l", "--trace"],
     &["solve", "m", "l", "--record", "r"],
     &["solve", "m", "l", "--seed", "1", "--record", "r", "--trace"],
@@ -54,12 +71,22 @@ const LINES: [&[&str]; 43] = [
 
 /// Words that are no line: too few or too many; options twice, first, without a value or of another line; names
 /// that are equal, empty or begin with `-`; numbers with a sign, with a leading zero or out of range.
-const NO_LINES: [&[&str]; 135] = [
+const NO_LINES: [&[&str]; 145] = [
+    &["measure", "m"],
+    &["measure", "m", "s", "l"],
+    &["survey", "m", "0"],
+    &["survey", "m", "1000001"],
+    &["survey", "m", "2", "--from", "18446744073709551615"],
     &["solve", "m", "l", "--seed", "18446744073709551616"],
     &["solve", "m", "l", "--seed", "00"],
     &["solve", "m", "l", "--seed", "+1"],
     &["solve", "m", "l", "--seed", "-1"],
     &["solve", "m", "l", "--seed"],
+    &["solve", "m", "l", "--choices", "1099511627777"],
+    &["solve", "m", "l", "--choices", "1", "--choices", "1"],
+    &["replay", "m", "s", "l", "--choices", "1"],
+    &["solve", "m", "l", "--each", "--each"],
+    &["replay", "m", "s", "l", "--each"],
     &["solve", "m", "l", "--seed", "--trace"],
     &["solve", "m", "l", "--trace", "--trace"],
     &["solve", "m", "l", "--record", "--trace"],

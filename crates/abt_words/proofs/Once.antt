@@ -6,7 +6,7 @@ use Rattle.std.proofs.lemmas.Bool.{false≢true}
 use Rattle.std.proofs.lemmas.Fmt.{decimal_injective}
 use Rattle.std.proofs.lemmas.List.{append_assoc, append_cancel_left}
 use Rattle.std.proofs.lemmas.Slice.Eq.{bytes_eq-Decides}
-use Rattle.abt_words.specs.Rows.{Kind, File, OneOf, Place, LineOption, Row, the_rows}
+use Rattle.abt_words.specs.Rows.{WordKind, File, OneOf, Place, LineOption, Row, the_rows}
 use Rattle.abt_words.specs.Rows as rows
 use Rattle.abt_words.specs.Saying.{Value, Given, Name, Number, Signed, Word, value_words, Fits, FitsOption, Fill, place_of, Gives, nothing, gives, Said, Says, IsSaidBy, none_given, differ, differs_from_all, are_apart}
 use Rattle.abt_words.proofs.SignedWords.{signed_number_back, signed_number}
@@ -20,7 +20,7 @@ pub the_tail : (a b : List ℕ) (x y : List (List ℕ)) → a ∷ x ≡ b ∷ y 
 the_tail a b x y e = ap (drop 1) e
 
 -- values of one kind whose words begin two texts alike
-pub one_value : (kind : Kind) (a b : Value) (x y : List (List ℕ)) → Fits kind a → Fits kind b → value_words a ++ x ≡ value_words b ++ y → (a ≡ b) × (x ≡ y)
+pub one_value : (kind : WordKind) (a b : Value) (x y : List (List ℕ)) → Fits kind a → Fits kind b → value_words a ++ x ≡ value_words b ++ y → (a ≡ b) × (x ≡ y)
 one_value (File c r) (Name m) (Name n) x y h k e = (ap Name (the_head m n x y e), the_tail m n x y e)
 one_value (File c r) (Name m) b x y h k e = absurd k
 one_value (File c r) a b x y h k e = absurd h

@@ -1,14 +1,14 @@
 -- What is read of the values of a row.
-use Rattle.std.proofs.Common.{◌≡◌, ◌≢◌, ℕ, zero, suc, ◌<◌, ◌≤◌, Bool, true, false, cond, List, [], ◌∷◌, get_or, Some, slice_get, refl, sym, ◌∙◌, ap, subst, arith}
+use Rattle.std.proofs.Common.{◌≡◌, ◌≢◌, ℕ, zero, suc, ◌<◌, ◌≤◌, Bool, true, false, cond, List, [], ◌∷◌, get_or, set, Option, Some, slice_get, refl, sym, ◌∙◌, ap, subst, arith}
 use Rattle.std.specs.Prelude.{IfSome, ⊤}
 use Rattle.std.specs.Str.{bytes_eq}
 use Rattle.std.proofs.lemmas.Bool.{false≢true}
 use Rattle.std.proofs.lemmas.Slice.Eq.{bytes_eq-Decides}
 use Rattle.abt_words.specs.declared.row.Content.{Content}
 use Rattle.abt_words.specs.declared.row.Access.{Access}
-use Rattle.abt_words.specs.Rows.{Kind, File, OneOf, Place, Row}
+use Rattle.abt_words.specs.Rows.{WordKind, File, OneOf, Place, LineOption, Row}
 use Rattle.abt_words.specs.Rows as rows
-use Rattle.abt_words.specs.Saying.{Value, Absent, Given, Name, Number, Signed, Word, Fits, Fill, has_name, is_new_name, differs_from, names_differ, name_in, number_in, given_name}
+use Rattle.abt_words.specs.Saying.{Value, Absent, Given, Name, Number, Signed, Word, Fits, FitsOption, Fill, Gives, nothing, gives, none_given, has_name, is_new_name, differs_from, names_differ, name_in, number_in, given_name, given_number}
 use Rattle.abt_words.proofs.Once.{both}
 
 -- ---- rows
@@ -43,10 +43,54 @@ number_within (p ∷ ps) (v ∷ vs) zero place least most s k h =
     a_number least most v (subst (λ kind. Fits kind v) (ap (λ (z : Place). z.kind) same ∙ k) h.0)
 number_within (p ∷ ps) (v ∷ vs) (suc i) place least most s k h = number_within ps vs i place least most s k h.1
 
+-- ---- numbers that options are given
+
+-- what holds of a value in its place, and of what is put into a place where that is the same, holds after
+put_at : (P : Value → Type 0) (values : List Value) (i j : ℕ) (value : Value) → P (get_or values i Absent) → (i ≡ j → P value) → P (get_or (set values j value) i Absent)
+put_at P [] i j value h f = h
+put_at P (v ∷ vs) zero zero value h f = f refl
+put_at P (v ∷ vs) zero (suc j) value h f = h
+put_at P (v ∷ vs) (suc i) zero value h f = h
+put_at P (v ∷ vs) (suc i) (suc j) value h f = put_at P vs i j value h (λ e. f (ap suc e))
+
+-- at first nothing is given
+nothing_given : (options : List LineOption) (i : ℕ) → get_or (none_given options) i Absent ≡ Absent
+nothing_given [] i = refl
+nothing_given (option ∷ options) zero = refl
+nothing_given (option ∷ options) (suc i) = nothing_given options i
+
+-- a number that is given is at most so much
+abbrev pub GivesAtMost : ℕ → Value → Type 0
+GivesAtMost most value = IfSome (given_number value) (λ n. n ≤ most)
+
+a_given_number : (least most : ℕ) (v : Value) → Fits (rows.Number least most) v → GivesAtMost most v
+a_given_number least most Absent h = absurd h
+a_given_number least most Given h = absurd h
+a_given_number least most (Name name) h = absurd h
+a_given_number least most (Number n) h = h.1
+a_given_number least most (Signed z) h = absurd h
+a_given_number least most (Word word) h = absurd h
+
+module _ (options : List LineOption) (i : ℕ) (option : LineOption) (place : Place) (least most : ℕ) (is : slice_get options i ≡ Some option) (takes : option.value ≡ Some place) (number : place.kind ≡ rows.Number least most) where
+  fits_at : (other : LineOption) (value : Value) → slice_get options i ≡ Some other → FitsOption other.value value → GivesAtMost most value
+  fits_at other value there fits =
+      let same : other ≡ option = (let both = sym there ∙ is in cc) in
+      let of_place = subst (λ (o : Option Place). FitsOption o value) (ap (λ (z : LineOption). z.value) same ∙ takes) fits in
+      a_given_number least most value (subst (λ kind. Fits kind value) number of_place)
+
+  -- the number that an option is given is within its bounds
+  pub setting_within : {words : List (List ℕ)} {before after : List Value} → Gives options words before after → GivesAtMost most (get_or before i Absent) → GivesAtMost most (get_or after i Absent)
+  setting_within {before = before} {after = after} (nothing none same) h = subst (λ values. GivesAtMost most (get_or values i Absent)) (sym same) h
+  setting_within {before = before} {after = after} (gives word j other value more first there fits words_are absent rest) h =
+      setting_within rest (put_at (GivesAtMost most) before i j value h (λ e. fits_at other value (ap (slice_get options) e ∙ there) fits))
+
+  pub given_within : {words : List (List ℕ)} {settings : List Value} → Gives options words (none_given options) settings → GivesAtMost most (get_or settings i Absent)
+  given_within said = setting_within said (subst (GivesAtMost most) (sym (nothing_given options i)) tt)
+
 -- ---- names
 
 -- what is in the place of a file is a name
-pub a_name : (kind : Kind) (v : Value) (content : Content) (access : Access) → kind ≡ File content access → Fits kind v → v ≡ Name (name_in v)
+pub a_name : (kind : WordKind) (v : Value) (content : Content) (access : Access) → kind ≡ File content access → Fits kind v → v ≡ Name (name_in v)
 a_name kind v content access k h = named v (subst (λ z. Fits z v) k h)
   where
     named : (v : Value) → Fits (File content access) v → v ≡ Name (name_in v)

@@ -4,24 +4,24 @@ use Rattle.std.proofs.Common.{Bor}
 use Rattle.abt_words.specs.declared.rows.LineName.{LineName}
 use Rattle.abt_words.specs.declared.row.Content.{Content}
 use Rattle.abt_words.specs.declared.row.Access.{Access}
-use Rattle.abt_words.specs.declared.row.KindOf.{KindOf}
-use Rattle.abt_words.specs.declared.row.KindOf.TheVariants as kinds
+use Rattle.abt_words.specs.declared.row.WordKindOf.{WordKindOf}
+use Rattle.abt_words.specs.declared.row.WordKindOf.TheVariants as kinds
 use Rattle.abt_words.specs.declared.row.PlaceOf.{PlaceOf}
 use Rattle.abt_words.specs.declared.row.OptionOf.{OptionOf}
 use Rattle.abt_words.specs.declared.row.RowOf.{RowOf}
 use Rattle.abt_words.specs.declared.rows.TheConstants.{ROWS}
 
 -- what a word may be: the name of a file that holds something and is read or written, a number within bounds, a number of 64 bits with or without a sign, or one of some words
-pub data Kind : Type 0 where
-  File : (content : Content) (access : Access) → Kind
-  Number : (least most : ℕ) → Kind
-  Signed : Kind
-  OneOf : (words : List (List ℕ)) → Kind
+pub data WordKind : Type 0 where
+  File : (content : Content) (access : Access) → WordKind
+  Number : (least most : ℕ) → WordKind
+  Signed : WordKind
+  OneOf : (words : List (List ℕ)) → WordKind
 
 -- one word of a line, and how it is shown
 pub record Place : Type 0 where
   pub shown : List ℕ
-  pub kind : Kind
+  pub kind : WordKind
 
 -- an option: its word, and what the next word is, where it takes a value
 pub record LineOption : Type 0 where
@@ -48,7 +48,7 @@ Texts = Bor (List Text)
 abbrev pub texts_in : Texts → List (List ℕ)
 texts_in texts = map (λ text. text.now) texts.now
 
-abbrev pub kind_in : KindOf Texts → Kind
+abbrev pub kind_in : WordKindOf Texts → WordKind
 kind_in (kinds.File content access) = File content access
 kind_in (kinds.Number least most) = Number least most
 kind_in kinds.Signed = Signed
@@ -75,7 +75,7 @@ Named T = record { now : T }
 abbrev pub named_texts : Named (List (Named (List ℕ))) → List (List ℕ)
 named_texts texts = map (λ text. text.now) texts.now
 
-abbrev pub kind_of : KindOf (Named (List (Named (List ℕ)))) → Kind
+abbrev pub kind_of : WordKindOf (Named (List (Named (List ℕ)))) → WordKind
 kind_of (kinds.File content access) = File content access
 kind_of (kinds.Number least most) = Number least most
 kind_of kinds.Signed = Signed

@@ -3,7 +3,7 @@ use Rattle.std.specs.Prelude.{◌≡◌, ◌≢◌, ◌⊎◌, ℕ, suc, ℤ, Fi
 use Rattle.std.specs.Str.{byte, bytes_eq}
 use Rattle.std.specs.Int.{w64}
 use Rattle.std.specs.Fmt.{signed_decimal}
-use Rattle.abt_words.specs.Rows.{Kind, File, Place, LineOption, Row}
+use Rattle.abt_words.specs.Rows.{WordKind, File, Place, LineOption, Row}
 use Rattle.abt_words.specs.Rows as rows
 
 -- ---- values
@@ -37,7 +37,7 @@ IsAmong word [] = ⊥
 IsAmong word (other ∷ words) = (other ≡ word) ⊎ IsAmong word words
 
 -- the value is of this kind
-abbrev pub Fits : Kind → Value → Type 0
+abbrev pub Fits : WordKind → Value → Type 0
 Fits (File content access) (Name name) = IsFileName name
 Fits (rows.Number least most) (Number n) = (least ≤ n) × (n ≤ most) × (n < 2 ^ 64)
 Fits rows.Signed (Signed z) = FitsSigned w64 z

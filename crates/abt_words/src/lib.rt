@@ -13,7 +13,9 @@ mod texts;
 mod value;
 
 pub use laws::words_say_one_thing;
-pub use row::{Access, Content, Kind, KindOf, LineOption, OptionOf, Place, PlaceOf, Row, RowOf};
+pub use row::{
+    Access, Content, LineOption, OptionOf, Place, PlaceOf, Row, RowOf, WordKind, WordKindOf,
+};
 pub use rows::{LineName, ROWS};
 pub use said::{MOST, Said, said_by, said_of};
 pub use texts::{help, usage};

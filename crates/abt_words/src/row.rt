@@ -24,7 +24,7 @@ pub enum Access {
 
 /// What a word may be.
 #[derive(Clone, Copy, Debug)]
-pub enum KindOf<Texts> {
+pub enum WordKindOf<Texts> {
     /// The name of a file: it is not empty, and does not begin with `-`.
     File { content: Content, access: Access },
     /// A number of 64 bits within bounds, in decimal digits without sign or leading zeros.
@@ -41,7 +41,7 @@ pub struct PlaceOf<Text, Texts> {
     /// How usage and help call the word.
     pub shown: Text,
     /// What it may be.
-    pub kind: KindOf<Texts>,
+    pub kind: WordKindOf<Texts>,
 }
 
 /// An option of a line.
@@ -69,7 +69,7 @@ pub struct RowOf<Texts, Places, Options> {
 }
 
 /// What a word may be.
-pub type Kind = KindOf<&'static [&'static str]>;
+pub type WordKind = WordKindOf<&'static [&'static str]>;
 
 /// One word of a line.
 pub type Place = PlaceOf<&'static str, &'static [&'static str]>;

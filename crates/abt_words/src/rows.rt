@@ -1,6 +1,6 @@
 //! The rows of the program.
 
-use crate::row::{Access, Content, KindOf, LineOption, OptionOf, Place, PlaceOf, Row, RowOf};
+use crate::row::{Access, Content, LineOption, OptionOf, Place, PlaceOf, Row, RowOf, WordKindOf};
 
 /// The lines of the program, in the order in which help shows them.
 #[derive(Clone, Copy, Debug, PartialEq, Eq)]
@@ -13,6 +13,8 @@ pub enum LineName {
     Export,
     Starve,
     Lossy,
+    Measure,
+    Survey,
     Bound,
     Queens,
     Colouring,
@@ -29,7 +31,7 @@ pub enum LineName {
 /// A model that is read.
 const MODEL: Place = PlaceOf {
     shown: "MODEL",
-    kind: KindOf::File {
+    kind: WordKindOf::File {
         content: Content::Model,
         access: Access::Read,
     },
@@ -38,7 +40,7 @@ const MODEL: Place = PlaceOf {
 /// A log that is read.
 const LOG: Place = PlaceOf {
     shown: "LOG",
-    kind: KindOf::File {
+    kind: WordKindOf::File {
         content: Content::Log,
         access: Access::Read,
     },
@@ -47,7 +49,7 @@ const LOG: Place = PlaceOf {
 /// A log that is written.
 const NEW_LOG: Place = PlaceOf {
     shown: "LOG",
-    kind: KindOf::File {
+    kind: WordKindOf::File {
         content: Content::Log,
         access: Access::Written,
     },
@@ -56,7 +58,7 @@ const NEW_LOG: Place = PlaceOf {
 /// A schedule that is written.
 const RECORD: Place = PlaceOf {
     shown: "FILE",
-    kind: KindOf::File {
+    kind: WordKindOf::File {
         content: Content::Schedule,
         access: Access::Written,
     },
@@ -65,7 +67,7 @@ const RECORD: Place = PlaceOf {
 /// A formula that is read.
 const FORMULA: Place = PlaceOf {
     shown: "CNF",
-    kind: KindOf::File {
+    kind: WordKindOf::File {
         content: Content::Formula,
         access: Access::Read,
     },
@@ -74,7 +76,7 @@ const FORMULA: Place = PlaceOf {
 /// A proof that is written.
 const NEW_PROOF: Place = PlaceOf {
     shown: "PROOF",
-    kind: KindOf::File {
+    kind: WordKindOf::File {
         content: Content::Proof,
         access: Access::Written,
     },
@@ -83,7 +85,7 @@ const NEW_PROOF: Place = PlaceOf {
 /// The number from which the choices of a run are drawn.
 const SEED: Place = PlaceOf {
     shown: "SEED",
-    kind: KindOf::Number {
+    kind: WordKindOf::Number {
         least: 0,
         most: u64::MAX,
     },
@@ -94,7 +96,7 @@ const SEED_OPTION: LineOption = OptionOf {
     word: "--seed",
     value: Some(PlaceOf {
         shown: "N",
-        kind: KindOf::Number {
+        kind: WordKindOf::Number {
             least: 0,
             most: u64::MAX,
         },
@@ -106,7 +108,19 @@ const BETTER_OPTION: LineOption = OptionOf {
     word: "--better",
     value: Some(PlaceOf {
         shown: "N",
-        kind: KindOf::Signed,
+        kind: WordKindOf::Signed,
+    }),
+};
+
+/// The option that gives how many choices a run has, which are at most as many as a run may have deliveries.
+const CHOICES_OPTION: LineOption = OptionOf {
+    word: "--choices",
+    value: Some(PlaceOf {
+        shown: "N",
+        kind: WordKindOf::Number {
+            least: 0,
+            most: 1 << 40,
+        },
     }),
 };
 
@@ -122,18 +136,32 @@ const TRACE_OPTION: LineOption = OptionOf {
     value: None,
 };
 
-/// `solve MODEL LOG [--seed N] [--record FILE] [--trace]`: a run under the choices of a seed.
+/// The option that asks for each solution of a search.
+const EACH_OPTION: LineOption = OptionOf {
+    word: "--each",
+    value: None,
+};
+
+/// `solve MODEL LOG [--seed N] [--choices N] [--record FILE] [--trace] [--each]`: a run under the choices of a seed.
 pub const SOLVE: Row = RowOf {
     line: LineName::Solve,
     keyword: &["solve"],
     places: &[MODEL, NEW_LOG],
-    options: &[SEED_OPTION, RECORD_OPTION, TRACE_OPTION],
+    options: &[
+        SEED_OPTION,
+        CHOICES_OPTION,
+        RECORD_OPTION,
+        TRACE_OPTION,
+        EACH_OPTION,
+    ],
     tells: &[
         "runs the agents of the model, with deliveries chosen from a seed:",
         "prints a solution, `=====UNSATISFIABLE=====` or `=====UNKNOWN=====`,",
         "and writes the log of its derivations; FILE holds the choices. Where",
         "the model asks for the least or the greatest value, prints the best",
-        "solution and `==========`, and LOG refutes every better value",
+        "solution and `==========`, and LOG refutes every better value. With",
+        "--choices the run, or each round of a search, has N choices alone;",
+        "with --each a search prints each solution as soon as it is found",
     ],
 };
 
@@ -145,7 +173,7 @@ pub const REPLAY: Row = RowOf {
         MODEL,
         PlaceOf {
             shown: "SCHEDULE",
-            kind: KindOf::File {
+            kind: WordKindOf::File {
                 content: Content::Schedule,
                 access: Access::Read,
             },
@@ -178,7 +206,7 @@ pub const UPGRADE: Row = RowOf {
         LOG,
         PlaceOf {
             shown: "NEW",
-            kind: KindOf::File {
+            kind: WordKindOf::File {
                 content: Content::Log,
                 access: Access::Written,
             },
@@ -200,7 +228,7 @@ pub const CORE: Row = RowOf {
         LOG,
         PlaceOf {
             shown: "TRIMMED",
-            kind: KindOf::File {
+            kind: WordKindOf::File {
                 content: Content::Log,
                 access: Access::Written,
             },
@@ -223,7 +251,7 @@ pub const EXPORT: Row = RowOf {
         LOG,
         PlaceOf {
             shown: "CNF",
-            kind: KindOf::File {
+            kind: WordKindOf::File {
                 content: Content::Formula,
                 access: Access::Written,
             },
@@ -252,14 +280,14 @@ pub const STARVE: Row = RowOf {
         MODEL,
         PlaceOf {
             shown: "FROM",
-            kind: KindOf::Number {
+            kind: WordKindOf::Number {
                 least: 1,
                 most: 4096,
             },
         },
         PlaceOf {
             shown: "TO",
-            kind: KindOf::Number {
+            kind: WordKindOf::Number {
                 least: 1,
                 most: 4096,
             },
@@ -282,7 +310,7 @@ pub const LOSSY: Row = RowOf {
         NEW_LOG,
         PlaceOf {
             shown: "EVENTS",
-            kind: KindOf::Number {
+            kind: WordKindOf::Number {
                 least: 0,
                 most: 1_000_000,
             },
@@ -293,6 +321,51 @@ pub const LOSSY: Row = RowOf {
     tells: &[
         "runs the agents over a medium that loses, repeats and reorders in",
         "EVENTS events, 0 to 1000000, drawn from SEED, and then calms down",
+    ],
+};
+
+/// `measure MODEL SCHEDULE`: what a run under the choices of a schedule comes to, in numbers.
+pub const MEASURE: Row = RowOf {
+    line: LineName::Measure,
+    keyword: &["measure"],
+    places: &[
+        MODEL,
+        PlaceOf {
+            shown: "SCHEDULE",
+            kind: WordKindOf::File {
+                content: Content::Schedule,
+                access: Access::Read,
+            },
+        },
+    ],
+    options: &[],
+    tells: &[
+        "prints the measures of a run under the choices of a schedule, as a",
+        "record is: messages, checks, nogoods, and what each agent learned",
+    ],
+};
+
+/// `survey MODEL COUNT [--from SEED]`: the numbers of the runs of many seeds.
+pub const SURVEY: Row = RowOf {
+    line: LineName::Survey,
+    keyword: &["survey"],
+    places: &[
+        MODEL,
+        PlaceOf {
+            shown: "COUNT",
+            kind: WordKindOf::Number {
+                least: 1,
+                most: 1_000_000,
+            },
+        },
+    ],
+    options: &[OptionOf {
+        word: "--from",
+        value: Some(SEED),
+    }],
+    tells: &[
+        "prints a table of the measures of the runs of COUNT seeds from SEED",
+        "on, 0 if not given: names of columns, and a line for each seed",
     ],
 };
 
@@ -311,7 +384,7 @@ pub const QUEENS: Row = RowOf {
     keyword: &["gen", "queens"],
     places: &[PlaceOf {
         shown: "N",
-        kind: KindOf::Number {
+        kind: WordKindOf::Number {
             least: 1,
             most: 200,
         },
@@ -327,14 +400,14 @@ pub const COLOURING: Row = RowOf {
     places: &[
         PlaceOf {
             shown: "N",
-            kind: KindOf::Number {
+            kind: WordKindOf::Number {
                 least: 1,
                 most: 200,
             },
         },
         PlaceOf {
             shown: "K",
-            kind: KindOf::Number { least: 1, most: 16 },
+            kind: WordKindOf::Number { least: 1, most: 16 },
         },
         SEED,
     ],
@@ -349,7 +422,7 @@ pub const SPARSE: Row = RowOf {
     places: &[
         PlaceOf {
             shown: "N",
-            kind: KindOf::Number {
+            kind: WordKindOf::Number {
                 least: 1,
                 most: 4096,
             },
@@ -366,7 +439,7 @@ pub const PIGEONS: Row = RowOf {
     keyword: &["gen", "pigeons"],
     places: &[PlaceOf {
         shown: "N",
-        kind: KindOf::Number {
+        kind: WordKindOf::Number {
             least: 2,
             most: 200,
         },
@@ -404,7 +477,7 @@ pub const RUP: Row = RowOf {
         FORMULA,
         PlaceOf {
             shown: "PROOF",
-            kind: KindOf::File {
+            kind: WordKindOf::File {
                 content: Content::Proof,
                 access: Access::Read,
             },
@@ -446,6 +519,6 @@ pub const USAGE: Row = RowOf {
 
 /// Every line of words, in the order in which help and usage show them.
 pub const ROWS: &[Row] = &[
-    SOLVE, REPLAY, CHECK, UPGRADE, CORE, EXPORT, STARVE, LOSSY, BOUND, QUEENS, COLOURING, SPARSE,
-    PIGEONS, DRILL, CNF, RUP, HELP, VERSION, USAGE,
+    SOLVE, REPLAY, CHECK, UPGRADE, CORE, EXPORT, STARVE, LOSSY, MEASURE, SURVEY, BOUND, QUEENS,
+    COLOURING, SPARSE, PIGEONS, DRILL, CNF, RUP, HELP, VERSION, USAGE,
 ];

@@ -4,7 +4,7 @@ ghost use Rattle.std.specs.Prelude.{◌≡◌, ◌++◌, ◌<◌, List, ℕ, map
 ghost use Rattle.abt_words.specs.Rows.{texts_in, place_in, option_in, row_in, the_rows};
 ghost use Rattle.abt_words.specs.Texts.{each_text, keyword_text, content_text, access_text, place_usage, option_usage, row_usage, usage_text, option_shown, row_form, gap, sentence, row_help, help_text};
 
-use crate::row::{Access, Content, KindOf, LineOption, Place, Row};
+use crate::row::{Access, Content, LineOption, Place, Row, WordKindOf};
 use crate::rows::ROWS;
 use std::alloc::{AllocError, Global};
 
@@ -82,17 +82,17 @@ fn push_place_usage(text: &mut String, place: Place) -> Result<(), AllocError>
 {
     let shown = place.shown;
     match place.kind {
-        KindOf::File { content, access } => {
+        WordKindOf::File { content, access } => {
             let content = content_text(content);
             let access = access_text(access);
             write!(text, "file:{shown}:{content}:{access}")
         }
-        KindOf::Number { least, most } => write!(text, "number:{shown}:{least}:{most}"),
-        KindOf::Signed => write!(
+        WordKindOf::Number { least, most } => write!(text, "number:{shown}:{least}:{most}"),
+        WordKindOf::Signed => write!(
             text,
             "signed:{shown}:-9223372036854775808:9223372036854775807"
         ),
-        KindOf::OneOf { words } => {
+        WordKindOf::OneOf { words } => {
             write!(text, "word:{shown}")?;
             push_each(text, ":", "", words)
         }

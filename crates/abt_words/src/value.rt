@@ -7,7 +7,7 @@ ghost use Rattle.abt_words.specs.Saying.{IsFileName, IsAmong, Fits, value_words,
 ghost use Rattle.abt_words.specs.Values.{value_in};
 
 use crate::number::{number_within, signed_number_of};
-use crate::row::{Kind, KindOf};
+use crate::row::{WordKind, WordKindOf};
 
 /// What stands in a place of a line, or is given to an option.
 #[derive(Clone, Copy, Debug)]
@@ -89,28 +89,28 @@ impl<'w> Value<'w> {
 }
 
 /// The value of this kind that the word is.
-pub fn value_of<'w>(kind: Kind, word: &'w str) -> Option<Value<'w>>
+pub fn value_of<'w>(kind: WordKind, word: &'w str) -> Option<Value<'w>>
     ensures some { IfSome result (λ value. value_words (value_in value) ≡ word.now ∷ []) }
     ensures fits { IfSome result (λ value. Fits (kind_in kind.entry) (value_in value)) }
     ensures none { IsNone result → (value : saying.Value) → Fits (kind_in kind.entry) value → value_words value ≡ word.now ∷ [] → ⊥ }
 {
     match kind {
-        KindOf::File { .. } => {
+        WordKindOf::File { .. } => {
             if is_file_name(word) {
                 Some(Value::Name(word))
             } else {
                 None
             }
         }
-        KindOf::Number { least, most } => {
+        WordKindOf::Number { least, most } => {
             let number = number_within(word, least, most)?;
             Some(Value::Number(number))
         }
-        KindOf::Signed => {
+        WordKindOf::Signed => {
             let number = signed_number_of(word)?;
             Some(Value::Signed(number))
         }
-        KindOf::OneOf { words } => {
+        WordKindOf::OneOf { words } => {
             if is_one_of(word, words) {
                 Some(Value::Word(word))
             } else {

@@ -10,7 +10,7 @@ use crate::given::{add_between, add_variable, let_go};
 use abt_agent::{Agent, Turn};
 use abt_parts::{Message, Outbox, Sent, StampList};
 use dcsp_defs::{Nogood, Pair, Reason};
-use dcsp_problem::{Kind, Problem, ProblemBuilder};
+use dcsp_problem::{ConstraintKind, Problem, ProblemBuilder};
 use std::alloc::Global;
 use std::process::Abort;
 
@@ -21,8 +21,8 @@ fn smallest(rt: &impl Abort, alloc: Global) -> Problem
     let mut builder = ProblemBuilder::new(alloc);
     add_variable(rt, alloc, &mut builder, 1);
     add_variable(rt, alloc, &mut builder, 1);
-    add_between(rt, alloc, &mut builder, Kind::IntNe, 0, 1);
-    add_between(rt, alloc, &mut builder, Kind::IntEq, 0, 1);
+    add_between(rt, alloc, &mut builder, ConstraintKind::IntNe, 0, 1);
+    add_between(rt, alloc, &mut builder, ConstraintKind::IntEq, 0, 1);
     builder.finish().expect(rt, "memory")
 }
 

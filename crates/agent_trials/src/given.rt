@@ -4,7 +4,9 @@ ghost use Rattle.std.specs.Prelude.{◌≡◌, ◌<◌, ◌+◌, ◌∷◌, [], 
 ghost use Rattle.dcsp_rule.specs.Rules.{has_shape};
 
 use abt_parts::Store;
-use dcsp_problem::{Domain, IntList, Kind, Members, Problem, ProblemBuilder, Rule, Term, TermList};
+use dcsp_problem::{
+    ConstraintKind, Domain, IntList, Members, Problem, ProblemBuilder, Rule, Term, TermList,
+};
 use std::alloc::Global;
 use std::process::Abort;
 
@@ -16,7 +18,7 @@ pub fn let_go(_problem: Problem) {}
 pub fn let_store_go(_store: Store) {}
 
 /// A constraint between two variables.
-fn between(rt: &impl Abort, alloc: Global, kind: Kind, first: u32, second: u32) -> Rule
+fn between(rt: &impl Abort, alloc: Global, kind: ConstraintKind, first: u32, second: u32) -> Rule
     ensures { result ≡ Rule.Plain kind (Term.Var first ∷ Term.Var second ∷ []) [] [] (Members.Listed []) }
 {
     let terms = vec![in alloc; Term::Var(first), Term::Var(second)];
@@ -34,7 +36,7 @@ pub fn add_between(
     rt: &impl Abort,
     alloc: Global,
     builder: &mut ProblemBuilder,
-    kind: Kind,
+    kind: ConstraintKind,
     first: u32,
     second: u32,
 )

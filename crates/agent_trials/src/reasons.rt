@@ -12,7 +12,9 @@ use crate::given::{add_between, add_variable, let_go, let_store_go};
 use abt_parts::{Store, View};
 use abt_reason::{Reason, Reasons, first_violated};
 use dcsp_defs::{Nogood, Pair};
-use dcsp_problem::{Domain, IntList, Kind, Problem, ProblemBuilder, Rel, Rule, Term, TermList};
+use dcsp_problem::{
+    ConstraintKind, Domain, IntList, Problem, ProblemBuilder, Rel, Rule, Term, TermList,
+};
 use std::alloc::Global;
 use std::process::Abort;
 
@@ -251,8 +253,8 @@ fn triangle(rt: &impl Abort, alloc: Global) -> Problem
     add_variable(rt, alloc, &mut builder, 3);
     add_variable(rt, alloc, &mut builder, 3);
     add_variable(rt, alloc, &mut builder, 3);
-    add_between(rt, alloc, &mut builder, Kind::IntNe, 0, 2);
-    add_between(rt, alloc, &mut builder, Kind::IntNe, 2, 1);
+    add_between(rt, alloc, &mut builder, ConstraintKind::IntNe, 0, 2);
+    add_between(rt, alloc, &mut builder, ConstraintKind::IntNe, 2, 1);
     let at_most = weighted(rt, alloc, Rel::AtMost, [3, -2], 1);
     builder.add_rule(at_most).expect(rt, "within the limits");
     let differ = weighted(rt, alloc, Rel::Differ, [1, 2], 5);

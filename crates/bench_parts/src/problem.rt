@@ -2,7 +2,9 @@
 
 ghost use Rattle.std.specs.Prelude.{◌≡◌, ◌<◌, ◌∷◌, [], IfSome, OnSome, length};
 
-use dcsp_problem::{Domain, IntList, Kind, Members, Problem, ProblemBuilder, Rule, Term, TermList};
+use dcsp_problem::{
+    ConstraintKind, Domain, IntList, Members, Problem, ProblemBuilder, Rule, Term, TermList,
+};
 use std::alloc::Global;
 
 /// The agent that is driven. It has as many higher agents.
@@ -16,11 +18,11 @@ pub const VALUES: u32 = 1000;
 
 /// Two variables that differ.
 fn differ(alloc: Global, first: u32, second: u32) -> Option<Rule>
-    ensures { IfSome result (λ rule. rule ≡ Rule.Plain Kind.IntNe (Term.Var first ∷ Term.Var second ∷ []) [] [] (Members.Listed [])) }
+    ensures { IfSome result (λ rule. rule ≡ Rule.Plain ConstraintKind.IntNe (Term.Var first ∷ Term.Var second ∷ []) [] [] (Members.Listed [])) }
 {
     let terms = vec![in alloc; Term::Var(first), Term::Var(second)].ok()?;
     Some(Rule::Plain {
-        kind: Kind::IntNe,
+        kind: ConstraintKind::IntNe,
         scalars: TermList::from_vec(terms),
         first: TermList::new(alloc),
         second: TermList::new(alloc),

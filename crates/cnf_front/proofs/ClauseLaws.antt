@@ -27,15 +27,15 @@ no_terms = record { positive = nothing IsVariable; negative = nothing IsVariable
 abbrev pub fine : {X : Type 0} → X → Result X CnfError
 fine x = Ok x
 
-fine_is : {X : Type 0} (x y : X) → fine x ≡ fine y → x ≡ y
+pub fine_is : {X : Type 0} (x y : X) → fine x ≡ fine y → x ≡ y
 fine_is x y e = cc
 
 -- which way a test went
-chosen : {A : Type 0} (b : Bool) (x y z : A) → cond b x y ≡ z → ((b ≡ true) × (x ≡ z)) ⊎ ((b ≡ false) × (y ≡ z))
+pub chosen : {A : Type 0} (b : Bool) (x y z : A) → cond b x y ≡ z → ((b ≡ true) × (x ≡ z)) ⊎ ((b ≡ false) × (y ≡ z))
 chosen true x y z e = inl (refl, e)
 chosen false x y z e = inr (refl, e)
 
-bind_fine : {A B P : Type 0} (r : Result A CnfError) (f : A → Result B CnfError) (y : B) → (r >>= f) ≡ fine y → ((x : A) → r ≡ fine x → f x ≡ fine y → P) → P
+pub bind_fine : {A B P : Type 0} (r : Result A CnfError) (f : A → Result B CnfError) (y : B) → (r >>= f) ≡ fine y → ((x : A) → r ≡ fine x → f x ≡ fine y → P) → P
 bind_fine (Ok x) f y e go = go x refl e
 bind_fine (Err x) f y e go = absurd cc
 

@@ -5,7 +5,7 @@ use Rattle.std.proofs.lemmas.List.{take_more, get_or-map, length-map}
 use Rattle.std.proofs.lemmas.List.Elements.{All-contains, All-append, All-map, Contains-append_left, Contains-append_right, Contains-get_or}
 use Rattle.std.proofs.lemmas.Option.{slice_get_within, get_or_from_slice_get}
 use Rattle.rup_check.specs.Literals.{IsLiteral}
-use Rattle.dcsp_meaning.specs.declared.kinds.Kind.{Kind}
+use Rattle.dcsp_meaning.specs.declared.kinds.ConstraintKind.{ConstraintKind}
 use Rattle.dcsp_rule.specs.declared.rule.Term.{Term}
 use Rattle.dcsp_rule.specs.declared.rule.Term.TheVariants.{Const, Var}
 use Rattle.dcsp_rule.specs.declared.rule.Members.{Members}
@@ -21,10 +21,10 @@ pub known_second : (v : ℕ) (s f t : List Term) → All (IsTermOf v) (s ++ f ++
 known_second v s f t h = λ k d l. All-contains (IsTermOf v) (s ++ f ++ t) (get_or t k d) h (Contains-append_right (s ++ f) t (get_or t k d) (Contains-get_or t k d l))
 
 -- the terms of a rule's lists
-pub first_terms : (v : ℕ) (rule : Rule) (kind : Kind) (s f t : List Term) (m : Members) (xs : List Term) → rule ≡ Plain kind s f t m → xs ≡ f → IsRuleOf v rule → All (IsTermOf v) xs
+pub first_terms : (v : ℕ) (rule : Rule) (kind : ConstraintKind) (s f t : List Term) (m : Members) (xs : List Term) → rule ≡ Plain kind s f t m → xs ≡ f → IsRuleOf v rule → All (IsTermOf v) xs
 first_terms v rule kind s f t m xs e x h = subst (All (IsTermOf v)) (sym x) (known_first v s f t (subst (IsRuleOf v) e h).known)
 
-pub second_terms : (v : ℕ) (rule : Rule) (kind : Kind) (s f t : List Term) (m : Members) (ys : List Term) → rule ≡ Plain kind s f t m → ys ≡ t → IsRuleOf v rule → All (IsTermOf v) ys
+pub second_terms : (v : ℕ) (rule : Rule) (kind : ConstraintKind) (s f t : List Term) (m : Members) (ys : List Term) → rule ≡ Plain kind s f t m → ys ≡ t → IsRuleOf v rule → All (IsTermOf v) ys
 second_terms v rule kind s f t m ys e y h = subst (All (IsTermOf v)) (sym y) (known_second v s f t (subst (IsRuleOf v) e h).known)
 
 variable_literal : (v : ℕ) (term : Term) → v ≤ 4096 → IsVariable term → IsTermOf v term → IsLiteral (literal_of term)
@@ -43,7 +43,7 @@ rule_literals v (Plain kind s f t m) few i h =
     (All-map IsLiteral negation_of t (λ k d l. negation_literal v (get_or t k d) few (i.2 k d l) (known_second v s f t h.known k d l)))
 rule_literals v (Sum rel coefs terms total told) few i h = absurd i
 
-pub clause_literals : {A B : Type 0} (r : Result A B) (v : ℕ) (rule : Rule) (kind : Kind) (s f t : List Term) (m : Members) (xs ys : List Term) (none middle last : List ℤ) → rule ≡ Plain kind s f t m → xs ≡ f → ys ≡ t → none ≡ [] → middle ≡ none ++ map literal_of xs → OnOk r (last ≡ middle ++ map negation_of ys) → v ≤ 4096 → IsClauseRule rule → IsRuleOf v rule → OnOk r (All IsLiteral last)
+pub clause_literals : {A B : Type 0} (r : Result A B) (v : ℕ) (rule : Rule) (kind : ConstraintKind) (s f t : List Term) (m : Members) (xs ys : List Term) (none middle last : List ℤ) → rule ≡ Plain kind s f t m → xs ≡ f → ys ≡ t → none ≡ [] → middle ≡ none ++ map literal_of xs → OnOk r (last ≡ middle ++ map negation_of ys) → v ≤ 4096 → IsClauseRule rule → IsRuleOf v rule → OnOk r (All IsLiteral last)
 clause_literals (Ok value) v rule kind s f t m xs ys none middle last e x y n a b few i h =
     let same : last ≡ map literal_of f ++ map negation_of t = b ∙ ap (λ w. w ++ map negation_of ys) (a ∙ ap (λ w. w ++ map literal_of xs) n ∙ ap (map literal_of) x) ∙ ap (λ w. map literal_of f ++ map negation_of w) y in
     subst (All IsLiteral) (sym same) (rule_literals v (Plain kind s f t m) few (subst IsClauseRule e i) (subst (IsRuleOf v) e h))

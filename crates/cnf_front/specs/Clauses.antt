@@ -1,7 +1,7 @@
 -- Nogoods and rules as clauses. The variable with number x, counted from 0, is the literal x + 1.
 use Rattle.std.specs.Prelude.{◌≡◌, ◌⊎◌, ℕ, ◌+◌, ◌<◌, suc, zero, ℤ, pos, negsuc, List, [], ◌++◌, map, take, All}
 use Rattle.dcsp_defs.specs.declared.nogood.Pair.{Pair}
-use Rattle.dcsp_meaning.specs.declared.kinds.Kind.TheVariants.{BoolClause}
+use Rattle.dcsp_meaning.specs.declared.kinds.ConstraintKind.TheVariants.{BoolClause}
 use Rattle.dcsp_rule.specs.declared.rule.Term.{Term}
 use Rattle.dcsp_rule.specs.declared.rule.Term.TheVariants.{Const, Var}
 use Rattle.dcsp_rule.specs.declared.rule.Rule.{Rule}

@@ -10,7 +10,8 @@ ghost use Rattle.cnf_front.specs.Formulas.{with_clause, with_last, with_word, li
 use crate::header::{CnfError, is_end, literal_in, read_header};
 use crate::words::{Rest, Stand, next_word};
 use dcsp_problem::{
-    BuildError, Domain, IntList, Kind, Members, Problem, ProblemBuilder, Rule, Term, TermList,
+    BuildError, ConstraintKind, Domain, IntList, Members, Problem, ProblemBuilder, Rule, Term,
+    TermList,
 };
 use std::alloc::Global;
 use std::mem;
@@ -147,7 +148,7 @@ fn close_clause(
     let first = mem::replace(&mut clause.positive, TermList::new(alloc));
     let second = mem::replace(&mut clause.negative, TermList::new(alloc));
     let rule = Rule::Plain {
-        kind: Kind::BoolClause,
+        kind: ConstraintKind::BoolClause,
         scalars: TermList::new(alloc),
         first,
         second,

@@ -1,3 +1,4 @@
 pub mod EntryNumbers
 pub mod Chosen
 pub mod Decimals
+pub mod Items

@@ -1,11 +1,11 @@
 -- The names of constraints.
 use Rattle.std.specs.Prelude.{ℕ, List, [], ◌∷◌, Option, None, Some, codes, if◌then◌else◌}
 use Rattle.std.specs.Str.{bytes_eq}
-use Rattle.dcsp_meaning.specs.declared.kinds.Kind.{Kind}
-use Rattle.dcsp_meaning.specs.declared.kinds.Kind.TheVariants as kind
+use Rattle.dcsp_meaning.specs.declared.kinds.ConstraintKind.{ConstraintKind}
+use Rattle.dcsp_meaning.specs.declared.kinds.ConstraintKind.TheVariants as kind
 
 -- how a constraint is named
-abbrev pub name_of : Kind → List ℕ
+abbrev pub name_of : ConstraintKind → List ℕ
 name_of kind.IntEq = codes "int_eq"
 name_of kind.IntEqReif = codes "int_eq_reif"
 name_of kind.IntNe = codes "int_ne"
@@ -46,12 +46,12 @@ name_of kind.SetInReif = codes "set_in_reif"
 name_of kind.FznAllDifferentInt = codes "fzn_all_different_int"
 
 -- the first of these kinds with this name
-abbrev pub kind_among : List ℕ → List Kind → Option Kind
+abbrev pub kind_among : List ℕ → List ConstraintKind → Option ConstraintKind
 kind_among name [] = None
 kind_among name (k ∷ ks) = if bytes_eq name (name_of k) then Some k else kind_among name ks
 
 -- every kind, in the table's order
-abbrev pub kinds : List Kind
+abbrev pub kinds : List ConstraintKind
 kinds =
     kind.IntEq ∷
     kind.IntEqReif ∷
@@ -94,5 +94,5 @@ kinds =
     []
 
 -- the kind with this name, if there is one
-abbrev pub kind_named : List ℕ → Option Kind
+abbrev pub kind_named : List ℕ → Option ConstraintKind
 kind_named name = kind_among name kinds

@@ -4,11 +4,11 @@ use Rattle.std.specs.List.{list_any, list_all}
 use Rattle.std.specs.Int.{int_min, int_max}
 use Rattle.std.specs.Ordering.{int_eq}
 use Rattle.dcsp_meaning.specs.Words.{argument, is_one, same, differ, has_odd_ones, element_at, is_found, are_different}
-use Rattle.dcsp_meaning.specs.declared.kinds.Kind.{Kind}
-use Rattle.dcsp_meaning.specs.declared.kinds.Kind.TheVariants as kind
+use Rattle.dcsp_meaning.specs.declared.kinds.ConstraintKind.{ConstraintKind}
+use Rattle.dcsp_meaning.specs.declared.kinds.ConstraintKind.TheVariants as kind
 
 -- the constraint that a reified form speaks of; any other is its own
-abbrev pub plain_of : Kind → Kind
+abbrev pub plain_of : ConstraintKind → ConstraintKind
 plain_of kind.IntEqReif = kind.IntEq
 plain_of kind.IntNeReif = kind.IntNe
 plain_of kind.IntLeReif = kind.IntLe
@@ -21,7 +21,7 @@ plain_of kind.SetInReif = kind.SetIn
 plain_of other = other
 
 -- whether it is a reified form
-abbrev pub is_reified : Kind → Bool
+abbrev pub is_reified : ConstraintKind → Bool
 is_reified kind.IntEqReif = true
 is_reified kind.IntNeReif = true
 is_reified kind.IntLeReif = true
@@ -44,7 +44,7 @@ abbrev pub takes_lists : ℕ → ℕ → ℕ → ℕ → Bool
 takes_lists many scalars first second = scalars == many
 
 -- whether a constraint that is not reified takes so many scalars and lists of these lengths
-abbrev pub is_plain_shape : Kind → ℕ → ℕ → ℕ → Bool
+abbrev pub is_plain_shape : ConstraintKind → ℕ → ℕ → ℕ → Bool
 is_plain_shape kind.IntEq = takes_scalars 2
 is_plain_shape kind.IntNe = takes_scalars 2
 is_plain_shape kind.IntLe = takes_scalars 2
@@ -77,7 +77,7 @@ is_plain_shape kind.FznAllDifferentInt = takes_list 0
 is_plain_shape reified = λ scalars first second. false
 
 -- whether a constraint takes so many scalars and lists of these lengths: a reified form takes one scalar more
-abbrev pub is_shape : Kind → ℕ → ℕ → ℕ → Bool
+abbrev pub is_shape : ConstraintKind → ℕ → ℕ → ℕ → Bool
 is_shape k scalars first second =
     if is_reified k then nat_lt 0 scalars && is_plain_shape (plain_of k) (scalars - 1) first second else is_plain_shape k scalars first second
 
@@ -92,7 +92,7 @@ abbrev pub c : List ℤ → ℤ
 c s = argument s 2
 
 -- whether a constraint that is not reified holds for the scalars s, the lists xs and ys, and the set of the members
-abbrev pub plain_truth : Kind → List ℤ → List ℤ → List ℤ → (ℤ → Bool) → Bool
+abbrev pub plain_truth : ConstraintKind → List ℤ → List ℤ → List ℤ → (ℤ → Bool) → Bool
 plain_truth kind.IntEq s xs ys member = int_eq (a s) (b s)
 plain_truth kind.IntNe s xs ys member = not (int_eq (a s) (b s))
 plain_truth kind.IntLe s xs ys member = int_le (a s) (b s)
@@ -129,6 +129,6 @@ abbrev pub last : List ℤ → ℤ
 last s = argument s (length s - 1)
 
 -- whether the constraint holds: a reified form does exactly where its last scalar tells whether the rest holds
-abbrev pub truth : Kind → List ℤ → List ℤ → List ℤ → (ℤ → Bool) → Bool
+abbrev pub truth : ConstraintKind → List ℤ → List ℤ → List ℤ → (ℤ → Bool) → Bool
 truth k s xs ys member =
     if is_reified k then same (plain_truth (plain_of k) s xs ys member) (is_one (last s)) else plain_truth k s xs ys member

@@ -1,14 +1,14 @@
 //! The names of constraints.
 
 ghost use Rattle.std.specs.Prelude.{◌≡◌, IfSome, IsTrue, Some};
-ghost use Rattle.dcsp_meaning.specs.declared.kinds.Kind.{Kind};
+ghost use Rattle.dcsp_meaning.specs.declared.kinds.ConstraintKind.{ConstraintKind};
 ghost use Rattle.dcsp_meaning.specs.Table.{is_reified};
 ghost use Rattle.dcsp_meaning.specs.Names.{name_of, kind_among, kind_named};
 
 /// A constraint's name: the builtin constraints of the MiniZinc Handbook's chapter on FlatZinc that need no
 /// sums, and `fzn_all_different_int`.
 #[derive(Clone, Copy, Debug, PartialEq, Eq)]
-pub enum Kind {
+pub enum ConstraintKind {
     /// `int_eq(a, b)`: `a` is equal to `b`.
     IntEq,
     /// `int_eq_reif(a, b, r)`: `r` tells whether `a` is equal to `b`.
@@ -90,82 +90,82 @@ pub enum Kind {
 }
 
 /// Every name, in the table's order.
-const KINDS: [Kind; 38] = [
-    Kind::IntEq,
-    Kind::IntEqReif,
-    Kind::IntNe,
-    Kind::IntNeReif,
-    Kind::IntLe,
-    Kind::IntLeReif,
-    Kind::IntLt,
-    Kind::IntLtReif,
-    Kind::IntPlus,
-    Kind::IntTimes,
-    Kind::IntMin,
-    Kind::IntMax,
-    Kind::IntAbs,
-    Kind::IntDiv,
-    Kind::IntMod,
-    Kind::BoolEq,
-    Kind::BoolEqReif,
-    Kind::BoolLe,
-    Kind::BoolLeReif,
-    Kind::BoolLt,
-    Kind::BoolLtReif,
-    Kind::BoolNot,
-    Kind::BoolAnd,
-    Kind::BoolOr,
-    Kind::BoolXor,
-    Kind::Bool2int,
-    Kind::BoolClause,
-    Kind::BoolClauseReif,
-    Kind::ArrayBoolAnd,
-    Kind::ArrayBoolOr,
-    Kind::ArrayBoolXor,
-    Kind::ArrayIntElement,
-    Kind::ArrayVarIntElement,
-    Kind::ArrayBoolElement,
-    Kind::ArrayVarBoolElement,
-    Kind::SetIn,
-    Kind::SetInReif,
-    Kind::FznAllDifferentInt,
+const KINDS: [ConstraintKind; 38] = [
+    ConstraintKind::IntEq,
+    ConstraintKind::IntEqReif,
+    ConstraintKind::IntNe,
+    ConstraintKind::IntNeReif,
+    ConstraintKind::IntLe,
+    ConstraintKind::IntLeReif,
+    ConstraintKind::IntLt,
+    ConstraintKind::IntLtReif,
+    ConstraintKind::IntPlus,
+    ConstraintKind::IntTimes,
+    ConstraintKind::IntMin,
+    ConstraintKind::IntMax,
+    ConstraintKind::IntAbs,
+    ConstraintKind::IntDiv,
+    ConstraintKind::IntMod,
+    ConstraintKind::BoolEq,
+    ConstraintKind::BoolEqReif,
+    ConstraintKind::BoolLe,
+    ConstraintKind::BoolLeReif,
+    ConstraintKind::BoolLt,
+    ConstraintKind::BoolLtReif,
+    ConstraintKind::BoolNot,
+    ConstraintKind::BoolAnd,
+    ConstraintKind::BoolOr,
+    ConstraintKind::BoolXor,
+    ConstraintKind::Bool2int,
+    ConstraintKind::BoolClause,
+    ConstraintKind::BoolClauseReif,
+    ConstraintKind::ArrayBoolAnd,
+    ConstraintKind::ArrayBoolOr,
+    ConstraintKind::ArrayBoolXor,
+    ConstraintKind::ArrayIntElement,
+    ConstraintKind::ArrayVarIntElement,
+    ConstraintKind::ArrayBoolElement,
+    ConstraintKind::ArrayVarBoolElement,
+    ConstraintKind::SetIn,
+    ConstraintKind::SetInReif,
+    ConstraintKind::FznAllDifferentInt,
 ];
 
-impl Kind {
+impl ConstraintKind {
     /// The name's bytes.
     pub fn name(self) -> &'static [u8]
         ensures { result.now ≡ name_of self }
     {
         match self {
-            Kind::IntEq => b"int_eq",
-            Kind::IntNe => b"int_ne",
-            Kind::IntLe => b"int_le",
-            Kind::IntLt => b"int_lt",
-            Kind::IntPlus => b"int_plus",
-            Kind::IntTimes => b"int_times",
-            Kind::IntMin => b"int_min",
-            Kind::IntMax => b"int_max",
-            Kind::IntAbs => b"int_abs",
-            Kind::IntDiv => b"int_div",
-            Kind::IntMod => b"int_mod",
-            Kind::BoolEq => b"bool_eq",
-            Kind::BoolLe => b"bool_le",
-            Kind::BoolLt => b"bool_lt",
-            Kind::BoolNot => b"bool_not",
-            Kind::BoolAnd => b"bool_and",
-            Kind::BoolOr => b"bool_or",
-            Kind::BoolXor => b"bool_xor",
-            Kind::Bool2int => b"bool2int",
-            Kind::BoolClause => b"bool_clause",
-            Kind::ArrayBoolAnd => b"array_bool_and",
-            Kind::ArrayBoolOr => b"array_bool_or",
-            Kind::ArrayBoolXor => b"array_bool_xor",
-            Kind::ArrayIntElement => b"array_int_element",
-            Kind::ArrayVarIntElement => b"array_var_int_element",
-            Kind::ArrayBoolElement => b"array_bool_element",
-            Kind::ArrayVarBoolElement => b"array_var_bool_element",
-            Kind::SetIn => b"set_in",
-            Kind::FznAllDifferentInt => b"fzn_all_different_int",
+            ConstraintKind::IntEq => b"int_eq",
+            ConstraintKind::IntNe => b"int_ne",
+            ConstraintKind::IntLe => b"int_le",
+            ConstraintKind::IntLt => b"int_lt",
+            ConstraintKind::IntPlus => b"int_plus",
+            ConstraintKind::IntTimes => b"int_times",
+            ConstraintKind::IntMin => b"int_min",
+            ConstraintKind::IntMax => b"int_max",
+            ConstraintKind::IntAbs => b"int_abs",
+            ConstraintKind::IntDiv => b"int_div",
+            ConstraintKind::IntMod => b"int_mod",
+            ConstraintKind::BoolEq => b"bool_eq",
+            ConstraintKind::BoolLe => b"bool_le",
+            ConstraintKind::BoolLt => b"bool_lt",
+            ConstraintKind::BoolNot => b"bool_not",
+            ConstraintKind::BoolAnd => b"bool_and",
+            ConstraintKind::BoolOr => b"bool_or",
+            ConstraintKind::BoolXor => b"bool_xor",
+            ConstraintKind::Bool2int => b"bool2int",
+            ConstraintKind::BoolClause => b"bool_clause",
+            ConstraintKind::ArrayBoolAnd => b"array_bool_and",
+            ConstraintKind::ArrayBoolOr => b"array_bool_or",
+            ConstraintKind::ArrayBoolXor => b"array_bool_xor",
+            ConstraintKind::ArrayIntElement => b"array_int_element",
+            ConstraintKind::ArrayVarIntElement => b"array_var_int_element",
+            ConstraintKind::ArrayBoolElement => b"array_bool_element",
+            ConstraintKind::ArrayVarBoolElement => b"array_var_bool_element",
+            ConstraintKind::SetIn => b"set_in",
+            ConstraintKind::FznAllDifferentInt => b"fzn_all_different_int",
             reified => reified.reified_name(),
         }
     }
@@ -175,23 +175,23 @@ impl Kind {
         ensures { result.now ≡ name_of self }
     {
         match self {
-            Kind::IntEqReif => b"int_eq_reif",
-            Kind::IntNeReif => b"int_ne_reif",
-            Kind::IntLeReif => b"int_le_reif",
-            Kind::IntLtReif => b"int_lt_reif",
-            Kind::BoolEqReif => b"bool_eq_reif",
-            Kind::BoolLeReif => b"bool_le_reif",
-            Kind::BoolLtReif => b"bool_lt_reif",
-            Kind::BoolClauseReif => b"bool_clause_reif",
-            Kind::SetInReif => b"set_in_reif",
+            ConstraintKind::IntEqReif => b"int_eq_reif",
+            ConstraintKind::IntNeReif => b"int_ne_reif",
+            ConstraintKind::IntLeReif => b"int_le_reif",
+            ConstraintKind::IntLtReif => b"int_lt_reif",
+            ConstraintKind::BoolEqReif => b"bool_eq_reif",
+            ConstraintKind::BoolLeReif => b"bool_le_reif",
+            ConstraintKind::BoolLtReif => b"bool_lt_reif",
+            ConstraintKind::BoolClauseReif => b"bool_clause_reif",
+            ConstraintKind::SetInReif => b"set_in_reif",
             _ => unreachable!(),
         }
     }
 
     /// The kind with this name; `None` where no kind has it.
-    pub fn from_name(name: &[u8]) -> Option<Kind>
+    pub fn from_name(name: &[u8]) -> Option<ConstraintKind>
         ensures named { IfSome result (λ kind. name_of kind ≡ name.now) }
-        ensures every { (kind : Kind) → name_of kind ≡ name.now → result ≡ Some kind }
+        ensures every { (kind : ConstraintKind) → name_of kind ≡ name.now → result ≡ Some kind }
         ensures first { result ≡ kind_named name.now }
     {
         first_named(name)
@@ -199,7 +199,7 @@ impl Kind {
 }
 
 /// The first kind with this name.
-fn first_named(name: &[u8]) -> Option<Kind>
+fn first_named(name: &[u8]) -> Option<ConstraintKind>
     ensures { result ≡ kind_among name.now KINDS }
 {
     for kind in KINDS.as_slice() {

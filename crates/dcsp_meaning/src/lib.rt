@@ -12,7 +12,7 @@ mod shapes;
 mod truths;
 
 pub use ground::Ground;
-pub use kinds::Kind;
+pub use kinds::ConstraintKind;
 pub use laws::division_truncates;
 pub use linear::{Rel, WIDEST, Weighted, plus_greatest, plus_product, product, sum_holds, width};
 pub use shapes::shape_ok;

@@ -2,7 +2,7 @@
 
 ghost use Rattle.std.specs.Prelude.{◌≡◌, ◌<◌, ◌≤◌, IsTrue, length, []};
 ghost use Rattle.std.specs.Ordering.{int_eq};
-ghost use Rattle.dcsp_meaning.specs.declared.kinds.Kind.TheVariants as Kind;
+ghost use Rattle.dcsp_meaning.specs.declared.kinds.ConstraintKind.TheVariants as ConstraintKind;
 ghost use Rattle.dcsp_meaning.specs.Table.{is_shape, plain_truth, truth};
 ghost use Rattle.dcsp_meaning.specs.Suits.{Suits};
 ghost use Rattle.dcsp_meaning.specs.Words.{argument, is_one, same, is_found, element_at};
@@ -11,14 +11,14 @@ use crate::arithmetic::{
     is_absolute, is_greatest, is_least, is_product, is_quotient, is_remainder, is_sum,
 };
 use crate::ground::Ground;
-use crate::kinds::Kind;
+use crate::kinds::ConstraintKind;
 use crate::lists::{all_different, all_true, element, odd_true, some_false, some_true};
 use crate::shapes::{is_reified, plain_of};
 
 /// Whether the constraint holds for these values.
 ///
 /// A number in the place of a Boolean counts as true exactly where it is 1.
-pub fn holds<G: Ground>(kind: Kind, ground: &G) -> bool
+pub fn holds<G: Ground>(kind: ConstraintKind, ground: &G) -> bool
     requires { IsTrue (is_shape kind (length (G.scalar_values ground.now)) (length (G.first_values ground.now)) (length (G.second_values ground.now))) }
     ensures { result ≡ truth kind (G.scalar_values ground.now) (G.first_values ground.now) (G.second_values ground.now) (G.is_member ground.now) }
 {
@@ -30,38 +30,49 @@ pub fn holds<G: Ground>(kind: Kind, ground: &G) -> bool
 }
 
 /// Whether a constraint that is not reified holds for these values.
-fn plain_holds<G: Ground>(kind: Kind, ground: &G) -> bool
+fn plain_holds<G: Ground>(kind: ConstraintKind, ground: &G) -> bool
     requires { Suits kind (length (G.scalar_values ground.now)) (length (G.first_values ground.now)) (length (G.second_values ground.now)) }
     ensures { result ≡ plain_truth kind (G.scalar_values ground.now) (G.first_values ground.now) (G.second_values ground.now) (G.is_member ground.now) }
 {
     match kind {
-        Kind::IntEq => ground.scalar(0) == ground.scalar(1),
-        Kind::IntNe => ground.scalar(0) != ground.scalar(1),
-        Kind::IntLe => ground.scalar(0) <= ground.scalar(1),
-        Kind::IntLt => ground.scalar(0) < ground.scalar(1),
-        Kind::IntPlus => is_sum(ground.scalar(0), ground.scalar(1), ground.scalar(2)),
-        Kind::IntTimes => is_product(ground.scalar(0), ground.scalar(1), ground.scalar(2)),
-        Kind::IntMin => is_least(ground.scalar(0), ground.scalar(1), ground.scalar(2)),
-        Kind::IntMax => is_greatest(ground.scalar(0), ground.scalar(1), ground.scalar(2)),
-        Kind::IntAbs => is_absolute(ground.scalar(0), ground.scalar(1)),
-        Kind::IntDiv => is_quotient(ground.scalar(0), ground.scalar(1), ground.scalar(2)),
-        Kind::IntMod => is_remainder(ground.scalar(0), ground.scalar(1), ground.scalar(2)),
-        Kind::BoolEq => is_true(ground, 0) == is_true(ground, 1),
-        Kind::BoolLe => !is_true(ground, 0) || is_true(ground, 1),
-        Kind::BoolLt => !is_true(ground, 0) && is_true(ground, 1),
-        Kind::BoolNot => is_true(ground, 0) != is_true(ground, 1),
-        Kind::BoolAnd => (is_true(ground, 0) && is_true(ground, 1)) == is_true(ground, 2),
-        Kind::BoolOr => (is_true(ground, 0) || is_true(ground, 1)) == is_true(ground, 2),
-        Kind::BoolXor => xor_holds(ground),
-        Kind::Bool2int => i64::from(is_true(ground, 0)) == ground.scalar(1),
-        Kind::BoolClause => some_true(ground) || some_false(ground),
-        Kind::ArrayBoolAnd => all_true(ground) == is_true(ground, 0),
-        Kind::ArrayBoolOr => some_true(ground) == is_true(ground, 0),
-        Kind::ArrayBoolXor => odd_true(ground),
-        Kind::ArrayIntElement | Kind::ArrayVarIntElement => int_element_holds(ground),
-        Kind::ArrayBoolElement | Kind::ArrayVarBoolElement => bool_element_holds(ground),
-        Kind::SetIn => ground.member(ground.scalar(0)),
-        Kind::FznAllDifferentInt => all_different(ground),
+        ConstraintKind::IntEq => ground.scalar(0) == ground.scalar(1),
+        ConstraintKind::IntNe => ground.scalar(0) != ground.scalar(1),
+        ConstraintKind::IntLe => ground.scalar(0) <= ground.scalar(1),
+        ConstraintKind::IntLt => ground.scalar(0) < ground.scalar(1),
+        ConstraintKind::IntPlus => is_sum(ground.scalar(0), ground.scalar(1), ground.scalar(2)),
+        ConstraintKind::IntTimes => is_product(
+            ground.scalar(0),
+            ground.scalar(1),
+            ground.scalar(2),
+        ),
+        ConstraintKind::IntMin => is_least(ground.scalar(0), ground.scalar(1), ground.scalar(2)),
+        ConstraintKind::IntMax => is_greatest(ground.scalar(0), ground.scalar(1), ground.scalar(2)),
+        ConstraintKind::IntAbs => is_absolute(ground.scalar(0), ground.scalar(1)),
+        ConstraintKind::IntDiv => is_quotient(ground.scalar(0), ground.scalar(1), ground.scalar(2)),
+        ConstraintKind::IntMod => is_remainder(
+            ground.scalar(0),
+            ground.scalar(1),
+            ground.scalar(2),
+        ),
+        ConstraintKind::BoolEq => is_true(ground, 0) == is_true(ground, 1),
+        ConstraintKind::BoolLe => !is_true(ground, 0) || is_true(ground, 1),
+        ConstraintKind::BoolLt => !is_true(ground, 0) && is_true(ground, 1),
+        ConstraintKind::BoolNot => is_true(ground, 0) != is_true(ground, 1),
+        ConstraintKind::BoolAnd => (is_true(ground, 0) && is_true(ground, 1)) == is_true(ground, 2),
+        ConstraintKind::BoolOr => (is_true(ground, 0) || is_true(ground, 1)) == is_true(ground, 2),
+        ConstraintKind::BoolXor => xor_holds(ground),
+        ConstraintKind::Bool2int => i64::from(is_true(ground, 0)) == ground.scalar(1),
+        ConstraintKind::BoolClause => some_true(ground) || some_false(ground),
+        ConstraintKind::ArrayBoolAnd => all_true(ground) == is_true(ground, 0),
+        ConstraintKind::ArrayBoolOr => some_true(ground) == is_true(ground, 0),
+        ConstraintKind::ArrayBoolXor => odd_true(ground),
+        ConstraintKind::ArrayIntElement | ConstraintKind::ArrayVarIntElement => int_element_holds(
+            ground,
+        ),
+        ConstraintKind::ArrayBoolElement | ConstraintKind::ArrayVarBoolElement =>
+            bool_element_holds(ground),
+        ConstraintKind::SetIn => ground.member(ground.scalar(0)),
+        ConstraintKind::FznAllDifferentInt => all_different(ground),
         // a reified form has no row of its own
         _ => false,
     }
@@ -78,7 +89,7 @@ fn is_true<G: Ground>(ground: &G, place: usize) -> bool
 /// Whether exactly one of the first two scalars is true, or whether the third tells that.
 fn xor_holds<G: Ground>(ground: &G) -> bool
     requires { 2 ≤ length (G.scalar_values ground.now) }
-    ensures { result ≡ plain_truth Kind.BoolXor (G.scalar_values ground.now) [] [] (G.is_member ground.now) }
+    ensures { result ≡ plain_truth ConstraintKind.BoolXor (G.scalar_values ground.now) [] [] (G.is_member ground.now) }
 {
     let exactly_one = is_true(ground, 0) != is_true(ground, 1);
     if ground.scalars() == 2 {

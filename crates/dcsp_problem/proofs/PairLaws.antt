@@ -6,7 +6,7 @@ use Rattle.std.proofs.lemmas.Bool.{eqb-true, eq-eqb, or_cases, both_ways, false_
 use Rattle.dcsp_defs.specs.Words.{In}
 use Rattle.dcsp_defs.specs.Csp.{PartialAssignment, filled, is_violated}
 use Rattle.dcsp_defs.proofs.Lists.{list_all-In, In-list_all}
-use Rattle.dcsp_rule.specs.declared.pair.Pair.{Pair}
+use Rattle.dcsp_rule.specs.declared.pair.BinaryRule.{BinaryRule}
 use Rattle.dcsp_rule.specs.declared.rule.Rule.{Rule}
 use Rattle.dcsp_rule.specs.Rules.{scope_of, mentions, IsRuleOf}
 use Rattle.dcsp_rule.specs.Pairs.{is_missed, is_of_pair, pair_truth, IsPairOf, IsSmall}
@@ -14,7 +14,7 @@ use Rattle.dcsp_rule.specs.Problems.{constraint_of}
 use Rattle.dcsp_problem.proofs.RisingNumbers.{In-filter_below}
 use Rattle.dcsp_problem.proofs.Scopes.{In-scope, from_mentioned}
 
-module _ (n : ℕ) (rule : Rule) (pair : Pair) (ok : IsRuleOf n rule) (is : IsPairOf pair rule) where
+module _ (n : ℕ) (rule : Rule) (pair : BinaryRule) (ok : IsRuleOf n rule) (is : IsPairOf pair rule) where
   in_scope : (var : ℕ) → is_of_pair pair var ≡ true → In var (scope_of n rule)
   in_scope var h = In-scope n rule ok var (from_mentioned rule var (sym (is.variables var) ∙ h))
 
@@ -45,6 +45,6 @@ module _ (n : ℕ) (rule : Rule) (pair : Pair) (ok : IsRuleOf n rule) (is : IsPa
       ap (λ b. b && not (pair_truth pair (filled known))) (sym (all_of_two (λ k. is_some (known k))))
       ∙ ap (λ t. list_all (λ k. is_some (known k)) (scope_of n rule) && not t) (is.truth (filled known))
 
-pub small_pair : (pair : Option Pair) (rule : Rule) → IfSome pair (λ p. IsPairOf p rule) → IfSome pair IsSmall
+pub small_pair : (pair : Option BinaryRule) (rule : Rule) → IfSome pair (λ p. IsPairOf p rule) → IfSome pair IsSmall
 small_pair None rule h = h
 small_pair (Some pair) rule h = h.small

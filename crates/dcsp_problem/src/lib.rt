@@ -15,7 +15,9 @@ mod widths;
 
 pub use builder::ProblemBuilder;
 pub use dcsp_domain::{Domain, DomainError, IntList, Memory, RangeList};
-pub use dcsp_meaning::{Kind, Rel};
-pub use dcsp_rule::{Aim, Lookup, Members, NameText, Output, Pair, Rule, Shape, Term, TermList};
+pub use dcsp_meaning::{ConstraintKind, Rel};
+pub use dcsp_rule::{
+    Aim, BinaryRule, Lookup, Members, NameText, Output, Rule, Shape, Term, TermList,
+};
 pub use limits::{BuildError, Which};
 pub use problem::Problem;

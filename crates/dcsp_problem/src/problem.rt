@@ -16,7 +16,9 @@ ghost use Rattle.dcsp_problem.specs.Lower.{lower_owners};
 use crate::table::NumberTable;
 use dcsp_common::Memory;
 use dcsp_domain::Domain;
-use dcsp_rule::{Aim, Assignment, Form, Lookup, Output, Pair, Rule, WithinDomains, is_true_under};
+use dcsp_rule::{
+    Aim, Assignment, BinaryRule, Form, Lookup, Output, Rule, WithinDomains, is_true_under,
+};
 use std::alloc::Global;
 use std::marker::Model;
 use std::rc::Rc;
@@ -131,7 +133,7 @@ impl Problem {
     /// There is one of each comparison of two numbers of which at least one is a variable, and of each sum over one
     /// or two variables that nothing tells, unless its numbers are great.
     #[inline(always)]
-    pub fn pair(&self, rule: u32) -> Option<Pair>
+    pub fn pair(&self, rule: u32) -> Option<BinaryRule>
         requires { rule < length self.now.rules }
         ensures pair { IfSome result (λ pair. IsPairOf pair (rule_at self.now rule)) }
         ensures compared { IsTrue (compares_variable (rule_at self.now rule)) → IsSome result }

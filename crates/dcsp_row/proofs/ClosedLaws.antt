@@ -2,8 +2,8 @@
 use Rattle.std.proofs.Common.{◌≡◌, ℕ, ◌==◌, true, false, List, [], ◌∷◌, ◌++◌, ◌&&◌, length, filter_map, refl, sym, ap, ◌∙◌, append-nil, arith}
 use Rattle.std.specs.Prelude.{is_some, not}
 use Rattle.std.specs.List.{list_any}
-use Rattle.dcsp_meaning.specs.declared.kinds.Kind.{Kind}
-use Rattle.dcsp_meaning.specs.declared.kinds.Kind.TheVariants.{IntEq, IntNe, IntLe, IntLt}
+use Rattle.dcsp_meaning.specs.declared.kinds.ConstraintKind.{ConstraintKind}
+use Rattle.dcsp_meaning.specs.declared.kinds.ConstraintKind.TheVariants.{IntEq, IntNe, IntLe, IntLt}
 use Rattle.dcsp_meaning.specs.Table.{is_shape}
 use Rattle.dcsp_rule.specs.declared.rule.Term.{Term}
 use Rattle.dcsp_rule.specs.declared.rule.Term.TheVariants.{Const, Var}
@@ -14,7 +14,7 @@ use Rattle.dcsp_rule.specs.Pairs.{compares_variable, is_comparison}
 use Rattle.dcsp_row.specs.Easy.{has_span, is_plain}
 
 -- a comparison takes no lists
-shape_of : (kind : Kind) (n m l : ℕ) → is_comparison kind ≡ true → is_shape kind n m l ≡ true → (m ≡ 0) × (l ≡ 0)
+shape_of : (kind : ConstraintKind) (n m l : ℕ) → is_comparison kind ≡ true → is_shape kind n m l ≡ true → (m ≡ 0) × (l ≡ 0)
 shape_of IntEq n m l e h = grind (arith)
 shape_of IntNe n m l e h = grind (arith)
 shape_of IntLe n m l e h = grind (arith)

@@ -13,7 +13,7 @@ use Rattle.dcsp_meaning.specs.declared.linear.Rel.TheVariants.{Equal, Differ, At
 use Rattle.dcsp_meaning.specs.Sums.{stands}
 use Rattle.dcsp_meaning.specs.Words.{is_one, same}
 use Rattle.dcsp_rule.specs.Rules.{is_told}
-use Rattle.dcsp_row.specs.declared.line.Line.{Line}
+use Rattle.dcsp_row.specs.declared.line.LinearSum.{LinearSum}
 use Rattle.dcsp_row.specs.Lines.{line_at, own_part}
 use Rattle.dcsp_row.specs.Cuts.{is_in}
 use Rattle.dcsp_row.specs.Rows.{own_at}
@@ -168,7 +168,7 @@ own_product None x = sym (zero-*ℤ x)
 own_product (Some coef) x = refl
 
 -- a sum to which so many times the open variable is added, or from which it is taken away so often
-module _ (rel : Rel) (line : Line) (total rest coef : ℤ) (cut : Cut) (factor : ℕ) (own : unwrap_or line.own (pos 0) ≡ coef) where
+module _ (rel : Rel) (line : LinearSum) (total rest coef : ℤ) (cut : Cut) (factor : ℕ) (own : unwrap_or line.own (pos 0) ≡ coef) where
   pub added_off : coef ≡ pos factor → rest ≡ total -ℤ line.base → ((y : ℤ) → is_in cut y ≡ not (stands rel y rest)) → (x : ℤ) → is_in cut (pos factor *ℤ x) ≡ not (stands rel (line_at line x) total)
   added_off times is h x =
       let y = pos factor *ℤ x in
@@ -182,7 +182,7 @@ module _ (rel : Rel) (line : Line) (total rest coef : ℤ) (cut : Cut) (factor :
       ∙ sym (ap (λ z. not (stands rel (line.base +ℤ z) total)) (own_product line.own x ∙ ap (λ c. c *ℤ x) (own ∙ times) ∙ turned_product factor x))
 
 -- a sum without it
-pub none_off : (rel : Rel) (line : Line) (total : ℤ) → unwrap_or line.own (pos 0) ≡ pos 0 → (x : ℤ) → stands rel line.base total ≡ stands rel (line_at line x) total
+pub none_off : (rel : Rel) (line : LinearSum) (total : ℤ) → unwrap_or line.own (pos 0) ≡ pos 0 → (x : ℤ) → stands rel line.base total ≡ stands rel (line_at line x) total
 none_off rel line total own x =
     let product : own_part line.own x ≡ pos 0 = own_product line.own x ∙ ap (λ c. c *ℤ x) own ∙ zero-*ℤ x in
     let whole : line.base +ℤ own_part line.own x ≡ line.base = omega (arith, ints, product) in

@@ -4,7 +4,7 @@ use Rattle.dcsp_meaning.specs.Sums.{stands}
 use Rattle.dcsp_rule.specs.Rules.{is_told}
 use Rattle.dcsp_row.specs.declared.known.ValueOrOpen.{ValueOrOpen}
 use Rattle.dcsp_row.specs.declared.known.ValueOrOpen.TheVariants.{Open, Value}
-use Rattle.dcsp_row.specs.declared.line.Line.{Line}
+use Rattle.dcsp_row.specs.declared.line.LinearSum.{LinearSum}
 use Rattle.dcsp_row.specs.declared.sums.OpenSum.{OpenSum}
 use Rattle.dcsp_row.specs.declared.sums.SumTruth.{SumTruth}
 use Rattle.dcsp_row.specs.declared.sums.SumTruth.TheVariants.{HasToHold, By, ByOpen}
@@ -24,15 +24,15 @@ own_size None x = 0
 own_size (Some coef) x = unsigned_abs coef * unsigned_abs x
 
 -- the sum where the open variable has this value
-abbrev pub line_at : Line → ℤ → ℤ
+abbrev pub line_at : LinearSum → ℤ → ℤ
 line_at line x = line.base +ℤ own_part line.own x
 
 -- the absolute values of both parts
-abbrev pub line_size : Line → ℤ → ℕ
+abbrev pub line_size : LinearSum → ℤ → ℕ
 line_size line x = unsigned_abs line.base + own_size line.own x
 
 -- one term was added: its coefficient, and its value unless it is the open variable
-pub record AddsTerm (line next : Line) (coef : ℤ) (value : Option ℤ) (x : ℤ) : Type 0 where
+pub record AddsTerm (line next : LinearSum) (coef : ℤ) (value : Option ℤ) (x : ℤ) : Type 0 where
   pub sum : line_at next x ≡ line_at line x +ℤ (coef *ℤ unwrap_or value x)
   pub size : line_size next x ≤ line_size line x + unsigned_abs coef * unsigned_abs (unwrap_or value x)
 

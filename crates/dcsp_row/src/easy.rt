@@ -6,7 +6,7 @@ ghost use Rattle.dcsp_rule.specs.Pairs.{is_comparison};
 ghost use Rattle.dcsp_rule.specs.Rules.{has_shape};
 ghost use Rattle.dcsp_row.specs.Easy.{has_span, is_once, is_truth, is_variable, own_coefs};
 
-use dcsp_problem::{Kind, Problem, Rule, Term};
+use dcsp_problem::{ConstraintKind, Problem, Rule, Term};
 
 /// Whether the values of the variable that the rule rules out are always a run of its domain, or all values
 /// outside one.
@@ -40,14 +40,14 @@ fn is_easy(rule: &Rule, var: u32) -> bool
 }
 
 /// Whether a constraint of this kind compares two numbers.
-fn is_comparison(kind: Kind) -> bool
+fn is_comparison(kind: ConstraintKind) -> bool
     ensures { result ≡ is_comparison kind }
 {
     match kind {
-        Kind::IntEq => true,
-        Kind::IntNe => true,
-        Kind::IntLe => true,
-        Kind::IntLt => true,
+        ConstraintKind::IntEq => true,
+        ConstraintKind::IntNe => true,
+        ConstraintKind::IntLe => true,
+        ConstraintKind::IntLt => true,
         _ => false,
     }
 }

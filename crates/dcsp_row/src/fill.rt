@@ -23,7 +23,7 @@ use crate::row::Row;
 use crate::span::Span;
 use crate::sums::{OpenSum, fill_sum, missed_line, off_span, told_by};
 use dcsp_domain::Domain;
-use dcsp_problem::{Lookup, Pair, Problem, Rule};
+use dcsp_problem::{BinaryRule, Lookup, Problem, Rule};
 
 /// The values of the open variable at which the rule is violated under these and the others', as a span of
 /// its domain; `None` only where the rule is not one that always has a span.
@@ -54,7 +54,11 @@ pub fn span_of<L: Lookup>(
 
 /// The values at which both of the pair's variables are known, and it is false.
 #[inline(always)]
-fn span_of_pair<L: Lookup>(pair: Pair, domain: &Domain, open_var: &OpenVariable<'_, L>) -> Span
+fn span_of_pair<L: Lookup>(
+    pair: BinaryRule,
+    domain: &Domain,
+    open_var: &OpenVariable<'_, L>,
+) -> Span
     requires { IsSmall pair }
     ensures { SpansWhere (λ x. is_missed pair (with_value open_var.now.var x (L.values open_var.now.lookup.now))) domain.now result }
 {

@@ -12,11 +12,11 @@ ghost use Rattle.dcsp_row.specs.Lines.{line_at, line_size, open_coef, value_or_o
 use crate::known::{OpenVariable, ValueOrOpen, known_value, value_or_open};
 use dcsp_domain::Domain;
 use dcsp_meaning::{plus_product, product};
-use dcsp_problem::{Lookup, Pair, Term};
+use dcsp_problem::{BinaryRule, Lookup, Term};
 
 /// A sum: its known part, and the coefficient of the open variable, if that is among its terms.
 #[derive(Clone, Copy)]
-pub struct Line {
+pub struct LinearSum {
     pub base: i128,
     pub own: Option<i64>,
 }
@@ -27,7 +27,7 @@ pub fn line_of<L: Lookup>(
     terms: &[Term],
     domain: &Domain,
     open_var: &OpenVariable<'_, L>,
-) -> Option<Line>
+) -> Option<LinearSum>
     requires shape { length coefs.now ≡ length terms.now }
     requires some { 0 < length domain.now }
     requires narrow { FitAtEach (λ x. sum_by size_of (weighted_values (filled (with_value open_var.now.var x (L.values open_var.now.lookup.now))) coefs.now terms.now)) widest domain.now }
@@ -36,7 +36,7 @@ pub fn line_of<L: Lookup>(
     ensures own { IfSome result (λ line. option_to_list line.own ≡ own_coefs open_var.now.var coefs.now terms.now) }
     ensures many { IsNone result → 1 < length (own_coefs open_var.now.var coefs.now terms.now) }
 {
-    let mut line = Line { base: 0, own: None };
+    let mut line = LinearSum { base: 0, own: None };
     for place in 0..coefs.len() {
         let value = known_value(terms[place], open_var);
         let Some(next) = with_term(line, coefs[place], value) else {
@@ -48,20 +48,20 @@ pub fn line_of<L: Lookup>(
 }
 
 /// The line with one term more.
-fn with_term(line: Line, coef: i64, value: Option<i64>) -> Option<Line>
+fn with_term(line: LinearSum, coef: i64, value: Option<i64>) -> Option<LinearSum>
     requires { IfSome value (λ v. unsigned_abs line.base + unsigned_abs coef * unsigned_abs v ≤ widest) }
     ensures adds { IfSome result (λ next. (x : ℤ) → AddsTerm line next coef value x) }
     ensures own { IfSome result (λ next. option_to_list next.own ≡ option_to_list line.own ++ open_coef coef value) }
     ensures many { IsNone result → 1 < length (option_to_list line.own ++ open_coef coef value) }
 {
     match value {
-        Some(value) => Some(Line {
+        Some(value) => Some(LinearSum {
             base: plus_product(line.base, coef, value),
             own: line.own,
         }),
         None => match line.own {
             Some(_) => None,
-            None => Some(Line {
+            None => Some(LinearSum {
                 base: line.base,
                 own: Some(coef),
             }),
@@ -70,7 +70,7 @@ fn with_term(line: Line, coef: i64, value: Option<i64>) -> Option<Line>
 }
 
 /// The sum where the open variable has this value.
-pub fn sum_at(line: Line, value: i64) -> i128
+pub fn sum_at(line: LinearSum, value: i64) -> i128
     requires { line_size line value ≤ widest }
     ensures { result ≡ line_at line value }
 {
@@ -82,7 +82,10 @@ pub fn sum_at(line: Line, value: i64) -> i128
 
 /// A pair's products, added up, where one variable is open; `None` where another has no value.
 #[inline(always)]
-pub fn line_of_pair<L: Lookup>(pair: Pair, open_var: &OpenVariable<'_, L>) -> Option<Line>
+pub fn line_of_pair<L: Lookup>(
+    pair: BinaryRule,
+    open_var: &OpenVariable<'_, L>,
+) -> Option<LinearSum>
     requires { IsSmall pair }
     ensures known { (x : ℤ) → let values = with_value open_var.now.var x (L.values open_var.now.lookup.now) in is_some result ≡ (is_some (values pair.first) && is_some (values pair.second)) }
     ensures sum { IfSome result (λ line. (x : ℤ) → let values = filled (with_value open_var.now.var x (L.values open_var.now.lookup.now)) in line_at line x ≡ pair_sum pair (values pair.first) (values pair.second)) }
@@ -96,7 +99,7 @@ pub fn line_of_pair<L: Lookup>(pair: Pair, open_var: &OpenVariable<'_, L>) -> Op
     };
     let (base, own) = product_of(pair.first_coef, first);
     let (more, other) = product_of(pair.second_coef, second);
-    Some(Line {
+    Some(LinearSum {
         base: base + more,
         own: Some(own + other),
     })

@@ -12,7 +12,7 @@ ghost use Rattle.dcsp_row.specs.Spans.{SpansWhere};
 
 use crate::cut::{missed_after, missed_before, product_span};
 use crate::known::{OpenVariable, known_value};
-use crate::line::{Line, sum_at};
+use crate::line::{LinearSum, sum_at};
 use crate::row::Row;
 use crate::span::Span;
 use dcsp_domain::Domain;
@@ -34,7 +34,7 @@ pub enum SumTruth {
 #[derive(Clone, Copy)]
 pub struct OpenSum {
     pub rel: Rel,
-    pub line: Line,
+    pub line: LinearSum,
     /// `None` where it is the open variable.
     pub total: Option<i64>,
     pub told: SumTruth,
@@ -72,7 +72,7 @@ pub fn off_span(opened: OpenSum, domain: &Domain) -> Option<Span>
 
 /// The places of those of these values at which the sum does not stand so to the total.
 #[inline(always)]
-pub fn missed_line(rel: Rel, line: Line, total: i128, domain: &Domain) -> Span
+pub fn missed_line(rel: Rel, line: LinearSum, total: i128, domain: &Domain) -> Span
     requires base { unsigned_abs line.base ≤ widest }
     requires total { unsigned_abs total ≤ 2 ^ 65 }
     ensures { SpansWhere (λ x. not (stands rel (line_at line x) total)) domain.now result }

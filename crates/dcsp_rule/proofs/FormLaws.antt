@@ -12,7 +12,7 @@ use Rattle.dcsp_rule.specs.declared.rule.Members.{Members}
 use Rattle.dcsp_rule.specs.declared.rule.Members.TheVariants.{Between, Listed}
 use Rattle.dcsp_rule.specs.declared.rule.Rule.{Rule}
 use Rattle.dcsp_rule.specs.declared.rule.Rule.TheVariants.{Plain, Sum}
-use Rattle.dcsp_rule.specs.declared.pair.Pair.{Pair}
+use Rattle.dcsp_rule.specs.declared.pair.BinaryRule.{BinaryRule}
 use Rattle.dcsp_rule.specs.declared.form.Form.{Form}
 use Rattle.dcsp_rule.specs.declared.form.Form.TheVariants as form
 use Rattle.dcsp_rule.specs.Members.{is_member, values_of}
@@ -40,7 +40,7 @@ looks_listed rule set e = looks_up (form.Listed set) rule refl (λ v. ap (λ z. 
 
 looking_form : (made : Form) (rule : Rule) → (IsTrue (compares_variable rule) → ⊥) → ((v w : ℕ) → IsSmallSum v w rule → ⊥) → LooksUp rule made → IsFormOf made rule
 looking_form made rule none none_small h = record {
-  truth = λ values. ap (λ (o : Option Pair). pair_or_truth o (form_has made) rule values) h.0 ∙ h.1 values;
+  truth = λ values. ap (λ (o : Option BinaryRule). pair_or_truth o (form_has made) rule values) h.0 ∙ h.1 values;
   pair = rw h.0 tt;
   compared = λ t. absurd (none t);
   summed = λ v w t. absurd (none_small v w t);

@@ -7,7 +7,7 @@ use Rattle.std.proofs.lemmas.Slice.Zip.{length-zip, get_or-zip}
 use Rattle.std.proofs.lemmas.Int.{ints}
 use Rattle.std.proofs.Math.IntN.{zero-*ℤ, suc_ℤ-*ℤ, suc_ℤ-+ℤ}
 use Rattle.std.proofs.Math.ListN.{drop_of_length-le}
-use Rattle.dcsp_meaning.specs.declared.kinds.Kind.{Kind}
+use Rattle.dcsp_meaning.specs.declared.kinds.ConstraintKind.{ConstraintKind}
 use Rattle.dcsp_meaning.specs.Table.{truth}
 use Rattle.dcsp_meaning.specs.Words.{argument}
 use Rattle.dcsp_meaning.specs.declared.linear.Rel.{Rel}
@@ -16,7 +16,7 @@ use Rattle.dcsp_meaning.specs.Sums.{sum_of, stands}
 use Rattle.dcsp_meaning.proofs.Steps.{sum_of-drop}
 use Rattle.dcsp_defs.specs.Words.{is_number}
 use Rattle.dcsp_defs.specs.Csp.{Assignment}
-use Rattle.dcsp_rule.specs.declared.pair.Pair.{Pair}
+use Rattle.dcsp_rule.specs.declared.pair.BinaryRule.{BinaryRule}
 use Rattle.dcsp_rule.specs.declared.parts.Part.{Part}
 use Rattle.dcsp_rule.specs.declared.parts.Parts.{Parts}
 use Rattle.dcsp_rule.specs.declared.parts.Comparison.{Comparison}
@@ -248,7 +248,7 @@ second_variable compared x value total e small = record {
 }
 
 -- the pair of a comparison says what the rule does
-pub comparison_pair : (pair : Pair) (kind : Kind) (scalars xs ys : List Term) (members : Members) (compared : Comparison) (a b : Term) → scalars ≡ a ∷ b ∷ [] → xs ≡ [] → ys ≡ []
+pub comparison_pair : (pair : BinaryRule) (kind : ConstraintKind) (scalars xs ys : List Term) (members : Members) (compared : Comparison) (a b : Term) → scalars ≡ a ∷ b ∷ [] → xs ≡ [] → ys ≡ []
     → ((scalars first second : List ℤ) → (member : ℤ → Bool) → truth kind scalars first second member ≡ stands compared.rel (argument scalars 0 -ℤ argument scalars 1) compared.total) → IsPairOfTerms compared a b pair
     → IsPairOf pair (Plain kind scalars xs ys members)
 comparison_pair pair kind scalars xs ys members compared a b e f g is h = rw (e, f, g) (record {
@@ -258,7 +258,7 @@ comparison_pair pair kind scalars xs ys members compared a b e f g is h = rw (e,
 })
 
 -- and so does that of a sum
-pub sum_pair : (pair : Pair) (rel : Rel) (coefs : List ℤ) (terms : List Term) (total : Term) (told : Option Term) (parts next : Parts) → told ≡ None → AreOfSum coefs terms parts → AddsTerm parts (negsuc 0) total next
+pub sum_pair : (pair : BinaryRule) (rel : Rel) (coefs : List ℤ) (terms : List Term) (total : Term) (told : Option Term) (parts next : Parts) → told ≡ None → AreOfSum coefs terms parts → AddsTerm parts (negsuc 0) total next
     → IsPairFrom rel next pair → IsPairOf pair (Sum rel coefs terms total told)
 sum_pair pair rel coefs terms total told parts next e sum adds h = rw e (record {
   truth = λ values.

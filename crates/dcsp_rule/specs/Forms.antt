@@ -7,14 +7,14 @@ use Rattle.dcsp_rule.specs.declared.rule.Members.{Members}
 use Rattle.dcsp_rule.specs.declared.rule.Members.TheVariants.{Between, Listed}
 use Rattle.dcsp_rule.specs.declared.rule.Rule.{Rule}
 use Rattle.dcsp_rule.specs.declared.rule.Rule.TheVariants.{Plain, Sum}
-use Rattle.dcsp_rule.specs.declared.pair.Pair.{Pair}
+use Rattle.dcsp_rule.specs.declared.pair.BinaryRule.{BinaryRule}
 use Rattle.dcsp_rule.specs.declared.form.Form.{Form}
 use Rattle.dcsp_rule.specs.declared.form.Form.TheVariants as form
 use Rattle.dcsp_rule.specs.Rules.{rule_truth, value_under, no_rule}
 use Rattle.dcsp_rule.specs.Pairs.{compares_variable, pair_truth, IsPairOf, IsSmallSum}
 
 -- the pair that a form is, if it is one
-abbrev pub pair_in : Form → Option Pair
+abbrev pub pair_in : Form → Option BinaryRule
 pair_in (form.Linear pair) = Some pair
 pair_in (form.Listed set) = None
 pair_in form.Plain = None
@@ -37,7 +37,7 @@ found_truth found (Plain kind scalars first second members) values =
 found_truth found (Sum rel coefs terms total told) values = rule_truth (Sum rel coefs terms total told) values
 
 -- whether the rule holds where it is looked at by its pair, if it has one, and else by its form's set
-abbrev pub pair_or_truth : Option Pair → (ℤ → Bool) → Rule → Assignment → Bool
+abbrev pub pair_or_truth : Option BinaryRule → (ℤ → Bool) → Rule → Assignment → Bool
 pair_or_truth None found rule values = found_truth found rule values
 pair_or_truth (Some pair) found rule values = pair_truth pair values
 

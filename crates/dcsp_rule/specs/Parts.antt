@@ -5,7 +5,7 @@ use Rattle.dcsp_meaning.specs.declared.linear.Rel.{Rel}
 use Rattle.dcsp_meaning.specs.Sums.{size_of, stands, sum_of}
 use Rattle.dcsp_defs.specs.Words.{is_number}
 use Rattle.dcsp_defs.specs.Csp.{Assignment}
-use Rattle.dcsp_rule.specs.declared.pair.Pair.{Pair}
+use Rattle.dcsp_rule.specs.declared.pair.BinaryRule.{BinaryRule}
 use Rattle.dcsp_rule.specs.declared.parts.Part.{Part}
 use Rattle.dcsp_rule.specs.declared.parts.Parts.{Parts}
 use Rattle.dcsp_rule.specs.declared.parts.Comparison.{Comparison}
@@ -89,17 +89,17 @@ pub record StaySmall (coefs : List ℤ) (terms : List Term) (result : Option Par
   pub room : (v w : ℕ) → IsTrue (list_all (is_over v w) terms) → sum_by unsigned_abs coefs < 2 ^ 62 → sum_by size_of (weighted_values at_zero coefs terms) ≤ 2 ^ 65 → HasRoom v w result
 
 -- the pair says how the parts stand to 0
-pub record IsPairFrom (rel : Rel) (parts : Parts) (pair : Pair) : Type 0 where
+pub record IsPairFrom (rel : Rel) (parts : Parts) (pair : BinaryRule) : Type 0 where
   pub truth : (values : Assignment) → pair_truth pair values ≡ stands rel (parts_at parts values) (pos 0)
   pub variables : (var : ℕ) → is_of_pair pair var ≡ is_of_parts parts var
   pub small : IsSmall pair
 
 -- the pair says how the difference of two terms compares
-pub record IsPairOfTerms (compared : Comparison) (first second : Term) (pair : Pair) : Type 0 where
+pub record IsPairOfTerms (compared : Comparison) (first second : Term) (pair : BinaryRule) : Type 0 where
   pub truth : (values : Assignment) → pair_truth pair values ≡ stands compared.rel (value_under values first -ℤ value_under values second) compared.total
   pub variables : (var : ℕ) → is_of_pair pair var ≡ (is_number (variable_of first) var || is_number (variable_of second) var)
   pub small : IsSmall pair
 
 -- there is such a pair where one of the terms is a variable
-abbrev pub ComparesTerms : Comparison → Term → Term → Option Pair → Type 0
+abbrev pub ComparesTerms : Comparison → Term → Term → Option BinaryRule → Type 0
 ComparesTerms compared first second pair = IfSome pair (IsPairOfTerms compared first second) × (is_some pair ≡ (is_some (variable_of first) || is_some (variable_of second)))

@@ -4,7 +4,7 @@ use Rattle.std.specs.List.{list_any, filter_map}
 use Rattle.std.specs.Option.{option_map, option_to_list}
 use Rattle.dcsp_meaning.specs.Table.{is_shape, truth}
 use Rattle.dcsp_meaning.specs.Words.{is_one, same}
-use Rattle.dcsp_meaning.specs.declared.kinds.Kind.TheVariants.{IntEq}
+use Rattle.dcsp_meaning.specs.declared.kinds.ConstraintKind.TheVariants.{IntEq}
 use Rattle.dcsp_meaning.specs.Sums.{sum_of, stands}
 use Rattle.dcsp_defs.specs.Words.{below}
 use Rattle.dcsp_defs.specs.Csp.{Assignment}

@@ -5,7 +5,7 @@ ghost use Rattle.dcsp_rule.specs.Rules.{has_shape};
 ghost use Rattle.dcsp_rule.specs.Forms.{form_has, pair_in, AreForms, IsFormOf, LooksUp};
 
 use crate::members::MemberSet;
-use crate::pair::Pair;
+use crate::pair::BinaryRule;
 use crate::parts::pair_of;
 use crate::rule::{Members, Rule};
 use dcsp_common::Memory;
@@ -15,7 +15,7 @@ use std::alloc::Global;
 #[derive(Debug, Drop)]
 pub enum Form {
     /// A relation of one or two variables, which tells all.
-    Linear(Pair),
+    Linear(BinaryRule),
     /// A rule that lists members, with their set.
     Listed(MemberSet),
     /// Any other rule, which is looked at itself.
@@ -25,7 +25,7 @@ pub enum Form {
 impl Form {
     /// The pair, if it is one. It is inlined, so that no pair goes through memory where a rule is tested.
     #[inline(always)]
-    pub fn pair(&self) -> Option<Pair>
+    pub fn pair(&self) -> Option<BinaryRule>
         ensures { result ≡ pair_in self.now }
     {
         match self {

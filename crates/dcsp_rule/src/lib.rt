@@ -21,5 +21,5 @@ pub use ground::is_true_under;
 pub use lookup::{Assignment, Lookup, WithinDomains};
 pub use members::MemberSet;
 pub use output::{NameText, Output, Shape};
-pub use pair::Pair;
+pub use pair::BinaryRule;
 pub use rule::{Members, NumberList, Rule, Term, TermList};

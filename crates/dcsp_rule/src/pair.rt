@@ -10,7 +10,7 @@ use dcsp_meaning::{Rel, product};
 /// A rule over one or two variables: the products of each coefficient and its variable, added up, stand so to the
 /// total. A rule over one variable has it twice.
 #[derive(Clone, Copy, Debug)]
-pub struct Pair {
+pub struct BinaryRule {
     pub rel: Rel,
     pub first: u32,
     pub second: u32,
@@ -19,7 +19,7 @@ pub struct Pair {
     pub total: i128,
 }
 
-impl Pair {
+impl BinaryRule {
     /// Whether the rule is true where its variables have these values.
     #[inline(always)]
     pub fn holds(self, first: i64, second: i64) -> bool

@@ -9,9 +9,9 @@ ghost use Rattle.dcsp_rule.specs.declared.rule.Term.{Term};
 ghost use Rattle.dcsp_rule.specs.Pairs.{compares_variable, is_comparison, IsPairOf, IsSmallSum};
 ghost use Rattle.dcsp_rule.specs.Parts.{coefs_size, is_free_for, part_size, AddsPart, AddsTerm, AreOfSum, ComparesTerms, IsPairFrom, StaySmall, StaysSmall};
 
-use crate::pair::Pair;
+use crate::pair::BinaryRule;
 use crate::rule::{Rule, Term};
-use dcsp_meaning::{Kind, Rel, product};
+use dcsp_meaning::{ConstraintKind, Rel, product};
 
 /// A coefficient and its variable.
 #[derive(Clone, Copy)]
@@ -39,7 +39,7 @@ pub struct Comparison {
 /// The pair that the rule is, if it is one: a comparison, or a sum that nothing tells, over one or two variables.
 ///
 /// Of a sum whose numbers are great, added up, there may be none.
-pub fn pair_of(rule: &Rule) -> Option<Pair>
+pub fn pair_of(rule: &Rule) -> Option<BinaryRule>
     requires { IsTrue (has_shape rule.now) }
     ensures pair { IfSome result (λ pair. IsPairOf pair rule.now) }
     ensures compared { IsTrue (compares_variable rule.now) → IsSome result }
@@ -71,29 +71,29 @@ pub fn pair_of(rule: &Rule) -> Option<Pair>
 }
 
 /// How a constraint of this kind compares the difference of its numbers, if it is a comparison.
-fn compared_by(kind: Kind) -> Option<Comparison>
+fn compared_by(kind: ConstraintKind) -> Option<Comparison>
     ensures some { is_some result ≡ is_comparison kind }
     ensures shape { is_some result ≡ true → (scalars first second : ℕ) → IsTrue (is_shape kind scalars first second) → (scalars ≡ 2) × ((first ≡ 0) × (second ≡ 0)) }
     ensures compares { IfSome result (λ compared. (scalars first second : List ℤ) → (member : ℤ → Bool) → truth kind scalars first second member ≡ stands compared.rel (argument scalars 0 -ℤ argument scalars 1) compared.total) }
 {
     let (rel, total) = match kind {
-        Kind::IntEq => (Rel::Equal, 0),
-        Kind::IntNe => (Rel::Differ, 0),
-        Kind::IntLe => (Rel::AtMost, 0),
-        Kind::IntLt => (Rel::AtMost, -1),
+        ConstraintKind::IntEq => (Rel::Equal, 0),
+        ConstraintKind::IntNe => (Rel::Differ, 0),
+        ConstraintKind::IntLe => (Rel::AtMost, 0),
+        ConstraintKind::IntLt => (Rel::AtMost, -1),
         _ => return None,
     };
     Some(Comparison { rel, total })
 }
 
 /// The pair of a comparison, if one of its terms is a variable.
-fn pair_of_terms(compared: Comparison, first: Term, second: Term) -> Option<Pair>
+fn pair_of_terms(compared: Comparison, first: Term, second: Term) -> Option<BinaryRule>
     ensures { ComparesTerms compared first second result }
 {
     let total = i128::from(compared.total);
     match first {
         Term::Var(var) => match second {
-            Term::Var(other) => Some(Pair {
+            Term::Var(other) => Some(BinaryRule {
                 rel: compared.rel,
                 first: var,
                 second: other,
@@ -101,7 +101,7 @@ fn pair_of_terms(compared: Comparison, first: Term, second: Term) -> Option<Pair
                 second_coef: -1,
                 total,
             }),
-            Term::Const(value) => Some(Pair {
+            Term::Const(value) => Some(BinaryRule {
                 rel: compared.rel,
                 first: var,
                 second: var,
@@ -111,7 +111,7 @@ fn pair_of_terms(compared: Comparison, first: Term, second: Term) -> Option<Pair
             }),
         },
         Term::Const(value) => match second {
-            Term::Var(var) => Some(Pair {
+            Term::Var(var) => Some(BinaryRule {
                 rel: compared.rel,
                 first: var,
                 second: var,
@@ -204,7 +204,7 @@ fn with_part(part: Option<Part>, coef: i64, var: u32) -> Option<Part>
 }
 
 /// The pair that says how the parts stand to 0, if there is a variable and all numbers fit.
-fn pair_of_parts(rel: Rel, parts: Parts) -> Option<Pair>
+fn pair_of_parts(rel: Rel, parts: Parts) -> Option<BinaryRule>
     ensures pair { IfSome result (IsPairFrom rel parts) }
     ensures some { is_some parts.first ≡ true → coefs_size parts < 2 ^ 62 → unsigned_abs parts.total ≤ 2 ^ 65 → IsSome result }
 {
@@ -213,7 +213,7 @@ fn pair_of_parts(rel: Rel, parts: Parts) -> Option<Pair>
         coef: 0,
         var: first.var,
     });
-    let pair = Pair {
+    let pair = BinaryRule {
         rel,
         first: first.var,
         second: second.var,

@@ -2,7 +2,7 @@
 
 use dcsp_common::ItemList;
 use dcsp_domain::IntList;
-use dcsp_meaning::{Kind, Rel};
+use dcsp_meaning::{ConstraintKind, Rel};
 
 /// A constant, or a variable by its number.
 #[derive(Clone, Copy, Debug, PartialEq, Eq)]
@@ -32,7 +32,7 @@ pub enum Rule {
     /// A constraint that needs no sum. A list that its kind does not use is empty, and members that it does not
     /// use are `Listed`, of none.
     Plain {
-        kind: Kind,
+        kind: ConstraintKind,
         scalars: TermList,
         first: TermList,
         second: TermList,

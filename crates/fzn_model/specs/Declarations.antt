@@ -8,8 +8,8 @@ use Rattle.fzn_item.specs.declared.item.Base.{Base}
 use Rattle.fzn_item.specs.declared.item.Base.TheVariants as base
 use Rattle.fzn_item.specs.declared.item.Marked.{Marked}
 use Rattle.fzn_item.specs.declared.item.Marked.TheVariants as marked
-use Rattle.dcsp_meaning.specs.declared.kinds.Kind.{Kind}
-use Rattle.dcsp_meaning.specs.declared.kinds.Kind.TheVariants.{IntEq, BoolEq, SetIn}
+use Rattle.dcsp_meaning.specs.declared.kinds.ConstraintKind.{ConstraintKind}
+use Rattle.dcsp_meaning.specs.declared.kinds.ConstraintKind.TheVariants.{IntEq, BoolEq, SetIn}
 use Rattle.dcsp_rule.specs.declared.rule.Term.{Term}
 use Rattle.dcsp_rule.specs.declared.rule.Term.TheVariants.{Var}
 use Rattle.dcsp_rule.specs.declared.rule.Members.{Members}
@@ -120,7 +120,7 @@ source_of text scope boolean (Some expr) = do
   Ok (Some term)
 
 -- equality of integers or of Booleans
-abbrev pub equality : Bool → Kind
+abbrev pub equality : Bool → ConstraintKind
 equality true = BoolEq
 equality false = IntEq
 

@@ -14,7 +14,7 @@ use crate::building::add_rule;
 use crate::declaration::{Declaration, is_boolean};
 use crate::refusal::{ItemRefusal, Stop, ill_typed};
 use dcsp_domain::IntList;
-use dcsp_problem::{Kind, Members, ProblemBuilder, Rule, Term, TermList, Which};
+use dcsp_problem::{ConstraintKind, Members, ProblemBuilder, Rule, Term, TermList, Which};
 use fzn_item::{Base, Expr};
 use fzn_scope::{Context, Wanted};
 use std::alloc::Global;
@@ -106,7 +106,7 @@ fn add_member(
         return Ok(());
     };
     let rule = Rule::Plain {
-        kind: Kind::SetIn,
+        kind: ConstraintKind::SetIn,
         scalars: TermList::from_vec(vec![in alloc; term]?),
         first: TermList::new(alloc),
         second: TermList::new(alloc),

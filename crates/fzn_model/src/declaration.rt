@@ -13,7 +13,7 @@ ghost use Rattle.fzn_model.specs.Reading.{Leaves};
 use crate::building::add_rule;
 use crate::refusal::{ItemRefusal, Stop, ill_typed};
 use dcsp_domain::{Domain, DomainError, IntList};
-use dcsp_problem::{Kind, Members, ProblemBuilder, Rule, Term, TermList, Which};
+use dcsp_problem::{ConstraintKind, Members, ProblemBuilder, Rule, Term, TermList, Which};
 use fzn_item::{Base, Expr, Marked};
 use fzn_scope::{Context, Declared, Wanted};
 use std::alloc::Global;
@@ -148,10 +148,14 @@ pub(crate) fn source_of(
 }
 
 /// Equality of integers or of Booleans.
-fn equality(boolean: bool) -> Kind
+fn equality(boolean: bool) -> ConstraintKind
     ensures { result ≡ equality boolean }
 {
-    if boolean { Kind::BoolEq } else { Kind::IntEq }
+    if boolean {
+        ConstraintKind::BoolEq
+    } else {
+        ConstraintKind::IntEq
+    }
 }
 
 impl<'i, 't> Declaration<'i, 't> {

@@ -2,3 +2,5 @@ mod NameTable
 mod Steps
 pub mod KnownLaws
 pub mod ShapeLaws
+pub mod PlacesInOrder
+pub mod Declaring

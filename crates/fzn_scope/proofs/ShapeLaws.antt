@@ -5,8 +5,8 @@ use Rattle.std.proofs.lemmas.Bool.{eqb-true, not-false}
 use Rattle.std.proofs.lemmas.List.{length-map}
 use Rattle.std.proofs.lemmas.Result.{IfOk-weaker}
 use Rattle.fzn_item.specs.declared.item.Expr.{Expr}
-use Rattle.dcsp_meaning.specs.declared.kinds.Kind.{Kind}
-use Rattle.dcsp_meaning.specs.declared.kinds.Kind.TheVariants as kind
+use Rattle.dcsp_meaning.specs.declared.kinds.ConstraintKind.{ConstraintKind}
+use Rattle.dcsp_meaning.specs.declared.kinds.ConstraintKind.TheVariants as kind
 use Rattle.dcsp_meaning.specs.Table.{is_shape}
 use Rattle.dcsp_rule.specs.declared.rule.Term.{Term}
 use Rattle.dcsp_rule.specs.declared.rule.Rule.{Rule}
@@ -100,13 +100,13 @@ gains_all text scope done (place ∷ places) (x ∷ exprs) e =
     (gains_all text scope next places exprs (omega (arith, e))))
 
 -- scalars alone; scalars and the first list; scalars and both lists
-of_scalars : (k : Kind) (s f g n : ℕ) → s ≡ n → f ≡ 0 → g ≡ 0 → is_shape k n 0 0 ≡ true → IsTrue (is_shape k s f g)
+of_scalars : (k : ConstraintKind) (s f g n : ℕ) → s ≡ n → f ≡ 0 → g ≡ 0 → is_shape k n 0 0 ≡ true → IsTrue (is_shape k s f g)
 of_scalars k s f g n e p q h = rw (e, p, q) h
 
-of_list : (k : Kind) (s f g n : ℕ) → s ≡ n → g ≡ 0 → is_shape k n f 0 ≡ true → IsTrue (is_shape k s f g)
+of_list : (k : ConstraintKind) (s f g n : ℕ) → s ≡ n → g ≡ 0 → is_shape k n f 0 ≡ true → IsTrue (is_shape k s f g)
 of_list k s f g n e q h = rw (e, q) h
 
-of_lists : (k : Kind) (s f g n : ℕ) → s ≡ n → is_shape k n f g ≡ true → IsTrue (is_shape k s f g)
+of_lists : (k : ConstraintKind) (s f g n : ℕ) → s ≡ n → is_shape k n f g ≡ true → IsTrue (is_shape k s f g)
 of_lists k s f g n e h = rw e h
 
 -- two or three Booleans
@@ -115,7 +115,7 @@ of_xor true s f g e p q = of_scalars kind.BoolXor s f g 2 e (p refl) (q refl) re
 of_xor false s f g e p q = of_scalars kind.BoolXor s f g 3 e (p refl) (q refl) refl
 
 -- the places of a kind give what the kind takes
-suits : (k : Kind) (count s f g : ℕ) → s ≡ scalars_in (places_of (Plain k) count) → (has_first (places_of (Plain k) count) ≡ false → f ≡ 0) → (has_second (places_of (Plain k) count) ≡ false → g ≡ 0) → IsTrue (is_shape k s f g)
+suits : (k : ConstraintKind) (count s f g : ℕ) → s ≡ scalars_in (places_of (Plain k) count) → (has_first (places_of (Plain k) count) ≡ false → f ≡ 0) → (has_second (places_of (Plain k) count) ≡ false → g ≡ 0) → IsTrue (is_shape k s f g)
 suits kind.IntEq count s f g e p q = of_scalars kind.IntEq s f g 2 e (p refl) (q refl) refl
 suits kind.IntEqReif count s f g e p q = of_scalars kind.IntEqReif s f g 3 e (p refl) (q refl) refl
 suits kind.IntNe count s f g e p q = of_scalars kind.IntNe s f g 2 e (p refl) (q refl) refl

@@ -1,8 +1,8 @@
 -- The table of constraints: how each is called, and what its arguments are.
 use Rattle.std.specs.Prelude.{ℕ, ◌==◌, Bool, true, false, List, [], ◌∷◌, ◌++◌, Option, None, Some, codes, if◌then◌else◌}
 use Rattle.std.specs.Str.{bytes_eq}
-use Rattle.dcsp_meaning.specs.declared.kinds.Kind.{Kind}
-use Rattle.dcsp_meaning.specs.declared.kinds.Kind.TheVariants as kind
+use Rattle.dcsp_meaning.specs.declared.kinds.ConstraintKind.{ConstraintKind}
+use Rattle.dcsp_meaning.specs.declared.kinds.ConstraintKind.TheVariants as kind
 use Rattle.dcsp_meaning.specs.declared.linear.Rel.TheVariants.{Equal, AtMost, Differ}
 use Rattle.dcsp_meaning.specs.Table.{is_reified, plain_of}
 use Rattle.dcsp_meaning.specs.Names.{kind_named}
@@ -32,7 +32,7 @@ abbrev pub coefficients : Place
 coefficients = First (record { boolean = false; constant = true })
 
 -- the arguments of a constraint that needs no sum and is not reified. `bool_xor` takes two or three
-abbrev pub plain_places : Kind → ℕ → List Place
+abbrev pub plain_places : ConstraintKind → ℕ → List Place
 plain_places kind.IntEq count = whole ∷ whole ∷ []
 plain_places kind.IntNe count = whole ∷ whole ∷ []
 plain_places kind.IntLe count = whole ∷ whole ∷ []
@@ -93,7 +93,7 @@ form_among name [] = None
 form_among name (s ∷ ss) = if bytes_eq name s.0 then Some s.1 else form_among name ss
 
 -- the kind's form, or that of a sum with this name
-abbrev pub kind_or_sum : Option Kind → List ℕ → Option Form
+abbrev pub kind_or_sum : Option ConstraintKind → List ℕ → Option Form
 kind_or_sum (Some kind) name = Some (Plain kind)
 kind_or_sum None name = form_among name sums
 

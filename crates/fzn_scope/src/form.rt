@@ -5,7 +5,7 @@ ghost use Rattle.fzn_scope.specs.Forms.{form_among, sums, form_named, whole, coe
 ghost use Rattle.dcsp_meaning.specs.Table.{plain_of, is_reified};
 
 use crate::place::Wanted;
-use dcsp_meaning::{Kind, Rel};
+use dcsp_meaning::{ConstraintKind, Rel};
 
 /// What the place of an argument asks for.
 #[derive(Clone, Copy, Debug, PartialEq, Eq)]
@@ -24,7 +24,7 @@ pub enum Place {
 #[derive(Clone, Copy, Debug, PartialEq, Eq)]
 pub enum Form {
     /// One that needs no sum.
-    Plain(Kind),
+    Plain(ConstraintKind),
     /// A sum of constants times integers or Booleans, and how it stands to a total. A reified sum has one
     /// Boolean more.
     Sum {
@@ -78,7 +78,7 @@ impl Form {
         if let Some(sum) = sum_named(name) {
             return Some(sum);
         }
-        match Kind::from_name(name) {
+        match ConstraintKind::from_name(name) {
             Some(kind) => Some(Form::Plain(kind)),
             None => None,
         }
@@ -127,35 +127,49 @@ fn sum_places(boolean: bool, reified: bool) -> &'static [Place]
     }
 }
 
-fn kind_places(kind: Kind, count: usize) -> &'static [Place]
+fn kind_places(kind: ConstraintKind, count: usize) -> &'static [Place]
     ensures { result.now ≡ reified_places (is_reified kind) (plain_places (plain_of kind) count) }
 {
     match kind {
-        Kind::IntEq | Kind::IntNe | Kind::IntLe | Kind::IntLt | Kind::IntAbs => &[WHOLE, WHOLE],
-        Kind::IntEqReif | Kind::IntNeReif | Kind::IntLeReif | Kind::IntLtReif => {
-            &[WHOLE, WHOLE, TRUTH]
-        }
-        Kind::IntPlus
-        | Kind::IntTimes
-        | Kind::IntMin
-        | Kind::IntMax
-        | Kind::IntDiv
-        | Kind::IntMod => &[WHOLE, WHOLE, WHOLE],
-        Kind::BoolEq | Kind::BoolLe | Kind::BoolLt | Kind::BoolNot => &[TRUTH, TRUTH],
-        Kind::BoolEqReif | Kind::BoolLeReif | Kind::BoolLtReif | Kind::BoolAnd | Kind::BoolOr => {
-            &[TRUTH, TRUTH, TRUTH]
-        }
-        Kind::BoolXor if count == 2 => &[TRUTH, TRUTH],
-        Kind::BoolXor => &[TRUTH, TRUTH, TRUTH],
-        Kind::Bool2int => &[TRUTH, WHOLE],
-        Kind::BoolClause => &[TRUTHS, OTHER_TRUTHS],
-        Kind::BoolClauseReif => &[TRUTHS, OTHER_TRUTHS, TRUTH],
-        Kind::ArrayBoolAnd | Kind::ArrayBoolOr => &[TRUTHS, TRUTH],
-        Kind::ArrayBoolXor => &[TRUTHS],
-        Kind::ArrayIntElement | Kind::ArrayVarIntElement => &[WHOLE, WHOLES, WHOLE],
-        Kind::ArrayBoolElement | Kind::ArrayVarBoolElement => &[WHOLE, TRUTHS, TRUTH],
-        Kind::SetIn => &[WHOLE, Place::Set],
-        Kind::SetInReif => &[WHOLE, Place::Set, TRUTH],
-        Kind::FznAllDifferentInt => &[WHOLES],
+        ConstraintKind::IntEq
+        | ConstraintKind::IntNe
+        | ConstraintKind::IntLe
+        | ConstraintKind::IntLt
+        | ConstraintKind::IntAbs => &[WHOLE, WHOLE],
+        ConstraintKind::IntEqReif
+        | ConstraintKind::IntNeReif
+        | ConstraintKind::IntLeReif
+        | ConstraintKind::IntLtReif => { &[WHOLE, WHOLE, TRUTH] }
+        ConstraintKind::IntPlus
+        | ConstraintKind::IntTimes
+        | ConstraintKind::IntMin
+        | ConstraintKind::IntMax
+        | ConstraintKind::IntDiv
+        | ConstraintKind::IntMod => &[WHOLE, WHOLE, WHOLE],
+        ConstraintKind::BoolEq
+        | ConstraintKind::BoolLe
+        | ConstraintKind::BoolLt
+        | ConstraintKind::BoolNot => &[TRUTH, TRUTH],
+        ConstraintKind::BoolEqReif
+        | ConstraintKind::BoolLeReif
+        | ConstraintKind::BoolLtReif
+        | ConstraintKind::BoolAnd
+        | ConstraintKind::BoolOr => { &[TRUTH, TRUTH, TRUTH] }
+        ConstraintKind::BoolXor if count == 2 => &[TRUTH, TRUTH],
+        ConstraintKind::BoolXor => &[TRUTH, TRUTH, TRUTH],
+        ConstraintKind::Bool2int => &[TRUTH, WHOLE],
+        ConstraintKind::BoolClause => &[TRUTHS, OTHER_TRUTHS],
+        ConstraintKind::BoolClauseReif => &[TRUTHS, OTHER_TRUTHS, TRUTH],
+        ConstraintKind::ArrayBoolAnd | ConstraintKind::ArrayBoolOr => &[TRUTHS, TRUTH],
+        ConstraintKind::ArrayBoolXor => &[TRUTHS],
+        ConstraintKind::ArrayIntElement | ConstraintKind::ArrayVarIntElement => &[
+            WHOLE, WHOLES, WHOLE,
+        ],
+        ConstraintKind::ArrayBoolElement | ConstraintKind::ArrayVarBoolElement => &[
+            WHOLE, TRUTHS, TRUTH,
+        ],
+        ConstraintKind::SetIn => &[WHOLE, Place::Set],
+        ConstraintKind::SetInReif => &[WHOLE, Place::Set, TRUTH],
+        ConstraintKind::FznAllDifferentInt => &[WHOLES],
     }
 }

@@ -2,6 +2,7 @@
 use Rattle.std.proofs.Common.{◌≡◌, ℕ, zero, suc, ◌+◌, ◌<◌, ◌≤◌, Bool, true, false, cond, not, ◌&&◌, inl, inr, List, [], ◌∷◌, ◌++◌, find, length, slice_get, ◌==◌, nat_lt, Option, Some, None, ℤ, pos, refl, sym, ap, ◌∙◌, subst, arith, append-nil, option_to_list, ◌%◌, add-one, zero-add}
 use Rattle.std.proofs.lemmas.Bool.Decides.{eqb_tells}
 use Rattle.std.specs.List.{enumerate_from}
+use Rattle.dcsp_common.proofs.Items.{get_front}
 use Rattle.dcsp_defs.specs.Words.{In, below}
 use Rattle.dcsp_defs.specs.Csp.{Csp, Constraint, Nogood, domain, count, IsCsp}
 use Rattle.dcsp_defs.specs.declared.Step.{Step}
@@ -37,14 +38,9 @@ pub record AllRooted (p : Csp) (net : Network) : Type 0 where
 
 -- ---- more steps
 
-get-append : {X : Type 0} → (xs ys : List X) (n : ℕ) (x : X) → slice_get xs n ≡ Some x → slice_get (xs ++ ys) n ≡ Some x
-get-append [] ys n x h = cc
-get-append (y ∷ xs) ys zero x h = h
-get-append (y ∷ xs) ys (suc n) x h = get-append xs ys n x h
-
 step_at-more : (steps more : List Step) (n : ℕ) (s : Step) → step_at steps n ≡ Some s → step_at (steps ++ more) n ≡ Some s
 step_at-more steps more zero s h = cc
-step_at-more steps more (suc n) s h = get-append steps more n s h
+step_at-more steps more (suc n) s h = get_front steps more n s h
 
 Source-more : (steps more : List Step) (n : ℕ) (pairs : Nogood) → Source steps n pairs → Source (steps ++ more) n pairs
 Source-more steps more n pairs h = record { step = h.step; there = step_at-more steps more n h.step h.there; same = h.same }

@@ -26,28 +26,13 @@ use Rattle.fzn_scope.specs.declared.arguments.Arguments.{Arguments}
 use Rattle.fzn_scope.specs.Names.{Scope}
 use Rattle.fzn_scope.specs.Places.{one_of, list_of, set_of}
 use Rattle.fzn_scope.specs.Rules.{with_argument, arguments_after, constant_of, scalar_at, truth_of, rule_of}
+use Rattle.fzn_scope.proofs.PlacesInOrder.{is_ordered, are_constant}
 use Rattle.law_meaning.specs.Environments.{Value, Number, Numbers, Set, Environment, as_number, as_numbers, as_set, numbers, arrays, sets, array_at, first_set, expr_value}
 use Rattle.law_meaning.specs.Holding.{told_truth, form_truth}
 use Rattle.law_meaning.proofs.Checks.{bind_ok}
 use Rattle.law_meaning.proofs.Names.{Agrees}
 use Rattle.law_meaning.proofs.Values.{append_map, one_value, list_value, set_value}
 use Rattle.law_meaning.proofs.Sorts.{AreFixed, Sorted, list_fixed}
-
--- so many lists and sets stand before these places, of which at most one is a first list, then a second, and one a set
-abbrev pub is_ordered : ℕ → ℕ → List Place → Bool
-is_ordered n m [] = true
-is_ordered n m (place.Scalar boolean ∷ ps) = is_ordered n m ps
-is_ordered n m (place.First wanted ∷ ps) = (n == 0) && is_ordered 1 m ps
-is_ordered n m (place.Second boolean ∷ ps) = (n == 1) && is_ordered 2 m ps
-is_ordered n m (place.Set ∷ ps) = (m == 0) && is_ordered n 1 ps
-
--- each first list is of constants
-abbrev pub are_constant : List Place → Bool
-are_constant [] = true
-are_constant (place.Scalar boolean ∷ ps) = are_constant ps
-are_constant (place.First wanted ∷ ps) = wanted.constant && are_constant ps
-are_constant (place.Second boolean ∷ ps) = are_constant ps
-are_constant (place.Set ∷ ps) = are_constant ps
 
 -- the arguments have these values
 pub record Reads (values : Assignment) (n m : ℕ) (vs : List Value) (done : Arguments) : Type 0 where

@@ -4,7 +4,7 @@ use Rattle.std.specs.Prelude.{map, ℤ, ◌==◌, if◌then◌else◌}
 use Rattle.std.proofs.lemmas.Bool.{eqb-true}
 use Rattle.fzn_item.specs.declared.item.Expr.{Expr}
 use Rattle.dcsp_meaning.specs.declared.linear.Rel.{Rel}
-use Rattle.dcsp_meaning.specs.declared.kinds.Kind.TheVariants as kind
+use Rattle.dcsp_meaning.specs.declared.kinds.ConstraintKind.TheVariants as kind
 use Rattle.dcsp_defs.specs.Csp.{Assignment}
 use Rattle.dcsp_rule.specs.declared.rule.Rule.{Rule}
 use Rattle.dcsp_rule.specs.Rules.{rule_truth}
@@ -14,54 +14,13 @@ use Rattle.fzn_scope.specs.declared.refusal.Refusal.TheVariants as refusal
 use Rattle.fzn_scope.specs.Names.{Scope}
 use Rattle.fzn_scope.specs.Forms.{truth, places_of, form_named}
 use Rattle.fzn_scope.specs.Rules.{no_arguments, arguments_after, rule_of, lengths_agree, known_form, form_at, constraint_rule}
+use Rattle.fzn_scope.proofs.PlacesInOrder.{are_constant, in_order}
 use Rattle.law_meaning.specs.Environments.{Environment, expr_value}
 use Rattle.law_meaning.specs.Holding.{constraint_truth}
 use Rattle.law_meaning.proofs.Checks.{bind_ok, not_refused}
 use Rattle.law_meaning.proofs.Names.{Agrees}
 use Rattle.law_meaning.proofs.Sorts.{AreFixed, Sorted}
-use Rattle.law_meaning.proofs.Arguments.{is_ordered, are_constant, Reads, reads_all, first_fixed, rule_row}
-
-ordered : (form : Form) (count : ℕ) → is_ordered 0 0 (places_of form count) ≡ true
-ordered (Plain kind.IntEq) count = refl
-ordered (Plain kind.IntEqReif) count = refl
-ordered (Plain kind.IntNe) count = refl
-ordered (Plain kind.IntNeReif) count = refl
-ordered (Plain kind.IntLe) count = refl
-ordered (Plain kind.IntLeReif) count = refl
-ordered (Plain kind.IntLt) count = refl
-ordered (Plain kind.IntLtReif) count = refl
-ordered (Plain kind.IntPlus) count = refl
-ordered (Plain kind.IntTimes) count = refl
-ordered (Plain kind.IntMin) count = refl
-ordered (Plain kind.IntMax) count = refl
-ordered (Plain kind.IntAbs) count = refl
-ordered (Plain kind.IntDiv) count = refl
-ordered (Plain kind.IntMod) count = refl
-ordered (Plain kind.BoolEq) count = refl
-ordered (Plain kind.BoolEqReif) count = refl
-ordered (Plain kind.BoolLe) count = refl
-ordered (Plain kind.BoolLeReif) count = refl
-ordered (Plain kind.BoolLt) count = refl
-ordered (Plain kind.BoolLtReif) count = refl
-ordered (Plain kind.BoolNot) count = refl
-ordered (Plain kind.BoolAnd) count = refl
-ordered (Plain kind.BoolOr) count = refl
-ordered (Plain kind.BoolXor) count = elim (count == 2) as (λ b. is_ordered 0 0 (if b then truth ∷ truth ∷ [] else truth ∷ truth ∷ truth ∷ []) ≡ true) [ true ↦ refl | false ↦ refl ]
-ordered (Plain kind.Bool2int) count = refl
-ordered (Plain kind.BoolClause) count = refl
-ordered (Plain kind.BoolClauseReif) count = refl
-ordered (Plain kind.ArrayBoolAnd) count = refl
-ordered (Plain kind.ArrayBoolOr) count = refl
-ordered (Plain kind.ArrayBoolXor) count = refl
-ordered (Plain kind.ArrayIntElement) count = refl
-ordered (Plain kind.ArrayVarIntElement) count = refl
-ordered (Plain kind.ArrayBoolElement) count = refl
-ordered (Plain kind.ArrayVarBoolElement) count = refl
-ordered (Plain kind.SetIn) count = refl
-ordered (Plain kind.SetInReif) count = refl
-ordered (Plain kind.FznAllDifferentInt) count = refl
-ordered (Sum rel boolean true) count = refl
-ordered (Sum rel boolean false) count = refl
+use Rattle.law_meaning.proofs.Arguments.{Reads, reads_all, first_fixed, rule_row}
 
 constant_sum : (form : Form) (count : ℕ) (rel : Rel) (boolean reified : Bool) → form ≡ Sum rel boolean reified → are_constant (places_of form count) ≡ true
 constant_sum form count rel boolean true e = ap (λ (f : Form). are_constant (places_of f count)) e
@@ -89,7 +48,7 @@ constraint_row text values env domains scope agrees sorted at name exprs rule e 
     let l = not_refused (not (lengths_agree f.0 a.0)) (refusal.IllTyped at) _ rule a.2 in
     let is : rule_of f.0 a.0 ≡ rule = cc in
     let long = eqb-true (length exprs) (length (places_of f.0 (length exprs))) (not_false _ n.0) in
-    let r = reads_all text values env scope agrees 0 0 [] no_arguments (places_of f.0 (length exprs)) exprs a.0 (nothing_read values) (ordered f.0 (length exprs)) long a.1 in
+    let r = reads_all text values env scope agrees 0 0 [] no_arguments (places_of f.0 (length exprs)) exprs a.0 (nothing_read values) (in_order f.0 (length exprs)).ordered long a.1 in
     let fixed : (rel : Rel) (boolean reified : Bool) → f.0 ≡ Sum rel boolean reified → AreFixed (a.0).first = λ rel boolean reified is_sum. first_fixed text domains scope sorted no_arguments (places_of f.0 (length exprs)) exprs a.0 (λ vs. refl) (constant_sum f.0 (length exprs) rel boolean reified is_sum) a.1 in
     let vs = map (expr_value text env) exprs in
     ap (λ (q : Rule). rule_truth q values) (sym is)

@@ -8,7 +8,7 @@ use Rattle.fzn_item.specs.declared.item.Expr.{Expr}
 use Rattle.fzn_item.specs.declared.item.Base.{Base}
 use Rattle.fzn_item.specs.declared.item.Base.TheVariants as base
 use Rattle.fzn_item.specs.declared.item.Marked.{Marked}
-use Rattle.dcsp_meaning.specs.declared.kinds.Kind.TheVariants.{SetIn}
+use Rattle.dcsp_meaning.specs.declared.kinds.ConstraintKind.TheVariants.{SetIn}
 use Rattle.dcsp_meaning.specs.Table.{truth}
 use Rattle.dcsp_meaning.specs.Words.{is_one, same}
 use Rattle.dcsp_defs.specs.Words.{In}

@@ -1,6 +1,7 @@
 -- Values that fit what the items so far gave, and what one declaration more asks of them.
 use Rattle.std.proofs.Common.{◌≡◌, ℕ, ◌+◌, pos, true, false, List, [], ◌∷◌, ◌++◌, length, Option, Some, None, sym, ap, ◌∙◌, subst, append-nil, length-append}
 use Rattle.std.specs.Prelude.{◌↔◌, ℤ}
+use Rattle.dcsp_common.proofs.Items.{get_front}
 use Rattle.dcsp_defs.specs.Words.{In}
 use Rattle.dcsp_defs.specs.Csp.{Assignment}
 use Rattle.dcsp_rule.specs.declared.rule.Term.{Term}
@@ -14,9 +15,10 @@ use Rattle.fzn_model.specs.Declarations.{SoFar}
 use Rattle.law_meaning.specs.Environments.{Number, Environment}
 use Rattle.law_meaning.specs.Holding.{Holds}
 use Rattle.law_meaning.specs.Meaning.{variable_of, name_of}
-use Rattle.law_meaning.proofs.Names.{meaning, Agrees, each_push, declared-old, declared-last}
+use Rattle.fzn_scope.proofs.Declaring.{declared-old, declared-last}
+use Rattle.law_meaning.proofs.Names.{meaning, Agrees, each_push}
 use Rattle.law_meaning.proofs.Sorts.{IsTruthTerm, IsSorted, Sorted}
-use Rattle.law_meaning.proofs.Growth.{InDomains, Hold, domains_push, rules_append, get_old}
+use Rattle.law_meaning.proofs.Growth.{InDomains, Hold, domains_push, rules_append}
 
 -- the environment and the assignment fit what there is so far
 pub record Fits (values : Assignment) (env : Environment) (s : SoFar) : Type 0 where
@@ -80,7 +82,7 @@ fits_grown values env s t name d o rs g =
 
 truth_more : (ds more : List (List ℤ)) (t : Term) → IsTruthTerm ds t → IsTruthTerm (ds ++ more) t
 truth_more ds more (Const v) h = h
-truth_more ds more (Var k) h = get_old ds more k (pos 0 ∷ pos 1 ∷ []) h
+truth_more ds more (Var k) h = get_front ds more k (pos 0 ∷ pos 1 ∷ []) h
 
 sorted_more : (ds more : List (List ℤ)) (d : Declared) → IsSorted ds d → IsSorted (ds ++ more) d
 sorted_more ds more (declared.One true term) h = truth_more ds more term h

@@ -9,6 +9,7 @@ use Rattle.dcsp_rule.specs.Rules.{value_under}
 use Rattle.fzn_scope.specs.declared.names.Declared.{Declared}
 use Rattle.fzn_scope.specs.declared.names.Declared.TheVariants as declared
 use Rattle.fzn_scope.specs.Names.{Scope, declared_as}
+use Rattle.fzn_scope.proofs.Declaring.{declared-old, declared-new, declared-last}
 use Rattle.law_meaning.specs.Environments.{Value, Number, Numbers, Set, Environment}
 
 -- the value of what a name stands for
@@ -25,24 +26,6 @@ Each P scope = (name : List ℕ) (d : Declared) → declared_as scope name ≡ S
 abbrev pub Agrees : Assignment → Environment → Scope → Type 0
 Agrees values env scope = Each (λ name d. env name ≡ meaning values d) scope
 
-chosen : {A : Type 0} (b : Bool) (a : A) (x y : Option A) (d : A) → (x ≡ Some d → y ≡ Some d) → (if b then Some a else x) ≡ Some d → (if b then Some a else y) ≡ Some d
-chosen true a x y d f e = e
-chosen false a x y d f e = f e
-
-skipped : {A : Type 0} (b : Bool) (a : A) (x y z : Option A) → (x ≡ None → y ≡ z) → (if b then Some a else x) ≡ None → (if b then Some a else y) ≡ z
-skipped true a x y z f e = absurd cc
-skipped false a x y z f e = f e
-
--- names that were declared stand for the same once more are
-pub declared-old : (xs ys : Scope) (name : List ℕ) (d : Declared) → declared_as xs name ≡ Some d → declared_as (xs ++ ys) name ≡ Some d
-declared-old [] ys name d e = absurd cc
-declared-old (x ∷ xs) ys name d e = chosen (bytes_eq name x.0) x.1 (declared_as xs name) (declared_as (xs ++ ys) name) d (declared-old xs ys name d) e
-
--- names that were not declared are looked up among those that follow
-pub declared-new : (xs ys : Scope) (name : List ℕ) → declared_as xs name ≡ None → declared_as (xs ++ ys) name ≡ declared_as ys name
-declared-new [] ys name e = refl
-declared-new (x ∷ xs) ys name e = skipped (bytes_eq name x.0) x.1 (declared_as xs name) (declared_as (xs ++ ys) name) (declared_as ys name) (declared-new xs ys name) e
-
 only : {A : Type 0} (b : Bool) (a d : A) → (if b then Some a else None) ≡ Some d → (b ≡ true) × (a ≡ d)
 only true a d e = (refl, cc)
 only false a d e = absurd cc
@@ -50,10 +33,6 @@ only false a d e = absurd cc
 either : {A : Type 0} (x : Option A) → (x ≡ None) ⊎ ((a : A) × (x ≡ Some a))
 either None = inl refl
 either (Some a) = inr (a, refl)
-
--- the last name
-pub declared-last : (scope : Scope) (name : List ℕ) (d : Declared) → declared_as scope name ≡ None → declared_as (scope ++ (name, d) ∷ []) name ≡ Some d
-declared-last scope name d fresh = declared-new scope ((name, d) ∷ []) name fresh ∙ ap (λ (b : Bool). if b then Some d else None) ((bytes_eq-Decides name name).1 refl)
 
 -- one name more
 pub each_push : (P : List ℕ → Declared → Type 0) (scope : Scope) (name : List ℕ) (d : Declared) → declared_as scope name ≡ None

@@ -5,7 +5,6 @@ use Rattle.std.proofs.lemmas.Bool.{eqb-true}
 use Rattle.std.proofs.lemmas.List.Sums.{sum_by-cons}
 use Rattle.dcsp_defs.proofs.Lists.{and_left, and_right}
 use Rattle.fzn_item.specs.declared.item.Expr.{Expr}
-use Rattle.dcsp_meaning.specs.declared.kinds.Kind.TheVariants as kind
 use Rattle.dcsp_rule.specs.declared.rule.Members.{Members}
 use Rattle.dcsp_rule.specs.Members.{values_of}
 use Rattle.fzn_scope.specs.declared.place.Wanted.{Wanted}
@@ -17,77 +16,13 @@ use Rattle.fzn_scope.specs.declared.arguments.Arguments.{Arguments}
 use Rattle.fzn_scope.specs.Names.{Scope}
 use Rattle.fzn_scope.specs.Places.{one_of, list_of, set_of}
 use Rattle.fzn_scope.specs.Forms.{truth, places_of}
+use Rattle.fzn_scope.proofs.PlacesInOrder.{is_ordered, are_constant, AreInOrder, in_order}
 use Rattle.fzn_scope.specs.Rules.{no_arguments, with_argument, arguments_after}
 use Rattle.law_reader.specs.Sorts.{Names, one_suits, one_size, list_suits, list_sizes, set_suits, set_count}
 use Rattle.law_reader.specs.Arguments.{place_suits, all_suit, scalar_part, first_part, second_part, set_part, Sizes, argument_sizes}
 use Rattle.law_reader.proofs.Judging.{Judged, judged_bind, judged_map, judged_more}
 use Rattle.law_reader.proofs.SortedNames.{IsSized, AreSized, AreConstant, HaveSorts, pairwise_push}
 use Rattle.law_reader.proofs.JudgedExprs.{IsGiven, AreGiven, one_judged, list_judged, set_judged}
-
--- ---- places
-
--- so many lists and sets stand before these places, of which at most one is a first list, then a second, and one a set
-abbrev pub is_ordered : ℕ → ℕ → List Place → Bool
-is_ordered n m [] = true
-is_ordered n m (place.Scalar boolean ∷ ps) = is_ordered n m ps
-is_ordered n m (place.First wanted ∷ ps) = (n == 0) && is_ordered 1 m ps
-is_ordered n m (place.Second boolean ∷ ps) = (n == 1) && is_ordered 2 m ps
-is_ordered n m (place.Set ∷ ps) = (m == 0) && is_ordered n 1 ps
-
--- each first list is of constants
-abbrev pub are_fixed : List Place → Bool
-are_fixed [] = true
-are_fixed (place.Scalar boolean ∷ ps) = are_fixed ps
-are_fixed (place.First wanted ∷ ps) = wanted.constant && are_fixed ps
-are_fixed (place.Second boolean ∷ ps) = are_fixed ps
-are_fixed (place.Set ∷ ps) = are_fixed ps
-
--- the places of a form stand in order, and there are few
-pub record AreInOrder (places : List Place) : Type 0 where
-  pub ordered : is_ordered 0 0 places ≡ true
-  pub few : length places ≤ 4
-
-pub in_order : (form : Form) (count : ℕ) → AreInOrder (places_of form count)
-in_order (Plain kind.IntEq) count = record { ordered = refl; few = omega arith }
-in_order (Plain kind.IntEqReif) count = record { ordered = refl; few = omega arith }
-in_order (Plain kind.IntNe) count = record { ordered = refl; few = omega arith }
-in_order (Plain kind.IntNeReif) count = record { ordered = refl; few = omega arith }
-in_order (Plain kind.IntLe) count = record { ordered = refl; few = omega arith }
-in_order (Plain kind.IntLeReif) count = record { ordered = refl; few = omega arith }
-in_order (Plain kind.IntLt) count = record { ordered = refl; few = omega arith }
-in_order (Plain kind.IntLtReif) count = record { ordered = refl; few = omega arith }
-in_order (Plain kind.IntPlus) count = record { ordered = refl; few = omega arith }
-in_order (Plain kind.IntTimes) count = record { ordered = refl; few = omega arith }
-in_order (Plain kind.IntMin) count = record { ordered = refl; few = omega arith }
-in_order (Plain kind.IntMax) count = record { ordered = refl; few = omega arith }
-in_order (Plain kind.IntAbs) count = record { ordered = refl; few = omega arith }
-in_order (Plain kind.IntDiv) count = record { ordered = refl; few = omega arith }
-in_order (Plain kind.IntMod) count = record { ordered = refl; few = omega arith }
-in_order (Plain kind.BoolEq) count = record { ordered = refl; few = omega arith }
-in_order (Plain kind.BoolEqReif) count = record { ordered = refl; few = omega arith }
-in_order (Plain kind.BoolLe) count = record { ordered = refl; few = omega arith }
-in_order (Plain kind.BoolLeReif) count = record { ordered = refl; few = omega arith }
-in_order (Plain kind.BoolLt) count = record { ordered = refl; few = omega arith }
-in_order (Plain kind.BoolLtReif) count = record { ordered = refl; few = omega arith }
-in_order (Plain kind.BoolNot) count = record { ordered = refl; few = omega arith }
-in_order (Plain kind.BoolAnd) count = record { ordered = refl; few = omega arith }
-in_order (Plain kind.BoolOr) count = record { ordered = refl; few = omega arith }
-in_order (Plain kind.BoolXor) count = elim (count == 2) as (λ b. AreInOrder (if b then truth ∷ truth ∷ [] else truth ∷ truth ∷ truth ∷ [])) [ true ↦ record { ordered = refl; few = omega arith } | false ↦ record { ordered = refl; few = omega arith } ]
-in_order (Plain kind.Bool2int) count = record { ordered = refl; few = omega arith }
-in_order (Plain kind.BoolClause) count = record { ordered = refl; few = omega arith }
-in_order (Plain kind.BoolClauseReif) count = record { ordered = refl; few = omega arith }
-in_order (Plain kind.ArrayBoolAnd) count = record { ordered = refl; few = omega arith }
-in_order (Plain kind.ArrayBoolOr) count = record { ordered = refl; few = omega arith }
-in_order (Plain kind.ArrayBoolXor) count = record { ordered = refl; few = omega arith }
-in_order (Plain kind.ArrayIntElement) count = record { ordered = refl; few = omega arith }
-in_order (Plain kind.ArrayVarIntElement) count = record { ordered = refl; few = omega arith }
-in_order (Plain kind.ArrayBoolElement) count = record { ordered = refl; few = omega arith }
-in_order (Plain kind.ArrayVarBoolElement) count = record { ordered = refl; few = omega arith }
-in_order (Plain kind.SetIn) count = record { ordered = refl; few = omega arith }
-in_order (Plain kind.SetInReif) count = record { ordered = refl; few = omega arith }
-in_order (Plain kind.FznAllDifferentInt) count = record { ordered = refl; few = omega arith }
-in_order (Sum rel boolean true) count = record { ordered = refl; few = omega arith }
-in_order (Sum rel boolean false) count = record { ordered = refl; few = omega arith }
 
 -- ---- arguments that are read
 
@@ -149,9 +84,9 @@ module _ (text : List ℕ) (names : Names) where
       read : AreRead domains fixed (plus s p x) a
       unread : AreUnread lists sets (plus s p x)
       ordered : is_ordered lists sets ps ≡ true
-      constant : fixed ≡ true → are_fixed ps ≡ true
+      constant : fixed ≡ true → are_constant ps ≡ true
 
-    next_judged : (n m : ℕ) (fixed : Bool) (s : Sizes) (a : Arguments) (p : Place) (ps : List Place) (x : Expr) → AreRead domains fixed s a → AreUnread n m s → is_ordered n m (p ∷ ps) ≡ true → (fixed ≡ true → are_fixed (p ∷ ps) ≡ true)
+    next_judged : (n m : ℕ) (fixed : Bool) (s : Sizes) (a : Arguments) (p : Place) (ps : List Place) (x : Expr) → AreRead domains fixed s a → AreUnread n m s → is_ordered n m (p ∷ ps) ≡ true → (fixed ≡ true → are_constant (p ∷ ps) ≡ true)
         → Judged (with_argument text scope a p x) (place_suits text names p x) (Next n m fixed s p ps x)
     next_judged n m fixed s a (place.Scalar boolean) ps x r u o c =
         let w : Wanted = record { boolean = boolean; constant = false } in
@@ -185,11 +120,11 @@ module _ (text : List ℕ) (names : Names) where
             first = subst (λ (ns : List ℕ). AreSized domains terms (ns ++ list_sizes text names x)) (sym (u.no_first z)) g.0;
             second = subst (AreSized domains a.second) (sym (append-nil s.second)) r.second;
             members = r.members ∙ none;
-            constant = λ e. g.1 (and_left wanted.constant (are_fixed ps) (c e));
+            constant = λ e. g.1 (and_left wanted.constant (are_constant ps) (c e));
           };
           unread = record { no_first = λ e. absurd (omega (arith, e)); no_second = λ e. append-nil s.second ∙ u.no_second (omega (arith, z)); no_set = λ e. sym none ∙ u.no_set e };
           ordered = and_right (n == 0) (is_ordered 1 m ps) o;
-          constant = λ e. and_right wanted.constant (are_fixed ps) (c e);
+          constant = λ e. and_right wanted.constant (are_constant ps) (c e);
         })
     next_judged n m fixed s a (place.Second boolean) ps x r u o c =
         let w : Wanted = record { boolean = boolean; constant = false } in
@@ -231,7 +166,7 @@ module _ (text : List ℕ) (names : Names) where
           constant = c;
         })
 
-    arguments_read : (n m : ℕ) (fixed : Bool) (s : Sizes) (a : Arguments) (ps : List Place) (xs : List Expr) → length xs ≡ length ps → AreRead domains fixed s a → AreUnread n m s → is_ordered n m ps ≡ true → (fixed ≡ true → are_fixed ps ≡ true)
+    arguments_read : (n m : ℕ) (fixed : Bool) (s : Sizes) (a : Arguments) (ps : List Place) (xs : List Expr) → length xs ≡ length ps → AreRead domains fixed s a → AreUnread n m s → is_ordered n m ps ≡ true → (fixed ≡ true → are_constant ps ≡ true)
         → Judged (arguments_after text scope a ps xs) (all_suit text names ps xs) (AreRead domains fixed (plus_all s ps xs))
     arguments_read n m fixed s a [] [] l r u o c = (refl, subst (λ (t : Sizes). AreRead domains fixed t a) (plus_none s) r)
     arguments_read n m fixed s a [] (x ∷ xs) l r u o c = absurd (omega (arith, l))
@@ -243,7 +178,7 @@ module _ (text : List ℕ) (names : Names) where
         (arguments_read k.lists k.sets fixed (plus s p x) next ps xs (omega (arith, l)) k.read k.unread k.ordered k.constant))
 
     -- all arguments at the places of a form
-    pub arguments_judged : (form : Form) (fixed : Bool) (xs : List Expr) → length xs ≡ length (places_of form (length xs)) → (fixed ≡ true → are_fixed (places_of form (length xs)) ≡ true)
+    pub arguments_judged : (form : Form) (fixed : Bool) (xs : List Expr) → length xs ≡ length (places_of form (length xs)) → (fixed ≡ true → are_constant (places_of form (length xs)) ≡ true)
         → Judged (arguments_after text scope no_arguments (places_of form (length xs)) xs) (all_suit text names (places_of form (length xs)) xs) (AreRead domains fixed (argument_sizes text names (places_of form (length xs)) xs))
     arguments_judged form fixed xs l c =
         let ps = places_of form (length xs) in

@@ -10,8 +10,8 @@ use Rattle.fzn_item.specs.declared.item.Expr.{Expr}
 use Rattle.fzn_item.specs.declared.item.Base.{Base}
 use Rattle.fzn_item.specs.declared.item.Base.TheVariants as base
 use Rattle.dcsp_meaning.specs.Sums.{widest}
-use Rattle.dcsp_meaning.specs.declared.kinds.Kind.{Kind}
-use Rattle.dcsp_meaning.specs.declared.kinds.Kind.TheVariants.{SetIn}
+use Rattle.dcsp_meaning.specs.declared.kinds.ConstraintKind.{ConstraintKind}
+use Rattle.dcsp_meaning.specs.declared.kinds.ConstraintKind.TheVariants.{SetIn}
 use Rattle.dcsp_problem.specs.declared.limits.Which.TheVariants.{DomainSize, Variables, DomainValues, Rules, Terms, Elements}
 use Rattle.dcsp_rule.specs.declared.rule.Term.{Term}
 use Rattle.dcsp_rule.specs.declared.rule.Term.TheVariants.{Var}
@@ -93,7 +93,7 @@ all_true true false c d e f g h k = absurd cc
 all_true false b c d e f g h k = absurd cc
 
 -- the rules of variables and of elements are within their own limits
-small_judged : (at : ℕ) (p : Contents) (variables rules : List ℕ) (kind : Kind) (scalars : List Term) (set : Members) → Counted p variables rules → length scalars ≤ 4
+small_judged : (at : ℕ) (p : Contents) (variables rules : List ℕ) (kind : ConstraintKind) (scalars : List Term) (set : Members) → Counted p variables rules → length scalars ≤ 4
     → Judged (with_rule at p (Plain kind scalars [] [] set)) (are_few variables (rules ++ size_of (Plain kind scalars [] [] set) ∷ [])) (λ q. q ≡ with_one_rule p (Plain kind scalars [] [] set))
 small_judged at p variables rules kind scalars set counted few =
     let rule = Plain kind scalars [] [] set in

@@ -37,7 +37,8 @@ use Rattle.law_reader.specs.Arguments.{is_within, all_suit, scalar_part, Sizes, 
 use Rattle.law_reader.specs.Accepted.{are_few}
 use Rattle.law_reader.proofs.Judging.{Judged, judged_bind, judged_map, judged_check, judged_if, judged_test, judged_more, not_not}
 use Rattle.law_reader.proofs.SortedNames.{IsSized, AreSized, AreConstant, HaveSorts, pairwise_length}
-use Rattle.law_reader.proofs.JudgedArguments.{in_order, are_fixed, AreRead, arguments_judged}
+use Rattle.fzn_scope.proofs.PlacesInOrder.{in_order, are_constant}
+use Rattle.law_reader.proofs.JudgedArguments.{AreRead, arguments_judged}
 use Rattle.law_reader.proofs.JudgedLimits.{none_past, not_past, Counted, with_one_rule, rule_tests, rule_judged}
 
 -- ---- how great a rule is
@@ -134,7 +135,7 @@ abbrev is_sum : Form → Bool
 is_sum (Plain kind) = false
 is_sum (Sum rel boolean reified) = true
 
-fixed_of : (form : Form) (count : ℕ) → is_sum form ≡ true → are_fixed (places_of form count) ≡ true
+fixed_of : (form : Form) (count : ℕ) → is_sum form ≡ true → are_constant (places_of form count) ≡ true
 fixed_of (Plain kind) count e = absurd cc
 fixed_of (Sum rel boolean true) count e = refl
 fixed_of (Sum rel boolean false) count e = refl

@@ -15,7 +15,7 @@ use Rattle.fzn_item.specs.declared.item.Item.TheVariants as item
 use Rattle.dcsp_rule.specs.declared.rule.Term.{Term}
 use Rattle.dcsp_rule.specs.declared.rule.Term.TheVariants.{Var}
 use Rattle.dcsp_rule.specs.declared.rule.Rule.TheVariants.{Plain}
-use Rattle.dcsp_meaning.specs.declared.kinds.Kind.TheVariants.{SetIn}
+use Rattle.dcsp_meaning.specs.declared.kinds.ConstraintKind.TheVariants.{SetIn}
 use Rattle.dcsp_rule.specs.declared.rule.Members.{Members}
 use Rattle.dcsp_rule.specs.declared.rule.Members.TheVariants as members
 use Rattle.dcsp_problem.specs.declared.limits.Which.{Which}

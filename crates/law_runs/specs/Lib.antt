@@ -5,3 +5,17 @@ pub mod Stops
 pub mod Sizes
 pub mod Deliverable
 pub mod Orders
+pub mod Packets
+pub mod Worlds
+pub mod Deliveries
+pub mod LossyEnds
+pub mod WorldFacts
+pub mod LossyLinks
+pub mod LossyRuns
+pub mod LossyVerdicts
+pub mod CalmEvents
+pub mod ActRuns
+pub mod Chains
+pub mod Starts
+pub mod Keeping
+pub mod MeasureSums

@@ -2,6 +2,9 @@
 //! its counts are small, what is in transit can be taken, and its choices are all orders.
 #![tactic(auto)]
 
+pub mod lossy;
+pub mod measures;
+
 ghost use Rattle.dcsp_defs.specs.Csp.{Csp};
 ghost use Rattle.law_runs.specs.Bounded.{Bounded, UnfinishedBelow};
 ghost use Rattle.law_runs.specs.Deliverable.{AllDeliverable, LinksJoin};

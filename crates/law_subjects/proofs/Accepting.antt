@@ -56,7 +56,7 @@ use Rattle.fzn_item.specs.declared.item.Item.TheVariants as item
 use Rattle.fzn_item.specs.declared.item.Goal.{Goal}
 use Rattle.fzn_item.specs.declared.item.Goal.TheVariants as goals
 use Rattle.dcsp_rule.specs.declared.aim.Aim.TheVariants.{Satisfy, Least, Greatest}
-use Rattle.dcsp_meaning.specs.declared.kinds.Kind.TheVariants.{SetIn}
+use Rattle.dcsp_meaning.specs.declared.kinds.ConstraintKind.TheVariants.{SetIn}
 use Rattle.dcsp_meaning.specs.Sums.{widest}
 use Rattle.dcsp_rule.specs.Widths.{rule_width}
 use Rattle.std.proofs.lemmas.Bool.{not-false}

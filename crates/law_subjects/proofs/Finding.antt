@@ -5,6 +5,7 @@ use Rattle.std.specs.List.{AllZip}
 use Rattle.std.specs.Ordering.{int_eq}
 use Rattle.std.proofs.lemmas.Bool.Decides.{Decides-int_eq, leb_tells}
 use Rattle.std.proofs.lemmas.List.{append-nil}
+use Rattle.dcsp_common.proofs.Items.{get_front}
 use Rattle.dcsp_defs.specs.declared.nogood.Pair.{Pair}
 use Rattle.dcsp_defs.specs.Pairs.{IsRising, var_at, value_at}
 use Rattle.dcsp_defs.specs.Words.{In}
@@ -204,11 +205,6 @@ take_front : {X : Type 0} (xs ys : List X) (k : ℕ) (x : X) → slice_get xs k 
 take_front [] ys k x h = cc
 take_front (y ∷ xs) ys zero x h = refl
 take_front (y ∷ xs) ys (suc k) x h = ap (λ zs. y ∷ zs) (take_front xs ys k x h)
-
-get_front : {X : Type 0} (xs ys : List X) (k : ℕ) (x : X) → slice_get xs k ≡ Some x → slice_get (xs ++ ys) k ≡ Some x
-get_front [] ys k x h = cc
-get_front (y ∷ xs) ys zero x h = h
-get_front (y ∷ xs) ys (suc k) x h = get_front xs ys k x h
 
 take_all_front : {X : Type 0} (xs ys : List X) → take (length xs) (xs ++ ys) ≡ xs
 take_all_front [] ys = refl

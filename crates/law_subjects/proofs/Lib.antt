@@ -1,5 +1,30 @@
+pub mod Places
+pub mod Numbers
+pub mod Tokens
+pub mod Pieces
+pub mod PieceKinds
+pub mod Derivations
+pub mod Arrays
+pub mod LinePieces
+pub mod VariableNames
+pub mod LineTokens
+pub mod LineItems
+pub mod WholeItems
+pub mod ItemTexts
+pub mod ItemLimits
+pub mod Names
+pub mod Limits
+pub mod Steps
+pub mod Variables
+pub mod Constraints
+pub mod Whole
+pub mod Lists
+pub mod Pairs
+pub mod Generators
+pub mod Texts
+pub mod Lengths
 mod Solutions
-mod Generated
+mod GeneratedSolutions
 mod Upgrading
 mod Starving
 mod Losing

@@ -1,8 +1,8 @@
 -- The events of a run over a medium that loses, repeats and reorders.
 use Rattle.std.proofs.Common.{◌≡◌, ℕ, zero, suc, ◌≤◌, Bool, true, false, cond, ◌||◌, ◌⊎◌, inl, inr, List, [], ◌∷◌, ◌++◌, length, refl, sym, ap, ◌∙◌, arith}
 use Rattle.dcsp_defs.specs.Csp.{Csp}
-use Rattle.law_lossy.specs.World.{World, begin, event, after}
-use Rattle.law_lossy.specs.Ends.{is_quiet, has_verdict, used, calm_word, calm_words}
+use Rattle.law_runs.specs.Worlds.{World, begin, event, after}
+use Rattle.law_runs.specs.LossyEnds.{is_quiet, has_verdict, used, calm_word, calm_words}
 use Rattle.law_subjects.specs.Losing.{AreCalm, EventsEndAtVerdict}
 
 nothing_there : {X : Type 0} (before later : List X) (word : X) → [] ≡ before ++ word ∷ later → ⊥

@@ -15,14 +15,14 @@ use Rattle.dcsp_defs.proofs.Lists.{list_any-In, In-list_any, and_left, and_right
 use Rattle.dcsp_rule.specs.declared.rule.Rule.{Rule}
 use Rattle.dcsp_rule.specs.Rules.{rule_truth}
 use Rattle.dcsp_rule.specs.Problems.{csp_of, constraint_of}
-use Rattle.law_generated.specs.Lines.{Line, Declare, Print, Differ, Above, Below, Solve}
-use Rattle.law_generated.specs.Problems.{rules_of, problem_of, all_lines, AreWithin}
-use Rattle.law_subjects.specs.Generated.{value_of, AreWithinHigh}
-use Rattle.law_generated.proofs.Lists.{all_flat_map}
-use Rattle.law_generated.proofs.Whole.{lines_say_problem}
+use Rattle.law_subjects.specs.Lines.{ModelLine, Declare, Print, Differ, Above, Below, Solve}
+use Rattle.law_subjects.specs.Problems.{rules_of, problem_of, all_lines, AreWithin}
+use Rattle.law_subjects.specs.GeneratedSolutions.{value_of, AreWithinHigh}
+use Rattle.law_subjects.proofs.Lists.{all_flat_map}
+use Rattle.law_subjects.proofs.Whole.{lines_say_problem}
 
 -- what a line says of values
-abbrev pub Holds : Assignment → Line → Type 0
+abbrev pub Holds : Assignment → ModelLine → Type 0
 Holds values (Declare high number) = Unit {0}
 Holds values (Print n) = Unit {0}
 Holds values (Differ first second) = value_of values first ≡ value_of values second → ⊥
@@ -45,7 +45,7 @@ unequal x y =
 difference_sum : (x y : ℤ) → (pos 1 *ℤ x) +ℤ ((neg_ℤ (pos 1) *ℤ y) +ℤ pos 0) ≡ x -ℤ y
 difference_sum x y = omega (arith, ints)
 
-line_holds : (values : Assignment) (line : Line) → AllByRecursion (IsTrueOf values) (rules_of line) ↔ Holds values line
+line_holds : (values : Assignment) (line : ModelLine) → AllByRecursion (IsTrueOf values) (rules_of line) ↔ Holds values line
 line_holds values (Declare high number) = (λ h. tt, λ h. tt)
 line_holds values (Print n) = (λ h. tt, λ h. tt)
 line_holds values (Differ first second) =
@@ -74,7 +74,7 @@ all_each P Q [] f h = tt
 all_each P Q (x ∷ xs) f h = (f x h.0, all_each P Q xs f h.1)
 
 -- the rules of lines hold exactly where the lines do
-pub lines_hold : (values : Assignment) (lines : List Line) → AllByRecursion (IsTrueOf values) (flat_map rules_of lines) ↔ AllByRecursion (Holds values) lines
+pub lines_hold : (values : Assignment) (lines : List ModelLine) → AllByRecursion (IsTrueOf values) (flat_map rules_of lines) ↔ AllByRecursion (Holds values) lines
 lines_hold values lines = (
   λ h. all_each (λ line. AllByRecursion (IsTrueOf values) (rules_of line)) (Holds values) lines (λ line. (line_holds values line).0) (flat_map_all (IsTrueOf values) rules_of lines h),
   λ h. all_flat_map (IsTrueOf values) rules_of lines (all_each (Holds values) (λ line. AllByRecursion (IsTrueOf values) (rules_of line)) lines (λ line. (line_holds values line).1) h),
@@ -121,7 +121,7 @@ many_domains high n = length-map-range_with_len (λ (number : ℕ). numbers_betw
 abbrev plain_csp : ℕ → ℕ → List Rule → Csp
 plain_csp high n rules = record { domains = domains_to high n; constraints = map (constraint_of (length (domains_to high n))) rules }
 
-plain_solutions : (high n : ℕ) (constraints : List Line) (values : Assignment)
+plain_solutions : (high n : ℕ) (constraints : List ModelLine) (values : Assignment)
     → IsSolution (plain_csp high n (flat_map rules_of constraints)) values ↔ (AreWithinHigh high n (value_of values) × AllByRecursion (Holds values) constraints)
 plain_solutions high n constraints values =
     let m = length (domains_to high n) in
@@ -145,7 +145,7 @@ plain_solutions high n constraints values =
     )
 
 -- The solutions of lines.
-pub solutions : (letter : List ℕ) (high n : ℕ) (printed constraints : List Line) → AreWithin high n printed constraints → (values : Assignment)
+pub solutions : (letter : List ℕ) (high n : ℕ) (printed constraints : List ModelLine) → AreWithin high n printed constraints → (values : Assignment)
     → IsSolution (csp_of (problem_of letter (all_lines high n printed constraints))) values ↔ (AreWithinHigh high n (value_of values) × AllByRecursion (Holds values) constraints)
 solutions letter high n printed constraints within values =
     let is = lines_say_problem letter high n printed constraints within in

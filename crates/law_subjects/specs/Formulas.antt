@@ -1,7 +1,7 @@
 -- The texts of formulas: what stands between words, which words there are, and what is refused.
 use Rattle.std.specs.Prelude.{◌≡◌, ◌≢◌, ◌↔◌, ◌⊎◌, ℕ, ◌+◌, ◌-◌, ◌≤◌, ℤ, pos, negsuc, codes, replicate, Some, Bool, true, false, List, [], ◌∷◌, ◌++◌, length, map, Ok, Err, ◌==◌, ⊤}
 use Rattle.dcsp_defs.specs.Words.{In}
-use Rattle.dcsp_meaning.specs.declared.kinds.Kind.TheVariants.{BoolClause}
+use Rattle.dcsp_meaning.specs.declared.kinds.ConstraintKind.TheVariants.{BoolClause}
 use Rattle.dcsp_rule.specs.Problems.{Contents}
 use Rattle.dcsp_rule.specs.declared.aim.Aim.TheVariants.{Satisfy}
 use Rattle.dcsp_rule.specs.declared.rule.Term.{Term}

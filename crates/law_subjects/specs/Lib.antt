@@ -1,4 +1,9 @@
+pub mod Lines
+pub mod Says
+pub mod Laws
+pub mod Problems
 pub mod Generated
+pub mod GeneratedSolutions
 pub mod Upgrading
 pub mod Starving
 pub mod Losing

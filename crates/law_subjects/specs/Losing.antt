@@ -1,8 +1,8 @@
 -- The events of a run over a medium that loses, repeats and reorders.
 use Rattle.std.specs.Prelude.{◌≡◌, ◌⊎◌, ℕ, ◌≤◌, false, List, [], ◌∷◌, ◌++◌, length}
 use Rattle.dcsp_defs.specs.Csp.{Csp}
-use Rattle.law_lossy.specs.World.{World, begin, after}
-use Rattle.law_lossy.specs.Ends.{has_verdict, calm_word, all_words}
+use Rattle.law_runs.specs.Worlds.{World, begin, after}
+use Rattle.law_runs.specs.LossyEnds.{has_verdict, calm_word, all_words}
 
 -- each of the words from a world on makes the calm event of the world that it meets
 abbrev pub AreCalm : Csp → List ℕ → World → Type 0

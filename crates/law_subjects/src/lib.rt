@@ -1,6 +1,8 @@
 //! What definitions that have a program's shape say in the words of their subject.
 #![tactic(auto)]
 
+pub mod generated;
+
 ghost use Rattle.dcsp_defs.specs.Csp.{Csp};
 ghost use Rattle.law_subjects.specs.Accepting.{AcceptedAreProblems};
 ghost use Rattle.law_subjects.specs.Finding.{EntriesHaveFinding};
@@ -12,7 +14,7 @@ ghost use Rattle.law_subjects.specs.Starving.{StarvedComeLast};
 ghost use Rattle.dcsp_defs.specs.declared.Step.{Step as A_step};
 ghost use Rattle.law_subjects.specs.Upgrading.{DeletesAtLastUse};
 ghost use Rattle.std.specs.Prelude.{List, ℕ};
-ghost use Rattle.law_subjects.specs.Generated.{ColouringsAreProper, PigeonsDoNotFit, QueensArePlaced, SixQueensArePlaced, SparseGraphsAreColoured};
+ghost use Rattle.law_subjects.specs.GeneratedSolutions.{ColouringsAreProper, PigeonsDoNotFit, QueensArePlaced, SixQueensArePlaced, SparseGraphsAreColoured};
 
 /// What the solutions of generated problems are: the placements of queens of which none attacks another, and the
 /// proper colourings of the graph that was drawn. Pigeons have none; a sparse graph has one, whatever the words, and

@@ -11,7 +11,7 @@ use Rattle.ngd_check.specs.Entries.{steps_of}
 use Rattle.ngd_log.proofs.GoodEntries.{good_lines}
 use Rattle.abt_input.specs.declared.error.CommandError.{CommandError}
 use Rattle.abt_input.specs.Errors.{stop_error}
-use Rattle.abt_input.specs.Kinds.{Kind, ReadsAs}
+use Rattle.abt_input.specs.Kinds.{FileKind, ReadsAs}
 use Rattle.abt_input.specs.Files.{HasRead}
 use Rattle.abt_input.proofs.OtherKinds.{stopped_read}
 use Rattle.line_check.specs.declared.log_check.LogCheck.{LogCheck}
@@ -23,7 +23,7 @@ unless_faulted stops.Memory h e = h
 unless_faulted stops.Fault h e = absurd (let f = e in cc)
 
 -- a check of the pieces that was stopped
-pub stopped_check : (kind : Kind) (name : List ℕ) (p q : Place) (stop : Stop) (r : Result kind.Value CommandError) → IsErr r × IsErrAnd r (λ y. y ≡ stop_error stop) → WasStopped p.held p.handed q.handed name → q.held ≡ p.held → q.created ≡ p.created
+pub stopped_check : (kind : FileKind) (name : List ℕ) (p q : Place) (stop : Stop) (r : Result kind.Value CommandError) → IsErr r × IsErrAnd r (λ y. y ≡ stop_error stop) → WasStopped p.held p.handed q.handed name → q.held ≡ p.held → q.created ≡ p.created
     → UnlessFaulted {T = Piece} (Err stop) (SameCounts p q) → (stop ≡ stops.Fault → Rose (p.reads name) (q.reads name)) → HasRead kind name p q r
 stopped_check kind name p q stop r is bytes held created counts fault = stopped_read kind name p q stop r is bytes held created (unless_faulted stop counts) fault
 

@@ -1,5 +1,5 @@
 -- Entries and pieces that a check takes.
-use Rattle.std.proofs.Common.{◌≡◌, ℕ, ◌+◌, ◌<◌, ◌≤◌, true, List, [], ◌∷◌, ◌++◌, length, take, drop, Option, Some, None, Result, Ok, Err, refl, sym, ap, subst, ◌∙◌, append_assoc, arith}
+use Rattle.std.proofs.Common.{◌≡◌, ℕ, ◌+◌, ◌<◌, ◌≤◌, true, false, List, [], ◌∷◌, ◌++◌, length, take, drop, Option, Some, None, Result, Ok, Err, refl, sym, ap, subst, ◌∙◌, append_assoc, arith}
 use Rattle.std.specs.Prelude.{IfSome, OnOk, IsErr, IsErrAnd}
 use Rattle.std.proofs.Math.Seq.{drop-append_seam, take-append_seam}
 use Rattle.std.proofs.lemmas.List.{append-nil, length-append, take-append-drop}
@@ -39,6 +39,7 @@ gone_nowhere a = record {
   reader = refl;
   taken = λ before t. subst (λ es. HasTaken es a.checker) (sym (append-nil before)) t;
   kept = λ e. sym (append-nil a.steps);
+  not_kept = λ e. refl;
 }
 
 -- ---- pieces
@@ -54,6 +55,9 @@ piece_come old mid new text piece entries keeps checker steps fed completes on h
       kept = λ e.
           let was : old.keeps ≡ true = sym (on.task.keeps ∙ keeps) ∙ e in
           on.kept (keeps ∙ was) ∙ ap (λ s. s ++ steps_of entries) (steps ∙ h.kept was) ∙ sym (steps_after (good_entries text) entries) ∙ ap steps_of all;
+      none_kept = λ e.
+          let was : old.keeps ≡ false = sym (on.task.keeps ∙ keeps) ∙ e in
+          on.not_kept (keeps ∙ was) ∙ steps ∙ h.none_kept was;
     }
 
 -- no byte has come

@@ -15,7 +15,7 @@ use Rattle.ngd_log.proofs.OneAnswer.{have_text}
 use Rattle.ngd_check.proofs.Forms.{one_form}
 use Rattle.ngd_check.specs.declared.Finding.TheVariants.{Verified}
 use Rattle.abt_promise.specs.declared.status.Status.{Status}
-use Rattle.abt_promise.specs.declared.status.Status.TheVariants.{Good, No, Words, Model, Text, Unfinished, Fault, Memory}
+use Rattle.abt_promise.specs.declared.status.Status.TheVariants.{Good, No, Words, Model, Input, Unfinished, Fault, Memory}
 use Rattle.abt_promise.specs.Statuses.{IsFinal}
 use Rattle.abt_promise.specs.Promises.{answered}
 use Rattle.abt_promise.specs.Runs.{Ran}
@@ -61,7 +61,7 @@ refutation_verified_by better files model log p steps is_model is_log refutes ol
     by_status No r = absurd (let e = good No r tt in cc)
     by_status Words r = r
     by_status Model r = absurd (let e = good Model r tt in cc)
-    by_status Text r = absurd (let e = good Text r tt in cc)
+    by_status Input r = absurd (let e = good Input r tt in cc)
     by_status Unfinished r = absurd (let e = good Unfinished r tt in cc)
     by_status Fault r = tt
     by_status Memory r = tt

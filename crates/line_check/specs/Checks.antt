@@ -11,7 +11,7 @@ use Rattle.ngd_log.specs.EntryTexts.{IsLogOfEntries, IsFirstBadLine}
 use Rattle.abt_promise.specs.declared.status.Status.{Status}
 use Rattle.abt_promise.specs.declared.status.Status.TheVariants.{Good, No}
 use Rattle.abt_input.specs.Inputs.{most_log}
-use Rattle.abt_input.specs.Kinds.{Kind}
+use Rattle.abt_input.specs.Kinds.{FileKind}
 use Rattle.abt_input.specs.declared.error.CommandError.{CommandError}
 use Rattle.line_check.specs.Taking.{Taking, plain, HasProblemFor}
 use Rattle.abt_input.specs.declared.error.CommandError.TheVariants.{ModelLong, ModelRefused, NoAim, LogLong, LogLine, ScheduleLong, ScheduleLine, Clauses, Fault, Memory}
@@ -46,7 +46,7 @@ pub record IsFoundFor (problem : Contents) (log : List ℕ) (finding : Finding) 
   pub found : IsFindingOf (csp_of problem) entries finding
 
 -- a log of either version, of which it is found what it is for the problem
-abbrev pub log_for : Contents → Kind
+abbrev pub log_for : Contents → FileKind
 log_for problem = record { Value = Finding; Is = IsFoundFor problem; Refuses = IsErrorOfEntries }
 
 -- the status of a finding

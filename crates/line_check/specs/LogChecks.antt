@@ -1,5 +1,5 @@
 -- A log that is checked as its pieces come.
-use Rattle.std.specs.Prelude.{◌≡◌, ℕ, ◌+◌, ◌<◌, true, List, ◌++◌, length, Option, IfSome, Result, Ok, Err, ⊤}
+use Rattle.std.specs.Prelude.{◌≡◌, ℕ, ◌+◌, ◌<◌, true, false, List, [], ◌++◌, length, Option, IfSome, Result, Ok, Err, ⊤}
 use Rattle.dcsp_outside.specs.Outside.{Place, SameCounts, IsPrefixOf, bytes_of}
 use Rattle.dcsp_outside.specs.declared.folder.Piece.{Piece}
 use Rattle.dcsp_outside.specs.declared.folder.Piece.TheVariants.{Part, End}
@@ -12,7 +12,7 @@ use Rattle.ngd_check.specs.Entries.{steps_of}
 use Rattle.ngd_check.specs.Progress.{HasTaken}
 use Rattle.dcsp_outside.specs.Handed.{Handed}
 use Rattle.abt_promise.specs.Promises.{TellOf, AreBytesOf}
-use Rattle.abt_input.specs.Kinds.{Kind}
+use Rattle.abt_input.specs.Kinds.{FileKind}
 use Rattle.abt_input.specs.Inputs.{most_log}
 use Rattle.dcsp_rule.specs.Problems.{Contents, csp_of}
 use Rattle.ngd_check.specs.Findings.{IsFindingOf}
@@ -31,12 +31,14 @@ pub record HasGoneOn (old new : LogCheck) (entries : List Entry) : Type 0 where
   pub reader : new.reader ≡ old.reader
   pub taken : (before : List Entry) → HasTaken before old.checker → HasTaken (before ++ entries) new.checker
   pub kept : old.keeps ≡ true → new.steps ≡ old.steps ++ steps_of entries
+  pub not_kept : old.keeps ≡ false → new.steps ≡ old.steps
 
--- the text has come: it was read, the entries of its good lines were checked, and their steps are kept where steps are
+-- the text has come: it was read, the entries of its good lines were checked, and their steps are kept where steps are; else none is
 pub record HasCome (check : LogCheck) (text : List ℕ) : Type 0 where
   pub fed : IsFed check.reader text
   pub taken : HasTaken (good_entries text) check.checker
   pub kept : check.keeps ≡ true → check.steps ≡ steps_of (good_entries text)
+  pub none_kept : check.keeps ≡ false → check.steps ≡ []
 
 -- the front of a piece has come, and the rest waits
 pub record HasTakenFront (old new : LogCheck) (piece rest : List ℕ) : Type 0 where
@@ -95,7 +97,7 @@ pub record IsKeptFor (problem : Contents) (log : List ℕ) (checked : Checked) :
   pub steps : checked.steps ≡ steps_of entries
 
 -- a log of either version, of which it is found what it is for the problem, and whose steps are kept
-abbrev pub kept_log : Contents → Kind
+abbrev pub kept_log : Contents → FileKind
 kept_log problem = record { Value = Checked; Is = IsKeptFor problem; Refuses = IsErrorOfEntries }
 
 -- this holds unless a fault stopped it

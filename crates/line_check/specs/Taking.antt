@@ -6,7 +6,7 @@ use Rattle.dcsp_rule.specs.Rules.{IsAimOf}
 use Rattle.dcsp_rule.specs.Aims.{aimed_at, narrowed}
 use Rattle.abt_input.specs.Inputs.{IsModelOf}
 use Rattle.abt_input.specs.Errors.{IsErrorOfModel}
-use Rattle.abt_input.specs.Kinds.{Kind}
+use Rattle.abt_input.specs.Kinds.{FileKind}
 use Rattle.abt_input.specs.declared.error.CommandError.{CommandError}
 use Rattle.abt_input.specs.declared.error.CommandError.TheVariants.{NoAim, Memory}
 
@@ -16,7 +16,7 @@ pub record Taking : Type 1 where
   pub Refuses : List ℕ → CommandError → Type 0
 
 -- a model of which a problem is taken so
-abbrev pub model_by : Taking → Kind
+abbrev pub model_by : Taking → FileKind
 model_by t = record { Value = Contents; Is = t.Is; Refuses = t.Refuses }
 
 -- the model's own problem

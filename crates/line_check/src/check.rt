@@ -12,7 +12,7 @@ ghost use Rattle.line_check.specs.CheckReports.{check_promise};
 
 use crate::asked::take_problem;
 use crate::pieces::check_log;
-use abt_input::{CommandError, Line};
+use abt_input::{AnswerLine, CommandError};
 use abt_promise::Status;
 use dcsp_outside::{Folder, Sink};
 use dcsp_script::{Stop, put};
@@ -51,14 +51,17 @@ pub fn is_verified(finding: Finding) -> bool
 }
 
 /// The line that tells a finding.
-pub fn finding_line(finding: Finding) -> Line
+pub fn finding_line(finding: Finding) -> AnswerLine
     ensures { result ≡ finding_text finding }
 {
     match finding {
-        Finding::Verified => Line::of(b"verified\n"),
-        Finding::BadStep { step } => Line::numbered(b"rejected step ", step),
-        Finding::BadDeletion { after } => Line::numbered(b"rejected deletion after step ", after),
-        Finding::NotEmpty => Line::of(b"rejected not empty\n"),
+        Finding::Verified => AnswerLine::of(b"verified\n"),
+        Finding::BadStep { step } => AnswerLine::numbered(b"rejected step ", step),
+        Finding::BadDeletion { after } => AnswerLine::numbered(
+            b"rejected deletion after step ",
+            after,
+        ),
+        Finding::NotEmpty => AnswerLine::of(b"rejected not empty\n"),
     }
 }
 

@@ -18,6 +18,7 @@ use Rattle.dcsp_problem.proofs.OwnerLists.{length-map_below}
 use Rattle.dcsp_problem.proofs.Scopes.{In-from_scope, variables_below}
 use Rattle.rup_check.specs.Literals.{is_true, IsUnsatisfiable}
 use Rattle.rup_check.specs.Propagation.{IsAccepted, IsConsistent, IsTotalOn}
+use Rattle.rup_check.proofs.VerdictLaws.{true_alone, one_of}
 use Rattle.rup_check.proofs.PropagationLaws.{contains_map, contains_mapped, accepted_refutes}
 use Rattle.cnf_front.specs.Clauses.{literal_against, rule_clause, IsClauseRule}
 use Rattle.abt_defs.specs.Network.{values}
@@ -29,6 +30,7 @@ use Rattle.abt_promise.specs.Promises.{Report}
 use Rattle.abt_input.specs.Inputs.{IsFormulaOf, HasClauses}
 use Rattle.abt_input.proofs.Once.{one_formula}
 use Rattle.line_replay.specs.Endings.{assigned, final_values, end_status}
+use Rattle.line_replay.specs.Asked.{seed_alone}
 use Rattle.line_replay.proofs.Verdicts as verdicts
 use Rattle.line_replay.proofs.Verdicts.{solve_unfinished}
 use Rattle.line_cnf.specs.Satisfying.{clauses_of, step_clause, truths}
@@ -74,28 +76,6 @@ module _ (p : Contents) (clausal : All IsClauseRule p.rules) (known_rules : All 
 
 -- ---- literals that are written
 
-true_alone : (truth : ℕ → Bool) → IsConsistent neg_ℤ (is_true truth)
-true_alone truth (pos zero) h n = cc
-true_alone truth (pos (suc n)) h k = not_both (truth (suc n)) h k
-  where
-    not_both : (b : Bool) → b ≡ true → not b ≡ true → ⊥
-    not_both true h k = cc
-    not_both false h k = cc
-true_alone truth (negsuc n) h k = not_both (truth (suc n)) k h
-  where
-    not_both : (b : Bool) → b ≡ true → not b ≡ true → ⊥
-    not_both true h k = cc
-    not_both false h k = cc
-
-one_true : (b : Bool) → (b ≡ true) ⊎ (not b ≡ true)
-one_true true = inl refl
-one_true false = inr refl
-
-one_of : (truth : ℕ → Bool) (z : ℤ) → (z ≡ pos 0 → ⊥) → (is_true truth z ≡ true) ⊎ (is_true truth (neg_ℤ z) ≡ true)
-one_of truth (pos zero) n = absurd (n refl)
-one_of truth (pos (suc n)) k = one_true (truth (suc n))
-one_of truth (negsuc n) k = elim (one_true (truth (suc n))) [ inl t ↦ inr t | inr t ↦ inl t ]
-
 against_sign : (x : ℕ) (v : ℤ) → literal_against x v ≡ pos 0 → ⊥
 against_sign x (pos zero) e = let same : x + 1 ≡ 0 = cc in omega (arith, same)
 against_sign x (pos (suc n)) e = cc
@@ -132,7 +112,7 @@ module _ (text : List ℕ) (p : Contents) (seed : ℕ) (formula : IsFormulaOf te
 
   pub is_cnf_run : IsCnfRun text p seed status
   is_cnf_run =
-      let u = solve_unfinished p seed log_name None false status status_is in
+      let u = solve_unfinished p log_name (seed_alone seed) status status_is in
       record {
         satisfied = satisfied;
         accepted = is_accepted;

@@ -19,21 +19,7 @@ use Rattle.cnf_front.specs.Clauses.{IsBinary}
 use Rattle.cnf_front.specs.Dimacs.{TextWord, words}
 use Rattle.cnf_front.specs.Formulas.{◌>>=◌, Clause, no_literals, with_literal, clause_rule, refused_at, with_clause, with_last, with_word, clauses_from, header, passes, expect, within_limit, variables_at, number_of, literal_in, is_end, only_variables, problem_of}
 use Rattle.abt_input.specs.Inputs.{IsFormulaOf}
-
-abbrev fine : {X : Type 0} → X → Result X CnfError
-fine x = Ok x
-
-fine_is : {X : Type 0} (x y : X) → fine x ≡ fine y → x ≡ y
-fine_is x y e = cc
-
--- which way a test went
-chosen : {A : Type 0} (b : Bool) (x y z : A) → cond b x y ≡ z → ((b ≡ true) × (x ≡ z)) ⊎ ((b ≡ false) × (y ≡ z))
-chosen true x y z e = inl (refl, e)
-chosen false x y z e = inr (refl, e)
-
-bind_fine : {A B Q : Type 0} (r : Result A CnfError) (f : A → Result B CnfError) (y : B) → (r >>= f) ≡ fine y → ((x : A) → r ≡ fine x → f x ≡ fine y → Q) → Q
-bind_fine (Ok x) f y e go = go x refl e
-bind_fine (Err x) f y e go = absurd cc
+use Rattle.cnf_front.proofs.ClauseLaws.{fine, fine_is, chosen, bind_fine}
 
 -- ---- clauses add no variable
 

@@ -4,8 +4,8 @@ use Rattle.std.specs.Prelude.{ℤ, pos, negsuc, ◌||◌, All, Contains}
 use Rattle.std.specs.List.{list_any}
 use Rattle.std.proofs.lemmas.List.Elements.{All-contains, Contains-append_left, Contains-append_right, Contains-append_cases}
 use Rattle.dcsp_meaning.specs.Words.{is_one}
-use Rattle.dcsp_meaning.specs.declared.kinds.Kind.{Kind}
-use Rattle.dcsp_meaning.specs.declared.kinds.Kind.TheVariants.{BoolClause}
+use Rattle.dcsp_meaning.specs.declared.kinds.ConstraintKind.{ConstraintKind}
+use Rattle.dcsp_meaning.specs.declared.kinds.ConstraintKind.TheVariants.{BoolClause}
 use Rattle.dcsp_defs.specs.Words.{In}
 use Rattle.dcsp_defs.specs.Csp.{Assignment}
 use Rattle.dcsp_rule.specs.declared.rule.Term.{Term}
@@ -72,7 +72,7 @@ module _ (values : Assignment) where
     | inr i ↦ or_right (list_any is_one (map (value_under values) first)) (list_any (λ y. not (is_one y)) (map (value_under values) second)) (some_passes negation_of (λ y. not (is_one y)) negation_true second k z i t)
   ]
 
-rule_says : (kind : Kind) (scalars first second : List Term) (members : Members) (values : Assignment) → kind ≡ BoolClause → rule_truth (Plain kind scalars first second members) values ≡ (list_any is_one (map (value_under values) first) || list_any (λ y. not (is_one y)) (map (value_under values) second))
+rule_says : (kind : ConstraintKind) (scalars first second : List Term) (members : Members) (values : Assignment) → kind ≡ BoolClause → rule_truth (Plain kind scalars first second members) values ≡ (list_any is_one (map (value_under values) first) || list_any (λ y. not (is_one y)) (map (value_under values) second))
 rule_says kind scalars first second members values e = ap (λ k. rule_truth (Plain k scalars first second members) values) e
 
 -- a rule is true exactly where its clause has a true literal

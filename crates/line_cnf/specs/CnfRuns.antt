@@ -7,7 +7,7 @@ use Rattle.dcsp_rule.specs.Problems.{Contents}
 use Rattle.dcsp_script.specs.Scripts.{Write, Create, Append, Put}
 use Rattle.rup_check.specs.ProofText.{clause_line}
 use Rattle.abt_defs.specs.Runs.{Run, End, Refuted, Solved, Capped, Spent}
-use Rattle.line_replay.specs.Asked.{Asked, asked_run, solve}
+use Rattle.line_replay.specs.Asked.{Asked, asked_run, seed_alone, solve}
 use Rattle.line_replay.specs.Endings.{final_values}
 use Rattle.line_cnf.specs.Satisfying.{step_clause}
 
@@ -17,7 +17,7 @@ log_name = codes "cnf"
 
 -- the run under the choices of the seed, without a record or a trace
 abbrev pub cnf_asked : Contents → ℕ → Asked
-cnf_asked p seed = solve p seed log_name None false
+cnf_asked p seed = solve p log_name (seed_alone seed)
 
 abbrev pub cnf_run : Contents → ℕ → Run
 cnf_run p seed = asked_run (cnf_asked p seed)

@@ -14,7 +14,7 @@ ghost use Rattle.abt_input.specs.Errors.{way_of};
 ghost use Rattle.line_cnf.specs.Satisfying.{clauses_of};
 ghost use Rattle.line_cnf.specs.RupPromise.{rup_status, rup_text, rup_promise, HoldsRefuted, TellsExactly};
 
-use abt_input::{CommandError, Line, read_formula, read_proof};
+use abt_input::{AnswerLine, CommandError, read_formula, read_proof};
 use abt_promise::Status;
 use cnf_front::formula_of;
 use dcsp_outside::{Folder, Sink};
@@ -76,13 +76,13 @@ fn rup_status(answer: Rup) -> Status
 }
 
 /// The line that tells an answer.
-fn rup_line(answer: Rup) -> Line
+fn rup_line(answer: Rup) -> AnswerLine
     ensures { result ≡ rup_text answer }
 {
     match answer {
-        Rup::Verified => Line::of(b"verified\n"),
-        Rup::BadClause { number } => Line::numbered(b"rejected clause ", number),
-        Rup::NotEmpty => Line::of(b"rejected not empty\n"),
+        Rup::Verified => AnswerLine::of(b"verified\n"),
+        Rup::BadClause { number } => AnswerLine::numbered(b"rejected clause ", number),
+        Rup::NotEmpty => AnswerLine::of(b"rejected not empty\n"),
     }
 }
 

@@ -5,7 +5,7 @@ use Rattle.dcsp_outside.specs.Outside.{bytes_of}
 use Rattle.rup_check.specs.Propagation.{IsAccepted}
 use Rattle.rup_check.specs.declared.check.Rup.TheVariants.{Verified}
 use Rattle.abt_promise.specs.declared.status.Status.{Status}
-use Rattle.abt_promise.specs.declared.status.Status.TheVariants.{Good, No, Words, Model, Text, Unfinished, Fault, Memory}
+use Rattle.abt_promise.specs.declared.status.Status.TheVariants.{Good, No, Words, Model, Input, Unfinished, Fault, Memory}
 use Rattle.abt_promise.specs.Statuses.{IsFinal}
 use Rattle.abt_promise.specs.Runs.{Ran}
 use Rattle.abt_promise.proofs.Following.{report_did}
@@ -36,7 +36,7 @@ proof_verified files cnf proof cnf_bytes proof_bytes clauses steps is_cnf is_pro
     by_status No r = absurd (let e = good No r tt in cc)
     by_status Words r = r
     by_status Model r = absurd (let e = good Model r tt in cc)
-    by_status Text r = absurd (let e = good Text r tt in cc)
+    by_status Input r = absurd (let e = good Input r tt in cc)
     by_status Unfinished r = absurd (let e = good Unfinished r tt in cc)
     by_status Fault r = tt
     by_status Memory r = tt

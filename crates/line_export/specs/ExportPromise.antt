@@ -10,7 +10,7 @@ use Rattle.abt_promise.specs.Promises.{Promise}
 use Rattle.abt_input.specs.declared.error.CommandError.{CommandError}
 use Rattle.abt_input.specs.declared.error.CommandError.TheVariants.{Clauses}
 use Rattle.abt_input.specs.declared.clauses_error.ClausesError.TheVariants.{CnfLimit}
-use Rattle.abt_input.specs.Kinds.{Kind}
+use Rattle.abt_input.specs.Kinds.{FileKind}
 use Rattle.abt_input.specs.Plans.{Plan, Answer, Read, promise_by}
 use Rattle.line_check.specs.declared.log_check.Checked.{Checked}
 use Rattle.line_check.specs.Taking.{Taking, model_by}
@@ -39,7 +39,7 @@ IsErrorOfExport problem log (Clauses (CnfLimit which count)) = Passes problem lo
 IsErrorOfExport problem log error = IsErrorOfEntries log error
 
 -- a log of either version, whose steps are kept, and of which a formula can be written if they refute
-abbrev pub a_refutation : Contents → Kind
+abbrev pub a_refutation : Contents → FileKind
 a_refutation problem = record { Value = Checked; Is = IsWithin problem; Refuses = IsErrorOfExport problem }
 
 -- of a log that refutes the problem formula and proof are written; of another one it is told what it is found to be

@@ -8,7 +8,7 @@ ghost use Rattle.abt_input.specs.Errors.{way_of};
 ghost use Rattle.line_check.specs.Taking.{taking_of};
 ghost use Rattle.line_rewrite.specs.Trimming.{CreatesNothing};
 ghost use Rattle.line_export.specs.Atoms.{AreAtoms};
-ghost use Rattle.line_export.specs.Clauses.{formula, IsStepIn};
+ghost use Rattle.line_export.specs.Clauses.{formula as the_formula, IsStepIn};
 ghost use Rattle.line_export.specs.Texts.{export_script};
 ghost use Rattle.line_export.specs.ExportPromise.{export_promise};
 ghost use Rattle.line_export.specs.Exporting.{HoldsExport};
@@ -73,8 +73,16 @@ pub fn run_export<F: Folder, S: Sink>(
     }
     let atoms = Atoms::of(alloc, &problem)?;
     let clauses = formula_within(alloc, &atoms, checked.steps.steps())?;
-    write(alloc, folder, line, &atoms, &checked.steps, &clauses, out)?;
+    let formula = Formula { atoms, clauses };
+    write(alloc, folder, line, &formula, &checked.steps, out)?;
     Ok(Status::Good)
+}
+
+/// The clauses that say that a problem has a solution, and the atoms that they are over.
+#[derive(Drop)]
+struct Formula<'p> {
+    atoms: Atoms<'p>,
+    clauses: ClauseSet,
 }
 
 /// Writes formula and proof under their names, and tells their sizes.
@@ -82,18 +90,19 @@ fn write<F: Folder, S: Sink>(
     alloc: Global,
     folder: &mut F,
     line: ExportLine<'_>,
-    atoms: &Atoms<'_>,
+    formula: &Formula<'_>,
     steps: &Derivation,
-    clauses: &ClauseSet,
     out: &mut S,
 ) -> Result<(), Stop>
-    requires atoms { AreAtoms atoms.now }
-    requires steps { All (IsStepIn atoms.now.problem.now) steps.now }
-    requires clauses { clauses.now ≡ formula atoms.now.problem.now steps.now }
-    ensures { Wrote (export_script line.entry.cnf.now line.entry.proof.now line.entry.atoms atoms.now.problem.now steps.now)
+    requires atoms { AreAtoms formula.now.atoms }
+    requires steps { All (IsStepIn formula.now.atoms.problem.now) steps.now }
+    requires clauses { formula.now.clauses ≡ the_formula formula.now.atoms.problem.now steps.now }
+    ensures { Wrote (export_script line.entry.cnf.now line.entry.proof.now line.entry.atoms formula.now.atoms.problem.now steps.now)
         (outside (F.place folder.old) (S.stream out.old))
         (outside (F.place folder.new) (S.stream out.new)) result }
 {
+    let atoms = &formula.atoms;
+    let clauses = &formula.clauses;
     write_cnf(alloc, folder, line.cnf, atoms, line.atoms, clauses)?;
     write_proof(alloc, folder, line.proof, atoms, steps.steps())?;
     let variables = u64::from(atoms.count);

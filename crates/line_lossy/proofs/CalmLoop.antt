@@ -6,27 +6,27 @@ use Rattle.dcsp_rule.specs.Problems.{Contents, csp_of}
 use Rattle.dcsp_script.specs.declared.stop.Stop.{Stop}
 use Rattle.dcsp_script.specs.Scripts.{outside}
 use Rattle.dcsp_script.specs.Ways.{Wrote}
-use Rattle.law_lossy.specs.Ends.{has_verdict, calm_word}
+use Rattle.law_runs.specs.LossyEnds.{has_verdict, calm_word}
 use Rattle.abt_lossy.specs.InWorld.{reached}
 use Rattle.line_lossy.specs.Runners.{HasMade, SameTask}
-use Rattle.line_lossy.specs.declared.runner.Runner.{Runner}
+use Rattle.line_lossy.specs.declared.runner.LossyRunner.{LossyRunner}
 use Rattle.line_lossy.proofs.Worlds.{none_calm}
 use Rattle.line_lossy.proofs.Turns.{WritesEvent, Stands, world_at, from_to, Turn, first_turn, next_turn, turn_stopped, all_written, all_made, calm_left, next_calm, no_calm}
 
 -- so many were made after the first words, and no verdict stood before
-pub record CalmLoop (first : List ℕ) (n k : ℕ) (old new : Runner) (a b : Place) : Type 0 where
+pub record CalmLoop (first : List ℕ) (n k : ℕ) (old new : LossyRunner) (a b : Place) : Type 0 where
   pub words : List ℕ
   pub long : length words ≡ length first + k
   pub turn : Turn first (first ++ calm_left old.medium.problem n first) words (calm_left old.medium.problem (n - k) words) old new a b
 
-pub calm_init : (first : List ℕ) (n : ℕ) (r : Runner) (a : Place) → HasMade first r → CalmLoop first n 0 r r a a
+pub calm_init : (first : List ℕ) (n : ℕ) (r : LossyRunner) (a : Place) → HasMade first r → CalmLoop first n 0 r r a a
 calm_init first n r a h = record {
   words = first;
   long = omega arith;
   turn = let e : n - 0 ≡ n = omega arith in first_turn first (first ++ calm_left r.medium.problem n first) (calm_left r.medium.problem (n - 0) first) r a h (ap (λ m. first ++ calm_left r.medium.problem m first) e);
 }
 
-module _ (first : List ℕ) (n k : ℕ) (old mid : Runner) (a b : Place) (l : CalmLoop first n k old mid a b) where
+module _ (first : List ℕ) (n k : ℕ) (old mid : LossyRunner) (a b : Place) (l : CalmLoop first n k old mid a b) where
   abbrev whole : List ℕ
   whole = first ++ calm_left old.medium.problem n first
 
@@ -39,7 +39,7 @@ module _ (first : List ℕ) (n k : ℕ) (old mid : Runner) (a b : Place) (l : Ca
         let same : x ≡ calm_word (world_at old.medium.problem l.words) = is l.words l.turn.has ∙ ap (λ (Q : Contents). calm_word (world_at Q l.words)) l.turn.same.problem in
         next_calm old.medium.problem n k l.words small (sym (verdict false open_)) ∙ ap (λ y. y ∷ calm_left old.medium.problem (n - (k + 1)) (l.words ++ y ∷ [])) (sym same)
 
-    pub calm_next : {T : Type 0} (y : T) (new : Runner) (c : Place) → WritesEvent x mid b c (Ok y) → ((words : List ℕ) → HasMade words mid → HasMade (words ++ x ∷ []) new) → SameTask mid new → c.created ≡ b.created → CalmLoop first n (k + 1) old new a c
+    pub calm_next : {T : Type 0} (y : T) (new : LossyRunner) (c : Place) → WritesEvent x mid b c (Ok y) → ((words : List ℕ) → HasMade words mid → HasMade (words ++ x ∷ []) new) → SameTask mid new → c.created ≡ b.created → CalmLoop first n (k + 1) old new a c
     calm_next y new c wrote made same created = record {
       words = l.words ++ x ∷ [];
       long = let e = length-append l.words (x ∷ []) in let h = l.long in omega (arith, e, h);

@@ -2,11 +2,11 @@
 use Rattle.std.proofs.Common.{◌≡◌, ℕ, zero, suc, ◌+◌, ◌*◌, ◌<◌, ◌≤◌, Bool, true, false, cond, ◌||◌, List, [], ◌∷◌, ◌++◌, length, length-append, refl, sym, ap, ◌∙◌, arith}
 use Rattle.dcsp_defs.specs.Csp.{Csp, IsCsp}
 use Rattle.abt_defs.specs.Bound.{message_bound}
-use Rattle.law_lossy.specs.World.{World, begin, event, after}
-use Rattle.law_lossy.specs.Ends.{is_quiet, has_verdict, used, calm_word, calm_words, calm}
-use Rattle.law_lossy.specs.Calm.{AreCalmEvents}
-use Rattle.law_lossy.proofs.Calm.{calm_budget}
-use Rattle.law_lossy.proofs.Sizes.{world_is_small, calm_events, no_verdict_yet}
+use Rattle.law_runs.specs.Worlds.{World, begin, event, after}
+use Rattle.law_runs.specs.LossyEnds.{is_quiet, has_verdict, used, calm_word, calm_words, calm}
+use Rattle.law_runs.specs.CalmEvents.{AreCalmEvents}
+use Rattle.law_runs.proofs.CalmEvents.{calm_budget}
+use Rattle.law_runs.proofs.WorldSizes.{world_is_small, calm_events, no_verdict_yet}
 use Rattle.line_lossy.specs.Asked.{words_of}
 use Rattle.line_lossy.proofs.Worlds.{after_both, none_calm}
 

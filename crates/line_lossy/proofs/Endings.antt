@@ -11,9 +11,9 @@ use Rattle.abt_defs.specs.Runs as runs
 use Rattle.abt_defs.specs.Runs.{Run}
 use Rattle.abt_network.specs.declared.Standing.TheVariants as standing
 use Rattle.abt_lossy.specs.InWorld.{standing_of, reached}
-use Rattle.law_lossy.specs.World.{World, begin, after}
-use Rattle.law_lossy.specs.Deliveries.{numbers}
-use Rattle.law_lossy.specs.Ends.{is_quiet, used, calm_words}
+use Rattle.law_runs.specs.Worlds.{World, begin, after}
+use Rattle.law_runs.specs.Deliveries.{numbers}
+use Rattle.law_runs.specs.LossyEnds.{is_quiet, used, calm_words}
 use Rattle.abt_session.specs.Sessions.{begun_script, step_writes}
 use Rattle.abt_session.specs.Running.{kept, IsEnd, IsOutcome}
 use Rattle.abt_session.specs.declared.outcome.End.TheVariants as ends
@@ -27,7 +27,7 @@ use Rattle.line_replay.proofs.Outcomes.{record_of}
 use Rattle.line_replay.proofs.Telling.{as_ok}
 use Rattle.line_lossy.specs.Asked.{Asked, most_calm, seeded_words, words_of, run_words, run_world, run_numbers, end_of, events_text, answer_text, log_script, asked_script}
 use Rattle.line_lossy.specs.Runners.{new_writes, numbers_after, HasMade, SameTask, IsEnded}
-use Rattle.line_lossy.specs.declared.runner.Runner.{Runner}
+use Rattle.line_lossy.specs.declared.runner.LossyRunner.{LossyRunner}
 use Rattle.line_lossy.specs.declared.ending.Ended.{Ended}
 use Rattle.line_lossy.proofs.Worlds.{after_grows, more_grows, all_new}
 use Rattle.line_lossy.proofs.Making.{is_refuted, is_at_rest, is_going_on}
@@ -168,14 +168,14 @@ kept_record name keep numbers taken e h = record_of name keep [] numbers taken e
 -- ---- a run that was made
 
 -- the log of a run of this problem
-pub log_is : (asked : Asked) (r : Runner) (n : ℕ) → r.medium.problem ≡ asked.problem → r.log.now ≡ asked.log
+pub log_is : (asked : Asked) (r : LossyRunner) (n : ℕ) → r.medium.problem ≡ asked.problem → r.log.now ≡ asked.log
     → log_script r.log.now (reached r.medium (words_of (csp_of r.medium.problem) (seeded_words asked.seed asked.events) n)).network.steps
     ≡ log_script asked.log (after (csp_of asked.problem) (words_of (csp_of asked.problem) (seeded_words asked.seed asked.events) n) (begin (csp_of asked.problem))).network.steps
 log_is asked r n e f =
     ap (λ l. log_script l (reached r.medium (words_of (csp_of r.medium.problem) (seeded_words asked.seed asked.events) n)).network.steps) f
     ∙ ap (λ (Q : Contents). log_script asked.log (after (csp_of Q) (words_of (csp_of Q) (seeded_words asked.seed asked.events) n) (begin (csp_of Q))).network.steps) e
 
-module _ (asked : Asked) (r s : Runner) (same : SameTask r s) (problem : r.medium.problem ≡ asked.problem) (has : HasMade (words_of (csp_of r.medium.problem) (seeded_words asked.seed asked.events) most_calm) s) where
+module _ (asked : Asked) (r s : LossyRunner) (same : SameTask r s) (problem : r.medium.problem ≡ asked.problem) (has : HasMade (words_of (csp_of r.medium.problem) (seeded_words asked.seed asked.events) most_calm) s) where
   abbrev made : List ℕ
   made = words_of (csp_of r.medium.problem) (seeded_words asked.seed asked.events) most_calm
 

@@ -10,15 +10,15 @@ use Rattle.abt_network.specs.declared.Begun.{Begun}
 use Rattle.abt_network.specs.declared.Begun.TheVariants as begun
 use Rattle.abt_network.specs.declared.Standing.TheVariants.{Open, Quiet, Refuted}
 use Rattle.abt_network.specs.Standing.{steps_of}
-use Rattle.law_lossy.specs.World.{World, begin, after}
-use Rattle.law_lossy.specs.Deliveries.{numbers}
-use Rattle.law_lossy.specs.Ends.{is_quiet, has_verdict}
+use Rattle.law_runs.specs.Worlds.{World, begin, after}
+use Rattle.law_runs.specs.Deliveries.{numbers}
+use Rattle.law_runs.specs.LossyEnds.{is_quiet, has_verdict}
 use Rattle.abt_lossy.specs.declared.parts.Happened.{Happened}
 use Rattle.abt_lossy.specs.InWorld.{LossyState, reached, standing_of, IsAfter, Begins, Happens}
 use Rattle.abt_session.specs.Sessions.{step_writes}
 use Rattle.abt_session.specs.Running.{kept}
 use Rattle.line_lossy.specs.Runners.{new_writes, numbers_after, HasMade}
-use Rattle.line_lossy.specs.declared.runner.Runner.{Runner}
+use Rattle.line_lossy.specs.declared.runner.LossyRunner.{LossyRunner}
 use Rattle.line_lossy.proofs.Worlds.{new_of}
 
 -- ---- counts
@@ -58,7 +58,7 @@ module _ (words : List ℕ) (x : ℕ) (old new : LossyState) (happened : Happene
   pub steps_after : (reached old (words ++ x ∷ [])).network.steps ≡ (reached old words).network.steps ++ option_to_list happened.step
   steps_after = ap (λ (w : World). w.network.steps) h.world ∙ h.steps
 
-pub made_more : (words : List ℕ) (x : ℕ) (old new : Runner) (happened : Happened) → HasMade words old → Happens old.medium new.medium words x happened → new.medium.begun ≡ true → new.medium.spent ≡ false → new.medium.problem ≡ old.medium.problem
+pub made_more : (words : List ℕ) (x : ℕ) (old new : LossyRunner) (happened : Happened) → HasMade words old → Happens old.medium new.medium words x happened → new.medium.begun ≡ true → new.medium.spent ≡ false → new.medium.problem ≡ old.medium.problem
     → new.medium.events ≡ old.medium.events + 1 → new.steps ≡ old.steps + length (option_to_list happened.step) → new.deliveries ≡ old.deliveries + length (option_to_list happened.delivered)
     → new.taken ≡ old.taken ++ kept old.keep (option_to_list happened.delivered) → new.keep ≡ old.keep → HasMade (words ++ x ∷ []) new
 made_more words x old new happened m h begun sound problem events steps deliveries taken keep =
@@ -86,7 +86,7 @@ made_more words x old new happened m h begun sound problem events steps deliveri
 
 -- ---- the start
 
-pub made_none : (old : LossyState) (new : Runner) (told : Begun) → Begins old new.medium told → IsAfter new.medium [] → new.medium.begun ≡ true → new.medium.spent ≡ false → new.medium.problem ≡ old.problem
+pub made_none : (old : LossyState) (new : LossyRunner) (told : Begun) → Begins old new.medium told → IsAfter new.medium [] → new.medium.begun ≡ true → new.medium.spent ≡ false → new.medium.problem ≡ old.problem
     → new.steps ≡ length (steps_of told) → new.deliveries ≡ 0 → new.taken ≡ [] → HasMade [] new
 made_none old new told h a begun sound problem steps deliveries taken =
     let same : (reached new.medium []).network.steps ≡ (begin (csp_of old.problem)).network.steps = ap (λ (P : Contents). (begin (csp_of P)).network.steps) problem in

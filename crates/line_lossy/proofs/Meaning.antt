@@ -5,10 +5,10 @@ use Rattle.dcsp_rule.specs.Problems.{csp_of}
 use Rattle.dcsp_problem.proofs.OwnerLists.{get_or-map_below, length-map_below}
 use Rattle.abt_defs.specs.Network.{values}
 use Rattle.abt_defs.specs.Runs.{Refuted, Solved, Capped}
-use Rattle.law_lossy.specs.World.{World}
-use Rattle.law_lossy.specs.Ends.{is_quiet, has_verdict}
-use Rattle.law_lossy.proofs.Runs.{quiet_is_solved, steps_are_right, handed_up_bounded}
-use Rattle.law_lossy.proofs.Whole.{is_whole}
+use Rattle.law_runs.specs.Worlds.{World}
+use Rattle.law_runs.specs.LossyEnds.{is_quiet, has_verdict}
+use Rattle.law_runs.proofs.WorldRuns.{quiet_is_solved, steps_are_right, handed_up_bounded}
+use Rattle.law_runs.proofs.WholeWorlds.{is_whole}
 use Rattle.abt_schedule.specs.Answers.{word_at, generator_of}
 use Rattle.abt_promise.specs.declared.status.Status.{Status}
 use Rattle.abt_promise.specs.declared.status.Status.TheVariants.{Good, No, Unfinished}

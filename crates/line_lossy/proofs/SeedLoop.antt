@@ -7,22 +7,22 @@ use Rattle.dcsp_rule.specs.Problems.{Contents, csp_of}
 use Rattle.dcsp_script.specs.declared.stop.Stop.{Stop}
 use Rattle.dcsp_script.specs.Scripts.{outside}
 use Rattle.dcsp_script.specs.Ways.{Wrote}
-use Rattle.law_lossy.specs.Ends.{has_verdict}
+use Rattle.law_runs.specs.LossyEnds.{has_verdict}
 use Rattle.line_lossy.specs.Runners.{HasMade, SameTask}
-use Rattle.line_lossy.specs.declared.runner.Runner.{Runner}
+use Rattle.line_lossy.specs.declared.runner.LossyRunner.{LossyRunner}
 use Rattle.line_lossy.proofs.Worlds.{none_used}
 use Rattle.line_lossy.proofs.Turns.{WritesEvent, Stands, world_at, from_to, Turn, first_turn, next_turn, turn_stopped, all_written, all_made, seeds_left, next_seed, no_seed}
 
 -- so many of them were made, and no verdict stood before
-pub record SeedLoop (f : ℕ → ℕ) (n k : ℕ) (old new : Runner) (a b : Place) : Type 0 where
+pub record SeedLoop (f : ℕ → ℕ) (n k : ℕ) (old new : LossyRunner) (a b : Place) : Type 0 where
   pub words : List ℕ
   pub long : length words ≡ k
   pub turn : Turn [] (seeds_left old.medium.problem f n 0 []) words (seeds_left old.medium.problem f n k words) old new a b
 
-pub seed_init : (f : ℕ → ℕ) (n : ℕ) (r : Runner) (a : Place) → HasMade [] r → SeedLoop f n 0 r r a a
+pub seed_init : (f : ℕ → ℕ) (n : ℕ) (r : LossyRunner) (a : Place) → HasMade [] r → SeedLoop f n 0 r r a a
 seed_init f n r a h = record { words = []; long = refl; turn = first_turn [] (seeds_left r.medium.problem f n 0 []) (seeds_left r.medium.problem f n 0 []) r a h refl }
 
-module _ (f : ℕ → ℕ) (n k : ℕ) (old mid : Runner) (a b : Place) (l : SeedLoop f n k old mid a b) where
+module _ (f : ℕ → ℕ) (n k : ℕ) (old mid : LossyRunner) (a b : Place) (l : SeedLoop f n k old mid a b) where
   abbrev P : Contents
   P = old.medium.problem
 
@@ -36,7 +36,7 @@ module _ (f : ℕ → ℕ) (n k : ℕ) (old mid : Runner) (a b : Place) (l : See
     first_is : seeds_left old.medium.problem f n k l.words ≡ x ∷ seeds_left old.medium.problem f n (k + 1) (l.words ++ x ∷ [])
     first_is = next_seed old.medium.problem f n k l.words small (sym (verdict false open_)) ∙ ap (λ y. y ∷ seeds_left old.medium.problem f n (k + 1) (l.words ++ y ∷ [])) (sym is)
 
-    pub seed_next : {T : Type 0} (y : T) (new : Runner) (c : Place) → WritesEvent x mid b c (Ok y) → ((words : List ℕ) → HasMade words mid → HasMade (words ++ x ∷ []) new) → SameTask mid new → c.created ≡ b.created → SeedLoop f n (k + 1) old new a c
+    pub seed_next : {T : Type 0} (y : T) (new : LossyRunner) (c : Place) → WritesEvent x mid b c (Ok y) → ((words : List ℕ) → HasMade words mid → HasMade (words ++ x ∷ []) new) → SameTask mid new → c.created ≡ b.created → SeedLoop f n (k + 1) old new a c
     seed_next y new c wrote made same created = record {
       words = l.words ++ x ∷ [];
       long = let e = length-append l.words (x ∷ []) in let h = l.long in omega (arith, e, h);

@@ -14,13 +14,13 @@ use Rattle.dcsp_script.specs.Ways.{Wrote}
 use Rattle.dcsp_script.specs.Left.{HasLeft}
 use Rattle.dcsp_script.proofs.Left.{left_all, left_more, left_stopped, left_ends}
 use Rattle.dcsp_script.proofs.Ways.{did_nothing}
-use Rattle.law_lossy.specs.World.{World, begin, event, after}
-use Rattle.law_lossy.specs.Ends.{has_verdict, is_quiet, used, calm_word, calm_words}
-use Rattle.law_lossy.proofs.Whole.{one_more_event}
+use Rattle.law_runs.specs.Worlds.{World, begin, event, after}
+use Rattle.law_runs.specs.LossyEnds.{has_verdict, is_quiet, used, calm_word, calm_words}
+use Rattle.law_runs.proofs.WholeWorlds.{one_more_event}
 use Rattle.abt_lossy.specs.InWorld.{reached}
 use Rattle.abt_session.proofs.Pieces.{wrote_as}
 use Rattle.line_lossy.specs.Runners.{new_writes, HasMade, SameTask}
-use Rattle.line_lossy.specs.declared.runner.Runner.{Runner}
+use Rattle.line_lossy.specs.declared.runner.LossyRunner.{LossyRunner}
 use Rattle.line_lossy.proofs.Worlds.{Grown, more_grows, new_both, none_new, first_left, first_used, first_calm}
 
 -- the steps after these events
@@ -32,11 +32,11 @@ abbrev pub world_at : Contents → List ℕ → World
 world_at P words = after (csp_of P) words (begin (csp_of P))
 
 -- what more words make
-abbrev pub from_to : Runner → List ℕ → List ℕ → List Write
+abbrev pub from_to : LossyRunner → List ℕ → List ℕ → List Write
 from_to r first words = new_writes r.log.now (steps_at r.medium.problem first) (steps_at r.medium.problem words)
 
 -- The events of these words were made, from those of the first on; other words are to come, and their lines are left.
-pub record Turn (first whole words more : List ℕ) (old new : Runner) (a b : Place) : Type 0 where
+pub record Turn (first whole words more : List ℕ) (old new : LossyRunner) (a b : Place) : Type 0 where
   pub joined : words ++ more ≡ whole
   pub has : HasMade words new
   pub left : (out : Stream) → HasLeft (from_to old first whole) (from_to old words whole) (outside a out) (outside b out)
@@ -44,7 +44,7 @@ pub record Turn (first whole words more : List ℕ) (old new : Runner) (a b : Pl
   pub created : b.created ≡ a.created
 
 -- no event was made
-pub first_turn : (first whole more : List ℕ) (r : Runner) (a : Place) → HasMade first r → first ++ more ≡ whole → Turn first whole first more r r a a
+pub first_turn : (first whole more : List ℕ) (r : LossyRunner) (a : Place) → HasMade first r → first ++ more ≡ whole → Turn first whole first more r r a a
 first_turn first whole more r a h e = record {
   joined = e;
   has = h;
@@ -53,7 +53,7 @@ first_turn first whole more r a h e = record {
   created = refl;
 }
 
-module _ (first whole words more : List ℕ) (old mid : Runner) (a b : Place) (t : Turn first whole words more old mid a b) (x : ℕ) (rest : List ℕ) (is : more ≡ x ∷ rest) where
+module _ (first whole words more : List ℕ) (old mid : LossyRunner) (a b : Place) (t : Turn first whole words more old mid a b) (x : ℕ) (rest : List ℕ) (is : more ≡ x ∷ rest) where
   abbrev next : List ℕ
   next = words ++ x ∷ []
 
@@ -73,7 +73,7 @@ module _ (first whole words more : List ℕ) (old mid : Runner) (a b : Place) (t
       ∙ ap (λ P. new_writes old.log.now (steps_at P words) (steps_at P next)) t.same.problem
 
   -- it was made
-  pub next_turn : {T : Type 0} (y : T) (new : Runner) (c : Place) → ((out : Stream) → Wrote (from_to mid words next) (outside b out) (outside c out) (Ok y)) → HasMade next new → SameTask mid new → c.created ≡ b.created → Turn first whole next rest old new a c
+  pub next_turn : {T : Type 0} (y : T) (new : LossyRunner) (c : Place) → ((out : Stream) → Wrote (from_to mid words next) (outside b out) (outside c out) (Ok y)) → HasMade next new → SameTask mid new → c.created ≡ b.created → Turn first whole next rest old new a c
   next_turn y new c wrote has same created = record {
     joined = joined;
     has = has;
@@ -87,7 +87,7 @@ module _ (first whole words more : List ℕ) (old mid : Runner) (a b : Place) (t
   turn_stopped {T = T} r c is_err wrote out = left_stopped {T = T} (from_to old next whole) (from_to old words whole) r lines is_err (t.left out) (wrote_as same_lines (wrote out))
 
 -- none is to come
-module _ (first whole words more : List ℕ) (old new : Runner) (a b : Place) (t : Turn first whole words more old new a b) (none : more ≡ []) where
+module _ (first whole words more : List ℕ) (old new : LossyRunner) (a b : Place) (t : Turn first whole words more old new a b) (none : more ≡ []) where
   all : words ≡ whole
   all = sym (append-nil words) ∙ ap (λ l. words ++ l) (sym none) ∙ t.joined
 
@@ -141,9 +141,9 @@ no_calm P n k words l = let m : n - k ≡ 0 = omega (arith, l) in ap (λ i. calm
 -- ---- what a loop knows
 
 -- what making the event of this word writes, with this result
-abbrev pub WritesEvent : {T : Type 0} → ℕ → Runner → Place → Place → Result T Stop → Type 0
+abbrev pub WritesEvent : {T : Type 0} → ℕ → LossyRunner → Place → Place → Result T Stop → Type 0
 WritesEvent x r b c result = (words : List ℕ) (out : Stream) → HasMade words r → Wrote (new_writes r.log.now (reached r.medium words).network.steps (reached r.medium (words ++ x ∷ [])).network.steps) (outside b out) (outside c out) result
 
 -- whether a verdict stands
-abbrev pub Stands : Runner → Bool → Type 0
+abbrev pub Stands : LossyRunner → Bool → Type 0
 Stands r answer = (words : List ℕ) → HasMade words r → answer ≡ has_verdict (csp_of r.medium.problem) (reached r.medium words)

@@ -10,9 +10,9 @@ use Rattle.dcsp_problem.proofs.OwnerLists.{length-map_below}
 use Rattle.dcsp_script.specs.Scripts.{Append}
 use Rattle.abt_defs.specs.Network.{Network}
 use Rattle.ngd_log.specs.Logs.{step_lines}
-use Rattle.law_lossy.specs.World.{World, event, after}
-use Rattle.law_lossy.specs.Ends.{has_verdict, used, calm_word, calm_words}
-use Rattle.law_lossy.proofs.Events.{effect}
+use Rattle.law_runs.specs.Worlds.{World, event, after}
+use Rattle.law_runs.specs.LossyEnds.{has_verdict, used, calm_word, calm_words}
+use Rattle.law_runs.proofs.Events.{effect}
 use Rattle.abt_session.specs.Sessions.{step_writes}
 use Rattle.abt_session.proofs.Ordered.{step_lines-append}
 use Rattle.line_lossy.specs.Runners.{new_writes}

@@ -7,9 +7,9 @@ use Rattle.dcsp_rule.specs.Problems.{Contents, csp_of}
 use Rattle.dcsp_script.specs.Scripts.{Write, Create, Append, Put}
 use Rattle.abt_defs.specs.Network.{values}
 use Rattle.abt_defs.specs.Runs.{End, Refuted, Solved, Capped}
-use Rattle.law_lossy.specs.World.{World, begin, after}
-use Rattle.law_lossy.specs.Deliveries.{numbers}
-use Rattle.law_lossy.specs.Ends.{is_quiet, all_words}
+use Rattle.law_runs.specs.Worlds.{World, begin, after}
+use Rattle.law_runs.specs.Deliveries.{numbers}
+use Rattle.law_runs.specs.LossyEnds.{is_quiet, all_words}
 use Rattle.abt_schedule.specs.Answers.{word_at, generator_of}
 use Rattle.abt_session.specs.Sessions.{step_writes}
 use Rattle.line_replay.specs.Endings.{verdict_text, counts_text}

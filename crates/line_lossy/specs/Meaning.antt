@@ -9,8 +9,8 @@ use Rattle.ngd_log.specs.Logs.{log_text}
 use Rattle.abt_schedule.specs.Schedules.{schedule_text}
 use Rattle.abt_defs.specs.Bound.{message_bound}
 use Rattle.abt_defs.specs.Runs.{whole}
-use Rattle.law_lossy.specs.Ends.{is_quiet, has_verdict}
-use Rattle.law_lossy.specs.Run.{IsWholeRun}
+use Rattle.law_runs.specs.LossyEnds.{is_quiet, has_verdict}
+use Rattle.law_runs.specs.LossyRuns.{IsWholeRun}
 use Rattle.abt_input.specs.Inputs.{IsModelOf}
 use Rattle.abt_promise.specs.declared.status.Status.{Status}
 use Rattle.abt_promise.specs.declared.status.Status.TheVariants.{Good, No, Unfinished}

@@ -4,16 +4,16 @@ use Rattle.dcsp_defs.specs.Words.{below}
 use Rattle.dcsp_defs.specs.declared.Step.{Step}
 use Rattle.dcsp_rule.specs.Problems.{Contents, csp_of}
 use Rattle.dcsp_script.specs.Scripts.{Write}
-use Rattle.law_lossy.specs.World.{begin}
-use Rattle.law_lossy.specs.Deliveries.{numbers}
-use Rattle.law_lossy.specs.Ends.{calm_words, used}
+use Rattle.law_runs.specs.Worlds.{begin}
+use Rattle.law_runs.specs.Deliveries.{numbers}
+use Rattle.law_runs.specs.LossyEnds.{calm_words, used}
 use Rattle.abt_schedule.specs.Answers.{word_at}
 use Rattle.rand_pcg.specs.Lcg.{Lcg}
 use Rattle.abt_lossy.specs.InWorld.{LossyState, IsAfter, reached}
 use Rattle.abt_session.specs.Running.{kept, IsOutcome}
 use Rattle.abt_session.specs.Sessions.{step_writes}
 use Rattle.line_lossy.specs.Asked.{Asked, end_of, run_words, run_world}
-use Rattle.line_lossy.specs.declared.runner.Runner.{Runner}
+use Rattle.line_lossy.specs.declared.runner.LossyRunner.{LossyRunner}
 use Rattle.line_lossy.specs.declared.ending.Ended.{Ended}
 
 -- the numbers of all that these events of its problem hand up
@@ -21,7 +21,7 @@ abbrev pub numbers_after : LossyState → List ℕ → List ℕ
 numbers_after s words = numbers (csp_of s.problem) words (begin (csp_of s.problem))
 
 -- these events were made; the steps were counted, and what was handed up was counted and, where that is asked for, taken down
-pub record HasMade (words : List ℕ) (r : Runner) : Type 0 where
+pub record HasMade (words : List ℕ) (r : LossyRunner) : Type 0 where
   pub after : IsAfter r.medium words
   pub begun : r.medium.begun ≡ true
   pub sound : r.medium.spent ≡ false
@@ -48,13 +48,13 @@ abbrev pub calmed : LossyState → List ℕ → ℕ → List ℕ
 calmed s words most = words ++ calm_words (csp_of s.problem) most (reached s words)
 
 -- what events leave as it was
-pub record SameTask (old new : Runner) : Type 0 where
+pub record SameTask (old new : LossyRunner) : Type 0 where
   pub problem : new.medium.problem ≡ old.medium.problem
   pub log : new.log.now ≡ old.log.now
   pub keep : new.keep ≡ old.keep
 
 -- it is to run this problem, with this log, and nothing was made yet
-pub record IsFresh (p : Contents) (log_name : List ℕ) (keeps : Bool) (r : Runner) : Type 0 where
+pub record IsFresh (p : Contents) (log_name : List ℕ) (keeps : Bool) (r : LossyRunner) : Type 0 where
   pub problem : r.medium.problem ≡ p
   pub log : r.log.now ≡ log_name
   pub keep : r.keep ≡ keeps

@@ -14,7 +14,7 @@ ghost use Rattle.line_replay.specs.Outcomes.{outcome_text, HasAllValues};
 ghost use Rattle.line_lossy.specs.Asked.{end_of, events_text};
 ghost use Rattle.line_lossy.specs.Runners.{HasMade};
 
-use crate::runner::Runner;
+use crate::runner::LossyRunner;
 use abt_lossy::{Lossy, Standing};
 use abt_session::{End, Outcome};
 use dcsp_common::Memory;
@@ -38,13 +38,13 @@ pub struct Ended {
 pub fn outcome_of(
     alloc: Global,
     problem: &Problem,
-    runner: &Runner<'_, '_>,
+    runner: &LossyRunner<'_, '_>,
 ) -> Result<Outcome, Stop>
     requires problem { runner.now.medium.problem ≡ problem.now }
     ensures gives { (words : List ℕ) → HasMade words runner.now → IfOk result (IsOutcome (csp_of problem.now) (reached runner.now.medium words).network (end_of (csp_of problem.now) (reached runner.now.medium words))) }
     ensures only_memory { OnErr result (result ≡ Err Stop.Memory) }
 {
-    law_lossy::handed_up_bounded();
+    law_runs::lossy::handed_up_bounded();
     problem.denotes_csp();
     let end = match runner.medium.state() {
         Standing::Refuted => End::Refuted,

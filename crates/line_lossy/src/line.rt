@@ -17,7 +17,7 @@ ghost use Rattle.line_lossy.specs.Runners.{IsEnded, IsFresh};
 
 use crate::ending::{Ended, outcome_of, tell};
 use crate::laws::lossy_runs_are_right;
-use crate::runner::Runner;
+use crate::runner::LossyRunner;
 use abt_input::{CommandError, read_model};
 use abt_lossy::Lossy;
 use abt_promise::Status;
@@ -25,8 +25,8 @@ use abt_schedule::ChoiceList;
 use dcsp_outside::{Folder, Sink};
 use dcsp_problem::Problem;
 use dcsp_script::Stop;
-use law_logs::problems_are_small;
 use line_replay::{end_status, write_record};
+use ngd_check::problems_are_small;
 use std::alloc::Global;
 
 /// The most calm events of a run.
@@ -101,7 +101,7 @@ fn run_recorded<F: Folder>(
     let Ok(medium) = Lossy::new(alloc, problem) else {
         return Err(Stop::Memory);
     };
-    let mut runner = Runner {
+    let mut runner = LossyRunner {
         medium,
         log: line.log,
         keep: line.kept.is_some(),
@@ -118,7 +118,7 @@ fn run_fresh<F: Folder>(
     alloc: Global,
     problem: &Problem,
     line: Losses<'_>,
-    runner: &mut Runner<'_, '_>,
+    runner: &mut LossyRunner<'_, '_>,
     folder: &mut F,
 ) -> Result<Ended, Stop>
     requires { IsFresh problem.now line.log.now (is_some line.kept) runner.old }

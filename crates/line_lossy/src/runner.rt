@@ -5,7 +5,7 @@ ghost use Rattle.dcsp_outside.specs.Outside.{Place, Stream};
 ghost use Rattle.dcsp_rule.specs.Problems.{csp_of};
 ghost use Rattle.dcsp_script.specs.Scripts.{Append, Create, outside};
 ghost use Rattle.dcsp_script.specs.Ways.{Wrote};
-ghost use Rattle.law_lossy.specs.Ends.{calm_word, has_verdict};
+ghost use Rattle.law_runs.specs.LossyEnds.{calm_word, has_verdict};
 ghost use Rattle.abt_network.specs.Standing.{standing_in, steps_of};
 ghost use Rattle.abt_lossy.specs.InWorld.{reached, CanHappen};
 ghost use Rattle.abt_schedule.specs.Answers.{word_at};
@@ -22,7 +22,7 @@ use ngd_log::{HEAD, TAIL};
 
 /// A run over the medium on its way.
 #[derive(Drop)]
-pub struct Runner<'p, 'w> {
+pub struct LossyRunner<'p, 'w> {
     pub medium: Lossy<'p>,
     /// The name of the log.
     pub log: &'w str,
@@ -37,7 +37,7 @@ pub struct Runner<'p, 'w> {
     pub line: Vec<u8>,
 }
 
-impl<'p, 'w> Runner<'p, 'w> {
+impl<'p, 'w> LossyRunner<'p, 'w> {
     ghost use Rattle.line_lossy.specs.Runners.{calmed, seeded_until_verdict, writes_between, HasMade, SameTask};
 
     /// Makes the whole run, and its log: the events of the seed, so many of them, and then calm ones, at most

@@ -1,2 +1,4 @@
+pub mod Pairs
+pub mod MessageBounds
 pub mod Bounds
 pub mod Lawful

@@ -1,2 +1,3 @@
+pub mod PartialBounds
 pub mod BoundReports
 pub mod Generated

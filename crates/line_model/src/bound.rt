@@ -8,8 +8,8 @@ ghost use Rattle.abt_promise.specs.Runs.{CameIn};
 ghost use Rattle.abt_input.specs.Errors.{way_of};
 ghost use Rattle.line_model.specs.BoundReports.{bound_line, bound_promise};
 
-use abt_bound::message_bound;
-use abt_input::{CommandError, Line, read_model};
+use crate::agents_bound::message_bound;
+use abt_input::{AnswerLine, CommandError, read_model};
 use abt_promise::Status;
 use dcsp_outside::{Folder, Sink};
 use dcsp_script::{Stop, put};
@@ -17,17 +17,17 @@ use itoa::Buffer;
 use std::alloc::Global;
 
 /// The line that tells a bound, `None` for one above 2^128 - 1.
-fn bound_line(bound: Option<u128>) -> Line
+fn bound_line(bound: Option<u128>) -> AnswerLine
     ensures { result ≡ bound_line bound }
 {
     match bound {
         Some(bound) => {
             let mut digits = Buffer::new();
-            Line::of(b"bound ")
+            AnswerLine::of(b"bound ")
                 .with(digits.format(bound).as_bytes())
                 .with(b"\n")
         }
-        None => Line::of(b"bound over\n"),
+        None => AnswerLine::of(b"bound over\n"),
     }
 }
 

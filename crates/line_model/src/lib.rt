@@ -3,11 +3,13 @@
 //! here runs an agent.
 #![tactic(auto)]
 
+mod agents_bound;
 mod bound;
 mod generated;
 mod laws;
 mod text;
 
+pub use agents_bound::message_bound;
 pub use bound::run_bound;
 pub use generated::{run_colouring, run_pigeons, run_queens, run_sparse};
 pub use laws::promises_are_lawful;

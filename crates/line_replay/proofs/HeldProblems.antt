@@ -3,7 +3,7 @@ use Rattle.std.proofs.Common.{ℕ, List, Option, Some, None, subst}
 use Rattle.dcsp_outside.specs.Outside.{bytes_of}
 use Rattle.dcsp_defs.specs.Csp.{IsCsp}
 use Rattle.dcsp_rule.specs.Problems.{Contents, csp_of}
-use Rattle.law_logs.specs.Logged.{IsSmall}
+use Rattle.ngd_check.specs.Logged.{IsSmall}
 use Rattle.abt_promise.specs.Promises.{IsHeld}
 use Rattle.abt_input.specs.Inputs.{IsModelOf}
 use Rattle.abt_input.proofs.Once.{one_problem}

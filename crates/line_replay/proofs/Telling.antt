@@ -11,6 +11,7 @@ use Rattle.abt_session.specs.declared.outcome.Outcome.{Outcome}
 use Rattle.abt_session.proofs.Pieces.{wrote_as, stopped_so}
 use Rattle.line_replay.specs.Endings.{ending_text, unused_text}
 use Rattle.line_replay.specs.Outcomes.{outcome_text}
+use Rattle.line_replay.specs.Settings.{Settings}
 use Rattle.line_replay.specs.Asked.{Asked, asked_run, answer_text, left_over, asked_script, replay, solve}
 use Rattle.line_replay.proofs.Outcomes.{text_is}
 use Rattle.line_replay.proofs.Scripts.{before_answer, script_is}
@@ -39,5 +40,5 @@ replay_text p choices log trace outcome left h e =
     ap (λ t. t ++ unused_text (Some left)) (text_is p (asked_run (replay p choices log trace)) outcome h)
     ∙ ap (λ n. ending_text p (asked_run (replay p choices log trace)) ++ unused_text (Some n)) e
 
-pub solve_text : (p : Contents) (seed : ℕ) (log : List ℕ) (kept : Option (List ℕ)) (trace : Bool) (outcome : Outcome) → Gives (solve p seed log kept trace).session outcome → outcome_text p outcome ++ unused_text None ≡ answer_text (solve p seed log kept trace)
-solve_text p seed log kept trace outcome h = ap (λ t. t ++ unused_text None) (text_is p (asked_run (solve p seed log kept trace)) outcome h)
+pub solve_text : (p : Contents) (log : List ℕ) (s : Settings) (outcome : Outcome) → Gives (solve p log s).session outcome → outcome_text p outcome ++ unused_text None ≡ answer_text (solve p log s)
+solve_text p log s outcome h = ap (λ t. t ++ unused_text None) (text_is p (asked_run (solve p log s)) outcome h)

@@ -25,11 +25,12 @@ use Rattle.abt_promise.specs.declared.status.Status.{Status}
 use Rattle.abt_promise.specs.declared.status.Status.TheVariants.{Good, No, Unfinished}
 use Rattle.ngd_log.specs.Logs.{log_text}
 use Rattle.law_runs.proofs.SizeRuns.{sizes_hold}
-use Rattle.law_logs.specs.Logged.{IsSmall}
-use Rattle.law_logs.proofs.Writable.{have_logs}
+use Rattle.ngd_check.specs.Logged.{IsSmall}
+use Rattle.ngd_check.proofs.Writable.{have_logs}
 use Rattle.abt_input.specs.Inputs.{HasChoices, IsTextOf}
 use Rattle.line_replay.specs.Endings.{assigned, final_values, end_status}
 use Rattle.line_replay.specs.Asked.{Asked, asked_run, most_deliveries, replay, solve, IsReplayed}
+use Rattle.line_replay.specs.Settings.{Settings}
 use Rattle.line_replay.specs.Headline.{IsSolvedRun, IsRefutedRun, IsUnfinishedRun, IsBoundedRun}
 use Rattle.line_replay.proofs.Outcomes.{list_answers}
 
@@ -106,32 +107,32 @@ unfolding first_answers
 endless zero f = refl
 endless (suc n) f = ap suc (endless n (λ k. f (k + 1)))
 
-pub solve_unfinished : (p : Contents) (seed : ℕ) (log : List ℕ) (kept : Option (List ℕ)) (trace : Bool) (status : Status) → status ≡ end_status (asked_run (solve p seed log kept trace)).end → IsUnfinishedRun (solve p seed log kept trace) status
-solve_unfinished p seed log kept trace status is = (to, from)
+pub solve_unfinished : (p : Contents) (log : List ℕ) (s : Settings) (status : Status) → status ≡ end_status (asked_run (solve p log s)).end → IsUnfinishedRun (solve p log s) status
+solve_unfinished p log s status is = (to, from)
   where
     choices : List ℕ
-    choices = first_answers most_deliveries (λ k. Some (word_at (generator_of seed) k))
+    choices = first_answers s.choices (λ k. Some (word_at (generator_of s.seed) k))
 
     run : Run
-    run = whole (csp_of p) most_deliveries choices
+    run = whole (csp_of p) s.choices choices
 
-    h : Stops (csp_of p) most_deliveries choices run
-    h = stops (csp_of p) most_deliveries choices
+    h : Stops (csp_of p) s.choices choices run
+    h = stops (csp_of p) s.choices choices
 
-    long : length choices ≡ most_deliveries
-    long = endless most_deliveries (word_at (generator_of seed))
+    long : length choices ≡ s.choices
+    long = endless s.choices (word_at (generator_of s.seed))
 
-    to : status ≡ Unfinished → IsOpen (csp_of p) run.net × (run.net.deliveries ≡ most_deliveries)
+    to : status ≡ Unfinished → IsOpen (csp_of p) run.net × (run.net.deliveries ≡ s.choices)
     to u = elim (unfinished_end run.end (sym is ∙ u)) [
       | inl capped ↦ h.ends.capped.0 capped
       | inr spent ↦
-          let s = h.ends.spent.0 spent in
-          let l = used_up choices run.net.deliveries (sym h.left ∙ s.1.1) in
-          let few = s.1.0 in
+          let e = h.ends.spent.0 spent in
+          let l = used_up choices run.net.deliveries (sym h.left ∙ e.1.1) in
+          let few = e.1.0 in
           absurd (omega (arith, l, long, few))
     ]
 
-    from : IsOpen (csp_of p) run.net × (run.net.deliveries ≡ most_deliveries) → status ≡ Unfinished
+    from : IsOpen (csp_of p) run.net × (run.net.deliveries ≡ s.choices) → status ≡ Unfinished
     from o = is ∙ ap end_status (h.ends.capped.1 o)
 
 concat_long : (lines : List (List ℕ)) (f : ℕ → List ℕ) → (cs : List ℕ) → lines ≡ map f cs → ((c : ℕ) → 1 ≤ length (f c)) → length cs ≤ length (concat lines)
@@ -192,16 +193,16 @@ replay_unfinished p schedule choices log trace status has is = (to, from)
 
 -- ---- records
 
-pub records_replay : (p : Contents) (seed : ℕ) → IsReplayed p seed
-records_replay p seed log again trace told =
-    let choices = first_answers most_deliveries (λ k. Some (word_at (generator_of seed) k)) in
-    let run = whole (csp_of p) most_deliveries choices in
-    let h = stops (csp_of p) most_deliveries choices in
+pub records_replay : (p : Contents) (s : Settings) → IsReplayed p s
+records_replay p s few log again told =
+    let choices = first_answers s.choices (λ k. Some (word_at (generator_of s.seed) k)) in
+    let run = whole (csp_of p) s.choices choices in
+    let h = stops (csp_of p) s.choices choices in
     let n = h.numbers in
     let m = h.at_most in
-    let all : length run.numbers ≤ most_deliveries = omega (arith, n, m) in
+    let all : length run.numbers ≤ most_deliveries = omega (arith, n, m, few) in
     let same : first_answers most_deliveries (λ k. slice_get run.numbers k) ≡ run.numbers = list_answers most_deliveries run.numbers ∙ take_all most_deliveries run.numbers all in
-    subst (λ cs. Repeats run (whole (csp_of p) most_deliveries cs)) (sym same) (replays (csp_of p) most_deliveries most_deliveries choices (omega arith))
+    subst (λ cs. Repeats run (whole (csp_of p) most_deliveries cs)) (sym same) (replays (csp_of p) s.choices most_deliveries choices few)
 
 -- ---- logs
 

@@ -1,5 +1,5 @@
 -- The runs that the program makes: by the choices of a schedule, or by those of a seed.
-use Rattle.std.specs.Prelude.{ℕ, ◌-◌, ◌^◌, Bool, List, [], ◌∷◌, ◌++◌, length, slice_get, Option, Some, None}
+use Rattle.std.specs.Prelude.{ℕ, ◌-◌, ◌^◌, ◌≤◌, Bool, false, List, [], ◌∷◌, ◌++◌, length, slice_get, Option, Some, None}
 use Rattle.dcsp_rule.specs.Problems.{Contents}
 use Rattle.dcsp_script.specs.Scripts.{Write, Create, Append, Put}
 use Rattle.abt_defs.specs.Runs.{Run}
@@ -10,6 +10,7 @@ use Rattle.abt_session.specs.Sessions.{Session, run_of, run_script}
 use Rattle.abt_session.specs.Running.{session_of}
 use Rattle.abt_promise.specs.Promises.{Report, answered}
 use Rattle.line_replay.specs.Endings.{end_status, ending_text, unused_text}
+use Rattle.line_replay.specs.Settings.{Settings}
 
 -- the most deliveries of a run
 abbrev pub most_deliveries : ℕ
@@ -38,6 +39,14 @@ listed_session p choices log trace = session_of p most_deliveries (λ k. slice_g
 abbrev pub seeded_session : Contents → ℕ → List ℕ → Bool → Session
 seeded_session p seed log trace = session_of p most_deliveries (λ k. Some (word_at (generator_of seed) k)) log trace
 
+-- the session under so many first choices of a seed, all as it is set
+abbrev pub set_session : Contents → List ℕ → Settings → Session
+set_session p log s = session_of p s.choices (λ k. Some (word_at (generator_of s.seed) k)) log s.trace
+
+-- a seed alone is set: there are as many choices as a run may have deliveries, and nothing else is asked for
+abbrev pub seed_alone : ℕ → Settings
+seed_alone seed = record { seed = seed; choices = most_deliveries; kept = None; trace = false; each = false }
+
 -- how many of the choices a run leaves
 abbrev pub left_over : List ℕ → Run → ℕ
 left_over choices run = length choices - run.net.deliveries
@@ -52,9 +61,9 @@ replay p choices log trace = record {
   unused = Some (left_over choices (run_of (listed_session p choices log trace)));
 }
 
--- a run from this seed
-abbrev pub solve : Contents → ℕ → List ℕ → Option (List ℕ) → Bool → Asked
-solve p seed log kept trace = record { problem = p; session = seeded_session p seed log trace; kept = kept; limit = most_deliveries; unused = None }
+-- a run from a seed, all as it is set
+abbrev pub solve : Contents → List ℕ → Settings → Asked
+solve p log s = record { problem = p; session = set_session p log s; kept = s.kept; limit = s.choices; unused = None }
 
 -- all that is put when the run has ended
 abbrev pub answer_text : Asked → List ℕ
@@ -78,6 +87,6 @@ created_names log (Some name) = log ∷ name ∷ []
 abbrev pub run_report : Asked → Report
 run_report asked = answered (end_status (asked_run asked).end) (asked_script asked)
 
--- A run from this seed and a replay of its numbers are one run, whatever their logs and traces.
-abbrev pub IsReplayed : Contents → ℕ → Type 0
-IsReplayed p seed = (log again : List ℕ) (trace told : Bool) → let first = run_of (seeded_session p seed log trace) in Repeats first (run_of (listed_session p first.numbers again told))
+-- A run from a seed and a replay of its numbers are one run, whatever their logs and traces.
+abbrev pub IsReplayed : Contents → Settings → Type 0
+IsReplayed p s = s.choices ≤ most_deliveries → (log again : List ℕ) (told : Bool) → let first = run_of (set_session p log s) in Repeats first (run_of (listed_session p first.numbers again told))

@@ -9,7 +9,7 @@ use Rattle.dcsp_rule.specs.Problems.{Contents, csp_of}
 use Rattle.ngd_log.specs.Logs.{log_text}
 use Rattle.abt_defs.specs.Bound.{message_bound}
 use Rattle.law_runs.specs.Stops.{IsOpen}
-use Rattle.law_logs.specs.Logged.{IsSmall}
+use Rattle.ngd_check.specs.Logged.{IsSmall}
 use Rattle.abt_schedule.specs.Schedules.{schedule_text}
 use Rattle.abt_session.specs.Order.{trace_text, log_of_first, HasLines}
 use Rattle.abt_promise.specs.declared.status.Status.{Status}

@@ -1,4 +1,5 @@
 pub mod Endings
+pub mod Settings
 pub mod Asked
 pub mod Outcomes
 pub mod ReplayPromise

@@ -1,12 +1,12 @@
 //! A run with its record.
 
-ghost use Rattle.std.specs.Prelude.{◌≡◌, ◌+◌, ◌++◌, ℕ, IfOk, OnOk, option_copied};
+ghost use Rattle.std.specs.Prelude.{◌≡◌, ◌≤◌, ◌+◌, ◌^◌, ◌++◌, ℕ, IfOk, OnOk, option_copied};
 ghost use Rattle.dcsp_outside.specs.Outside.{Place, Stream};
 ghost use Rattle.dcsp_script.specs.Scripts.{outside};
 ghost use Rattle.dcsp_script.specs.Ways.{Wrote};
 ghost use Rattle.abt_session.specs.Sessions.{run_of, run_script};
 ghost use Rattle.abt_session.specs.Running.{session_of, Gives};
-ghost use Rattle.line_replay.specs.Asked.{most_deliveries, record_script};
+ghost use Rattle.line_replay.specs.Asked.{record_script};
 
 use abt_schedule::{ChoiceList, Choices, write_schedule};
 use abt_session::{Outcome, run};
@@ -16,7 +16,7 @@ use dcsp_script::{Stop, append, create};
 use std::alloc::Global;
 
 /// The most deliveries of a run.
-const MOST_DELIVERIES: u64 = 1 << 40;
+pub const MOST_DELIVERIES: u64 = 1 << 40;
 
 /// What a run writes beside its answer.
 #[derive(Clone, Copy)]
@@ -25,6 +25,8 @@ pub struct Task<'w> {
     pub log: &'w str,
     /// The name of its record, where one is asked for.
     pub kept: Option<&'w str>,
+    /// How many deliveries it makes at most.
+    pub most: u64,
     /// Whether its trace is put.
     pub trace: bool,
 }
@@ -38,26 +40,18 @@ pub fn run_recorded<C: Choices, F: Folder, S: Sink>(
     folder: &mut F,
     out: &mut S,
 ) -> Result<Outcome, Stop>
-    ensures wrote { let s = session_of problem.now most_deliveries (C.answers choices.old) task.entry.log.now task.entry.trace in
+    requires { task.most ≤ 2 ^ 40 }
+    ensures wrote { let s = session_of problem.now task.entry.most (C.answers choices.old) task.entry.log.now task.entry.trace in
         Wrote (run_script s ++ record_script (option_copied task.entry.kept) (run_of s).numbers)
         (outside (F.place folder.old) (S.stream out.old)) (outside (F.place folder.new) (S.stream out.new)) result }
-    ensures gives { IfOk result (Gives (session_of problem.now most_deliveries (C.answers choices.old) task.entry.log.now task.entry.trace)) }
-    ensures answers { let s = session_of problem.now most_deliveries (C.answers choices.old) task.entry.log.now task.entry.trace in
+    ensures gives { IfOk result (Gives (session_of problem.now task.entry.most (C.answers choices.old) task.entry.log.now task.entry.trace)) }
+    ensures answers { let s = session_of problem.now task.entry.most (C.answers choices.old) task.entry.log.now task.entry.trace in
         OnOk result ((k : ℕ) → C.answers choices.new k ≡ C.answers choices.old ((run_of s).net.deliveries + k)) }
 {
     let mut taken = ChoiceList::new(alloc);
     let keep = task.kept.is_some();
     let outcome = run(
-        alloc,
-        problem,
-        choices,
-        MOST_DELIVERIES,
-        folder,
-        task.log,
-        out,
-        task.trace,
-        &mut taken,
-        keep,
+        alloc, problem, choices, task.most, folder, task.log, out, task.trace, &mut taken, keep,
     )?;
     write_record(alloc, folder, task.kept, taken.choices())?;
     Ok(outcome)

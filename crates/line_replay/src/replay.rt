@@ -12,14 +12,14 @@ ghost use Rattle.line_replay.specs.Asked.{asked_run, asked_script, replay};
 ghost use Rattle.line_replay.specs.ReplayPromise.{replay_promise};
 
 use crate::ending::{end_status, tell};
-use crate::record::{Task, run_recorded};
+use crate::record::{MOST_DELIVERIES, Task, run_recorded};
 use abt_input::{CommandError, read_choices, read_model};
 use abt_promise::Status;
 use abt_schedule::Listed;
 use dcsp_outside::{Folder, Sink};
 use dcsp_problem::Problem;
 use dcsp_script::Stop;
-use law_logs::problems_are_small;
+use ngd_check::problems_are_small;
 use std::alloc::Global;
 
 /// The words of `replay`.
@@ -71,6 +71,7 @@ fn run_choices<F: Folder, S: Sink>(
     let task = Task {
         log: line.log,
         kept: None,
+        most: MOST_DELIVERIES,
         trace: line.trace,
     };
     let mut choices = choices;

@@ -1,10 +1,11 @@
 //! A run under the choices of a seed.
 
-ghost use Rattle.std.specs.Prelude.{◌≡◌, IfOk, option_copied};
+ghost use Rattle.std.specs.Prelude.{◌≡◌, ◌≤◌, ◌^◌, IfOk};
 ghost use Rattle.dcsp_outside.specs.Outside.{Place, Stream};
 ghost use Rattle.dcsp_script.specs.Scripts.{outside};
 ghost use Rattle.dcsp_script.specs.Ways.{Wrote};
 ghost use Rattle.line_replay.specs.Endings as endings;
+ghost use Rattle.line_replay.specs.Settings.{settings_of};
 ghost use Rattle.line_replay.specs.Asked.{asked_run, asked_script, solve};
 
 use crate::ending::{end_status, tell};
@@ -23,12 +24,23 @@ pub struct Solve<'w> {
     pub model: &'w str,
     /// The name of the run's log.
     pub log: &'w str,
+    pub options: Options<'w>,
+}
+
+/// How the run is made, and each round of a search.
+#[derive(Clone, Copy)]
+pub struct Options<'w> {
     /// The seed of the choices.
     pub seed: u64,
+    /// How many choices the run has, at most 2^40: the first ones of the seed's. Where a message is in transit when
+    /// they are used up, the run is unfinished.
+    pub choices: u64,
     /// The name of the record, where one is asked for.
     pub kept: Option<&'w str>,
     /// Whether the trace is put.
     pub trace: bool,
+    /// Whether a search puts each solution as soon as it is found. A run for any solution is as without.
+    pub each: bool,
 }
 
 /// Runs the problem under the choices of the seed, and tells how the run ended.
@@ -39,16 +51,18 @@ pub fn run_seed<F: Folder, S: Sink>(
     folder: &mut F,
     out: &mut S,
 ) -> Result<Status, Stop>
-    ensures wrote { Wrote (asked_script (solve problem.now line.entry.seed line.entry.log.now (option_copied line.entry.kept) line.entry.trace))
+    requires { line.options.choices ≤ 2 ^ 40 }
+    ensures wrote { Wrote (asked_script (solve problem.now line.entry.log.now (settings_of line.entry.options)))
         (outside (F.place folder.old) (S.stream out.old)) (outside (F.place folder.new) (S.stream out.new)) result }
-    ensures status { IfOk result (λ status. status ≡ endings.end_status (asked_run (solve problem.now line.entry.seed line.entry.log.now (option_copied line.entry.kept) line.entry.trace)).end) }
+    ensures status { IfOk result (λ status. status ≡ endings.end_status (asked_run (solve problem.now line.entry.log.now (settings_of line.entry.options))).end) }
 {
     let task = Task {
         log: line.log,
-        kept: line.kept,
-        trace: line.trace,
+        kept: line.options.kept,
+        most: line.options.choices,
+        trace: line.options.trace,
     };
-    let mut choices = Seeded::new(line.seed);
+    let mut choices = Seeded::new(line.options.seed);
     let outcome = run_recorded(alloc, problem, &mut choices, task, folder, out)?;
     tell(alloc, problem, &outcome, None, out)?;
     Ok(end_status(&outcome.end))

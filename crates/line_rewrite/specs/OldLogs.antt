@@ -5,7 +5,7 @@ use Rattle.ngd_log.specs.Logs.{IsLogOf}
 use Rattle.ngd_rewrite.specs.Endings.{AreEndings, steps_in}
 use Rattle.abt_input.specs.Inputs.{IsTextOf}
 use Rattle.abt_input.specs.Errors.{IsErrorOfLog}
-use Rattle.abt_input.specs.Kinds.{Kind}
+use Rattle.abt_input.specs.Kinds.{FileKind}
 use Rattle.line_rewrite.specs.declared.old_log.OldLog.{OldLog}
 
 -- the steps of a log
@@ -23,5 +23,5 @@ pub record IsOldLogOf (bytes : List ℕ) (log : OldLog) : Type 0 where
   pub log_is : IsOldLog log
 
 -- a log of version 1, which is kept with the endings of its steps
-abbrev pub an_old_log : Kind
+abbrev pub an_old_log : FileKind
 an_old_log = record { Value = OldLog; Is = IsOldLogOf; Refuses = IsErrorOfLog }

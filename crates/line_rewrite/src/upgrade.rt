@@ -12,7 +12,7 @@ ghost use Rattle.line_rewrite.specs.Upgrading.{HoldsUpgrade};
 
 use crate::entries::write_upgraded;
 use crate::old_log::{OldLog, read_old_log};
-use abt_input::{CommandError, Line};
+use abt_input::{AnswerLine, CommandError};
 use abt_promise::Status;
 use dcsp_outside::{Folder, Sink};
 use dcsp_script::{Stop, put};
@@ -66,12 +66,12 @@ fn tell<S: Sink>(steps: u64, deleted: u64, out: &mut S) -> Result<(), Stop>
 }
 
 /// The line that tells how many steps there are, and how many of them are deleted.
-fn counts_line(steps: u64, deleted: u64) -> Line
+fn counts_line(steps: u64, deleted: u64) -> AnswerLine
     ensures { result ≡ counts_text steps deleted }
 {
     let mut count = Buffer::new();
     let mut gone = Buffer::new();
-    Line::of(b"upgraded steps ")
+    AnswerLine::of(b"upgraded steps ")
         .with(count.format(steps).as_bytes())
         .with(b" deleted ")
         .with(gone.format(deleted).as_bytes())

@@ -1,9 +1,9 @@
 -- A problem with smaller domains has no greater bound.
-use Rattle.std.proofs.Common.{◌≡◌, ℕ, zero, suc, ◌+◌, ◌-◌, ◌*◌, ◌<◌, ◌≤◌, cond, ℤ, List, [], length, refl, ap, arith}
+use Rattle.std.proofs.Common.{◌≡◌, ℕ, zero, suc, ◌+◌, ◌-◌, ◌*◌, ◌≤◌, cond, ℤ, List, [], length, ap, arith}
 use Rattle.std.specs.Prelude.{slice_index_or}
 use Rattle.std.proofs.lemmas.Nat.{mul-le}
 use Rattle.dcsp_defs.specs.Words.{sum_below}
-use Rattle.dcsp_defs.specs.Csp.{Csp, Constraint, domain, count}
+use Rattle.dcsp_defs.specs.Csp.{Csp, Constraint, domain}
 use Rattle.abt_defs.specs.Agents.{shares}
 use Rattle.abt_defs.specs.Bound.{product_below, unlinked_pairs, message_bound}
 use Rattle.law_runs.proofs.Sums.{sum-le}

@@ -1,5 +1,5 @@
 -- The last round of a search, and the one before it.
-use Rattle.std.proofs.Common.{◌≡◌, ◌∙◌, ℕ, zero, suc, ◌+◌, ◌-◌, ◌<◌, ◌≤◌, ℤ, Bool, true, false, List, [], ◌∷◌, ◌++◌, length, Option, Some, None, refl, sym, ap, subst, arith}
+use Rattle.std.proofs.Common.{◌≡◌, ◌∙◌, ℕ, suc, ◌-◌, ◌<◌, true, false, List, Option, Some, None, refl, sym, ap, arith}
 use Rattle.std.specs.Prelude.{◌↔◌, IsSomeAnd}
 use Rattle.std.specs.Option.{option_map_or}
 use Rattle.dcsp_rule.specs.declared.aim.Aim.{Aim}
@@ -11,13 +11,13 @@ use Rattle.abt_optimum.specs.declared.round.Ended.{Ended}
 use Rattle.abt_optimum.specs.declared.round.Ended.TheVariants as ended
 use Rattle.abt_optimum.specs.declared.round.Round.{Round}
 use Rattle.abt_optimum.specs.declared.round.RoundEnd.{RoundEnd}
-use Rattle.abt_optimum.specs.declared.round.RoundEnd.TheVariants.{Solved, Refuted, Capped}
-use Rattle.abt_optimum.specs.Rounds.{last_round, best_value, is_last, is_done, most_rounds}
+use Rattle.abt_optimum.specs.declared.round.RoundEnd.TheVariants.{Solved}
+use Rattle.abt_optimum.specs.Rounds.{last_round, is_last, most_rounds}
 use Rattle.abt_optimum.specs.Searches.{SearchState, end_at, round_after, values_after}
 use Rattle.abt_optimum.specs.Outcomes.{EndsCapped}
 use Rattle.abt_optimum.proofs.RoundLists.{last_more}
 use Rattle.abt_session.specs.Sessions.{run_of}
-use Rattle.line_solve.specs.Searching.{AskedSearch, next_problem, next_session, end_as, next_end, with_round, search_after, whole_search, round_count, problem_after, run_after, first_run, last_run}
+use Rattle.line_solve.specs.Searching.{AskedSearch, next_problem, next_session, end_as, next_end, with_round, search_after, whole_search, round_count, problem_after, run_after, first_run}
 use Rattle.line_solve.specs.BestAnswers.{is_capped, ends_capped}
 use Rattle.line_solve.proofs.Rounds.{is_over, starts, goes_on, counted}
 use Rattle.line_solve.proofs.Headlines.{has_round}

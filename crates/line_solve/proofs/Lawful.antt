@@ -1,6 +1,5 @@
 -- A search is an answer of its own, and the promise of the line is lawful.
-use Rattle.std.proofs.Common.{◌≡◌, ◌≢◌, ℕ, List, [], ◌∷◌, Option, refl, inr}
-use Rattle.std.specs.Prelude.{Bool}
+use Rattle.std.proofs.Common.{◌≡◌, ◌≢◌, ℕ, List, [], ◌∷◌, refl, inr}
 use Rattle.dcsp_rule.specs.declared.aim.Aim.{Aim}
 use Rattle.dcsp_rule.specs.declared.aim.Aim.TheVariants.{Satisfy, Least, Greatest}
 use Rattle.dcsp_rule.specs.Problems.{Contents}
@@ -16,6 +15,7 @@ use Rattle.abt_input.proofs.PlanLaws.{plan_lawful}
 use Rattle.abt_optimum.specs.declared.best.BestEnd.{BestEnd}
 use Rattle.abt_optimum.specs.declared.best.BestEnd.TheVariants.{Optimal, NoSolution, Open}
 use Rattle.line_replay.specs.Asked.{solve, created_names, run_report}
+use Rattle.line_replay.specs.Settings.{Settings}
 use Rattle.line_replay.specs.ReplayPromise.{run_plan}
 use Rattle.line_replay.proofs.Lawful.{run_own, own_of_leaves}
 use Rattle.line_solve.specs.Searching.{AskedSearch, best_search, whole_search}
@@ -35,51 +35,51 @@ no_refusal_best NoSolution h = h
 no_refusal_best (Open values) h = h
 
 -- a search changes only its log and its record
-search_own : (asked : AskedSearch) → IsOwn (created_names asked.log asked.kept) (search_status asked) (search_script asked)
+search_own : (asked : AskedSearch) → IsOwn (created_names asked.log asked.set.kept) (search_status asked) (search_script asked)
 search_own asked = record {
   final = final_best (found (whole_search asked));
   no_refusal = no_refusal_best (found (whole_search asked));
-  names = own_of_leaves asked.log asked.kept (search_script asked) (search_leaves asked);
+  names = own_of_leaves asked.log asked.set.kept (search_script asked) (search_leaves asked);
 }
 
-module _ (problem : Contents) (log : List ℕ) (seed : ℕ) (kept : Option (List ℕ)) (trace : Bool) where
-  plan_own : (aim : Aim) → IsSoundPlan [] (created_names log kept) (plan_for aim problem log seed kept trace)
-  plan_own Satisfy = run_own (solve problem seed log kept trace)
-  plan_own (Least term) = search_own (best_search problem seed log kept trace)
-  plan_own (Greatest term) = search_own (best_search problem seed log kept trace)
+module _ (problem : Contents) (log : List ℕ) (s : Settings) where
+  plan_own : (aim : Aim) → IsSoundPlan [] (created_names log s.kept) (plan_for aim problem log s)
+  plan_own Satisfy = run_own (solve problem log s)
+  plan_own (Least term) = search_own (best_search problem log s)
+  plan_own (Greatest term) = search_own (best_search problem log s)
 
   -- a line that makes the run, where any solution is asked for, keeps to the plan
-  pub keeps_run : {a b : World} {way : Way} (aim : Aim) → aim ≡ Satisfy → Keeps [] (created_names log kept) (run_plan (solve problem seed log kept trace)) a b way → Keeps [] (created_names log kept) (plan_for aim problem log seed kept trace) a b way
+  pub keeps_run : {a b : World} {way : Way} (aim : Aim) → aim ≡ Satisfy → Keeps [] (created_names log s.kept) (run_plan (solve problem log s)) a b way → Keeps [] (created_names log s.kept) (plan_for aim problem log s) a b way
   keeps_run Satisfy e k = k
   keeps_run (Least term) e k = absurd (let f = e in cc)
   keeps_run (Greatest term) e k = absurd (let f = e in cc)
 
   -- and so does one that makes the search, where the best value is
-  pub keeps_search : {a b : World} {way : Way} (aim : Aim) → aim ≢ Satisfy → Keeps [] (created_names log kept) (search_plan (best_search problem seed log kept trace)) a b way → Keeps [] (created_names log kept) (plan_for aim problem log seed kept trace) a b way
+  pub keeps_search : {a b : World} {way : Way} (aim : Aim) → aim ≢ Satisfy → Keeps [] (created_names log s.kept) (search_plan (best_search problem log s)) a b way → Keeps [] (created_names log s.kept) (plan_for aim problem log s) a b way
   keeps_search Satisfy n k = absurd (n refl)
   keeps_search (Least term) n k = k
   keeps_search (Greatest term) n k = k
 
-  run_is : (aim : Aim) → aim ≡ Satisfy → PlanReports (plan_for aim problem log seed kept trace) [] (run_report (solve problem seed log kept trace))
+  run_is : (aim : Aim) → aim ≡ Satisfy → PlanReports (plan_for aim problem log s) [] (run_report (solve problem log s))
   run_is Satisfy e = refl
   run_is (Least term) e = absurd (let f = e in cc)
   run_is (Greatest term) e = absurd (let f = e in cc)
 
-  search_is : (aim : Aim) → aim ≢ Satisfy → PlanReports (plan_for aim problem log seed kept trace) [] (search_report (best_search problem seed log kept trace))
+  search_is : (aim : Aim) → aim ≢ Satisfy → PlanReports (plan_for aim problem log s) [] (search_report (best_search problem log s))
   search_is Satisfy n = absurd (n refl)
   search_is (Least term) n = refl
   search_is (Greatest term) n = refl
 
   module _ (model : List ℕ) (is : IsModelOf model problem) where
     -- what is reported where any solution is asked for, and where the best value is
-    pub reports_run : problem.aim ≡ Satisfy → PlanReports (solve_plan log seed kept trace) (model ∷ []) (run_report (solve problem seed log kept trace))
+    pub reports_run : problem.aim ≡ Satisfy → PlanReports (solve_plan log s) (model ∷ []) (run_report (solve problem log s))
     reports_run e = inr (problem, is, run_is problem.aim e)
 
-    pub reports_search : problem.aim ≢ Satisfy → PlanReports (solve_plan log seed kept trace) (model ∷ []) (search_report (best_search problem seed log kept trace))
+    pub reports_search : problem.aim ≢ Satisfy → PlanReports (solve_plan log s) (model ∷ []) (search_report (best_search problem log s))
     reports_search n = inr (problem, is, search_is problem.aim n)
 
-pub solve_sound : (model log : List ℕ) (seed : ℕ) (kept : Option (List ℕ)) (trace : Bool) → IsSoundPlan (model ∷ []) (created_names log kept) (solve_plan log seed kept trace)
-solve_sound model log seed kept trace = (model_exact, λ problem. plan_own problem log seed kept trace problem.aim)
+pub solve_sound : (model log : List ℕ) (s : Settings) → IsSoundPlan (model ∷ []) (created_names log s.kept) (solve_plan log s)
+solve_sound model log s = (model_exact, λ problem. plan_own problem log s problem.aim)
 
-pub solve_lawful : (model log : List ℕ) (seed : ℕ) (kept : Option (List ℕ)) (trace : Bool) → IsLawful (solve_promise model log seed kept trace)
-solve_lawful model log seed kept trace = plan_lawful (solve_plan log seed kept trace) (solve_sound model log seed kept trace)
+pub solve_lawful : (model log : List ℕ) (s : Settings) → IsLawful (solve_promise model log s)
+solve_lawful model log s = plan_lawful (solve_plan log s) (solve_sound model log s)

@@ -12,3 +12,4 @@ pub mod WholeProblems
 pub mod Making
 pub mod Turns
 pub mod Telling
+pub mod Improving

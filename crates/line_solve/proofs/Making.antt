@@ -1,17 +1,16 @@
 -- What the code of a search makes of its rounds.
-use Rattle.std.proofs.Common.{◌≡◌, ◌∙◌, ℕ, zero, suc, ◌+◌, ◌-◌, ◌*◌, ◌^◌, ◌<◌, ◌≤◌, ◌==◌, ◌&&◌, ℤ, Bool, true, false, List, [], ◌∷◌, ◌++◌, length, Option, Some, None, Result, Ok, Err, refl, sym, ap, subst, arith, append-nil, length-append}
+use Rattle.std.proofs.Common.{◌≡◌, ◌∙◌, ℕ, zero, suc, ◌+◌, ◌*◌, ◌^◌, ◌<◌, ◌≤◌, ◌==◌, ◌&&◌, ℤ, Bool, true, false, List, [], ◌∷◌, ◌++◌, length, Option, Some, None, Result, Ok, Err, refl, sym, ap, subst, arith, append-nil, length-append}
 use Rattle.std.specs.Prelude.{IfOk, OnOk, is_some, option_copied}
 use Rattle.std.specs.Borrow.{Bor}
 use Rattle.std.proofs.Math.Dec.{eqb-suc-zero}
 use Rattle.dcsp_script.specs.declared.stop.Stop.{Stop}
 use Rattle.dcsp_script.specs.Scripts.{World, Put}
 use Rattle.dcsp_script.specs.Ways.{Wrote}
-use Rattle.dcsp_defs.specs.Csp.{Csp}
 use Rattle.dcsp_rule.specs.Problems.{Contents, csp_of}
 use Rattle.dcsp_problem.specs.WellFormed.{IsProblem}
 use Rattle.dcsp_rule.specs.Aims.{narrowed}
-use Rattle.abt_defs.specs.Network.{Network}
-use Rattle.abt_defs.specs.Runs as runs
+use Rattle.line_replay.specs.Outcomes.{HasAllValues}
+use Rattle.line_replay.proofs.Outcomes.{has_values}
 use Rattle.abt_defs.specs.Runs.{Run}
 use Rattle.law_runs.specs.Replay.{Verdicts}
 use Rattle.law_runs.proofs.Stopping.{stops}
@@ -20,19 +19,20 @@ use Rattle.abt_session.specs.Running.{kept, IsEnd, Gives}
 use Rattle.abt_session.specs.declared.outcome.End.{End}
 use Rattle.abt_session.specs.declared.outcome.End.TheVariants as ends
 use Rattle.abt_session.specs.declared.outcome.Outcome.{Outcome}
-use Rattle.line_replay.specs.Endings.{final_values}
-use Rattle.line_replay.specs.Asked.{most_deliveries, seeded_session}
+use Rattle.line_replay.specs.Asked.{most_deliveries, set_session}
+use Rattle.line_replay.specs.Settings.{Settings}
 use Rattle.abt_optimum.specs.Rounds.{best_value, round_problem}
 use Rattle.abt_optimum.specs.Searches.{SearchState, EndsRightly}
+use Rattle.abt_optimum.proofs.SearchLaws.{round_many}
 use Rattle.line_solve.specs.Searching.{AskedSearch, best_search, next_problem, next_session, end_as, next_end, told_end, with_round, search_after, problem_after, session_after, run_after, first_run, deliveries_in}
 use Rattle.line_solve.specs.SearchScripts.{round_line, line_script}
-use Rattle.line_solve.specs.declared.runner.Runner.{Runner}
+use Rattle.line_solve.specs.declared.runner.SearchRunner.{SearchRunner}
 use Rattle.line_solve.specs.Runners.{Tells, IsFresh, taken_after, steps_of_last, HasMade, SameRounds}
 use Rattle.line_solve.proofs.Rounds.{is_over, starts, goes_on, same_problem}
 use Rattle.line_solve.proofs.Searches.{ends_rightly, is_csp_after}
 use Rattle.line_solve.proofs.LastRounds.{first_is}
 
-pub tells_of : (p : Contents) (s : Session) (r : Result Outcome Stop) → IfOk r (Gives s) → Verdicts (csp_of p) most_deliveries (run_of s) → IfOk r (Tells p s)
+pub tells_of : (p : Contents) (s : Session) (r : Result Outcome Stop) → IfOk r (Gives s) → Verdicts (csp_of p) s.most (run_of s) → IfOk r (Tells p s)
 tells_of p s (Ok outcome) gives right = record { gives = gives; right = right }
 tells_of p s (Err stop) gives right = tt
 
@@ -41,9 +41,9 @@ pub line_traced : {T : Type 0} {a b : World} {r : Result T Stop} (trace : Bool) 
 line_traced {a = a} {b = b} {r = r} trace number e w = subst (λ (t : Bool). Wrote (line_script t number) a b r) (sym e) w
 
 -- the session on the narrowed problem is that of the round that follows
-pub next_is : (p q : Contents) (seed : ℕ) (log : List ℕ) (kept : Option (List ℕ)) (trace : Bool) (s : SearchState) (value : ℤ) → best_value s.rounds ≡ Some value → q ≡ narrowed p value
-    → seeded_session q seed log trace ≡ next_session (best_search p seed log kept trace) s
-next_is p q seed log kept trace s value e f = ap (λ (x : Contents). seeded_session x seed log trace) (f ∙ ap (round_problem p) (sym e))
+pub next_is : (p q : Contents) (log : List ℕ) (set : Settings) (s : SearchState) (value : ℤ) → best_value s.rounds ≡ Some value → q ≡ narrowed p value
+    → set_session q log set ≡ next_session (best_search p log set) s
+next_is p q log set s value e f = ap (λ (x : Contents). set_session x log set) (f ∙ ap (round_problem p) (sym e))
 
 -- ---- how a round ended
 
@@ -56,20 +56,20 @@ told_is p run ends.Capped h = rw h refl
 
 module _ (asked : AskedSearch) (ok : IsProblem asked.problem) (n : ℕ) where
   -- and is right
-  pub told_right : (end : End) → IsEnd (csp_of (problem_after asked n)) (run_after asked n).net (run_after asked n).end end → Verdicts (csp_of (problem_after asked n)) most_deliveries (run_after asked n) → EndsRightly (problem_after asked n) (told_end end)
+  pub told_right : (end : End) → IsEnd (csp_of (problem_after asked n)) (run_after asked n).net (run_after asked n).end end → Verdicts (csp_of (problem_after asked n)) asked.set.choices (run_after asked n) → EndsRightly (problem_after asked n) (told_end end)
   told_right end h law =
-      let right = ends_rightly (problem_after asked n) most_deliveries (run_after asked n) (run_after asked n).end (is_csp_after asked ok n) refl law in
+      let right = ends_rightly (problem_after asked n) asked.set.choices (run_after asked n) (run_after asked n).end (is_csp_after asked ok n) refl law in
       subst (EndsRightly (problem_after asked n)) (sym (told_is (problem_after asked n) (run_after asked n) end h)) right
 
 -- ---- counts
 
 -- the rounds make no more deliveries than that
-pub few_deliveries : (asked : AskedSearch) (n : ℕ) → deliveries_in asked n ≤ n * most_deliveries
-few_deliveries asked zero = omega arith
-few_deliveries asked (suc n) =
-    let before = few_deliveries asked n in
-    let one = (stops (session_after asked n).problem most_deliveries (session_after asked n).choices).at_most in
-    omega (arith, before, one)
+pub few_deliveries : (asked : AskedSearch) (n : ℕ) → asked.set.choices ≤ most_deliveries → deliveries_in asked n ≤ n * most_deliveries
+few_deliveries asked zero few = omega arith
+few_deliveries asked (suc n) few =
+    let before = few_deliveries asked n few in
+    let one = (stops (session_after asked n).problem asked.set.choices (session_after asked n).choices).at_most in
+    omega (arith, before, one, few)
 
 -- the numbers of the first round alone are taken down
 pub takes_first : (keep : Bool) (n : ℕ) (first numbers : List ℕ) → (n ≡ 0 → numbers ≡ first) → taken_after keep n first ++ kept (keep && n == 0) numbers ≡ taken_after keep (n + 1) first
@@ -84,10 +84,10 @@ takes_first keep (suc n) first numbers same = let e : suc (suc n) ≡ suc n + 1 
     by true = ap (λ (b : Bool). first ++ kept b numbers) (eqb-suc-zero n) ∙ append-nil first
     by false = refl
 
-module _ (asked : AskedSearch) (n : ℕ) (r q t : Runner) (outcome : Outcome) (made : HasMade asked n r) (still : is_over r.search ≡ false) (same : SameRounds r q) where
+module _ (asked : AskedSearch) (n : ℕ) (r q t : SearchRunner) (outcome : Outcome) (made : HasMade asked n r) (still : is_over r.search ≡ false) (same : SameRounds r q) where
   -- one round more
   pub made_more : Tells (next_problem asked r.search) (next_session asked r.search) outcome
-      → q.taken ≡ r.taken ++ kept (is_some asked.kept && r.rounds == 0) (run_of (next_session asked r.search)).numbers
+      → q.taken ≡ r.taken ++ kept (is_some asked.set.kept && r.rounds == 0) (run_of (next_session asked r.search)).numbers
       → t.search ≡ with_round q.search (told_end outcome.end) → t.rounds ≡ q.rounds + 1 → t.deliveries ≡ q.deliveries + outcome.deliveries → t.steps ≡ outcome.steps → t.taken ≡ q.taken
       → HasMade asked (n + 1) t
   made_more tells takes search rounds deliveries steps taken =
@@ -105,29 +105,44 @@ module _ (asked : AskedSearch) (n : ℕ) (r q t : Runner) (outcome : Outcome) (m
         rounds = rounds ∙ ap (λ (i : ℕ). i + 1) (same.rounds ∙ made.rounds);
         deliveries = deliveries ∙ ap (λ (i : ℕ). i + outcome.deliveries) (same.deliveries ∙ made.deliveries) ∙ ap (λ (i : ℕ). deliveries_in asked n + i) (tells.gives.deliveries ∙ ap (λ (x : Run). x.net.deliveries) run) ∙ ap (deliveries_in asked) (sym next);
         steps = steps ∙ tells.gives.steps ∙ ap (λ (x : Run). length x.net.steps) run ∙ ap (steps_of_last asked) (sym next);
-        taken = taken ∙ takes ∙ ap (λ (l : List ℕ). l ++ kept (is_some asked.kept && r.rounds == 0) (run_of (next_session asked r.search)).numbers) made.taken
-            ∙ ap (λ (i : ℕ). taken_after (is_some asked.kept) n (first_run asked).numbers ++ kept (is_some asked.kept && i == 0) (run_of (next_session asked r.search)).numbers) made.rounds
-            ∙ takes_first (is_some asked.kept) n (first_run asked).numbers (run_of (next_session asked r.search)).numbers (λ none. ap (λ (x : Run). x.numbers) (run ∙ ap (run_after asked) none ∙ first_is asked));
+        taken = taken ∙ takes ∙ ap (λ (l : List ℕ). l ++ kept (is_some asked.set.kept && r.rounds == 0) (run_of (next_session asked r.search)).numbers) made.taken
+            ∙ ap (λ (i : ℕ). taken_after (is_some asked.set.kept) n (first_run asked).numbers ++ kept (is_some asked.set.kept && i == 0) (run_of (next_session asked r.search)).numbers) made.rounds
+            ∙ takes_first (is_some asked.set.kept) n (first_run asked).numbers (run_of (next_session asked r.search)).numbers (λ none. ap (λ (x : Run). x.numbers) (run ∙ ap (run_after asked) none ∙ first_is asked));
       }
 
 -- ---- the round that follows
 
-module _ (asked : AskedSearch) (n : ℕ) (r : Runner) (made : HasMade asked n r) where
+-- a round's problem has as many variables as the whole one
+values_of_end : (better : Option ℤ) (p : Contents) (end : End) → HasAllValues (round_problem p better) end → HasAllValues p end
+values_of_end better p (ends.Solved values) h = h ∙ round_many p better
+values_of_end better p ends.Refuted h = tt
+values_of_end better p ends.Spent h = tt
+values_of_end better p ends.Capped h = tt
+
+module _ (asked : AskedSearch) (n : ℕ) (r : SearchRunner) (made : HasMade asked n r) where
   pub session_next : next_session asked r.search ≡ session_after asked n
   session_next = ap (next_session asked) made.search
+
+  -- how it ends, and the values that it was solved with
+  module _ (outcome : Outcome) (tells : Tells (next_problem asked r.search) (next_session asked r.search) outcome) where
+    pub end_next : told_end outcome.end ≡ next_end asked (search_after asked n)
+    end_next = told_is (next_problem asked r.search) (run_of (next_session asked r.search)) outcome.end tells.gives.end ∙ ap (next_end asked) made.search
+
+    pub all_values : HasAllValues asked.problem outcome.end
+    all_values = values_of_end (best_value r.search.rounds) asked.problem outcome.end (has_values (next_problem asked r.search) (run_of (next_session asked r.search)) outcome.end tells.gives.end)
 
   pub problem_is : r.search.problem ≡ asked.problem
   problem_is = ap (λ (s : SearchState). s.problem) made.search ∙ same_problem asked n
 
-module _ (asked : AskedSearch) (n : ℕ) (r q : Runner) (outcome : Outcome) (made : HasMade asked n r) where
+module _ (asked : AskedSearch) (n : ℕ) (r q : SearchRunner) (outcome : Outcome) (made : HasMade asked n r) where
   -- its counts are small
-  pub few_more : n < 2 ^ 20 → SameRounds r q → Tells (next_problem asked r.search) (next_session asked r.search) outcome → (q.rounds < 2 ^ 62) × (q.deliveries + outcome.deliveries < 2 ^ 62)
-  few_more small same tells =
+  pub few_more : n < 2 ^ 20 → asked.set.choices ≤ most_deliveries → SameRounds r q → Tells (next_problem asked r.search) (next_session asked r.search) outcome → (q.rounds < 2 ^ 62) × (q.deliveries + outcome.deliveries < 2 ^ 62)
+  few_more small choices same tells =
       let rounds = same.rounds ∙ made.rounds in
       let deliveries = same.deliveries ∙ made.deliveries in
-      let few = few_deliveries asked n in
+      let few = few_deliveries asked n choices in
       let one = tells.gives.deliveries in
-      let most = tells.right.at_most in
+      let most : (run_of (next_session asked r.search)).net.deliveries ≤ asked.set.choices = tells.right.at_most in
       (omega arith, omega arith)
 
   -- and it ended rightly
@@ -145,7 +160,7 @@ module _ (asked : AskedSearch) (n : ℕ) (r q : Runner) (outcome : Outcome) (mad
           subst (λ (x : SearchState). EndsRightly (next_problem asked x) (told_end outcome.end)) (sym e) (told_right asked ok n outcome.end law.gives.end law.right)
 
 -- no round was made yet
-pub made_none : (asked : AskedSearch) (r : Runner) → IsFresh asked.problem r → HasMade asked 0 r
+pub made_none : (asked : AskedSearch) (r : SearchRunner) → IsFresh asked.problem r → HasMade asked 0 r
 made_none asked r h = record {
   search = h.search ∙ sym (starts asked);
   many = ap (λ (s : SearchState). length s.rounds) h.search;

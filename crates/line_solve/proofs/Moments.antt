@@ -1,5 +1,5 @@
 -- The moment at which a first part of a script had been made.
-use Rattle.std.proofs.Common.{◌≡◌, ℕ, List, [], ◌∷◌, ◌++◌, Option, Some, None, refl, sym, ap, ◌∙◌, append_assoc}
+use Rattle.std.proofs.Common.{ℕ, List, ◌++◌, Option, Some, None, refl, sym, ap, ◌∙◌, append_assoc}
 use Rattle.std.specs.Prelude.{option_map}
 use Rattle.dcsp_outside.specs.Outside.{Told}
 use Rattle.dcsp_script.specs.Scripts.{Write, World, file_after, put_by, created_by, FilesAfter, PutAfter, IsAfter}

@@ -1,16 +1,15 @@
 -- The problem of each round is well-formed, and its bound is at most that of the whole problem.
-use Rattle.std.proofs.Common.{◌≡◌, ◌∙◌, ℕ, zero, suc, ◌<◌, ◌≤◌, ℤ, Bool, List, [], ◌∷◌, length, filter, map, Option, Some, None, refl, sym, ap, subst, arith}
+use Rattle.std.proofs.Common.{◌≡◌, ℕ, zero, suc, ◌≤◌, ℤ, Bool, List, [], ◌∷◌, length, filter, map, Option, Some, None, refl, sym, subst, arith}
 use Rattle.std.specs.Prelude.{slice_set, slice_index_or}
 use Rattle.std.proofs.lemmas.List.{length-set}
 use Rattle.dcsp_domain.proofs.Domains.{length_filter}
-use Rattle.dcsp_defs.specs.Csp.{Csp, IsCsp}
 use Rattle.dcsp_rule.specs.Problems.{Contents, constraint_of, csp_of}
 use Rattle.dcsp_problem.specs.WellFormed.{IsProblem}
-use Rattle.dcsp_rule.specs.Aims.{aimed_at, is_better, narrowed_domains, narrowed_at, narrowed}
+use Rattle.dcsp_rule.specs.Aims.{aimed_at, is_better, narrowed_domains, narrowed_at}
 use Rattle.dcsp_problem.proofs.Narrowed.{is_problem_narrowed, aimed_below}
 use Rattle.abt_defs.specs.Bound.{message_bound}
 use Rattle.abt_optimum.specs.Rounds.{round_problem}
-use Rattle.line_solve.proofs.Bounds.{AreNoLonger, bound_smaller}
+use Rattle.line_solve.proofs.Bounds.{bound_smaller}
 
 -- the domains, where of one only the values that pass the test stay
 abbrev cut : (ℤ → Bool) → ℕ → List (List ℤ) → List (List ℤ)

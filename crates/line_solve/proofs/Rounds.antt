@@ -1,6 +1,5 @@
 -- A search after some of its rounds.
-use Rattle.std.proofs.Common.{◌≡◌, ℕ, zero, suc, ◌+◌, ◌-◌, ◌<◌, ◌≤◌, Bool, true, false, if◌then◌else◌, List, [], ◌∷◌, ◌++◌, length, None, refl, sym, ap, ◌∙◌, subst, arith, length-append, below_more}
-use Rattle.dcsp_rule.specs.Problems.{Contents}
+use Rattle.std.proofs.Common.{◌≡◌, ℕ, zero, suc, ◌+◌, ◌<◌, ◌≤◌, Bool, true, false, if◌then◌else◌, [], ◌∷◌, length, None, refl, sym, ap, ◌∙◌, arith, length-append, below_more}
 use Rattle.abt_optimum.specs.Rounds.{is_done}
 use Rattle.abt_optimum.specs.Searches.{SearchState}
 use Rattle.line_solve.specs.Searching.{AskedSearch, next_end, with_round, one_more, search_after}

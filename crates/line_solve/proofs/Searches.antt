@@ -1,7 +1,6 @@
 -- The asked search is a search: each of its rounds ends rightly, and after as many as there may be it is over.
-use Rattle.std.proofs.Common.{◌≡◌, ◌≢◌, ◌∙◌, ℕ, zero, suc, ◌+◌, ◌-◌, ◌<◌, ◌≤◌, ℤ, pos, Bool, true, false, List, [], ◌∷◌, length, map, Option, Some, None, refl, sym, ap, subst, arith}
-use Rattle.dcsp_defs.specs.Csp.{Csp, IsCsp, count}
-use Rattle.dcsp_defs.specs.Words.{below}
+use Rattle.std.proofs.Common.{◌≡◌, ◌≢◌, ℕ, zero, suc, pos, Bool, true, false, length, refl, sym, ap, subst, arith}
+use Rattle.dcsp_defs.specs.Csp.{IsCsp, count}
 use Rattle.dcsp_rule.specs.declared.aim.Aim.TheVariants.{Satisfy}
 use Rattle.dcsp_rule.specs.Rules.{IsAimOf}
 use Rattle.dcsp_rule.specs.Problems.{Contents, csp_of}
@@ -14,16 +13,15 @@ use Rattle.abt_defs.specs.Runs.{Run}
 use Rattle.law_runs.specs.Replay.{Verdicts}
 use Rattle.law_runs.proofs.Whole.{verdicts}
 use Rattle.line_replay.specs.Endings.{assigned, final_values}
-use Rattle.line_replay.specs.Asked.{most_deliveries}
 use Rattle.line_replay.proofs.Verdicts.{same_solution}
 use Rattle.abt_optimum.specs.Rounds.{best_value, is_done, round_problem, most_rounds, AreRounds}
-use Rattle.abt_optimum.specs.Searches.{SearchState, EndsRightly, IsSearch}
+use Rattle.abt_optimum.specs.Searches.{EndsRightly, IsSearch}
 use Rattle.abt_optimum.proofs.RoundLists.{no_rounds}
-use Rattle.abt_optimum.proofs.Fewer.{room, few}
+use Rattle.abt_optimum.proofs.Fewer.{room}
 use Rattle.abt_optimum.proofs.SearchLaws.{search_more}
-use Rattle.line_solve.specs.Searching.{AskedSearch, next_problem, next_session, end_as, next_end, search_after, whole_search, round_count, problem_after, session_after, run_after}
+use Rattle.line_solve.specs.Searching.{AskedSearch, end_as, next_end, search_after, whole_search, problem_after, session_after, run_after}
 use Rattle.line_solve.specs.BestHeadline.{HasRounds}
-use Rattle.line_solve.proofs.Rounds.{is_over, starts, goes_on, stops, same_problem, Counted, counted}
+use Rattle.line_solve.proofs.Rounds.{is_over, starts, goes_on, stops, same_problem, counted}
 use Rattle.line_solve.proofs.RoundProblems.{round_is_problem}
 
 -- a run of a well-formed problem ends rightly
@@ -44,11 +42,11 @@ module _ (asked : AskedSearch) (ok : IsProblem asked.problem) where
   is_csp_after n = is_csp (problem_after asked n) (is_problem_after n)
 
   -- what is so of the run of each round
-  pub law_after : (n : ℕ) → Verdicts (csp_of (problem_after asked n)) most_deliveries (run_after asked n)
-  law_after n = verdicts (csp_of (problem_after asked n)) (is_csp_after n) most_deliveries (session_after asked n).choices
+  pub law_after : (n : ℕ) → Verdicts (csp_of (problem_after asked n)) asked.set.choices (run_after asked n)
+  law_after n = verdicts (csp_of (problem_after asked n)) (is_csp_after n) asked.set.choices (session_after asked n).choices
 
-  right_after : (n : ℕ) → EndsRightly (problem_after asked n) (next_end asked (search_after asked n))
-  right_after n = ends_rightly (problem_after asked n) most_deliveries (run_after asked n) (run_after asked n).end (is_csp_after n) refl (law_after n)
+  pub right_after : (n : ℕ) → EndsRightly (problem_after asked n) (next_end asked (search_after asked n))
+  right_after n = ends_rightly (problem_after asked n) asked.set.choices (run_after asked n) (run_after asked n).end (is_csp_after n) refl (law_after n)
 
   pub known_after : (n : ℕ) → IsAimOf (length (search_after asked n).problem.domains) (search_after asked n).problem.aim
   known_after n = subst (λ (p : Contents). IsAimOf (length p.domains) p.aim) (sym (same_problem asked n)) ok.aim

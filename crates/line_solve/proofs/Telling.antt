@@ -1,5 +1,5 @@
 -- What is told of a search that is over.
-use Rattle.std.proofs.Common.{◌≡◌, ◌≢◌, ◌∙◌, ℕ, zero, suc, ◌+◌, ◌-◌, ◌<◌, ◌≤◌, ℤ, Bool, true, false, List, [], ◌∷◌, ◌++◌, length, Option, Some, None, Result, Ok, Err, refl, sym, ap, subst, arith}
+use Rattle.std.proofs.Common.{◌≡◌, ◌≢◌, ◌∙◌, ℕ, suc, ◌-◌, ℤ, Bool, true, false, List, [], ◌∷◌, ◌++◌, length, Option, Some, None, Result, Ok, Err, refl, sym, ap, subst, arith}
 use Rattle.std.specs.Prelude.{◌↔◌, IfSome, IsErr, IsErrAnd, option_map, is_some}
 use Rattle.dcsp_script.specs.declared.stop.Stop.{Stop}
 use Rattle.dcsp_script.specs.Scripts.{Write, Put, World}
@@ -18,13 +18,13 @@ use Rattle.abt_optimum.specs.declared.best.BestEnd.TheVariants.{Optimal, NoSolut
 use Rattle.abt_optimum.specs.Best.{aim_value, assigned, Solves}
 use Rattle.abt_optimum.specs.Rounds.{best_value, most_rounds}
 use Rattle.abt_optimum.specs.Searches.{SearchState, IsSearch}
-use Rattle.abt_optimum.specs.Outcomes.{refuted_at, EndsCapped, IsBestEnd}
+use Rattle.abt_optimum.specs.Outcomes.{EndsCapped, IsBestEnd}
 use Rattle.abt_optimum.specs.Kept.{end_of}
-use Rattle.line_solve.specs.Searching.{AskedSearch, search_after, whole_search, round_count, run_after, first_run, last_run, deliveries_in}
+use Rattle.line_solve.specs.Searching.{AskedSearch, whole_search, round_count, first_run, deliveries_in}
 use Rattle.line_solve.specs.BestAnswers.{ends_capped, found, best_text, rounds_text, answer_text}
 use Rattle.line_solve.specs.SearchScripts.{rounds_script, ending_script, search_script}
 use Rattle.line_solve.specs.declared.answer.Searched.{Searched}
-use Rattle.line_solve.specs.declared.runner.Runner.{Runner}
+use Rattle.line_solve.specs.declared.runner.SearchRunner.{SearchRunner}
 use Rattle.line_solve.specs.Runners.{taken_after, steps_of_last, HasMade, searched_text, HasBestValues}
 use Rattle.line_solve.proofs.Rounds.{is_over, same_problem, counted}
 use Rattle.line_solve.proofs.Headlines.{has_round}
@@ -62,7 +62,7 @@ values_at p true (Some values) h = h.many
 values_at p false None h = tt
 values_at p false (Some values) h = h.many
 
-module _ (asked : AskedSearch) (r : Runner) (made : HasMade asked (round_count asked) r) where
+module _ (asked : AskedSearch) (r : SearchRunner) (made : HasMade asked (round_count asked) r) where
   pub search_is : r.search ≡ whole_search asked
   search_is = made.search ∙ (counted asked (most_rounds asked.problem)).again
 
@@ -81,26 +81,26 @@ module _ (asked : AskedSearch) (r : Runner) (made : HasMade asked (round_count a
         subst (HasBestValues asked.problem) (sym (e ∙ ap found search_is)) (values_at asked.problem (ends_capped s.rounds) s.values solves)
 
   -- the text that is told is the answer
-  pub text_is : (told : Searched) → told.best.end ≡ found r.search → told.best.rounds ≡ length r.search.rounds → told.deliveries ≡ r.deliveries → told.steps ≡ r.steps → searched_text asked.problem told ≡ answer_text asked
+  pub text_is : (told : Searched) → told.best.end ≡ found r.search → told.best.rounds ≡ length r.search.rounds → told.deliveries ≡ r.deliveries → told.steps ≡ r.steps → searched_text asked.set.each asked.problem told ≡ answer_text asked
   text_is told end rounds deliveries steps =
       let h = has_round asked in
       let last : round_count asked ≡ suc (round_count asked - 1) = omega arith in
-      ap (λ (b : BestEnd). best_text asked.problem b ++ (rounds_text told.best.rounds ++ counts_text told.deliveries told.steps)) (end ∙ ap found search_is)
-      ∙ ap (λ (n : ℕ). best_text asked.problem (found (whole_search asked)) ++ (rounds_text n ++ counts_text told.deliveries told.steps)) (rounds ∙ ap (λ (s : SearchState). length s.rounds) search_is)
-      ∙ ap (λ (n : ℕ). best_text asked.problem (found (whole_search asked)) ++ (rounds_text (round_count asked) ++ counts_text n told.steps)) (deliveries ∙ made.deliveries)
-      ∙ ap (λ (n : ℕ). best_text asked.problem (found (whole_search asked)) ++ (rounds_text (round_count asked) ++ counts_text (deliveries_in asked (round_count asked)) n)) (steps ∙ made.steps ∙ ap (steps_of_last asked) last)
+      ap (λ (b : BestEnd). best_text asked.set.each asked.problem b ++ (rounds_text told.best.rounds ++ counts_text told.deliveries told.steps)) (end ∙ ap found search_is)
+      ∙ ap (λ (n : ℕ). best_text asked.set.each asked.problem (found (whole_search asked)) ++ (rounds_text n ++ counts_text told.deliveries told.steps)) (rounds ∙ ap (λ (s : SearchState). length s.rounds) search_is)
+      ∙ ap (λ (n : ℕ). best_text asked.set.each asked.problem (found (whole_search asked)) ++ (rounds_text (round_count asked) ++ counts_text n told.steps)) (deliveries ∙ made.deliveries)
+      ∙ ap (λ (n : ℕ). best_text asked.set.each asked.problem (found (whole_search asked)) ++ (rounds_text (round_count asked) ++ counts_text (deliveries_in asked (round_count asked)) n)) (steps ∙ made.steps ∙ ap (steps_of_last asked) last)
 
   -- the record is that of the first round
-  pub record_is : (numbers : List ℕ) → numbers ≡ r.taken → record_script asked.kept numbers ≡ record_script asked.kept (first_run asked).numbers
-  record_is numbers e = by asked.kept refl
+  pub record_is : (numbers : List ℕ) → numbers ≡ r.taken → record_script asked.set.kept numbers ≡ record_script asked.set.kept (first_run asked).numbers
+  record_is numbers e = by asked.set.kept refl
     where
       last : round_count asked ≡ suc (round_count asked - 1)
       last = let h = has_round asked in omega arith
 
-      taken : numbers ≡ kept (is_some asked.kept) (first_run asked).numbers
-      taken = e ∙ made.taken ∙ ap (λ (n : ℕ). taken_after (is_some asked.kept) n (first_run asked).numbers) last
+      taken : numbers ≡ kept (is_some asked.set.kept) (first_run asked).numbers
+      taken = e ∙ made.taken ∙ ap (λ (n : ℕ). taken_after (is_some asked.set.kept) n (first_run asked).numbers) last
 
-      by : (name : Option (List ℕ)) → asked.kept ≡ name → record_script name numbers ≡ record_script name (first_run asked).numbers
+      by : (name : Option (List ℕ)) → asked.set.kept ≡ name → record_script name numbers ≡ record_script name (first_run asked).numbers
       by None k = refl
       by (Some name) k = ap (record_script (Some name)) (taken ∙ ap (λ (o : Option (List ℕ)). kept (is_some o) (first_run asked).numbers) k)
 
@@ -114,12 +114,12 @@ module _ (asked : AskedSearch) where
   pub rounds_stopped : {T U : Type 0} {a b : World} {e : Stop} (r : Result U Stop) → IsErr r × IsErrAnd r (λ y. y ≡ e) → Wrote {T = T} all_rounds a b (Err e) → Wrote (search_script asked) a b r
   rounds_stopped r is w = then_stopped (ending_script asked) is w
 
-  module _ (numbers : List ℕ) (same : record_script asked.kept numbers ≡ record_script asked.kept (first_run asked).numbers) {T : Type 0} {x : T} {a b : World} (rounds : Wrote {T = T} all_rounds a b (Ok x)) where
+  module _ (numbers : List ℕ) (same : record_script asked.set.kept numbers ≡ record_script asked.set.kept (first_run asked).numbers) {T : Type 0} {x : T} {a b : World} (rounds : Wrote {T = T} all_rounds a b (Ok x)) where
     -- the record was stopped
-    pub record_stopped : {U V : Type 0} {c : World} {e : Stop} (r : Result V Stop) → IsErr r × IsErrAnd r (λ y. y ≡ e) → Wrote {T = U} (record_script asked.kept numbers) b c (Err e) → Wrote (search_script asked) a c r
+    pub record_stopped : {U V : Type 0} {c : World} {e : Stop} (r : Result V Stop) → IsErr r × IsErrAnd r (λ y. y ≡ e) → Wrote {T = U} (record_script asked.set.kept numbers) b c (Err e) → Wrote (search_script asked) a c r
     record_stopped {U = U} r is w = then_rest rounds (then_stopped {T = U} (Put (answer_text asked) ∷ []) is (wrote_as same w))
 
-    module _ {U : Type 0} {y : U} {c : World} (kept_so : Wrote {T = U} (record_script asked.kept numbers) b c (Ok y)) (text : List ℕ) (text_is : text ≡ answer_text asked) where
+    module _ {U : Type 0} {y : U} {c : World} (kept_so : Wrote {T = U} (record_script asked.set.kept numbers) b c (Ok y)) (text : List ℕ) (text_is : text ≡ answer_text asked) where
       -- the answer was not put
       pub answer_stopped : {V W : Type 0} {d : World} {e : Stop} (r : Result W Stop) → IsErr r × IsErrAnd r (λ z. z ≡ e) → Wrote {T = V} (Put text ∷ []) c d (Err e) → Wrote (search_script asked) a d r
       answer_stopped {V = V} r is w = then_rest rounds (then_rest (wrote_as same kept_so) (stopped_so {T = V} r is (wrote_as (ap (λ t. Put t ∷ []) text_is) w)))

@@ -15,7 +15,7 @@ use Rattle.abt_optimum.specs.Rounds.{most_rounds, most_rounds_at}
 use Rattle.abt_optimum.specs.Searches.{SearchState}
 use Rattle.line_solve.specs.Searching.{AskedSearch, search_after, whole_search, round_count}
 use Rattle.line_solve.specs.SearchScripts.{round_script, rounds_script}
-use Rattle.line_solve.specs.declared.runner.Runner.{Runner}
+use Rattle.line_solve.specs.declared.runner.SearchRunner.{SearchRunner}
 use Rattle.line_solve.specs.Runners.{IsFresh, HasMade}
 use Rattle.line_solve.proofs.Rounds.{is_over, goes_on, stops, stays, counted}
 use Rattle.line_solve.proofs.Writing.{none_is, more_is, rounds_begin}
@@ -66,12 +66,12 @@ module _ (asked : AskedSearch) where
   -- ---- what is written
 
   -- the rounds so far were made, and this is how many there are
-  pub record Turn (n : ℕ) (r : Runner) (a b : World) : Type 0 where
+  pub record Turn (n : ℕ) (r : SearchRunner) (a b : World) : Type 0 where
     pub made : HasMade asked n r
     pub did : Did (rounds_script asked n) a b
     pub handed : b.folder.handed ≡ a.folder.handed
 
-  pub first_turn : (r : Runner) (a : World) → IsFresh asked.problem r → Turn r.rounds r a a
+  pub first_turn : (r : SearchRunner) (a : World) → IsFresh asked.problem r → Turn r.rounds r a a
   first_turn r a h =
       let none : r.rounds ≡ 0 = h.rounds in
       subst (λ (n : ℕ). Turn n r a a) (sym none) (record { made = made_none asked r h; did = subst (λ s. Did s a a) (sym (none_is asked)) (did_nothing a); handed = refl })
@@ -81,18 +81,18 @@ module _ (asked : AskedSearch) where
     pub few : n < 2 ^ 20
     pub room : n < most_rounds asked.problem
 
-  pub room_is : IsProblem asked.problem → (n : ℕ) (r : Runner) (a b : World) → Turn n r a b → length r.search.rounds < most_rounds r.search.problem → HasRoom n
+  pub room_is : IsProblem asked.problem → (n : ℕ) (r : SearchRunner) (a b : World) → Turn n r a b → length r.search.rounds < most_rounds r.search.problem → HasRoom n
   room_is ok n r a b h less =
       let many = h.made.many in
       let same = ap most_rounds (problem_is asked n r h.made) in
       let few = few_rounds asked.problem ok in
       record { few = omega (arith, many, same, few, less); room = omega (arith, many, same, less) }
 
-  pub within_is : (n : ℕ) (r : Runner) (a b : World) → Turn n r a b → HasRoom n → is_over r.search ≡ false → n < round_count asked
+  pub within_is : (n : ℕ) (r : SearchRunner) (a b : World) → Turn n r a b → HasRoom n → is_over r.search ≡ false → n < round_count asked
   within_is n r a b h room still = round_within n room.room (subst (λ (s : SearchState). is_over s ≡ false) h.made.search still)
 
   -- one round more
-  pub next_turn : {T : Type 0} {x : T} (n : ℕ) (r t : Runner) (a b c : World) → Turn n r a b → HasMade asked (n + 1) t → Wrote {T = T} (round_script asked n) b c (Ok x) → Turn t.rounds t a c
+  pub next_turn : {T : Type 0} {x : T} (n : ℕ) (r t : SearchRunner) (a b c : World) → Turn n r a b → HasMade asked (n + 1) t → Wrote {T = T} (round_script asked n) b c (Ok x) → Turn t.rounds t a c
   next_turn n r t a b c h made w =
       let next : suc n ≡ t.rounds = (let e = made.rounds in omega (arith, e)) in
       let more : n + 1 ≡ t.rounds = (let e = made.rounds in omega (arith, e)) in
@@ -103,7 +103,7 @@ module _ (asked : AskedSearch) where
       }
 
   -- a round was stopped
-  pub turn_stopped : {T U : Type 0} {e : Stop} (n : ℕ) (r : Runner) (a b c : World) → Turn n r a b → n < round_count asked → (result : Result U Stop) → IsErr result × IsErrAnd result (λ y. y ≡ e) → Wrote {T = T} (round_script asked n) b c (Err e) → Wrote (rounds_script asked (round_count asked)) a c result
+  pub turn_stopped : {T U : Type 0} {e : Stop} (n : ℕ) (r : SearchRunner) (a b c : World) → Turn n r a b → n < round_count asked → (result : Result U Stop) → IsErr result × IsErrAnd result (λ y. y ≡ e) → Wrote {T = T} (round_script asked n) b c (Err e) → Wrote (rounds_script asked (round_count asked)) a c result
   turn_stopped {T = T} {U = U} {e = e} n r a b c h l result is w =
       let far : (round_count asked - suc n) + suc n ≡ round_count asked = omega arith in
       let begins = rounds_begin asked (suc n) (round_count asked - suc n) in
@@ -111,7 +111,7 @@ module _ (asked : AskedSearch) where
       wrote_as (ap (λ s. s ++ begins.0) (sym (more_is asked n)) ∙ sym begins.1 ∙ ap (rounds_script asked) far) (then_stopped {T = T} begins.0 is stopped)
 
   -- all rounds were made
-  pub last_turn : (n : ℕ) (r : Runner) (a b : World) → Turn n r a b → length r.search.rounds ≤ most_rounds r.search.problem → is_over r.search ≡ true → Wrote {T = Unit {0}} (rounds_script asked (round_count asked)) a b (Ok tt) × HasMade asked (round_count asked) r
+  pub last_turn : (n : ℕ) (r : SearchRunner) (a b : World) → Turn n r a b → length r.search.rounds ≤ most_rounds r.search.problem → is_over r.search ≡ true → Wrote {T = Unit {0}} (rounds_script asked (round_count asked)) a b (Ok tt) × HasMade asked (round_count asked) r
   last_turn n r a b h few e =
       let l : n ≤ most_rounds asked.problem = (let many = h.made.many in let same = ap most_rounds (problem_is asked n r h.made) in omega (arith, many, same, few)) in
       let over : is_over (search_after asked n) ≡ true = subst (λ (s : SearchState). is_over s ≡ true) h.made.search e in

@@ -1,25 +1,19 @@
 -- What the status of a search means for its problem.
-use Rattle.std.proofs.Common.{◌≡◌, ◌≢◌, ◌⊎◌, ◌∙◌, ℕ, zero, suc, ◌+◌, ◌-◌, ◌<◌, ◌≤◌, ℤ, Bool, true, false, List, [], ◌∷◌, ◌++◌, length, Option, Some, None, refl, sym, ap, subst, inl, inr, arith}
-use Rattle.std.specs.Prelude.{◌↔◌, is_some, is_none, IsSome, IfSome}
-use Rattle.std.specs.Option.{option_map_or}
-use Rattle.dcsp_defs.specs.Csp.{Csp, HasNoSolution}
+use Rattle.std.proofs.Common.{◌≡◌, ◌≢◌, ◌⊎◌, ◌∙◌, ℕ, zero, suc, ◌+◌, ◌-◌, ◌<◌, ℤ, Bool, true, false, List, [], ◌∷◌, length, Option, Some, None, refl, sym, ap, subst, inl, inr, arith}
+use Rattle.std.specs.Prelude.{◌↔◌, IsSome, IfSome}
+use Rattle.dcsp_defs.specs.Csp.{HasNoSolution}
 use Rattle.dcsp_defs.specs.Derivation.{IsRefutation}
 use Rattle.dcsp_rule.specs.declared.aim.Aim.{Aim}
 use Rattle.dcsp_rule.specs.declared.aim.Aim.TheVariants.{Satisfy}
 use Rattle.dcsp_rule.specs.Problems.{Contents, csp_of}
 use Rattle.dcsp_problem.specs.WellFormed.{IsProblem}
-use Rattle.dcsp_rule.specs.Aims.{aimed_at, narrowed}
-use Rattle.abt_defs.specs.Bound.{message_bound}
+use Rattle.dcsp_rule.specs.Aims.{aimed_at}
 use Rattle.abt_defs.specs.Runs as runs
 use Rattle.abt_defs.specs.Runs.{Run}
-use Rattle.law_runs.specs.Stops.{IsOpen}
 use Rattle.abt_promise.specs.declared.status.Status.{Status}
 use Rattle.abt_promise.specs.declared.status.Status.TheVariants.{Good, No, Unfinished}
-use Rattle.abt_session.specs.Sessions.{run_of}
 use Rattle.line_replay.specs.Endings.{assigned, final_values, end_status}
-use Rattle.line_replay.specs.Asked.{most_deliveries}
 use Rattle.line_replay.proofs.Verdicts.{solve_unfinished}
-use Rattle.abt_optimum.specs.declared.round.Ended.{Ended}
 use Rattle.abt_optimum.specs.declared.round.Ended.TheVariants as ended
 use Rattle.abt_optimum.specs.declared.round.Round.{Round}
 use Rattle.abt_optimum.specs.declared.round.RoundEnd.{RoundEnd}
@@ -27,9 +21,9 @@ use Rattle.abt_optimum.specs.declared.round.RoundEnd.TheVariants.{Solved, Refute
 use Rattle.abt_optimum.specs.declared.best.BestEnd.{BestEnd}
 use Rattle.abt_optimum.specs.declared.best.BestEnd.TheVariants.{Optimal, NoSolution, Open}
 use Rattle.abt_optimum.specs.Best.{aim_value, Solves, IsBest}
-use Rattle.abt_optimum.specs.Rounds.{last_round, best_value, is_last, is_done, round_problem, most_rounds}
-use Rattle.abt_optimum.specs.Searches.{SearchState, end_at, round_after, values_after, IsSearch}
-use Rattle.abt_optimum.specs.Outcomes.{refuted_at, IsOptimal, IsUnsolvable, IsBestEnd}
+use Rattle.abt_optimum.specs.Rounds.{last_round, best_value, round_problem, most_rounds}
+use Rattle.abt_optimum.specs.Searches.{SearchState, end_at, values_after}
+use Rattle.abt_optimum.specs.Outcomes.{refuted_at, IsBestEnd}
 use Rattle.abt_optimum.specs.Kept.{end_of}
 use Rattle.abt_optimum.proofs.SearchLaws.{end_is}
 use Rattle.line_solve.specs.Searching.{AskedSearch, end_as, next_end, with_round, search_after, whole_search, round_count, problem_after, run_after, first_run, last_run}
@@ -39,7 +33,7 @@ use Rattle.line_solve.proofs.Rounds.{is_over, starts, goes_on, stays, same_probl
 use Rattle.line_solve.proofs.Headlines.{positive}
 use Rattle.line_solve.proofs.RoundProblems.{round_bound}
 use Rattle.line_solve.proofs.Searches.{law_after, known_after, is_search, is_whole, has_rounds}
-use Rattle.line_solve.proofs.LastRounds.{end_refuted, capped_iff, before_last, some_before, whole_is, last_entry, last_is, last_capped, kept_after, first_is, first_problem}
+use Rattle.line_solve.proofs.LastRounds.{end_refuted, capped_iff, before_last, some_before, whole_is, last_entry, last_is, last_capped, kept_after, first_is}
 
 -- ---- statuses and what was found
 
@@ -173,10 +167,10 @@ module _ (asked : AskedSearch) (ok : IsProblem asked.problem) (aimed : asked.pro
         ((λ e. run.0 (sym (last_capped asked) ∙ told.0 (sym status_is ∙ e))), (λ e. status_is ∙ told.1 (last_capped asked ∙ run.1 e)))
 
     ends_open : end_status (run_after asked last).end ≡ Unfinished → EndsOpen asked
-    ends_open e = let h = (solve_unfinished (problem_after asked last) asked.seed asked.log None asked.trace (end_status (run_after asked last).end) refl).0 e in record { in_transit = h.0; most = h.1 }
+    ends_open e = let h = (solve_unfinished (problem_after asked last) asked.log asked.set (end_status (run_after asked last).end) refl).0 e in record { in_transit = h.0; most = h.1 }
 
     open_ends : EndsOpen asked → end_status (run_after asked last).end ≡ Unfinished
-    open_ends h = (solve_unfinished (problem_after asked last) asked.seed asked.log None asked.trace (end_status (run_after asked last).end) refl).1 (h.in_transit, h.most)
+    open_ends h = (solve_unfinished (problem_after asked last) asked.log asked.set (end_status (run_after asked last).end) refl).1 (h.in_transit, h.most)
 
     -- the values that were found are those of the round before the last, if there is one
     kept_values : end_status (run_after asked last).end ≡ Unfinished → (whole_search asked).values ≡ (search_after asked last).values

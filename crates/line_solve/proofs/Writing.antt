@@ -1,17 +1,22 @@
 -- What the rounds of a search write, one after the other.
-use Rattle.std.proofs.Common.{◌≡◌, ◌≢◌, ◌⊎◌, ℕ, zero, suc, ◌+◌, ◌-◌, ◌<◌, ◌≤◌, Bool, true, false, if◌then◌else◌, List, [], ◌∷◌, ◌++◌, length, Option, Some, refl, sym, ap, ◌∙◌, subst, arith, inl, inr, append_assoc, append-nil}
-use Rattle.dcsp_script.specs.Scripts.{Write, Put, file_after, put_by}
+use Rattle.std.proofs.Common.{◌≡◌, ◌⊎◌, ℕ, zero, suc, ◌+◌, ◌<◌, Bool, true, false, if◌then◌else◌, List, [], ◌++◌, Option, Some, refl, sym, ap, ◌∙◌, subst, arith, inl, inr, append_assoc, append-nil}
+use Rattle.dcsp_script.specs.Scripts.{Write, file_after, put_by}
 use Rattle.dcsp_script.specs.Ways.{IsPartOf}
 use Rattle.dcsp_script.specs.Texts.{LeavesAlone}
 use Rattle.dcsp_script.proofs.After.{put_by-append, file_after-append}
 use Rattle.dcsp_script.proofs.Parts.{part_splits, left_alone}
 use Rattle.ngd_log.specs.Logs.{log_text}
+use Rattle.dcsp_rule.specs.Problems.{Contents}
+use Rattle.abt_answer.specs.Solutions.{solution_text}
+use Rattle.abt_optimum.specs.declared.round.RoundEnd.{RoundEnd}
+use Rattle.abt_optimum.specs.declared.round.RoundEnd.TheVariants.{Solved, Refuted, Capped}
+use Rattle.line_replay.specs.Endings.{assigned}
 use Rattle.abt_session.specs.Sessions.{run_script}
 use Rattle.abt_session.specs.Order.{trace_text}
 use Rattle.abt_session.proofs.Ordered.{leaves-append, whole_puts, whole_leaves, log_whole}
-use Rattle.line_solve.specs.Searching.{AskedSearch, session_after, run_after}
-use Rattle.line_solve.specs.SearchScripts.{round_line, line_script, round_script, rounds_script}
-use Rattle.line_solve.specs.BestHeadline.{line_text, traces_of_first, log_after}
+use Rattle.line_solve.specs.Searching.{AskedSearch, next_end, search_after, session_after, run_after}
+use Rattle.line_solve.specs.SearchScripts.{round_line, line_script, found_text, found_script, solution_script, round_script, rounds_script}
+use Rattle.line_solve.specs.BestHeadline.{line_text, solution_put, traces_of_first, log_after}
 
 -- ---- the line of a round
 
@@ -23,27 +28,61 @@ line_leaves : (trace : Bool) (number : ℕ) (name : List ℕ) → LeavesAlone (l
 line_leaves true number name = ((λ t. t), tt)
 line_leaves false number name = tt
 
-module _ (asked : AskedSearch) where
-  pub puts_line : (n : ℕ) → put_by (line_script asked.trace (n + 1)) ≡ line_text asked n
-  puts_line n = line_puts asked.trace (n + 1)
+-- ---- the solution of a round
 
-  pub leaves_line : (n : ℕ) (name : List ℕ) → LeavesAlone (line_script asked.trace (n + 1)) name
-  leaves_line n name = line_leaves asked.trace (n + 1) name
+found_puts : (each : Bool) (p : Contents) (end : RoundEnd) → put_by (found_script each p end) ≡ found_text each p end
+found_puts true p (Solved values) = append-nil (solution_text p (assigned values))
+found_puts true p Refuted = refl
+found_puts true p Capped = refl
+found_puts false p end = refl
+
+pub found_leaves : (each : Bool) (p : Contents) (end : RoundEnd) (name : List ℕ) → LeavesAlone (found_script each p end) name
+found_leaves true p (Solved values) name = ((λ t. t), tt)
+found_leaves true p Refuted name = tt
+found_leaves true p Capped name = tt
+found_leaves false p end name = tt
+
+module _ (asked : AskedSearch) where
+  pub puts_line : (n : ℕ) → put_by (line_script asked.set.trace (n + 1)) ≡ line_text asked n
+  puts_line n = line_puts asked.set.trace (n + 1)
+
+  pub leaves_line : (n : ℕ) (name : List ℕ) → LeavesAlone (line_script asked.set.trace (n + 1)) name
+  leaves_line n name = line_leaves asked.set.trace (n + 1) name
+
+  pub puts_solution : (n : ℕ) → put_by (solution_script asked n) ≡ solution_put asked n
+  puts_solution n = found_puts asked.set.each asked.problem (next_end asked (search_after asked n))
+
+  pub leaves_solution : (n : ℕ) (name : List ℕ) → LeavesAlone (solution_script asked n) name
+  leaves_solution n name = found_leaves asked.set.each asked.problem (next_end asked (search_after asked n)) name
 
   -- ---- one round
 
-  pub round_puts : (n : ℕ) → put_by (round_script asked n) ≡ line_text asked n ++ trace_text (session_after asked n)
+  -- its run, and its solution
+  abbrev pub run_and_solution : ℕ → List Write
+  run_and_solution n = run_script (session_after asked n) ++ solution_script asked n
+
+  pub round_puts : (n : ℕ) → put_by (round_script asked n) ≡ line_text asked n ++ (trace_text (session_after asked n) ++ solution_put asked n)
   round_puts n =
-      put_by-append (line_script asked.trace (n + 1)) (run_script (session_after asked n))
-      ∙ ap (λ t. t ++ put_by (run_script (session_after asked n))) (puts_line n) ∙ ap (λ t. line_text asked n ++ t) (whole_puts (session_after asked n))
+      put_by-append (line_script asked.set.trace (n + 1)) (run_and_solution n)
+      ∙ ap (λ t. t ++ put_by (run_and_solution n)) (puts_line n)
+      ∙ ap (λ t. line_text asked n ++ t) (
+      put_by-append (run_script (session_after asked n)) (solution_script asked n)
+      ∙ ap (λ t. t ++ put_by (solution_script asked n)) (whole_puts (session_after asked n))
+      ∙ ap (λ t. trace_text (session_after asked n) ++ t) (puts_solution n)
+      )
 
   pub round_leaves : (n : ℕ) (name : List ℕ) → (asked.log ≡ name → ⊥) → LeavesAlone (round_script asked n) name
-  round_leaves n name other = leaves-append name (line_script asked.trace (n + 1)) (run_script (session_after asked n)) (leaves_line n name) (whole_leaves (session_after asked n) name other)
+  round_leaves n name other = leaves-append name (line_script asked.set.trace (n + 1)) (run_and_solution n) (leaves_line n name)
+      (leaves-append name (run_script (session_after asked n)) (solution_script asked n) (whole_leaves (session_after asked n) name other) (leaves_solution n name))
 
   pub round_log : (n : ℕ) (file : Option (List ℕ)) → file_after (round_script asked n) asked.log file ≡ Some (log_text (run_after asked n).net.steps)
   round_log n file =
-      file_after-append (line_script asked.trace (n + 1)) (run_script (session_after asked n)) asked.log file
-      ∙ log_whole (session_after asked n) (file_after (line_script asked.trace (n + 1)) asked.log file)
+      let before = file_after (line_script asked.set.trace (n + 1)) asked.log file in
+      let made = file_after (run_script (session_after asked n)) asked.log before in
+      file_after-append (line_script asked.set.trace (n + 1)) (run_and_solution n) asked.log file
+      ∙ file_after-append (run_script (session_after asked n)) (solution_script asked n) asked.log before
+      ∙ left_alone (solution_script asked n) asked.log made (leaves_solution n asked.log)
+      ∙ log_whole (session_after asked n) before
 
   -- ---- the first rounds
 
@@ -59,7 +98,7 @@ module _ (asked : AskedSearch) where
   unfolding traces_of_first
   traces_none = refl
 
-  traces_more : (n : ℕ) → traces_of_first asked (suc n) ≡ traces_of_first asked n ++ (line_text asked n ++ trace_text (session_after asked n))
+  traces_more : (n : ℕ) → traces_of_first asked (suc n) ≡ traces_of_first asked n ++ (line_text asked n ++ (trace_text (session_after asked n) ++ solution_put asked n))
   unfolding traces_of_first
   traces_more n = refl
 

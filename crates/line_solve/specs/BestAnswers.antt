@@ -1,5 +1,5 @@
 -- What is printed of a search that is over, and its status.
-use Rattle.std.specs.Prelude.{ℕ, ℤ, Bool, true, false, List, ◌++◌, length, codes, decimal, Option, Some, None}
+use Rattle.std.specs.Prelude.{ℕ, ℤ, Bool, true, false, List, [], ◌++◌, if◌then◌else◌, length, codes, decimal, Some, None}
 use Rattle.std.specs.Option.{option_map_or}
 use Rattle.dcsp_rule.specs.Problems.{Contents}
 use Rattle.abt_answer.specs.Solutions.{solution_text}
@@ -30,12 +30,16 @@ ends_capped rounds = option_map_or (λ (round : Round). is_capped round.end) (la
 abbrev pub found : SearchState → BestEnd
 found s = end_of (ends_capped s.rounds) s.values
 
+-- the text of the last solution; where each one was put when it was found, it is not put again
+abbrev pub last_text : Bool → Contents → List ℤ → List ℕ
+last_text each p values = if each then [] else solution_text p (assigned values)
+
 -- its lines: a solution, and a line that says whether it is best; or the line that stands in its place
-abbrev pub best_text : Contents → BestEnd → List ℕ
-best_text p (Optimal values) = solution_text p (assigned values) ++ codes "==========\n"
-best_text p NoSolution = codes "=====UNSATISFIABLE=====\n"
-best_text p (Open None) = codes "=====UNKNOWN=====\n"
-best_text p (Open (Some values)) = solution_text p (assigned values)
+abbrev pub best_text : Bool → Contents → BestEnd → List ℕ
+best_text each p (Optimal values) = last_text each p values ++ codes "==========\n"
+best_text each p NoSolution = codes "=====UNSATISFIABLE=====\n"
+best_text each p (Open None) = codes "=====UNKNOWN=====\n"
+best_text each p (Open (Some values)) = last_text each p values
 
 -- its status
 abbrev pub best_status : BestEnd → Status
@@ -50,7 +54,7 @@ rounds_text rounds = codes "% rounds " ++ decimal rounds ++ codes "\n"
 -- all that is put when the search is over; the deliveries are those of all rounds, the steps those of the last
 abbrev pub answer_text : AskedSearch → List ℕ
 answer_text asked =
-    best_text asked.problem (found (whole_search asked))
+    best_text asked.set.each asked.problem (found (whole_search asked))
     ++ (rounds_text (round_count asked) ++ counts_text (deliveries_in asked (round_count asked)) (length (last_run asked).net.steps))
 
 -- the status of the search

@@ -6,48 +6,53 @@ use Rattle.dcsp_script.specs.Ways.{Did}
 use Rattle.dcsp_script.specs.Texts.{HoldsPartOf}
 use Rattle.dcsp_defs.specs.Csp.{HasNoSolution}
 use Rattle.dcsp_defs.specs.Derivation.{IsRefutation}
-use Rattle.dcsp_rule.specs.Problems.{Contents, csp_of}
-use Rattle.dcsp_rule.specs.Aims.{aimed_at, narrowed}
+use Rattle.dcsp_rule.specs.Problems.{csp_of}
+use Rattle.dcsp_rule.specs.Aims.{aimed_at, is_better, narrowed}
 use Rattle.ngd_log.specs.Logs.{log_text}
 use Rattle.abt_defs.specs.Bound.{message_bound}
 use Rattle.abt_defs.specs.Runs as runs
 use Rattle.law_runs.specs.Stops.{IsOpen}
 use Rattle.abt_schedule.specs.Schedules.{schedule_text}
+use Rattle.abt_session.specs.Sessions.{run_script}
 use Rattle.abt_session.specs.Order.{trace_text, WritesInOrder}
 use Rattle.abt_promise.specs.declared.status.Status.{Status}
 use Rattle.abt_promise.specs.declared.status.Status.TheVariants.{Good, No, Unfinished}
 use Rattle.line_replay.specs.Endings.{assigned, final_values}
-use Rattle.line_replay.specs.Asked.{most_deliveries}
 use Rattle.abt_optimum.specs.declared.best.BestEnd.TheVariants.{Optimal, Open}
+use Rattle.abt_optimum.specs.declared.round.RoundEnd.TheVariants.{Solved}
 use Rattle.abt_optimum.specs.Best.{aim_value, Solves, IsBest}
 use Rattle.abt_optimum.specs.Rounds.{is_done, most_rounds, AreRounds}
-use Rattle.line_solve.specs.Searching.{AskedSearch, whole_search, round_count, problem_after, session_after, run_after, first_run, last_run}
+use Rattle.line_solve.specs.Searching.{AskedSearch, next_end, search_after, whole_search, round_count, problem_after, session_after, run_after, first_run, last_run}
 use Rattle.line_solve.specs.BestAnswers.{found, answer_text, search_status}
-use Rattle.line_solve.specs.SearchScripts.{round_line, line_script, rounds_script}
+use Rattle.line_solve.specs.SearchScripts.{round_line, line_script, found_text, rounds_script}
 
 -- ---- what was written
 
 -- what a round puts before its trace: its line, where traces are asked for
 abbrev pub line_text : AskedSearch → ℕ → List ℕ
-line_text asked n = if asked.trace then round_line (n + 1) else []
+line_text asked n = if asked.set.trace then round_line (n + 1) else []
 
--- the lines and the traces of the first rounds, so many of them
+-- what a round puts behind its trace: its solution, where each one is asked for
+abbrev pub solution_put : AskedSearch → ℕ → List ℕ
+solution_put asked n = found_text asked.set.each asked.problem (next_end asked (search_after asked n))
+
+-- the lines, the traces and the solutions of the first rounds, so many of them
 unfoldable pub traces_of_first : AskedSearch → ℕ → List ℕ
 traces_of_first asked zero = []
-traces_of_first asked (suc n) = traces_of_first asked n ++ (line_text asked n ++ trace_text (session_after asked n))
+traces_of_first asked (suc n) = traces_of_first asked n ++ (line_text asked n ++ (trace_text (session_after asked n) ++ solution_put asked n))
 
--- all that goes to `out`: the rounds, where traces are asked for, and the answer
+-- all that goes to `out`: what the rounds put, and the answer
 abbrev pub whole_text : AskedSearch → List ℕ
 whole_text asked = traces_of_first asked (round_count asked) ++ answer_text asked
 
 -- the name is not that of the log or of the record
 abbrev pub IsOther : AskedSearch → List ℕ → Type 0
-IsOther asked name = (name ≢ asked.log) × IfSome asked.kept (λ record_name. name ≢ record_name)
+IsOther asked name = (name ≢ asked.log) × IfSome asked.set.kept (λ record_name. name ≢ record_name)
 
 -- the log is that of the last round's derivation, the record that of the first round's numbers, and every other name is as before
 pub record HoldsSearch (asked : AskedSearch) (files now : List ℕ → Option (List ℕ)) : Type 0 where
   pub log : now asked.log ≡ Some (log_text (last_run asked).net.steps)
-  pub recorded : IfSome asked.kept (λ name. now name ≡ Some (schedule_text (first_run asked).numbers))
+  pub recorded : IfSome asked.set.kept (λ name. now name ≡ Some (schedule_text (first_run asked).numbers))
   pub others : (name : List ℕ) → IsOther asked name → now name ≡ files name
 
 -- The search: with a status of 0, 1 or 5 its rounds were printed, logged and recorded whole.
@@ -84,10 +89,10 @@ pub record IsRefutedSearch (asked : AskedSearch) (status : Status) : Type 0 wher
   pub exactly : (status ≡ No) ↔ ((first_run asked).end ≡ runs.Refuted)
   pub refutes : status ≡ No → LogsRefutation asked
 
--- the last round was stopped with a message in transit, after the most deliveries
+-- the last round was stopped with a message in transit, when its choices were used up
 pub record EndsOpen (asked : AskedSearch) : Type 0 where
   pub in_transit : IsOpen (csp_of (problem_after asked (round_count asked - 1))) (last_run asked).net
-  pub most : (last_run asked).net.deliveries ≡ most_deliveries
+  pub most : (last_run asked).net.deliveries ≡ asked.set.choices
 
 -- these values, if there are any, are those of the round before the last, and a solution
 pub record PrintsLast (asked : AskedSearch) (values : Option (List ℤ)) : Type 0 where
@@ -97,16 +102,22 @@ pub record PrintsLast (asked : AskedSearch) (values : Option (List ℤ)) : Type 
   -- there are none only where there is no round before
   pub some : 1 < round_count asked → IsSome values
 
+-- Each is better: what a solved round was solved with is a solution of the whole problem, and has a better value at the aim than that of the round before it.
+pub record IsImproving (asked : AskedSearch) : Type 0 where
+  pub solves : (n : ℕ) (values : List ℤ) → n < round_count asked → next_end asked (search_after asked n) ≡ Solved values → Solves asked.problem values
+  pub better : (n : ℕ) (old new : List ℤ) → suc n < round_count asked → next_end asked (search_after asked n) ≡ Solved old → next_end asked (search_after asked (suc n)) ≡ Solved new
+      → is_better asked.problem.aim (aim_value asked.problem.aim (assigned old)) (aim_value asked.problem.aim (assigned new)) ≡ true
+
 -- Unfinished: status 5 comes exactly where the last round was stopped open; what was printed then is the solution of the round before, if there is one.
 pub record IsUnfinishedSearch (asked : AskedSearch) (status : Status) : Type 0 where
   pub exactly : (status ≡ Unfinished) ↔ EndsOpen asked
   pub prints : status ≡ Unfinished → PrintsLast asked (whole_search asked).values
 
--- The bound: there are no more rounds than stated above, and each delivers no more messages than the whole problem's bound; so where that is not above the most deliveries, status 5 never comes.
+-- The bound: there are no more rounds than stated above, and each delivers no more messages than the whole problem's bound; so where that is not above the choices of a round, status 5 never comes.
 pub record IsBoundedSearch (asked : AskedSearch) (status : Status) : Type 0 where
   pub rounds : HasRounds asked
   pub bounded : (n : ℕ) → n < round_count asked → (run_after asked n).net.deliveries ≤ message_bound (csp_of asked.problem)
-  pub verdict : message_bound (csp_of asked.problem) ≤ most_deliveries → status ≢ Unfinished
+  pub verdict : message_bound (csp_of asked.problem) ≤ asked.set.choices → status ≢ Unfinished
 
 -- ---- the order of writing
 
@@ -134,19 +145,20 @@ pub record AddsBytes (text : List ℕ) (old new : World) : Type 0 where
   pub created : new.folder.created ≡ old.folder.created
   pub files : Told old.folder.held new.folder.held (λ files now. (name : List ℕ) → now name ≡ files name)
 
--- the round with so many before it, wherever it was stopped: in its line, or after its line in its run, which wrote in order
+-- the round with so many before it, wherever it was stopped: in its line, or after its line in its run, which wrote in order, or in its solution after the whole of its run
 pub data WritesRound (asked : AskedSearch) (n : ℕ) (old new : World) : Type 0 where
   in_line : AddsBytes (line_text asked n) old new → WritesRound asked n old new
-  in_run : (moment : World) → Did (line_script asked.trace (n + 1)) old moment → WritesInOrder (session_after asked n) moment new → WritesRound asked n old new
+  in_run : (moment : World) → Did (line_script asked.set.trace (n + 1)) old moment → WritesInOrder (session_after asked n) moment new → WritesRound asked n old new
+  in_solution : (moment : World) → Did (line_script asked.set.trace (n + 1) ++ run_script (session_after asked n)) old moment → AddsBytes (solution_put asked n) moment new → WritesRound asked n old new
 
 -- the files before and after the end of a search, where `out` gained these bytes of the answer and these names were created
 pub record KeepsEnding (asked : AskedSearch) (names : List (List ℕ)) (gained : List ℕ) (files now : List ℕ → Option (List ℕ)) : Type 0 where
   -- the record, once created, holds a first part of its text; else it is as before, or holds no bytes
-  pub record_part : IfSome asked.kept (λ name. HoldsPartOf name (schedule_text (first_run asked).numbers) (Contains names name) (files name) (now name))
+  pub record_part : IfSome asked.set.kept (λ name. HoldsPartOf name (schedule_text (first_run asked).numbers) (Contains names name) (files name) (now name))
   -- once a byte of the answer was put, it holds its whole text
-  pub answer_last : 0 < length gained → IfSome asked.kept (λ name. now name ≡ Some (schedule_text (first_run asked).numbers))
+  pub answer_last : 0 < length gained → IfSome asked.set.kept (λ name. now name ≡ Some (schedule_text (first_run asked).numbers))
   -- every other name, that of the log too, is as it was after the last round
-  pub others : (name : List ℕ) → IfSome asked.kept (λ record_name. name ≢ record_name) → now name ≡ files name
+  pub others : (name : List ℕ) → IfSome asked.set.kept (λ record_name. name ≢ record_name) → now name ≡ files name
 
 -- the end of a search, wherever it was stopped: the record, and then the answer
 pub record WritesEnding (asked : AskedSearch) (old new : World) : Type 0 where

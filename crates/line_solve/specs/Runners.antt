@@ -1,26 +1,25 @@
 -- A search on its way, and what its code tells of it.
-use Rattle.std.specs.Prelude.{◌≡◌, ℕ, zero, suc, Bool, List, [], ◌++◌, length, Option, Some, None, is_some, ⊤}
+use Rattle.std.specs.Prelude.{◌≡◌, ℕ, zero, suc, Bool, List, [], ◌++◌, length, Some, None, is_some, ⊤}
 use Rattle.dcsp_rule.specs.Problems.{Contents, csp_of}
 use Rattle.law_runs.specs.Replay.{Verdicts}
 use Rattle.abt_session.specs.Sessions.{Session, run_of}
 use Rattle.abt_session.specs.Running.{kept, Gives}
 use Rattle.abt_session.specs.declared.outcome.Outcome.{Outcome}
 use Rattle.line_replay.specs.Endings.{counts_text}
-use Rattle.line_replay.specs.Asked.{most_deliveries}
 use Rattle.abt_optimum.specs.declared.best.BestEnd.{BestEnd}
 use Rattle.abt_optimum.specs.declared.best.BestEnd.TheVariants.{Optimal, NoSolution, Open}
 use Rattle.line_solve.specs.Searching.{AskedSearch, search_after, run_after, first_run, deliveries_in}
 use Rattle.line_solve.specs.BestAnswers.{best_text, rounds_text}
 use Rattle.line_solve.specs.declared.answer.Searched.{Searched}
-use Rattle.line_solve.specs.declared.runner.Runner.{Runner}
+use Rattle.line_solve.specs.declared.runner.SearchRunner.{SearchRunner}
 
 -- what the run of a round gives, and that it is right
 pub record Tells (p : Contents) (s : Session) (outcome : Outcome) : Type 0 where
   pub gives : Gives s outcome
-  pub right : Verdicts (csp_of p) most_deliveries (run_of s)
+  pub right : Verdicts (csp_of p) s.most (run_of s)
 
 -- no round of this problem's search has ended
-pub record IsFresh (p : Contents) (r : Runner) : Type 0 where
+pub record IsFresh (p : Contents) (r : SearchRunner) : Type 0 where
   pub search : r.search ≡ record { problem = p; rounds = []; values = None }
   pub rounds : r.rounds ≡ 0
   pub deliveries : r.deliveries ≡ 0
@@ -38,24 +37,24 @@ steps_of_last asked zero = 0
 steps_of_last asked (suc n) = length (run_after asked n).net.steps
 
 -- the first rounds of the search have ended, so many of them, and were counted and taken down
-pub record HasMade (asked : AskedSearch) (n : ℕ) (r : Runner) : Type 0 where
+pub record HasMade (asked : AskedSearch) (n : ℕ) (r : SearchRunner) : Type 0 where
   pub search : r.search ≡ search_after asked n
   pub many : length r.search.rounds ≡ n
   pub rounds : r.rounds ≡ n
   pub deliveries : r.deliveries ≡ deliveries_in asked n
   pub steps : r.steps ≡ steps_of_last asked n
-  pub taken : r.taken ≡ taken_after (is_some asked.kept) n (first_run asked).numbers
+  pub taken : r.taken ≡ taken_after (is_some asked.set.kept) n (first_run asked).numbers
 
 -- what a run leaves as it was
-pub record SameRounds (old new : Runner) : Type 0 where
+pub record SameRounds (old new : SearchRunner) : Type 0 where
   pub search : new.search ≡ old.search
   pub rounds : new.rounds ≡ old.rounds
   pub deliveries : new.deliveries ≡ old.deliveries
   pub steps : new.steps ≡ old.steps
 
 -- the lines of what was found, and its counts
-abbrev pub searched_text : Contents → Searched → List ℕ
-searched_text p searched = best_text p searched.best.end ++ (rounds_text searched.best.rounds ++ counts_text searched.deliveries searched.steps)
+abbrev pub searched_text : Bool → Contents → Searched → List ℕ
+searched_text each p searched = best_text each p searched.best.end ++ (rounds_text searched.best.rounds ++ counts_text searched.deliveries searched.steps)
 
 -- where a solution was found it gives a value for each variable
 abbrev pub HasBestValues : Contents → BestEnd → Type 0

@@ -1,5 +1,5 @@
 -- The searches that `solve` makes where a model has an aim: rounds, each of which is a run from the same seed.
-use Rattle.std.specs.Prelude.{ℕ, zero, suc, ◌-◌, Bool, List, [], ◌∷◌, ◌++◌, length, Option, None, if◌then◌else◌}
+use Rattle.std.specs.Prelude.{ℕ, zero, suc, ◌-◌, List, [], ◌∷◌, ◌++◌, length, None, if◌then◌else◌}
 use Rattle.dcsp_defs.specs.Words.{sum_below}
 use Rattle.dcsp_rule.specs.Problems.{Contents}
 use Rattle.abt_defs.specs.Runs as runs
@@ -8,7 +8,8 @@ use Rattle.abt_session.specs.declared.outcome.End as outcomes
 use Rattle.abt_session.specs.declared.outcome.End.TheVariants as ends
 use Rattle.abt_session.specs.Sessions.{Session, run_of}
 use Rattle.line_replay.specs.Endings.{final_values}
-use Rattle.line_replay.specs.Asked.{seeded_session}
+use Rattle.line_replay.specs.Asked.{set_session}
+use Rattle.line_replay.specs.Settings.{Settings}
 use Rattle.abt_optimum.specs.declared.round.RoundEnd.{RoundEnd}
 use Rattle.abt_optimum.specs.declared.round.RoundEnd.TheVariants.{Solved, Refuted, Capped}
 use Rattle.abt_optimum.specs.Rounds.{best_value, is_done, round_problem, most_rounds}
@@ -17,18 +18,14 @@ use Rattle.abt_optimum.specs.Searches.{SearchState, round_after, values_after}
 -- a search that a line asks for
 pub record AskedSearch : Type 0 where
   pub problem : Contents
-  -- each round has the choices of this seed anew
-  pub seed : ℕ
   -- the name of the log, which each round creates anew
   pub log : List ℕ
-  -- the name of the record, where one is asked for
-  pub kept : Option (List ℕ)
-  -- whether the rounds and their traces are put
-  pub trace : Bool
+  -- how it is made: each round has the choices of the seed anew, and as many; the record is that of the first round; and a trace has a line before each round's
+  pub set : Settings
 
 -- this search
-abbrev pub best_search : Contents → ℕ → List ℕ → Option (List ℕ) → Bool → AskedSearch
-best_search p seed log kept trace = record { problem = p; seed = seed; log = log; kept = kept; trace = trace }
+abbrev pub best_search : Contents → List ℕ → Settings → AskedSearch
+best_search p log s = record { problem = p; log = log; set = s }
 
 -- ---- a round
 
@@ -38,7 +35,7 @@ next_problem asked s = round_problem asked.problem (best_value s.rounds)
 
 -- the session of that round
 abbrev pub next_session : AskedSearch → SearchState → Session
-next_session asked s = seeded_session (next_problem asked s) asked.seed asked.log asked.trace
+next_session asked s = set_session (next_problem asked s) asked.log asked.set
 
 -- how a run of the problem ended, as a search takes it; the choices of a seed are never used up
 abbrev pub end_as : Contents → Run → runs.End → RoundEnd
@@ -95,7 +92,7 @@ run_after asked n = run_of (session_after asked n)
 
 -- the run of the first round, which is on the whole problem
 abbrev pub first_run : AskedSearch → Run
-first_run asked = run_of (seeded_session asked.problem asked.seed asked.log asked.trace)
+first_run asked = run_of (set_session asked.problem asked.log asked.set)
 
 -- the run of the last round
 abbrev pub last_run : AskedSearch → Run

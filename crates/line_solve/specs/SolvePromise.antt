@@ -1,5 +1,5 @@
--- What `solve MODEL LOG [--seed N] [--record FILE] [--trace]` promises.
-use Rattle.std.specs.Prelude.{ℕ, Bool, List, [], ◌∷◌, Option, IfSome}
+-- What `solve MODEL LOG` promises, with its options.
+use Rattle.std.specs.Prelude.{ℕ, List, [], ◌∷◌, Option, IfSome}
 use Rattle.dcsp_outside.specs.Outside.{bytes_of}
 use Rattle.dcsp_rule.specs.declared.aim.Aim.{Aim}
 use Rattle.dcsp_rule.specs.declared.aim.Aim.TheVariants.{Satisfy, Least, Greatest}
@@ -10,6 +10,7 @@ use Rattle.abt_input.specs.Inputs.{IsModelOf}
 use Rattle.abt_input.specs.Kinds.{a_model}
 use Rattle.abt_input.specs.Plans.{Plan, Answer, Read, promise_by}
 use Rattle.line_replay.specs.Asked.{solve, created_names}
+use Rattle.line_replay.specs.Settings.{Settings}
 use Rattle.line_replay.specs.ReplayPromise.{run_plan}
 use Rattle.line_solve.specs.Searching.{AskedSearch, best_search}
 use Rattle.line_solve.specs.BestAnswers.{search_status}
@@ -20,18 +21,18 @@ abbrev pub search_plan : AskedSearch → Plan
 search_plan asked = Answer (search_status asked) (search_script asked)
 
 -- of a problem with this aim: the run under the seed's choices where it asks for any solution, and the search for the best value where it asks for that
-abbrev pub plan_for : Aim → Contents → List ℕ → ℕ → Option (List ℕ) → Bool → Plan
-plan_for Satisfy problem log seed kept trace = run_plan (solve problem seed log kept trace)
-plan_for (Least term) problem log seed kept trace = search_plan (best_search problem seed log kept trace)
-plan_for (Greatest term) problem log seed kept trace = search_plan (best_search problem seed log kept trace)
+abbrev pub plan_for : Aim → Contents → List ℕ → Settings → Plan
+plan_for Satisfy problem log s = run_plan (solve problem log s)
+plan_for (Least term) problem log s = search_plan (best_search problem log s)
+plan_for (Greatest term) problem log s = search_plan (best_search problem log s)
 
 -- the model is read, and what its problem asks for is made
-abbrev pub solve_plan : List ℕ → ℕ → Option (List ℕ) → Bool → Plan
-solve_plan log seed kept trace = Read a_model (λ problem. plan_for problem.aim problem log seed kept trace)
+abbrev pub solve_plan : List ℕ → Settings → Plan
+solve_plan log s = Read a_model (λ problem. plan_for problem.aim problem log s)
 
 -- the line's promise
-abbrev pub solve_promise : List ℕ → List ℕ → ℕ → Option (List ℕ) → Bool → Promise
-solve_promise model log seed kept trace = promise_by (model ∷ []) (created_names log kept) (solve_plan log seed kept trace)
+abbrev pub solve_promise : List ℕ → List ℕ → Settings → Promise
+solve_promise model log s = promise_by (model ∷ []) (created_names log s.kept) (solve_plan log s)
 
 -- the problem of the model under the name, where the folder tells it, keeps the limits, and its rules, outputs and aim are over its variables
 abbrev pub HoldsWholeProblem : Option (List ℕ → Option (List ℕ)) → List ℕ → Type 0

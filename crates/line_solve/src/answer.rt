@@ -7,13 +7,16 @@ ghost use Rattle.dcsp_script.specs.Ways.{Wrote};
 ghost use Rattle.abt_answer.specs.Solutions.{solution_text};
 ghost use Rattle.abt_optimum.specs.Best.{assigned};
 ghost use Rattle.line_solve.specs.BestAnswers as answers;
-ghost use Rattle.line_solve.specs.BestAnswers.{best_text, rounds_text};
-ghost use Rattle.line_solve.specs.SearchScripts.{line_script, round_line};
+ghost use Rattle.line_solve.specs.BestAnswers.{best_text, last_text, rounds_text};
+ghost use Rattle.line_solve.specs.SearchScripts.{line_script, found_script, round_line};
+ghost use Rattle.line_replay.specs.Outcomes.{HasAllValues};
+ghost use Rattle.line_solve.specs.Searching.{told_end};
 ghost use Rattle.line_solve.specs.Runners.{searched_text, HasBestValues};
 
 use abt_answer::push_solution;
 use abt_optimum::{Best, BestEnd};
 use abt_promise::Status;
+use abt_session::End;
 use dcsp_outside::Sink;
 use dcsp_problem::Problem;
 use dcsp_script::{Stop, put};
@@ -65,20 +68,60 @@ fn push_round(number: u64, into: &mut Vec<u8>) -> Result<(), AllocError>
     into.extend_from_slice(b"\n")
 }
 
+/// Puts the solution of a round that ended so, where each one is asked for.
+pub fn put_found<S: Sink>(
+    alloc: Global,
+    each: bool,
+    problem: &Problem,
+    end: &End,
+    out: &mut S,
+) -> Result<(), Stop>
+    requires { HasAllValues problem.now end.now }
+    ensures { (folder : Place) → Wrote (found_script each problem.now (told_end end.now))
+        (outside folder (S.stream out.old)) (outside folder (S.stream out.new)) result }
+{
+    if !each {
+        return Ok(());
+    }
+    match end {
+        End::Solved(values) => put_solution(alloc, problem, values.items(), out),
+        End::Refuted | End::Spent | End::Capped => Ok(()),
+    }
+}
+
+/// Puts the text of a solution.
+fn put_solution<S: Sink>(
+    alloc: Global,
+    problem: &Problem,
+    values: &[i64],
+    out: &mut S,
+) -> Result<(), Stop>
+    requires { length values.now ≡ length problem.now.domains }
+    ensures { (folder : Place) → Wrote (Put (solution_text problem.now (assigned values.now)) ∷ [])
+        (outside folder (S.stream out.old)) (outside folder (S.stream out.new)) result }
+{
+    let mut text = Vec::new(alloc);
+    match push_values(problem, values, &mut text) {
+        Ok(()) => put(out, &text),
+        Err(_) => Err(Stop::Memory),
+    }
+}
+
 /// Puts what was found, in one piece: a solution and whether it is best, or what stands in its place, and how many
 /// rounds, deliveries and steps were made.
 pub fn tell<S: Sink>(
     alloc: Global,
     problem: &Problem,
     searched: &Searched,
+    each: bool,
     out: &mut S,
 ) -> Result<(), Stop>
     requires { HasBestValues problem.now searched.now.best.end }
-    ensures { (folder : Place) → Wrote (Put (searched_text problem.now searched.now) ∷ [])
+    ensures { (folder : Place) → Wrote (Put (searched_text each problem.now searched.now) ∷ [])
         (outside folder (S.stream out.old)) (outside folder (S.stream out.new)) result }
 {
     let mut text = Vec::new(alloc);
-    match push_searched(problem, searched, &mut text) {
+    match push_searched(problem, searched, each, &mut text) {
         Ok(()) => put(out, &text),
         Err(_) => Err(Stop::Memory),
     }
@@ -87,30 +130,52 @@ pub fn tell<S: Sink>(
 fn push_searched(
     problem: &Problem,
     searched: &Searched,
+    each: bool,
     into: &mut Vec<u8>,
 ) -> Result<(), AllocError>
     requires { HasBestValues problem.now searched.now.best.end }
-    ensures { OnOk result (into.new.items ≡ into.old.items ++ searched_text problem.now searched.now) }
+    ensures { OnOk result (into.new.items ≡ into.old.items ++ searched_text each problem.now searched.now) }
 {
-    push_best(problem, &searched.best.end, into)?;
+    push_best(problem, &searched.best.end, each, into)?;
     push_rounds(searched.best.rounds, into)?;
     push_counts(searched.deliveries, searched.steps, into)
 }
 
 /// A solution, and a line that says whether it is best; or the line that stands in its place.
-fn push_best(problem: &Problem, end: &BestEnd, into: &mut Vec<u8>) -> Result<(), AllocError>
+fn push_best(
+    problem: &Problem,
+    end: &BestEnd,
+    each: bool,
+    into: &mut Vec<u8>,
+) -> Result<(), AllocError>
     requires { HasBestValues problem.now end.now }
-    ensures { OnOk result (into.new.items ≡ into.old.items ++ best_text problem.now end.now) }
+    ensures { OnOk result (into.new.items ≡ into.old.items ++ best_text each problem.now end.now) }
 {
     match end {
         BestEnd::Optimal(values) => {
-            push_values(problem, values.items(), into)?;
+            push_last(problem, values.items(), each, into)?;
             into.extend_from_slice(b"==========\n")
         }
         BestEnd::NoSolution => into.extend_from_slice(b"=====UNSATISFIABLE=====\n"),
         BestEnd::Open(None) => into.extend_from_slice(b"=====UNKNOWN=====\n"),
-        BestEnd::Open(Some(values)) => push_values(problem, values.items(), into),
+        BestEnd::Open(Some(values)) => push_last(problem, values.items(), each, into),
     }
+}
+
+/// The text of the last solution, unless each one was put when it was found.
+fn push_last(
+    problem: &Problem,
+    values: &[i64],
+    each: bool,
+    into: &mut Vec<u8>,
+) -> Result<(), AllocError>
+    requires { length values.now ≡ length problem.now.domains }
+    ensures { OnOk result (into.new.items ≡ into.old.items ++ last_text each problem.now values.now) }
+{
+    if each {
+        return Ok(());
+    }
+    push_values(problem, values, into)
 }
 
 /// The text of a solution.

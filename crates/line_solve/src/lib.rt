@@ -4,7 +4,8 @@
 //! A search has rounds. Each is a run from the same seed, and creates the log anew: the first one on the whole
 //! problem, each later one on the problem narrowed to better values than the one before it found. After the last
 //! round comes the record of the first, and what was found is put last. So whatever answer was seen has the log of
-//! the last round, which refutes every better value.
+//! the last round, which refutes every better value. Where each solution is asked for it is put when its round has
+//! ended, and not once more at the end.
 #![tactic(auto)]
 
 mod answer;

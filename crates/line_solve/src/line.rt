@@ -1,26 +1,27 @@
-//! The line `solve MODEL LOG [--seed N] [--record FILE] [--trace]`.
+//! The line `solve MODEL LOG [--seed N] [--choices N] [--record FILE] [--trace] [--each]`.
 
-ghost use Rattle.std.specs.Prelude.{◌≡◌, ◌≢◌, IfOk, option_copied};
+ghost use Rattle.std.specs.Prelude.{◌≡◌, ◌≢◌, ◌≤◌, ◌^◌, IfOk};
 ghost use Rattle.dcsp_outside.specs.Outside.{Place, Stream};
 ghost use Rattle.dcsp_script.specs.Scripts.{outside};
 ghost use Rattle.dcsp_script.specs.Ways.{Wrote};
 ghost use Rattle.abt_promise.specs.Runs.{CameIn};
 ghost use Rattle.abt_input.specs.Errors.{way_of};
 ghost use Rattle.line_replay.specs.Headline.{HoldsProblem};
+ghost use Rattle.line_replay.specs.Settings.{settings_of};
 ghost use Rattle.line_solve.specs.Searching.{best_search};
 ghost use Rattle.line_solve.specs.BestAnswers.{search_status};
 ghost use Rattle.line_solve.specs.SearchScripts.{search_script};
 ghost use Rattle.line_solve.specs.SolvePromise.{solve_promise, HoldsWholeProblem};
 
 use crate::answer::{best_status, tell};
-use crate::runner::Runner;
+use crate::runner::SearchRunner;
 use abt_input::{CommandError, read_model};
 use abt_promise::Status;
 use dcsp_outside::{Folder, Sink};
 use dcsp_problem::{Aim, Problem};
 use dcsp_script::Stop;
-use law_logs::problems_are_small;
 use line_replay::{Solve, run_seed, write_record};
+use ngd_check::problems_are_small;
 use std::alloc::Global;
 
 /// Runs the model under the choices of the seed, or where it asks for the best value of a term, searches for that in
@@ -31,7 +32,8 @@ pub fn run_solve<F: Folder, S: Sink>(
     line: Solve<'_>,
     out: &mut S,
 ) -> Result<Status, CommandError>
-    ensures came { CameIn (solve_promise line.entry.model.now line.entry.log.now line.entry.seed (option_copied line.entry.kept) line.entry.trace)
+    requires { line.options.choices ≤ 2 ^ 40 }
+    ensures came { CameIn (solve_promise line.entry.model.now line.entry.log.now (settings_of line.entry.options))
         (outside (F.place folder.old) (S.stream out.old))
         (outside (F.place folder.new) (S.stream out.new)) (way_of result) }
     ensures sound { IfOk result (λ status. HoldsProblem (F.place folder.old).held line.entry.model.now) }
@@ -56,16 +58,17 @@ fn run_search<F: Folder, S: Sink>(
     folder: &mut F,
     out: &mut S,
 ) -> Result<Status, Stop>
-    requires { problem.now.aim ≢ Aim.Satisfy }
-    ensures wrote { Wrote (search_script (best_search problem.now line.entry.seed line.entry.log.now (option_copied line.entry.kept) line.entry.trace))
+    requires aimed { problem.now.aim ≢ Aim.Satisfy }
+    requires few { line.options.choices ≤ 2 ^ 40 }
+    ensures wrote { Wrote (search_script (best_search problem.now line.entry.log.now (settings_of line.entry.options)))
         (outside (F.place folder.old) (S.stream out.old)) (outside (F.place folder.new) (S.stream out.new)) result }
-    ensures status { IfOk result (λ status. status ≡ search_status (best_search problem.now line.entry.seed line.entry.log.now (option_copied line.entry.kept) line.entry.trace)) }
+    ensures status { IfOk result (λ status. status ≡ search_status (best_search problem.now line.entry.log.now (settings_of line.entry.options))) }
 {
     problem.denotes_csp();
-    let mut runner = Runner::new(alloc, problem)?;
+    let mut runner = SearchRunner::new(alloc, problem)?;
     runner.run(alloc, problem, line, folder, out)?;
-    write_record(alloc, folder, line.kept, runner.taken.choices())?;
+    write_record(alloc, folder, line.options.kept, runner.taken.choices())?;
     let searched = runner.finish();
-    tell(alloc, problem, &searched, out)?;
+    tell(alloc, problem, &searched, line.options.each, out)?;
     Ok(best_status(&searched.best.end))
 }

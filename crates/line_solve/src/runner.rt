@@ -1,6 +1,6 @@
 //! A search on its way.
 
-ghost use Rattle.std.specs.Prelude.{◌≡◌, ◌≢◌, ◌<◌, ◌+◌, ◌^◌, ◌++◌, ◌&&◌, ◌==◌, [], false, true, length, IfOk, OnOk, OnErr, Err, is_some, option_copied};
+ghost use Rattle.std.specs.Prelude.{◌≡◌, ◌≢◌, ◌<◌, ◌≤◌, ◌+◌, ◌^◌, ◌++◌, ◌&&◌, ◌==◌, [], false, true, length, IfOk, OnOk, OnErr, Err, is_some};
 ghost use Rattle.dcsp_outside.specs.Outside.{Place, Stream};
 ghost use Rattle.dcsp_rule.specs.Problems.{csp_of};
 ghost use Rattle.dcsp_problem.specs.WellFormed.{IsProblem};
@@ -9,14 +9,15 @@ ghost use Rattle.dcsp_script.specs.Ways.{Wrote};
 ghost use Rattle.law_runs.specs.Replay.{Verdicts};
 ghost use Rattle.abt_session.specs.Sessions.{run_of, run_script};
 ghost use Rattle.abt_session.specs.Running.{kept, Gives};
-ghost use Rattle.line_replay.specs.Asked.{most_deliveries, seeded_session};
+ghost use Rattle.line_replay.specs.Asked.{set_session};
+ghost use Rattle.line_replay.specs.Settings.{settings_of};
 ghost use Rattle.abt_optimum.specs.Rounds.{best_value, is_done, round_problem};
 ghost use Rattle.abt_optimum.specs.Searches.{EndsRightly, IsSearch};
 ghost use Rattle.line_solve.specs.Searching.{best_search, next_problem, next_session, round_count, told_end, with_round};
 ghost use Rattle.line_solve.specs.BestAnswers.{found};
 ghost use Rattle.line_solve.specs.SearchScripts.{line_script, round_script, rounds_script};
 
-use crate::answer::{Searched, put_round};
+use crate::answer::{Searched, put_found, put_round};
 use abt_optimum::{RoundEnd, Search};
 use abt_schedule::{ChoiceList, Seeded};
 use abt_session::{End, Outcome, run};
@@ -26,12 +27,9 @@ use dcsp_script::Stop;
 use line_replay::Solve;
 use std::alloc::Global;
 
-/// The most deliveries of a round.
-const MOST_DELIVERIES: u64 = 1 << 40;
-
 /// A search on its way.
 #[derive(Drop)]
-pub struct Runner<'p> {
+pub struct SearchRunner<'p> {
     pub search: Search<'p>,
     /// How many rounds have ended.
     pub rounds: u64,
@@ -43,11 +41,11 @@ pub struct Runner<'p> {
     pub taken: ChoiceList,
 }
 
-impl<'p> Runner<'p> {
+impl<'p> SearchRunner<'p> {
     ghost use Rattle.line_solve.specs.Runners.{HasMade, IsFresh, SameRounds, Tells};
 
     /// A search of which no round has ended.
-    pub fn new(alloc: Global, problem: &'p Problem) -> Result<Runner<'p>, Stop>
+    pub fn new(alloc: Global, problem: &'p Problem) -> Result<SearchRunner<'p>, Stop>
         requires { problem.now.aim ≢ Aim.Satisfy }
         ensures fresh { IfOk result (IsFresh problem.now) }
         ensures only_memory { OnErr result (result ≡ Err Stop.Memory) }
@@ -55,7 +53,7 @@ impl<'p> Runner<'p> {
         let Ok(search) = Search::new(alloc, problem) else {
             return Err(Stop::Memory);
         };
-        Ok(Runner {
+        Ok(SearchRunner {
             search,
             rounds: 0,
             deliveries: 0,
@@ -73,11 +71,12 @@ impl<'p> Runner<'p> {
         folder: &mut F,
         out: &mut S,
     ) -> Result<(), Stop>
-        requires { IsFresh problem.now self.old }
-        ensures wrote { let asked = best_search problem.now line.entry.seed line.entry.log.now (option_copied line.entry.kept) line.entry.trace in
+        requires fresh { IsFresh problem.now self.old }
+        requires few { line.options.choices ≤ 2 ^ 40 }
+        ensures wrote { let asked = best_search problem.now line.entry.log.now (settings_of line.entry.options) in
             Wrote (rounds_script asked (round_count asked))
             (outside (F.place folder.old) (S.stream out.old)) (outside (F.place folder.new) (S.stream out.new)) result }
-        ensures made { let asked = best_search problem.now line.entry.seed line.entry.log.now (option_copied line.entry.kept) line.entry.trace in
+        ensures made { let asked = best_search problem.now line.entry.log.now (settings_of line.entry.options) in
             OnOk result (HasMade asked (round_count asked) self.new) }
     {
         problem.denotes_csp();
@@ -87,7 +86,8 @@ impl<'p> Runner<'p> {
         Ok(())
     }
 
-    /// Makes the round that follows: its line is put, where traces are asked for, and then it is run.
+    /// Makes the round that follows: its line is put, where traces are asked for, then it is run, and then its
+    /// solution is put, where each one is asked for.
     fn make_round<F: Folder, S: Sink>(
         &mut self,
         alloc: Global,
@@ -96,19 +96,21 @@ impl<'p> Runner<'p> {
         folder: &mut F,
         out: &mut S,
     ) -> Result<(), Stop>
-        requires made { let asked = best_search problem.now line.seed line.log.now (option_copied line.kept) line.trace in
+        requires made { let asked = best_search problem.now line.log.now (settings_of line.options) in
             HasMade asked self.old.rounds self.old }
         requires goes_on { is_done self.old.search.problem.aim self.old.search.rounds ≡ false }
         requires few { self.old.rounds < 2 ^ 20 }
+        requires choices { line.options.choices ≤ 2 ^ 40 }
         requires problem { IsProblem problem.now }
-        ensures wrote { let asked = best_search problem.now line.entry.seed line.entry.log.now (option_copied line.entry.kept) line.entry.trace in
+        ensures wrote { let asked = best_search problem.now line.entry.log.now (settings_of line.entry.options) in
             Wrote (round_script asked self.old.rounds)
             (outside (F.place folder.old) (S.stream out.old)) (outside (F.place folder.new) (S.stream out.new)) result }
-        ensures made { let asked = best_search problem.now line.entry.seed line.entry.log.now (option_copied line.entry.kept) line.entry.trace in
+        ensures made { let asked = best_search problem.now line.entry.log.now (settings_of line.entry.options) in
             OnOk result (HasMade asked (self.old.rounds + 1) self.new) }
     {
-        put_round(alloc, line.trace, self.rounds + 1, out)?;
+        put_round(alloc, line.options.trace, self.rounds + 1, out)?;
         let outcome = self.run_next(alloc, problem, line, folder, out)?;
+        put_found(alloc, line.options.each, problem, &outcome.end, out)?;
         self.count(outcome);
         Ok(())
     }
@@ -124,12 +126,13 @@ impl<'p> Runner<'p> {
     ) -> Result<Outcome, Stop>
         requires goes_on { is_done self.old.search.problem.aim self.old.search.rounds ≡ false }
         requires problem { self.old.search.problem ≡ problem.now }
-        ensures wrote { let s = next_session (best_search problem.now line.entry.seed line.entry.log.now (option_copied line.entry.kept) line.entry.trace) self.old.search in
+        requires choices { line.options.choices ≤ 2 ^ 40 }
+        ensures wrote { let s = next_session (best_search problem.now line.entry.log.now (settings_of line.entry.options)) self.old.search in
             Wrote (run_script s) (outside (F.place folder.old) (S.stream out.old)) (outside (F.place folder.new) (S.stream out.new)) result }
-        ensures tells { let asked = best_search problem.now line.entry.seed line.entry.log.now (option_copied line.entry.kept) line.entry.trace in
+        ensures tells { let asked = best_search problem.now line.entry.log.now (settings_of line.entry.options) in
             IfOk result (Tells (next_problem asked self.old.search) (next_session asked self.old.search)) }
-        ensures takes { let asked = best_search problem.now line.entry.seed line.entry.log.now (option_copied line.entry.kept) line.entry.trace in
-            OnOk result (self.new.taken ≡ self.old.taken ++ kept (is_some asked.kept && self.old.rounds == 0) (run_of (next_session asked self.old.search)).numbers) }
+        ensures takes { let asked = best_search problem.now line.entry.log.now (settings_of line.entry.options) in
+            OnOk result (self.new.taken ≡ self.old.taken ++ kept (is_some asked.set.kept && self.old.rounds == 0) (run_of (next_session asked self.old.search)).numbers) }
         ensures same { SameRounds self.old self.new }
     {
         match self.search.better() {
@@ -152,24 +155,25 @@ impl<'p> Runner<'p> {
         folder: &mut F,
         out: &mut S,
     ) -> Result<Outcome, Stop>
-        ensures wrote { Wrote (run_script (seeded_session problem.now line.entry.seed line.entry.log.now line.entry.trace))
+        requires { line.options.choices ≤ 2 ^ 40 }
+        ensures wrote { Wrote (run_script (set_session problem.now line.entry.log.now (settings_of line.entry.options)))
             (outside (F.place folder.old) (S.stream out.old)) (outside (F.place folder.new) (S.stream out.new)) result }
-        ensures tells { IfOk result (Tells problem.now (seeded_session problem.now line.entry.seed line.entry.log.now line.entry.trace)) }
-        ensures takes { OnOk result (self.new.taken ≡ self.old.taken ++ kept (is_some line.entry.kept && self.old.rounds == 0)
-            (run_of (seeded_session problem.now line.entry.seed line.entry.log.now line.entry.trace)).numbers) }
+        ensures tells { IfOk result (Tells problem.now (set_session problem.now line.entry.log.now (settings_of line.entry.options))) }
+        ensures takes { OnOk result (self.new.taken ≡ self.old.taken ++ kept (is_some line.entry.options.kept && self.old.rounds == 0)
+            (run_of (set_session problem.now line.entry.log.now (settings_of line.entry.options))).numbers) }
         ensures same { SameRounds self.old self.new }
     {
-        let mut choices = Seeded::new(line.seed);
-        let keep = line.kept.is_some() && self.rounds == 0;
+        let mut choices = Seeded::new(line.options.seed);
+        let keep = line.options.kept.is_some() && self.rounds == 0;
         run(
             alloc,
             problem,
             &mut choices,
-            MOST_DELIVERIES,
+            line.options.choices,
             folder,
             line.log,
             out,
-            line.trace,
+            line.options.trace,
             &mut self.taken,
             keep,
         )

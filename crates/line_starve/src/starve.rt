@@ -14,7 +14,7 @@ ghost use Rattle.abt_input.specs.Errors.{way_of};
 ghost use Rattle.line_starve.specs.StarvePromise.{choices_of, end_word, most_starved, starve_promise, starve_script, starved_line, starving_run};
 ghost use Rattle.line_starve.specs.Starving.{HoldsStarved, IsReplayed, TellsStarved};
 
-use abt_input::{CommandError, Line, read_model};
+use abt_input::{AnswerLine, CommandError, read_model};
 use abt_promise::Status;
 use abt_schedule::{ChoiceList, write_schedule};
 use abt_session::{Starved, StarvedEnd};
@@ -118,11 +118,11 @@ fn tell<S: Sink>(told: Starved, out: &mut S) -> Result<(), Stop>
 }
 
 /// The line that tells how the run ended, and how many deliveries it made.
-fn line_of(told: Starved) -> Line
+fn line_of(told: Starved) -> AnswerLine
     ensures { result ≡ starved_line (starved_end told.end) told.deliveries }
 {
     let mut digits = Buffer::new();
-    Line::of(b"starved ")
+    AnswerLine::of(b"starved ")
         .with(word_of(told.end))
         .with(b" deliveries ")
         .with(digits.format(told.deliveries).as_bytes())

@@ -1,7 +1,7 @@
 //! The cores of some refutations.
 
 use crate::given::{add_between, add_variable, derivation_of, let_go, let_steps_go, smallest};
-use dcsp_problem::{Kind, Problem, ProblemBuilder};
+use dcsp_problem::{ConstraintKind, Problem, ProblemBuilder};
 use ngd_check::{Finding, check};
 use ngd_log::{Derivation, Step};
 use ngd_rewrite::{Core, core_of};
@@ -14,8 +14,8 @@ fn chain(rt: &impl Abort, alloc: Global) -> Problem {
     add_variable(rt, alloc, &mut builder, 0, 1);
     add_variable(rt, alloc, &mut builder, 0, 0);
     add_variable(rt, alloc, &mut builder, 0, 0);
-    add_between(rt, alloc, &mut builder, Kind::IntNe, 0, 1);
-    add_between(rt, alloc, &mut builder, Kind::IntNe, 1, 2);
+    add_between(rt, alloc, &mut builder, ConstraintKind::IntNe, 0, 1);
+    add_between(rt, alloc, &mut builder, ConstraintKind::IntNe, 1, 2);
     builder.finish().expect(rt, "memory")
 }
 

@@ -4,7 +4,9 @@ ghost use Rattle.std.specs.Prelude.{◌≡◌, ◌<◌, ◌+◌, ◌∷◌, [], 
 ghost use Rattle.dcsp_rule.specs.Rules.{has_shape};
 
 use dcsp_outside::{MemoryFolder, MemorySink};
-use dcsp_problem::{Domain, IntList, Kind, Members, Problem, ProblemBuilder, Rule, Term, TermList};
+use dcsp_problem::{
+    ConstraintKind, Domain, IntList, Members, Problem, ProblemBuilder, Rule, Term, TermList,
+};
 use ngd_log::{Derivation, read_log};
 use std::alloc::Global;
 use std::process::Abort;
@@ -17,7 +19,7 @@ pub fn let_go(_problem: Problem) {}
 pub fn let_steps_go(_derivation: Derivation) {}
 
 /// A constraint between two variables.
-fn between(rt: &impl Abort, alloc: Global, kind: Kind, first: u32, second: u32) -> Rule
+fn between(rt: &impl Abort, alloc: Global, kind: ConstraintKind, first: u32, second: u32) -> Rule
     ensures { result ≡ Rule.Plain kind (Term.Var first ∷ Term.Var second ∷ []) [] [] (Members.Listed []) }
 {
     let terms = vec![in alloc; Term::Var(first), Term::Var(second)];
@@ -35,7 +37,7 @@ pub fn add_between(
     rt: &impl Abort,
     alloc: Global,
     builder: &mut ProblemBuilder,
-    kind: Kind,
+    kind: ConstraintKind,
     first: u32,
     second: u32,
 )
@@ -69,8 +71,8 @@ pub fn smallest(rt: &impl Abort, alloc: Global) -> Problem
     let mut builder = ProblemBuilder::new(alloc);
     add_variable(rt, alloc, &mut builder, 0, 1);
     add_variable(rt, alloc, &mut builder, 0, 1);
-    add_between(rt, alloc, &mut builder, Kind::IntNe, 0, 1);
-    add_between(rt, alloc, &mut builder, Kind::IntEq, 0, 1);
+    add_between(rt, alloc, &mut builder, ConstraintKind::IntNe, 0, 1);
+    add_between(rt, alloc, &mut builder, ConstraintKind::IntEq, 0, 1);
     builder.finish().expect(rt, "memory")
 }
 

@@ -2,18 +2,20 @@
 
 ghost use Rattle.std.specs.Prelude.{◌≡◌, ◌<◌, ◌+◌, [], ◌∷◌, length};
 
-use abt_bound::message_bound;
-use dcsp_problem::{Domain, IntList, Kind, Members, Problem, ProblemBuilder, Rule, Term, TermList};
+use dcsp_problem::{
+    ConstraintKind, Domain, IntList, Members, Problem, ProblemBuilder, Rule, Term, TermList,
+};
+use line_model::message_bound;
 use std::alloc::Global;
 use std::process::Abort;
 
 /// That two variables differ.
 fn apart(rt: &impl Abort, alloc: Global, left: u32, right: u32) -> Rule
-    ensures { result ≡ Rule.Plain Kind.IntNe (Term.Var left ∷ Term.Var right ∷ []) [] [] (Members.Listed []) }
+    ensures { result ≡ Rule.Plain ConstraintKind.IntNe (Term.Var left ∷ Term.Var right ∷ []) [] [] (Members.Listed []) }
 {
     let terms = vec![in alloc; Term::Var(left), Term::Var(right)];
     Rule::Plain {
-        kind: Kind::IntNe,
+        kind: ConstraintKind::IntNe,
         scalars: TermList::from_vec(terms.expect(rt, "memory")),
         first: TermList::new(alloc),
         second: TermList::new(alloc),

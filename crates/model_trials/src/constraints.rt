@@ -1,6 +1,6 @@
 //! Rows of the table, worked out by hand from its words.
 
-use dcsp_meaning::{Ground, Kind, holds, shape_ok};
+use dcsp_meaning::{ConstraintKind, Ground, holds, shape_ok};
 use std::process::Abort;
 
 /// The values of a constraint's arguments.
@@ -54,7 +54,7 @@ impl Ground for Arguments<'_> {
 }
 
 /// Whether the constraint holds, its set being 1 and 2; `None` where it does not take so many arguments.
-fn truth(kind: Kind, scalars: &[i64], first: &[i64], second: &[i64]) -> Option<bool> {
+fn truth(kind: ConstraintKind, scalars: &[i64], first: &[i64], second: &[i64]) -> Option<bool> {
     if !shape_ok(kind, scalars.len(), first.len(), second.len()) {
         return None;
     }
@@ -68,7 +68,7 @@ fn truth(kind: Kind, scalars: &[i64], first: &[i64], second: &[i64]) -> Option<b
 }
 
 /// A constraint without lists, the values of its arguments, and whether it holds.
-type Plain = (Kind, &'static [i64], bool);
+type Plain = (ConstraintKind, &'static [i64], bool);
 
 fn expect_truths(rt: &impl Abort, rows: &[Plain]) {
     for (kind, scalars, held) in rows {
@@ -77,26 +77,26 @@ fn expect_truths(rt: &impl Abort, rows: &[Plain]) {
 }
 
 const COMPARISONS_AND_SETS: &[Plain] = &[
-    (Kind::IntEq, &[3, 3], true),
-    (Kind::IntEq, &[3, -3], false),
-    (Kind::IntEqReif, &[3, 3, 1], true),
-    (Kind::IntEqReif, &[3, 3, 0], false),
-    (Kind::IntNe, &[3, -3], true),
-    (Kind::IntNe, &[3, 3], false),
-    (Kind::IntNeReif, &[3, -3, 1], true),
-    (Kind::IntNeReif, &[3, 3, 1], false),
-    (Kind::IntLe, &[-4, -4], true),
-    (Kind::IntLe, &[5, 4], false),
-    (Kind::IntLeReif, &[5, 4, 0], true),
-    (Kind::IntLeReif, &[5, 4, 1], false),
-    (Kind::IntLt, &[-5, -4], true),
-    (Kind::IntLt, &[4, 4], false),
-    (Kind::IntLtReif, &[4, 4, 0], true),
-    (Kind::IntLtReif, &[1, 2, 0], false),
-    (Kind::SetIn, &[2], true),
-    (Kind::SetIn, &[3], false),
-    (Kind::SetInReif, &[3, 0], true),
-    (Kind::SetInReif, &[2, 0], false),
+    (ConstraintKind::IntEq, &[3, 3], true),
+    (ConstraintKind::IntEq, &[3, -3], false),
+    (ConstraintKind::IntEqReif, &[3, 3, 1], true),
+    (ConstraintKind::IntEqReif, &[3, 3, 0], false),
+    (ConstraintKind::IntNe, &[3, -3], true),
+    (ConstraintKind::IntNe, &[3, 3], false),
+    (ConstraintKind::IntNeReif, &[3, -3, 1], true),
+    (ConstraintKind::IntNeReif, &[3, 3, 1], false),
+    (ConstraintKind::IntLe, &[-4, -4], true),
+    (ConstraintKind::IntLe, &[5, 4], false),
+    (ConstraintKind::IntLeReif, &[5, 4, 0], true),
+    (ConstraintKind::IntLeReif, &[5, 4, 1], false),
+    (ConstraintKind::IntLt, &[-5, -4], true),
+    (ConstraintKind::IntLt, &[4, 4], false),
+    (ConstraintKind::IntLtReif, &[4, 4, 0], true),
+    (ConstraintKind::IntLtReif, &[1, 2, 0], false),
+    (ConstraintKind::SetIn, &[2], true),
+    (ConstraintKind::SetIn, &[3], false),
+    (ConstraintKind::SetInReif, &[3, 0], true),
+    (ConstraintKind::SetInReif, &[2, 0], false),
 ];
 
 #[test]
@@ -109,29 +109,33 @@ const MOST: i64 = i64::MAX;
 const LEAST: i64 = i64::MIN;
 
 const ARITHMETIC: &[Plain] = &[
-    (Kind::IntPlus, &[2, -5, -3], true),
-    (Kind::IntPlus, &[2, 5, 8], false),
-    (Kind::IntPlus, &[LEAST, MOST, -1], true),
-    (Kind::IntPlus, &[MOST, MOST, -2], false),
-    (Kind::IntTimes, &[-3, 4, -12], true),
-    (Kind::IntTimes, &[3, 4, 7], false),
-    (Kind::IntTimes, &[MOST, -1, -9223372036854775807], true),
-    (Kind::IntTimes, &[LEAST, -1, LEAST], false),
-    (Kind::IntMin, &[3, -7, -7], true),
-    (Kind::IntMin, &[LEAST, MOST, MOST], false),
-    (Kind::IntMax, &[LEAST, MOST, MOST], true),
-    (Kind::IntMax, &[3, -7, -7], false),
-    (Kind::IntDiv, &[-7, 2, -3], true),
-    (Kind::IntDiv, &[-7, 2, -4], false),
-    (Kind::IntDiv, &[1, 0, 0], false),
-    (Kind::IntDiv, &[LEAST, 1, LEAST], true),
-    (Kind::IntDiv, &[LEAST, -1, MOST], false),
-    (Kind::IntDiv, &[LEAST, -1, LEAST], false),
-    (Kind::IntMod, &[-7, 2, -1], true),
-    (Kind::IntMod, &[7, -2, 1], true),
-    (Kind::IntMod, &[7, 0, 7], false),
-    (Kind::IntMod, &[LEAST, -1, 0], true),
-    (Kind::IntMod, &[LEAST, MOST, -1], true),
+    (ConstraintKind::IntPlus, &[2, -5, -3], true),
+    (ConstraintKind::IntPlus, &[2, 5, 8], false),
+    (ConstraintKind::IntPlus, &[LEAST, MOST, -1], true),
+    (ConstraintKind::IntPlus, &[MOST, MOST, -2], false),
+    (ConstraintKind::IntTimes, &[-3, 4, -12], true),
+    (ConstraintKind::IntTimes, &[3, 4, 7], false),
+    (
+        ConstraintKind::IntTimes,
+        &[MOST, -1, -9223372036854775807],
+        true,
+    ),
+    (ConstraintKind::IntTimes, &[LEAST, -1, LEAST], false),
+    (ConstraintKind::IntMin, &[3, -7, -7], true),
+    (ConstraintKind::IntMin, &[LEAST, MOST, MOST], false),
+    (ConstraintKind::IntMax, &[LEAST, MOST, MOST], true),
+    (ConstraintKind::IntMax, &[3, -7, -7], false),
+    (ConstraintKind::IntDiv, &[-7, 2, -3], true),
+    (ConstraintKind::IntDiv, &[-7, 2, -4], false),
+    (ConstraintKind::IntDiv, &[1, 0, 0], false),
+    (ConstraintKind::IntDiv, &[LEAST, 1, LEAST], true),
+    (ConstraintKind::IntDiv, &[LEAST, -1, MOST], false),
+    (ConstraintKind::IntDiv, &[LEAST, -1, LEAST], false),
+    (ConstraintKind::IntMod, &[-7, 2, -1], true),
+    (ConstraintKind::IntMod, &[7, -2, 1], true),
+    (ConstraintKind::IntMod, &[7, 0, 7], false),
+    (ConstraintKind::IntMod, &[LEAST, -1, 0], true),
+    (ConstraintKind::IntMod, &[LEAST, MOST, -1], true),
 ];
 
 #[test]
@@ -140,10 +144,10 @@ fn arithmetic(rt: HostRuntime) {
 }
 
 const ABSOLUTE_VALUES: &[Plain] = &[
-    (Kind::IntAbs, &[-7, 7], true),
-    (Kind::IntAbs, &[-7, -7], false),
-    (Kind::IntAbs, &[MOST, MOST], true),
-    (Kind::IntAbs, &[LEAST, LEAST], false),
+    (ConstraintKind::IntAbs, &[-7, 7], true),
+    (ConstraintKind::IntAbs, &[-7, -7], false),
+    (ConstraintKind::IntAbs, &[MOST, MOST], true),
+    (ConstraintKind::IntAbs, &[LEAST, LEAST], false),
 ];
 
 #[test]
@@ -152,30 +156,30 @@ fn absolute_values(rt: HostRuntime) {
 }
 
 const BOOLEANS: &[Plain] = &[
-    (Kind::BoolEq, &[1, 1], true),
-    (Kind::BoolEq, &[0, 1], false),
-    (Kind::BoolEqReif, &[0, 1, 0], true),
-    (Kind::BoolEqReif, &[0, 1, 1], false),
-    (Kind::BoolLe, &[0, 0], true),
-    (Kind::BoolLe, &[1, 0], false),
-    (Kind::BoolLeReif, &[1, 0, 0], true),
-    (Kind::BoolLeReif, &[0, 1, 0], false),
-    (Kind::BoolLt, &[0, 1], true),
-    (Kind::BoolLt, &[1, 1], false),
-    (Kind::BoolLtReif, &[0, 0, 0], true),
-    (Kind::BoolLtReif, &[0, 1, 0], false),
-    (Kind::BoolNot, &[0, 1], true),
-    (Kind::BoolNot, &[1, 1], false),
-    (Kind::BoolAnd, &[1, 1, 1], true),
-    (Kind::BoolAnd, &[1, 0, 1], false),
-    (Kind::BoolOr, &[0, 1, 1], true),
-    (Kind::BoolOr, &[0, 0, 1], false),
-    (Kind::BoolXor, &[1, 0, 1], true),
-    (Kind::BoolXor, &[1, 1, 1], false),
-    (Kind::BoolXor, &[1, 0], true),
-    (Kind::BoolXor, &[0, 0], false),
-    (Kind::Bool2int, &[1, 1], true),
-    (Kind::Bool2int, &[0, 1], false),
+    (ConstraintKind::BoolEq, &[1, 1], true),
+    (ConstraintKind::BoolEq, &[0, 1], false),
+    (ConstraintKind::BoolEqReif, &[0, 1, 0], true),
+    (ConstraintKind::BoolEqReif, &[0, 1, 1], false),
+    (ConstraintKind::BoolLe, &[0, 0], true),
+    (ConstraintKind::BoolLe, &[1, 0], false),
+    (ConstraintKind::BoolLeReif, &[1, 0, 0], true),
+    (ConstraintKind::BoolLeReif, &[0, 1, 0], false),
+    (ConstraintKind::BoolLt, &[0, 1], true),
+    (ConstraintKind::BoolLt, &[1, 1], false),
+    (ConstraintKind::BoolLtReif, &[0, 0, 0], true),
+    (ConstraintKind::BoolLtReif, &[0, 1, 0], false),
+    (ConstraintKind::BoolNot, &[0, 1], true),
+    (ConstraintKind::BoolNot, &[1, 1], false),
+    (ConstraintKind::BoolAnd, &[1, 1, 1], true),
+    (ConstraintKind::BoolAnd, &[1, 0, 1], false),
+    (ConstraintKind::BoolOr, &[0, 1, 1], true),
+    (ConstraintKind::BoolOr, &[0, 0, 1], false),
+    (ConstraintKind::BoolXor, &[1, 0, 1], true),
+    (ConstraintKind::BoolXor, &[1, 1, 1], false),
+    (ConstraintKind::BoolXor, &[1, 0], true),
+    (ConstraintKind::BoolXor, &[0, 0], false),
+    (ConstraintKind::Bool2int, &[1, 1], true),
+    (ConstraintKind::Bool2int, &[0, 1], false),
 ];
 
 #[test]
@@ -184,31 +188,85 @@ fn booleans(rt: HostRuntime) {
 }
 
 /// A constraint, the values of its arguments and of both lists, and whether it holds.
-type Listed = (Kind, &'static [i64], &'static [i64], &'static [i64], bool);
+type Listed = (
+    ConstraintKind,
+    &'static [i64],
+    &'static [i64],
+    &'static [i64],
+    bool,
+);
 
 const LISTS: &[Listed] = &[
-    (Kind::BoolClause, &[], &[0], &[0], true),
-    (Kind::BoolClause, &[], &[0], &[1], false),
-    (Kind::BoolClause, &[], &[], &[], false),
-    (Kind::BoolClauseReif, &[0], &[0], &[1], true),
-    (Kind::BoolClauseReif, &[0], &[0, 1], &[1], false),
-    (Kind::ArrayBoolAnd, &[1], &[], &[], true),
-    (Kind::ArrayBoolAnd, &[0], &[1, 1], &[], false),
-    (Kind::ArrayBoolOr, &[0], &[], &[], true),
-    (Kind::ArrayBoolOr, &[1], &[0, 0], &[], false),
-    (Kind::ArrayBoolXor, &[], &[1, 0], &[], true),
-    (Kind::ArrayBoolXor, &[], &[], &[], false),
-    (Kind::ArrayIntElement, &[1, 5], &[5], &[], true),
-    (Kind::ArrayIntElement, &[0, 5], &[5], &[], false),
-    (Kind::ArrayVarIntElement, &[2, 7], &[5, 7], &[], true),
-    (Kind::ArrayVarIntElement, &[3, 7], &[5, 7], &[], false),
-    (Kind::ArrayBoolElement, &[2, 0], &[1, 0], &[], true),
-    (Kind::ArrayBoolElement, &[1, 0], &[1, 0], &[], false),
-    (Kind::ArrayVarBoolElement, &[1, 1], &[1, 0], &[], true),
-    (Kind::ArrayVarBoolElement, &[-1, 1], &[1], &[], false),
-    (Kind::FznAllDifferentInt, &[], &[], &[], true),
-    (Kind::FznAllDifferentInt, &[], &[3, 1, 2], &[], true),
-    (Kind::FznAllDifferentInt, &[], &[3, 1, 3], &[], false),
+    (ConstraintKind::BoolClause, &[], &[0], &[0], true),
+    (ConstraintKind::BoolClause, &[], &[0], &[1], false),
+    (ConstraintKind::BoolClause, &[], &[], &[], false),
+    (ConstraintKind::BoolClauseReif, &[0], &[0], &[1], true),
+    (ConstraintKind::BoolClauseReif, &[0], &[0, 1], &[1], false),
+    (ConstraintKind::ArrayBoolAnd, &[1], &[], &[], true),
+    (ConstraintKind::ArrayBoolAnd, &[0], &[1, 1], &[], false),
+    (ConstraintKind::ArrayBoolOr, &[0], &[], &[], true),
+    (ConstraintKind::ArrayBoolOr, &[1], &[0, 0], &[], false),
+    (ConstraintKind::ArrayBoolXor, &[], &[1, 0], &[], true),
+    (ConstraintKind::ArrayBoolXor, &[], &[], &[], false),
+    (ConstraintKind::ArrayIntElement, &[1, 5], &[5], &[], true),
+    (ConstraintKind::ArrayIntElement, &[0, 5], &[5], &[], false),
+    (
+        ConstraintKind::ArrayVarIntElement,
+        &[2, 7],
+        &[5, 7],
+        &[],
+        true,
+    ),
+    (
+        ConstraintKind::ArrayVarIntElement,
+        &[3, 7],
+        &[5, 7],
+        &[],
+        false,
+    ),
+    (
+        ConstraintKind::ArrayBoolElement,
+        &[2, 0],
+        &[1, 0],
+        &[],
+        true,
+    ),
+    (
+        ConstraintKind::ArrayBoolElement,
+        &[1, 0],
+        &[1, 0],
+        &[],
+        false,
+    ),
+    (
+        ConstraintKind::ArrayVarBoolElement,
+        &[1, 1],
+        &[1, 0],
+        &[],
+        true,
+    ),
+    (
+        ConstraintKind::ArrayVarBoolElement,
+        &[-1, 1],
+        &[1],
+        &[],
+        false,
+    ),
+    (ConstraintKind::FznAllDifferentInt, &[], &[], &[], true),
+    (
+        ConstraintKind::FznAllDifferentInt,
+        &[],
+        &[3, 1, 2],
+        &[],
+        true,
+    ),
+    (
+        ConstraintKind::FznAllDifferentInt,
+        &[],
+        &[3, 1, 3],
+        &[],
+        false,
+    ),
 ];
 
 #[test]
@@ -220,14 +278,20 @@ fn lists(rt: HostRuntime) {
 
 #[test]
 fn names_and_shapes(rt: HostRuntime) {
-    assert_eq!(rt; Kind::from_name(b"bool2int"), Some(Kind::Bool2int));
-    assert_eq!(rt; Kind::from_name(b"set_in_reif"), Some(Kind::SetInReif));
-    assert_eq!(rt; Kind::from_name(b"int_lin_eq"), None);
     assert_eq!(rt;
-        Kind::ArrayVarIntElement.name(),
+        ConstraintKind::from_name(b"bool2int"),
+        Some(ConstraintKind::Bool2int)
+    );
+    assert_eq!(rt;
+        ConstraintKind::from_name(b"set_in_reif"),
+        Some(ConstraintKind::SetInReif)
+    );
+    assert_eq!(rt; ConstraintKind::from_name(b"int_lin_eq"), None);
+    assert_eq!(rt;
+        ConstraintKind::ArrayVarIntElement.name(),
         b"array_var_int_element".as_slice()
     );
-    assert!(rt; shape_ok(Kind::BoolClauseReif, 1, 2, 3));
-    assert!(rt; !shape_ok(Kind::BoolClauseReif, 0, 2, 3));
-    assert!(rt; !shape_ok(Kind::BoolXor, 4, 0, 0));
+    assert!(rt; shape_ok(ConstraintKind::BoolClauseReif, 1, 2, 3));
+    assert!(rt; !shape_ok(ConstraintKind::BoolClauseReif, 0, 2, 3));
+    assert!(rt; !shape_ok(ConstraintKind::BoolXor, 4, 0, 0));
 }

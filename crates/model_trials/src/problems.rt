@@ -5,7 +5,7 @@ ghost use Rattle.dcsp_meaning.specs.Table.{is_shape};
 ghost use Rattle.dcsp_rule.specs.Rules.{IsTermOf, has_shape, terms_of};
 
 use dcsp_problem::{
-    Aim, BuildError, Domain, IntList, Kind, Lookup, Members, NameText, Output, Problem,
+    Aim, BuildError, ConstraintKind, Domain, IntList, Lookup, Members, NameText, Output, Problem,
     ProblemBuilder, RangeList, Rel, Rule, Shape, Term, TermList, Which,
 };
 use std::alloc::Global;
@@ -54,7 +54,7 @@ fn add_pair(
     rt: &impl Abort,
     builder: &mut ProblemBuilder,
     alloc: Global,
-    kind: Kind,
+    kind: ConstraintKind,
     left: Term,
     right: Term,
 )
@@ -78,9 +78,23 @@ fn smallest(rt: &impl Abort, alloc: Global) -> Problem {
     let mut builder = two_variables(rt, alloc, 1);
     let (first, second) = (Term::Var(0), Term::Var(1));
     let (three, two) = (Term::Const(3), Term::Const(2));
-    add_pair(rt, &mut builder, alloc, Kind::IntNe, second, first);
-    add_pair(rt, &mut builder, alloc, Kind::IntEq, first, second);
-    add_pair(rt, &mut builder, alloc, Kind::IntEq, three, two);
+    add_pair(
+        rt,
+        &mut builder,
+        alloc,
+        ConstraintKind::IntNe,
+        second,
+        first,
+    );
+    add_pair(
+        rt,
+        &mut builder,
+        alloc,
+        ConstraintKind::IntEq,
+        first,
+        second,
+    );
+    add_pair(rt, &mut builder, alloc, ConstraintKind::IntEq, three, two);
     builder.finish().expect(rt, "memory")
 }
 
@@ -137,7 +151,7 @@ fn tells_scopes_and_owners(rt: HostRuntime) {
 }
 
 /// The kind of a rule that is no sum.
-fn kind_of(rule: &Rule) -> Option<Kind> {
+fn kind_of(rule: &Rule) -> Option<ConstraintKind> {
     match rule {
         Rule::Plain { kind, .. } => Some(*kind),
         Rule::Sum { .. } => None,
@@ -150,7 +164,7 @@ fn tells_variables_and_rules(rt: HostRuntime) {
     assert!(rt; problem.vars() == 2);
     assert!(rt; problem.rules() == 3);
     assert_eq!(rt; problem.domain(1).len(), 2);
-    assert_eq!(rt; kind_of(problem.rule(0)), Some(Kind::IntNe));
+    assert_eq!(rt; kind_of(problem.rule(0)), Some(ConstraintKind::IntNe));
     let_go(problem);
 }
 
@@ -167,10 +181,24 @@ fn three_variables(rt: &impl Abort, alloc: Global) -> ProblemBuilder
 fn triangle(rt: &impl Abort, alloc: Global) -> Problem {
     let mut builder = three_variables(rt, alloc);
     let (first, second, third) = (Term::Var(0), Term::Var(1), Term::Var(2));
-    add_pair(rt, &mut builder, alloc, Kind::IntNe, third, first);
-    add_pair(rt, &mut builder, alloc, Kind::IntNe, first, second);
-    add_pair(rt, &mut builder, alloc, Kind::IntLe, first, third);
-    add_pair(rt, &mut builder, alloc, Kind::IntNe, second, third);
+    add_pair(rt, &mut builder, alloc, ConstraintKind::IntNe, third, first);
+    add_pair(
+        rt,
+        &mut builder,
+        alloc,
+        ConstraintKind::IntNe,
+        first,
+        second,
+    );
+    add_pair(rt, &mut builder, alloc, ConstraintKind::IntLe, first, third);
+    add_pair(
+        rt,
+        &mut builder,
+        alloc,
+        ConstraintKind::IntNe,
+        second,
+        third,
+    );
     builder.set_aim(Aim::Least(third));
     builder.finish().expect(rt, "memory")
 }
@@ -196,8 +224,8 @@ fn constants(rt: &impl Abort, alloc: Global) -> Problem
 {
     let mut builder = ProblemBuilder::new(alloc);
     let (three, two) = (Term::Const(3), Term::Const(2));
-    add_pair(rt, &mut builder, alloc, Kind::IntEq, three, two);
-    add_pair(rt, &mut builder, alloc, Kind::IntNe, three, two);
+    add_pair(rt, &mut builder, alloc, ConstraintKind::IntEq, three, two);
+    add_pair(rt, &mut builder, alloc, ConstraintKind::IntNe, three, two);
     builder.finish().expect(rt, "memory")
 }
 
@@ -268,7 +296,7 @@ fn add_set(rt: &impl Abort, builder: &mut ProblemBuilder, alloc: Global, members
     ensures { builder.new.domains ≡ builder.old.domains }
 {
     let rule = Rule::Plain {
-        kind: Kind::SetIn,
+        kind: ConstraintKind::SetIn,
         scalars: terms(rt, alloc, &[Term::Var(0)]),
         first: TermList::new(alloc),
         second: TermList::new(alloc),
@@ -351,7 +379,7 @@ fn takes_the_widest_sum(rt: HostRuntime) {
 fn add_listed(rt: &impl Abort, alloc: Global, often: usize) -> Result<u32, BuildError> {
     let listed = vec![in alloc; 7; often].expect(rt, "memory");
     let rule = Rule::Plain {
-        kind: Kind::SetIn,
+        kind: ConstraintKind::SetIn,
         scalars: terms(rt, alloc, &[Term::Const(7)]),
         first: TermList::new(alloc),
         second: TermList::new(alloc),

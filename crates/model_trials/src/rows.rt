@@ -7,7 +7,7 @@ ghost use Rattle.dcsp_row.specs.Marks.{FitsSize};
 use crate::problems::let_go;
 use dcsp_meaning::Rel;
 use dcsp_problem::{
-    Domain, IntList, Kind, Lookup, Members, Problem, ProblemBuilder, Rule, Term, TermList,
+    ConstraintKind, Domain, IntList, Lookup, Members, Problem, ProblemBuilder, Rule, Term, TermList,
 };
 use dcsp_row::{Marks, OpenVariable, Row, Span, fill_row, has_span, span_of};
 use std::alloc::Global;
@@ -26,7 +26,7 @@ impl Lookup for Nothing {
 }
 
 /// A comparison of the variable with a number.
-fn compared(rt: &impl Abort, alloc: Global, kind: Kind, number: i64) -> Rule
+fn compared(rt: &impl Abort, alloc: Global, kind: ConstraintKind, number: i64) -> Rule
     ensures { result ≡ Rule.Plain kind (Term.Var 0 ∷ Term.Const number ∷ []) [] [] (Members.Listed []) }
 {
     let terms = vec![in alloc; Term::Var(0), Term::Const(number)];
@@ -130,11 +130,11 @@ fn expect_ruled_out(rt: &impl Abort, alloc: Global, rule: Rule, ruled_out: &[i64
 #[test]
 fn rows_of_comparisons(rt: HostRuntime) {
     let alloc = rt.alloc();
-    let rule = compared(&rt, alloc, Kind::IntNe, 65);
+    let rule = compared(&rt, alloc, ConstraintKind::IntNe, 65);
     expect_ruled_out(&rt, alloc, rule, &[65]);
-    let rule = compared(&rt, alloc, Kind::IntLe, 68);
+    let rule = compared(&rt, alloc, ConstraintKind::IntLe, 68);
     expect_ruled_out(&rt, alloc, rule, &[69, 70]);
-    let rule = compared(&rt, alloc, Kind::IntLt, 70);
+    let rule = compared(&rt, alloc, ConstraintKind::IntLt, 70);
     expect_ruled_out(&rt, alloc, rule, &[70]);
 }
 

@@ -7,7 +7,7 @@ use crate::networks::{delivered, end, started};
 use crate::plain::{Delivered, Plain};
 use abt_network::{Delivery, Network, Standing, Step};
 use abt_schedule::{Choices, Seeded};
-use dcsp_problem::{Kind, Problem, ProblemBuilder};
+use dcsp_problem::{ConstraintKind, Problem, ProblemBuilder};
 use std::alloc::Global;
 use std::process::Abort;
 
@@ -45,11 +45,11 @@ fn compare(
     ensures { builder.new.domains ≡ builder.old.domains }
 {
     match drawn {
-        0 => add_comparison(rt, alloc, builder, Kind::IntEq, first, second),
-        1 => add_comparison(rt, alloc, builder, Kind::IntLe, first, second),
-        2 => add_comparison(rt, alloc, builder, Kind::IntLt, first, second),
+        0 => add_comparison(rt, alloc, builder, ConstraintKind::IntEq, first, second),
+        1 => add_comparison(rt, alloc, builder, ConstraintKind::IntLe, first, second),
+        2 => add_comparison(rt, alloc, builder, ConstraintKind::IntLt, first, second),
         3 => {}
-        _ => add_comparison(rt, alloc, builder, Kind::IntNe, first, second),
+        _ => add_comparison(rt, alloc, builder, ConstraintKind::IntNe, first, second),
     }
 }
 

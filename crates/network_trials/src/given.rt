@@ -3,7 +3,9 @@
 ghost use Rattle.std.specs.Prelude.{◌≡◌, ◌<◌, ◌+◌, ◌∷◌, [], length, IsTrue};
 ghost use Rattle.dcsp_rule.specs.Rules.{has_shape};
 
-use dcsp_problem::{Domain, IntList, Kind, Members, Problem, ProblemBuilder, Rule, Term, TermList};
+use dcsp_problem::{
+    ConstraintKind, Domain, IntList, Members, Problem, ProblemBuilder, Rule, Term, TermList,
+};
 use std::alloc::Global;
 use std::process::Abort;
 
@@ -12,7 +14,7 @@ use std::process::Abort;
 pub fn let_go(_problem: Problem) {}
 
 /// A comparison of two variables.
-fn comparison(rt: &impl Abort, alloc: Global, kind: Kind, first: u32, second: u32) -> Rule
+fn comparison(rt: &impl Abort, alloc: Global, kind: ConstraintKind, first: u32, second: u32) -> Rule
     ensures { result ≡ Rule.Plain kind (Term.Var first ∷ Term.Var second ∷ []) [] [] (Members.Listed []) }
 {
     let terms = vec![in alloc; Term::Var(first), Term::Var(second)];
@@ -30,7 +32,7 @@ pub fn add_comparison(
     rt: &impl Abort,
     alloc: Global,
     builder: &mut ProblemBuilder,
-    kind: Kind,
+    kind: ConstraintKind,
     first: u32,
     second: u32,
 )
@@ -64,8 +66,8 @@ pub fn torn(rt: &impl Abort, alloc: Global) -> Problem
     let mut builder = ProblemBuilder::new(alloc);
     add_variable(rt, alloc, &mut builder, 0, 1);
     add_variable(rt, alloc, &mut builder, 0, 1);
-    add_comparison(rt, alloc, &mut builder, Kind::IntNe, 0, 1);
-    add_comparison(rt, alloc, &mut builder, Kind::IntEq, 0, 1);
+    add_comparison(rt, alloc, &mut builder, ConstraintKind::IntNe, 0, 1);
+    add_comparison(rt, alloc, &mut builder, ConstraintKind::IntEq, 0, 1);
     builder.finish().expect(rt, "memory")
 }
 
@@ -95,7 +97,14 @@ pub fn apart(
         let (first, second) = *pair;
         assert!(rt; first < 3);
         assert!(rt; second < 3);
-        add_comparison(rt, alloc, &mut builder, Kind::IntNe, first, second);
+        add_comparison(
+            rt,
+            alloc,
+            &mut builder,
+            ConstraintKind::IntNe,
+            first,
+            second,
+        );
     }
     builder.finish().expect(rt, "memory")
 }

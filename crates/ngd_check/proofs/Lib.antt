@@ -10,3 +10,6 @@ pub mod Rooms
 pub mod Steps
 pub mod Taking
 pub mod Zips
+pub mod Domains
+pub mod Lengths
+pub mod Writable

@@ -5,3 +5,4 @@ pub mod Places
 pub mod Progress
 pub mod Rooms
 pub mod Tables
+pub mod Logged

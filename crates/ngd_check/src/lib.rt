@@ -7,8 +7,10 @@ mod cites;
 mod freed;
 mod given;
 mod kept;
+mod logs;
 mod places;
 mod present;
+mod small;
 mod step;
 
 ghost use Rattle.std.specs.Prelude.{◌≡◌, ◌↔◌, IsTrue, List};
@@ -23,7 +25,9 @@ ghost use Rattle.dcsp_defs.specs.declared.entry.Entry.{Entry};
 pub use checker::Checker;
 use cites::NogoodsOf;
 use dcsp_problem::Problem;
+pub use logs::derivations_have_logs;
 use ngd_log::{Derivation, Step};
+pub use small::problems_are_small;
 use step::is_right;
 
 /// What a check finds.

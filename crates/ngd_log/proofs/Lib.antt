@@ -21,3 +21,4 @@ pub mod Fed
 pub mod OneAnswer
 pub mod Joined
 pub mod Decimals
+pub mod Digits

@@ -14,8 +14,8 @@ use Rattle.ngd_log.specs.declared.standing.Standing.{Standing}
 use Rattle.ngd_log.specs.declared.standing.Standing.TheVariants.{Start, Inside, Ended, Refused}
 use Rattle.ngd_log.specs.Lines.{HasNoLineFeed, IsLine}
 use Rattle.ngd_log.specs.Entries.{steps_of}
-use Rattle.ngd_log.specs.declared.standing.Kind.{Kind}
-use Rattle.ngd_log.specs.declared.standing.Kind.TheVariants as kinds
+use Rattle.ngd_log.specs.declared.standing.EntryKind.{EntryKind}
+use Rattle.ngd_log.specs.declared.standing.EntryKind.TheVariants as kinds
 use Rattle.ngd_log.specs.declared.reader.Gathered.{Gathered}
 use Rattle.ngd_log.specs.EntryTexts.{next_number, head, entries_text, IsEntryLine, IsWritableEntry}
 use Rattle.ngd_log.specs.Lent.{entry_in, RisesIn}
@@ -126,7 +126,7 @@ after_entry place next line entry xs ys read more same_version same_step same_li
 }
 
 -- the line of an entry that was read
-pub after_kind : (place next : Place) (line : List ℕ) (kind : Kind) (g : Gathered) → entry_of place.version place.step line ≡ Some (entry_in kind g) → IsNextPlace place kind next → Follows (Inside place) (Inside next) line [] (entry_in kind g ∷ [])
+pub after_kind : (place next : Place) (line : List ℕ) (kind : EntryKind) (g : Gathered) → entry_of place.version place.step line ≡ Some (entry_in kind g) → IsNextPlace place kind next → Follows (Inside place) (Inside next) line [] (entry_in kind g ∷ [])
 after_kind place next line kinds.Step g read n = after_entry place next line (entry_in kinds.Step g) [] (entry_in kinds.Step g ∷ []) read refl n.version n.step n.line
 after_kind place next line kinds.Delete g read n = after_entry place next line (entry_in kinds.Delete g) [] (entry_in kinds.Delete g ∷ []) read refl n.version n.step n.line
 

@@ -4,9 +4,9 @@ use Rattle.std.specs.List.{AllByRecursion, concat}
 use Rattle.dcsp_defs.specs.declared.entry.Entry.{Entry}
 use Rattle.ngd_log.specs.declared.log.LogError.{LogError}
 use Rattle.ngd_log.specs.declared.log.LogError.TheVariants.{Line, Memory}
-use Rattle.ngd_log.specs.declared.body.Body.{Body}
+use Rattle.ngd_log.specs.declared.body.ReaderBody.{ReaderBody}
 use Rattle.ngd_log.specs.declared.standing.Version.{Version}
-use Rattle.ngd_log.specs.declared.standing.Kind.{Kind}
+use Rattle.ngd_log.specs.declared.standing.EntryKind.{EntryKind}
 use Rattle.ngd_log.specs.declared.standing.Place.{Place}
 use Rattle.ngd_log.specs.declared.standing.Standing.{Standing}
 use Rattle.ngd_log.specs.declared.standing.Standing.TheVariants.{Start, Inside, Ended, Refused}
@@ -28,7 +28,7 @@ pub record Kept : Type 0 where
   pub lent : List Entry
 
 -- the same, of the reader's fields
-abbrev pub kept : Body → Kept
+abbrev pub kept : ReaderBody → Kept
 kept body = record { standing = body.standing; part = body.part.items; fed = body.fed; lent = lent_in body.kind body.gathered }
 
 -- the refusal that stands
@@ -149,7 +149,7 @@ pub record IsLentAlone (old new : Kept) : Type 0 where
   pub whole : new.lent ≢ [] → new.part ≡ []
 
 -- the place after the line of an entry of this kind
-pub record IsNextPlace (place : Place) (kind : Kind) (next : Place) : Type 0 where
+pub record IsNextPlace (place : Place) (kind : EntryKind) (next : Place) : Type 0 where
   pub version : next.version ≡ place.version
   pub step : next.step ≡ (if is_step kind then place.step + 1 else place.step)
   pub line : next.line ≡ place.line + 1

@@ -11,14 +11,14 @@ use crate::deletion::HEAD2;
 use crate::entry_reader::{owned_entry, read_entry};
 use crate::log::{LogError, split_line};
 use crate::reader::{Gathered, LineError};
-use crate::standing::{Kind, Place, Standing, Version};
+use crate::standing::{EntryKind, Place, Standing, Version};
 use crate::writer::{HEAD, TAIL};
 use dcsp_common::Memory;
 use dcsp_defs::Entries;
 
 /// What a reader of a log keeps.
 #[derive(Drop)]
-pub struct Body {
+pub struct ReaderBody {
     /// Where it stands after the whole lines.
     pub standing: Standing,
     /// The bytes of the line at hand.
@@ -26,7 +26,7 @@ pub struct Body {
     /// The number of bytes that it was fed.
     pub fed: u64,
     /// What the line read last is, where it is the line of an entry.
-    pub kind: Option<Kind>,
+    pub kind: Option<EntryKind>,
     /// What the line read last says.
     pub gathered: Gathered,
 }
@@ -35,7 +35,7 @@ pub struct Body {
 #[derive(Clone, Copy)]
 struct After {
     standing: Standing,
-    kind: Option<Kind>,
+    kind: Option<EntryKind>,
 }
 
 /// The version of a log with this first line.
@@ -68,13 +68,13 @@ fn after_head(line: &[u8]) -> Standing
 }
 
 /// After the line of an entry of this kind.
-fn after_entry(place: Place, kind: Kind) -> Place
+fn after_entry(place: Place, kind: EntryKind) -> Place
     requires { IsWithin (Standing.Inside place) (2 ^ 63) }
     ensures { IsNextPlace place kind result }
 {
     let step = match kind {
-        Kind::Step => place.step + 1,
-        Kind::Delete => place.step,
+        EntryKind::Step => place.step + 1,
+        EntryKind::Delete => place.step,
     };
     Place {
         version: place.version,
@@ -139,7 +139,7 @@ fn after_line(gathered: &mut Gathered, standing: Standing, line: &[u8]) -> After
 }
 
 /// Takes a piece that ends with its only line feed, and lends what it is the line of.
-pub fn take_line(body: &mut Body, line: &[u8])
+pub fn take_line(body: &mut ReaderBody, line: &[u8])
     requires whole { IsLine line.now }
     requires sound { IsSound (kept body.old) }
     requires room { body.old.fed + length line.now ≤ 2 ^ 63 }
@@ -172,7 +172,7 @@ pub fn take_line(body: &mut Body, line: &[u8])
 }
 
 /// Takes a piece without a line feed.
-pub fn take_part(body: &mut Body, part: &[u8])
+pub fn take_part(body: &mut ReaderBody, part: &[u8])
     requires plain { HasNoLineFeed part.now }
     requires sound { IsSound (kept body.old) }
     requires room { body.old.fed + length part.now ≤ 2 ^ 63 }
@@ -199,7 +199,7 @@ pub fn take_part(body: &mut Body, part: &[u8])
 }
 
 /// Appends what is lent, in lists of its own.
-fn append_lent(body: &Body, into: &mut Entries) -> Result<(), Memory>
+fn append_lent(body: &ReaderBody, into: &mut Entries) -> Result<(), Memory>
     ensures ok { OnOk result (into.new ≡ into.old ++ (kept body.now).lent) }
     ensures err { OnErr result (into.new ≡ into.old) }
     ensures some { OnErr result ((kept body.now).lent ≢ []) }
@@ -216,7 +216,7 @@ fn append_lent(body: &Body, into: &mut Entries) -> Result<(), Memory>
 }
 
 /// Takes a piece that ends with its only line feed. Its entry, if it is the line of one, is appended.
-fn append_line(body: &mut Body, line: &[u8], into: &mut Entries)
+fn append_line(body: &mut ReaderBody, line: &[u8], into: &mut Entries)
     requires whole { IsLine line.now }
     requires sound { IsSound (kept body.old) }
     requires room { body.old.fed + length line.now ≤ 2 ^ 63 }
@@ -231,7 +231,7 @@ fn append_line(body: &mut Body, line: &[u8], into: &mut Entries)
 }
 
 /// Takes a piece. The entries of the lines that it completes are appended.
-pub fn take_piece(body: &mut Body, piece: &[u8], into: &mut Entries)
+pub fn take_piece(body: &mut ReaderBody, piece: &[u8], into: &mut Entries)
     requires sound { IsSound (kept body.old) }
     requires room { body.old.fed + length piece.now ≤ 2 ^ 63 }
     ensures feeds { Feeds (kept body.old) (kept body.new) piece.now into.old into.new }

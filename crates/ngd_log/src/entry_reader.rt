@@ -6,7 +6,7 @@ ghost use Rattle.ngd_log.specs.Lent.{entry_in};
 
 use crate::field::{after, step_number_at};
 use crate::reader::{Gathered, LineError, is_line_feed, owned_step, step_of};
-use crate::standing::{Kind, Version};
+use crate::standing::{EntryKind, Version};
 use dcsp_common::Memory;
 use dcsp_defs::{Entry, NumberList};
 use std::alloc::Global;
@@ -61,11 +61,11 @@ fn deletion_at(numbers: &mut Vec<u64>, bytes: &[u8]) -> Result<(), LineError>
 
 /// Reads the step of a whole line, which has this number.
 #[tactic(auto, unfolding(crate::specs::EntryReading::step_entry))]
-fn step_entry(gathered: &mut Gathered, number: u64, line: &[u8]) -> Result<Kind, LineError>
+fn step_entry(gathered: &mut Gathered, number: u64, line: &[u8]) -> Result<EntryKind, LineError>
     ensures { Gives (λ kind. entry_in kind gathered.new) result (step_entry number line.now) }
 {
     step_of(gathered, number, line)?;
-    Ok(Kind::Step)
+    Ok(EntryKind::Step)
 }
 
 /// Reads the entry of a whole line in a log of this version, where the next step has this number.
@@ -75,7 +75,7 @@ pub(crate) fn read_entry(
     version: Version,
     number: u64,
     line: &[u8],
-) -> Result<Kind, LineError>
+) -> Result<EntryKind, LineError>
     ensures { Gives (λ kind. entry_in kind gathered.new) result (entry_of version number line.now) }
 {
     match version {
@@ -83,7 +83,7 @@ pub(crate) fn read_entry(
         Version::Two => match after(b"d", line) {
             Some(rest) => {
                 deletion_at(&mut gathered.numbers, rest)?;
-                Ok(Kind::Delete)
+                Ok(EntryKind::Delete)
             }
             None => step_entry(gathered, number, line),
         },
@@ -91,15 +91,19 @@ pub(crate) fn read_entry(
 }
 
 /// The entry that was read, in lists of its own.
-pub(crate) fn owned_entry(alloc: Global, kind: Kind, gathered: &Gathered) -> Result<Entry, Memory>
+pub(crate) fn owned_entry(
+    alloc: Global,
+    kind: EntryKind,
+    gathered: &Gathered,
+) -> Result<Entry, Memory>
     ensures { IfOk result (λ entry. entry ≡ entry_in kind gathered.now) }
 {
     match kind {
-        Kind::Step => match owned_step(alloc, gathered) {
+        EntryKind::Step => match owned_step(alloc, gathered) {
             Ok(step) => Ok(Entry::Step(step)),
             Err(_) => Err(Memory),
         },
-        Kind::Delete => match Vec::from_slice(alloc, &gathered.numbers) {
+        EntryKind::Delete => match Vec::from_slice(alloc, &gathered.numbers) {
             Ok(numbers) => Ok(Entry::Delete(NumberList::from_vec(numbers))),
             Err(_) => Err(Memory),
         },

@@ -16,6 +16,7 @@ mod entry_reader;
 mod field;
 mod log;
 mod pieces;
+mod place;
 mod reader;
 mod standing;
 mod writer;

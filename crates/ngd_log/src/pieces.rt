@@ -6,10 +6,10 @@ ghost use Rattle.ngd_log.specs.EntryReading.{good_entries};
 ghost use Rattle.ngd_log.specs.Pieces.{refusal_of, Tells, joined, IsFed, TakesFront, Completes, IsRefused, GoodLines};
 ghost use Rattle.ngd_log.specs.Lent.{lent_entries};
 
-use crate::body::{Body, take_line, take_part, take_piece};
+use crate::body::{ReaderBody, take_line, take_part, take_piece};
 use crate::log::{LogError, split_line};
 use crate::reader::Gathered;
-use crate::standing::{Kind, Standing};
+use crate::standing::{EntryKind, Standing};
 use dcsp_common::Memory;
 use dcsp_defs::{Entries, Lent, LentStep};
 use std::alloc::Global;
@@ -21,7 +21,7 @@ use std::marker::Model;
 /// last, which it lends and whose lists it uses again. It keeps the allocator that it was made with.
 #[derive(Drop)]
 pub struct LogReader {
-    body: Body,
+    body: ReaderBody,
 }
 
 impl Model for LogReader {
@@ -40,7 +40,7 @@ impl LogReader {
         ensures { IsFed result [] }
     {
         LogReader {
-            body: Body {
+            body: ReaderBody {
                 standing: Standing::Start,
                 part: Vec::new(alloc),
                 fed: 0,
@@ -105,12 +105,12 @@ impl LogReader {
             return None;
         };
         match kind {
-            Kind::Step => Some(Lent::Step(LentStep {
+            EntryKind::Step => Some(Lent::Step(LentStep {
                 variable: gathered.variable,
                 pairs: &gathered.pairs,
                 reasons: &gathered.reasons,
             })),
-            Kind::Delete => Some(Lent::Delete(&gathered.numbers)),
+            EntryKind::Delete => Some(Lent::Delete(&gathered.numbers)),
         }
     }
 

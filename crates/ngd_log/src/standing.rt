@@ -17,7 +17,7 @@ pub enum Version {
 
 /// What an entry is.
 #[derive(Clone, Copy, Debug, PartialEq, Eq)]
-pub enum Kind {
+pub enum EntryKind {
     /// A step.
     Step,
     /// A deletion.

@@ -4,6 +4,7 @@ use Rattle.std.specs.Prelude.{IsSomeAnd}
 use Rattle.std.specs.List.{AllZip}
 use Rattle.std.proofs.lemmas.Bool.{eqb-true, eq-eqb}
 use Rattle.std.proofs.lemmas.List.{length-map, take_all}
+use Rattle.dcsp_common.proofs.Items.{get_front}
 use Rattle.dcsp_defs.specs.declared.Reason.{Reason}
 use Rattle.dcsp_defs.specs.declared.Reason.TheVariants.{Rule, Earlier}
 use Rattle.dcsp_defs.specs.declared.Step.{Step}
@@ -81,14 +82,9 @@ at_place [] k l = absurd (omega arith)
 at_place (x ∷ xs) zero l = (x, refl)
 at_place (x ∷ xs) (suc k) l = at_place xs k (omega arith)
 
-get_left : {X : Type 0} (xs ys : List X) (k : ℕ) (x : X) → slice_get xs k ≡ Some x → slice_get (xs ++ ys) k ≡ Some x
-get_left [] ys k x h = cc
-get_left (z ∷ xs) ys zero x h = h
-get_left (z ∷ xs) ys (suc k) x h = get_left xs ys k x h
-
 at_left : (xs ys : List Step) (n : ℕ) (s : Step) → step_at xs n ≡ Some s → step_at (xs ++ ys) n ≡ Some s
 at_left xs ys zero s h = cc
-at_left xs ys (suc k) s h = get_left xs ys k s h
+at_left xs ys (suc k) s h = get_front xs ys k s h
 
 some_and : {X : Type 0} → (P : X → Type 0) (o : Option X) → IsSomeAnd o P → (x : X) × (o ≡ Some x) × P x
 some_and P None h = absurd h

@@ -1,6 +1,6 @@
 //! Texts and their answers.
 
-use dcsp_problem::{Aim, Kind, Problem, Rel, Rule, Shape, Term, Which};
+use dcsp_problem::{Aim, ConstraintKind, Problem, Rel, Rule, Shape, Term, Which};
 use fzn_model::{ModelError, problem_of};
 use itoa::Buffer;
 use std::alloc::Global;
@@ -392,7 +392,7 @@ fn expect_terms(rt: &impl Abort, found: &[Term], terms: &[Term]) {
 }
 
 /// The rule is no sum: it has this kind and these terms.
-fn expect_plain(rt: &impl Abort, rule: &Rule, expected: Kind, terms: &[Term]) {
+fn expect_plain(rt: &impl Abort, rule: &Rule, expected: ConstraintKind, terms: &[Term]) {
     match rule {
         Rule::Plain { kind, scalars, .. } => {
             assert!(rt; *kind == expected);
@@ -427,12 +427,22 @@ fn keeps_the_order_of_rules(rt: HostRuntime) {
     let problem = problem_in(&rt, rt.alloc(), PARAMETERS);
     assert_eq!(rt; problem.rules(), 4);
     let rule = rule_at(&rt, &problem, 0);
-    expect_plain(&rt, rule, Kind::IntEq, &[Term::Var(1), Term::Const(7)]);
+    expect_plain(
+        &rt,
+        rule,
+        ConstraintKind::IntEq,
+        &[Term::Var(1), Term::Const(7)],
+    );
     let rule = rule_at(&rt, &problem, 1);
-    expect_plain(&rt, rule, Kind::SetIn, &[Term::Var(0)]);
+    expect_plain(&rt, rule, ConstraintKind::SetIn, &[Term::Var(0)]);
     expect_equation(&rt, rule_at(&rt, &problem, 2));
     let rule = rule_at(&rt, &problem, 3);
-    expect_plain(&rt, rule, Kind::IntLe, &[Term::Var(1), Term::Const(16)]);
+    expect_plain(
+        &rt,
+        rule,
+        ConstraintKind::IntLe,
+        &[Term::Var(1), Term::Const(16)],
+    );
 }
 
 #[test]

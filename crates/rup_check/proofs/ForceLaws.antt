@@ -5,13 +5,13 @@ use Rattle.rup_check.specs.Assignments.{flipped, Has, IsAssignment}
 use Rattle.rup_check.specs.Sets.{IsFinished, IsEnd}
 use Rattle.rup_check.specs.Looks.{IsQuiet, IsOpen}
 use Rattle.rup_check.specs.Watches.{IsPairOf, IsSettled, IsState, HasOneOf, Covers, IsClean, IsEnded, IsRest, no_pair}
-use Rattle.rup_check.specs.declared.watches.Pair.{Pair}
+use Rattle.rup_check.specs.declared.watches.WatchedPair.{WatchedPair}
 use Rattle.rup_check.proofs.StateLaws.{undone, nothing_done}
 use Rattle.rup_check.proofs.PropagationLaws.{true_or_not}
 use Rattle.rup_check.proofs.MarkLaws.{finished_from_index}
 
-module _ (formula : List (List ℕ)) (pairs : List Pair) (lists : List (List ℕ)) (units base : List ℕ) (marks : List Bool) (trail : List ℕ) (s : IsState formula pairs lists units base marks trail) (listed : (x : ℕ) → Has marks x → Contains trail x) (forced : (x : ℕ) → Contains units x → Has marks x) (clean : IsClean marks) where
-  quiet_pair : (clause : List ℕ) (pair : Pair) → IsPairOf clause pair → IsSettled marks trail pair → IsQuiet marks clause
+module _ (formula : List (List ℕ)) (pairs : List WatchedPair) (lists : List (List ℕ)) (units base : List ℕ) (marks : List Bool) (trail : List ℕ) (s : IsState formula pairs lists units base marks trail) (listed : (x : ℕ) → Has marks x → Contains trail x) (forced : (x : ℕ) → Contains units x → Has marks x) (clean : IsClean marks) where
+  quiet_pair : (clause : List ℕ) (pair : WatchedPair) → IsPairOf clause pair → IsSettled marks trail pair → IsQuiet marks clause
   quiet_pair clause pair p t =
       (elim (true_or_not (get_or marks pair.first false)) [
         | inl h ↦ inl (pair.first, p.first, h)
@@ -53,12 +53,12 @@ module _ (formula : List (List ℕ)) (pairs : List Pair) (lists : List (List ℕ
   finished_of_state = finished_from_index formula marks (λ k l. quiet_below (k + 1) k (omega arith) l)
 
 -- the end of the queue
-pub end_of_run : (formula : List (List ℕ)) (units base : List ℕ) (pairs : List Pair) (lists : List (List ℕ)) (marks : List Bool) (trail : List ℕ) (b : Bool) → IsAssignment marks trail → ((x : ℕ) → Contains units x → Has marks x) → IsClean marks → IsEnded formula units base pairs lists marks trail b → IsEnd formula marks b
+pub end_of_run : (formula : List (List ℕ)) (units base : List ℕ) (pairs : List WatchedPair) (lists : List (List ℕ)) (marks : List Bool) (trail : List ℕ) (b : Bool) → IsAssignment marks trail → ((x : ℕ) → Contains units x → Has marks x) → IsClean marks → IsEnded formula units base pairs lists marks trail b → IsEnd formula marks b
 end_of_run formula units base pairs lists marks trail true a forced clean r = r.1
 end_of_run formula units base pairs lists marks trail false a forced clean r = finished_of_state formula pairs lists units base marks trail r a.listed forced clean
 
 -- the rest after the trail was undone
-pub rest_again : (formula : List (List ℕ)) (pairs pairs' : List Pair) (lists lists' : List (List ℕ)) (marks between marks' : List Bool) (trail done trail' : List ℕ) → IsRest formula pairs lists marks trail → IsAssignment marks' trail' → trail' ≡ trail → IsState formula pairs' lists' trail trail between done → IsRest formula pairs' lists' marks' trail'
+pub rest_again : (formula : List (List ℕ)) (pairs pairs' : List WatchedPair) (lists lists' : List (List ℕ)) (marks between marks' : List Bool) (trail done trail' : List ℕ) → IsRest formula pairs lists marks trail → IsAssignment marks' trail' → trail' ≡ trail → IsState formula pairs' lists' trail trail between done → IsRest formula pairs' lists' marks' trail'
 rest_again formula pairs pairs' lists lists' marks between marks' trail done trail' r a e s =
     subst (λ z. IsRest formula pairs' lists' marks' z) (sym e) record {
       assigned = subst (λ z. IsAssignment marks' z) e a;
@@ -68,6 +68,6 @@ rest_again formula pairs pairs' lists lists' marks between marks' trail done tra
       old : (x : ℕ) → Has marks' x → Has marks x
       old x h = r.assigned.marked x (subst (λ z. Contains z x) e (a.listed x h))
 
-pub ended_state : (formula : List (List ℕ)) (units base : List ℕ) (pairs : List Pair) (lists : List (List ℕ)) (marks : List Bool) (trail : List ℕ) (b : Bool) → IsEnded formula units base pairs lists marks trail b → IsState formula pairs lists units base marks []
+pub ended_state : (formula : List (List ℕ)) (units base : List ℕ) (pairs : List WatchedPair) (lists : List (List ℕ)) (marks : List Bool) (trail : List ℕ) (b : Bool) → IsEnded formula units base pairs lists marks trail b → IsState formula pairs lists units base marks []
 ended_state formula units base pairs lists marks trail true r = r.0
 ended_state formula units base pairs lists marks trail false r = nothing_done formula pairs lists units base marks marks trail r r.base_marked

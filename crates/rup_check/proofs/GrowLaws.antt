@@ -9,14 +9,14 @@ use Rattle.rup_check.specs.Assignments.{flipped, Has, IsAssignment, IsSound}
 use Rattle.rup_check.specs.Looks.{IsOpen, IsUnit, OthersFalse}
 use Rattle.rup_check.specs.Sets.{KeepsSound, HasFalse}
 use Rattle.rup_check.specs.Watches.{IsPairOf, IsState, IsKept, NeedsNoWatch, IsCovered, IsCoveredBySome, Covers, IsEntry, IsEnded, IsRest, IsRoot, AreListed, Extends, no_pair}
-use Rattle.rup_check.specs.declared.watches.Pair.{Pair}
+use Rattle.rup_check.specs.declared.watches.WatchedPair.{WatchedPair}
 use Rattle.rup_check.proofs.WatchLaws.{ListsGrow, grown, pushed, grown_cases}
 use Rattle.rup_check.proofs.MarkLaws.{unit_sound, has_kept}
 use Rattle.rup_check.proofs.StateLaws.{covered_on, marked_more, settled_down}
 use Rattle.rup_check.proofs.RunLaws.{contains_front}
 use Rattle.rup_check.proofs.PropagationLaws.{forced_grow, conflicts_grow}
 
-module _ (formula : List (List ℕ)) (pairs : List Pair) (lists lists' : List (List ℕ)) (units units' base : List ℕ) (marks : List Bool) (done : List ℕ) (clause : List ℕ) (p : Pair) (s : IsState formula pairs lists units base marks done) (sized : length lists' ≡ length lists) (lists_grow : ListsGrow lists lists') (units_grow : (x : ℕ) → Contains units x → Contains units' x) (entries' : (x k : ℕ) → Contains (get_or lists' x []) k → Contains (get_or lists x []) k ⊎ ((k ≡ length formula) × IsPairOf clause p)) (here : IsKept lists' base marks done clause p (length formula) ⊎ NeedsNoWatch formula units' clause (length formula)) where
+module _ (formula : List (List ℕ)) (pairs : List WatchedPair) (lists lists' : List (List ℕ)) (units units' base : List ℕ) (marks : List Bool) (done : List ℕ) (clause : List ℕ) (p : WatchedPair) (s : IsState formula pairs lists units base marks done) (sized : length lists' ≡ length lists) (lists_grow : ListsGrow lists lists') (units_grow : (x : ℕ) → Contains units x → Contains units' x) (entries' : (x k : ℕ) → Contains (get_or lists' x []) k → Contains (get_or lists x []) k ⊎ ((k ≡ length formula) × IsPairOf clause p)) (here : IsKept lists' base marks done clause p (length formula) ⊎ NeedsNoWatch formula units' clause (length formula)) where
   old_clause : (k : ℕ) → k < length formula → get_or (formula ++ clause ∷ []) k [] ≡ get_or formula k []
   old_clause k l = get_or_append_left formula (clause ∷ []) [] k l
 
@@ -64,7 +64,7 @@ module _ (formula : List (List ℕ)) (pairs : List Pair) (lists lists' : List (L
   short_on c k l (inl (x, u, m)) = inl (x, units_grow x u, m)
   short_on c k l (inr t) = inr (covered_more c k l (covered_on formula units units' c k units_grow t))
 
-  abbrev Tended : List ℕ → Pair → ℕ → Type 0
+  abbrev Tended : List ℕ → WatchedPair → ℕ → Type 0
   Tended c q k = IsKept lists' base marks done c q k ⊎ NeedsNoWatch (formula ++ clause ∷ []) units' c k
 
   tended_here : Tended clause p (length formula)
@@ -107,8 +107,8 @@ still_refuted formula more clause m c =
 
 -- ---- the kinds of a clause
 
-module _ (formula more : List (List ℕ)) (pairs pairs' : List Pair) (lists : List (List ℕ)) (marks : List Bool) (trail : List ℕ) (clause : List ℕ) (more_is : more ≡ formula ++ clause ∷ []) (r : IsRest formula pairs lists marks trail) where
-  rest_by : (p : Pair) (lists' : List (List ℕ)) → pairs' ≡ pairs ++ p ∷ [] → IsState (formula ++ clause ∷ []) (pairs ++ p ∷ []) lists' trail trail marks trail → IsRest more pairs' lists' marks trail
+module _ (formula more : List (List ℕ)) (pairs pairs' : List WatchedPair) (lists : List (List ℕ)) (marks : List Bool) (trail : List ℕ) (clause : List ℕ) (more_is : more ≡ formula ++ clause ∷ []) (r : IsRest formula pairs lists marks trail) where
+  rest_by : (p : WatchedPair) (lists' : List (List ℕ)) → pairs' ≡ pairs ++ p ∷ [] → IsState (formula ++ clause ∷ []) (pairs ++ p ∷ []) lists' trail trail marks trail → IsRest more pairs' lists' marks trail
   rest_by p lists' e s =
       subst (λ z. IsRest z pairs' lists' marks trail) (sym more_is) (subst (λ z. IsRest (formula ++ clause ∷ []) z lists' marks trail) (sym e) record { assigned = r.assigned; sound = sound_more formula clause marks r.sound; state = s })
 
@@ -124,7 +124,7 @@ module _ (formula more : List (List ℕ)) (pairs pairs' : List Pair) (lists : Li
   root_false f =
       subst (λ z. Conflicts flipped z []) (sym more_is) (false_conflicts (formula ++ clause ∷ []) marks (sound_more formula clause marks r.sound) (clause, Contains-push formula clause, f))
 
-  pub rest_long : (p : Pair) (lists' : List (List ℕ)) → pairs' ≡ pairs ++ p ∷ [] → AreListed lists lists' p (length pairs) → IsPairOf clause p → IsOpen marks clause p.first → IsOpen marks clause p.second → IsRest more pairs' lists' marks trail
+  pub rest_long : (p : WatchedPair) (lists' : List (List ℕ)) → pairs' ≡ pairs ++ p ∷ [] → AreListed lists lists' p (length pairs) → IsPairOf clause p → IsOpen marks clause p.first → IsOpen marks clause p.second → IsRest more pairs' lists' marks trail
   rest_long p after e (middle, m, a) i first_open second_open =
       let sized : length lists ≡ 8192 = r.state.sized in
       let counted : length pairs ≡ length formula = r.state.counted in
@@ -173,7 +173,7 @@ module _ (formula more : List (List ℕ)) (pairs pairs' : List Pair) (lists : Li
         (unit_sound (formula ++ clause ∷ []) marks x r.assigned.size clause (Contains-push formula clause) u [] (sound_more formula clause marks r.sound)))
 
     -- and after it
-    pub unit_root : (pairs'' : List Pair) (lists' : List (List ℕ)) (marks'' : List Bool) (trail'' : List ℕ) (found : Bool) → IsAssignment marks'' trail'' → Extends trail' trail'' → KeepsSound more marks' marks'' → IsEnded more trail' trail pairs'' lists' marks'' trail'' found → IsRoot more pairs'' lists' marks'' trail'' found
+    pub unit_root : (pairs'' : List WatchedPair) (lists' : List (List ℕ)) (marks'' : List Bool) (trail'' : List ℕ) (found : Bool) → IsAssignment marks'' trail'' → Extends trail' trail'' → KeepsSound more marks' marks'' → IsEnded more trail' trail pairs'' lists' marks'' trail'' found → IsRoot more pairs'' lists' marks'' trail'' found
     unit_root pairs'' lists' marks'' trail'' true a extends keeps (s, f) = false_conflicts more marks'' (keeps [] unit_root_sound) f
     unit_root pairs'' lists' marks'' trail'' false a extends keeps s = record {
       assigned = a;
@@ -182,7 +182,7 @@ module _ (formula more : List (List ℕ)) (pairs pairs' : List Pair) (lists : Li
     }
 
 -- a clause that another covers
-pub root_covered : (formula more : List (List ℕ)) (pairs pairs' : List Pair) (lists lists' : List (List ℕ)) (marks : List Bool) (trail clause : List ℕ) (b : Bool) → more ≡ formula ++ clause ∷ [] → IsRoot formula pairs lists marks trail b → pairs' ≡ pairs ++ no_pair ∷ [] → lists' ≡ lists → IsCoveredBySome formula trail clause → IsRoot more pairs' lists' marks trail b
+pub root_covered : (formula more : List (List ℕ)) (pairs pairs' : List WatchedPair) (lists lists' : List (List ℕ)) (marks : List Bool) (trail clause : List ℕ) (b : Bool) → more ≡ formula ++ clause ∷ [] → IsRoot formula pairs lists marks trail b → pairs' ≡ pairs ++ no_pair ∷ [] → lists' ≡ lists → IsCoveredBySome formula trail clause → IsRoot more pairs' lists' marks trail b
 root_covered formula more pairs pairs' lists lists' marks trail clause true m r e l t = still_refuted formula more clause m r
 root_covered formula more pairs pairs' lists lists' marks trail clause false m r e l t =
     subst (λ z. IsRest more pairs' z marks trail) (sym l) (rest_covered formula more pairs pairs' lists marks trail clause m r e t)
@@ -192,7 +192,7 @@ root_covered formula more pairs pairs' lists lists' marks trail clause false m r
 pub unit_kind : (marks : List Bool) (clause : List ℕ) (x : ℕ) → All (λ y. y ≤ 8191) clause → ((y : ℕ) → Contains clause y → Has marks y → ⊥) → IsOpen marks clause x → OthersFalse marks clause x → IsUnit marks clause x
 unit_kind marks clause x small none o others = record { small = All-contains (λ y. y ≤ 8191) clause x small o.among; here = o; absent = none x o.among; others = others }
 
-pub long_kind : (marks : List Bool) (clause : List ℕ) (p : Pair) → All (λ y. y ≤ 8191) clause → IsOpen marks clause p.first → IsOpen marks clause p.second → (p.second ≡ p.first → ⊥) → IsPairOf clause p
+pub long_kind : (marks : List Bool) (clause : List ℕ) (p : WatchedPair) → All (λ y. y ≤ 8191) clause → IsOpen marks clause p.first → IsOpen marks clause p.second → (p.second ≡ p.first → ⊥) → IsPairOf clause p
 long_kind marks clause p small o q n = record {
   first = o.among;
   second = q.among;

@@ -6,7 +6,7 @@ use Rattle.std.specs.List.{Contains}
 use Rattle.std.proofs.lemmas.List.{take-append-le, take_more, take_all}
 use Rattle.rup_check.specs.Assignments.{flipped, Has}
 use Rattle.rup_check.specs.Watches.{IsState, IsVisited, Extends}
-use Rattle.rup_check.specs.declared.watches.Pair.{Pair}
+use Rattle.rup_check.specs.declared.watches.WatchedPair.{WatchedPair}
 
 pub extends_same : (xs : List ℕ) → Extends xs xs
 extends_same xs = ([], sym (append-nil xs))
@@ -20,13 +20,13 @@ done_more before after head (more, e) l small =
     let n : head + 1 ≤ length before = omega arith in
     ap (λ x. take head before ++ x ∷ []) back ∙ sym (take_more before head 0 l) ∙ sym (ap (take (head + 1)) e ∙ take-append-le (head + 1) before more n)
 
-pub run_more : (formula : List (List ℕ)) (literal q : ℕ) (pairs pairs' : List Pair) (lists lists' : List (List ℕ)) (marks marks' : List Bool) (before after : List ℕ) (head : ℕ) → Extends before after → head < length before → literal ≡ get_or before head 0 → literal ≤ 8191 → q ≡ flipped literal → IsVisited formula q pairs lists marks pairs' lists' marks' false → (units base : List ℕ) → IsState formula pairs lists units base marks (take head before) → IsState formula pairs' lists' units base marks' (take (head + 1) after)
+pub run_more : (formula : List (List ℕ)) (literal q : ℕ) (pairs pairs' : List WatchedPair) (lists lists' : List (List ℕ)) (marks marks' : List Bool) (before after : List ℕ) (head : ℕ) → Extends before after → head < length before → literal ≡ get_or before head 0 → literal ≤ 8191 → q ≡ flipped literal → IsVisited formula q pairs lists marks pairs' lists' marks' false → (units base : List ℕ) → IsState formula pairs lists units base marks (take head before) → IsState formula pairs' lists' units base marks' (take (head + 1) after)
 run_more formula literal q pairs pairs' lists lists' marks marks' before after head x l is small f v units base s =
     let d : take head before ++ flipped q ∷ [] ≡ take (head + 1) after = ap (λ z. take head before ++ flipped z ∷ []) (f ∙ ap flipped is) ∙ done_more before after head x l (subst (λ z. z ≤ 8191) is small) in
     subst (λ z. IsState formula pairs' lists' units base marks' z) d (v units base (take head before) s)
 
 -- what was run to its end
-pub run_over : (formula : List (List ℕ)) (pairs : List Pair) (lists : List (List ℕ)) (units base : List ℕ) (marks : List Bool) (trail : List ℕ) (head : ℕ) → length trail ≤ head → IsState formula pairs lists units base marks (take head trail) → IsState formula pairs lists units base marks trail
+pub run_over : (formula : List (List ℕ)) (pairs : List WatchedPair) (lists : List (List ℕ)) (units base : List ℕ) (marks : List Bool) (trail : List ℕ) (head : ℕ) → length trail ≤ head → IsState formula pairs lists units base marks (take head trail) → IsState formula pairs lists units base marks trail
 run_over formula pairs lists units base marks trail head l s = subst (λ z. IsState formula pairs lists units base marks z) (take_all head trail l) s
 
 pub extends_length : (xs ys : List ℕ) → Extends xs ys → length xs ≤ length ys

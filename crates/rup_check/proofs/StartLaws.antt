@@ -4,7 +4,7 @@ use Rattle.std.specs.List.{Contains}
 use Rattle.std.proofs.lemmas.List.{length-replicate}
 use Rattle.rup_check.specs.Assignments.{Has, IsAssignment}
 use Rattle.rup_check.specs.Watches.{IsRest}
-use Rattle.rup_check.specs.declared.watches.Pair.{Pair}
+use Rattle.rup_check.specs.declared.watches.WatchedPair.{WatchedPair}
 use Rattle.rup_check.proofs.PropagationLaws.{contains_nil}
 
 in_nothing : (n x k : ℕ) → Contains (get_or (replicate n []) x []) k → ⊥
@@ -12,7 +12,7 @@ in_nothing zero x k h = contains_nil k h
 in_nothing (suc n) zero k h = contains_nil k h
 in_nothing (suc n) (suc x) k h = in_nothing n x k h
 
-pub rest_none : (pairs : List Pair) (lists : List (List ℕ)) (marks : List Bool) (trail : List ℕ) → pairs ≡ [] → lists ≡ replicate 8192 [] → IsAssignment marks trail → trail ≡ [] → IsRest [] pairs lists marks trail
+pub rest_none : (pairs : List WatchedPair) (lists : List (List ℕ)) (marks : List Bool) (trail : List ℕ) → pairs ≡ [] → lists ≡ replicate 8192 [] → IsAssignment marks trail → trail ≡ [] → IsRest [] pairs lists marks trail
 rest_none pairs lists marks trail p l a t = record {
   assigned = a;
   sound = record { within = λ x h. absurd (none x h); consistent = λ x h g. none x h };

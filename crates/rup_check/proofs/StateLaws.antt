@@ -7,10 +7,10 @@ use Rattle.std.proofs.lemmas.List.Elements.{Contains-push_cases}
 use Rattle.rup_check.specs.Assignments.{flipped, Has, IsAssignment}
 use Rattle.rup_check.specs.Sets.{Grows}
 use Rattle.rup_check.specs.Watches.{IsListed, IsSettled, IsSettledAt, IsRooted, IsWatch, IsEntry, IsState, IsCovered, no_pair}
-use Rattle.rup_check.specs.declared.watches.Pair.{Pair}
+use Rattle.rup_check.specs.declared.watches.WatchedPair.{WatchedPair}
 use Rattle.rup_check.proofs.PropagationLaws.{contains_nil}
 
-module _ (formula : List (List ℕ)) (pairs : List Pair) (lists : List (List ℕ)) (units base : List ℕ) (q : ℕ) (marks : List Bool) (done : List ℕ) where
+module _ (formula : List (List ℕ)) (pairs : List WatchedPair) (lists : List (List ℕ)) (units base : List ℕ) (q : ℕ) (marks : List Bool) (done : List ℕ) where
   -- the list of q is taken out
   module _ (small : q ≤ 8191) (s : IsState formula pairs lists units base marks done) where
     within : q < length lists
@@ -23,7 +23,7 @@ module _ (formula : List (List ℕ)) (pairs : List Pair) (lists : List (List ℕ
           | inr n ↦ inl (subst (λ w. Contains w k) (sym (get_or-set_other lists q x [] [] n)) h)
         ])
 
-    taken_here : (pair : Pair) (k : ℕ) → Contains (get_or lists pair.first []) k → Contains (get_or lists pair.second []) k → Contains (get_or lists q []) k ⊎ IsSettledAt marks q pair
+    taken_here : (pair : WatchedPair) (k : ℕ) → Contains (get_or lists pair.first []) k → Contains (get_or lists pair.second []) k → Contains (get_or lists q []) k ⊎ IsSettledAt marks q pair
     taken_here pair k a b =
         (elim (cases_eq pair.first q) [
           | inl e ↦ inl (subst (λ w. Contains (get_or lists w []) k) e a)
@@ -62,8 +62,8 @@ module _ (formula : List (List ℕ)) (pairs : List Pair) (lists : List (List ℕ
     }
 
 -- the same clauses and watches, with other marks, and other literals done
-module _ (formula : List (List ℕ)) (pairs : List Pair) (lists : List (List ℕ)) (units base : List ℕ) (marks marks' : List Bool) (done : List ℕ) (s : IsState formula pairs lists units base marks done) where
-  with_done : (done' : List ℕ) → ((y : ℕ) → Contains base y → Has marks' y) → ((y : ℕ) → Contains done' y → Has marks' y) → ((pair : Pair) → IsSettled marks done pair → IsRooted base pair → IsSettled marks' done' pair) → IsState formula pairs lists units base marks' done'
+module _ (formula : List (List ℕ)) (pairs : List WatchedPair) (lists : List (List ℕ)) (units base : List ℕ) (marks marks' : List Bool) (done : List ℕ) (s : IsState formula pairs lists units base marks done) where
+  with_done : (done' : List ℕ) → ((y : ℕ) → Contains base y → Has marks' y) → ((y : ℕ) → Contains done' y → Has marks' y) → ((pair : WatchedPair) → IsSettled marks done pair → IsRooted base pair → IsSettled marks' done' pair) → IsState formula pairs lists units base marks' done'
   with_done done' base_marked done_marked on = record {
     counted = s.counted;
     sized = s.sized;
@@ -103,7 +103,7 @@ covered_on formula units units' clause k more t = record {
 }
 
 -- all that is marked is done
-pub settled_down : (formula : List (List ℕ)) (pairs : List Pair) (lists : List (List ℕ)) (units base : List ℕ) (marks : List Bool) (trail : List ℕ) → IsAssignment marks trail → ((y : ℕ) → Contains units y → Contains trail y) → IsState formula pairs lists units base marks trail → IsState formula pairs lists trail trail marks trail
+pub settled_down : (formula : List (List ℕ)) (pairs : List WatchedPair) (lists : List (List ℕ)) (units base : List ℕ) (marks : List Bool) (trail : List ℕ) → IsAssignment marks trail → ((y : ℕ) → Contains units y → Contains trail y) → IsState formula pairs lists units base marks trail → IsState formula pairs lists trail trail marks trail
 settled_down formula pairs lists units base marks trail a within s = record {
   counted = s.counted;
   sized = s.sized;
@@ -124,7 +124,7 @@ settled_down formula pairs lists units base marks trail a within s = record {
 }
 
 -- the list of q is put back
-module _ (formula : List (List ℕ)) (pairs : List Pair) (lists : List (List ℕ)) (units base : List ℕ) (held pending : List ℕ) (q : ℕ) (marks : List Bool) (done : List ℕ) (small : q ≤ 8191) (out : get_or lists q [] ≡ []) (w : IsWatch formula pairs lists units base held pending q marks done) where
+module _ (formula : List (List ℕ)) (pairs : List WatchedPair) (lists : List (List ℕ)) (units base : List ℕ) (held pending : List ℕ) (q : ℕ) (marks : List Bool) (done : List ℕ) (small : q ≤ 8191) (out : get_or lists q [] ≡ []) (w : IsWatch formula pairs lists units base held pending q marks done) where
   back_within : q < length lists
   back_within = let sized : length lists ≡ 8192 = w.sized in omega arith
 
@@ -167,7 +167,7 @@ module _ (formula : List (List ℕ)) (pairs : List Pair) (lists : List (List ℕ
   at_q : (x : ℕ) → x ≤ 8191 → flipped q ≡ flipped x → x ≡ q
   at_q x l e = omega arith
 
-  settled_on : (pair : Pair) (k : ℕ) → (pair.first ≤ 8191 × pair.second ≤ 8191) → IsSettled marks done pair → (Contains [] k ⊎ IsSettledAt marks q pair) → IsSettled marks (done ++ flipped q ∷ []) pair
+  settled_on : (pair : WatchedPair) (k : ℕ) → (pair.first ≤ 8191 × pair.second ≤ 8191) → IsSettled marks done pair → (Contains [] k ⊎ IsSettledAt marks q pair) → IsSettled marks (done ++ flipped q ∷ []) pair
   settled_on pair k l t (inl n) = absurd (contains_nil k n)
   settled_on pair k l t (inr here) = record {
     first = λ m. (elim (Contains-push_cases done (flipped q) (flipped pair.first) m) [

@@ -105,7 +105,7 @@ module _ (formula proof : List (List ℕ)) (f : ArePlaces formula) (p : ArePlace
   verdict_numbered rup.NotEmpty (good, ends) = (all_numbered good, λ e. ends (ends_of_numbers proof e))
 
 -- a literal is not true beside its negation
-true_alone : (truth : ℕ → Bool) → IsConsistent neg_ℤ (is_true truth)
+pub true_alone : (truth : ℕ → Bool) → IsConsistent neg_ℤ (is_true truth)
 true_alone truth (pos zero) h n = cc
 true_alone truth (pos (suc n)) h k = not_both (truth (suc n)) h k where
   not_both : (b : Bool) → b ≡ true → not b ≡ true → ⊥
@@ -116,12 +116,12 @@ true_alone truth (negsuc n) h k = not_both (truth (suc n)) k h where
   not_both true h k = cc
   not_both false h k = cc
 
-one_true : (b : Bool) → (b ≡ true) ⊎ (not b ≡ true)
+pub one_true : (b : Bool) → (b ≡ true) ⊎ (not b ≡ true)
 one_true true = inl refl
 one_true false = inr refl
 
 -- of a literal and its negation one is true
-one_of : (truth : ℕ → Bool) (z : ℤ) → (z ≡ pos 0 → ⊥) → (is_true truth z ≡ true) ⊎ (is_true truth (neg_ℤ z) ≡ true)
+pub one_of : (truth : ℕ → Bool) (z : ℤ) → (z ≡ pos 0 → ⊥) → (is_true truth z ≡ true) ⊎ (is_true truth (neg_ℤ z) ≡ true)
 one_of truth (pos zero) n = absurd (n refl)
 one_of truth (pos (suc n)) k = one_true (truth (suc n))
 one_of truth (negsuc n) k = (elim (one_true (truth (suc n))) [ inl t ↦ inr t | inr t ↦ inl t ])

@@ -6,7 +6,7 @@ use Rattle.std.proofs.lemmas.List.Sorted.{IsPermutation-swap_remove, IsPermutati
 use Rattle.rup_check.specs.Assignments.{flipped, Has}
 use Rattle.rup_check.specs.Sets.{HasFalse, Grows}
 use Rattle.rup_check.specs.Watches.{IsWatch, IsState, IsTaken, IsWithout}
-use Rattle.rup_check.specs.declared.watches.Pair.{Pair}
+use Rattle.rup_check.specs.declared.watches.WatchedPair.{WatchedPair}
 use Rattle.rup_check.specs.declared.turns.Look.TheVariants as look
 use Rattle.rup_check.proofs.PropagationLaws.{contains_cons, contains_cases}
 use Rattle.rup_check.proofs.StateLaws.{opened, closed, restored}
@@ -28,7 +28,7 @@ pub take_of_swap : (before after : List ℕ) (i x : ℕ) → i < length before �
 take_of_swap before after i x l e =
     ap (take i) e ∙ take-take i (length before - 1) (set before i (get_or before (length before - 1) x)) (omega arith) ∙ take-set-le i before i (get_or before (length before - 1) x) (omega arith)
 
-module _ (formula : List (List ℕ)) (number q : ℕ) (pairs pairs' : List Pair) (lists lists' : List (List ℕ)) (marks marks' : List Bool) (held : List ℕ) (left : ℕ) (within : left < length held) (number_is : number ≡ get_or held left 0) where
+module _ (formula : List (List ℕ)) (number q : ℕ) (pairs pairs' : List WatchedPair) (lists lists' : List (List ℕ)) (marks marks' : List Bool) (held : List ℕ) (left : ℕ) (within : left < length held) (number_is : number ≡ get_or held left 0) where
   popped : take (left + 1) held ≡ take left held ++ number ∷ []
   popped = take_more held left 0 within ∙ ap (λ z. take left held ++ z ∷ []) (sym number_is)
 
@@ -59,16 +59,16 @@ in_lists q lists small sized = omega arith
 pub out_of : (lists after : List (List ℕ)) (q : ℕ) → q ≤ 8191 → length lists ≡ 8192 → after ≡ set lists q [] → get_or after q [] ≡ []
 out_of lists after q small sized a = ap (λ z. get_or z q []) a ∙ get_or-set_same lists q [] [] (in_lists q lists small sized)
 
-pub watch_at : (formula : List (List ℕ)) (pairs : List Pair) (lists : List (List ℕ)) (units base : List ℕ) (held : List ℕ) (left q : ℕ) (marks : List Bool) (done : List ℕ) → 0 < left → IsWatch formula pairs lists units base held (take left held) q marks done → IsWatch formula pairs lists units base held (take (left - 1 + 1) held) q marks done
+pub watch_at : (formula : List (List ℕ)) (pairs : List WatchedPair) (lists : List (List ℕ)) (units base : List ℕ) (held : List ℕ) (left q : ℕ) (marks : List Bool) (done : List ℕ) → 0 < left → IsWatch formula pairs lists units base held (take left held) q marks done → IsWatch formula pairs lists units base held (take (left - 1 + 1) held) q marks done
 watch_at formula pairs lists units base held left q marks done some w =
     let back : left ≡ left - 1 + 1 = omega arith in
     subst (λ z. IsWatch formula pairs lists units base held (take z held) q marks done) back w
 
-pub opened_by : (formula : List (List ℕ)) (pairs : List Pair) (lists after : List (List ℕ)) (held : List ℕ) (left q : ℕ) (marks : List Bool) → q ≤ 8191 → held ≡ get_or lists q [] → left ≡ length held → after ≡ set lists q [] → (units base done : List ℕ) → IsState formula pairs lists units base marks done → IsWatch formula pairs after units base held (take left held) q marks done
+pub opened_by : (formula : List (List ℕ)) (pairs : List WatchedPair) (lists after : List (List ℕ)) (held : List ℕ) (left q : ℕ) (marks : List Bool) → q ≤ 8191 → held ≡ get_or lists q [] → left ≡ length held → after ≡ set lists q [] → (units base done : List ℕ) → IsState formula pairs lists units base marks done → IsWatch formula pairs after units base held (take left held) q marks done
 opened_by formula pairs lists after held left q marks small p l a units base done s =
     let all : take left held ≡ held = take_all left held (omega arith) in
     subst (λ z. IsWatch formula pairs after units base held z q marks done) (sym all) (subst (λ z. IsWatch formula pairs z units base held held q marks done) (sym a) (subst (λ z. IsWatch formula pairs (set lists q []) units base z z q marks done) (sym p) (opened formula pairs lists units base q marks done small s)))
 
-pub closed_by : (formula : List (List ℕ)) (pairs : List Pair) (lists after : List (List ℕ)) (units base : List ℕ) (held : List ℕ) (left q : ℕ) (marks : List Bool) (done : List ℕ) → q ≤ 8191 → get_or lists q [] ≡ [] → after ≡ set lists q held → Has marks (flipped q) → left ≡ 0 → IsWatch formula pairs lists units base held (take left held) q marks done → IsState formula pairs after units base marks (done ++ flipped q ∷ [])
+pub closed_by : (formula : List (List ℕ)) (pairs : List WatchedPair) (lists after : List (List ℕ)) (units base : List ℕ) (held : List ℕ) (left q : ℕ) (marks : List Bool) (done : List ℕ) → q ≤ 8191 → get_or lists q [] ≡ [] → after ≡ set lists q held → Has marks (flipped q) → left ≡ 0 → IsWatch formula pairs lists units base held (take left held) q marks done → IsState formula pairs after units base marks (done ++ flipped q ∷ [])
 closed_by formula pairs lists after units base held left q marks done small out a h l w =
     subst (λ z. IsState formula pairs z units base marks (done ++ flipped q ∷ [])) (sym a) (closed formula pairs lists units base held (take left held) q marks done small out w h (ap (λ z. take z held) l))

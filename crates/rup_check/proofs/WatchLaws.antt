@@ -12,7 +12,7 @@ use Rattle.rup_check.specs.declared.turns.Look.TheVariants as look
 use Rattle.rup_check.proofs.MarkLaws.{has_set, has_kept, has_small, unit_sound}
 use Rattle.rup_check.specs.Looks.{IsOpen, IsUnit}
 use Rattle.rup_check.specs.Watches.{IsPairOf, IsListed, IsSettled, IsTended, IsOther, IsWatch, IsEntry, IsClean, IsTurn, IsTaken, IsWithout, no_pair}
-use Rattle.rup_check.specs.declared.watches.Pair.{Pair}
+use Rattle.rup_check.specs.declared.watches.WatchedPair.{WatchedPair}
 
 -- ---- lists that grow
 
@@ -51,10 +51,10 @@ module _ (lists after : List (List ℕ)) (held held' pending rest : List ℕ) (q
   listed_kept k x n (inl h) = inl (lists_grow x k h)
   listed_kept k x n (inr (e, h)) = inr (e, held_kept k n h)
 
-  settled_kept : (pair : Pair) → IsSettled marks done pair → IsSettled marks' done pair
+  settled_kept : (pair : WatchedPair) → IsSettled marks done pair → IsSettled marks' done pair
   settled_kept pair s = record { first = λ h. marks_grow pair.second (s.first h); second = λ h. marks_grow pair.first (s.second h) }
 
-  pub tended_kept : (clause : List ℕ) (pair : Pair) (k : ℕ) → k ≢ at → IsTended lists held pending q base marks done clause pair k → IsTended after held' rest q base marks' done clause pair k
+  pub tended_kept : (clause : List ℕ) (pair : WatchedPair) (k : ℕ) → k ≢ at → IsTended lists held pending q base marks done clause pair k → IsTended after held' rest q base marks' done clause pair k
   tended_kept clause pair k n t = record {
     pair_of = t.pair_of;
     first = listed_kept k pair.first n t.first;
@@ -77,7 +77,7 @@ module _ (lists after : List (List ℕ)) (held held' pending rest : List ℕ) (q
   listed_stays x stays (inl h) = inl (lists_grow x at h)
   listed_stays x stays (inr (e, h)) = inr (e, stays h)
 
-  other_facts : (clause : List ℕ) (pair : Pair) (other : ℕ) → IsOther pair q other → IsTended lists held pending q base marks done clause pair at → OtherFacts lists held q marks base done clause other at
+  other_facts : (clause : List ℕ) (pair : WatchedPair) (other : ℕ) → IsOther pair q other → IsTended lists held pending q base marks done clause pair at → OtherFacts lists held q marks base done clause other at
   other_facts clause pair other (inl (e, o)) t = record {
     among = subst (λ w. Contains clause w) (sym o) t.pair_of.second;
     apart = λ h. t.pair_of.apart (e ∙ sym h ∙ o);
@@ -96,7 +96,7 @@ module _ (lists after : List (List ℕ)) (held held' pending rest : List ℕ) (q
   }
 
   -- neither of the pair is q: it leaves
-  pub tended_dropped : (clause : List ℕ) (pair : Pair) → pair.first ≢ q → pair.second ≢ q → IsTended lists held pending q base marks done clause pair at → IsTended after held' rest q base marks' done clause pair at
+  pub tended_dropped : (clause : List ℕ) (pair : WatchedPair) → pair.first ≢ q → pair.second ≢ q → IsTended lists held pending q base marks done clause pair at → IsTended after held' rest q base marks' done clause pair at
   tended_dropped clause pair n m t = record {
     pair_of = t.pair_of;
     first = listed_apart pair.first n t.first;
@@ -107,7 +107,7 @@ module _ (lists after : List (List ℕ)) (held held' pending rest : List ℕ) (q
   }
 
   -- the other is true, now or before: the clause stays
-  pub tended_stays : (clause : List ℕ) (pair : Pair) (other : ℕ) → IsOther pair q other → Has marks' other → (Contains held at → Contains held' at) → IsTended lists held pending q base marks done clause pair at → IsTended after held' rest q base marks' done clause pair at
+  pub tended_stays : (clause : List ℕ) (pair : WatchedPair) (other : ℕ) → IsOther pair q other → Has marks' other → (Contains held at → Contains held' at) → IsTended lists held pending q base marks done clause pair at → IsTended after held' rest q base marks' done clause pair at
   tended_stays clause pair other o h stays t = record {
     pair_of = t.pair_of;
     first = listed_stays pair.first stays t.first;
@@ -127,7 +127,7 @@ module _ (lists after : List (List ℕ)) (held held' pending rest : List ℕ) (q
   }
 
   -- the pair becomes the other and a literal that is not false
-  pub tended_moved : (clause : List ℕ) (pair : Pair) (other to hint : ℕ) → IsOther pair q other → IsOpen marks clause to → to ≢ other → to ≤ 8191 → ((y : ℕ) → Contains done y → Has marks y) → ((y : ℕ) → Contains base y → Has marks y) → Has marks (flipped q) → (Has marks q → ⊥) → Contains (get_or after to []) at → IsTended lists held pending q base marks done clause pair at → IsTended after held' rest q base marks' done clause (record { first = other; second = to; at = hint }) at
+  pub tended_moved : (clause : List ℕ) (pair : WatchedPair) (other to hint : ℕ) → IsOther pair q other → IsOpen marks clause to → to ≢ other → to ≤ 8191 → ((y : ℕ) → Contains done y → Has marks y) → ((y : ℕ) → Contains base y → Has marks y) → Has marks (flipped q) → (Has marks q → ⊥) → Contains (get_or after to []) at → IsTended lists held pending q base marks done clause pair at → IsTended after held' rest q base marks' done clause (record { first = other; second = to; at = hint }) at
   tended_moved clause pair other to hint o open_ n to_small done_marked base_marked q_false q_absent there t =
       let f = other_facts clause pair other o t in
       record {
@@ -149,9 +149,9 @@ grown_cases lists place k x j l h =
       | inr n ↦ inl (subst (λ w. Contains w j) (get_or-set_other lists place x (get_or lists place [] ++ k ∷ []) [] n) h)
     ])
 
-module _ (formula : List (List ℕ)) (pairs : List Pair) (lists : List (List ℕ)) (units base : List ℕ) (held rest : List ℕ) (q : ℕ) (marks : List Bool) (done : List ℕ) (at : ℕ) (entry : IsEntry formula pairs at) (w : IsWatch formula pairs lists units base held (rest ++ at ∷ []) q marks done) where
+module _ (formula : List (List ℕ)) (pairs : List WatchedPair) (lists : List (List ℕ)) (units base : List ℕ) (held rest : List ℕ) (q : ℕ) (marks : List Bool) (done : List ℕ) (at : ℕ) (entry : IsEntry formula pairs at) (w : IsWatch formula pairs lists units base held (rest ++ at ∷ []) q marks done) where
   -- the clause at hand was looked at
-  pub step_on : (pairs' : List Pair) (lists' : List (List ℕ)) (held' : List ℕ) (marks' : List Bool) → IsWithout held held' at → ListsGrow lists lists' → Grows marks marks' → length pairs' ≡ length pairs → length lists' ≡ length lists → ((x j : ℕ) → Contains (get_or lists' x []) j → Contains (get_or lists x []) j ⊎ (j ≡ at)) → ((k : ℕ) → k ≢ at → get_or pairs' k no_pair ≡ get_or pairs k no_pair) → IsPairOf (get_or formula at []) (get_or pairs' at no_pair) → (IsTended lists held (rest ++ at ∷ []) q base marks done (get_or formula at []) (get_or pairs at no_pair) at → IsTended lists' held' rest q base marks' done (get_or formula at []) (get_or pairs' at no_pair) at) → IsWatch formula pairs' lists' units base held' rest q marks' done
+  pub step_on : (pairs' : List WatchedPair) (lists' : List (List ℕ)) (held' : List ℕ) (marks' : List Bool) → IsWithout held held' at → ListsGrow lists lists' → Grows marks marks' → length pairs' ≡ length pairs → length lists' ≡ length lists → ((x j : ℕ) → Contains (get_or lists' x []) j → Contains (get_or lists x []) j ⊎ (j ≡ at)) → ((k : ℕ) → k ≢ at → get_or pairs' k no_pair ≡ get_or pairs k no_pair) → IsPairOf (get_or formula at []) (get_or pairs' at no_pair) → (IsTended lists held (rest ++ at ∷ []) q base marks done (get_or formula at []) (get_or pairs at no_pair) at → IsTended lists' held' rest q base marks' done (get_or formula at []) (get_or pairs' at no_pair) at) → IsWatch formula pairs' lists' units base held' rest q marks' done
   step_on pairs' lists' held' marks' without lists_grow marks_grow counted sized from others pair_of tended = record {
     counted = counted ∙ w.counted;
     sized = sized ∙ w.sized;
@@ -199,7 +199,7 @@ module _ (formula : List (List ℕ)) (pairs : List Pair) (lists : List (List ℕ
       let counted : length pairs ≡ length formula = w.counted in
       let in_range : at < length formula = entry.in_range in
       let m : at < length pairs = omega arith in
-      let new : Pair = record { first = other; second = to; at = hint } in
+      let new : WatchedPair = record { first = other; second = to; at = hint } in
       let same : get_or (set pairs at new) at no_pair ≡ new = get_or-set_same pairs at new no_pair m in
       let other_of : Contains (get_or formula at []) other = (elim o [
         | inl s ↦ subst (λ z. Contains (get_or formula at []) z) (sym s.1) entry.pair_of.second
@@ -215,16 +215,16 @@ module _ (formula : List (List ℕ)) (pairs : List Pair) (lists : List (List ℕ
 
 -- ---- the arms of a turn, over plain variables
 
-module _ (formula : List (List ℕ)) (pairs : List Pair) (lists : List (List ℕ)) (q : ℕ) (marks : List Bool) (number : ℕ) (pair : Pair) (entry : IsEntry formula pairs number) (pair_is : pair ≡ get_or pairs number no_pair) where
+module _ (formula : List (List ℕ)) (pairs : List WatchedPair) (lists : List (List ℕ)) (q : ℕ) (marks : List Bool) (number : ℕ) (pair : WatchedPair) (entry : IsEntry formula pairs number) (pair_is : pair ≡ get_or pairs number no_pair) where
   pub arm_drop : IsTurn marks (get_or formula number []) pair q turn.Drop → IsTaken formula number q pairs lists marks pairs lists marks look.Leaves
   arm_drop t units base held held' rest done without w =
-      step_dropped formula pairs lists units base held rest q marks done number entry w held' without (λ e. t.0 (ap (λ (p : Pair). p.first) pair_is ∙ e)) (λ e. t.1 (ap (λ (p : Pair). p.second) pair_is ∙ e))
+      step_dropped formula pairs lists units base held rest q marks done number entry w held' without (λ e. t.0 (ap (λ (p : WatchedPair). p.first) pair_is ∙ e)) (λ e. t.1 (ap (λ (p : WatchedPair). p.second) pair_is ∙ e))
 
   pub arm_stay : IsTurn marks (get_or formula number []) pair q turn.Stay → IsTaken formula number q pairs lists marks pairs lists marks look.Stays
   arm_stay (other, o, h) units base held rest done w =
       step_stays formula pairs lists units base held rest q marks done number entry w marks other (λ x g. g) (subst (λ p. IsOther p q other) pair_is o) h
 
-  pub arm_move : (pairs' : List Pair) (lists' : List (List ℕ)) (other to hint : ℕ) → pairs' ≡ set pairs number (record { first = other; second = to; at = hint }) → lists' ≡ set lists to (get_or lists to [] ++ number ∷ []) → IsClean marks → Has marks (flipped q) → q ≤ 8191 → IsTurn marks (get_or formula number []) pair q (turn.Move other to hint) → IsTaken formula number q pairs lists marks pairs' lists' marks look.Leaves
+  pub arm_move : (pairs' : List WatchedPair) (lists' : List (List ℕ)) (other to hint : ℕ) → pairs' ≡ set pairs number (record { first = other; second = to; at = hint }) → lists' ≡ set lists to (get_or lists to [] ++ number ∷ []) → IsClean marks → Has marks (flipped q) → q ≤ 8191 → IsTurn marks (get_or formula number []) pair q (turn.Move other to hint) → IsTaken formula number q pairs lists marks pairs' lists' marks look.Leaves
   arm_move pairs' lists' other to hint d e clean q_false small t units base held held' rest done without w =
       subst (λ z. IsWatch formula z lists' units base held' rest q marks done) (sym d) (subst (λ z. IsWatch formula (set pairs number (record { first = other; second = to; at = hint })) z units base held' rest q marks done) (sym e) (step_moved formula pairs lists units base held rest q marks done number entry w held' other to hint without t.3 clean q_false small (subst (λ p. IsOther p q other) pair_is t.0) t.1 t.2))
 

@@ -11,7 +11,7 @@ ghost use Rattle.rup_check.specs.Watches.{IsClean, Extends};
 use crate::assignment::{Assignment, begin, first_open, undo};
 use crate::places::{Known, flipped};
 use crate::turns::visit;
-use crate::watches::{Kind, Watches, kind_of};
+use crate::watches::{ClauseState, Watches, kind_of};
 use dcsp_common::Memory;
 use std::alloc::Global;
 
@@ -202,19 +202,19 @@ pub(crate) fn add_clause(
         return Ok(());
     }
     match kind_of(assignment, known.any(known.count)) {
-        Kind::IsTrue => {
+        ClauseState::IsTrue => {
             watches.add_none()?;
             Ok(())
         }
-        Kind::IsFalse => {
+        ClauseState::IsFalse => {
             watches.refuted = true;
             Ok(())
         }
-        Kind::Unit(literal) => {
+        ClauseState::Unit(literal) => {
             add_unit(alloc, known, watches, literal, assignment)?;
             Ok(())
         }
-        Kind::Long(pair) => {
+        ClauseState::Long(pair) => {
             watches.add_pair(pair)?;
             Ok(())
         }

@@ -8,7 +8,7 @@ ghost use Rattle.rup_check.specs.Watches.{IsTurn, IsPairOf, IsEntry, IsClean, Ex
 
 use crate::assignment::{Assignment, open_before};
 use crate::places::{Known, flipped};
-use crate::watches::{Pair, Watches, hint_of, push_to};
+use crate::watches::{WatchedPair, Watches, hint_of, push_to};
 use dcsp_common::{ItemList, Memory};
 use std::alloc::Global;
 use std::mem;
@@ -40,7 +40,13 @@ pub enum Look {
 }
 
 /// What is to be done with a clause of the list of `literal`, which is false.
-fn turn_of(known: &Known, number: usize, pair: Pair, literal: u16, assignment: &Assignment) -> Turn
+fn turn_of(
+    known: &Known,
+    number: usize,
+    pair: WatchedPair,
+    literal: u16,
+    assignment: &Assignment,
+) -> Turn
     requires in_range { number < length (clauses_of known.now) }
     requires size { length assignment.now.marks.items ≡ 8192 }
     requires pair { IsPairOf (slice_index_or (clauses_of known.now) number []) pair }
@@ -120,7 +126,7 @@ fn take_turn(
         Turn::Drop => Ok(Look::Leaves),
         Turn::Stay => Ok(Look::Stays),
         Turn::Move { other, to, at } => {
-            watches.pairs[clause] = Pair {
+            watches.pairs[clause] = WatchedPair {
                 first: other,
                 second: to,
                 at,

@@ -9,7 +9,7 @@ use std::alloc::Global;
 
 /// The two watched literals of a clause.
 #[derive(Clone, Copy, Debug)]
-pub struct Pair {
+pub struct WatchedPair {
     pub first: u16,
     pub second: u16,
     /// Where the search for the next one begins: a hint, which nothing rests on.
@@ -23,7 +23,7 @@ pub(crate) fn hint_of(place: usize) -> u16 {
 
 /// What the assignment makes of a clause.
 #[derive(Clone, Copy, Debug)]
-pub enum Kind {
+pub enum ClauseState {
     /// A literal of it is true.
     IsTrue,
     /// Each literal of it is false.
@@ -31,14 +31,14 @@ pub enum Kind {
     /// Each literal of it but this one is false.
     Unit(u16),
     /// It has two literals or more that are not false: these are two of them.
-    Long(Pair),
+    Long(WatchedPair),
 }
 
 /// Which clauses watch which literals.
 #[derive(Drop)]
 pub struct Watches {
     /// The pair of each clause; that of a clause which needs no watch says nothing.
-    pub(crate) pairs: Vec<Pair>,
+    pub(crate) pairs: Vec<WatchedPair>,
     /// For each literal the clauses that watch it. Four bytes tell a clause, so that none from 2^32 on is watched.
     pub(crate) lists: Vec<ItemList<u32>>,
     /// Whether propagation from nothing has a conflict.
@@ -64,7 +64,7 @@ impl Watches {
     }
 
     /// The pair of a clause.
-    pub(crate) fn pair(&self, number: usize) -> Pair
+    pub(crate) fn pair(&self, number: usize) -> WatchedPair
         requires { number < length self.now.pairs.items }
         ensures { result ≡ slice_index_or self.now.pairs.items number no_pair }
     {
@@ -77,7 +77,7 @@ impl Watches {
         ensures lists { self.new.lists.items ≡ self.old.lists.items }
         ensures refuted { self.new.refuted ≡ self.old.refuted }
     {
-        let none = Pair {
+        let none = WatchedPair {
             first: 0,
             second: 0,
             at: 0,
@@ -89,7 +89,7 @@ impl Watches {
     }
 
     /// Adds a clause that watches two literals.
-    pub(crate) fn add_pair(&mut self, pair: Pair) -> Result<(), Memory>
+    pub(crate) fn add_pair(&mut self, pair: WatchedPair) -> Result<(), Memory>
         requires sized { length self.old.lists.items ≡ 8192 }
         requires first { pair.first ≤ 8191 }
         requires second { pair.second ≤ 8191 }
@@ -111,21 +111,21 @@ impl Watches {
 
 /// What the assignment makes of a clause.
 #[tactic(auto, using(crate::proofs::GrowLaws::unit_kind, crate::proofs::GrowLaws::long_kind))]
-pub(crate) fn kind_of(assignment: &Assignment, clause: &[u16]) -> Kind
+pub(crate) fn kind_of(assignment: &Assignment, clause: &[u16]) -> ClauseState
     requires size { length assignment.now.marks.items ≡ 8192 }
     requires small { All (λ x. x ≤ 8191) clause.now }
     ensures { IsKind assignment.now.marks.items clause.now result }
 {
     let marks = &assignment.marks;
     if has_true(marks, clause) {
-        return Kind::IsTrue;
+        return ClauseState::IsTrue;
     }
     let Some(first) = first_open(marks, clause) else {
-        return Kind::IsFalse;
+        return ClauseState::IsFalse;
     };
     match other_open(marks, clause, first) {
-        None => Kind::Unit(first),
-        Some(second) => Kind::Long(Pair {
+        None => ClauseState::Unit(first),
+        Some(second) => ClauseState::Long(WatchedPair {
             first,
             second,
             at: u16::MAX,

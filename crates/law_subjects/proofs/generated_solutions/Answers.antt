@@ -1,4 +1,4 @@
-use Rattle.law_subjects.proofs.Generated.{queens_are_placed, colourings_are_proper, pigeons_do_not_fit, sparse_graphs_are_coloured, six_queens_are_placed}
+use Rattle.law_subjects.proofs.GeneratedSolutions.{queens_are_placed, colourings_are_proper, pigeons_do_not_fit, sparse_graphs_are_coloured, six_queens_are_placed}
 use Rattle.law_subjects.proofs.generated_solutions.Goals as goal
 
 pub returns-clause-queens : goal.returns-clause-queens

@@ -2,7 +2,6 @@ use Rattle.std.proofs.Common.{◌≡◌, ◌∙◌, ℕ, Option, ap}
 use Rattle.abt_defs.specs.Clocks.{tick}
 use Rattle.abt_measure.specs.Carrying.{receivers_of}
 use Rattle.abt_measure.specs.Clocks.{clocks_of}
-use Rattle.abt_measure.specs.Counting.{sender_in}
 use Rattle.abt_measure.proofs.ClockLaws.{on_two}
 use Rattle.abt_measure.proofs.CountLaws.{clock_more}
 use Rattle.abt_measure.proofs.counts.count_by_clock.Goals as goal

@@ -1,13 +1,13 @@
-use Rattle.std.proofs.Common.{◌≡◌, ◌∙◌, ℕ, ℤ, List, length, false, ap, sym, subst, arith}
+use Rattle.std.proofs.Common.{◌∙◌, length, ap, sym, subst, arith}
 use Rattle.std.specs.Prelude.{OnOk}
 use Rattle.dcsp_defs.specs.Words.{In}
-use Rattle.dcsp_defs.specs.Csp.{Csp, domain}
+use Rattle.dcsp_defs.specs.Csp.{domain}
 use Rattle.dcsp_rule.specs.Problems.{Contents, csp_of}
 use Rattle.abt_defs.specs.Events.{Act, acts}
-use Rattle.abt_defs.specs.Network.{Network, deliver}
+use Rattle.abt_defs.specs.Network.{deliver}
 use Rattle.abt_network.specs.Standing.{reached}
 use Rattle.abt_network.proofs.Quiet.{is_open}
-use Rattle.abt_measure.specs.Measuring.{CountsNext, IsCounted, IsMeasured, IsNext}
+use Rattle.abt_measure.specs.Measuring.{CountsNext, IsCounted, IsNext}
 use Rattle.abt_measure.proofs.DeliveryLaws.{receiver, some, receivers, measured_ok, a}
 use Rattle.abt_measure.proofs.delivery.deliver_one.Goals as goal
 

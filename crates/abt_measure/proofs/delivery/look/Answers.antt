@@ -1,4 +1,4 @@
-use Rattle.std.proofs.Common.{◌≡◌, ◌≢◌, List, [], ◌∷◌, Option, Some, None, slice_get, sym, subst, refl, IsSome}
+use Rattle.std.proofs.Common.{◌≢◌, List, [], ◌∷◌, Option, Some, None, slice_get, sym, subst, refl, IsSome}
 use Rattle.std.specs.Option.{option_copied}
 use Rattle.abt_parts.specs.declared.message.Message.{Message}
 use Rattle.abt_links.specs.Transit.{link_of}

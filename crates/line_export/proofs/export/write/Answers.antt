@@ -22,7 +22,7 @@ use Rattle.line_export.proofs.export.write.Goals as goal
 pub returns-in_err-write_cnf : goal.returns-in_err-write_cnf
 returns-in_err-write_cnf g c =
     let l = c.args.line in
-    let p = c.args.atoms.now.problem.now in
+    let p = c.args.formula.now.atoms.problem.now in
     let ss = c.args.steps.now in
     let one = file_script l.cnf.now (cnf_lines p l.atoms (formula p ss)) in
     let two = file_script l.proof.now (map clause_line (proof p ss)) in
@@ -33,7 +33,7 @@ returns-in_err-write_cnf g c =
 pub returns-in_err-write_proof : goal.returns-in_err-write_proof
 returns-in_err-write_proof g c =
     let l = c.args.line in
-    let p = c.args.atoms.now.problem.now in
+    let p = c.args.formula.now.atoms.problem.now in
     let ss = c.args.steps.now in
     let one = file_script l.cnf.now (cnf_lines p l.atoms (formula p ss)) in
     let two = file_script l.proof.now (map clause_line (proof p ss)) in
@@ -45,7 +45,7 @@ returns-in_err-write_proof g c =
 pub returns : goal.returns
 returns g c =
     let l = c.args.line in
-    let p = c.args.atoms.now.problem.now in
+    let p = c.args.formula.now.atoms.problem.now in
     let ss = c.args.steps.now in
     let one = file_script l.cnf.now (cnf_lines p l.atoms (formula p ss)) in
     let two = file_script l.proof.now (map clause_line (proof p ss)) in

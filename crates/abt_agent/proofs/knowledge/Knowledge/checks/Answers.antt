@@ -1,4 +1,4 @@
-use Rattle.std.proofs.Common.{◌≡◌, ◌∙◌, ◌<◌, ◌++◌, ◌∷◌, [], ℕ, ℤ, List, Option, Some, true, false, not, filter, is_some, slice_get, length, option_to_list, ap, sym, subst, refl, rules, w64, SFits}
+use Rattle.std.proofs.Common.{◌≡◌, ◌∙◌, ◌++◌, ◌∷◌, ℤ, Option, Some, true, false, not, filter, is_some, slice_get, option_to_list, ap, sym, subst, refl, rules, w64, SFits}
 use Rattle.std.specs.Prelude.{pos}
 use Rattle.std.specs.Ordering.{int_eq}
 use Rattle.std.proofs.lemmas.Int.{to_z-of_z}
@@ -18,7 +18,7 @@ use Rattle.abt_agent.specs.Causes.{cause_for}
 use Rattle.abt_agent.specs.Examined.{as_checks, checks_but, sum_of}
 use Rattle.abt_agent.proofs.Causes.{flip, ruled_is}
 use Rattle.abt_agent.proofs.Members.{list_any-In}
-use Rattle.abt_agent.proofs.Examining.{same_checks, checks_at, free_value, ruled_value, none_sum, get-inside, with_ok}
+use Rattle.abt_agent.proofs.Examining.{same_checks, checks_at, free_value, ruled_value, get-inside, with_ok}
 use Rattle.abt_agent.proofs.knowledge.Knowledge.checks.Goals as goal
 
 pub returns-in_default-place_of : goal.returns-in_default-place_of

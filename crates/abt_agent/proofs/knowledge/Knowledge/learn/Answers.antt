@@ -1,4 +1,4 @@
-use Rattle.std.proofs.Common.{◌≡◌, sym, subst, ◌∙◌, Some, ℤ, filter, rules, w64, SFits}
+use Rattle.std.proofs.Common.{◌≡◌, sym, subst, ◌∙◌, Some, ℤ, filter, length, arith, rules, w64, SFits}
 use Rattle.std.proofs.lemmas.Int.{to_z-of_z}
 use Rattle.dcsp_defs.specs.Words.{update}
 use Rattle.abt_defs.specs.Agents.{View, values_in}
@@ -7,7 +7,7 @@ use Rattle.dcsp_rule.specs.Problems.{Contents, csp_of, AreInDomains}
 use Rattle.abt_parts.specs.Views.{view_of}
 use Rattle.abt_parts.specs.Stores.{fits}
 use Rattle.abt_agent.specs.Outgoing.{IsStampedView}
-use Rattle.abt_agent.proofs.Tracks.{new_domains, new_stamps, stood_before}
+use Rattle.abt_agent.proofs.Tracks.{new_domains, new_stamps, stands_still, stood_before}
 use Rattle.abt_agent.proofs.knowledge.Knowledge.learn.Goals as goal
 
 pub after_view-requires-clause-domains : goal.after_view-requires-clause-domains
@@ -52,4 +52,26 @@ returns-clause-in_step c =
       problem = c.after_view.ensures.problem ∙ in_step.problem;
       agent = c.after_view.ensures.agent ∙ in_step.agent;
       stands = c.after_view.ensures.stands;
+    }
+
+pub returns-then-len-kept-clause-in_step : goal.returns-then-len-kept-clause-in_step
+returns-then-len-kept-clause-in_step c =
+    let in_step = c.requires.in_step in
+    let in_range : SFits w64 c.args.told.value = search rules in
+    let same = to_z-of_z w64 c.args.told.value in_range in
+    let old = view_of c.args.self.now.view in
+    let new = view_of c.learn.new.self in
+    let store = c.args.self.now.store in
+    let seen = subst (λ (z : ℤ). new ≡ update old c.args.from (Some (record { value = z; stamp = c.args.told.stamp }))) same c.if-not-learn.ensures.view in
+    let left = subst (λ (z : ℤ). c.forget.new.self ≡ filter (fits c.args.from z) store) same c.forget.ensures.items in
+    let was = subst (λ (z : ℤ). values_in old c.args.from ≡ Some z) same (c.knows-was_known.ensures c.if-was_known.true) in
+    let size : length c.forget.new.self ≡ length store = omega (arith, c.len.ensures, c.len-kept.ensures, c.if-len-kept.true) in
+    record {
+      me_exists = in_step.me_exists;
+      view = c.learn.ensures.slots ∙ in_step.view;
+      domains = new_domains old new c.args.from (record { value = c.args.told.value; stamp = c.args.told.stamp }) seen (csp_of c.args.self.now.problem.now) c.requires.value in_step.domains;
+      stamps = new_stamps old new c.args.from (record { value = c.args.told.value; stamp = c.args.told.stamp }) seen c.requires.stamped in_step.stamps;
+      problem = in_step.problem;
+      agent = in_step.agent;
+      stands = stands_still old new c.args.from (record { value = c.args.told.value; stamp = c.args.told.stamp }) seen c.args.self.now.reasons store c.forget.new.self in_step.stands left was size;
     }

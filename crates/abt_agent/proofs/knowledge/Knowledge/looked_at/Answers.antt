@@ -1,4 +1,4 @@
-use Rattle.std.proofs.Common.{◌≡◌, ◌+◌, ◌<◌, ◌≤◌, ◌∙◌, length, Some, None, ap, sym, subst, arith, ℕ, List}
+use Rattle.std.proofs.Common.{length, Some, None, ap, sym, subst, arith, ℕ, List}
 use Rattle.dcsp_defs.specs.Csp.{with_value}
 use Rattle.abt_defs.specs.Agents.{values_in}
 use Rattle.abt_parts.specs.Views.{view_of}

@@ -1,5 +1,6 @@
 use Rattle.std.proofs.Common.{rules, ◌≡◌, sym, ◌∷◌, [], ◌++◌, length, subst, Some, slice_get}
-use Rattle.abt_files.proofs.Places.{get_front, get_last}
+use Rattle.dcsp_common.proofs.Items.{get_front}
+use Rattle.abt_files.proofs.Places.{get_last}
 use Rattle.abt_files.proofs.open_files.OpenFiles+D+D+File.make_room.Goals as goal
 
 pub returns-clause-named : goal.returns-clause-named

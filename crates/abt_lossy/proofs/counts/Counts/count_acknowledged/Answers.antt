@@ -1,7 +1,7 @@
 use Rattle.std.proofs.Common.{◌∙◌, sym, ap}
 use Rattle.std.specs.Prelude.{◌+◌}
 use Rattle.std.proofs.Math.Path.{fun_ext}
-use Rattle.law_lossy.specs.World.{raised}
+use Rattle.law_runs.specs.Worlds.{raised}
 use Rattle.abt_lossy.specs.Carries.{Counts, acknowledged_in, acknowledged_of, counts_at, handed_up_in, handed_up_of}
 use Rattle.abt_lossy.proofs.Pairs.{read_after, same_after}
 use Rattle.abt_lossy.proofs.counts.Counts.count_acknowledged.Goals as goal

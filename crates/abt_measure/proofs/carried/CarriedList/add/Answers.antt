@@ -1,4 +1,4 @@
-use Rattle.std.proofs.Common.{◌≡◌, ◌∙◌, ap, rules, ◌++◌, ◌∷◌, [], ℕ}
+use Rattle.std.proofs.Common.{◌∙◌, ap, rules}
 use Rattle.abt_measure.specs.Carrying.{clocks_from}
 use Rattle.abt_measure.proofs.CarryLaws.{clocks_added}
 use Rattle.abt_measure.proofs.carried.CarriedList.add.Goals as goal

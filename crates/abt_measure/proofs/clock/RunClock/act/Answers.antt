@@ -1,5 +1,4 @@
-use Rattle.std.proofs.Common.{◌≡◌, ◌∙◌, ◌+◌, ◌++◌, ℕ, List, Result, Ok, Err, set, max, ap, refl}
-use Rattle.std.specs.Prelude.{OnOk}
+use Rattle.std.proofs.Common.{◌≡◌, ◌∙◌, ◌+◌, ◌++◌, ℕ, List, set, max, ap}
 use Rattle.abt_defs.specs.Clocks.{Event}
 use Rattle.abt_measure.specs.declared.carried.Carried.{Carried}
 use Rattle.abt_measure.specs.Carrying.{clocks_on, receivers_of, sent_with}

@@ -1,10 +1,10 @@
-use Rattle.std.proofs.Common.{◌≡◌, ◌∙◌, ℕ, List, Option, get_or, set, ap, sym, subst, length}
+use Rattle.std.proofs.Common.{◌≡◌, ◌∙◌, List, Option, get_or, set, ap}
 use Rattle.std.proofs.lemmas.List.{get_or_default}
 use Rattle.abt_parts.specs.declared.message.MessageKind.{MessageKind}
 use Rattle.abt_agent.specs.Examined.{as_checks}
 use Rattle.abt_measure.specs.declared.row.Row.{Row}
 use Rattle.abt_measure.specs.Rows.{as_row, came_kinds, kinds_sent, row_after, blank_row}
-use Rattle.abt_measure.specs.Counting.{kind_in, row_at}
+use Rattle.abt_measure.specs.Counting.{row_at}
 use Rattle.abt_measure.proofs.ClockLaws.{on_ok}
 use Rattle.abt_measure.proofs.CountLaws.{rows_more}
 use Rattle.abt_measure.proofs.counts.Rows.count.Goals as goal

@@ -1,4 +1,4 @@
-use Rattle.std.proofs.Common.{◌≡◌, ◌∙◌, List, ap, sym, subst}
+use Rattle.std.proofs.Common.{◌∙◌, List, ap, sym, subst}
 use Rattle.std.specs.Prelude.{OnOk}
 use Rattle.dcsp_defs.specs.declared.nogood.Pair.{Pair}
 use Rattle.abt_parts.specs.declared.message.Message.{Message}

@@ -2,7 +2,7 @@ use Rattle.std.proofs.Common.{◌≡◌, ap, length, subst, sym, ◌∙◌}
 use Rattle.std.specs.Prelude.{not, ◌&&◌, IfSome, Option, Some, None}
 use Rattle.dcsp_defs.specs.Csp.{filled}
 use Rattle.dcsp_rule.specs.Problems.{csp_of, constraint_at, rule_at}
-use Rattle.dcsp_rule.specs.declared.pair.Pair.{Pair}
+use Rattle.dcsp_rule.specs.declared.pair.BinaryRule.{BinaryRule}
 use Rattle.dcsp_rule.specs.Pairs.{IsPairOf}
 use Rattle.dcsp_rule.specs.Forms.{form_has, found_truth, pair_in, pair_or_truth}
 use Rattle.dcsp_problem.proofs.Reading.{constraint_ok, rule_read}
@@ -16,13 +16,13 @@ returns-in-Some g c =
     let p = c.args.self.now in
     let ok = a_rule p c.args.rule c.form-form.ensures.problem c.requires.rule in
     let there : pair_in c.form-form.result.now ≡ Some c.in-Some.pair = sym c.pair.ensures ∙ c.in-Some.is in
-    let is = subst (λ (o : Option Pair). IfSome o (λ pair. IsPairOf pair (rule_at p c.args.rule))) there c.form-form.ensures.form.pair in
+    let is = subst (λ (o : Option BinaryRule). IfSome o (λ pair. IsPairOf pair (rule_at p c.args.rule))) there c.form-form.ensures.form.pair in
     c.is_missed.ensures ∙ missed_is (length p.domains) (rule_at p c.args.rule) c.in-Some.pair ok is (g.L.Lookup.values c.args.lookup.now)
 
 pub is_missed-requires : goal.is_missed-requires
 is_missed-requires g c =
     let there : pair_in c.form-form.result.now ≡ Some c.in-Some.pair = sym c.pair.ensures ∙ c.in-Some.is in
-    (subst (λ (o : Option Pair). IfSome o (λ pair. IsPairOf pair (rule_at c.args.self.now c.args.rule))) there c.form-form.ensures.form.pair).small
+    (subst (λ (o : Option BinaryRule). IfSome o (λ pair. IsPairOf pair (rule_at c.args.self.now c.args.rule))) there c.form-form.ensures.form.pair).small
 
 pub is_true_under-requires-clause-shape : goal.is_true_under-requires-clause-shape
 is_true_under-requires-clause-shape g c =
@@ -42,6 +42,6 @@ returns-then-knows_scope g c =
     let form = c.form-form.result.now in
     let rule = rule_at p c.args.rule in
     let none : pair_in form ≡ None = sym c.pair.ensures ∙ c.in-None.is in
-    let found : found_truth (form_has form) rule values ≡ pair_or_truth (pair_in form) (form_has form) rule values = sym (ap (λ (o : Option Pair). pair_or_truth o (form_has form) rule values) none) in
+    let found : found_truth (form_has form) rule values ≡ pair_or_truth (pair_in form) (form_has form) rule values = sym (ap (λ (o : Option BinaryRule). pair_or_truth o (form_has form) rule values) none) in
     ap not (c.is_true_under.ensures ∙ ap (λ r. found_truth (form_has form) r values) (rule_read p c.args.rule c.rule.result.now c.rule.ensures) ∙ found ∙ c.form-form.ensures.form.truth values)
     ∙ sym (ap (λ b. b && not ((constraint_at p c.args.rule).test values)) (sym c.knows_scope.ensures ∙ c.if-knows_scope.true))

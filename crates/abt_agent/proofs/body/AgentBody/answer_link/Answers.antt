@@ -1,0 +1,24 @@
+use Rattle.std.proofs.Common.{length, refl}
+use Rattle.abt_parts.specs.Views.{view_of}
+use Rattle.abt_parts.specs.Stores.{records_of}
+use Rattle.abt_agent.specs.States.{has_mark}
+use Rattle.abt_agent.proofs.Rising.{told_more, exist_more}
+use Rattle.abt_agent.proofs.body.AgentBody.answer_link.Goals as goal
+
+pub returns-clause-does : goal.returns-clause-does
+returns-clause-does c =
+    let b = c.args.self.now in
+    let sized = c.requires.good.sized in
+    let added = c.in_ok-add_rising.ensures in
+    let told = told_more b.tells.items c.add_rising.new.agents.items c.args.from added.among in
+    record {
+      agent = λ x. record { value = b.value; stamp = b.stamp; waits = b.waits; view = view_of b.known.view; recorded = records_of b.known.store; tells = λ k. told k x; linked = has_mark b.linked };
+      sent = c.in_ok-tell_own.ensures;
+      turn_is = (refl, refl);
+      sized = record {
+        in_step = sized.in_step;
+        linked = sized.linked;
+        tells = added.rising;
+        told_exist = exist_more b.tells.items c.add_rising.new.agents.items c.args.from added.among (length b.known.problem.now.domains) c.requires.exists sized.told_exist;
+      };
+    }

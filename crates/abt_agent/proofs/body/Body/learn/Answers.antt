@@ -1,5 +1,0 @@
-use Rattle.abt_agent.proofs.Learns.{sized_still}
-use Rattle.abt_agent.proofs.body.Body.learn.Goals as goal
-
-pub returns-clause-sized : goal.returns-clause-sized
-returns-clause-sized c = sized_still c.args.self.now c.learn.new.self c.requires.sized c.learn.ensures.owner c.learn.ensures.in_step

@@ -1,0 +1,32 @@
+use Rattle.std.proofs.Common.{refl}
+use Rattle.abt_words.specs.declared.rows.LineName.TheVariants as names
+use Rattle.abt_words.specs.Values.{said_in}
+use Rattle.abt_command.proofs.Lines.{at_least, at_most}
+use Rattle.abt_command.proofs.request.request_of.Goals as goal
+
+pub starve_of-requires-clause-from : goal.starve_of-requires-clause-from
+starve_of-requires-clause-from c = at_most c.requires.0 (said_in c.args.said.now) c.requires.1 names.Starve c.in-Starve.is 1 _ 1 4096 refl refl
+
+pub starve_of-requires-clause-to : goal.starve_of-requires-clause-to
+starve_of-requires-clause-to c = at_most c.requires.0 (said_in c.args.said.now) c.requires.1 names.Starve c.in-Starve.is 2 _ 1 4096 refl refl
+
+pub lossy_of-requires : goal.lossy_of-requires
+lossy_of-requires c = at_most c.requires.0 (said_in c.args.said.now) c.requires.1 names.Lossy c.in-Lossy.is 2 _ 0 1000000 refl refl
+
+pub queens_of-requires : goal.queens_of-requires
+queens_of-requires c = at_most c.requires.0 (said_in c.args.said.now) c.requires.1 names.Queens c.in-Queens.is 0 _ 1 200 refl refl
+
+pub colouring_of-requires-clause-nodes : goal.colouring_of-requires-clause-nodes
+colouring_of-requires-clause-nodes c = at_most c.requires.0 (said_in c.args.said.now) c.requires.1 names.Colouring c.in-Colouring.is 0 _ 1 200 refl refl
+
+pub colouring_of-requires-clause-colours : goal.colouring_of-requires-clause-colours
+colouring_of-requires-clause-colours c = at_most c.requires.0 (said_in c.args.said.now) c.requires.1 names.Colouring c.in-Colouring.is 1 _ 1 16 refl refl
+
+pub sparse_of-requires : goal.sparse_of-requires
+sparse_of-requires c = at_most c.requires.0 (said_in c.args.said.now) c.requires.1 names.Sparse c.in-Sparse.is 0 _ 1 4096 refl refl
+
+pub pigeons_of-requires : goal.pigeons_of-requires
+pigeons_of-requires c = at_most c.requires.0 (said_in c.args.said.now) c.requires.1 names.Pigeons c.in-Pigeons.is 0 _ 2 200 refl refl
+
+pub survey_of-requires : goal.survey_of-requires
+survey_of-requires c = at_least c.requires.0 (said_in c.args.said.now) c.requires.1 names.Survey c.in-Survey.is 1 _ 1 1000000 refl refl

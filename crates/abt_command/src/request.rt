@@ -1,0 +1,370 @@
+//! What the words ask for, and how it is run.
+
+ghost use Rattle.std.specs.Prelude.{◌≡◌, ◌≤◌, ℕ, List, false, map, string_bytes, IfSome, IsNone};
+ghost use Rattle.dcsp_outside.specs.Outside.{Place};
+ghost use Rattle.dcsp_script.specs.Scripts.{outside};
+ghost use Rattle.abt_promise.specs.Runs.{CameIn};
+ghost use Rattle.abt_input.specs.Errors.{way_of};
+ghost use Rattle.abt_words.specs.declared.rows.LineName.TheVariants as names;
+ghost use Rattle.abt_words.specs.Rows.{the_rows};
+ghost use Rattle.abt_words.specs.Saying.{IsSaidBy};
+ghost use Rattle.abt_words.specs.Values.{said_in};
+ghost use Rattle.line_replay.specs.Settings.{settings_of};
+ghost use Rattle.abt_command.specs.Lines.{CameMeans, IsLine, IsNoLine, IsSomeLine, line_by, line_named, line_of, number_at, promise_of, settings_at, value_of, IsRequest};
+
+use crate::plain::{VERSION, print_help, print_usage};
+use abt_input::CommandError;
+use abt_promise::Status;
+use abt_words::{LineName, Said, said_of};
+use dcsp_outside::{Folder, Sink};
+use line_check::{Check, run_check};
+use line_cnf::{Cnf, run_cnf, run_rup};
+use line_drill::run_drill;
+use line_export::{ExportLine, run_export};
+use line_lossy::{Losses, run_lossy};
+use line_measure::{Measure, Survey, run_measure, run_survey};
+use line_model::{print, run_bound, run_colouring, run_pigeons, run_queens, run_sparse};
+use line_replay::{MOST_DELIVERIES, Options, Replay, Solve, run_replay};
+use line_rewrite::{CoreLine, run_core, run_upgrade};
+use line_solve::run_solve;
+use line_starve::{Starve, run_starve};
+use std::alloc::Global;
+
+/// What the words ask for.
+pub enum Request<'w> {
+    /// `--help`: what the program takes.
+    Help,
+    /// `--version`: the program's version and its toolchain.
+    Version,
+    /// `--usage`: the rows, for scripts.
+    Usage,
+    /// `check MODEL LOG [--better N]`: whether the log refutes the model; or where a bound is given, that a solution has
+    /// a better value at the model's aim.
+    Check(Check<'w>),
+    /// `replay MODEL SCHEDULE LOG [--trace]`: a run under the choices of the schedule.
+    Replay(Replay<'w>),
+    /// `solve MODEL LOG [--seed N] [--choices N] [--record FILE] [--trace] [--each]`: a run under the choices of a seed,
+    /// which is 0 where none is given; they are at most 2^40, which is their number where none is given. Where the model
+    /// asks for the best value, a search of such runs, which may put each solution.
+    Solve(Solve<'w>),
+    /// `measure MODEL SCHEDULE`: the measures of the run under the choices of the schedule.
+    Measure(Measure<'w>),
+    /// `survey MODEL COUNT [--from SEED]`: the measures of the runs of so many seeds, from 1 to 1,000,000, the first of
+    /// which is 0 where none is given, and the last of which has 64 bits.
+    Survey(Survey<'w>),
+    /// `bound MODEL`: how many messages a run delivers at most.
+    Bound { model: &'w str },
+    /// `gen queens N`: the problem of so many queens, from 1 to 200.
+    GenQueens { n: u32 },
+    /// `gen colouring N K SEED`: the colouring of `n` nodes, from 1 to 200, with `k` colours, from 1 to 16.
+    GenColouring { n: u32, k: u32, seed: u64 },
+    /// `gen sparse N SEED`: the colouring of `n` nodes, from 1 to 4,096, with few edges.
+    GenSparse { n: u32, seed: u64 },
+    /// `gen pigeons N`: the problem of so many pigeons, from 2 to 200, in one hole less.
+    GenPigeons { n: u32 },
+    /// `drill SEED`: runs of three generated models under the choices of a seed.
+    Drill { seed: u64 },
+    /// `upgrade LOG NEW`: NEW takes the log with the deletions that it allows.
+    Upgrade { log: &'w str, new: &'w str },
+    /// `core MODEL LOG TRIMMED [--better N]`: which constraints the refutation uses; TRIMMED takes the steps that it needs.
+    Core(CoreLine<'w>),
+    /// `export MODEL LOG CNF PROOF [--atoms] [--better N]`: CNF and PROOF take the refutation as a formula and a proof
+    /// about it, with comments that tell what its variables say where they are asked for; or where a bound is given,
+    /// the refutation of a better value at the model's aim.
+    Export(ExportLine<'w>),
+    /// `starve MODEL FROM TO FILE`: FILE takes the choices of the run that delivers from one agent to another, both
+    /// counted from 1 and at most 4,096, only where nothing else is in transit.
+    Starve(Starve<'w>),
+    /// `lossy MODEL LOG EVENTS SEED [--record FILE]`: a run over a medium that loses, repeats and reorders in so many
+    /// events, at most 1,000,000, which are drawn from a seed.
+    Lossy(Losses<'w>),
+    /// `rup CNF PROOF`: whether the proof shows that the formula cannot be satisfied.
+    Rup { cnf: &'w str, proof: &'w str },
+    /// `cnf CNF PROOF [--seed N]`: a run of the formula's agents under the choices of a seed, which is 0 where
+    /// none is given. A proof is written where the formula cannot be satisfied.
+    Cnf(Cnf<'w>),
+}
+
+impl Request<'_> {
+    /// Runs the line, up to what is said of it on `err`.
+    pub fn run<F: Folder, S: Sink>(
+        self,
+        alloc: Global,
+        folder: &mut F,
+        out: &mut S,
+    ) -> Result<Status, CommandError>
+        requires { IsSomeLine (line_of self) }
+        ensures came { CameIn (promise_of (line_of self.entry))
+            (outside (F.place folder.old) (S.stream out.old))
+            (outside (F.place folder.new) (S.stream out.new)) (way_of result) }
+        ensures means { CameMeans (value_of (line_of self.entry)).meaning
+            (outside (F.place folder.old) (S.stream out.old)) (outside (F.place folder.new) (S.stream out.new)) result }
+    {
+        match self {
+            Request::Help => print_help(alloc, out),
+            Request::Version => print(out, VERSION),
+            Request::Usage => print_usage(alloc, out),
+            Request::Check(line) => run_check(alloc, folder, line, out),
+            Request::Replay(line) => run_replay(alloc, folder, line, out),
+            Request::Solve(line) => run_solve(alloc, folder, line, out),
+            Request::Measure(line) => run_measure(alloc, folder, line, out),
+            Request::Survey(line) => run_survey(alloc, folder, line, out),
+            Request::Bound { model } => run_bound(alloc, folder, model, out),
+            Request::GenQueens { n } => run_queens(alloc, n, out),
+            Request::GenColouring { n, k, seed } => run_colouring(alloc, n, k, seed, out),
+            Request::GenSparse { n, seed } => run_sparse(alloc, n, seed, out),
+            Request::GenPigeons { n } => run_pigeons(alloc, n, out),
+            Request::Drill { seed } => run_drill(alloc, seed, out),
+            Request::Upgrade { log, new } => run_upgrade(alloc, folder, log, new, out),
+            Request::Core(line) => run_core(alloc, folder, line, out),
+            Request::Export(line) => run_export(alloc, folder, line, out),
+            Request::Starve(line) => run_starve(alloc, folder, line, out),
+            Request::Lossy(line) => run_lossy(alloc, folder, line, out),
+            Request::Rup { cnf, proof } => run_rup(alloc, folder, cnf, proof, out),
+            Request::Cnf(line) => run_cnf(alloc, folder, line, out),
+        }
+    }
+}
+
+/// The request that the words are, after the program's own name. `None` comes exactly where the words are no
+/// line of the program, which the rows of `abt_words` list.
+pub fn words_of(words: &[String]) -> Option<Request<'_>>
+    ensures some { IfSome result (λ request. IsLine (map string_bytes words.now) (line_of request)) }
+    ensures none { IsNone result → IsNoLine (map string_bytes words.now) }
+{
+    let said = said_of(words)?;
+    request_of(&said)
+}
+
+/// The request that this says. `None` comes exactly where its numbers do not go together.
+fn request_of<'w>(said: &Said<'w>) -> Option<Request<'w>>
+    requires { (words : List (List ℕ)) × IsSaidBy the_rows words (said_in said.now) }
+    ensures some { IfSome result (λ request. IsRequest request (line_by (said_in said.now))) }
+    ensures none { IsNone result → (value_of (line_by (said_in said.now))).within ≡ false }
+{
+    match said.row.line {
+        LineName::Solve => Some(solve_of(said)),
+        LineName::Replay => Some(replay_of(said)),
+        LineName::Check => Some(check_of(said)),
+        LineName::Upgrade => Some(upgrade_of(said)),
+        LineName::Core => Some(core_of(said)),
+        LineName::Export => Some(export_of(said)),
+        LineName::Starve => Some(starve_of(said)),
+        LineName::Lossy => Some(lossy_of(said)),
+        LineName::Measure => Some(measure_of(said)),
+        LineName::Survey => survey_of(said),
+        LineName::Bound => Some(bound_of(said)),
+        LineName::Queens => Some(queens_of(said)),
+        LineName::Colouring => Some(colouring_of(said)),
+        LineName::Sparse => Some(sparse_of(said)),
+        LineName::Pigeons => Some(pigeons_of(said)),
+        LineName::Drill => Some(drill_of(said)),
+        LineName::Cnf => Some(cnf_of(said)),
+        LineName::Rup => Some(rup_of(said)),
+        LineName::Help => Some(Request::Help),
+        LineName::Version => Some(Request::Version),
+        LineName::Usage => Some(Request::Usage),
+    }
+}
+
+fn solve_of<'w>(said: &Said<'w>) -> Request<'w>
+    ensures { line_of result ≡ line_named names.Solve (said_in said.now) }
+{
+    Request::Solve(Solve {
+        model: said.value(0).name(),
+        log: said.value(1).name(),
+        options: options_of(said),
+    })
+}
+
+/// How the run of `solve` is made.
+fn options_of<'w>(said: &Said<'w>) -> Options<'w>
+    ensures { settings_of result ≡ settings_at (said_in said.now) }
+{
+    let choices = said.setting("--choices").given_number();
+    Options {
+        seed: said.setting("--seed").given_number().unwrap_or(0),
+        choices: choices.unwrap_or(MOST_DELIVERIES),
+        kept: said.setting("--record").given_name(),
+        trace: said.setting("--trace").is_given(),
+        each: said.setting("--each").is_given(),
+    }
+}
+
+fn replay_of<'w>(said: &Said<'w>) -> Request<'w>
+    ensures { line_of result ≡ line_named names.Replay (said_in said.now) }
+{
+    Request::Replay(Replay {
+        model: said.value(0).name(),
+        schedule: said.value(1).name(),
+        log: said.value(2).name(),
+        trace: said.setting("--trace").is_given(),
+    })
+}
+
+fn check_of<'w>(said: &Said<'w>) -> Request<'w>
+    ensures { line_of result ≡ line_named names.Check (said_in said.now) }
+{
+    Request::Check(Check {
+        model: said.value(0).name(),
+        log: said.value(1).name(),
+        better: said.setting("--better").given_signed(),
+    })
+}
+
+fn upgrade_of<'w>(said: &Said<'w>) -> Request<'w>
+    ensures { line_of result ≡ line_named names.Upgrade (said_in said.now) }
+{
+    Request::Upgrade {
+        log: said.value(0).name(),
+        new: said.value(1).name(),
+    }
+}
+
+fn core_of<'w>(said: &Said<'w>) -> Request<'w>
+    ensures { line_of result ≡ line_named names.Core (said_in said.now) }
+{
+    let better = said.setting("--better").given_signed();
+    Request::Core(CoreLine {
+        model: said.value(0).name(),
+        log: said.value(1).name(),
+        trimmed: said.value(2).name(),
+        better,
+    })
+}
+
+fn export_of<'w>(said: &Said<'w>) -> Request<'w>
+    ensures { line_of result ≡ line_named names.Export (said_in said.now) }
+{
+    let better = said.setting("--better").given_signed();
+    Request::Export(ExportLine {
+        model: said.value(0).name(),
+        log: said.value(1).name(),
+        cnf: said.value(2).name(),
+        proof: said.value(3).name(),
+        atoms: said.setting("--atoms").is_given(),
+        better,
+    })
+}
+
+fn starve_of<'w>(said: &Said<'w>) -> Request<'w>
+    requires from { number_at (said_in said.now) 1 ≤ 4096 }
+    requires to { number_at (said_in said.now) 2 ≤ 4096 }
+    ensures { line_of result ≡ line_named names.Starve (said_in said.now) }
+{
+    Request::Starve(Starve {
+        model: said.value(0).name(),
+        from: said.value(1).number() as u32,
+        to: said.value(2).number() as u32,
+        file: said.value(3).name(),
+    })
+}
+
+fn lossy_of<'w>(said: &Said<'w>) -> Request<'w>
+    requires { number_at (said_in said.now) 2 ≤ 1000000 }
+    ensures { line_of result ≡ line_named names.Lossy (said_in said.now) }
+{
+    Request::Lossy(Losses {
+        model: said.value(0).name(),
+        log: said.value(1).name(),
+        events: said.value(2).number() as u32,
+        seed: said.value(3).number(),
+        kept: said.setting("--record").given_name(),
+    })
+}
+
+fn measure_of<'w>(said: &Said<'w>) -> Request<'w>
+    ensures { line_of result ≡ line_named names.Measure (said_in said.now) }
+{
+    Request::Measure(Measure {
+        model: said.value(0).name(),
+        schedule: said.value(1).name(),
+    })
+}
+
+fn survey_of<'w>(said: &Said<'w>) -> Option<Request<'w>>
+    requires { 1 ≤ number_at (said_in said.now) 1 }
+    ensures some { IfSome result (λ request. IsRequest request (line_named names.Survey (said_in said.now))) }
+    ensures none { IsNone result → (value_of (line_named names.Survey (said_in said.now))).within ≡ false }
+{
+    let model = said.value(0).name();
+    let count = said.value(1).number();
+    let from = said.setting("--from").given_number().unwrap_or(0);
+    let _last = from.checked_add(count - 1)?;
+    Some(Request::Survey(Survey { model, count, from }))
+}
+
+fn bound_of<'w>(said: &Said<'w>) -> Request<'w>
+    ensures { line_of result ≡ line_named names.Bound (said_in said.now) }
+{
+    Request::Bound {
+        model: said.value(0).name(),
+    }
+}
+
+fn queens_of<'w>(said: &Said<'w>) -> Request<'w>
+    requires { number_at (said_in said.now) 0 ≤ 200 }
+    ensures { line_of result ≡ line_named names.Queens (said_in said.now) }
+{
+    Request::GenQueens {
+        n: said.value(0).number() as u32,
+    }
+}
+
+fn colouring_of<'w>(said: &Said<'w>) -> Request<'w>
+    requires nodes { number_at (said_in said.now) 0 ≤ 200 }
+    requires colours { number_at (said_in said.now) 1 ≤ 16 }
+    ensures { line_of result ≡ line_named names.Colouring (said_in said.now) }
+{
+    Request::GenColouring {
+        n: said.value(0).number() as u32,
+        k: said.value(1).number() as u32,
+        seed: said.value(2).number(),
+    }
+}
+
+fn sparse_of<'w>(said: &Said<'w>) -> Request<'w>
+    requires { number_at (said_in said.now) 0 ≤ 4096 }
+    ensures { line_of result ≡ line_named names.Sparse (said_in said.now) }
+{
+    Request::GenSparse {
+        n: said.value(0).number() as u32,
+        seed: said.value(1).number(),
+    }
+}
+
+fn pigeons_of<'w>(said: &Said<'w>) -> Request<'w>
+    requires { number_at (said_in said.now) 0 ≤ 200 }
+    ensures { line_of result ≡ line_named names.Pigeons (said_in said.now) }
+{
+    Request::GenPigeons {
+        n: said.value(0).number() as u32,
+    }
+}
+
+fn drill_of<'w>(said: &Said<'w>) -> Request<'w>
+    ensures { line_of result ≡ line_named names.Drill (said_in said.now) }
+{
+    Request::Drill {
+        seed: said.value(0).number(),
+    }
+}
+
+fn cnf_of<'w>(said: &Said<'w>) -> Request<'w>
+    ensures { line_of result ≡ line_named names.Cnf (said_in said.now) }
+{
+    Request::Cnf(Cnf {
+        cnf: said.value(0).name(),
+        proof: said.value(1).name(),
+        seed: said.setting("--seed").given_number().unwrap_or(0),
+    })
+}
+
+fn rup_of<'w>(said: &Said<'w>) -> Request<'w>
+    ensures { line_of result ≡ line_named names.Rup (said_in said.now) }
+{
+    Request::Rup {
+        cnf: said.value(0).name(),
+        proof: said.value(1).name(),
+    }
+}

@@ -1,5 +1,0 @@
-use Rattle.law_generated.proofs.Generators.{generated_lines_resolve}
-use Rattle.law_generated.proofs.generated_lines_resolve.Goals as goal
-
-pub returns : goal.returns
-returns c = generated_lines_resolve

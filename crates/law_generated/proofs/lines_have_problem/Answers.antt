@@ -1,5 +1,0 @@
-use Rattle.law_generated.proofs.Whole.{lines_say_problem, lines_have_problem}
-use Rattle.law_generated.proofs.lines_have_problem.Goals as goal
-
-pub returns : goal.returns
-returns c = record { problem = lines_say_problem; items = lines_have_problem }

@@ -1,5 +1,0 @@
-use Rattle.law_generated.proofs.ItemTexts.{texts_are_lines}
-use Rattle.law_generated.proofs.texts_are_lines.Goals as goal
-
-pub returns : goal.returns
-returns c = texts_are_lines

@@ -1,5 +1,0 @@
-pub mod Lines
-pub mod Says
-pub mod Laws
-pub mod Problems
-pub mod Generated

@@ -1,3 +1,0 @@
-pub mod Domains
-pub mod Lengths
-pub mod Writable

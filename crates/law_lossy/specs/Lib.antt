@@ -1,9 +1,0 @@
-pub mod Packets
-pub mod World
-pub mod Deliveries
-pub mod Ends
-pub mod Facts
-pub mod Links
-pub mod Run
-pub mod Verdicts
-pub mod Calm

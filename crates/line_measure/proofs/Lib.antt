@@ -1,0 +1,5 @@
+pub mod Lawful
+pub mod NumberLaws
+pub mod Growing
+pub mod LearnedLines
+pub mod SurveyLaws

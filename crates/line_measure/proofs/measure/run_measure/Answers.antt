@@ -1,0 +1,21 @@
+use Rattle.abt_input.proofs.Keeping.{kept, came_unread, came_read, came_answer_with, came_stopped}
+use Rattle.line_measure.specs.MeasurePromise.{measure_plan}
+use Rattle.line_measure.proofs.Lawful.{measure_sound}
+use Rattle.line_measure.proofs.measure.run_measure.Goals as goal
+
+pub returns-in_err-problem : goal.returns-in_err-problem
+returns-in_err-problem g c = kept measure_plan (measure_sound c.args.line.model.now c.args.line.schedule.now) (came_unread _ c.from_residual.ensures c.in_err-problem.ensures)
+
+pub returns-in_err-choices : goal.returns-in_err-choices
+returns-in_err-choices g c =
+    kept measure_plan (measure_sound c.args.line.model.now c.args.line.schedule.now) (came_read c.in_ok-problem.ensures (came_unread _ c.from_residual-in_err-choices.ensures c.in_err-choices.ensures))
+
+pub returns-in_err-status : goal.returns-in_err-status
+returns-in_err-status g c =
+    kept measure_plan (measure_sound c.args.line.model.now c.args.line.schedule.now)
+    (came_read c.in_ok-problem.ensures (came_read c.in_ok-choices.ensures (came_stopped _ c.from_residual-in_err-status.ensures (c.in_err-status.ensures.wrote (g.F.Folder.place c.read_choices.new.folder)))))
+
+pub returns : goal.returns
+returns g c =
+    kept measure_plan (measure_sound c.args.line.model.now c.args.line.schedule.now)
+    (came_read c.in_ok-problem.ensures (came_read c.in_ok-choices.ensures (came_answer_with _ c.in_ok-status.ensures.status (c.in_ok-status.ensures.wrote (g.F.Folder.place c.read_choices.new.folder)))))

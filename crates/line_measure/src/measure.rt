@@ -1,0 +1,128 @@
+//! The line `measure MODEL SCHEDULE`.
+
+ghost use Rattle.std.specs.Prelude.{◌≡◌, ◌++◌, List, IfOk, OnOk, length};
+ghost use Rattle.dcsp_outside.specs.Outside.{Place, Stream};
+ghost use Rattle.dcsp_script.specs.Scripts.{outside};
+ghost use Rattle.dcsp_script.specs.Ways.{Wrote};
+ghost use Rattle.dcsp_rule.specs.Problems.{csp_of};
+ghost use Rattle.abt_defs.specs.Network.{Network as TheNetwork};
+ghost use Rattle.abt_defs.specs.Events.{Act};
+ghost use Rattle.abt_network.specs.Standing.{StandsAt};
+ghost use Rattle.abt_measure.specs.Counting.{AreRows};
+ghost use Rattle.abt_measure.specs.Learning.{AreLearned};
+ghost use Rattle.abt_promise.specs.Runs.{CameIn};
+ghost use Rattle.abt_input.specs.Errors.{way_of};
+ghost use Rattle.line_measure.specs.Numbers.{listed, numbers_of};
+ghost use Rattle.line_measure.specs.Texts.{each_text, measures_text};
+ghost use Rattle.line_measure.specs.MeasurePromise.{measure_promise, measure_script, status_at};
+
+use crate::agents::{push_agents, push_learned};
+use crate::numbers::numbers_of;
+use crate::texts::push_head;
+use abt_input::{CommandError, read_choices, read_model};
+use abt_measure::{MeasuredRun, measure_run};
+use abt_network::Standing;
+use abt_promise::Status;
+use abt_schedule::Listed;
+use dcsp_common::Memory;
+use dcsp_outside::{Folder, Sink};
+use dcsp_problem::Problem;
+use dcsp_script::{Stop, put};
+use std::alloc::Global;
+
+/// The most deliveries of a run.
+pub const MOST_DELIVERIES: u64 = 1 << 40;
+
+/// The words of `measure`.
+#[derive(Clone, Copy)]
+pub struct Measure<'w> {
+    /// The name of the model.
+    pub model: &'w str,
+    /// The name of the schedule whose choices the run takes.
+    pub schedule: &'w str,
+}
+
+/// Runs the model under the choices of the schedule, which is read after it, and tells the run's measures.
+pub fn run_measure<F: Folder, S: Sink>(
+    alloc: Global,
+    folder: &mut F,
+    line: Measure<'_>,
+    out: &mut S,
+) -> Result<Status, CommandError>
+    ensures { CameIn (measure_promise line.entry.model.now line.entry.schedule.now)
+        (outside (F.place folder.old) (S.stream out.old))
+        (outside (F.place folder.new) (S.stream out.new)) (way_of result) }
+{
+    let problem = read_model(alloc, folder, line.model)?;
+    let choices = read_choices(alloc, folder, line.schedule)?;
+    let status = tell_measures(alloc, &problem, choices, out)?;
+    Ok(status)
+}
+
+/// Makes the run, and puts its measures in one piece.
+fn tell_measures<S: Sink>(
+    alloc: Global,
+    problem: &Problem,
+    choices: Listed,
+    out: &mut S,
+) -> Result<Status, Stop>
+    ensures wrote { (folder : Place) → Wrote (measure_script problem.now choices) (outside folder (S.stream out.old)) (outside folder (S.stream out.new)) result }
+    ensures status { IfOk result (λ status. status ≡ status_at (numbers_of (csp_of problem.now) (listed choices)).end) }
+{
+    let mut choices = choices;
+    let mut text = Vec::new(alloc);
+    let Ok(end) = push_run(alloc, problem, &mut choices, &mut text) else {
+        return Err(Stop::Memory);
+    };
+    put(out, &text)?;
+    Ok(status_of(end))
+}
+
+/// Makes the run, and pushes its measures.
+fn push_run(
+    alloc: Global,
+    problem: &Problem,
+    choices: &mut Listed,
+    into: &mut Vec<u8>,
+) -> Result<Standing, Memory>
+    ensures text { IfOk result (λ end. into.new.items ≡ into.old.items ++ measures_text (csp_of problem.now) (listed choices.old)) }
+    ensures end { IfOk result (λ end. end ≡ (numbers_of (csp_of problem.now) (listed choices.old)).end) }
+{
+    let run = measure_run(alloc, problem, choices, MOST_DELIVERIES, true)?;
+    let numbers = numbers_of(&run)?;
+    let Ok(()) = push_head(&numbers, into) else {
+        return Err(Memory);
+    };
+    push_each(problem, &run, into)?;
+    Ok(numbers.end)
+}
+
+/// Pushes what is told of each agent, and the last line.
+fn push_each(problem: &Problem, run: &MeasuredRun, into: &mut Vec<u8>) -> Result<(), Memory>
+    requires problem { run.now.network.problem ≡ problem.now }
+    requires rows { length run.now.measures.rows ≡ length problem.now.domains }
+    requires lists { length run.now.learned ≡ length problem.now.domains }
+    ensures { (done : List Act) (net : TheNetwork) → AreRows (csp_of problem.now) done run.now.measures.rows → AreLearned done run.now.learned → StandsAt run.now.network net
+        → OnOk result (into.new.items ≡ into.old.items ++ each_text (csp_of problem.now) done net) }
+{
+    let Ok(()) = push_agents(problem, run, into) else {
+        return Err(Memory);
+    };
+    let Ok(()) = push_learned(problem, &run.learned, into) else {
+        return Err(Memory);
+    };
+    match into.extend_from_slice(b"end\n") {
+        Ok(()) => Ok(()),
+        Err(_) => Err(Memory),
+    }
+}
+
+/// The status of a run that ended so: unfinished where a message is in transit.
+pub fn status_of(end: Standing) -> Status
+    ensures { result ≡ status_at end }
+{
+    match end {
+        Standing::Quiet | Standing::Refuted => Status::Good,
+        Standing::Open => Status::Unfinished,
+    }
+}
