@@ -54,6 +54,8 @@ row 'a refutation' 1 "=====UNSATISFIABLE=====\n$took" '' 0 '=====UNSATISFIABLE==
 row 'no verdict' 5 "=====UNKNOWN=====\n$took" '' 0 '=====UNKNOWN=====\n' '' m.fzn
 row 'a best value' 0 "$solved==========\n% rounds 2\n$took" '' 0 "$solved==========\n" '' -i -a aim.fzn
 called solve aim.fzn /dev/null --seed 0 --each
+row 'a best value by halves' 0 "$solved==========\n% rounds 2\n$took" '' 0 "$solved==========\n" '' --abt-halves aim.fzn
+called solve aim.fzn /dev/null --seed 0 --halves
 row 'no better value known' 5 "$solved% rounds 2\n$took" '' 0 "$solved" '' aim.fzn
 row 'files and seed' 0 "$solved$took" '' 0 "$solved" '' --abt-log l --abt-record r --abt-model c -r 18446744073709551615 m.fzn
 called solve m.fzn l --seed 18446744073709551615 --record r
@@ -69,6 +71,9 @@ said='abt: model: unbounded at 26\n'
 # helps REFUSAL: what the table of refusals says of it.
 helps() { sed -n "s/^$1 | \(.*\) | \(.*\)/abt-fzn: \1\\\\nabt-fzn: \2\\\\n/p" "$top/launcher/refusals.txt"; }
 row 'a refused model' 3 '' "$said" 3 '' "${said}abt-fzn: this line: var int: y;\n$(helps 'model: unbounded at N')" m.fzn
+printf 'predicate fzn_table_int(array [int] of var int: x,array [int,int] of int: t);\nvar 1..3: x:: output_var;\nconstraint fzn_table_int([x,x],[1,2,3]);\nsolve  satisfy;\n' >rows.fzn
+row 'a table with a short row' 3 '' 'abt: model: ill-typed at 115\n' 3 '' \
+  "abt: model: ill-typed at 115\nabt-fzn: this line: constraint fzn_table_int([x,x],[1,2,3]);\n$(helps 'model: ill-typed at N')" rows.fzn
 row 'a place within a line' 3 '' 'abt: model: ill-typed at 36\n' 3 '' \
   "abt: model: ill-typed at 36\nabt-fzn: this line: var int: y;\n$(helps 'model: ill-typed at N')" m.fzn
 row 'a limit' 3 '' 'abt: model: limit domain-size 65537 at 0\n' 3 '' \

@@ -131,6 +131,10 @@ def element(index, items, value):
     return 1 <= index <= len(items) and items[index - 1] == value
 
 
+def is_row(row, entries):
+    return any(entries[at:at + len(row)] == row for at in range(0, len(entries), len(row)))
+
+
 TRUTH = {
     "int_eq": lambda a, b: a == b,
     "int_ne": lambda a, b: a != b,
@@ -158,6 +162,8 @@ TRUTH = {
     "array_int_element": element,
     "set_in": lambda a, s: a in s,
     "fzn_all_different_int": lambda a: len(set(a)) == len(a),
+    "fzn_table_int": is_row,
+    "fzn_table_bool": is_row,
 }
 for of_booleans, of_integers in [("bool_eq", "int_eq"), ("bool_le", "int_le"), ("bool_lt", "int_lt")]:
     TRUTH[of_booleans] = TRUTH[of_integers]

@@ -12,7 +12,7 @@ use Rattle.dcsp_defs.specs.Csp.{names}
 use Rattle.abt_defs.specs.Agents.{is_among, Add_link}
 use Rattle.abt_defs.specs.Steps.{is_named, to_each}
 use Rattle.abt_agent.specs.Asks.{is_unlinked, unlinked_names}
-use Rattle.abt_agent.specs.States.{has_mark}
+use Rattle.abt_reason.specs.Marks.{has_mark}
 use Rattle.abt_agent.proofs.Causes.{any-map}
 use Rattle.abt_agent.proofs.Proper.{names_rise}
 use Rattle.abt_agent.proofs.Members.{list_any-In, among_In, among-filter, In-filtered}

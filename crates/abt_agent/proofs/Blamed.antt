@@ -5,7 +5,7 @@ use Rattle.std.proofs.lemmas.Bool.Decides.{nat_tests}
 use Rattle.std.proofs.lemmas.List.{append-nil}
 use Rattle.std.proofs.lemmas.List.Elements.{filter-append, filter_map-append}
 use Rattle.dcsp_defs.specs.Words.{below}
-use Rattle.abt_agent.specs.States.{has_mark}
+use Rattle.abt_reason.specs.Marks.{has_mark}
 use Rattle.abt_agent.proofs.Lists.{one}
 
 -- two tests that agree on the numbers below one

@@ -2,7 +2,7 @@
 use Rattle.std.specs.Prelude.{ℕ, Bool, List, filter, length, nat_lt, not, ◌&&◌}
 use Rattle.dcsp_defs.specs.declared.nogood.Pair.{Pair}
 use Rattle.dcsp_defs.specs.Csp.{names}
-use Rattle.abt_agent.specs.States.{has_mark}
+use Rattle.abt_reason.specs.Marks.{has_mark}
 
 -- the agent has a place in the table of links, and is not marked there
 abbrev pub is_unlinked : List Bool → ℕ → Bool

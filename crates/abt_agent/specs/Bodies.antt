@@ -16,7 +16,7 @@ use Rattle.abt_agent.specs.declared.body.AgentBody.{AgentBody}
 use Rattle.abt_agent.specs.declared.Turn.{Turn}
 use Rattle.abt_agent.specs.Turns.{IsTurn}
 use Rattle.abt_agent.specs.Outgoing.{IsStampedView, Posts}
-use Rattle.abt_agent.specs.States.{has_mark}
+use Rattle.abt_reason.specs.Marks.{has_mark}
 
 -- which agent of which problem it is
 abbrev pub owner_of : Knowledge → Contents × ℕ

@@ -1,20 +1,11 @@
 -- What the code counts as an agent looks at constraints and nogoods.
-use Rattle.std.specs.Prelude.{◌≡◌, ℕ, ◌+◌, ℤ, not, List, filter, map, take, Option}
+use Rattle.std.specs.Prelude.{◌≡◌, ℕ, ℤ, not, List, filter, map, take, Option}
 use Rattle.dcsp_defs.specs.Words.{is_value}
 use Rattle.dcsp_defs.specs.Csp.{Constraint, PartialAssignment, is_violated, owned}
 use Rattle.dcsp_rule.specs.Problems.{Contents, csp_of}
 use Rattle.abt_defs.specs.Agents.{Record}
 use Rattle.abt_defs.specs.Checks as counts
 use Rattle.abt_defs.specs.Checks.{checks_of_values, up_to}
-use Rattle.abt_agent.specs.declared.checks.Checks.{Checks}
-
--- the checks of the definitions
-abbrev pub as_checks : Checks → counts.Checks
-as_checks c = record { constraints = c.constraints; nogoods = c.nogoods }
-
--- both
-abbrev pub sum_of : counts.Checks → counts.Checks → counts.Checks
-sum_of a b = record { constraints = a.constraints + b.constraints; nogoods = a.nogoods + b.nogoods }
 
 -- those of these values, without the agent's own
 abbrev pub checks_but : Contents → ℕ → PartialAssignment → List Record → Option ℤ → List ℤ → counts.Checks

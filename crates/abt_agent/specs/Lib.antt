@@ -3,7 +3,6 @@ pub mod Outgoing
 pub mod States
 pub mod Bodies
 pub mod Causes
-pub mod Rules
 pub mod Asks
 pub mod Rights
 pub mod Examined

@@ -1,5 +1,5 @@
 -- The agent that callers see.
-use Rattle.std.specs.Prelude.{◌≡◌, ℕ, ◌-◌, ◌<◌, ◌^◌, ℤ, Bool, false, List, length, Option, Some, slice_get, slice_index_or}
+use Rattle.std.specs.Prelude.{◌≡◌, ℕ, ◌-◌, ◌<◌, ◌^◌, ℤ, Bool, false, List, length, Option, Some, slice_get}
 use Rattle.std.specs.Option.{option_map}
 use Rattle.dcsp_defs.specs.declared.nogood.Pair.{Pair}
 use Rattle.dcsp_defs.specs.Words.{In}
@@ -16,6 +16,7 @@ use Rattle.abt_parts.specs.Views.{view_of}
 use Rattle.abt_parts.specs.declared.recorded.Recorded.{Recorded}
 use Rattle.abt_parts.specs.Stores.{records_of}
 use Rattle.abt_agent.specs.declared.Turn.{Turn}
+use Rattle.abt_reason.specs.Marks.{has_mark}
 use Rattle.abt_agent.specs.Turns.{IsTurn}
 use Rattle.abt_agent.specs.Outgoing.{AreStampsOf, Posts}
 
@@ -31,10 +32,6 @@ pub record State : Type 0 where
   pub tells : List ℕ  -- rising
   pub linked : List Bool
   pub spent : Bool  -- it ran out of memory
-
--- what a table of marks says of k
-abbrev pub has_mark : List Bool → ℕ → Bool
-has_mark marks k = slice_index_or marks k false
 
 -- the agent of the definitions
 abbrev pub stands_for : State → Agent

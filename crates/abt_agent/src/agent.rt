@@ -15,14 +15,17 @@ ghost use Rattle.abt_parts.specs.Stores.{records_of};
 ghost use Rattle.abt_parts.specs.Messages.{message_of};
 ghost use Rattle.abt_defs.specs.Agents.{known};
 ghost use Rattle.abt_defs.specs.Checks.{checks, settles_on};
-ghost use Rattle.abt_agent.specs.Examined.{as_checks};
+ghost use Rattle.abt_reason.specs.Checked.{as_checks};
 ghost use Rattle.abt_agent.specs.Outgoing.{IsStamped};
+ghost use Rattle.abt_parts.specs.Views.{stamped_in};
+ghost use Rattle.abt_reason.specs.Causes.{reason_for, value_at};
 
 use crate::Turn;
 use crate::body::AgentBody;
-use crate::checks::Checks;
-use abt_parts::{Message, Outbox};
+use abt_parts::{Message, Outbox, Recorded, StampedValue};
+use abt_reason::Checks;
 use dcsp_common::Memory;
+use dcsp_defs::Reason;
 use dcsp_problem::Problem;
 use std::alloc::Global;
 use std::marker::Model;
@@ -184,5 +187,29 @@ impl<'p> Agent<'p> {
             return Err(Memory);
         }
         self.body.known.checks(own)
+    }
+
+    /// The value and the stamp that a higher agent told last; `None` where it told nothing or is not higher.
+    pub fn told(&self, agent: u32) -> Option<StampedValue>
+        ensures { stamped_in result ≡ (stands_for self.now).view agent }
+    {
+        self.body.known.view.stamped_value(agent)
+    }
+
+    /// The nogoods that the agent has recorded, in order of arrival.
+    pub fn kept(&self) -> &[Recorded]
+        ensures { records_of result.now ≡ (stands_for self.now).recorded }
+    {
+        self.body.known.store.items()
+    }
+
+    /// The first reason against the value at a place of the agent's domain, by what it was told and the nogoods that it
+    /// has recorded; `None` exactly if the value is not ruled out.
+    pub fn reason(&self, place: usize) -> Option<Reason>
+        requires sound { self.now.spent ≡ false }
+        requires place { place < length (domain (csp_of self.now.problem) self.now.me) }
+        ensures { result ≡ reason_for self.now.problem self.now.me (known (stands_for self.now)) self.now.store (value_at self.now.problem self.now.me place) }
+    {
+        self.body.known.reason_at(place)
     }
 }

@@ -12,8 +12,8 @@ ghost use Rattle.abt_agent.specs.Outgoing.{IsStamped, Posts};
 ghost use Rattle.abt_agent.specs.Asks.{unlinked_names, is_unlinked};
 
 use crate::body::AgentBody;
-use crate::marks::mark_pairs;
 use abt_parts::{Message, Outbox, Sent};
+use abt_reason::mark_pairs;
 use dcsp_common::Memory;
 use dcsp_defs::Pair;
 use dcsp_row::Row;

@@ -1,16 +1,14 @@
 //! What an agent has, and what that is before the start.
 
-ghost use Rattle.std.specs.Prelude.{◌≡◌, ◌<◌, ◌||◌, ◌&&◌, ℕ, [], All, IfOk, length, map, nat_lt};
+ghost use Rattle.std.specs.Prelude.{◌≡◌, ◌<◌, [], IfOk, length, map};
 ghost use Rattle.dcsp_defs.specs.Words.{below};
 ghost use Rattle.abt_defs.specs.Agents.{fresh, shares};
 ghost use Rattle.dcsp_problem.specs.Lower.{lower_owners};
 ghost use Rattle.dcsp_rule.specs.Problems.{csp_of};
 ghost use Rattle.abt_agent.specs.Bodies.{agent_of, owner_of, IsGood};
-ghost use Rattle.abt_agent.specs.Rules.{names_any};
-ghost use Rattle.abt_agent.specs.States.{has_mark};
 
 use crate::knowledge::Knowledge;
-use crate::marks::mark_variables;
+use abt_reason::named_by;
 use dcsp_common::Memory;
 use dcsp_problem::Problem;
 use dcsp_row::Row;
@@ -66,28 +64,6 @@ fn first_linked(alloc: Global, problem: &Problem, me: u32) -> Result<Row, Memory
 {
     let marks = named_by(alloc, problem, problem.owned(me), me)?;
     Ok(marks)
-}
-
-/// For each of so many variables whether one of the rules names it.
-fn named_by(alloc: Global, problem: &Problem, rules: &[u32], count: u32) -> Result<Row, Memory>
-    requires { All (λ r. r < length problem.now.rules) rules.now }
-    ensures size { IfOk result (λ marks. length marks ≡ count) }
-    ensures marks { IfOk result (λ marks. (k : ℕ) → k < count → has_mark marks k ≡ names_any problem.now k rules.now) }
-{
-    let mut marks = Row::new(alloc, count as usize)?;
-    mark_scopes(&mut marks, problem, rules);
-    Ok(marks)
-}
-
-/// Marks each variable that one of the rules names, and for which there is a place.
-fn mark_scopes(marks: &mut Row, problem: &Problem, rules: &[u32])
-    requires { All (λ r. r < length problem.now.rules) rules.now }
-    ensures size { length marks.new ≡ length marks.old }
-    ensures marks { (k : ℕ) → has_mark marks.new k ≡ (has_mark marks.old k || (nat_lt k (length marks.old) && names_any problem.now k rules.now)) }
-{
-    for rule in rules {
-        mark_variables(marks, problem.scope(*rule));
-    }
 }
 
 /// The lower agents that are told at first, rising.

@@ -1,6 +1,6 @@
 //! How much an agent looks at as it settles.
 
-ghost use Rattle.std.specs.Prelude.{◌≡◌, ◌<◌, ◌≤◌, ◌+◌, ℤ, Some, IfOk, filter, is_some, length, take, if◌then◌else◌};
+ghost use Rattle.std.specs.Prelude.{◌≡◌, ◌<◌, ◌≤◌, ◌+◌, ℤ, Some, IfOk, filter, is_some, length, take};
 ghost use Rattle.dcsp_defs.specs.Words.{In, is_value};
 ghost use Rattle.dcsp_defs.specs.Csp.{domain, with_value};
 ghost use Rattle.dcsp_rule.specs.Problems.{constraint_at, csp_of};
@@ -11,36 +11,13 @@ ghost use Rattle.abt_reason.specs.Causes.{value_at};
 ghost use Rattle.abt_parts.specs.Views.{view_of};
 ghost use Rattle.abt_parts.specs.Stores.{records_of};
 ghost use Rattle.abt_agent.specs.Bodies.{IsInStep};
-ghost use Rattle.abt_agent.specs.Examined.{as_checks, checks_but, sum_of, AreLookedAt};
+ghost use Rattle.abt_reason.specs.Checked.{as_checks, sum_of};
+ghost use Rattle.abt_agent.specs.Examined.{checks_but, AreLookedAt};
 
 use crate::knowledge::Knowledge;
+use abt_reason::Checks;
 use dcsp_common::Memory;
 use dcsp_defs::Reason;
-
-/// How many constraints and how many recorded nogoods are looked at.
-#[derive(Clone, Copy, Debug, PartialEq, Eq)]
-pub struct Checks {
-    pub constraints: u64,
-    pub nogoods: u64,
-}
-
-impl Checks {
-    /// Both. A number past its width counts as want of memory.
-    pub fn plus(self, other: Checks) -> Result<Checks, Memory>
-        ensures { IfOk result (λ sum. as_checks sum ≡ sum_of (as_checks self) (as_checks other)) }
-    {
-        let Some(constraints) = self.constraints.checked_add(other.constraints) else {
-            return Err(Memory);
-        };
-        let Some(nogoods) = self.nogoods.checked_add(other.nogoods) else {
-            return Err(Memory);
-        };
-        Ok(Checks {
-            constraints,
-            nogoods,
-        })
-    }
-}
 
 impl<'p> Knowledge<'p> {
     /// Whether each variable of the rule, but for the agent's own, has a value in the view.
@@ -76,7 +53,7 @@ impl<'p> Knowledge<'p> {
         let owned = self.problem.owned(self.me);
         let mut count = 0;
         for place in 0..end {
-            count += one_if(self.is_decided(owned[place]));
+            count += u64::from(self.is_decided(owned[place]));
         }
         count
     }
@@ -155,14 +132,6 @@ impl<'p> Knowledge<'p> {
         }
         self.other_checks(own, first)
     }
-}
-
-/// 1 where the test passes, else 0.
-fn one_if(passes: bool) -> u64
-    ensures one { result ≡ (if passes then 1 else 0) }
-    ensures few { result ≤ 1 }
-{
-    if passes { 1 } else { 0 }
 }
 
 /// Whether there is a value of the agent's own, and it is this one.

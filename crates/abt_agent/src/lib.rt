@@ -13,14 +13,13 @@ mod body;
 mod checks;
 mod knowledge;
 mod learn;
-mod marks;
 mod receive;
 mod refusal;
 mod search;
 mod settle;
 
+pub use abt_reason::Checks;
 pub use agent::Agent;
-pub use checks::Checks;
 pub use dcsp_common::Memory;
 pub use ngd_log::Step;
 

@@ -10,13 +10,13 @@ ghost use Rattle.abt_parts.specs.Stores.{records_of};
 ghost use Rattle.abt_parts.specs.Views.{stamped_in, view_of};
 ghost use Rattle.abt_agent.specs.Bodies.{AreProper, IsInStep};
 ghost use Rattle.abt_agent.specs.Outgoing.{ArePositive, AreStampsOf, IsStampedView};
-ghost use Rattle.abt_agent.specs.States.{has_mark};
+ghost use Rattle.abt_reason.specs.Marks.{has_mark};
 ghost use Rattle.abt_agent.specs.Causes.{all_causes, blames, blames_one, reasons_at, item_at, told_of, IsCause};
 
 use crate::knowledge::Knowledge;
-use crate::marks::{make_blank, mark_pairs, mark_variables};
 use crate::search::Cause;
 use abt_parts::{StampList, StampedValue};
+use abt_reason::{make_blank, mark_pairs, mark_variables};
 use dcsp_common::Memory;
 use dcsp_defs::{Nogood, Pair, Reason, ReasonList};
 use dcsp_row::Row;

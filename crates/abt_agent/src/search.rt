@@ -5,7 +5,7 @@ ghost use Rattle.dcsp_defs.specs.Csp.{domain};
 ghost use Rattle.abt_defs.specs.Agents.{values_in};
 ghost use Rattle.dcsp_rule.specs.Problems.{csp_of};
 ghost use Rattle.abt_parts.specs.Views.{view_of};
-ghost use Rattle.abt_reason.specs.Causes.{value_at};
+ghost use Rattle.abt_reason.specs.Causes.{reason_for, value_at};
 ghost use Rattle.abt_parts.specs.Stores.{IsOncePerValue};
 ghost use Rattle.abt_agent.specs.Bodies.{AreProper, IsInStep};
 ghost use Rattle.abt_agent.specs.Causes.{first_against, least_free, cause_for};
@@ -36,6 +36,15 @@ impl<'p> Knowledge<'p> {
             Some(Reason::Rule(rule)) => Some(Cause::OwnedRule(rule)),
             Some(Reason::Earlier(_)) => self.against(self.value_at(place)),
         }
+    }
+
+    /// The first reason against the value at a place of the agent's domain.
+    pub fn reason_at(&self, place: usize) -> Option<Reason>
+        requires in_step { IsInStep self.now }
+        requires place { place < length (domain (csp_of self.now.problem.now) self.now.me) }
+        ensures { result ≡ reason_for self.now.problem.now self.now.me (values_in (view_of self.now.view)) self.now.store (value_at self.now.problem.now self.now.me place) }
+    {
+        self.reasons.first(place)
     }
 
     /// The nogood that is kept against the value, if there is one.

@@ -96,7 +96,7 @@ asks_no_search words (Some files) P none = λ asked asks. absurd (none (Solve as
 -- whatever comes of it, a search finds better values
 pub searches_improve : (words : List (List ℕ)) (held : Option (List ℕ → Option (List ℕ))) → EachSearch words held IsImproving
 searches_improve words None = tt
-searches_improve words (Some files) = λ asked asks. is_improving asked ((accepted_are_problems (bytes_of (files asks.model))).within_limits asked.problem asks.model_is.short asks.model_is.reads)
+searches_improve words (Some files) = λ asked asks. is_improving asked ((accepted_are_problems (bytes_of (files asks.model))).within_limits asked.problem asks.model_is.short asks.model_is.reads) asks.aims
 
 module _ (words : List (List ℕ)) (line : Line) (is : IsLine words line) (a b : World) (err now : Stream) (status : Status) (line_ran : Ran (promise_of line) a b err now status)
     (means : IsFinal status → (IsRefusal status → ⊥) → Means line a b status) where

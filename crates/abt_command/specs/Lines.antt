@@ -71,6 +71,7 @@ settings_at said = record {
   kept = given_name (setting_at said (codes "--record"));
   trace = is_given (setting_at said (codes "--trace"));
   each = is_given (setting_at said (codes "--each"));
+  halves = is_given (setting_at said (codes "--halves"));
 }
 
 -- the line of a row, made from what the words say of it; a seed is 0 where none is given

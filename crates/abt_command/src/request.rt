@@ -188,6 +188,7 @@ fn options_of<'w>(said: &Said<'w>) -> Options<'w>
         kept: said.setting("--record").given_name(),
         trace: said.setting("--trace").is_given(),
         each: said.setting("--each").is_given(),
+        halves: said.setting("--halves").is_given(),
     }
 }
 

@@ -17,8 +17,8 @@ use Rattle.abt_defs.specs.Measures.{acts_by, greatest_by, is_link, is_nogood, is
 use Rattle.abt_parts.specs.declared.message.SentTo.{SentTo}
 use Rattle.abt_parts.specs.Messages.{kind_of, told_sent}
 use Rattle.law_runs.proofs.ActsGoing.{ticks-more, greatest-more}
-use Rattle.abt_agent.specs.declared.checks.Checks.{Checks}
-use Rattle.abt_agent.specs.Examined.{as_checks}
+use Rattle.abt_reason.specs.declared.checks.Checks.{Checks}
+use Rattle.abt_reason.specs.Checked.{as_checks}
 use Rattle.abt_measure.specs.declared.row.Row.{Row}
 use Rattle.abt_measure.specs.declared.counts.Came.{Came}
 use Rattle.abt_measure.specs.Carrying.{receivers_of}

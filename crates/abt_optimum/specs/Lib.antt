@@ -1,4 +1,5 @@
 pub mod Best
+pub mod Halves
 pub mod Rounds
 pub mod Searches
 pub mod Outcomes

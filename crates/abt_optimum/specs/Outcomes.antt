@@ -8,12 +8,17 @@ use Rattle.abt_optimum.specs.declared.round.Round.{Round}
 use Rattle.abt_optimum.specs.declared.best.BestEnd.{BestEnd}
 use Rattle.abt_optimum.specs.declared.best.BestEnd.TheVariants.{Optimal, NoSolution, Open}
 use Rattle.abt_optimum.specs.Best.{assigned, aim_value, Solves, IsBest}
-use Rattle.abt_optimum.specs.Rounds.{last_round}
+use Rattle.abt_optimum.specs.Rounds.{last_round, known_at_first}
 use Rattle.abt_optimum.specs.Searches.{SearchState}
 
--- a refuted round that was to better this value
-abbrev pub refuted_at : Option ℤ → Round
-refuted_at better = record { better = better; end = ended.Refuted }
+-- the first round, where it was refuted
+abbrev pub refuted_first : Round
+refuted_first = record { known = known_at_first; better = None; end = ended.Refuted }
+
+-- the round was to better this value, and was refuted
+pub record IsRefutedAt (bound : ℤ) (round : Round) : Type 0 where
+  pub better : round.better ≡ Some bound
+  pub end : round.end ≡ ended.Refuted
 
 -- the first round was refuted
 abbrev pub BeginsRefuted : List Round → Type 0
@@ -27,11 +32,11 @@ EndsCapped rounds = IsSomeAnd (last_round rounds) (λ (round : Round). round.end
 pub record IsOptimal (s : SearchState) (values : List ℤ) : Type 0 where
   pub kept : s.values ≡ Some values
   pub best : IsBest s.problem values
-  pub shown : IsSome (aimed_at s.problem.aim) → last_round s.rounds ≡ Some (refuted_at (Some (aim_value s.problem.aim (assigned values))))
+  pub shown : IsSome (aimed_at s.problem.aim) → IsSomeAnd (last_round s.rounds) (IsRefutedAt (aim_value s.problem.aim (assigned values)))
 
 -- the first round is the only one and was refuted, and there is no solution
 pub record IsUnsolvable (s : SearchState) : Type 0 where
-  pub rounds : s.rounds ≡ refuted_at None ∷ []
+  pub rounds : s.rounds ≡ refuted_first ∷ []
   pub none : HasNoSolution (csp_of s.problem)
 
 -- the last round was capped; if a round before it was solved, these are the values of the last such one, and a solution

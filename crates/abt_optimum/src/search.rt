@@ -1,15 +1,17 @@
 //! Searches.
 
 ghost use Rattle.std.specs.Prelude.{◌≡◌, ◌≢◌, ◌↔◌, ◌<◌, ◌≤◌, [], ◌∷◌, ◌++◌, length, true, false, IfOk, IsTrue};
+ghost use Rattle.dcsp_domain.specs.Sets.{IsRising};
 ghost use Rattle.dcsp_rule.specs.Rules.{value_under, IsTermOf, IsAimOf};
 ghost use Rattle.abt_optimum.specs.Best.{assigned, aim_value};
-ghost use Rattle.abt_optimum.specs.Rounds.{best_value, is_done, most_rounds, round_problem};
-ghost use Rattle.abt_optimum.specs.Searches.{end_at, round_after, values_after, EndsRightly, IsSearch};
+ghost use Rattle.abt_optimum.specs.Rounds.{aim_values, better_than, is_done, known_of, most_rounds, round_problem};
+ghost use Rattle.abt_optimum.specs.Searches.{end_at, next_better, round_after, values_after, EndsRightly, IsSearch};
 ghost use Rattle.abt_optimum.specs.Outcomes.{BeginsRefuted, EndsCapped, IsBestEnd};
 ghost use Rattle.abt_optimum.specs.Kept.{end_of, TellsAim};
 
 use crate::best::{Best, BestEnd};
-use crate::round::{Ended, Round, RoundEnd};
+use crate::halves::next_value;
+use crate::round::{Ended, Known, Round, RoundEnd};
 use dcsp_common::Memory;
 use dcsp_domain::IntList;
 use dcsp_problem::{Aim, Problem, Term};
@@ -20,6 +22,8 @@ use std::marker::Model;
 #[derive(Drop)]
 pub struct Search<'p> {
     problem: &'p Problem,
+    /// Whether the rounds go by halves.
+    halves: bool,
     /// The rounds that have ended. There is room for all that there may be.
     rounds: Vec<Round>,
     /// The values of the last round that was solved.
@@ -33,17 +37,18 @@ impl<'p> Model for Search<'p> {
 
     ghost Value = { SearchState };
 
-    ghost view = { λ s. shown s.problem.now s.rounds.items s.values };
+    ghost view = { λ s. shown s.problem.now s.halves s.rounds.items s.values };
 
-    ghost invariant = { λ s. IsKept (vec_capacity s.rounds) (shown s.problem.now s.rounds.items s.values) };
+    ghost invariant = { λ s. IsKept (vec_capacity s.rounds) (shown s.problem.now s.halves s.rounds.items s.values) };
 }
 
 impl<'p> Search<'p> {
-    /// A search of which no round has ended. It takes memory for as many rounds as there may be: one more than the
-    /// aim's variable has values, or one where the aim is at a constant. The other calls take none.
-    pub fn new(alloc: Global, problem: &'p Problem) -> Result<Search<'p>, Memory>
+    /// A search of which no round has ended, by halves or not. It takes memory for as many rounds as there may be:
+    /// one more than the aim's variable has values, or one where the aim is at a constant. The other calls take none.
+    pub fn new(alloc: Global, problem: &'p Problem, halves: bool) -> Result<Search<'p>, Memory>
         requires { problem.now.aim ≢ Aim.Satisfy }
         ensures problem { IfOk result (λ search. search.problem ≡ problem.now) }
+        ensures halves { IfOk result (λ search. search.halves ≡ halves) }
         ensures rounds { IfOk result (λ search. search.rounds ≡ []) }
         ensures values { IfOk result (λ search. search.values ≡ None) }
     {
@@ -52,6 +57,7 @@ impl<'p> Search<'p> {
         };
         Ok(Search {
             problem,
+            halves,
             rounds,
             values: None,
         })
@@ -71,24 +77,26 @@ impl<'p> Search<'p> {
     /// The value that the next round is to better; `None` exactly for the first.
     pub fn better(&self) -> Option<i64>
         requires { is_done self.now.problem.aim self.now.rounds ≡ false }
-        ensures better { result ≡ best_value self.now.rounds }
+        ensures better { result ≡ next_better self.now }
         ensures first { (result ≡ None) ↔ (self.now.rounds ≡ []) }
     {
-        self.rounds.last()?.best()
+        better_than(self.problem, self.halves, known(&self.rounds))
     }
 
     /// Takes how the next round ended: the one on the whole problem, narrowed to what is better than `better()`
     /// where that is given.
     pub fn ended(&mut self, end: RoundEnd)
         requires goes_on { is_done self.old.problem.aim self.old.rounds ≡ false }
-        requires right { EndsRightly (round_problem self.old.problem (best_value self.old.rounds)) end }
+        requires right { EndsRightly (round_problem self.old.problem (next_better self.old)) end }
         ensures problem { self.new.problem ≡ self.old.problem }
-        ensures rounds { self.new.rounds ≡ self.old.rounds ++ round_after self.old.problem.aim self.old.rounds end ∷ [] }
+        ensures halves { self.new.halves ≡ self.old.halves }
+        ensures rounds { self.new.rounds ≡ self.old.rounds ++ round_after self.old end ∷ [] }
         ensures values { self.new.values ≡ values_after self.old.values end }
     {
         let better = self.better();
+        let known = known(&self.rounds);
         let end = keep(end, self.problem.aim(), &mut self.values);
-        self.rounds.push_reserved(Round { better, end });
+        self.rounds.push_reserved(Round { known, better, end });
     }
 
     /// What the search found.
@@ -114,6 +122,7 @@ impl<'p> Search<'p> {
 fn most_rounds(problem: &Problem) -> usize
     ensures most { result ≡ most_rounds problem.now }
     ensures aim { IsAimOf (length problem.now.domains) problem.now.aim }
+    ensures rising { IsRising (aim_values problem.now) }
 {
     match problem.aim().variable() {
         Some(var) => problem.domain(var).len() + 1,
@@ -128,6 +137,30 @@ fn is_done(aim: Aim, rounds: &[Round]) -> bool
     match rounds.last() {
         Some(round) => round.is_last(aim),
         None => false,
+    }
+}
+
+/// What is known after these rounds.
+fn known(rounds: &[Round]) -> Known
+    ensures { result ≡ known_of rounds.now }
+{
+    match rounds.last() {
+        Some(round) => round.known_after(),
+        None => Known::at_first(),
+    }
+}
+
+/// The value that the round is to better which follows where this is known.
+fn better_than(problem: &Problem, halves: bool, known: Known) -> Option<i64>
+    ensures { result ≡ better_than problem.now halves known }
+{
+    let best = known.best?;
+    match problem.aim().variable() {
+        Some(var) => {
+            let domain = problem.domain(var);
+            Some(next_value(halves, problem.aim(), domain, best, known.limit))
+        }
+        None => Some(best),
     }
 }
 

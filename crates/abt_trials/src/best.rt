@@ -24,7 +24,51 @@ const NONE: &[u8] =
 const CONSTANT: &[u8] =
     b"var 0..1: x :: output_var;\nvar 0..1: y :: output_var;\nconstraint int_ne(x,y);\nsolve maximize 7;\n";
 
-const CASES: [Case; 10] = [
+/// A variable that is to be greatest, up to 100, and the same up to 60.
+const HUNDRED: &[u8] = b"var 1..100: x :: output_var;\nsolve maximize x;\n";
+
+const SIXTY: &[u8] = b"var 1..100: x :: output_var;\nconstraint int_le(x,60);\nsolve maximize x;\n";
+
+/// Two variables of which the second is to be greatest, and is at most 4 and the first.
+const FOUR: &[u8] =
+    b"var 1..4: x :: output_var;\nvar 1..8: y :: output_var;\nconstraint int_lt(y,5);\n\
+constraint int_le(y,x);\nsolve maximize y;\n";
+
+const CASES: [Case; 13] = [
+    // By halves, each solution is better than those before it.
+    Case {
+        words: &["solve", "m.fzn", "l.ngd", "--halves", "--each"],
+        files: [("m.fzn", HUNDRED), NO_FILE],
+        code: 0,
+        out: b"x = 1;\n----------\nx = 51;\n----------\nx = 76;\n----------\nx = 88;\n----------\n\
+x = 94;\n----------\nx = 97;\n----------\nx = 99;\n----------\nx = 100;\n----------\n\
+==========\n% rounds 9\n% deliveries 0\n% steps 1\n",
+        err: b"",
+        log: b"ngd 1\n1 v1 [] <-\nend\n",
+        record: b"",
+    },
+    // A refuted half is asked for no more: 76 to 100, and then 63 to 75.
+    Case {
+        words: &["solve", "m.fzn", "l.ngd", "--each", "--halves"],
+        files: [("m.fzn", SIXTY), NO_FILE],
+        code: 0,
+        out: b"x = 1;\n----------\nx = 51;\n----------\nx = 57;\n----------\nx = 60;\n----------\n\
+==========\n% rounds 7\n% deliveries 0\n% steps 1\n",
+        err: b"",
+        log: b"ngd 1\n1 v1 [] <- c1 c1 c1 c1 c1 c1 c1 c1 c1 c1 c1 c1 c1 c1 c1 c1 c1 c1 c1 c1 c1 c1 c1 \
+c1 c1 c1 c1 c1 c1 c1 c1 c1 c1 c1 c1 c1 c1 c1 c1 c1\nend\n",
+        record: b"",
+    },
+    // The third round uses its choice up, the second one was refuted: the solution is the first one's.
+    Case {
+        words: &["solve", "m.fzn", "l.ngd", "--halves", "--choices", "1"],
+        files: [("m.fzn", FOUR), NO_FILE],
+        code: 5,
+        out: b"x = 1;\ny = 1;\n----------\n% rounds 3\n% deliveries 2\n% steps 1\n",
+        err: b"",
+        log: b"ngd 1\n1 v2 [v1=1] <- c2 c2 c1 c1 c1 c1\nend\n",
+        record: b"",
+    },
     // Each solution is put when it is found, and the last one not once more.
     Case {
         words: &["solve", "m.fzn", "l.ngd", "--each"],

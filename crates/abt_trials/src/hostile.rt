@@ -18,7 +18,7 @@ struct Line {
 /// Each of the two literals, and neither.
 const FORMULA: &[u8] = b"p cnf 2 3\n1 2 0\n-1 0\n-2 0\n";
 
-const LINES: [Line; 18] = [
+const LINES: [Line; 20] = [
     Line {
         words: &["check", "m.fzn", "l.ngd"],
         files: [("m.fzn", PAIR), ("l.ngd", PAIR_LOG)],
@@ -33,6 +33,16 @@ const LINES: [Line; 18] = [
         words: &["solve", "m.fzn", "l.ngd", "--record", "r.sch", "--trace"],
         files: [("m.fzn", PAIR), ("l.ngd", b"what stood here")],
         creates: &["l.ngd", "r.sch"],
+    },
+    Line {
+        words: &["measure", "m.fzn", "s.sch"],
+        files: [("m.fzn", PAIR), ("s.sch", b"schedule 1\n0\n1\n2\nend\n")],
+        creates: &[],
+    },
+    Line {
+        words: &["survey", "m.fzn", "3", "--from", "7"],
+        files: [("m.fzn", PAIR), NO_FILE],
+        creates: &[],
     },
     Line {
         words: &["bound", "m.fzn"],

@@ -9,14 +9,14 @@ use std::process::Abort;
 /// What `--help` prints.
 const HELP: &[u8] = b"abt: asynchronous backtracking over FlatZinc, with certified answers
 
-  abt solve MODEL LOG [--seed N] [--choices N] [--record FILE] [--trace] [--each]
+  abt solve MODEL LOG [--seed N] [--choices N] [--record FILE] [--trace] [--each] [--halves]
                         runs the agents of the model, with deliveries chosen from a seed:
                         prints a solution, `=====UNSATISFIABLE=====` or `=====UNKNOWN=====`,
                         and writes the log of its derivations; FILE holds the choices. Where
                         the model asks for the least or the greatest value, prints the best
                         solution and `==========`, and LOG refutes every better value. With
-                        --choices the run, or each round of a search, has N choices alone;
-                        with --each a search prints each solution as soon as it is found
+                        --choices the run, or each round of a search, has N choices; with
+                        --each a search prints all it finds, with --halves in few rounds
   abt replay MODEL SCHEDULE LOG [--trace]
                         runs them under the choices of a schedule, as a record is
   abt check MODEL LOG [--better N]
@@ -78,7 +78,7 @@ is proved, docs/FORMATS.md the formats and the lines that refuse a file.
 
 /// What `--usage` prints; tests/usage.sh reads it here.
 const USAGE: &[u8] =
-    b"solve file:MODEL:model:read file:LOG:log:written --seed=number:N:0:18446744073709551615 --choices=number:N:0:1099511627776 --record=file:FILE:schedule:written --trace --each
+    b"solve file:MODEL:model:read file:LOG:log:written --seed=number:N:0:18446744073709551615 --choices=number:N:0:1099511627776 --record=file:FILE:schedule:written --trace --each --halves
 replay file:MODEL:model:read file:SCHEDULE:schedule:read file:LOG:log:written --trace
 check file:MODEL:model:read file:LOG:log:read --better=signed:N:-9223372036854775808:9223372036854775807
 upgrade file:LOG:log:read file:NEW:log:written

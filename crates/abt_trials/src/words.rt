@@ -6,7 +6,7 @@ use std::alloc::Global;
 use std::process::Abort;
 
 /// Words of each line but `drill`, which runs long.
-const LINES: [&[&str]; 51] = [
+const LINES: [&[&str]; 53] = [
     &["measure", "m", "s"],
     &["survey", "m", "1"],
     &["survey", "m", "1000000", "--from", "18446744073708551616"],
@@ -27,6 +27,8 @@ const LINES: [&[&str]; 51] = [
     ],
     &["solve", "m", "l", "--each"],
     &["solve", "m", "l", "--each", "--trace"],
+    &["solve", "m", "l", "--halves"],
+    &["solve", "m", "l", "--each", "--halves", "--seed", "1"],
     &["solve", "m", "l", "--trace"],
     &["solve", "m", "l", "--record", "r"],
     &["solve", "m", "l", "--seed", "1", "--record", "r", "--trace"],
@@ -71,7 +73,7 @@ const LINES: [&[&str]; 51] = [
 
 /// Words that are no line: too few or too many; options twice, first, without a value or of another line; names
 /// that are equal, empty or begin with `-`; numbers with a sign, with a leading zero or out of range.
-const NO_LINES: [&[&str]; 145] = [
+const NO_LINES: [&[&str]; 148] = [
     &["measure", "m"],
     &["measure", "m", "s", "l"],
     &["survey", "m", "0"],
@@ -86,6 +88,9 @@ const NO_LINES: [&[&str]; 145] = [
     &["solve", "m", "l", "--choices", "1", "--choices", "1"],
     &["replay", "m", "s", "l", "--choices", "1"],
     &["solve", "m", "l", "--each", "--each"],
+    &["solve", "m", "l", "--halves", "--halves"],
+    &["solve", "m", "l", "--halves", "1"],
+    &["replay", "m", "s", "l", "--halves"],
     &["replay", "m", "s", "l", "--each"],
     &["solve", "m", "l", "--seed", "--trace"],
     &["solve", "m", "l", "--trace", "--trace"],

@@ -142,7 +142,13 @@ const EACH_OPTION: LineOption = OptionOf {
     value: None,
 };
 
-/// `solve MODEL LOG [--seed N] [--choices N] [--record FILE] [--trace] [--each]`: a run under the choices of a seed.
+/// The option that asks for a search by halves.
+const HALVES_OPTION: LineOption = OptionOf {
+    word: "--halves",
+    value: None,
+};
+
+/// `solve MODEL LOG [--seed N] [--choices N] [--record FILE] [--trace] [--each] [--halves]`: a run under the choices of a seed.
 pub const SOLVE: Row = RowOf {
     line: LineName::Solve,
     keyword: &["solve"],
@@ -153,6 +159,7 @@ pub const SOLVE: Row = RowOf {
         RECORD_OPTION,
         TRACE_OPTION,
         EACH_OPTION,
+        HALVES_OPTION,
     ],
     tells: &[
         "runs the agents of the model, with deliveries chosen from a seed:",
@@ -160,8 +167,8 @@ pub const SOLVE: Row = RowOf {
         "and writes the log of its derivations; FILE holds the choices. Where",
         "the model asks for the least or the greatest value, prints the best",
         "solution and `==========`, and LOG refutes every better value. With",
-        "--choices the run, or each round of a search, has N choices alone;",
-        "with --each a search prints each solution as soon as it is found",
+        "--choices the run, or each round of a search, has N choices; with",
+        "--each a search prints all it finds, with --halves in few rounds",
     ],
 };
 

@@ -23,6 +23,10 @@ flat_map_more make low count next e =
     ∙ flat_map-append make (range_with_len low count) (next ∷ [])
     ∙ ap (λ ys. flat_map make (range_with_len low count) ++ ys) (append-nil (make next))
 
+-- the item of one number more
+pub mapped_more : {X : Type 0} (item : ℕ → X) (low count next : ℕ) → low + count ≡ next → map item (range_with_len low (count + 1)) ≡ map item (range_with_len low count) ++ item next ∷ []
+mapped_more item low count next e = ap (map item) (range_more low count next e) ∙ map-append item (range_with_len low count) (next ∷ [])
+
 -- what is made of each item that a number gives
 pub made_more : {X : Type 0} (make : X → List ℕ) (item : ℕ → X) (low count next : ℕ) → low + count ≡ next
     → flat_map make (map item (range_with_len low (count + 1))) ≡ flat_map make (map item (range_with_len low count)) ++ make (item next)

@@ -1,3 +1,5 @@
 pub mod Lines
 pub mod Words
 pub mod Problems
+pub mod Selection
+pub mod Binary

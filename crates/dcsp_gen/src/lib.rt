@@ -5,8 +5,11 @@
 //! for random number generation"), seeded by a number.
 #![tactic(auto)]
 
+mod binary_texts;
 mod lines;
 mod problems;
+mod selection;
 
+pub use binary_texts::{BinarySizes, binary};
 pub use dcsp_common::Memory;
 pub use problems::{colouring, pigeons, queens, sparse};

@@ -57,3 +57,7 @@ finds kind.ArrayVarBoolElement = refl
 finds kind.SetIn = refl
 finds kind.SetInReif = refl
 finds kind.FznAllDifferentInt = refl
+finds kind.FznTableInt = refl
+finds kind.FznTableIntReif = refl
+finds kind.FznTableBool = refl
+finds kind.FznTableBoolReif = refl

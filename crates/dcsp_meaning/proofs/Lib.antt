@@ -2,3 +2,4 @@ pub mod Quotients
 pub mod Divided
 pub mod KindNames
 pub mod Steps
+pub mod TableLaws

@@ -44,6 +44,10 @@ name_of kind.ArrayVarBoolElement = codes "array_var_bool_element"
 name_of kind.SetIn = codes "set_in"
 name_of kind.SetInReif = codes "set_in_reif"
 name_of kind.FznAllDifferentInt = codes "fzn_all_different_int"
+name_of kind.FznTableInt = codes "fzn_table_int"
+name_of kind.FznTableIntReif = codes "fzn_table_int_reif"
+name_of kind.FznTableBool = codes "fzn_table_bool"
+name_of kind.FznTableBoolReif = codes "fzn_table_bool_reif"
 
 -- the first of these kinds with this name
 abbrev pub kind_among : List ℕ → List ConstraintKind → Option ConstraintKind
@@ -91,6 +95,10 @@ kinds =
     kind.SetIn ∷
     kind.SetInReif ∷
     kind.FznAllDifferentInt ∷
+    kind.FznTableInt ∷
+    kind.FznTableIntReif ∷
+    kind.FznTableBool ∷
+    kind.FznTableBoolReif ∷
     []
 
 -- the kind with this name, if there is one

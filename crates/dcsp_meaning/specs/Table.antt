@@ -3,7 +3,8 @@ use Rattle.std.specs.Prelude.{ℕ, ◌-◌, ◌==◌, ℤ, pos, ◌+ℤ◌, ◌*
 use Rattle.std.specs.List.{list_any, list_all}
 use Rattle.std.specs.Int.{int_min, int_max}
 use Rattle.std.specs.Ordering.{int_eq}
-use Rattle.dcsp_meaning.specs.Words.{argument, is_one, same, differ, has_odd_ones, element_at, is_found, are_different}
+use Rattle.dcsp_meaning.specs.Words.{argument, is_one, same, differ, has_odd_ones, element_at, is_found, are_different, have_same_truth}
+use Rattle.dcsp_meaning.specs.Rows.{is_table, has_row}
 use Rattle.dcsp_meaning.specs.declared.kinds.ConstraintKind.{ConstraintKind}
 use Rattle.dcsp_meaning.specs.declared.kinds.ConstraintKind.TheVariants as kind
 
@@ -18,6 +19,8 @@ plain_of kind.BoolLeReif = kind.BoolLe
 plain_of kind.BoolLtReif = kind.BoolLt
 plain_of kind.BoolClauseReif = kind.BoolClause
 plain_of kind.SetInReif = kind.SetIn
+plain_of kind.FznTableIntReif = kind.FznTableInt
+plain_of kind.FznTableBoolReif = kind.FznTableBool
 plain_of other = other
 
 -- whether it is a reified form
@@ -31,6 +34,8 @@ is_reified kind.BoolLeReif = true
 is_reified kind.BoolLtReif = true
 is_reified kind.BoolClauseReif = true
 is_reified kind.SetInReif = true
+is_reified kind.FznTableIntReif = true
+is_reified kind.FznTableBoolReif = true
 is_reified other = false
 
 -- so many scalars and no list; so many and the first list; so many and both lists
@@ -42,6 +47,10 @@ takes_list many scalars first second = (scalars == many) && (second == 0)
 
 abbrev pub takes_lists : ℕ → ℕ → ℕ → ℕ → Bool
 takes_lists many scalars first second = scalars == many
+
+-- no scalar of its own, a row of at least one value, and a table of whole rows that are as long
+abbrev pub takes_table : ℕ → ℕ → ℕ → Bool
+takes_table scalars first second = (scalars == 0) && is_table first second
 
 -- whether a constraint that is not reified takes so many scalars and lists of these lengths
 abbrev pub is_plain_shape : ConstraintKind → ℕ → ℕ → ℕ → Bool
@@ -74,6 +83,8 @@ is_plain_shape kind.ArrayBoolElement = takes_list 2
 is_plain_shape kind.ArrayVarBoolElement = takes_list 2
 is_plain_shape kind.SetIn = takes_scalars 1
 is_plain_shape kind.FznAllDifferentInt = takes_list 0
+is_plain_shape kind.FznTableInt = takes_table
+is_plain_shape kind.FznTableBool = takes_table
 is_plain_shape reified = λ scalars first second. false
 
 -- whether a constraint takes so many scalars and lists of these lengths: a reified form takes one scalar more
@@ -122,6 +133,8 @@ plain_truth kind.ArrayBoolElement s xs ys member = is_found (λ x. same (is_one 
 plain_truth kind.ArrayVarBoolElement s xs ys member = is_found (λ x. same (is_one x) (is_one (b s))) (element_at xs (a s))
 plain_truth kind.SetIn s xs ys member = member (a s)
 plain_truth kind.FznAllDifferentInt s xs ys member = are_different xs
+plain_truth kind.FznTableInt s xs ys member = has_row int_eq xs ys
+plain_truth kind.FznTableBool s xs ys member = has_row have_same_truth xs ys
 plain_truth reified s xs ys member = false
 
 -- the last scalar

@@ -20,6 +20,15 @@ same false q = not q
 abbrev pub differ : Bool → Bool → Bool
 differ p q = not (same p q)
 
+-- whether two numbers are the same truth
+abbrev pub have_same_truth : ℤ → ℤ → Bool
+have_same_truth x y = same (is_one x) (is_one y)
+
+-- when two numbers are equal: as Booleans, or as integers
+abbrev pub equal_as : Bool → ℤ → ℤ → Bool
+equal_as true = have_same_truth
+equal_as false = int_eq
+
 -- whether an odd number of the elements is 1
 abbrev pub has_odd_ones : List ℤ → Bool
 has_odd_ones xs = count_by is_one xs % 2 == 1

@@ -6,7 +6,7 @@ ghost use Rattle.dcsp_meaning.specs.Table.{is_reified};
 ghost use Rattle.dcsp_meaning.specs.Names.{name_of, kind_among, kind_named};
 
 /// A constraint's name: the builtin constraints of the MiniZinc Handbook's chapter on FlatZinc that need no
-/// sums, and `fzn_all_different_int`.
+/// sums, `fzn_all_different_int`, and the tables `fzn_table_int` and `fzn_table_bool` with their reified forms.
 #[derive(Clone, Copy, Debug, PartialEq, Eq)]
 pub enum ConstraintKind {
     /// `int_eq(a, b)`: `a` is equal to `b`.
@@ -87,10 +87,21 @@ pub enum ConstraintKind {
     ///
     /// Of `n` elements it compares at most `n * (n - 1) / 2` pairs, up to the first equal one, and takes no memory.
     FznAllDifferentInt,
+    /// `fzn_table_int(xs, t)`: some row of the table `t` is `xs`. The table is written row after row, and each row is as
+    /// long as `xs`, which has at least one element. A table without rows is false, and two equal rows are as one.
+    ///
+    /// It goes through the rows, of each up to the first entry that differs, and takes no memory.
+    FznTableInt,
+    /// `fzn_table_int_reif(xs, t, r)`: `r` tells whether some row of the table is `xs`.
+    FznTableIntReif,
+    /// `fzn_table_bool(xs, t)`: the same for Booleans.
+    FznTableBool,
+    /// `fzn_table_bool_reif(xs, t, r)`: `r` tells whether some row of the table is `xs`.
+    FznTableBoolReif,
 }
 
 /// Every name, in the table's order.
-const KINDS: [ConstraintKind; 38] = [
+const KINDS: [ConstraintKind; 42] = [
     ConstraintKind::IntEq,
     ConstraintKind::IntEqReif,
     ConstraintKind::IntNe,
@@ -129,6 +140,10 @@ const KINDS: [ConstraintKind; 38] = [
     ConstraintKind::SetIn,
     ConstraintKind::SetInReif,
     ConstraintKind::FznAllDifferentInt,
+    ConstraintKind::FznTableInt,
+    ConstraintKind::FznTableIntReif,
+    ConstraintKind::FznTableBool,
+    ConstraintKind::FznTableBoolReif,
 ];
 
 impl ConstraintKind {
@@ -166,6 +181,8 @@ impl ConstraintKind {
             ConstraintKind::ArrayVarBoolElement => b"array_var_bool_element",
             ConstraintKind::SetIn => b"set_in",
             ConstraintKind::FznAllDifferentInt => b"fzn_all_different_int",
+            ConstraintKind::FznTableInt => b"fzn_table_int",
+            ConstraintKind::FznTableBool => b"fzn_table_bool",
             reified => reified.reified_name(),
         }
     }
@@ -184,6 +201,8 @@ impl ConstraintKind {
             ConstraintKind::BoolLtReif => b"bool_lt_reif",
             ConstraintKind::BoolClauseReif => b"bool_clause_reif",
             ConstraintKind::SetInReif => b"set_in_reif",
+            ConstraintKind::FznTableIntReif => b"fzn_table_int_reif",
+            ConstraintKind::FznTableBoolReif => b"fzn_table_bool_reif",
             _ => unreachable!(),
         }
     }

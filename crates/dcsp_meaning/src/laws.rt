@@ -1,5 +1,6 @@
 //! Laws of the table's definitions.
 
+ghost use Rattle.dcsp_meaning.specs.Rows.{RowsAreThePieces};
 ghost use Rattle.dcsp_meaning.specs.Division.{DividesTowardsZero, HasOneQuotient};
 
 /// The quotients of `int_div` and the remainders of `int_mod` are those of division that truncates towards zero:
@@ -8,4 +9,9 @@ ghost use Rattle.dcsp_meaning.specs.Division.{DividesTowardsZero, HasOneQuotient
 pub fn division_truncates()
     ensures divided { DividesTowardsZero }
     ensures one { HasOneQuotient }
+{}
+
+/// A table has a row exactly where the row is one of the pieces, each as long as it is, into which the table is cut.
+pub fn rows_are_pieces()
+    ensures { RowsAreThePieces }
 {}

@@ -1,5 +1,5 @@
 //! What each constraint means for numbers: FlatZinc's table of builtin constraints, as the MiniZinc Handbook lists
-//! it, and `fzn_all_different_int`.
+//! it, `fzn_all_different_int`, and tables.
 #![tactic(auto)]
 
 mod arithmetic;
@@ -9,11 +9,12 @@ mod laws;
 mod linear;
 mod lists;
 mod shapes;
+mod tables;
 mod truths;
 
 pub use ground::Ground;
 pub use kinds::ConstraintKind;
-pub use laws::division_truncates;
+pub use laws::{division_truncates, rows_are_pieces};
 pub use linear::{Rel, WIDEST, Weighted, plus_greatest, plus_product, product, sum_holds, width};
-pub use shapes::shape_ok;
+pub use shapes::{is_table, shape_ok};
 pub use truths::holds;

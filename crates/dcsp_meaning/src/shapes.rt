@@ -1,6 +1,7 @@
 //! Which arguments a constraint takes.
 
 ghost use Rattle.std.specs.Prelude.{◌≡◌};
+ghost use Rattle.dcsp_meaning.specs.Rows.{is_table};
 ghost use Rattle.dcsp_meaning.specs.Table.{is_shape, is_plain_shape, is_reified, plain_of};
 
 use crate::kinds::ConstraintKind;
@@ -32,6 +33,8 @@ pub(crate) fn plain_of(kind: ConstraintKind) -> ConstraintKind
         ConstraintKind::BoolLtReif => ConstraintKind::BoolLt,
         ConstraintKind::BoolClauseReif => ConstraintKind::BoolClause,
         ConstraintKind::SetInReif => ConstraintKind::SetIn,
+        ConstraintKind::FznTableIntReif => ConstraintKind::FznTableInt,
+        ConstraintKind::FznTableBoolReif => ConstraintKind::FznTableBool,
         other => other,
     }
 }
@@ -51,6 +54,8 @@ pub(crate) fn is_reified(kind: ConstraintKind) -> bool
             | ConstraintKind::BoolLtReif
             | ConstraintKind::BoolClauseReif
             | ConstraintKind::SetInReif
+            | ConstraintKind::FznTableIntReif
+            | ConstraintKind::FznTableBoolReif
     )
 }
 
@@ -87,6 +92,15 @@ fn plain_shape_ok(kind: ConstraintKind, scalars: usize, first: usize, second: us
         | ConstraintKind::ArrayBoolElement
         | ConstraintKind::ArrayVarBoolElement => scalars == 2 && second == 0,
         ConstraintKind::SetIn => scalars == 1 && first == 0 && second == 0,
+        ConstraintKind::FznTableInt | ConstraintKind::FznTableBool => scalars == 0
+            && is_table(first, second),
         _ => false,
     }
+}
+
+/// Whether so many entries are a table of whole rows that are so long, and have at least one entry.
+pub fn is_table(width: usize, entries: usize) -> bool
+    ensures { result ≡ is_table width entries }
+{
+    0 < width && entries % width == 0
 }

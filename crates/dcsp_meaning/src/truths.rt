@@ -14,6 +14,7 @@ use crate::ground::Ground;
 use crate::kinds::ConstraintKind;
 use crate::lists::{all_different, all_true, element, odd_true, some_false, some_true};
 use crate::shapes::{is_reified, plain_of};
+use crate::tables::has_row;
 
 /// Whether the constraint holds for these values.
 ///
@@ -73,6 +74,8 @@ fn plain_holds<G: Ground>(kind: ConstraintKind, ground: &G) -> bool
             bool_element_holds(ground),
         ConstraintKind::SetIn => ground.member(ground.scalar(0)),
         ConstraintKind::FznAllDifferentInt => all_different(ground),
+        ConstraintKind::FznTableInt => has_row(ground, false),
+        ConstraintKind::FznTableBool => has_row(ground, true),
         // a reified form has no row of its own
         _ => false,
     }

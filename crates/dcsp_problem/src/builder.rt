@@ -6,15 +6,12 @@ ghost use Rattle.dcsp_rule.specs.Rules.{IsTermOf, IsAimOf, terms_of, size_of, ha
 ghost use Rattle.dcsp_problem.specs.Outputs.{IsOutputOf};
 ghost use Rattle.dcsp_problem.specs.Limits.{first_past, list_counts, variable_refusal, rule_refusal, Refuses};
 
-use crate::index::owned_lists;
 use crate::limits::{BuildError, Which, within};
-use crate::lower::lower_table;
-use crate::problem::{Problem, SharedPart, Tables};
-use crate::table::NumberTable;
+use crate::problem::Problem;
 use crate::widths::within_width;
 use dcsp_common::Memory;
 use dcsp_domain::Domain;
-use dcsp_rule::{Aim, Members, Output, Rule, forms_of};
+use dcsp_rule::{Aim, Members, Output, Rule};
 use std::alloc::Global;
 use std::marker::Model;
 
@@ -130,23 +127,7 @@ impl ProblemBuilder {
     pub fn finish(self) -> Result<Problem, Memory>
         ensures { IfOk result (λ problem. problem ≡ self) }
     {
-        let scopes = NumberTable::of_scopes(self.alloc, &self.rules)?;
-        let forms = forms_of(self.alloc, &self.rules)?;
-        let owners = owned_lists(self.alloc, &scopes, self.domains.len())?;
-        let owned = NumberTable::of_lists(self.alloc, &owners)?;
-        let lower = lower_table(self.alloc, &scopes, self.domains.len())?;
-        let tables = Tables {
-            scopes,
-            forms,
-            owned,
-            lower,
-        };
-        let shared = SharedPart {
-            rules: self.rules,
-            outputs: self.outputs,
-            tables,
-        };
-        Problem::from_parts(self.alloc, self.domains, self.aim, shared)
+        Problem::of_parts(self.alloc, self.domains, self.rules, self.outputs, self.aim)
     }
 }
 

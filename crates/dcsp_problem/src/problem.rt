@@ -13,11 +13,13 @@ ghost use Rattle.dcsp_rule.specs.Forms.{IsFormOf};
 ghost use Rattle.dcsp_problem.specs.Index.{IsIndexed, owned_rules};
 ghost use Rattle.dcsp_problem.specs.Lower.{lower_owners};
 
+use crate::index::owned_lists;
+use crate::lower::lower_table;
 use crate::table::NumberTable;
 use dcsp_common::Memory;
 use dcsp_domain::Domain;
 use dcsp_rule::{
-    Aim, Assignment, BinaryRule, Form, Lookup, Output, Rule, WithinDomains, is_true_under,
+    Aim, Assignment, BinaryRule, Form, Lookup, Output, Rule, WithinDomains, forms_of, is_true_under,
 };
 use std::alloc::Global;
 use std::marker::Model;
@@ -65,8 +67,38 @@ impl Model for Problem {
 }
 
 impl Problem {
+    /// The problem of these parts, which keep the limits.
+    pub fn of_parts(
+        alloc: Global,
+        domains: Vec<Domain>,
+        rules: Vec<Rule>,
+        outputs: Vec<Output>,
+        aim: Aim,
+    ) -> Result<Problem, Memory>
+        requires { IsProblem (record { domains = domains.items; rules = rules.items; outputs = outputs.items; aim = aim }) }
+        ensures { IfOk result (λ problem. problem ≡ record { domains = domains.items; rules = rules.items; outputs = outputs.items; aim = aim }) }
+    {
+        let scopes = NumberTable::of_scopes(alloc, &rules)?;
+        let forms = forms_of(alloc, &rules)?;
+        let owners = owned_lists(alloc, &scopes, domains.len())?;
+        let owned = NumberTable::of_lists(alloc, &owners)?;
+        let lower = lower_table(alloc, &scopes, domains.len())?;
+        let tables = Tables {
+            scopes,
+            forms,
+            owned,
+            lower,
+        };
+        let shared = SharedPart {
+            rules,
+            outputs,
+            tables,
+        };
+        Problem::from_parts(alloc, domains, aim, shared)
+    }
+
     /// The problem of these domains and this aim, and of rules and outputs with the tables that belong to them all.
-    pub(crate) fn from_parts(
+    fn from_parts(
         alloc: Global,
         domains: Vec<Domain>,
         aim: Aim,

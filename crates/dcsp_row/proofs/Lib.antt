@@ -4,6 +4,7 @@ pub mod RowLaws
 pub mod LineLaws
 pub mod WordLaws
 pub mod CutLaws
+mod FitLaws
 mod EasyLaws
 mod ClosedLaws
 mod SpanLaws

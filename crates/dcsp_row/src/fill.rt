@@ -12,6 +12,7 @@ ghost use Rattle.dcsp_rule.specs.Rules.{has_shape};
 ghost use Rattle.dcsp_rule.specs.Pairs.{is_missed, IsSmall};
 ghost use Rattle.dcsp_rule.specs.Widths.{rule_sizes};
 ghost use Rattle.dcsp_row.specs.Easy.{has_span, is_plain};
+ghost use Rattle.dcsp_row.specs.Tables.{values_at, IsIntTable, TellsTable};
 ghost use Rattle.dcsp_row.specs.Lines.{is_line, is_off, line_size};
 ghost use Rattle.dcsp_row.specs.Rows.{is_false, is_ruled_out, IsRow, TellsFalse, FitAtEach};
 ghost use Rattle.dcsp_row.specs.Spans.{SpansWhere};
@@ -22,8 +23,9 @@ use crate::line::{line_of, line_of_pair};
 use crate::row::Row;
 use crate::span::Span;
 use crate::sums::{OpenSum, fill_sum, missed_line, off_span, told_by};
+use crate::tables::fill_table;
 use dcsp_domain::Domain;
-use dcsp_problem::{BinaryRule, Lookup, Problem, Rule};
+use dcsp_problem::{BinaryRule, ConstraintKind, Lookup, Problem, Rule, Term};
 
 /// The values of the open variable at which the rule is violated under these and the others', as a span of
 /// its domain; `None` only where the rule is not one that always has a span.
@@ -104,13 +106,68 @@ pub fn fill_row<L: Lookup>(
         return;
     }
     let _variables = problem.vars();
-    if !fill_linear(
+    if !fill_known(
         problem.rule(rule),
         problem.domain(open_var.var),
         open_var,
         row,
     ) {
         try_each(problem, rule, open_var, row);
+    }
+}
+
+/// For each value of the variable whether the rule is false, if it is a sum with the variable in one of its
+/// terms at most, or a table of integers whose truth the variable does not tell.
+fn fill_known<L: Lookup>(
+    rule: &Rule,
+    domain: &Domain,
+    open_var: &OpenVariable<'_, L>,
+    row: &mut Row,
+) -> bool
+    requires size { length row.old ≡ length domain.now }
+    requires shape { IsTrue (has_shape rule.now) }
+    requires narrow { FitAtEach (λ x. rule_sizes rule.now (filled (with_value open_var.now.var x (L.values open_var.now.lookup.now)))) widest domain.now }
+    ensures size { length row.new ≡ length domain.now }
+    ensures tells { IsTrue result → TellsFalse rule.now open_var.now.var domain.now (L.values open_var.now.lookup.now) row.new }
+{
+    match rule {
+        Rule::Sum { .. } => fill_linear(rule, domain, open_var, row),
+        Rule::Plain {
+            kind,
+            scalars,
+            first,
+            second,
+            ..
+        } => match told_table(*kind, scalars.items(), open_var) {
+            None => false,
+            Some(told) => {
+                fill_table(first.items(), second.items(), told, domain, open_var, row);
+                true
+            }
+        },
+    }
+}
+
+/// Whether a constraint of this kind is a table of integers that has to hold, or is told to, or not to, by another
+/// variable than the open one; `None` where it is anything else.
+fn told_table<L: Lookup>(
+    kind: ConstraintKind,
+    scalars: &[Term],
+    open_var: &OpenVariable<'_, L>,
+) -> Option<bool>
+    ensures table { IfSome result (λ told. IsIntTable kind) }
+    ensures told { IfSome result (λ told. (value : ℤ) → TellsTable kind (values_at open_var.now.var (L.values open_var.now.lookup.now) scalars.now value) told) }
+{
+    match kind {
+        ConstraintKind::FznTableInt => Some(true),
+        ConstraintKind::FznTableIntReif => match scalars.last() {
+            None => None,
+            Some(truth) => match known_value(*truth, open_var) {
+                None => None,
+                Some(value) => Some(value == 1),
+            },
+        },
+        _ => None,
     }
 }
 

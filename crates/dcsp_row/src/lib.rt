@@ -13,6 +13,7 @@ mod marks;
 mod row;
 mod span;
 mod sums;
+mod tables;
 mod word;
 
 pub use easy::has_span;

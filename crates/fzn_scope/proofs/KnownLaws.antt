@@ -128,8 +128,7 @@ argument_known n text scope done (Scalar boolean) e h k =
 argument_known n text scope done (First wanted) e h k =
     ok_then (All (IsTermOf n)) (IsArgumentsOf n) (list_of text scope wanted e) (λ terms. Ok (record done { first = terms })) (list_known n text scope wanted e h)
     (λ terms t. record { scalars = k.scalars; first = t; second = k.second })
-argument_known n text scope done (Second boolean) e h k =
-    let wanted : Wanted = record { boolean = boolean; constant = false } in
+argument_known n text scope done (Second wanted) e h k =
     ok_then (All (IsTermOf n)) (IsArgumentsOf n) (list_of text scope wanted e) (λ terms. Ok (record done { second = terms })) (list_known n text scope wanted e h)
     (λ terms t. record { scalars = k.scalars; first = k.first; second = t })
 argument_known n text scope done Set e h k =

@@ -13,7 +13,7 @@ abbrev pub is_ordered : ℕ → ℕ → List Place → Bool
 is_ordered n m [] = true
 is_ordered n m (place.Scalar boolean ∷ ps) = is_ordered n m ps
 is_ordered n m (place.First wanted ∷ ps) = (n == 0) && is_ordered 1 m ps
-is_ordered n m (place.Second boolean ∷ ps) = (n == 1) && is_ordered 2 m ps
+is_ordered n m (place.Second wanted ∷ ps) = (n == 1) && is_ordered 2 m ps
 is_ordered n m (place.Set ∷ ps) = (m == 0) && is_ordered n 1 ps
 
 -- each first list is of constants
@@ -21,7 +21,7 @@ abbrev pub are_constant : List Place → Bool
 are_constant [] = true
 are_constant (place.Scalar boolean ∷ ps) = are_constant ps
 are_constant (place.First wanted ∷ ps) = wanted.constant && are_constant ps
-are_constant (place.Second boolean ∷ ps) = are_constant ps
+are_constant (place.Second wanted ∷ ps) = are_constant ps
 are_constant (place.Set ∷ ps) = are_constant ps
 
 -- the places of a form stand in order, and there are few
@@ -68,5 +68,9 @@ in_order (Plain kind.ArrayVarBoolElement) count = record { ordered = refl; few =
 in_order (Plain kind.SetIn) count = record { ordered = refl; few = omega arith }
 in_order (Plain kind.SetInReif) count = record { ordered = refl; few = omega arith }
 in_order (Plain kind.FznAllDifferentInt) count = record { ordered = refl; few = omega arith }
+in_order (Plain kind.FznTableInt) count = record { ordered = refl; few = omega arith }
+in_order (Plain kind.FznTableIntReif) count = record { ordered = refl; few = omega arith }
+in_order (Plain kind.FznTableBool) count = record { ordered = refl; few = omega arith }
+in_order (Plain kind.FznTableBoolReif) count = record { ordered = refl; few = omega arith }
 in_order (Sum rel boolean true) count = record { ordered = refl; few = omega arith }
 in_order (Sum rel boolean false) count = record { ordered = refl; few = omega arith }

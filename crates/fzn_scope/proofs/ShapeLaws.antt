@@ -7,7 +7,8 @@ use Rattle.std.proofs.lemmas.Result.{IfOk-weaker}
 use Rattle.fzn_item.specs.declared.item.Expr.{Expr}
 use Rattle.dcsp_meaning.specs.declared.kinds.ConstraintKind.{ConstraintKind}
 use Rattle.dcsp_meaning.specs.declared.kinds.ConstraintKind.TheVariants as kind
-use Rattle.dcsp_meaning.specs.Table.{is_shape}
+use Rattle.dcsp_meaning.specs.Rows.{is_table}
+use Rattle.dcsp_meaning.specs.Table.{is_shape, plain_of}
 use Rattle.dcsp_rule.specs.declared.rule.Term.{Term}
 use Rattle.dcsp_rule.specs.declared.rule.Rule.{Rule}
 use Rattle.dcsp_rule.specs.Rules.{has_shape}
@@ -20,28 +21,28 @@ use Rattle.fzn_scope.specs.declared.refusal.Refusal.TheVariants as refusal
 use Rattle.fzn_scope.specs.Names.{Scope}
 use Rattle.fzn_scope.specs.Places.{one_of, list_of, set_of}
 use Rattle.fzn_scope.specs.Forms.{truth, places_of}
-use Rattle.fzn_scope.specs.Rules.{no_arguments, with_argument, arguments_after, constant_of, rule_of, lengths_agree, form_at, constraint_rule}
+use Rattle.fzn_scope.specs.Rules.{no_arguments, with_argument, arguments_after, constant_of, rule_of, takes_rows, lengths_agree, form_at, constraint_rule}
 use Rattle.fzn_scope.proofs.Steps.{ok_then, ok_each, ok_unless, both_keep}
 
 -- how many scalars a place gives
 abbrev scalar_count : Place → ℕ
 scalar_count (Scalar boolean) = 1
 scalar_count (First wanted) = 0
-scalar_count (Second boolean) = 0
+scalar_count (Second wanted) = 0
 scalar_count Set = 0
 
 -- whether a place gives the first list
 abbrev is_first : Place → Bool
 is_first (Scalar boolean) = false
 is_first (First wanted) = true
-is_first (Second boolean) = false
+is_first (Second wanted) = false
 is_first Set = false
 
 -- whether a place gives the second list
 abbrev is_second : Place → Bool
 is_second (Scalar boolean) = false
 is_second (First wanted) = false
-is_second (Second boolean) = true
+is_second (Second wanted) = true
 is_second Set = false
 
 -- how many scalars places give
@@ -73,8 +74,8 @@ gains_one text scope done (Scalar boolean) e =
 gains_one text scope done (First wanted) e =
     ok_each (Gains 0 true false done) (list_of text scope wanted e) (λ terms. Ok (record done { first = terms }))
     (λ terms. record { scalars = sym (add-zero (length done.scalars)); first = λ h. absurd cc; second = λ _. refl })
-gains_one text scope done (Second boolean) e =
-    ok_each (Gains 0 false true done) (list_of text scope (record { boolean = boolean; constant = false }) e) (λ terms. Ok (record done { second = terms }))
+gains_one text scope done (Second wanted) e =
+    ok_each (Gains 0 false true done) (list_of text scope wanted e) (λ terms. Ok (record done { second = terms }))
     (λ terms. record { scalars = sym (add-zero (length done.scalars)); first = λ _. refl; second = λ h. absurd cc })
 gains_one text scope done Set e =
     ok_each (Gains 0 false false done) (set_of text scope e) (λ members. Ok (record done { members = members }))
@@ -115,51 +116,55 @@ of_xor true s f g e p q = of_scalars kind.BoolXor s f g 2 e (p refl) (q refl) re
 of_xor false s f g e p q = of_scalars kind.BoolXor s f g 3 e (p refl) (q refl) refl
 
 -- the places of a kind give what the kind takes
-suits : (k : ConstraintKind) (count s f g : ℕ) → s ≡ scalars_in (places_of (Plain k) count) → (has_first (places_of (Plain k) count) ≡ false → f ≡ 0) → (has_second (places_of (Plain k) count) ≡ false → g ≡ 0) → IsTrue (is_shape k s f g)
-suits kind.IntEq count s f g e p q = of_scalars kind.IntEq s f g 2 e (p refl) (q refl) refl
-suits kind.IntEqReif count s f g e p q = of_scalars kind.IntEqReif s f g 3 e (p refl) (q refl) refl
-suits kind.IntNe count s f g e p q = of_scalars kind.IntNe s f g 2 e (p refl) (q refl) refl
-suits kind.IntNeReif count s f g e p q = of_scalars kind.IntNeReif s f g 3 e (p refl) (q refl) refl
-suits kind.IntLe count s f g e p q = of_scalars kind.IntLe s f g 2 e (p refl) (q refl) refl
-suits kind.IntLeReif count s f g e p q = of_scalars kind.IntLeReif s f g 3 e (p refl) (q refl) refl
-suits kind.IntLt count s f g e p q = of_scalars kind.IntLt s f g 2 e (p refl) (q refl) refl
-suits kind.IntLtReif count s f g e p q = of_scalars kind.IntLtReif s f g 3 e (p refl) (q refl) refl
-suits kind.IntPlus count s f g e p q = of_scalars kind.IntPlus s f g 3 e (p refl) (q refl) refl
-suits kind.IntTimes count s f g e p q = of_scalars kind.IntTimes s f g 3 e (p refl) (q refl) refl
-suits kind.IntMin count s f g e p q = of_scalars kind.IntMin s f g 3 e (p refl) (q refl) refl
-suits kind.IntMax count s f g e p q = of_scalars kind.IntMax s f g 3 e (p refl) (q refl) refl
-suits kind.IntAbs count s f g e p q = of_scalars kind.IntAbs s f g 2 e (p refl) (q refl) refl
-suits kind.IntDiv count s f g e p q = of_scalars kind.IntDiv s f g 3 e (p refl) (q refl) refl
-suits kind.IntMod count s f g e p q = of_scalars kind.IntMod s f g 3 e (p refl) (q refl) refl
-suits kind.BoolEq count s f g e p q = of_scalars kind.BoolEq s f g 2 e (p refl) (q refl) refl
-suits kind.BoolEqReif count s f g e p q = of_scalars kind.BoolEqReif s f g 3 e (p refl) (q refl) refl
-suits kind.BoolLe count s f g e p q = of_scalars kind.BoolLe s f g 2 e (p refl) (q refl) refl
-suits kind.BoolLeReif count s f g e p q = of_scalars kind.BoolLeReif s f g 3 e (p refl) (q refl) refl
-suits kind.BoolLt count s f g e p q = of_scalars kind.BoolLt s f g 2 e (p refl) (q refl) refl
-suits kind.BoolLtReif count s f g e p q = of_scalars kind.BoolLtReif s f g 3 e (p refl) (q refl) refl
-suits kind.BoolNot count s f g e p q = of_scalars kind.BoolNot s f g 2 e (p refl) (q refl) refl
-suits kind.BoolAnd count s f g e p q = of_scalars kind.BoolAnd s f g 3 e (p refl) (q refl) refl
-suits kind.BoolOr count s f g e p q = of_scalars kind.BoolOr s f g 3 e (p refl) (q refl) refl
-suits kind.BoolXor count s f g e p q = of_xor (count == 2) s f g e p q
-suits kind.Bool2int count s f g e p q = of_scalars kind.Bool2int s f g 2 e (p refl) (q refl) refl
-suits kind.BoolClause count s f g e p q = of_lists kind.BoolClause s f g 0 e refl
-suits kind.BoolClauseReif count s f g e p q = of_lists kind.BoolClauseReif s f g 1 e refl
-suits kind.ArrayBoolAnd count s f g e p q = of_list kind.ArrayBoolAnd s f g 1 e (q refl) refl
-suits kind.ArrayBoolOr count s f g e p q = of_list kind.ArrayBoolOr s f g 1 e (q refl) refl
-suits kind.ArrayBoolXor count s f g e p q = of_list kind.ArrayBoolXor s f g 0 e (q refl) refl
-suits kind.ArrayIntElement count s f g e p q = of_list kind.ArrayIntElement s f g 2 e (q refl) refl
-suits kind.ArrayVarIntElement count s f g e p q = of_list kind.ArrayVarIntElement s f g 2 e (q refl) refl
-suits kind.ArrayBoolElement count s f g e p q = of_list kind.ArrayBoolElement s f g 2 e (q refl) refl
-suits kind.ArrayVarBoolElement count s f g e p q = of_list kind.ArrayVarBoolElement s f g 2 e (q refl) refl
-suits kind.SetIn count s f g e p q = of_scalars kind.SetIn s f g 1 e (p refl) (q refl) refl
-suits kind.SetInReif count s f g e p q = of_scalars kind.SetInReif s f g 2 e (p refl) (q refl) refl
-suits kind.FznAllDifferentInt count s f g e p q = of_list kind.FznAllDifferentInt s f g 0 e (q refl) refl
+suits : (k : ConstraintKind) (count s f g : ℕ) → s ≡ scalars_in (places_of (Plain k) count) → (has_first (places_of (Plain k) count) ≡ false → f ≡ 0) → (has_second (places_of (Plain k) count) ≡ false → g ≡ 0) → (not (takes_rows (plain_of k)) || is_table f g) ≡ true → IsTrue (is_shape k s f g)
+suits kind.IntEq count s f g e p q h = of_scalars kind.IntEq s f g 2 e (p refl) (q refl) refl
+suits kind.IntEqReif count s f g e p q h = of_scalars kind.IntEqReif s f g 3 e (p refl) (q refl) refl
+suits kind.IntNe count s f g e p q h = of_scalars kind.IntNe s f g 2 e (p refl) (q refl) refl
+suits kind.IntNeReif count s f g e p q h = of_scalars kind.IntNeReif s f g 3 e (p refl) (q refl) refl
+suits kind.IntLe count s f g e p q h = of_scalars kind.IntLe s f g 2 e (p refl) (q refl) refl
+suits kind.IntLeReif count s f g e p q h = of_scalars kind.IntLeReif s f g 3 e (p refl) (q refl) refl
+suits kind.IntLt count s f g e p q h = of_scalars kind.IntLt s f g 2 e (p refl) (q refl) refl
+suits kind.IntLtReif count s f g e p q h = of_scalars kind.IntLtReif s f g 3 e (p refl) (q refl) refl
+suits kind.IntPlus count s f g e p q h = of_scalars kind.IntPlus s f g 3 e (p refl) (q refl) refl
+suits kind.IntTimes count s f g e p q h = of_scalars kind.IntTimes s f g 3 e (p refl) (q refl) refl
+suits kind.IntMin count s f g e p q h = of_scalars kind.IntMin s f g 3 e (p refl) (q refl) refl
+suits kind.IntMax count s f g e p q h = of_scalars kind.IntMax s f g 3 e (p refl) (q refl) refl
+suits kind.IntAbs count s f g e p q h = of_scalars kind.IntAbs s f g 2 e (p refl) (q refl) refl
+suits kind.IntDiv count s f g e p q h = of_scalars kind.IntDiv s f g 3 e (p refl) (q refl) refl
+suits kind.IntMod count s f g e p q h = of_scalars kind.IntMod s f g 3 e (p refl) (q refl) refl
+suits kind.BoolEq count s f g e p q h = of_scalars kind.BoolEq s f g 2 e (p refl) (q refl) refl
+suits kind.BoolEqReif count s f g e p q h = of_scalars kind.BoolEqReif s f g 3 e (p refl) (q refl) refl
+suits kind.BoolLe count s f g e p q h = of_scalars kind.BoolLe s f g 2 e (p refl) (q refl) refl
+suits kind.BoolLeReif count s f g e p q h = of_scalars kind.BoolLeReif s f g 3 e (p refl) (q refl) refl
+suits kind.BoolLt count s f g e p q h = of_scalars kind.BoolLt s f g 2 e (p refl) (q refl) refl
+suits kind.BoolLtReif count s f g e p q h = of_scalars kind.BoolLtReif s f g 3 e (p refl) (q refl) refl
+suits kind.BoolNot count s f g e p q h = of_scalars kind.BoolNot s f g 2 e (p refl) (q refl) refl
+suits kind.BoolAnd count s f g e p q h = of_scalars kind.BoolAnd s f g 3 e (p refl) (q refl) refl
+suits kind.BoolOr count s f g e p q h = of_scalars kind.BoolOr s f g 3 e (p refl) (q refl) refl
+suits kind.BoolXor count s f g e p q h = of_xor (count == 2) s f g e p q
+suits kind.Bool2int count s f g e p q h = of_scalars kind.Bool2int s f g 2 e (p refl) (q refl) refl
+suits kind.BoolClause count s f g e p q h = of_lists kind.BoolClause s f g 0 e refl
+suits kind.BoolClauseReif count s f g e p q h = of_lists kind.BoolClauseReif s f g 1 e refl
+suits kind.ArrayBoolAnd count s f g e p q h = of_list kind.ArrayBoolAnd s f g 1 e (q refl) refl
+suits kind.ArrayBoolOr count s f g e p q h = of_list kind.ArrayBoolOr s f g 1 e (q refl) refl
+suits kind.ArrayBoolXor count s f g e p q h = of_list kind.ArrayBoolXor s f g 0 e (q refl) refl
+suits kind.ArrayIntElement count s f g e p q h = of_list kind.ArrayIntElement s f g 2 e (q refl) refl
+suits kind.ArrayVarIntElement count s f g e p q h = of_list kind.ArrayVarIntElement s f g 2 e (q refl) refl
+suits kind.ArrayBoolElement count s f g e p q h = of_list kind.ArrayBoolElement s f g 2 e (q refl) refl
+suits kind.ArrayVarBoolElement count s f g e p q h = of_list kind.ArrayVarBoolElement s f g 2 e (q refl) refl
+suits kind.SetIn count s f g e p q h = of_scalars kind.SetIn s f g 1 e (p refl) (q refl) refl
+suits kind.SetInReif count s f g e p q h = of_scalars kind.SetInReif s f g 2 e (p refl) (q refl) refl
+suits kind.FznAllDifferentInt count s f g e p q h = of_list kind.FznAllDifferentInt s f g 0 e (q refl) refl
+suits kind.FznTableInt count s f g e p q h = of_lists kind.FznTableInt s f g 0 e h
+suits kind.FznTableIntReif count s f g e p q h = of_lists kind.FznTableIntReif s f g 1 e h
+suits kind.FznTableBool count s f g e p q h = of_lists kind.FznTableBool s f g 0 e h
+suits kind.FznTableBoolReif count s f g e p q h = of_lists kind.FznTableBoolReif s f g 1 e h
 
 -- a rule of arguments at its places
 rule_shape : (form : Form) (count : ℕ) (arguments : Arguments) → Gains (scalars_in (places_of form count)) (has_first (places_of form count)) (has_second (places_of form count)) no_arguments arguments → not (lengths_agree form arguments) ≡ false → IsTrue (has_shape (rule_of form arguments))
 rule_shape (Plain k) count arguments h agree =
     suits k count (length arguments.scalars) (length arguments.first) (length arguments.second)
-    (h.scalars ∙ zero-add (scalars_in (places_of (Plain k) count))) (λ none. ap (λ (l : List Term). length l) (h.first none)) (λ none. ap (λ (l : List Term). length l) (h.second none))
+    (h.scalars ∙ zero-add (scalars_in (places_of (Plain k) count))) (λ none. ap (λ (l : List Term). length l) (h.first none)) (λ none. ap (λ (l : List Term). length l) (h.second none)) (not-false (lengths_agree (Plain k) arguments) agree)
 rule_shape (Sum rel boolean reified) count arguments h agree =
     ap (λ n. n == length arguments.second) (length-map arguments.first constant_of) ∙ not-false (length arguments.first == length arguments.second) agree
 

@@ -31,6 +31,14 @@ truths = First (record { boolean = true; constant = false })
 abbrev pub coefficients : Place
 coefficients = First (record { boolean = false; constant = true })
 
+-- the second list, of integers or of Booleans
+abbrev pub others : Bool → Place
+others boolean = Second (record { boolean = boolean; constant = false })
+
+-- the second list, of a table's entries, which are constants
+abbrev pub rows : Bool → Place
+rows boolean = Second (record { boolean = boolean; constant = true })
+
 -- the arguments of a constraint that needs no sum and is not reified. `bool_xor` takes two or three
 abbrev pub plain_places : ConstraintKind → ℕ → List Place
 plain_places kind.IntEq count = whole ∷ whole ∷ []
@@ -52,7 +60,7 @@ plain_places kind.BoolAnd count = truth ∷ truth ∷ truth ∷ []
 plain_places kind.BoolOr count = truth ∷ truth ∷ truth ∷ []
 plain_places kind.BoolXor count = if count == 2 then truth ∷ truth ∷ [] else truth ∷ truth ∷ truth ∷ []
 plain_places kind.Bool2int count = truth ∷ whole ∷ []
-plain_places kind.BoolClause count = truths ∷ Second true ∷ []
+plain_places kind.BoolClause count = truths ∷ others true ∷ []
 plain_places kind.ArrayBoolAnd count = truths ∷ truth ∷ []
 plain_places kind.ArrayBoolOr count = truths ∷ truth ∷ []
 plain_places kind.ArrayBoolXor count = truths ∷ []
@@ -62,6 +70,8 @@ plain_places kind.ArrayBoolElement count = whole ∷ truths ∷ truth ∷ []
 plain_places kind.ArrayVarBoolElement count = whole ∷ truths ∷ truth ∷ []
 plain_places kind.SetIn count = whole ∷ Set ∷ []
 plain_places kind.FznAllDifferentInt count = wholes ∷ []
+plain_places kind.FznTableInt count = wholes ∷ rows false ∷ []
+plain_places kind.FznTableBool count = truths ∷ rows true ∷ []
 plain_places reified count = []
 
 -- a reified form takes one Boolean more, at the end
@@ -72,7 +82,7 @@ reified_places false places = places
 -- the arguments that a constraint takes where so many are given, from left to right
 abbrev pub places_of : Form → ℕ → List Place
 places_of (Plain kind) count = reified_places (is_reified kind) (plain_places (plain_of kind) count)
-places_of (Sum rel boolean reified) count = reified_places reified (coefficients ∷ Second boolean ∷ whole ∷ [])
+places_of (Sum rel boolean reified) count = reified_places reified (coefficients ∷ others boolean ∷ whole ∷ [])
 
 -- the sums
 abbrev pub sums : List (List ℕ × Form)

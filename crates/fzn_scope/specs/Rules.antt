@@ -1,6 +1,10 @@
 -- From a constraint's arguments to its rule.
-use Rattle.std.specs.Prelude.{ℕ, ℤ, pos, ◌==◌, Bool, true, false, not, List, [], ◌∷◌, ◌++◌, map, length, slice_index_or, Option, Some, None, Result, Ok, Err}
+use Rattle.std.specs.Prelude.{ℕ, ℤ, pos, ◌==◌, Bool, true, false, not, ◌||◌, List, [], ◌∷◌, ◌++◌, map, length, slice_index_or, Option, Some, None, Result, Ok, Err}
 use Rattle.fzn_item.specs.declared.item.Expr.{Expr}
+use Rattle.dcsp_meaning.specs.declared.kinds.ConstraintKind.{ConstraintKind}
+use Rattle.dcsp_meaning.specs.declared.kinds.ConstraintKind.TheVariants as kind
+use Rattle.dcsp_meaning.specs.Rows.{is_table}
+use Rattle.dcsp_meaning.specs.Table.{plain_of}
 use Rattle.dcsp_rule.specs.declared.rule.Term.{Term}
 use Rattle.dcsp_rule.specs.declared.rule.Term.TheVariants.{Const, Var}
 use Rattle.dcsp_rule.specs.declared.rule.Members.TheVariants.{Listed}
@@ -30,8 +34,8 @@ with_argument text scope done (Scalar boolean) expr = do
 with_argument text scope done (First wanted) expr = do
   terms ← list_of text scope wanted expr
   Ok (record done { first = terms })
-with_argument text scope done (Second boolean) expr = do
-  terms ← list_of text scope (record { boolean = boolean; constant = false }) expr
+with_argument text scope done (Second wanted) expr = do
+  terms ← list_of text scope wanted expr
   Ok (record done { second = terms })
 with_argument text scope done Set expr = do
   members ← set_of text scope expr
@@ -65,9 +69,15 @@ rule_of (Plain kind) arguments = rule.Plain kind arguments.scalars arguments.fir
 rule_of (Sum rel boolean reified) arguments =
     rule.Sum rel (map constant_of arguments.first) arguments.second (scalar_at arguments 0) (truth_of reified arguments)
 
--- there are as many coefficients as terms
+-- whether a constraint that is not reified takes a row and a table
+abbrev pub takes_rows : ConstraintKind → Bool
+takes_rows kind.FznTableInt = true
+takes_rows kind.FznTableBool = true
+takes_rows other = false
+
+-- a table has whole rows that are as long as its row, which is not empty; a sum has as many coefficients as terms
 abbrev pub lengths_agree : Form → Arguments → Bool
-lengths_agree (Plain kind) arguments = true
+lengths_agree (Plain kind) arguments = not (takes_rows (plain_of kind)) || is_table (length arguments.first) (length arguments.second)
 lengths_agree (Sum rel boolean reified) arguments = length arguments.first == length arguments.second
 
 -- the form, if there is one, of a name at this place
@@ -79,7 +89,7 @@ known_form at (Some form) = Ok form
 abbrev pub form_at : ℕ → List ℕ → Result Form Refusal
 form_at at name = known_form at (form_named name)
 
--- the rule of a constraint: its name, which stands at this place; how many arguments it takes; the arguments from left to right; and equal lengths
+-- the rule of a constraint: its name, which stands at this place; how many arguments it takes; the arguments from left to right; and lengths that agree
 unfoldable pub constraint_rule : List ℕ → Scope → ℕ → List ℕ → List Expr → Result Rule Refusal
 constraint_rule text scope at name exprs = do
   form ← form_at at name

@@ -1,14 +1,16 @@
 //! From a constraint's arguments to its rule.
 
 ghost use Rattle.std.specs.Prelude.{◌≡◌, ℕ, Ok, All, IfOk, IfErr, OnOk, IsTrue, length, map};
+ghost use Rattle.dcsp_meaning.specs.Table.{plain_of};
 ghost use Rattle.dcsp_rule.specs.Rules.{IsTermOf, has_shape, terms_of};
 ghost use Rattle.fzn_scope.specs.Checks.{refusal_of, Gives, Stops};
 ghost use Rattle.fzn_scope.specs.Known.{AreKnown};
-ghost use Rattle.fzn_scope.specs.Rules.{no_arguments, with_argument, arguments_after, constant_of, scalar_at, truth_of, rule_of, lengths_agree, form_at, constraint_rule};
+ghost use Rattle.fzn_scope.specs.Rules.{no_arguments, with_argument, arguments_after, constant_of, scalar_at, truth_of, rule_of, takes_rows, lengths_agree, form_at, constraint_rule};
 
 use crate::form::{Form, Place};
 use crate::place::{Context, Wanted};
 use crate::refusal::{Refusal, Stop};
+use dcsp_meaning::{ConstraintKind, is_table};
 use dcsp_problem::{IntList, Members, Rule, Term, TermList};
 use fzn_item::Expr;
 use std::alloc::Global;
@@ -102,12 +104,26 @@ fn rule_of(alloc: Global, form: Form, arguments: Arguments) -> Result<Rule, Stop
     }
 }
 
-/// Whether there are as many coefficients as terms.
+/// Whether a constraint of this kind takes a row and a table.
+fn takes_rows(kind: ConstraintKind) -> bool
+    ensures { result ≡ takes_rows (plain_of kind) }
+{
+    matches!(
+        kind,
+        ConstraintKind::FznTableInt
+            | ConstraintKind::FznTableIntReif
+            | ConstraintKind::FznTableBool
+            | ConstraintKind::FznTableBoolReif
+    )
+}
+
+/// Whether a table has whole rows that are as long as its row, which is not empty, and a sum as many coefficients as terms.
 fn lengths_agree(form: Form, arguments: &Arguments) -> bool
     ensures { result ≡ lengths_agree form arguments.now }
 {
     match form {
-        Form::Plain(_) => true,
+        Form::Plain(kind) => !takes_rows(kind)
+            || is_table(arguments.first.len(), arguments.second.len()),
         Form::Sum { .. } => arguments.first.len() == arguments.second.len(),
     }
 }
@@ -136,13 +152,7 @@ impl<'c, 't> Context<'c, 't> {
                 done.scalars.push(self.one_of(wanted, expr)?)?;
             }
             Place::First(wanted) => done.first = self.list_of(wanted, expr)?,
-            Place::Second { boolean } => {
-                let wanted = Wanted {
-                    boolean,
-                    constant: false,
-                };
-                done.second = self.list_of(wanted, expr)?;
-            }
+            Place::Second(wanted) => done.second = self.list_of(wanted, expr)?,
             Place::Set => done.members = self.set_of(expr)?,
         }
         Ok(())
@@ -163,8 +173,9 @@ impl<'c, 't> Context<'c, 't> {
     /// The rule of a constraint whose name stands at a place.
     ///
     /// `UnknownConstraint` comes for a name that no constraint has, and `IllTyped` for a wrong number of arguments
-    /// and for lists of unequal lengths, all three at the name. Between them come the refusals of the arguments,
-    /// from left to right.
+    /// and for lists whose lengths do not agree, all three at the name: a sum has as many coefficients as terms, and a
+    /// table whole rows that are as long as its row, which is not empty. Between them come the refusals of the
+    /// arguments, from left to right.
     pub fn constraint_rule(self, at: u32, name: &[u8], exprs: &[Expr]) -> Result<Rule, Stop>
         ensures gives { Gives refusal_of result (constraint_rule self.entry.text.now self.entry.names.now at name.now exprs.now) }
         ensures shape { IfOk result (λ rule. IsTrue (has_shape rule)) }

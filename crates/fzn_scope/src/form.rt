@@ -1,7 +1,7 @@
 //! How constraints are called, and what their arguments are.
 
 ghost use Rattle.std.specs.Prelude.{◌≡◌, [], ◌∷◌};
-ghost use Rattle.fzn_scope.specs.Forms.{form_among, sums, form_named, whole, coefficients, plain_places, reified_places, places_of};
+ghost use Rattle.fzn_scope.specs.Forms.{form_among, sums, form_named, whole, coefficients, others, plain_places, reified_places, places_of};
 ghost use Rattle.dcsp_meaning.specs.Table.{plain_of, is_reified};
 
 use crate::place::Wanted;
@@ -15,12 +15,12 @@ pub enum Place {
     /// A list of integers or of Booleans, which is the constraint's first.
     First(Wanted),
     /// A list of integers or of Booleans, which is the constraint's second.
-    Second { boolean: bool },
+    Second(Wanted),
     /// A set of integers.
     Set,
 }
 
-/// A constraint that the MiniZinc Handbook's chapter on FlatZinc lists, or `fzn_all_different_int`.
+/// A constraint that the MiniZinc Handbook's chapter on FlatZinc lists, `fzn_all_different_int`, or a table.
 #[derive(Clone, Copy, Debug, PartialEq, Eq)]
 pub enum Form {
     /// One that needs no sum.
@@ -65,9 +65,25 @@ const COEFFICIENTS: Place = Place::First(Wanted {
     constant: true,
 });
 
-const OTHER_WHOLES: Place = Place::Second { boolean: false };
+const OTHER_WHOLES: Place = Place::Second(Wanted {
+    boolean: false,
+    constant: false,
+});
 
-const OTHER_TRUTHS: Place = Place::Second { boolean: true };
+const OTHER_TRUTHS: Place = Place::Second(Wanted {
+    boolean: true,
+    constant: false,
+});
+
+const WHOLE_ROWS: Place = Place::Second(Wanted {
+    boolean: false,
+    constant: true,
+});
+
+const TRUTH_ROWS: Place = Place::Second(Wanted {
+    boolean: true,
+    constant: true,
+});
 
 impl Form {
     /// The form of a constraint's name; `None` where no constraint has it.
@@ -117,7 +133,7 @@ fn sum_named(name: &[u8]) -> Option<Form>
 }
 
 fn sum_places(boolean: bool, reified: bool) -> &'static [Place]
-    ensures { result.now ≡ reified_places reified (coefficients ∷ Place.Second boolean ∷ whole ∷ []) }
+    ensures { result.now ≡ reified_places reified (coefficients ∷ others boolean ∷ whole ∷ []) }
 {
     match (boolean, reified) {
         (false, false) => &[COEFFICIENTS, OTHER_WHOLES, WHOLE],
@@ -171,5 +187,9 @@ fn kind_places(kind: ConstraintKind, count: usize) -> &'static [Place]
         ConstraintKind::SetIn => &[WHOLE, Place::Set],
         ConstraintKind::SetInReif => &[WHOLE, Place::Set, TRUTH],
         ConstraintKind::FznAllDifferentInt => &[WHOLES],
+        ConstraintKind::FznTableInt => &[WHOLES, WHOLE_ROWS],
+        ConstraintKind::FznTableIntReif => &[WHOLES, WHOLE_ROWS, TRUTH],
+        ConstraintKind::FznTableBool => &[TRUTHS, TRUTH_ROWS],
+        ConstraintKind::FznTableBoolReif => &[TRUTHS, TRUTH_ROWS, TRUTH],
     }
 }

@@ -134,8 +134,7 @@ module _ (text : List ℕ) (values : Assignment) (env : Environment) (scope : Sc
       let v = list_value text values env scope agrees wanted x b.0 b.1 in
       let z = eqb-true n 0 (and_left (n == 0) (is_ordered 1 m ps) o) in
       (1, m, subst (λ (w : Value). Reads values 1 m (vs ++ w ∷ []) out) (sym v) (subst (Reads values 1 m (vs ++ Numbers (map (value_under values) b.0) ∷ [])) is (reads_first values n m vs done r z b.0)), and_right (n == 0) (is_ordered 1 m ps) o)
-  reads_more n m vs done (place.Second boolean) ps x out r o e =
-      let wanted : Wanted = record { boolean = boolean; constant = false } in
+  reads_more n m vs done (place.Second wanted) ps x out r o e =
       let b = bind_ok (list_of text scope wanted x) (λ terms. Ok (record done { second = terms })) out e in
       let is : record done { second = b.0 } ≡ out = cc in
       let v = list_value text values env scope agrees wanted x b.0 b.1 in
@@ -177,9 +176,8 @@ module _ (text : List ℕ) (domains : List (List ℤ)) (scope : Scope) (sorted :
       let d = bind_ok (list_of text scope wanted x) (λ terms. Ok (record done { first = terms })) b.0 b.1 in
       let is : record done { first = d.0 } ≡ b.0 = cc in
       first_fixed b.0 ps xs out (subst (λ (a : Arguments). AreFixed a.first) is (list_fixed text domains scope sorted wanted (and_left wanted.constant (are_constant ps) c) x d.0 d.1)) (and_right wanted.constant (are_constant ps) c) b.2
-  first_fixed done (place.Second boolean ∷ ps) (x ∷ xs) out h c e =
-      let wanted : Wanted = record { boolean = boolean; constant = false } in
-      let b = bind_ok (with_argument text scope done (place.Second boolean) x) (λ next. arguments_after text scope next ps xs) out e in
+  first_fixed done (place.Second wanted ∷ ps) (x ∷ xs) out h c e =
+      let b = bind_ok (with_argument text scope done (place.Second wanted) x) (λ next. arguments_after text scope next ps xs) out e in
       let d = bind_ok (list_of text scope wanted x) (λ terms. Ok (record done { second = terms })) b.0 b.1 in
       let is : record done { second = d.0 } ≡ b.0 = cc in
       first_fixed b.0 ps xs out (subst (λ (a : Arguments). AreFixed a.first) is h) c b.2

@@ -1,6 +1,6 @@
 -- The arguments of a constraint are judged by the sorts of names, and its rule is as great as they say.
-use Rattle.std.proofs.Common.{◌≡◌, ℕ, ◌+◌, ◌≤◌, ◌==◌, Bool, true, false, ◌&&◌, List, [], ◌∷◌, ◌++◌, length, zip, refl, sym, ◌∙◌, subst, append_assoc, append-nil, arith}
-use Rattle.std.specs.Prelude.{ℤ, sum_by, if◌then◌else◌}
+use Rattle.std.proofs.Common.{◌≡◌, ℕ, ◌+◌, ◌≤◌, ◌==◌, Bool, true, false, List, [], ◌∷◌, ◌++◌, length, zip, refl, sym, ◌∙◌, subst, append_assoc, append-nil, arith}
+use Rattle.std.specs.Prelude.{ℤ, sum_by}
 use Rattle.std.proofs.lemmas.Bool.{eqb-true}
 use Rattle.std.proofs.lemmas.List.Sums.{sum_by-cons}
 use Rattle.dcsp_defs.proofs.Lists.{and_left, and_right}
@@ -11,12 +11,11 @@ use Rattle.fzn_scope.specs.declared.place.Wanted.{Wanted}
 use Rattle.fzn_scope.specs.declared.form.Place.{Place}
 use Rattle.fzn_scope.specs.declared.form.Place.TheVariants as place
 use Rattle.fzn_scope.specs.declared.form.Form.{Form}
-use Rattle.fzn_scope.specs.declared.form.Form.TheVariants.{Plain, Sum}
 use Rattle.fzn_scope.specs.declared.arguments.Arguments.{Arguments}
 use Rattle.fzn_scope.specs.Names.{Scope}
 use Rattle.fzn_scope.specs.Places.{one_of, list_of, set_of}
-use Rattle.fzn_scope.specs.Forms.{truth, places_of}
-use Rattle.fzn_scope.proofs.PlacesInOrder.{is_ordered, are_constant, AreInOrder, in_order}
+use Rattle.fzn_scope.specs.Forms.{places_of}
+use Rattle.fzn_scope.proofs.PlacesInOrder.{is_ordered, are_constant, in_order}
 use Rattle.fzn_scope.specs.Rules.{no_arguments, with_argument, arguments_after}
 use Rattle.law_reader.specs.Sorts.{Names, one_suits, one_size, list_suits, list_sizes, set_suits, set_count}
 use Rattle.law_reader.specs.Arguments.{place_suits, all_suit, scalar_part, first_part, second_part, set_part, Sizes, argument_sizes}
@@ -126,12 +125,11 @@ module _ (text : List ℕ) (names : Names) where
           ordered = and_right (n == 0) (is_ordered 1 m ps) o;
           constant = λ e. and_right wanted.constant (are_constant ps) (c e);
         })
-    next_judged n m fixed s a (place.Second boolean) ps x r u o c =
-        let w : Wanted = record { boolean = boolean; constant = false } in
+    next_judged n m fixed s a (place.Second wanted) ps x r u o c =
         let none : s.members ≡ s.members + 0 = omega arith in
         let z = eqb-true n 1 (and_left (n == 1) (is_ordered 2 m ps) o) in
-        judged_map (list_of text scope w x) (λ terms. record a { second = terms }) (list_suits text names w x) (AreGiven domains w (list_sizes text names x)) (Next n m fixed s (place.Second boolean) ps x)
-        (list_judged text domains scope names sorted w x)
+        judged_map (list_of text scope wanted x) (λ terms. record a { second = terms }) (list_suits text names wanted x) (AreGiven domains wanted (list_sizes text names x)) (Next n m fixed s (place.Second wanted) ps x)
+        (list_judged text domains scope names sorted wanted x)
         (λ terms g. record {
           lists = 2;
           sets = m;

@@ -1,11 +1,13 @@
 -- A constraint is judged by its form, its arguments and the limits of its rule.
-use Rattle.std.proofs.Common.{◌≡◌, ℕ, ◌+◌, ◌*◌, ◌≤◌, ◌==◌, pos, Bool, true, false, not, ◌&&◌, List, [], ◌∷◌, ◌++◌, map, length, zip, Option, Some, None, Result, Ok, refl, ap, ◌∙◌, subst, length-append, arith}
+use Rattle.std.proofs.Common.{◌≡◌, ℕ, ◌+◌, ◌*◌, ◌≤◌, ◌==◌, pos, Bool, true, false, not, ◌&&◌, ◌||◌, List, [], ◌∷◌, ◌++◌, map, length, zip, Option, Some, None, Result, Ok, refl, ap, ◌∙◌, subst, length-append, arith}
 use Rattle.std.specs.Prelude.{ℤ, unsigned_abs, sum_by, slice_index_or, nat_lt}
 use Rattle.std.proofs.lemmas.Bool.{eqb-true}
 use Rattle.std.proofs.lemmas.List.{length-map}
 use Rattle.std.proofs.lemmas.List.Sums.{sum_by-cons}
 use Rattle.fzn_item.specs.declared.item.Expr.{Expr}
 use Rattle.dcsp_meaning.specs.declared.linear.Rel.{Rel}
+use Rattle.dcsp_meaning.specs.Rows.{is_table}
+use Rattle.dcsp_meaning.specs.Table.{plain_of}
 use Rattle.dcsp_meaning.specs.Sums.{widest}
 use Rattle.dcsp_meaning.specs.Sums.{greatest_size}
 use Rattle.dcsp_problem.specs.declared.limits.Which.{Which}
@@ -29,7 +31,7 @@ use Rattle.fzn_scope.specs.Checks.{◌>>=◌, refused_if}
 use Rattle.fzn_scope.specs.Names.{Scope}
 use Rattle.fzn_scope.specs.Places.{is_constant}
 use Rattle.fzn_scope.specs.Forms.{places_of, form_named}
-use Rattle.fzn_scope.specs.Rules.{no_arguments, arguments_after, constant_of, scalar_at, rule_of, lengths_agree, known_form, constraint_rule}
+use Rattle.fzn_scope.specs.Rules.{no_arguments, arguments_after, constant_of, scalar_at, rule_of, takes_rows, lengths_agree, known_form, constraint_rule}
 use Rattle.fzn_model.specs.Checks.{as_check}
 use Rattle.fzn_model.specs.Building.{with_rule}
 use Rattle.law_reader.specs.Sorts.{Names}
@@ -55,7 +57,7 @@ few_numbers text names (p ∷ ps) (x ∷ xs) =
       few_here : (p : Place) → length (scalar_part text names p x) ≤ 1
       few_here (place.Scalar boolean) = omega arith
       few_here (place.First wanted) = omega arith
-      few_here (place.Second boolean) = omega arith
+      few_here (place.Second wanted) = omega arith
       few_here place.Set = omega arith
 
 constant_size : (domains : List (List ℤ)) (term : Term) (n : ℕ) → IsSized domains term n → is_constant term ≡ true → unsigned_abs (constant_of term) ≡ n
@@ -145,7 +147,10 @@ measured domains (Plain kind) s a r few = plain_measured domains kind false s a 
 measured domains (Sum rel boolean reified) s a r few = sum_measured domains rel boolean reified s a r
 
 lengths_are : (domains : List (List ℤ)) (form : Form) (fixed : Bool) (s : Sizes) (a : Arguments) → AreRead domains fixed s a → lengths_agree form a ≡ lengths_suit form s
-lengths_are domains (Plain kind) fixed s a r = refl
+lengths_are domains (Plain kind) fixed s a r =
+    let y = pairwise_length (IsSized domains) a.first s.first r.first in
+    let z = pairwise_length (IsSized domains) a.second s.second r.second in
+    ap (λ (n : ℕ). not (takes_rows (plain_of kind)) || is_table n (length a.second)) y ∙ ap (λ (n : ℕ). not (takes_rows (plain_of kind)) || is_table (length s.first) n) z
 lengths_are domains (Sum rel boolean reified) fixed s a r =
     let y = pairwise_length (IsSized domains) a.first s.first r.first in
     let z = pairwise_length (IsSized domains) a.second s.second r.second in

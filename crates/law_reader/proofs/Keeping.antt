@@ -173,7 +173,7 @@ module _ (text other : List ℕ) (scope : Scope) where
   argument_keeps : (done : Arguments) (p : Place) (a b : Expr) → ExprsAlike text other a b → Keeps (with_argument text scope done p a) (with_argument other scope done p b)
   argument_keeps done (place.Scalar boolean) a b h = let w : Wanted = record { boolean = boolean; constant = false } in keeps_bind (one_of text scope w a) (one_of other scope w b) _ _ (one_keeps w a b h) (λ _. refl)
   argument_keeps done (place.First wanted) a b h = keeps_bind (list_of text scope wanted a) (list_of other scope wanted b) _ _ (list_keeps wanted a b h) (λ _. refl)
-  argument_keeps done (place.Second boolean) a b h = let w : Wanted = record { boolean = boolean; constant = false } in keeps_bind (list_of text scope w a) (list_of other scope w b) _ _ (list_keeps w a b h) (λ _. refl)
+  argument_keeps done (place.Second wanted) a b h = keeps_bind (list_of text scope wanted a) (list_of other scope wanted b) _ _ (list_keeps wanted a b h) (λ _. refl)
   argument_keeps done place.Set a b h = keeps_bind (set_of text scope a) (set_of other scope b) _ _ (set_keeps a b h) (λ _. refl)
 
   arguments_keep : (done : Arguments) (ps : List Place) (xs ys : List Expr) → Pairwise (ExprsAlike text other) xs ys → Keeps (arguments_after text scope done ps xs) (arguments_after other scope done ps ys)

@@ -157,7 +157,7 @@ module _ (P : ℕ → Type 0) where
     argument_refuses : (done : Arguments) (p : Place) (e : Expr) → ExprPlaced P e → RefusesFor (MeaningPlaced P) (with_argument text scope done p e)
     argument_refuses done (place.Scalar boolean) e h = bind_refuses (MeaningPlaced P) (one_of text scope (record { boolean = boolean; constant = false }) e) _ (one_refuses (record { boolean = boolean; constant = false }) e h) (λ term. tt)
     argument_refuses done (place.First wanted) e h = bind_refuses (MeaningPlaced P) (list_of text scope wanted e) _ (list_refuses wanted e h) (λ terms. tt)
-    argument_refuses done (place.Second boolean) e h = bind_refuses (MeaningPlaced P) (list_of text scope (record { boolean = boolean; constant = false }) e) _ (list_refuses (record { boolean = boolean; constant = false }) e h) (λ terms. tt)
+    argument_refuses done (place.Second wanted) e h = bind_refuses (MeaningPlaced P) (list_of text scope wanted e) _ (list_refuses wanted e h) (λ terms. tt)
     argument_refuses done place.Set e h = bind_refuses (MeaningPlaced P) (set_of text scope e) _ (set_refuses e h) (λ members. tt)
 
     arguments_refuse : (done : Arguments) (ps : List Place) (es : List Expr) → AllByRecursion (ExprPlaced P) es → RefusesFor (MeaningPlaced P) (arguments_after text scope done ps es)

@@ -1,8 +1,10 @@
 -- The checks of a constraint's arguments.
-use Rattle.std.specs.Prelude.{ℕ, ◌+◌, ◌*◌, ◌==◌, Bool, true, false, not, ◌&&◌, List, [], ◌∷◌, length, flat_map, sum_by, zip, nat_lt, slice_index_or, Option, Some, None}
+use Rattle.std.specs.Prelude.{ℕ, ◌+◌, ◌*◌, ◌==◌, Bool, true, false, not, ◌&&◌, ◌||◌, List, [], ◌∷◌, length, flat_map, sum_by, zip, nat_lt, slice_index_or, Option, Some, None}
 use Rattle.std.specs.List.{list_all}
 use Rattle.fzn_item.specs.declared.item.Expr.{Expr}
+use Rattle.dcsp_meaning.specs.Rows.{is_table}
 use Rattle.dcsp_meaning.specs.Sums.{widest}
+use Rattle.dcsp_meaning.specs.Table.{plain_of}
 use Rattle.dcsp_problem.specs.declared.limits.Which.{Which}
 use Rattle.dcsp_problem.specs.declared.limits.Which.TheVariants.{Elements}
 use Rattle.dcsp_problem.specs.Limits.{most}
@@ -11,6 +13,7 @@ use Rattle.fzn_scope.specs.declared.form.Place.TheVariants as place
 use Rattle.fzn_scope.specs.declared.form.Form.{Form}
 use Rattle.fzn_scope.specs.declared.form.Form.TheVariants.{Plain, Sum}
 use Rattle.fzn_scope.specs.Forms.{places_of}
+use Rattle.fzn_scope.specs.Rules.{takes_rows}
 use Rattle.law_reader.specs.Sorts.{Names, one_suits, one_size, list_suits, list_sizes, set_suits, set_count}
 
 -- whether a count does not pass its limit
@@ -21,7 +24,7 @@ is_within which count = not (nat_lt (most which) count)
 abbrev pub place_suits : List ℕ → Names → Place → Expr → Bool
 place_suits text names (place.Scalar boolean) expr = one_suits text names (record { boolean = boolean; constant = false }) expr
 place_suits text names (place.First wanted) expr = list_suits text names wanted expr
-place_suits text names (place.Second boolean) expr = list_suits text names (record { boolean = boolean; constant = false }) expr
+place_suits text names (place.Second wanted) expr = list_suits text names wanted expr
 place_suits text names place.Set expr = set_suits text names expr
 
 -- whether each argument does
@@ -31,25 +34,25 @@ all_suit text names places exprs = list_all (λ (x : Place × Expr). place_suits
 abbrev pub scalar_part : List ℕ → Names → Place → Expr → List ℕ
 scalar_part text names (place.Scalar boolean) expr = one_size text names expr ∷ []
 scalar_part text names (place.First wanted) expr = []
-scalar_part text names (place.Second boolean) expr = []
+scalar_part text names (place.Second wanted) expr = []
 scalar_part text names place.Set expr = []
 
 abbrev pub first_part : List ℕ → Names → Place → Expr → List ℕ
 first_part text names (place.Scalar boolean) expr = []
 first_part text names (place.First wanted) expr = list_sizes text names expr
-first_part text names (place.Second boolean) expr = []
+first_part text names (place.Second wanted) expr = []
 first_part text names place.Set expr = []
 
 abbrev pub second_part : List ℕ → Names → Place → Expr → List ℕ
 second_part text names (place.Scalar boolean) expr = []
 second_part text names (place.First wanted) expr = []
-second_part text names (place.Second boolean) expr = list_sizes text names expr
+second_part text names (place.Second wanted) expr = list_sizes text names expr
 second_part text names place.Set expr = []
 
 abbrev pub set_part : List ℕ → Names → Place → Expr → ℕ
 set_part text names (place.Scalar boolean) expr = 0
 set_part text names (place.First wanted) expr = 0
-set_part text names (place.Second boolean) expr = 0
+set_part text names (place.Second wanted) expr = 0
 set_part text names place.Set expr = set_count text names expr
 
 -- the greatest absolute values of the single numbers among the arguments, of the elements of the first list, and of the second, and how many values their set lists
@@ -67,9 +70,9 @@ argument_sizes text names places exprs = record {
   members = sum_by (λ (x : Place × Expr). set_part text names x.0 x.1) (zip places exprs);
 }
 
--- whether a sum has as many coefficients as terms
+-- whether a table has whole rows that are as long as its row, which is not empty, and a sum as many coefficients as terms
 abbrev pub lengths_suit : Form → Sizes → Bool
-lengths_suit (Plain kind) sizes = true
+lengths_suit (Plain kind) sizes = not (takes_rows (plain_of kind)) || is_table (length sizes.first) (length sizes.second)
 lengths_suit (Sum rel boolean reified) sizes = length sizes.first == length sizes.second
 
 -- the products of the numbers at each place of both lists, added up

@@ -35,3 +35,4 @@ mod Clauses
 mod Building
 pub mod Accepting
 mod Finding
+pub mod Learning

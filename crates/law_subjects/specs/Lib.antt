@@ -12,3 +12,4 @@ pub mod Reaching
 pub mod Formulas
 pub mod Accepting
 pub mod Finding
+pub mod Learning

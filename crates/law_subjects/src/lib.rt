@@ -7,6 +7,7 @@ ghost use Rattle.dcsp_defs.specs.Csp.{Csp};
 ghost use Rattle.law_subjects.specs.Accepting.{AcceptedAreProblems};
 ghost use Rattle.law_subjects.specs.Finding.{EntriesHaveFinding};
 ghost use Rattle.law_subjects.specs.Formulas.{EachHasAnswer, FormulasSayClauses, GapsAreIgnored, TextsAreWords};
+ghost use Rattle.law_subjects.specs.Learning.{LearnedFew};
 ghost use Rattle.law_subjects.specs.Losing.{EventsEndAtVerdict};
 ghost use Rattle.law_subjects.specs.Recording.{NumbersAreSmall};
 ghost use Rattle.law_subjects.specs.Reaching.{ReachedHoldValuesOfDomains};
@@ -52,6 +53,11 @@ pub fn numbers_are_small()
 /// In each network that a run reaches, values, views and recorded nogoods have values of the domains alone.
 pub fn reached_hold_values_of_domains()
     ensures { (p : Csp) → ReachedHoldValuesOfDomains p }
+{}
+
+/// The values of an agent that another one was told of in a run are no more than its domain has.
+pub fn learned_few()
+    ensures { (p : Csp) → LearnedFew p }
 {}
 
 /// A formula's text is words with blanks and comments between them, which change nothing. Words say clauses, and these

@@ -45,7 +45,7 @@ set_session p log s = session_of p s.choices (λ k. Some (word_at (generator_of 
 
 -- a seed alone is set: there are as many choices as a run may have deliveries, and nothing else is asked for
 abbrev pub seed_alone : ℕ → Settings
-seed_alone seed = record { seed = seed; choices = most_deliveries; kept = None; trace = false; each = false }
+seed_alone seed = record { seed = seed; choices = most_deliveries; kept = None; trace = false; each = false; halves = false }
 
 -- how many of the choices a run leaves
 abbrev pub left_over : List ℕ → Run → ℕ

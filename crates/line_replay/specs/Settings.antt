@@ -13,7 +13,9 @@ pub record Settings : Type 0 where
   pub trace : Bool
   -- whether a search puts each solution as soon as it is found
   pub each : Bool
+  -- whether a search goes by halves
+  pub halves : Bool
 
 -- what these options set
 abbrev pub settings_of : Options → Settings
-settings_of options = record { seed = options.seed; choices = options.choices; kept = option_copied options.kept; trace = options.trace; each = options.each }
+settings_of options = record { seed = options.seed; choices = options.choices; kept = option_copied options.kept; trace = options.trace; each = options.each; halves = options.halves }

@@ -41,6 +41,8 @@ pub struct Options<'w> {
     pub trace: bool,
     /// Whether a search puts each solution as soon as it is found. A run for any solution is as without.
     pub each: bool,
+    /// Whether a search goes by halves. A run for any solution is as without.
+    pub halves: bool,
 }
 
 /// Runs the problem under the choices of the seed, and tells how the run ended.

@@ -13,3 +13,4 @@ pub mod Making
 pub mod Turns
 pub mod Telling
 pub mod Improving
+pub mod Halves

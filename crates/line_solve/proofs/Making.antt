@@ -21,8 +21,8 @@ use Rattle.abt_session.specs.declared.outcome.End.TheVariants as ends
 use Rattle.abt_session.specs.declared.outcome.Outcome.{Outcome}
 use Rattle.line_replay.specs.Asked.{most_deliveries, set_session}
 use Rattle.line_replay.specs.Settings.{Settings}
-use Rattle.abt_optimum.specs.Rounds.{best_value, round_problem}
-use Rattle.abt_optimum.specs.Searches.{SearchState, EndsRightly}
+use Rattle.abt_optimum.specs.Rounds.{round_problem}
+use Rattle.abt_optimum.specs.Searches.{SearchState, next_better, EndsRightly}
 use Rattle.abt_optimum.proofs.SearchLaws.{round_many}
 use Rattle.line_solve.specs.Searching.{AskedSearch, best_search, next_problem, next_session, end_as, next_end, told_end, with_round, search_after, problem_after, session_after, run_after, first_run, deliveries_in}
 use Rattle.line_solve.specs.SearchScripts.{round_line, line_script}
@@ -41,7 +41,7 @@ pub line_traced : {T : Type 0} {a b : World} {r : Result T Stop} (trace : Bool) 
 line_traced {a = a} {b = b} {r = r} trace number e w = subst (λ (t : Bool). Wrote (line_script t number) a b r) (sym e) w
 
 -- the session on the narrowed problem is that of the round that follows
-pub next_is : (p q : Contents) (log : List ℕ) (set : Settings) (s : SearchState) (value : ℤ) → best_value s.rounds ≡ Some value → q ≡ narrowed p value
+pub next_is : (p q : Contents) (log : List ℕ) (set : Settings) (s : SearchState) (value : ℤ) → next_better s ≡ Some value → q ≡ narrowed p value
     → set_session q log set ≡ next_session (best_search p log set) s
 next_is p q log set s value e f = ap (λ (x : Contents). set_session x log set) (f ∙ ap (round_problem p) (sym e))
 
@@ -129,7 +129,7 @@ module _ (asked : AskedSearch) (n : ℕ) (r : SearchRunner) (made : HasMade aske
     end_next = told_is (next_problem asked r.search) (run_of (next_session asked r.search)) outcome.end tells.gives.end ∙ ap (next_end asked) made.search
 
     pub all_values : HasAllValues asked.problem outcome.end
-    all_values = values_of_end (best_value r.search.rounds) asked.problem outcome.end (has_values (next_problem asked r.search) (run_of (next_session asked r.search)) outcome.end tells.gives.end)
+    all_values = values_of_end (next_better r.search) asked.problem outcome.end (has_values (next_problem asked r.search) (run_of (next_session asked r.search)) outcome.end tells.gives.end)
 
   pub problem_is : r.search.problem ≡ asked.problem
   problem_is = ap (λ (s : SearchState). s.problem) made.search ∙ same_problem asked n
@@ -146,13 +146,13 @@ module _ (asked : AskedSearch) (n : ℕ) (r q : SearchRunner) (outcome : Outcome
       (omega arith, omega arith)
 
   -- and it ended rightly
-  pub right_next : IsProblem asked.problem → SameRounds r q → Tells (next_problem asked r.search) (next_session asked r.search) outcome → EndsRightly (round_problem q.search.problem (best_value q.search.rounds)) (told_end outcome.end)
+  pub right_next : IsProblem asked.problem → SameRounds r q → Tells (next_problem asked r.search) (next_session asked r.search) outcome → EndsRightly (round_problem q.search.problem (next_better q.search)) (told_end outcome.end)
   right_next ok same tells =
       let s = search_after asked n in
       let q_is : q.search ≡ s = same.search ∙ made.search in
       let at : EndsRightly (next_problem asked r.search) (told_end outcome.end) = right_at r.search made.search tells in
-      subst (λ (z : SearchState). EndsRightly (round_problem z.problem (best_value z.rounds)) (told_end outcome.end)) (sym q_is)
-      (subst (λ (p : Contents). EndsRightly (round_problem p (best_value s.rounds)) (told_end outcome.end)) (sym (same_problem asked n)) (subst (λ (z : SearchState). EndsRightly (next_problem asked z) (told_end outcome.end)) made.search at))
+      subst (λ (z : SearchState). EndsRightly (round_problem z.problem (next_better z)) (told_end outcome.end)) (sym q_is)
+      (subst (λ (p : Contents). EndsRightly (round_problem p (next_better s)) (told_end outcome.end)) (sym (same_problem asked n)) (subst (λ (z : SearchState). EndsRightly (next_problem asked z) (told_end outcome.end)) made.search at))
     where
       right_at : (z : SearchState) → z ≡ search_after asked n → Tells (next_problem asked z) (next_session asked z) outcome → EndsRightly (next_problem asked z) (told_end outcome.end)
       right_at z e tells =
@@ -160,7 +160,7 @@ module _ (asked : AskedSearch) (n : ℕ) (r q : SearchRunner) (outcome : Outcome
           subst (λ (x : SearchState). EndsRightly (next_problem asked x) (told_end outcome.end)) (sym e) (told_right asked ok n outcome.end law.gives.end law.right)
 
 -- no round was made yet
-pub made_none : (asked : AskedSearch) (r : SearchRunner) → IsFresh asked.problem r → HasMade asked 0 r
+pub made_none : (asked : AskedSearch) (r : SearchRunner) → IsFresh asked.problem asked.set.halves r → HasMade asked 0 r
 made_none asked r h = record {
   search = h.search ∙ sym (starts asked);
   many = ap (λ (s : SearchState). length s.rounds) h.search;

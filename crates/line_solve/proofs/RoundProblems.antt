@@ -1,14 +1,15 @@
 -- The problem of each round is well-formed, and its bound is at most that of the whole problem.
 use Rattle.std.proofs.Common.{◌≡◌, ℕ, zero, suc, ◌≤◌, ℤ, Bool, List, [], ◌∷◌, length, filter, map, Option, Some, None, refl, sym, subst, arith}
-use Rattle.std.specs.Prelude.{slice_set, slice_index_or}
+use Rattle.std.specs.Prelude.{All, slice_set, slice_index_or}
 use Rattle.std.proofs.lemmas.List.{length-set}
+use Rattle.dcsp_domain.specs.Sets.{IsDomain, IsRising}
 use Rattle.dcsp_domain.proofs.Domains.{length_filter}
 use Rattle.dcsp_rule.specs.Problems.{Contents, constraint_of, csp_of}
 use Rattle.dcsp_problem.specs.WellFormed.{IsProblem}
 use Rattle.dcsp_rule.specs.Aims.{aimed_at, is_better, narrowed_domains, narrowed_at}
 use Rattle.dcsp_problem.proofs.Narrowed.{is_problem_narrowed, aimed_below}
 use Rattle.abt_defs.specs.Bound.{message_bound}
-use Rattle.abt_optimum.specs.Rounds.{round_problem}
+use Rattle.abt_optimum.specs.Rounds.{aim_values_at, aim_values, round_problem}
 use Rattle.line_solve.proofs.Bounds.{bound_smaller}
 
 -- the domains, where of one only the values that pass the test stay
@@ -34,6 +35,19 @@ module _ (p : Contents) (bound : ℤ) (h : IsProblem p) where
       let same : length domains ≡ length p.domains = length-set p.domains var (filter (is_better p.aim bound) (slice_index_or p.domains var [])) in
       let less = bound_smaller (map (constraint_of (length p.domains)) p.rules) domains p.domains (record { count = same; each = no_longer (is_better p.aim bound) p.domains var }) in
       subst (λ (n : ℕ). message_bound (record { domains = domains; constraints = map (constraint_of n) p.rules }) ≤ message_bound (csp_of p)) (sym same) less
+
+-- the values that a problem's aim may have rise
+rising_at : (domains : List (List ℤ)) (var : ℕ) → All IsDomain domains → IsRising (slice_index_or domains var [])
+rising_at [] var all = λ i j d l m. absurd (omega arith)
+rising_at (d ∷ ds) zero all = (all 0 d (omega arith)).rising
+rising_at (d ∷ ds) (suc var) all = rising_at ds var (λ i e m. all (suc i) e (omega arith))
+
+pub rising_values : (p : Contents) → IsProblem p → IsRising (aim_values p)
+rising_values p h = by (aimed_at p.aim)
+  where
+    by : (o : Option ℕ) → IsRising (aim_values_at o p)
+    by None = λ i j d l m. absurd (omega arith)
+    by (Some var) = rising_at p.domains var h.domains
 
 -- the problem of a round is a problem
 pub round_is_problem : (p : Contents) (better : Option ℤ) → IsProblem p → IsProblem (round_problem p better)

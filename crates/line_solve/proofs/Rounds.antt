@@ -9,7 +9,7 @@ abbrev pub is_over : SearchState → Bool
 is_over s = is_done s.problem.aim s.rounds
 
 module _ (asked : AskedSearch) where
-  pub starts : search_after asked 0 ≡ record { problem = asked.problem; rounds = []; values = None }
+  pub starts : search_after asked 0 ≡ record { problem = asked.problem; halves = asked.set.halves; rounds = []; values = None }
   unfolding search_after
   starts = refl
 
@@ -41,6 +41,14 @@ module _ (asked : AskedSearch) where
   pub same_problem : (n : ℕ) → (search_after asked n).problem ≡ asked.problem
   same_problem zero = ap (λ (s : SearchState). s.problem) starts
   same_problem (suc n) = problem_next n (is_over (search_after asked n)) refl ∙ same_problem n
+
+  halves_next : (n : ℕ) (over : Bool) → is_over (search_after asked n) ≡ over → (search_after asked (suc n)).halves ≡ (search_after asked n).halves
+  halves_next n true e = ap (λ (s : SearchState). s.halves) (stops n e)
+  halves_next n false e = ap (λ (s : SearchState). s.halves) (goes_on n e)
+
+  pub same_halves : (n : ℕ) → (search_after asked n).halves ≡ asked.set.halves
+  same_halves zero = ap (λ (s : SearchState). s.halves) starts
+  same_halves (suc n) = halves_next n (is_over (search_after asked n)) refl ∙ same_halves n
 
   -- how many rounds there are after so many turns, and that they are the first ones
   pub record Counted (n : ℕ) : Type 0 where

@@ -71,7 +71,7 @@ module _ (asked : AskedSearch) where
     pub did : Did (rounds_script asked n) a b
     pub handed : b.folder.handed ≡ a.folder.handed
 
-  pub first_turn : (r : SearchRunner) (a : World) → IsFresh asked.problem r → Turn r.rounds r a a
+  pub first_turn : (r : SearchRunner) (a : World) → IsFresh asked.problem asked.set.halves r → Turn r.rounds r a a
   first_turn r a h =
       let none : r.rounds ≡ 0 = h.rounds in
       subst (λ (n : ℕ). Turn n r a a) (sym none) (record { made = made_none asked r h; did = subst (λ s. Did s a a) (sym (none_is asked)) (did_nothing a); handed = refl })

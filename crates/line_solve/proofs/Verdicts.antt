@@ -1,13 +1,13 @@
 -- What the status of a search means for its problem.
 use Rattle.std.proofs.Common.{◌≡◌, ◌≢◌, ◌⊎◌, ◌∙◌, ℕ, zero, suc, ◌+◌, ◌-◌, ◌<◌, ℤ, Bool, true, false, List, [], ◌∷◌, length, Option, Some, None, refl, sym, ap, subst, inl, inr, arith}
-use Rattle.std.specs.Prelude.{◌↔◌, IsSome, IfSome}
+use Rattle.std.specs.Prelude.{◌↔◌, IsSome, IsSomeAnd, IfSome}
 use Rattle.dcsp_defs.specs.Csp.{HasNoSolution}
 use Rattle.dcsp_defs.specs.Derivation.{IsRefutation}
 use Rattle.dcsp_rule.specs.declared.aim.Aim.{Aim}
 use Rattle.dcsp_rule.specs.declared.aim.Aim.TheVariants.{Satisfy}
 use Rattle.dcsp_rule.specs.Problems.{Contents, csp_of}
 use Rattle.dcsp_problem.specs.WellFormed.{IsProblem}
-use Rattle.dcsp_rule.specs.Aims.{aimed_at}
+use Rattle.dcsp_rule.specs.Aims.{aimed_at, narrowed}
 use Rattle.abt_defs.specs.Runs as runs
 use Rattle.abt_defs.specs.Runs.{Run}
 use Rattle.abt_promise.specs.declared.status.Status.{Status}
@@ -21,19 +21,19 @@ use Rattle.abt_optimum.specs.declared.round.RoundEnd.TheVariants.{Solved, Refute
 use Rattle.abt_optimum.specs.declared.best.BestEnd.{BestEnd}
 use Rattle.abt_optimum.specs.declared.best.BestEnd.TheVariants.{Optimal, NoSolution, Open}
 use Rattle.abt_optimum.specs.Best.{aim_value, Solves, IsBest}
-use Rattle.abt_optimum.specs.Rounds.{last_round, best_value, round_problem, most_rounds}
-use Rattle.abt_optimum.specs.Searches.{SearchState, end_at, values_after}
-use Rattle.abt_optimum.specs.Outcomes.{refuted_at, IsBestEnd}
+use Rattle.abt_optimum.specs.Rounds.{last_round, round_problem, most_rounds}
+use Rattle.abt_optimum.specs.Searches.{SearchState, end_at, next_better, values_after}
+use Rattle.abt_optimum.specs.Outcomes.{refuted_first, IsRefutedAt, IsBestEnd}
 use Rattle.abt_optimum.specs.Kept.{end_of}
 use Rattle.abt_optimum.proofs.SearchLaws.{end_is}
 use Rattle.line_solve.specs.Searching.{AskedSearch, end_as, next_end, with_round, search_after, whole_search, round_count, problem_after, run_after, first_run, last_run}
 use Rattle.line_solve.specs.BestAnswers.{is_capped, ends_capped, found, best_status, search_status}
-use Rattle.line_solve.specs.BestHeadline.{PrintsBest, IsBestSearch, LogsRefutation, IsRefutedSearch, EndsOpen, PrintsLast, IsUnfinishedSearch, IsBoundedSearch}
+use Rattle.line_solve.specs.BestHeadline.{PrintsBest, IsBestSearch, LogsRefutation, IsRefutedSearch, EndsOpen, IsLastSolved, PrintsLast, IsUnfinishedSearch, IsBoundedSearch}
 use Rattle.line_solve.proofs.Rounds.{is_over, starts, goes_on, stays, same_problem}
 use Rattle.line_solve.proofs.Headlines.{positive}
 use Rattle.line_solve.proofs.RoundProblems.{round_bound}
-use Rattle.line_solve.proofs.Searches.{law_after, known_after, is_search, is_whole, has_rounds}
-use Rattle.line_solve.proofs.LastRounds.{end_refuted, capped_iff, before_last, some_before, whole_is, last_entry, last_is, last_capped, kept_after, first_is}
+use Rattle.line_solve.proofs.Searches.{law_after, known_after, rising_after, is_search, is_whole, has_rounds}
+use Rattle.line_solve.proofs.LastRounds.{end_refuted, capped_iff, before_last, some_before, whole_is, last_entry, last_is, last_capped, kept_after, LastSolved, last_solved, some_values, lt-or-eq, first_is}
 
 -- ---- statuses and what was found
 
@@ -82,21 +82,28 @@ module _ (asked : AskedSearch) (ok : IsProblem asked.problem) (aimed : asked.pro
   best_end =
       let n = most_rounds asked.problem in
       let s = whole_search asked in
-      end_is s (is_search asked ok aimed n) (known_after asked ok n) (ends_capped s.rounds) (is_whole asked ok aimed) (capped_iff s.rounds)
+      end_is s (is_search asked ok aimed n) (known_after asked ok n) (rising_after asked ok n) (ends_capped s.rounds) (is_whole asked ok aimed) (capped_iff s.rounds)
 
   -- ---- refuted rounds
 
-  -- where the entry of the last round is that of a refuted one, the derivation that was logged refutes the problem of that round
-  refuted_last : (better : Option ℤ) → last_round (whole_search asked).rounds ≡ Some (refuted_at better) → IsRefutation (csp_of (round_problem asked.problem better)) (last_run asked).net.steps
-  refuted_last better e =
+  -- where the last round was refuted, the derivation that was logged refutes the problem of that round
+  refuted_last : (better : Option ℤ) → (last_entry asked).better ≡ better → (last_entry asked).end ≡ ended.Refuted → IsRefutation (csp_of (round_problem asked.problem better)) (last_run asked).net.steps
+  refuted_last better to end =
       let s = search_after asked last in
-      let same : last_entry asked ≡ refuted_at better = (let both : Some (last_entry asked) ≡ Some (refuted_at better) = sym (last_is asked) ∙ e in cc) in
-      let end : end_at s.problem.aim (next_end asked s) ≡ ended.Refuted = ap (λ (r : Round). r.end) same in
-      let value : best_value s.rounds ≡ better = ap (λ (r : Round). r.better) same in
       let refuted = end_refuted s.problem.aim (problem_after asked last) (run_after asked last) (run_after asked last).end end in
-      subst (λ (b : Option ℤ). IsRefutation (csp_of (round_problem asked.problem b)) (last_run asked).net.steps) value ((law_after asked ok last).refuted refuted)
+      subst (λ (b : Option ℤ). IsRefutation (csp_of (round_problem asked.problem b)) (last_run asked).net.steps) to ((law_after asked ok last).refuted refuted)
+
+  -- where all rounds are a refuted first one, that is the last one
+  only_entry : (whole_search asked).rounds ≡ refuted_first ∷ [] → last_entry asked ≡ refuted_first
+  only_entry rounds = let both : Some (last_entry asked) ≡ Some refuted_first = sym (last_is asked) ∙ ap last_round rounds in cc
 
   module _ (status : Status) (status_is : status ≡ search_status asked) where
+    shown_last : (values : List ℤ) → IsSomeAnd (last_round (whole_search asked).rounds) (IsRefutedAt (aim_value asked.problem.aim (assigned values))) → IsRefutation (csp_of (narrowed asked.problem (aim_value asked.problem.aim (assigned values)))) (last_run asked).net.steps
+    shown_last values h =
+        let value = aim_value asked.problem.aim (assigned values) in
+        let at : IsRefutedAt value (last_entry asked) = subst (λ (o : Option Round). IsSomeAnd o (IsRefutedAt value)) (last_is asked) h in
+        refuted_last (Some value) at.better at.end
+
     prints_best : (values : List ℤ) → found (whole_search asked) ≡ Optimal values → PrintsBest asked values
     prints_best values e =
         let h = subst (IsBestEnd (whole_search asked)) e best_end in
@@ -104,7 +111,7 @@ module _ (asked : AskedSearch) (ok : IsProblem asked.problem) (aimed : asked.pro
         record {
           printed = e;
           best = subst (λ (p : Contents). IsBest p values) same h.best;
-          shown = λ some. refuted_last (Some (aim_value asked.problem.aim (assigned values))) (subst (λ (p : Contents). last_round (whole_search asked).rounds ≡ Some (refuted_at (Some (aim_value p.aim (assigned values))))) same (h.shown (subst (λ (p : Contents). IsSome (aimed_at p.aim)) (sym same) some)));
+          shown = λ some. shown_last values (subst (λ (p : Contents). IsSomeAnd (last_round (whole_search asked).rounds) (IsRefutedAt (aim_value p.aim (assigned values)))) same (h.shown (subst (λ (p : Contents). IsSome (aimed_at p.aim)) (sym same) some)));
         }
 
     pub is_best : IsBestSearch asked status
@@ -112,7 +119,7 @@ module _ (asked : AskedSearch) (ok : IsProblem asked.problem) (aimed : asked.pro
 
     -- ---- status 1
 
-    no_solution : status ≡ No → (whole_search asked).rounds ≡ refuted_at None ∷ []
+    no_solution : status ≡ No → (whole_search asked).rounds ≡ refuted_first ∷ []
     no_solution is = (subst (IsBestEnd (whole_search asked)) (no_found (found (whole_search asked)) (sym status_is ∙ is)) best_end).rounds
 
     only_last : status ≡ No → last ≡ 0
@@ -121,8 +128,7 @@ module _ (asked : AskedSearch) (ok : IsProblem asked.problem) (aimed : asked.pro
     refuted_at_first : status ≡ No → (first_run asked).end ≡ runs.Refuted
     refuted_at_first is =
         let s = search_after asked last in
-        let rounds = no_solution is in
-        let same : last_entry asked ≡ refuted_at None = (let both : Some (last_entry asked) ≡ Some (refuted_at None) = sym (last_is asked) ∙ ap last_round rounds in cc) in
+        let same = only_entry (no_solution is) in
         let end : end_at s.problem.aim (next_end asked s) ≡ ended.Refuted = ap (λ (r : Round). r.end) same in
         let refuted = end_refuted s.problem.aim (problem_after asked last) (run_after asked last) (run_after asked last).end end in
         sym (ap (λ (r : Run). r.end) (ap (run_after asked) (only_last is) ∙ first_is asked)) ∙ refuted
@@ -132,14 +138,14 @@ module _ (asked : AskedSearch) (ok : IsProblem asked.problem) (aimed : asked.pro
         let rounds = no_solution is in
         let h = subst (IsBestEnd (whole_search asked)) (no_found (found (whole_search asked)) (sym status_is ∙ is)) best_end in
         record {
-          refutes = refuted_last None (ap last_round rounds);
+          refutes = refuted_last None (ap (λ (r : Round). r.better) (only_entry rounds)) (ap (λ (r : Round). r.end) (only_entry rounds));
           none = subst (λ (p : Contents). HasNoSolution (csp_of p)) (same_problem asked (most_rounds asked.problem)) h.none;
         }
 
     -- where the first round is refuted it is the only one
     refuted_whole : (first_run asked).end ≡ runs.Refuted → (m : ℕ) → most_rounds asked.problem ≡ suc m → found (whole_search asked) ≡ NoSolution
     refuted_whole e m many =
-        let s : SearchState = record { problem = asked.problem; rounds = []; values = None } in
+        let s : SearchState = record { problem = asked.problem; halves = asked.set.halves; rounds = []; values = None } in
         let open_ : is_over (search_after asked 0) ≡ false = ap is_over (starts asked) in
         let end : next_end asked s ≡ Refuted = ap (λ (x : runs.End). end_as asked.problem (first_run asked) x) e in
         let one : search_after asked 1 ≡ with_round s Refuted = goes_on asked 0 open_ ∙ ap (λ (z : SearchState). with_round z (next_end asked z)) (starts asked) ∙ ap (λ (x : RoundEnd). with_round s x) end in
@@ -179,30 +185,58 @@ module _ (asked : AskedSearch) (ok : IsProblem asked.problem) (aimed : asked.pro
         let run = capped_end s.problem.aim (problem_after asked last) (run_after asked last) (run_after asked last).end in
         ap (λ (z : SearchState). z.values) (whole_is asked) ∙ capped_keeps s.values s.problem.aim (next_end asked s) (run.1 e)
 
-    values_at : (n : ℕ) → last ≡ n → (search_after asked n).values ≡ (whole_search asked).values
-        → IfSome (whole_search asked).values (λ list. list ≡ final_values (problem_after asked (round_count asked - 2)) (run_after asked (round_count asked - 2))) × (1 < round_count asked → IsSome (whole_search asked).values)
-    values_at zero e same =
+    -- without halves
+    values_at : asked.set.halves ≡ false → (n : ℕ) → last ≡ n → (search_after asked n).values ≡ (whole_search asked).values
+        → IfSome (whole_search asked).values (λ list. list ≡ final_values (problem_after asked (round_count asked - 2)) (run_after asked (round_count asked - 2)))
+    values_at plain zero e same =
         let none : None ≡ (whole_search asked).values = sym (ap (λ (s : SearchState). s.values) (starts asked)) ∙ same in
-        let one = some_before asked in
-        (subst (λ (o : Option (List ℤ)). IfSome o (λ list. list ≡ final_values (problem_after asked (round_count asked - 2)) (run_after asked (round_count asked - 2)))) none tt, (λ more. absurd (omega arith)))
-    values_at (suc m) e same =
+        subst (λ (o : Option (List ℤ)). IfSome o (λ list. list ≡ final_values (problem_after asked (round_count asked - 2)) (run_after asked (round_count asked - 2)))) none tt
+    values_at plain (suc m) e same =
         let count = some_before asked in
-        let kept = kept_after asked m (omega arith) in
+        let kept = kept_after asked m plain (omega arith) in
         let at : m ≡ round_count asked - 2 = omega arith in
         let some : Some (final_values (problem_after asked (round_count asked - 2)) (run_after asked (round_count asked - 2))) ≡ (whole_search asked).values = sym (kept ∙ ap (λ (n : ℕ). Some (final_values (problem_after asked n) (run_after asked n))) at) ∙ same in
-        (subst (λ (o : Option (List ℤ)). IfSome o (λ list. list ≡ final_values (problem_after asked (round_count asked - 2)) (run_after asked (round_count asked - 2)))) some refl, (λ more. subst IsSome some refl))
+        subst (λ (o : Option (List ℤ)). IfSome o (λ list. list ≡ final_values (problem_after asked (round_count asked - 2)) (run_after asked (round_count asked - 2)))) some refl
+
+    -- the last round was not solved
+    unsolved_last : (values : List ℤ) → end_status (run_after asked last).end ≡ Unfinished → next_end asked (search_after asked last) ≡ Solved values → ⊥
+    unsolved_last values e solved =
+        let s = search_after asked last in
+        let capped = (capped_end s.problem.aim (problem_after asked last) (run_after asked last) (run_after asked last).end).1 e in
+        let clash : false ≡ true = sym (ap (λ (x : RoundEnd). is_capped (end_at s.problem.aim x)) solved) ∙ capped in
+        cc
+
+    solved_at : end_status (run_after asked last).end ≡ Unfinished → (o : Option (List ℤ)) → IfSome o (LastSolved asked last) → IfSome o (IsLastSolved asked)
+    solved_at e None h = tt
+    solved_at e (Some values) h =
+        let count = some_before asked in
+        record {
+          number = h.number;
+          within = (let l = h.within in omega (arith, l, count));
+          solved = h.solved;
+          later = λ k other l m f. elim (lt-or-eq k last (omega (arith, m, count))) [
+            | inl before ↦ h.later k other l before f
+            | inr same ↦ unsolved_last other e (subst (λ (i : ℕ). next_end asked (search_after asked i) ≡ Solved other) same f)
+          ];
+        }
+
+    some_at : (n : ℕ) → last ≡ n → 1 < round_count asked → IsSome (search_after asked n).values
+    some_at zero e more = absurd (let count = some_before asked in omega (arith, count, more, e))
+    some_at (suc m) e more = some_values asked m (let count = some_before asked in omega (arith, count, more, e))
 
     prints_last : status ≡ Unfinished → PrintsLast asked (whole_search asked).values
     prints_last is =
         let w = whole_search asked in
         let e = capped_exactly.0 is in
         let capped = (open_if (ends_capped w.rounds) w.values).0 (sym status_is ∙ is) in
-        let values = values_at last refl (sym (kept_values e)) in
+        let values = sym (kept_values e) in
+        let count = some_before asked in
         record {
           printed = ap (λ (b : Bool). end_of b w.values) capped;
           solves = subst (λ (p : Contents). IfSome w.values (Solves p)) (same_problem asked (most_rounds asked.problem)) (is_search asked ok aimed (most_rounds asked.problem)).solves;
-          last = values.0;
-          some = values.1;
+          solved = subst (λ (o : Option (List ℤ)). IfSome o (IsLastSolved asked)) values (solved_at e (search_after asked last).values (last_solved asked last (omega (arith, count))));
+          last = λ plain. values_at plain last refl values;
+          some = λ more. subst IsSome values (some_at last refl more);
         }
 
     pub is_unfinished : IsUnfinishedSearch asked status
@@ -216,11 +250,11 @@ module _ (asked : AskedSearch) (ok : IsProblem asked.problem) (aimed : asked.pro
     pub is_bounded : IsBoundedSearch asked status
     is_bounded = record {
       rounds = has_rounds asked ok aimed;
-      bounded = λ n l. let law = (law_after asked ok n).bound in let whole = round_bound asked.problem (best_value (search_after asked n).rounds) ok in omega (arith, law, whole);
+      bounded = λ n l. let law = (law_after asked ok n).bound in let whole = round_bound asked.problem (next_better (search_after asked n)) ok in omega (arith, law, whole);
       verdict = λ low is.
           let e = capped_exactly.0 is in
           let most = (ends_open e).most in
           let less = (law_after asked ok last).unfinished (unfinished_end (run_after asked last).end e) in
-          let whole = round_bound asked.problem (best_value (search_after asked last).rounds) ok in
+          let whole = round_bound asked.problem (next_better (search_after asked last)) ok in
           omega (arith, low, most, less, whole);
     }

@@ -1,12 +1,14 @@
 -- What a search that a line asks for means to a user: its headline, sentence by sentence.
-use Rattle.std.specs.Prelude.{◌≡◌, ◌≢◌, ◌↔◌, ℕ, zero, suc, ◌+◌, ◌-◌, ◌<◌, ◌≤◌, ℤ, true, List, [], ◌++◌, length, Option, Some, Contains, IfSome, IsSome, if◌then◌else◌}
+use Rattle.std.specs.Prelude.{◌≡◌, ◌≢◌, ◌↔◌, ℕ, zero, suc, ◌+◌, ◌-◌, ◌<◌, ◌≤◌, ℤ, Bool, true, false, List, [], ◌++◌, length, Option, Some, Contains, IfSome, IsSome, if◌then◌else◌}
 use Rattle.dcsp_outside.specs.Outside.{IsPrefixOf, Told}
 use Rattle.dcsp_script.specs.Scripts.{World}
 use Rattle.dcsp_script.specs.Ways.{Did}
 use Rattle.dcsp_script.specs.Texts.{HoldsPartOf}
 use Rattle.dcsp_defs.specs.Csp.{HasNoSolution}
 use Rattle.dcsp_defs.specs.Derivation.{IsRefutation}
+use Rattle.dcsp_rule.specs.declared.aim.Aim.TheVariants.{Satisfy}
 use Rattle.dcsp_rule.specs.Problems.{csp_of}
+use Rattle.dcsp_problem.specs.WellFormed.{IsProblem}
 use Rattle.dcsp_rule.specs.Aims.{aimed_at, is_better, narrowed}
 use Rattle.ngd_log.specs.Logs.{log_text}
 use Rattle.abt_defs.specs.Bound.{message_bound}
@@ -20,8 +22,8 @@ use Rattle.abt_promise.specs.declared.status.Status.TheVariants.{Good, No, Unfin
 use Rattle.line_replay.specs.Endings.{assigned, final_values}
 use Rattle.abt_optimum.specs.declared.best.BestEnd.TheVariants.{Optimal, Open}
 use Rattle.abt_optimum.specs.declared.round.RoundEnd.TheVariants.{Solved}
-use Rattle.abt_optimum.specs.Best.{aim_value, Solves, IsBest}
-use Rattle.abt_optimum.specs.Rounds.{is_done, most_rounds, AreRounds}
+use Rattle.abt_optimum.specs.Best.{aim_value, Solves, HasNoBetter, IsBest}
+use Rattle.abt_optimum.specs.Rounds.{known_of, is_done, most_rounds, AreFewByHalves, AreRounds}
 use Rattle.line_solve.specs.Searching.{AskedSearch, next_end, search_after, whole_search, round_count, problem_after, session_after, run_after, first_run, last_run}
 use Rattle.line_solve.specs.BestAnswers.{found, answer_text, search_status}
 use Rattle.line_solve.specs.SearchScripts.{round_line, line_script, found_text, rounds_script}
@@ -63,11 +65,12 @@ pub record IsSearched (asked : AskedSearch) (status : Status) (old new : World) 
 
 -- ---- what it means
 
--- The rounds: each one follows those before it, the last of them ends the search, and there are no more than what is aimed at has values, and one.
+-- The rounds: each one follows those before it, the last of them ends the search, and there are no more than what is aimed at has values, and one; by halves there are at most two more than the binary logarithm of how many values it has, rounded up.
 pub record HasRounds (asked : AskedSearch) : Type 0 where
-  pub rounds : AreRounds asked.problem (whole_search asked).rounds
+  pub rounds : AreRounds asked.set.halves asked.problem (whole_search asked).rounds
   pub done : is_done asked.problem.aim (whole_search asked).rounds ≡ true
   pub few : round_count asked ≤ most_rounds asked.problem
+  pub halved : asked.set.halves ≡ true → AreFewByHalves asked.problem (round_count asked)
 
 -- these values were printed: they are a solution, no solution has a better value, and where the aim is at a variable, the derivation that was logged refutes the problem narrowed to their value
 pub record PrintsBest (asked : AskedSearch) (values : List ℤ) : Type 0 where
@@ -94,21 +97,31 @@ pub record EndsOpen (asked : AskedSearch) : Type 0 where
   pub in_transit : IsOpen (csp_of (problem_after asked (round_count asked - 1))) (last_run asked).net
   pub most : (last_run asked).net.deliveries ≡ asked.set.choices
 
--- these values, if there are any, are those of the round before the last, and a solution
+-- these values are those of the last round that was solved
+pub record IsLastSolved (asked : AskedSearch) (values : List ℤ) : Type 0 where
+  pub number : ℕ
+  pub within : suc number < round_count asked
+  pub solved : next_end asked (search_after asked number) ≡ Solved values
+  pub later : (k : ℕ) (other : List ℤ) → number < k → k < round_count asked → next_end asked (search_after asked k) ≡ Solved other → ⊥
+
+-- these values, if there are any, are those of the last round that was solved, and a solution
 pub record PrintsLast (asked : AskedSearch) (values : Option (List ℤ)) : Type 0 where
   pub printed : found (whole_search asked) ≡ Open values
   pub solves : IfSome values (Solves asked.problem)
-  pub last : IfSome values (λ list. list ≡ final_values (problem_after asked (round_count asked - 2)) (run_after asked (round_count asked - 2)))
+  pub solved : IfSome values (IsLastSolved asked)
+  -- without halves that is the round before the last
+  pub last : asked.set.halves ≡ false → IfSome values (λ list. list ≡ final_values (problem_after asked (round_count asked - 2)) (run_after asked (round_count asked - 2)))
   -- there are none only where there is no round before
   pub some : 1 < round_count asked → IsSome values
 
--- Each is better: what a solved round was solved with is a solution of the whole problem, and has a better value at the aim than that of the round before it.
+-- Each is better: what a solved round was solved with is a solution of the whole problem, and has a better value at the aim than each round that was solved before it. And a value that is excluded is taken in no solution.
 pub record IsImproving (asked : AskedSearch) : Type 0 where
   pub solves : (n : ℕ) (values : List ℤ) → n < round_count asked → next_end asked (search_after asked n) ≡ Solved values → Solves asked.problem values
-  pub better : (n : ℕ) (old new : List ℤ) → suc n < round_count asked → next_end asked (search_after asked n) ≡ Solved old → next_end asked (search_after asked (suc n)) ≡ Solved new
+  pub better : (m n : ℕ) (old new : List ℤ) → m < n → n < round_count asked → next_end asked (search_after asked m) ≡ Solved old → next_end asked (search_after asked n) ≡ Solved new
       → is_better asked.problem.aim (aim_value asked.problem.aim (assigned old)) (aim_value asked.problem.aim (assigned new)) ≡ true
+  pub excluded : (n : ℕ) → IfSome (known_of (search_after asked n).rounds).limit (HasNoBetter asked.problem)
 
--- Unfinished: status 5 comes exactly where the last round was stopped open; what was printed then is the solution of the round before, if there is one.
+-- Unfinished: status 5 comes exactly where the last round was stopped open; what was printed then is the solution of the last round that was solved, if there is one.
 pub record IsUnfinishedSearch (asked : AskedSearch) (status : Status) : Type 0 where
   pub exactly : (status ≡ Unfinished) ↔ EndsOpen asked
   pub prints : status ≡ Unfinished → PrintsLast asked (whole_search asked).values
@@ -118,6 +131,20 @@ pub record IsBoundedSearch (asked : AskedSearch) (status : Status) : Type 0 wher
   pub rounds : HasRounds asked
   pub bounded : (n : ℕ) → n < round_count asked → (run_after asked n).net.deliveries ≤ message_bound (csp_of asked.problem)
   pub verdict : message_bound (csp_of asked.problem) ≤ asked.set.choices → status ≢ Unfinished
+
+-- the same search, by halves or not
+abbrev pub with_halves : Bool → AskedSearch → AskedSearch
+with_halves halves asked = record asked { set = record asked.set { halves = halves } }
+
+-- where neither leaves a round open, a search by halves and one without have one status, and the best values that they print have one value at the aim
+pub record ComesToTheSame (asked : AskedSearch) : Type 0 where
+  pub status : search_status (with_halves true asked) ≡ search_status (with_halves false asked)
+  pub value : (xs ys : List ℤ) → found (whole_search (with_halves true asked)) ≡ Optimal xs → found (whole_search (with_halves false asked)) ≡ Optimal ys
+      → aim_value asked.problem.aim (assigned xs) ≡ aim_value asked.problem.aim (assigned ys)
+
+-- Halves change only how a search comes to its answer.
+abbrev pub HalvesChangeNothing : AskedSearch → Type 0
+HalvesChangeNothing asked = IsProblem asked.problem → asked.problem.aim ≢ Satisfy → search_status (with_halves true asked) ≢ Unfinished → search_status (with_halves false asked) ≢ Unfinished → ComesToTheSame asked
 
 -- ---- the order of writing
 

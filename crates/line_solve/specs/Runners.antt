@@ -18,9 +18,9 @@ pub record Tells (p : Contents) (s : Session) (outcome : Outcome) : Type 0 where
   pub gives : Gives s outcome
   pub right : Verdicts (csp_of p) s.most (run_of s)
 
--- no round of this problem's search has ended
-pub record IsFresh (p : Contents) (r : SearchRunner) : Type 0 where
-  pub search : r.search ≡ record { problem = p; rounds = []; values = None }
+-- no round of this problem's search has ended, which is by halves or not
+pub record IsFresh (p : Contents) (halves : Bool) (r : SearchRunner) : Type 0 where
+  pub search : r.search ≡ record { problem = p; halves = halves; rounds = []; values = None }
   pub rounds : r.rounds ≡ 0
   pub deliveries : r.deliveries ≡ 0
   pub steps : r.steps ≡ 0

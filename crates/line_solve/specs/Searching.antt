@@ -12,15 +12,15 @@ use Rattle.line_replay.specs.Asked.{set_session}
 use Rattle.line_replay.specs.Settings.{Settings}
 use Rattle.abt_optimum.specs.declared.round.RoundEnd.{RoundEnd}
 use Rattle.abt_optimum.specs.declared.round.RoundEnd.TheVariants.{Solved, Refuted, Capped}
-use Rattle.abt_optimum.specs.Rounds.{best_value, is_done, round_problem, most_rounds}
-use Rattle.abt_optimum.specs.Searches.{SearchState, round_after, values_after}
+use Rattle.abt_optimum.specs.Rounds.{is_done, round_problem, most_rounds}
+use Rattle.abt_optimum.specs.Searches.{SearchState, next_better, round_after, values_after}
 
 -- a search that a line asks for
 pub record AskedSearch : Type 0 where
   pub problem : Contents
   -- the name of the log, which each round creates anew
   pub log : List ℕ
-  -- how it is made: each round has the choices of the seed anew, and as many; the record is that of the first round; and a trace has a line before each round's
+  -- how it is made: by halves or not; each round has the choices of the seed anew, and as many; the record is that of the first round; and a trace has a line before each round's
   pub set : Settings
 
 -- this search
@@ -29,9 +29,9 @@ best_search p log s = record { problem = p; log = log; set = s }
 
 -- ---- a round
 
--- the problem of the round that follows: the whole one, narrowed to what is better than the best value found so far
+-- the problem of the round that follows: the whole one, narrowed to what is better than the value that this round is to better
 abbrev pub next_problem : AskedSearch → SearchState → Contents
-next_problem asked s = round_problem asked.problem (best_value s.rounds)
+next_problem asked s = round_problem asked.problem (next_better s)
 
 -- the session of that round
 abbrev pub next_session : AskedSearch → SearchState → Session
@@ -57,7 +57,7 @@ told_end ends.Capped = Capped
 
 -- a search after one more round, which ended so
 abbrev pub with_round : SearchState → RoundEnd → SearchState
-with_round s end = record s { rounds = s.rounds ++ round_after s.problem.aim s.rounds end ∷ []; values = values_after s.values end }
+with_round s end = record s { rounds = s.rounds ++ round_after s end ∷ []; values = values_after s.values end }
 
 -- a search after the round that follows, if one does
 abbrev pub one_more : AskedSearch → SearchState → SearchState
@@ -67,7 +67,7 @@ one_more asked s = if is_done s.problem.aim s.rounds then s else with_round s (n
 
 -- the search after so many rounds, or after all that it has
 unfoldable pub search_after : AskedSearch → ℕ → SearchState
-search_after asked zero = record { problem = asked.problem; rounds = []; values = None }
+search_after asked zero = record { problem = asked.problem; halves = asked.set.halves; rounds = []; values = None }
 search_after asked (suc n) = one_more asked (search_after asked n)
 
 -- the whole search

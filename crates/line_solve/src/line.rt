@@ -1,4 +1,4 @@
-//! The line `solve MODEL LOG [--seed N] [--choices N] [--record FILE] [--trace] [--each]`.
+//! The line `solve MODEL LOG [--seed N] [--choices N] [--record FILE] [--trace] [--each] [--halves]`.
 
 ghost use Rattle.std.specs.Prelude.{◌≡◌, ◌≢◌, ◌≤◌, ◌^◌, IfOk};
 ghost use Rattle.dcsp_outside.specs.Outside.{Place, Stream};
@@ -65,7 +65,7 @@ fn run_search<F: Folder, S: Sink>(
     ensures status { IfOk result (λ status. status ≡ search_status (best_search problem.now line.entry.log.now (settings_of line.entry.options))) }
 {
     problem.denotes_csp();
-    let mut runner = SearchRunner::new(alloc, problem)?;
+    let mut runner = SearchRunner::new(alloc, problem, line.options.halves)?;
     runner.run(alloc, problem, line, folder, out)?;
     write_record(alloc, folder, line.options.kept, runner.taken.choices())?;
     let searched = runner.finish();

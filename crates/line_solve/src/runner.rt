@@ -11,8 +11,8 @@ ghost use Rattle.abt_session.specs.Sessions.{run_of, run_script};
 ghost use Rattle.abt_session.specs.Running.{kept, Gives};
 ghost use Rattle.line_replay.specs.Asked.{set_session};
 ghost use Rattle.line_replay.specs.Settings.{settings_of};
-ghost use Rattle.abt_optimum.specs.Rounds.{best_value, is_done, round_problem};
-ghost use Rattle.abt_optimum.specs.Searches.{EndsRightly, IsSearch};
+ghost use Rattle.abt_optimum.specs.Rounds.{is_done, round_problem};
+ghost use Rattle.abt_optimum.specs.Searches.{next_better, EndsRightly, IsSearch};
 ghost use Rattle.line_solve.specs.Searching.{best_search, next_problem, next_session, round_count, told_end, with_round};
 ghost use Rattle.line_solve.specs.BestAnswers.{found};
 ghost use Rattle.line_solve.specs.SearchScripts.{line_script, round_script, rounds_script};
@@ -45,12 +45,12 @@ impl<'p> SearchRunner<'p> {
     ghost use Rattle.line_solve.specs.Runners.{HasMade, IsFresh, SameRounds, Tells};
 
     /// A search of which no round has ended.
-    pub fn new(alloc: Global, problem: &'p Problem) -> Result<SearchRunner<'p>, Stop>
+    pub fn new(alloc: Global, problem: &'p Problem, halves: bool) -> Result<SearchRunner<'p>, Stop>
         requires { problem.now.aim ≢ Aim.Satisfy }
-        ensures fresh { IfOk result (IsFresh problem.now) }
+        ensures fresh { IfOk result (IsFresh problem.now halves) }
         ensures only_memory { OnErr result (result ≡ Err Stop.Memory) }
     {
-        let Ok(search) = Search::new(alloc, problem) else {
+        let Ok(search) = Search::new(alloc, problem, halves) else {
             return Err(Stop::Memory);
         };
         Ok(SearchRunner {
@@ -71,7 +71,7 @@ impl<'p> SearchRunner<'p> {
         folder: &mut F,
         out: &mut S,
     ) -> Result<(), Stop>
-        requires fresh { IsFresh problem.now self.old }
+        requires fresh { IsFresh problem.now line.options.halves self.old }
         requires few { line.options.choices ≤ 2 ^ 40 }
         ensures wrote { let asked = best_search problem.now line.entry.log.now (settings_of line.entry.options) in
             Wrote (rounds_script asked (round_count asked))
@@ -115,7 +115,7 @@ impl<'p> SearchRunner<'p> {
         Ok(())
     }
 
-    /// Runs the problem of the round that follows, narrowed to better values than the best one found so far.
+    /// Runs the problem of the round that follows, narrowed to better values than the one that it is to better.
     fn run_next<F: Folder, S: Sink>(
         &mut self,
         alloc: Global,
@@ -182,7 +182,7 @@ impl<'p> SearchRunner<'p> {
     /// Counts a round that was made.
     fn count(&mut self, outcome: Outcome)
         requires goes_on { is_done self.old.search.problem.aim self.old.search.rounds ≡ false }
-        requires right { EndsRightly (round_problem self.old.search.problem (best_value self.old.search.rounds)) (told_end outcome.end) }
+        requires right { EndsRightly (round_problem self.old.search.problem (next_better self.old.search)) (told_end outcome.end) }
         requires few { (self.old.rounds < 2 ^ 62) × (self.old.deliveries + outcome.deliveries < 2 ^ 62) }
         ensures search { self.new.search ≡ with_round self.old.search (told_end outcome.end) }
         ensures rounds { self.new.rounds ≡ self.old.rounds + 1 }

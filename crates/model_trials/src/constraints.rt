@@ -269,9 +269,77 @@ const LISTS: &[Listed] = &[
     ),
 ];
 
+/// The last row of a table fits, a row fits from its second entry on, a column fits; two equal rows; no row; a row of one.
+const TABLES: &[Listed] = &[
+    (
+        ConstraintKind::FznTableInt,
+        &[],
+        &[3, 1],
+        &[1, 2, 2, 3, 3, 1],
+        true,
+    ),
+    (
+        ConstraintKind::FznTableInt,
+        &[],
+        &[2, 2],
+        &[1, 2, 2, 3, 3, 1],
+        false,
+    ),
+    (
+        ConstraintKind::FznTableInt,
+        &[],
+        &[1, 3],
+        &[1, 2, 3, 1],
+        false,
+    ),
+    (
+        ConstraintKind::FznTableInt,
+        &[],
+        &[1, 2],
+        &[1, 2, 1, 2],
+        true,
+    ),
+    (ConstraintKind::FznTableInt, &[], &[1, 2], &[], false),
+    (ConstraintKind::FznTableInt, &[], &[5], &[1, 5], true),
+    (ConstraintKind::FznTableIntReif, &[0], &[1, 2], &[], true),
+    (
+        ConstraintKind::FznTableIntReif,
+        &[1],
+        &[2, 1],
+        &[1, 2],
+        false,
+    ),
+    (
+        ConstraintKind::FznTableIntReif,
+        &[1],
+        &[1, 2],
+        &[0, 0, 1, 2],
+        true,
+    ),
+    (
+        ConstraintKind::FznTableBool,
+        &[],
+        &[0, 1],
+        &[1, 0, 0, 1],
+        true,
+    ),
+    (
+        ConstraintKind::FznTableBool,
+        &[],
+        &[1, 1],
+        &[1, 0, 0, 1],
+        false,
+    ),
+    (ConstraintKind::FznTableBoolReif, &[0], &[1], &[1], false),
+    (ConstraintKind::FznTableBoolReif, &[1], &[0], &[1, 0], true),
+];
+
 #[test]
 fn lists(rt: HostRuntime) {
     for (kind, scalars, first, second, held) in LISTS {
+        assert!(rt; truth(*kind, scalars, first, second) == Some(*held));
+    }
+    for (kind, scalars, first, second, held) in TABLES {
         assert!(rt; truth(*kind, scalars, first, second) == Some(*held));
     }
 }
@@ -294,4 +362,7 @@ fn names_and_shapes(rt: HostRuntime) {
     assert!(rt; shape_ok(ConstraintKind::BoolClauseReif, 1, 2, 3));
     assert!(rt; !shape_ok(ConstraintKind::BoolClauseReif, 0, 2, 3));
     assert!(rt; !shape_ok(ConstraintKind::BoolXor, 4, 0, 0));
+    assert!(rt; shape_ok(ConstraintKind::FznTableBoolReif, 1, 3, 6));
+    assert!(rt; !shape_ok(ConstraintKind::FznTableInt, 0, 3, 7));
+    assert!(rt; !shape_ok(ConstraintKind::FznTableInt, 0, 0, 0));
 }

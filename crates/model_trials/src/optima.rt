@@ -47,7 +47,7 @@ fn expect_best(rt: &impl Abort, best: Best, rounds: u64, value: i64) {
 fn finds_the_least(rt: HostRuntime) {
     let alloc = rt.alloc();
     let problem = problem(&rt, alloc, Aim::Least(Term::Var(0)));
-    let mut search = Search::new(alloc, &problem).expect(&rt, "memory");
+    let mut search = Search::new(alloc, &problem, false).expect(&rt, "memory");
     assert!(rt; search.better().is_none());
     search.ended(solved(&rt, alloc, 2));
     assert!(rt; search.better() == Some(2));
@@ -63,7 +63,7 @@ fn finds_the_least(rt: HostRuntime) {
 fn ends_at_a_constant(rt: HostRuntime) {
     let alloc = rt.alloc();
     let problem = problem(&rt, alloc, Aim::Greatest(Term::Const(7)));
-    let mut search = Search::new(alloc, &problem).expect(&rt, "memory");
+    let mut search = Search::new(alloc, &problem, false).expect(&rt, "memory");
     search.ended(solved(&rt, alloc, 2));
     assert!(rt; search.done());
     expect_best(&rt, search.outcome(), 1, 2);
@@ -79,7 +79,7 @@ fn expect_open(rt: &impl Abort, best: Best) {
 fn ends_where_a_round_is_capped(rt: HostRuntime) {
     let alloc = rt.alloc();
     let problem = problem(&rt, alloc, Aim::Greatest(Term::Var(0)));
-    let mut search = Search::new(alloc, &problem).expect(&rt, "memory");
+    let mut search = Search::new(alloc, &problem, false).expect(&rt, "memory");
     assert!(rt; !search.done());
     search.ended(RoundEnd::Capped);
     assert!(rt; search.done());

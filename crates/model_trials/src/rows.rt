@@ -54,6 +54,31 @@ fn summed(rt: &impl Abort, alloc: Global, rel: Rel, coef: i64, second: Term, tot
     }
 }
 
+/// That the variable and 3 are no row of a table, in which it and 3 are two rows out of three.
+fn tabled(rt: &impl Abort, alloc: Global) -> Rule
+    ensures { result ≡ Rule.Plain ConstraintKind.FznTableIntReif (Term.Const (pos 0) ∷ []) (Term.Var 0 ∷ Term.Const (pos 3) ∷ [])
+        (Term.Const (pos 5) ∷ Term.Const (pos 3) ∷ Term.Const (pos 7) ∷ Term.Const (pos 4) ∷ Term.Const (pos 70) ∷ Term.Const (pos 3) ∷ []) (Members.Listed []) }
+{
+    let told = vec![in alloc; Term::Const(0)].expect(rt, "memory");
+    let row = vec![in alloc; Term::Var(0), Term::Const(3)].expect(rt, "memory");
+    let table = vec![in alloc;
+        Term::Const(5),
+        Term::Const(3),
+        Term::Const(7),
+        Term::Const(4),
+        Term::Const(70),
+        Term::Const(3),
+    ]
+    .expect(rt, "memory");
+    Rule::Plain {
+        kind: ConstraintKind::FznTableIntReif,
+        scalars: TermList::from_vec(told),
+        first: TermList::from_vec(row),
+        second: TermList::from_vec(table),
+        members: Members::Listed(IntList::new(alloc)),
+    }
+}
+
 /// The variable, and the rule.
 fn problem_with(rt: &impl Abort, alloc: Global, rule: Rule) -> Problem
     requires known { All (IsTermOf 1) (terms_of rule) }
@@ -149,6 +174,13 @@ fn rows_of_sums(rt: HostRuntime) {
     expect_ruled_out(&rt, alloc, rule, &[69, 70]);
     let rule = summed(&rt, alloc, Rel::Differ, 1, Term::Var(0), 128);
     expect_ruled_out(&rt, alloc, rule, &[64]);
+}
+
+#[test]
+fn rows_of_tables(rt: HostRuntime) {
+    let alloc = rt.alloc();
+    let rule = tabled(&rt, alloc);
+    expect_ruled_out(&rt, alloc, rule, &[5, 70]);
 }
 
 /// From a place on the first of 130 places that one marks and the other does not is this one.

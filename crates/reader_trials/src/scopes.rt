@@ -124,6 +124,17 @@ fn constraints_with_a_rule(rt: HostRuntime) {
     expect_rule(&rt, alloc, b"constraint array_var_int_element(x,xs,y);");
     expect_rule(&rt, alloc, b"constraint array_bool_element(x,[t,false],b);");
     expect_rule(&rt, alloc, b"constraint fzn_all_different_int(vs);");
+    expect_rule(
+        &rt,
+        alloc,
+        b"constraint fzn_table_int([x,n,y],[1,2,3,4,n,6]);",
+    );
+    expect_rule(&rt, alloc, b"constraint fzn_table_int_reif(xs,[],b);");
+    expect_rule(
+        &rt,
+        alloc,
+        b"constraint fzn_table_bool_reif([b,t],[t,false],t);",
+    );
     expect_rule(&rt, alloc, b"constraint int_lin_eq(cs,xs,n);");
     expect_rule(&rt, alloc, b"constraint int_lin_le_reif([n],vs,1,b);");
     expect_rule(&rt, alloc, b"constraint bool_lin_le([2],bs,x);");
@@ -161,6 +172,38 @@ const LISTS_AND_SETS_AND_THEIR_REFUSALS: &[Refused] = &[
     (
         b"constraint fzn_all_different_int(x);",
         Refusal::IllTyped { at: 33 },
+    ),
+    (
+        b"constraint fzn_table_int([x,y],[1,2,3]);",
+        Refusal::IllTyped { at: 11 },
+    ),
+    (
+        b"constraint fzn_table_int([],[]);",
+        Refusal::IllTyped { at: 11 },
+    ),
+    (
+        b"constraint fzn_table_int([x],vs);",
+        Refusal::IllTyped { at: 29 },
+    ),
+    (
+        b"constraint fzn_table_int([x],[1,q]);",
+        Refusal::Undeclared { at: 32 },
+    ),
+    (
+        b"constraint fzn_table_int([b],[1]);",
+        Refusal::IllTyped { at: 26 },
+    ),
+    (
+        b"constraint fzn_table_bool([b],[t,b]);",
+        Refusal::IllTyped { at: 33 },
+    ),
+    (
+        b"constraint fzn_table_int([x],[1],b);",
+        Refusal::IllTyped { at: 11 },
+    ),
+    (
+        b"constraint fzn_table_bool_reif([b],[t]);",
+        Refusal::IllTyped { at: 11 },
     ),
     (
         b"constraint int_lin_eq(xs,xs,3);",

@@ -23,13 +23,13 @@ returns-then-not-knows_others g c = (
       (c.knows_others.ensures value) c.if-not-knows_others.true,
 )
 
-pub returns-else-not-fill_linear : goal.returns-else-not-fill_linear
-returns-else-not-fill_linear g c =
+pub returns-else-not-fill_known : goal.returns-else-not-fill_known
+returns-else-not-fill_known g c =
     let p = c.args.problem.now in
     let var = c.args.open_var.now.var in
     let known = g.L.Lookup.values c.args.open_var.now.lookup.now in
-    let row = c.fill_linear.new.row in
-    let tells = c.fill_linear.ensures.tells c.if-not-fill_linear.false in
+    let row = c.fill_known.new.row in
+    let tells = c.fill_known.ensures.tells c.if-not-fill_known.false in
     let here = subst (λ (values : List ℤ). TellsFalse c.rule.result.now var values known row) c.domain.ensures tells in
     let told = subst (λ (rule : Rule). TellsFalse rule var (domain (csp_of p) var) known row) (sym (get_or_found p.rules c.args.rule c.rule.result.now no_rule c.rule.ensures)) here in (
       told.0,
@@ -38,8 +38,8 @@ returns-else-not-fill_linear g c =
           told.1 place within ∙ all_known (with_value var value known) (constraint_at p c.args.rule) c.scope.result.now c.knows_others.result c.scope.ensures.scope (c.knows_others.ensures value) c.if-not-knows_others.false,
     )
 
-pub fill_linear-requires-clause-narrow : goal.fill_linear-requires-clause-narrow
-fill_linear-requires-clause-narrow g c = λ k within.
+pub fill_known-requires-clause-narrow : goal.fill_known-requires-clause-narrow
+fill_known-requires-clause-narrow g c = λ k within.
     let p = c.args.problem.now in
     let var = c.args.open_var.now.var in
     let values = domain (csp_of p) var in

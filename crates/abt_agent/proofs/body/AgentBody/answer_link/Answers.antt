@@ -1,7 +1,7 @@
 use Rattle.std.proofs.Common.{length, refl}
 use Rattle.abt_parts.specs.Views.{view_of}
 use Rattle.abt_parts.specs.Stores.{records_of}
-use Rattle.abt_agent.specs.States.{has_mark}
+use Rattle.abt_reason.specs.Marks.{has_mark}
 use Rattle.abt_agent.proofs.Rising.{told_more, exist_more}
 use Rattle.abt_agent.proofs.body.AgentBody.answer_link.Goals as goal
 

@@ -4,7 +4,7 @@ use Rattle.dcsp_defs.specs.Words.{below}
 use Rattle.abt_parts.specs.Messages.{with_stamps}
 use Rattle.abt_parts.specs.Views.{view_of}
 use Rattle.abt_agent.specs.Outgoing.{ArePositive}
-use Rattle.abt_agent.specs.States.{has_mark}
+use Rattle.abt_reason.specs.Marks.{has_mark}
 use Rattle.abt_agent.specs.Causes.{told_of}
 use Rattle.abt_agent.proofs.knowledge.Knowledge.gather.Given as goal
 

@@ -1,0 +1,16 @@
+use Rattle.std.proofs.Common.{ℕ, ◌++◌, ◌∷◌, [], List, string_bytes, codes, decimal, sym, ap, ◌∙◌, append_assoc}
+use Rattle.std.specs.List.{concat}
+use Rattle.std.proofs.lemmas.List.Folds.{concat-append}
+use Rattle.dcsp_gen.proofs.Ranges.{appended}
+use Rattle.dcsp_gen.specs.Binary.{entries}
+use Rattle.dcsp_gen.proofs.binary_texts.push_table.Goals as goal
+
+-- the three parts of the line
+pub returns : goal.returns
+returns c =
+    let before = string_bytes c.args.text.now in
+    let listed = entries c.args.rows.now in
+    let head : List (List ℕ) = codes "constraint fzn_table_int([x" ∷ decimal c.args.edge.0 ∷ codes ",x" ∷ decimal c.args.edge.1 ∷ codes "],[" ∷ [] in
+    let listing = appended before _ _ (concat head) listed c.in_ok-write.ensures.bytes c.in_ok-push_entries.ensures in
+    let whole = appended before _ _ (concat head ++ listed) (codes "]);\n") listing c.in_ok-push_str.ensures.bytes in
+    whole ∙ ap (λ (t : List ℕ). before ++ t) (append_assoc (concat head) listed (codes "]);\n") ∙ sym (concat-append head (listed ∷ codes "]);\n" ∷ [])))

@@ -1,0 +1,10 @@
+use Rattle.std.proofs.Common.{◌≡◌, ◌++◌, drop, length}
+use Rattle.abt_schedule.specs.Answers.{word_at}
+use Rattle.dcsp_gen.specs.Selection.{selected, words_after}
+use Rattle.dcsp_gen.proofs.selection.select.Given as goal
+
+abbrev pub invariant-loop-place : goal.invariant-loop-place
+invariant-loop-place l = record {
+  items : l.list.items ++ selected l.kept (word_at l.words) l.still (drop l.place l.pairs) ≡ selected l.kept (word_at l.initial.words) l.wanted l.pairs;
+  words : words_after (length (drop l.place l.pairs)) (word_at l.words) ≡ words_after (length l.pairs) (word_at l.initial.words);
+}

@@ -1,0 +1,4 @@
+pub mod Orders
+pub mod Under
+pub mod Renumbered
+pub mod Laws

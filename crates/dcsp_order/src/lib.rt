@@ -1,0 +1,23 @@
+//! Orders of a problem's variables, in which the first has the highest priority: the problem under an order, and what a run
+//! under it tells, in the problem's own numbers.
+#![tactic(auto)]
+
+mod order;
+mod under;
+
+ghost use Rattle.dcsp_order.specs.Laws.{DerivationsCome, RefutationsCome, SolutionsCome, SolutionsGo};
+
+pub use order::Order;
+
+/// A problem and the problem under an order have the same solutions, told by numbers and by places.
+pub fn solutions_stay()
+    ensures by_place { SolutionsGo }
+    ensures by_number { SolutionsCome }
+{}
+
+/// What derives and refutes under an order does so, renumbered, for the problem as it stands: a right step asks nothing of
+/// priorities.
+pub fn derivations_stay()
+    ensures derivations { DerivationsCome }
+    ensures refutations { RefutationsCome }
+{}

@@ -1,0 +1,2 @@
+pub mod StoryPromise
+pub mod Telling

@@ -1,0 +1,28 @@
+-- A run that is told as it is made.
+use Rattle.std.specs.Prelude.{◌≡◌, ℕ, true, false, List, ◌∷◌, flat_map}
+use Rattle.std.specs.List.{range_with_len}
+use Rattle.dcsp_defs.specs.Csp.{Csp}
+use Rattle.dcsp_script.specs.Scripts.{Write, Create, Append}
+use Rattle.abt_defs.specs.Runs.{whole}
+use Rattle.law_story.specs.Telling.{lines_at, start_lines}
+use Rattle.line_story.specs.StoryPromise.{event_write, head}
+use Rattle.line_story.specs.declared.teller.Teller.{Teller}
+
+-- the file is created and begun, and the lines of the start are appended
+abbrev pub begin_script : List ℕ → Csp → List Write
+begin_script file p = Create file ∷ Append file head ∷ event_write file (start_lines p)
+
+-- the deliveries of a run write
+abbrev pub deliveries_write : List ℕ → Csp → ℕ → List ℕ → List Write
+deliveries_write file p most choices = flat_map (λ k. event_write file (lines_at p choices k)) (range_with_len 0 (whole p most choices).net.deliveries)
+
+-- the run is on its way
+pub record IsReady (t : Teller) : Type 0 where
+  pub problem : t.network.problem ≡ t.problem.now
+  pub sound : t.network.spent ≡ false
+  pub begun : t.network.begun ≡ true
+
+-- it is the same run, and the same file
+pub record SameTask (old new : Teller) : Type 0 where
+  pub problem : new.problem.now ≡ old.problem.now
+  pub file : new.file.now ≡ old.file.now

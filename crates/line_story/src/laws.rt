@@ -1,0 +1,10 @@
+//! What the promise of `story` keeps.
+
+ghost use Rattle.std.specs.Prelude.{ℕ, List};
+ghost use Rattle.abt_promise.specs.Clauses.{IsLawful};
+ghost use Rattle.line_story.specs.StoryPromise.{story_promise};
+
+/// The promise keeps what every line of words keeps.
+pub fn story_is_lawful()
+    ensures { (model schedule file : List ℕ) → IsLawful (story_promise model schedule file) }
+{}
