@@ -5,19 +5,6 @@ use Rattle.std.specs.List.{AllZip}
 use Rattle.std.specs.Option.{option_to_list}
 use Rattle.dcsp_defs.specs.Words.{In}
 
-pub map_join : {X Y : Type 0} → (f : X → Y) (xs ys : List X) → map f (xs ++ ys) ≡ map f xs ++ map f ys
-map_join f [] ys = refl
-map_join f (x ∷ xs) ys = ap (λ z. f x ∷ z) (map_join f xs ys)
-
-pub map_length : {X Y : Type 0} → (f : X → Y) (xs : List X) → length (map f xs) ≡ length xs
-map_length f [] = refl
-map_length f (x ∷ xs) = ap suc (map_length f xs)
-
-pub map_take : {X Y : Type 0} → (f : X → Y) (k : ℕ) (xs : List X) → take k (map f xs) ≡ map f (take k xs)
-map_take f zero xs = refl
-map_take f (suc k) [] = refl
-map_take f (suc k) (x ∷ xs) = ap (λ z. f x ∷ z) (map_take f k xs)
-
 pub map_item : {X Y : Type 0} → (f : X → Y) (xs : List X) (k : ℕ) (d : Y) (e : X) → k < length xs → get_or (map f xs) k d ≡ f (get_or xs k e)
 map_item f [] k d e l = absurd (omega arith)
 map_item f (x ∷ xs) zero d e l = refl

@@ -4,6 +4,7 @@ use Rattle.std.specs.Prelude.{ℤ, filter_map, ◌==◌}
 use Rattle.std.specs.Option.{option_map, option_to_list}
 use Rattle.std.proofs.lemmas.Bool.Decides.{Decides-eqb}
 use Rattle.std.proofs.lemmas.List.Elements.{All-contains}
+use Rattle.std.proofs.lemmas.List.{map-append}
 use Rattle.dcsp_meaning.specs.Table.{truth}
 use Rattle.dcsp_meaning.specs.Sums.{sum_of, stands}
 use Rattle.dcsp_defs.specs.Words.{In, below}
@@ -22,7 +23,6 @@ use Rattle.dcsp_problem.proofs.RisingNumbers.{Contains-In}
 use Rattle.dcsp_problem.proofs.Scopes.{variables_below, In-from_scope}
 use Rattle.dcsp_order.specs.Orders.{place_of}
 use Rattle.dcsp_order.specs.Under.{term_under, terms_under, rule_under, by_number}
-use Rattle.dcsp_order.proofs.Mapped.{map_join}
 
 -- the variables among changed terms
 moved_variables : (order : List ℕ) (terms : List Term) → filter_map variable_of (terms_under order terms) ≡ map (place_of order) (filter_map variable_of terms)
@@ -37,10 +37,10 @@ moved_told order (Some term) = refl
 pub moved_terms : (order : List ℕ) (rule : Rule) → terms_of (rule_under order rule) ≡ terms_under order (terms_of rule)
 moved_terms order (Plain kind xs ys zs members) =
     let f = term_under order in
-    ap (λ (z : List Term). z ++ map f zs) (sym (map_join f xs ys)) ∙ sym (map_join f (xs ++ ys) zs)
+    ap (λ (z : List Term). z ++ map f zs) (sym (map-append f xs ys)) ∙ sym (map-append f (xs ++ ys) zs)
 moved_terms order (Sum rel coefs terms total told) =
     let f = term_under order in
-    ap (λ (z : List Term). map f terms ++ f total ∷ z) (moved_told order told) ∙ sym (map_join f terms (total ∷ option_to_list told))
+    ap (λ (z : List Term). map f terms ++ f total ∷ z) (moved_told order told) ∙ sym (map-append f terms (total ∷ option_to_list told))
 
 -- the rule's variables have become their places
 pub moved : (order : List ℕ) (rule : Rule) → variables_of (rule_under order rule) ≡ map (place_of order) (variables_of rule)

@@ -1,6 +1,7 @@
 -- Solutions under an order.
 use Rattle.std.proofs.Common.{◌≡◌, ℕ, ◌<◌, true, List, [], length, sym, ap, ◌∙◌, subst, arith}
 use Rattle.std.specs.Prelude.{ℤ}
+use Rattle.std.proofs.lemmas.List.{length-map}
 use Rattle.dcsp_defs.specs.Words.{In}
 use Rattle.dcsp_defs.specs.Csp.{Constraint, domain}
 use Rattle.dcsp_defs.proofs.Lists.{In-map}
@@ -11,14 +12,14 @@ use Rattle.dcsp_problem.specs.WellFormed.{IsProblem}
 use Rattle.dcsp_order.specs.Orders.{number_at, place_of, IsOrder}
 use Rattle.dcsp_order.specs.Under.{rule_under, under, domain_at, by_number, by_place}
 use Rattle.dcsp_order.specs.Laws.{SolutionsGo, SolutionsCome}
-use Rattle.dcsp_order.proofs.Mapped.{map_length, map_item, from_map}
+use Rattle.dcsp_order.proofs.Mapped.{map_item, from_map}
 use Rattle.dcsp_order.proofs.Places.{low_place, low_number, number_back}
 use Rattle.dcsp_order.proofs.Rules.{same_truth, truth_stays, rule_known}
 
 module _ (p : Contents) (ok : IsProblem p) (order : List ℕ) (good : IsOrder (length p.domains) order) where
   -- there are as many variables
   pub same_count : length (under order p).domains ≡ length p.domains
-  same_count = map_length (domain_at p) order ∙ good.whole
+  same_count = length-map order (domain_at p) ∙ good.whole
 
   -- the domain at a place is that of the variable that stands there
   pub domain_there : (place : ℕ) → place < length p.domains → domain (csp_of (under order p)) place ≡ domain (csp_of p) (number_at order place)

@@ -3,6 +3,7 @@ use Rattle.std.proofs.Common.{◌≡◌, ℕ, ◌+◌, ◌≤◌, List, [], ◌�
 use Rattle.std.specs.Prelude.{All, IsTrue, ◌==◌}
 use Rattle.std.specs.Option.{option_to_list}
 use Rattle.std.proofs.lemmas.List.Elements.{All-contains}
+use Rattle.std.proofs.lemmas.List.{length-map}
 use Rattle.dcsp_domain.specs.Sets.{IsDomain}
 use Rattle.dcsp_meaning.specs.Table.{is_shape}
 use Rattle.dcsp_meaning.specs.Sums.{width_of, widest}
@@ -25,7 +26,7 @@ use Rattle.dcsp_problem.specs.WellFormed.{IsProblem}
 use Rattle.dcsp_problem.proofs.RisingNumbers.{Contains-In}
 use Rattle.dcsp_order.specs.Orders.{IsOrder}
 use Rattle.dcsp_order.specs.Under.{term_under, terms_under, rule_under, output_under, aim_under, under, domain_at}
-use Rattle.dcsp_order.proofs.Mapped.{map_length, from_map, all_of}
+use Rattle.dcsp_order.proofs.Mapped.{from_map, all_of}
 use Rattle.dcsp_order.proofs.Places.{low_place}
 use Rattle.dcsp_order.proofs.Rules.{moved_terms, rule_known}
 use Rattle.dcsp_order.proofs.Solutions.{same_count, domain_of_place}
@@ -38,7 +39,7 @@ all_map P Q f xs all each = all_of Q (map f xs) (λ y i.
     subst Q from.2 (each from.0 from.1 (All-contains P xs from.0 all (Contains-In xs from.0 from.1))))
 
 same_size : (order : List ℕ) (rule : Rule) → size_of (rule_under order rule) ≡ size_of rule
-same_size order rule = ap (λ z. z + length (listed_of (rule_under order rule))) (ap length (moved_terms order rule) ∙ map_length (term_under order) (terms_of rule)) ∙ ap (λ z. length (terms_of rule) + z) (listed rule)
+same_size order rule = ap (λ z. z + length (listed_of (rule_under order rule))) (ap length (moved_terms order rule) ∙ length-map (terms_of rule) (term_under order)) ∙ ap (λ z. length (terms_of rule) + z) (listed rule)
   where
     listed : (rule : Rule) → length (listed_of (rule_under order rule)) ≡ length (listed_of rule)
     listed (Plain kind xs ys zs members) = refl
@@ -47,18 +48,18 @@ same_size order rule = ap (λ z. z + length (listed_of (rule_under order rule)))
 same_shape : (order : List ℕ) (rule : Rule) → has_shape (rule_under order rule) ≡ has_shape rule
 same_shape order (Plain kind xs ys zs members) =
     let f = term_under order in
-    ap (λ n. is_shape kind n (length (map f ys)) (length (map f zs))) (map_length f xs)
-    ∙ ap (λ n. is_shape kind (length xs) n (length (map f zs))) (map_length f ys)
-    ∙ ap (λ n. is_shape kind (length xs) (length ys) n) (map_length f zs)
-same_shape order (Sum rel coefs terms total told) = ap (λ n. length coefs == n) (map_length (term_under order) terms)
+    ap (λ n. is_shape kind n (length (map f ys)) (length (map f zs))) (length-map xs f)
+    ∙ ap (λ n. is_shape kind (length xs) n (length (map f zs))) (length-map ys f)
+    ∙ ap (λ n. is_shape kind (length xs) (length ys) n) (length-map zs f)
+same_shape order (Sum rel coefs terms total told) = ap (λ n. length coefs == n) (length-map terms (term_under order))
 
 same_lists : (order : List ℕ) (rule : Rule) → list_counts (rule_under order rule) ≡ list_counts rule
 same_lists order (Plain kind xs ys zs members) =
     let f = term_under order in
-    ap (λ n. (Elements, n) ∷ (Elements, length (map f ys)) ∷ (Elements, length (map f zs)) ∷ []) (map_length f xs)
-    ∙ ap (λ n. (Elements, length xs) ∷ (Elements, n) ∷ (Elements, length (map f zs)) ∷ []) (map_length f ys)
-    ∙ ap (λ n. (Elements, length xs) ∷ (Elements, length ys) ∷ (Elements, n) ∷ []) (map_length f zs)
-same_lists order (Sum rel coefs terms total told) = ap (λ n. (Elements, length coefs) ∷ (Elements, n) ∷ []) (map_length (term_under order) terms)
+    ap (λ n. (Elements, n) ∷ (Elements, length (map f ys)) ∷ (Elements, length (map f zs)) ∷ []) (length-map xs f)
+    ∙ ap (λ n. (Elements, length xs) ∷ (Elements, n) ∷ (Elements, length (map f zs)) ∷ []) (length-map ys f)
+    ∙ ap (λ n. (Elements, length xs) ∷ (Elements, length ys) ∷ (Elements, n) ∷ []) (length-map zs f)
+same_lists order (Sum rel coefs terms total told) = ap (λ n. (Elements, length coefs) ∷ (Elements, n) ∷ []) (length-map terms (term_under order))
 
 module _ (p : Contents) (ok : IsProblem p) (order : List ℕ) (good : IsOrder (length p.domains) order) where
   abbrev n : ℕ
@@ -82,7 +83,7 @@ module _ (p : Contents) (ok : IsProblem p) (order : List ℕ) (good : IsOrder (l
 
   output_stays : (output : Output) → IsOutputOf n output → IsOutputOf m (output_under order output)
   output_stays output o =
-      let many : length (terms_under order output.terms) ≡ length output.terms = map_length (term_under order) output.terms in
+      let many : length (terms_under order output.terms) ≡ length output.terms = length-map output.terms (term_under order) in
       let few = o.few in
       record {
         known = terms_stay output.terms o.known;
@@ -142,9 +143,9 @@ module _ (p : Contents) (ok : IsProblem p) (order : List ℕ) (good : IsOrder (l
         aim = aim_stays p.aim ok.aim;
         few_variables = omega (arith, variables, few_variables);
         few_values = omega (arith, same_values, few_values);
-        few_rules = omega (arith, map_length (rule_under order) p.rules, few_rules);
+        few_rules = omega (arith, length-map p.rules (rule_under order), few_rules);
         few_terms = omega (arith, same_terms, few_terms);
-        few_outputs = omega (arith, map_length (output_under order) p.outputs, few_outputs);
+        few_outputs = omega (arith, length-map p.outputs (output_under order), few_outputs);
         short_lists = all_map (λ rule. first_past (list_counts rule) ≡ None) (λ rule. first_past (list_counts rule) ≡ None) (rule_under order) p.rules ok.short_lists (λ rule i short. ap first_past (same_lists order rule) ∙ short);
         narrow_sums = all_map (λ rule. rule_width p.domains rule ≤ widest) (λ rule. rule_width (under order p).domains rule ≤ widest) (rule_under order) p.rules ok.narrow_sums (λ rule i narrow. let same = same_width rule (rule_known p ok rule i) in omega (arith, same, narrow));
       }

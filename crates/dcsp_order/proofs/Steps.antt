@@ -4,6 +4,7 @@ use Rattle.std.specs.Prelude.{ℤ, pos, ◌==◌, IsSomeAnd}
 use Rattle.std.specs.List.{list_all, AllZip}
 use Rattle.std.specs.Option.{option_map}
 use Rattle.std.proofs.lemmas.Bool.Decides.{eqb_tells}
+use Rattle.std.proofs.lemmas.List.{length-map, take-map}
 use Rattle.dcsp_defs.specs.declared.nogood.Pair.{Pair}
 use Rattle.dcsp_defs.specs.declared.Step.{Step}
 use Rattle.dcsp_defs.specs.declared.Reason.{Reason}
@@ -23,7 +24,7 @@ use Rattle.dcsp_order.specs.Orders.{number_at, place_of, IsOrder}
 use Rattle.dcsp_order.specs.Under.{rule_under, under, by_number}
 use Rattle.dcsp_order.specs.Renumbered.{pairs_renumbered, step_renumbered}
 use Rattle.dcsp_order.specs.Laws.{DerivationsCome, RefutationsCome}
-use Rattle.dcsp_order.proofs.Mapped.{map_length, map_take, map_get, get_map, all_zip}
+use Rattle.dcsp_order.proofs.Mapped.{map_get, get_map, all_zip}
 use Rattle.dcsp_order.proofs.Places.{low_place, low_number, number_back, place_back}
 use Rattle.dcsp_order.proofs.Rules.{same_truth, truth_stays, rule_known, scope_goes}
 use Rattle.dcsp_order.proofs.Solutions.{same_count, domain_there, domain_of_place}
@@ -193,7 +194,7 @@ pub derivations_come : DerivationsCome
 derivations_come p ok order good steps h k step e =
     let from = map_get (step_renumbered order) steps k step e in
     let here = right p ok order good (take k steps) from.0 (h k from.0 from.1) in
-    let earlier : map (step_renumbered order) (take k steps) ≡ take k (map (step_renumbered order) steps) = sym (map_take (step_renumbered order) k steps) in
+    let earlier : map (step_renumbered order) (take k steps) ≡ take k (map (step_renumbered order) steps) = sym (take-map (step_renumbered order) k steps) in
     subst (λ (z : List Step). IsRight (csp_of p) z step) earlier
     (subst (λ (z : Step). IsRight (csp_of p) (map (step_renumbered order) (take k steps)) z) from.2 here)
 
@@ -207,7 +208,7 @@ ends_empty order steps h = at (slice_get steps (length steps - 1)) refl h
     at None e r = absurd r
     at (Some s) e r =
         let last : slice_get (map (step_renumbered order) steps) (length (map (step_renumbered order) steps) - 1) ≡ Some (step_renumbered order s) =
-        ap (λ z. slice_get (map (step_renumbered order) steps) (z - 1)) (map_length (step_renumbered order) steps)
+        ap (λ z. slice_get (map (step_renumbered order) steps) (z - 1)) (length-map steps (step_renumbered order))
         ∙ get_map (step_renumbered order) steps (length steps - 1) s e
         in
         subst Ends (sym last) (ap (pairs_renumbered order) r ∙ none_renumbered order)
