@@ -1,4 +1,4 @@
-"""Completions of the lines of words for bash, zsh and fish, made from the rows of usage.txt."""
+"""Completions of the lines of words for bash, zsh and fish, made from the rows of usage.txt and own.txt."""
 import lines
 
 # The words of an installed launcher's own.
@@ -15,7 +15,7 @@ def rows_of(rows, word):
     return [it for it in rows if it.keyword[0] == word]
 
 
-BASH = """# Completions of abt for bash. Each row is a line of the program, as `abt --usage` prints it.
+BASH = """# Completions of abt for bash. Each row is a line, as `abt --usage` prints it.
 _abt_rows='ROWS'
 
 _abt() {

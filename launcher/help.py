@@ -5,8 +5,8 @@
   help.py help STATUS SAID WORDS..   lines on standard error, each after `abt: `, on a program that was given the words,
                                      said SAID on standard error, and ended with STATUS as a shell sees it
 
-The lines of words are those of usage.txt, which is what the program's `--usage` prints; refusals.txt says what refusals
-mean.
+The lines of words are those of usage.txt, which is what the program's `--usage` prints, and of own.txt, which the
+launcher itself answers; refusals.txt says what refusals mean.
 """
 import os
 import sys
@@ -20,7 +20,7 @@ HERE = os.path.dirname(os.path.realpath(__file__))
 
 def main(words):
     """Does what the words ask for, and returns the status."""
-    rows = lines.read_rows(os.path.join(HERE, "usage.txt"))
+    rows = lines.all_rows(HERE)
     if words[:1] == ["is-line"]:
         return 0 if lines.find_line(rows, words[1:]) else 3
     if words[:1] == ["help"] and len(words) >= 3:

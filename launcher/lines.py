@@ -13,13 +13,19 @@ Row = namedtuple("Row", "keyword places options")
 # Words that are a line: its row, and each place that has a word, with that word.
 Line = namedtuple("Line", "row given")
 # A file's name for each content.
-EXAMPLES = {"model": "model.fzn", "log": "out.ngd", "schedule": "out.sch", "formula": "formula.cnf", "proof": "out.rup"}
+EXAMPLES = {"model": "model.fzn", "log": "out.ngd", "schedule": "out.sch", "order": "model.order", "formula": "formula.cnf", "proof": "out.rup",
+            "story": "out.story", "page": "out.html"}
 
 
 def read_rows(name):
-    """Returns the rows of the file, which is what `--usage` prints."""
+    """Returns the rows of the file, each as `--usage` prints it."""
     with open(name, encoding="utf-8") as it:
         return [row_of(text.split()) for text in it]
+
+
+def all_rows(folder):
+    """Returns the rows of the program, and those that the launcher itself answers."""
+    return [row for name in ("usage.txt", "own.txt") for row in read_rows(f"{folder}/{name}")]
 
 
 def row_of(tokens):
@@ -254,7 +260,7 @@ def overview(rows):
         "usage:",
         *(f"  {usage(it)}" for it in rows),
         "abt --help tells what each line does; abt LINE --help tells what its words are",
-        "the launcher's own: --unproved before a line, --install PREFIX, --pack FILE; README.md tells of them",
+        "the launcher's own: picture, --unproved before a line, --install PREFIX, --pack FILE; README.md tells of them",
         "a first answer, at the top of a clone: ./abt solve examples/meeting.fzn out.ngd --trace",
     ]
 

@@ -1,4 +1,4 @@
-"""The manual page: the text of `--help`, the lines of usage.txt, and what the documents say of commands and statuses."""
+"""The manual page: the text of `--help`, the lines of usage.txt and own.txt, and what the documents say of commands and statuses."""
 import os
 import re
 

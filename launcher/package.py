@@ -142,7 +142,7 @@ def install(prefix):
     if os.path.lexists(link):
         os.remove(link)
     os.symlink("../lib/abt/abt", link)
-    texts = shares(lines.read_rows(f"{made}/launcher/usage.txt"))
+    texts = shares(lines.all_rows(f"{made}/launcher"))
     write_shares(f"{prefix}/share", {**texts, "minizinc/solvers/abt.msc": configuration(made)})
     return [
         f"installed {' '.join(version()[0].split()[:2])} below {prefix}: bin/abt, lib/abt, share",
@@ -165,7 +165,7 @@ def pack(file):
     name = "-".join(version()[0].split()[:2])
     with tempfile.TemporaryDirectory(prefix="abt-") as room:
         stage(f"{room}/{name}")
-        write_shares(f"{room}/{name}/share", shares(lines.read_rows(f"{HERE}/usage.txt")))
+        write_shares(f"{room}/{name}/share", shares(lines.all_rows(HERE)))
         with tarfile.open(f"{room}/archive", "w:gz") as it:
             it.add(f"{room}/{name}", name)
         shutil.copyfile(f"{room}/archive", f"{file}.new")

@@ -128,16 +128,36 @@ judge() {
   esac
 }
 
+# judge_stream: of a model with an aim, with -i and a limit that may cut the run off, each solution that the program found
+# is told, each better than the one before, and none better than the best.
+judge_stream() {
+  [ -e model.fzn ] || return 0
+  goal=$(sed -n 's/^solve.* \(m[ai][xn]imize\) .*/\1/p' model.fzn)
+  [ -n "$goal" ] || return 0
+  rm -f raw
+  timeout $((seconds + 10)) minizinc -i --time-limit 500 --output-mode dzn --output-objective --solver abt --output-raw raw \
+    "$model" ${data:+"$data"} >stream.out 2>stream.err </dev/null
+  found=$(grep -cx -- '----------' raw) told=$(grep -cx -- '----------' stream.out)
+  fact streamed
+  grep -qx -- '==========' stream.out || fact "cut off"
+  [ "$found" = "$told" ] || wrong "of $found solutions that were found $told were told"
+  { sed -n 's/^_objective = \(.*\);$/\1/p' stream.out && case $ours in best*) echo "${ours#best }" ;; esac; } >values
+  awk -v goal="$goal" -v told="$told" 'function better(a, b) { return goal == "minimize" ? a < b : a > b }
+    NR > 1 && NR <= told && !better($1, last) { bad = 1 } NR > told && NR > 1 && better(last, $1) { bad = 1 } { last = $1 } END { exit bad }' values ||
+    wrong "with -i a solution is no better than the one before, or better than the best"
+}
+
 printf '%s\n' "$models" >models
 while read -r model; do
   data=${model%.mzn}.dzn
   [ -e "$data" ] || data=
   judge
+  [ "$ours" = refused ] || judge_stream
 done <models
 
 echo
 echo "$(grep -c . models) models, $seconds seconds each"
-for what in solved optimal refuted verified "by MiniZinc itself" "with a constant aim" unfinished "not read" uncompared unchecked refused wrong; do
+for what in solved optimal refuted verified "by MiniZinc itself" "with a constant aim" unfinished streamed "cut off" "not read" uncompared unchecked refused wrong; do
   echo "$(grep -c "^$what" facts) $what"
 done
 sed -n 's/^refused //p' facts | sort | uniq -c | sort -rn

@@ -14,6 +14,7 @@ cat >stub <<'END'
 echo "$@" >>called
 case $1 in
   solve) printf '%b' "$ANSWER"; printf '%b' "$SAID" >&2; exit "$STATUS" ;;
+  story) echo "abt: fault" >&2; exit 6 ;;
   bound) if [ -n "$SAID" ]; then printf '%b' "$SAID" >&2; exit 3; else echo "bound $BOUND"; fi ;;
 esac
 END
@@ -60,6 +61,9 @@ row 'no better value known' 5 "$solved% rounds 2\n$took" '' 0 "$solved" '' aim.f
 row 'files and seed' 0 "$solved$took" '' 0 "$solved" '' --abt-log l --abt-record r --abt-model c -r 18446744073709551615 m.fzn
 called solve m.fzn l --seed 18446744073709551615 --record r
 cmp -s m.fzn c || { echo "FAILED  the kept model differs" && failed=$((failed + 1)); }
+row 'a page, which fails' 0 "$solved$took" '' 6 "$solved" 'abt: fault\n' --abt-record r --abt-picture p m.fzn
+called solve m.fzn /dev/null --seed 0 --record r
+[ "$(sed -n 2p called | cut -d ' ' -f 1-3)" = 'story m.fzn r' ] || { echo "FAILED  the page is made by $(sed -n 2p called)" && failed=$((failed + 1)); }
 row 'statistics' 0 "$solved$took" '' 0 \
   "$solved%%%mzn-stat: deliveries=9\n%%%mzn-stat: steps=2\n%%%mzn-stat: nSolutions=1\n%%%mzn-stat: solveTime=T\n%%%mzn-stat: agents=2\n%%%mzn-stat: bound=\"6\"\n%%%mzn-stat-end\n" '' -s m.fzn
 row 'statistics of a best value' 0 "$solved==========\n% rounds 2\n" '' 0 \
@@ -97,6 +101,8 @@ printf 'notes\n' >notes
 printf 'ngd 1\nend\n' >old.ngd
 row 'one name for log and record' 0 '' '' 2 '' 'abt-fzn: --abt-log and --abt-record name one file, x\n' --abt-log x --abt-record ./x m.fzn
 row 'one name for log and model' 0 '' '' 2 '' 'abt-fzn: --abt-log and --abt-model name one file, x\n' --abt-log x --abt-model x m.fzn
+row 'one name for record and page' 0 '' '' 2 '' 'abt-fzn: --abt-record and --abt-picture name one file, x\n' --abt-record x --abt-picture x m.fzn
+row 'a page over notes' 0 '' '' 2 '' 'abt-fzn: --abt-picture: notes is there, and is not what would be written over it\n' --abt-picture notes m.fzn
 row 'the model kept in itself' 0 '' '' 2 '' 'abt-fzn: --abt-model and the model name one file, m.fzn\n' --abt-model m.fzn m.fzn
 ln -s m.fzn other.fzn
 row 'the model by another name' 0 '' '' 2 '' 'abt-fzn: --abt-log and the model name one file, other.fzn\n' --abt-log other.fzn m.fzn

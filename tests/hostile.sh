@@ -114,7 +114,7 @@ done
 } > deep.fzn
 for words in "check pair.fzn pair.ngd" "solve small.fzn stack.ngd --record stack.sch --trace" "replay pair.fzn pair.sch stack.ngd" \
     "bound deep.fzn" "upgrade pair.ngd stack.up" "core pair.fzn pair.ngd stack.core" "export pair.fzn pair.ngd stack.cnf stack.rup --atoms" "starve pair.fzn 1 2 stack.starve" \
-    "lossy pair.fzn stack.lossy 30 7" "measure pair.fzn pair.sch" "survey small.fzn 5" "drill 1" "cnf no.cnf stack.rup" "rup no.cnf pair.ngd" "gen queens 4"; do
+    "lossy pair.fzn stack.lossy 30 7" "measure pair.fzn pair.sch" "survey small.fzn 5" "story pair.fzn pair.sch stack.story" "drill 1" "cnf no.cnf stack.rup" "rup no.cnf pair.ngd" "gen queens 4"; do
     # shellcheck disable=SC2086
     "$program" $words > whole.out 2> whole.err
     status=$?
@@ -127,7 +127,7 @@ echo "== names that are no plain files"
 mkdir folder
 for words in "check folder pair.ngd" "check pair.fzn folder" "solve folder l.ngd" "solve pair.fzn folder" \
     "solve pair.fzn l.ngd --record folder" "replay pair.fzn folder l.ngd" "replay pair.fzn pair.sch folder" \
-    "measure folder pair.sch" "measure pair.fzn folder" "survey folder 2" "bound folder" "upgrade folder n.ngd" "upgrade pair.ngd folder" "core folder pair.ngd t.ngd" \
+    "measure folder pair.sch" "measure pair.fzn folder" "survey folder 2" "story pair.fzn pair.sch folder" "story pair.fzn folder t.story" "bound folder" "upgrade folder n.ngd" "upgrade pair.ngd folder" "core folder pair.ngd t.ngd" \
     "core pair.fzn folder t.ngd" "core pair.fzn pair.ngd folder" "export pair.fzn pair.ngd folder p.rup" "export pair.fzn pair.ngd p.cnf folder" "starve pair.fzn 1 2 folder" "starve folder 1 2 s.sch" \
     "lossy folder l.ngd 5 1" "lossy pair.fzn folder 5 1" "rup folder pair.ngd" "rup no.cnf folder" \
     "cnf folder p.rup" "cnf no.cnf folder" "bound none.fzn" "check pair.fzn none.ngd"; do
@@ -203,9 +203,9 @@ if command -v cc > /dev/null && cc -shared -fPIC -O1 -o failing.so "$repository/
     mkdir whole
     for words in "check pair.fzn pair.ngd" "solve pair.fzn new.ngd --record new.sch --trace" "solve small.fzn new.ngd" \
         "solve best.fzn new.ngd --record new.sch" "check best.fzn best.ngd --better 0" \
-        "replay pair.fzn pair.sch new.ngd --trace" "measure pair.fzn pair.sch" "survey pair.fzn 3" "bound pair.fzn" "gen queens 4" "gen colouring 6 3 1" "gen sparse 6 1" "gen pigeons 4" \
+        "replay pair.fzn pair.sch new.ngd --trace" "measure pair.fzn pair.sch" "survey pair.fzn 3" "bound pair.fzn" "order pair.fzn links new.order" "gen queens 4" "gen colouring 6 3 1" "gen sparse 6 1" "gen pigeons 4" "gen binary 4 3 3 2 1" \
         "upgrade pair.ngd new.ngd" "core pair.fzn pair.ngd new.ngd" "export pair.fzn pair.ngd new.cnf new.rup --atoms" "export best.fzn best.ngd new.cnf new.rup --better 0" "starve pair.fzn 1 2 new.sch" \
-        "lossy pair.fzn new.ngd 30 7 --record new.sch" "drill 1" "rup no.cnf no.rup" "cnf no.cnf new.rup" "bound no.cnf" \
+        "story pair.fzn pair.sch new.story" "lossy pair.fzn new.ngd 30 7 --record new.sch" "drill 1" "rup no.cnf no.rup" "cnf no.cnf new.rup" "bound no.cnf" \
         "check pair.fzn pair.sch" "bound pair.fzn more" "--help" "--version"; do
         rm -f new.* whole/*
         status=0 rewritten=

@@ -22,7 +22,9 @@ top=$(cd "$(dirname "$0")/.." && pwd)
 room=$(mktemp -d) || exit 1
 trap 'rm -rf "$room"' EXIT
 if [ -n "${ABT_PROGRAM-}" ]; then
-  ln -s "$(realpath "$ABT_PROGRAM")" "$room/program" || exit 1
+  # behind the launcher as it stands where it is installed, since a page is the launcher's
+  mkdir "$room/installed" && cp -r "$top/abt" "$top/launcher" "$top/picture" "$room/installed" || exit 1
+  ln -s "$(realpath "$ABT_PROGRAM")" "$room/installed/program" && ln -s "$room/installed/abt" "$room/program" || exit 1
 else
   printf '#!/bin/sh\nexec "%s/copy/abt" --unproved "$@"\n' "$room" >"$room/program" && chmod +x "$room/program"
 fi

@@ -42,6 +42,12 @@ OVERLAPS = '''(async () => {
   return [...found];
 })()'''
 
+# The names in the graph that are cut off at its edge.
+CUT = '''[...document.querySelectorAll('#graph .name')].filter(part => {
+  const [name, box] = [part, part.ownerSVGElement].map(each => each.getBoundingClientRect());
+  return name.left < box.left - 1 || name.right > box.right + 1 || name.top < box.top - 1 || name.bottom > box.bottom + 1;
+}).map(part => part.textContent)'''
+
 # What the table of agents shows, agent by agent: value, waits, ruled out values, view, kept nogoods.
 SHOWN = '''[...document.querySelectorAll('#agent-rows .agent-row')].map(row => {
   const words = parts => [...parts].map(part => part.textContent);
@@ -119,6 +125,8 @@ def check_example(check, name):
         check.browser.open(path, width=width, height=1000)
         overlaps = check.browser.value(OVERLAPS)
         check.tell('%s, %d wide: no labels overlap' % (name, width), overlaps == [], overlaps)
+        cut = check.browser.value(CUT)
+        check.tell('%s, %d wide: no name in the graph is cut off' % (name, width), cut == [], cut)
         wide = check.browser.value('document.documentElement.scrollWidth')
         check.tell('%s, %d wide: nothing stands out to the right' % (name, width), wide <= width, wide)
     check.quiet(name)

@@ -197,7 +197,7 @@ impl<'p> Agent<'p> {
     }
 
     /// The nogoods that the agent has recorded, in order of arrival.
-    pub fn kept(&self) -> &[Recorded]
+    pub fn nogoods(&self) -> &[Recorded]
         ensures { records_of result.now ≡ (stands_for self.now).recorded }
     {
         self.body.known.store.items()

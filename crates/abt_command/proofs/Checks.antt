@@ -10,13 +10,13 @@ use Rattle.ngd_check.specs.declared.Finding.TheVariants.{Verified, BadStep, BadD
 use Rattle.ngd_check.specs.Entries.{DoRefute}
 use Rattle.ngd_check.specs.Findings.{IsFindingOf}
 use Rattle.ngd_check.proofs.Once.{one_finding_of}
-use Rattle.abt_promise.specs.declared.status.Status.{Status}
-use Rattle.abt_promise.specs.declared.status.Status.TheVariants.{Good, No}
-use Rattle.abt_promise.specs.Statuses.{IsFinal, IsRefusal}
-use Rattle.abt_promise.specs.Promises.{Report, answered, refused, inputs_of}
-use Rattle.abt_promise.specs.Runs.{Ran, Answers}
-use Rattle.abt_promise.proofs.Fetched.{fetched_told}
-use Rattle.abt_promise.proofs.Following.{ran_answers}
+use Rattle.dcsp_script.specs.declared.status.Status.{Status}
+use Rattle.dcsp_script.specs.declared.status.Status.TheVariants.{Good, No}
+use Rattle.dcsp_script.specs.Statuses.{IsFinal, IsRefusal}
+use Rattle.dcsp_script.specs.Promises.{Report, answered, refused, inputs_of}
+use Rattle.dcsp_script.specs.Runs.{Ran, Answers}
+use Rattle.dcsp_script.proofs.Fetched.{fetched_told}
+use Rattle.dcsp_script.proofs.Following.{ran_answers}
 use Rattle.abt_input.specs.declared.error.CommandError.{CommandError}
 use Rattle.abt_input.specs.declared.error.CommandError.TheVariants.{ModelLong, ModelRefused, NoAim, LogLong, LogLine, ScheduleLong, ScheduleLine, Clauses, Fault, Memory}
 use Rattle.abt_input.specs.Errors.{error_status, error_text}

@@ -4,11 +4,11 @@ use Rattle.std.specs.Prelude.{IfSome}
 use Rattle.std.proofs.lemmas.Bool.Decides.{nat_tests}
 use Rattle.dcsp_outside.specs.Outside.{Stream}
 use Rattle.dcsp_script.specs.Scripts.{World}
-use Rattle.abt_promise.specs.declared.status.Status.{Status}
-use Rattle.abt_promise.specs.Statuses.{IsFinal, IsRefusal}
-use Rattle.abt_promise.specs.Promises.{IsSaid}
-use Rattle.abt_promise.specs.Runs.{Concludes}
-use Rattle.abt_promise.specs.Clauses.{IsLawful}
+use Rattle.dcsp_script.specs.declared.status.Status.{Status}
+use Rattle.dcsp_script.specs.Statuses.{IsFinal, IsRefusal}
+use Rattle.dcsp_script.specs.Promises.{IsSaid}
+use Rattle.dcsp_script.specs.Runs.{Concludes}
+use Rattle.dcsp_script.specs.Clauses.{IsLawful}
 use Rattle.abt_input.specs.declared.error.CommandError.{CommandError}
 use Rattle.abt_input.specs.declared.error.CommandError.TheVariants.{ModelLong, ModelRefused, NoAim, LogLong, LogLine, ScheduleLong, ScheduleLine, Clauses, Fault, Memory}
 use Rattle.abt_input.specs.Errors.{error_status, error_text, way_of}
@@ -16,19 +16,19 @@ use Rattle.abt_input.proofs.Cnfs.{clauses_refuse}
 use Rattle.abt_words.specs.declared.rows.LineName.{LineName}
 use Rattle.abt_words.specs.declared.row.Content.TheVariants.{Model, Log, Formula, Proof}
 use Rattle.abt_words.specs.declared.row.Access.TheVariants.{Read, Written}
-use Rattle.abt_words.specs.declared.rows.TheConstants.{SOLVE, REPLAY, EXPORT, STARVE, QUEENS, COLOURING, SPARSE, PIGEONS}
-use Rattle.abt_words.specs.Rows.{Number, Place, Row, row_of, the_rows}
+use Rattle.abt_words.specs.declared.rows.TheConstants.{SOLVE, REPLAY, EXPORT, STARVE, QUEENS, COLOURING, SPARSE, PIGEONS, BINARY}
+use Rattle.abt_words.specs.Rows.{Number, Place, Row, row_of, run_rows, other_rows, the_rows}
 use Rattle.abt_words.specs.Saying.{Value, Absent, Fill, Said, IsSaidBy, names_differ, setting_of, name_in, given_name, given_number, Gives, none_given}
 use Rattle.abt_words.proofs.Once.{one_said, rows_are_apart}
 use Rattle.abt_words.proofs.Read.{of_each, number_within, given_within, a_name, names_apart, if_name}
-use Rattle.line_model.proofs.Lawful.{bound_lawful, print_lawful}
+use Rattle.line_model.proofs.Lawful.{bound_lawful, order_lawful, print_lawful}
 use Rattle.line_replay.specs.Settings.{Settings}
 use Rattle.line_replay.specs.Asked.{most_deliveries}
 use Rattle.line_replay.specs.Headline.{HoldsProblem}
 use Rattle.line_replay.proofs.Lawful.{replay_lawful}
 use Rattle.line_solve.proofs.Lawful.{solve_lawful}
 use Rattle.abt_command.specs.declared.request.Request.{Request}
-use Rattle.abt_command.specs.Lines.{Line, Help, Version, Usage, Check, Replay, Solve, Bound, Queens, Colouring, Sparse, Pigeons, Drill, Upgrade, Core, Export, Starve, Lossy, Measure, Survey, Rup, Cnf, IsLine, IsNoLine, IsRequest, IsSomeLine, Meaning, Nothing, Holds, AnswerMeans, CameMeans, Means, line_named, line_by, last_seed, line_of, number_at, promise_of, value_of}
+use Rattle.abt_command.specs.Lines.{Line, Help, Version, Usage, Check, Replay, Solve, Bound, Order, Queens, Colouring, Sparse, Pigeons, Binary, Drill, Upgrade, Core, Export, Starve, Lossy, Measure, Survey, Story, Rup, Cnf, IsLine, IsNoLine, IsRequest, IsSomeLine, Meaning, Nothing, Holds, AnswerMeans, CameMeans, Means, line_named, line_by, last_seed, line_of, number_at, promise_of, value_of}
 use Rattle.line_check.proofs.Lawful.{check_lawful}
 use Rattle.line_drill.proofs.Lawful.{drill_lawful}
 use Rattle.line_rewrite.proofs.Lawful.{upgrade_lawful}
@@ -37,6 +37,7 @@ use Rattle.line_export.proofs.Lawful.{export_lawful}
 use Rattle.line_starve.proofs.Lawful.{starve_lawful}
 use Rattle.line_lossy.proofs.Lawful.{lossy_lawful}
 use Rattle.line_measure.proofs.Lawful.{measure_lawful, survey_lawful}
+use Rattle.line_story.proofs.Lawful.{story_lawful}
 use Rattle.line_cnf.proofs.Lawful.{rup_lawful}
 use Rattle.line_cnf.proofs.CnfLawful.{cnf_lawful}
 
@@ -68,8 +69,8 @@ one_some e = cc
 
 -- a row that stands among the rows is that of the line which is made from it
 pub its_row : (said : Said) (i : ℕ) (row : Row) → slice_get the_rows i ≡ Some row → row ≡ (value_of (line_named row.line said)).row
-unfolding the_rows
-its_row said = of_each (λ row. row ≡ (value_of (line_named row.line said)).row) the_rows (refl, (refl, (refl, (refl, (refl, (refl, (refl, (refl, (refl, (refl, (refl, (refl, (refl, (refl, (refl, (refl, (refl, (refl, (refl, (refl, (refl, tt)))))))))))))))))))))
+unfolding the_rows run_rows other_rows
+its_row said = of_each (λ row. row ≡ (value_of (line_named row.line said)).row) the_rows (refl, (refl, (refl, (refl, (refl, (refl, (refl, (refl, (refl, (refl, (refl, (refl, (refl, (refl, (refl, (refl, (refl, (refl, (refl, (refl, (refl, (refl, (refl, (refl, tt))))))))))))))))))))))))
 
 -- what the words of a line say: its row, the values of which fill its places and have names that differ
 pub record Spoken (line : Line) : Type 0 where
@@ -141,6 +142,21 @@ sparse_within n seed some =
     the_nodes : (m n a b : ℕ) → Sparse m a ≡ Sparse n b → m ≡ n
     the_nodes m n a b e = cc
 
+pub binary_within : (n d edges forbidden seed : ℕ) → IsSomeLine (Binary n d edges forbidden seed) → (1 ≤ n) × (n ≤ 200) × (1 ≤ d) × (d ≤ 100)
+binary_within n d edges forbidden seed some =
+    let s = spoken some.0 (Binary n d edges forbidden seed) some.1 in
+    let one : n ≡ number_at s.said 0 = the_variables _ _ _ _ _ _ _ _ _ _ s.line_is in
+    let two : d ≡ number_at s.said 1 = the_domain _ _ _ _ _ _ _ _ _ _ s.line_is in
+    let variables = number_within (row_of BINARY).places s.said.values 0 _ 1 200 refl refl s.fill in
+    let values = number_within (row_of BINARY).places s.said.values 1 _ 1 100 refl refl s.fill in
+    subst (λ m. (1 ≤ m) × (m ≤ 200) × (1 ≤ d) × (d ≤ 100)) (sym one) (subst (λ m. (1 ≤ number_at s.said 0) × (number_at s.said 0 ≤ 200) × (1 ≤ m) × (m ≤ 100)) (sym two) (variables.0, variables.1, values.0, values.1))
+  where
+    the_variables : (m n a b e f i j k l : ℕ) → Binary m a e i k ≡ Binary n b f j l → m ≡ n
+    the_variables m n a b e f i j k l same = cc
+
+    the_domain : (m n a b e f i j k l : ℕ) → Binary m a e i k ≡ Binary n b f j l → a ≡ b
+    the_domain m n a b e f i j k l same = cc
+
 pub pigeons_within : (n : ℕ) → IsSomeLine (Pigeons n) → (2 ≤ n) × (n ≤ 200)
 pigeons_within n some =
     let s = spoken some.0 (Pigeons n) some.1 in
@@ -206,18 +222,18 @@ pub record SolveNames (model log : List ℕ) (kept : Option (List ℕ)) : Type 0
 same_names : (m n l k : List ℕ) (r s : Option (List ℕ)) → m ≡ n → l ≡ k → r ≡ s → SolveNames n k s → SolveNames m l r
 same_names m n l k r s e f g h = rw (e, f, g) h
 
-pub solve_names : (words : List (List ℕ)) (model log : List ℕ) (settings : Settings) → IsLine words (Solve model log settings) → SolveNames model log settings.kept
+pub solve_names : (words : List (List ℕ)) (model log : List ℕ) (settings : Settings) → IsLine words (Solve model log settings) → SolveNames model log settings.record_file
 solve_names words model log settings h =
     let s = spoken words (Solve model log settings) h in
     let k = ap (λ (r : Row). given_name (setting_of r.options s.said.settings (codes "--record"))) s.row_is in
     let apart = solve_apart s.said.values s.said.settings s.fill s.differ in
     let m : model ≡ name_in (get_or s.said.values 0 Absent) = cc in
     let l : log ≡ name_in (get_or s.said.values 1 Absent) = cc in
-    let r : settings.kept ≡ given_name (get_or s.said.settings 2 Absent) = the_kept s ∙ k in
+    let r : settings.record_file ≡ given_name (get_or s.said.settings 2 Absent) = the_kept s ∙ k in
     same_names _ _ _ _ _ _ m l r (record { log_is_other = apart.0; record_is_other = apart.1; record_is_own = apart.2 })
   where
-    the_kept : (s : Spoken (Solve model log settings)) → settings.kept ≡ given_name (setting_of s.said.row.options s.said.settings (codes "--record"))
-    the_kept s = ap (λ (x : Settings). x.kept) (the_settings _ _ _ _ _ _ s.line_is)
+    the_kept : (s : Spoken (Solve model log settings)) → settings.record_file ≡ given_name (setting_of s.said.row.options s.said.settings (codes "--record"))
+    the_kept s = ap (λ (x : Settings). x.record_file) (the_settings _ _ _ _ _ _ s.line_is)
 
 replay_apart : (values settings : List Value) → Fill (row_of REPLAY).places values → names_differ (values ++ settings) ≡ true → name_in (get_or values 0 Absent) ≢ name_in (get_or values 2 Absent)
 replay_apart [] settings h d = absurd h
@@ -265,9 +281,11 @@ sound (Check m l better) = record { lawful = check_lawful better m l; problem = 
 sound (Replay m c l t) = record { lawful = replay_lawful m c l t; problem = λ a b s h. h }
 sound (Solve m l s) = record { lawful = solve_lawful m l s; problem = λ a b s h. h.sound }
 sound (Bound m) = record { lawful = bound_lawful m; problem = λ a b s. tt }
+sound (Order m rule f) = record { lawful = order_lawful m rule f; problem = λ a b s. tt }
 sound (Queens n) = record { lawful = print_lawful _; problem = λ a b s. tt }
 sound (Colouring n k c) = record { lawful = print_lawful _; problem = λ a b s. tt }
 sound (Sparse n c) = record { lawful = print_lawful _; problem = λ a b s. tt }
+sound (Binary n d edges forbidden seed) = record { lawful = print_lawful _; problem = λ a b s. tt }
 sound (Pigeons n) = record { lawful = print_lawful _; problem = λ a b s. tt }
 sound (Drill c) = record { lawful = drill_lawful c; problem = λ a b s. tt }
 sound (Upgrade m o) = record { lawful = upgrade_lawful m o; problem = λ a b s. tt }
@@ -276,6 +294,7 @@ sound (Export m l c r t n) = record { lawful = export_lawful n m l c r t; proble
 sound (Starve m c d o) = record { lawful = starve_lawful m c d o; problem = λ a b s. tt }
 sound (Lossy m o n c k) = record { lawful = lossy_lawful m o n c k; problem = λ a b s. tt }
 sound (Measure m c) = record { lawful = measure_lawful m c; problem = λ a b s. tt }
+sound (Story m c o) = record { lawful = story_lawful m c o; problem = λ a b s. tt }
 sound (Survey m n c) = record { lawful = survey_lawful m c n; problem = λ a b s. tt }
 sound (Rup m o) = record { lawful = rup_lawful m o; problem = λ a b s. tt }
 sound (Cnf m o c) = record { lawful = cnf_lawful m o c; problem = λ a b s. tt }

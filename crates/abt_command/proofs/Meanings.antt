@@ -2,9 +2,9 @@
 use Rattle.std.proofs.Common.{◌≡◌, ℕ, ℤ, List, Option, Some, None, Result, Ok, Err, sym, ap, subst}
 use Rattle.std.specs.Prelude.{IfOk, OnOk}
 use Rattle.dcsp_script.specs.Scripts.{World}
-use Rattle.abt_promise.specs.declared.status.Status.{Status}
-use Rattle.abt_promise.specs.declared.status.Status.TheVariants.{Good, No}
-use Rattle.abt_promise.specs.Statuses.{IsFinal, IsRefusal}
+use Rattle.dcsp_script.specs.declared.status.Status.{Status}
+use Rattle.dcsp_script.specs.declared.status.Status.TheVariants.{Good, No}
+use Rattle.dcsp_script.specs.Statuses.{IsFinal, IsRefusal}
 use Rattle.abt_input.specs.declared.error.CommandError.{CommandError}
 use Rattle.dcsp_outside.specs.Outside.{bytes_of}
 use Rattle.dcsp_defs.specs.Csp.{HasNoSolution}

@@ -11,10 +11,10 @@ use Rattle.abt_defs.specs.Runs.{Solved, whole}
 use Rattle.law_runs.specs.Replay.{Verdicts}
 use Rattle.law_runs.proofs.Whole.{verdicts}
 use Rattle.law_subjects.proofs.Accepting.{accepted_are_problems}
-use Rattle.abt_promise.specs.declared.status.Status.{Status}
-use Rattle.abt_promise.specs.Statuses.{IsFinal, IsRefusal}
-use Rattle.abt_promise.specs.Runs.{Ran}
-use Rattle.abt_promise.proofs.Following.{report_part, report_did}
+use Rattle.dcsp_script.specs.declared.status.Status.{Status}
+use Rattle.dcsp_script.specs.Statuses.{IsFinal, IsRefusal}
+use Rattle.dcsp_script.specs.Runs.{Ran}
+use Rattle.dcsp_script.proofs.Following.{report_part, report_did}
 use Rattle.ngd_log.specs.Logs.{log_text}
 use Rattle.ngd_check.specs.Logged.{IsSmall}
 use Rattle.abt_input.specs.Inputs.{IsModelOf, IsTextOf}
@@ -29,8 +29,8 @@ use Rattle.line_replay.proofs.Lawful.{no_refusal, replay_lawful}
 use Rattle.line_solve.proofs.Lawful.{solve_lawful, reports_run}
 use Rattle.line_replay.proofs.Headlines.{HasOwnRecord, is_run, part_ordered}
 use Rattle.line_replay.proofs.Verdicts.{solved, refuted, bounded, replay_unfinished, solve_unfinished, refuted_log}
-use Rattle.law_meaning.specs.Meaning.{SatisfiesText}
-use Rattle.law_meaning.proofs.Whole.{solutions_satisfy}
+use Rattle.law_subjects.specs.Meaning.{SatisfiesText}
+use Rattle.law_subjects.proofs.MeantWhole.{solutions_satisfy}
 use Rattle.abt_command.specs.Lines.{Line, Replay, Solve, IsLine, IsNoLine, Means, promise_of}
 use Rattle.abt_command.specs.AskedRuns.{AsksFor, replays, solves, EachRun, RunsModel, AskForModel, IsCheckedRun, IsSatisfyingRun, IsTrueRun, EachTrueRun}
 use Rattle.abt_command.proofs.Lines.{one_line, one_some, sound, solve_names, solve_within, replay_names}

@@ -11,10 +11,10 @@ use Rattle.dcsp_defs.specs.Derivation.{IsRefutation}
 use Rattle.dcsp_rule.specs.Problems.{Contents, constraint_of, csp_of}
 use Rattle.dcsp_problem.specs.WellFormed.{IsProblem}
 use Rattle.dcsp_rule.specs.Aims.{aimed_at, is_better, narrowed_at, narrowed}
-use Rattle.abt_promise.specs.declared.status.Status.{Status}
-use Rattle.abt_promise.specs.Statuses.{IsFinal, IsRefusal}
-use Rattle.abt_promise.specs.Runs.{Ran}
-use Rattle.abt_promise.proofs.Following.{report_part, report_did}
+use Rattle.dcsp_script.specs.declared.status.Status.{Status}
+use Rattle.dcsp_script.specs.Statuses.{IsFinal, IsRefusal}
+use Rattle.dcsp_script.specs.Runs.{Ran}
+use Rattle.dcsp_script.proofs.Following.{report_part, report_did}
 use Rattle.ngd_log.specs.Logs.{log_text}
 use Rattle.ngd_check.specs.Logged.{IsSmall}
 use Rattle.abt_input.specs.Inputs.{IsModelOf, IsTextOf}
@@ -36,8 +36,8 @@ use Rattle.law_subjects.proofs.Accepting.{accepted_are_problems}
 use Rattle.line_solve.proofs.Improving.{is_improving}
 use Rattle.line_solve.proofs.Searches.{is_csp_after}
 use Rattle.line_solve.proofs.Verdicts.{is_best, is_refuted, is_unfinished, is_bounded}
-use Rattle.law_meaning.specs.Meaning.{SatisfiesText}
-use Rattle.law_meaning.proofs.Whole.{solutions_satisfy}
+use Rattle.law_subjects.specs.Meaning.{SatisfiesText}
+use Rattle.law_subjects.proofs.MeantWhole.{solutions_satisfy}
 use Rattle.abt_command.specs.Lines.{Line, Solve, IsLine, IsNoLine, Means, promise_of}
 use Rattle.abt_command.specs.AskedRuns.{RunsModel, AskForModel}
 use Rattle.abt_command.specs.AskedSearches.{AsksForSearch, EachSearch, IsCheckedSearch, IsSatisfyingSearch}
@@ -133,10 +133,10 @@ module _ (words : List (List ℕ)) (line : Line) (is : IsLine words line) (a b :
     small f = (subst (λ held. HoldsProblem held asks.model) told (answer f).sound asked.problem asks.model_is).1
 
     -- the model of the search has a name of its own
-    own_model : (model : List ℕ) → AskForModel words model → (model ≢ asked.log) × IfSome asked.set.kept (λ k. model ≢ k) × IsModelOf (bytes_of (files model)) asked.problem
+    own_model : (model : List ℕ) → AskForModel words model → (model ≢ asked.log) × IfSome asked.set.record_file (λ k. model ≢ k) × IsModelOf (bytes_of (files model)) asked.problem
     own_model model asks_model =
         let same : asks.model ≡ model = one_some (subst (λ x. RunsModel x model) (one_line words asks_model.line the_line asks_model.is asks.line_is) asks_model.runs) in
-        subst (λ m. (m ≢ asked.log) × IfSome asked.set.kept (λ k. m ≢ k) × IsModelOf (bytes_of (files m)) asked.problem) same ((solve_names words asks.model asked.log asked.set asks.line_is).log_is_other, (solve_names words asks.model asked.log asked.set asks.line_is).record_is_other, asks.model_is)
+        subst (λ m. (m ≢ asked.log) × IfSome asked.set.record_file (λ k. m ≢ k) × IsModelOf (bytes_of (files m)) asked.problem) same ((solve_names words asks.model asked.log asked.set asks.line_is).log_is_other, (solve_names words asks.model asked.log asked.set asks.line_is).record_is_other, asks.model_is)
 
     -- the log of the last round is a text of its steps
     log_is : IsFinal status → (p : Contents) → IsSmall (csp_of p) → IsRefutation (csp_of p) (last_run asked).net.steps → IsTextOf (log_text (last_run asked).net.steps) (last_run asked).net.steps
@@ -151,7 +151,7 @@ module _ (words : List (List ℕ)) (line : Line) (is : IsLine words line) (a b :
         let log = log_is f p few refutes in
         at mine log b.folder.held (subst (λ x. Told x b.folder.held (HoldsSearch asked)) told (is_searched asked own a b status d.0 d.1).files)
       where
-        at : (model ≢ asked.log) × IfSome asked.set.kept (λ k. model ≢ k) × IsModelOf (bytes_of (files model)) asked.problem → IsTextOf (log_text (last_run asked).net.steps) (last_run asked).net.steps
+        at : (model ≢ asked.log) × IfSome asked.set.record_file (λ k. model ≢ k) × IsModelOf (bytes_of (files model)) asked.problem → IsTextOf (log_text (last_run asked).net.steps) (last_run asked).net.steps
             → (held : Option (List ℕ → Option (List ℕ))) → Told (Some files) held (HoldsSearch asked) → IfSome held (λ x. IsVerifiedBy (taking_of better) x model asked.log)
         at mine log None h = tt
         at mine log (Some left) h =

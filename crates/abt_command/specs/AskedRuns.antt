@@ -8,10 +8,10 @@ use Rattle.abt_defs.specs.Runs.{Refuted, Solved, Capped, Spent}
 use Rattle.dcsp_rule.specs.declared.aim.Aim.TheVariants.{Satisfy}
 use Rattle.dcsp_rule.specs.Problems.{Contents, csp_of}
 use Rattle.abt_input.specs.Inputs.{IsModelOf, HasChoices}
-use Rattle.abt_promise.specs.declared.status.Status.{Status}
-use Rattle.abt_promise.specs.declared.status.Status.TheVariants.{Good, No}
+use Rattle.dcsp_script.specs.declared.status.Status.{Status}
+use Rattle.dcsp_script.specs.declared.status.Status.TheVariants.{Good, No}
 use Rattle.line_check.specs.Verifying.{IsVerified}
-use Rattle.law_meaning.specs.Meaning.{SatisfiesText}
+use Rattle.law_subjects.specs.Meaning.{SatisfiesText}
 use Rattle.line_replay.specs.Endings.{assigned, final_values}
 use Rattle.line_replay.specs.Settings.{Settings}
 use Rattle.line_replay.specs.Asked.{Asked, asked_run, replay, solve}

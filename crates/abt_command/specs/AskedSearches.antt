@@ -4,11 +4,11 @@ use Rattle.dcsp_outside.specs.Outside.{bytes_of}
 use Rattle.dcsp_rule.specs.declared.aim.Aim.TheVariants.{Satisfy}
 use Rattle.dcsp_rule.specs.Aims.{aimed_at}
 use Rattle.abt_input.specs.Inputs.{IsModelOf}
-use Rattle.abt_promise.specs.declared.status.Status.{Status}
-use Rattle.abt_promise.specs.declared.status.Status.TheVariants.{Good, No}
+use Rattle.dcsp_script.specs.declared.status.Status.{Status}
+use Rattle.dcsp_script.specs.declared.status.Status.TheVariants.{Good, No}
 use Rattle.line_check.specs.Taking.{narrowing}
 use Rattle.line_check.specs.Verifying.{IsVerifiedBy, IsVerified}
-use Rattle.law_meaning.specs.Meaning.{SatisfiesText}
+use Rattle.law_subjects.specs.Meaning.{SatisfiesText}
 use Rattle.line_replay.specs.Endings.{assigned}
 use Rattle.abt_optimum.specs.Best.{aim_value}
 use Rattle.line_solve.specs.Searching.{AskedSearch}

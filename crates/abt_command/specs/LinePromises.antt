@@ -3,10 +3,10 @@ use Rattle.std.specs.Prelude.{◌≡◌, ◌⊎◌, ℕ, List, [], codes}
 use Rattle.dcsp_outside.specs.Outside.{Stream}
 use Rattle.dcsp_script.specs.Scripts.{World}
 use Rattle.dcsp_script.specs.Ways.{Did}
-use Rattle.abt_promise.specs.declared.status.Status.{Status}
-use Rattle.abt_promise.specs.declared.status.Status.TheVariants.{Words}
-use Rattle.abt_promise.specs.Promises.{Promise, IsSaid}
-use Rattle.abt_promise.specs.Runs.{Ran}
+use Rattle.dcsp_script.specs.declared.status.Status.{Status}
+use Rattle.dcsp_script.specs.declared.status.Status.TheVariants.{Words}
+use Rattle.dcsp_script.specs.Promises.{Promise, IsSaid}
+use Rattle.dcsp_script.specs.Runs.{Ran}
 use Rattle.abt_command.specs.Lines.{Line, IsLine, IsNoLine, promise_of}
 
 -- the line that the words are has a promise of which this holds

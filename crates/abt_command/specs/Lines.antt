@@ -2,16 +2,19 @@
 use Rattle.std.specs.Prelude.{◌≡◌, ℕ, ◌+◌, ◌-◌, ◌^◌, ℤ, List, Bool, true, nat_lt, Option, Some, None, Result, IfOk, ⊤, option_copied, unwrap_or, codes}
 use Rattle.abt_words.specs.declared.rows.LineName.{LineName}
 use Rattle.abt_words.specs.declared.rows.LineName.TheVariants as names
-use Rattle.abt_words.specs.declared.rows.TheConstants.{SOLVE, REPLAY, CHECK, UPGRADE, CORE, EXPORT, STARVE, LOSSY, MEASURE, SURVEY, BOUND, QUEENS, COLOURING, SPARSE, PIGEONS, DRILL, CNF, RUP, HELP, VERSION, USAGE}
+use Rattle.abt_words.specs.declared.rows.TheConstants.{SOLVE, REPLAY, CHECK, UPGRADE, CORE, EXPORT, STARVE, LOSSY, MEASURE, SURVEY, STORY, BOUND, ORDER, QUEENS, COLOURING, SPARSE, PIGEONS, BINARY, DRILL, CNF, RUP, HELP, VERSION, USAGE}
 use Rattle.abt_words.specs.Rows.{Row, row_of, the_rows}
-use Rattle.abt_words.specs.Saying.{Said, IsSaidBy, value_at, setting_at, name_in, number_in, given_name, given_number, given_signed, is_given}
+use Rattle.abt_words.specs.Saying.{Said, IsSaidBy, value_at, setting_at, name_in, word_in, number_in, given_name, given_number, given_signed, is_given}
 use Rattle.abt_words.specs.Texts.{help_text, usage_text}
 use Rattle.dcsp_script.specs.Scripts.{World}
-use Rattle.abt_promise.specs.declared.status.Status.{Status}
-use Rattle.abt_promise.specs.Promises.{Promise}
+use Rattle.dcsp_script.specs.declared.status.Status.{Status}
+use Rattle.dcsp_script.specs.Promises.{Promise}
 use Rattle.abt_input.specs.declared.error.CommandError.{CommandError}
 use Rattle.line_model.specs.BoundReports.{bound_promise}
-use Rattle.line_model.specs.Generated.{print_promise, queens_promise, colouring_promise, sparse_promise, pigeons_promise}
+use Rattle.dcsp_gen.specs.Binary.{sizes_fit}
+use Rattle.dcsp_order.specs.declared.by_rule.OrderRule.{OrderRule}
+use Rattle.line_model.specs.OrderPromise.{order_promise, rule_named}
+use Rattle.line_model.specs.Generated.{print_promise, queens_promise, colouring_promise, sparse_promise, pigeons_promise, binary_promise}
 use Rattle.line_check.specs.Taking.{taking_of}
 use Rattle.line_check.specs.CheckReports.{check_promise}
 use Rattle.line_replay.specs.Settings.{Settings, settings_of}
@@ -25,14 +28,15 @@ use Rattle.line_export.specs.ExportPromise.{export_promise}
 use Rattle.line_starve.specs.StarvePromise.{starve_promise}
 use Rattle.line_lossy.specs.LossyPromise.{lossy_promise}
 use Rattle.line_measure.specs.MeasurePromise.{measure_promise, survey_promise}
+use Rattle.line_story.specs.StoryPromise.{story_promise}
 use Rattle.line_cnf.specs.RupPromise.{rup_promise}
 use Rattle.line_cnf.specs.CnfPromise.{cnf_promise}
-use Rattle.abt_command.specs.Meanings.{means_check, means_replay, means_solve, means_upgrade, means_core, means_export, means_starve, means_lossy, means_rup, means_cnf}
+use Rattle.abt_command.specs.Meanings.{means_check, means_replay, means_solve, means_upgrade, means_core, means_export, means_order, means_starve, means_lossy, means_story, means_rup, means_cnf}
 use Rattle.abt_command.specs.declared.plain.TheConstants as plain
 use Rattle.abt_command.specs.declared.request.Request.{Request}
-use Rattle.abt_command.specs.declared.request.Request.TheVariants as orders
+use Rattle.abt_command.specs.declared.request.Request.TheVariants as requests
 
--- what the words ask for: what the program takes, which version it is, what its rows are, to check a log against a model or against a better value, to run a model's agents under the choices of a schedule or of a seed, to tell a model's message bound, to print a generated model, to run three of these, to write a log with deletions, to tell which constraints a refutation uses, to write it for checkers of clauses, to write the choices of a starved run, to run a model's agents over a medium that loses, to measure a run under the choices of a schedule or those of many seeds, to check a proof against a formula, or to run a formula's agents
+-- what the words ask for: a case for each line, with the names, numbers and settings that it is given
 pub data Line : Type 0 where
   Help : Line
   Version : Line
@@ -41,18 +45,21 @@ pub data Line : Type 0 where
   Replay : (model schedule log : List ℕ) (trace : Bool) → Line
   Solve : (model log : List ℕ) (settings : Settings) → Line
   Bound : (model : List ℕ) → Line
+  Order : (model : List ℕ) (rule : OrderRule) (file : List ℕ) → Line
   Queens : (n : ℕ) → Line
   Colouring : (n k seed : ℕ) → Line
   Sparse : (n seed : ℕ) → Line
+  Binary : (n d edges forbidden seed : ℕ) → Line
   Pigeons : (n : ℕ) → Line
   Drill : (seed : ℕ) → Line
   Upgrade : (log new : List ℕ) → Line
   Core : (model log trimmed : List ℕ) (better : Option ℤ) → Line
   Export : (model log cnf proof : List ℕ) (told : Bool) (better : Option ℤ) → Line
   Starve : (model : List ℕ) (from to : ℕ) (file : List ℕ) → Line
-  Lossy : (model log : List ℕ) (events seed : ℕ) (kept : Option (List ℕ)) → Line
+  Lossy : (model log : List ℕ) (events seed : ℕ) (record_file : Option (List ℕ)) → Line
   Measure : (model schedule : List ℕ) → Line
   Survey : (model : List ℕ) (count from : ℕ) → Line
+  Story : (model schedule file : List ℕ) → Line
   Rup : (cnf proof : List ℕ) → Line
   Cnf : (cnf proof : List ℕ) (seed : ℕ) → Line
 
@@ -68,8 +75,9 @@ abbrev pub settings_at : Said → Settings
 settings_at said = record {
   seed = unwrap_or (given_number (setting_at said (codes "--seed"))) 0;
   choices = unwrap_or (given_number (setting_at said (codes "--choices"))) most_deliveries;
-  kept = given_name (setting_at said (codes "--record"));
+  record_file = given_name (setting_at said (codes "--record"));
   trace = is_given (setting_at said (codes "--trace"));
+  progress = is_given (setting_at said (codes "--progress"));
   each = is_given (setting_at said (codes "--each"));
   halves = is_given (setting_at said (codes "--halves"));
 }
@@ -83,10 +91,12 @@ line_named names.Check said = Check (name_at said 0) (name_at said 1) (given_sig
 line_named names.Replay said = Replay (name_at said 0) (name_at said 1) (name_at said 2) (is_given (setting_at said (codes "--trace")))
 line_named names.Solve said = Solve (name_at said 0) (name_at said 1) (settings_at said)
 line_named names.Bound said = Bound (name_at said 0)
+line_named names.Order said = Order (name_at said 0) (rule_named (word_in (value_at said 1))) (name_at said 2)
 line_named names.Queens said = Queens (number_at said 0)
 line_named names.Colouring said = Colouring (number_at said 0) (number_at said 1) (number_at said 2)
 line_named names.Sparse said = Sparse (number_at said 0) (number_at said 1)
 line_named names.Pigeons said = Pigeons (number_at said 0)
+line_named names.Binary said = Binary (number_at said 0) (number_at said 1) (number_at said 2) (number_at said 3) (number_at said 4)
 line_named names.Drill said = Drill (number_at said 0)
 line_named names.Upgrade said = Upgrade (name_at said 0) (name_at said 1)
 line_named names.Core said = Core (name_at said 0) (name_at said 1) (name_at said 2) (given_signed (setting_at said (codes "--better")))
@@ -94,6 +104,7 @@ line_named names.Export said = Export (name_at said 0) (name_at said 1) (name_at
 line_named names.Starve said = Starve (name_at said 0) (number_at said 1) (number_at said 2) (name_at said 3)
 line_named names.Lossy said = Lossy (name_at said 0) (name_at said 1) (number_at said 2) (number_at said 3) (given_name (setting_at said (codes "--record")))
 line_named names.Measure said = Measure (name_at said 0) (name_at said 1)
+line_named names.Story said = Story (name_at said 0) (name_at said 1) (name_at said 2)
 line_named names.Survey said = Survey (name_at said 0) (number_at said 1) (unwrap_or (given_number (setting_at said (codes "--from"))) 0)
 line_named names.Rup said = Rup (name_at said 0) (name_at said 1)
 line_named names.Cnf said = Cnf (name_at said 0) (name_at said 1) (unwrap_or (given_number (setting_at said (codes "--seed"))) 0)
@@ -104,27 +115,30 @@ line_by said = line_named said.row.line said
 
 -- the line that a request stands for
 abbrev pub line_of : Request → Line
-line_of orders.Help = Help
-line_of orders.Version = Version
-line_of orders.Usage = Usage
-line_of (orders.Check line) = Check line.model.now line.log.now line.better
-line_of (orders.Replay line) = Replay line.model.now line.schedule.now line.log.now line.trace
-line_of (orders.Solve line) = Solve line.model.now line.log.now (settings_of line.options)
-line_of (orders.Bound model) = Bound model.now
-line_of (orders.GenQueens n) = Queens n
-line_of (orders.GenColouring n k seed) = Colouring n k seed
-line_of (orders.GenSparse n seed) = Sparse n seed
-line_of (orders.GenPigeons n) = Pigeons n
-line_of (orders.Drill seed) = Drill seed
-line_of (orders.Upgrade log new) = Upgrade log.now new.now
-line_of (orders.Core line) = Core line.model.now line.log.now line.trimmed.now line.better
-line_of (orders.Export line) = Export line.model.now line.log.now line.cnf.now line.proof.now line.atoms line.better
-line_of (orders.Starve line) = Starve line.model.now line.from line.to line.file.now
-line_of (orders.Lossy line) = Lossy line.model.now line.log.now line.events line.seed (option_copied line.kept)
-line_of (orders.Measure line) = Measure line.model.now line.schedule.now
-line_of (orders.Survey line) = Survey line.model.now line.count line.from
-line_of (orders.Rup cnf proof) = Rup cnf.now proof.now
-line_of (orders.Cnf line) = Cnf line.cnf.now line.proof.now line.seed
+line_of requests.Help = Help
+line_of requests.Version = Version
+line_of requests.Usage = Usage
+line_of (requests.Check line) = Check line.model.now line.log.now line.better
+line_of (requests.Replay line) = Replay line.model.now line.schedule.now line.log.now line.trace
+line_of (requests.Solve line) = Solve line.model.now line.log.now (settings_of line.options)
+line_of (requests.Bound model) = Bound model.now
+line_of (requests.Order line) = Order line.model.now line.rule line.file.now
+line_of (requests.GenQueens n) = Queens n
+line_of (requests.GenColouring n k seed) = Colouring n k seed
+line_of (requests.GenSparse n seed) = Sparse n seed
+line_of (requests.GenPigeons n) = Pigeons n
+line_of (requests.GenBinary sizes seed) = Binary sizes.variables sizes.values sizes.edges sizes.forbidden seed
+line_of (requests.Drill seed) = Drill seed
+line_of (requests.Upgrade log new) = Upgrade log.now new.now
+line_of (requests.Core line) = Core line.model.now line.log.now line.trimmed.now line.better
+line_of (requests.Export line) = Export line.model.now line.log.now line.cnf.now line.proof.now line.atoms line.better
+line_of (requests.Starve line) = Starve line.model.now line.from line.to line.file.now
+line_of (requests.Lossy line) = Lossy line.model.now line.log.now line.events line.seed (option_copied line.record_file)
+line_of (requests.Measure line) = Measure line.model.now line.schedule.now
+line_of (requests.Story line) = Story line.model.now line.schedule.now line.file.now
+line_of (requests.Survey line) = Survey line.model.now line.count line.from
+line_of (requests.Rup cnf proof) = Rup cnf.now proof.now
+line_of (requests.Cnf line) = Cnf line.cnf.now line.proof.now line.seed
 
 -- ---- what is said of a line
 
@@ -175,17 +189,21 @@ value_of (Check model log better) = meaning_more (row_of CHECK) (check_promise (
 value_of (Replay model schedule log trace) = running (row_of REPLAY) (replay_promise model schedule log trace) (means_replay model) model
 value_of (Solve model log settings) = running (row_of SOLVE) (solve_promise model log settings) (means_solve model) model
 value_of (Bound model) = reporting (row_of BOUND) (bound_promise model)
+value_of (Order model rule file) = meaning_more (row_of ORDER) (order_promise model rule file) (means_order model rule file)
 value_of (Queens n) = reporting (row_of QUEENS) (queens_promise n)
 value_of (Colouring n k seed) = reporting (row_of COLOURING) (colouring_promise n k seed)
 value_of (Sparse n seed) = reporting (row_of SPARSE) (sparse_promise n seed)
 value_of (Pigeons n) = reporting (row_of PIGEONS) (pigeons_promise n)
+value_of (Binary n d edges forbidden seed) =
+    record (reporting (row_of BINARY) (binary_promise n d edges forbidden seed)) { within = sizes_fit n d edges forbidden }
 value_of (Drill seed) = reporting (row_of DRILL) (drill_promise seed)
 value_of (Upgrade log new) = meaning_more (row_of UPGRADE) (upgrade_promise log new) (means_upgrade log new)
 value_of (Core model log trimmed better) = meaning_more (row_of CORE) (core_promise (taking_of better) model log trimmed) (means_core model log trimmed better)
 value_of (Export model log cnf proof told better) = meaning_more (row_of EXPORT) (export_promise (taking_of better) model log cnf proof told) (means_export model log cnf proof told better)
 value_of (Starve model from to file) = meaning_more (row_of STARVE) (starve_promise model from to file) (means_starve model from to file)
-value_of (Lossy model log events seed kept) = meaning_more (row_of LOSSY) (lossy_promise model log events seed kept) (means_lossy model log events seed kept)
+value_of (Lossy model log events seed record_file) = meaning_more (row_of LOSSY) (lossy_promise model log events seed record_file) (means_lossy model log events seed record_file)
 value_of (Measure model schedule) = reporting (row_of MEASURE) (measure_promise model schedule)
+value_of (Story model schedule file) = meaning_more (row_of STORY) (story_promise model schedule file) (means_story model schedule file)
 value_of (Survey model count from) = record (reporting (row_of SURVEY) (survey_promise model from count)) { within = nat_lt (last_seed from count) (2 ^ 64) }
 value_of (Rup cnf proof) = meaning_more (row_of RUP) (rup_promise cnf proof) (means_rup cnf proof)
 value_of (Cnf cnf proof seed) = meaning_more (row_of CNF) (cnf_promise cnf proof seed) (means_cnf cnf proof seed)

@@ -7,8 +7,8 @@ use Rattle.ngd_check.specs.Entries.{DoRefute}
 use Rattle.abt_optimum.specs.Best.{HasNoBetter}
 use Rattle.abt_input.specs.Inputs.{IsModelOf}
 use Rattle.dcsp_script.specs.Scripts.{World}
-use Rattle.abt_promise.specs.declared.status.Status.{Status}
-use Rattle.abt_promise.specs.declared.status.Status.TheVariants.{Good, No}
+use Rattle.dcsp_script.specs.declared.status.Status.{Status}
+use Rattle.dcsp_script.specs.declared.status.Status.TheVariants.{Good, No}
 use Rattle.line_check.specs.Taking.{Taking, taking_of}
 use Rattle.line_check.specs.Checks.{HasEntries, IsRefutedBy}
 use Rattle.line_replay.specs.Headline.{HoldsProblem}
@@ -18,8 +18,11 @@ use Rattle.line_cnf.specs.CnfHeadline.{HoldsCnfRun, HoldsProof}
 use Rattle.line_rewrite.specs.Upgrading.{HoldsUpgrade}
 use Rattle.line_rewrite.specs.Trimming.{HoldsCore, CreatesNothing}
 use Rattle.line_export.specs.Exporting.{HoldsExport}
+use Rattle.dcsp_order.specs.declared.by_rule.OrderRule.{OrderRule}
+use Rattle.line_model.specs.OrderHeld.{HoldsOrder}
 use Rattle.line_starve.specs.Starving.{HoldsStarved, TellsStarved}
 use Rattle.line_lossy.specs.Meaning.{HoldsLossyRun}
+use Rattle.line_story.specs.Stories.{HoldsStory}
 
 -- `solve`: the model's problem is well-formed, keeps the limits, and logs can name all that it has
 pub record IsSolveAnswer (old : Option (List ℕ → Option (List ℕ))) (model : List ℕ) : Type 0 where
@@ -91,11 +94,18 @@ means_core model log trimmed better old new status = IsCoreAnswer better model l
 abbrev pub means_export : (model log cnf proof : List ℕ) (told : Bool) (better : Option ℤ) → World → World → Status → Type 0
 means_export model log cnf proof told better old new status = cnf ≢ proof → IsExportAnswer model log cnf proof told better old new status
 
+abbrev pub means_order : (model : List ℕ) (rule : OrderRule) (file : List ℕ) → World → World → Status → Type 0
+means_order model rule file old new status = HoldsOrder model rule file old.folder.held new.folder.held
+
 abbrev pub means_starve : (model : List ℕ) (from to : ℕ) (file : List ℕ) → World → World → Status → Type 0
 means_starve model from to file old new status = IsStarvedAnswer model from to file old new
 
-abbrev pub means_lossy : (model log : List ℕ) (events seed : ℕ) (kept : Option (List ℕ)) → World → World → Status → Type 0
-means_lossy model log events seed kept old new status = HoldsLossyRun old.folder.held model events seed log kept status
+abbrev pub means_lossy : (model log : List ℕ) (events seed : ℕ) (record_file : Option (List ℕ)) → World → World → Status → Type 0
+means_lossy model log events seed record_file old new status = HoldsLossyRun old.folder.held model events seed log record_file status
+
+-- the run under the schedule's choices was told
+abbrev pub means_story : (model schedule file : List ℕ) → World → World → Status → Type 0
+means_story model schedule file old new status = HoldsStory model schedule file old.folder.held new.folder.held
 
 abbrev pub means_rup : (cnf proof : List ℕ) → World → World → Status → Type 0
 means_rup cnf proof old new status = IsRupAnswer old.folder.held cnf proof status

@@ -4,28 +4,31 @@ ghost use Rattle.std.specs.Prelude.{◌≡◌, ◌↔◌, ℕ, ℤ, Bool, List, 
 ghost use Rattle.dcsp_outside.specs.Outside.{Place};
 ghost use Rattle.dcsp_script.specs.Scripts.{outside};
 ghost use Rattle.dcsp_script.specs.Ways.{Did, CountsStay};
-ghost use Rattle.abt_promise.specs.declared.status.Status.{Status};
-ghost use Rattle.abt_promise.specs.Statuses.{IsFinal, IsRefusal, code_of};
-ghost use Rattle.abt_promise.specs.Promises.{IsSaid};
-ghost use Rattle.abt_promise.specs.Runs.{CameIn, Concludes, Ran, Answers, Faults, Lacks};
-ghost use Rattle.abt_promise.specs.Clauses.{HasCause, IsComplete, GainsText, LeavesOthers, CreatesOwn, IsLawful};
+ghost use Rattle.dcsp_script.specs.declared.status.Status.{Status};
+ghost use Rattle.dcsp_script.specs.Statuses.{IsFinal, IsRefusal, code_of};
+ghost use Rattle.dcsp_script.specs.Promises.{IsSaid};
+ghost use Rattle.dcsp_script.specs.Runs.{CameIn, Concludes, Ran, Answers, Faults, Lacks};
+ghost use Rattle.dcsp_script.specs.Clauses.{HasCause, IsComplete, GainsText, LeavesOthers, CreatesOwn, IsLawful};
 ghost use Rattle.abt_input.specs.Errors.{way_of, error_text};
 ghost use Rattle.line_check.specs.Checks.{IsRefuted};
 ghost use Rattle.line_replay.specs.Headline.{IsRun, IsSolvedRun, IsRefutedRun, IsUnfinishedRun, IsBoundedRun, WritesOrdered};
 ghost use Rattle.abt_command.specs.AskedRuns.{EachRun, EachTrueRun, IsCheckedRun, IsSatisfyingRun};
 ghost use Rattle.line_solve.specs.BestHeadline.{IsSearched, IsBestSearch, IsImproving, IsRefutedSearch, IsUnfinishedSearch, IsBoundedSearch, SearchOrdered};
 ghost use Rattle.abt_command.specs.AskedSearches.{EachSearch, IsCheckedSearch, IsSatisfyingSearch};
+ghost use Rattle.dcsp_order.specs.declared.by_rule.OrderRule.{OrderRule};
+ghost use Rattle.line_model.specs.OrderHeld.{HoldsOrder};
 ghost use Rattle.abt_command.specs.Meanings.{AnswersCheck, HoldsNoBetter, IsRupAnswer, IsCnfAnswer, IsCoreAnswer, IsExportAnswer, IsStarvedAnswer};
 ghost use Rattle.line_rewrite.specs.Upgrading.{HoldsUpgrade};
 ghost use Rattle.line_lossy.specs.Meaning.{HoldsLossyRun};
+ghost use Rattle.line_story.specs.Stories.{HoldsStory};
 ghost use Rattle.abt_command.specs.Lines as lines;
 ghost use Rattle.abt_command.specs.Lines.{Line, IsLine, IsSomeLine, IsNoLine, Means, line_of, promise_of};
 ghost use Rattle.abt_command.specs.LinePromises.{EachPromise, HasRun};
 
 use crate::request::{Request, words_of};
 use abt_input::{CommandError, error_line, error_status};
-use abt_promise::{Status, say};
 use dcsp_outside::{Folder, Sink};
+use dcsp_script::{Status, say};
 use std::alloc::Global;
 
 /// Puts the error's line on `err`.
@@ -179,12 +182,20 @@ pub fn run_command<F: Folder, S: Sink>(
         → IsFinal result → (IsRefusal result → ⊥) → IsExportAnswer model log cnf proof told better
         (outside (F.place folder.old) (S.stream out.old)) (outside (F.place folder.new) (S.stream out.new)) result }
 
+    // And an order that was written.
+    ensures ordered { (model : List ℕ) (rule : OrderRule) (file : List ℕ) → IsLine (map string_bytes words.now) (lines.Order model rule file)
+        → result ≡ Status.Good → HoldsOrder model rule file (F.place folder.old).held (F.place folder.new).held }
+
     // And a run that starves a link, or that is made over a medium that loses, repeats and reorders.
     ensures starved { (model : List ℕ) (from to : ℕ) (file : List ℕ) → IsLine (map string_bytes words.now) (lines.Starve model from to file)
         → result ≡ Status.Good → IsStarvedAnswer model from to file
         (outside (F.place folder.old) (S.stream out.old)) (outside (F.place folder.new) (S.stream out.new)) }
-    ensures lossy { (model log : List ℕ) (events seed : ℕ) (kept : Option (List ℕ)) → IsLine (map string_bytes words.now) (lines.Lossy model log events seed kept)
-        → IsFinal result → (IsRefusal result → ⊥) → HoldsLossyRun (F.place folder.old).held model events seed log kept result }
+    ensures lossy { (model log : List ℕ) (events seed : ℕ) (record_file : Option (List ℕ)) → IsLine (map string_bytes words.now) (lines.Lossy model log events seed record_file)
+        → IsFinal result → (IsRefusal result → ⊥) → HoldsLossyRun (F.place folder.old).held model events seed log record_file result }
+
+    // And a run that is told: the file holds its story, which hides nothing and is no other run's.
+    ensures told { (model schedule file : List ℕ) → IsLine (map string_bytes words.now) (lines.Story model schedule file)
+        → IsFinal result → (IsRefusal result → ⊥) → HoldsStory model schedule file (F.place folder.old).held (F.place folder.new).held }
 {
     match words_of(words) {
         Some(request) => run_request(alloc, request, folder, out, err),

@@ -2,16 +2,16 @@
 
 ghost use Rattle.dcsp_outside.specs.Outside.{Place};
 ghost use Rattle.dcsp_script.specs.Scripts.{outside};
-ghost use Rattle.abt_promise.specs.Runs.{CameIn};
+ghost use Rattle.dcsp_script.specs.Runs.{CameIn};
 ghost use Rattle.abt_input.specs.Errors.{way_of};
 ghost use Rattle.line_model.specs.Generated.{print_promise};
 ghost use Rattle.abt_words.specs.Rows.{the_rows};
 ghost use Rattle.abt_words.specs.Texts.{help_text, usage_text};
 
 use abt_input::CommandError;
-use abt_promise::Status;
 use abt_words::{help, usage};
 use dcsp_outside::Sink;
+use dcsp_script::Status;
 use line_model::print;
 use std::alloc::Global;
 

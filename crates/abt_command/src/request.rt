@@ -3,31 +3,39 @@
 ghost use Rattle.std.specs.Prelude.{◌≡◌, ◌≤◌, ℕ, List, false, map, string_bytes, IfSome, IsNone};
 ghost use Rattle.dcsp_outside.specs.Outside.{Place};
 ghost use Rattle.dcsp_script.specs.Scripts.{outside};
-ghost use Rattle.abt_promise.specs.Runs.{CameIn};
+ghost use Rattle.dcsp_script.specs.Runs.{CameIn};
 ghost use Rattle.abt_input.specs.Errors.{way_of};
 ghost use Rattle.abt_words.specs.declared.rows.LineName.TheVariants as names;
 ghost use Rattle.abt_words.specs.Rows.{the_rows};
 ghost use Rattle.abt_words.specs.Saying.{IsSaidBy};
 ghost use Rattle.abt_words.specs.Values.{said_in};
+ghost use Rattle.line_model.specs.OrderPromise.{rule_named};
 ghost use Rattle.line_replay.specs.Settings.{settings_of};
 ghost use Rattle.abt_command.specs.Lines.{CameMeans, IsLine, IsNoLine, IsSomeLine, line_by, line_named, line_of, number_at, promise_of, settings_at, value_of, IsRequest};
 
 use crate::plain::{VERSION, print_help, print_usage};
 use abt_input::CommandError;
-use abt_promise::Status;
+use abt_session::MOST_DELIVERIES;
 use abt_words::{LineName, Said, said_of};
+use dcsp_gen::BinarySizes;
+use dcsp_order::OrderRule;
 use dcsp_outside::{Folder, Sink};
+use dcsp_script::Status;
 use line_check::{Check, run_check};
 use line_cnf::{Cnf, run_cnf, run_rup};
 use line_drill::run_drill;
 use line_export::{ExportLine, run_export};
 use line_lossy::{Losses, run_lossy};
 use line_measure::{Measure, Survey, run_measure, run_survey};
-use line_model::{print, run_bound, run_colouring, run_pigeons, run_queens, run_sparse};
-use line_replay::{MOST_DELIVERIES, Options, Replay, Solve, run_replay};
+use line_model::{
+    OrderLine, print, run_binary, run_bound, run_colouring, run_order, run_pigeons, run_queens,
+    run_sparse,
+};
+use line_replay::{Options, Replay, Solve, run_replay};
 use line_rewrite::{CoreLine, run_core, run_upgrade};
 use line_solve::run_solve;
 use line_starve::{Starve, run_starve};
+use line_story::{Story, run_story};
 use std::alloc::Global;
 
 /// What the words ask for.
@@ -43,7 +51,7 @@ pub enum Request<'w> {
     Check(Check<'w>),
     /// `replay MODEL SCHEDULE LOG [--trace]`: a run under the choices of the schedule.
     Replay(Replay<'w>),
-    /// `solve MODEL LOG [--seed N] [--choices N] [--record FILE] [--trace] [--each]`: a run under the choices of a seed,
+    /// `solve MODEL LOG [--seed N] [--choices N] [--record FILE] [--trace] [--progress] [--each] [--halves]`: a run under the choices of a seed,
     /// which is 0 where none is given; they are at most 2^40, which is their number where none is given. Where the model
     /// asks for the best value, a search of such runs, which may put each solution.
     Solve(Solve<'w>),
@@ -52,14 +60,20 @@ pub enum Request<'w> {
     /// `survey MODEL COUNT [--from SEED]`: the measures of the runs of so many seeds, from 1 to 1,000,000, the first of
     /// which is 0 where none is given, and the last of which has 64 bits.
     Survey(Survey<'w>),
+    /// `story MODEL SCHEDULE FILE`: FILE takes what happens in the run under the choices of the schedule.
+    Story(Story<'w>),
     /// `bound MODEL`: how many messages a run delivers at most.
     Bound { model: &'w str },
+    /// `order MODEL RULE FILE`: FILE takes the order of the model's variables by the rule.
+    Order(OrderLine<'w>),
     /// `gen queens N`: the problem of so many queens, from 1 to 200.
     GenQueens { n: u32 },
     /// `gen colouring N K SEED`: the colouring of `n` nodes, from 1 to 200, with `k` colours, from 1 to 16.
     GenColouring { n: u32, k: u32, seed: u64 },
     /// `gen sparse N SEED`: the colouring of `n` nodes, from 1 to 4,096, with few edges.
     GenSparse { n: u32, seed: u64 },
+    /// `gen binary N D EDGES PAIRS SEED`: a random binary problem, of 1 to 200 variables and 1 to 100 values, of sizes that fit.
+    GenBinary { sizes: BinarySizes, seed: u64 },
     /// `gen pigeons N`: the problem of so many pigeons, from 2 to 200, in one hole less.
     GenPigeons { n: u32 },
     /// `drill SEED`: runs of three generated models under the choices of a seed.
@@ -109,10 +123,13 @@ impl Request<'_> {
             Request::Solve(line) => run_solve(alloc, folder, line, out),
             Request::Measure(line) => run_measure(alloc, folder, line, out),
             Request::Survey(line) => run_survey(alloc, folder, line, out),
+            Request::Story(line) => run_story(alloc, folder, line, out),
             Request::Bound { model } => run_bound(alloc, folder, model, out),
+            Request::Order(line) => run_order(alloc, folder, line, out),
             Request::GenQueens { n } => run_queens(alloc, n, out),
             Request::GenColouring { n, k, seed } => run_colouring(alloc, n, k, seed, out),
             Request::GenSparse { n, seed } => run_sparse(alloc, n, seed, out),
+            Request::GenBinary { sizes, seed } => run_binary(alloc, sizes, seed, out),
             Request::GenPigeons { n } => run_pigeons(alloc, n, out),
             Request::Drill { seed } => run_drill(alloc, seed, out),
             Request::Upgrade { log, new } => run_upgrade(alloc, folder, log, new, out),
@@ -153,11 +170,14 @@ fn request_of<'w>(said: &Said<'w>) -> Option<Request<'w>>
         LineName::Lossy => Some(lossy_of(said)),
         LineName::Measure => Some(measure_of(said)),
         LineName::Survey => survey_of(said),
+        LineName::Story => Some(story_of(said)),
         LineName::Bound => Some(bound_of(said)),
+        LineName::Order => Some(order_of(said)),
         LineName::Queens => Some(queens_of(said)),
         LineName::Colouring => Some(colouring_of(said)),
         LineName::Sparse => Some(sparse_of(said)),
         LineName::Pigeons => Some(pigeons_of(said)),
+        LineName::Binary => binary_of(said),
         LineName::Drill => Some(drill_of(said)),
         LineName::Cnf => Some(cnf_of(said)),
         LineName::Rup => Some(rup_of(said)),
@@ -185,8 +205,9 @@ fn options_of<'w>(said: &Said<'w>) -> Options<'w>
     Options {
         seed: said.setting("--seed").given_number().unwrap_or(0),
         choices: choices.unwrap_or(MOST_DELIVERIES),
-        kept: said.setting("--record").given_name(),
+        record_file: said.setting("--record").given_name(),
         trace: said.setting("--trace").is_given(),
+        progress: said.setting("--progress").is_given(),
         each: said.setting("--each").is_given(),
         halves: said.setting("--halves").is_given(),
     }
@@ -270,7 +291,7 @@ fn lossy_of<'w>(said: &Said<'w>) -> Request<'w>
         log: said.value(1).name(),
         events: said.value(2).number() as u32,
         seed: said.value(3).number(),
-        kept: said.setting("--record").given_name(),
+        record_file: said.setting("--record").given_name(),
     })
 }
 
@@ -295,11 +316,42 @@ fn survey_of<'w>(said: &Said<'w>) -> Option<Request<'w>>
     Some(Request::Survey(Survey { model, count, from }))
 }
 
+fn story_of<'w>(said: &Said<'w>) -> Request<'w>
+    ensures { line_of result ≡ line_named names.Story (said_in said.now) }
+{
+    Request::Story(Story {
+        model: said.value(0).name(),
+        schedule: said.value(1).name(),
+        file: said.value(2).name(),
+    })
+}
+
 fn bound_of<'w>(said: &Said<'w>) -> Request<'w>
     ensures { line_of result ≡ line_named names.Bound (said_in said.now) }
 {
     Request::Bound {
         model: said.value(0).name(),
+    }
+}
+
+fn order_of<'w>(said: &Said<'w>) -> Request<'w>
+    ensures { line_of result ≡ line_named names.Order (said_in said.now) }
+{
+    Request::Order(OrderLine {
+        model: said.value(0).name(),
+        rule: rule_named(said.value(1).word()),
+        file: said.value(2).name(),
+    })
+}
+
+/// The rule of a word.
+fn rule_named(word: &str) -> OrderRule
+    ensures { result ≡ rule_named word.now }
+{
+    match word {
+        "degree" => OrderRule::Degree,
+        "links" => OrderRule::Links,
+        _ => OrderRule::Reverse,
     }
 }
 
@@ -341,6 +393,27 @@ fn pigeons_of<'w>(said: &Said<'w>) -> Request<'w>
     Request::GenPigeons {
         n: said.value(0).number() as u32,
     }
+}
+
+fn binary_of<'w>(said: &Said<'w>) -> Option<Request<'w>>
+    requires variables { (1 ≤ number_at (said_in said.now) 0) × (number_at (said_in said.now) 0 ≤ 200) }
+    requires values { number_at (said_in said.now) 1 ≤ 100 }
+    requires edges { number_at (said_in said.now) 2 ≤ 19900 }
+    requires forbidden { number_at (said_in said.now) 3 ≤ 10000 }
+    ensures some { IfSome result (λ request. IsRequest request (line_named names.Binary (said_in said.now))) }
+    ensures none { IsNone result → (value_of (line_named names.Binary (said_in said.now))).within ≡ false }
+{
+    let sizes = BinarySizes {
+        variables: said.value(0).number() as u32,
+        values: said.value(1).number() as u32,
+        edges: said.value(2).number() as u32,
+        forbidden: said.value(3).number() as u32,
+    };
+    if !sizes.fit() {
+        return None;
+    }
+    let seed = said.value(4).number();
+    Some(Request::GenBinary { sizes, seed })
 }
 
 fn drill_of<'w>(said: &Said<'w>) -> Request<'w>

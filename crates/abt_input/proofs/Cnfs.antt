@@ -4,7 +4,7 @@ use Rattle.dcsp_rule.specs.Problems.{Contents}
 use Rattle.cnf_front.specs.declared.header.CnfError.{CnfError}
 use Rattle.cnf_front.specs.declared.header.CnfError.TheVariants as cnf
 use Rattle.cnf_front.specs.Formulas.{problem_of, Gives}
-use Rattle.abt_promise.specs.Statuses.{IsRefusal}
+use Rattle.dcsp_script.specs.Statuses.{IsRefusal}
 use Rattle.abt_input.specs.declared.error.CommandError.{CommandError}
 use Rattle.abt_input.specs.declared.error.CommandError.TheVariants.{Fault}
 use Rattle.abt_input.specs.declared.clauses_error.ClausesError.{ClausesError}

@@ -5,8 +5,8 @@ use Rattle.dcsp_outside.specs.declared.folder.Fetched.{Fetched}
 use Rattle.dcsp_outside.specs.declared.folder.Fetched.TheVariants.{Whole, Long}
 use Rattle.dcsp_outside.specs.Handed.{Handed, AllOf, MoreThan}
 use Rattle.dcsp_outside.specs.Outside.{Place, Fetches, AddsUpTo, gained, handed_by, bytes_of}
-use Rattle.abt_promise.specs.Promises.{IsHeld, AreBytesOf}
-use Rattle.abt_promise.proofs.Fetched.{fetched_held}
+use Rattle.dcsp_script.specs.Promises.{IsHeld, AreBytesOf}
+use Rattle.dcsp_script.proofs.Fetched.{fetched_held}
 use Rattle.abt_input.specs.declared.error.CommandError.{CommandError}
 use Rattle.abt_input.specs.declared.error.CommandError.TheVariants.{ModelLong, ModelRefused, NoAim, LogLong, LogLine, ScheduleLong, ScheduleLine, Clauses, Fault, Memory}
 use Rattle.abt_input.specs.Kinds.{FileKind, ReadsAs}

@@ -8,13 +8,13 @@ use Rattle.dcsp_script.specs.Scripts.{Write, World, outside}
 use Rattle.dcsp_script.specs.Ways.{Did, Wrote}
 use Rattle.dcsp_script.proofs.Leaves.{did_read, after_read}
 use Rattle.dcsp_script.proofs.Ways.{did_nothing}
-use Rattle.abt_promise.specs.declared.status.Status.{Status}
-use Rattle.abt_promise.specs.Statuses.{IsFinal}
-use Rattle.abt_promise.specs.Promises.{IsFetched}
-use Rattle.abt_promise.specs.Runs.{Way, Answered, Refused, CameIn}
-use Rattle.abt_promise.proofs.Coming.{way_with, came_wrote}
-use Rattle.abt_promise.proofs.Fetched.{unread_names, fetched_then}
-use Rattle.abt_promise.proofs.Steps.{came_then}
+use Rattle.dcsp_script.specs.declared.status.Status.{Status}
+use Rattle.dcsp_script.specs.Statuses.{IsFinal}
+use Rattle.dcsp_script.specs.Promises.{IsFetched}
+use Rattle.dcsp_script.specs.Runs.{Way, Answered, Refused, CameIn}
+use Rattle.dcsp_script.proofs.Coming.{way_with, came_wrote}
+use Rattle.dcsp_script.proofs.Fetched.{unread_names, fetched_then}
+use Rattle.dcsp_script.proofs.Steps.{came_then}
 use Rattle.abt_input.specs.declared.error.CommandError.{CommandError}
 use Rattle.abt_input.specs.declared.error.CommandError.TheVariants.{ModelLong, ModelRefused, NoAim, LogLong, LogLine, ScheduleLong, ScheduleLine, Clauses, Fault, Memory}
 use Rattle.abt_input.specs.Errors.{stop_error, way_of, error_status, error_text}

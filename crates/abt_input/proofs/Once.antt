@@ -9,7 +9,7 @@ use Rattle.abt_schedule.proofs.ScheduleLaws.{schedule_or_bad_line}
 use Rattle.cnf_front.specs.declared.header.CnfError.{CnfError}
 use Rattle.rup_check.specs.declared.reader.ProofError.TheVariants as proofs
 use Rattle.rup_check.proofs.ProofLaws.{accepted, refused}
-use Rattle.abt_promise.specs.Statuses.{IsFinal}
+use Rattle.dcsp_script.specs.Statuses.{IsFinal}
 use Rattle.abt_input.specs.declared.error.CommandError.{CommandError}
 use Rattle.abt_input.specs.declared.error.CommandError.TheVariants.{ModelLong, ModelRefused, NoAim, LogLong, LogLine, ScheduleLong, ScheduleLine, Clauses, Fault, Memory}
 use Rattle.abt_input.specs.declared.clauses_error.ClausesError.TheVariants.{CnfLong, CnfRefused, CnfLimit, ProofLong, ProofLine}

@@ -4,7 +4,7 @@ use Rattle.std.specs.Prelude.{IsErr, IsErrAnd}
 use Rattle.dcsp_outside.specs.Outside.{Place, SameCounts, Rose}
 use Rattle.dcsp_script.specs.declared.stop.Stop.{Stop}
 use Rattle.dcsp_script.specs.declared.stop.Stop.TheVariants as stops
-use Rattle.abt_promise.specs.Promises.{IsFetched}
+use Rattle.dcsp_script.specs.Promises.{IsFetched}
 use Rattle.abt_input.specs.declared.error.CommandError.{CommandError}
 use Rattle.abt_input.specs.declared.error.CommandError.TheVariants.{Fault}
 use Rattle.abt_input.specs.Errors.{stop_error}

@@ -4,9 +4,9 @@ use Rattle.std.specs.Prelude.{Contains}
 use Rattle.std.proofs.lemmas.List.Elements.{Contains-append_left, Contains-append_right, Contains-push}
 use Rattle.dcsp_script.specs.Scripts.{Write}
 use Rattle.dcsp_script.specs.Texts.{Touches}
-use Rattle.abt_promise.specs.Statuses.{IsFinal, IsRefusal}
-use Rattle.abt_promise.specs.Promises.{Report, answered, refused}
-use Rattle.abt_promise.specs.Clauses.{IsLawful}
+use Rattle.dcsp_script.specs.Statuses.{IsFinal, IsRefusal}
+use Rattle.dcsp_script.specs.Promises.{Report, answered, refused}
+use Rattle.dcsp_script.specs.Clauses.{IsLawful}
 use Rattle.abt_input.specs.Errors.{error_status, error_text}
 use Rattle.abt_input.specs.Plans.{Plan, Answer, Read, Find, PlanReports, PlanFetches, promise_by, IsSoundPlan, IsTotalPlan, IsAnswered}
 

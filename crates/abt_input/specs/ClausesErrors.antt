@@ -1,7 +1,7 @@
 -- Why a formula or a proof is refused, and what is said of it.
 use Rattle.std.specs.Prelude.{ℕ, List, ◌++◌, decimal, codes}
-use Rattle.abt_promise.specs.declared.status.Status.{Status}
-use Rattle.abt_promise.specs.declared.status.Status.TheVariants as statuses
+use Rattle.dcsp_script.specs.declared.status.Status.{Status}
+use Rattle.dcsp_script.specs.declared.status.Status.TheVariants as statuses
 use Rattle.cnf_front.specs.declared.header.CnfError.{CnfError}
 use Rattle.cnf_front.specs.declared.header.CnfError.TheVariants as cnf
 use Rattle.abt_input.specs.ModelTexts.{place_text, limit_text, reached_text}

@@ -4,9 +4,9 @@ use Rattle.dcsp_script.specs.declared.stop.Stop.{Stop}
 use Rattle.dcsp_script.specs.declared.stop.Stop.TheVariants as stops
 use Rattle.fzn_model.specs.declared.model.ModelError.{ModelError}
 use Rattle.fzn_model.specs.declared.model.ModelError.TheVariants as errors
-use Rattle.abt_promise.specs.declared.status.Status.{Status}
-use Rattle.abt_promise.specs.declared.status.Status.TheVariants as statuses
-use Rattle.abt_promise.specs.Runs.{Way, Answered, Refused, Stopped}
+use Rattle.dcsp_script.specs.declared.status.Status.{Status}
+use Rattle.dcsp_script.specs.declared.status.Status.TheVariants as statuses
+use Rattle.dcsp_script.specs.Runs.{Way, Answered, Refused, Stopped}
 use Rattle.cnf_front.specs.declared.header.CnfError.{CnfError}
 use Rattle.cnf_front.specs.declared.header.CnfError.TheVariants as cnf
 use Rattle.abt_input.specs.ModelTexts.{model_error_text}

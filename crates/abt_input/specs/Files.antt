@@ -3,7 +3,7 @@ use Rattle.std.specs.Prelude.{◌≡◌, ℕ, ◌<◌, ◌≤◌, List, length, 
 use Rattle.std.specs.declared.vec.Vec.{Vec}
 use Rattle.std.specs.declared.alloc.Global.{Global}
 use Rattle.dcsp_outside.specs.Outside.{Place, SameCounts, Rose}
-use Rattle.abt_promise.specs.Promises.{IsFetched}
+use Rattle.dcsp_script.specs.Promises.{IsFetched}
 use Rattle.abt_input.specs.Kinds.{FileKind, ReadsAs}
 use Rattle.abt_input.specs.declared.read.Unread.{Unread}
 use Rattle.abt_input.specs.declared.read.Unread.TheVariants as unread

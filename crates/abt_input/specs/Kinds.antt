@@ -2,7 +2,7 @@
 use Rattle.std.specs.Prelude.{◌≡◌, ◌⊎◌, ℕ, ℤ, List, Result, Ok, Err, ⊤}
 use Rattle.dcsp_defs.specs.declared.Step.{Step}
 use Rattle.dcsp_rule.specs.Problems.{Contents}
-use Rattle.abt_promise.specs.Statuses.{IsFinal}
+use Rattle.dcsp_script.specs.Statuses.{IsFinal}
 use Rattle.abt_input.specs.Inputs.{IsModelOf, IsTextOf, HasChoices, IsFormulaOf, HasClauses}
 use Rattle.abt_input.specs.Errors.{IsErrorOfModel, IsErrorOfLog, IsErrorOfSchedule, IsErrorOfCnf, IsErrorOfProof, error_status}
 use Rattle.abt_input.specs.declared.error.CommandError.{CommandError}

@@ -2,9 +2,9 @@
 use Rattle.std.specs.Prelude.{◌≡◌, ◌⊎◌, ℕ, List, [], ◌∷◌, length, Contains, ⊤}
 use Rattle.dcsp_script.specs.Scripts.{Write}
 use Rattle.dcsp_script.specs.Texts.{Touches}
-use Rattle.abt_promise.specs.declared.status.Status.{Status}
-use Rattle.abt_promise.specs.Statuses.{IsFinal, IsRefusal}
-use Rattle.abt_promise.specs.Promises.{Report, Promise, answered, refused}
+use Rattle.dcsp_script.specs.declared.status.Status.{Status}
+use Rattle.dcsp_script.specs.Statuses.{IsFinal, IsRefusal}
+use Rattle.dcsp_script.specs.Promises.{Report, Promise, answered, refused}
 use Rattle.abt_input.specs.declared.error.CommandError.{CommandError}
 use Rattle.abt_input.specs.Errors.{error_status, error_text}
 use Rattle.abt_input.specs.Kinds.{FileKind, IsExact, IsTotal}

@@ -5,8 +5,8 @@ ghost use Rattle.abt_input.specs.ClausesErrors.{clauses_status, clauses_text, cn
 
 use crate::line::AnswerLine;
 use crate::model_text::{limit_line, placed, reached_line};
-use abt_promise::Status;
 use cnf_front::CnfError;
+use dcsp_script::Status;
 use fzn_model::Which;
 
 /// Why a formula or a proof was refused.

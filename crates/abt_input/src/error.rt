@@ -6,9 +6,8 @@ ghost use Rattle.abt_input.specs.Errors.{cnf_error, model_error, stop_error, err
 use crate::clauses_error::{ClausesError, clauses_line, clauses_status};
 use crate::line::AnswerLine;
 use crate::model_text::model_error_line;
-use abt_promise::Status;
 use cnf_front::CnfError;
-use dcsp_script::Stop;
+use dcsp_script::{Status, Stop};
 use fzn_model::ModelError;
 use std::alloc::AllocError;
 

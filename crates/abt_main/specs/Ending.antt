@@ -8,10 +8,10 @@ use Rattle.dcsp_outside.specs.Outside.{Stream}
 use Rattle.dcsp_script.specs.declared.stop.Stop.TheVariants as stops
 use Rattle.dcsp_script.specs.Scripts.{World}
 use Rattle.dcsp_script.specs.Ways.{Did}
-use Rattle.abt_promise.specs.declared.status.Status.{Status}
-use Rattle.abt_promise.specs.declared.status.Status.TheVariants.{Memory}
-use Rattle.abt_promise.specs.Statuses.{code_of, stop_text}
-use Rattle.abt_promise.specs.Promises.{IsSaid}
+use Rattle.dcsp_script.specs.declared.status.Status.{Status}
+use Rattle.dcsp_script.specs.declared.status.Status.TheVariants.{Memory}
+use Rattle.dcsp_script.specs.Statuses.{code_of, stop_text}
+use Rattle.dcsp_script.specs.Promises.{IsSaid}
 use Rattle.abt_command.specs.LinePromises.{HasRun}
 
 -- there was no memory for the words: the number says so, nothing was written, and it was told

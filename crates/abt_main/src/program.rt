@@ -5,9 +5,9 @@ ghost use Rattle.abt_main.specs.Ending.{EndsRun, EndsWith};
 
 use abt_command::{Status, run_program};
 use abt_files::{OpenFiles, RealFolder, RealSink, Stream};
-use abt_promise::say;
 use dcsp_common::Memory;
 use dcsp_outside::{Folder, Sink};
+use dcsp_script::say;
 use std::alloc::Global;
 use std::cell::RefCell;
 use std::env;

@@ -9,7 +9,7 @@ use Rattle.abt_network.specs.declared.Standing.TheVariants as standing
 use Rattle.abt_network.specs.Standing.{NetworkState, StandsAt, standing_of}
 use Rattle.abt_session.specs.Answers.{first_answers}
 use Rattle.abt_session.specs.Sessions.{Session, network_after, run_of}
-use Rattle.abt_session.specs.Running.{session_of}
+use Rattle.abt_session.specs.Running.{nothing_told, session_of}
 use Rattle.abt_session.proofs.Places.{answers_at, at_place, past_end}
 use Rattle.abt_session.proofs.Stopping.{ComesTo, ends_here, not_fewer, one_more, stops_here}
 use Rattle.abt_session.proofs.Turns.{is_open, is_quiet, is_refuted}
@@ -22,7 +22,7 @@ use Rattle.abt_measure.proofs.StartLaws.{learned_start}
 
 module _ (P : Contents) (most : ℕ) (answers : ℕ → Option ℕ) (listens : Bool) where
   abbrev pub s : Session
-  s = session_of P most answers [] false
+  s = session_of P most answers [] nothing_told
 
   law : Stops s.problem s.most s.choices (run_of s)
   law = stops s.problem s.most s.choices

@@ -1,5 +1,5 @@
 -- Whatever part of a run's script was made is in order.
-use Rattle.std.proofs.Common.{◌≡◌, ◌≢◌, ℕ, zero, suc, ◌+◌, ◌-◌, ◌<◌, ◌≤◌, ◌%◌, Bool, true, false, cond, List, [], ◌∷◌, ◌++◌, length, map, flat_map, take, drop, codes, Option, Some, None, slice_get, Result, refl, sym, ap, subst, ◌∙◌, append_assoc, append-nil, arith, length-append}
+use Rattle.std.proofs.Common.{◌≡◌, ◌≢◌, ℕ, zero, suc, ◌+◌, ◌-◌, ◌<◌, ◌≤◌, ◌%◌, List, [], ◌∷◌, ◌++◌, length, map, flat_map, take, drop, codes, Option, Some, None, slice_get, Result, refl, sym, ap, subst, ◌∙◌, append_assoc, append-nil, arith, length-append}
 use Rattle.std.specs.Prelude.{Contains, slice_index}
 use Rattle.std.specs.List.{concat, range_with_len}
 use Rattle.std.specs.Cmp.Lexicographic.{bytes_decides}
@@ -21,11 +21,11 @@ use Rattle.dcsp_script.specs.Scripts.{Write, Create, Append, Put, World, file_af
 use Rattle.dcsp_script.specs.Ways.{IsPartOf, DidPartOf, Wrote}
 use Rattle.dcsp_script.specs.Texts.{LeavesAlone, OnlyAppends, HoldsPartOf, appended_by}
 use Rattle.dcsp_script.proofs.After.{put_by-append}
-use Rattle.dcsp_script.proofs.Parts.{wrote_part, put_of_part, part_within, part_at, part_leaves, left_alone, prefix_short}
+use Rattle.dcsp_script.proofs.Parts.{wrote_part, put_of_part, part_within, part_past, part_leaves, left_alone}
 use Rattle.dcsp_script.proofs.Texts.{appended_by-append, appends_to, part_appends, holds_part}
-use Rattle.abt_session.specs.Traces.{trace_line}
-use Rattle.abt_session.specs.Sessions.{Session, run_of, network_after, step_writes, trace_writes, steps_made, delivery_writes, deliveries_write, run_script}
-use Rattle.abt_session.specs.Order.{trace_lines, trace_of_first, trace_text, log_of_first, HasLines, KeepsUp, WritesInOrder}
+use Rattle.abt_session.specs.Traces.{delivery_texts}
+use Rattle.abt_session.specs.Sessions.{Session, run_of, network_after, step_writes, steps_made, delivery_writes, deliveries_write, run_script}
+use Rattle.abt_session.specs.Order.{texts_from, told_of_first, told_text, log_of_first, IsShortOf, IsPast, HoldsAtMost, HoldsAtLeast, KeepsUp, WritesInOrder}
 use Rattle.abt_session.proofs.Places.{at_place, some_at}
 use Rattle.abt_session.proofs.Stopping.{after_next}
 
@@ -57,21 +57,22 @@ module _ (log : List ℕ) where
   append_lines_leave name other [] = tt
   append_lines_leave name other (line ∷ lines) = (other, append_lines_leave name other lines)
 
-  -- puts of lines
-  put_lines_append : (trace : Bool) (number : ℕ) (ds : List Delivery) → appended_by (trace_writes trace number ds) log ≡ []
-  put_lines_append false number ds = refl
-  put_lines_append true number [] = refl
-  put_lines_append true number (d ∷ ds) = put_lines_append true number ds
+  -- puts of texts
+  put_texts_put : (texts : List (List ℕ)) → put_by (map Put texts) ≡ concat texts
+  put_texts_put [] = refl
+  put_texts_put (text ∷ texts) = ap (λ l. text ++ l) (put_texts_put texts)
 
-  put_lines_only : (trace : Bool) (number : ℕ) (ds : List Delivery) → OnlyAppends (trace_writes trace number ds) log
-  put_lines_only false number ds = tt
-  put_lines_only true number [] = tt
-  put_lines_only true number (d ∷ ds) = (tt, put_lines_only true number ds)
+  put_texts_append : (texts : List (List ℕ)) → appended_by (map Put texts) log ≡ []
+  put_texts_append [] = refl
+  put_texts_append (text ∷ texts) = put_texts_append texts
 
-  put_lines_leave : (name : List ℕ) (trace : Bool) (number : ℕ) (ds : List Delivery) → LeavesAlone (trace_writes trace number ds) name
-  put_lines_leave name false number ds = tt
-  put_lines_leave name true number [] = tt
-  put_lines_leave name true number (d ∷ ds) = ((λ e. e), put_lines_leave name true number ds)
+  put_texts_only : (texts : List (List ℕ)) → OnlyAppends (map Put texts) log
+  put_texts_only [] = tt
+  put_texts_only (text ∷ texts) = (tt, put_texts_only texts)
+
+  put_texts_leave : (name : List ℕ) (texts : List (List ℕ)) → LeavesAlone (map Put texts) name
+  put_texts_leave name [] = tt
+  put_texts_leave name (text ∷ texts) = ((λ e. e), put_texts_leave name texts)
 
 -- ---- lines
 
@@ -79,9 +80,13 @@ pub step_lines-append : (number : ℕ) (a b : List Step) → step_lines number (
 step_lines-append number [] b = let e : number ≡ number + 0 = omega arith in ap (λ n. step_lines n b) e
 step_lines-append number (x ∷ a) b = let e : number + 1 + length a ≡ number + suc (length a) = omega arith in ap (λ l. step_line number x ∷ l) (step_lines-append (number + 1) a b ∙ ap (λ n. step_lines (number + 1) a ++ step_lines n b) e)
 
-trace_lines-append : (number : ℕ) (a b : List Delivery) → trace_lines number (a ++ b) ≡ trace_lines number a ++ trace_lines (number + length a) b
-trace_lines-append number [] b = let e : number ≡ number + 0 = omega arith in ap (λ n. trace_lines n b) e
-trace_lines-append number (x ∷ a) b = let e : number + 1 + length a ≡ number + suc (length a) = omega arith in ap (λ l. trace_line number x ∷ l) (trace_lines-append (number + 1) a b ∙ ap (λ n. trace_lines (number + 1) a ++ trace_lines n b) e)
+texts_from-append : (s : Session) (number : ℕ) (a b : List Delivery) → texts_from s number (a ++ b) ≡ texts_from s number a ++ texts_from s (number + length a) b
+texts_from-append s number [] b = let e : number ≡ number + 0 = omega arith in ap (λ n. texts_from s n b) e
+texts_from-append s number (x ∷ a) b =
+    let e : number + 1 + length a ≡ number + suc (length a) = omega arith in
+    let mine = delivery_texts s.telling number (length (network_after s number).steps) x in
+    ap (λ l. mine ++ l) (texts_from-append s (number + 1) a b ∙ ap (λ n. texts_from s (number + 1) a ++ texts_from s n b) e)
+    ∙ sym (append_assoc mine (texts_from s (number + 1) a) (texts_from s (number + suc (length a)) b))
 
 -- ---- lists
 
@@ -100,17 +105,6 @@ range_splits f k (suc n) m =
 
 first_range : (f : ℕ → List Write) (n m : ℕ) → flat_map f (range_with_len 0 (n + m)) ≡ flat_map f (range_with_len 0 n) ++ flat_map f (range_with_len n m)
 first_range f n m = let e : 0 + n ≡ n = omega arith in range_splits f 0 n m ∙ ap (λ j. flat_map f (range_with_len 0 n) ++ flat_map f (range_with_len j m)) e
-
--- of two first parts of a text the shorter begins the longer
-prefix_of_longer : (a b text : List ℕ) → IsPrefixOf a text → IsPrefixOf b text → length a ≤ length b → IsPrefixOf a b
-prefix_of_longer [] b text h k l = (b, refl)
-prefix_of_longer (x ∷ a) [] text h k l = absurd (omega arith)
-prefix_of_longer (x ∷ a) (y ∷ b) text h k l =
-    let e : x ∷ (a ++ h.0) ≡ y ∷ (b ++ k.0) = h.1 ∙ sym k.1 in
-    let first : x ≡ y = cc in
-    let rest : a ++ h.0 ≡ b ++ k.0 = cc in
-    let r = prefix_of_longer a b (b ++ k.0) (h.0, rest) (k.0, refl) (omega arith) in
-    (r.0, ap (λ z. z ∷ (a ++ r.0)) first ∙ ap (λ t. y ∷ t) r.1)
 
 -- ---- the steps of a delivery
 
@@ -186,29 +180,31 @@ module _ (s : Session) where
   abbrev told_by : ℕ → List Delivery
   told_by k = delivery s.problem (slice_index s.choices k) (network_after s k)
 
+  -- the texts that tell of it
+  abbrev texts_by : ℕ → List (List ℕ)
+  texts_by k = flat_map (delivery_texts s.telling (k + 1) (length (deliver s.problem (slice_index s.choices k) (network_after s k)).steps)) (told_by k)
+
   -- what a delivery puts and appends
-  delivery_puts : (k : ℕ) → (m : Made k) → put_by (delivery_writes s k) ≡ cond s.trace (trace_line (k + 1) m.told) []
+  delivery_puts : (k : ℕ) → (m : Made k) → put_by (delivery_writes s k) ≡ concat (delivery_texts s.telling (k + 1) (length (network_after s (k + 1)).steps) m.told)
   delivery_puts k m =
-      put_by-append (map (Append s.log) (fresh_lines k)) (trace_writes s.trace (k + 1) (told_by k))
-      ∙ ap (λ l. l ++ put_by (trace_writes s.trace (k + 1) (told_by k))) (append_lines_put s.log (fresh_lines k))
-      ∙ ap (λ ds. put_by (trace_writes s.trace (k + 1) ds)) m.is_told
-      ∙ one s.trace
-    where
-      one : (b : Bool) → put_by (trace_writes b (k + 1) (m.told ∷ [])) ≡ cond b (trace_line (k + 1) m.told) []
-      one true = append-nil (trace_line (k + 1) m.told)
-      one false = refl
+      put_by-append (map (Append s.log) (fresh_lines k)) (map Put (texts_by k))
+      ∙ ap (λ l. l ++ put_by (map Put (texts_by k))) (append_lines_put s.log (fresh_lines k))
+      ∙ put_texts_put s.log (texts_by k)
+      ∙ ap (λ ds. concat (flat_map (delivery_texts s.telling (k + 1) (length (deliver s.problem (slice_index s.choices k) (network_after s k)).steps)) ds)) m.is_told
+      ∙ ap concat (append-nil (delivery_texts s.telling (k + 1) (length (deliver s.problem (slice_index s.choices k) (network_after s k)).steps) m.told))
+      ∙ ap (λ (x : Network). concat (delivery_texts s.telling (k + 1) (length x.steps) m.told)) (sym m.next)
 
   delivery_appends : (k : ℕ) → appended_by (delivery_writes s k) s.log ≡ concat (fresh_lines k)
   delivery_appends k =
-      appended_by-append (map (Append s.log) (fresh_lines k)) (trace_writes s.trace (k + 1) (told_by k)) s.log
-      ∙ ap (λ l. appended_by (map (Append s.log) (fresh_lines k)) s.log ++ l) (put_lines_append s.log s.trace (k + 1) (told_by k))
+      appended_by-append (map (Append s.log) (fresh_lines k)) (map Put (texts_by k)) s.log
+      ∙ ap (λ l. appended_by (map (Append s.log) (fresh_lines k)) s.log ++ l) (put_texts_append s.log (texts_by k))
       ∙ append-nil (appended_by (map (Append s.log) (fresh_lines k)) s.log) ∙ append_lines s.log (fresh_lines k)
 
   delivery_only : (k : ℕ) → OnlyAppends (delivery_writes s k) s.log
-  delivery_only k = only_appends-append s.log (map (Append s.log) (fresh_lines k)) (trace_writes s.trace (k + 1) (told_by k)) (append_lines_only s.log (fresh_lines k)) (put_lines_only s.log s.trace (k + 1) (told_by k))
+  delivery_only k = only_appends-append s.log (map (Append s.log) (fresh_lines k)) (map Put (texts_by k)) (append_lines_only s.log (fresh_lines k)) (put_texts_only s.log (texts_by k))
 
   delivery_leaves : (name : List ℕ) → (s.log ≡ name → ⊥) → (k : ℕ) → LeavesAlone (delivery_writes s k) name
-  delivery_leaves name other k = leaves-append name (map (Append s.log) (fresh_lines k)) (trace_writes s.trace (k + 1) (told_by k)) (append_lines_leave s.log name other (fresh_lines k)) (put_lines_leave s.log name s.trace (k + 1) (told_by k))
+  delivery_leaves name other k = leaves-append name (map (Append s.log) (fresh_lines k)) (map Put (texts_by k)) (append_lines_leave s.log name other (fresh_lines k)) (put_texts_leave s.log name (texts_by k))
 
   range_only : (k n : ℕ) → OnlyAppends (flat_map (delivery_writes s) (range_with_len k n)) s.log
   range_only k zero = tt
@@ -219,27 +215,20 @@ module _ (s : Session) where
   range_leaves name other k (suc n) = leaves-append name (delivery_writes s k) (flat_map (delivery_writes s) (range_with_len (k + 1) n)) (delivery_leaves name other k) (range_leaves name other (k + 1) n)
 
   -- the texts
-  first_puts : (n : ℕ) → n ≤ (run_of s).net.deliveries → put_by (first_writes n) ≡ trace_of_first s n
-  first_puts zero l = none s.trace
-    where
-      none : (b : Bool) → [] ≡ cond b (concat (trace_lines 1 (take 0 (run_of s).trace))) []
-      none true = refl
-      none false = refl
+  first_puts : (n : ℕ) → n ≤ (run_of s).net.deliveries → put_by (first_writes n) ≡ told_of_first s n
+  first_puts zero l = refl
   first_puts (suc n) l =
       let m = made_at n (omega arith) in
       let e : suc n ≡ n + 1 = omega arith in
+      let first = take n (run_of s).trace in
       let long : n ≤ length (run_of s).trace = let t = law.trace in omega arith in
+      let count : 1 + length first ≡ n + 1 = let z = length_first (run_of s).trace n long in omega arith in
+      let mine = delivery_texts s.telling (n + 1) (length (network_after s (n + 1)).steps) m.told in
       ap (λ i. put_by (first_writes i)) e ∙ ap put_by (first_more n) ∙ put_by-append (first_writes n) (delivery_writes s n)
-      ∙ ap (λ l. l ++ put_by (delivery_writes s n)) (first_puts n (omega arith)) ∙ ap (λ l. trace_of_first s n ++ l) (delivery_puts n m)
-      ∙ more n m long s.trace ∙ ap (trace_of_first s) (sym e)
-    where
-      more : (n : ℕ) (m : Made n) → n ≤ length (run_of s).trace → (b : Bool) → cond b (concat (trace_lines 1 (take n (run_of s).trace))) [] ++ cond b (trace_line (n + 1) m.told) [] ≡ cond b (concat (trace_lines 1 (take (n + 1) (run_of s).trace))) []
-      more n m long true =
-          let first = take n (run_of s).trace in
-          let count : 1 + length first ≡ n + 1 = let z = length_first (run_of s).trace n long in omega arith in
-          sym (ap (λ ds. concat (trace_lines 1 ds)) m.traced ∙ ap concat (trace_lines-append 1 first (m.told ∷ [])) ∙ concat-append (trace_lines 1 first) (trace_lines (1 + length first) (m.told ∷ []))
-          ∙ ap (λ i. concat (trace_lines 1 first) ++ concat (trace_lines i (m.told ∷ []))) count ∙ ap (λ t. concat (trace_lines 1 first) ++ t) (append-nil (trace_line (n + 1) m.told)))
-      more n m long false = refl
+      ∙ ap (λ l. l ++ put_by (delivery_writes s n)) (first_puts n (omega arith)) ∙ ap (λ l. told_of_first s n ++ l) (delivery_puts n m)
+      ∙ sym (ap (λ ds. concat (texts_from s 1 ds)) m.traced ∙ ap concat (texts_from-append s 1 first (m.told ∷ [])) ∙ concat-append (texts_from s 1 first) (texts_from s (1 + length first) (m.told ∷ []))
+      ∙ ap (λ i. concat (texts_from s 1 first) ++ concat (texts_from s i (m.told ∷ []))) count ∙ ap (λ t. concat (texts_from s 1 first) ++ concat t) (append-nil mine))
+      ∙ ap (told_of_first s) (sym e)
 
   first_appends : (n : ℕ) → n ≤ (run_of s).net.deliveries → concat (step_lines 1 (start s.problem).steps) ++ appended_by (first_writes n) s.log ≡ concat (step_lines 1 (network_after s n).steps)
   first_appends zero l = append-nil (concat (step_lines 1 (start s.problem).steps))
@@ -256,7 +245,7 @@ module _ (s : Session) where
       ∙ sym (ap (λ l. concat (step_lines 1 l)) steps ∙ ap concat (step_lines-append 1 here (fresh n)) ∙ concat-append (step_lines 1 here) (step_lines (1 + length here) (fresh n)) ∙ ap (λ i. concat (step_lines 1 here) ++ concat (step_lines i (fresh n))) count)
       ∙ ap (λ i. concat (step_lines 1 (network_after s i).steps)) (sym e)
 
-  front_puts : (n : ℕ) → n ≤ (run_of s).net.deliveries → put_by (front n) ≡ trace_of_first s n
+  front_puts : (n : ℕ) → n ≤ (run_of s).net.deliveries → put_by (front n) ≡ told_of_first s n
   front_puts n l = put_by-append (step_writes s.log 1 (start s.problem).steps) (first_writes n) ∙ ap (λ l. l ++ put_by (first_writes n)) (append_lines_put s.log (step_lines 1 (start s.problem).steps)) ∙ first_puts n l
 
   front_only : (n : ℕ) → OnlyAppends (front n) s.log
@@ -274,7 +263,7 @@ module _ (s : Session) where
       let none : (run_of s).net.deliveries - (run_of s).net.deliveries ≡ 0 = omega arith in
       cut (run_of s).net.deliveries all ∙ ap (λ m. (Create s.log ∷ front (run_of s).net.deliveries) ++ (flat_map (delivery_writes s) (range_with_len (run_of s).net.deliveries m) ++ Append s.log (codes "end\n") ∷ [])) none
 
-  pub whole_puts : put_by (run_script s) ≡ trace_text s
+  pub whole_puts : put_by (run_script s) ≡ told_text s
   whole_puts =
       let d = (run_of s).net.deliveries in
       let all : (run_of s).net.deliveries ≤ (run_of s).net.deliveries = omega arith in
@@ -322,28 +311,36 @@ module _ (s : Session) where
       let only : OnlyAppends (front d ++ last) s.log = only_appends-append s.log (front d) last (front_only d) (tt, tt) in
       ap (λ w. file_after w s.log file) whole_is ∙ log_after (front d ++ last) file only ∙ ap Some whole_appends
 
-  -- where a trace is asked for, the front with one delivery more is a script and then the line of that delivery
-  front_line : (k : ℕ) (m : Made k) → s.trace ≡ true → Create s.log ∷ front (k + 1) ≡ ((Create s.log ∷ front k) ++ map (Append s.log) (fresh_lines k)) ++ Put (trace_line (k + 1) m.told) ∷ []
-  front_line k m traced =
+  -- the front with one delivery more is a script that ends with the line of its step, and then puts
+  abbrev with_step : ℕ → List Write
+  with_step k = front k ++ map (Append s.log) (fresh_lines k)
+
+  front_more : (k : ℕ) → front (k + 1) ≡ with_step k ++ map Put (texts_by k)
+  front_more k =
       let starts = step_writes s.log 1 (start s.problem).steps in
       let lines = map (Append s.log) (fresh_lines k) in
-      let last : List Write = Put (trace_line (k + 1) m.told) ∷ [] in
-      let put : delivery_writes s k ≡ lines ++ last = ap (λ ds. lines ++ trace_writes s.trace (k + 1) ds) m.is_told ∙ ap (λ b. lines ++ trace_writes b (k + 1) (m.told ∷ [])) traced in
-      ap (λ l. Create s.log ∷ Append s.log (codes "ngd 1\n") ∷ l) (ap (λ l. starts ++ l) (first_more k ∙ ap (λ l. first_writes k ++ l) put) ∙ sym (append_assoc starts (first_writes k) (lines ++ last)) ∙ sym (append_assoc (starts ++ first_writes k) lines last))
+      let last = map Put (texts_by k) in
+      ap (λ l. Append s.log (codes "ngd 1\n") ∷ l) (ap (λ l. starts ++ l) (first_more k) ∙ sym (append_assoc starts (first_writes k) (lines ++ last)) ∙ sym (append_assoc (starts ++ first_writes k) lines last))
+
+  with_step_puts : (k : ℕ) → k ≤ (run_of s).net.deliveries → put_by (with_step k) ≡ told_of_first s k
+  with_step_puts k l = put_by-append (front k) (map (Append s.log) (fresh_lines k)) ∙ ap (λ t. put_by (front k) ++ t) (append_lines_put s.log (fresh_lines k)) ∙ append-nil (put_by (front k)) ∙ front_puts k l
+
+  with_step_appends : (k : ℕ) → k < (run_of s).net.deliveries → appended_by (with_step k) s.log ≡ log_of_first s (k + 1)
+  with_step_appends k l =
+      let within : k + 1 ≤ (run_of s).net.deliveries = omega arith in
+      sym (append-nil (appended_by (with_step k) s.log)) ∙ ap (λ t. appended_by (with_step k) s.log ++ t) (sym (put_texts_append s.log (texts_by k)))
+      ∙ sym (appended_by-append (with_step k) (map Put (texts_by k)) s.log) ∙ ap (λ w. appended_by w s.log) (sym (front_more k)) ∙ front_appends (k + 1) within
+
+  with_step_only : (k : ℕ) → OnlyAppends (with_step k) s.log
+  with_step_only k = only_appends-append s.log (front k) (map (Append s.log) (fresh_lines k)) (front_only k) (append_lines_only s.log (fresh_lines k))
 
   module _ (part : List Write) (is_part : IsPartOf part (run_script s)) where
-    trace_part : IsPrefixOf (put_by part) (trace_text s)
-    trace_part = subst (λ t. IsPrefixOf (put_by part) t) whole_puts (put_of_part part (run_script s) is_part)
+    told_part : IsPrefixOf (put_by part) (told_text s)
+    told_part = subst (λ t. IsPrefixOf (put_by part) t) whole_puts (put_of_part part (run_script s) is_part)
 
-    -- a first trace is a first part of the whole trace
-    pub first_begins : (n : ℕ) → n ≤ (run_of s).net.deliveries → IsPrefixOf (trace_of_first s n) (trace_text s)
+    -- what tells of the first deliveries is a first part of what tells of all
+    pub first_begins : (n : ℕ) → n ≤ (run_of s).net.deliveries → IsPrefixOf (told_of_first s n) (told_text s)
     first_begins n l = (put_by (later_writes n), ap (λ t. t ++ put_by (later_writes n)) (sym (front_puts n l)) ∙ sym (put_by-append (front n) (later_writes n)) ∙ ap put_by (sym (cut n l)) ∙ whole_puts)
-
-    -- what was put is shorter than a first trace that it does not begin with
-    is_shorter : (n : ℕ) → n ≤ (run_of s).net.deliveries → (IsPrefixOf (trace_of_first s n) (put_by part) → ⊥) → length (put_by part) < length (trace_of_first s n)
-    is_shorter n l never =
-        let none : length (trace_of_first s n) ≤ length (put_by part) → ⊥ = λ le. never (prefix_of_longer (trace_of_first s n) (put_by part) (trace_text s) (first_begins n l) trace_part le) in
-        omega arith
 
     module _ (files now : List ℕ → Option (List ℕ)) (holds : FilesAfter part files now) where
       log_part : HoldsPartOf s.log (log_text (run_of s).net.steps) (Contains (created_by part) s.log) (files s.log) (now s.log)
@@ -358,40 +355,28 @@ module _ (s : Session) where
       others : (name : List ℕ) → name ≢ s.log → now name ≡ files name
       others name ne = holds name ∙ left_alone part name (files name) (part_leaves part (run_script s) name is_part (whole_leaves name (λ e. ne (sym e))))
 
-      not_ahead : (count : ℕ) → HasLines s count (put_by part) → count < (run_of s).net.deliveries → Contains (created_by part) s.log → (held : List ℕ) × IsPrefixOf held (log_of_first s (count + 1)) × (now s.log ≡ Some held)
-      not_ahead count h l created =
-          let n = count + 1 in
-          let within : count + 1 ≤ (run_of s).net.deliveries = omega arith in
-          let short = is_shorter n within (h.no_more l) in
-          let few : length (put_by part) < length (put_by (front n)) = subst (λ t. length (put_by part) < length t) (sym (front_puts n within)) short in
+      not_ahead : (n : ℕ) → IsShortOf s n (put_by part) → Contains (created_by part) s.log → HoldsAtMost (now s.log) (log_of_first s n)
+      not_ahead n short created =
+          let within : n ≤ (run_of s).net.deliveries = short.0 in
+          let few : length (put_by part) < length (put_by (front n)) = subst (λ t. length (put_by part) < length t) (sym (front_puts n within)) short.1 in
           let inside = part_within part (Create s.log ∷ front n) (later_writes n) (subst (λ l. IsPartOf part l) (cut n within) is_part) few in
           let c = (holds_part part [] (front n) s.log (files s.log) tt (front_only n) inside).created created in
           (c.0, subst (λ t. IsPrefixOf c.0 t) (front_appends n within) c.1, holds s.log ∙ c.2)
 
-      line_was_put : s.trace ≡ true → (k : ℕ) → k < (run_of s).net.deliveries → IsPrefixOf (trace_of_first s (k + 1)) (put_by part) → (held : List ℕ) × IsPrefixOf (log_of_first s (k + 1)) held × (now s.log ≡ Some held)
-      line_was_put traced k l begins =
-          let within : k + 1 ≤ (run_of s).net.deliveries = omega arith in
-          let m = made_at k l in
-          let line = trace_line (k + 1) m.told in
-          let before = (Create s.log ∷ front k) ++ map (Append s.log) (fresh_lines k) in
-          let split = front_line k m traced in
-          let puts : put_by before ++ (line ++ []) ≡ trace_of_first s (k + 1) = sym (put_by-append before (Put line ∷ [])) ∙ ap put_by (sym split) ∙ front_puts (k + 1) within in
-          let long = prefix_short (trace_of_first s (k + 1)) (put_by part) begins in
-          let enough : length (put_by before) + length line ≤ length (put_by part) = omega (arith, long, ap length puts, length-append (put_by before) (line ++ []), length-append line []) in
-          let some : 0 < length line = omega arith in
-          let at = part_at part before line (later_writes (k + 1)) (subst (λ l. IsPartOf part l) (cut (k + 1) within ∙ ap (λ l. l ++ later_writes (k + 1)) split) is_part) some enough in
-          let is : part ≡ Create s.log ∷ (front (k + 1) ++ at.0) = at.1 ∙ ap (λ l. l ++ at.0) (sym split) in
-          let only : OnlyAppends (front (k + 1) ++ at.0) s.log = only_appends-append s.log (front (k + 1)) at.0 (front_only (k + 1)) (part_appends at.0 (later_writes (k + 1)) s.log at.2 (later_only (k + 1))) in
-          let text : appended_by (front (k + 1) ++ at.0) s.log ≡ log_of_first s (k + 1) ++ appended_by at.0 s.log = appended_by-append (front (k + 1)) at.0 s.log ∙ ap (λ t. t ++ appended_by at.0 s.log) (front_appends (k + 1) within) in
-          (log_of_first s (k + 1) ++ appended_by at.0 s.log, (appended_by at.0 s.log, refl), holds s.log ∙ ap (λ l. file_after l s.log (files s.log)) is ∙ log_after (front (k + 1) ++ at.0) (files s.log) only ∙ ap Some text)
-
-      not_behind : s.trace ≡ true → (count : ℕ) → HasLines s count (put_by part) → 1 ≤ count → (held : List ℕ) × IsPrefixOf (log_of_first s count) held × (now s.log ≡ Some held)
-      not_behind traced zero h l = absurd (omega arith)
-      not_behind traced (suc k) h l =
-          let e : suc k ≡ k + 1 = omega arith in
-          let below : k < (run_of s).net.deliveries = let m = h.made in omega arith in
-          let r = line_was_put traced k below (subst (λ n. IsPrefixOf (trace_of_first s n) (put_by part)) e h.whole) in
-          (r.0, subst (λ n. IsPrefixOf (log_of_first s n) r.0) (sym e) r.1, r.2)
+      not_behind : (n : ℕ) → IsPast s n (put_by part) → HoldsAtLeast (now s.log) (log_of_first s (n + 1))
+      not_behind n past =
+          let below : n < (run_of s).net.deliveries = past.0 in
+          let within : n + 1 ≤ (run_of s).net.deliveries = omega arith in
+          let few : n ≤ (run_of s).net.deliveries = omega arith in
+          let rest = map Put (texts_by n) ++ later_writes (n + 1) in
+          let split : run_script s ≡ (Create s.log ∷ with_step n) ++ rest =
+          cut (n + 1) within ∙ ap (λ l. Create s.log ∷ (l ++ later_writes (n + 1))) (front_more n) ∙ ap (λ l. Create s.log ∷ l) (append_assoc (with_step n) (map Put (texts_by n)) (later_writes (n + 1))) in
+          let more : length (put_by (with_step n)) < length (put_by part) = subst (λ t. length t < length (put_by part)) (sym (with_step_puts n few)) past.1 in
+          let at = part_past part (Create s.log ∷ with_step n) rest (subst (λ l. IsPartOf part l) split is_part) more in
+          let later : OnlyAppends rest s.log = only_appends-append s.log (map Put (texts_by n)) (later_writes (n + 1)) (put_texts_only s.log (texts_by n)) (later_only (n + 1)) in
+          let only : OnlyAppends (with_step n ++ at.0) s.log = only_appends-append s.log (with_step n) at.0 (with_step_only n) (part_appends at.0 rest s.log at.2 later) in
+          let text : appended_by (with_step n ++ at.0) s.log ≡ log_of_first s (n + 1) ++ appended_by at.0 s.log = appended_by-append (with_step n) at.0 s.log ∙ ap (λ t. t ++ appended_by at.0 s.log) (with_step_appends n below) in
+          (log_of_first s (n + 1) ++ appended_by at.0 s.log, (appended_by at.0 s.log, refl), holds s.log ∙ ap (λ l. file_after l s.log (files s.log)) at.1 ∙ log_after (with_step n ++ at.0) (files s.log) only ∙ ap Some text)
 
       pub keeps_up : KeepsUp s (put_by part) (Contains (created_by part) s.log) files now
       keeps_up = record { log_part = log_part; others = others; not_ahead = not_ahead; not_behind = not_behind }
@@ -409,7 +394,7 @@ module _ (s : Session) where
     created = d.after.created;
     gained = put_by d.part;
     out = d.after.out;
-    trace_part = trace_part d.part d.is_part;
+    told_part = told_part d.part d.is_part;
     files = told_so a.folder.held b.folder.held (FilesAfter d.part) (KeepsUp s (put_by d.part) (Contains (created_by d.part) s.log)) (λ files now holds. keeps_up d.part d.is_part files now holds) d.after.files;
   }
 

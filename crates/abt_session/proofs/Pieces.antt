@@ -1,5 +1,6 @@
 -- A piece that is written is the line that it was made of.
-use Rattle.std.proofs.Common.{◌≡◌, ℕ, ◌<◌, ◌^◌, length, length-append, Option, Some, None, IfSome, option_to_list, arith, Bool, true, false, List, [], ◌∷◌, ◌++◌, Result, Ok, Err, refl, ap, subst, ◌∙◌, append-nil}
+use Rattle.std.proofs.Common.{◌≡◌, ℕ, ◌<◌, ◌^◌, length, length-append, Option, Some, None, IfSome, option_to_list, arith, Bool, true, false, not, cond, map, List, [], ◌∷◌, ◌++◌, Result, Ok, Err, refl, sym, ap, subst, ◌∙◌, append-nil}
+use Rattle.std.proofs.lemmas.List.{map-append}
 use Rattle.std.specs.Prelude.{IsErr, IsErrAnd, OnErr}
 use Rattle.dcsp_defs.specs.declared.Step.{Step}
 use Rattle.ngd_log.specs.StepText.{IsStepNumber}
@@ -9,8 +10,9 @@ use Rattle.dcsp_script.specs.declared.stop.Stop.TheVariants.{Memory}
 use Rattle.dcsp_script.specs.Scripts.{Write, Append, Put, World}
 use Rattle.dcsp_script.specs.Ways.{Wrote}
 use Rattle.dcsp_script.proofs.Ways.{did_nothing, stop_wrote}
-use Rattle.abt_session.specs.Traces.{trace_line}
-use Rattle.abt_session.specs.Sessions.{trace_writes}
+use Rattle.abt_session.specs.declared.telling.Telling.{Telling}
+use Rattle.abt_session.specs.Traces.{trace_texts, progress_texts, delivery_texts}
+use Rattle.abt_session.specs.Sessions.{telling_writes}
 
 pub line_appended : {T : Type 0} {a b : World} {r : Result T Stop} (log : List ℕ) {piece cleared : List ℕ} (made line : List ℕ) → piece ≡ made → made ≡ cleared ++ line → cleared ≡ []
     → Wrote (Append log piece ∷ []) a b r → Wrote (Append log line ∷ []) a b r
@@ -20,10 +22,19 @@ pub line_put : {T : Type 0} {a b : World} {r : Result T Stop} {piece cleared : L
     → Wrote (Put piece ∷ []) a b r → Wrote (Put line ∷ []) a b r
 line_put {a = a} {b = b} {r = r} made line e f g h = subst (λ (t : List ℕ). Wrote (Put t ∷ []) a b r) (e ∙ f ∙ ap (λ (t : List ℕ). t ++ line) g) h
 
--- a trace is asked for
-pub traced : {T : Type 0} {a b : World} {r : Result T Stop} (trace : Bool) (number : ℕ) (d : Delivery) → trace ≡ true → Wrote (Put (trace_line number d) ∷ []) a b r → Wrote (trace_writes trace number (d ∷ [])) a b r
-traced true number d e h = h
-traced false number d e h = cc
+-- a text is put where it is asked for
+pub put_where : {T : Type 0} {a b : World} {r : Result T Stop} (asked : Bool) (text : List ℕ) → asked ≡ true → Wrote (Put text ∷ []) a b r → Wrote (map Put (cond asked (text ∷ []) [])) a b r
+put_where true text e h = h
+put_where false text e h = cc
+
+pub is_asked : (b : Bool) → not b ≡ false → b ≡ true
+is_asked true e = refl
+is_asked false e = cc
+
+-- both kinds of texts of one delivery
+pub both_put : (telling : Telling) (number steps : ℕ) (d : Delivery) → map Put (trace_texts telling number d) ++ map Put (progress_texts telling number steps) ≡ telling_writes telling number steps (d ∷ [])
+both_put telling number steps d =
+    sym (ap (map Put) (append-nil (delivery_texts telling number steps d)) ∙ map-append Put (trace_texts telling number d) (progress_texts telling number steps))
 
 -- memory is wanted once a script was made
 pub made_then_memory : {T U : Type 0} {s : List Write} {a b : World} {x : T} (r : Result U Stop) → OnErr r (r ≡ Err Memory) → Wrote {T = T} s a b (Ok x) → Wrote s a b r

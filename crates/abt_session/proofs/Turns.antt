@@ -15,9 +15,10 @@ use Rattle.dcsp_script.proofs.Left.{left_all, left_more, left_ends, left_stopped
 use Rattle.abt_network.specs.declared.Standing.TheVariants as standing
 use Rattle.abt_network.specs.Standing.{NetworkState, StandsAt, standing_of}
 use Rattle.abt_session.specs.Answers.{first_answers}
+use Rattle.abt_session.specs.declared.telling.Telling.{Telling}
 use Rattle.abt_session.specs.Sessions.{Session, run_of, network_after, choice_writes, deliveries_write}
 use Rattle.dcsp_rule.specs.Problems.{Contents, csp_of}
-use Rattle.abt_session.specs.Running.{kept, session_of, IsOnRun, TakesPart}
+use Rattle.abt_session.specs.Running.{kept, session_of, IsOnRun}
 use Rattle.abt_session.specs.Runners.{end_of, Finishes, Leaves, SameTask}
 use Rattle.abt_session.specs.declared.runner.Runner.{Runner}
 use Rattle.abt_session.specs.declared.runner.Halt.{Halt}
@@ -82,29 +83,21 @@ module _ (s : Session) where
       no_more true = sym (append-nil taken)
       no_more false = sym (append-nil taken)
 
-  -- some first numbers were taken down
-  takes_part : (keep : Bool) (k : ℕ) (network : NetworkState) (taken now : List ℕ) (answers to_come : ℕ → Option ℕ) (a b : World) → Turns s keep k network taken now answers to_come a b → TakesPart keep (run_of s).numbers taken now
-  takes_part keep k network taken now answers to_come a b h = record {
-    part = take k (run_of s).numbers;
-    begins = (drop k (run_of s).numbers, take-append-drop k (run_of s).numbers);
-    added = h.takes;
-  }
-
   module _ (keep : Bool) (k c : ℕ) (network : NetworkState) (taken now : List ℕ) (answers to_come : ℕ → Option ℕ) (a b : World) (h : Turns s keep k network taken now answers to_come a b)
       (open_ : IsOpen s.problem (network_after s k)) (found : slice_get s.choices k ≡ Some c) (room : k < s.most) (q : Csp) (same : q ≡ s.problem) where
     made : k < (run_of s).net.deliveries
     made = is_made s k c h.comes open_ found room
 
-    writes : left_from s k ≡ choice_writes q s.log s.trace ((network_after s k).deliveries + 1) c (network_after s k) ++ left_from s (k + 1)
+    writes : left_from s k ≡ choice_writes q s.log s.telling ((network_after s k).deliveries + 1) c (network_after s k) ++ left_from s (k + 1)
     writes =
         let counted : k ≡ (network_after s k).deliveries = let m = made in sym (law.counted k (omega arith)) in
         first_left s k c h.comes open_ found room
-        ∙ ap (λ n. choice_writes s.problem s.log s.trace (n + 1) c (network_after s k) ++ left_from s (k + 1)) counted
-        ∙ ap (λ x. choice_writes x s.log s.trace ((network_after s k).deliveries + 1) c (network_after s k) ++ left_from s (k + 1)) (sym same)
+        ∙ ap (λ n. choice_writes s.problem s.log s.telling (n + 1) c (network_after s k) ++ left_from s (k + 1)) counted
+        ∙ ap (λ x. choice_writes x s.log s.telling ((network_after s k).deliveries + 1) c (network_after s k) ++ left_from s (k + 1)) (sym same)
 
     -- one delivery more
     pub next_turn : {T : Type 0} (x : T) (network' : NetworkState) (now' : List ℕ) (to_come' : ℕ → Option ℕ) (b' : World)
-        → Wrote (choice_writes q s.log s.trace ((network_after s k).deliveries + 1) c (network_after s k)) b b' (Ok x) → StandsAt network' (deliver q c (network_after s k))
+        → Wrote (choice_writes q s.log s.telling ((network_after s k).deliveries + 1) c (network_after s k)) b b' (Ok x) → StandsAt network' (deliver q c (network_after s k))
         → now' ≡ now ++ kept keep (list_number q c (network_after s k) ∷ []) → ((j : ℕ) → to_come' j ≡ to_come (j + 1)) → Turns s keep (k + 1) network' taken now' answers to_come' a b'
     next_turn x network' now' to_come' b' wrote stands' takes' rest =
         let next : deliver q c (network_after s k) ≡ network_after s (k + 1) =
@@ -123,17 +116,15 @@ module _ (s : Session) where
         }
 
     -- the delivery was stopped
-    turn_stopped : {T U : Type 0} (e : Stop) (r : Result U Stop) (b' : World) → Wrote {T = T} (choice_writes q s.log s.trace ((network_after s k).deliveries + 1) c (network_after s k)) b b' (Err e)
+    turn_stopped : {T U : Type 0} (e : Stop) (r : Result U Stop) (b' : World) → Wrote {T = T} (choice_writes q s.log s.telling ((network_after s k).deliveries + 1) c (network_after s k)) b b' (Err e)
         → IsErr r × IsErrAnd r (λ y. y ≡ e) → Wrote (deliveries_write s) a b' r
     turn_stopped {T = T} e r b' wrote is = left_stopped {T = T} (left_from s (k + 1)) (left_from s k) r writes is h.left wrote
 
     -- what was left of the run then
-    pub cut_off : {T : Type 0} (e : Stop) (r : Result Halt Stop) (network' : NetworkState) (to_come' : ℕ → Option ℕ) (now' : List ℕ) (b' : World) → now' ≡ now
-        → Wrote {T = T} (choice_writes q s.log s.trace ((network_after s k).deliveries + 1) c (network_after s k)) b b' (Err e) → IsErr r × IsErrAnd r (λ y. y ≡ e)
+    pub cut_off : {T : Type 0} (e : Stop) (r : Result Halt Stop) (network' : NetworkState) (to_come' : ℕ → Option ℕ) (now' : List ℕ) (b' : World) → Wrote {T = T} (choice_writes q s.log s.telling ((network_after s k).deliveries + 1) c (network_after s k)) b b' (Err e) → IsErr r × IsErrAnd r (λ y. y ≡ e)
         → Leaves s (deliveries_write s) keep taken now' answers to_come' network' a b' r
-    cut_off {T = T} e r network' to_come' now' b' same_taken wrote is = record {
+    cut_off {T = T} e r network' to_come' now' b' wrote is = record {
       wrote = turn_stopped {T = T} e r b' wrote is;
-      takes_part = subst (TakesPart keep (run_of s).numbers taken) (sym same_taken) (takes_part keep k network taken now answers to_come a b h);
       finishes = no_result r is.0;
     }
       where
@@ -154,7 +145,6 @@ module _ (s : Session) where
     pub finished : (halt : Halt) → (run_of s).end ≡ end_of halt → network.spent ≡ false → Leaves s (deliveries_write s) keep taken now answers to_come network a b (Ok halt)
     finished halt end sound = record {
       wrote = all_written halt;
-      takes_part = takes_part keep k network taken now answers to_come a b h;
       finishes = record {
         end = end;
         stands = subst (StandsAt network) (ap (network_after s) last ∙ sym law.net) h.stands;
@@ -200,7 +190,7 @@ module _ (s : Session) where
 
 -- what the loop keeps
 pub record Loop (s : Session) (k : ℕ) (old new : Runner) (answers to_come : ℕ → Option ℕ) (a b : World) : Type 0 where
-  pub turns : Turns s old.keep k new.network old.taken new.taken answers to_come a b
+  pub turns : Turns s old.task.keep k new.network old.taken new.taken answers to_come a b
   pub same : SameTask old new
   pub sound : new.network.spent ≡ false
   pub begun : new.network.begun ≡ true
@@ -211,19 +201,19 @@ pub with_answers : {s : Session} {keep : Bool} {k : ℕ} {network : NetworkState
     → Turns s keep k network taken now answers to_come a b → ((j : ℕ) → others j ≡ to_come j) → Turns s keep k network taken now answers others a b
 with_answers others h e = record { comes = h.comes; stands = h.stands; left = h.left; takes = h.takes; behind = λ j. e j ∙ h.behind j }
 
--- the same log and trace, the same writes
-pub task_writes : (q : Csp) (number c : ℕ) (net : Network) {log same_log : List ℕ} {trace same_trace : Bool} → log ≡ same_log → trace ≡ same_trace → choice_writes q log trace number c net ≡ choice_writes q same_log same_trace number c net
-task_writes q number c net {log} {same_log} {trace} {same_trace} e f = ap (λ l. choice_writes q l trace number c net) e ∙ ap (λ t. choice_writes q same_log t number c net) f
+-- the same log, and told in the same way: the same writes
+pub task_writes : (q : Csp) (number c : ℕ) (net : Network) {log same_log : List ℕ} {telling same : Telling} → log ≡ same_log → telling ≡ same → choice_writes q log telling number c net ≡ choice_writes q same_log same number c net
+task_writes q number c net {log} {same_log} {telling} {same} e f = ap (λ l. choice_writes q l telling number c net) e ∙ ap (λ t. choice_writes q same_log t number c net) f
 
 -- the same numbers are kept
 pub keeps_same : (now new numbers : List ℕ) {keep same : Bool} → keep ≡ same → new ≡ now ++ kept keep numbers → new ≡ now ++ kept same numbers
 keeps_same now new numbers e h = h ∙ ap (λ b. now ++ kept b numbers) e
 
 -- what the loop has after each answer of its choices
-module _ (P : Contents) (most : ℕ) (answers : ℕ → Option ℕ) (log : List ℕ) (trace keep : Bool) (k : ℕ) (network : NetworkState) (taken now : List ℕ) (to_come : ℕ → Option ℕ) (a b : World)
-    (h : Turns (session_of P most answers log trace) keep k network taken now answers to_come a b) (room : k < most) where
+module _ (P : Contents) (most : ℕ) (answers : ℕ → Option ℕ) (log : List ℕ) (telling : Telling) (keep : Bool) (k : ℕ) (network : NetworkState) (taken now : List ℕ) (to_come : ℕ → Option ℕ) (a b : World)
+    (h : Turns (session_of P most answers log telling) keep k network taken now answers to_come a b) (room : k < most) where
   abbrev s : Session
-  s = session_of P most answers log trace
+  s = session_of P most answers log telling
 
   answer_here : slice_get (first_answers most answers) k ≡ to_come 0
   answer_here = let e : k ≡ k + 0 = omega arith in answers_at most answers k room h.comes.chosen ∙ ap answers e ∙ sym (h.behind 0)

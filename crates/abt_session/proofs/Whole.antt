@@ -1,5 +1,5 @@
 -- A whole run, from the creation of its log to the log's end.
-use Rattle.std.proofs.Common.{◌≡◌, ℕ, Bool, true, false, List, [], ◌∷◌, ◌++◌, codes, Option, Result, Ok, Err, OnOk, refl, sym, ap, subst, append-nil}
+use Rattle.std.proofs.Common.{◌≡◌, ℕ, Bool, List, [], ◌∷◌, ◌++◌, codes, Option, Result, Ok, Err, OnOk, refl, ap, subst, ◌∙◌}
 use Rattle.std.specs.Prelude.{Contains, IsErr, IsErrAnd, IfOk}
 use Rattle.std.proofs.lemmas.List.Elements.{Contains-push}
 use Rattle.dcsp_rule.specs.Problems.{Contents}
@@ -9,7 +9,9 @@ use Rattle.dcsp_script.specs.Ways.{Wrote}
 use Rattle.dcsp_script.proofs.Lines.{then_rest, then_stopped}
 use Rattle.abt_network.specs.Standing.{NetworkState}
 use Rattle.abt_session.specs.Sessions.{Session, run_of, begun_script, deliveries_write, run_script}
-use Rattle.abt_session.specs.Running.{kept, session_of, TakesPart}
+use Rattle.abt_session.specs.declared.telling.Telling.{Telling}
+use Rattle.abt_session.specs.declared.session.RunTask.{RunTask}
+use Rattle.abt_session.specs.Running.{session_of, session_for}
 use Rattle.abt_session.specs.Runners.{Leaves, SameTask}
 use Rattle.abt_session.specs.declared.runner.Halt.{Halt}
 use Rattle.abt_session.specs.declared.runner.Runner.{Runner}
@@ -31,32 +33,34 @@ pub no_result : (P : Halt → Type 0) (r : Result Halt Stop) → IsErr r → IfO
 no_result P (Ok x) h = absurd (let no = h in cc)
 no_result P (Err y) h = tt
 
-none_taken : (keep : Bool) (taken : List ℕ) → taken ≡ taken ++ kept keep []
-none_taken true taken = sym (append-nil taken)
-none_taken false taken = sym (append-nil taken)
+-- the same session, the same is left
+left_as : {s t : Session} {keep keeps : Bool} {taken takes now : List ℕ} {answers to_come : ℕ → Option ℕ} {network : NetworkState} {a b : World} {r : Result Halt Stop} → s ≡ t → keep ≡ keeps → taken ≡ takes
+    → Leaves s (deliveries_write s) keep taken now answers to_come network a b r → Leaves t (deliveries_write t) keeps takes now answers to_come network a b r
+left_as {s} {t} {keep} {keeps} {taken} {takes} {now} {answers} {to_come} {network} {a} {b} {r} e f g h =
+    let at_session = subst (λ (x : Session). Leaves x (deliveries_write x) keep taken now answers to_come network a b r) e h in
+    let at_keep = subst (λ (k : Bool). Leaves t (deliveries_write t) k taken now answers to_come network a b r) f at_session in
+    subst (λ (l : List ℕ). Leaves t (deliveries_write t) keeps l now answers to_come network a b r) g at_keep
 
--- no number was taken down
-pub takes_none : (keep : Bool) (numbers taken now : List ℕ) → now ≡ taken → TakesPart keep numbers taken now
-takes_none keep numbers taken now e = rw e (record { part = []; begins = (numbers, refl); added = none_taken keep taken })
+-- the same task, the same session
+same_session : (answers : ℕ → Option ℕ) {old mid : Runner} → SameTask old mid → session_for mid.network.problem answers mid.task ≡ session_for old.network.problem answers old.task
+same_session answers {old} {mid} same =
+    ap (λ (p : Contents). session_of p mid.task.most answers mid.task.log.now mid.task.telling) same.problem
+    ∙ ap (λ (n : ℕ). session_of old.network.problem n answers mid.task.log.now mid.task.telling) same.most
+    ∙ ap (λ (l : List ℕ). session_of old.network.problem old.task.most answers l mid.task.telling) same.log
+    ∙ ap (λ (t : Telling). session_of old.network.problem old.task.most answers old.task.log.now t) same.telling
 
 -- the same task, the same is left
-pub leaves_as : (most : ℕ) (answers : ℕ → Option ℕ) {old mid : Runner} {now : List ℕ} {to_come : ℕ → Option ℕ} {network : NetworkState} {a b : World} {r : Result Halt Stop} → SameTask old mid → mid.taken ≡ old.taken
-    → Leaves (session_of mid.network.problem most answers mid.log.now mid.trace) (deliveries_write (session_of mid.network.problem most answers mid.log.now mid.trace)) mid.keep mid.taken now answers to_come network a b r
-    → Leaves (session_of old.network.problem most answers old.log.now old.trace) (deliveries_write (session_of old.network.problem most answers old.log.now old.trace)) old.keep old.taken now answers to_come network a b r
-leaves_as most answers {old} {mid} {now} {to_come} {network} {a} {b} {r} same taken h =
-    let at_problem = subst (λ (p : Contents). Leaves (session_of p most answers mid.log.now mid.trace) (deliveries_write (session_of p most answers mid.log.now mid.trace)) mid.keep mid.taken now answers to_come network a b r) same.problem h in
-    let at_log = subst (λ (l : List ℕ). Leaves (session_of old.network.problem most answers l mid.trace) (deliveries_write (session_of old.network.problem most answers l mid.trace)) mid.keep mid.taken now answers to_come network a b r) same.log at_problem in
-    let at_trace = subst (λ (t : Bool). Leaves (session_of old.network.problem most answers old.log.now t) (deliveries_write (session_of old.network.problem most answers old.log.now t)) mid.keep mid.taken now answers to_come network a b r) same.trace at_log in
-    let at_keep = subst (λ (k : Bool). Leaves (session_of old.network.problem most answers old.log.now old.trace) (deliveries_write (session_of old.network.problem most answers old.log.now old.trace)) k mid.taken now answers to_come network a b r) same.keep at_trace in
-    subst (λ (t : List ℕ). Leaves (session_of old.network.problem most answers old.log.now old.trace) (deliveries_write (session_of old.network.problem most answers old.log.now old.trace)) old.keep t now answers to_come network a b r) taken at_keep
+pub leaves_as : (answers : ℕ → Option ℕ) {old mid : Runner} {now : List ℕ} {to_come : ℕ → Option ℕ} {network : NetworkState} {a b : World} {r : Result Halt Stop} → SameTask old mid → mid.taken ≡ old.taken
+    → Leaves (session_for mid.network.problem answers mid.task) (deliveries_write (session_for mid.network.problem answers mid.task)) mid.task.keep mid.taken now answers to_come network a b r
+    → Leaves (session_for old.network.problem answers old.task) (deliveries_write (session_for old.network.problem answers old.task)) old.task.keep old.taken now answers to_come network a b r
+leaves_as answers {old} {mid} same taken h = left_as (same_session answers {old = old} {mid = mid} same) same.keep taken h
 
 module _ (s : Session) where
   -- it was stopped before its first delivery
-  pub begin_stopped : {T : Type 0} {e : Stop} (keep : Bool) (taken now : List ℕ) (answers : ℕ → Option ℕ) (network : NetworkState) (a b : World) → now ≡ taken → (r : Result Halt Stop) → IsErr r × IsErrAnd r (λ y. y ≡ e)
+  pub begin_stopped : {T : Type 0} {e : Stop} (keep : Bool) (taken now : List ℕ) (answers : ℕ → Option ℕ) (network : NetworkState) (a b : World) → (r : Result Halt Stop) → IsErr r × IsErrAnd r (λ y. y ≡ e)
       → Wrote {T = T} (begun_script s.problem s.log) a b (Err e) → Leaves s (run_script s) keep taken now answers answers network a b r
-  begin_stopped {T = T} keep taken now answers network a b same r is w = record {
+  begin_stopped {T = T} keep taken now answers network a b r is w = record {
     wrote = then_stopped {T = T} (deliveries_write s ++ Append s.log (codes "end\n") ∷ []) is w;
-    takes_part = takes_none keep (run_of s).numbers taken now same;
     finishes = no_result _ r is.0;
   }
 
@@ -65,7 +69,6 @@ module _ (s : Session) where
       → Wrote {T = T} (begun_script s.problem s.log) a b (Ok x) → Leaves s (deliveries_write s) keep taken now answers to_come network b c (Err e) → Leaves s (run_script s) keep taken now answers to_come network a c r
   deliveries_stopped r is w h = record {
     wrote = then_rest w (then_stopped (Append s.log (codes "end\n") ∷ []) is h.wrote);
-    takes_part = h.takes_part;
     finishes = no_result _ r is.0;
   }
 
@@ -76,7 +79,6 @@ module _ (s : Session) where
         → Leaves s (run_script s) keep taken now answers to_come network a d r
     tail_stopped r is w h same tail = record {
       wrote = then_rest w (then_rest h.wrote (wrote_as (ap (λ l. Append l (codes "end\n") ∷ []) same) (stopped_so {T = U} r is tail)));
-      takes_part = h.takes_part;
       finishes = no_result _ r is.0;
     }
 
@@ -85,13 +87,12 @@ module _ (s : Session) where
         → Wrote {T = U} (Append log (codes "end\n") ∷ []) c d (Ok y) → Leaves s (run_script s) keep taken now answers to_come network a d (Ok halt)
     whole_run w h same tail = record {
       wrote = then_rest w (then_rest h.wrote (wrote_as (ap (λ l. Append l (codes "end\n") ∷ []) same) (record { ended = tail.ended; handed = tail.handed })));
-      takes_part = h.takes_part;
       finishes = h.finishes;
     }
 
 -- the problem that the network was made of
-pub leaves_at : {P Q : Contents} (most : ℕ) (answers : ℕ → Option ℕ) (log : List ℕ) (trace : Bool) {keep : Bool} {taken now : List ℕ} {to_come : ℕ → Option ℕ} {network : NetworkState} {a b : World} {r : Result Halt Stop} → P ≡ Q
-    → Leaves (session_of P most answers log trace) (run_script (session_of P most answers log trace)) keep taken now answers to_come network a b r
-    → Leaves (session_of Q most answers log trace) (run_script (session_of Q most answers log trace)) keep taken now answers to_come network a b r
-leaves_at most answers log trace {keep} {taken} {now} {to_come} {network} {a} {b} {r} e h =
-    subst (λ (p : Contents). Leaves (session_of p most answers log trace) (run_script (session_of p most answers log trace)) keep taken now answers to_come network a b r) e h
+pub leaves_at : {P Q : Contents} (answers : ℕ → Option ℕ) (task : RunTask) {keep : Bool} {taken now : List ℕ} {to_come : ℕ → Option ℕ} {network : NetworkState} {a b : World} {r : Result Halt Stop} → P ≡ Q
+    → Leaves (session_for P answers task) (run_script (session_for P answers task)) keep taken now answers to_come network a b r
+    → Leaves (session_for Q answers task) (run_script (session_for Q answers task)) keep taken now answers to_come network a b r
+leaves_at answers task {keep} {taken} {now} {to_come} {network} {a} {b} {r} e h =
+    subst (λ (p : Contents). Leaves (session_for p answers task) (run_script (session_for p answers task)) keep taken now answers to_come network a b r) e h

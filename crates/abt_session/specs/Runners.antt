@@ -6,7 +6,7 @@ use Rattle.dcsp_script.specs.Ways.{Wrote}
 use Rattle.abt_defs.specs.Runs as runs
 use Rattle.abt_network.specs.Standing.{NetworkState, StandsAt}
 use Rattle.abt_session.specs.Sessions.{Session, run_of}
-use Rattle.abt_session.specs.Running.{kept, TakesPart}
+use Rattle.abt_session.specs.Running.{kept}
 use Rattle.abt_session.specs.declared.runner.Halt.{Halt}
 use Rattle.abt_session.specs.declared.runner.Halt.TheVariants as halts
 use Rattle.abt_session.specs.declared.runner.Runner.{Runner}
@@ -29,12 +29,12 @@ pub record Finishes (s : Session) (keep : Bool) (taken now : List ℕ) (answers 
 -- what a part of a run's work leaves: it writes this script
 pub record Leaves (s : Session) (script : List Write) (keep : Bool) (taken now : List ℕ) (answers to_come : ℕ → Option ℕ) (network : NetworkState) (old new : World) (result : Result Halt Stop) : Type 0 where
   pub wrote : Wrote script old new result
-  pub takes_part : TakesPart keep (run_of s).numbers taken now
   pub finishes : IfOk result (Finishes s keep taken now answers to_come network)
 
 -- what a delivery leaves as it was
 pub record SameTask (old new : Runner) : Type 0 where
   pub problem : new.network.problem ≡ old.network.problem
-  pub log : new.log.now ≡ old.log.now
-  pub trace : new.trace ≡ old.trace
-  pub keep : new.keep ≡ old.keep
+  pub most : new.task.most ≡ old.task.most
+  pub log : new.task.log.now ≡ old.task.log.now
+  pub telling : new.task.telling ≡ old.task.telling
+  pub keep : new.task.keep ≡ old.task.keep

@@ -1,5 +1,5 @@
 -- What the code of a run keeps, and what a run gives.
-use Rattle.std.specs.Prelude.{◌≡◌, ℕ, Bool, List, [], ◌++◌, map, length, Option, if◌then◌else◌}
+use Rattle.std.specs.Prelude.{◌≡◌, ℕ, Bool, false, None, List, [], ◌++◌, map, length, Option, if◌then◌else◌}
 use Rattle.dcsp_defs.specs.Csp.{Csp, count}
 use Rattle.dcsp_defs.specs.Words.{below}
 use Rattle.dcsp_outside.specs.Outside.{IsPrefixOf}
@@ -8,14 +8,28 @@ use Rattle.abt_defs.specs.Network.{Network, values}
 use Rattle.abt_defs.specs.Runs as runs
 use Rattle.abt_network.specs.Standing.{NetworkState, StandsAt, reached}
 use Rattle.abt_session.specs.Answers.{first_answers}
+use Rattle.abt_session.specs.declared.telling.Telling.{Telling}
+use Rattle.abt_session.specs.declared.session.RunTask.{RunTask}
 use Rattle.abt_session.specs.Sessions.{Session, run_of}
 use Rattle.abt_session.specs.declared.outcome.End.{End}
 use Rattle.abt_session.specs.declared.outcome.End.TheVariants.{Solved, Refuted, Spent, Capped}
 use Rattle.abt_session.specs.declared.outcome.Outcome.{Outcome}
 
 -- the run of a problem under these answers
-abbrev pub session_of : Contents → ℕ → (ℕ → Option ℕ) → List ℕ → Bool → Session
-session_of p most answers log trace = record { problem = csp_of p; most = most; choices = first_answers most answers; log = log; trace = trace }
+abbrev pub session_of : Contents → ℕ → (ℕ → Option ℕ) → List ℕ → Telling → Session
+session_of p most answers log telling = record { problem = csp_of p; most = most; choices = first_answers most answers; log = log; telling = telling }
+
+-- the run of a problem under these answers that a task asks for
+abbrev pub session_for : Contents → (ℕ → Option ℕ) → RunTask → Session
+session_for p answers task = session_of p task.most answers task.log.now task.telling
+
+-- nothing tells of a run's deliveries
+abbrev pub nothing_told : Telling
+nothing_told = record { trace = false; progress = false; round = None }
+
+-- its trace alone tells of them, where it is asked for
+abbrev pub trace_told : Bool → Telling
+trace_told trace = record { trace = trace; progress = false; round = None }
 
 -- some choices lead to where the network stands
 abbrev pub IsOnRun : NetworkState → Type 0

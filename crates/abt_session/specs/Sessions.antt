@@ -1,5 +1,5 @@
--- What a run writes: its log, and where it is asked for a trace.
-use Rattle.std.specs.Prelude.{ℕ, ◌+◌, Bool, List, [], ◌∷◌, ◌++◌, length, map, flat_map, drop, slice_index, codes, if◌then◌else◌}
+-- What a run writes: its log, and what tells of its deliveries.
+use Rattle.std.specs.Prelude.{ℕ, ◌+◌, List, [], ◌∷◌, ◌++◌, length, map, flat_map, drop, slice_index, codes}
 use Rattle.std.specs.List.{range_with_len}
 use Rattle.dcsp_defs.specs.Csp.{Csp}
 use Rattle.dcsp_defs.specs.declared.Step.{Step}
@@ -8,15 +8,16 @@ use Rattle.abt_defs.specs.Runs.{Delivery, Run, whole, delivery}
 use Rattle.law_runs.specs.Stops.{after}
 use Rattle.ngd_log.specs.Logs.{step_lines}
 use Rattle.dcsp_script.specs.Scripts.{Write, Create, Append, Put}
-use Rattle.abt_session.specs.Traces.{trace_line}
+use Rattle.abt_session.specs.declared.telling.Telling.{Telling}
+use Rattle.abt_session.specs.Traces.{delivery_texts}
 
--- a run that is asked for: its problem, its choices and the greatest number of deliveries, the name of its log, and whether its trace is put
+-- a run that is asked for: its problem, its choices and the greatest number of deliveries, the name of its log, and what is put of each delivery
 pub record Session : Type 0 where
   pub problem : Csp
   pub most : ℕ
   pub choices : List ℕ
   pub log : List ℕ
-  pub trace : Bool
+  pub telling : Telling
 
 -- the run
 abbrev pub run_of : Session → Run
@@ -30,22 +31,22 @@ network_after s k = after s.problem s.choices k
 abbrev pub step_writes : List ℕ → ℕ → List Step → List Write
 step_writes log number steps = map (Append log) (step_lines number steps)
 
--- the lines of these deliveries are put, where a trace is asked for
-abbrev pub trace_writes : Bool → ℕ → List Delivery → List Write
-trace_writes trace number deliveries = if trace then map (λ d. Put (trace_line number d)) deliveries else []
+-- what tells of a delivery with this number, after which so many steps are made, is put text by text
+abbrev pub telling_writes : Telling → ℕ → ℕ → List Delivery → List Write
+telling_writes telling number steps deliveries = map Put (flat_map (delivery_texts telling number steps) deliveries)
 
 -- the steps that a choice makes in a network: one, or none
 abbrev pub steps_made : Csp → ℕ → Network → List Step
 steps_made p c net = drop (length net.steps) (deliver p c net).steps
 
--- the delivery that a choice makes in a network, as the one with this number, writes the line of its step, if it makes one, and then its own line
-abbrev pub choice_writes : Csp → List ℕ → Bool → ℕ → ℕ → Network → List Write
-choice_writes p log trace number c net =
-    step_writes log (length net.steps + 1) (steps_made p c net) ++ trace_writes trace number (delivery p c net)
+-- the delivery that a choice makes in a network, as the one with this number, writes the line of its step, if it makes one, and then what tells of it
+abbrev pub choice_writes : Csp → List ℕ → Telling → ℕ → ℕ → Network → List Write
+choice_writes p log telling number c net =
+    step_writes log (length net.steps + 1) (steps_made p c net) ++ telling_writes telling number (length (deliver p c net).steps) (delivery p c net)
 
 -- what delivery k writes, counted from 0
 abbrev pub delivery_writes : Session → ℕ → List Write
-delivery_writes s k = choice_writes s.problem s.log s.trace (k + 1) (slice_index s.choices k) (network_after s k)
+delivery_writes s k = choice_writes s.problem s.log s.telling (k + 1) (slice_index s.choices k) (network_after s k)
 
 -- what all deliveries write
 abbrev pub deliveries_write : Session → List Write

@@ -1,11 +1,11 @@
-//! Whole runs of the agents of a problem, with the log and the trace that they write.
+//! Whole runs of the agents of a problem, with the log that they write and what tells of their deliveries.
 //!
 //! A run goes from the start to the first of four stops: the problem is refuted; nothing is in transit,
 //! and the values are a solution; the greatest number of deliveries was made; or the choices are used up
 //! (Yokoo, Durfee, Ishida and Kuwabara, IEEE TKDE 10(5), 1998). Each step's line is appended to the log
-//! as the step is made, and before the line of its delivery is put, so that whatever was seen of a run
-//! has its derivations in the log. A run that starves a link has neither log nor trace: it tells how it
-//! ended, and its choices.
+//! as the step is made, and before a line that tells of its delivery is put, so that whatever was seen of
+//! a run has its derivations in the log. A run that starves a link has no log, and nothing tells of its
+//! deliveries: it gives how it ended, and its choices.
 #![tactic(auto)]
 
 mod lines;
@@ -13,10 +13,16 @@ mod outcome;
 mod runner;
 mod session;
 mod starved_run;
+mod telling;
 mod trace;
 
 pub use dcsp_script::Stop as SessionError;
 pub use lines::{append_begun, append_made};
 pub use outcome::{End, Outcome};
-pub use session::run;
+pub use session::{RunTask, run};
 pub use starved_run::{Starved, StarvedEnd, starve};
+pub use telling::Telling;
+pub use trace::push_cargo;
+
+/// The most deliveries of a run, as lines that run agents have it.
+pub const MOST_DELIVERIES: u64 = 1 << 40;

@@ -1,15 +1,16 @@
 //! What one delivery writes.
 
-ghost use Rattle.std.specs.Prelude.{◌≡◌, [], ◌∷◌, Contains, IfSome, option_to_list};
+ghost use Rattle.std.specs.Prelude.{◌≡◌, [], ◌∷◌, map, Contains, IfSome, option_to_list};
 ghost use Rattle.std.specs.List.{AllByRecursion};
 ghost use Rattle.dcsp_outside.specs.Outside.{Place, Stream};
 ghost use Rattle.dcsp_script.specs.Scripts.{Append, Put, outside};
 ghost use Rattle.dcsp_script.specs.Ways.{Wrote};
 ghost use Rattle.ngd_log.specs.StepText.{step_line, IsInRange, IsStepNumber};
 ghost use Rattle.abt_network.specs.Standing.{delivery_of, steps_of};
-ghost use Rattle.abt_session.specs.Traces.{trace_line};
-ghost use Rattle.abt_session.specs.Sessions.{step_writes, trace_writes};
+ghost use Rattle.abt_session.specs.Traces.{progress_texts, trace_texts};
+ghost use Rattle.abt_session.specs.Sessions.{step_writes, telling_writes};
 
+use crate::telling::{Telling, push_progress, tells_progress};
 use crate::trace::push_line;
 use abt_network::{Begun, Delivery};
 use dcsp_defs::Step;
@@ -79,22 +80,59 @@ pub fn append_begun<F: Folder>(
     }
 }
 
-/// Puts the line of the delivery with this number, where a trace is asked for.
+/// Puts what tells of the delivery with this number, after which so many steps are made.
 pub fn put_delivery<S: Sink>(
     out: &mut S,
-    trace: bool,
+    telling: Telling,
+    number: u64,
+    steps: u64,
+    delivery: &Delivery,
+    line: &mut Vec<u8>,
+) -> Result<(), Stop>
+    ensures { (folder : Place) → Wrote (telling_writes telling number steps (delivery_of delivery.now ∷ []))
+        (outside folder (S.stream out.old)) (outside folder (S.stream out.new)) result }
+{
+    put_trace(out, telling, number, delivery, line)?;
+    put_progress(out, telling, number, steps, line)
+}
+
+/// Puts the line of the delivery with this number, where a trace is asked for.
+fn put_trace<S: Sink>(
+    out: &mut S,
+    telling: Telling,
     number: u64,
     delivery: &Delivery,
     line: &mut Vec<u8>,
 ) -> Result<(), Stop>
-    ensures { (folder : Place) → Wrote (trace_writes trace number (delivery_of delivery.now ∷ []))
+    ensures { (folder : Place) → Wrote (map Put (trace_texts telling number (delivery_of delivery.now)))
         (outside folder (S.stream out.old)) (outside folder (S.stream out.new)) result }
 {
-    if !trace {
+    if !telling.trace {
         return Ok(());
     }
     line.clear();
     match push_line(line, number, delivery) {
+        Ok(()) => put(out, line),
+        Err(_) => Err(Stop::Memory),
+    }
+}
+
+/// Puts how far the run is, after a delivery that tells it.
+fn put_progress<S: Sink>(
+    out: &mut S,
+    telling: Telling,
+    deliveries: u64,
+    steps: u64,
+    line: &mut Vec<u8>,
+) -> Result<(), Stop>
+    ensures { (folder : Place) → Wrote (map Put (progress_texts telling deliveries steps))
+        (outside folder (S.stream out.old)) (outside folder (S.stream out.new)) result }
+{
+    if !tells_progress(telling, deliveries) {
+        return Ok(());
+    }
+    line.clear();
+    match push_progress(line, telling.round, deliveries, steps) {
         Ok(()) => put(out, line),
         Err(_) => Err(Stop::Memory),
     }

@@ -11,6 +11,7 @@ ghost use Rattle.abt_session.specs.Running.{IsOutcome};
 
 use crate::runner::Halt;
 use abt_network::Network;
+use abt_schedule::ChoiceList;
 use dcsp_common::Memory;
 use dcsp_domain::IntList;
 use dcsp_problem::Problem;
@@ -38,6 +39,8 @@ pub struct Outcome {
     pub deliveries: u64,
     /// How many steps were made, which is how many the log has.
     pub steps: u64,
+    /// The number of the list of each delivery, where they were taken down.
+    pub numbers: ChoiceList,
 }
 
 /// The values of all agents, in order.
@@ -61,9 +64,11 @@ pub fn outcome_of(
     problem: &Problem,
     network: &Network,
     halt: Halt,
+    numbers: ChoiceList,
 ) -> Result<Outcome, Stop>
     requires { network.now.problem ≡ problem.now }
     ensures gives { (net : TheNetwork) → StandsAt network.now net → IfOk result (IsOutcome (csp_of problem.now) net (end_of halt)) }
+    ensures numbers { IfOk result (λ outcome. outcome.numbers ≡ numbers) }
     ensures only_memory { OnErr result (result ≡ Err Stop.Memory) }
 {
     let end = match halt {
@@ -81,5 +86,6 @@ pub fn outcome_of(
         end,
         deliveries: network.deliveries(),
         steps: network.steps(),
+        numbers,
     })
 }

@@ -11,10 +11,11 @@ ghost use Rattle.dcsp_script.specs.Scripts.{outside};
 ghost use Rattle.dcsp_script.specs.Ways.{Wrote};
 ghost use Rattle.ngd_log.specs.StepText.{IsInRange};
 ghost use Rattle.abt_network.specs.Standing.{delivery_of, CanDeliver, StandsAt};
-ghost use Rattle.abt_session.specs.Sessions.{begun_script, choice_writes, deliveries_write, run_script, step_writes, trace_writes};
-ghost use Rattle.abt_session.specs.Running.{kept, session_of, IsOnRun};
+ghost use Rattle.abt_session.specs.Sessions.{begun_script, choice_writes, deliveries_write, run_script, step_writes, telling_writes};
+ghost use Rattle.abt_session.specs.Running.{kept, session_for, IsOnRun};
 
 use crate::lines::{append_begun, append_made, put_delivery};
+use crate::session::RunTask;
 use abt_network::{Delivery, Network, Standing};
 use abt_schedule::{ChoiceList, Choices};
 use dcsp_outside::{Folder, Sink};
@@ -34,12 +35,8 @@ pub enum Halt {
 #[derive(Drop)]
 pub struct Runner<'p, 'w> {
     pub network: Network<'p>,
-    /// The name of the log.
-    pub log: &'w str,
-    /// Whether each delivery puts its line.
-    pub trace: bool,
-    /// Whether the numbers of the lists are taken down.
-    pub keep: bool,
+    pub task: RunTask<'w>,
+    /// The numbers of the lists that were delivered from, where they are kept.
     pub taken: ChoiceList,
     /// Where lines are made.
     pub line: Vec<u8>,
@@ -52,22 +49,21 @@ impl<'p, 'w> Runner<'p, 'w> {
     pub fn run<C: Choices, F: Folder, S: Sink>(
         &mut self,
         choices: &mut C,
-        most: u64,
         folder: &mut F,
         out: &mut S,
     ) -> Result<Halt, Stop>
-        requires most { most ≤ 2 ^ 40 }
+        requires most { self.old.task.most ≤ 2 ^ 40 }
         requires sound { self.old.network.spent ≡ false }
         requires fresh { self.old.network.begun ≡ false }
         requires problem { IsProblem self.old.network.problem × IsCsp (csp_of self.old.network.problem) }
-        ensures leaves { let s = session_of self.old.network.problem most (C.answers choices.old) self.old.log.now self.old.trace in Leaves s (run_script s) self.old.keep
+        ensures leaves { let s = session_for self.old.network.problem (C.answers choices.old) self.old.task in Leaves s (run_script s) self.old.task.keep
             self.old.taken self.new.taken (C.answers choices.old) (C.answers choices.new) self.new.network
             (outside (F.place folder.old) (S.stream out.old)) (outside (F.place folder.new) (S.stream out.new)) result }
         ensures problem { self.new.network.problem ≡ self.old.network.problem }
     {
         self.begin(folder)?;
-        let halt = self.deliver_all(choices, most, folder, out)?;
-        append(folder, self.log, TAIL)?;
+        let halt = self.deliver_all(choices, folder, out)?;
+        append(folder, self.task.log, TAIL)?;
         Ok(halt)
     }
 
@@ -75,19 +71,19 @@ impl<'p, 'w> Runner<'p, 'w> {
     fn begin<F: Folder>(&mut self, folder: &mut F) -> Result<(), Stop>
         requires sound { self.old.network.spent ≡ false }
         requires fresh { self.old.network.begun ≡ false }
-        ensures wrote { (out : Stream) → Wrote (begun_script (csp_of self.old.network.problem) self.old.log.now)
+        ensures wrote { (out : Stream) → Wrote (begun_script (csp_of self.old.network.problem) self.old.task.log.now)
             (outside (F.place folder.old) out) (outside (F.place folder.new) out) result }
         ensures stands { OnOk result (StandsAt self.new.network (start (csp_of self.old.network.problem))) }
         ensures same { SameTask self.old self.new }
         ensures taken { self.new.taken ≡ self.old.taken }
         ensures sound { OnOk result (self.new.network.spent ≡ false) }
         ensures begun { OnOk result (self.new.network.begun ≡ true) }
-        ensures created { OnOk result (Contains (F.place folder.new).created self.old.log.now) }
+        ensures created { OnOk result (Contains (F.place folder.new).created self.old.task.log.now) }
     {
-        create(folder, self.log)?;
-        append(folder, self.log, HEAD)?;
+        create(folder, self.task.log)?;
+        append(folder, self.task.log, HEAD)?;
         match self.network.start() {
-            Ok(begun) => append_begun(folder, self.log, &begun, &mut self.line),
+            Ok(begun) => append_begun(folder, self.task.log, &begun, &mut self.line),
             Err(_) => Err(Stop::Memory),
         }
     }
@@ -96,23 +92,22 @@ impl<'p, 'w> Runner<'p, 'w> {
     pub fn deliver_all<C: Choices, F: Folder, S: Sink>(
         &mut self,
         choices: &mut C,
-        most: u64,
         folder: &mut F,
         out: &mut S,
     ) -> Result<Halt, Stop>
-        requires created { Contains (F.place folder.old).created self.old.log.now }
-        requires most { most ≤ 2 ^ 40 }
+        requires created { Contains (F.place folder.old).created self.old.task.log.now }
+        requires most { self.old.task.most ≤ 2 ^ 40 }
         requires sound { self.old.network.spent ≡ false }
         requires begun { self.old.network.begun ≡ true }
         requires problem { IsProblem self.old.network.problem × IsCsp (csp_of self.old.network.problem) }
         requires starts { StandsAt self.old.network (start (csp_of self.old.network.problem)) }
-        ensures leaves { let s = session_of self.old.network.problem most (C.answers choices.old) self.old.log.now self.old.trace in Leaves s (deliveries_write s) self.old.keep
+        ensures leaves { let s = session_for self.old.network.problem (C.answers choices.old) self.old.task in Leaves s (deliveries_write s) self.old.task.keep
             self.old.taken self.new.taken (C.answers choices.old) (C.answers choices.new) self.new.network
             (outside (F.place folder.old) (S.stream out.old)) (outside (F.place folder.new) (S.stream out.new)) result }
         ensures same { SameTask self.old self.new }
         ensures created { (F.place folder.new).created ≡ (F.place folder.old).created }
     {
-        for _made in 0..most {
+        for _made in 0..self.task.most {
             match self.network.state() {
                 Standing::Refuted => return Ok(Halt::Refuted),
                 Standing::Quiet => return Ok(Halt::Solved),
@@ -130,26 +125,25 @@ impl<'p, 'w> Runner<'p, 'w> {
         }
     }
 
-    /// Makes one delivery: the line of its step is appended, and then its own line is put.
+    /// Makes one delivery: the line of its step is appended, and then what tells of it is put.
     fn deliver_one<F: Folder, S: Sink>(
         &mut self,
         choice: u32,
         folder: &mut F,
         out: &mut S,
     ) -> Result<(), Stop>
-        requires created { Contains (F.place folder.old).created self.old.log.now }
+        requires created { Contains (F.place folder.old).created self.old.task.log.now }
         requires sound { self.old.network.spent ≡ false }
         requires can { CanDeliver self.old.network }
         requires problem { IsProblem self.old.network.problem × IsCsp (csp_of self.old.network.problem) }
         requires on_run { IsOnRun self.old.network }
         ensures wrote { (net : TheNetwork) → StandsAt self.old.network net
-            → Wrote (choice_writes (csp_of self.old.network.problem) self.old.log.now self.old.trace (net.deliveries + 1) choice net)
+            → Wrote (choice_writes (csp_of self.old.network.problem) self.old.task.log.now self.old.task.telling (net.deliveries + 1) choice net)
             (outside (F.place folder.old) (S.stream out.old)) (outside (F.place folder.new) (S.stream out.new)) result }
         ensures stands { (net : TheNetwork) → StandsAt self.old.network net
             → OnOk result (StandsAt self.new.network (deliver (csp_of self.old.network.problem) choice net)) }
         ensures takes { (net : TheNetwork) → StandsAt self.old.network net
-            → OnOk result (self.new.taken ≡ self.old.taken ++ kept self.old.keep (list_number (csp_of self.old.network.problem) choice net ∷ [])) }
-        ensures not_taken { OnErr result (self.new.taken ≡ self.old.taken) }
+            → OnOk result (self.new.taken ≡ self.old.taken ++ kept self.old.task.keep (list_number (csp_of self.old.network.problem) choice net ∷ [])) }
         ensures same { SameTask self.old self.new }
         ensures sound { OnOk result (self.new.network.spent ≡ false) }
         ensures begun { OnOk result (self.new.network.begun ≡ true) }
@@ -171,12 +165,12 @@ impl<'p, 'w> Runner<'p, 'w> {
         folder: &mut F,
         out: &mut S,
     ) -> Result<(), Stop>
-        requires created { Contains (F.place folder.old).created self.old.log.now }
+        requires created { Contains (F.place folder.old).created self.old.task.log.now }
         requires sound { self.old.network.spent ≡ false }
         requires number { IfSome delivery.now.step (λ s. 0 < self.old.network.steps) }
         requires in_range { IfSome delivery.now.step IsInRange }
-        ensures wrote { Wrote (step_writes self.old.log.now self.old.network.steps (option_to_list delivery.now.step)
-            ++ trace_writes self.old.trace self.old.network.deliveries (delivery_of delivery.now ∷ []))
+        ensures wrote { Wrote (step_writes self.old.task.log.now self.old.network.steps (option_to_list delivery.now.step)
+            ++ telling_writes self.old.task.telling self.old.network.deliveries self.old.network.steps (delivery_of delivery.now ∷ []))
             (outside (F.place folder.old) (S.stream out.old)) (outside (F.place folder.new) (S.stream out.new)) result }
         ensures same { SameTask self.old self.new }
         ensures network { self.new.network ≡ self.old.network }
@@ -184,20 +178,26 @@ impl<'p, 'w> Runner<'p, 'w> {
         ensures created { (F.place folder.new).created ≡ (F.place folder.old).created }
     {
         let steps = self.network.steps();
-        append_made(folder, self.log, steps, &delivery.step, &mut self.line)?;
+        append_made(folder, self.task.log, steps, &delivery.step, &mut self.line)?;
         let made = self.network.deliveries();
-        put_delivery(out, self.trace, made, delivery, &mut self.line)
+        put_delivery(
+            out,
+            self.task.telling,
+            made,
+            steps,
+            delivery,
+            &mut self.line,
+        )
     }
 
     /// Takes the number of a list down, where that is asked for.
     fn take_down(&mut self, number: u32) -> Result<(), Stop>
-        ensures ok { OnOk result (self.new.taken ≡ self.old.taken ++ kept self.old.keep (number ∷ [])) }
-        ensures err { OnErr result (self.new.taken ≡ self.old.taken) }
+        ensures ok { OnOk result (self.new.taken ≡ self.old.taken ++ kept self.old.task.keep (number ∷ [])) }
         ensures only_memory { OnErr result (result ≡ Err Stop.Memory) }
         ensures same { SameTask self.old self.new }
         ensures network { self.new.network ≡ self.old.network }
     {
-        if !self.keep {
+        if !self.task.keep {
             return Ok(());
         }
         match self.taken.push(number) {

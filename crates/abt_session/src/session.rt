@@ -1,6 +1,6 @@
-//! A whole run, with its log and its trace.
+//! A whole run, with its log and what tells of its deliveries.
 
-ghost use Rattle.std.specs.Prelude.{◌≡◌, ◌≤◌, ◌^◌, ◌+◌, ◌++◌, ℕ, Contains, IfOk, OnOk};
+ghost use Rattle.std.specs.Prelude.{◌≡◌, ◌≤◌, ◌^◌, ◌+◌, ℕ, IfOk, OnOk};
 ghost use Rattle.law_runs.specs.Replay.{Verdicts};
 ghost use Rattle.law_runs.specs.Stops.{Stops};
 ghost use Rattle.dcsp_outside.specs.Outside.{Place, Stream};
@@ -9,10 +9,11 @@ ghost use Rattle.dcsp_script.specs.Scripts.{outside};
 ghost use Rattle.dcsp_script.specs.Ways.{Wrote};
 ghost use Rattle.abt_session.specs.Order.{WritesInOrder};
 ghost use Rattle.abt_session.specs.Sessions.{run_of, run_script};
-ghost use Rattle.abt_session.specs.Running.{kept, session_of, Gives, TakesPart};
+ghost use Rattle.abt_session.specs.Running.{kept, session_for, Gives};
 
 use crate::outcome::{Outcome, outcome_of};
 use crate::runner::Runner;
+use crate::telling::Telling;
 use abt_network::Network;
 use abt_schedule::{ChoiceList, Choices};
 use dcsp_outside::{Folder, Sink};
@@ -21,44 +22,52 @@ use dcsp_script::Stop;
 use std::alloc::Global;
 use std::mem;
 
-/// Runs the agents of a problem under choices, with at most `most` deliveries.
+/// What is asked of a run, beside its problem and its choices.
+#[derive(Clone, Copy, Debug)]
+pub struct RunTask<'w> {
+    /// The name of its log.
+    pub log: &'w str,
+    /// How many deliveries it makes at most.
+    pub most: u64,
+    /// What is put of each delivery.
+    pub telling: Telling,
+    /// Whether the number of the list of each delivery is taken down.
+    pub keep: bool,
+}
+
+/// Runs the agents of a problem under choices, as it is asked for.
 ///
 /// The log is created; each step's line goes to it by an append of its own as the step is made, and the
-/// last line once the run has stopped. Where `trace` is true each delivery puts its line on `out`, after
-/// the line of its step. Where `keep` is true the number of the list of each delivery is pushed to
-/// `taken`. Of each delivery one answer of `choices` is taken.
+/// last line once the run has stopped. What tells of a delivery is put on `out` after the line of its step.
+/// Of each delivery one answer of `choices` is taken.
 ///
-/// Wherever the run is stopped, `out` gained a first part of the trace, no name but the log's changed, and
-/// the log, once created, holds a first part of its text; before, it is unchanged or empty. The log keeps
-/// up with the trace: once some deliveries have their whole lines on `out`, the lines of their steps are in
-/// the log, and of later steps at most that of the next delivery.
+/// Wherever the run is stopped, `out` gained a first part of what tells of its deliveries, no name but the
+/// log's changed, and the log, once created, holds a first part of its text; before, it is unchanged or
+/// empty. The log keeps up with `out`: once a byte tells of a delivery, the lines of the steps made so far
+/// are in the log, and as long as a byte is missing of what tells of some first deliveries, the log has no
+/// line of a later one's step.
 pub fn run<C: Choices, F: Folder, S: Sink>(
     alloc: Global,
     problem: &Problem,
     choices: &mut C,
-    most: u64,
+    task: RunTask<'_>,
     folder: &mut F,
-    log_name: &str,
     out: &mut S,
-    trace: bool,
-    taken: &mut ChoiceList,
-    keep: bool,
 ) -> Result<Outcome, Stop>
-    requires { most ≤ 2 ^ 40 }
-    ensures wrote { Wrote (run_script (session_of problem.now most (C.answers choices.old) log_name.now trace))
+    requires { task.most ≤ 2 ^ 40 }
+    ensures wrote { Wrote (run_script (session_for problem.now (C.answers choices.old) task.entry))
         (outside (F.place folder.old) (S.stream out.old)) (outside (F.place folder.new) (S.stream out.new)) result }
-    ensures in_order { WritesInOrder (session_of problem.now most (C.answers choices.old) log_name.now trace)
+    ensures in_order { WritesInOrder (session_for problem.now (C.answers choices.old) task.entry)
         (outside (F.place folder.old) (S.stream out.old)) (outside (F.place folder.new) (S.stream out.new)) }
-    ensures gives { IfOk result (Gives (session_of problem.now most (C.answers choices.old) log_name.now trace)) }
-    ensures takes { let s = session_of problem.now most (C.answers choices.old) log_name.now trace in
-        OnOk result (taken.new ≡ taken.old ++ kept keep (run_of s).numbers) }
-    ensures takes_part { TakesPart keep (run_of (session_of problem.now most (C.answers choices.old) log_name.now trace)).numbers taken.old taken.new }
-    ensures answers { let s = session_of problem.now most (C.answers choices.old) log_name.now trace in
+    ensures gives { IfOk result (Gives (session_for problem.now (C.answers choices.old) task.entry)) }
+    ensures numbers { let s = session_for problem.now (C.answers choices.old) task.entry in
+        IfOk result (λ outcome. outcome.numbers ≡ kept task.entry.keep (run_of s).numbers) }
+    ensures answers { let s = session_for problem.now (C.answers choices.old) task.entry in
         OnOk result ((k : ℕ) → C.answers choices.new k ≡ C.answers choices.old ((run_of s).net.deliveries + k)) }
-    ensures verdicts { let s = session_of problem.now most (C.answers choices.old) log_name.now trace in
-        Verdicts (csp_of problem.now) most (run_of s) }
-    ensures stops { let s = session_of problem.now most (C.answers choices.old) log_name.now trace in
-        Stops (csp_of problem.now) most s.choices (run_of s) }
+    ensures verdicts { let s = session_for problem.now (C.answers choices.old) task.entry in
+        Verdicts (csp_of problem.now) task.entry.most (run_of s) }
+    ensures stops { let s = session_for problem.now (C.answers choices.old) task.entry in
+        Stops (csp_of problem.now) task.entry.most s.choices (run_of s) }
 {
     law_runs::verdicts();
     law_runs::stops();
@@ -68,13 +77,11 @@ pub fn run<C: Choices, F: Folder, S: Sink>(
     };
     let mut runner = Runner {
         network,
-        log: log_name,
-        trace,
-        keep,
-        taken: mem::replace(taken, ChoiceList::new(alloc)),
+        task,
+        taken: ChoiceList::new(alloc),
         line: Vec::new(alloc),
     };
-    let result = runner.run(choices, most, folder, out);
-    *taken = mem::replace(&mut runner.taken, ChoiceList::new(alloc));
-    outcome_of(alloc, problem, &runner.network, result?)
+    let halt = runner.run(choices, folder, out)?;
+    let taken = mem::replace(&mut runner.taken, ChoiceList::new(alloc));
+    outcome_of(alloc, problem, &runner.network, halt, taken)
 }

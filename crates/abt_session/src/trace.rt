@@ -1,9 +1,10 @@
 //! The lines of a trace.
 
-ghost use Rattle.std.specs.Prelude.{◌≡◌, ◌++◌, OnOk, decimal};
+ghost use Rattle.std.specs.Prelude.{◌≡◌, ◌++◌, OnOk};
 ghost use Rattle.abt_network.specs.Standing.{cargo_in, delivery_of};
 ghost use Rattle.abt_session.specs.Traces.{cargo_text, trace_line};
 
+use crate::telling::push_number;
 use abt_network::{Cargo, Delivery};
 use itoa::Buffer;
 use std::alloc::AllocError;
@@ -22,13 +23,8 @@ pub fn push_line(line: &mut Vec<u8>, number: u64, delivery: &Delivery) -> Result
     line.extend_from_slice(b"\n")
 }
 
-fn push_number(line: &mut Vec<u8>, number: u64) -> Result<(), AllocError>
-    ensures { OnOk result (line.new.items ≡ line.old.items ++ decimal number) }
-{
-    line.extend_from_slice(Buffer::new().format(number).as_bytes())
-}
-
-fn push_cargo(line: &mut Vec<u8>, cargo: Cargo) -> Result<(), AllocError>
+/// Appends what a message carries, as a trace and a story have it. A refusal may leave a part of it.
+pub fn push_cargo(line: &mut Vec<u8>, cargo: Cargo) -> Result<(), AllocError>
     ensures { OnOk result (line.new.items ≡ line.old.items ++ cargo_text (cargo_in cargo)) }
 {
     match cargo {

@@ -9,8 +9,8 @@ use Rattle.abt_defs.specs.Steps.{Outcome, choice, first_sent, heed, is_free, is_
 use Rattle.abt_parts.specs.declared.message.SentTo.{SentTo}
 use Rattle.abt_parts.specs.Messages.{told_sent}
 use Rattle.abt_defs.specs.Runs.{Link, Value, cargo_of}
-use Rattle.law_story.specs.Facts.{Sends}
-use Rattle.law_story.specs.Telling.{sends}
+use Rattle.abt_story.specs.Facts.{Sends}
+use Rattle.abt_story.specs.Telling.{sends}
 use Rattle.abt_story.specs.Looking.{cargo_by, sent_facts}
 
 -- the number of a step that is made

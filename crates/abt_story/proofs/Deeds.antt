@@ -8,8 +8,8 @@ use Rattle.abt_defs.specs.Events.{Act}
 use Rattle.abt_parts.specs.declared.recorded.Recorded.{Recorded}
 use Rattle.abt_parts.specs.Stores.{records_of}
 use Rattle.abt_agent.specs.States.{State, stands_for}
-use Rattle.law_story.specs.Facts.{Fact}
-use Rattle.law_story.specs.Telling.{answers, came_with, drops, enters, facts, learns, makes, named_in, receives, sends, stamp_in, reason, reason_before, rules_out, steps_of, takes}
+use Rattle.abt_story.specs.Facts.{Fact}
+use Rattle.abt_story.specs.Telling.{answers, came_with, drops, enters, facts, learns, makes, named_in, receives, sends, stamp_in, reason, reason_before, rules_out, steps_of, takes}
 use Rattle.abt_story.specs.declared.before.Known.{Known}
 use Rattle.abt_story.specs.Looking.{entered, known_at, reason_in, steps_in}
 

@@ -13,8 +13,8 @@ use Rattle.abt_defs.specs.Runs as runs
 use Rattle.abt_defs.specs.Runs.{cargo_of, delivery_at, head_on}
 use Rattle.law_agent.proofs.Runs.{In-pairs}
 use Rattle.law_runs.proofs.NextActs.{after_is, choice_is, has_head, next_act}
-use Rattle.law_story.specs.Telling.{delivery_lines, facts, sends, step_between}
-use Rattle.law_story.proofs.Runs.{Chosen, lines_are, none_between, some_between, steps_are, o as outcome_of}
+use Rattle.abt_story.specs.Telling.{delivery_lines, facts, sends, step_between}
+use Rattle.abt_story.proofs.Runs.{Chosen, lines_are, none_between, some_between, steps_are, o as outcome_of}
 use Rattle.abt_parts.specs.declared.message.Message.{Message as TheMessage}
 use Rattle.abt_parts.specs.declared.message.SentTo.{SentTo}
 use Rattle.abt_parts.specs.Messages.{message_of, told_sent}

@@ -3,8 +3,8 @@ use Rattle.std.proofs.Common.{◌≡◌, ◌∙◌, ℕ, List, [], ◌∷◌, �
 use Rattle.std.specs.Prelude.{OnOk, if◌then◌else◌, is_ok}
 use Rattle.std.specs.List.{flat_map}
 use Rattle.std.proofs.lemmas.Grind.{flat_map-append}
-use Rattle.law_story.specs.Facts.{Fact}
-use Rattle.law_story.specs.Telling.{lines}
+use Rattle.abt_story.specs.Facts.{Fact}
+use Rattle.abt_story.specs.Telling.{lines}
 use Rattle.abt_story.specs.Texts.{facts_text, line_text, lines_text}
 
 -- one piece more

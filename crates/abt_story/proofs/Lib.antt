@@ -3,3 +3,13 @@ pub mod Carrying
 pub mod Deliveries
 pub mod Starts
 pub mod Deeds
+pub mod Folds
+pub mod Segments
+pub mod Outcomes
+pub mod Retold
+pub mod Records
+pub mod Once
+pub mod Runs
+pub mod Traces
+pub mod Bytes
+pub mod Differing

@@ -15,7 +15,7 @@ use Rattle.abt_defs.specs.Steps.{Outcome, refuse, take_or_refuse, to_each}
 use Rattle.law_agent.specs.OneAgent.{Sound}
 use Rattle.law_runs.specs.Starts.{first_act, first_outcome, StartsWith}
 use Rattle.abt_parts.specs.Messages.{told_sent}
-use Rattle.law_story.specs.Telling.{agentless, facts, first_step, lines, start_lines}
+use Rattle.abt_story.specs.Telling.{agentless, facts, first_step, lines, start_lines}
 use Rattle.abt_story.specs.Texts.{line_text, lines_text}
 use Rattle.abt_story.specs.Looking.{first_text, tell_to}
 use Rattle.abt_story.proofs.Carrying.{Carries, numbered, settle_carries}

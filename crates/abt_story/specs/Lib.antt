@@ -1,3 +1,7 @@
 pub mod Texts
 pub mod Words
 pub mod Looking
+pub mod Facts
+pub mod Telling
+pub mod Retelling
+pub mod Differing

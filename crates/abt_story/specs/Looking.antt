@@ -21,8 +21,8 @@ use Rattle.abt_story.specs.declared.before.Before.{Before}
 use Rattle.abt_story.specs.declared.before.Known.{Known}
 use Rattle.abt_story.specs.declared.deed.Came.{Came}
 use Rattle.abt_story.specs.declared.deed.Deed.{Deed}
-use Rattle.law_story.specs.Facts.{Fact, Sends}
-use Rattle.law_story.specs.Telling.{came_with, enters, facts, first_step, named_in, reason_before, sends, stamp_in, step_between, steps_of}
+use Rattle.abt_story.specs.Facts.{Fact, Sends}
+use Rattle.abt_story.specs.Telling.{came_with, enters, facts, first_step, named_in, reason_before, sends, stamp_in, step_between, steps_of}
 use Rattle.abt_story.specs.Texts.{facts_text}
 
 -- ---- before an event

@@ -2,8 +2,8 @@
 use Rattle.std.specs.Prelude.{ℕ, ◌+◌, List, ◌++◌, codes, decimal, flat_map, Option, Some, None}
 use Rattle.std.specs.Fmt.{signed_decimal}
 use Rattle.ngd_log.specs.StepText.{reason_text}
-use Rattle.abt_defs.specs.Runs.{Cargo, Value, Step_number, Link}
-use Rattle.law_story.specs.Facts.{RuledOut, Fact, Receives, Knows, Forgets, Keeps, Declines, Out, Takes, Makes, Sends, Line}
+use Rattle.abt_session.specs.Traces.{cargo_text}
+use Rattle.abt_story.specs.Facts.{RuledOut, Fact, Receives, Knows, Forgets, Keeps, Declines, Out, Takes, Makes, Sends, Line}
 
 -- agents count from 1
 abbrev pub agent_text : ℕ → List ℕ
@@ -12,12 +12,6 @@ agent_text i = codes "v" ++ decimal (i + 1)
 abbrev pub who_text : Option ℕ → List ℕ
 who_text None = codes "-"
 who_text (Some i) = agent_text i
-
--- what a message carries, as a trace has it
-abbrev pub cargo_text : Cargo → List ℕ
-cargo_text (Value value) = codes " ok " ++ signed_decimal value
-cargo_text (Step_number step) = codes " nogood " ++ decimal step
-cargo_text Link = codes " link"
 
 -- a value with its reason, behind a blank
 abbrev pub ruled_text : RuledOut → List ℕ

@@ -3,7 +3,7 @@ use Rattle.std.specs.Prelude.{ℕ, List, ◌++◌, codes, decimal}
 use Rattle.abt_story.specs.declared.texts.StepFact.{StepFact}
 use Rattle.abt_story.specs.declared.texts.StepFact.TheVariants as facts
 use Rattle.abt_story.specs.declared.texts.Who.{Who}
-use Rattle.law_story.specs.Facts.{Fact, Forgets, Keeps, Declines, Makes}
+use Rattle.abt_story.specs.Facts.{Fact, Forgets, Keeps, Declines, Makes}
 use Rattle.abt_story.specs.Texts.{agent_text}
 
 -- what the lines of an agent begin with

@@ -10,7 +10,7 @@ ghost use Rattle.abt_parts.specs.Messages.{message_of};
 ghost use Rattle.abt_agent.specs.States.{stands_for};
 ghost use Rattle.abt_links.specs.Transit.{link_of};
 ghost use Rattle.abt_network.specs.Standing.{StandsAt};
-ghost use Rattle.law_story.specs.Telling.{named_by};
+ghost use Rattle.abt_story.specs.Telling.{named_by};
 ghost use Rattle.abt_story.specs.Looking.{known_at, reason_in, steps_in, IsSeen};
 
 use abt_agent::Agent;
@@ -60,7 +60,7 @@ pub fn look(
     let message = network.first(from, to).unwrap();
     let agent = network.agent(to);
     let known = named_by(alloc, agent, from, message)?;
-    let kept = steps_of(alloc, agent.kept())?;
+    let kept = steps_of(alloc, agent.nogoods())?;
     let reasons = reasons_of(alloc, domain, agent)?;
     Ok(Before {
         known,

@@ -7,7 +7,7 @@ ghost use Rattle.abt_defs.specs.Agents.{is_among};
 ghost use Rattle.abt_defs.specs.Events.{Act};
 ghost use Rattle.abt_agent.specs.States.{stands_for};
 ghost use Rattle.abt_network.specs.Standing.{cargo_in};
-ghost use Rattle.law_story.specs.Telling.{answers, drops, enters, facts, is_later, makes, receives, takes};
+ghost use Rattle.abt_story.specs.Telling.{answers, drops, enters, facts, is_later, makes, receives, takes};
 ghost use Rattle.abt_story.specs.Texts.{facts_text};
 ghost use Rattle.abt_story.specs.Looking.{came_in, cargo_by, entered, sent_facts, steps_in, IsDone, IsSeen};
 
@@ -225,8 +225,8 @@ pub fn push_deed(
     let who = deed.who;
     push_came(who, deed.came, into)?;
     push_entered(who, &before.known, agent, into)?;
-    push_dropped(who, &before.kept, agent.kept(), into)?;
-    push_answer(who, deed.came, agent.kept(), into)?;
+    push_dropped(who, &before.kept, agent.nogoods(), into)?;
+    push_answer(who, deed.came, agent.nogoods(), into)?;
     push_out(who, domain, &before.reasons, agent, into)?;
     push_taken(who, before.stamp, agent, into)?;
     push_made(who, deed.made, into)?;

@@ -6,7 +6,7 @@ ghost use Rattle.dcsp_rule.specs.Problems.{csp_of};
 ghost use Rattle.abt_defs.specs.Events.{Act};
 ghost use Rattle.abt_defs.specs.Network.{Network as TheNetwork};
 ghost use Rattle.abt_network.specs.Standing.{reached, CanDeliver, StandsAt};
-ghost use Rattle.law_story.specs.Telling.{delivery_lines, facts, step_between};
+ghost use Rattle.abt_story.specs.Telling.{delivery_lines, facts, step_between};
 ghost use Rattle.abt_story.specs.Texts.{facts_text, lines_text};
 ghost use Rattle.abt_story.specs.Looking.{IsMade, IsSeen};
 

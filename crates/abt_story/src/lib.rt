@@ -8,10 +8,12 @@
 mod before;
 mod deed;
 mod delivery;
+mod laws;
 mod reasons;
 mod start;
 mod texts;
 
 pub use dcsp_common::Memory;
 pub use delivery::tell_delivery;
+pub use laws::{deliveries_are_told, nothing_is_hidden, stories_differ};
 pub use start::tell_start;

@@ -5,7 +5,7 @@ ghost use Rattle.std.specs.List.{list_any};
 ghost use Rattle.dcsp_defs.specs.declared.Reason.{Reason as TheReason};
 ghost use Rattle.dcsp_defs.specs.Csp.{domain as domain_of};
 ghost use Rattle.dcsp_rule.specs.Problems.{csp_of};
-ghost use Rattle.law_story.specs.Telling.{ruled_by, ruled_out, rules_out, same_reasons};
+ghost use Rattle.abt_story.specs.Telling.{ruled_by, ruled_out, rules_out, same_reasons};
 ghost use Rattle.abt_story.specs.Texts.{facts_text, ruled_text};
 ghost use Rattle.abt_story.specs.Looking.{reason_in};
 

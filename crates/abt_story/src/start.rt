@@ -8,7 +8,7 @@ ghost use Rattle.law_runs.specs.Starts.{first_outcome, settled_in, StartsWith};
 ghost use Rattle.abt_parts.specs.Messages.{told_sent};
 ghost use Rattle.abt_agent.specs.States.{stands_for};
 ghost use Rattle.abt_network.specs.Standing.{state_at, steps_of, StandsAt};
-ghost use Rattle.law_story.specs.Telling.{agentless, first_step, start_lines};
+ghost use Rattle.abt_story.specs.Telling.{agentless, first_step, start_lines};
 ghost use Rattle.abt_story.specs.Texts.{lines_text};
 ghost use Rattle.abt_story.specs.Looking.{first_text, tell_to};
 

@@ -3,11 +3,12 @@
 ghost use Rattle.std.specs.Prelude.{◌≡◌, ◌∷◌, ◌++◌, [], OnOk, codes, decimal};
 ghost use Rattle.ngd_log.specs.StepText.{reason_text};
 ghost use Rattle.abt_network.specs.Standing.{cargo_in};
-ghost use Rattle.law_story.specs.Facts.{Knows, Receives, RuledOut, Sends, Takes};
-ghost use Rattle.abt_story.specs.Texts.{agent_text, cargo_text, facts_text, ruled_text};
+ghost use Rattle.abt_story.specs.Facts.{Knows, Receives, RuledOut, Sends, Takes};
+ghost use Rattle.abt_story.specs.Texts.{agent_text, facts_text, ruled_text};
 ghost use Rattle.abt_story.specs.Words.{step_fact, who_head, word_of};
 
 use abt_network::Cargo;
+use abt_session::push_cargo;
 use dcsp_common::{push_number, push_signed};
 use dcsp_defs::Reason;
 use std::alloc::AllocError;
@@ -59,23 +60,6 @@ pub fn push_who(who: Who, into: &mut Vec<u8>) -> Result<(), AllocError>
     push_agent(who.agent, into)
 }
 
-/// Pushes what a message carries.
-fn push_cargo(cargo: Cargo, into: &mut Vec<u8>) -> Result<(), AllocError>
-    ensures { OnOk result (into.new.items ≡ into.old.items ++ cargo_text (cargo_in cargo)) }
-{
-    match cargo {
-        Cargo::Tell { value } => {
-            into.extend_from_slice(b" ok ")?;
-            push_signed(into, value)
-        }
-        Cargo::Refuse { step } => {
-            into.extend_from_slice(b" nogood ")?;
-            push_number(into, step)
-        }
-        Cargo::AddLink => into.extend_from_slice(b" link"),
-    }
-}
-
 /// Pushes the line that a message came.
 pub fn push_received(
     who: Who,
@@ -90,7 +74,7 @@ pub fn push_received(
     push_agent(from, into)?;
     into.extend_from_slice(b">")?;
     push_agent(who.agent, into)?;
-    push_cargo(cargo, into)?;
+    push_cargo(into, cargo)?;
     into.extend_from_slice(b"\n")
 }
 
@@ -159,6 +143,6 @@ pub fn push_sends(who: Who, to: u32, cargo: Cargo, into: &mut Vec<u8>) -> Result
     push_who(who, into)?;
     into.extend_from_slice(b" sends ")?;
     push_agent(to, into)?;
-    push_cargo(cargo, into)?;
+    push_cargo(into, cargo)?;
     into.extend_from_slice(b"\n")
 }

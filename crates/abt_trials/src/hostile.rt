@@ -18,7 +18,7 @@ struct Line {
 /// Each of the two literals, and neither.
 const FORMULA: &[u8] = b"p cnf 2 3\n1 2 0\n-1 0\n-2 0\n";
 
-const LINES: [Line; 20] = [
+const LINES: [Line; 23] = [
     Line {
         words: &["check", "m.fzn", "l.ngd"],
         files: [("m.fzn", PAIR), ("l.ngd", PAIR_LOG)],
@@ -50,6 +50,11 @@ const LINES: [Line; 20] = [
         creates: &[],
     },
     Line {
+        words: &["order", "m.fzn", "links", "o"],
+        files: [("m.fzn", PAIR), NO_FILE],
+        creates: &["o"],
+    },
+    Line {
         words: &["gen", "queens", "3"],
         files: [NO_FILE, NO_FILE],
         creates: &[],
@@ -66,6 +71,11 @@ const LINES: [Line; 20] = [
     },
     Line {
         words: &["gen", "pigeons", "3"],
+        files: [NO_FILE, NO_FILE],
+        creates: &[],
+    },
+    Line {
+        words: &["gen", "binary", "3", "2", "2", "1", "7"],
         files: [NO_FILE, NO_FILE],
         creates: &[],
     },
@@ -88,6 +98,11 @@ const LINES: [Line; 20] = [
         words: &["export", "m.fzn", "l.ngd", "f.cnf", "p.rup", "--atoms"],
         files: [("m.fzn", PAIR), ("l.ngd", PAIR_LOG)],
         creates: &["f.cnf", "p.rup"],
+    },
+    Line {
+        words: &["story", "m.fzn", "s.sch", "t.txt"],
+        files: [("m.fzn", PAIR), ("s.sch", b"schedule 1\n0\n1\n2\nend\n")],
+        creates: &["t.txt"],
     },
     Line {
         words: &["starve", "m.fzn", "1", "2", "s.sch"],

@@ -22,6 +22,8 @@ mod losses;
 #[cfg(test)]
 mod measured;
 #[cfg(test)]
+mod ordered;
+#[cfg(test)]
 mod plain;
 #[cfg(test)]
 mod refutations;
@@ -29,6 +31,8 @@ mod refutations;
 mod runs;
 #[cfg(test)]
 mod starved;
+#[cfg(test)]
+mod told;
 #[cfg(test)]
 mod wanting;
 #[cfg(test)]

@@ -9,14 +9,15 @@ use std::process::Abort;
 /// What `--help` prints.
 const HELP: &[u8] = b"abt: asynchronous backtracking over FlatZinc, with certified answers
 
-  abt solve MODEL LOG [--seed N] [--choices N] [--record FILE] [--trace] [--each] [--halves]
+  abt solve MODEL LOG [--seed N] [--choices N] [--record FILE] [--trace] [--progress] [--each] [--halves]
                         runs the agents of the model, with deliveries chosen from a seed:
                         prints a solution, `=====UNSATISFIABLE=====` or `=====UNKNOWN=====`,
                         and writes the log of its derivations; FILE holds the choices. Where
                         the model asks for the least or the greatest value, prints the best
                         solution and `==========`, and LOG refutes every better value. With
                         --choices the run, or each round of a search, has N choices; with
-                        --each a search prints all it finds, with --halves in few rounds
+                        --each a search prints all it finds, with --halves in few rounds;
+                        --progress tells each million deliveries how far the run is
   abt replay MODEL SCHEDULE LOG [--trace]
                         runs them under the choices of a schedule, as a record is
   abt check MODEL LOG [--better N]
@@ -46,13 +47,24 @@ const HELP: &[u8] = b"abt: asynchronous backtracking over FlatZinc, with certifi
   abt survey MODEL COUNT [--from SEED]
                         prints a table of the measures of the runs of COUNT seeds from SEED
                         on, 0 if not given: names of columns, and a line for each seed
+  abt story MODEL SCHEDULE FILE
+                        writes to FILE what happens in a run under the choices of a schedule,
+                        as a record is: what each agent receives, learns, rules out and sends
   abt bound MODEL       prints how many messages a run delivers at most
+  abt order MODEL RULE FILE
+                        writes to FILE an order of the variables by RULE: `degree`, more
+                        neighbours first; `links`, each time most neighbours among those
+                        placed; or `reverse`, the model's order backwards
   abt gen queens N      prints the problem of N queens, 1 to 200
   abt gen colouring N K SEED
                         prints a colouring of N nodes, 1 to 200, with K colours, 1 to 16
   abt gen sparse N SEED
                         prints a colouring of N nodes, 1 to 4,096, with few edges
   abt gen pigeons N     prints the problem of N pigeons, 2 to 200, in one hole less
+  abt gen binary N D EDGES PAIRS SEED
+                        prints a random problem of N variables, 1 to 200, with D values, 1
+                        to 100, and EDGES constraints of two variables, each of which forbids
+                        PAIRS pairs of values
   abt drill SEED        runs three generated models, and checks the log of the last
   abt cnf CNF PROOF [--seed N]
                         runs the agents of a formula in DIMACS: prints `s SATISFIABLE` and its
@@ -78,7 +90,7 @@ is proved, docs/FORMATS.md the formats and the lines that refuse a file.
 
 /// What `--usage` prints; tests/usage.sh reads it here.
 const USAGE: &[u8] =
-    b"solve file:MODEL:model:read file:LOG:log:written --seed=number:N:0:18446744073709551615 --choices=number:N:0:1099511627776 --record=file:FILE:schedule:written --trace --each --halves
+    b"solve file:MODEL:model:read file:LOG:log:written --seed=number:N:0:18446744073709551615 --choices=number:N:0:1099511627776 --record=file:FILE:schedule:written --trace --progress --each --halves
 replay file:MODEL:model:read file:SCHEDULE:schedule:read file:LOG:log:written --trace
 check file:MODEL:model:read file:LOG:log:read --better=signed:N:-9223372036854775808:9223372036854775807
 upgrade file:LOG:log:read file:NEW:log:written
@@ -88,11 +100,14 @@ starve file:MODEL:model:read number:FROM:1:4096 number:TO:1:4096 file:FILE:sched
 lossy file:MODEL:model:read file:LOG:log:written number:EVENTS:0:1000000 number:SEED:0:18446744073709551615 --record=file:FILE:schedule:written
 measure file:MODEL:model:read file:SCHEDULE:schedule:read
 survey file:MODEL:model:read number:COUNT:1:1000000 --from=number:SEED:0:18446744073709551615
+story file:MODEL:model:read file:SCHEDULE:schedule:read file:FILE:story:written
 bound file:MODEL:model:read
+order file:MODEL:model:read word:RULE:degree:links:reverse file:FILE:order:written
 gen queens number:N:1:200
 gen colouring number:N:1:200 number:K:1:16 number:SEED:0:18446744073709551615
 gen sparse number:N:1:4096 number:SEED:0:18446744073709551615
 gen pigeons number:N:2:200
+gen binary number:N:1:200 number:D:1:100 number:EDGES:0:19900 number:PAIRS:0:10000 number:SEED:0:18446744073709551615
 drill number:SEED:0:18446744073709551615
 cnf file:CNF:formula:read file:PROOF:proof:written --seed=number:N:0:18446744073709551615
 rup file:CNF:formula:read file:PROOF:proof:read

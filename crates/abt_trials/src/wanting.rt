@@ -49,11 +49,12 @@ impl Folder for WantingFolder {
     }
 }
 
-const LINES: [&[&str]; 11] = [
+const LINES: [&[&str]; 12] = [
     &["check", "m.fzn", "m.ngd"],
     &["solve", "m.fzn", "m.ngd"],
     &["replay", "m.fzn", "m.sch", "m.ngd"],
     &["bound", "m.fzn"],
+    &["order", "m.fzn", "links", "o"],
     &["upgrade", "l.ngd", "n.ngd"],
     &["core", "m.fzn", "l.ngd", "t.ngd"],
     &["export", "m.fzn", "l.ngd", "f.cnf", "p.rup"],

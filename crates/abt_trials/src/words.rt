@@ -6,7 +6,8 @@ use std::alloc::Global;
 use std::process::Abort;
 
 /// Words of each line but `drill`, which runs long.
-const LINES: [&[&str]; 53] = [
+const LINES: [&[&str]; 61] = [
+    &["story", "m", "s", "f"],
     &["measure", "m", "s"],
     &["survey", "m", "1"],
     &["survey", "m", "1000000", "--from", "18446744073708551616"],
@@ -27,8 +28,19 @@ const LINES: [&[&str]; 53] = [
     ],
     &["solve", "m", "l", "--each"],
     &["solve", "m", "l", "--each", "--trace"],
+    &["solve", "m", "l", "--progress"],
     &["solve", "m", "l", "--halves"],
-    &["solve", "m", "l", "--each", "--halves", "--seed", "1"],
+    &[
+        "solve",
+        "m",
+        "l",
+        "--each",
+        "--progress",
+        "--trace",
+        "--halves",
+        "--seed",
+        "1",
+    ],
     &["solve", "m", "l", "--trace"],
     &["solve", "m", "l", "--record", "r"],
     &["solve", "m", "l", "--seed", "1", "--record", "r", "--trace"],
@@ -56,6 +68,9 @@ const LINES: [&[&str]; 53] = [
     &["lossy", "m", "l", "1000000", "18446744073709551615"],
     &["lossy", "m", "l", "1", "1", "--record", "r"],
     &["bound", "m"],
+    &["order", "m", "degree", "o"],
+    &["order", "m", "links", "o"],
+    &["order", "m", "reverse", "o"],
     &["gen", "queens", "1"],
     &["gen", "colouring", "1", "1", "0"],
     &["gen", "colouring", "1", "16", "18446744073709551615"],
@@ -63,6 +78,9 @@ const LINES: [&[&str]; 53] = [
     &["gen", "sparse", "4096", "18446744073709551615"],
     &["gen", "pigeons", "2"],
     &["gen", "pigeons", "200"],
+    &["gen", "binary", "1", "1", "0", "1", "0"],
+    &["gen", "binary", "3", "2", "2", "4", "18446744073709551615"],
+    &["gen", "binary", "200", "1", "19900", "1", "0"],
     &["cnf", "c", "p"],
     &["cnf", "c", "p", "--seed", "1"],
     &["rup", "c", "p"],
@@ -73,7 +91,10 @@ const LINES: [&[&str]; 53] = [
 
 /// Words that are no line: too few or too many; options twice, first, without a value or of another line; names
 /// that are equal, empty or begin with `-`; numbers with a sign, with a leading zero or out of range.
-const NO_LINES: [&[&str]; 148] = [
+const NO_LINES: [&[&str]; 162] = [
+    &["story", "m", "s"],
+    &["story", "m", "s", "s"],
+    &["story", "m", "s", "f", "--trace"],
     &["measure", "m"],
     &["measure", "m", "s", "l"],
     &["survey", "m", "0"],
@@ -90,6 +111,9 @@ const NO_LINES: [&[&str]; 148] = [
     &["solve", "m", "l", "--each", "--each"],
     &["solve", "m", "l", "--halves", "--halves"],
     &["solve", "m", "l", "--halves", "1"],
+    &["solve", "m", "l", "--progress", "--progress"],
+    &["solve", "m", "l", "--progress", "1"],
+    &["replay", "m", "s", "l", "--progress"],
     &["replay", "m", "s", "l", "--halves"],
     &["replay", "m", "s", "l", "--each"],
     &["solve", "m", "l", "--seed", "--trace"],
@@ -171,6 +195,9 @@ const NO_LINES: [&[&str]; 148] = [
     &["bound", "-m"],
     &["bound", "m", "m"],
     &["bound"],
+    &["order", "m", "left", "o"],
+    &["order", "m", "links", "m"],
+    &["order", "m", "links"],
     &["gen", "queens", "0"],
     &["gen", "queens", "201"],
     &["gen", "queens", "01"],
@@ -192,6 +219,11 @@ const NO_LINES: [&[&str]; 148] = [
     &["gen", "pigeons", "1"],
     &["gen", "pigeons", "201"],
     &["gen", "pigeons", "2", "0"],
+    &["gen", "binary", "200", "10", "19900", "0", "0"],
+    &["gen", "binary", "3", "2", "4", "1", "0"],
+    &["gen", "binary", "3", "2", "2", "5", "0"],
+    &["gen", "binary", "3", "0", "0", "0", "0"],
+    &["gen", "binary", "3", "2", "2", "1"],
     &["queens", "1"],
     &["drill"],
     &["drill", "-1"],

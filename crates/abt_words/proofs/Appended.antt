@@ -11,3 +11,10 @@ made_more make f xs i d old now new l before gained =
     let taken = ap (map f) (take_more xs i d l) ∙ map-append f (take i xs) (x ∷ []) in
     let texts = ap (flat_map make) taken ∙ flat_map-append make (map f (take i xs)) (f x ∷ []) ∙ ap (λ t. flat_map make (map f (take i xs)) ++ t) (append-nil (make (f x))) in
     gained ∙ ap (λ (t : List ℕ). t ++ make (f x)) before ∙ append_assoc old (flat_map make (map f (take i xs))) (make (f x)) ∙ ap (λ (t : List ℕ). old ++ t) (sym texts)
+
+-- the texts of the items of two lists, one behind the other
+pub two_parts : {Y : Type 0} (make : Y → List ℕ) (a b x y : List Y) (start one two : List ℕ) → a ≡ x → b ≡ y
+    → one ≡ start ++ flat_map make a → two ≡ one ++ flat_map make b → two ≡ start ++ flat_map make (x ++ y)
+two_parts make a b x y start one two p q g h =
+    let texts = sym (flat_map-append make a b) ∙ ap (λ l. flat_map make (l ++ b)) p ∙ ap (λ l. flat_map make (x ++ l)) q in
+    h ∙ ap (λ (t : List ℕ). t ++ flat_map make b) g ∙ append_assoc start (flat_map make a) (flat_map make b) ∙ ap (λ (t : List ℕ). start ++ t) texts

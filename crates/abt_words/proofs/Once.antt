@@ -6,7 +6,7 @@ use Rattle.std.proofs.lemmas.Bool.{false≢true}
 use Rattle.std.proofs.lemmas.Fmt.{decimal_injective}
 use Rattle.std.proofs.lemmas.List.{append_assoc, append_cancel_left}
 use Rattle.std.proofs.lemmas.Slice.Eq.{bytes_eq-Decides}
-use Rattle.abt_words.specs.Rows.{WordKind, File, OneOf, Place, LineOption, Row, the_rows}
+use Rattle.abt_words.specs.Rows.{WordKind, File, OneOf, Place, LineOption, Row, run_rows, other_rows, the_rows}
 use Rattle.abt_words.specs.Rows as rows
 use Rattle.abt_words.specs.Saying.{Value, Given, Name, Number, Signed, Word, value_words, Fits, FitsOption, Fill, place_of, Gives, nothing, gives, Said, Says, IsSaidBy, none_given, differ, differs_from_all, are_apart}
 use Rattle.abt_words.proofs.SignedWords.{signed_number_back, signed_number}
@@ -130,5 +130,5 @@ one_said rows apart words a b h k =
     ∙ ap (λ (z : List Value). record { row = b.row; values = b.values; settings = z }) same.1
 
 pub rows_are_apart : are_apart the_rows ≡ true
-unfolding the_rows
+unfolding the_rows run_rows other_rows
 rows_are_apart = refl

@@ -1,7 +1,7 @@
 -- What is read of a row is what the words say.
-use Rattle.std.proofs.Common.{◌≡◌, ℕ, zero, suc, ◌+◌, ◌<◌, ◌≤◌, Bool, true, false, List, [], ◌∷◌, ◌++◌, map, take, set, replicate, length, get_or, Option, Some, slice_get, option_map, below_more, nat_le, ◌&&◌, refl, sym, ◌∙◌, ap, subst, arith}
+use Rattle.std.proofs.Common.{◌≡◌, ℕ, zero, suc, ◌+◌, ◌-◌, ◌<◌, ◌≤◌, Bool, true, false, List, [], ◌∷◌, ◌++◌, map, take, set, replicate, length, get_or, Option, Some, slice_get, option_map, below_more, nat_le, ◌&&◌, refl, sym, ◌∙◌, ap, subst, inl, inr, arith}
 use Rattle.std.specs.Prelude.{flat_map}
-use Rattle.std.proofs.lemmas.Bool.{true≢false, leb-true}
+use Rattle.std.proofs.lemmas.Bool.{true≢false, leb-true, cases_lt}
 use Rattle.std.proofs.lemmas.List.{append_cancel_left, length-replicate}
 use Rattle.std.proofs.lemmas.Option.{slice_get_within, slice_get-map, slice_get-get_or}
 use Rattle.abt_words.specs.declared.said.TheConstants.{MOST}
@@ -181,3 +181,30 @@ no_more rows words n here s before none = below_more (λ k. (row : Row) → slic
 -- what a row says, said of the table
 pub says_by : (rows : List Row) (words : List (List ℕ)) (said : Said) (n : ℕ) (here : Row) → slice_get rows n ≡ Some here → said.row ≡ here → Says here words said.values said.settings → IsSaidBy rows words said
 says_by rows words said n here s e h = record { place = n; row = s ∙ ap (λ (r : Row). Some r) (sym e); says = subst (λ (r : Row). Says r words said.values said.settings) (sym e) h }
+
+-- ---- tables in two parts
+
+slice_get_first : (a b : List Row) (k : ℕ) → k < length a → slice_get (a ++ b) k ≡ slice_get a k
+slice_get_first [] b k l = absurd (omega arith)
+slice_get_first (r ∷ rows) b zero l = refl
+slice_get_first (r ∷ rows) b (suc k) l = slice_get_first rows b k (omega arith)
+
+slice_get_behind : (a b : List Row) (k : ℕ) → slice_get (a ++ b) (length a + k) ≡ slice_get b k
+slice_get_behind [] b k = ap (slice_get b) (omega arith)
+slice_get_behind (r ∷ rows) b k =
+    let place : length (r ∷ rows) + k ≡ suc (length rows + k) = omega arith in
+    ap (slice_get (r ∷ rows ++ b)) place ∙ slice_get_behind rows b k
+
+-- what is said of the first part, and of the second
+pub said_first : (a b : List Row) (words : List (List ℕ)) (said : Said) → IsSaidBy a words said → IsSaidBy (a ++ b) words said
+said_first a b words said h = record { place = h.place; row = slice_get_first a b h.place (slice_get_within a h.place said.row h.row) ∙ h.row; says = h.says }
+
+pub said_behind : (a b : List Row) (words : List (List ℕ)) (said : Said) → IsSaidBy b words said → IsSaidBy (a ++ b) words said
+said_behind a b words said h = record { place = length a + h.place; row = slice_get_behind a b h.place ∙ h.row; says = h.says }
+
+-- nothing is said of both, where it is of neither
+pub said_of_neither : (a b : List Row) (words : List (List ℕ)) (said : Said) → (IsSaidBy a words said → ⊥) → (IsSaidBy b words said → ⊥) → IsSaidBy (a ++ b) words said → ⊥
+said_of_neither a b words said not_first not_later h = elim (cases_lt h.place (length a)) [
+  | inl l ↦ not_first (record { place = h.place; row = sym (slice_get_first a b h.place l) ∙ h.row; says = h.says })
+  | inr l ↦ not_later (record { place = h.place - length a; row = sym (slice_get_behind a b (h.place - length a)) ∙ (ap (slice_get (a ++ b)) (omega (arith, l)) ∙ h.row); says = h.says })
+]

@@ -1,5 +1,5 @@
 -- Rows: what a line of words is.
-use Rattle.std.specs.Prelude.{ℕ, List, map, Option, option_map}
+use Rattle.std.specs.Prelude.{ℕ, List, map, ◌++◌, Option, option_map}
 use Rattle.std.proofs.Common.{Bor}
 use Rattle.abt_words.specs.declared.rows.LineName.{LineName}
 use Rattle.abt_words.specs.declared.row.Content.{Content}
@@ -9,7 +9,7 @@ use Rattle.abt_words.specs.declared.row.WordKindOf.TheVariants as kinds
 use Rattle.abt_words.specs.declared.row.PlaceOf.{PlaceOf}
 use Rattle.abt_words.specs.declared.row.OptionOf.{OptionOf}
 use Rattle.abt_words.specs.declared.row.RowOf.{RowOf}
-use Rattle.abt_words.specs.declared.rows.TheConstants.{ROWS}
+use Rattle.abt_words.specs.declared.rows.TheConstants.{RUN_ROWS, OTHER_ROWS}
 
 -- what a word may be: the name of a file that holds something and is read or written, a number within bounds, a number of 64 bits with or without a sign, or one of some words
 pub data WordKind : Type 0 where
@@ -96,6 +96,12 @@ option_of option = record { word = option.word.now; value = option_map place_of 
 abbrev pub row_of : RowOf (Named (List (Named (List ℕ)))) (Named (List NamedPlace)) (Named (List NamedOption)) → Row
 row_of row = record { line = row.line; keyword = named_texts row.keyword; places = map place_of row.places.now; options = map option_of row.options.now; tells = named_texts row.tells }
 
--- the rows of the program
+-- the rows of the program: those of lines that make, measure or check runs, and the others
+unfoldable pub run_rows : List Row
+run_rows = map row_of RUN_ROWS.now
+
+unfoldable pub other_rows : List Row
+other_rows = map row_of OTHER_ROWS.now
+
 unfoldable pub the_rows : List Row
-the_rows = map row_of ROWS.now
+the_rows = run_rows ++ other_rows

@@ -130,10 +130,14 @@ setting_of options settings word = elim (place_of options word) [ None ↦ Absen
 abbrev pub setting_at : Said → List ℕ → Value
 setting_at said word = setting_of said.row.options said.settings word
 
--- the name or the number that a value is
+-- the name, the word or the number that a value is
 abbrev pub name_in : Value → List ℕ
 name_in (Name name) = name
 name_in value = []
+
+abbrev pub word_in : Value → List ℕ
+word_in (Word word) = word
+word_in value = []
 
 abbrev pub number_in : Value → ℕ
 number_in (Number n) = n

@@ -1,7 +1,7 @@
 -- What usage and help print of the rows.
 use Rattle.std.specs.Prelude.{ℕ, nat_lt, cond, List, [], ◌∷◌, ◌++◌, flat_map, length, drop, Some, None, codes, decimal}
 use Rattle.abt_words.specs.declared.row.Content.{Content}
-use Rattle.abt_words.specs.declared.row.Content.TheVariants.{Model, Log, Schedule, Formula, Proof}
+use Rattle.abt_words.specs.declared.row.Content.TheVariants.{Model, Log, Schedule, Order, Formula, Proof, Story}
 use Rattle.abt_words.specs.declared.row.Access.{Access}
 use Rattle.abt_words.specs.declared.row.Access.TheVariants.{Read, Written}
 use Rattle.abt_words.specs.declared.texts.TheConstants.{BLANKS, HEAD, TAIL}
@@ -22,8 +22,10 @@ abbrev pub content_text : Content → List ℕ
 content_text Model = codes "model"
 content_text Log = codes "log"
 content_text Schedule = codes "schedule"
+content_text Order = codes "order"
 content_text Formula = codes "formula"
 content_text Proof = codes "proof"
+content_text Story = codes "story"
 
 abbrev pub access_text : Access → List ℕ
 access_text Read = codes "read"

@@ -16,7 +16,7 @@ pub use laws::words_say_one_thing;
 pub use row::{
     Access, Content, LineOption, OptionOf, Place, PlaceOf, Row, RowOf, WordKind, WordKindOf,
 };
-pub use rows::{LineName, ROWS};
+pub use rows::LineName;
 pub use said::{MOST, Said, said_by, said_of};
 pub use texts::{help, usage};
 pub use value::Value;

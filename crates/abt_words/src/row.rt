@@ -11,8 +11,10 @@ pub enum Content {
     Model,
     Log,
     Schedule,
+    Order,
     Formula,
     Proof,
+    Story,
 }
 
 /// What a line does with a file.

@@ -1,6 +1,12 @@
 //! The rows of the program.
 
-use crate::row::{Access, Content, LineOption, OptionOf, Place, PlaceOf, Row, RowOf, WordKindOf};
+ghost use Rattle.std.specs.Prelude.{◌≡◌, map, IsTrue};
+ghost use Rattle.abt_words.specs.Rows.{row_in, run_rows, other_rows};
+ghost use Rattle.abt_words.specs.Values.{have_room};
+
+use crate::row::{
+    Access, Content, LineOption, OptionOf, Place, PlaceOf, Row, RowOf, WordKind, WordKindOf,
+};
 
 /// The lines of the program, in the order in which help shows them.
 #[derive(Clone, Copy, Debug, PartialEq, Eq)]
@@ -15,11 +21,14 @@ pub enum LineName {
     Lossy,
     Measure,
     Survey,
+    Story,
     Bound,
+    Order,
     Queens,
     Colouring,
     Sparse,
     Pigeons,
+    Binary,
     Drill,
     Cnf,
     Rup,
@@ -55,6 +64,15 @@ const NEW_LOG: Place = PlaceOf {
     },
 };
 
+/// A schedule that is read.
+const SCHEDULE: Place = PlaceOf {
+    shown: "SCHEDULE",
+    kind: WordKindOf::File {
+        content: Content::Schedule,
+        access: Access::Read,
+    },
+};
+
 /// A schedule that is written.
 const RECORD: Place = PlaceOf {
     shown: "FILE",
@@ -79,6 +97,21 @@ const NEW_PROOF: Place = PlaceOf {
     kind: WordKindOf::File {
         content: Content::Proof,
         access: Access::Written,
+    },
+};
+
+/// The number of a variable, or how many there are.
+const VARIABLES: WordKind = WordKindOf::Number {
+    least: 1,
+    most: 4096,
+};
+
+/// How many queens, nodes or variables a generated model has.
+const SIZE: Place = PlaceOf {
+    shown: "N",
+    kind: WordKindOf::Number {
+        least: 1,
+        most: 200,
     },
 };
 
@@ -136,6 +169,12 @@ const TRACE_OPTION: LineOption = OptionOf {
     value: None,
 };
 
+/// The option that asks to be told how far a run is.
+const PROGRESS_OPTION: LineOption = OptionOf {
+    word: "--progress",
+    value: None,
+};
+
 /// The option that asks for each solution of a search.
 const EACH_OPTION: LineOption = OptionOf {
     word: "--each",
@@ -148,7 +187,7 @@ const HALVES_OPTION: LineOption = OptionOf {
     value: None,
 };
 
-/// `solve MODEL LOG [--seed N] [--choices N] [--record FILE] [--trace] [--each] [--halves]`: a run under the choices of a seed.
+/// `solve MODEL LOG [--seed N] [--choices N] [--record FILE] [--trace] [--progress] [--each] [--halves]`: a run under the choices of a seed.
 pub const SOLVE: Row = RowOf {
     line: LineName::Solve,
     keyword: &["solve"],
@@ -158,6 +197,7 @@ pub const SOLVE: Row = RowOf {
         CHOICES_OPTION,
         RECORD_OPTION,
         TRACE_OPTION,
+        PROGRESS_OPTION,
         EACH_OPTION,
         HALVES_OPTION,
     ],
@@ -168,7 +208,8 @@ pub const SOLVE: Row = RowOf {
         "the model asks for the least or the greatest value, prints the best",
         "solution and `==========`, and LOG refutes every better value. With",
         "--choices the run, or each round of a search, has N choices; with",
-        "--each a search prints all it finds, with --halves in few rounds",
+        "--each a search prints all it finds, with --halves in few rounds;",
+        "--progress tells each million deliveries how far the run is",
     ],
 };
 
@@ -176,17 +217,7 @@ pub const SOLVE: Row = RowOf {
 pub const REPLAY: Row = RowOf {
     line: LineName::Replay,
     keyword: &["replay"],
-    places: &[
-        MODEL,
-        PlaceOf {
-            shown: "SCHEDULE",
-            kind: WordKindOf::File {
-                content: Content::Schedule,
-                access: Access::Read,
-            },
-        },
-        NEW_LOG,
-    ],
+    places: &[MODEL, SCHEDULE, NEW_LOG],
     options: &[TRACE_OPTION],
     tells: &["runs them under the choices of a schedule, as a record is"],
 };
@@ -287,17 +318,11 @@ pub const STARVE: Row = RowOf {
         MODEL,
         PlaceOf {
             shown: "FROM",
-            kind: WordKindOf::Number {
-                least: 1,
-                most: 4096,
-            },
+            kind: VARIABLES,
         },
         PlaceOf {
             shown: "TO",
-            kind: WordKindOf::Number {
-                least: 1,
-                most: 4096,
-            },
+            kind: VARIABLES,
         },
         RECORD,
     ],
@@ -335,16 +360,7 @@ pub const LOSSY: Row = RowOf {
 pub const MEASURE: Row = RowOf {
     line: LineName::Measure,
     keyword: &["measure"],
-    places: &[
-        MODEL,
-        PlaceOf {
-            shown: "SCHEDULE",
-            kind: WordKindOf::File {
-                content: Content::Schedule,
-                access: Access::Read,
-            },
-        },
-    ],
+    places: &[MODEL, SCHEDULE],
     options: &[],
     tells: &[
         "prints the measures of a run under the choices of a schedule, as a",
@@ -376,6 +392,28 @@ pub const SURVEY: Row = RowOf {
     ],
 };
 
+/// `story MODEL SCHEDULE FILE`: what happens in a run under the choices of a schedule, event by event.
+pub const STORY: Row = RowOf {
+    line: LineName::Story,
+    keyword: &["story"],
+    places: &[
+        MODEL,
+        SCHEDULE,
+        PlaceOf {
+            shown: "FILE",
+            kind: WordKindOf::File {
+                content: Content::Story,
+                access: Access::Written,
+            },
+        },
+    ],
+    options: &[],
+    tells: &[
+        "writes to FILE what happens in a run under the choices of a schedule,",
+        "as a record is: what each agent receives, learns, rules out and sends",
+    ],
+};
+
 /// `bound MODEL`: how many messages a run delivers at most.
 pub const BOUND: Row = RowOf {
     line: LineName::Bound,
@@ -385,17 +423,39 @@ pub const BOUND: Row = RowOf {
     tells: &["prints how many messages a run delivers at most"],
 };
 
+/// `order MODEL RULE FILE`: an order of the model's variables.
+pub const ORDER: Row = RowOf {
+    line: LineName::Order,
+    keyword: &["order"],
+    places: &[
+        MODEL,
+        PlaceOf {
+            shown: "RULE",
+            kind: WordKindOf::OneOf {
+                words: &["degree", "links", "reverse"],
+            },
+        },
+        PlaceOf {
+            shown: "FILE",
+            kind: WordKindOf::File {
+                content: Content::Order,
+                access: Access::Written,
+            },
+        },
+    ],
+    options: &[],
+    tells: &[
+        "writes to FILE an order of the variables by RULE: `degree`, more",
+        "neighbours first; `links`, each time most neighbours among those",
+        "placed; or `reverse`, the model's order backwards",
+    ],
+};
+
 /// `gen queens N`: the problem of so many queens.
 pub const QUEENS: Row = RowOf {
     line: LineName::Queens,
     keyword: &["gen", "queens"],
-    places: &[PlaceOf {
-        shown: "N",
-        kind: WordKindOf::Number {
-            least: 1,
-            most: 200,
-        },
-    }],
+    places: &[SIZE],
     options: &[],
     tells: &["prints the problem of N queens, 1 to 200"],
 };
@@ -405,13 +465,7 @@ pub const COLOURING: Row = RowOf {
     line: LineName::Colouring,
     keyword: &["gen", "colouring"],
     places: &[
-        PlaceOf {
-            shown: "N",
-            kind: WordKindOf::Number {
-                least: 1,
-                most: 200,
-            },
-        },
+        SIZE,
         PlaceOf {
             shown: "K",
             kind: WordKindOf::Number { least: 1, most: 16 },
@@ -429,10 +483,7 @@ pub const SPARSE: Row = RowOf {
     places: &[
         PlaceOf {
             shown: "N",
-            kind: WordKindOf::Number {
-                least: 1,
-                most: 4096,
-            },
+            kind: VARIABLES,
         },
         SEED,
     ],
@@ -453,6 +504,43 @@ pub const PIGEONS: Row = RowOf {
     }],
     options: &[],
     tells: &["prints the problem of N pigeons, 2 to 200, in one hole less"],
+};
+
+/// `gen binary N D EDGES PAIRS SEED`: a random binary problem.
+pub const BINARY: Row = RowOf {
+    line: LineName::Binary,
+    keyword: &["gen", "binary"],
+    places: &[
+        SIZE,
+        PlaceOf {
+            shown: "D",
+            kind: WordKindOf::Number {
+                least: 1,
+                most: 100,
+            },
+        },
+        PlaceOf {
+            shown: "EDGES",
+            kind: WordKindOf::Number {
+                least: 0,
+                most: 19_900,
+            },
+        },
+        PlaceOf {
+            shown: "PAIRS",
+            kind: WordKindOf::Number {
+                least: 0,
+                most: 10_000,
+            },
+        },
+        SEED,
+    ],
+    options: &[],
+    tells: &[
+        "prints a random problem of N variables, 1 to 200, with D values, 1",
+        "to 100, and EDGES constraints of two variables, each of which forbids",
+        "PAIRS pairs of values",
+    ],
 };
 
 /// `drill SEED`: runs of three generated models.
@@ -524,8 +612,29 @@ pub const USAGE: Row = RowOf {
     tells: &["prints the lines above for scripts: their files, numbers and options"],
 };
 
-/// Every line of words, in the order in which help and usage show them.
-pub const ROWS: &[Row] = &[
-    SOLVE, REPLAY, CHECK, UPGRADE, CORE, EXPORT, STARVE, LOSSY, MEASURE, SURVEY, BOUND, QUEENS,
-    COLOURING, SPARSE, PIGEONS, DRILL, CNF, RUP, HELP, VERSION, USAGE,
+/// The lines that make, measure or check runs, in the order in which help and usage show them.
+const RUN_ROWS: &[Row] = &[
+    SOLVE, REPLAY, CHECK, UPGRADE, CORE, EXPORT, STARVE, LOSSY, MEASURE, SURVEY, STORY,
 ];
+
+/// The lines behind those, likewise.
+const OTHER_ROWS: &[Row] = &[
+    BOUND, ORDER, QUEENS, COLOURING, SPARSE, PIGEONS, BINARY, DRILL, CNF, RUP, HELP, VERSION, USAGE,
+];
+
+// Where a table is named, it is written out, and the prover's steps are limited; so the two are named here alone.
+/// The lines that make, measure or check runs.
+pub fn run_rows() -> &'static [Row]
+    ensures rows { map row_in result.now ≡ run_rows }
+    ensures room { IsTrue (have_room run_rows) }
+{
+    RUN_ROWS
+}
+
+/// The others.
+pub fn other_rows() -> &'static [Row]
+    ensures rows { map row_in result.now ≡ other_rows }
+    ensures room { IsTrue (have_room other_rows) }
+{
+    OTHER_ROWS
+}

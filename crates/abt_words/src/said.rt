@@ -7,7 +7,7 @@ ghost use Rattle.abt_words.specs.Saying.{Absent, Fill, FitsOption, Gives, IsSaid
 ghost use Rattle.abt_words.specs.Values.{Fills, value_in, values_in, said_in, have_room, HasRoom};
 
 use crate::row::{LineOption, Place, Row};
-use crate::rows::ROWS;
+use crate::rows::{other_rows, run_rows};
 use crate::value::{Value, value_of};
 
 /// The most places that a row has, and the most options.
@@ -265,5 +265,8 @@ pub fn said_of(words: &[String]) -> Option<Said<'_>>
     ensures some { IfSome result (λ said. IsSaidBy the_rows (map string_bytes words.now) (said_in said)) }
     ensures none { IsNone result → (said : saying.Said) → IsSaidBy the_rows (map string_bytes words.now) said → ⊥ }
 {
-    said_by(ROWS, words)
+    match said_by(run_rows(), words) {
+        Some(said) => Some(said),
+        None => said_by(other_rows(), words),
+    }
 }

@@ -5,7 +5,7 @@ ghost use Rattle.abt_words.specs.Rows.{texts_in, place_in, option_in, row_in, th
 ghost use Rattle.abt_words.specs.Texts.{each_text, keyword_text, content_text, access_text, place_usage, option_usage, row_usage, usage_text, option_shown, row_form, gap, sentence, row_help, help_text};
 
 use crate::row::{Access, Content, LineOption, Place, Row, WordKindOf};
-use crate::rows::ROWS;
+use crate::rows::{other_rows, run_rows};
 use std::alloc::{AllocError, Global};
 
 /// What stands before the sentences that do not begin behind their form.
@@ -62,8 +62,10 @@ fn content_text(content: Content) -> &'static str
         Content::Model => "model",
         Content::Log => "log",
         Content::Schedule => "schedule",
+        Content::Order => "order",
         Content::Formula => "formula",
         Content::Proof => "proof",
+        Content::Story => "story",
     }
 }
 
@@ -148,7 +150,8 @@ pub fn usage(alloc: Global) -> Result<String, AllocError>
     ensures { IfOk result (λ text. string_bytes text ≡ usage_text the_rows) }
 {
     let mut text = String::new(alloc);
-    push_usage(&mut text, ROWS)?;
+    push_usage(&mut text, run_rows())?;
+    push_usage(&mut text, other_rows())?;
     Ok(text)
 }
 
@@ -254,7 +257,8 @@ pub fn help(alloc: Global) -> Result<String, AllocError>
     ensures { IfOk result (λ text. string_bytes text ≡ help_text the_rows) }
 {
     let mut text = String::from_str(alloc, HEAD)?;
-    push_rows_help(&mut text, ROWS)?;
+    push_rows_help(&mut text, run_rows())?;
+    push_rows_help(&mut text, other_rows())?;
     text.push_str(TAIL)?;
     Ok(text)
 }

@@ -3,7 +3,7 @@
 ghost use Rattle.std.specs.Prelude.{◌≡◌, ◌↔◌, ◌∷◌, [], map, option_copied, IfSome, IsNone, IsTrue};
 ghost use Rattle.abt_words.specs.Rows.{kind_in};
 ghost use Rattle.abt_words.specs.Saying as saying;
-ghost use Rattle.abt_words.specs.Saying.{IsFileName, IsAmong, Fits, value_words, name_in, number_in, given_name, given_number, given_signed, is_given};
+ghost use Rattle.abt_words.specs.Saying.{IsFileName, IsAmong, Fits, value_words, name_in, word_in, number_in, given_name, given_number, given_signed, is_given};
 ghost use Rattle.abt_words.specs.Values.{value_in};
 
 use crate::number::{number_within, signed_number_of};
@@ -33,6 +33,16 @@ impl<'w> Value<'w> {
     {
         match self {
             Value::Name(name) => name,
+            _ => "",
+        }
+    }
+
+    /// The one of some words, and no text where it is none.
+    pub fn word(self) -> &'w str
+        ensures { result.now ≡ word_in (value_in self.entry) }
+    {
+        match self {
+            Value::Word(word) => word,
             _ => "",
         }
     }

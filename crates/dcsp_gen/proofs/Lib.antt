@@ -1,3 +1,4 @@
 pub mod Ranges
 pub mod Drawn
 pub mod Selecting
+pub mod Choosing

@@ -1,7 +1,8 @@
 -- Selection in order, thing by thing, and how many pairs there are to select from.
-use Rattle.std.proofs.Common.{◌≡◌, ℕ, zero, suc, ◌+◌, ◌-◌, ◌*◌, ◌≤◌, ◌<◌, Bool, true, false, not, List, [], ◌∷◌, ◌++◌, map, flat_map, length, refl, ap, ◌∙◌, append_assoc, arith, length-append}
+use Rattle.std.proofs.Common.{◌≡◌, ℕ, zero, suc, ◌+◌, ◌-◌, ◌*◌, ◌≤◌, ◌<◌, Bool, true, false, not, List, [], ◌∷◌, ◌++◌, flat_map, length, refl, ap, ◌∙◌, append_assoc, arith, length-append}
 use Rattle.std.specs.Prelude.{if◌then◌else◌}
 use Rattle.std.specs.List.{range_with_len}
+use Rattle.std.proofs.lemmas.List.{length-map}
 use mathlib.Core.Bool.{beq}
 use Rattle.rand_pcg.specs.Lcg.{Lcg}
 use Rattle.rand_pcg.specs.Pcg.{pcg32}
@@ -39,13 +40,9 @@ one_word_less count words new word drawn = ap (λ (p : ℕ × Lcg). words_after 
 
 -- ---- how many pairs there are
 
-length_range : (low count : ℕ) → length (range_with_len low count) ≡ count
+pub length_range : (low count : ℕ) → length (range_with_len low count) ≡ count
 length_range low zero = refl
 length_range low (suc count) = ap suc (length_range (low + 1) count)
-
-length_mapped : {X Y : Type 0} → (f : X → Y) (xs : List X) → length (map f xs) ≡ length xs
-length_mapped f [] = refl
-length_mapped f (x ∷ xs) = ap suc (length_mapped f xs)
 
 -- lists that are not longer than 200 each
 short_rows : {X : Type 0} → (f : ℕ → List X) (ns : List ℕ) → ((n : ℕ) → length (f n) ≤ 200) → length (flat_map f ns) ≤ 200 * length ns
@@ -59,7 +56,7 @@ short_rows f (n ∷ ns) each =
 pub few_pairs : (n : ℕ) → n ≤ 200 → length (pairs n) < 2147483648
 few_pairs n l =
     let short = short_rows (pairs_of n) (range_with_len 1 n) (λ first.
-    let many = length_mapped {Y = ℕ × ℕ} (λ second. (first, second)) (range_with_len (first + 1) (n - first)) in
+    let many = length-map {B = ℕ × ℕ} (range_with_len (first + 1) (n - first)) (λ second. (first, second)) in
     let count = length_range (first + 1) (n - first) in
     omega (arith, l, many, count))
     in
@@ -68,7 +65,7 @@ few_pairs n l =
 pub few_value_pairs : (n : ℕ) → n ≤ 100 → length (value_pairs n) < 2147483648
 few_value_pairs n l =
     let short = short_rows (values_with n) (range_with_len 0 n) (λ first.
-    let many = length_mapped {Y = ℕ × ℕ} (λ second. (first, second)) (range_with_len 0 n) in
+    let many = length-map {B = ℕ × ℕ} (range_with_len 0 n) (λ second. (first, second)) in
     let count = length_range 0 n in
     omega (arith, l, many, count))
     in

@@ -1,5 +1,5 @@
 -- Random binary problems: so many pairs of variables have a constraint, and each forbids so many pairs of values.
-use Rattle.std.specs.Prelude.{ℕ, ◌-◌, true, false, List, [], ◌∷◌, ◌++◌, map, flat_map, codes, decimal, length}
+use Rattle.std.specs.Prelude.{ℕ, ◌+◌, ◌-◌, ◌*◌, Bool, true, false, ◌&&◌, nat_le, List, [], ◌∷◌, ◌++◌, map, flat_map, codes, decimal, length}
 use Rattle.std.specs.List.{concat, range_with_len}
 use Rattle.dcsp_gen.specs.Lines.{array_line, solve_line}
 use Rattle.dcsp_gen.specs.Problems.{pairs}
@@ -50,3 +50,8 @@ abbrev pub binary_text : ℕ → ℕ → ℕ → ℕ → (ℕ → ℕ) → List 
 binary_text n d edges forbidden words =
     value_lines (d - 1) n ++ array_line (codes "x") n
     ++ table_lines forbidden (value_pairs d) (words_after (length (pairs n)) words) (selected true words edges (pairs n)) ++ solve_line
+
+-- there are as many pairs of variables and of values as are wanted, and all constraints together have at most 1,048,576 terms and entries
+abbrev pub sizes_fit : ℕ → ℕ → ℕ → ℕ → Bool
+sizes_fit n d edges forbidden =
+    nat_le (2 * edges) (n * (n - 1)) && nat_le forbidden (d * d) && nat_le (edges * (2 * (d * d - forbidden) + 2)) 1048576

@@ -3,3 +3,4 @@ pub mod Words
 pub mod Problems
 pub mod Selection
 pub mod Binary
+pub mod Chosen

@@ -3,10 +3,10 @@
 ghost use Rattle.std.specs.Prelude.{◌≡◌, ◌+◌, ◌-◌, ◌<◌, ◌≤◌, ◌^◌, ◌++◌, flat_map, string_bytes, codes, IfOk, OnOk, length};
 ghost use Rattle.abt_schedule.specs.Answers.{generator_of, word_at};
 ghost use Rattle.dcsp_gen.specs.Problems.{pairs, pairs_of};
-ghost use Rattle.dcsp_gen.specs.Binary.{binary_text, entries, entry, later_entry, table_line, table_lines, value_line, value_lines, value_pairs, values_with};
+ghost use Rattle.dcsp_gen.specs.Binary.{binary_text, entries, entry, later_entry, table_line, table_lines, sizes_fit, value_line, value_lines, value_pairs, values_with};
 
 use crate::lines::{push_array, push_solve};
-use crate::selection::{Pair, select};
+use crate::selection::{NumberPair, select};
 use dcsp_common::Memory;
 use rand_core::SeedableRng;
 use rand_pcg::Pcg32;
@@ -23,6 +23,26 @@ pub struct BinarySizes {
     pub edges: u32,
     /// How many pairs of values each constraint forbids.
     pub forbidden: u32,
+}
+
+/// The most terms and entries of all constraints together.
+const MOST_TERMS: u32 = 1_048_576;
+
+impl BinarySizes {
+    /// Whether there are as many pairs of variables and of values as are wanted, and all constraints together
+    /// have at most 1,048,576 terms and entries.
+    pub fn fit(&self) -> bool
+        requires variables { (1 ≤ self.now.variables) × (self.now.variables ≤ 200) }
+        requires values { self.now.values ≤ 100 }
+        requires edges { self.now.edges ≤ 19900 }
+        ensures { result ≡ sizes_fit self.now.variables self.now.values self.now.edges self.now.forbidden }
+    {
+        let value_pairs = self.values * self.values;
+        if self.variables * (self.variables - 1) < 2 * self.edges || value_pairs < self.forbidden {
+            return false;
+        }
+        self.edges * (2 * (value_pairs - self.forbidden) + 2) <= MOST_TERMS
+    }
 }
 
 /// A random binary problem. The pairs of variables are gone through in rising order, each with a word of `seed`,
@@ -75,7 +95,7 @@ fn push_value_lines(text: &mut String, high: u32, count: u32) -> Result<(), Allo
 }
 
 /// The pairs of the numbers 1 to `n`, the lesser first.
-fn variable_pairs(alloc: Global, n: u32) -> Result<Vec<Pair>, AllocError>
+fn variable_pairs(alloc: Global, n: u32) -> Result<Vec<NumberPair>, AllocError>
     requires { n ≤ 200 }
     ensures { IfOk result (λ list. list.items ≡ pairs n) }
 {
@@ -87,7 +107,7 @@ fn variable_pairs(alloc: Global, n: u32) -> Result<Vec<Pair>, AllocError>
 }
 
 /// A number with each later one.
-fn push_later(list: &mut Vec<Pair>, n: u32, first: u32) -> Result<(), AllocError>
+fn push_later(list: &mut Vec<NumberPair>, n: u32, first: u32) -> Result<(), AllocError>
     requires most { n ≤ 200 }
     requires within { first ≤ n }
     ensures { OnOk result (list.new.items ≡ list.old.items ++ pairs_of n first) }
@@ -99,7 +119,7 @@ fn push_later(list: &mut Vec<Pair>, n: u32, first: u32) -> Result<(), AllocError
 }
 
 /// The pairs of the numbers below `count`.
-fn value_pairs(alloc: Global, count: u32) -> Result<Vec<Pair>, AllocError>
+fn value_pairs(alloc: Global, count: u32) -> Result<Vec<NumberPair>, AllocError>
     ensures { IfOk result (λ list. list.items ≡ value_pairs count) }
 {
     let mut list = Vec::new(alloc);
@@ -110,7 +130,7 @@ fn value_pairs(alloc: Global, count: u32) -> Result<Vec<Pair>, AllocError>
 }
 
 /// A number with each below `count`.
-fn push_values_with(list: &mut Vec<Pair>, count: u32, first: u32) -> Result<(), AllocError>
+fn push_values_with(list: &mut Vec<NumberPair>, count: u32, first: u32) -> Result<(), AllocError>
     ensures { OnOk result (list.new.items ≡ list.old.items ++ values_with count first) }
 {
     for second in 0..count {
@@ -124,8 +144,8 @@ fn push_tables(
     alloc: Global,
     text: &mut String,
     forbidden: u32,
-    values: &[Pair],
-    edges: &[Pair],
+    values: &[NumberPair],
+    edges: &[NumberPair],
     words: &mut Pcg32,
 ) -> Result<(), AllocError>
     requires { length values.now < 2 ^ 31 }
@@ -139,7 +159,7 @@ fn push_tables(
 }
 
 /// The constraint that two variables have the values of a row.
-fn push_table(text: &mut String, edge: Pair, rows: &[Pair]) -> Result<(), AllocError>
+fn push_table(text: &mut String, edge: NumberPair, rows: &[NumberPair]) -> Result<(), AllocError>
     ensures { OnOk result (string_bytes text.new ≡ string_bytes text.old ++ table_line edge rows.now) }
 {
     let (first, second) = edge;
@@ -150,7 +170,7 @@ fn push_table(text: &mut String, edge: Pair, rows: &[Pair]) -> Result<(), AllocE
 }
 
 /// The rows, with a comma between any two sizes.
-fn push_entries(text: &mut String, rows: &[Pair]) -> Result<(), AllocError>
+fn push_entries(text: &mut String, rows: &[NumberPair]) -> Result<(), AllocError>
     ensures { OnOk result (string_bytes text.new ≡ string_bytes text.old ++ entries rows.now) }
 {
     let Some((first, later)) = rows.split_first() else {
@@ -163,14 +183,14 @@ fn push_entries(text: &mut String, rows: &[Pair]) -> Result<(), AllocError>
     Ok(())
 }
 
-fn push_entry(text: &mut String, row: Pair) -> Result<(), AllocError>
+fn push_entry(text: &mut String, row: NumberPair) -> Result<(), AllocError>
     ensures { OnOk result (string_bytes text.new ≡ string_bytes text.old ++ entry row) }
 {
     let (first, second) = row;
     write!(text, "{first},{second}")
 }
 
-fn push_later_entry(text: &mut String, row: Pair) -> Result<(), AllocError>
+fn push_later_entry(text: &mut String, row: NumberPair) -> Result<(), AllocError>
     ensures { OnOk result (string_bytes text.new ≡ string_bytes text.old ++ later_entry row) }
 {
     text.push_str(",")?;

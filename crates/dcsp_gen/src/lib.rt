@@ -6,10 +6,12 @@
 #![tactic(auto)]
 
 mod binary_texts;
+mod laws;
 mod lines;
 mod problems;
 mod selection;
 
 pub use binary_texts::{BinarySizes, binary};
 pub use dcsp_common::Memory;
+pub use laws::selections_are_exact;
 pub use problems::{colouring, pigeons, queens, sparse};

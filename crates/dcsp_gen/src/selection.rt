@@ -9,7 +9,7 @@ use rand_pcg::Pcg32;
 use std::alloc::{AllocError, Global};
 
 /// Two variables, or two values.
-pub type Pair = (u32, u32);
+pub type NumberPair = (u32, u32);
 
 /// Those of the pairs that are chosen, where so many are wanted, or those that are not chosen.
 ///
@@ -18,11 +18,11 @@ pub type Pair = (u32, u32);
 /// so many.
 pub fn select(
     alloc: Global,
-    pairs: &[Pair],
+    pairs: &[NumberPair],
     kept: bool,
     wanted: u32,
     words: &mut Pcg32,
-) -> Result<Vec<Pair>, AllocError>
+) -> Result<Vec<NumberPair>, AllocError>
     requires { length pairs.now < 2 ^ 31 }
     ensures pairs { IfOk result (λ list. list.items ≡ selected kept (word_at words.old) wanted pairs.now) }
     ensures words { OnOk result (word_at words.new ≡ words_after (length pairs.now) (word_at words.old)) }
@@ -58,7 +58,7 @@ fn wanted_after(chosen: bool, wanted: u32) -> u32
 }
 
 /// Appends the pair, if it is to be kept.
-fn push_if(list: &mut Vec<Pair>, kept: bool, pair: Pair) -> Result<(), AllocError>
+fn push_if(list: &mut Vec<NumberPair>, kept: bool, pair: NumberPair) -> Result<(), AllocError>
     ensures { OnOk result (list.new.items ≡ (if kept then list.old.items ++ pair ∷ [] else list.old.items)) }
 {
     if kept {

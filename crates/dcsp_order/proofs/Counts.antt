@@ -45,7 +45,7 @@ sum_without f n (first ∷ order) once i = elim (eqb_tells first n) [
       omega (arith, rest, a, b, c)
 ]
 
-length_without : (n : ℕ) (order : List ℕ) → IsDistinct order → In n order → length order ≡ suc (length (without n order))
+pub length_without : (n : ℕ) (order : List ℕ) → IsDistinct order → In n order → length order ≡ suc (length (without n order))
 length_without n [] once i = absurd i
 length_without n (first ∷ order) once i = elim (eqb_tells first n) [
   | inl t ↦

@@ -6,3 +6,11 @@ pub mod Pairs
 pub mod Steps
 pub mod Counts
 pub mod Stays
+pub mod Missing
+pub mod TextLines
+pub mod FirstBad
+pub mod TextAnswered
+pub mod Flags
+pub mod Placing
+pub mod OneOrder
+pub mod Sharing

@@ -38,7 +38,7 @@ map_more f [] k x e = cc
 map_more f (y ∷ xs) zero x e = let same : y ≡ x = cc in ap (λ z. f z ∷ []) same
 map_more f (y ∷ xs) (suc k) x e = ap (λ z. f y ∷ z) (map_more f xs k x e)
 
-item_of : {X : Type 0} → (xs : List X) (k : ℕ) (d : X) → k < length xs → In (get_or xs k d) xs
+pub item_of : {X : Type 0} → (xs : List X) (k : ℕ) (d : X) → k < length xs → In (get_or xs k d) xs
 item_of [] k d l = absurd (omega arith)
 item_of (x ∷ xs) zero d l = inl refl
 item_of (x ∷ xs) (suc k) d l = inr (item_of xs k d (omega arith))

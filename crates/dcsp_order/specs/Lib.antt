@@ -2,3 +2,8 @@ pub mod Orders
 pub mod Under
 pub mod Renumbered
 pub mod Laws
+pub mod Texts
+pub mod ByRule
+pub mod Taken
+pub mod Shared
+pub mod Turns

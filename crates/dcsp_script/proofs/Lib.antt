@@ -5,3 +5,7 @@ pub mod Lines
 pub mod Left
 pub mod Parts
 pub mod Texts
+pub mod Coming
+pub mod Following
+pub mod Fetched
+pub mod Steps

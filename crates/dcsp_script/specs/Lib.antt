@@ -2,3 +2,7 @@ pub mod Scripts
 pub mod Ways
 pub mod Left
 pub mod Texts
+pub mod Statuses
+pub mod Promises
+pub mod Runs
+pub mod Clauses

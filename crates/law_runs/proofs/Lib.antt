@@ -33,3 +33,5 @@ pub mod MeasureSums
 pub mod NextActs
 pub mod Starting
 pub mod Keeping
+pub mod Meets
+pub mod CalmEnd

@@ -19,3 +19,7 @@ pub mod Chains
 pub mod Starts
 pub mod Keeping
 pub mod MeasureSums
+pub mod Models
+pub mod Rows
+pub mod LossyRows
+pub mod MeasuredRows

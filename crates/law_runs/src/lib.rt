@@ -4,6 +4,7 @@
 
 pub mod lossy;
 pub mod measures;
+pub mod samples;
 
 ghost use Rattle.dcsp_defs.specs.Csp.{Csp};
 ghost use Rattle.law_runs.specs.Bounded.{Bounded, UnfinishedBelow};

@@ -36,3 +36,18 @@ mod Building
 pub mod Accepting
 mod Finding
 pub mod Learning
+pub mod Checks
+pub mod MeantNames
+pub mod Values
+pub mod Sorts
+pub mod Arguments
+pub mod MeantConstraints
+pub mod Growth
+pub mod Domains
+pub mod Fits
+pub mod Declared
+pub mod Items
+pub mod MeantSteps
+pub mod Goals
+pub mod MeantWhole
+pub mod Optima

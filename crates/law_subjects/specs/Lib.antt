@@ -13,3 +13,7 @@ pub mod Formulas
 pub mod Accepting
 pub mod Finding
 pub mod Learning
+pub mod Environments
+pub mod Holding
+pub mod Meaning
+pub mod Best

@@ -2,6 +2,7 @@
 #![tactic(auto)]
 
 pub mod generated;
+pub mod meaning;
 
 ghost use Rattle.dcsp_defs.specs.Csp.{Csp};
 ghost use Rattle.law_subjects.specs.Accepting.{AcceptedAreProblems};

@@ -5,8 +5,8 @@ use Rattle.dcsp_outside.specs.Outside.{bytes_of}
 use Rattle.dcsp_rule.specs.Problems.{Contents, csp_of}
 use Rattle.ngd_check.specs.declared.Finding.{Finding}
 use Rattle.ngd_check.specs.declared.Finding.TheVariants.{Verified, BadStep, BadDeletion, NotEmpty}
-use Rattle.abt_promise.specs.declared.status.Status.TheVariants.{Good}
-use Rattle.abt_promise.specs.Promises.{IsHeld}
+use Rattle.dcsp_script.specs.declared.status.Status.TheVariants.{Good}
+use Rattle.dcsp_script.specs.Promises.{IsHeld}
 use Rattle.line_check.specs.Taking.{Taking}
 use Rattle.line_check.specs.Checks.{IsRefutedBy, finding_status}
 

@@ -9,8 +9,8 @@ use Rattle.ngd_check.specs.Entries.{steps_of}
 use Rattle.ngd_check.proofs.Once.{one_finding_of}
 use Rattle.dcsp_defs.specs.declared.entry.Entry.{Entry}
 use Rattle.ngd_log.proofs.EntryLaws.{entries_or_bad_line}
-use Rattle.abt_promise.specs.Statuses.{IsFinal, IsRefusal}
-use Rattle.abt_promise.specs.Clauses.{IsLawful}
+use Rattle.dcsp_script.specs.Statuses.{IsFinal, IsRefusal}
+use Rattle.dcsp_script.specs.Clauses.{IsLawful}
 use Rattle.abt_input.specs.declared.error.CommandError.{CommandError}
 use Rattle.abt_input.specs.declared.error.CommandError.TheVariants.{ModelLong, ModelRefused, NoAim, LogLong, LogLine, ScheduleLong, ScheduleLine, Clauses, Fault, Memory}
 use Rattle.abt_input.specs.Errors.{error_status}

@@ -4,7 +4,7 @@ use Rattle.std.specs.Prelude.{IsSome, ⊤}
 use Rattle.dcsp_problem.specs.declared.problem.Problem.{Problem}
 use Rattle.dcsp_rule.specs.Problems.{Contents}
 use Rattle.dcsp_rule.specs.Aims.{aimed_at, narrowed}
-use Rattle.abt_promise.specs.Statuses.{IsFinal}
+use Rattle.dcsp_script.specs.Statuses.{IsFinal}
 use Rattle.abt_input.specs.Inputs.{IsModelOf}
 use Rattle.abt_input.specs.Errors.{IsErrorOfModel, error_status}
 use Rattle.abt_input.specs.declared.error.CommandError.{CommandError}

@@ -15,8 +15,8 @@ use Rattle.ngd_log.specs.Pieces.{IsFed, TakesFront, Completes}
 use Rattle.ngd_check.specs.Entries.{steps_of}
 use Rattle.ngd_check.specs.Progress.{HasTaken}
 use Rattle.dcsp_script.specs.declared.stop.Stop.{Stop}
-use Rattle.abt_promise.specs.Promises.{TellOf, AreBytesOf}
-use Rattle.abt_promise.proofs.Fetched.{tell_both}
+use Rattle.dcsp_script.specs.Promises.{TellOf, AreBytesOf}
+use Rattle.dcsp_script.proofs.Fetched.{tell_both}
 use Rattle.abt_input.specs.Inputs.{most_log}
 use Rattle.line_check.specs.declared.log_check.LogCheck.{LogCheck}
 use Rattle.line_check.specs.LogChecks.{HasSameTask, HasGoneOn, HasTakenFront, HasCome, HasHanded, StandsAt, HasEndedBelow, WasStopped, LeadsOn, LeadsToEnd, IsLogLong}

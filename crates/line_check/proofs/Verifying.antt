@@ -14,12 +14,12 @@ use Rattle.ngd_log.specs.EntryTexts.{entry_lines, IsLogOfEntries}
 use Rattle.ngd_log.proofs.OneAnswer.{have_text}
 use Rattle.ngd_check.proofs.Forms.{one_form}
 use Rattle.ngd_check.specs.declared.Finding.TheVariants.{Verified}
-use Rattle.abt_promise.specs.declared.status.Status.{Status}
-use Rattle.abt_promise.specs.declared.status.Status.TheVariants.{Good, No, Words, Model, Input, Unfinished, Fault, Memory}
-use Rattle.abt_promise.specs.Statuses.{IsFinal}
-use Rattle.abt_promise.specs.Promises.{answered}
-use Rattle.abt_promise.specs.Runs.{Ran}
-use Rattle.abt_promise.proofs.Following.{report_did}
+use Rattle.dcsp_script.specs.declared.status.Status.{Status}
+use Rattle.dcsp_script.specs.declared.status.Status.TheVariants.{Good, No, Words, Model, Input, Unfinished, Fault, Memory}
+use Rattle.dcsp_script.specs.Statuses.{IsFinal}
+use Rattle.dcsp_script.specs.Promises.{answered}
+use Rattle.dcsp_script.specs.Runs.{Ran}
+use Rattle.dcsp_script.proofs.Following.{report_did}
 use Rattle.abt_input.specs.Inputs.{IsModelOf, IsTextOf}
 use Rattle.abt_input.specs.Plans.{PlanReports}
 use Rattle.line_check.specs.Taking.{taking_of}

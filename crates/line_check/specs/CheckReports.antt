@@ -2,7 +2,7 @@
 use Rattle.std.specs.Prelude.{ℕ, List, [], ◌∷◌}
 use Rattle.ngd_check.specs.declared.Finding.{Finding}
 use Rattle.dcsp_script.specs.Scripts.{Put}
-use Rattle.abt_promise.specs.Promises.{Promise}
+use Rattle.dcsp_script.specs.Promises.{Promise}
 use Rattle.abt_input.specs.Plans.{Plan, Answer, Read, promise_by}
 use Rattle.line_check.specs.Taking.{Taking, model_by}
 use Rattle.line_check.specs.Checks.{log_for, finding_status, finding_text}

@@ -8,8 +8,8 @@ use Rattle.ngd_check.specs.declared.Finding.TheVariants.{Verified, BadStep, BadD
 use Rattle.ngd_check.specs.Findings.{IsFindingOf}
 use Rattle.dcsp_defs.specs.declared.entry.Entry.{Entry}
 use Rattle.ngd_log.specs.EntryTexts.{IsLogOfEntries, IsFirstBadLine}
-use Rattle.abt_promise.specs.declared.status.Status.{Status}
-use Rattle.abt_promise.specs.declared.status.Status.TheVariants.{Good, No}
+use Rattle.dcsp_script.specs.declared.status.Status.{Status}
+use Rattle.dcsp_script.specs.declared.status.Status.TheVariants.{Good, No}
 use Rattle.abt_input.specs.Inputs.{most_log}
 use Rattle.abt_input.specs.Kinds.{FileKind}
 use Rattle.abt_input.specs.declared.error.CommandError.{CommandError}

@@ -11,7 +11,7 @@ use Rattle.ngd_log.specs.Pieces.{IsFed}
 use Rattle.ngd_check.specs.Entries.{steps_of}
 use Rattle.ngd_check.specs.Progress.{HasTaken}
 use Rattle.dcsp_outside.specs.Handed.{Handed}
-use Rattle.abt_promise.specs.Promises.{TellOf, AreBytesOf}
+use Rattle.dcsp_script.specs.Promises.{TellOf, AreBytesOf}
 use Rattle.abt_input.specs.Kinds.{FileKind}
 use Rattle.abt_input.specs.Inputs.{most_log}
 use Rattle.dcsp_rule.specs.Problems.{Contents, csp_of}

@@ -2,9 +2,9 @@
 use Rattle.std.specs.Prelude.{◌≡◌, ℕ, List, Option, Some}
 use Rattle.dcsp_outside.specs.Outside.{Stream}
 use Rattle.dcsp_script.specs.Scripts.{World}
-use Rattle.abt_promise.specs.declared.status.Status.{Status}
-use Rattle.abt_promise.specs.declared.status.Status.TheVariants.{Good, No, Words, Model, Input, Unfinished, Fault, Memory}
-use Rattle.abt_promise.specs.Runs.{Ran}
+use Rattle.dcsp_script.specs.declared.status.Status.{Status}
+use Rattle.dcsp_script.specs.declared.status.Status.TheVariants.{Good, No, Words, Model, Input, Unfinished, Fault, Memory}
+use Rattle.dcsp_script.specs.Runs.{Ran}
 use Rattle.line_check.specs.Taking.{Taking, plain}
 use Rattle.line_check.specs.CheckReports.{check_promise}
 

@@ -4,7 +4,7 @@ ghost use Rattle.std.specs.Prelude.{◌≡◌, ◌↔◌, true, [], ◌∷◌, O
 ghost use Rattle.dcsp_outside.specs.Outside.{Place};
 ghost use Rattle.dcsp_script.specs.Scripts.{Put, outside};
 ghost use Rattle.dcsp_script.specs.Ways.{Wrote};
-ghost use Rattle.abt_promise.specs.Runs.{CameIn};
+ghost use Rattle.dcsp_script.specs.Runs.{CameIn};
 ghost use Rattle.abt_input.specs.Errors.{way_of};
 ghost use Rattle.line_check.specs.Checks.{IsRefutedBy, finding_status, finding_text};
 ghost use Rattle.line_check.specs.Taking.{taking_of};
@@ -13,9 +13,8 @@ ghost use Rattle.line_check.specs.CheckReports.{check_promise};
 use crate::asked::take_problem;
 use crate::pieces::check_log;
 use abt_input::{AnswerLine, CommandError};
-use abt_promise::Status;
 use dcsp_outside::{Folder, Sink};
-use dcsp_script::{Stop, put};
+use dcsp_script::{Status, Stop, put};
 use ngd_check::Finding;
 use std::alloc::Global;
 

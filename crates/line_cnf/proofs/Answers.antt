@@ -9,10 +9,10 @@ use Rattle.rup_check.specs.Propagation.{IsAccepted}
 use Rattle.rup_check.specs.Verdicts.{IsFirstBad, IsVerdict}
 use Rattle.rup_check.specs.declared.check.Rup.{Rup}
 use Rattle.rup_check.specs.declared.check.Rup.TheVariants.{Verified, BadClause, NotEmpty}
-use Rattle.abt_promise.specs.declared.status.Status.{Status}
-use Rattle.abt_promise.specs.declared.status.Status.TheVariants.{Good, No}
-use Rattle.abt_promise.specs.Statuses.{IsFinal, IsRefusal}
-use Rattle.abt_promise.specs.Promises.{IsHeld}
+use Rattle.dcsp_script.specs.declared.status.Status.{Status}
+use Rattle.dcsp_script.specs.declared.status.Status.TheVariants.{Good, No}
+use Rattle.dcsp_script.specs.Statuses.{IsFinal, IsRefusal}
+use Rattle.dcsp_script.specs.Promises.{IsHeld}
 use Rattle.abt_input.specs.Inputs.{IsFormulaOf, HasClauses}
 use Rattle.abt_input.proofs.Once.{one_formula, one_proof}
 use Rattle.line_cnf.specs.Satisfying.{clauses_of}

@@ -12,9 +12,9 @@ use Rattle.dcsp_script.proofs.After.{file_after-append}
 use Rattle.dcsp_script.proofs.Parts.{left_alone}
 use Rattle.rup_check.specs.ProofText.{clause_line, proof_text}
 use Rattle.abt_defs.specs.Runs.{Run, End, Refuted, Solved, Capped, Spent}
-use Rattle.abt_promise.specs.declared.status.Status.{Status}
-use Rattle.abt_promise.specs.declared.status.Status.TheVariants.{No}
-use Rattle.abt_promise.specs.Promises.{IsHeld}
+use Rattle.dcsp_script.specs.declared.status.Status.{Status}
+use Rattle.dcsp_script.specs.declared.status.Status.TheVariants.{No}
+use Rattle.dcsp_script.specs.Promises.{IsHeld}
 use Rattle.abt_input.specs.Inputs.{IsFormulaOf}
 use Rattle.abt_input.proofs.Once.{one_formula}
 use Rattle.line_replay.specs.Endings.{end_status}

@@ -22,11 +22,11 @@ use Rattle.rup_check.proofs.VerdictLaws.{true_alone, one_of}
 use Rattle.rup_check.proofs.PropagationLaws.{contains_map, contains_mapped, accepted_refutes}
 use Rattle.cnf_front.specs.Clauses.{literal_against, rule_clause, IsClauseRule}
 use Rattle.abt_defs.specs.Network.{values}
-use Rattle.abt_promise.specs.declared.status.Status.{Status}
-use Rattle.abt_promise.specs.declared.status.Status.TheVariants.{Good, No}
-use Rattle.abt_promise.specs.Promises.{IsHeld}
+use Rattle.dcsp_script.specs.declared.status.Status.{Status}
+use Rattle.dcsp_script.specs.declared.status.Status.TheVariants.{Good, No}
+use Rattle.dcsp_script.specs.Promises.{IsHeld}
 use Rattle.rup_check.specs.declared.check.Rup.TheVariants.{Verified}
-use Rattle.abt_promise.specs.Promises.{Report}
+use Rattle.dcsp_script.specs.Promises.{Report}
 use Rattle.abt_input.specs.Inputs.{IsFormulaOf, HasClauses}
 use Rattle.abt_input.proofs.Once.{one_formula}
 use Rattle.line_replay.specs.Endings.{assigned, final_values, end_status}

@@ -5,7 +5,7 @@ use Rattle.dcsp_rule.specs.Problems.{Contents}
 use Rattle.dcsp_script.specs.Scripts.{Put}
 use Rattle.dcsp_script.specs.Texts.{LeavesAlone}
 use Rattle.abt_defs.specs.Runs.{Run}
-use Rattle.abt_promise.specs.Clauses.{IsLawful}
+use Rattle.dcsp_script.specs.Clauses.{IsLawful}
 use Rattle.abt_input.specs.Plans.{IsSoundPlan}
 use Rattle.abt_input.proofs.ExactKinds.{formula_exact}
 use Rattle.abt_input.proofs.PlanLaws.{plan_lawful}

@@ -4,8 +4,8 @@ use Rattle.std.specs.Prelude.{neg_ℤ}
 use Rattle.dcsp_rule.specs.Problems.{Contents}
 use Rattle.rup_check.specs.Verdicts.{IsVerdict}
 use Rattle.rup_check.specs.declared.check.Rup.{Rup}
-use Rattle.abt_promise.specs.Promises.{Report}
-use Rattle.abt_promise.specs.Clauses.{IsLawful}
+use Rattle.dcsp_script.specs.Promises.{Report}
+use Rattle.dcsp_script.specs.Clauses.{IsLawful}
 use Rattle.abt_input.specs.Inputs.{IsFormulaOf, HasClauses}
 use Rattle.abt_input.specs.Plans.{IsSoundPlan}
 use Rattle.abt_input.proofs.ExactKinds.{formula_exact, proof_exact}

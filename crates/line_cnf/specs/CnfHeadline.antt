@@ -5,9 +5,9 @@ use Rattle.dcsp_rule.specs.Problems.{Contents}
 use Rattle.rup_check.specs.ProofText.{proof_text}
 use Rattle.rup_check.specs.Propagation.{IsAccepted}
 use Rattle.rup_check.specs.declared.check.Rup.TheVariants.{Verified}
-use Rattle.abt_promise.specs.Promises.{Report}
-use Rattle.abt_promise.specs.declared.status.Status.{Status}
-use Rattle.abt_promise.specs.declared.status.Status.TheVariants.{Good, No}
+use Rattle.dcsp_script.specs.Promises.{Report}
+use Rattle.dcsp_script.specs.declared.status.Status.{Status}
+use Rattle.dcsp_script.specs.declared.status.Status.TheVariants.{Good, No}
 use Rattle.abt_input.specs.Inputs.{IsFormulaOf}
 use Rattle.line_replay.specs.Endings.{final_values}
 use Rattle.line_replay.specs.Headline.{IsUnfinishedRun, IsBoundedRun}

@@ -1,6 +1,6 @@
 -- What `cnf CNF PROOF [--seed N]` promises.
 use Rattle.std.specs.Prelude.{ℕ, List, [], ◌∷◌}
-use Rattle.abt_promise.specs.Promises.{Promise}
+use Rattle.dcsp_script.specs.Promises.{Promise}
 use Rattle.abt_input.specs.Kinds.{a_formula}
 use Rattle.abt_input.specs.Plans.{Plan, Answer, Read, promise_by}
 use Rattle.line_replay.specs.Endings.{end_status}

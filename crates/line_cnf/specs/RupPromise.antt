@@ -9,9 +9,9 @@ use Rattle.rup_check.specs.Propagation.{IsAccepted}
 use Rattle.rup_check.specs.Verdicts.{IsVerdict}
 use Rattle.rup_check.specs.declared.check.Rup.{Rup}
 use Rattle.rup_check.specs.declared.check.Rup.TheVariants.{Verified, BadClause, NotEmpty}
-use Rattle.abt_promise.specs.declared.status.Status.{Status}
-use Rattle.abt_promise.specs.declared.status.Status.TheVariants.{Good, No}
-use Rattle.abt_promise.specs.Promises.{Report, Promise, answered}
+use Rattle.dcsp_script.specs.declared.status.Status.{Status}
+use Rattle.dcsp_script.specs.declared.status.Status.TheVariants.{Good, No}
+use Rattle.dcsp_script.specs.Promises.{Report, Promise, answered}
 use Rattle.abt_input.specs.Inputs.{IsFormulaOf, HasClauses}
 use Rattle.abt_input.specs.Kinds.{a_formula, a_proof}
 use Rattle.abt_input.specs.Plans.{Plan, Answer, Read, Find, PlanReports, promise_by}

@@ -10,10 +10,9 @@ ghost use Rattle.line_replay.specs.Outcomes.{outcome_status};
 ghost use Rattle.line_cnf.specs.CnfRuns.{deliveries_text, value_literal, value_literals};
 ghost use Rattle.line_cnf.specs.CnfOutcomes.{end_text, outcome_text};
 
-use abt_promise::Status;
 use abt_session::{End, Outcome};
 use dcsp_outside::Sink;
-use dcsp_script::{Stop, put};
+use dcsp_script::{Status, Stop, put};
 use itoa::Buffer;
 use std::alloc::{AllocError, Global};
 

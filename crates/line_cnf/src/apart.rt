@@ -8,15 +8,12 @@ ghost use Rattle.abt_session.specs.Running.{Gives};
 ghost use Rattle.line_cnf.specs.CnfRuns.{log_name, cnf_asked, cnf_run};
 ghost use Rattle.line_cnf.specs.CnfOutcomes.{refutation, HasMade, IsFormula};
 
-use abt_schedule::{ChoiceList, Seeded};
-use abt_session::{End, Outcome, run};
+use abt_schedule::Seeded;
+use abt_session::{End, MOST_DELIVERIES, Outcome, RunTask, Telling, run};
 use dcsp_outside::{SureFolder, SureSink};
 use dcsp_problem::Problem;
 use ngd_log::{Derivation, read_log};
 use std::alloc::{AllocError, Global};
-
-/// The most deliveries of a run.
-const MOST_DELIVERIES: u64 = 1 << 40;
 
 /// The name of the run's log.
 const LOG: &str = "cnf";
@@ -57,19 +54,13 @@ fn run_in(
 {
     let mut choices = Seeded::new(seed);
     let mut out = SureSink::new(alloc);
-    let mut taken = ChoiceList::new(alloc);
-    match run(
-        alloc,
-        problem,
-        &mut choices,
-        MOST_DELIVERIES,
-        apart,
-        LOG,
-        &mut out,
-        false,
-        &mut taken,
-        false,
-    ) {
+    let task = RunTask {
+        log: LOG,
+        most: MOST_DELIVERIES,
+        telling: Telling::nothing(),
+        keep: false,
+    };
+    match run(alloc, problem, &mut choices, task, apart, &mut out) {
         Ok(outcome) => Ok(outcome),
         Err(_) => Err(AllocError),
     }

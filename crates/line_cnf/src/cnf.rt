@@ -4,7 +4,7 @@ ghost use Rattle.std.specs.Prelude.{◌≡◌, IfOk};
 ghost use Rattle.dcsp_outside.specs.Outside.{Place, Stream};
 ghost use Rattle.dcsp_script.specs.Scripts.{outside};
 ghost use Rattle.dcsp_script.specs.Ways.{Wrote};
-ghost use Rattle.abt_promise.specs.Runs.{CameIn};
+ghost use Rattle.dcsp_script.specs.Runs.{CameIn};
 ghost use Rattle.abt_input.specs.Errors.{way_of};
 ghost use Rattle.line_replay.specs.Endings as endings;
 ghost use Rattle.line_cnf.specs.CnfRuns.{cnf_run, cnf_script};
@@ -16,10 +16,9 @@ use crate::answer::{status_of, tell};
 use crate::apart::run_apart;
 use crate::proof::write_proof;
 use abt_input::{CommandError, read_formula};
-use abt_promise::Status;
 use dcsp_outside::{Folder, Sink};
 use dcsp_problem::Problem;
-use dcsp_script::Stop;
+use dcsp_script::{Status, Stop};
 use std::alloc::Global;
 
 /// The words of `cnf`.

@@ -1,7 +1,7 @@
 //! What clauses say, and what the promises of these lines keep.
 
 ghost use Rattle.std.specs.Prelude.{ℕ, List};
-ghost use Rattle.abt_promise.specs.Clauses.{IsLawful};
+ghost use Rattle.dcsp_script.specs.Clauses.{IsLawful};
 ghost use Rattle.line_cnf.specs.Satisfying.{RulesAreClauses, SolutionsSatisfy, RefutationsAreProofs};
 ghost use Rattle.line_cnf.specs.RupPromise.{rup_promise};
 ghost use Rattle.line_cnf.specs.CnfPromise.{cnf_promise};

@@ -8,18 +8,17 @@ ghost use Rattle.rup_check.specs.Literals.{IsUnsatisfiable};
 ghost use Rattle.rup_check.specs.Verdicts.{IsVerdict};
 ghost use Rattle.rup_check.specs.declared.check.Rup.TheVariants.{Verified};
 ghost use Rattle.cnf_front.specs.Clauses.{IsClauseRule};
-ghost use Rattle.abt_promise.specs.declared.status.Status.TheVariants.{Good};
-ghost use Rattle.abt_promise.specs.Runs.{CameIn};
+ghost use Rattle.dcsp_script.specs.declared.status.Status.TheVariants.{Good};
+ghost use Rattle.dcsp_script.specs.Runs.{CameIn};
 ghost use Rattle.abt_input.specs.Errors.{way_of};
 ghost use Rattle.line_cnf.specs.Satisfying.{clauses_of};
 ghost use Rattle.line_cnf.specs.RupPromise.{rup_status, rup_text, rup_promise, HoldsRefuted, TellsExactly};
 
 use abt_input::{AnswerLine, CommandError, read_formula, read_proof};
-use abt_promise::Status;
 use cnf_front::formula_of;
 use dcsp_outside::{Folder, Sink};
 use dcsp_problem::Problem;
-use dcsp_script::{Stop, put};
+use dcsp_script::{Status, Stop, put};
 use rup_check::{ClauseList, Rup, check_rup};
 use std::alloc::{AllocError, Global};
 

@@ -4,9 +4,9 @@ use Rattle.std.specs.Prelude.{if◌then◌else◌}
 use Rattle.ngd_log.specs.Logs.{log_text}
 use Rattle.abt_schedule.specs.Answers.{word_at, generator_of}
 use Rattle.dcsp_gen.specs.Problems.{sparse_text, queens_text, pigeons_text}
-use Rattle.abt_promise.specs.declared.status.Status.TheVariants.{Good, Unfinished}
-use Rattle.abt_promise.specs.Statuses.{IsFinal, IsRefusal}
-use Rattle.abt_promise.specs.Clauses.{IsLawful}
+use Rattle.dcsp_script.specs.declared.status.Status.TheVariants.{Good, Unfinished}
+use Rattle.dcsp_script.specs.Statuses.{IsFinal, IsRefusal}
+use Rattle.dcsp_script.specs.Clauses.{IsLawful}
 use Rattle.abt_input.specs.Plans.{IsSoundPlan}
 use Rattle.abt_input.proofs.Once.{one_problem}
 use Rattle.abt_input.proofs.OwnWrites.{own_none, own_put}

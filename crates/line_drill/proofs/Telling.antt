@@ -16,7 +16,7 @@ use Rattle.abt_session.specs.Running.{IsEnd, Gives}
 use Rattle.abt_session.specs.declared.outcome.End.{End}
 use Rattle.abt_session.specs.declared.outcome.End.TheVariants.{Solved, Refuted, Spent, Capped}
 use Rattle.abt_session.specs.declared.outcome.Outcome.{Outcome}
-use Rattle.abt_promise.specs.declared.status.Status.{Status}
+use Rattle.dcsp_script.specs.declared.status.Status.{Status}
 use Rattle.abt_input.specs.Inputs.{IsModelOf}
 use Rattle.line_check.specs.Checks.{IsFoundFor, finding_text}
 use Rattle.line_replay.specs.Asked.{seeded_session}

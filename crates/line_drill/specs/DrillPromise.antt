@@ -6,7 +6,7 @@ use Rattle.ngd_log.specs.Logs.{log_text}
 use Rattle.ngd_check.specs.declared.Finding.{Finding}
 use Rattle.abt_schedule.specs.Answers.{word_at, generator_of}
 use Rattle.dcsp_gen.specs.Problems.{sparse_text, queens_text, pigeons_text}
-use Rattle.abt_promise.specs.Promises.{Promise}
+use Rattle.dcsp_script.specs.Promises.{Promise}
 use Rattle.abt_input.specs.Inputs.{IsModelOf}
 use Rattle.abt_input.specs.Plans.{Plan, Answer, Find, promise_by}
 use Rattle.line_check.specs.Checks.{IsFoundFor}

@@ -7,8 +7,8 @@ use Rattle.abt_defs.specs.Runs.{Run, End, Refuted, Solved, Capped, Spent}
 use Rattle.abt_schedule.specs.Answers.{word_at, generator_of}
 use Rattle.abt_session.specs.Sessions.{run_of}
 use Rattle.dcsp_gen.specs.Problems.{sparse_text, queens_text, pigeons_text}
-use Rattle.abt_promise.specs.declared.status.Status.{Status}
-use Rattle.abt_promise.specs.declared.status.Status.TheVariants.{Good, Unfinished}
+use Rattle.dcsp_script.specs.declared.status.Status.{Status}
+use Rattle.dcsp_script.specs.declared.status.Status.TheVariants.{Good, Unfinished}
 use Rattle.abt_input.specs.Inputs.{IsModelOf}
 use Rattle.line_check.specs.Checks.{IsFoundFor, finding_text}
 use Rattle.line_replay.specs.Asked.{seeded_session}

@@ -5,8 +5,8 @@ use Rattle.abt_session.specs.declared.outcome.End.TheVariants.{Solved, Refuted, 
 use Rattle.abt_session.specs.declared.outcome.Outcome.{Outcome}
 use Rattle.ngd_check.specs.declared.Finding.{Finding}
 use Rattle.line_check.specs.Checks.{finding_text}
-use Rattle.abt_promise.specs.declared.status.Status.{Status}
-use Rattle.abt_promise.specs.declared.status.Status.TheVariants.{Good, Unfinished}
+use Rattle.dcsp_script.specs.declared.status.Status.{Status}
+use Rattle.dcsp_script.specs.declared.status.Status.TheVariants.{Good, Unfinished}
 
 -- the word for an end
 abbrev pub outcome_word : End → List ℕ

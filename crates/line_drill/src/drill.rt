@@ -3,7 +3,7 @@
 ghost use Rattle.std.specs.Prelude.{◌≡◌, ◌++◌, ◌∷◌, [], IfOk, OnOk};
 ghost use Rattle.dcsp_outside.specs.Outside.{Place};
 ghost use Rattle.dcsp_script.specs.Scripts.{Put, outside};
-ghost use Rattle.abt_promise.specs.Runs.{CameIn};
+ghost use Rattle.dcsp_script.specs.Runs.{CameIn};
 ghost use Rattle.abt_input.specs.Errors.{way_of};
 ghost use Rattle.line_drill.specs.Drills.{Drill, drill_text, drill_status};
 ghost use Rattle.line_drill.specs.DrillPromise.{drill_promise};
@@ -12,11 +12,10 @@ ghost use Rattle.line_drill.specs.Outcomes.{is_open_end, told_status, told_text}
 use crate::run::{Trial, try_text};
 use crate::text::{push_number, push_run};
 use abt_input::CommandError;
-use abt_promise::Status;
 use abt_session::{End, Outcome};
 use dcsp_gen::{pigeons, queens, sparse};
 use dcsp_outside::Sink;
-use dcsp_script::put;
+use dcsp_script::{Status, put};
 use line_check::finding_line;
 use ngd_check::Finding;
 use std::alloc::{AllocError, Global};

@@ -10,17 +10,14 @@ ghost use Rattle.line_replay.specs.Asked.{seeded_session};
 ghost use Rattle.line_drill.specs.Drills.{log_name, run_from};
 
 use abt_input::read_model;
-use abt_schedule::{ChoiceList, Seeded};
-use abt_session::{Outcome, run};
+use abt_schedule::Seeded;
+use abt_session::{MOST_DELIVERIES, Outcome, RunTask, Telling, run};
 use dcsp_common::Memory;
 use dcsp_outside::{SureFolder, SureSink};
 use dcsp_problem::Problem;
 use line_check::check_log;
 use ngd_check::Finding;
 use std::alloc::{AllocError, Global};
-
-/// The most deliveries of a run.
-const MOST_DELIVERIES: u64 = 1 << 40;
 
 /// A problem that was run.
 #[derive(Drop)]
@@ -74,20 +71,14 @@ fn run_problem(
     ensures log { OnOk result (map.get folder.new.files log_name ≡ Some (log_text (run_from problem.now seed).net.steps)) }
 {
     let mut choices = Seeded::new(seed);
-    let mut taken = ChoiceList::new(alloc);
     let mut out = SureSink::new(alloc);
-    match run(
-        alloc,
-        problem,
-        &mut choices,
-        MOST_DELIVERIES,
-        folder,
-        "drill",
-        &mut out,
-        false,
-        &mut taken,
-        false,
-    ) {
+    let task = RunTask {
+        log: "drill",
+        most: MOST_DELIVERIES,
+        telling: Telling::nothing(),
+        keep: false,
+    };
+    match run(alloc, problem, &mut choices, task, folder, &mut out) {
         Ok(outcome) => Ok(outcome),
         Err(_) => Err(AllocError),
     }

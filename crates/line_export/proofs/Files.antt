@@ -17,7 +17,7 @@ use Rattle.rup_check.specs.ProofText.{clause_line, proof_text}
 use Rattle.ngd_log.specs.EntryTexts.{IsLogOfEntries}
 use Rattle.ngd_log.proofs.EntryLaws.{entries_or_bad_line}
 use Rattle.ngd_check.specs.Entries.{steps_of}
-use Rattle.abt_promise.specs.Promises.{IsHeld}
+use Rattle.dcsp_script.specs.Promises.{IsHeld}
 use Rattle.line_check.specs.declared.log_check.Checked.{Checked}
 use Rattle.line_check.specs.Checks.{HasEntries}
 use Rattle.line_check.specs.LogChecks.{IsKeptFor}

@@ -9,10 +9,10 @@ use Rattle.dcsp_script.specs.Scripts.{World, Put}
 use Rattle.rup_check.specs.ProofText.{clause_line}
 use Rattle.ngd_check.specs.declared.Finding.{Finding}
 use Rattle.ngd_check.specs.declared.Finding.TheVariants.{Verified, BadStep, BadDeletion, NotEmpty}
-use Rattle.abt_promise.specs.declared.status.Status.TheVariants.{Good}
-use Rattle.abt_promise.specs.Runs.{Way}
-use Rattle.abt_promise.specs.Clauses.{IsLawful}
-use Rattle.abt_promise.specs.Statuses.{IsFinal}
+use Rattle.dcsp_script.specs.declared.status.Status.TheVariants.{Good}
+use Rattle.dcsp_script.specs.Runs.{Way}
+use Rattle.dcsp_script.specs.Clauses.{IsLawful}
+use Rattle.dcsp_script.specs.Statuses.{IsFinal}
 use Rattle.abt_input.specs.Errors.{error_status}
 use Rattle.abt_input.specs.declared.error.CommandError.{CommandError}
 use Rattle.abt_input.specs.declared.error.CommandError.TheVariants.{ModelLong, ModelRefused, NoAim, LogLong, LogLine, ScheduleLong, ScheduleLine, Clauses, Fault, Memory}

@@ -4,11 +4,11 @@ use Rattle.std.specs.Prelude.{neg_ℤ}
 use Rattle.dcsp_outside.specs.Outside.{bytes_of}
 use Rattle.rup_check.specs.Propagation.{IsAccepted}
 use Rattle.rup_check.specs.declared.check.Rup.TheVariants.{Verified}
-use Rattle.abt_promise.specs.declared.status.Status.{Status}
-use Rattle.abt_promise.specs.declared.status.Status.TheVariants.{Good, No, Words, Model, Input, Unfinished, Fault, Memory}
-use Rattle.abt_promise.specs.Statuses.{IsFinal}
-use Rattle.abt_promise.specs.Runs.{Ran}
-use Rattle.abt_promise.proofs.Following.{report_did}
+use Rattle.dcsp_script.specs.declared.status.Status.{Status}
+use Rattle.dcsp_script.specs.declared.status.Status.TheVariants.{Good, No, Words, Model, Input, Unfinished, Fault, Memory}
+use Rattle.dcsp_script.specs.Statuses.{IsFinal}
+use Rattle.dcsp_script.specs.Runs.{Ran}
+use Rattle.dcsp_script.proofs.Following.{report_did}
 use Rattle.abt_input.specs.Inputs.{HasClauses}
 use Rattle.line_check.specs.Verifying.{VerifiesUnlessStopped}
 use Rattle.line_cnf.specs.RupPromise.{rup_report, rup_promise, RupReport}

@@ -11,8 +11,8 @@ use Rattle.rup_check.specs.Literals.{is_true}
 use Rattle.rup_check.specs.ProofText.{proof_text}
 use Rattle.rup_check.specs.Propagation.{IsAccepted, Satisfies}
 use Rattle.ngd_check.specs.Entries.{steps_of}
-use Rattle.abt_promise.specs.declared.status.Status.{Status}
-use Rattle.abt_promise.specs.Runs.{Ran}
+use Rattle.dcsp_script.specs.declared.status.Status.{Status}
+use Rattle.dcsp_script.specs.Runs.{Ran}
 use Rattle.line_check.specs.Checks.{HasEntries}
 use Rattle.line_check.specs.Taking.{Taking}
 use Rattle.line_check.specs.Verifying.{VerifiesUnlessStopped}

@@ -3,7 +3,7 @@
 ghost use Rattle.std.specs.Prelude.{◌≡◌, ◌≢◌, All, Ok};
 ghost use Rattle.dcsp_script.specs.Scripts.{outside};
 ghost use Rattle.dcsp_script.specs.Ways.{Wrote};
-ghost use Rattle.abt_promise.specs.Runs.{CameIn};
+ghost use Rattle.dcsp_script.specs.Runs.{CameIn};
 ghost use Rattle.abt_input.specs.Errors.{way_of};
 ghost use Rattle.line_check.specs.Taking.{taking_of};
 ghost use Rattle.line_rewrite.specs.Trimming.{CreatesNothing};
@@ -18,10 +18,9 @@ use crate::clauses::ClauseSet;
 use crate::limits::formula_within;
 use crate::write::{tell, write_cnf, write_proof};
 use abt_input::CommandError;
-use abt_promise::Status;
 use dcsp_defs::Derivation;
 use dcsp_outside::{Folder, Sink};
-use dcsp_script::Stop;
+use dcsp_script::{Status, Stop};
 use line_check::{check_and_keep, is_verified, take_problem, tell as tell_finding};
 use std::alloc::Global;
 

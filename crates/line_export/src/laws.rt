@@ -1,7 +1,7 @@
 //! What the promise of the line keeps.
 
 ghost use Rattle.std.specs.Prelude.{ℕ, ℤ, Bool, List, Option};
-ghost use Rattle.abt_promise.specs.Clauses.{IsLawful};
+ghost use Rattle.dcsp_script.specs.Clauses.{IsLawful};
 ghost use Rattle.line_check.specs.Taking.{taking_of};
 ghost use Rattle.line_export.specs.ExportPromise.{export_promise};
 

@@ -23,7 +23,6 @@ use Rattle.line_replay.specs.Asked.{record_script}
 use Rattle.line_replay.specs.Endings.{end_status, ending_text}
 use Rattle.line_replay.specs.Outcomes.{outcome_text, outcome_status, HasAllValues}
 use Rattle.line_replay.proofs.Outcomes as outcomes
-use Rattle.line_replay.proofs.Outcomes.{record_of}
 use Rattle.line_replay.proofs.Telling.{as_ok}
 use Rattle.line_lossy.specs.Asked.{Asked, most_calm, seeded_words, words_of, run_words, run_world, run_numbers, end_of, events_text, answer_text, log_script, asked_script}
 use Rattle.line_lossy.specs.Runners.{new_writes, numbers_after, HasMade, SameTask, IsEnded}
@@ -143,10 +142,10 @@ module _ (asked : Asked) (ended : Ended) (h : IsEnded asked ended) where
 
 module _ (asked : Asked) where
   abbrev pub before_answer : List Write
-  before_answer = log_script asked.log (run_world asked).network.steps ++ record_script asked.kept (run_numbers asked)
+  before_answer = log_script asked.log (run_world asked).network.steps ++ record_script asked.record_file (run_numbers asked)
 
   script_is : before_answer ++ Put (answer_text asked) ∷ [] ≡ asked_script asked
-  script_is = append_assoc (log_script asked.log (run_world asked).network.steps) (record_script asked.kept (run_numbers asked)) (Put (answer_text asked) ∷ [])
+  script_is = append_assoc (log_script asked.log (run_world asked).network.steps) (record_script asked.record_file (run_numbers asked)) (Put (answer_text asked) ∷ [])
 
   -- the run or its record was stopped
   pub before_stopped : {T U : Type 0} {a b : Outside} {e : Stop} (r : Result U Stop) → IsErr r × IsErrAnd r (λ y. y ≡ e) → Wrote {T = T} before_answer a b (Err e) → Wrote (asked_script asked) a b r
@@ -160,10 +159,6 @@ module _ (asked : Asked) where
     -- it was
     pub answered : {T U V : Type 0} {a b c : Outside} {x : T} {y : U} (z : V) → Wrote {T = T} before_answer a b (Ok x) → Wrote {T = U} (Put text ∷ []) b c (Ok y) → Wrote (asked_script asked) a c (Ok z)
     answered z w v = wrote_as script_is (then_rest w (as_ok z (wrote_as (ap (λ t. Put t ∷ []) same) v)))
-
--- the record is that of all numbers, where one is asked for
-pub kept_record : (name : Option (Bor (List ℕ))) (keep : Bool) (numbers taken : List ℕ) → keep ≡ is_some name → taken ≡ kept keep numbers → record_script (option_copied name) taken ≡ record_script (option_copied name) numbers
-kept_record name keep numbers taken e h = record_of name keep [] numbers taken e refl h
 
 -- ---- a run that was made
 

@@ -54,7 +54,7 @@ module _ (asked : Asked) where
   first = log_script asked.log (run_world asked).network.steps
 
   abbrev recorded : List Write
-  recorded = record_script asked.kept (run_numbers asked)
+  recorded = record_script asked.record_file (run_numbers asked)
 
   abbrev last : List Write
   last = Put (answer_text asked) ∷ []
@@ -62,16 +62,16 @@ module _ (asked : Asked) where
   pub puts_answer : put_by (asked_script asked) ≡ answer_text asked
   puts_answer =
       put_by-append first (recorded ++ last) ∙ ap (λ t. t ++ put_by (recorded ++ last)) (log_puts asked.log (run_world asked).network.steps)
-      ∙ put_by-append recorded last ∙ ap (λ t. t ++ put_by last) (record_puts (run_numbers asked) asked.kept) ∙ append-nil (answer_text asked)
+      ∙ put_by-append recorded last ∙ ap (λ t. t ++ put_by last) (record_puts (run_numbers asked) asked.record_file) ∙ append-nil (answer_text asked)
 
-  module _ (own : IfSome asked.kept (λ k. k ≢ asked.log)) (files now : List ℕ → Option (List ℕ)) (after : FilesAfter (asked_script asked) files now) where
+  module _ (own : IfSome asked.record_file (λ k. k ≢ asked.log)) (files now : List ℕ → Option (List ℕ)) (after : FilesAfter (asked_script asked) files now) where
     log_is : now asked.log ≡ Some (log_text (run_world asked).network.steps)
     log_is =
         after asked.log ∙ file_after-append first (recorded ++ last) asked.log (files asked.log)
-        ∙ left_alone (recorded ++ last) asked.log (file_after first asked.log (files asked.log)) (leaves-append asked.log recorded last (record_leaves (run_numbers asked) asked.kept asked.log own) ((λ t. t), tt))
+        ∙ left_alone (recorded ++ last) asked.log (file_after first asked.log (files asked.log)) (leaves-append asked.log recorded last (record_leaves (run_numbers asked) asked.record_file asked.log own) ((λ t. t), tt))
         ∙ log_holds asked.log (run_world asked).network.steps (files asked.log)
 
-    record_is : (kept : Option (List ℕ)) → asked.kept ≡ kept → IfSome kept (λ name. now name ≡ Some (schedule_text (run_numbers asked)))
+    record_is : (kept : Option (List ℕ)) → asked.record_file ≡ kept → IfSome kept (λ name. now name ≡ Some (schedule_text (run_numbers asked)))
     record_is None e = tt
     record_is (Some name) e =
         after name ∙ file_after-append first (recorded ++ last) name (files name) ∙ file_after-append recorded last name (file_after first name (files name))
@@ -85,8 +85,8 @@ module _ (asked : Asked) where
     pub holds_files : HoldsFiles asked files now
     holds_files = record {
       log = log_is;
-      recorded = record_is asked.kept refl;
-      others = λ name unlike kept. after name ∙ left_alone (asked_script asked) name (files name) (run_leaves asked name (λ e. unlike (sym e)) (turned name asked.kept kept));
+      recorded = record_is asked.record_file refl;
+      others = λ name unlike kept. after name ∙ left_alone (asked_script asked) name (files name) (run_leaves asked name (λ e. unlike (sym e)) (turned name asked.record_file kept));
     }
 
 pub files_are_whole : FilesAreWhole

@@ -3,8 +3,8 @@ use Rattle.std.proofs.Common.{◌≡◌, ℕ, List, Option, Some, None, subst}
 use Rattle.dcsp_outside.specs.Outside.{bytes_of}
 use Rattle.dcsp_defs.specs.Csp.{IsCsp}
 use Rattle.dcsp_rule.specs.Problems.{Contents, csp_of}
-use Rattle.abt_promise.specs.declared.status.Status.{Status}
-use Rattle.abt_promise.specs.Promises.{IsHeld}
+use Rattle.dcsp_script.specs.declared.status.Status.{Status}
+use Rattle.dcsp_script.specs.Promises.{IsHeld}
 use Rattle.abt_input.specs.Inputs.{IsModelOf}
 use Rattle.abt_input.proofs.Once.{one_problem}
 use Rattle.line_replay.specs.Endings.{end_status}

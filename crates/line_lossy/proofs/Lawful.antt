@@ -6,7 +6,7 @@ use Rattle.dcsp_rule.specs.Problems.{csp_of}
 use Rattle.dcsp_script.specs.Scripts.{Append, Put}
 use Rattle.dcsp_script.specs.Texts.{LeavesAlone}
 use Rattle.ngd_log.specs.Logs.{step_lines}
-use Rattle.abt_promise.specs.Clauses.{IsLawful}
+use Rattle.dcsp_script.specs.Clauses.{IsLawful}
 use Rattle.abt_input.specs.Plans.{IsOwn, IsSoundPlan}
 use Rattle.abt_input.proofs.ExactKinds.{model_exact}
 use Rattle.abt_input.proofs.PlanLaws.{plan_lawful}
@@ -24,16 +24,16 @@ log_leaves log steps name other =
     (other, (other, leaves-append name (step_writes log 1 steps) (Append log (codes "end\n") ∷ []) (append_lines_leave log name other (step_lines 1 steps)) (other, tt)))
 
 -- a name that is not the log's or the record's is left alone
-pub run_leaves : (asked : Asked) (name : List ℕ) → (asked.log ≡ name → ⊥) → IfSome asked.kept (λ k. k ≡ name → ⊥) → LeavesAlone (asked_script asked) name
+pub run_leaves : (asked : Asked) (name : List ℕ) → (asked.log ≡ name → ⊥) → IfSome asked.record_file (λ k. k ≡ name → ⊥) → LeavesAlone (asked_script asked) name
 run_leaves asked name other h =
-    leaves-append name (log_script asked.log (run_world asked).network.steps) (record_script asked.kept (run_numbers asked) ++ Put (answer_text asked) ∷ []) (log_leaves asked.log (run_world asked).network.steps name other)
-    (leaves-append name (record_script asked.kept (run_numbers asked)) (Put (answer_text asked) ∷ []) (record_leaves (run_numbers asked) asked.kept name h) ((λ t. t), tt))
+    leaves-append name (log_script asked.log (run_world asked).network.steps) (record_script asked.record_file (run_numbers asked) ++ Put (answer_text asked) ∷ []) (log_leaves asked.log (run_world asked).network.steps name other)
+    (leaves-append name (record_script asked.record_file (run_numbers asked)) (Put (answer_text asked) ∷ []) (record_leaves (run_numbers asked) asked.record_file name h) ((λ t. t), tt))
 
 -- so a run is an answer of its own
-run_own : (asked : Asked) → IsOwn (created_names asked.log asked.kept) (end_status (end_of (csp_of asked.problem) (run_world asked))) (asked_script asked)
+run_own : (asked : Asked) → IsOwn (created_names asked.log asked.record_file) (end_status (end_of (csp_of asked.problem) (run_world asked))) (asked_script asked)
 run_own asked =
     let end = end_of (csp_of asked.problem) (run_world asked) in
-    record { final = final_end end; no_refusal = no_refusal end; names = own_of_leaves asked.log asked.kept (asked_script asked) (run_leaves asked) }
+    record { final = final_end end; no_refusal = no_refusal end; names = own_of_leaves asked.log asked.record_file (asked_script asked) (run_leaves asked) }
 
 pub lossy_sound : (model log : List ℕ) (events seed : ℕ) (kept : Option (List ℕ)) → IsSoundPlan (model ∷ []) (created_names log kept) (lossy_plan log events seed kept)
 lossy_sound model log events seed kept = (model_exact, λ problem. run_own (lossy problem events seed log kept))

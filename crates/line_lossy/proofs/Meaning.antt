@@ -10,8 +10,8 @@ use Rattle.law_runs.specs.LossyEnds.{is_quiet, has_verdict}
 use Rattle.law_runs.proofs.WorldRuns.{quiet_is_solved, steps_are_right, handed_up_bounded}
 use Rattle.law_runs.proofs.WholeWorlds.{is_whole}
 use Rattle.abt_schedule.specs.Answers.{word_at, generator_of}
-use Rattle.abt_promise.specs.declared.status.Status.{Status}
-use Rattle.abt_promise.specs.declared.status.Status.TheVariants.{Good, No, Unfinished}
+use Rattle.dcsp_script.specs.declared.status.Status.{Status}
+use Rattle.dcsp_script.specs.declared.status.Status.TheVariants.{Good, No, Unfinished}
 use Rattle.line_replay.specs.Endings.{assigned, end_status}
 use Rattle.line_replay.proofs.Verdicts.{same_solution}
 use Rattle.line_lossy.specs.Asked.{Asked, lossy, most_calm, seeded_words, run_words, run_world, end_of, world_values}

@@ -23,11 +23,11 @@ pub record Asked : Type 0 where
   pub seed : ℕ
   pub log : List ℕ
   -- the name of the record, where one is asked for
-  pub kept : Option (List ℕ)
+  pub record_file : Option (List ℕ)
 
 -- this run
 abbrev pub lossy : Contents → ℕ → ℕ → List ℕ → Option (List ℕ) → Asked
-lossy p events seed log kept = record { problem = p; events = events; seed = seed; log = log; kept = kept }
+lossy p events seed log record_file = record { problem = p; events = events; seed = seed; log = log; record_file = record_file }
 
 -- ---- events
 
@@ -87,4 +87,4 @@ log_script log steps = Create log ∷ Append log (codes "ngd 1\n") ∷ (step_wri
 -- the run writes its log, then comes the record of what was handed up, and the answer is put last
 abbrev pub asked_script : Asked → List Write
 asked_script asked =
-    log_script asked.log (run_world asked).network.steps ++ (record_script asked.kept (run_numbers asked) ++ Put (answer_text asked) ∷ [])
+    log_script asked.log (run_world asked).network.steps ++ (record_script asked.record_file (run_numbers asked) ++ Put (answer_text asked) ∷ [])

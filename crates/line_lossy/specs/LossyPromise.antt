@@ -1,7 +1,7 @@
 -- What `lossy MODEL LOG EVENTS SEED [--record FILE]` promises.
 use Rattle.std.specs.Prelude.{ℕ, List, [], ◌∷◌, Option}
 use Rattle.dcsp_rule.specs.Problems.{csp_of}
-use Rattle.abt_promise.specs.Promises.{Promise}
+use Rattle.dcsp_script.specs.Promises.{Promise}
 use Rattle.abt_input.specs.Kinds.{a_model}
 use Rattle.abt_input.specs.Plans.{Plan, Answer, Read, promise_by}
 use Rattle.line_replay.specs.Endings.{end_status}
@@ -14,8 +14,8 @@ run_plan asked = Answer (end_status (end_of (csp_of asked.problem) (run_world as
 
 -- the model is read, and the run of its problem is made
 abbrev pub lossy_plan : List ℕ → ℕ → ℕ → Option (List ℕ) → Plan
-lossy_plan log events seed kept = Read a_model (λ problem. run_plan (lossy problem events seed log kept))
+lossy_plan log events seed record_file = Read a_model (λ problem. run_plan (lossy problem events seed log record_file))
 
 -- the line's promise
 abbrev pub lossy_promise : List ℕ → List ℕ → ℕ → ℕ → Option (List ℕ) → Promise
-lossy_promise model log events seed kept = promise_by (model ∷ []) (created_names log kept) (lossy_plan log events seed kept)
+lossy_promise model log events seed record_file = promise_by (model ∷ []) (created_names log record_file) (lossy_plan log events seed record_file)

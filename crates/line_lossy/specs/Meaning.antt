@@ -12,8 +12,8 @@ use Rattle.abt_defs.specs.Runs.{whole}
 use Rattle.law_runs.specs.LossyEnds.{is_quiet, has_verdict}
 use Rattle.law_runs.specs.LossyRuns.{IsWholeRun}
 use Rattle.abt_input.specs.Inputs.{IsModelOf}
-use Rattle.abt_promise.specs.declared.status.Status.{Status}
-use Rattle.abt_promise.specs.declared.status.Status.TheVariants.{Good, No, Unfinished}
+use Rattle.dcsp_script.specs.declared.status.Status.{Status}
+use Rattle.dcsp_script.specs.declared.status.Status.TheVariants.{Good, No, Unfinished}
 use Rattle.line_replay.specs.Endings.{assigned, end_status}
 use Rattle.line_lossy.specs.Asked.{Asked, lossy, run_words, run_world, run_numbers, end_of, world_values, most_calm, answer_text, asked_script}
 
@@ -56,24 +56,24 @@ pub record IsLossyRun (asked : Asked) (status : Status) : Type 0 where
 
 -- it is so of every run of a well-formed problem that ends with the status of its report
 abbrev pub RunsAreRight : Type 0
-RunsAreRight = (p : Contents) (events seed : ℕ) (log : List ℕ) (kept : Option (List ℕ)) → IsCsp (csp_of p) → (status : Status) → status ≡ end_status (end_of (csp_of p) (run_world (lossy p events seed log kept))) → IsLossyRun (lossy p events seed log kept) status
+RunsAreRight = (p : Contents) (events seed : ℕ) (log : List ℕ) (record_file : Option (List ℕ)) → IsCsp (csp_of p) → (status : Status) → status ≡ end_status (end_of (csp_of p) (run_world (lossy p events seed log record_file))) → IsLossyRun (lossy p events seed log record_file) status
 
 -- the run of the model under the name, where the folder tells it, has this status
 abbrev pub HoldsLossyRun : Option (List ℕ → Option (List ℕ)) → List ℕ → ℕ → ℕ → List ℕ → Option (List ℕ) → Status → Type 0
-HoldsLossyRun files name events seed log kept status =
-    IfSome files (λ f. (problem : Contents) → IsModelOf (bytes_of (f name)) problem → IsLossyRun (lossy problem events seed log kept) status)
+HoldsLossyRun files name events seed log record_file status =
+    IfSome files (λ f. (problem : Contents) → IsModelOf (bytes_of (f name)) problem → IsLossyRun (lossy problem events seed log record_file) status)
 
 -- ---- what is written
 
 -- the files before and after the whole run: the log is that of its derivation, the record that of its numbers, and every other name is as before
 pub record HoldsFiles (asked : Asked) (files now : List ℕ → Option (List ℕ)) : Type 0 where
   pub log : now asked.log ≡ Some (log_text (run_world asked).network.steps)
-  pub recorded : IfSome asked.kept (λ name. now name ≡ Some (schedule_text (run_numbers asked)))
-  pub others : (name : List ℕ) → name ≢ asked.log → IfSome asked.kept (λ record_name. name ≢ record_name) → now name ≡ files name
+  pub recorded : IfSome asked.record_file (λ name. now name ≡ Some (schedule_text (run_numbers asked)))
+  pub others : (name : List ℕ) → name ≢ asked.log → IfSome asked.record_file (λ record_name. name ≢ record_name) → now name ≡ files name
 
 -- It is so behind the whole script, where the record does not have the log's name.
 abbrev pub FilesAreWhole : Type 0
-FilesAreWhole = (asked : Asked) → IfSome asked.kept (λ record_name. record_name ≢ asked.log) → (files now : List ℕ → Option (List ℕ)) → FilesAfter (asked_script asked) files now → HoldsFiles asked files now
+FilesAreWhole = (asked : Asked) → IfSome asked.record_file (λ record_name. record_name ≢ asked.log) → (files now : List ℕ → Option (List ℕ)) → FilesAfter (asked_script asked) files now → HoldsFiles asked files now
 
 -- All that the script puts is the answer.
 abbrev pub AnswersArePut : Type 0

@@ -16,6 +16,7 @@ ghost use Rattle.line_lossy.specs.Runners.{HasMade};
 
 use crate::runner::LossyRunner;
 use abt_lossy::{Lossy, Standing};
+use abt_schedule::ChoiceList;
 use abt_session::{End, Outcome};
 use dcsp_common::Memory;
 use dcsp_domain::IntList;
@@ -60,6 +61,7 @@ pub fn outcome_of(
         end,
         deliveries: runner.deliveries,
         steps: runner.steps,
+        numbers: ChoiceList::new(alloc),
     })
 }
 

@@ -1,13 +1,13 @@
 //! What the promise of `lossy` keeps, and what its runs mean.
 
 ghost use Rattle.std.specs.Prelude.{ℕ, List, Option};
-ghost use Rattle.abt_promise.specs.Clauses.{IsLawful};
+ghost use Rattle.dcsp_script.specs.Clauses.{IsLawful};
 ghost use Rattle.line_lossy.specs.LossyPromise.{lossy_promise};
 ghost use Rattle.line_lossy.specs.Meaning.{AnswersArePut, FilesAreWhole, RunsAreRight};
 
 /// The promise keeps what every line of words keeps.
 pub fn lossy_is_lawful()
-    ensures { (model log : List ℕ) (events seed : ℕ) (kept : Option (List ℕ)) → IsLawful (lossy_promise model log events seed kept) }
+    ensures { (model log : List ℕ) (events seed : ℕ) (record_file : Option (List ℕ)) → IsLawful (lossy_promise model log events seed record_file) }
 {}
 
 /// A run over the medium ends solved, refuted, or with the most calm events made; it says so rightly, within the

@@ -5,7 +5,7 @@ ghost use Rattle.dcsp_outside.specs.Outside.{Place, Stream};
 ghost use Rattle.dcsp_rule.specs.Problems.{csp_of};
 ghost use Rattle.dcsp_script.specs.Scripts.{outside};
 ghost use Rattle.dcsp_script.specs.Ways.{Wrote};
-ghost use Rattle.abt_promise.specs.Runs.{CameIn};
+ghost use Rattle.dcsp_script.specs.Runs.{CameIn};
 ghost use Rattle.abt_input.specs.Errors.{way_of};
 ghost use Rattle.line_replay.specs.Endings as endings;
 ghost use Rattle.line_replay.specs.Asked.{record_script};
@@ -20,11 +20,10 @@ use crate::laws::lossy_runs_are_right;
 use crate::runner::LossyRunner;
 use abt_input::{CommandError, read_model};
 use abt_lossy::Lossy;
-use abt_promise::Status;
 use abt_schedule::ChoiceList;
 use dcsp_outside::{Folder, Sink};
 use dcsp_problem::Problem;
-use dcsp_script::Stop;
+use dcsp_script::{Status, Stop};
 use line_replay::{end_status, write_record};
 use ngd_check::problems_are_small;
 use std::alloc::Global;
@@ -44,7 +43,7 @@ pub struct Losses<'w> {
     /// The seed of their words.
     pub seed: u64,
     /// The name of the record, where one is asked for.
-    pub kept: Option<&'w str>,
+    pub record_file: Option<&'w str>,
 }
 
 /// Runs the agents of the model over a medium that loses, repeats and reorders packets, under the events of the
@@ -55,11 +54,11 @@ pub fn run_lossy<F: Folder, S: Sink>(
     line: Losses<'_>,
     out: &mut S,
 ) -> Result<Status, CommandError>
-    ensures came { CameIn (lossy_promise line.entry.model.now line.entry.log.now line.entry.events line.entry.seed (option_copied line.entry.kept))
+    ensures came { CameIn (lossy_promise line.entry.model.now line.entry.log.now line.entry.events line.entry.seed (option_copied line.entry.record_file))
         (outside (F.place folder.old) (S.stream out.old))
         (outside (F.place folder.new) (S.stream out.new)) (way_of result) }
     ensures sound { IfOk result (λ status. HoldsProblem (F.place folder.old).held line.entry.model.now) }
-    ensures run { IfOk result (HoldsLossyRun (F.place folder.old).held line.entry.model.now line.entry.events line.entry.seed line.entry.log.now (option_copied line.entry.kept)) }
+    ensures run { IfOk result (HoldsLossyRun (F.place folder.old).held line.entry.model.now line.entry.events line.entry.seed line.entry.log.now (option_copied line.entry.record_file)) }
 {
     let problem = read_model(alloc, folder, line.model)?;
     problem.denotes_csp();
@@ -77,9 +76,9 @@ fn run_problem<F: Folder, S: Sink>(
     folder: &mut F,
     out: &mut S,
 ) -> Result<Status, Stop>
-    ensures wrote { Wrote (asked_script (lossy problem.now line.entry.events line.entry.seed line.entry.log.now (option_copied line.entry.kept)))
+    ensures wrote { Wrote (asked_script (lossy problem.now line.entry.events line.entry.seed line.entry.log.now (option_copied line.entry.record_file)))
         (outside (F.place folder.old) (S.stream out.old)) (outside (F.place folder.new) (S.stream out.new)) result }
-    ensures status { IfOk result (λ status. status ≡ endings.end_status (end_of (csp_of problem.now) (run_world (lossy problem.now line.entry.events line.entry.seed line.entry.log.now (option_copied line.entry.kept))))) }
+    ensures status { IfOk result (λ status. status ≡ endings.end_status (end_of (csp_of problem.now) (run_world (lossy problem.now line.entry.events line.entry.seed line.entry.log.now (option_copied line.entry.record_file))))) }
 {
     let ended = run_recorded(alloc, problem, line, folder)?;
     tell(alloc, problem, &ended, out)?;
@@ -93,10 +92,10 @@ fn run_recorded<F: Folder>(
     line: Losses<'_>,
     folder: &mut F,
 ) -> Result<Ended, Stop>
-    ensures wrote { let asked = lossy problem.now line.entry.events line.entry.seed line.entry.log.now (option_copied line.entry.kept) in (out : Stream) →
-        Wrote (log_script asked.log (run_world asked).network.steps ++ record_script asked.kept (run_numbers asked))
+    ensures wrote { let asked = lossy problem.now line.entry.events line.entry.seed line.entry.log.now (option_copied line.entry.record_file) in (out : Stream) →
+        Wrote (log_script asked.log (run_world asked).network.steps ++ record_script asked.record_file (run_numbers asked))
         (outside (F.place folder.old) out) (outside (F.place folder.new) out) result }
-    ensures gives { IfOk result (IsEnded (lossy problem.now line.entry.events line.entry.seed line.entry.log.now (option_copied line.entry.kept))) }
+    ensures gives { IfOk result (IsEnded (lossy problem.now line.entry.events line.entry.seed line.entry.log.now (option_copied line.entry.record_file))) }
 {
     let Ok(medium) = Lossy::new(alloc, problem) else {
         return Err(Stop::Memory);
@@ -104,7 +103,7 @@ fn run_recorded<F: Folder>(
     let mut runner = LossyRunner {
         medium,
         log: line.log,
-        keep: line.kept.is_some(),
+        keep: line.record_file.is_some(),
         taken: ChoiceList::new(alloc),
         deliveries: 0,
         steps: 0,
@@ -121,15 +120,15 @@ fn run_fresh<F: Folder>(
     runner: &mut LossyRunner<'_, '_>,
     folder: &mut F,
 ) -> Result<Ended, Stop>
-    requires { IsFresh problem.now line.log.now (is_some line.kept) runner.old }
-    ensures wrote { let asked = lossy problem.now line.entry.events line.entry.seed line.entry.log.now (option_copied line.entry.kept) in (out : Stream) →
-        Wrote (log_script asked.log (run_world asked).network.steps ++ record_script asked.kept (run_numbers asked))
+    requires { IsFresh problem.now line.log.now (is_some line.record_file) runner.old }
+    ensures wrote { let asked = lossy problem.now line.entry.events line.entry.seed line.entry.log.now (option_copied line.entry.record_file) in (out : Stream) →
+        Wrote (log_script asked.log (run_world asked).network.steps ++ record_script asked.record_file (run_numbers asked))
         (outside (F.place folder.old) out) (outside (F.place folder.new) out) result }
-    ensures gives { IfOk result (IsEnded (lossy problem.now line.entry.events line.entry.seed line.entry.log.now (option_copied line.entry.kept))) }
+    ensures gives { IfOk result (IsEnded (lossy problem.now line.entry.events line.entry.seed line.entry.log.now (option_copied line.entry.record_file))) }
 {
     runner.run(line.seed, line.events, MOST_CALM, folder)?;
     let outcome = outcome_of(alloc, problem, runner)?;
-    write_record(alloc, folder, line.kept, runner.taken.choices())?;
+    write_record(alloc, folder, line.record_file, runner.taken.choices())?;
     Ok(Ended {
         outcome,
         events: runner.medium.events(),

@@ -3,7 +3,7 @@
 ghost use Rattle.std.specs.Prelude.{◌≡◌, ℕ, List};
 ghost use Rattle.dcsp_defs.specs.Csp.{Csp};
 ghost use Rattle.dcsp_rule.specs.Problems.{Contents, csp_of};
-ghost use Rattle.abt_promise.specs.Clauses.{IsLawful};
+ghost use Rattle.dcsp_script.specs.Clauses.{IsLawful};
 ghost use Rattle.line_replay.specs.Asked.{asked_run, most_deliveries, solve};
 ghost use Rattle.line_replay.specs.Settings.{Settings};
 ghost use Rattle.line_measure.specs.Numbers.{listed, numbers_of, run_under, seeded};

@@ -10,7 +10,7 @@ ghost use Rattle.abt_defs.specs.Events.{Act};
 ghost use Rattle.abt_network.specs.Standing.{StandsAt};
 ghost use Rattle.abt_measure.specs.Counting.{AreRows};
 ghost use Rattle.abt_measure.specs.Learning.{AreLearned};
-ghost use Rattle.abt_promise.specs.Runs.{CameIn};
+ghost use Rattle.dcsp_script.specs.Runs.{CameIn};
 ghost use Rattle.abt_input.specs.Errors.{way_of};
 ghost use Rattle.line_measure.specs.Numbers.{listed, numbers_of};
 ghost use Rattle.line_measure.specs.Texts.{each_text, measures_text};
@@ -22,16 +22,13 @@ use crate::texts::push_head;
 use abt_input::{CommandError, read_choices, read_model};
 use abt_measure::{MeasuredRun, measure_run};
 use abt_network::Standing;
-use abt_promise::Status;
 use abt_schedule::Listed;
+use abt_session::MOST_DELIVERIES;
 use dcsp_common::Memory;
 use dcsp_outside::{Folder, Sink};
 use dcsp_problem::Problem;
-use dcsp_script::{Stop, put};
+use dcsp_script::{Status, Stop, put};
 use std::alloc::Global;
-
-/// The most deliveries of a run.
-pub const MOST_DELIVERIES: u64 = 1 << 40;
 
 /// The words of `measure`.
 #[derive(Clone, Copy)]

@@ -5,24 +5,24 @@ ghost use Rattle.dcsp_outside.specs.Outside.{Place};
 ghost use Rattle.dcsp_script.specs.Scripts.{outside};
 ghost use Rattle.dcsp_script.specs.Ways.{Wrote};
 ghost use Rattle.dcsp_rule.specs.Problems.{csp_of};
-ghost use Rattle.abt_promise.specs.Runs.{CameIn};
+ghost use Rattle.dcsp_script.specs.Runs.{CameIn};
 ghost use Rattle.abt_input.specs.Errors.{way_of};
 ghost use Rattle.line_measure.specs.Numbers.{numbers_of, seeded};
 ghost use Rattle.line_measure.specs.Texts.{survey_head};
 ghost use Rattle.line_measure.specs.MeasurePromise.{end_of_seed, seed_write, seeds, survey_promise, survey_script, worse, worst};
 
-use crate::measure::{MOST_DELIVERIES, status_of};
+use crate::measure::status_of;
 use crate::numbers::{Numbers, numbers_of};
 use crate::texts::push_line;
 use abt_input::{CommandError, read_model};
 use abt_measure::measure_run;
 use abt_network::Standing;
-use abt_promise::Status;
 use abt_schedule::Seeded;
+use abt_session::MOST_DELIVERIES;
 use dcsp_common::Memory;
 use dcsp_outside::{Folder, Sink};
 use dcsp_problem::Problem;
-use dcsp_script::{Stop, put};
+use dcsp_script::{Status, Stop, put};
 use std::alloc::Global;
 
 /// The words of `survey`.

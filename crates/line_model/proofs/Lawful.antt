@@ -1,11 +1,16 @@
 -- The plans of these lines are sound, and so their promises are lawful.
 use Rattle.std.proofs.Common.{ℕ, List, [], ◌∷◌}
-use Rattle.abt_promise.specs.Clauses.{IsLawful}
+use Rattle.std.proofs.lemmas.List.Elements.{Contains-push}
+use Rattle.dcsp_rule.specs.Problems.{csp_of}
+use Rattle.dcsp_order.specs.declared.by_rule.OrderRule.{OrderRule}
+use Rattle.dcsp_order.proofs.OneOrder.{one_order}
+use Rattle.dcsp_script.specs.Clauses.{IsLawful}
 use Rattle.abt_input.specs.Plans.{IsSoundPlan}
 use Rattle.abt_input.proofs.ExactKinds.{model_exact}
-use Rattle.abt_input.proofs.OwnWrites.{own_none, own_put}
+use Rattle.abt_input.proofs.OwnWrites.{own_none, own_put, own_append, own_create}
 use Rattle.abt_input.proofs.PlanLaws.{plan_lawful}
 use Rattle.line_model.specs.BoundReports.{bound_plan, bound_promise}
+use Rattle.line_model.specs.OrderPromise.{order_plan, order_promise}
 use Rattle.line_model.specs.Generated.{print_plan, print_promise}
 
 pub print_sound : (text : List ℕ) → IsSoundPlan [] [] (print_plan text)
@@ -19,3 +24,11 @@ bound_sound model = (model_exact, λ p. record { final = tt; no_refusal = λ h. 
 
 pub bound_lawful : (model : List ℕ) → IsLawful (bound_promise model)
 bound_lawful model = plan_lawful bound_plan (bound_sound model)
+
+pub order_sound : (model : List ℕ) (rule : OrderRule) (file : List ℕ) → IsSoundPlan (model ∷ []) (file ∷ []) (order_plan rule file)
+order_sound model rule file =
+    let here = Contains-push [] file in
+    (model_exact, λ p. (one_order rule (csp_of p), λ order. record { final = tt; no_refusal = λ h. h; names = own_create here (own_append here (own_put own_none)) }))
+
+pub order_lawful : (model : List ℕ) (rule : OrderRule) (file : List ℕ) → IsLawful (order_promise model rule file)
+order_lawful model rule file = plan_lawful (order_plan rule file) (order_sound model rule file)

@@ -3,8 +3,8 @@ use Rattle.std.specs.Prelude.{ℕ, ◌^◌, List, [], ◌∷◌, ◌++◌, codes
 use Rattle.dcsp_rule.specs.Problems.{Contents, csp_of}
 use Rattle.dcsp_script.specs.Scripts.{Put}
 use Rattle.abt_defs.specs.Bound.{message_bound}
-use Rattle.abt_promise.specs.declared.status.Status.TheVariants.{Good}
-use Rattle.abt_promise.specs.Promises.{Promise}
+use Rattle.dcsp_script.specs.declared.status.Status.TheVariants.{Good}
+use Rattle.dcsp_script.specs.Promises.{Promise}
 use Rattle.abt_input.specs.Kinds.{a_model}
 use Rattle.abt_input.specs.Plans.{Plan, Answer, Read, promise_by}
 

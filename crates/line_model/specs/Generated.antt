@@ -1,10 +1,11 @@
 -- What the lines promise that print a generated model.
 use Rattle.std.specs.Prelude.{ℕ, List, [], ◌∷◌}
 use Rattle.dcsp_script.specs.Scripts.{Put}
-use Rattle.abt_promise.specs.declared.status.Status.TheVariants.{Good}
-use Rattle.abt_promise.specs.Promises.{Promise}
+use Rattle.dcsp_script.specs.declared.status.Status.TheVariants.{Good}
+use Rattle.dcsp_script.specs.Promises.{Promise}
 use Rattle.abt_input.specs.Plans.{Plan, Answer, promise_by}
 use Rattle.abt_schedule.specs.Answers.{generator_of, word_at}
+use Rattle.dcsp_gen.specs.Binary.{binary_text}
 use Rattle.dcsp_gen.specs.Problems.{queens_text, colouring_text, sparse_text, pigeons_text}
 
 -- a line that puts one text on `out`
@@ -30,3 +31,7 @@ sparse_promise n seed = print_promise (sparse_text n (word_at (generator_of seed
 -- `gen pigeons N`
 abbrev pub pigeons_promise : ℕ → Promise
 pigeons_promise n = print_promise (pigeons_text n)
+
+-- `gen binary N D EDGES PAIRS SEED`
+abbrev pub binary_promise : ℕ → ℕ → ℕ → ℕ → ℕ → Promise
+binary_promise n d edges forbidden seed = print_promise (binary_text n d edges forbidden (word_at (generator_of seed)))

@@ -1,3 +1,5 @@
 pub mod PartialBounds
 pub mod BoundReports
 pub mod Generated
+pub mod OrderPromise
+pub mod OrderHeld

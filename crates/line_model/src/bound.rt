@@ -4,15 +4,14 @@ ghost use Rattle.std.specs.Prelude.{◌≡◌, [], ◌∷◌};
 ghost use Rattle.dcsp_outside.specs.Outside.{Place};
 ghost use Rattle.dcsp_script.specs.Scripts.{Put, outside};
 ghost use Rattle.dcsp_script.specs.Ways.{Wrote};
-ghost use Rattle.abt_promise.specs.Runs.{CameIn};
+ghost use Rattle.dcsp_script.specs.Runs.{CameIn};
 ghost use Rattle.abt_input.specs.Errors.{way_of};
 ghost use Rattle.line_model.specs.BoundReports.{bound_line, bound_promise};
 
 use crate::agents_bound::message_bound;
 use abt_input::{AnswerLine, CommandError, read_model};
-use abt_promise::Status;
 use dcsp_outside::{Folder, Sink};
-use dcsp_script::{Stop, put};
+use dcsp_script::{Status, Stop, put};
 use itoa::Buffer;
 use std::alloc::Global;
 

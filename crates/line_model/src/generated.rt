@@ -3,15 +3,15 @@
 ghost use Rattle.std.specs.Prelude.{◌≤◌};
 ghost use Rattle.dcsp_outside.specs.Outside.{Place};
 ghost use Rattle.dcsp_script.specs.Scripts.{outside};
-ghost use Rattle.abt_promise.specs.Runs.{CameIn};
+ghost use Rattle.dcsp_script.specs.Runs.{CameIn};
 ghost use Rattle.abt_input.specs.Errors.{way_of};
-ghost use Rattle.line_model.specs.Generated.{queens_promise, colouring_promise, sparse_promise, pigeons_promise};
+ghost use Rattle.line_model.specs.Generated.{queens_promise, colouring_promise, sparse_promise, pigeons_promise, binary_promise};
 
 use crate::text::print;
 use abt_input::CommandError;
-use abt_promise::Status;
-use dcsp_gen::{colouring, pigeons, queens, sparse};
+use dcsp_gen::{BinarySizes, binary, colouring, pigeons, queens, sparse};
 use dcsp_outside::Sink;
+use dcsp_script::Status;
 use std::alloc::Global;
 
 /// Puts the queens problem of `n` queens on `out`, from 1 to 200.
@@ -72,6 +72,24 @@ pub fn run_pigeons<S: Sink>(alloc: Global, n: u32, out: &mut S) -> Result<Status
         (outside folder (S.stream out.old)) (outside folder (S.stream out.new)) (way_of result) }
 {
     match pigeons(alloc, n) {
+        Ok(text) => print(out, &text),
+        Err(_) => Err(CommandError::Memory),
+    }
+}
+
+/// Puts a random binary problem of these sizes, with the constraints of `seed`, on `out`.
+pub fn run_binary<S: Sink>(
+    alloc: Global,
+    sizes: BinarySizes,
+    seed: u64,
+    out: &mut S,
+) -> Result<Status, CommandError>
+    requires variables { (1 ≤ sizes.variables) × (sizes.variables ≤ 200) }
+    requires values { (1 ≤ sizes.values) × (sizes.values ≤ 100) }
+    ensures { (folder : Place) → CameIn (binary_promise sizes.variables sizes.values sizes.edges sizes.forbidden seed)
+        (outside folder (S.stream out.old)) (outside folder (S.stream out.new)) (way_of result) }
+{
+    match binary(alloc, sizes, seed) {
         Ok(text) => print(out, &text),
         Err(_) => Err(CommandError::Memory),
     }

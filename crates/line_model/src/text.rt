@@ -3,14 +3,13 @@
 ghost use Rattle.std.specs.Prelude.{[], ◌∷◌};
 ghost use Rattle.dcsp_outside.specs.Outside.{Place};
 ghost use Rattle.dcsp_script.specs.Scripts.{outside};
-ghost use Rattle.abt_promise.specs.Runs.{CameIn};
+ghost use Rattle.dcsp_script.specs.Runs.{CameIn};
 ghost use Rattle.abt_input.specs.Errors.{way_of};
 ghost use Rattle.line_model.specs.Generated.{print_promise};
 
 use abt_input::CommandError;
-use abt_promise::Status;
 use dcsp_outside::Sink;
-use dcsp_script::put;
+use dcsp_script::{Status, put};
 
 /// Puts the text on `out`, in one piece.
 pub fn print<S: Sink>(out: &mut S, text: &[u8]) -> Result<Status, CommandError>

@@ -14,9 +14,9 @@ use Rattle.dcsp_script.proofs.Texts.{holds_part}
 use Rattle.ngd_log.specs.Logs.{log_text}
 use Rattle.abt_schedule.specs.Schedules.{schedule_text}
 use Rattle.abt_session.specs.Sessions.{Session, run_of, run_script}
-use Rattle.abt_session.specs.Order.{trace_text, trace_of_first, log_of_first, HasLines}
+use Rattle.abt_session.specs.Order.{told_text, told_of_first, IsShortOf}
 use Rattle.abt_session.proofs.Ordered.{whole_puts, whole_leaves, log_whole, log_begins, first_begins, keeps_up}
-use Rattle.abt_promise.specs.declared.status.Status.{Status}
+use Rattle.dcsp_script.specs.declared.status.Status.{Status}
 use Rattle.line_replay.specs.Endings.{end_status}
 use Rattle.line_replay.specs.Asked.{Asked, asked_run, answer_text, record_script, asked_script}
 use Rattle.line_replay.specs.Headline.{whole_text, IsOther, HoldsRun, IsRun, KeepsOrder, WritesOrdered}
@@ -24,22 +24,22 @@ use Rattle.line_replay.proofs.Scripts.{record_puts, record_leaves, record_holds,
 
 -- the record has a name of its own
 abbrev pub HasOwnRecord : Asked → Type 0
-HasOwnRecord asked = IfSome asked.kept (λ k. k ≡ asked.session.log → ⊥)
+HasOwnRecord asked = IfSome asked.record_file (λ k. k ≡ asked.session.log → ⊥)
 
 module _ (asked : Asked) (own : HasOwnRecord asked) where
   -- what follows the run
   abbrev rest : List Write
-  rest = record_script asked.kept (asked_run asked).numbers ++ Put (answer_text asked) ∷ []
+  rest = record_script asked.record_file (asked_run asked).numbers ++ Put (answer_text asked) ∷ []
 
   rest_leaves_log : LeavesAlone rest asked.session.log
-  rest_leaves_log = leaves (record_leaves (asked_run asked).numbers asked.kept asked.session.log own)
+  rest_leaves_log = leaves (record_leaves (asked_run asked).numbers asked.record_file asked.session.log own)
     where
       join : (s : List Write) → LeavesAlone s asked.session.log → LeavesAlone (s ++ Put (answer_text asked) ∷ []) asked.session.log
       join [] h = ((λ t. t), tt)
       join (w ∷ s) h = (h.0, join s h.1)
 
-      leaves : LeavesAlone (record_script asked.kept (asked_run asked).numbers) asked.session.log → LeavesAlone rest asked.session.log
-      leaves h = join (record_script asked.kept (asked_run asked).numbers) h
+      leaves : LeavesAlone (record_script asked.record_file (asked_run asked).numbers) asked.session.log → LeavesAlone rest asked.session.log
+      leaves h = join (record_script asked.record_file (asked_run asked).numbers) h
 
   -- the log behind the run's whole script
   log_behind : (more : List Write) (file : Option (List ℕ)) → IsPartOf more rest → file_after (run_script asked.session ++ more) asked.session.log file ≡ Some (log_text (asked_run asked).net.steps)
@@ -49,19 +49,19 @@ module _ (asked : Asked) (own : HasOwnRecord asked) where
       ∙ log_whole asked.session file
 
   other_leaves : (name : List ℕ) → IsOther asked name → LeavesAlone (asked_script asked) name
-  other_leaves name h = asked_leaves asked name (λ e. h.0 (sym e)) (turned asked.kept h.1)
+  other_leaves name h = asked_leaves asked name (λ e. h.0 (sym e)) (turned asked.record_file h.1)
     where
       turned : (kept : Option (List ℕ)) → IfSome kept (λ k. name ≢ k) → IfSome kept (λ k. k ≡ name → ⊥)
       turned None g = tt
       turned (Some k) g = λ e. g (sym e)
 
   -- the record behind its own script
-  recorded_behind : (kept : Option (List ℕ)) → asked.kept ≡ kept → (more : List Write) → IsPartOf more (Put (answer_text asked) ∷ []) → (now : List ℕ → Option (List ℕ)) (files : List ℕ → Option (List ℕ)) → FilesAfter (before_answer asked ++ more) files now → IfSome kept (λ name. now name ≡ Some (schedule_text (asked_run asked).numbers))
+  recorded_behind : (kept : Option (List ℕ)) → asked.record_file ≡ kept → (more : List Write) → IsPartOf more (Put (answer_text asked) ∷ []) → (now : List ℕ → Option (List ℕ)) (files : List ℕ → Option (List ℕ)) → FilesAfter (before_answer asked ++ more) files now → IfSome kept (λ name. now name ≡ Some (schedule_text (asked_run asked).numbers))
   recorded_behind None e more h now files after = tt
   recorded_behind (Some name) e more h now files after =
       after name ∙ file_after-append (before_answer asked) more name (files name)
       ∙ left_alone more name (file_after (before_answer asked) name (files name)) (part_leaves more (Put (answer_text asked) ∷ []) name h ((λ t. t), tt))
-      ∙ file_after-append (run_script asked.session) (record_script asked.kept (asked_run asked).numbers) name (files name)
+      ∙ file_after-append (run_script asked.session) (record_script asked.record_file (asked_run asked).numbers) name (files name)
       ∙ ap (λ k. file_after (record_script k (asked_run asked).numbers) name (file_after (run_script asked.session) name (files name))) e
       ∙ record_holds (asked_run asked).numbers name (file_after (run_script asked.session) name (files name))
 
@@ -70,22 +70,22 @@ module _ (asked : Asked) (own : HasOwnRecord asked) where
   holds_behind part more is inside h files now after =
       let there = subst (λ s. FilesAfter s files now) is after in
       record {
-        log = after asked.session.log ∙ ap (λ s. file_after s asked.session.log (files asked.session.log)) (is ∙ append_assoc (run_script asked.session) (record_script asked.kept (asked_run asked).numbers) more) ∙ log_last files;
-        recorded = recorded_behind asked.kept refl more h now files there;
+        log = after asked.session.log ∙ ap (λ s. file_after s asked.session.log (files asked.session.log)) (is ∙ append_assoc (run_script asked.session) (record_script asked.record_file (asked_run asked).numbers) more) ∙ log_last files;
+        recorded = recorded_behind asked.record_file refl more h now files there;
         others = λ name other. after name ∙ left_alone part name (files name) (part_leaves part (asked_script asked) name inside (other_leaves name other));
       }
     where
-      leaves : LeavesAlone (record_script asked.kept (asked_run asked).numbers ++ more) asked.session.log
-      leaves = join (record_script asked.kept (asked_run asked).numbers) (record_leaves (asked_run asked).numbers asked.kept asked.session.log own)
+      leaves : LeavesAlone (record_script asked.record_file (asked_run asked).numbers ++ more) asked.session.log
+      leaves = join (record_script asked.record_file (asked_run asked).numbers) (record_leaves (asked_run asked).numbers asked.record_file asked.session.log own)
         where
           join : (s : List Write) → LeavesAlone s asked.session.log → LeavesAlone (s ++ more) asked.session.log
           join [] k = part_leaves more (Put (answer_text asked) ∷ []) asked.session.log h ((λ t. t), tt)
           join (w ∷ s) k = (k.0, join s k.1)
 
-      log_last : (files : List ℕ → Option (List ℕ)) → file_after (run_script asked.session ++ (record_script asked.kept (asked_run asked).numbers ++ more)) asked.session.log (files asked.session.log) ≡ Some (log_text (asked_run asked).net.steps)
+      log_last : (files : List ℕ → Option (List ℕ)) → file_after (run_script asked.session ++ (record_script asked.record_file (asked_run asked).numbers ++ more)) asked.session.log (files asked.session.log) ≡ Some (log_text (asked_run asked).net.steps)
       log_last files =
-          file_after-append (run_script asked.session) (record_script asked.kept (asked_run asked).numbers ++ more) asked.session.log (files asked.session.log)
-          ∙ left_alone (record_script asked.kept (asked_run asked).numbers ++ more) asked.session.log (file_after (run_script asked.session) asked.session.log (files asked.session.log)) leaves
+          file_after-append (run_script asked.session) (record_script asked.record_file (asked_run asked).numbers ++ more) asked.session.log (files asked.session.log)
+          ∙ left_alone (record_script asked.record_file (asked_run asked).numbers ++ more) asked.session.log (file_after (run_script asked.session) asked.session.log (files asked.session.log)) leaves
           ∙ log_whole asked.session (files asked.session.log)
 
   part_self : (s : List Write) → IsPartOf s s
@@ -109,10 +109,10 @@ module _ (asked : Asked) (own : HasOwnRecord asked) where
       others : (name : List ℕ) → IsOther asked name → now name ≡ files name
       others name other = after name ∙ left_alone part name (files name) (part_leaves part (asked_script asked) name inside (other_leaves name other))
 
-      record_part : IfSome asked.kept (λ name. HoldsPartOf name (schedule_text (asked_run asked).numbers) (Contains (created_by part) name) (files name) (now name))
-      record_part = by_kept asked.kept refl own
+      record_part : IfSome asked.record_file (λ name. HoldsPartOf name (schedule_text (asked_run asked).numbers) (Contains (created_by part) name) (files name) (now name))
+      record_part = by_kept asked.record_file refl own
         where
-          by_kept : (kept : Option (List ℕ)) → asked.kept ≡ kept → IfSome kept (λ k. k ≡ asked.session.log → ⊥) → IfSome kept (λ name. HoldsPartOf name (schedule_text (asked_run asked).numbers) (Contains (created_by part) name) (files name) (now name))
+          by_kept : (kept : Option (List ℕ)) → asked.record_file ≡ kept → IfSome kept (λ k. k ≡ asked.session.log → ⊥) → IfSome kept (λ name. HoldsPartOf name (schedule_text (asked_run asked).numbers) (Contains (created_by part) name) (files name) (now name))
           by_kept None e other = tt
           by_kept (Some name) e other =
               let text = schedule_text (asked_run asked).numbers in
@@ -123,7 +123,7 @@ module _ (asked : Asked) (own : HasOwnRecord asked) where
               subst (λ f. HoldsPartOf name text (Contains (created_by part) name) (files name) f) (sym (after name))
               (subst (λ t. HoldsPartOf name t (Contains (created_by part) name) (files name) (file_after part name (files name))) is h)
 
-      answer_last : length (trace_text asked.session) < length (put_by part) → HoldsRun asked files now
+      answer_last : length (told_text asked.session) < length (put_by part) → HoldsRun asked files now
       answer_last long =
           let more : length (put_by (before_answer asked)) < length (put_by part) = subst (λ t. length t < length (put_by part)) (sym (before_puts asked)) long in
           let past = part_past part (before_answer asked) (Put (answer_text asked) ∷ []) (subst (λ s. IsPartOf part s) (script_is asked) inside) more in
@@ -152,8 +152,8 @@ module _ (asked : Asked) (own : HasOwnRecord asked) where
             log_part = record { created = λ c. (text, ([], append-nil text), log); uncreated = λ none. absurd (none made) };
             record_part = record_part;
             answer_last = answer_last;
-            not_ahead = λ count lines l c. absurd (lines.no_more l (begun count l));
-            not_behind = λ traced count lines l. (text, log_begins asked.session count lines.made, log);
+            not_ahead = λ n short c. absurd (all_told n short);
+            not_behind = λ n past. (text, log_begins asked.session (n + 1) (let l = past.0 in omega arith), log);
             others = others;
           }
         where
@@ -161,11 +161,14 @@ module _ (asked : Asked) (own : HasOwnRecord asked) where
           created_there more = subst (λ s. Contains s asked.session.log) (sym (created_by-append (run_script asked.session) more))
               (Contains-append_left (created_by (run_script asked.session)) (created_by more) asked.session.log (Contains-append_left (asked.session.log ∷ []) _ asked.session.log (Contains-push [] asked.session.log)))
 
-          begun : (count : ℕ) → count < (asked_run asked).net.deliveries → IsPrefixOf (trace_of_first asked.session (count + 1)) (put_by part)
-          begun count l =
-              let f = first_begins asked.session [] tt (count + 1) (omega arith) in
-              let puts : put_by part ≡ trace_text asked.session ++ put_by more = ap put_by is ∙ put_by-append (run_script asked.session) more ∙ ap (λ t. t ++ put_by more) (whole_puts asked.session) in
-              (f.0 ++ put_by more, sym (append_assoc (trace_of_first asked.session (count + 1)) f.0 (put_by more)) ∙ ap (λ t. t ++ put_by more) f.1 ∙ sym puts)
+          all_told : (n : ℕ) → IsShortOf asked.session n (put_by part) → ⊥
+          all_told n short =
+              let first = told_of_first asked.session n in
+              let f = first_begins asked.session [] tt n short.0 in
+              let puts : put_by part ≡ told_text asked.session ++ put_by more = ap put_by is ∙ put_by-append (run_script asked.session) more ∙ ap (λ t. t ++ put_by more) (whole_puts asked.session) in
+              let long : length first ≤ length (told_text asked.session) = prefix_short first (told_text asked.session) f in
+              let missing = short.1 in
+              omega (arith, ap length puts, length-append (told_text asked.session) (put_by more))
 
       keeps_order : KeepsOrder asked (created_by part) (put_by part) files now
       keeps_order = elim (part_splits part (run_script asked.session) rest inside) [ inl h ↦ within h | inr h ↦ behind h.0 h.1 h.2 ]

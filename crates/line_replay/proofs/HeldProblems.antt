@@ -4,7 +4,7 @@ use Rattle.dcsp_outside.specs.Outside.{bytes_of}
 use Rattle.dcsp_defs.specs.Csp.{IsCsp}
 use Rattle.dcsp_rule.specs.Problems.{Contents, csp_of}
 use Rattle.ngd_check.specs.Logged.{IsSmall}
-use Rattle.abt_promise.specs.Promises.{IsHeld}
+use Rattle.dcsp_script.specs.Promises.{IsHeld}
 use Rattle.abt_input.specs.Inputs.{IsModelOf}
 use Rattle.abt_input.proofs.Once.{one_problem}
 use Rattle.line_replay.specs.Headline.{HoldsProblem}

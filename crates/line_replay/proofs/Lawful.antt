@@ -5,8 +5,8 @@ use Rattle.std.proofs.lemmas.List.Elements.{Contains-append_left, Contains-push}
 use Rattle.dcsp_script.specs.Scripts.{Write}
 use Rattle.dcsp_script.specs.Texts.{LeavesAlone}
 use Rattle.abt_defs.specs.Runs.{End, Refuted, Solved, Capped, Spent}
-use Rattle.abt_promise.specs.Statuses.{IsFinal, IsRefusal}
-use Rattle.abt_promise.specs.Clauses.{IsLawful}
+use Rattle.dcsp_script.specs.Statuses.{IsFinal, IsRefusal}
+use Rattle.dcsp_script.specs.Clauses.{IsLawful}
 use Rattle.abt_input.specs.Plans.{WritesOwn, IsOwn, IsSoundPlan}
 use Rattle.abt_input.proofs.ExactKinds.{model_exact, schedule_exact}
 use Rattle.abt_input.proofs.PlanLaws.{plan_lawful}
@@ -42,11 +42,11 @@ own_of_leaves log (Some k) script leaves = record {
 }
 
 -- a run changes only its log and its record, and so it is an answer of its own
-pub run_own : (asked : Asked) → IsOwn (created_names asked.session.log asked.kept) (end_status (asked_run asked).end) (asked_script asked)
+pub run_own : (asked : Asked) → IsOwn (created_names asked.session.log asked.record_file) (end_status (asked_run asked).end) (asked_script asked)
 run_own asked = record {
   final = final_end (asked_run asked).end;
   no_refusal = no_refusal (asked_run asked).end;
-  names = own_of_leaves asked.session.log asked.kept (asked_script asked) (asked_leaves asked);
+  names = own_of_leaves asked.session.log asked.record_file (asked_script asked) (asked_leaves asked);
 }
 
 pub replay_sound : (model schedule log : List ℕ) (trace : Bool) → IsSoundPlan (model ∷ schedule ∷ []) (log ∷ []) (replay_plan log trace)

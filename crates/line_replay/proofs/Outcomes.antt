@@ -99,6 +99,6 @@ made_few p choices log trace =
 -- ---- the record of a run
 
 -- numbers are taken down only where a record is asked for
-pub record_of : (name : Option (Bor (List ℕ))) (keep : Bool) (before numbers taken : List ℕ) → keep ≡ is_some name → before ≡ [] → taken ≡ before ++ kept keep numbers → record_script (option_copied name) taken ≡ record_script (option_copied name) numbers
-record_of None keep before numbers taken e f h = refl
-record_of (Some name) keep before numbers taken e f h = ap (record_script (Some name.now)) (h ∙ ap (λ b. before ++ kept b numbers) e ∙ ap (λ l. l ++ numbers) f)
+pub record_of : (name : Option (Bor (List ℕ))) (keep : Bool) (numbers taken : List ℕ) → keep ≡ is_some name → taken ≡ kept keep numbers → record_script (option_copied name) taken ≡ record_script (option_copied name) numbers
+record_of None keep numbers taken e h = refl
+record_of (Some name) keep numbers taken e h = ap (record_script (Some name.now)) (h ∙ ap (λ b. kept b numbers) e)

@@ -8,7 +8,7 @@ use Rattle.dcsp_script.specs.Texts.{Touches, LeavesAlone, OnlyAppends, appended_
 use Rattle.dcsp_script.proofs.After.{put_by-append, file_after-append}
 use Rattle.abt_schedule.specs.Schedules.{schedule_text}
 use Rattle.abt_session.specs.Sessions.{Session, run_script}
-use Rattle.abt_session.specs.Order.{trace_text}
+use Rattle.abt_session.specs.Order.{told_text}
 use Rattle.abt_session.proofs.Ordered.{leaves-append, whole_puts, whole_leaves}
 use Rattle.line_replay.specs.Asked.{Asked, asked_run, answer_text, record_script, asked_script}
 
@@ -46,23 +46,23 @@ module _ (numbers : List ℕ) where
 module _ (asked : Asked) where
   -- what comes before the answer
   abbrev pub before_answer : List Write
-  before_answer = run_script asked.session ++ record_script asked.kept (asked_run asked).numbers
+  before_answer = run_script asked.session ++ record_script asked.record_file (asked_run asked).numbers
 
   pub script_is : asked_script asked ≡ before_answer ++ Put (answer_text asked) ∷ []
-  script_is = sym (append_assoc (run_script asked.session) (record_script asked.kept (asked_run asked).numbers) (Put (answer_text asked) ∷ []))
+  script_is = sym (append_assoc (run_script asked.session) (record_script asked.record_file (asked_run asked).numbers) (Put (answer_text asked) ∷ []))
 
-  pub before_puts : put_by before_answer ≡ trace_text asked.session
+  pub before_puts : put_by before_answer ≡ told_text asked.session
   before_puts =
-      put_by-append (run_script asked.session) (record_script asked.kept (asked_run asked).numbers)
-      ∙ ap (λ t. put_by (run_script asked.session) ++ t) (record_puts (asked_run asked).numbers asked.kept)
+      put_by-append (run_script asked.session) (record_script asked.record_file (asked_run asked).numbers)
+      ∙ ap (λ t. put_by (run_script asked.session) ++ t) (record_puts (asked_run asked).numbers asked.record_file)
       ∙ append-nil (put_by (run_script asked.session)) ∙ whole_puts asked.session
 
-  pub asked_puts : put_by (asked_script asked) ≡ trace_text asked.session ++ answer_text asked
+  pub asked_puts : put_by (asked_script asked) ≡ told_text asked.session ++ answer_text asked
   asked_puts =
       ap put_by script_is ∙ put_by-append before_answer (Put (answer_text asked) ∷ [])
       ∙ ap (λ t. put_by before_answer ++ t) (append-nil (answer_text asked)) ∙ ap (λ t. t ++ answer_text asked) before_puts
 
-  pub asked_leaves : (name : List ℕ) → (asked.session.log ≡ name → ⊥) → IfSome asked.kept (λ k. k ≡ name → ⊥) → LeavesAlone (asked_script asked) name
+  pub asked_leaves : (name : List ℕ) → (asked.session.log ≡ name → ⊥) → IfSome asked.record_file (λ k. k ≡ name → ⊥) → LeavesAlone (asked_script asked) name
   asked_leaves name other h =
-      leaves-append name (run_script asked.session) (record_script asked.kept (asked_run asked).numbers ++ Put (answer_text asked) ∷ []) (whole_leaves asked.session name other)
-      (leaves-append name (record_script asked.kept (asked_run asked).numbers) (Put (answer_text asked) ∷ []) (record_leaves (asked_run asked).numbers asked.kept name h) ((λ t. t), tt))
+      leaves-append name (run_script asked.session) (record_script asked.record_file (asked_run asked).numbers ++ Put (answer_text asked) ∷ []) (whole_leaves asked.session name other)
+      (leaves-append name (record_script asked.record_file (asked_run asked).numbers) (Put (answer_text asked) ∷ []) (record_leaves (asked_run asked).numbers asked.record_file name h) ((λ t. t), tt))

@@ -21,8 +21,8 @@ use Rattle.abt_schedule.specs.Schedules.{choice_line, schedule_lines}
 use Rattle.abt_session.specs.Answers.{answer_then, first_answers}
 use Rattle.abt_session.specs.Sessions.{Session, run_of}
 use Rattle.abt_session.specs.Running.{session_of}
-use Rattle.abt_promise.specs.declared.status.Status.{Status}
-use Rattle.abt_promise.specs.declared.status.Status.TheVariants.{Good, No, Unfinished}
+use Rattle.dcsp_script.specs.declared.status.Status.{Status}
+use Rattle.dcsp_script.specs.declared.status.Status.TheVariants.{Good, No, Unfinished}
 use Rattle.ngd_log.specs.Logs.{log_text}
 use Rattle.law_runs.proofs.SizeRuns.{sizes_hold}
 use Rattle.ngd_check.specs.Logged.{IsSmall}

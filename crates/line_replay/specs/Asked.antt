@@ -7,10 +7,10 @@ use Rattle.law_runs.specs.Replay.{Repeats}
 use Rattle.abt_schedule.specs.Answers.{word_at, generator_of}
 use Rattle.abt_schedule.specs.Schedules.{schedule_text}
 use Rattle.abt_session.specs.Sessions.{Session, run_of, run_script}
-use Rattle.abt_session.specs.Running.{session_of}
-use Rattle.abt_promise.specs.Promises.{Report, answered}
+use Rattle.abt_session.specs.Running.{session_of, trace_told}
+use Rattle.dcsp_script.specs.Promises.{Report, answered}
 use Rattle.line_replay.specs.Endings.{end_status, ending_text, unused_text}
-use Rattle.line_replay.specs.Settings.{Settings}
+use Rattle.line_replay.specs.Settings.{Settings, telling_of}
 
 -- the most deliveries of a run
 abbrev pub most_deliveries : ℕ
@@ -21,7 +21,7 @@ pub record Asked : Type 0 where
   pub problem : Contents
   pub session : Session
   -- the name of the record, where one is asked for
-  pub kept : Option (List ℕ)
+  pub record_file : Option (List ℕ)
   -- after so many deliveries it is over, with or without a verdict
   pub limit : ℕ
   -- how many choices it leaves, where that is told
@@ -33,19 +33,19 @@ asked_run asked = run_of asked.session
 
 -- the session under the choices of a list
 abbrev pub listed_session : Contents → List ℕ → List ℕ → Bool → Session
-listed_session p choices log trace = session_of p most_deliveries (λ k. slice_get choices k) log trace
+listed_session p choices log trace = session_of p most_deliveries (λ k. slice_get choices k) log (trace_told trace)
 
 -- the session under the choices of a seed
 abbrev pub seeded_session : Contents → ℕ → List ℕ → Bool → Session
-seeded_session p seed log trace = session_of p most_deliveries (λ k. Some (word_at (generator_of seed) k)) log trace
+seeded_session p seed log trace = session_of p most_deliveries (λ k. Some (word_at (generator_of seed) k)) log (trace_told trace)
 
--- the session under so many first choices of a seed, all as it is set
-abbrev pub set_session : Contents → List ℕ → Settings → Session
-set_session p log s = session_of p s.choices (λ k. Some (word_at (generator_of s.seed) k)) log s.trace
+-- the session under so many first choices of a seed, all as it is set; it may be the round of a search with this number
+abbrev pub set_session : Contents → List ℕ → Settings → Option ℕ → Session
+set_session p log s round = session_of p s.choices (λ k. Some (word_at (generator_of s.seed) k)) log (telling_of s round)
 
 -- a seed alone is set: there are as many choices as a run may have deliveries, and nothing else is asked for
 abbrev pub seed_alone : ℕ → Settings
-seed_alone seed = record { seed = seed; choices = most_deliveries; kept = None; trace = false; each = false; halves = false }
+seed_alone seed = record { seed = seed; choices = most_deliveries; record_file = None; trace = false; progress = false; each = false; halves = false }
 
 -- how many of the choices a run leaves
 abbrev pub left_over : List ℕ → Run → ℕ
@@ -56,14 +56,14 @@ abbrev pub replay : Contents → List ℕ → List ℕ → Bool → Asked
 replay p choices log trace = record {
   problem = p;
   session = listed_session p choices log trace;
-  kept = None;
+  record_file = None;
   limit = length choices;
   unused = Some (left_over choices (run_of (listed_session p choices log trace)));
 }
 
 -- a run from a seed, all as it is set
 abbrev pub solve : Contents → List ℕ → Settings → Asked
-solve p log s = record { problem = p; session = set_session p log s; kept = s.kept; limit = s.choices; unused = None }
+solve p log s = record { problem = p; session = set_session p log s None; record_file = s.record_file; limit = s.choices; unused = None }
 
 -- all that is put when the run has ended
 abbrev pub answer_text : Asked → List ℕ
@@ -74,9 +74,9 @@ abbrev pub record_script : Option (List ℕ) → List ℕ → List Write
 record_script None numbers = []
 record_script (Some name) numbers = Create name ∷ Append name (schedule_text numbers) ∷ []
 
--- the run writes its log and its trace, then comes the record, and the answer is put last
+-- the run writes its log and what tells of its deliveries, then comes the record, and the answer is put last
 abbrev pub asked_script : Asked → List Write
-asked_script asked = run_script asked.session ++ (record_script asked.kept (asked_run asked).numbers ++ Put (answer_text asked) ∷ [])
+asked_script asked = run_script asked.session ++ (record_script asked.record_file (asked_run asked).numbers ++ Put (answer_text asked) ∷ [])
 
 -- the names that a run creates: its log, and its record where one is asked for
 abbrev pub created_names : List ℕ → Option (List ℕ) → List (List ℕ)
@@ -89,4 +89,4 @@ run_report asked = answered (end_status (asked_run asked).end) (asked_script ask
 
 -- A run from a seed and a replay of its numbers are one run, whatever their logs and traces.
 abbrev pub IsReplayed : Contents → Settings → Type 0
-IsReplayed p s = s.choices ≤ most_deliveries → (log again : List ℕ) (told : Bool) → let first = run_of (set_session p log s) in Repeats first (run_of (listed_session p first.numbers again told))
+IsReplayed p s = s.choices ≤ most_deliveries → (log again : List ℕ) (told : Bool) → let first = run_of (set_session p log s None) in Repeats first (run_of (listed_session p first.numbers again told))

@@ -11,9 +11,9 @@ use Rattle.abt_defs.specs.Bound.{message_bound}
 use Rattle.law_runs.specs.Stops.{IsOpen}
 use Rattle.ngd_check.specs.Logged.{IsSmall}
 use Rattle.abt_schedule.specs.Schedules.{schedule_text}
-use Rattle.abt_session.specs.Order.{trace_text, log_of_first, HasLines}
-use Rattle.abt_promise.specs.declared.status.Status.{Status}
-use Rattle.abt_promise.specs.declared.status.Status.TheVariants.{Good, No, Unfinished}
+use Rattle.abt_session.specs.Order.{told_text, log_of_first, IsShortOf, IsPast, HoldsAtMost, HoldsAtLeast}
+use Rattle.dcsp_script.specs.declared.status.Status.{Status}
+use Rattle.dcsp_script.specs.declared.status.Status.TheVariants.{Good, No, Unfinished}
 use Rattle.abt_input.specs.Inputs.{IsModelOf}
 use Rattle.line_replay.specs.Endings.{assigned, final_values, end_status}
 use Rattle.line_replay.specs.Asked.{Asked, asked_run, answer_text}
@@ -22,18 +22,18 @@ use Rattle.line_replay.specs.Asked.{Asked, asked_run, answer_text}
 abbrev pub HoldsProblem : Option (List ℕ → Option (List ℕ)) → List ℕ → Type 0
 HoldsProblem files name = IfSome files (λ f. (problem : Contents) → IsModelOf (bytes_of (f name)) problem → IsCsp (csp_of problem) × IsSmall (csp_of problem))
 
--- all that goes to `out`: the trace, where one is asked for, and the answer
+-- all that goes to `out`: what tells of the deliveries, and the answer
 abbrev pub whole_text : Asked → List ℕ
-whole_text asked = trace_text asked.session ++ answer_text asked
+whole_text asked = told_text asked.session ++ answer_text asked
 
 -- the name is not that of the log or of the record
 abbrev pub IsOther : Asked → List ℕ → Type 0
-IsOther asked name = (name ≢ asked.session.log) × IfSome asked.kept (λ record_name. name ≢ record_name)
+IsOther asked name = (name ≢ asked.session.log) × IfSome asked.record_file (λ record_name. name ≢ record_name)
 
 -- the log is that of the run's derivation, the record that of its numbers, and every other name is as before
 pub record HoldsRun (asked : Asked) (files now : List ℕ → Option (List ℕ)) : Type 0 where
   pub log : now asked.session.log ≡ Some (log_text (asked_run asked).net.steps)
-  pub recorded : IfSome asked.kept (λ name. now name ≡ Some (schedule_text (asked_run asked).numbers))
+  pub recorded : IfSome asked.record_file (λ name. now name ≡ Some (schedule_text (asked_run asked).numbers))
   pub others : (name : List ℕ) → IsOther asked name → now name ≡ files name
 
 -- The run: with a status of 0, 1 or 5 it was printed, logged and recorded whole.
@@ -66,13 +66,13 @@ pub record KeepsOrder (asked : Asked) (names : List (List ℕ)) (gained : List �
   -- the log, once created, holds a first part of its text; else it is as before, or holds no bytes
   pub log_part : HoldsPartOf asked.session.log (log_text (asked_run asked).net.steps) (Contains names asked.session.log) (files asked.session.log) (now asked.session.log)
   -- and so does the record
-  pub record_part : IfSome asked.kept (λ name. HoldsPartOf name (schedule_text (asked_run asked).numbers) (Contains names name) (files name) (now name))
-  -- once a byte past the trace was put, both hold their whole texts
-  pub answer_last : length (trace_text asked.session) < length gained → HoldsRun asked files now
-  -- after `count` whole trace lines the log, once created, holds no byte of a step made by a delivery after number `count + 1`
-  pub not_ahead : (count : ℕ) → HasLines asked.session count gained → count < (asked_run asked).net.deliveries → Contains names asked.session.log → (held : List ℕ) × IsPrefixOf held (log_of_first asked.session (count + 1)) × (now asked.session.log ≡ Some held)
-  -- and where `count` is at least 1 it holds the head and the whole lines of the steps made at the start and by the first `count` deliveries
-  pub not_behind : asked.session.trace ≡ true → (count : ℕ) → HasLines asked.session count gained → 1 ≤ count → (held : List ℕ) × IsPrefixOf (log_of_first asked.session count) held × (now asked.session.log ≡ Some held)
+  pub record_part : IfSome asked.record_file (λ name. HoldsPartOf name (schedule_text (asked_run asked).numbers) (Contains names name) (files name) (now name))
+  -- once a byte was put past what tells of the deliveries, both hold their whole texts
+  pub answer_last : length (told_text asked.session) < length gained → HoldsRun asked files now
+  -- as long as a byte is missing of what tells of the first n deliveries, the log, once created, holds no byte of a step made by a later one
+  pub not_ahead : (n : ℕ) → IsShortOf asked.session n gained → Contains names asked.session.log → HoldsAtMost (now asked.session.log) (log_of_first asked.session n)
+  -- as soon as a byte is there that tells of a delivery after the first n, the log holds the head and the whole lines of the steps made at the start and by the first n + 1 deliveries
+  pub not_behind : (n : ℕ) → IsPast asked.session n gained → HoldsAtLeast (now asked.session.log) (log_of_first asked.session (n + 1))
   pub others : (name : List ℕ) → IsOther asked name → now name ≡ files name
 
 -- The order of writing: whatever the status, `out` gained a first part of its text, and the log and the record keep up with it.

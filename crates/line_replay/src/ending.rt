@@ -8,11 +8,10 @@ ghost use Rattle.line_replay.specs.Endings.{counts_text, unused_text};
 ghost use Rattle.line_replay.specs.Outcomes.{end_text, outcome_text, outcome_status, HasAllValues};
 
 use abt_answer::push_solution;
-use abt_promise::Status;
 use abt_session::{End, Outcome};
 use dcsp_outside::Sink;
 use dcsp_problem::Problem;
-use dcsp_script::{Stop, put};
+use dcsp_script::{Status, Stop, put};
 use itoa::Buffer;
 use std::alloc::{AllocError, Global};
 

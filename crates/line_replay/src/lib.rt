@@ -13,6 +13,6 @@ mod solve;
 
 pub use ending::{end_status, push_counts, push_outcome};
 pub use laws::records_replay;
-pub use record::{MOST_DELIVERIES, write_record};
+pub use record::write_record;
 pub use replay::{Replay, run_replay};
 pub use solve::{Options, Solve, run_seed};

@@ -8,15 +8,12 @@ ghost use Rattle.abt_session.specs.Sessions.{run_of, run_script};
 ghost use Rattle.abt_session.specs.Running.{session_of, Gives};
 ghost use Rattle.line_replay.specs.Asked.{record_script};
 
-use abt_schedule::{ChoiceList, Choices, write_schedule};
-use abt_session::{Outcome, run};
+use abt_schedule::{Choices, write_schedule};
+use abt_session::{Outcome, RunTask, Telling, run};
 use dcsp_outside::{Folder, Sink};
 use dcsp_problem::Problem;
 use dcsp_script::{Stop, append, create};
 use std::alloc::Global;
-
-/// The most deliveries of a run.
-pub const MOST_DELIVERIES: u64 = 1 << 40;
 
 /// What a run writes beside its answer.
 #[derive(Clone, Copy)]
@@ -24,11 +21,11 @@ pub struct Task<'w> {
     /// The name of its log.
     pub log: &'w str,
     /// The name of its record, where one is asked for.
-    pub kept: Option<&'w str>,
+    pub record_file: Option<&'w str>,
     /// How many deliveries it makes at most.
     pub most: u64,
-    /// Whether its trace is put.
-    pub trace: bool,
+    /// What is put of each delivery.
+    pub telling: Telling,
 }
 
 /// Makes the run under the choices, and then its record, where one is asked for.
@@ -41,19 +38,21 @@ pub fn run_recorded<C: Choices, F: Folder, S: Sink>(
     out: &mut S,
 ) -> Result<Outcome, Stop>
     requires { task.most ≤ 2 ^ 40 }
-    ensures wrote { let s = session_of problem.now task.entry.most (C.answers choices.old) task.entry.log.now task.entry.trace in
-        Wrote (run_script s ++ record_script (option_copied task.entry.kept) (run_of s).numbers)
+    ensures wrote { let s = session_of problem.now task.entry.most (C.answers choices.old) task.entry.log.now task.entry.telling in
+        Wrote (run_script s ++ record_script (option_copied task.entry.record_file) (run_of s).numbers)
         (outside (F.place folder.old) (S.stream out.old)) (outside (F.place folder.new) (S.stream out.new)) result }
-    ensures gives { IfOk result (Gives (session_of problem.now task.entry.most (C.answers choices.old) task.entry.log.now task.entry.trace)) }
-    ensures answers { let s = session_of problem.now task.entry.most (C.answers choices.old) task.entry.log.now task.entry.trace in
+    ensures gives { IfOk result (Gives (session_of problem.now task.entry.most (C.answers choices.old) task.entry.log.now task.entry.telling)) }
+    ensures answers { let s = session_of problem.now task.entry.most (C.answers choices.old) task.entry.log.now task.entry.telling in
         OnOk result ((k : ℕ) → C.answers choices.new k ≡ C.answers choices.old ((run_of s).net.deliveries + k)) }
 {
-    let mut taken = ChoiceList::new(alloc);
-    let keep = task.kept.is_some();
-    let outcome = run(
-        alloc, problem, choices, task.most, folder, task.log, out, task.trace, &mut taken, keep,
-    )?;
-    write_record(alloc, folder, task.kept, taken.choices())?;
+    let asked = RunTask {
+        log: task.log,
+        most: task.most,
+        telling: task.telling,
+        keep: task.record_file.is_some(),
+    };
+    let outcome = run(alloc, problem, choices, asked, folder, out)?;
+    write_record(alloc, folder, task.record_file, outcome.numbers.choices())?;
     Ok(outcome)
 }
 
@@ -61,13 +60,13 @@ pub fn run_recorded<C: Choices, F: Folder, S: Sink>(
 pub fn write_record<F: Folder>(
     alloc: Global,
     folder: &mut F,
-    kept: Option<&str>,
+    record_file: Option<&str>,
     numbers: &[u32],
 ) -> Result<(), Stop>
-    ensures { (out : Stream) → Wrote (record_script (option_copied kept.entry) numbers.now)
+    ensures { (out : Stream) → Wrote (record_script (option_copied record_file.entry) numbers.now)
         (outside (F.place folder.old) out) (outside (F.place folder.new) out) result }
 {
-    let Some(name) = kept else {
+    let Some(name) = record_file else {
         return Ok(());
     };
     let mut text = Vec::new(alloc);

@@ -4,7 +4,7 @@ ghost use Rattle.std.specs.Prelude.{◌≡◌, IfOk};
 ghost use Rattle.dcsp_outside.specs.Outside.{Place, Stream};
 ghost use Rattle.dcsp_script.specs.Scripts.{outside};
 ghost use Rattle.dcsp_script.specs.Ways.{Wrote};
-ghost use Rattle.abt_promise.specs.Runs.{CameIn};
+ghost use Rattle.dcsp_script.specs.Runs.{CameIn};
 ghost use Rattle.abt_input.specs.Errors.{way_of};
 ghost use Rattle.line_replay.specs.Endings as endings;
 ghost use Rattle.line_replay.specs.Headline.{HoldsProblem};
@@ -12,13 +12,13 @@ ghost use Rattle.line_replay.specs.Asked.{asked_run, asked_script, replay};
 ghost use Rattle.line_replay.specs.ReplayPromise.{replay_promise};
 
 use crate::ending::{end_status, tell};
-use crate::record::{MOST_DELIVERIES, Task, run_recorded};
+use crate::record::{Task, run_recorded};
 use abt_input::{CommandError, read_choices, read_model};
-use abt_promise::Status;
 use abt_schedule::Listed;
+use abt_session::{MOST_DELIVERIES, Telling};
 use dcsp_outside::{Folder, Sink};
 use dcsp_problem::Problem;
-use dcsp_script::Stop;
+use dcsp_script::{Status, Stop};
 use ngd_check::problems_are_small;
 use std::alloc::Global;
 
@@ -70,9 +70,9 @@ fn run_choices<F: Folder, S: Sink>(
 {
     let task = Task {
         log: line.log,
-        kept: None,
+        record_file: None,
         most: MOST_DELIVERIES,
-        trace: line.trace,
+        telling: Telling::traced(line.trace),
     };
     let mut choices = choices;
     let outcome = run_recorded(alloc, problem, &mut choices, task, folder, out)?;

@@ -5,16 +5,16 @@ ghost use Rattle.dcsp_outside.specs.Outside.{Place, Stream};
 ghost use Rattle.dcsp_script.specs.Scripts.{outside};
 ghost use Rattle.dcsp_script.specs.Ways.{Wrote};
 ghost use Rattle.line_replay.specs.Endings as endings;
-ghost use Rattle.line_replay.specs.Settings.{settings_of};
+ghost use Rattle.line_replay.specs.Settings.{settings_of, telling_of};
 ghost use Rattle.line_replay.specs.Asked.{asked_run, asked_script, solve};
 
 use crate::ending::{end_status, tell};
 use crate::record::{Task, run_recorded};
-use abt_promise::Status;
 use abt_schedule::Seeded;
+use abt_session::Telling;
 use dcsp_outside::{Folder, Sink};
 use dcsp_problem::Problem;
-use dcsp_script::Stop;
+use dcsp_script::{Status, Stop};
 use std::alloc::Global;
 
 /// The words of `solve`.
@@ -36,13 +36,28 @@ pub struct Options<'w> {
     /// they are used up, the run is unfinished.
     pub choices: u64,
     /// The name of the record, where one is asked for.
-    pub kept: Option<&'w str>,
+    pub record_file: Option<&'w str>,
     /// Whether the trace is put.
     pub trace: bool,
+    /// Whether it is told every so often how far the run is, or each round of a search.
+    pub progress: bool,
     /// Whether a search puts each solution as soon as it is found. A run for any solution is as without.
     pub each: bool,
     /// Whether a search goes by halves. A run for any solution is as without.
     pub halves: bool,
+}
+
+impl Options<'_> {
+    /// What is put of each delivery of a run, or of the round of a search with this number.
+    pub fn telling(&self, round: Option<u64>) -> Telling
+        ensures { result ≡ telling_of (settings_of self.now) round }
+    {
+        Telling {
+            trace: self.trace,
+            progress: self.progress,
+            round,
+        }
+    }
 }
 
 /// Runs the problem under the choices of the seed, and tells how the run ended.
@@ -60,9 +75,9 @@ pub fn run_seed<F: Folder, S: Sink>(
 {
     let task = Task {
         log: line.log,
-        kept: line.options.kept,
+        record_file: line.options.record_file,
         most: line.options.choices,
-        trace: line.options.trace,
+        telling: line.options.telling(None),
     };
     let mut choices = Seeded::new(line.options.seed);
     let outcome = run_recorded(alloc, problem, &mut choices, task, folder, out)?;

@@ -32,7 +32,7 @@ use Rattle.line_check.proofs.Taken.{settled}
 use Rattle.line_check.proofs.Verifying.{refutation_verified_by}
 use Rattle.line_check.specs.declared.log_check.Checked.{Checked}
 use Rattle.line_check.specs.LogChecks.{IsKeptFor}
-use Rattle.abt_promise.specs.Promises.{IsHeld}
+use Rattle.dcsp_script.specs.Promises.{IsHeld}
 use Rattle.line_rewrite.specs.UpgradePromise.{appends, file_script}
 use Rattle.line_rewrite.specs.CorePromise.{core_text, core_script, IsCoreOf}
 use Rattle.line_rewrite.specs.Trimming.{IsCore, WritesTrimmed, HasTrimmed, HoldsCore}

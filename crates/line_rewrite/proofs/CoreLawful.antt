@@ -8,9 +8,9 @@ use Rattle.ngd_log.specs.Logs.{log_lines}
 use Rattle.ngd_check.specs.declared.Finding.{Finding}
 use Rattle.ngd_check.specs.declared.Finding.TheVariants.{Verified, BadStep, BadDeletion, NotEmpty}
 use Rattle.ngd_rewrite.specs.declared.cores.Core.{Core}
-use Rattle.abt_promise.specs.declared.status.Status.TheVariants.{Good, No}
-use Rattle.abt_promise.specs.Runs.{Way}
-use Rattle.abt_promise.specs.Clauses.{IsLawful}
+use Rattle.dcsp_script.specs.declared.status.Status.TheVariants.{Good, No}
+use Rattle.dcsp_script.specs.Runs.{Way}
+use Rattle.dcsp_script.specs.Clauses.{IsLawful}
 use Rattle.abt_input.specs.Plans.{Find, Answer, IsSoundPlan}
 use Rattle.abt_input.proofs.Keeping.{Keeps}
 use Rattle.abt_input.proofs.OwnWrites.{own_none, own_put}

@@ -16,7 +16,7 @@ use Rattle.dcsp_defs.specs.declared.entry.Entry.{Entry}
 use Rattle.ngd_log.specs.declared.standing.Version.TheVariants.{Two}
 use Rattle.ngd_log.specs.EntryTexts.{entry_lines, head, entries_text, text_lines}
 use Rattle.ngd_rewrite.specs.Upgrade.{upgraded}
-use Rattle.abt_promise.specs.Promises.{IsHeld}
+use Rattle.dcsp_script.specs.Promises.{IsHeld}
 use Rattle.abt_input.specs.Inputs.{IsTextOf}
 use Rattle.abt_input.proofs.Once.{one_text}
 use Rattle.line_rewrite.specs.UpgradePromise.{appends, file_script, upgrade_text, upgrade_script}

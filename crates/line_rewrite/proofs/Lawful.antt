@@ -4,7 +4,7 @@ use Rattle.std.proofs.lemmas.List.Elements.{Contains-push}
 use Rattle.ngd_log.specs.declared.standing.Version.TheVariants.{Two}
 use Rattle.ngd_log.specs.EntryTexts.{text_lines}
 use Rattle.ngd_rewrite.specs.Upgrade.{upgraded}
-use Rattle.abt_promise.specs.Clauses.{IsLawful}
+use Rattle.dcsp_script.specs.Clauses.{IsLawful}
 use Rattle.abt_input.specs.Plans.{WritesOwn, IsSoundPlan}
 use Rattle.abt_input.proofs.ExactKinds.{log_exact}
 use Rattle.abt_input.proofs.OwnWrites.{own_none, own_put, own_create, own_both, own_appends}

@@ -9,8 +9,8 @@ use Rattle.ngd_check.specs.declared.Finding.{Finding}
 use Rattle.ngd_check.specs.declared.Finding.TheVariants.{Verified, BadStep, BadDeletion, NotEmpty}
 use Rattle.ngd_rewrite.specs.declared.cores.Core.{Core}
 use Rattle.ngd_rewrite.specs.Needed.{is_cited, IsTrimmed}
-use Rattle.abt_promise.specs.declared.status.Status.TheVariants.{Good}
-use Rattle.abt_promise.specs.Promises.{Promise}
+use Rattle.dcsp_script.specs.declared.status.Status.TheVariants.{Good}
+use Rattle.dcsp_script.specs.Promises.{Promise}
 use Rattle.abt_input.specs.Plans.{Plan, Answer, Read, Find, promise_by}
 use Rattle.line_check.specs.Taking.{Taking, model_by}
 use Rattle.line_check.specs.LogChecks.{kept_log}

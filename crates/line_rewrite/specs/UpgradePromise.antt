@@ -5,8 +5,8 @@ use Rattle.dcsp_script.specs.Scripts.{Write, Create, Append, Put}
 use Rattle.ngd_log.specs.declared.standing.Version.TheVariants.{Two}
 use Rattle.ngd_log.specs.EntryTexts.{text_lines}
 use Rattle.ngd_rewrite.specs.Upgrade.{upgraded, deleted_count}
-use Rattle.abt_promise.specs.declared.status.Status.TheVariants.{Good}
-use Rattle.abt_promise.specs.Promises.{Promise}
+use Rattle.dcsp_script.specs.declared.status.Status.TheVariants.{Good}
+use Rattle.dcsp_script.specs.Promises.{Promise}
 use Rattle.abt_input.specs.Kinds.{a_log}
 use Rattle.abt_input.specs.Plans.{Plan, Answer, Read, promise_by}
 

@@ -4,7 +4,7 @@ ghost use Rattle.std.specs.Prelude.{◌≡◌, ℕ, ℤ, List, Option};
 ghost use Rattle.dcsp_defs.specs.declared.Step.{Step as A_step};
 ghost use Rattle.dcsp_script.specs.Texts.{appended_by};
 ghost use Rattle.ngd_log.specs.Logs.{AreWritable};
-ghost use Rattle.abt_promise.specs.Clauses.{IsLawful};
+ghost use Rattle.dcsp_script.specs.Clauses.{IsLawful};
 ghost use Rattle.line_check.specs.Taking.{taking_of};
 ghost use Rattle.line_rewrite.specs.CorePromise.{core_promise};
 ghost use Rattle.line_rewrite.specs.UpgradePromise.{upgrade_script, upgrade_promise};

@@ -3,7 +3,7 @@ use Rattle.std.proofs.Common.{◌≡◌, ◌≢◌, ◌∙◌, ℤ, true, false,
 use Rattle.std.specs.Prelude.{◌↔◌}
 use Rattle.dcsp_rule.specs.declared.aim.Aim.TheVariants.{Satisfy}
 use Rattle.dcsp_problem.specs.WellFormed.{IsProblem}
-use Rattle.abt_promise.specs.declared.status.Status.TheVariants.{No, Unfinished}
+use Rattle.dcsp_script.specs.declared.status.Status.TheVariants.{No, Unfinished}
 use Rattle.abt_optimum.specs.declared.best.BestEnd.{BestEnd}
 use Rattle.abt_optimum.specs.declared.best.BestEnd.TheVariants.{Optimal, NoSolution, Open}
 use Rattle.abt_optimum.specs.Best.{IsBest}

@@ -14,7 +14,7 @@ use Rattle.ngd_log.specs.Logs.{log_text}
 use Rattle.abt_schedule.specs.Schedules.{schedule_text}
 use Rattle.abt_session.specs.Sessions.{run_script}
 use Rattle.abt_session.proofs.Ordered.{leaves-append, part_in_order}
-use Rattle.abt_promise.specs.declared.status.Status.{Status}
+use Rattle.dcsp_script.specs.declared.status.Status.{Status}
 use Rattle.line_replay.specs.Asked.{record_script}
 use Rattle.line_replay.proofs.Scripts.{record_puts, record_leaves, record_holds}
 use Rattle.abt_answer.specs.Solutions.{solution_text}
@@ -29,14 +29,14 @@ use Rattle.dcsp_rule.specs.Aims.{aimed_at}
 use Rattle.line_solve.specs.Searching.{AskedSearch, next_end, search_after, round_count, session_after, first_run, last_run}
 use Rattle.line_solve.specs.BestAnswers.{answer_text, search_status}
 use Rattle.line_solve.specs.SearchScripts.{round_line, line_script, found_script, solution_script, round_script, rounds_script, ending_script, search_script}
-use Rattle.line_solve.specs.BestHeadline.{line_text, solution_put, traces_of_first, whole_text, HoldsSearch, IsSearched, log_after, HoldsRounds, MadeRounds, AddsBytes, WritesRound, in_line, in_run, in_solution, KeepsEnding, WritesEnding, SearchOrdered, in_round, in_ending}
+use Rattle.line_solve.specs.BestHeadline.{line_text, solution_put, puts_of_first, whole_text, HoldsSearch, IsSearched, log_after, HoldsRounds, MadeRounds, AddsBytes, WritesRound, in_line, in_run, in_solution, KeepsEnding, WritesEnding, SearchOrdered, in_round, in_ending}
 use Rattle.line_solve.proofs.Moments.{after_script, did_then, after_then}
 use Rattle.line_solve.proofs.Rounds.{starts, goes_on, stops, is_over}
 use Rattle.line_solve.proofs.Writing.{puts_line, leaves_line, puts_solution, leaves_solution, rounds_put, rounds_leave, rounds_log, ends}
 
 -- the record has a name of its own
 abbrev pub OwnsRecord : AskedSearch → Type 0
-OwnsRecord asked = IfSome asked.set.kept (λ k. k ≡ asked.log → ⊥)
+OwnsRecord asked = IfSome asked.set.record_file (λ k. k ≡ asked.log → ⊥)
 
 -- ---- there is a round
 
@@ -73,23 +73,23 @@ module _ (asked : AskedSearch) where
 module _ (asked : AskedSearch) where
   -- the record's writes, and the answer's
   abbrev record_writes : List Write
-  record_writes = record_script asked.set.kept (first_run asked).numbers
+  record_writes = record_script asked.set.record_file (first_run asked).numbers
 
   abbrev answer_write : List Write
   answer_write = Put (answer_text asked) ∷ []
 
   ending_puts : put_by (ending_script asked) ≡ answer_text asked
-  ending_puts = put_by-append record_writes answer_write ∙ ap (λ t. t ++ put_by answer_write) (record_puts (first_run asked).numbers asked.set.kept) ∙ append-nil (answer_text asked)
+  ending_puts = put_by-append record_writes answer_write ∙ ap (λ t. t ++ put_by answer_write) (record_puts (first_run asked).numbers asked.set.record_file) ∙ append-nil (answer_text asked)
 
   pub search_puts : put_by (search_script asked) ≡ whole_text asked
   search_puts =
       put_by-append (rounds_script asked (round_count asked)) (ending_script asked) ∙ ap (λ t. t ++ put_by (ending_script asked)) (rounds_put asked (round_count asked))
-      ∙ ap (λ t. traces_of_first asked (round_count asked) ++ t) ending_puts
+      ∙ ap (λ t. puts_of_first asked (round_count asked) ++ t) ending_puts
 
-  ending_leaves : (name : List ℕ) → IfSome asked.set.kept (λ k. k ≡ name → ⊥) → LeavesAlone (ending_script asked) name
-  ending_leaves name h = leaves-append name record_writes answer_write (record_leaves (first_run asked).numbers asked.set.kept name h) ((λ t. t), tt)
+  ending_leaves : (name : List ℕ) → IfSome asked.set.record_file (λ k. k ≡ name → ⊥) → LeavesAlone (ending_script asked) name
+  ending_leaves name h = leaves-append name record_writes answer_write (record_leaves (first_run asked).numbers asked.set.record_file name h) ((λ t. t), tt)
 
-  pub search_leaves : (name : List ℕ) → (asked.log ≡ name → ⊥) → IfSome asked.set.kept (λ k. k ≡ name → ⊥) → LeavesAlone (search_script asked) name
+  pub search_leaves : (name : List ℕ) → (asked.log ≡ name → ⊥) → IfSome asked.set.record_file (λ k. k ≡ name → ⊥) → LeavesAlone (search_script asked) name
   search_leaves name other h = leaves-append name (rounds_script asked (round_count asked)) (ending_script asked) (rounds_leave asked (round_count asked) name other) (ending_leaves name h)
 
   turned : (name : List ℕ) (kept : Option (List ℕ)) → IfSome kept (λ k. name ≢ k) → IfSome kept (λ k. k ≡ name → ⊥)
@@ -97,7 +97,7 @@ module _ (asked : AskedSearch) where
   turned name (Some k) g = λ e. g (sym e)
 
   -- the record behind its own writes and a part of the answer
-  recorded : (kept : Option (List ℕ)) → asked.set.kept ≡ kept → (more : List Write) → IsPartOf more answer_write → (files now : List ℕ → Option (List ℕ)) → FilesAfter (record_writes ++ more) files now → IfSome kept (λ name. now name ≡ Some (schedule_text (first_run asked).numbers))
+  recorded : (kept : Option (List ℕ)) → asked.set.record_file ≡ kept → (more : List Write) → IsPartOf more answer_write → (files now : List ℕ → Option (List ℕ)) → FilesAfter (record_writes ++ more) files now → IfSome kept (λ name. now name ≡ Some (schedule_text (first_run asked).numbers))
   recorded None e more h files now after = tt
   recorded (Some name) e more h files now after =
       after name ∙ file_after-append record_writes more name (files name)
@@ -120,8 +120,8 @@ module _ (asked : AskedSearch) (own : OwnsRecord asked) where
     holds_search : HoldsSearch asked files now
     holds_search = record {
       log = later asked.log ∙ left_alone (ending_script asked) asked.log (between asked.log) (ending_leaves asked asked.log own) ∙ rounds_log asked (round_count asked) (files asked.log) ∙ last_log asked (files asked.log);
-      recorded = recorded asked asked.set.kept refl (answer_write asked) (part_self (answer_write asked)) between now later;
-      others = λ name other. after name ∙ left_alone (search_script asked) name (files name) (search_leaves asked name (λ e. other.0 (sym e)) (turned asked name asked.set.kept other.1));
+      recorded = recorded asked asked.set.record_file refl (answer_write asked) (part_self (answer_write asked)) between now later;
+      others = λ name other. after name ∙ left_alone (search_script asked) name (files name) (search_leaves asked name (λ e. other.0 (sym e)) (turned asked name asked.set.record_file other.1));
     }
 
   pub is_searched : (a b : World) (status : Status) → status ≡ search_status asked → Did (search_script asked) a b → IsSearched asked status a b
@@ -139,7 +139,7 @@ module _ (asked : AskedSearch) (own : OwnsRecord asked) where
       let b = after_script (rounds_script asked n) a in
       record {
         did = did;
-        out = Told-weaker (PutAfter (rounds_script asked n)) (λ before now. now ≡ before ++ traces_of_first asked n) (λ before now h. h ∙ ap (λ t. before ++ t) (rounds_put asked n)) a.out.written b.out.written did.after.out;
+        out = Told-weaker (PutAfter (rounds_script asked n)) (λ before now. now ≡ before ++ puts_of_first asked n) (λ before now h. h ∙ ap (λ t. before ++ t) (rounds_put asked n)) a.out.written b.out.written did.after.out;
         files = Told-weaker (FilesAfter (rounds_script asked n)) (HoldsRounds asked n) (λ files now after. record {
           log = after asked.log ∙ rounds_log asked n (files asked.log);
           others = λ name other. after name ∙ left_alone (rounds_script asked n) name (files name) (rounds_leave asked n name (λ e. other (sym e)));
@@ -212,7 +212,7 @@ module _ (asked : AskedSearch) (own : OwnsRecord asked) where
     ]
 
   module _ (part : List Write) (inside : IsPartOf part (ending_script asked)) (files now : List ℕ → Option (List ℕ)) (after : FilesAfter part files now) where
-    record_part : (kept : Option (List ℕ)) → asked.set.kept ≡ kept → IfSome kept (λ name. HoldsPartOf name (schedule_text (first_run asked).numbers) (Contains (created_by part) name) (files name) (now name))
+    record_part : (kept : Option (List ℕ)) → asked.set.record_file ≡ kept → IfSome kept (λ name. HoldsPartOf name (schedule_text (first_run asked).numbers) (Contains (created_by part) name) (files name) (now name))
     record_part None e = tt
     record_part (Some name) e =
         let text = schedule_text (first_run asked).numbers in
@@ -223,17 +223,17 @@ module _ (asked : AskedSearch) (own : OwnsRecord asked) where
         subst (λ f. HoldsPartOf name text (Contains (created_by part) name) (files name) f) (sym (after name))
         (subst (λ t. HoldsPartOf name t (Contains (created_by part) name) (files name) (file_after part name (files name))) is h)
 
-    answer_last : 0 < length (put_by part) → IfSome asked.set.kept (λ name. now name ≡ Some (schedule_text (first_run asked).numbers))
+    answer_last : 0 < length (put_by part) → IfSome asked.set.record_file (λ name. now name ≡ Some (schedule_text (first_run asked).numbers))
     answer_last long =
-        let none : length (put_by (record_writes asked)) ≡ 0 = ap length (record_puts (first_run asked).numbers asked.set.kept) in
+        let none : length (put_by (record_writes asked)) ≡ 0 = ap length (record_puts (first_run asked).numbers asked.set.record_file) in
         let past = part_past part (record_writes asked) (answer_write asked) inside (omega arith) in
-        recorded asked asked.set.kept refl past.0 past.2 files now (subst (λ s. FilesAfter s files now) past.1 after)
+        recorded asked asked.set.record_file refl past.0 past.2 files now (subst (λ s. FilesAfter s files now) past.1 after)
 
     pub keeps_ending : KeepsEnding asked (created_by part) (put_by part) files now
     keeps_ending = record {
-      record_part = record_part asked.set.kept refl;
+      record_part = record_part asked.set.record_file refl;
       answer_last = answer_last;
-      others = λ name other. after name ∙ left_alone part name (files name) (part_leaves part (ending_script asked) name inside (ending_leaves asked name (turned asked name asked.set.kept other)));
+      others = λ name other. after name ∙ left_alone part name (files name) (part_leaves part (ending_script asked) name inside (ending_leaves asked name (turned asked name asked.set.record_file other)));
     }
 
   writes_ending : (a b : World) (part : List Write) → IsPartOf part (ending_script asked) → IsAfter part a b → WritesEnding asked a b

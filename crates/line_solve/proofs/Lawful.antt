@@ -4,9 +4,9 @@ use Rattle.dcsp_rule.specs.declared.aim.Aim.{Aim}
 use Rattle.dcsp_rule.specs.declared.aim.Aim.TheVariants.{Satisfy, Least, Greatest}
 use Rattle.dcsp_rule.specs.Problems.{Contents}
 use Rattle.dcsp_script.specs.Scripts.{World}
-use Rattle.abt_promise.specs.Statuses.{IsFinal, IsRefusal}
-use Rattle.abt_promise.specs.Runs.{Way}
-use Rattle.abt_promise.specs.Clauses.{IsLawful}
+use Rattle.dcsp_script.specs.Statuses.{IsFinal, IsRefusal}
+use Rattle.dcsp_script.specs.Runs.{Way}
+use Rattle.dcsp_script.specs.Clauses.{IsLawful}
 use Rattle.abt_input.specs.Inputs.{IsModelOf}
 use Rattle.abt_input.specs.Plans.{PlanReports, IsOwn, IsSoundPlan}
 use Rattle.abt_input.proofs.ExactKinds.{model_exact}
@@ -35,27 +35,27 @@ no_refusal_best NoSolution h = h
 no_refusal_best (Open values) h = h
 
 -- a search changes only its log and its record
-search_own : (asked : AskedSearch) → IsOwn (created_names asked.log asked.set.kept) (search_status asked) (search_script asked)
+search_own : (asked : AskedSearch) → IsOwn (created_names asked.log asked.set.record_file) (search_status asked) (search_script asked)
 search_own asked = record {
   final = final_best (found (whole_search asked));
   no_refusal = no_refusal_best (found (whole_search asked));
-  names = own_of_leaves asked.log asked.set.kept (search_script asked) (search_leaves asked);
+  names = own_of_leaves asked.log asked.set.record_file (search_script asked) (search_leaves asked);
 }
 
 module _ (problem : Contents) (log : List ℕ) (s : Settings) where
-  plan_own : (aim : Aim) → IsSoundPlan [] (created_names log s.kept) (plan_for aim problem log s)
+  plan_own : (aim : Aim) → IsSoundPlan [] (created_names log s.record_file) (plan_for aim problem log s)
   plan_own Satisfy = run_own (solve problem log s)
   plan_own (Least term) = search_own (best_search problem log s)
   plan_own (Greatest term) = search_own (best_search problem log s)
 
   -- a line that makes the run, where any solution is asked for, keeps to the plan
-  pub keeps_run : {a b : World} {way : Way} (aim : Aim) → aim ≡ Satisfy → Keeps [] (created_names log s.kept) (run_plan (solve problem log s)) a b way → Keeps [] (created_names log s.kept) (plan_for aim problem log s) a b way
+  pub keeps_run : {a b : World} {way : Way} (aim : Aim) → aim ≡ Satisfy → Keeps [] (created_names log s.record_file) (run_plan (solve problem log s)) a b way → Keeps [] (created_names log s.record_file) (plan_for aim problem log s) a b way
   keeps_run Satisfy e k = k
   keeps_run (Least term) e k = absurd (let f = e in cc)
   keeps_run (Greatest term) e k = absurd (let f = e in cc)
 
   -- and so does one that makes the search, where the best value is
-  pub keeps_search : {a b : World} {way : Way} (aim : Aim) → aim ≢ Satisfy → Keeps [] (created_names log s.kept) (search_plan (best_search problem log s)) a b way → Keeps [] (created_names log s.kept) (plan_for aim problem log s) a b way
+  pub keeps_search : {a b : World} {way : Way} (aim : Aim) → aim ≢ Satisfy → Keeps [] (created_names log s.record_file) (search_plan (best_search problem log s)) a b way → Keeps [] (created_names log s.record_file) (plan_for aim problem log s) a b way
   keeps_search Satisfy n k = absurd (n refl)
   keeps_search (Least term) n k = k
   keeps_search (Greatest term) n k = k
@@ -78,7 +78,7 @@ module _ (problem : Contents) (log : List ℕ) (s : Settings) where
     pub reports_search : problem.aim ≢ Satisfy → PlanReports (solve_plan log s) (model ∷ []) (search_report (best_search problem log s))
     reports_search n = inr (problem, is, search_is problem.aim n)
 
-pub solve_sound : (model log : List ℕ) (s : Settings) → IsSoundPlan (model ∷ []) (created_names log s.kept) (solve_plan log s)
+pub solve_sound : (model log : List ℕ) (s : Settings) → IsSoundPlan (model ∷ []) (created_names log s.record_file) (solve_plan log s)
 solve_sound model log s = (model_exact, λ problem. plan_own problem log s problem.aim)
 
 pub solve_lawful : (model log : List ℕ) (s : Settings) → IsLawful (solve_promise model log s)

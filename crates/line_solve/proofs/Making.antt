@@ -1,6 +1,6 @@
 -- What the code of a search makes of its rounds.
-use Rattle.std.proofs.Common.{◌≡◌, ◌∙◌, ℕ, zero, suc, ◌+◌, ◌*◌, ◌^◌, ◌<◌, ◌≤◌, ◌==◌, ◌&&◌, ℤ, Bool, true, false, List, [], ◌∷◌, ◌++◌, length, Option, Some, None, Result, Ok, Err, refl, sym, ap, subst, arith, append-nil, length-append}
-use Rattle.std.specs.Prelude.{IfOk, OnOk, is_some, option_copied}
+use Rattle.std.proofs.Common.{◌≡◌, ◌∙◌, ℕ, zero, suc, ◌+◌, ◌*◌, ◌^◌, ◌<◌, ◌≤◌, ◌==◌, ◌&&◌, ℤ, Bool, true, false, cond, List, [], ◌∷◌, length, Option, Some, None, Result, Ok, Err, refl, sym, ap, subst, arith, length-append}
+use Rattle.std.specs.Prelude.{IfOk, is_some, option_copied}
 use Rattle.std.specs.Borrow.{Bor}
 use Rattle.std.proofs.Math.Dec.{eqb-suc-zero}
 use Rattle.dcsp_script.specs.declared.stop.Stop.{Stop}
@@ -27,7 +27,7 @@ use Rattle.abt_optimum.proofs.SearchLaws.{round_many}
 use Rattle.line_solve.specs.Searching.{AskedSearch, best_search, next_problem, next_session, end_as, next_end, told_end, with_round, search_after, problem_after, session_after, run_after, first_run, deliveries_in}
 use Rattle.line_solve.specs.SearchScripts.{round_line, line_script}
 use Rattle.line_solve.specs.declared.runner.SearchRunner.{SearchRunner}
-use Rattle.line_solve.specs.Runners.{Tells, IsFresh, taken_after, steps_of_last, HasMade, SameRounds}
+use Rattle.line_solve.specs.Runners.{Tells, IsFresh, taken_after, steps_of_last, HasMade}
 use Rattle.line_solve.proofs.Rounds.{is_over, starts, goes_on, same_problem}
 use Rattle.line_solve.proofs.Searches.{ends_rightly, is_csp_after}
 use Rattle.line_solve.proofs.LastRounds.{first_is}
@@ -40,10 +40,22 @@ tells_of p s (Err stop) gives right = tt
 pub line_traced : {T : Type 0} {a b : World} {r : Result T Stop} (trace : Bool) (number : ℕ) → trace ≡ true → Wrote (Put (round_line number) ∷ []) a b r → Wrote (line_script trace number) a b r
 line_traced {a = a} {b = b} {r = r} trace number e w = subst (λ (t : Bool). Wrote (line_script t number) a b r) (sym e) w
 
--- the session on the narrowed problem is that of the round that follows
-pub next_is : (p q : Contents) (log : List ℕ) (set : Settings) (s : SearchState) (value : ℤ) → next_better s ≡ Some value → q ≡ narrowed p value
-    → set_session q log set ≡ next_session (best_search p log set) s
-next_is p q log set s value e f = ap (λ (x : Contents). set_session x log set) (f ∙ ap (round_problem p) (sym e))
+-- the narrowed problem is that of the round that follows
+pub problem_next : (p q : Contents) (s : SearchState) (value : ℤ) → next_better s ≡ Some value → q ≡ narrowed p value → q ≡ round_problem p (next_better s)
+problem_next p q s value e f = f ∙ ap (round_problem p) (sym e)
+
+-- and so is the whole problem, where there is no value to better
+pub whole_next : (p : Contents) (s : SearchState) → next_better s ≡ None → p ≡ round_problem p (next_better s)
+whole_next p s e = ap (round_problem p) (sym e)
+
+-- the session on that problem, with the number of the round, is that of the round that follows
+pub next_is : (p q : Contents) (log : List ℕ) (set : Settings) (s : SearchState) (rounds : ℕ) → q ≡ round_problem p (next_better s) → rounds ≡ length s.rounds
+    → set_session q log set (Some (rounds + 1)) ≡ next_session (best_search p log set) s
+next_is p q log set s rounds e f = ap (λ (x : Contents). set_session x log set (Some (rounds + 1))) e ∙ ap (λ (n : ℕ). set_session (round_problem p (next_better s)) log set (Some (n + 1))) f
+
+-- what the run of the same session gives
+pub tells_as : {p q : Contents} {s t : Session} (r : Result Outcome Stop) → p ≡ q → s ≡ t → IfOk r (Tells p s) → IfOk r (Tells q t)
+tells_as {p = p} {q = q} {s = s} {t = t} r e f h = subst (λ (x : Contents). IfOk r (Tells x t)) e (subst (λ (x : Session). IfOk r (Tells p x)) f h)
 
 -- ---- how a round ended
 
@@ -72,42 +84,42 @@ few_deliveries asked (suc n) few =
     omega (arith, before, one, few)
 
 -- the numbers of the first round alone are taken down
-pub takes_first : (keep : Bool) (n : ℕ) (first numbers : List ℕ) → (n ≡ 0 → numbers ≡ first) → taken_after keep n first ++ kept (keep && n == 0) numbers ≡ taken_after keep (n + 1) first
+pub takes_first : (keep : Bool) (n : ℕ) (first numbers : List ℕ) → (n ≡ 0 → numbers ≡ first) → cond (n == 0) (kept (keep && n == 0) numbers) (taken_after keep n first) ≡ taken_after keep (n + 1) first
 takes_first keep zero first numbers same = by keep
   where
     by : (keep : Bool) → kept (keep && 0 == 0) numbers ≡ kept keep first
     by true = same refl
     by false = refl
-takes_first keep (suc n) first numbers same = let e : suc (suc n) ≡ suc n + 1 = omega arith in by keep ∙ ap (λ (i : ℕ). taken_after keep i first) e
-  where
-    by : (keep : Bool) → kept keep first ++ kept (keep && suc n == 0) numbers ≡ kept keep first
-    by true = ap (λ (b : Bool). first ++ kept b numbers) (eqb-suc-zero n) ∙ append-nil first
-    by false = refl
+takes_first keep (suc n) first numbers same =
+    let e : suc (suc n) ≡ suc n + 1 = omega arith in
+    ap (λ (b : Bool). cond b (kept (keep && suc n == 0) numbers) (kept keep first)) (eqb-suc-zero n) ∙ ap (λ (i : ℕ). taken_after keep i first) e
 
-module _ (asked : AskedSearch) (n : ℕ) (r q t : SearchRunner) (outcome : Outcome) (made : HasMade asked n r) (still : is_over r.search ≡ false) (same : SameRounds r q) where
+module _ (asked : AskedSearch) (n : ℕ) (r t : SearchRunner) (outcome : Outcome) (made : HasMade asked n r) (still : is_over r.search ≡ false) where
   -- one round more
   pub made_more : Tells (next_problem asked r.search) (next_session asked r.search) outcome
-      → q.taken ≡ r.taken ++ kept (is_some asked.set.kept && r.rounds == 0) (run_of (next_session asked r.search)).numbers
-      → t.search ≡ with_round q.search (told_end outcome.end) → t.rounds ≡ q.rounds + 1 → t.deliveries ≡ q.deliveries + outcome.deliveries → t.steps ≡ outcome.steps → t.taken ≡ q.taken
-      → HasMade asked (n + 1) t
-  made_more tells takes search rounds deliveries steps taken =
+      → outcome.numbers ≡ kept (is_some asked.set.record_file && r.rounds == 0) (run_of (next_session asked r.search)).numbers
+      → t.search ≡ with_round r.search (told_end outcome.end) → t.rounds ≡ r.rounds + 1 → t.deliveries ≡ r.deliveries + outcome.deliveries → t.steps ≡ outcome.steps
+      → t.taken ≡ cond (r.rounds == 0) outcome.numbers r.taken → HasMade asked (n + 1) t
+  made_more tells numbers search rounds deliveries steps taken =
       let next : n + 1 ≡ suc n = omega arith in
       let s = made.search in
-      let same_search : q.search ≡ search_after asked n = same.search ∙ s in
       let open_ : is_over (search_after asked n) ≡ false = subst (λ (z : SearchState). is_over z ≡ false) s still in
       let end : told_end outcome.end ≡ next_end asked (search_after asked n) = told_is (next_problem asked r.search) (run_of (next_session asked r.search)) outcome.end tells.gives.end ∙ ap (next_end asked) s in
-      let is : t.search ≡ search_after asked (suc n) = search ∙ ap (λ (z : SearchState). with_round z (told_end outcome.end)) same_search ∙ ap (with_round (search_after asked n)) end ∙ sym (goes_on asked n open_) in
-      let size : length t.search.rounds ≡ n + 1 = ap (λ (z : SearchState). length z.rounds) search ∙ length-append q.search.rounds (_ ∷ []) ∙ ap (λ (z : SearchState). length z.rounds + 1) same.search ∙ ap (λ (i : ℕ). i + 1) made.many in
+      let is : t.search ≡ search_after asked (suc n) = search ∙ ap (λ (z : SearchState). with_round z (told_end outcome.end)) s ∙ ap (with_round (search_after asked n)) end ∙ sym (goes_on asked n open_) in
+      let size : length t.search.rounds ≡ n + 1 = ap (λ (z : SearchState). length z.rounds) search ∙ length-append r.search.rounds (_ ∷ []) ∙ ap (λ (i : ℕ). i + 1) made.many in
+      let keep = is_some asked.set.record_file in
+      let mine = (run_of (next_session asked r.search)).numbers in
       let run : run_of (next_session asked r.search) ≡ run_after asked n = ap (λ (z : SearchState). run_of (next_session asked z)) s in
       record {
         search = is ∙ ap (search_after asked) (sym next);
         many = size;
-        rounds = rounds ∙ ap (λ (i : ℕ). i + 1) (same.rounds ∙ made.rounds);
-        deliveries = deliveries ∙ ap (λ (i : ℕ). i + outcome.deliveries) (same.deliveries ∙ made.deliveries) ∙ ap (λ (i : ℕ). deliveries_in asked n + i) (tells.gives.deliveries ∙ ap (λ (x : Run). x.net.deliveries) run) ∙ ap (deliveries_in asked) (sym next);
+        rounds = rounds ∙ ap (λ (i : ℕ). i + 1) made.rounds;
+        deliveries = deliveries ∙ ap (λ (i : ℕ). i + outcome.deliveries) made.deliveries ∙ ap (λ (i : ℕ). deliveries_in asked n + i) (tells.gives.deliveries ∙ ap (λ (x : Run). x.net.deliveries) run) ∙ ap (deliveries_in asked) (sym next);
         steps = steps ∙ tells.gives.steps ∙ ap (λ (x : Run). length x.net.steps) run ∙ ap (steps_of_last asked) (sym next);
-        taken = taken ∙ takes ∙ ap (λ (l : List ℕ). l ++ kept (is_some asked.set.kept && r.rounds == 0) (run_of (next_session asked r.search)).numbers) made.taken
-            ∙ ap (λ (i : ℕ). taken_after (is_some asked.set.kept) n (first_run asked).numbers ++ kept (is_some asked.set.kept && i == 0) (run_of (next_session asked r.search)).numbers) made.rounds
-            ∙ takes_first (is_some asked.set.kept) n (first_run asked).numbers (run_of (next_session asked r.search)).numbers (λ none. ap (λ (x : Run). x.numbers) (run ∙ ap (run_after asked) none ∙ first_is asked));
+        taken = taken ∙ ap (λ (l : List ℕ). cond (r.rounds == 0) l r.taken) numbers
+            ∙ ap (λ (l : List ℕ). cond (r.rounds == 0) (kept (keep && r.rounds == 0) mine) l) made.taken
+            ∙ ap (λ (i : ℕ). cond (i == 0) (kept (keep && i == 0) mine) (taken_after keep n (first_run asked).numbers)) made.rounds
+            ∙ takes_first keep n (first_run asked).numbers mine (λ none. ap (λ (x : Run). x.numbers) (run ∙ ap (run_after asked) none ∙ first_is asked));
       }
 
 -- ---- the round that follows
@@ -134,24 +146,23 @@ module _ (asked : AskedSearch) (n : ℕ) (r : SearchRunner) (made : HasMade aske
   pub problem_is : r.search.problem ≡ asked.problem
   problem_is = ap (λ (s : SearchState). s.problem) made.search ∙ same_problem asked n
 
-module _ (asked : AskedSearch) (n : ℕ) (r q : SearchRunner) (outcome : Outcome) (made : HasMade asked n r) where
+module _ (asked : AskedSearch) (n : ℕ) (r : SearchRunner) (outcome : Outcome) (made : HasMade asked n r) where
   -- its counts are small
-  pub few_more : n < 2 ^ 20 → asked.set.choices ≤ most_deliveries → SameRounds r q → Tells (next_problem asked r.search) (next_session asked r.search) outcome → (q.rounds < 2 ^ 62) × (q.deliveries + outcome.deliveries < 2 ^ 62)
-  few_more small choices same tells =
-      let rounds = same.rounds ∙ made.rounds in
-      let deliveries = same.deliveries ∙ made.deliveries in
+  pub few_more : n < 2 ^ 20 → asked.set.choices ≤ most_deliveries → Tells (next_problem asked r.search) (next_session asked r.search) outcome → (r.rounds < 2 ^ 62) × (r.deliveries + outcome.deliveries < 2 ^ 62)
+  few_more small choices tells =
+      let rounds = made.rounds in
+      let deliveries = made.deliveries in
       let few = few_deliveries asked n choices in
       let one = tells.gives.deliveries in
       let most : (run_of (next_session asked r.search)).net.deliveries ≤ asked.set.choices = tells.right.at_most in
       (omega arith, omega arith)
 
   -- and it ended rightly
-  pub right_next : IsProblem asked.problem → SameRounds r q → Tells (next_problem asked r.search) (next_session asked r.search) outcome → EndsRightly (round_problem q.search.problem (next_better q.search)) (told_end outcome.end)
-  right_next ok same tells =
+  pub right_next : IsProblem asked.problem → Tells (next_problem asked r.search) (next_session asked r.search) outcome → EndsRightly (round_problem r.search.problem (next_better r.search)) (told_end outcome.end)
+  right_next ok tells =
       let s = search_after asked n in
-      let q_is : q.search ≡ s = same.search ∙ made.search in
       let at : EndsRightly (next_problem asked r.search) (told_end outcome.end) = right_at r.search made.search tells in
-      subst (λ (z : SearchState). EndsRightly (round_problem z.problem (next_better z)) (told_end outcome.end)) (sym q_is)
+      subst (λ (z : SearchState). EndsRightly (round_problem z.problem (next_better z)) (told_end outcome.end)) (sym made.search)
       (subst (λ (p : Contents). EndsRightly (round_problem p (next_better s)) (told_end outcome.end)) (sym (same_problem asked n)) (subst (λ (z : SearchState). EndsRightly (next_problem asked z) (told_end outcome.end)) made.search at))
     where
       right_at : (z : SearchState) → z ≡ search_after asked n → Tells (next_problem asked z) (next_session asked z) outcome → EndsRightly (next_problem asked z) (told_end outcome.end)
@@ -170,10 +181,15 @@ made_none asked r h = record {
   taken = h.taken;
 }
 
+-- the numbers are taken down where that was asked for
+pub numbers_where : (r : Result Outcome Stop) {keep keeps : Bool} (numbers : List ℕ) → keep ≡ keeps → IfOk r (λ outcome. outcome.numbers ≡ kept keep numbers) → IfOk r (λ outcome. outcome.numbers ≡ kept keeps numbers)
+numbers_where r numbers e h = subst (λ (b : Bool). IfOk r (λ outcome. outcome.numbers ≡ kept b numbers)) e h
+
 -- the same numbers of an equal session are taken down
-pub takes_as : (name : Option (Bor (List ℕ))) (rounds : ℕ) (old now : List ℕ) (r : Result Outcome Stop) {s t : Session} → s ≡ t → OnOk r (now ≡ old ++ kept (is_some name && rounds == 0) (run_of s).numbers) → OnOk r (now ≡ old ++ kept (is_some (option_copied name) && rounds == 0) (run_of t).numbers)
-takes_as name rounds old now r {s = s} {t = t} e h = subst (λ (x : Session). OnOk r (now ≡ old ++ kept (is_some (option_copied name) && rounds == 0) (run_of x).numbers)) e (by name h)
+pub numbers_as : (name : Option (Bor (List ℕ))) (rounds : ℕ) (r : Result Outcome Stop) {s t : Session} → s ≡ t → IfOk r (λ outcome. outcome.numbers ≡ kept (is_some name && rounds == 0) (run_of s).numbers)
+    → IfOk r (λ outcome. outcome.numbers ≡ kept (is_some (option_copied name) && rounds == 0) (run_of t).numbers)
+numbers_as name rounds r {s = s} {t = t} e h = subst (λ (x : Session). IfOk r (λ outcome. outcome.numbers ≡ kept (is_some (option_copied name) && rounds == 0) (run_of x).numbers)) e (by name h)
   where
-    by : (name : Option (Bor (List ℕ))) → OnOk r (now ≡ old ++ kept (is_some name && rounds == 0) (run_of s).numbers) → OnOk r (now ≡ old ++ kept (is_some (option_copied name) && rounds == 0) (run_of s).numbers)
+    by : (name : Option (Bor (List ℕ))) → IfOk r (λ outcome. outcome.numbers ≡ kept (is_some name && rounds == 0) (run_of s).numbers) → IfOk r (λ outcome. outcome.numbers ≡ kept (is_some (option_copied name) && rounds == 0) (run_of s).numbers)
     by None h = h
     by (Some name) h = h

@@ -91,16 +91,16 @@ module _ (asked : AskedSearch) (r : SearchRunner) (made : HasMade asked (round_c
       ∙ ap (λ (n : ℕ). best_text asked.set.each asked.problem (found (whole_search asked)) ++ (rounds_text (round_count asked) ++ counts_text (deliveries_in asked (round_count asked)) n)) (steps ∙ made.steps ∙ ap (steps_of_last asked) last)
 
   -- the record is that of the first round
-  pub record_is : (numbers : List ℕ) → numbers ≡ r.taken → record_script asked.set.kept numbers ≡ record_script asked.set.kept (first_run asked).numbers
-  record_is numbers e = by asked.set.kept refl
+  pub record_is : (numbers : List ℕ) → numbers ≡ r.taken → record_script asked.set.record_file numbers ≡ record_script asked.set.record_file (first_run asked).numbers
+  record_is numbers e = by asked.set.record_file refl
     where
       last : round_count asked ≡ suc (round_count asked - 1)
       last = let h = has_round asked in omega arith
 
-      taken : numbers ≡ kept (is_some asked.set.kept) (first_run asked).numbers
-      taken = e ∙ made.taken ∙ ap (λ (n : ℕ). taken_after (is_some asked.set.kept) n (first_run asked).numbers) last
+      taken : numbers ≡ kept (is_some asked.set.record_file) (first_run asked).numbers
+      taken = e ∙ made.taken ∙ ap (λ (n : ℕ). taken_after (is_some asked.set.record_file) n (first_run asked).numbers) last
 
-      by : (name : Option (List ℕ)) → asked.set.kept ≡ name → record_script name numbers ≡ record_script name (first_run asked).numbers
+      by : (name : Option (List ℕ)) → asked.set.record_file ≡ name → record_script name numbers ≡ record_script name (first_run asked).numbers
       by None k = refl
       by (Some name) k = ap (record_script (Some name)) (taken ∙ ap (λ (o : Option (List ℕ)). kept (is_some o) (first_run asked).numbers) k)
 
@@ -114,12 +114,12 @@ module _ (asked : AskedSearch) where
   pub rounds_stopped : {T U : Type 0} {a b : World} {e : Stop} (r : Result U Stop) → IsErr r × IsErrAnd r (λ y. y ≡ e) → Wrote {T = T} all_rounds a b (Err e) → Wrote (search_script asked) a b r
   rounds_stopped r is w = then_stopped (ending_script asked) is w
 
-  module _ (numbers : List ℕ) (same : record_script asked.set.kept numbers ≡ record_script asked.set.kept (first_run asked).numbers) {T : Type 0} {x : T} {a b : World} (rounds : Wrote {T = T} all_rounds a b (Ok x)) where
+  module _ (numbers : List ℕ) (same : record_script asked.set.record_file numbers ≡ record_script asked.set.record_file (first_run asked).numbers) {T : Type 0} {x : T} {a b : World} (rounds : Wrote {T = T} all_rounds a b (Ok x)) where
     -- the record was stopped
-    pub record_stopped : {U V : Type 0} {c : World} {e : Stop} (r : Result V Stop) → IsErr r × IsErrAnd r (λ y. y ≡ e) → Wrote {T = U} (record_script asked.set.kept numbers) b c (Err e) → Wrote (search_script asked) a c r
+    pub record_stopped : {U V : Type 0} {c : World} {e : Stop} (r : Result V Stop) → IsErr r × IsErrAnd r (λ y. y ≡ e) → Wrote {T = U} (record_script asked.set.record_file numbers) b c (Err e) → Wrote (search_script asked) a c r
     record_stopped {U = U} r is w = then_rest rounds (then_stopped {T = U} (Put (answer_text asked) ∷ []) is (wrote_as same w))
 
-    module _ {U : Type 0} {y : U} {c : World} (kept_so : Wrote {T = U} (record_script asked.set.kept numbers) b c (Ok y)) (text : List ℕ) (text_is : text ≡ answer_text asked) where
+    module _ {U : Type 0} {y : U} {c : World} (kept_so : Wrote {T = U} (record_script asked.set.record_file numbers) b c (Ok y)) (text : List ℕ) (text_is : text ≡ answer_text asked) where
       -- the answer was not put
       pub answer_stopped : {V W : Type 0} {d : World} {e : Stop} (r : Result W Stop) → IsErr r × IsErrAnd r (λ z. z ≡ e) → Wrote {T = V} (Put text ∷ []) c d (Err e) → Wrote (search_script asked) a d r
       answer_stopped {V = V} r is w = then_rest rounds (then_rest (wrote_as same kept_so) (stopped_so {T = V} r is (wrote_as (ap (λ t. Put t ∷ []) text_is) w)))

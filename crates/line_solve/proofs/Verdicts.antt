@@ -10,8 +10,8 @@ use Rattle.dcsp_problem.specs.WellFormed.{IsProblem}
 use Rattle.dcsp_rule.specs.Aims.{aimed_at, narrowed}
 use Rattle.abt_defs.specs.Runs as runs
 use Rattle.abt_defs.specs.Runs.{Run}
-use Rattle.abt_promise.specs.declared.status.Status.{Status}
-use Rattle.abt_promise.specs.declared.status.Status.TheVariants.{Good, No, Unfinished}
+use Rattle.dcsp_script.specs.declared.status.Status.{Status}
+use Rattle.dcsp_script.specs.declared.status.Status.TheVariants.{Good, No, Unfinished}
 use Rattle.line_replay.specs.Endings.{assigned, final_values, end_status}
 use Rattle.line_replay.proofs.Verdicts.{solve_unfinished}
 use Rattle.abt_optimum.specs.declared.round.Ended.TheVariants as ended

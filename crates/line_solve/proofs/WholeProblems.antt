@@ -3,7 +3,7 @@ use Rattle.std.proofs.Common.{ℕ, List, Option, Some, None, subst}
 use Rattle.dcsp_outside.specs.Outside.{bytes_of}
 use Rattle.dcsp_rule.specs.Problems.{Contents}
 use Rattle.dcsp_problem.specs.WellFormed.{IsProblem}
-use Rattle.abt_promise.specs.Promises.{IsHeld}
+use Rattle.dcsp_script.specs.Promises.{IsHeld}
 use Rattle.abt_input.specs.Inputs.{IsModelOf}
 use Rattle.abt_input.proofs.Once.{one_problem}
 use Rattle.line_solve.specs.SolvePromise.{HoldsWholeProblem}

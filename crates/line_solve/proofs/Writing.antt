@@ -12,11 +12,11 @@ use Rattle.abt_optimum.specs.declared.round.RoundEnd.{RoundEnd}
 use Rattle.abt_optimum.specs.declared.round.RoundEnd.TheVariants.{Solved, Refuted, Capped}
 use Rattle.line_replay.specs.Endings.{assigned}
 use Rattle.abt_session.specs.Sessions.{run_script}
-use Rattle.abt_session.specs.Order.{trace_text}
+use Rattle.abt_session.specs.Order.{told_text}
 use Rattle.abt_session.proofs.Ordered.{leaves-append, whole_puts, whole_leaves, log_whole}
 use Rattle.line_solve.specs.Searching.{AskedSearch, next_end, search_after, session_after, run_after}
 use Rattle.line_solve.specs.SearchScripts.{round_line, line_script, found_text, found_script, solution_script, round_script, rounds_script}
-use Rattle.line_solve.specs.BestHeadline.{line_text, solution_put, traces_of_first, log_after}
+use Rattle.line_solve.specs.BestHeadline.{line_text, solution_put, puts_of_first, log_after}
 
 -- ---- the line of a round
 
@@ -61,14 +61,14 @@ module _ (asked : AskedSearch) where
   abbrev pub run_and_solution : ℕ → List Write
   run_and_solution n = run_script (session_after asked n) ++ solution_script asked n
 
-  pub round_puts : (n : ℕ) → put_by (round_script asked n) ≡ line_text asked n ++ (trace_text (session_after asked n) ++ solution_put asked n)
+  pub round_puts : (n : ℕ) → put_by (round_script asked n) ≡ line_text asked n ++ (told_text (session_after asked n) ++ solution_put asked n)
   round_puts n =
       put_by-append (line_script asked.set.trace (n + 1)) (run_and_solution n)
       ∙ ap (λ t. t ++ put_by (run_and_solution n)) (puts_line n)
       ∙ ap (λ t. line_text asked n ++ t) (
       put_by-append (run_script (session_after asked n)) (solution_script asked n)
       ∙ ap (λ t. t ++ put_by (solution_script asked n)) (whole_puts (session_after asked n))
-      ∙ ap (λ t. trace_text (session_after asked n) ++ t) (puts_solution n)
+      ∙ ap (λ t. told_text (session_after asked n) ++ t) (puts_solution n)
       )
 
   pub round_leaves : (n : ℕ) (name : List ℕ) → (asked.log ≡ name → ⊥) → LeavesAlone (round_script asked n) name
@@ -94,19 +94,19 @@ module _ (asked : AskedSearch) where
   unfolding rounds_script
   more_is n = refl
 
-  traces_none : traces_of_first asked 0 ≡ []
-  unfolding traces_of_first
+  traces_none : puts_of_first asked 0 ≡ []
+  unfolding puts_of_first
   traces_none = refl
 
-  traces_more : (n : ℕ) → traces_of_first asked (suc n) ≡ traces_of_first asked n ++ (line_text asked n ++ (trace_text (session_after asked n) ++ solution_put asked n))
-  unfolding traces_of_first
-  traces_more n = refl
+  puts_more : (n : ℕ) → puts_of_first asked (suc n) ≡ puts_of_first asked n ++ (line_text asked n ++ (told_text (session_after asked n) ++ solution_put asked n))
+  unfolding puts_of_first
+  puts_more n = refl
 
-  pub rounds_put : (n : ℕ) → put_by (rounds_script asked n) ≡ traces_of_first asked n
+  pub rounds_put : (n : ℕ) → put_by (rounds_script asked n) ≡ puts_of_first asked n
   rounds_put zero = ap put_by none_is ∙ sym traces_none
   rounds_put (suc n) =
       ap put_by (more_is n) ∙ put_by-append (rounds_script asked n) (round_script asked n) ∙ ap (λ t. t ++ put_by (round_script asked n)) (rounds_put n)
-      ∙ ap (λ t. traces_of_first asked n ++ t) (round_puts n) ∙ sym (traces_more n)
+      ∙ ap (λ t. puts_of_first asked n ++ t) (round_puts n) ∙ sym (puts_more n)
 
   pub rounds_leave : (n : ℕ) (name : List ℕ) → (asked.log ≡ name → ⊥) → LeavesAlone (rounds_script asked n) name
   rounds_leave zero name other = subst (λ s. LeavesAlone s name) (sym none_is) tt

@@ -3,8 +3,8 @@ use Rattle.std.specs.Prelude.{ℕ, ℤ, Bool, true, false, List, [], ◌++◌, i
 use Rattle.std.specs.Option.{option_map_or}
 use Rattle.dcsp_rule.specs.Problems.{Contents}
 use Rattle.abt_answer.specs.Solutions.{solution_text}
-use Rattle.abt_promise.specs.declared.status.Status.{Status}
-use Rattle.abt_promise.specs.declared.status.Status.TheVariants.{Good, No, Unfinished}
+use Rattle.dcsp_script.specs.declared.status.Status.{Status}
+use Rattle.dcsp_script.specs.declared.status.Status.TheVariants.{Good, No, Unfinished}
 use Rattle.line_replay.specs.Endings.{assigned, counts_text}
 use Rattle.abt_optimum.specs.declared.round.Ended.{Ended}
 use Rattle.abt_optimum.specs.declared.round.Ended.TheVariants as ended

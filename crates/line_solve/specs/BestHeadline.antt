@@ -16,9 +16,9 @@ use Rattle.abt_defs.specs.Runs as runs
 use Rattle.law_runs.specs.Stops.{IsOpen}
 use Rattle.abt_schedule.specs.Schedules.{schedule_text}
 use Rattle.abt_session.specs.Sessions.{run_script}
-use Rattle.abt_session.specs.Order.{trace_text, WritesInOrder}
-use Rattle.abt_promise.specs.declared.status.Status.{Status}
-use Rattle.abt_promise.specs.declared.status.Status.TheVariants.{Good, No, Unfinished}
+use Rattle.abt_session.specs.Order.{told_text, WritesInOrder}
+use Rattle.dcsp_script.specs.declared.status.Status.{Status}
+use Rattle.dcsp_script.specs.declared.status.Status.TheVariants.{Good, No, Unfinished}
 use Rattle.line_replay.specs.Endings.{assigned, final_values}
 use Rattle.abt_optimum.specs.declared.best.BestEnd.TheVariants.{Optimal, Open}
 use Rattle.abt_optimum.specs.declared.round.RoundEnd.TheVariants.{Solved}
@@ -30,31 +30,31 @@ use Rattle.line_solve.specs.SearchScripts.{round_line, line_script, found_text, 
 
 -- ---- what was written
 
--- what a round puts before its trace: its line, where traces are asked for
+-- what a round puts before its run: its line, where traces are asked for
 abbrev pub line_text : AskedSearch → ℕ → List ℕ
 line_text asked n = if asked.set.trace then round_line (n + 1) else []
 
--- what a round puts behind its trace: its solution, where each one is asked for
+-- what a round puts behind its run: its solution, where each one is asked for
 abbrev pub solution_put : AskedSearch → ℕ → List ℕ
 solution_put asked n = found_text asked.set.each asked.problem (next_end asked (search_after asked n))
 
--- the lines, the traces and the solutions of the first rounds, so many of them
-unfoldable pub traces_of_first : AskedSearch → ℕ → List ℕ
-traces_of_first asked zero = []
-traces_of_first asked (suc n) = traces_of_first asked n ++ (line_text asked n ++ (trace_text (session_after asked n) ++ solution_put asked n))
+-- the lines of the first rounds, what tells of their deliveries, and their solutions, so many of them
+unfoldable pub puts_of_first : AskedSearch → ℕ → List ℕ
+puts_of_first asked zero = []
+puts_of_first asked (suc n) = puts_of_first asked n ++ (line_text asked n ++ (told_text (session_after asked n) ++ solution_put asked n))
 
 -- all that goes to `out`: what the rounds put, and the answer
 abbrev pub whole_text : AskedSearch → List ℕ
-whole_text asked = traces_of_first asked (round_count asked) ++ answer_text asked
+whole_text asked = puts_of_first asked (round_count asked) ++ answer_text asked
 
 -- the name is not that of the log or of the record
 abbrev pub IsOther : AskedSearch → List ℕ → Type 0
-IsOther asked name = (name ≢ asked.log) × IfSome asked.set.kept (λ record_name. name ≢ record_name)
+IsOther asked name = (name ≢ asked.log) × IfSome asked.set.record_file (λ record_name. name ≢ record_name)
 
 -- the log is that of the last round's derivation, the record that of the first round's numbers, and every other name is as before
 pub record HoldsSearch (asked : AskedSearch) (files now : List ℕ → Option (List ℕ)) : Type 0 where
   pub log : now asked.log ≡ Some (log_text (last_run asked).net.steps)
-  pub recorded : IfSome asked.set.kept (λ name. now name ≡ Some (schedule_text (first_run asked).numbers))
+  pub recorded : IfSome asked.set.record_file (λ name. now name ≡ Some (schedule_text (first_run asked).numbers))
   pub others : (name : List ℕ) → IsOther asked name → now name ≡ files name
 
 -- The search: with a status of 0, 1 or 5 its rounds were printed, logged and recorded whole.
@@ -161,7 +161,7 @@ pub record HoldsRounds (asked : AskedSearch) (n : ℕ) (files now : List ℕ →
 -- so many whole rounds were made, and nothing else
 pub record MadeRounds (asked : AskedSearch) (n : ℕ) (old new : World) : Type 0 where
   pub did : Did (rounds_script asked n) old new
-  pub out : Told old.out.written new.out.written (λ before now. now ≡ before ++ traces_of_first asked n)
+  pub out : Told old.out.written new.out.written (λ before now. now ≡ before ++ puts_of_first asked n)
   pub files : Told old.folder.held new.folder.held (HoldsRounds asked n)
 
 -- some first bytes of the text were put, and nothing else was done
@@ -181,11 +181,11 @@ pub data WritesRound (asked : AskedSearch) (n : ℕ) (old new : World) : Type 0 
 -- the files before and after the end of a search, where `out` gained these bytes of the answer and these names were created
 pub record KeepsEnding (asked : AskedSearch) (names : List (List ℕ)) (gained : List ℕ) (files now : List ℕ → Option (List ℕ)) : Type 0 where
   -- the record, once created, holds a first part of its text; else it is as before, or holds no bytes
-  pub record_part : IfSome asked.set.kept (λ name. HoldsPartOf name (schedule_text (first_run asked).numbers) (Contains names name) (files name) (now name))
+  pub record_part : IfSome asked.set.record_file (λ name. HoldsPartOf name (schedule_text (first_run asked).numbers) (Contains names name) (files name) (now name))
   -- once a byte of the answer was put, it holds its whole text
-  pub answer_last : 0 < length gained → IfSome asked.set.kept (λ name. now name ≡ Some (schedule_text (first_run asked).numbers))
+  pub answer_last : 0 < length gained → IfSome asked.set.record_file (λ name. now name ≡ Some (schedule_text (first_run asked).numbers))
   -- every other name, that of the log too, is as it was after the last round
-  pub others : (name : List ℕ) → IfSome asked.set.kept (λ record_name. name ≢ record_name) → now name ≡ files name
+  pub others : (name : List ℕ) → IfSome asked.set.record_file (λ record_name. name ≢ record_name) → now name ≡ files name
 
 -- the end of a search, wherever it was stopped: the record, and then the answer
 pub record WritesEnding (asked : AskedSearch) (old new : World) : Type 0 where

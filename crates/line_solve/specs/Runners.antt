@@ -43,14 +43,7 @@ pub record HasMade (asked : AskedSearch) (n : ℕ) (r : SearchRunner) : Type 0 w
   pub rounds : r.rounds ≡ n
   pub deliveries : r.deliveries ≡ deliveries_in asked n
   pub steps : r.steps ≡ steps_of_last asked n
-  pub taken : r.taken ≡ taken_after (is_some asked.set.kept) n (first_run asked).numbers
-
--- what a run leaves as it was
-pub record SameRounds (old new : SearchRunner) : Type 0 where
-  pub search : new.search ≡ old.search
-  pub rounds : new.rounds ≡ old.rounds
-  pub deliveries : new.deliveries ≡ old.deliveries
-  pub steps : new.steps ≡ old.steps
+  pub taken : r.taken ≡ taken_after (is_some asked.set.record_file) n (first_run asked).numbers
 
 -- the lines of what was found, and its counts
 abbrev pub searched_text : Bool → Contents → Searched → List ℕ

@@ -2,7 +2,7 @@
 use Rattle.std.specs.Prelude.{ℕ, zero, suc, ◌+◌, Bool, true, false, List, [], ◌∷◌, ◌++◌, codes, decimal, if◌then◌else◌}
 use Rattle.dcsp_script.specs.Scripts.{Write, Put}
 use Rattle.abt_session.specs.Sessions.{run_script}
-use Rattle.abt_promise.specs.Promises.{Report, answered}
+use Rattle.dcsp_script.specs.Promises.{Report, answered}
 use Rattle.dcsp_rule.specs.Problems.{Contents}
 use Rattle.abt_answer.specs.Solutions.{solution_text}
 use Rattle.abt_optimum.specs.declared.round.RoundEnd.{RoundEnd}
@@ -49,7 +49,7 @@ rounds_script asked (suc n) = rounds_script asked n ++ round_script asked n
 
 -- after all rounds comes the record of the first one, and the answer is put last
 abbrev pub ending_script : AskedSearch → List Write
-ending_script asked = record_script asked.set.kept (first_run asked).numbers ++ Put (answer_text asked) ∷ []
+ending_script asked = record_script asked.set.record_file (first_run asked).numbers ++ Put (answer_text asked) ∷ []
 
 -- the whole search
 abbrev pub search_script : AskedSearch → List Write

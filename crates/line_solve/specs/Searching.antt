@@ -1,5 +1,5 @@
 -- The searches that `solve` makes where a model has an aim: rounds, each of which is a run from the same seed.
-use Rattle.std.specs.Prelude.{ℕ, zero, suc, ◌-◌, List, [], ◌∷◌, ◌++◌, length, None, if◌then◌else◌}
+use Rattle.std.specs.Prelude.{ℕ, zero, suc, ◌+◌, ◌-◌, List, [], ◌∷◌, ◌++◌, length, Some, None, if◌then◌else◌}
 use Rattle.dcsp_defs.specs.Words.{sum_below}
 use Rattle.dcsp_rule.specs.Problems.{Contents}
 use Rattle.abt_defs.specs.Runs as runs
@@ -33,9 +33,9 @@ best_search p log s = record { problem = p; log = log; set = s }
 abbrev pub next_problem : AskedSearch → SearchState → Contents
 next_problem asked s = round_problem asked.problem (next_better s)
 
--- the session of that round
+-- the session of that round, whose number is told with its progress
 abbrev pub next_session : AskedSearch → SearchState → Session
-next_session asked s = set_session (next_problem asked s) asked.log asked.set
+next_session asked s = set_session (next_problem asked s) asked.log asked.set (Some (length s.rounds + 1))
 
 -- how a run of the problem ended, as a search takes it; the choices of a seed are never used up
 abbrev pub end_as : Contents → Run → runs.End → RoundEnd
@@ -92,7 +92,7 @@ run_after asked n = run_of (session_after asked n)
 
 -- the run of the first round, which is on the whole problem
 abbrev pub first_run : AskedSearch → Run
-first_run asked = run_of (set_session asked.problem asked.log asked.set)
+first_run asked = run_of (set_session asked.problem asked.log asked.set (Some 1))
 
 -- the run of the last round
 abbrev pub last_run : AskedSearch → Run

@@ -5,7 +5,7 @@ use Rattle.dcsp_rule.specs.declared.aim.Aim.{Aim}
 use Rattle.dcsp_rule.specs.declared.aim.Aim.TheVariants.{Satisfy, Least, Greatest}
 use Rattle.dcsp_rule.specs.Problems.{Contents}
 use Rattle.dcsp_problem.specs.WellFormed.{IsProblem}
-use Rattle.abt_promise.specs.Promises.{Promise}
+use Rattle.dcsp_script.specs.Promises.{Promise}
 use Rattle.abt_input.specs.Inputs.{IsModelOf}
 use Rattle.abt_input.specs.Kinds.{a_model}
 use Rattle.abt_input.specs.Plans.{Plan, Answer, Read, promise_by}
@@ -32,7 +32,7 @@ solve_plan log s = Read a_model (λ problem. plan_for problem.aim problem log s)
 
 -- the line's promise
 abbrev pub solve_promise : List ℕ → List ℕ → Settings → Promise
-solve_promise model log s = promise_by (model ∷ []) (created_names log s.kept) (solve_plan log s)
+solve_promise model log s = promise_by (model ∷ []) (created_names log s.record_file) (solve_plan log s)
 
 -- the problem of the model under the name, where the folder tells it, keeps the limits, and its rules, outputs and aim are over its variables
 abbrev pub HoldsWholeProblem : Option (List ℕ → Option (List ℕ)) → List ℕ → Type 0

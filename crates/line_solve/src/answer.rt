@@ -15,11 +15,10 @@ ghost use Rattle.line_solve.specs.Runners.{searched_text, HasBestValues};
 
 use abt_answer::push_solution;
 use abt_optimum::{Best, BestEnd};
-use abt_promise::Status;
 use abt_session::End;
 use dcsp_outside::Sink;
 use dcsp_problem::Problem;
-use dcsp_script::{Stop, put};
+use dcsp_script::{Status, Stop, put};
 use itoa::Buffer;
 use line_replay::push_counts;
 use std::alloc::{AllocError, Global};

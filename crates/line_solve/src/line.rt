@@ -1,10 +1,10 @@
-//! The line `solve MODEL LOG [--seed N] [--choices N] [--record FILE] [--trace] [--each] [--halves]`.
+//! The line `solve MODEL LOG [--seed N] [--choices N] [--record FILE] [--trace] [--progress] [--each] [--halves]`.
 
 ghost use Rattle.std.specs.Prelude.{◌≡◌, ◌≢◌, ◌≤◌, ◌^◌, IfOk};
 ghost use Rattle.dcsp_outside.specs.Outside.{Place, Stream};
 ghost use Rattle.dcsp_script.specs.Scripts.{outside};
 ghost use Rattle.dcsp_script.specs.Ways.{Wrote};
-ghost use Rattle.abt_promise.specs.Runs.{CameIn};
+ghost use Rattle.dcsp_script.specs.Runs.{CameIn};
 ghost use Rattle.abt_input.specs.Errors.{way_of};
 ghost use Rattle.line_replay.specs.Headline.{HoldsProblem};
 ghost use Rattle.line_replay.specs.Settings.{settings_of};
@@ -16,10 +16,9 @@ ghost use Rattle.line_solve.specs.SolvePromise.{solve_promise, HoldsWholeProblem
 use crate::answer::{best_status, tell};
 use crate::runner::SearchRunner;
 use abt_input::{CommandError, read_model};
-use abt_promise::Status;
 use dcsp_outside::{Folder, Sink};
 use dcsp_problem::{Aim, Problem};
-use dcsp_script::Stop;
+use dcsp_script::{Status, Stop};
 use line_replay::{Solve, run_seed, write_record};
 use ngd_check::problems_are_small;
 use std::alloc::Global;
@@ -67,7 +66,12 @@ fn run_search<F: Folder, S: Sink>(
     problem.denotes_csp();
     let mut runner = SearchRunner::new(alloc, problem, line.options.halves)?;
     runner.run(alloc, problem, line, folder, out)?;
-    write_record(alloc, folder, line.options.kept, runner.taken.choices())?;
+    write_record(
+        alloc,
+        folder,
+        line.options.record_file,
+        runner.taken.choices(),
+    )?;
     let searched = runner.finish();
     tell(alloc, problem, &searched, line.options.each, out)?;
     Ok(best_status(&searched.best.end))

@@ -1,6 +1,6 @@
 //! A search on its way.
 
-ghost use Rattle.std.specs.Prelude.{◌≡◌, ◌≢◌, ◌<◌, ◌≤◌, ◌+◌, ◌^◌, ◌++◌, ◌&&◌, ◌==◌, [], false, true, length, IfOk, OnOk, OnErr, Err, is_some};
+ghost use Rattle.std.specs.Prelude.{◌≡◌, ◌≢◌, ◌<◌, ◌≤◌, ◌+◌, ◌^◌, ◌&&◌, ◌==◌, false, true, length, IfOk, OnOk, OnErr, Err, Some, is_some, if◌then◌else◌};
 ghost use Rattle.dcsp_outside.specs.Outside.{Place, Stream};
 ghost use Rattle.dcsp_rule.specs.Problems.{csp_of};
 ghost use Rattle.dcsp_problem.specs.WellFormed.{IsProblem};
@@ -20,7 +20,7 @@ ghost use Rattle.line_solve.specs.SearchScripts.{line_script, round_script, roun
 use crate::answer::{Searched, put_found, put_round};
 use abt_optimum::{RoundEnd, Search};
 use abt_schedule::{ChoiceList, Seeded};
-use abt_session::{End, Outcome, run};
+use abt_session::{End, Outcome, RunTask, run};
 use dcsp_outside::{Folder, Sink};
 use dcsp_problem::{Aim, Problem};
 use dcsp_script::Stop;
@@ -42,7 +42,7 @@ pub struct SearchRunner<'p> {
 }
 
 impl<'p> SearchRunner<'p> {
-    ghost use Rattle.line_solve.specs.Runners.{HasMade, IsFresh, SameRounds, Tells};
+    ghost use Rattle.line_solve.specs.Runners.{HasMade, IsFresh, Tells};
 
     /// A search of which no round has ended.
     pub fn new(alloc: Global, problem: &'p Problem, halves: bool) -> Result<SearchRunner<'p>, Stop>
@@ -117,23 +117,24 @@ impl<'p> SearchRunner<'p> {
 
     /// Runs the problem of the round that follows, narrowed to better values than the one that it is to better.
     fn run_next<F: Folder, S: Sink>(
-        &mut self,
+        &self,
         alloc: Global,
         problem: &Problem,
         line: Solve<'_>,
         folder: &mut F,
         out: &mut S,
     ) -> Result<Outcome, Stop>
-        requires goes_on { is_done self.old.search.problem.aim self.old.search.rounds ≡ false }
-        requires problem { self.old.search.problem ≡ problem.now }
+        requires goes_on { is_done self.now.search.problem.aim self.now.search.rounds ≡ false }
+        requires few { self.now.rounds < 2 ^ 20 }
+        requires rounds { self.now.rounds ≡ length self.now.search.rounds }
+        requires problem { self.now.search.problem ≡ problem.now }
         requires choices { line.options.choices ≤ 2 ^ 40 }
-        ensures wrote { let s = next_session (best_search problem.now line.entry.log.now (settings_of line.entry.options)) self.old.search in
+        ensures wrote { let s = next_session (best_search problem.now line.entry.log.now (settings_of line.entry.options)) self.now.search in
             Wrote (run_script s) (outside (F.place folder.old) (S.stream out.old)) (outside (F.place folder.new) (S.stream out.new)) result }
         ensures tells { let asked = best_search problem.now line.entry.log.now (settings_of line.entry.options) in
-            IfOk result (Tells (next_problem asked self.old.search) (next_session asked self.old.search)) }
-        ensures takes { let asked = best_search problem.now line.entry.log.now (settings_of line.entry.options) in
-            OnOk result (self.new.taken ≡ self.old.taken ++ kept (is_some asked.set.kept && self.old.rounds == 0) (run_of (next_session asked self.old.search)).numbers) }
-        ensures same { SameRounds self.old self.new }
+            IfOk result (Tells (next_problem asked self.now.search) (next_session asked self.now.search)) }
+        ensures numbers { let asked = best_search problem.now line.entry.log.now (settings_of line.entry.options) in
+            IfOk result (λ outcome. outcome.numbers ≡ kept (is_some asked.set.record_file && self.now.rounds == 0) (run_of (next_session asked self.now.search)).numbers) }
     {
         match self.search.better() {
             None => self.run_on(alloc, problem, line, folder, out),
@@ -146,37 +147,38 @@ impl<'p> SearchRunner<'p> {
         }
     }
 
-    /// Runs the problem of a round, under the choices of the seed anew.
+    /// Runs the problem of the round that follows, under the choices of the seed anew.
     fn run_on<F: Folder, S: Sink>(
-        &mut self,
+        &self,
         alloc: Global,
         problem: &Problem,
         line: Solve<'_>,
         folder: &mut F,
         out: &mut S,
     ) -> Result<Outcome, Stop>
-        requires { line.options.choices ≤ 2 ^ 40 }
-        ensures wrote { Wrote (run_script (set_session problem.now line.entry.log.now (settings_of line.entry.options)))
+        requires choices { line.options.choices ≤ 2 ^ 40 }
+        requires few { self.now.rounds < 2 ^ 20 }
+        ensures wrote { Wrote (run_script (set_session problem.now line.entry.log.now (settings_of line.entry.options) (Some (self.now.rounds + 1))))
             (outside (F.place folder.old) (S.stream out.old)) (outside (F.place folder.new) (S.stream out.new)) result }
-        ensures tells { IfOk result (Tells problem.now (set_session problem.now line.entry.log.now (settings_of line.entry.options))) }
-        ensures takes { OnOk result (self.new.taken ≡ self.old.taken ++ kept (is_some line.entry.options.kept && self.old.rounds == 0)
-            (run_of (set_session problem.now line.entry.log.now (settings_of line.entry.options))).numbers) }
-        ensures same { SameRounds self.old self.new }
+        ensures tells { IfOk result (Tells problem.now (set_session problem.now line.entry.log.now (settings_of line.entry.options) (Some (self.now.rounds + 1)))) }
+        ensures numbers { let s = set_session problem.now line.entry.log.now (settings_of line.entry.options) (Some (self.now.rounds + 1)) in
+            IfOk result (λ outcome. outcome.numbers ≡ kept (is_some line.entry.options.record_file && self.now.rounds == 0) (run_of s).numbers) }
     {
         let mut choices = Seeded::new(line.options.seed);
-        let keep = line.options.kept.is_some() && self.rounds == 0;
-        run(
-            alloc,
-            problem,
-            &mut choices,
-            line.options.choices,
-            folder,
-            line.log,
-            out,
-            line.options.trace,
-            &mut self.taken,
-            keep,
-        )
+        let task = RunTask {
+            log: line.log,
+            most: line.options.choices,
+            telling: line.options.telling(Some(self.rounds + 1)),
+            keep: self.keeps(line.options.record_file),
+        };
+        run(alloc, problem, &mut choices, task, folder, out)
+    }
+
+    /// Whether the numbers of the round that follows are taken down: of the first alone, where a record is asked for.
+    fn keeps(&self, record_file: Option<&str>) -> bool
+        ensures { result ≡ (is_some record_file.entry && self.now.rounds == 0) }
+    {
+        record_file.is_some() && self.rounds == 0
     }
 
     /// Counts a round that was made.
@@ -188,12 +190,21 @@ impl<'p> SearchRunner<'p> {
         ensures rounds { self.new.rounds ≡ self.old.rounds + 1 }
         ensures deliveries { self.new.deliveries ≡ self.old.deliveries + outcome.deliveries }
         ensures steps { self.new.steps ≡ outcome.steps }
-        ensures taken { self.new.taken ≡ self.old.taken }
+        ensures taken { self.new.taken ≡ (if self.old.rounds == 0 then outcome.numbers else self.old.taken) }
     {
+        let Outcome {
+            end,
+            deliveries,
+            steps,
+            numbers,
+        } = outcome;
+        if self.rounds == 0 {
+            self.taken = numbers;
+        }
         self.rounds += 1;
-        self.deliveries += outcome.deliveries;
-        self.steps = outcome.steps;
-        self.search.ended(round_end(outcome.end));
+        self.deliveries += deliveries;
+        self.steps = steps;
+        self.search.ended(round_end(end));
     }
 
     /// What the search found, and how much work it was.

@@ -12,7 +12,7 @@ use Rattle.dcsp_script.proofs.Parts.{left_alone}
 use Rattle.abt_defs.specs.Bound.{message_bound}
 use Rattle.abt_defs.specs.Runs.{Run}
 use Rattle.abt_schedule.specs.Schedules.{schedule_text}
-use Rattle.abt_promise.specs.Promises.{IsHeld}
+use Rattle.dcsp_script.specs.Promises.{IsHeld}
 use Rattle.abt_input.specs.Inputs.{IsModelOf, HasChoices}
 use Rattle.abt_input.proofs.Once.{one_problem}
 use Rattle.line_starve.specs.StarvePromise.{most_starved, starving_run, choices_of, starved_line, starve_script}

@@ -1,7 +1,7 @@
 -- The plan of `starve` is sound, and so its promise is lawful.
 use Rattle.std.proofs.Common.{ℕ, List, [], ◌∷◌}
 use Rattle.std.proofs.lemmas.List.Elements.{Contains-push}
-use Rattle.abt_promise.specs.Clauses.{IsLawful}
+use Rattle.dcsp_script.specs.Clauses.{IsLawful}
 use Rattle.abt_input.specs.Plans.{IsSoundPlan}
 use Rattle.abt_input.proofs.ExactKinds.{model_exact}
 use Rattle.abt_input.proofs.OwnWrites.{own_none, own_put, own_create, own_append}

@@ -8,24 +8,23 @@ ghost use Rattle.abt_schedule.specs.Schedules.{schedule_text};
 ghost use Rattle.dcsp_rule.specs.Problems.{csp_of};
 ghost use Rattle.abt_defs.specs.Bound.{message_bound};
 ghost use Rattle.abt_session.specs.Starving.{starved_end};
-ghost use Rattle.abt_promise.specs.Runs.{CameIn};
+ghost use Rattle.dcsp_script.specs.Runs.{CameIn};
 ghost use Rattle.abt_input.specs.Inputs.{HasChoices};
 ghost use Rattle.abt_input.specs.Errors.{way_of};
 ghost use Rattle.line_starve.specs.StarvePromise.{choices_of, end_word, most_starved, starve_promise, starve_script, starved_line, starving_run};
 ghost use Rattle.line_starve.specs.Starving.{HoldsStarved, IsReplayed, TellsStarved};
 
 use abt_input::{AnswerLine, CommandError, read_model};
-use abt_promise::Status;
 use abt_schedule::{ChoiceList, write_schedule};
 use abt_session::{Starved, StarvedEnd};
 use dcsp_outside::{Folder, Sink};
 use dcsp_problem::Problem;
-use dcsp_script::{Stop, append, create, put};
+use dcsp_script::{Status, Stop, append, create, put};
 use itoa::Buffer;
 use std::alloc::Global;
 
 /// The most deliveries of a run that starves a link.
-const MOST_DELIVERIES: u64 = 7_000_000;
+const MOST_STARVED: u64 = 7_000_000;
 
 /// The words of `starve`.
 #[derive(Clone, Copy)]
@@ -59,7 +58,7 @@ pub fn run_starve<F: Folder, S: Sink>(
         (F.place folder.old).held (S.stream out.old).written (S.stream out.new).written) }
 {
     let problem = read_model(alloc, folder, line.model)?;
-    run_starved(alloc, &problem, line, MOST_DELIVERIES, folder, out)?;
+    run_starved(alloc, &problem, line, MOST_STARVED, folder, out)?;
     Ok(Status::Good)
 }
 

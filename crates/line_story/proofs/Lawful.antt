@@ -7,13 +7,13 @@ use Rattle.abt_network.specs.declared.Standing.{Standing}
 use Rattle.abt_network.specs.declared.Standing.TheVariants.{Open, Quiet, Refuted}
 use Rattle.dcsp_rule.specs.Problems.{csp_of}
 use Rattle.dcsp_script.specs.Scripts.{Append}
-use Rattle.abt_promise.specs.Statuses.{IsFinal, IsRefusal}
-use Rattle.abt_promise.specs.Clauses.{IsLawful}
+use Rattle.dcsp_script.specs.Statuses.{IsFinal, IsRefusal}
+use Rattle.dcsp_script.specs.Clauses.{IsLawful}
 use Rattle.abt_input.specs.Plans.{IsSoundPlan, WritesOwn}
 use Rattle.abt_input.proofs.ExactKinds.{model_exact, schedule_exact}
 use Rattle.abt_input.proofs.OwnWrites.{own_none, own_put, own_create, own_append, own_both}
 use Rattle.abt_input.proofs.PlanLaws.{plan_lawful}
-use Rattle.law_story.specs.Facts.{Line}
+use Rattle.abt_story.specs.Facts.{Line}
 use Rattle.abt_story.specs.Texts.{lines_text}
 use Rattle.line_story.specs.StoryPromise.{event_write, status_at, story_plan, story_promise, told_end, told_events}
 

@@ -22,18 +22,18 @@ use Rattle.abt_network.specs.declared.Standing.TheVariants as standing
 use Rattle.abt_network.specs.Standing.{NetworkState, StandsAt, standing_of}
 use Rattle.abt_session.specs.Answers.{first_answers}
 use Rattle.abt_session.specs.Sessions.{Session, network_after, run_of}
-use Rattle.abt_session.specs.Running.{session_of}
+use Rattle.abt_session.specs.Running.{nothing_told, session_of}
 use Rattle.abt_session.proofs.Pieces.{wrote_as}
 use Rattle.abt_session.proofs.Places.{answers_at, at_place, past_end}
 use Rattle.abt_session.proofs.Stopping.{ComesTo, ends_here, not_fewer, one_more, stops_here}
 use Rattle.abt_session.proofs.Turns.{is_open, is_quiet, is_refuted}
-use Rattle.law_story.specs.Telling.{delivery_lines, lines_at, start_lines}
+use Rattle.abt_story.specs.Telling.{delivery_lines, lines_at, start_lines}
 use Rattle.line_story.specs.StoryPromise.{end_line, end_script, event_write, head, listed, most_told, some_write, story_line, story_script, told_end, told_events, told_run}
 use Rattle.line_story.specs.Telling.{begin_script, deliveries_write}
 
 module _ (P : Contents) (most : ℕ) (answers : ℕ → Option ℕ) (file : List ℕ) where
   abbrev pub s : Session
-  s = session_of P most answers [] false
+  s = session_of P most answers [] nothing_told
 
   law : Stops s.problem s.most s.choices (run_of s)
   law = stops s.problem s.most s.choices

@@ -1,2 +1,3 @@
 pub mod StoryPromise
 pub mod Telling
+pub mod Stories

@@ -9,13 +9,13 @@ use Rattle.abt_network.specs.declared.Standing.{Standing}
 use Rattle.abt_network.specs.declared.Standing.TheVariants.{Open, Quiet, Refuted}
 use Rattle.abt_network.specs.Standing.{standing_of}
 use Rattle.abt_session.specs.Answers.{first_answers}
-use Rattle.abt_promise.specs.declared.status.Status.{Status}
-use Rattle.abt_promise.specs.declared.status.Status.TheVariants.{Good, Unfinished}
-use Rattle.abt_promise.specs.Promises.{Promise}
+use Rattle.dcsp_script.specs.declared.status.Status.{Status}
+use Rattle.dcsp_script.specs.declared.status.Status.TheVariants.{Good, Unfinished}
+use Rattle.dcsp_script.specs.Promises.{Promise}
 use Rattle.abt_input.specs.Kinds.{a_model, a_schedule}
 use Rattle.abt_input.specs.Plans.{Plan, Answer, Read, promise_by}
-use Rattle.law_story.specs.Facts.{Line}
-use Rattle.law_story.specs.Telling.{events}
+use Rattle.abt_story.specs.Facts.{Line}
+use Rattle.abt_story.specs.Telling.{events}
 use Rattle.abt_story.specs.Texts.{lines_text}
 
 -- ---- the run

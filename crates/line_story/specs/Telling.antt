@@ -4,7 +4,7 @@ use Rattle.std.specs.List.{range_with_len}
 use Rattle.dcsp_defs.specs.Csp.{Csp}
 use Rattle.dcsp_script.specs.Scripts.{Write, Create, Append}
 use Rattle.abt_defs.specs.Runs.{whole}
-use Rattle.law_story.specs.Telling.{lines_at, start_lines}
+use Rattle.abt_story.specs.Telling.{lines_at, start_lines}
 use Rattle.line_story.specs.StoryPromise.{event_write, head}
 use Rattle.line_story.specs.declared.teller.Teller.{Teller}
 

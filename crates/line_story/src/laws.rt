@@ -1,7 +1,7 @@
 //! What the promise of `story` keeps.
 
 ghost use Rattle.std.specs.Prelude.{ℕ, List};
-ghost use Rattle.abt_promise.specs.Clauses.{IsLawful};
+ghost use Rattle.dcsp_script.specs.Clauses.{IsLawful};
 ghost use Rattle.line_story.specs.StoryPromise.{story_promise};
 
 /// The promise keeps what every line of words keeps.

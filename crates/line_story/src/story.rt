@@ -1,26 +1,24 @@
 //! The line `story MODEL SCHEDULE FILE`.
 
-ghost use Rattle.std.specs.Prelude.{◌≡◌, IfOk};
+ghost use Rattle.std.specs.Prelude.{◌≡◌, IfOk, OnOk};
 ghost use Rattle.dcsp_outside.specs.Outside.{Place, Stream};
 ghost use Rattle.dcsp_script.specs.Scripts.{outside};
 ghost use Rattle.dcsp_script.specs.Ways.{Wrote};
 ghost use Rattle.dcsp_rule.specs.Problems.{csp_of};
-ghost use Rattle.abt_promise.specs.Runs.{CameIn};
+ghost use Rattle.dcsp_script.specs.Runs.{CameIn};
 ghost use Rattle.abt_input.specs.Errors.{way_of};
+ghost use Rattle.line_story.specs.Stories.{HoldsStory};
 ghost use Rattle.line_story.specs.StoryPromise.{status_at, story_promise, story_script, told_end};
 
 use crate::teller::Teller;
 use abt_input::{CommandError, read_choices, read_model};
 use abt_network::Network;
-use abt_promise::Status;
 use abt_schedule::Listed;
+use abt_session::MOST_DELIVERIES;
 use dcsp_outside::{Folder, Sink};
 use dcsp_problem::Problem;
-use dcsp_script::Stop;
+use dcsp_script::{Status, Stop};
 use std::alloc::Global;
-
-/// The most deliveries of a run.
-const MOST_DELIVERIES: u64 = 1 << 40;
 
 /// The words of `story`.
 #[derive(Clone, Copy)]
@@ -41,11 +39,15 @@ pub fn run_story<F: Folder, S: Sink>(
     line: Story<'_>,
     out: &mut S,
 ) -> Result<Status, CommandError>
-    ensures { CameIn (story_promise line.entry.model.now line.entry.schedule.now line.entry.file.now)
+    ensures came { CameIn (story_promise line.entry.model.now line.entry.schedule.now line.entry.file.now)
         (outside (F.place folder.old) (S.stream out.old))
         (outside (F.place folder.new) (S.stream out.new)) (way_of result) }
+    ensures writes { OnOk result (HoldsStory line.entry.model.now line.entry.schedule.now line.entry.file.now
+        (F.place folder.old).held (F.place folder.new).held) }
 {
     let problem = read_model(alloc, folder, line.model)?;
+    problem.denotes_csp();
+    ngd_check::problems_are_small(&problem);
     let choices = read_choices(alloc, folder, line.schedule)?;
     let status = write_story(alloc, &problem, choices, line.file, folder, out)?;
     Ok(status)

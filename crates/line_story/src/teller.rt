@@ -9,18 +9,17 @@ ghost use Rattle.abt_defs.specs.Network.{Network as TheNetwork, start};
 ghost use Rattle.abt_defs.specs.Runs.{whole};
 ghost use Rattle.abt_network.specs.Standing.{reached, standing_of, CanDeliver, StandsAt};
 ghost use Rattle.abt_session.specs.Answers.{first_answers};
-ghost use Rattle.law_story.specs.Telling.{delivery_lines};
+ghost use Rattle.abt_story.specs.Telling.{delivery_lines};
 ghost use Rattle.line_story.specs.StoryPromise.{end_line, end_word, event_write, some_write, status_at, story_line};
 ghost use Rattle.line_story.specs.Telling.{begin_script, deliveries_write, IsReady, SameTask};
 
 use abt_input::AnswerLine;
 use abt_network::{Network, Standing};
-use abt_promise::Status;
 use abt_schedule::Choices;
 use abt_story::{tell_delivery, tell_start};
 use dcsp_outside::{Folder, Sink};
 use dcsp_problem::Problem;
-use dcsp_script::{Stop, append, create, put};
+use dcsp_script::{Status, Stop, append, create, put};
 use itoa::Buffer;
 use std::alloc::Global;
 

@@ -2,8 +2,8 @@
 
 use crate::given::Outside;
 use abt_input::CommandError;
-use abt_promise::Status;
 use dcsp_outside::{MemoryFolder, MemorySink};
+use dcsp_script::Status;
 use line_rewrite::{CoreLine, run_core, run_upgrade};
 use std::alloc::Global;
 use std::process::Abort;

@@ -2,9 +2,9 @@
 
 use crate::given::Outside;
 use abt_input::CommandError;
-use abt_promise::Status;
 use dcsp_gen::{pigeons, queens};
 use dcsp_outside::{MemoryFolder, MemorySink};
+use dcsp_script::Status;
 use line_model::{run_bound, run_colouring, run_queens};
 use std::alloc::Global;
 use std::process::Abort;

@@ -4,18 +4,17 @@ ghost use Rattle.std.specs.Prelude.{◌≤◌};
 
 use crate::given::{THIRD, apart, let_go, torn};
 use abt_schedule::{ChoiceList, Choices, Seeded, read_schedule};
-use abt_session::{End, Outcome, SessionError, Starved, StarvedEnd, run, starve};
+use abt_session::{End, Outcome, RunTask, SessionError, Starved, StarvedEnd, Telling, run, starve};
 use dcsp_outside::{MemoryFolder, MemorySink};
 use dcsp_problem::Problem;
 use std::alloc::Global;
 use std::process::Abort;
 
-/// What a run is given and leaves: the folder with its log, what it tells, and the choices that it took.
+/// What a run is given and leaves: the folder with its log, and what it tells.
 #[derive(Drop)]
 struct Outside {
     folder: MemoryFolder,
     out: MemorySink,
-    taken: ChoiceList,
 }
 
 impl Outside {
@@ -25,7 +24,6 @@ impl Outside {
         Outside {
             folder: folder_before(rt, alloc, folder),
             out: sink_failing_at(rt, alloc, out),
-            taken: ChoiceList::new(alloc),
         }
     }
 
@@ -53,17 +51,19 @@ impl Outside {
     ) -> Result<Outcome, SessionError>
         requires { most ≤ 1000 }
     {
+        let task = RunTask {
+            log: "log",
+            most,
+            telling: Telling::traced(trace),
+            keep: true,
+        };
         run(
             alloc,
             problem,
             choices,
-            most,
+            task,
             &mut self.folder,
-            "log",
             &mut self.out,
-            trace,
-            &mut self.taken,
-            true,
         )
     }
 
@@ -95,6 +95,7 @@ fn expect_refuted(rt: &impl Abort, outcome: Outcome, deliveries: u64, steps: u64
     assert!(rt; matches!(&outcome.end, End::Refuted));
     assert_eq!(rt; outcome.deliveries, deliveries);
     assert_eq!(rt; outcome.steps, steps);
+    assert!(rt; outcome.numbers.choices() == [0u32, 0, 0, 0].as_slice());
 }
 
 #[test]
@@ -107,7 +108,6 @@ fn a_refuted_run(rt: HostRuntime) {
     let log = b"ngd 1\n1 v2 [v1=0] <- c1 c2\n2 v2 [v1=1] <- c2 c1\n3 v1 [] <- n1 n2\nend\n";
     outside.expect_log(&rt, log);
     assert!(rt; outside.out.bytes().is_empty());
-    assert!(rt; outside.taken.choices() == [0u32, 0, 0, 0].as_slice());
     outside.end();
     let_go(problem);
 }
@@ -134,14 +134,13 @@ fn expect_starved(rt: &impl Abort, told: &Starved, end: StarvedEnd, deliveries: 
 fn a_starved_run(rt: HostRuntime) {
     let alloc = rt.alloc();
     let problem = apart(&rt, alloc, [0, 1, 0], [1, 1, 1], THIRD);
-    let mut outside = Outside::new(&rt, alloc, 0, 0);
-    let told = starved(&rt, alloc, &problem, 10, &mut outside.taken);
+    let mut taken = ChoiceList::new(alloc);
+    let told = starved(&rt, alloc, &problem, 10, &mut taken);
     expect_starved(&rt, &told, StarvedEnd::Solved, 10);
     let choices = [1u32, 0, 0, 0, 0, 0, 0, 1, 1, 0];
-    assert!(rt; outside.taken.choices() == choices.as_slice());
-    let told = starved(&rt, alloc, &problem, 1, &mut outside.taken);
+    assert!(rt; taken.choices() == choices.as_slice());
+    let told = starved(&rt, alloc, &problem, 1, &mut taken);
     expect_starved(&rt, &told, StarvedEnd::Open, 1);
-    outside.end();
     let_go(problem);
 }
 
@@ -172,7 +171,6 @@ struct Case {
     log: &'static [u8],
     /// How many bytes of the trace are put.
     told: usize,
-    taken: usize,
 }
 
 const CASES: [Case; 6] = [
@@ -182,7 +180,6 @@ const CASES: [Case; 6] = [
         out: 99,
         made: Some(9),
         told: 143,
-        taken: 9,
         log: b"ngd 1\n1 v3 [v1=0,v2=1] <- c1 c2\n2 v2 [v1=0] <- n1\nend\n",
     },
     Case {
@@ -191,7 +188,6 @@ const CASES: [Case; 6] = [
         out: 99,
         made: Some(4),
         told: 64,
-        taken: 4,
         log: b"ngd 1\n1 v3 [v1=0,v2=1] <- c1 c2\n2 v2 [v1=0] <- n1\nend\n",
     },
     Case {
@@ -200,7 +196,6 @@ const CASES: [Case; 6] = [
         out: 99,
         made: None,
         told: 0,
-        taken: 0,
         log: b"before",
     },
     Case {
@@ -209,7 +204,6 @@ const CASES: [Case; 6] = [
         out: 99,
         made: None,
         told: 15,
-        taken: 1,
         log: b"ngd 1\n",
     },
     Case {
@@ -218,7 +212,6 @@ const CASES: [Case; 6] = [
         out: 99,
         made: None,
         told: 143,
-        taken: 9,
         log: b"ngd 1\n1 v3 [v1=0,v2=1] <- c1 c2\n2 v2 [v1=0] <- n1\n",
     },
     Case {
@@ -227,7 +220,6 @@ const CASES: [Case; 6] = [
         out: 3,
         made: None,
         told: 30,
-        taken: 2,
         log: b"ngd 1\n1 v3 [v1=0,v2=1] <- c1 c2\n2 v2 [v1=0] <- n1\n",
     },
 ];
@@ -236,7 +228,10 @@ impl Case {
     /// What the run tells is what the case says.
     fn expect_end(&self, rt: &impl Abort, ended: Result<Outcome, SessionError>) {
         match ended {
-            Ok(outcome) => assert!(rt; Some(outcome.deliveries) == self.made),
+            Ok(outcome) => {
+                assert!(rt; Some(outcome.deliveries) == self.made);
+                assert!(rt; Some(outcome.numbers.choices().len() as u64) == self.made);
+            }
             Err(stop) => assert!(rt; stop == SessionError::Fault && self.made.is_none()),
         }
     }
@@ -245,7 +240,6 @@ impl Case {
     fn expect_left(&self, rt: &impl Abort, outside: &Outside) {
         outside.expect_log(rt, self.log);
         assert!(rt; outside.out.bytes() == TRACE.get(..self.told).expect(rt, "a part"));
-        assert_eq!(rt; outside.taken.choices().len(), self.taken);
     }
 
     /// The run does what the case says.

@@ -31,7 +31,7 @@ function widestValue() {
 function measureColumns(room) {
   const least = Math.max(agentCount <= 12 ? 46 : agentCount <= 30 ? 40 : 34, agentCount <= 12 ? widestValue() + 16 : 0);
   const left = room - 16 - GUTTER - agentCount * least;
-  chart.outcome = clamp(left, 200, agentCount <= 8 ? 310 : 270);
+  chart.outcome = clamp(left, 270, agentCount <= 8 ? 310 : 270);
   const fair = Math.floor((room - 16 - GUTTER - chart.outcome) / Math.max(1, agentCount));
   chart.column = clamp(fair, least, Math.max(least, 150));
   chart.shortValues = chart.column < 60;

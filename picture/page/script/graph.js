@@ -9,12 +9,13 @@ const placeOf = new Int32Array(agentCount);
 order.forEach((agent, place) => { placeOf[agent] = place; });
 
 const graph = (() => {
-  const width = 540, height = agentCount === 2 ? 210 : agentCount > 12 ? 500 : 420;
   const named = agentCount <= 12 ? 'beside' : agentCount <= 40 ? 'radial' : 'none';
-  const margin = { beside: 62, radial: 106, none: 16 }[named];
+  const width = 540, height = agentCount === 2 ? 210 : { beside: 420, radial: 540, none: 500 }[named];
+  const signs = Math.min(18, 5 + Math.max(0, ...page.variables.map(variable => [...variable.label].length)));
+  const margin = { beside: 62, radial: 14 + 6.4 * signs, none: 16 }[named];
   const rim = Math.PI * (width + height - 4 * margin) / 2;
   const radius = agentCount <= 8 ? 29 : clamp(rim / agentCount / 2.5, 1.5, agentCount <= 12 ? 22 : 16);
-  const across = width / 2 - radius - margin, up = height / 2 - radius - (named === 'beside' ? 30 : margin - 14);
+  const across = width / 2 - radius - margin, up = height / 2 - radius - (named === 'beside' ? 30 : margin);
   const placed = order.map((agent, place) => {
     if (agentCount === 1) return { x: width / 2, y: height / 2, angle: 0 };
     if (agentCount === 2) return { x: width * (.24 + .52 * place), y: height / 2, angle: Math.PI / 2 };

@@ -87,16 +87,16 @@ function buildTexts() {
   byId('texts').replaceChildren(...parts);
 }
 
-// -- paper: a large tree is printed as far as it is unfolded
+// -- paper: a large tree is printed as far as it is unfolded, and the chart in pieces that a sheet has room for
 
-const MOST_ON_PAPER = 100;
+const MOST_ON_PAPER = 100, PAPER_ROWS = 20;
 
 let opened = [];      // the parts of the page that were opened for paper alone
 
 function preparePrint() {
   const { from, to } = rowsToKeep(), pieces = [];
-  for (let row = from; row < to; row += PIECE) {
-    pieces.push(element('div', { class: 'paper-piece' }, namesDrawing(), drawRows(row, Math.min(to, row + PIECE))));
+  for (let row = from; row < to; row += PAPER_ROWS) {
+    pieces.push(element('div', { class: 'paper-piece' }, namesDrawing(), drawRows(row, Math.min(to, row + PAPER_ROWS))));
   }
   byId('chart-print').replaceChildren(...pieces);
   opened = ['legend-box', 'rules-box', 'words-box'].filter(openPart);

@@ -1,8 +1,8 @@
 use Rattle.std.proofs.Common.{Some, None, inl, inr, refl, sym, subst}
 use Rattle.dcsp_script.proofs.Ways.{did_nothing}
-use Rattle.abt_promise.specs.Statuses.{IsFinal, IsRefusal}
-use Rattle.abt_promise.proofs.Following.{ran_answers, ran_cause, ran_complete, ran_creates, ran_faults, ran_lacks, ran_others, ran_refused, ran_stays, ran_text}
-use Rattle.abt_command.specs.Lines.{Check, Core, Export, Starve, Lossy, Rup, Cnf, Upgrade, line_of, promise_of}
+use Rattle.dcsp_script.specs.Statuses.{IsFinal, IsRefusal}
+use Rattle.dcsp_script.proofs.Following.{ran_answers, ran_cause, ran_complete, ran_creates, ran_faults, ran_lacks, ran_others, ran_refused, ran_stays, ran_text}
+use Rattle.abt_command.specs.Lines.{Check, Core, Export, Order, Starve, Lossy, Story, Rup, Cnf, Upgrade, line_of, promise_of}
 use Rattle.abt_command.proofs.Meanings.{means_of, refuted_by, no_better_by}
 use Rattle.abt_command.proofs.Checks.{check_told}
 use Rattle.abt_command.proofs.Lines.{one_line, lawful, export_names}
@@ -97,6 +97,10 @@ pub returns-in-Some-clause-exported : goal.returns-in-Some-clause-exported
 returns-in-Some-clause-exported g c = λ model log cnf proof told better is final answers.
     means_of _ _ _ (one_line _ (line_of c.in-Some.request) (Export model log cnf proof told better) c.in-Some.ensures.some is) (c.run_request.ensures.means final answers) (export_names _ model log cnf proof told better is)
 
+pub returns-in-Some-clause-ordered : goal.returns-in-Some-clause-ordered
+returns-in-Some-clause-ordered g c = λ model rule file is good.
+    means_of _ _ _ (one_line _ (line_of c.in-Some.request) (Order model rule file) c.in-Some.ensures.some is) (c.run_request.ensures.means (subst IsFinal (sym good) tt) (λ r. subst IsRefusal good r))
+
 pub returns-in-Some-clause-starved : goal.returns-in-Some-clause-starved
 returns-in-Some-clause-starved g c = λ model from to file is good.
     means_of _ _ _ (one_line _ (line_of c.in-Some.request) (Starve model from to file) c.in-Some.ensures.some is) (c.run_request.ensures.means (subst IsFinal (sym good) tt) (λ r. subst IsRefusal good r))
@@ -104,6 +108,10 @@ returns-in-Some-clause-starved g c = λ model from to file is good.
 pub returns-in-Some-clause-lossy : goal.returns-in-Some-clause-lossy
 returns-in-Some-clause-lossy g c = λ model log events seed kept is final answers.
     means_of _ _ _ (one_line _ (line_of c.in-Some.request) (Lossy model log events seed kept) c.in-Some.ensures.some is) (c.run_request.ensures.means final answers)
+
+pub returns-in-Some-clause-told : goal.returns-in-Some-clause-told
+returns-in-Some-clause-told g c = λ model schedule file is final answers.
+    means_of _ _ _ (one_line _ (line_of c.in-Some.request) (Story model schedule file) c.in-Some.ensures.some is) (c.run_request.ensures.means final answers)
 
 pub returns-in-Some-clause-no_stall : goal.returns-in-Some-clause-no_stall
 returns-in-Some-clause-no_stall g c = run_unfinished _ (line_of c.in-Some.request) c.in-Some.ensures.some _ _ _ _ c.run_request.result c.run_request.ensures.ran c.run_request.ensures.means

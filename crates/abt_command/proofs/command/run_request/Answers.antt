@@ -1,4 +1,4 @@
-use Rattle.abt_promise.proofs.Coming.{came_ran}
+use Rattle.dcsp_script.proofs.Coming.{came_ran}
 use Rattle.abt_input.specs.Errors.{way_of}
 use Rattle.abt_command.specs.Lines.{line_of, value_of}
 use Rattle.abt_command.proofs.Lines.{an_answer, if_answered}

@@ -30,3 +30,18 @@ pigeons_of-requires c = at_most c.requires.0 (said_in c.args.said.now) c.require
 
 pub survey_of-requires : goal.survey_of-requires
 survey_of-requires c = at_least c.requires.0 (said_in c.args.said.now) c.requires.1 names.Survey c.in-Survey.is 1 _ 1 1000000 refl refl
+
+pub binary_of-requires-clause-variables : goal.binary_of-requires-clause-variables
+binary_of-requires-clause-variables c = (
+  at_least c.requires.0 (said_in c.args.said.now) c.requires.1 names.Binary c.in-Binary.is 0 _ 1 200 refl refl,
+  at_most c.requires.0 (said_in c.args.said.now) c.requires.1 names.Binary c.in-Binary.is 0 _ 1 200 refl refl,
+)
+
+pub binary_of-requires-clause-values : goal.binary_of-requires-clause-values
+binary_of-requires-clause-values c = at_most c.requires.0 (said_in c.args.said.now) c.requires.1 names.Binary c.in-Binary.is 1 _ 1 100 refl refl
+
+pub binary_of-requires-clause-edges : goal.binary_of-requires-clause-edges
+binary_of-requires-clause-edges c = at_most c.requires.0 (said_in c.args.said.now) c.requires.1 names.Binary c.in-Binary.is 2 _ 0 19900 refl refl
+
+pub binary_of-requires-clause-forbidden : goal.binary_of-requires-clause-forbidden
+binary_of-requires-clause-forbidden c = at_most c.requires.0 (said_in c.args.said.now) c.requires.1 names.Binary c.in-Binary.is 3 _ 0 10000 refl refl

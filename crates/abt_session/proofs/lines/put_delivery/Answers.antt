@@ -1,7 +1,16 @@
+use Rattle.std.proofs.Common.{map, ◌∷◌, []}
+use Rattle.dcsp_script.specs.Scripts.{Put}
+use Rattle.dcsp_script.proofs.Lines.{then_rest, then_stopped}
 use Rattle.abt_network.specs.Standing.{delivery_of}
-use Rattle.abt_session.proofs.Pieces.{line_put, traced}
+use Rattle.abt_session.specs.Traces.{progress_texts}
+use Rattle.abt_session.proofs.Pieces.{both_put, wrote_as}
 use Rattle.abt_session.proofs.lines.put_delivery.Goals as goal
 
-pub returns-in-Ok : goal.returns-in-Ok
-returns-in-Ok g c = λ folder.
-    traced c.args.trace c.args.number (delivery_of c.args.delivery.now) c.if-not-trace.false (line_put _ _ c.deref.ensures.value c.in-Ok.ensures c.clear.ensures.items (c.put.ensures folder))
+pub returns-in_err-put_trace : goal.returns-in_err-put_trace
+returns-in_err-put_trace g c = λ folder.
+    wrote_as (both_put c.args.telling c.args.number c.args.steps (delivery_of c.args.delivery.now))
+    (then_stopped (map Put (progress_texts c.args.telling c.args.number c.args.steps)) c.from_residual.ensures (c.in_err-put_trace.ensures folder))
+
+pub returns : goal.returns
+returns g c = λ folder.
+    wrote_as (both_put c.args.telling c.args.number c.args.steps (delivery_of c.args.delivery.now)) (then_rest (c.in_ok-put_trace.ensures folder) (c.put_progress.ensures folder))

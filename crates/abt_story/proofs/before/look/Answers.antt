@@ -5,7 +5,7 @@ use Rattle.abt_defs.specs.Agents.{Agent, Message}
 use Rattle.abt_parts.specs.declared.message.Message.{Message as TheMessage}
 use Rattle.abt_parts.specs.Messages.{message_of}
 use Rattle.abt_agent.specs.States.{State, stands_for}
-use Rattle.law_story.specs.Telling.{named_by, reason}
+use Rattle.abt_story.specs.Telling.{named_by, reason}
 use Rattle.abt_story.specs.Looking.{known_at, reason_in}
 use Rattle.abt_story.proofs.Deeds.{steps_are}
 use Rattle.abt_story.proofs.before.look.Goals as goal
@@ -39,7 +39,7 @@ returns c net m rest st waiting =
       known =
           c.in_ok-known.ensures ∙ ap (λ (b : Agent). map (known_at b.view) (named_by c.args.from (message_of c.unwrap-message.result.now))) stands
           ∙ ap (λ (x : Message). map (known_at a.view) (named_by c.args.from x)) message;
-      kept = c.in_ok-kept.ensures ∙ steps_are c.kept.result.now a (c.kept.ensures ∙ ap (λ (b : Agent). b.recorded) stands);
+      kept = c.in_ok-kept.ensures ∙ steps_are c.nogoods.result.now a (c.nogoods.ensures ∙ ap (λ (b : Agent). b.recorded) stands);
       reasons = c.in_ok-reasons.ensures ∙ its_reasons s p to a c.args.domain.now seat.problem seat.me stands ∙ ap (map (reason (csp_of p) to a)) c.requires.domain;
       stamp = c.stamp.ensures ∙ ap (λ (b : Agent). b.stamp) stands;
     }

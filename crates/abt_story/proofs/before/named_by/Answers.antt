@@ -4,7 +4,7 @@ use Rattle.abt_defs.specs.Agents.{Stamped, View}
 use Rattle.abt_parts.specs.declared.message.Message.{Message}
 use Rattle.abt_parts.specs.Messages.{message_of, with_stamps}
 use Rattle.abt_agent.specs.States.{stands_for}
-use Rattle.law_story.specs.Telling.{named_by}
+use Rattle.abt_story.specs.Telling.{named_by}
 use Rattle.abt_story.specs.declared.before.Known.{Known}
 use Rattle.abt_story.specs.Looking.{known_at}
 use Rattle.abt_story.proofs.before.named_by.Goals.{in-Tell+in_ok-add_known-in-Tell, in-Refuse+in_ok-add_pairs-in-Refuse, in-AddLink}

@@ -1,5 +1,5 @@
 use Rattle.std.proofs.Common.{◌≡◌, ◌++◌, take}
-use Rattle.law_story.specs.Telling.{drops}
+use Rattle.abt_story.specs.Telling.{drops}
 use Rattle.abt_story.specs.Texts.{facts_text}
 use Rattle.abt_story.specs.Looking.{steps_in}
 use Rattle.abt_story.proofs.deed.push_dropped.Given as goal

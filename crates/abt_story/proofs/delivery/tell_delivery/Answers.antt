@@ -6,7 +6,7 @@ use Rattle.dcsp_rule.specs.Problems.{Contents, csp_of}
 use Rattle.abt_defs.specs.Events.{Act}
 use Rattle.abt_defs.specs.Network.{deliver}
 use Rattle.abt_network.specs.Standing.{reached}
-use Rattle.law_story.specs.Telling.{delivery_lines, facts, step_between}
+use Rattle.abt_story.specs.Telling.{delivery_lines, facts, step_between}
 use Rattle.abt_story.specs.Texts.{facts_text, lines_text}
 use Rattle.abt_story.specs.Looking.{IsSeen}
 use Rattle.abt_story.proofs.Deliveries.{a, head, is_made, receiver, same_receiver, some, told}

@@ -2,7 +2,7 @@ use Rattle.std.proofs.Common.{◌∙◌, ◌++◌, ◌==◌, None, Some, ap, len
 use Rattle.std.specs.Prelude.{if◌then◌else◌}
 use Rattle.dcsp_rule.specs.Problems.{Contents, csp_of}
 use Rattle.abt_parts.specs.Messages.{told_sent}
-use Rattle.law_story.specs.Telling.{facts}
+use Rattle.abt_story.specs.Telling.{facts}
 use Rattle.abt_story.specs.Texts.{facts_text}
 use Rattle.abt_story.specs.Looking.{sent_facts, IsSeen}
 use Rattle.abt_story.proofs.delivery.tell_made.Goals as goal

@@ -1,7 +1,7 @@
 use Rattle.std.proofs.Common.{◌≡◌, ℤ, Option, drop, map, not}
 use Rattle.std.specs.List.{list_any}
 use Rattle.dcsp_defs.specs.declared.Reason.{Reason}
-use Rattle.law_story.specs.Telling.{same_reasons}
+use Rattle.abt_story.specs.Telling.{same_reasons}
 use Rattle.abt_story.specs.Looking.{reason_in}
 use Rattle.abt_story.proofs.reasons.has_changed.Given as goal
 

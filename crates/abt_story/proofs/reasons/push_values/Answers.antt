@@ -8,7 +8,7 @@ use Rattle.dcsp_defs.specs.declared.Reason.{Reason}
 use Rattle.dcsp_defs.specs.Csp.{domain}
 use Rattle.dcsp_rule.specs.Problems.{csp_of}
 use Rattle.abt_reason.specs.Causes.{value_at}
-use Rattle.law_story.specs.Telling.{ruled_by, ruled_out}
+use Rattle.abt_story.specs.Telling.{ruled_by, ruled_out}
 use Rattle.abt_story.specs.Texts.{ruled_text}
 use Rattle.abt_story.specs.Looking.{reason_in}
 use Rattle.abt_story.proofs.Growing.{piece_more}

@@ -1,6 +1,6 @@
 use Rattle.std.proofs.Common.{◌≡◌, ◌++◌, take}
 use Rattle.std.specs.List.{flat_map}
-use Rattle.law_story.specs.Telling.{ruled_out}
+use Rattle.abt_story.specs.Telling.{ruled_out}
 use Rattle.abt_story.specs.Texts.{ruled_text}
 use Rattle.abt_story.specs.Looking.{reason_in}
 use Rattle.abt_story.proofs.reasons.push_values.Given as goal

@@ -3,8 +3,8 @@ use Rattle.std.specs.Prelude.{codes}
 use Rattle.std.specs.Option.{is_some}
 use Rattle.std.proofs.lemmas.Fmt.{decimal_digit}
 use Rattle.abt_network.specs.Standing.{steps_of}
-use Rattle.law_story.specs.Facts.{Makes}
-use Rattle.law_story.specs.Telling.{agentless, made_by_none}
+use Rattle.abt_story.specs.Facts.{Makes}
+use Rattle.abt_story.specs.Telling.{agentless, made_by_none}
 use Rattle.abt_story.specs.Texts.{lines_text}
 use Rattle.abt_story.proofs.start.tell_agentless.Goals as goal
 

@@ -4,7 +4,7 @@ use Rattle.abt_defs.specs.Agents.{fresh}
 use Rattle.abt_agent.specs.States.{stands_for}
 use Rattle.abt_parts.specs.Messages.{told_sent}
 use Rattle.law_runs.specs.Starts.{first_act, first_outcome}
-use Rattle.law_story.specs.Telling.{facts, first_step}
+use Rattle.abt_story.specs.Telling.{facts, first_step}
 use Rattle.abt_story.specs.Texts.{facts_text}
 use Rattle.abt_story.specs.Looking.{sent_facts, IsSeen}
 use Rattle.abt_story.proofs.Starts.{first_carries}

@@ -8,7 +8,7 @@ use Rattle.dcsp_rule.specs.Problems.{Contents, csp_of}
 use Rattle.abt_defs.specs.Network.{start}
 use Rattle.law_runs.specs.Starts.{settled_in, StartsWith}
 use Rattle.abt_network.specs.Standing.{steps_of}
-use Rattle.law_story.specs.Telling.{agentless}
+use Rattle.abt_story.specs.Telling.{agentless}
 use Rattle.abt_story.specs.Texts.{lines_text}
 use Rattle.abt_story.specs.Looking.{first_text}
 use Rattle.abt_story.proofs.Growing.{piece_last}

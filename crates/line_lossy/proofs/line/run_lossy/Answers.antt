@@ -10,18 +10,18 @@ use Rattle.line_lossy.proofs.line.run_lossy.Goals as goal
 pub returns-in_err-problem-clause-came : goal.returns-in_err-problem-clause-came
 returns-in_err-problem-clause-came g c =
     let l = c.args.line in
-    kept (lossy_plan l.log.now l.events l.seed (option_copied l.kept)) (lossy_sound l.model.now l.log.now l.events l.seed (option_copied l.kept)) (came_unread _ c.from_residual.ensures c.in_err-problem.ensures)
+    kept (lossy_plan l.log.now l.events l.seed (option_copied l.record_file)) (lossy_sound l.model.now l.log.now l.events l.seed (option_copied l.record_file)) (came_unread _ c.from_residual.ensures c.in_err-problem.ensures)
 
 pub returns-in_err-status-clause-came : goal.returns-in_err-status-clause-came
 returns-in_err-status-clause-came g c =
     let l = c.args.line in
-    kept (lossy_plan l.log.now l.events l.seed (option_copied l.kept)) (lossy_sound l.model.now l.log.now l.events l.seed (option_copied l.kept))
+    kept (lossy_plan l.log.now l.events l.seed (option_copied l.record_file)) (lossy_sound l.model.now l.log.now l.events l.seed (option_copied l.record_file))
     (came_read c.in_ok-problem.ensures (came_stopped _ c.from_residual-in_err-status.ensures c.in_err-status.ensures.wrote))
 
 pub returns-clause-came : goal.returns-clause-came
 returns-clause-came g c =
     let l = c.args.line in
-    kept (lossy_plan l.log.now l.events l.seed (option_copied l.kept)) (lossy_sound l.model.now l.log.now l.events l.seed (option_copied l.kept))
+    kept (lossy_plan l.log.now l.events l.seed (option_copied l.record_file)) (lossy_sound l.model.now l.log.now l.events l.seed (option_copied l.record_file))
     (came_read c.in_ok-problem.ensures (came_answer_with _ c.in_ok-status.ensures.status c.in_ok-status.ensures.wrote))
 
 pub returns-clause-sound : goal.returns-clause-sound

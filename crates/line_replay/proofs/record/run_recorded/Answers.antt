@@ -10,10 +10,10 @@ returns-in_err-outcome-clause-wrote g c = then_stopped _ c.from_residual.ensures
 
 pub returns-in_err-write_record-clause-wrote : goal.returns-in_err-write_record-clause-wrote
 returns-in_err-write_record-clause-wrote g c =
-    let kept = record_of c.args.task.kept c.is_some-keep.result c.new-taken.result _ c.choices.result.now c.is_some-keep.ensures c.new-taken.ensures (c.choices.ensures ∙ c.in_ok-outcome.ensures.takes) in
+    let kept = record_of c.args.task.record_file c.is_some.result _ c.choices.result.now c.is_some.ensures (c.choices.ensures ∙ c.in_ok-outcome.ensures.numbers) in
     then_rest c.in_ok-outcome.ensures.wrote (stopped_so _ c.from_residual-in_err-write_record.ensures (wrote_as kept (c.in_err-write_record.ensures _)))
 
 pub returns-clause-wrote : goal.returns-clause-wrote
 returns-clause-wrote g c =
-    let kept = record_of c.args.task.kept c.is_some-keep.result c.new-taken.result _ c.choices.result.now c.is_some-keep.ensures c.new-taken.ensures (c.choices.ensures ∙ c.in_ok-outcome.ensures.takes) in
+    let kept = record_of c.args.task.record_file c.is_some.result _ c.choices.result.now c.is_some.ensures (c.choices.ensures ∙ c.in_ok-outcome.ensures.numbers) in
     then_rest c.in_ok-outcome.ensures.wrote (as_ok _ (wrote_as kept (c.in_ok-write_record.ensures _)))

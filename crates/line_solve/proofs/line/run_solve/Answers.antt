@@ -1,6 +1,6 @@
 use Rattle.std.proofs.Common.{Result, Ok, Err, ◌∙◌, sym}
 use Rattle.std.specs.Prelude.{IfOk, IsErr, IsErrAnd}
-use Rattle.abt_promise.specs.declared.status.Status.{Status}
+use Rattle.dcsp_script.specs.declared.status.Status.{Status}
 use Rattle.abt_input.specs.declared.error.CommandError.{CommandError}
 use Rattle.abt_input.proofs.Files.{read_held}
 use Rattle.abt_input.proofs.Keeping.{kept, came_unread, came_read, came_answer_with, came_stopped}

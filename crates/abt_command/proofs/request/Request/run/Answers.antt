@@ -1,7 +1,7 @@
 use Rattle.std.proofs.Common.{subst}
 use Rattle.abt_command.specs.Lines.{IsSomeLine, line_of}
 use Rattle.abt_command.proofs.Meanings.{always, always_both, good_alone, good_or_no, both_facts}
-use Rattle.abt_command.proofs.Lines.{queens_within, colouring_within, sparse_within, pigeons_within, solve_within, starve_within, survey_within}
+use Rattle.abt_command.proofs.Lines.{queens_within, colouring_within, sparse_within, pigeons_within, binary_within, solve_within, starve_within, survey_within}
 use Rattle.abt_command.proofs.request.Request.run.Goals as goal
 
 pub run_queens-requires-clause-least : goal.run_queens-requires-clause-least
@@ -34,6 +34,19 @@ run_pigeons-requires-clause-least g c = (pigeons_within _ (subst (λ o. IsSomeLi
 pub run_pigeons-requires-clause-most : goal.run_pigeons-requires-clause-most
 run_pigeons-requires-clause-most g c = (pigeons_within _ (subst (λ o. IsSomeLine (line_of o)) c.in-GenPigeons.is c.requires)).1
 
+pub run_binary-requires-clause-variables : goal.run_binary-requires-clause-variables
+run_binary-requires-clause-variables g c =
+    let sizes = binary_within _ _ _ _ _ (subst (λ o. IsSomeLine (line_of o)) c.in-GenBinary.is c.requires) in
+    (sizes.0, sizes.1)
+
+pub run_binary-requires-clause-values : goal.run_binary-requires-clause-values
+run_binary-requires-clause-values g c =
+    let sizes = binary_within _ _ _ _ _ (subst (λ o. IsSomeLine (line_of o)) c.in-GenBinary.is c.requires) in
+    (sizes.2, sizes.3)
+
+pub returns-in-GenBinary-clause-came : goal.returns-in-GenBinary-clause-came
+returns-in-GenBinary-clause-came g c = rw c.in-GenBinary.is (c.run_binary.ensures _)
+
 pub returns-in-GenSparse-clause-came : goal.returns-in-GenSparse-clause-came
 returns-in-GenSparse-clause-came g c = rw c.in-GenSparse.is (c.run_sparse.ensures _)
 
@@ -61,6 +74,9 @@ returns-in-Rup-clause-means g c = rw c.in-Rup.is (both_facts _ c.run_rup.result 
 pub returns-in-Cnf-clause-means : goal.returns-in-Cnf-clause-means
 returns-in-Cnf-clause-means g c = rw c.in-Cnf.is (both_facts _ c.run_cnf.result (λ s p q. record { means = p; writes = q }) c.run_cnf.ensures.means c.run_cnf.ensures.writes)
 
+pub returns-in-Order-clause-means : goal.returns-in-Order-clause-means
+returns-in-Order-clause-means g c = rw c.in-Order.is (always _ c.run_order.result c.run_order.ensures.writes)
+
 pub returns-in-Upgrade-clause-means : goal.returns-in-Upgrade-clause-means
 returns-in-Upgrade-clause-means g c = rw c.in-Upgrade.is (always _ c.run_upgrade.result c.run_upgrade.ensures.writes)
 
@@ -81,6 +97,9 @@ returns-in-Starve-clause-means g c = rw c.in-Starve.is (always_both _ c.run_star
 
 pub returns-in-Lossy-clause-means : goal.returns-in-Lossy-clause-means
 returns-in-Lossy-clause-means g c = rw c.in-Lossy.is c.run_lossy.ensures.run
+
+pub returns-in-Story-clause-means : goal.returns-in-Story-clause-means
+returns-in-Story-clause-means g c = rw c.in-Story.is (always _ c.run_story.result c.run_story.ensures.writes)
 
 pub run_survey-requires : goal.run_survey-requires
 run_survey-requires g c = survey_within _ _ _ (subst (λ o. IsSomeLine (line_of o)) c.in-Survey.is c.requires)

@@ -9,22 +9,22 @@ pub returns-in_err-create-clause-wrote : goal.returns-in_err-create-clause-wrote
 returns-in_err-create-clause-wrote g c = λ out. first_stopped c.from_residual.ensures (c.in_err-create.ensures.wrote out)
 
 pub append-requires : goal.append-requires
-append-requires g c = created_here _ c.args.self.now.log.now c.in_ok-create.ensures.created
+append-requires g c = created_here _ c.args.self.now.task.log.now c.in_ok-create.ensures.created
 
 pub returns-in_err-append-clause-wrote : goal.returns-in_err-append-clause-wrote
 returns-in_err-append-clause-wrote g c = λ out.
     first_wrote (c.in_ok-create.ensures.wrote out) (first_stopped c.from_residual-in_err-append.ensures (c.in_err-append.ensures.wrote out))
 
 pub append_begun-requires-clause-created : goal.append_begun-requires-clause-created
-append_begun-requires-clause-created g c = created_still _ c.args.self.now.log.now c.in_ok-create.ensures.created c.in_ok-append.ensures.created
+append_begun-requires-clause-created g c = created_still _ c.args.self.now.task.log.now c.in_ok-create.ensures.created c.in_ok-append.ensures.created
 
 pub returns-in-Ok-clause-wrote : goal.returns-in-Ok-clause-wrote
 returns-in-Ok-clause-wrote g c = λ out.
-    let steps = wrote_as (ap (step_writes c.args.self.now.log.now 1) (sym c.in-Ok.ensures.starts.steps)) (c.append_begun.ensures.wrote out) in
+    let steps = wrote_as (ap (step_writes c.args.self.now.task.log.now 1) (sym c.in-Ok.ensures.starts.steps)) (c.append_begun.ensures.wrote out) in
     first_wrote (c.in_ok-create.ensures.wrote out) (first_wrote (c.in_ok-append.ensures.wrote out) steps)
 
 pub returns-in-Ok-clause-created : goal.returns-in-Ok-clause-created
-returns-in-Ok-clause-created g c = on_ok c.append_begun.result (rw c.append_begun.ensures.created (created_still _ c.args.self.now.log.now c.in_ok-create.ensures.created c.in_ok-append.ensures.created))
+returns-in-Ok-clause-created g c = on_ok c.append_begun.result (rw c.append_begun.ensures.created (created_still _ c.args.self.now.task.log.now c.in_ok-create.ensures.created c.in_ok-append.ensures.created))
 
 pub returns-in-Err-clause-wrote : goal.returns-in-Err-clause-wrote
 returns-in-Err-clause-wrote g c = λ out.

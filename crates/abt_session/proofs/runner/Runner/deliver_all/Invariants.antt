@@ -1,9 +1,9 @@
 use Rattle.dcsp_script.specs.Scripts.{outside}
-use Rattle.abt_session.specs.Running.{session_of}
+use Rattle.abt_session.specs.Running.{session_for}
 use Rattle.abt_session.proofs.Turns.{Loop}
 use Rattle.abt_session.proofs.runner.Runner.deliver_all.Given as goal
 
 abbrev pub invariant-loop-made : goal.invariant-loop-made
 invariant-loop-made g l =
-    Loop (session_of l.initial.self.network.problem l.most (g.C.Choices.answers l.initial.choices) l.initial.self.log.now l.initial.self.trace) l._made l.initial.self l.self (g.C.Choices.answers l.initial.choices)
+    Loop (session_for l.initial.self.network.problem (g.C.Choices.answers l.initial.choices) l.initial.self.task) l._made l.initial.self l.self (g.C.Choices.answers l.initial.choices)
     (g.C.Choices.answers l.choices) (outside (g.F.Folder.place l.initial.folder) (g.S.Sink.stream l.initial.out)) (outside (g.F.Folder.place l.folder) (g.S.Sink.stream l.out))

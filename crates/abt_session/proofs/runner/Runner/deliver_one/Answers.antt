@@ -20,11 +20,11 @@ returns-in_default-clause-wrote g c = λ net stands. memory_at_once _ _
 pub returns-in_err-write_made-clause-wrote : goal.returns-in_err-write_made-clause-wrote
 returns-in_err-write_made-clause-wrote g c = λ net stands.
     let made = IfOk-at_ok _ c.in-Ok.is (c.deliver-made.ensures.delivers net stands) in
-    let same = writes_by_number (csp_of c.args.self.now.network.problem) c.args.self.now.log.now c.args.self.now.trace c.args.choice net (delivery_of c.in-Ok.delivery) c.in-Ok.delivery.step c.deliver-made.new.self.steps c.deliver-made.new.self.deliveries made.told made.steps made.stands.steps made.stands.deliveries in
+    let same = writes_by_number (csp_of c.args.self.now.network.problem) c.args.self.now.task.log.now c.args.self.now.task.telling c.args.choice net (delivery_of c.in-Ok.delivery) c.in-Ok.delivery.step c.deliver-made.new.self.steps c.deliver-made.new.self.deliveries made.told made.steps made.stands.steps made.stands.deliveries in
     wrote_as same (stopped_so c.from_residual.result c.from_residual.ensures c.in_err-write_made.ensures.wrote)
 
 pub returns-clause-wrote : goal.returns-clause-wrote
 returns-clause-wrote g c = λ net stands.
     let made = IfOk-at_ok _ c.in-Ok.is (c.deliver-made.ensures.delivers net stands) in
-    let same = writes_by_number (csp_of c.args.self.now.network.problem) c.args.self.now.log.now c.args.self.now.trace c.args.choice net (delivery_of c.in-Ok.delivery) c.in-Ok.delivery.step c.deliver-made.new.self.steps c.deliver-made.new.self.deliveries made.told made.steps made.stands.steps made.stands.deliveries in
+    let same = writes_by_number (csp_of c.args.self.now.network.problem) c.args.self.now.task.log.now c.args.self.now.task.telling c.args.choice net (delivery_of c.in-Ok.delivery) c.in-Ok.delivery.step c.deliver-made.new.self.steps c.deliver-made.new.self.deliveries made.told made.steps made.stands.steps made.stands.deliveries in
     wrote_as same (made_then_memory c.take_down.result c.take_down.ensures.only_memory c.in_ok-write_made.ensures.wrote)

@@ -1,7 +1,7 @@
 use Rattle.std.proofs.Common.{◌∷◌, [], refl}
 use Rattle.dcsp_script.proofs.Lines.{then_rest, then_stopped}
 use Rattle.abt_network.specs.Standing.{delivery_of}
-use Rattle.abt_session.specs.Sessions.{trace_writes}
+use Rattle.abt_session.specs.Sessions.{telling_writes}
 use Rattle.abt_session.proofs.Pieces.{numbered, wrote_as}
 use Rattle.abt_session.proofs.Writing.{same_writes}
 use Rattle.abt_session.proofs.runner.Runner.write_made.Goals as goal
@@ -13,12 +13,12 @@ pub returns-in_err-append_made-clause-wrote : goal.returns-in_err-append_made-cl
 returns-in_err-append_made-clause-wrote g c =
     let old = c.args.self.now in
     let d = c.args.delivery.now in
-    wrote_as (same_writes old.log.now old.trace d.step (delivery_of d ∷ []) c.steps-steps.result old.network.steps old.network.deliveries old.network.deliveries c.steps-steps.ensures.steps refl)
-    (then_stopped (trace_writes old.trace old.network.deliveries (delivery_of d ∷ [])) c.from_residual.ensures (c.in_err-append_made.ensures.wrote _))
+    wrote_as (same_writes old.task.log.now old.task.telling d.step (delivery_of d ∷ []) c.steps-steps.result old.network.steps old.network.deliveries old.network.deliveries c.steps-steps.ensures.steps refl)
+    (then_stopped (telling_writes old.task.telling old.network.deliveries c.steps-steps.result (delivery_of d ∷ [])) c.from_residual.ensures (c.in_err-append_made.ensures.wrote _))
 
 pub returns-clause-wrote : goal.returns-clause-wrote
 returns-clause-wrote g c =
     let old = c.args.self.now in
     let d = c.args.delivery.now in
-    wrote_as (same_writes old.log.now old.trace d.step (delivery_of d ∷ []) c.steps-steps.result old.network.steps c.deliveries-made.result old.network.deliveries c.steps-steps.ensures.steps c.deliveries-made.ensures)
+    wrote_as (same_writes old.task.log.now old.task.telling d.step (delivery_of d ∷ []) c.steps-steps.result old.network.steps c.deliveries-made.result old.network.deliveries c.steps-steps.ensures.steps c.deliveries-made.ensures)
     (then_rest (c.in_ok-append_made.ensures.wrote _) (c.put_delivery.ensures _))

@@ -45,13 +45,13 @@ pub count-requires-clause-right : goal.count-requires-clause-right
 count-requires-clause-right g c =
     let line = c.args.line in
     let asked = best_search c.args.problem.now line.log.now (settings_of line.options) in
-    right_next asked c.args.self.now.rounds c.args.self.now c.run_next.new.self c.in_ok-outcome.outcome c.requires.made c.requires.problem c.in_ok-outcome.ensures.same c.in_ok-outcome.ensures.tells
+    right_next asked c.args.self.now.rounds c.args.self.now c.in_ok-outcome.outcome c.requires.made c.requires.problem c.in_ok-outcome.ensures.tells
 
 pub count-requires-clause-few : goal.count-requires-clause-few
 count-requires-clause-few g c =
     let line = c.args.line in
     let asked = best_search c.args.problem.now line.log.now (settings_of line.options) in
-    few_more asked c.args.self.now.rounds c.args.self.now c.run_next.new.self c.in_ok-outcome.outcome c.requires.made c.requires.few c.requires.choices c.in_ok-outcome.ensures.same c.in_ok-outcome.ensures.tells
+    few_more asked c.args.self.now.rounds c.args.self.now c.in_ok-outcome.outcome c.requires.made c.requires.few c.requires.choices c.in_ok-outcome.ensures.tells
 
 pub returns-clause-wrote : goal.returns-clause-wrote
 returns-clause-wrote g c =
@@ -65,5 +65,5 @@ pub returns-clause-made : goal.returns-clause-made
 returns-clause-made g c =
     let line = c.args.line in
     let asked = best_search c.args.problem.now line.log.now (settings_of line.options) in
-    made_more asked c.args.self.now.rounds c.args.self.now c.run_next.new.self c.count.new.self c.in_ok-outcome.outcome c.requires.made c.requires.goes_on c.in_ok-outcome.ensures.same c.in_ok-outcome.ensures.tells c.in_ok-outcome.ensures.takes
+    made_more asked c.args.self.now.rounds c.args.self.now c.count.new.self c.in_ok-outcome.outcome c.requires.made c.requires.goes_on c.in_ok-outcome.ensures.tells c.in_ok-outcome.ensures.numbers
     c.count.ensures.search c.count.ensures.rounds c.count.ensures.deliveries c.count.ensures.steps c.count.ensures.taken

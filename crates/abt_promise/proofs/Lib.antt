@@ -1,4 +1,0 @@
-pub mod Coming
-pub mod Following
-pub mod Fetched
-pub mod Steps

@@ -1,4 +1,0 @@
-pub mod Statuses
-pub mod Promises
-pub mod Runs
-pub mod Clauses

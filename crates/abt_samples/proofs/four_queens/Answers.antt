@@ -1,5 +1,0 @@
-use Rattle.std.proofs.Common.{refl}
-use Rattle.abt_samples.proofs.four_queens.Goals as goal
-
-pub returns : goal.returns
-returns c = record { bound = refl; solved = refl; values = refl }

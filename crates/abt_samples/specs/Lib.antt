@@ -1,4 +1,0 @@
-pub mod Models
-pub mod Rows
-pub mod LossyRows
-pub mod MeasuredRows

@@ -1,0 +1,9 @@
+use Rattle.abt_network.specs.Standing.{delivery_of}
+use Rattle.abt_session.specs.Traces.{trace_line}
+use Rattle.abt_session.proofs.Pieces.{is_asked, line_put, put_where}
+use Rattle.abt_session.proofs.lines.put_trace.Goals as goal
+
+pub returns-in-Ok : goal.returns-in-Ok
+returns-in-Ok g c = λ folder.
+    put_where c.args.telling.trace (trace_line c.args.number (delivery_of c.args.delivery.now)) (is_asked c.args.telling.trace c.if-not-telling.false)
+    (line_put _ _ c.deref.ensures.value c.in-Ok.ensures c.clear.ensures.items (c.put.ensures folder))

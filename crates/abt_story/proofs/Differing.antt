@@ -1,0 +1,95 @@
+-- Runs with different deliveries have different stories.
+use Rattle.std.proofs.Common.{◌≡◌, ◌∙◌, ℕ, zero, suc, ◌+◌, ◌<◌, ◌≤◌, ◌^◌, false, List, [], ◌∷◌, length, slice_get, slice_index, take, Option, Some, None, inl, refl, sym, ap, subst, arith, codes, FitsSigned, ◌++◌}
+use Rattle.std.specs.Int.{w64}
+use Rattle.std.specs.List.{AllByRecursion}
+use Rattle.dcsp_defs.specs.Words.{In}
+use Rattle.dcsp_defs.specs.Csp.{Csp, IsCsp, count}
+use Rattle.abt_defs.specs.Agents.{Announce, Refuse, Add_link, Message}
+use Rattle.abt_defs.specs.Network.{Network}
+use Rattle.abt_defs.specs.Runs.{Delivery, cargo_of, delivery, delivery_at, head_on, whole}
+use Rattle.law_runs.specs.Deliverable.{AreTwoAgents, Deliverable, IsDeliverable}
+use Rattle.law_runs.specs.Stops.{after, Stops}
+use Rattle.law_runs.proofs.Joins.{links_join}
+use Rattle.law_runs.proofs.SizeRuns.{sizes_hold}
+use Rattle.law_runs.proofs.Stopping.{stops}
+use Rattle.law_runs.proofs.Takes.{all_deliverable}
+use Rattle.abt_story.specs.Differing.{HasNames, StoriesDiffer}
+use Rattle.abt_story.specs.Retelling.{deliveries_in, lines_of}
+use Rattle.abt_story.proofs.Bytes.{lines_differ, CargoFits, Fits}
+use Rattle.abt_story.proofs.Once.{once_holds, steps_in}
+use Rattle.abt_story.proofs.Runs.{Chosen, find_chosen, next_is}
+use Rattle.abt_story.proofs.Traces.{deliveries_are_told}
+
+within : {X : Type 0} (xs : List X) (k : ℕ) (x : X) → slice_get xs k ≡ Some x → k < length xs
+within [] k x h = cc
+within (y ∷ ys) zero x h = omega arith
+within (y ∷ ys) (suc k) x h = let l = within ys k x h in omega arith
+
+each_is : {X : Type 0} (P : X → Type 0) (xs : List X) → ((k : ℕ) (x : X) → slice_get xs k ≡ Some x → P x) → AllByRecursion P xs
+each_is P [] h = tt
+each_is P (x ∷ xs) h = (h 0 x refl, each_is P xs (λ k y e. h (suc k) y e))
+
+one : {X : Type 0} {x y : X} → Some x ≡ Some y → x ≡ y
+one e = cc
+
+head : {X : Type 0} {x y : X} → x ∷ [] ≡ y ∷ [] → x ≡ y
+head e = cc
+
+module _ (p : Csp) (ok : IsCsp p) (names : HasNames p) (most : ℕ) (small : most ≤ 2 ^ 40) (choices : List ℕ) where
+  -- a delivery's numbers are small
+  fits : (k : ℕ) → k < (whole p most choices).net.deliveries → (s : Chosen p (slice_index choices k) (after p choices k)) → (after p choices k).refuted ≡ false → Fits (record { sender = s.sender; receiver = s.receiver; cargo = cargo_of s.message })
+  fits k l s alive = record {
+    sender = (let a = two.sender in let b = names.few in omega arith);
+    receiver = (let a = two.receiver in let b = names.few in omega arith);
+    cargo = by_message s.message refl;
+  }
+    where
+      there : In s.message ((after p choices k).links s.sender s.receiver)
+      there = subst (In s.message) (sym s.head) (inl refl)
+
+      two : AreTwoAgents p s.sender s.receiver
+      two = links_join p ok (take k choices) s.sender s.receiver s.message there
+
+      deliverable : IsDeliverable p (after p choices k).steps s.sender s.receiver s.message
+      deliverable = (all_deliverable p ok (take k choices) alive).messages s.sender s.receiver s.message there
+
+      steps : length (after p choices k).steps ≤ k
+      steps =
+          let law : Stops p most choices (whole p most choices) = stops p most choices in
+          let few = (sizes_hold p ok (take k choices)).fewer alive in
+          let counted = law.counted k (omega arith) in omega arith
+
+      by_message : (m : Message) → s.message ≡ m → CargoFits (cargo_of m)
+      by_message (Announce told) e = let telling = subst (IsDeliverable p (after p choices k).steps s.sender s.receiver) e deliverable in names.values s.sender told.value two.sender telling.value_in
+      by_message (Refuse step pairs) e =
+          let in_list : In step (steps_in ((after p choices k).links s.sender s.receiver)) = subst (λ ms. In step (steps_in ms)) (sym (s.head ∙ ap (λ m. m ∷ s.rest) e)) (inl refl) in
+          let made = (once_holds p (take k choices)).made s.sender s.receiver step in_list in
+          let law : Stops p most choices (whole p most choices) = stops p most choices in
+          let capped = law.at_most in
+          let few = steps in omega arith
+      by_message Add_link e = tt
+
+  trace_fits : AllByRecursion Fits (whole p most choices).trace
+  trace_fits = each_is Fits (whole p most choices).trace at
+    where
+      at : (k : ℕ) (d : Delivery) → slice_get (whole p most choices).trace k ≡ Some d → Fits d
+      at k d e =
+          let law : Stops p most choices (whole p most choices) = stops p most choices in
+          let long = law.trace in
+          let inside = within (whole p most choices).trace k d e in
+          let l : k < (whole p most choices).net.deliveries = omega arith in
+          let n = next_is p most choices k l in
+          let net = after p choices k in
+          let s = find_chosen p (slice_index choices k) net n.made n.is_made in
+          let same : record { sender = s.sender; receiver = s.receiver; cargo = cargo_of s.message } ≡ d =
+          head (sym (ap (λ x. delivery_at x net) s.chosen ∙ ap (head_on s.sender s.receiver) s.head) ∙ n.is_made) ∙ one (sym n.traced ∙ e) in
+          subst Fits same (fits k l s n.alive)
+
+  told_fits : AllByRecursion Fits (deliveries_in (lines_of p choices (whole p most choices)))
+  told_fits = subst (AllByRecursion Fits) (sym (deliveries_are_told p most choices)) trace_fits
+
+pub stories_differ : (p : Csp) → StoriesDiffer p
+stories_differ p ok names most small choices others rest more e =
+    sym (deliveries_are_told p most choices)
+    ∙ lines_differ (lines_of p choices (whole p most choices)) (lines_of p others (whole p most others)) (codes "nd " ++ rest) (codes "nd " ++ more) (told_fits p ok names most small choices) (told_fits p ok names most small others) e
+    ∙ deliveries_are_told p most others

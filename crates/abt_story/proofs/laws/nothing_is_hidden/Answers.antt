@@ -1,0 +1,5 @@
+use Rattle.abt_story.proofs.Runs.{nothing_is_hidden}
+use Rattle.abt_story.proofs.laws.nothing_is_hidden.Goals as goal
+
+pub returns : goal.returns
+returns c = λ p. nothing_is_hidden p

@@ -1,8 +1,0 @@
-use Rattle.law_meaning.proofs.Optima.{bounds_agree, best_agree}
-use Rattle.law_meaning.proofs.optima_agree.Goals as goal
-
-pub returns-clause-bounds : goal.returns-clause-bounds
-returns-clause-bounds c = bounds_agree
-
-pub returns-clause-best : goal.returns-clause-best
-returns-clause-best c = best_agree

@@ -1,4 +1,0 @@
-pub mod Environments
-pub mod Holding
-pub mod Meaning
-pub mod Best

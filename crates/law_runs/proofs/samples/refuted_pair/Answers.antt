@@ -1,0 +1,5 @@
+use Rattle.std.proofs.Common.{refl}
+use Rattle.law_runs.proofs.samples.refuted_pair.Goals as goal
+
+pub returns : goal.returns
+returns c = record { run = refl; steps = refl; trace = refl; bound = refl; capped = refl; spent = refl }

@@ -1,6 +1,0 @@
-pub mod Folds
-pub mod Segments
-pub mod Outcomes
-pub mod Retold
-pub mod Runs
-pub mod Traces

@@ -1,5 +1,0 @@
-use Rattle.law_story.proofs.Traces.{deliveries_are_told}
-use Rattle.law_story.proofs.deliveries_are_told.Goals as goal
-
-pub returns : goal.returns
-returns c = λ p. deliveries_are_told p
