@@ -138,9 +138,10 @@ def make_runs(settings, table):
 def summary(settings, table):
     """For each number of forbidden pairs: tightness, quartiles of the deliveries, share of problems with a solution."""
     deliveries, end = table.column("deliveries"), table.column("end")
+    asked = {str(seed) for seed in range(settings.start, settings.start + settings.problems)}
     points = []
     for forbidden in settings.forbidden:
-        rows = [row for row in table.rows if row[0] == str(forbidden)]
+        rows = [row for row in table.rows if row[0] == str(forbidden) and row[1] in asked]
         counts = [int(row[deliveries]) for row in rows]
         low, middle, high = statistics.quantiles(counts, n=4) if len(counts) > 1 else counts * 3
         solved = {row[1] for row in rows if row[end] == "solved"}
