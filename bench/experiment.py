@@ -2,12 +2,13 @@
 """The phase transition of random binary problems, made by one command.
 
     bench/experiment.py FOLDER [--program ABT] [--variables N] [--values D] [--edges E] [--forbidden A,B,..]
-                        [--problems P] [--runs R] [--from SEED] [--workers W]
+                        [--orders model,links,..] [--problems P] [--runs R] [--from SEED] [--workers W]
 
 For each number of forbidden pairs it makes P problems by `gen binary`, with the seeds from SEED on, and runs each of
-them R times by `survey`, with the seeds 0 to R - 1. FOLDER gets `runs.csv`, a line for each run, and `figure.svg`:
-deliveries (median and quartiles) and the share of problems with a solution, over tightness, which is the share of pairs
-of values that a constraint forbids.
+them R times by `survey`, with the seeds 0 to R - 1, under each of the orders: the model's own, or one by a rule of
+`order`. FOLDER gets `runs.csv`, a line for each run, and `figure.svg`: deliveries (median, and quartiles of the first
+order) and the share of problems with a solution, over tightness, which is the share of pairs of values that a constraint
+forbids.
 
 A stopped experiment goes on where it was: a problem of which `runs.csv` has all lines is not run again. The numbers of
 the experiment stand in `settings.txt`, and a folder of other numbers is refused. The values not given are those of a
@@ -24,7 +25,9 @@ import tempfile
 import time
 from concurrent.futures import ThreadPoolExecutor, as_completed
 
-HEAD = ["forbidden", "problem"]
+HEAD = ["order", "forbidden", "problem"]
+ORDERS = ("model", "degree", "links", "reverse")
+COLOURS = ("#0072b2", "#009e73", "#cc79a7", "#56b4e9")
 
 
 class Failed(Exception):
@@ -38,16 +41,21 @@ def call(program, words, good=(0,)):
     return done.stdout
 
 
-def run_problem(settings, forbidden, seed):
-    """The lines of one problem: the survey's own, behind the problem's numbers."""
+def run_problem(settings, order, forbidden, seed):
+    """The lines of one problem under an order: the survey's own, behind the order and the problem's numbers."""
     with tempfile.TemporaryDirectory() as folder:
         model = os.path.join(folder, "model.fzn")
         with open(model, "w") as file:
             file.write(call(settings.program, ["gen", "binary", settings.variables, settings.values, settings.edges, forbidden, seed]))
-        head, *lines = call(settings.program, ["survey", model, settings.runs], good=(0, 5)).splitlines()
+        words = ["survey", model, settings.runs]
+        if order != "model":
+            listed = os.path.join(folder, "order")
+            call(settings.program, ["order", model, order, listed])
+            words += ["--order", listed]
+        head, *lines = call(settings.program, words, good=(0, 5)).splitlines()
     if len(lines) != settings.runs:
         raise Failed(f"{len(lines)} lines of {settings.runs} runs")
-    return head.split(","), [[forbidden, seed, *line.split(",")] for line in lines]
+    return head.split(","), [[order, forbidden, seed, *line.split(",")] for line in lines]
 
 
 class Table:
@@ -69,14 +77,14 @@ class Table:
         whole = len(self.columns or [])
         for row in self.rows:
             if len(row) == whole:
-                counts[(row[0], row[1])] = counts.get((row[0], row[1]), 0) + 1
+                counts[tuple(row[:3])] = counts.get(tuple(row[:3]), 0) + 1
         kept = {problem for problem, count in counts.items() if count == runs}
-        self.rows = [row for row in self.rows if len(row) == whole and (row[0], row[1]) in kept]
+        self.rows = [row for row in self.rows if len(row) == whole and tuple(row[:3]) in kept]
         if self.columns:
             with open(self.path + ".new", "w", newline="") as file:
                 csv.writer(file, lineterminator="\n").writerows([self.columns, *self.rows])
             os.replace(self.path + ".new", self.path)
-        return {(int(forbidden), int(seed)) for forbidden, seed in kept}
+        return {(order, int(forbidden), int(seed)) for order, forbidden, seed in kept}
 
     def add(self, columns, rows):
         with open(self.path, "a", newline="") as file:
@@ -114,7 +122,7 @@ class Bar:
 
 
 def make_runs(settings, table):
-    wanted = [(forbidden, seed) for forbidden in settings.forbidden
+    wanted = [(order, forbidden, seed) for order in settings.orders for forbidden in settings.forbidden
               for seed in range(settings.start, settings.start + settings.problems)]
     done = table.done(settings.runs)
     missing = [problem for problem in wanted if problem not in done]
@@ -135,19 +143,26 @@ def make_runs(settings, table):
 
 # ---- what the runs come to
 
-def summary(settings, table):
+def disagreements(settings, table):
+    """Problems of which one run found a solution and another, under any order, refuted it: there can be none."""
+    end = table.column("end")
+    ends = {}
+    for row in table.rows:
+        ends.setdefault(tuple(row[1:3]), set()).add(row[end])
+    return sorted(problem for problem, said in ends.items() if {"solved", "refuted"} <= said)
+
+
+def summary(settings, table, order):
     """For each number of forbidden pairs: tightness, quartiles of the deliveries, share of problems with a solution."""
     deliveries, end = table.column("deliveries"), table.column("end")
     asked = {str(seed) for seed in range(settings.start, settings.start + settings.problems)}
     points = []
     for forbidden in settings.forbidden:
-        rows = [row for row in table.rows if row[0] == str(forbidden) and row[1] in asked]
+        rows = [row for row in table.rows if row[:2] == [order, str(forbidden)] and row[2] in asked]
         counts = [int(row[deliveries]) for row in rows]
         low, middle, high = statistics.quantiles(counts, n=4) if len(counts) > 1 else counts * 3
-        solved = {row[1] for row in rows if row[end] == "solved"}
-        refuted = {row[1] for row in rows if row[end] == "refuted"}
-        if solved & refuted:
-            raise Failed(f"runs of one problem disagree: {forbidden} {sorted(solved & refuted)}")
+        solved = {row[2] for row in rows if row[end] == "solved"}
+        refuted = {row[2] for row in rows if row[end] == "refuted"}
         share = len(solved) / (len(solved) + len(refuted)) if solved or refuted else 0
         points.append((forbidden / settings.values**2, low, middle, high, share))
     return points
@@ -173,11 +188,12 @@ def ticks(most):
     return range(0, int(most) + step, max(step, 1))
 
 
-def figure(settings, points):
+def figure(settings, curves):
+    points = curves[0][1]
     across = [point[0] for point in points]
     least, most = min(across), max(across)
     span = most - least or 1
-    heights = list(ticks(max(point[3] for point in points) or 1))
+    heights = list(ticks(max([point[3] for point in points] + [point[2] for _, others in curves[1:] for point in others]) or 1))
     def x(tightness):
         return LEFT + (tightness - least) / span * (WIDTH - LEFT - RIGHT)
     def y(count):
@@ -198,7 +214,11 @@ def figure(settings, points):
         out.append(f'<text x="{x(point[0]):.1f}" y="{HEIGHT - BOTTOM + 20}" text-anchor="middle" font-size="11">{point[0]:.3f}</text>')
     band = [(x(p[0]), y(p[3])) for p in points] + [(x(p[0]), y(p[1])) for p in reversed(points)]
     out.append(f'<path d="{path(band)}Z" fill="#0072b2" fill-opacity="0.2"/>')
-    out.append(f'<path d="{path([(x(p[0]), y(p[2])) for p in points])}" fill="none" stroke="#0072b2" stroke-width="2.5"/>')
+    for place, (order, others) in enumerate(curves):
+        colour = COLOURS[place]
+        out.append(f'<path d="{path([(x(p[0]), y(p[2])) for p in others])}" fill="none" stroke="{colour}" stroke-width="2.5"/>')
+        if len(curves) > 1:
+            out.append(f'<text x="{LEFT + 12}" y="{TOP + 16 + 18 * place}" fill="{colour}">{order}</text>')
     out.append(f'<path d="{path([(x(p[0]), shared(p[4])) for p in points])}" fill="none" stroke="#d55e00" stroke-width="2" stroke-dasharray="6 4"/>')
     peak = expected_peak(settings)
     if peak is not None and least <= peak <= most:
@@ -206,7 +226,7 @@ def figure(settings, points):
         out.append(f'<text x="{x(peak) + 4:.1f}" y="{TOP + 12}" fill="#555">expected {peak:.3f}</text>')
     middle = (TOP + HEIGHT - BOTTOM) / 2
     out.append(f'<text x="{(LEFT + WIDTH - RIGHT) / 2}" y="{HEIGHT - 16}" text-anchor="middle">tightness: share of the pairs of values that a constraint forbids</text>')
-    out.append(f'<text transform="translate(18,{middle}) rotate(-90)" text-anchor="middle" fill="#0072b2">deliveries: median, quartiles</text>')
+    out.append(f'<text transform="translate(18,{middle}) rotate(-90)" text-anchor="middle" fill="#0072b2">deliveries: median{", quartiles" if len(curves) == 1 else f", quartiles of {curves[0][0]}"}</text>')
     out.append(f'<text transform="translate({WIDTH - 12},{middle}) rotate(-90)" text-anchor="middle" fill="#b35900">problems with a solution</text>')
     return "\n".join(out + ["</svg>", ""])
 
@@ -230,20 +250,29 @@ def built_program():
 
 
 def arguments():
-    words = argparse.ArgumentParser(description="The phase transition of random binary problems.")
-    words.add_argument("folder")
-    words.add_argument("--program", default=None)
-    words.add_argument("--variables", type=int, default=14)
-    words.add_argument("--values", type=int, default=6)
-    words.add_argument("--edges", type=int, default=45)
-    words.add_argument("--forbidden", default="4,8,10,12,13,14,15,16,17,18,20,24")
-    words.add_argument("--problems", type=int, default=100)
-    words.add_argument("--runs", type=int, default=5)
-    words.add_argument("--from", dest="start", type=int, default=0)
-    words.add_argument("--workers", type=int, default=os.cpu_count() or 1)
+    words = argparse.ArgumentParser(description="The phase transition of random binary problems.",
+                                    formatter_class=argparse.ArgumentDefaultsHelpFormatter)
+    words.add_argument("folder", help="where runs.csv and figure.svg are written; it keeps what was measured")
+    words.add_argument("--program", help="the program that measures; where none is given, the launcher's")
+    for name, default, meaning in (
+            ("variables", 14, "of each problem"),
+            ("values", 6, "of each variable"),
+            ("edges", 45, "pairs of variables with a constraint"),
+            ("problems", 100, "for each number of forbidden pairs"),
+            ("runs", 5, "of each problem, under the seeds 0, 1, ..")):
+        words.add_argument(f"--{name}", type=int, default=default, metavar="N", help=meaning)
+    words.add_argument("--from", type=int, default=0, dest="start", metavar="SEED", help="the first problem's seed")
+    words.add_argument("--forbidden", default="4,8,10,12,13,14,15,16,17,18,20,24", metavar="N,..",
+                       help="pairs of values that each constraint forbids")
+    words.add_argument("--orders", default="model", metavar="ORDER,..",
+                       help=f"orders of agents, a curve for each: {', '.join(ORDERS)}")
+    words.add_argument("--workers", type=int, default=os.cpu_count() or 1, metavar="N", help="runs at once")
     settings = words.parse_args()
     settings.program = settings.program or built_program()
     settings.forbidden = sorted({int(word) for word in settings.forbidden.split(",")})
+    settings.orders = list(dict.fromkeys(settings.orders.split(",")))
+    if not set(settings.orders) <= set(ORDERS):
+        words.error(f"--orders takes {', '.join(ORDERS)}, with a comma between")
     return settings
 
 
@@ -268,16 +297,20 @@ def main():
     table = Table(os.path.join(settings.folder, "runs.csv"))
     try:
         make_runs(settings, table)
-        points = summary(settings, table)
+        wrong = disagreements(settings, table)
+        if wrong:
+            raise Failed(f"runs of one problem disagree: {wrong}")
+        curves = [(order, summary(settings, table, order)) for order in settings.orders]
     except Failed as failure:
         sys.exit(str(failure))
     except KeyboardInterrupt:
         sys.exit("\nstopped; the same command goes on from here")
     with open(os.path.join(settings.folder, "figure.svg"), "w") as file:
-        file.write(figure(settings, points))
-    print(f"{'tightness':>9} {'lower':>9} {'median':>9} {'upper':>9} {'solved':>7}")
-    for tightness, low, middle, high, share in points:
-        print(f"{tightness:9.3f} {low:9.0f} {middle:9.0f} {high:9.0f} {share:7.0%}")
+        file.write(figure(settings, curves))
+    print(f"{'order':>7} {'tightness':>9} {'lower':>9} {'median':>9} {'upper':>9} {'solved':>7}")
+    for order, points in curves:
+        for tightness, low, middle, high, share in points:
+            print(f"{order:>7} {tightness:9.3f} {low:9.0f} {middle:9.0f} {high:9.0f} {share:7.0%}")
     print(f"{settings.folder}/runs.csv, {settings.folder}/figure.svg")
 
 

@@ -13,7 +13,7 @@ import texts
 from texts import quoted
 
 # The content that a refusal speaks of, by the word that it begins with.
-CONTENTS = {"model": "model", "cnf": "formula", "log": "log", "schedule": "schedule", "proof": "proof"}
+CONTENTS = {"model": "model", "cnf": "formula", "log": "log", "schedule": "schedule", "order": "order", "proof": "proof"}
 # The line of words that reads such a content.
 READERS = {
     "model": "abt solve MODEL LOG",

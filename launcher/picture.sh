@@ -1,4 +1,4 @@
-# The launcher's part that makes a page; ./abt reads it for `picture MODEL SCHEDULE PAGE`.
+# The launcher's part that makes a page; ./abt reads it for `picture MODEL SCHEDULE PAGE [--order FILE]`.
 
 # told STATUS FILE WORDS..: ends with the status, where it is one of a refusal, and with what the program said in the file
 told() {
@@ -21,11 +21,11 @@ want_page() {
   page "${@:2}"
 }
 
-# page MODEL SCHEDULE PAGE: makes the page that plays this run, of the texts that the program writes of it, which go
-# to a folder of their own and leave with it
+# page MODEL SCHEDULE PAGE [--order FILE]: makes the page that plays this run, under the order where one is given, of
+# the texts that the program writes of it, which go to a folder of their own and leave with it
 page() {
-  local page=$3 name texts status
-  for name in "$1" "$2"; do
+  local page=$3 order=("${@:4}") name texts status
+  for name in "$1" "$2" "${order[@]:1}"; do
     [ ! "$page" -ef "$name" ] || stop 6 "picture: $page is read, so no page is written there"
   done
   texts=$(mktemp -d) || stop 70 "picture: no room for the texts of the run below ${TMPDIR:-/tmp}"
@@ -38,17 +38,17 @@ page() {
     set -- "$texts/model.fzn" "$2"
   fi
   status=0
-  "$program" story "$1" "$2" "$texts/story" >/dev/null 2>"$texts/said" || status=$?
-  told "$status" "$texts/said" story "$1" "$2" "$page"
+  "$program" story "$1" "$2" "$texts/story" "${order[@]}" >/dev/null 2>"$texts/said" || status=$?
+  told "$status" "$texts/said" story "$1" "$2" "$page" "${order[@]}"
   status=0
-  "$program" replay "$1" "$2" "$texts/log" >/dev/null 2>"$texts/said" || status=$?
-  [ "$status" = 1 ] || told "$status" "$texts/said" replay "$1" "$2" "$page"
+  "$program" replay "$1" "$2" "$texts/log" "${order[@]}" >/dev/null 2>"$texts/said" || status=$?
+  [ "$status" = 1 ] || told "$status" "$texts/said" replay "$1" "$2" "$page" "${order[@]}"
   status=0
-  "$program" measure "$1" "$2" >"$texts/measures" 2>"$texts/said" || status=$?
-  told "$status" "$texts/said" measure "$1" "$2"
+  "$program" measure "$1" "$2" "${order[@]}" >"$texts/measures" 2>"$texts/said" || status=$?
+  told "$status" "$texts/said" measure "$1" "$2" "${order[@]}"
   status=0
   python3 -B "$here/picture/make.py" "$page" --model "$1" --story "$texts/story" --log "$texts/log" --measures "$texts/measures" \
-    2>"$texts/said" || status=$?
+    "${order[@]}" 2>"$texts/said" || status=$?
   [ "$status" = 0 ] || sed 's/^/abt: /' "$texts/said" >&2
   exit "$status"
 }

@@ -13,13 +13,14 @@ cat >stub <<'END'
 #!/bin/sh
 echo "$@" >>called
 case $1 in
+  order) [ "$STATUS" != 3 ] || { printf '%b' "$SAID" >&2; exit 3; } ;;
   solve) printf '%b' "$ANSWER"; printf '%b' "$SAID" >&2; exit "$STATUS" ;;
   story) echo "abt: fault" >&2; exit 6 ;;
   bound) if [ -n "$SAID" ]; then printf '%b' "$SAID" >&2; exit 3; else echo "bound $BOUND"; fi ;;
 esac
 END
 chmod +x stub
-export ABT_PROGRAM=./stub ANSWER SAID STATUS BOUND=6
+export TMPDIR=$room ABT_PROGRAM=./stub ANSWER SAID STATUS BOUND=6
 printf 'var 1..2: x:: output_var;\nvar int: y;\nsolve  satisfy;\n' >m.fzn
 printf 'var 1..2: x:: output_var;\nsolve  minimize x;\n' >aim.fzn
 
@@ -33,16 +34,17 @@ row() {
   "$bridge" "$@" >out 2>err
   got=$?
   sed -i 's/^\(%%%mzn-stat: solveTime=\)[0-9]*\.[0-9]*$/\1T/' out
+  [ ! -e called ] || sed -i "s|$room/tmp\.[A-Za-z0-9]*/order|ORDER|g" out err called
   if [ $got = "$good" ] && cmp -s out good.out && cmp -s err good.err; then echo "ok      $what"; else
     echo "FAILED  $what: status $got" && cat out err
     failed=$((failed + 1))
   fi
 }
 
-# called WORDS: the first call of the last row had these words.
+# called WORDS: a call of the last row had these words.
 called() {
-  if [ "$(head -n 1 called)" != "$*" ]; then
-    echo "FAILED  called with $(head -n 1 called)"
+  if ! grep -qxF -- "$*" called; then
+    echo "FAILED  not called with $*, but with:" && cat called
     failed=$((failed + 1))
   fi
 }
@@ -50,27 +52,40 @@ called() {
 solved='x = 1;\n----------\n'
 took='% deliveries 9\n% steps 2\n'
 row 'a solution' 0 "$solved$took" '' 0 "$solved" '' m.fzn
-called solve m.fzn /dev/null --seed 0
+called order m.fzn links ORDER
+called solve m.fzn /dev/null --seed 0 --order ORDER
 row 'a refutation' 1 "=====UNSATISFIABLE=====\n$took" '' 0 '=====UNSATISFIABLE=====\n' '' m.fzn
 row 'no verdict' 5 "=====UNKNOWN=====\n$took" '' 0 '=====UNKNOWN=====\n' '' m.fzn
 row 'a best value' 0 "$solved==========\n% rounds 2\n$took" '' 0 "$solved==========\n" '' -i -a aim.fzn
-called solve aim.fzn /dev/null --seed 0 --each
+called solve aim.fzn /dev/null --seed 0 --each --order ORDER
 row 'a best value by halves' 0 "$solved==========\n% rounds 2\n$took" '' 0 "$solved==========\n" '' --abt-halves aim.fzn
-called solve aim.fzn /dev/null --seed 0 --halves
+called solve aim.fzn /dev/null --seed 0 --halves --order ORDER
 row 'no better value known' 5 "$solved% rounds 2\n$took" '' 0 "$solved" '' aim.fzn
 row 'files and seed' 0 "$solved$took" '' 0 "$solved" '' --abt-log l --abt-record r --abt-model c -r 18446744073709551615 m.fzn
-called solve m.fzn l --seed 18446744073709551615 --record r
+called solve m.fzn l --seed 18446744073709551615 --order ORDER --record r
 cmp -s m.fzn c || { echo "FAILED  the kept model differs" && failed=$((failed + 1)); }
 row 'a page, which fails' 0 "$solved$took" '' 6 "$solved" 'abt: fault\n' --abt-record r --abt-picture p m.fzn
-called solve m.fzn /dev/null --seed 0 --record r
-[ "$(sed -n 2p called | cut -d ' ' -f 1-3)" = 'story m.fzn r' ] || { echo "FAILED  the page is made by $(sed -n 2p called)" && failed=$((failed + 1)); }
+called solve m.fzn /dev/null --seed 0 --order ORDER --record r
+grep -q '^story m.fzn r .* --order ORDER$' called || { echo "FAILED  the page is made by $(cat called)" && failed=$((failed + 1)); }
+row "the model's order" 0 "$solved$took" '' 0 "$solved" '' --abt-order model m.fzn
+called solve m.fzn /dev/null --seed 0
+row 'another rule' 0 "$solved$took" '' 0 "$solved" '' --abt-order degree m.fzn
+called order m.fzn degree ORDER
+called solve m.fzn /dev/null --seed 0 --order ORDER
+: >my.ord
+row 'an order of a file' 0 "$solved$took" '' 0 "$solved" '' --abt-order my.ord m.fzn
+called solve m.fzn /dev/null --seed 0 --order my.ord
+row 'no such order' 0 "$solved$took" '' 2 '' 'abt-fzn: --abt-order linkz: a rule (links, degree, reverse), model, or a file that can be read\n' \
+  --abt-order linkz m.fzn
+row 'an order that is refused' 4 '' 'abt: order: line 2\n' 4 '' 'abt: order: line 2\n' --abt-order my.ord m.fzn
 row 'statistics' 0 "$solved$took" '' 0 \
   "$solved%%%mzn-stat: deliveries=9\n%%%mzn-stat: steps=2\n%%%mzn-stat: nSolutions=1\n%%%mzn-stat: solveTime=T\n%%%mzn-stat: agents=2\n%%%mzn-stat: bound=\"6\"\n%%%mzn-stat-end\n" '' -s m.fzn
+called bound m.fzn --order ORDER
 row 'statistics of a best value' 0 "$solved==========\n% rounds 2\n" '' 0 \
   "$solved==========\n%%%mzn-stat: rounds=2\n%%%mzn-stat: objective=1\n%%%mzn-stat: nSolutions=1\n%%%mzn-stat: solveTime=T\n%%%mzn-stat: agents=1\n%%%mzn-stat: bound=\"6\"\n%%%mzn-stat-end\n" '' -s aim.fzn
 row 'one solution' 0 "$solved$took" '' 0 "$solved" '' -n 1 m.fzn
 row 'two solutions' 0 '' '' 2 '' 'abt-fzn: -n 2: this solver finds one solution\n' -n 2 m.fzn
-row 'more is said' 0 "$solved$took" '' 0 "$solved" 'abt-fzn: ./stub solve m.fzn /dev/null --seed 0\n' -v m.fzn
+row 'more is said' 0 "$solved$took" '' 0 "$solved" 'abt-fzn: the agents have the order: links\nabt-fzn: ./stub solve m.fzn /dev/null --seed 0 --order ORDER\n' -v m.fzn
 said='abt: model: unbounded at 26\n'
 # helps REFUSAL: what the table of refusals says of it.
 helps() { sed -n "s/^$1 | \(.*\) | \(.*\)/abt-fzn: \1\\\\nabt-fzn: \2\\\\n/p" "$top/launcher/refusals.txt"; }
@@ -88,7 +103,7 @@ row 'variables of sets' 3 '' 'abt: model: unsupported at 0\n' 3 '' \
   "abt: model: unsupported at 0\nabt-fzn: this line: var set of 1..4: s:: output_var;\n$(helps 'model: unsupported at N')abt-fzn: the model has variables of sets: without -G std, this solver's own library makes Booleans of them\n" sets.fzn
 row 'a fault' 6 '' 'abt: fault\n' 6 '' 'abt: fault\n' m.fzn
 row 'no memory' 7 '' 'abt: memory\n' 7 '' 'abt: memory\n' m.fzn
-row 'bad words' 2 '' 'abt: bad words\n' 2 '' 'abt: bad words\nabt-fzn: the program refused the words solve m.fzn -l --seed 0\n' --abt-log -l m.fzn
+row 'bad words' 2 '' 'abt: bad words\n' 2 '' 'abt: bad words\nabt-fzn: the program refused the words solve m.fzn -l --seed 0 --order ORDER\n' --abt-log -l m.fzn
 row 'all solutions' 0 '' '' 2 '' 'abt-fzn: -a: this solver does not list all solutions\n' -a m.fzn
 row 'an unknown flag' 0 '' '' 2 '' 'abt-fzn: there is no flag -t\n' -t 1000 m.fzn
 row 'a flag without its word' 0 '' '' 2 '' 'abt-fzn: -r asks for a word after it\n' m.fzn -r
@@ -113,7 +128,7 @@ row 'a log over a log' 0 "$solved$took" '' 0 "$solved" '' --abt-log old.ngd m.fz
   { echo "FAILED  a file that was refused changed" && failed=$((failed + 1)); }
 
 # ended WHAT SIGNAL WHOM: where the driver, or the bridge, is ended by a signal, no program is left after four seconds.
-printf '#!/bin/sh\necho $$ >program\nexec sleep 30\n' >slow
+printf '#!/bin/sh\n[ "$1" = solve ] || exit 0\necho $$ >program\nexec sleep 30\n' >slow
 chmod +x slow
 ended() {
   rm -f program bridge

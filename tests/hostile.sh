@@ -203,7 +203,7 @@ if command -v cc > /dev/null && cc -shared -fPIC -O1 -o failing.so "$repository/
     mkdir whole
     for words in "check pair.fzn pair.ngd" "solve pair.fzn new.ngd --record new.sch --trace" "solve small.fzn new.ngd" \
         "solve best.fzn new.ngd --record new.sch" "check best.fzn best.ngd --better 0" \
-        "replay pair.fzn pair.sch new.ngd --trace" "measure pair.fzn pair.sch" "survey pair.fzn 3" "bound pair.fzn" "order pair.fzn links new.order" "gen queens 4" "gen colouring 6 3 1" "gen sparse 6 1" "gen pigeons 4" "gen binary 4 3 3 2 1" \
+        "replay pair.fzn pair.sch new.ngd --trace" "measure pair.fzn pair.sch" "survey pair.fzn 3" "bound pair.fzn" "order pair.fzn links new.order" "gen queens 4" "gen colouring 6 3 1" "gen sparse 6 1" "gen pigeons 4" "gen binary 4 3 3 2 1" "gen meetings 3 2 2 3 1 0" "gen sensors 2 2 3 0" \
         "upgrade pair.ngd new.ngd" "core pair.fzn pair.ngd new.ngd" "export pair.fzn pair.ngd new.cnf new.rup --atoms" "export best.fzn best.ngd new.cnf new.rup --better 0" "starve pair.fzn 1 2 new.sch" \
         "story pair.fzn pair.sch new.story" "lossy pair.fzn new.ngd 30 7 --record new.sch" "drill 1" "rup no.cnf no.rup" "cnf no.cnf new.rup" "bound no.cnf" \
         "check pair.fzn pair.sch" "bound pair.fzn more" "--help" "--version"; do

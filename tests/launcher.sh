@@ -495,7 +495,7 @@ completes() {
 for shell in bash fish; do
     command -v $shell > /dev/null || continue
     completes $shell "abt so" solve
-    completes $shell "abt gen " "binary colouring pigeons queens sparse"
+    completes $shell "abt gen " "binary colouring meetings pigeons queens sensors sparse"
     completes $shell "abt solve m1.f" m1.fzn
     completes $shell "abt solve m l --" "--choices --each --halves --progress --record --seed --trace"
     completes $shell "abt solve m l --record m1.n" m1.ngd

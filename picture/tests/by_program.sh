@@ -29,6 +29,11 @@ for name in meeting sensors pigeons queens4 makespan; do
   [ "$name" = makespan ] || [ ! -e "examples/pages/$name.html" ] || cmp -s "$room/$name.html" "examples/pages/$name.html" ||
     wrong "examples/pages/$name.html is not the page that is made"
 done
+# under an order: the page plays that run, whose agents keep the model's numbers
+"${abt[@]}" order examples/meeting.fzn reverse "$room/order" >/dev/null 2>&1
+"${abt[@]}" solve examples/meeting.fzn "$room/log" --seed 1 --record "$room/ordered.sch" --order "$room/order" >/dev/null 2>&1 || wrong "no run under an order"
+"${abt[@]}" picture examples/meeting.fzn "$room/ordered.sch" "$room/ordered.html" --order "$room/order" 2>/dev/null || wrong "no page under an order"
+"${abt[@]}" picture examples/meeting.fzn "$room/ordered.sch" "$room/order" --order "$room/order" 2>/dev/null && wrong "a page in the order's place"
 "${abt[@]}" picture examples/meeting.fzn examples/pairs.sch "$room/none.html" 2>/dev/null && wrong "a page of no schedule"
 [ ! -e "$room/none.html" ] || wrong "a page of no run was written"
 exit "$failed"

@@ -18,7 +18,7 @@ use Rattle.dcsp_script.specs.Runs.{Ran, Answers}
 use Rattle.dcsp_script.proofs.Fetched.{fetched_told}
 use Rattle.dcsp_script.proofs.Following.{ran_answers}
 use Rattle.abt_input.specs.declared.error.CommandError.{CommandError}
-use Rattle.abt_input.specs.declared.error.CommandError.TheVariants.{ModelLong, ModelRefused, NoAim, LogLong, LogLine, ScheduleLong, ScheduleLine, Clauses, Fault, Memory}
+use Rattle.abt_input.specs.declared.error.CommandError.TheVariants.{ModelLong, ModelRefused, NoAim, LogLong, LogLine, ScheduleLong, ScheduleLine, OrderRefused, Clauses, Fault, Memory}
 use Rattle.abt_input.specs.Errors.{error_status, error_text}
 use Rattle.abt_input.specs.Plans.{PlanReports}
 use Rattle.line_check.specs.Taking.{taking_of}
@@ -38,6 +38,7 @@ model_refusal LogLong h = absurd h
 model_refusal (LogLine number) h = absurd h
 model_refusal ScheduleLong h = absurd h
 model_refusal (ScheduleLine number) h = absurd h
+model_refusal (OrderRefused error) h = absurd h
 model_refusal (Clauses error) h = absurd h
 model_refusal Fault h = absurd h
 model_refusal Memory h = absurd h
@@ -51,6 +52,7 @@ log_refusal log LogLong h = tt
 log_refusal log (LogLine number) h = tt
 log_refusal log ScheduleLong h = absurd h
 log_refusal log (ScheduleLine number) h = absurd h
+log_refusal log (OrderRefused error) h = absurd h
 log_refusal log (Clauses error) h = absurd h
 log_refusal log Fault h = absurd h
 log_refusal log Memory h = absurd h

@@ -10,13 +10,13 @@ use Rattle.dcsp_script.specs.Promises.{IsSaid}
 use Rattle.dcsp_script.specs.Runs.{Concludes}
 use Rattle.dcsp_script.specs.Clauses.{IsLawful}
 use Rattle.abt_input.specs.declared.error.CommandError.{CommandError}
-use Rattle.abt_input.specs.declared.error.CommandError.TheVariants.{ModelLong, ModelRefused, NoAim, LogLong, LogLine, ScheduleLong, ScheduleLine, Clauses, Fault, Memory}
+use Rattle.abt_input.specs.declared.error.CommandError.TheVariants.{ModelLong, ModelRefused, NoAim, LogLong, LogLine, ScheduleLong, ScheduleLine, OrderRefused, Clauses, Fault, Memory}
 use Rattle.abt_input.specs.Errors.{error_status, error_text, way_of}
 use Rattle.abt_input.proofs.Cnfs.{clauses_refuse}
 use Rattle.abt_words.specs.declared.rows.LineName.{LineName}
 use Rattle.abt_words.specs.declared.row.Content.TheVariants.{Model, Log, Formula, Proof}
 use Rattle.abt_words.specs.declared.row.Access.TheVariants.{Read, Written}
-use Rattle.abt_words.specs.declared.rows.TheConstants.{SOLVE, REPLAY, EXPORT, STARVE, QUEENS, COLOURING, SPARSE, PIGEONS, BINARY}
+use Rattle.abt_words.specs.declared.rows.TheConstants.{SOLVE, REPLAY, EXPORT, STARVE, QUEENS, COLOURING, SPARSE, PIGEONS, BINARY, MEETINGS, SENSORS}
 use Rattle.abt_words.specs.Rows.{Number, Place, Row, row_of, run_rows, other_rows, the_rows}
 use Rattle.abt_words.specs.Saying.{Value, Absent, Fill, Said, IsSaidBy, names_differ, setting_of, name_in, given_name, given_number, Gives, none_given}
 use Rattle.abt_words.proofs.Once.{one_said, rows_are_apart}
@@ -28,7 +28,7 @@ use Rattle.line_replay.specs.Headline.{HoldsProblem}
 use Rattle.line_replay.proofs.Lawful.{replay_lawful}
 use Rattle.line_solve.proofs.Lawful.{solve_lawful}
 use Rattle.abt_command.specs.declared.request.Request.{Request}
-use Rattle.abt_command.specs.Lines.{Line, Help, Version, Usage, Check, Replay, Solve, Bound, Order, Queens, Colouring, Sparse, Pigeons, Binary, Drill, Upgrade, Core, Export, Starve, Lossy, Measure, Survey, Story, Rup, Cnf, IsLine, IsNoLine, IsRequest, IsSomeLine, Meaning, Nothing, Holds, AnswerMeans, CameMeans, Means, line_named, line_by, last_seed, line_of, number_at, promise_of, value_of}
+use Rattle.abt_command.specs.Lines.{Line, Help, Version, Usage, Check, Replay, Solve, Bound, Order, Queens, Colouring, Sparse, Pigeons, Binary, Meetings, Sensors, Drill, Upgrade, Core, Export, Starve, Lossy, Measure, Survey, Story, Rup, Cnf, IsLine, IsNoLine, IsRequest, IsSomeLine, Meaning, Nothing, Holds, AnswerMeans, CameMeans, Means, line_named, line_by, last_seed, line_of, number_at, promise_of, value_of}
 use Rattle.line_check.proofs.Lawful.{check_lawful}
 use Rattle.line_drill.proofs.Lawful.{drill_lawful}
 use Rattle.line_rewrite.proofs.Lawful.{upgrade_lawful}
@@ -70,7 +70,7 @@ one_some e = cc
 -- a row that stands among the rows is that of the line which is made from it
 pub its_row : (said : Said) (i : ℕ) (row : Row) → slice_get the_rows i ≡ Some row → row ≡ (value_of (line_named row.line said)).row
 unfolding the_rows run_rows other_rows
-its_row said = of_each (λ row. row ≡ (value_of (line_named row.line said)).row) the_rows (refl, (refl, (refl, (refl, (refl, (refl, (refl, (refl, (refl, (refl, (refl, (refl, (refl, (refl, (refl, (refl, (refl, (refl, (refl, (refl, (refl, (refl, (refl, (refl, tt))))))))))))))))))))))))
+its_row said = of_each (λ row. row ≡ (value_of (line_named row.line said)).row) the_rows (refl, (refl, (refl, (refl, (refl, (refl, (refl, (refl, (refl, (refl, (refl, (refl, (refl, (refl, (refl, (refl, (refl, (refl, (refl, (refl, (refl, (refl, (refl, (refl, (refl, (refl, tt))))))))))))))))))))))))))
 
 -- what the words of a line say: its row, the values of which fill its places and have names that differ
 pub record Spoken (line : Line) : Type 0 where
@@ -112,8 +112,8 @@ at_least words said is name e i place least most s k =
     (number_within (value_of (line_named name said)).row.places said.values i place least most s k (subst (λ (r : Row). Fill r.places said.values) row is.says.fill)).0
 
 -- the seeds of a survey have 64 bits
-pub survey_within : (model : List ℕ) (count from : ℕ) → IsSomeLine (Survey model count from) → from + count ≤ 2 ^ 64
-survey_within model count from some = let w : nat_lt (last_seed from count) (2 ^ 64) ≡ true = some.1.within in grind (arith, nat_tests)
+pub survey_within : (model : List ℕ) (count from : ℕ) (order_file : Option (List ℕ)) → IsSomeLine (Survey model count from order_file) → from + count ≤ 2 ^ 64
+survey_within model count from order_file some = let w : nat_lt (last_seed from count) (2 ^ 64) ≡ true = some.1.within in grind (arith, nat_tests)
 
 pub queens_within : (n : ℕ) → IsSomeLine (Queens n) → (1 ≤ n) × (n ≤ 200)
 queens_within n some =
@@ -157,6 +157,32 @@ binary_within n d edges forbidden seed some =
     the_domain : (m n a b e f i j k l : ℕ) → Binary m a e i k ≡ Binary n b f j l → a ≡ b
     the_domain m n a b e f i j k l same = cc
 
+pub meetings_within : (people meetings each hours busy seed : ℕ) → IsSomeLine (Meetings people meetings each hours busy seed) → (people ≤ 64) × (meetings ≤ 64) × (hours ≤ 100)
+meetings_within people meetings each hours busy seed some =
+    let s = spoken some.0 (Meetings people meetings each hours busy seed) some.1 in
+    let is = the_sizes _ _ _ _ _ _ _ _ _ _ _ _ s.line_is in
+    let within = λ (i : ℕ) (place : Place) (least most : ℕ). number_within (row_of MEETINGS).places s.said.values i place least most in (
+      subst (λ m. m ≤ 64) (sym is.0) (within 0 _ 1 64 refl refl s.fill).1,
+      subst (λ m. m ≤ 64) (sym is.1) (within 1 _ 1 64 refl refl s.fill).1,
+      subst (λ m. m ≤ 100) (sym is.2) (within 3 _ 1 100 refl refl s.fill).1,
+    )
+  where
+    the_sizes : (a b c d e f k l m n o p : ℕ) → Meetings a b c d e f ≡ Meetings k l m n o p → (a ≡ k) × (b ≡ l) × (d ≡ n)
+    the_sizes a b c d e f k l m n o p same = (cc, cc, cc)
+
+pub sensors_within : (side targets sees seed : ℕ) → IsSomeLine (Sensors side targets sees seed) → (1 ≤ side) × (side ≤ 16) × (targets ≤ 32)
+sensors_within side targets sees seed some =
+    let s = spoken some.0 (Sensors side targets sees seed) some.1 in
+    let is = the_sizes _ _ _ _ _ _ _ _ s.line_is in
+    let rows = number_within (row_of SENSORS).places s.said.values 0 _ 2 16 refl refl s.fill in
+    let most = number_within (row_of SENSORS).places s.said.values 1 _ 1 32 refl refl s.fill in
+    let first = rows.0 in
+    let one : 1 ≤ number_at s.said 0 = omega (arith, first) in
+    (subst (λ m. 1 ≤ m) (sym is.0) one, subst (λ m. m ≤ 16) (sym is.0) rows.1, subst (λ m. m ≤ 32) (sym is.1) most.1)
+  where
+    the_sizes : (a b c d k l m n : ℕ) → Sensors a b c d ≡ Sensors k l m n → (a ≡ k) × (b ≡ l)
+    the_sizes a b c d k l m n same = (cc, cc)
+
 pub pigeons_within : (n : ℕ) → IsSomeLine (Pigeons n) → (2 ≤ n) × (n ≤ 200)
 pigeons_within n some =
     let s = spoken some.0 (Pigeons n) some.1 in
@@ -166,20 +192,20 @@ pigeons_within n some =
     the_pigeons : (m n : ℕ) → Pigeons m ≡ Pigeons n → m ≡ n
     the_pigeons m n e = cc
 
-pub starve_within : (model : List ℕ) (from to : ℕ) (file : List ℕ) → IsSomeLine (Starve model from to file) → (1 ≤ from) × (1 ≤ to)
-starve_within model from to file some =
-    let s = spoken some.0 (Starve model from to file) some.1 in
-    let one : from ≡ number_at s.said 1 = the_from _ _ _ _ _ _ _ _ s.line_is in
-    let two : to ≡ number_at s.said 2 = the_to _ _ _ _ _ _ _ _ s.line_is in (
+pub starve_within : (model : List ℕ) (from to : ℕ) (file : List ℕ) (order_file : Option (List ℕ)) → IsSomeLine (Starve model from to file order_file) → (1 ≤ from) × (1 ≤ to)
+starve_within model from to file order_file some =
+    let s = spoken some.0 (Starve model from to file order_file) some.1 in
+    let one : from ≡ number_at s.said 1 = the_from _ _ _ _ _ _ _ _ _ _ s.line_is in
+    let two : to ≡ number_at s.said 2 = the_to _ _ _ _ _ _ _ _ _ _ s.line_is in (
       subst (λ m. 1 ≤ m) (sym one) (number_within (row_of STARVE).places s.said.values 1 _ 1 4096 refl refl s.fill).0,
       subst (λ m. 1 ≤ m) (sym two) (number_within (row_of STARVE).places s.said.values 2 _ 1 4096 refl refl s.fill).0,
     )
   where
-    the_from : (a b : List ℕ) (m n k l : ℕ) (f g : List ℕ) → Starve a m k f ≡ Starve b n l g → m ≡ n
-    the_from a b m n k l f g e = cc
+    the_from : (a b : List ℕ) (m n k l : ℕ) (f g : List ℕ) (o p : Option (List ℕ)) → Starve a m k f o ≡ Starve b n l g p → m ≡ n
+    the_from a b m n k l f g o p e = cc
 
-    the_to : (a b : List ℕ) (m n k l : ℕ) (f g : List ℕ) → Starve a m k f ≡ Starve b n l g → k ≡ l
-    the_to a b m n k l f g e = cc
+    the_to : (a b : List ℕ) (m n k l : ℕ) (f g : List ℕ) (o p : Option (List ℕ)) → Starve a m k f o ≡ Starve b n l g p → k ≡ l
+    the_to a b m n k l f g o p e = cc
 
 -- a number of choices, where one is given, is at most as many as a run may have deliveries
 or_most : (given : Option ℕ) → IfSome given (λ n. n ≤ most_deliveries) → unwrap_or given most_deliveries ≤ most_deliveries
@@ -243,9 +269,9 @@ replay_apart (v ∷ w ∷ x ∷ []) settings h d = names_apart (v ∷ w ∷ x �
 replay_apart (v ∷ w ∷ x ∷ y ∷ more) settings h d = absurd h.1.1.1
 
 -- the log of `replay` is not its model
-pub replay_names : (words : List (List ℕ)) (model schedule log : List ℕ) (trace : Bool) → IsLine words (Replay model schedule log trace) → model ≢ log
-replay_names words model schedule log trace h =
-    let s = spoken words (Replay model schedule log trace) h in
+pub replay_names : (words : List (List ℕ)) (model schedule log : List ℕ) (trace : Bool) (order_file : Option (List ℕ)) → IsLine words (Replay model schedule log trace order_file) → model ≢ log
+replay_names words model schedule log trace order_file h =
+    let s = spoken words (Replay model schedule log trace order_file) h in
     let m : model ≡ name_in (get_or s.said.values 0 Absent) = cc in
     let l : log ≡ name_in (get_or s.said.values 2 Absent) = cc in
     λ e. replay_apart s.said.values s.said.settings s.fill s.differ (sym m ∙ (e ∙ l))
@@ -278,24 +304,26 @@ sound Help = record { lawful = print_lawful _; problem = λ a b s. tt }
 sound Version = record { lawful = print_lawful _; problem = λ a b s. tt }
 sound Usage = record { lawful = print_lawful _; problem = λ a b s. tt }
 sound (Check m l better) = record { lawful = check_lawful better m l; problem = λ a b s. tt }
-sound (Replay m c l t) = record { lawful = replay_lawful m c l t; problem = λ a b s h. h }
+sound (Replay m c l t o) = record { lawful = replay_lawful m c l t o; problem = λ a b s h. h }
 sound (Solve m l s) = record { lawful = solve_lawful m l s; problem = λ a b s h. h.sound }
-sound (Bound m) = record { lawful = bound_lawful m; problem = λ a b s. tt }
+sound (Bound m o) = record { lawful = bound_lawful m o; problem = λ a b s. tt }
 sound (Order m rule f) = record { lawful = order_lawful m rule f; problem = λ a b s. tt }
 sound (Queens n) = record { lawful = print_lawful _; problem = λ a b s. tt }
 sound (Colouring n k c) = record { lawful = print_lawful _; problem = λ a b s. tt }
 sound (Sparse n c) = record { lawful = print_lawful _; problem = λ a b s. tt }
 sound (Binary n d edges forbidden seed) = record { lawful = print_lawful _; problem = λ a b s. tt }
+sound (Meetings people meetings each hours busy seed) = record { lawful = print_lawful _; problem = λ a b s. tt }
+sound (Sensors side targets sees seed) = record { lawful = print_lawful _; problem = λ a b s. tt }
 sound (Pigeons n) = record { lawful = print_lawful _; problem = λ a b s. tt }
 sound (Drill c) = record { lawful = drill_lawful c; problem = λ a b s. tt }
 sound (Upgrade m o) = record { lawful = upgrade_lawful m o; problem = λ a b s. tt }
 sound (Core m o t b) = record { lawful = core_lawful b m o t; problem = λ a b s. tt }
 sound (Export m l c r t n) = record { lawful = export_lawful n m l c r t; problem = λ a b s. tt }
-sound (Starve m c d o) = record { lawful = starve_lawful m c d o; problem = λ a b s. tt }
-sound (Lossy m o n c k) = record { lawful = lossy_lawful m o n c k; problem = λ a b s. tt }
-sound (Measure m c) = record { lawful = measure_lawful m c; problem = λ a b s. tt }
-sound (Story m c o) = record { lawful = story_lawful m c o; problem = λ a b s. tt }
-sound (Survey m n c) = record { lawful = survey_lawful m c n; problem = λ a b s. tt }
+sound (Starve m c d f o) = record { lawful = starve_lawful m c d f o; problem = λ a b s. tt }
+sound (Lossy m o n c k w) = record { lawful = lossy_lawful m w o n c k; problem = λ a b s. tt }
+sound (Measure m c o) = record { lawful = measure_lawful m c o; problem = λ a b s. tt }
+sound (Story m c o w) = record { lawful = story_lawful m w c o; problem = λ a b s. tt }
+sound (Survey m n c o) = record { lawful = survey_lawful m c n o; problem = λ a b s. tt }
 sound (Rup m o) = record { lawful = rup_lawful m o; problem = λ a b s. tt }
 sound (Cnf m o c) = record { lawful = cnf_lawful m o c; problem = λ a b s. tt }
 
@@ -310,6 +338,7 @@ concluded LogLong err now status s h = (s, h)
 concluded (LogLine number) err now status s h = (s, h)
 concluded ScheduleLong err now status s h = (s, h)
 concluded (ScheduleLine number) err now status s h = (s, h)
+concluded (OrderRefused error) err now status s h = (s, h)
 concluded NoAim err now status s h = (s, h)
 concluded (Clauses error) err now status s h = (s, h)
 concluded Fault err now status s h = (s, h)
@@ -324,6 +353,7 @@ an_answer (Err LogLong) err now status h f n = absurd (n (subst IsRefusal (sym h
 an_answer (Err (LogLine number)) err now status h f n = absurd (n (subst IsRefusal (sym h.0) tt))
 an_answer (Err ScheduleLong) err now status h f n = absurd (n (subst IsRefusal (sym h.0) tt))
 an_answer (Err (ScheduleLine number)) err now status h f n = absurd (n (subst IsRefusal (sym h.0) tt))
+an_answer (Err (OrderRefused error)) err now status h f n = absurd (n (subst IsRefusal (sym h.0) tt))
 an_answer (Err NoAim) err now status h f n = absurd (n (subst IsRefusal (sym h.0) tt))
 an_answer (Err (Clauses error)) err now status h f n = absurd (n (subst IsRefusal (sym h.0) (clauses_refuse error)))
 an_answer (Err Fault) err now status h f n = absurd (subst IsFinal h.0 f)

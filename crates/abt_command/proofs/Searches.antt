@@ -23,9 +23,11 @@ use Rattle.line_check.specs.Verifying.{IsVerifiedBy}
 use Rattle.line_check.proofs.Verifying.{refutation_verified_by}
 use Rattle.line_replay.specs.Endings.{assigned}
 use Rattle.line_replay.specs.Headline.{HoldsProblem}
+use Rattle.line_replay.proofs.UnderOrder.{ordered_csp}
 use Rattle.line_replay.proofs.Verdicts.{run_log}
+use Rattle.abt_command.proofs.Runs.{order_of_files}
 use Rattle.abt_optimum.specs.Best.{aim_value}
-use Rattle.line_solve.specs.Searching.{AskedSearch, round_count, session_after, last_run}
+use Rattle.line_solve.specs.Searching.{AskedSearch, IsAskable, round_count, problem_after, session_after, last_steps}
 use Rattle.line_solve.specs.BestAnswers.{search_status}
 use Rattle.line_solve.specs.SearchScripts.{search_script, search_report}
 use Rattle.line_solve.specs.SolvePromise.{solve_promise, HoldsWholeProblem}
@@ -34,7 +36,7 @@ use Rattle.line_solve.proofs.Lawful.{solve_lawful, no_refusal_best, reports_sear
 use Rattle.line_solve.proofs.Headlines.{OwnsRecord, is_searched, part_ordered}
 use Rattle.law_subjects.proofs.Accepting.{accepted_are_problems}
 use Rattle.line_solve.proofs.Improving.{is_improving}
-use Rattle.line_solve.proofs.Searches.{is_csp_after}
+use Rattle.line_solve.proofs.Searches.{is_problem_after, is_order_after}
 use Rattle.line_solve.proofs.Verdicts.{is_best, is_refuted, is_unfinished, is_bounded}
 use Rattle.law_subjects.specs.Meaning.{SatisfiesText}
 use Rattle.law_subjects.proofs.MeantWhole.{solutions_satisfy}
@@ -96,7 +98,7 @@ asks_no_search words (Some files) P none = λ asked asks. absurd (none (Solve as
 -- whatever comes of it, a search finds better values
 pub searches_improve : (words : List (List ℕ)) (held : Option (List ℕ → Option (List ℕ))) → EachSearch words held IsImproving
 searches_improve words None = tt
-searches_improve words (Some files) = λ asked asks. is_improving asked ((accepted_are_problems (bytes_of (files asks.model))).within_limits asked.problem asks.model_is.short asks.model_is.reads) asks.aims
+searches_improve words (Some files) = λ asked asks. is_improving asked (record { problem = (accepted_are_problems (bytes_of (files asks.model))).within_limits asked.problem asks.model_is.short asks.model_is.reads; order = order_of_files files asked.set.order_file asked.problem asked.order asks.order_is }) asks.aims
 
 module _ (words : List (List ℕ)) (line : Line) (is : IsLine words line) (a b : World) (err now : Stream) (status : Status) (line_ran : Ran (promise_of line) a b err now status)
     (means : IsFinal status → (IsRefusal status → ⊥) → Means line a b status) where
@@ -111,10 +113,10 @@ module _ (words : List (List ℕ)) (line : Line) (is : IsLine words line) (a b :
     line_did = subst (λ x. Ran (promise_of x) a b err now status) same_line line_ran
 
     did_search : IsFinal status → (status ≡ search_status asked) × Did (search_script asked) a b
-    did_search f = report_did (solve_promise asks.model asked.log asked.set) (solve_lawful asks.model asked.log asked.set) a b err now files told (search_report asked) (reports_search asked.problem asked.log asked.set (bytes_of (files asks.model)) asks.model_is asks.aims) status line_did f
+    did_search f = report_did (solve_promise asks.model asked.log asked.set) (solve_lawful asks.model asked.log asked.set) a b err now files told (search_report asked) (reports_search asked.problem asked.log asked.set files asks.model asks.model_is asked.order asks.order_is asks.aims) status line_did f
 
     made_part : DidPartOf (search_script asked) a b
-    made_part = report_part (solve_promise asks.model asked.log asked.set) (solve_lawful asks.model asked.log asked.set) a b err now files told (search_report asked) (reports_search asked.problem asked.log asked.set (bytes_of (files asks.model)) asks.model_is asks.aims) status line_did
+    made_part = report_part (solve_promise asks.model asked.log asked.set) (solve_lawful asks.model asked.log asked.set) a b err now files told (search_report asked) (reports_search asked.problem asked.log asked.set files asks.model asks.model_is asked.order asks.order_is asks.aims) status line_did
 
     own : OwnsRecord asked
     own = (solve_names words asks.model asked.log asked.set asks.line_is).record_is_own
@@ -129,6 +131,9 @@ module _ (words : List (List ℕ)) (line : Line) (is : IsLine words line) (a b :
     whole : IsFinal status → IsProblem asked.problem
     whole f = subst (λ held. HoldsWholeProblem held asks.model) told (answer f).whole asked.problem asks.model_is
 
+    askable : IsFinal status → IsAskable asked
+    askable f = record { problem = whole f; order = order_of_files files asked.set.order_file asked.problem asked.order asks.order_is }
+
     small : IsFinal status → IsSmall (csp_of asked.problem)
     small f = (subst (λ held. HoldsProblem held asks.model) told (answer f).sound asked.problem asks.model_is).1
 
@@ -139,11 +144,11 @@ module _ (words : List (List ℕ)) (line : Line) (is : IsLine words line) (a b :
         subst (λ m. (m ≢ asked.log) × IfSome asked.set.record_file (λ k. m ≢ k) × IsModelOf (bytes_of (files m)) asked.problem) same ((solve_names words asks.model asked.log asked.set asks.line_is).log_is_other, (solve_names words asks.model asked.log asked.set asks.line_is).record_is_other, asks.model_is)
 
     -- the log of the last round is a text of its steps
-    log_is : IsFinal status → (p : Contents) → IsSmall (csp_of p) → IsRefutation (csp_of p) (last_run asked).net.steps → IsTextOf (log_text (last_run asked).net.steps) (last_run asked).net.steps
-    log_is f p few refutes = run_log (session_after asked (round_count asked - 1)) (csp_of p) (solve_within asks.model asked.log asked.set (words, asks.line_is)) (is_csp_after asked (whole f) (round_count asked - 1)) few refutes.right
+    log_is : IsFinal status → (p : Contents) → IsSmall (csp_of p) → IsRefutation (csp_of p) (last_steps asked) → IsTextOf (log_text (last_steps asked)) (last_steps asked)
+    log_is f p few refutes = run_log (session_after asked (round_count asked - 1)) (csp_of p) (solve_within asks.model asked.log asked.set (words, asks.line_is)) (ordered_csp asked.order (problem_after asked (round_count asked - 1)) (is_problem_after asked (askable f) (round_count asked - 1)) (is_order_after asked (askable f) (round_count asked - 1))) few refutes.right
 
     -- a check over the folder that was left, of what the log refutes
-    verifies : IsFinal status → (better : Option ℤ) (p : Contents) → IsSmall (csp_of p) → IsRefutation (csp_of p) (last_run asked).net.steps → ((now : List ℕ → Option (List ℕ)) (model : List ℕ) → IsModelOf (bytes_of (now model)) asked.problem → (taking_of better).Is (bytes_of (now model)) p)
+    verifies : IsFinal status → (better : Option ℤ) (p : Contents) → IsSmall (csp_of p) → IsRefutation (csp_of p) (last_steps asked) → ((now : List ℕ → Option (List ℕ)) (model : List ℕ) → IsModelOf (bytes_of (now model)) asked.problem → (taking_of better).Is (bytes_of (now model)) p)
         → (model : List ℕ) → AskForModel words model → IfSome b.folder.held (λ held. IsVerifiedBy (taking_of better) held model asked.log)
     verifies f better p few refutes taken model asks_model =
         let mine = own_model model asks_model in
@@ -151,12 +156,12 @@ module _ (words : List (List ℕ)) (line : Line) (is : IsLine words line) (a b :
         let log = log_is f p few refutes in
         at mine log b.folder.held (subst (λ x. Told x b.folder.held (HoldsSearch asked)) told (is_searched asked own a b status d.0 d.1).files)
       where
-        at : (model ≢ asked.log) × IfSome asked.set.record_file (λ k. model ≢ k) × IsModelOf (bytes_of (files model)) asked.problem → IsTextOf (log_text (last_run asked).net.steps) (last_run asked).net.steps
+        at : (model ≢ asked.log) × IfSome asked.set.record_file (λ k. model ≢ k) × IsModelOf (bytes_of (files model)) asked.problem → IsTextOf (log_text (last_steps asked)) (last_steps asked)
             → (held : Option (List ℕ → Option (List ℕ))) → Told (Some files) held (HoldsSearch asked) → IfSome held (λ x. IsVerifiedBy (taking_of better) x model asked.log)
         at mine log None h = tt
         at mine log (Some left) h =
             let same : left model ≡ files model = h.others model (mine.0, mine.1) in
-            refutation_verified_by better left model asked.log p (last_run asked).net.steps (taken left model (subst (λ x. IsModelOf (bytes_of x) asked.problem) (sym same) mine.2)) (subst (λ x. IsTextOf (bytes_of x) (last_run asked).net.steps) (sym h.log) log) refutes
+            refutation_verified_by better left model asked.log p (last_steps asked) (taken left model (subst (λ x. IsModelOf (bytes_of x) asked.problem) (sym same) mine.2)) (subst (λ x. IsTextOf (bytes_of x) (last_steps asked)) (sym h.log) log) refutes
 
   each : (P : AskedSearch → Type 0) → ((files : List ℕ → Option (List ℕ)) → a.folder.held ≡ Some files → (asked : AskedSearch) → AsksForSearch words files asked → P asked) → EachSearch words a.folder.held P
   each P to = by_held a.folder.held refl
@@ -169,19 +174,19 @@ module _ (words : List (List ℕ)) (line : Line) (is : IsLine words line) (a b :
   the_search = each (λ asked. IsFinal status → IsSearched asked status a b) (λ files told asked asks f. let d = did_search files told asked asks f in is_searched asked (own files told asked asks) a b status d.0 d.1)
 
   best_of : (files : List ℕ → Option (List ℕ)) → a.folder.held ≡ Some files → (asked : AskedSearch) → AsksForSearch words files asked → IsBestSearch asked status
-  best_of files told asked asks good = let f = subst IsFinal (sym good) tt in is_best asked (whole files told asked asks f) asks.aims status (did_search files told asked asks f).0 good
+  best_of files told asked asks good = let f = subst IsFinal (sym good) tt in is_best asked (askable files told asked asks f) asks.aims status (did_search files told asked asks f).0 good
 
   pub search_best : EachSearch words a.folder.held (λ asked. IsBestSearch asked status)
   search_best = each (λ asked. IsBestSearch asked status) best_of
 
   pub search_refuted : EachSearch words a.folder.held (λ asked. IsFinal status → IsRefutedSearch asked status)
-  search_refuted = each (λ asked. IsFinal status → IsRefutedSearch asked status) (λ files told asked asks f. is_refuted asked (whole files told asked asks f) asks.aims status (did_search files told asked asks f).0)
+  search_refuted = each (λ asked. IsFinal status → IsRefutedSearch asked status) (λ files told asked asks f. is_refuted asked (askable files told asked asks f) asks.aims status (did_search files told asked asks f).0)
 
   pub search_unfinished : EachSearch words a.folder.held (λ asked. IsFinal status → IsUnfinishedSearch asked status)
-  search_unfinished = each (λ asked. IsFinal status → IsUnfinishedSearch asked status) (λ files told asked asks f. is_unfinished asked (whole files told asked asks f) asks.aims status (did_search files told asked asks f).0)
+  search_unfinished = each (λ asked. IsFinal status → IsUnfinishedSearch asked status) (λ files told asked asks f. is_unfinished asked (askable files told asked asks f) asks.aims status (did_search files told asked asks f).0)
 
   pub search_bounded : EachSearch words a.folder.held (λ asked. IsFinal status → IsBoundedSearch asked status)
-  search_bounded = each (λ asked. IsFinal status → IsBoundedSearch asked status) (λ files told asked asks f. is_bounded asked (whole files told asked asks f) asks.aims status (did_search files told asked asks f).0)
+  search_bounded = each (λ asked. IsFinal status → IsBoundedSearch asked status) (λ files told asked asks f. is_bounded asked (askable files told asked asks f) asks.aims status (did_search files told asked asks f).0)
 
   pub search_ordered : EachSearch words a.folder.held (λ asked. SearchOrdered asked a b)
   search_ordered = each (λ asked. SearchOrdered asked a b) (λ files told asked asks. part_ordered asked (own files told asked asks) a b (made_part files told asked asks))
@@ -191,7 +196,7 @@ module _ (words : List (List ℕ)) (line : Line) (is : IsLine words line) (a b :
     refuted = λ no.
         let f = subst IsFinal (sym no) tt in
         let d = did_search files told asked asks f in
-        let refutes = ((is_refuted asked (whole files told asked asks f) asks.aims status d.0).refutes no).refutes in
+        let refutes = ((is_refuted asked (askable files told asked asks f) asks.aims status d.0).refutes no).refutes in
         verifies files told asked asks f None asked.problem (small files told asked asks f) refutes (λ now model x. x);
     best = λ good some values prints.
         let f = subst IsFinal (sym good) tt in

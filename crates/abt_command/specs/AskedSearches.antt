@@ -3,7 +3,7 @@ use Rattle.std.specs.Prelude.{◌≡◌, ◌≢◌, ℕ, ℤ, List, Option, IfSo
 use Rattle.dcsp_outside.specs.Outside.{bytes_of}
 use Rattle.dcsp_rule.specs.declared.aim.Aim.TheVariants.{Satisfy}
 use Rattle.dcsp_rule.specs.Aims.{aimed_at}
-use Rattle.abt_input.specs.Inputs.{IsModelOf}
+use Rattle.abt_input.specs.Inputs.{IsModelOf, IsOrderIn}
 use Rattle.dcsp_script.specs.declared.status.Status.{Status}
 use Rattle.dcsp_script.specs.declared.status.Status.TheVariants.{Good, No}
 use Rattle.line_check.specs.Taking.{narrowing}
@@ -16,12 +16,13 @@ use Rattle.line_solve.specs.BestHeadline.{PrintsBest}
 use Rattle.abt_command.specs.Lines.{Solve, IsLine}
 use Rattle.abt_command.specs.AskedRuns.{AskForModel}
 
--- the words ask for this search, where these are the files: they are a line of `solve`, and its model asks for the best value of a term
+-- the words ask for this search, where these are the files: they are a line of `solve`, its model asks for the best value of a term, and its rounds have the order of the named file, where one is named
 pub record AsksForSearch (words : List (List ℕ)) (files : List ℕ → Option (List ℕ)) (asked : AskedSearch) : Type 0 where
   pub model : List ℕ
   pub line_is : IsLine words (Solve model asked.log asked.set)
   pub model_is : IsModelOf (bytes_of (files model)) asked.problem
   pub aims : asked.problem.aim ≢ Satisfy
+  pub order_is : IsOrderIn files asked.set.order_file asked.problem asked.order
 
 -- this holds of each search that the words ask for, where the folder tells its files
 abbrev pub EachSearch : List (List ℕ) → Option (List ℕ → Option (List ℕ)) → (AskedSearch → Type 0) → Type 0

@@ -62,10 +62,10 @@ pub record IsExportAnswer (model log cnf proof : List ℕ) (told : Bool) (better
   pub exports : status ≡ Good → HoldsExport (taking_of better) model log cnf proof told old new
   pub rejects : status ≡ No → CreatesNothing old new
 
--- `starve`: the choices of the run were written, and the line that was put tells how it ended
-pub record IsStarvedAnswer (model : List ℕ) (from to : ℕ) (file : List ℕ) (old new : World) : Type 0 where
-  pub writes : HoldsStarved model from to file old.folder.held new.folder.held
-  pub tells : TellsStarved model from to old.folder.held old.out.written new.out.written
+-- `starve`: the choices of the run, which is one under the order, were written, and the line that was put tells how it ended
+pub record IsStarvedAnswer (model : List ℕ) (from to : ℕ) (file : List ℕ) (order_file : Option (List ℕ)) (old new : World) : Type 0 where
+  pub writes : HoldsStarved model from to file order_file old.folder.held new.folder.held
+  pub tells : TellsStarved model from to order_file old.folder.held old.out.written new.out.written
 
 -- no solution of the model's problem, where the folder tells it, has a better value than this at what the problem aims at
 abbrev pub HoldsNoBetter : Option (List ℕ → Option (List ℕ)) → List ℕ → ℤ → Type 0
@@ -97,15 +97,15 @@ means_export model log cnf proof told better old new status = cnf ≢ proof → 
 abbrev pub means_order : (model : List ℕ) (rule : OrderRule) (file : List ℕ) → World → World → Status → Type 0
 means_order model rule file old new status = HoldsOrder model rule file old.folder.held new.folder.held
 
-abbrev pub means_starve : (model : List ℕ) (from to : ℕ) (file : List ℕ) → World → World → Status → Type 0
-means_starve model from to file old new status = IsStarvedAnswer model from to file old new
+abbrev pub means_starve : (model : List ℕ) (from to : ℕ) (file : List ℕ) (order_file : Option (List ℕ)) → World → World → Status → Type 0
+means_starve model from to file order_file old new status = IsStarvedAnswer model from to file order_file old new
 
-abbrev pub means_lossy : (model log : List ℕ) (events seed : ℕ) (record_file : Option (List ℕ)) → World → World → Status → Type 0
-means_lossy model log events seed record_file old new status = HoldsLossyRun old.folder.held model events seed log record_file status
+abbrev pub means_lossy : (model log : List ℕ) (events seed : ℕ) (record_file order_file : Option (List ℕ)) → World → World → Status → Type 0
+means_lossy model log events seed record_file order_file old new status = HoldsLossyRun old.folder.held model order_file events seed log record_file status
 
 -- the run under the schedule's choices was told
-abbrev pub means_story : (model schedule file : List ℕ) → World → World → Status → Type 0
-means_story model schedule file old new status = HoldsStory model schedule file old.folder.held new.folder.held
+abbrev pub means_story : (model schedule file : List ℕ) (order_file : Option (List ℕ)) → World → World → Status → Type 0
+means_story model schedule file order_file old new status = HoldsStory model order_file schedule file old.folder.held new.folder.held
 
 abbrev pub means_rup : (cnf proof : List ℕ) → World → World → Status → Type 0
 means_rup cnf proof old new status = IsRupAnswer old.folder.held cnf proof status

@@ -186,16 +186,16 @@ pub fn run_command<F: Folder, S: Sink>(
     ensures ordered { (model : List ℕ) (rule : OrderRule) (file : List ℕ) → IsLine (map string_bytes words.now) (lines.Order model rule file)
         → result ≡ Status.Good → HoldsOrder model rule file (F.place folder.old).held (F.place folder.new).held }
 
-    // And a run that starves a link, or that is made over a medium that loses, repeats and reorders.
-    ensures starved { (model : List ℕ) (from to : ℕ) (file : List ℕ) → IsLine (map string_bytes words.now) (lines.Starve model from to file)
-        → result ≡ Status.Good → IsStarvedAnswer model from to file
+    // And a run that starves a link, under the order where one is given, or that is made over a medium that loses, repeats and reorders.
+    ensures starved { (model : List ℕ) (from to : ℕ) (file : List ℕ) (order_file : Option (List ℕ)) → IsLine (map string_bytes words.now) (lines.Starve model from to file order_file)
+        → result ≡ Status.Good → IsStarvedAnswer model from to file order_file
         (outside (F.place folder.old) (S.stream out.old)) (outside (F.place folder.new) (S.stream out.new)) }
-    ensures lossy { (model log : List ℕ) (events seed : ℕ) (record_file : Option (List ℕ)) → IsLine (map string_bytes words.now) (lines.Lossy model log events seed record_file)
-        → IsFinal result → (IsRefusal result → ⊥) → HoldsLossyRun (F.place folder.old).held model events seed log record_file result }
+    ensures lossy { (model log : List ℕ) (events seed : ℕ) (record_file order_file : Option (List ℕ)) → IsLine (map string_bytes words.now) (lines.Lossy model log events seed record_file order_file)
+        → IsFinal result → (IsRefusal result → ⊥) → HoldsLossyRun (F.place folder.old).held model order_file events seed log record_file result }
 
     // And a run that is told: the file holds its story, which hides nothing and is no other run's.
-    ensures told { (model schedule file : List ℕ) → IsLine (map string_bytes words.now) (lines.Story model schedule file)
-        → IsFinal result → (IsRefusal result → ⊥) → HoldsStory model schedule file (F.place folder.old).held (F.place folder.new).held }
+    ensures told { (model schedule file : List ℕ) (order_file : Option (List ℕ)) → IsLine (map string_bytes words.now) (lines.Story model schedule file order_file)
+        → IsFinal result → (IsRefusal result → ⊥) → HoldsStory model order_file schedule file (F.place folder.old).held (F.place folder.new).held }
 {
     match words_of(words) {
         Some(request) => run_request(alloc, request, folder, out, err),

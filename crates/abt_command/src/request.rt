@@ -1,6 +1,6 @@
 //! What the words ask for, and how it is run.
 
-ghost use Rattle.std.specs.Prelude.{◌≡◌, ◌≤◌, ℕ, List, false, map, string_bytes, IfSome, IsNone};
+ghost use Rattle.std.specs.Prelude.{◌≡◌, ◌≤◌, ℕ, List, false, map, option_copied, string_bytes, IfSome, IsNone};
 ghost use Rattle.dcsp_outside.specs.Outside.{Place};
 ghost use Rattle.dcsp_script.specs.Scripts.{outside};
 ghost use Rattle.dcsp_script.specs.Runs.{CameIn};
@@ -11,13 +11,13 @@ ghost use Rattle.abt_words.specs.Saying.{IsSaidBy};
 ghost use Rattle.abt_words.specs.Values.{said_in};
 ghost use Rattle.line_model.specs.OrderPromise.{rule_named};
 ghost use Rattle.line_replay.specs.Settings.{settings_of};
-ghost use Rattle.abt_command.specs.Lines.{CameMeans, IsLine, IsNoLine, IsSomeLine, line_by, line_named, line_of, number_at, promise_of, settings_at, value_of, IsRequest};
+ghost use Rattle.abt_command.specs.Lines.{CameMeans, IsLine, IsNoLine, IsSomeLine, line_by, line_named, line_of, number_at, order_at, promise_of, settings_at, value_of, IsRequest};
 
 use crate::plain::{VERSION, print_help, print_usage};
 use abt_input::CommandError;
 use abt_session::MOST_DELIVERIES;
 use abt_words::{LineName, Said, said_of};
-use dcsp_gen::BinarySizes;
+use dcsp_gen::{BinarySizes, MeetingSizes, SensorSizes};
 use dcsp_order::OrderRule;
 use dcsp_outside::{Folder, Sink};
 use dcsp_script::Status;
@@ -28,8 +28,8 @@ use line_export::{ExportLine, run_export};
 use line_lossy::{Losses, run_lossy};
 use line_measure::{Measure, Survey, run_measure, run_survey};
 use line_model::{
-    OrderLine, print, run_binary, run_bound, run_colouring, run_order, run_pigeons, run_queens,
-    run_sparse,
+    Bound, OrderLine, print, run_binary, run_bound, run_colouring, run_meetings, run_order,
+    run_pigeons, run_queens, run_sensors, run_sparse,
 };
 use line_replay::{Options, Replay, Solve, run_replay};
 use line_rewrite::{CoreLine, run_core, run_upgrade};
@@ -49,21 +49,21 @@ pub enum Request<'w> {
     /// `check MODEL LOG [--better N]`: whether the log refutes the model; or where a bound is given, that a solution has
     /// a better value at the model's aim.
     Check(Check<'w>),
-    /// `replay MODEL SCHEDULE LOG [--trace]`: a run under the choices of the schedule.
+    /// `replay MODEL SCHEDULE LOG [--trace] [--order FILE]`: a run under the choices of the schedule.
     Replay(Replay<'w>),
-    /// `solve MODEL LOG [--seed N] [--choices N] [--record FILE] [--trace] [--progress] [--each] [--halves]`: a run under the choices of a seed,
+    /// `solve MODEL LOG [--seed N] [--choices N] [--record FILE] [--order FILE] [--trace] [--progress] [--each] [--halves]`: a run under the choices of a seed,
     /// which is 0 where none is given; they are at most 2^40, which is their number where none is given. Where the model
     /// asks for the best value, a search of such runs, which may put each solution.
     Solve(Solve<'w>),
-    /// `measure MODEL SCHEDULE`: the measures of the run under the choices of the schedule.
+    /// `measure MODEL SCHEDULE [--order FILE]`: the measures of the run under the choices of the schedule.
     Measure(Measure<'w>),
-    /// `survey MODEL COUNT [--from SEED]`: the measures of the runs of so many seeds, from 1 to 1,000,000, the first of
-    /// which is 0 where none is given, and the last of which has 64 bits.
+    /// `survey MODEL COUNT [--from SEED] [--order FILE]`: the measures of the runs of so many seeds, from 1 to 1,000,000,
+    /// the first of which is 0 where none is given, and the last of which has 64 bits.
     Survey(Survey<'w>),
-    /// `story MODEL SCHEDULE FILE`: FILE takes what happens in the run under the choices of the schedule.
+    /// `story MODEL SCHEDULE FILE [--order FILE]`: FILE takes what happens in the run under the choices of the schedule.
     Story(Story<'w>),
-    /// `bound MODEL`: how many messages a run delivers at most.
-    Bound { model: &'w str },
+    /// `bound MODEL [--order FILE]`: how many messages a run delivers at most.
+    Bound(Bound<'w>),
     /// `order MODEL RULE FILE`: FILE takes the order of the model's variables by the rule.
     Order(OrderLine<'w>),
     /// `gen queens N`: the problem of so many queens, from 1 to 200.
@@ -74,6 +74,11 @@ pub enum Request<'w> {
     GenSparse { n: u32, seed: u64 },
     /// `gen binary N D EDGES PAIRS SEED`: a random binary problem, of 1 to 200 variables and 1 to 100 values, of sizes that fit.
     GenBinary { sizes: BinarySizes, seed: u64 },
+    /// `gen meetings PEOPLE MEETINGS EACH HOURS BUSY SEED`: a random problem of meetings, of 1 to 64 people, 1 to 64 meetings
+    /// and 1 to 100 hours, of sizes that fit.
+    GenMeetings { sizes: MeetingSizes, seed: u64 },
+    /// `gen sensors SIDE TARGETS SEES SEED`: a random problem of sensors, of 2 to 16 rows and 1 to 32 targets, of sizes that fit.
+    GenSensors { sizes: SensorSizes, seed: u64 },
     /// `gen pigeons N`: the problem of so many pigeons, from 2 to 200, in one hole less.
     GenPigeons { n: u32 },
     /// `drill SEED`: runs of three generated models under the choices of a seed.
@@ -86,10 +91,10 @@ pub enum Request<'w> {
     /// about it, with comments that tell what its variables say where they are asked for; or where a bound is given,
     /// the refutation of a better value at the model's aim.
     Export(ExportLine<'w>),
-    /// `starve MODEL FROM TO FILE`: FILE takes the choices of the run that delivers from one agent to another, both
-    /// counted from 1 and at most 4,096, only where nothing else is in transit.
+    /// `starve MODEL FROM TO FILE [--order FILE]`: FILE takes the choices of the run that delivers from the agent of one
+    /// variable to that of another, both counted from 1 and at most 4,096, only where nothing else is in transit.
     Starve(Starve<'w>),
-    /// `lossy MODEL LOG EVENTS SEED [--record FILE]`: a run over a medium that loses, repeats and reorders in so many
+    /// `lossy MODEL LOG EVENTS SEED [--record FILE] [--order FILE]`: a run over a medium that loses, repeats and reorders in so many
     /// events, at most 1,000,000, which are drawn from a seed.
     Lossy(Losses<'w>),
     /// `rup CNF PROOF`: whether the proof shows that the formula cannot be satisfied.
@@ -124,12 +129,14 @@ impl Request<'_> {
             Request::Measure(line) => run_measure(alloc, folder, line, out),
             Request::Survey(line) => run_survey(alloc, folder, line, out),
             Request::Story(line) => run_story(alloc, folder, line, out),
-            Request::Bound { model } => run_bound(alloc, folder, model, out),
+            Request::Bound(line) => run_bound(alloc, folder, line, out),
             Request::Order(line) => run_order(alloc, folder, line, out),
             Request::GenQueens { n } => run_queens(alloc, n, out),
             Request::GenColouring { n, k, seed } => run_colouring(alloc, n, k, seed, out),
             Request::GenSparse { n, seed } => run_sparse(alloc, n, seed, out),
             Request::GenBinary { sizes, seed } => run_binary(alloc, sizes, seed, out),
+            Request::GenMeetings { sizes, seed } => run_meetings(alloc, sizes, seed, out),
+            Request::GenSensors { sizes, seed } => run_sensors(alloc, sizes, seed, out),
             Request::GenPigeons { n } => run_pigeons(alloc, n, out),
             Request::Drill { seed } => run_drill(alloc, seed, out),
             Request::Upgrade { log, new } => run_upgrade(alloc, folder, log, new, out),
@@ -178,6 +185,8 @@ fn request_of<'w>(said: &Said<'w>) -> Option<Request<'w>>
         LineName::Sparse => Some(sparse_of(said)),
         LineName::Pigeons => Some(pigeons_of(said)),
         LineName::Binary => binary_of(said),
+        LineName::Meetings => meetings_of(said),
+        LineName::Sensors => sensors_of(said),
         LineName::Drill => Some(drill_of(said)),
         LineName::Cnf => Some(cnf_of(said)),
         LineName::Rup => Some(rup_of(said)),
@@ -197,6 +206,13 @@ fn solve_of<'w>(said: &Said<'w>) -> Request<'w>
     })
 }
 
+/// The name of the order, where one is given.
+fn order_given<'w>(said: &Said<'w>) -> Option<&'w str>
+    ensures { option_copied result ≡ order_at (said_in said.now) }
+{
+    said.setting("--order").given_name()
+}
+
 /// How the run of `solve` is made.
 fn options_of<'w>(said: &Said<'w>) -> Options<'w>
     ensures { settings_of result ≡ settings_at (said_in said.now) }
@@ -206,6 +222,7 @@ fn options_of<'w>(said: &Said<'w>) -> Options<'w>
         seed: said.setting("--seed").given_number().unwrap_or(0),
         choices: choices.unwrap_or(MOST_DELIVERIES),
         record_file: said.setting("--record").given_name(),
+        order_file: order_given(said),
         trace: said.setting("--trace").is_given(),
         progress: said.setting("--progress").is_given(),
         each: said.setting("--each").is_given(),
@@ -221,6 +238,7 @@ fn replay_of<'w>(said: &Said<'w>) -> Request<'w>
         schedule: said.value(1).name(),
         log: said.value(2).name(),
         trace: said.setting("--trace").is_given(),
+        order_file: order_given(said),
     })
 }
 
@@ -279,6 +297,7 @@ fn starve_of<'w>(said: &Said<'w>) -> Request<'w>
         from: said.value(1).number() as u32,
         to: said.value(2).number() as u32,
         file: said.value(3).name(),
+        order_file: order_given(said),
     })
 }
 
@@ -292,6 +311,7 @@ fn lossy_of<'w>(said: &Said<'w>) -> Request<'w>
         events: said.value(2).number() as u32,
         seed: said.value(3).number(),
         record_file: said.setting("--record").given_name(),
+        order_file: said.setting("--order").given_name(),
     })
 }
 
@@ -301,6 +321,7 @@ fn measure_of<'w>(said: &Said<'w>) -> Request<'w>
     Request::Measure(Measure {
         model: said.value(0).name(),
         schedule: said.value(1).name(),
+        order_file: order_given(said),
     })
 }
 
@@ -313,7 +334,12 @@ fn survey_of<'w>(said: &Said<'w>) -> Option<Request<'w>>
     let count = said.value(1).number();
     let from = said.setting("--from").given_number().unwrap_or(0);
     let _last = from.checked_add(count - 1)?;
-    Some(Request::Survey(Survey { model, count, from }))
+    Some(Request::Survey(Survey {
+        model,
+        count,
+        from,
+        order_file: order_given(said),
+    }))
 }
 
 fn story_of<'w>(said: &Said<'w>) -> Request<'w>
@@ -323,15 +349,17 @@ fn story_of<'w>(said: &Said<'w>) -> Request<'w>
         model: said.value(0).name(),
         schedule: said.value(1).name(),
         file: said.value(2).name(),
+        order_file: said.setting("--order").given_name(),
     })
 }
 
 fn bound_of<'w>(said: &Said<'w>) -> Request<'w>
     ensures { line_of result ≡ line_named names.Bound (said_in said.now) }
 {
-    Request::Bound {
+    Request::Bound(Bound {
         model: said.value(0).name(),
-    }
+        order_file: order_given(said),
+    })
 }
 
 fn order_of<'w>(said: &Said<'w>) -> Request<'w>
@@ -414,6 +442,48 @@ fn binary_of<'w>(said: &Said<'w>) -> Option<Request<'w>>
     }
     let seed = said.value(4).number();
     Some(Request::GenBinary { sizes, seed })
+}
+
+fn meetings_of<'w>(said: &Said<'w>) -> Option<Request<'w>>
+    requires people { number_at (said_in said.now) 0 ≤ 64 }
+    requires meetings { number_at (said_in said.now) 1 ≤ 64 }
+    requires each { number_at (said_in said.now) 2 ≤ 64 }
+    requires hours { number_at (said_in said.now) 3 ≤ 100 }
+    requires busy { number_at (said_in said.now) 4 ≤ 99 }
+    ensures some { IfSome result (λ request. IsRequest request (line_named names.Meetings (said_in said.now))) }
+    ensures none { IsNone result → (value_of (line_named names.Meetings (said_in said.now))).within ≡ false }
+{
+    let sizes = MeetingSizes {
+        people: said.value(0).number() as u32,
+        meetings: said.value(1).number() as u32,
+        each: said.value(2).number() as u32,
+        hours: said.value(3).number() as u32,
+        busy: said.value(4).number() as u32,
+    };
+    if !sizes.fit() {
+        return None;
+    }
+    let seed = said.value(5).number();
+    Some(Request::GenMeetings { sizes, seed })
+}
+
+fn sensors_of<'w>(said: &Said<'w>) -> Option<Request<'w>>
+    requires side { number_at (said_in said.now) 0 ≤ 16 }
+    requires targets { number_at (said_in said.now) 1 ≤ 32 }
+    requires sees { number_at (said_in said.now) 2 ≤ 256 }
+    ensures some { IfSome result (λ request. IsRequest request (line_named names.Sensors (said_in said.now))) }
+    ensures none { IsNone result → (value_of (line_named names.Sensors (said_in said.now))).within ≡ false }
+{
+    let sizes = SensorSizes {
+        side: said.value(0).number() as u32,
+        targets: said.value(1).number() as u32,
+        sees: said.value(2).number() as u32,
+    };
+    if !sizes.fit() {
+        return None;
+    }
+    let seed = said.value(3).number();
+    Some(Request::GenSensors { sizes, seed })
 }
 
 fn drill_of<'w>(said: &Said<'w>) -> Request<'w>

@@ -8,7 +8,7 @@ use Rattle.dcsp_outside.specs.Outside.{Place, Fetches, AddsUpTo, gained, handed_
 use Rattle.dcsp_script.specs.Promises.{IsHeld, AreBytesOf}
 use Rattle.dcsp_script.proofs.Fetched.{fetched_held}
 use Rattle.abt_input.specs.declared.error.CommandError.{CommandError}
-use Rattle.abt_input.specs.declared.error.CommandError.TheVariants.{ModelLong, ModelRefused, NoAim, LogLong, LogLine, ScheduleLong, ScheduleLine, Clauses, Fault, Memory}
+use Rattle.abt_input.specs.declared.error.CommandError.TheVariants.{ModelLong, ModelRefused, NoAim, LogLong, LogLine, ScheduleLong, ScheduleLine, OrderRefused, Clauses, Fault, Memory}
 use Rattle.abt_input.specs.Kinds.{FileKind, ReadsAs}
 use Rattle.abt_input.specs.Files.{UnlessFault, HasRead}
 
@@ -56,6 +56,7 @@ unless_fault (Err LogLong) p = p
 unless_fault (Err (LogLine number)) p = p
 unless_fault (Err ScheduleLong) p = p
 unless_fault (Err (ScheduleLine number)) p = p
+unless_fault (Err (OrderRefused error)) p = p
 unless_fault (Err (Clauses error)) p = p
 unless_fault (Err Fault) p = tt
 unless_fault (Err Memory) p = p

@@ -1,7 +1,8 @@
 -- What a line that keeps to its plan comes to: a step for each read, for each thing found, and for the answer.
-use Rattle.std.proofs.Common.{◌≡◌, ℕ, List, [], ◌∷◌, Result, Ok, Err, refl, inl, inr}
+use Rattle.std.proofs.Common.{◌≡◌, ℕ, List, [], ◌∷◌, Option, Some, None, Result, Ok, Err, refl, sym, subst, inl, inr}
 use Rattle.std.specs.Prelude.{IsErr, IsErrAnd}
 use Rattle.dcsp_outside.specs.Outside.{Place, Stream}
+use Rattle.dcsp_rule.specs.Problems.{Contents}
 use Rattle.dcsp_script.specs.declared.stop.Stop.{Stop}
 use Rattle.dcsp_script.specs.declared.stop.Stop.TheVariants as stops
 use Rattle.dcsp_script.specs.Scripts.{Write, World, outside}
@@ -16,11 +17,11 @@ use Rattle.dcsp_script.proofs.Coming.{way_with, came_wrote}
 use Rattle.dcsp_script.proofs.Fetched.{unread_names, fetched_then}
 use Rattle.dcsp_script.proofs.Steps.{came_then}
 use Rattle.abt_input.specs.declared.error.CommandError.{CommandError}
-use Rattle.abt_input.specs.declared.error.CommandError.TheVariants.{ModelLong, ModelRefused, NoAim, LogLong, LogLine, ScheduleLong, ScheduleLine, Clauses, Fault, Memory}
+use Rattle.abt_input.specs.declared.error.CommandError.TheVariants.{ModelLong, ModelRefused, NoAim, LogLong, LogLine, ScheduleLong, ScheduleLine, OrderRefused, Clauses, Fault, Memory}
 use Rattle.abt_input.specs.Errors.{stop_error, way_of, error_status, error_text}
 use Rattle.abt_input.specs.Kinds.{FileKind, IsExact}
-use Rattle.abt_input.specs.Files.{HasRead}
-use Rattle.abt_input.specs.Plans.{Plan, Answer, Read, Find, promise_by, IsSoundPlan}
+use Rattle.abt_input.specs.Files.{HasRead, HasOrderRead, ReadsOrder}
+use Rattle.abt_input.specs.Plans.{Plan, Answer, Read, Find, promise_by, order_then, under_order, IsSoundPlan}
 
 -- where the plan is sound, a line that keeps to it came to this
 pub record Keeps (fetched created : List (List ℕ)) (plan : Plan) (old new : World) (way : Way) : Type 0 where
@@ -95,6 +96,7 @@ module _ (kind : FileKind) (next : kind.Value → Plan) (name : List ℕ) (fetch
   unread (LogLine number) exact h = refused (LogLine number) h.read.0 h.read.1 h.read.2 (exact.final h.read.0 (LogLine number) h.read.2) (did_read p q out h.held h.created h.counts) h.held
   unread ScheduleLong exact h = refused ScheduleLong h.read.0 h.read.1 h.read.2 (exact.final h.read.0 ScheduleLong h.read.2) (did_read p q out h.held h.created h.counts) h.held
   unread (ScheduleLine number) exact h = refused (ScheduleLine number) h.read.0 h.read.1 h.read.2 (exact.final h.read.0 (ScheduleLine number) h.read.2) (did_read p q out h.held h.created h.counts) h.held
+  unread (OrderRefused error) exact h = refused (OrderRefused error) h.read.0 h.read.1 h.read.2 (exact.final h.read.0 (OrderRefused error) h.read.2) (did_read p q out h.held h.created h.counts) h.held
   unread (Clauses error) exact h = refused (Clauses error) h.read.0 h.read.1 h.read.2 (exact.final h.read.0 (Clauses error) h.read.2) (did_read p q out h.held h.created h.counts) h.held
   unread Memory exact h = let x = unread_names q q fetched refl in record { inputs = h.read.0 ∷ x.0; are_held = fetched_then p q q name fetched h.read.0 x.0 h.held h.read.1 x.1; came = inl (did_read p q out h.held h.created h.counts) }
   unread Fault exact h =
@@ -124,3 +126,27 @@ module _ {kind : FileKind} {next : kind.Value → Plan} {name : List ℕ} {fetch
           came = came_then (promise_by (name ∷ fetched) created (Read kind next)) (promise_by fetched created (next value)) (h.read.0 ∷ []) (outside p out) (outside q out) b (did_read p q out h.held h.created h.counts) (λ inputs report i. inr (value, h.read.2, i)) (λ before name i. (value, h.read.2, i)) way x.inputs x.came;
         };
   }
+
+-- ---- an order, where one is named
+
+module _ (next : Option (List ℕ) → Plan) (fetched : List (List ℕ)) {created : List (List ℕ)} {problem : Contents} {p q : Place} {out : Stream} where
+  -- it was not read
+  pub came_unordered : {order_file : Option (List ℕ)} {e : CommandError} (r : Result Status CommandError) → IsErr r × IsErrAnd r (λ y. y ≡ e) → HasOrderRead order_file problem p q (Err e)
+      → Keeps (order_then order_file fetched) created (under_order order_file problem next) (outside p out) (outside q out) (way_of r)
+  came_unordered {order_file = order_file} {e = e} r is h = by order_file h.reads
+    where
+      by : (order_file : Option (List ℕ)) → ReadsOrder order_file problem p q (Err e) → Keeps (order_then order_file fetched) created (under_order order_file problem next) (outside p out) (outside q out) (way_of r)
+      by None h = absurd (let no = h.0 in cc)
+      by (Some name) h = came_unread r is h
+
+  -- the rest was done under it
+  pub came_ordered : {order_file order : Option (List ℕ)} {b : World} {way : Way} → HasOrderRead order_file problem p q (Ok order) → Keeps fetched created (next order) (outside q out) b way
+      → Keeps (order_then order_file fetched) created (under_order order_file problem next) (outside p out) b way
+  came_ordered {order_file = order_file} {order = order} {b = b} {way = way} h k = by order_file order h.reads k
+    where
+      by : (order_file order : Option (List ℕ)) → ReadsOrder order_file problem p q (Ok order) → Keeps fetched created (next order) (outside q out) b way
+          → Keeps (order_then order_file fetched) created (under_order order_file problem next) (outside p out) b way
+      by None None h k = subst (λ (place : Place). Keeps fetched created (next None) (outside place out) b way) h.1 k
+      by None (Some order) h k = absurd (let no = h.0 in cc)
+      by (Some name) None h k = absurd h
+      by (Some name) (Some order) h k = came_read h k

@@ -6,16 +6,18 @@ use Rattle.dcsp_rule.specs.Problems.{Contents}
 use Rattle.fzn_model.proofs.Once.{once}
 use Rattle.ngd_log.proofs.LogLaws.{log_or_bad_line}
 use Rattle.abt_schedule.proofs.ScheduleLaws.{schedule_or_bad_line}
+use Rattle.dcsp_order.proofs.TextAnswered.{one_answer}
+use Rattle.abt_input.specs.declared.order_error.OrderRefusal.TheVariants as orders
 use Rattle.cnf_front.specs.declared.header.CnfError.{CnfError}
 use Rattle.rup_check.specs.declared.reader.ProofError.TheVariants as proofs
 use Rattle.rup_check.proofs.ProofLaws.{accepted, refused}
 use Rattle.dcsp_script.specs.Statuses.{IsFinal}
 use Rattle.abt_input.specs.declared.error.CommandError.{CommandError}
-use Rattle.abt_input.specs.declared.error.CommandError.TheVariants.{ModelLong, ModelRefused, NoAim, LogLong, LogLine, ScheduleLong, ScheduleLine, Clauses, Fault, Memory}
+use Rattle.abt_input.specs.declared.error.CommandError.TheVariants.{ModelLong, ModelRefused, NoAim, LogLong, LogLine, ScheduleLong, ScheduleLine, OrderRefused, Clauses, Fault, Memory}
 use Rattle.abt_input.specs.declared.clauses_error.ClausesError.TheVariants.{CnfLong, CnfRefused, CnfLimit, ProofLong, ProofLine}
-use Rattle.abt_input.specs.Inputs.{most_model, most_log, most_schedule, most_cnf, IsModelOf, IsRefused, IsTextOf, IsBadAt, HasChoices, IsScheduleBadAt, IsFormulaOf, IsCnfRefused, HasClauses, IsProofBadAt}
+use Rattle.abt_input.specs.Inputs.{most_model, most_log, most_schedule, most_cnf, most_order, IsModelOf, IsRefused, IsTextOf, IsBadAt, HasChoices, IsScheduleBadAt, HasOrder, IsOrderBadAt, IsFormulaOf, IsCnfRefused, HasClauses, IsProofBadAt}
 use Rattle.abt_input.proofs.Causes.{HasCause, too_long, refused_for, no_error, one_error, of_causes}
-use Rattle.abt_input.specs.Errors.{IsErrorOfModel, IsErrorOfLog, IsErrorOfSchedule, IsErrorOfCnf, IsErrorOfProof, error_status}
+use Rattle.abt_input.specs.Errors.{IsErrorOfModel, IsErrorOfLog, IsErrorOfSchedule, IsErrorOfOrder, IsErrorOfCnf, IsErrorOfProof, error_status}
 
 -- ---- what an error is, by its two causes
 
@@ -26,6 +28,7 @@ of_model model LogLong h = absurd h
 of_model model (LogLine number) h = absurd h
 of_model model ScheduleLong h = absurd h
 of_model model (ScheduleLine number) h = absurd h
+of_model model (OrderRefused error) h = absurd h
 of_model model NoAim h = absurd h
 of_model model (Clauses error) h = absurd h
 of_model model Fault h = absurd h
@@ -38,6 +41,7 @@ of_log log LogLong h = too_long h refl
 of_log log (LogLine number) h = refused_for number h refl
 of_log log ScheduleLong h = absurd h
 of_log log (ScheduleLine number) h = absurd h
+of_log log (OrderRefused error) h = absurd h
 of_log log NoAim h = absurd h
 of_log log (Clauses error) h = absurd h
 of_log log Fault h = absurd h
@@ -50,10 +54,25 @@ of_schedule schedule LogLong h = absurd h
 of_schedule schedule (LogLine number) h = absurd h
 of_schedule schedule ScheduleLong h = too_long h refl
 of_schedule schedule (ScheduleLine number) h = refused_for number h refl
+of_schedule schedule (OrderRefused error) h = absurd h
 of_schedule schedule NoAim h = absurd h
 of_schedule schedule (Clauses error) h = absurd h
 of_schedule schedule Fault h = absurd h
 of_schedule schedule Memory h = absurd h
+
+of_order : (variables : ℕ) (text : List ℕ) (e : CommandError) → IsErrorOfOrder variables text e → HasCause most_order (OrderRefused orders.Long) (IsOrderBadAt variables) (λ number. OrderRefused (orders.Line number)) text e
+of_order variables text ModelLong h = absurd h
+of_order variables text (ModelRefused error) h = absurd h
+of_order variables text LogLong h = absurd h
+of_order variables text (LogLine number) h = absurd h
+of_order variables text ScheduleLong h = absurd h
+of_order variables text (ScheduleLine number) h = absurd h
+of_order variables text (OrderRefused orders.Long) h = too_long h refl
+of_order variables text (OrderRefused (orders.Line number)) h = refused_for number h refl
+of_order variables text NoAim h = absurd h
+of_order variables text (Clauses error) h = absurd h
+of_order variables text Fault h = absurd h
+of_order variables text Memory h = absurd h
 
 pub data OfCnf (text : List ℕ) (e : CommandError) : Type 0 where
   long_cnf : most_cnf < length text → e ≡ Clauses CnfLong → OfCnf text e
@@ -70,6 +89,7 @@ of_cnf text LogLong h = absurd h
 of_cnf text (LogLine number) h = absurd h
 of_cnf text ScheduleLong h = absurd h
 of_cnf text (ScheduleLine number) h = absurd h
+of_cnf text (OrderRefused error) h = absurd h
 of_cnf text NoAim h = absurd h
 of_cnf text (Clauses CnfLong) h = long_cnf h refl
 of_cnf text (Clauses (CnfRefused error)) h = no_formula error h refl
@@ -86,6 +106,7 @@ of_proof text LogLong h = absurd h
 of_proof text (LogLine number) h = absurd h
 of_proof text ScheduleLong h = absurd h
 of_proof text (ScheduleLine number) h = absurd h
+of_proof text (OrderRefused error) h = absurd h
 of_proof text NoAim h = absurd h
 of_proof text (Clauses CnfLong) h = absurd h
 of_proof text (Clauses (CnfRefused error)) h = absurd h
@@ -163,6 +184,25 @@ one_error_of_schedule schedule e d h k =
 -- which is that of a report
 pub final_error_of_schedule : (schedule : List ℕ) (e : CommandError) → IsErrorOfSchedule schedule e → IsFinal (error_status e)
 final_error_of_schedule schedule e h = of_causes (λ x. IsFinal (error_status x)) (of_schedule schedule e h) tt (λ reason. tt)
+
+-- ---- orders
+
+-- an order's text is that of one order
+pub one_order : (variables : ℕ) (text a b : List ℕ) → HasOrder variables text a → HasOrder variables text b → a ≡ b
+one_order variables text a b h k = (one_answer variables text h.few).one_order a b h.reads k.reads
+
+-- the text of an order has no error
+pub no_error_of_order : (variables : ℕ) (text order : List ℕ) (e : CommandError) → HasOrder variables text order → IsErrorOfOrder variables text e → ⊥
+no_error_of_order variables text order e h k = no_error (of_order variables text e k) h.short (λ number l. (one_answer variables text h.few).not_both order number h.reads l.line)
+
+-- an order has one error
+pub one_error_of_order : (variables : ℕ) (text : List ℕ) (e d : CommandError) → IsErrorOfOrder variables text e → IsErrorOfOrder variables text d → e ≡ d
+one_error_of_order variables text e d h k =
+    one_error (of_order variables text e h) (of_order variables text d k) (λ number l. l.short) (λ m n l k. (one_answer variables text l.few).one_line m n l.line k.line)
+
+-- which is that of a report
+pub final_error_of_order : (variables : ℕ) (text : List ℕ) (e : CommandError) → IsErrorOfOrder variables text e → IsFinal (error_status e)
+final_error_of_order variables text e h = of_causes (λ x. IsFinal (error_status x)) (of_order variables text e h) tt (λ reason. tt)
 
 -- ---- formulas
 

@@ -1,14 +1,18 @@
 -- The promise of a sound plan is lawful, and the line answers whatever its files are where the plan is total.
-use Rattle.std.proofs.Common.{◌≡◌, ℕ, List, [], ◌∷◌, length, sym, ap, subst, ◌∙◌, inl, inr, refl, arith}
+use Rattle.std.proofs.Common.{◌≡◌, ℕ, List, [], ◌∷◌, map, Option, Some, None, length, sym, ap, subst, ◌∙◌, inl, inr, refl, arith}
 use Rattle.std.specs.Prelude.{Contains}
 use Rattle.std.proofs.lemmas.List.Elements.{Contains-append_left, Contains-append_right, Contains-push}
+use Rattle.dcsp_rule.specs.Problems.{Contents}
 use Rattle.dcsp_script.specs.Scripts.{Write}
 use Rattle.dcsp_script.specs.Texts.{Touches}
 use Rattle.dcsp_script.specs.Statuses.{IsFinal, IsRefusal}
 use Rattle.dcsp_script.specs.Promises.{Report, answered, refused}
 use Rattle.dcsp_script.specs.Clauses.{IsLawful}
+use Rattle.dcsp_outside.specs.Outside.{bytes_of}
 use Rattle.abt_input.specs.Errors.{error_status, error_text}
-use Rattle.abt_input.specs.Plans.{Plan, Answer, Read, Find, PlanReports, PlanFetches, promise_by, IsSoundPlan, IsTotalPlan, IsAnswered}
+use Rattle.abt_input.specs.Inputs.{IsOrderIn}
+use Rattle.abt_input.specs.Plans.{Plan, Answer, Read, Find, PlanReports, PlanFetches, promise_by, order_then, under_order, IsSoundPlan, IsTotalPlan, IsAnswered}
+use Rattle.abt_input.proofs.ExactKinds.{order_exact}
 
 never : {A : Type 0} {x : A} → Contains [] x → ⊥
 never (i, below, is) = omega arith
@@ -77,3 +81,17 @@ some (n ∷ f) c (Find Value Is next) o t inputs e = let x = t.0 in let r = some
 
 pub plan_answers : (fetched created : List (List ℕ)) (plan : Plan) → IsSoundPlan fetched created plan → IsTotalPlan plan → IsAnswered (promise_by fetched created plan)
 plan_answers f c plan sound total = some f c plan sound total
+
+-- a plan under an order is sound where what follows is, under any order
+pub ordered_sound : (fetched created : List (List ℕ)) (next : Option (List ℕ) → Plan) (order_file : Option (List ℕ)) (problem : Contents) → ((order : Option (List ℕ)) → IsSoundPlan fetched created (next order))
+    → IsSoundPlan (order_then order_file fetched) created (under_order order_file problem next)
+ordered_sound fetched created next None problem sound = sound None
+ordered_sound fetched created next (Some name) problem sound = (order_exact (length problem.domains), λ order. sound (Some order))
+
+-- and reports what follows under the order that the folder's files have
+pub ordered_reports : (files : List ℕ → Option (List ℕ)) (next : Option (List ℕ) → Plan) (problem : Contents) (order_file order : Option (List ℕ)) (names : List (List ℕ)) (report : Report) → IsOrderIn files order_file problem order
+    → PlanReports (next order) (map (λ name. bytes_of (files name)) names) report → PlanReports (under_order order_file problem next) (map (λ name. bytes_of (files name)) (order_then order_file names)) report
+ordered_reports files next problem None None names report is h = h
+ordered_reports files next problem None (Some order) names report is h = absurd is
+ordered_reports files next problem (Some name) None names report is h = absurd is
+ordered_reports files next problem (Some name) (Some order) names report is h = inr (order, is, h)

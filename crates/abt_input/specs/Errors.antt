@@ -10,10 +10,12 @@ use Rattle.dcsp_script.specs.Runs.{Way, Answered, Refused, Stopped}
 use Rattle.cnf_front.specs.declared.header.CnfError.{CnfError}
 use Rattle.cnf_front.specs.declared.header.CnfError.TheVariants as cnf
 use Rattle.abt_input.specs.ModelTexts.{model_error_text}
+use Rattle.abt_input.specs.OrderErrors.{order_refusal_text}
+use Rattle.abt_input.specs.declared.order_error.OrderRefusal.TheVariants as orders
 use Rattle.abt_input.specs.ClausesErrors.{clauses_status, clauses_text}
-use Rattle.abt_input.specs.Inputs.{most_model, most_log, most_schedule, most_cnf, IsRefused, IsBadAt, IsScheduleBadAt, IsCnfRefused, IsProofBadAt}
+use Rattle.abt_input.specs.Inputs.{most_model, most_log, most_schedule, most_cnf, most_order, IsRefused, IsBadAt, IsScheduleBadAt, IsCnfRefused, IsProofBadAt, IsOrderBadAt}
 use Rattle.abt_input.specs.declared.error.CommandError.{CommandError}
-use Rattle.abt_input.specs.declared.error.CommandError.TheVariants.{ModelLong, ModelRefused, NoAim, LogLong, LogLine, ScheduleLong, ScheduleLine, Clauses, Fault, Memory}
+use Rattle.abt_input.specs.declared.error.CommandError.TheVariants.{ModelLong, ModelRefused, NoAim, LogLong, LogLine, ScheduleLong, ScheduleLine, OrderRefused, Clauses, Fault, Memory}
 use Rattle.abt_input.specs.declared.clauses_error.ClausesError.TheVariants.{CnfLong, CnfRefused, ProofLong, ProofLine}
 
 -- the error of a command that was stopped
@@ -39,6 +41,7 @@ error_status LogLong = statuses.Input
 error_status (LogLine number) = statuses.Input
 error_status ScheduleLong = statuses.Input
 error_status (ScheduleLine number) = statuses.Input
+error_status (OrderRefused error) = statuses.Input
 error_status NoAim = statuses.Model
 error_status (Clauses error) = clauses_status error
 error_status Fault = statuses.Fault
@@ -52,6 +55,7 @@ error_text LogLong = codes "abt: log: too long\n"
 error_text (LogLine number) = codes "abt: log: line " ++ decimal number ++ codes "\n"
 error_text ScheduleLong = codes "abt: schedule: too long\n"
 error_text (ScheduleLine number) = codes "abt: schedule: line " ++ decimal number ++ codes "\n"
+error_text (OrderRefused error) = order_refusal_text error
 error_text NoAim = codes "abt: model: no aim\n"
 error_text (Clauses error) = clauses_text error
 error_text Fault = codes "abt: fault\n"
@@ -65,6 +69,7 @@ IsErrorOfModel model LogLong = ⊥
 IsErrorOfModel model (LogLine number) = ⊥
 IsErrorOfModel model ScheduleLong = ⊥
 IsErrorOfModel model (ScheduleLine number) = ⊥
+IsErrorOfModel model (OrderRefused error) = ⊥
 IsErrorOfModel model NoAim = ⊥
 IsErrorOfModel model (Clauses error) = ⊥
 IsErrorOfModel model Fault = ⊥
@@ -78,6 +83,7 @@ IsErrorOfLog log LogLong = most_log < length log
 IsErrorOfLog log (LogLine number) = IsBadAt log number
 IsErrorOfLog log ScheduleLong = ⊥
 IsErrorOfLog log (ScheduleLine number) = ⊥
+IsErrorOfLog log (OrderRefused error) = ⊥
 IsErrorOfLog log NoAim = ⊥
 IsErrorOfLog log (Clauses error) = ⊥
 IsErrorOfLog log Fault = ⊥
@@ -91,10 +97,17 @@ IsErrorOfSchedule schedule LogLong = ⊥
 IsErrorOfSchedule schedule (LogLine number) = ⊥
 IsErrorOfSchedule schedule ScheduleLong = most_schedule < length schedule
 IsErrorOfSchedule schedule (ScheduleLine number) = IsScheduleBadAt schedule number
+IsErrorOfSchedule schedule (OrderRefused error) = ⊥
 IsErrorOfSchedule schedule NoAim = ⊥
 IsErrorOfSchedule schedule (Clauses error) = ⊥
 IsErrorOfSchedule schedule Fault = ⊥
 IsErrorOfSchedule schedule Memory = ⊥
+
+-- this error is why the order of so many variables is refused
+abbrev pub IsErrorOfOrder : ℕ → List ℕ → CommandError → Type 0
+IsErrorOfOrder variables order (OrderRefused orders.Long) = most_order < length order
+IsErrorOfOrder variables order (OrderRefused (orders.Line number)) = IsOrderBadAt variables order number
+IsErrorOfOrder variables order other = ⊥
 
 -- this error is why the formula is refused
 abbrev pub IsErrorOfCnf : List ℕ → CommandError → Type 0

@@ -1,10 +1,11 @@
 -- What reading a file gives.
-use Rattle.std.specs.Prelude.{◌≡◌, ℕ, ◌<◌, ◌≤◌, List, length, Result, Ok, Err, ⊤}
+use Rattle.std.specs.Prelude.{◌≡◌, ℕ, ◌<◌, ◌≤◌, List, length, Option, Some, None, Result, Ok, Err, ⊤}
 use Rattle.std.specs.declared.vec.Vec.{Vec}
 use Rattle.std.specs.declared.alloc.Global.{Global}
 use Rattle.dcsp_outside.specs.Outside.{Place, SameCounts, Rose}
+use Rattle.dcsp_rule.specs.Problems.{Contents}
 use Rattle.dcsp_script.specs.Promises.{IsFetched}
-use Rattle.abt_input.specs.Kinds.{FileKind, ReadsAs}
+use Rattle.abt_input.specs.Kinds.{FileKind, ReadsAs, an_order}
 use Rattle.abt_input.specs.declared.read.Unread.{Unread}
 use Rattle.abt_input.specs.declared.read.Unread.TheVariants as unread
 use Rattle.abt_input.specs.declared.error.CommandError.{CommandError}
@@ -55,3 +56,14 @@ HasLogBytes log text = (text.items ≡ log) × (length log ≤ most_log)
 -- a log, whatever its bytes say
 abbrev pub any_log : FileKind
 any_log = record { Value = Vec ℕ Global; Is = HasLogBytes; Refuses = IsLongLog }
+
+-- reading the order that is named: as one of the problem's variables; where none is named nothing is done
+abbrev pub ReadsOrder : Option (List ℕ) → Contents → Place → Place → Result (Option (List ℕ)) CommandError → Type 0
+ReadsOrder None problem old new result = (result ≡ Ok None) × (new ≡ old)
+ReadsOrder (Some name) problem old new (Ok None) = ⊥
+ReadsOrder (Some name) problem old new (Ok (Some order)) = HasRead (an_order (length problem.domains)) name old new (Ok order)
+ReadsOrder (Some name) problem old new (Err error) = HasRead (an_order (length problem.domains)) name old new (Err error)
+
+-- the order that is named was read
+pub record HasOrderRead (order_file : Option (List ℕ)) (problem : Contents) (old new : Place) (result : Result (Option (List ℕ)) CommandError) : Type 0 where
+  pub reads : ReadsOrder order_file problem old new result

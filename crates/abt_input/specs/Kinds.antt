@@ -3,8 +3,8 @@ use Rattle.std.specs.Prelude.{◌≡◌, ◌⊎◌, ℕ, ℤ, List, Result, Ok, 
 use Rattle.dcsp_defs.specs.declared.Step.{Step}
 use Rattle.dcsp_rule.specs.Problems.{Contents}
 use Rattle.dcsp_script.specs.Statuses.{IsFinal}
-use Rattle.abt_input.specs.Inputs.{IsModelOf, IsTextOf, HasChoices, IsFormulaOf, HasClauses}
-use Rattle.abt_input.specs.Errors.{IsErrorOfModel, IsErrorOfLog, IsErrorOfSchedule, IsErrorOfCnf, IsErrorOfProof, error_status}
+use Rattle.abt_input.specs.Inputs.{IsModelOf, IsTextOf, HasChoices, HasOrder, IsFormulaOf, HasClauses}
+use Rattle.abt_input.specs.Errors.{IsErrorOfModel, IsErrorOfLog, IsErrorOfSchedule, IsErrorOfOrder, IsErrorOfCnf, IsErrorOfProof, error_status}
 use Rattle.abt_input.specs.declared.error.CommandError.{CommandError}
 use Rattle.abt_input.specs.declared.error.CommandError.TheVariants.{Fault, Memory}
 
@@ -45,6 +45,10 @@ a_log = record { Value = List Step; Is = IsTextOf; Refuses = IsErrorOfLog }
 -- a schedule, of which the choices are taken
 abbrev pub a_schedule : FileKind
 a_schedule = record { Value = List ℕ; Is = HasChoices; Refuses = IsErrorOfSchedule }
+
+-- an order of so many variables
+abbrev pub an_order : ℕ → FileKind
+an_order variables = record { Value = List ℕ; Is = HasOrder variables; Refuses = IsErrorOfOrder variables }
 
 -- a formula, of which the problem is taken
 abbrev pub a_formula : FileKind

@@ -1,6 +1,7 @@
 pub mod ModelTexts
 pub mod Inputs
 pub mod ClausesErrors
+pub mod OrderErrors
 pub mod Errors
 pub mod Kinds
 pub mod Files

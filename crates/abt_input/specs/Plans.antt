@@ -1,5 +1,6 @@
 -- A line of words as a value: which kinds of files it reads, in which order, and what it answers.
-use Rattle.std.specs.Prelude.{◌≡◌, ◌⊎◌, ℕ, List, [], ◌∷◌, length, Contains, ⊤}
+use Rattle.std.specs.Prelude.{◌≡◌, ◌⊎◌, ℕ, List, [], ◌∷◌, length, Contains, Option, Some, None, ⊤}
+use Rattle.dcsp_rule.specs.Problems.{Contents}
 use Rattle.dcsp_script.specs.Scripts.{Write}
 use Rattle.dcsp_script.specs.Texts.{Touches}
 use Rattle.dcsp_script.specs.declared.status.Status.{Status}
@@ -7,7 +8,7 @@ use Rattle.dcsp_script.specs.Statuses.{IsFinal, IsRefusal}
 use Rattle.dcsp_script.specs.Promises.{Report, Promise, answered, refused}
 use Rattle.abt_input.specs.declared.error.CommandError.{CommandError}
 use Rattle.abt_input.specs.Errors.{error_status, error_text}
-use Rattle.abt_input.specs.Kinds.{FileKind, IsExact, IsTotal}
+use Rattle.abt_input.specs.Kinds.{FileKind, IsExact, IsTotal, an_order}
 
 pub data Plan : Type 1 where
   -- it makes this script, and answers with this status
@@ -36,6 +37,18 @@ PlanFetches (Find Value Is next) names before name = (value : Value) × Is value
 -- the promise of a line that keeps to the plan, reads the files under the first names, and creates the others
 abbrev pub promise_by : List (List ℕ) → List (List ℕ) → Plan → Promise
 promise_by fetched created plan = record { fetched = fetched; created = created; Fetches = PlanFetches plan fetched; Reports = PlanReports plan }
+
+-- ---- plans under an order
+
+-- the names of the files behind the model: an order's where one is named, and then these
+abbrev pub order_then : Option (List ℕ) → List (List ℕ) → List (List ℕ)
+order_then None names = names
+order_then (Some order_file) names = order_file ∷ names
+
+-- it goes on under an order of the problem's variables: that of its next file where one is named, else their own
+abbrev pub under_order : Option (List ℕ) → Contents → (Option (List ℕ) → Plan) → Plan
+under_order None problem next = next None
+under_order (Some order_file) problem next = Read (an_order (length problem.domains)) (λ order. next (Some order))
 
 -- ---- plans whose promises are lawful
 

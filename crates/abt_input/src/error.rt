@@ -6,6 +6,7 @@ ghost use Rattle.abt_input.specs.Errors.{cnf_error, model_error, stop_error, err
 use crate::clauses_error::{ClausesError, clauses_line, clauses_status};
 use crate::line::AnswerLine;
 use crate::model_text::model_error_line;
+use crate::order_error::{OrderRefusal, order_refusal_line};
 use cnf_front::CnfError;
 use dcsp_script::{Status, Stop};
 use fzn_model::ModelError;
@@ -28,6 +29,8 @@ pub enum CommandError {
     ScheduleLong,
     /// The text is no schedule, and this is its first bad line, counted from 1.
     ScheduleLine { number: u64 },
+    /// The order of a model's variables was refused.
+    OrderRefused { error: OrderRefusal },
     /// The formula was refused, or the proof about it.
     Clauses { error: ClausesError },
     /// The folder or a stream failed.
@@ -99,7 +102,8 @@ pub fn error_status(error: CommandError) -> Status
         CommandError::LogLong
         | CommandError::LogLine { .. }
         | CommandError::ScheduleLong
-        | CommandError::ScheduleLine { .. } => Status::Input,
+        | CommandError::ScheduleLine { .. }
+        | CommandError::OrderRefused { .. } => Status::Input,
         CommandError::Clauses { error } => clauses_status(error),
         CommandError::Fault => Status::Fault,
         CommandError::Memory => Status::Memory,
@@ -121,6 +125,7 @@ pub fn error_line(error: CommandError) -> AnswerLine
             b"abt: schedule: line ",
             number,
         ),
+        CommandError::OrderRefused { error } => order_refusal_line(error),
         CommandError::Clauses { error } => clauses_line(error),
         CommandError::Fault => AnswerLine::of(b"abt: fault\n"),
         CommandError::Memory => AnswerLine::of(b"abt: memory\n"),

@@ -1,15 +1,19 @@
-//! Reading a model, a log, a schedule, a formula and a proof.
+//! Reading a model, a log, a schedule, an order, a formula and a proof.
 
-ghost use Rattle.std.specs.Prelude.{◌≡◌, Err, IfOk, All};
+ghost use Rattle.std.specs.Prelude.{◌≡◌, ◌≤◌, Err, IfOk, IfSome, All, length, option_copied};
 ghost use Rattle.dcsp_outside.specs.Outside.{Rose, SameCounts};
+ghost use Rattle.dcsp_problem.specs.declared.limits.Which.TheVariants.{Variables};
+ghost use Rattle.dcsp_problem.specs.Limits.{most};
 ghost use Rattle.cnf_front.specs.Clauses.{IsClauseRule};
-ghost use Rattle.abt_input.specs.Kinds.{a_model, a_schedule, a_formula, a_proof};
-ghost use Rattle.abt_input.specs.Files.{HasRead, IsRead, UnlessUnread, any_log};
+ghost use Rattle.abt_input.specs.Kinds.{a_model, a_schedule, an_order, a_formula, a_proof};
+ghost use Rattle.abt_input.specs.Files.{HasOrderRead, HasRead, IsRead, UnlessUnread, any_log};
 
 use crate::clauses_error::ClausesError;
 use crate::error::{CommandError, cnf_error, model_error};
+use crate::order_error::OrderRefusal;
 use abt_schedule::{Listed, ScheduleError, read_schedule};
 use cnf_front::cnf_of;
+use dcsp_order::{Order, OrderError};
 use dcsp_outside::{Fetched, Folder, FolderError};
 use dcsp_problem::Problem;
 use fzn_model::problem_of;
@@ -24,6 +28,9 @@ const MOST_LOG: u64 = 1 << 62;
 
 /// The most bytes of a schedule.
 const MOST_SCHEDULE: u64 = 67_108_864;
+
+/// The most bytes of an order.
+const MOST_ORDER: u64 = 65_536;
 
 /// The most bytes of a formula.
 const MOST_CNF: u64 = 16_777_216;
@@ -114,6 +121,50 @@ pub fn read_choices<F: Folder>(
         Err(Unread::Fault) => Err(CommandError::Fault),
         Err(Unread::Memory) => Err(CommandError::Memory),
     }
+}
+
+/// The order of so many variables under the name. Nothing is written.
+fn read_order<F: Folder>(
+    alloc: Global,
+    folder: &mut F,
+    name: &str,
+    variables: u32,
+) -> Result<Order, CommandError>
+    requires { variables ≤ most Variables }
+    ensures { HasRead (an_order variables) name.now (F.place folder.old) (F.place folder.new) result }
+{
+    match read_file(alloc, folder, name, MOST_ORDER) {
+        Ok(text) => match dcsp_order::read_order(alloc, &text, variables) {
+            Ok(order) => Ok(order),
+            Err(OrderError::Line { number }) => Err(CommandError::OrderRefused {
+                error: OrderRefusal::Line { number },
+            }),
+            Err(OrderError::Memory) => Err(CommandError::Memory),
+        },
+        Err(Unread::Long) => Err(CommandError::OrderRefused {
+            error: OrderRefusal::Long,
+        }),
+        Err(Unread::Fault) => Err(CommandError::Fault),
+        Err(Unread::Memory) => Err(CommandError::Memory),
+    }
+}
+
+/// The order of the problem's variables under the name, where one is named. Nothing is written.
+pub fn read_order_of<F: Folder>(
+    alloc: Global,
+    folder: &mut F,
+    name: Option<&str>,
+    problem: &Problem,
+) -> Result<Option<Order>, CommandError>
+    ensures read { HasOrderRead (option_copied name.entry) problem.now (F.place folder.old) (F.place folder.new) result }
+    ensures fits { IfOk result (λ order. IfSome order (λ numbers. length numbers ≡ length problem.now.domains)) }
+{
+    problem.denotes_csp();
+    let Some(name) = name else {
+        return Ok(None);
+    };
+    let order = read_order(alloc, folder, name, problem.vars())?;
+    Ok(Some(order))
 }
 
 /// The problem of the formula under the name: each of its rules is a clause. Nothing is written.

@@ -22,7 +22,7 @@ use Rattle.abt_measure.proofs.StartLaws.{learned_start}
 
 module _ (P : Contents) (most : ℕ) (answers : ℕ → Option ℕ) (listens : Bool) where
   abbrev pub s : Session
-  s = session_of P most answers [] nothing_told
+  s = session_of None P most answers [] nothing_told
 
   law : Stops s.problem s.most s.choices (run_of s)
   law = stops s.problem s.most s.choices

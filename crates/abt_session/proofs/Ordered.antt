@@ -1,5 +1,5 @@
 -- Whatever part of a run's script was made is in order.
-use Rattle.std.proofs.Common.{◌≡◌, ◌≢◌, ℕ, zero, suc, ◌+◌, ◌-◌, ◌<◌, ◌≤◌, ◌%◌, List, [], ◌∷◌, ◌++◌, length, map, flat_map, take, drop, codes, Option, Some, None, slice_get, Result, refl, sym, ap, subst, ◌∙◌, append_assoc, append-nil, arith, length-append}
+use Rattle.std.proofs.Common.{◌≡◌, ◌≢◌, ℕ, zero, suc, ◌+◌, ◌-◌, ◌<◌, ◌≤◌, ◌%◌, List, [], ◌∷◌, ◌++◌, length, map, flat_map, take, drop, codes, Option, Some, None, slice_get, Result, refl, sym, ap, subst, ◌∙◌, append_assoc, append-nil, arith}
 use Rattle.std.specs.Prelude.{Contains, slice_index}
 use Rattle.std.specs.List.{concat, range_with_len}
 use Rattle.std.specs.Cmp.Lexicographic.{bytes_decides}
@@ -23,7 +23,9 @@ use Rattle.dcsp_script.specs.Texts.{LeavesAlone, OnlyAppends, HoldsPartOf, appen
 use Rattle.dcsp_script.proofs.After.{put_by-append}
 use Rattle.dcsp_script.proofs.Parts.{wrote_part, put_of_part, part_within, part_past, part_leaves, left_alone}
 use Rattle.dcsp_script.proofs.Texts.{appended_by-append, appends_to, part_appends, holds_part}
-use Rattle.abt_session.specs.Traces.{delivery_texts}
+use Rattle.dcsp_order.specs.Told.{steps_told}
+use Rattle.dcsp_order.proofs.Telling.{length-told, told-append}
+use Rattle.abt_session.specs.Traces.{delivery_told, delivery_texts}
 use Rattle.abt_session.specs.Sessions.{Session, run_of, network_after, step_writes, steps_made, delivery_writes, deliveries_write, run_script}
 use Rattle.abt_session.specs.Order.{texts_from, told_of_first, told_text, log_of_first, IsShortOf, IsPast, HoldsAtMost, HoldsAtLeast, KeepsUp, WritesInOrder}
 use Rattle.abt_session.proofs.Places.{at_place, some_at}
@@ -84,7 +86,7 @@ texts_from-append : (s : Session) (number : ℕ) (a b : List Delivery) → texts
 texts_from-append s number [] b = let e : number ≡ number + 0 = omega arith in ap (λ n. texts_from s n b) e
 texts_from-append s number (x ∷ a) b =
     let e : number + 1 + length a ≡ number + suc (length a) = omega arith in
-    let mine = delivery_texts s.telling number (length (network_after s number).steps) x in
+    let mine = delivery_texts s.telling number (length (network_after s number).steps) (delivery_told s.order x) in
     ap (λ l. mine ++ l) (texts_from-append s (number + 1) a b ∙ ap (λ n. texts_from s (number + 1) a ++ texts_from s n b) e)
     ∙ sym (append_assoc mine (texts_from s (number + 1) a) (texts_from s (number + suc (length a)) b))
 
@@ -135,11 +137,11 @@ module _ (s : Session) where
 
   -- from the head of the log on
   abbrev front : ℕ → List Write
-  front n = Append s.log (codes "ngd 1\n") ∷ (step_writes s.log 1 (start s.problem).steps ++ first_writes n)
+  front n = Append s.log (codes "ngd 1\n") ∷ (step_writes s.log 1 (steps_told s.order (start s.problem).steps) ++ first_writes n)
 
   cut : (n : ℕ) → n ≤ (run_of s).net.deliveries → run_script s ≡ (Create s.log ∷ front n) ++ later_writes n
   cut n l =
-      let starts = step_writes s.log 1 (start s.problem).steps in
+      let starts = step_writes s.log 1 (steps_told s.order (start s.problem).steps) in
       let last : List Write = Append s.log (codes "end\n") ∷ [] in
       let later = flat_map (delivery_writes s) (range_with_len n ((run_of s).net.deliveries - n)) in
       let e : (run_of s).net.deliveries ≡ n + ((run_of s).net.deliveries - n) = omega arith in
@@ -175,24 +177,24 @@ module _ (s : Session) where
   fresh k = steps_made s.problem (slice_index s.choices k) (network_after s k)
 
   abbrev fresh_lines : ℕ → List (List ℕ)
-  fresh_lines k = step_lines (length (network_after s k).steps + 1) (fresh k)
+  fresh_lines k = step_lines (length (network_after s k).steps + 1) (steps_told s.order (fresh k))
 
   abbrev told_by : ℕ → List Delivery
-  told_by k = delivery s.problem (slice_index s.choices k) (network_after s k)
+  told_by k = map (delivery_told s.order) (delivery s.problem (slice_index s.choices k) (network_after s k))
 
   -- the texts that tell of it
   abbrev texts_by : ℕ → List (List ℕ)
   texts_by k = flat_map (delivery_texts s.telling (k + 1) (length (deliver s.problem (slice_index s.choices k) (network_after s k)).steps)) (told_by k)
 
   -- what a delivery puts and appends
-  delivery_puts : (k : ℕ) → (m : Made k) → put_by (delivery_writes s k) ≡ concat (delivery_texts s.telling (k + 1) (length (network_after s (k + 1)).steps) m.told)
+  delivery_puts : (k : ℕ) → (m : Made k) → put_by (delivery_writes s k) ≡ concat (delivery_texts s.telling (k + 1) (length (network_after s (k + 1)).steps) (delivery_told s.order m.told))
   delivery_puts k m =
       put_by-append (map (Append s.log) (fresh_lines k)) (map Put (texts_by k))
       ∙ ap (λ l. l ++ put_by (map Put (texts_by k))) (append_lines_put s.log (fresh_lines k))
       ∙ put_texts_put s.log (texts_by k)
-      ∙ ap (λ ds. concat (flat_map (delivery_texts s.telling (k + 1) (length (deliver s.problem (slice_index s.choices k) (network_after s k)).steps)) ds)) m.is_told
-      ∙ ap concat (append-nil (delivery_texts s.telling (k + 1) (length (deliver s.problem (slice_index s.choices k) (network_after s k)).steps) m.told))
-      ∙ ap (λ (x : Network). concat (delivery_texts s.telling (k + 1) (length x.steps) m.told)) (sym m.next)
+      ∙ ap (λ ds. concat (flat_map (delivery_texts s.telling (k + 1) (length (deliver s.problem (slice_index s.choices k) (network_after s k)).steps)) (map (delivery_told s.order) ds))) m.is_told
+      ∙ ap concat (append-nil (delivery_texts s.telling (k + 1) (length (deliver s.problem (slice_index s.choices k) (network_after s k)).steps) (delivery_told s.order m.told)))
+      ∙ ap (λ (x : Network). concat (delivery_texts s.telling (k + 1) (length x.steps) (delivery_told s.order m.told))) (sym m.next)
 
   delivery_appends : (k : ℕ) → appended_by (delivery_writes s k) s.log ≡ concat (fresh_lines k)
   delivery_appends k =
@@ -223,38 +225,41 @@ module _ (s : Session) where
       let first = take n (run_of s).trace in
       let long : n ≤ length (run_of s).trace = let t = law.trace in omega arith in
       let count : 1 + length first ≡ n + 1 = let z = length_first (run_of s).trace n long in omega arith in
-      let mine = delivery_texts s.telling (n + 1) (length (network_after s (n + 1)).steps) m.told in
+      let mine = delivery_texts s.telling (n + 1) (length (network_after s (n + 1)).steps) (delivery_told s.order m.told) in
       ap (λ i. put_by (first_writes i)) e ∙ ap put_by (first_more n) ∙ put_by-append (first_writes n) (delivery_writes s n)
       ∙ ap (λ l. l ++ put_by (delivery_writes s n)) (first_puts n (omega arith)) ∙ ap (λ l. told_of_first s n ++ l) (delivery_puts n m)
       ∙ sym (ap (λ ds. concat (texts_from s 1 ds)) m.traced ∙ ap concat (texts_from-append s 1 first (m.told ∷ [])) ∙ concat-append (texts_from s 1 first) (texts_from s (1 + length first) (m.told ∷ []))
       ∙ ap (λ i. concat (texts_from s 1 first) ++ concat (texts_from s i (m.told ∷ []))) count ∙ ap (λ t. concat (texts_from s 1 first) ++ concat t) (append-nil mine))
       ∙ ap (told_of_first s) (sym e)
 
-  first_appends : (n : ℕ) → n ≤ (run_of s).net.deliveries → concat (step_lines 1 (start s.problem).steps) ++ appended_by (first_writes n) s.log ≡ concat (step_lines 1 (network_after s n).steps)
-  first_appends zero l = append-nil (concat (step_lines 1 (start s.problem).steps))
+  first_appends : (n : ℕ) → n ≤ (run_of s).net.deliveries → concat (step_lines 1 (steps_told s.order (start s.problem).steps)) ++ appended_by (first_writes n) s.log ≡ concat (step_lines 1 (steps_told s.order (network_after s n).steps))
+  first_appends zero l = append-nil (concat (step_lines 1 (steps_told s.order (start s.problem).steps)))
   first_appends (suc n) l =
       let m = made_at n (omega arith) in
       let e : suc n ≡ n + 1 = omega arith in
-      let starts = concat (step_lines 1 (start s.problem).steps) in
-      let here = (network_after s n).steps in
-      let count : 1 + length here ≡ length here + 1 = omega arith in
-      let steps : (network_after s (n + 1)).steps ≡ here ++ fresh n = ap (λ (x : Network). x.steps) m.next ∙ steps_then s.problem (slice_index s.choices n) (network_after s n) in
+      let starts = concat (step_lines 1 (steps_told s.order (start s.problem).steps)) in
+      let here = steps_told s.order (network_after s n).steps in
+      let made = steps_told s.order (fresh n) in
+      let count : 1 + length here ≡ length (network_after s n).steps + 1 = let z = length-told s.order (network_after s n).steps in omega arith in
+      let steps : steps_told s.order (network_after s (n + 1)).steps ≡ here ++ made =
+      ap (λ (x : Network). steps_told s.order x.steps) m.next ∙ ap (steps_told s.order) (steps_then s.problem (slice_index s.choices n) (network_after s n)) ∙ told-append s.order (network_after s n).steps (fresh n)
+      in
       ap (λ i. starts ++ appended_by (first_writes i) s.log) e ∙ ap (λ w. starts ++ appended_by w s.log) (first_more n) ∙ ap (λ l. starts ++ l) (appended_by-append (first_writes n) (delivery_writes s n) s.log)
       ∙ sym (append_assoc starts (appended_by (first_writes n) s.log) (appended_by (delivery_writes s n) s.log)) ∙ ap (λ l. l ++ appended_by (delivery_writes s n) s.log) (first_appends n (omega arith))
       ∙ ap (λ l. concat (step_lines 1 here) ++ l) (delivery_appends n)
-      ∙ sym (ap (λ l. concat (step_lines 1 l)) steps ∙ ap concat (step_lines-append 1 here (fresh n)) ∙ concat-append (step_lines 1 here) (step_lines (1 + length here) (fresh n)) ∙ ap (λ i. concat (step_lines 1 here) ++ concat (step_lines i (fresh n))) count)
-      ∙ ap (λ i. concat (step_lines 1 (network_after s i).steps)) (sym e)
+      ∙ sym (ap (λ l. concat (step_lines 1 l)) steps ∙ ap concat (step_lines-append 1 here made) ∙ concat-append (step_lines 1 here) (step_lines (1 + length here) made) ∙ ap (λ i. concat (step_lines 1 here) ++ concat (step_lines i made)) count)
+      ∙ ap (λ i. concat (step_lines 1 (steps_told s.order (network_after s i).steps))) (sym e)
 
   front_puts : (n : ℕ) → n ≤ (run_of s).net.deliveries → put_by (front n) ≡ told_of_first s n
-  front_puts n l = put_by-append (step_writes s.log 1 (start s.problem).steps) (first_writes n) ∙ ap (λ l. l ++ put_by (first_writes n)) (append_lines_put s.log (step_lines 1 (start s.problem).steps)) ∙ first_puts n l
+  front_puts n l = put_by-append (step_writes s.log 1 (steps_told s.order (start s.problem).steps)) (first_writes n) ∙ ap (λ l. l ++ put_by (first_writes n)) (append_lines_put s.log (step_lines 1 (steps_told s.order (start s.problem).steps))) ∙ first_puts n l
 
   front_only : (n : ℕ) → OnlyAppends (front n) s.log
-  front_only n = (tt, only_appends-append s.log (step_writes s.log 1 (start s.problem).steps) (first_writes n) (append_lines_only s.log (step_lines 1 (start s.problem).steps)) (range_only 0 n))
+  front_only n = (tt, only_appends-append s.log (step_writes s.log 1 (steps_told s.order (start s.problem).steps)) (first_writes n) (append_lines_only s.log (step_lines 1 (steps_told s.order (start s.problem).steps))) (range_only 0 n))
 
   front_appends : (n : ℕ) → n ≤ (run_of s).net.deliveries → appended_by (front n) s.log ≡ log_of_first s n
   front_appends n l =
-      let starts = step_lines 1 (start s.problem).steps in
-      rw ((bytes_decides s.log s.log).1 refl) (ap (λ t. codes "ngd 1\n" ++ t) (appended_by-append (step_writes s.log 1 (start s.problem).steps) (first_writes n) s.log ∙ ap (λ t. t ++ appended_by (first_writes n) s.log) (append_lines s.log starts) ∙ first_appends n l))
+      let starts = step_lines 1 (steps_told s.order (start s.problem).steps) in
+      rw ((bytes_decides s.log s.log).1 refl) (ap (λ t. codes "ngd 1\n" ++ t) (appended_by-append (step_writes s.log 1 (steps_told s.order (start s.problem).steps)) (first_writes n) s.log ∙ ap (λ t. t ++ appended_by (first_writes n) s.log) (append_lines s.log starts) ∙ first_appends n l))
 
   -- of the whole script
   whole_is : run_script s ≡ Create s.log ∷ (front (run_of s).net.deliveries ++ Append s.log (codes "end\n") ∷ [])
@@ -269,13 +274,13 @@ module _ (s : Session) where
       let all : (run_of s).net.deliveries ≤ (run_of s).net.deliveries = omega arith in
       ap put_by whole_is ∙ put_by-append (front d) (Append s.log (codes "end\n") ∷ []) ∙ append-nil (put_by (front d)) ∙ front_puts d all
 
-  whole_appends : appended_by (front (run_of s).net.deliveries ++ Append s.log (codes "end\n") ∷ []) s.log ≡ log_text (run_of s).net.steps
+  whole_appends : appended_by (front (run_of s).net.deliveries ++ Append s.log (codes "end\n") ∷ []) s.log ≡ log_text (steps_told s.order (run_of s).net.steps)
   whole_appends =
       let d = (run_of s).net.deliveries in
       let all : (run_of s).net.deliveries ≤ (run_of s).net.deliveries = omega arith in
       let last : appended_by (Append s.log (codes "end\n") ∷ []) s.log ≡ codes "end\n" = rw ((bytes_decides s.log s.log).1 refl) refl in
       appended_by-append (front d) (Append s.log (codes "end\n") ∷ []) s.log ∙ ap (λ t. t ++ appended_by (Append s.log (codes "end\n") ∷ []) s.log) (front_appends d all) ∙ ap (λ t. log_of_first s d ++ t) last
-      ∙ ap (λ (x : Network). log_text x.steps) (sym law.net)
+      ∙ ap (λ (x : Network). log_text (steps_told s.order x.steps)) (sym law.net)
 
   later_only : (n : ℕ) → OnlyAppends (later_writes n) s.log
   later_only n = only_appends-append s.log (flat_map (delivery_writes s) (range_with_len n ((run_of s).net.deliveries - n))) (Append s.log (codes "end\n") ∷ []) (range_only n ((run_of s).net.deliveries - n)) (tt, tt)
@@ -286,7 +291,7 @@ module _ (s : Session) where
         other,
         (
           other,
-          leaves-append name (step_writes s.log 1 (start s.problem).steps) (deliveries_write s ++ Append s.log (codes "end\n") ∷ []) (append_lines_leave s.log name other (step_lines 1 (start s.problem).steps))
+          leaves-append name (step_writes s.log 1 (steps_told s.order (start s.problem).steps)) (deliveries_write s ++ Append s.log (codes "end\n") ∷ []) (append_lines_leave s.log name other (step_lines 1 (steps_told s.order (start s.problem).steps)))
               (leaves-append name (deliveries_write s) (Append s.log (codes "end\n") ∷ []) (range_leaves name other 0 d) (other, tt)),
         ),
       )
@@ -296,7 +301,7 @@ module _ (s : Session) where
   log_after w file k = rw ((bytes_decides s.log s.log).1 refl) (appends_to w s.log [] k)
 
   -- and a first log is a first part of the whole log
-  pub log_begins : (n : ℕ) → n ≤ (run_of s).net.deliveries → IsPrefixOf (log_of_first s n) (log_text (run_of s).net.steps)
+  pub log_begins : (n : ℕ) → n ≤ (run_of s).net.deliveries → IsPrefixOf (log_of_first s n) (log_text (steps_told s.order (run_of s).net.steps))
   log_begins n l = (
     appended_by (later_writes n) s.log,
     ap (λ t. t ++ appended_by (later_writes n) s.log) (sym (front_appends n l)) ∙ sym (appended_by-append (Create s.log ∷ front n) (later_writes n) s.log)
@@ -304,7 +309,7 @@ module _ (s : Session) where
   )
 
   -- the log after the whole script
-  pub log_whole : (file : Option (List ℕ)) → file_after (run_script s) s.log file ≡ Some (log_text (run_of s).net.steps)
+  pub log_whole : (file : Option (List ℕ)) → file_after (run_script s) s.log file ≡ Some (log_text (steps_told s.order (run_of s).net.steps))
   log_whole file =
       let d = (run_of s).net.deliveries in
       let last : List Write = Append s.log (codes "end\n") ∷ [] in
@@ -317,7 +322,7 @@ module _ (s : Session) where
 
   front_more : (k : ℕ) → front (k + 1) ≡ with_step k ++ map Put (texts_by k)
   front_more k =
-      let starts = step_writes s.log 1 (start s.problem).steps in
+      let starts = step_writes s.log 1 (steps_told s.order (start s.problem).steps) in
       let lines = map (Append s.log) (fresh_lines k) in
       let last = map Put (texts_by k) in
       ap (λ l. Append s.log (codes "ngd 1\n") ∷ l) (ap (λ l. starts ++ l) (first_more k) ∙ sym (append_assoc starts (first_writes k) (lines ++ last)) ∙ sym (append_assoc (starts ++ first_writes k) lines last))
@@ -343,13 +348,13 @@ module _ (s : Session) where
     first_begins n l = (put_by (later_writes n), ap (λ t. t ++ put_by (later_writes n)) (sym (front_puts n l)) ∙ sym (put_by-append (front n) (later_writes n)) ∙ ap put_by (sym (cut n l)) ∙ whole_puts)
 
     module _ (files now : List ℕ → Option (List ℕ)) (holds : FilesAfter part files now) where
-      log_part : HoldsPartOf s.log (log_text (run_of s).net.steps) (Contains (created_by part) s.log) (files s.log) (now s.log)
+      log_part : HoldsPartOf s.log (log_text (steps_told s.order (run_of s).net.steps)) (Contains (created_by part) s.log) (files s.log) (now s.log)
       log_part =
           let d = (run_of s).net.deliveries in
           let body = front d ++ Append s.log (codes "end\n") ∷ [] in
           let only : OnlyAppends (front d ++ Append s.log (codes "end\n") ∷ []) s.log = only_appends-append s.log (front d) (Append s.log (codes "end\n") ∷ []) (front_only d) (tt, tt) in
           let h = holds_part part [] body s.log (files s.log) tt only (subst (λ l. IsPartOf part l) whole_is is_part) in
-          subst (λ f. HoldsPartOf s.log (log_text (run_of s).net.steps) (Contains (created_by part) s.log) (files s.log) f) (sym (holds s.log))
+          subst (λ f. HoldsPartOf s.log (log_text (steps_told s.order (run_of s).net.steps)) (Contains (created_by part) s.log) (files s.log) f) (sym (holds s.log))
           (subst (λ t. HoldsPartOf s.log t (Contains (created_by part) s.log) (files s.log) (file_after part s.log (files s.log))) whole_appends h)
 
       others : (name : List ℕ) → name ≢ s.log → now name ≡ files name

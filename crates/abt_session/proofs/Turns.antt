@@ -1,5 +1,5 @@
 -- The turns of a run's loop.
-use Rattle.std.proofs.Common.{◌≡◌, ℕ, ◌+◌, ◌<◌, ◌≤◌, ◌^◌, Bool, true, false, cond, inl, inr, List, [], ◌∷◌, ◌++◌, take, drop, length, Option, Some, None, slice_get, Result, Ok, Err, refl, sym, ap, subst, ◌∙◌, append_assoc, append-nil, take-append-drop, arith}
+use Rattle.std.proofs.Common.{◌≡◌, ℕ, ◌+◌, ◌<◌, ◌≤◌, ◌^◌, Bool, true, false, cond, inl, inr, List, [], ◌∷◌, ◌++◌, take, length, Option, Some, None, slice_get, Result, Ok, Err, refl, sym, ap, subst, ◌∙◌, append_assoc, append-nil, arith}
 use Rattle.std.specs.Prelude.{IsErr, IsErrAnd, IfOk}
 use Rattle.std.proofs.lemmas.List.{take_all, drop_all}
 use Rattle.dcsp_defs.specs.Csp.{Csp}
@@ -88,16 +88,16 @@ module _ (s : Session) where
     made : k < (run_of s).net.deliveries
     made = is_made s k c h.comes open_ found room
 
-    writes : left_from s k ≡ choice_writes q s.log s.telling ((network_after s k).deliveries + 1) c (network_after s k) ++ left_from s (k + 1)
+    writes : left_from s k ≡ choice_writes s.order q s.log s.telling ((network_after s k).deliveries + 1) c (network_after s k) ++ left_from s (k + 1)
     writes =
         let counted : k ≡ (network_after s k).deliveries = let m = made in sym (law.counted k (omega arith)) in
         first_left s k c h.comes open_ found room
-        ∙ ap (λ n. choice_writes s.problem s.log s.telling (n + 1) c (network_after s k) ++ left_from s (k + 1)) counted
-        ∙ ap (λ x. choice_writes x s.log s.telling ((network_after s k).deliveries + 1) c (network_after s k) ++ left_from s (k + 1)) (sym same)
+        ∙ ap (λ n. choice_writes s.order s.problem s.log s.telling (n + 1) c (network_after s k) ++ left_from s (k + 1)) counted
+        ∙ ap (λ x. choice_writes s.order x s.log s.telling ((network_after s k).deliveries + 1) c (network_after s k) ++ left_from s (k + 1)) (sym same)
 
     -- one delivery more
     pub next_turn : {T : Type 0} (x : T) (network' : NetworkState) (now' : List ℕ) (to_come' : ℕ → Option ℕ) (b' : World)
-        → Wrote (choice_writes q s.log s.telling ((network_after s k).deliveries + 1) c (network_after s k)) b b' (Ok x) → StandsAt network' (deliver q c (network_after s k))
+        → Wrote (choice_writes s.order q s.log s.telling ((network_after s k).deliveries + 1) c (network_after s k)) b b' (Ok x) → StandsAt network' (deliver q c (network_after s k))
         → now' ≡ now ++ kept keep (list_number q c (network_after s k) ∷ []) → ((j : ℕ) → to_come' j ≡ to_come (j + 1)) → Turns s keep (k + 1) network' taken now' answers to_come' a b'
     next_turn x network' now' to_come' b' wrote stands' takes' rest =
         let next : deliver q c (network_after s k) ≡ network_after s (k + 1) =
@@ -116,12 +116,12 @@ module _ (s : Session) where
         }
 
     -- the delivery was stopped
-    turn_stopped : {T U : Type 0} (e : Stop) (r : Result U Stop) (b' : World) → Wrote {T = T} (choice_writes q s.log s.telling ((network_after s k).deliveries + 1) c (network_after s k)) b b' (Err e)
+    turn_stopped : {T U : Type 0} (e : Stop) (r : Result U Stop) (b' : World) → Wrote {T = T} (choice_writes s.order q s.log s.telling ((network_after s k).deliveries + 1) c (network_after s k)) b b' (Err e)
         → IsErr r × IsErrAnd r (λ y. y ≡ e) → Wrote (deliveries_write s) a b' r
     turn_stopped {T = T} e r b' wrote is = left_stopped {T = T} (left_from s (k + 1)) (left_from s k) r writes is h.left wrote
 
     -- what was left of the run then
-    pub cut_off : {T : Type 0} (e : Stop) (r : Result Halt Stop) (network' : NetworkState) (to_come' : ℕ → Option ℕ) (now' : List ℕ) (b' : World) → Wrote {T = T} (choice_writes q s.log s.telling ((network_after s k).deliveries + 1) c (network_after s k)) b b' (Err e) → IsErr r × IsErrAnd r (λ y. y ≡ e)
+    pub cut_off : {T : Type 0} (e : Stop) (r : Result Halt Stop) (network' : NetworkState) (to_come' : ℕ → Option ℕ) (now' : List ℕ) (b' : World) → Wrote {T = T} (choice_writes s.order q s.log s.telling ((network_after s k).deliveries + 1) c (network_after s k)) b b' (Err e) → IsErr r × IsErrAnd r (λ y. y ≡ e)
         → Leaves s (deliveries_write s) keep taken now' answers to_come' network' a b' r
     cut_off {T = T} e r network' to_come' now' b' wrote is = record {
       wrote = turn_stopped {T = T} e r b' wrote is;
@@ -202,18 +202,20 @@ pub with_answers : {s : Session} {keep : Bool} {k : ℕ} {network : NetworkState
 with_answers others h e = record { comes = h.comes; stands = h.stands; left = h.left; takes = h.takes; behind = λ j. e j ∙ h.behind j }
 
 -- the same log, and told in the same way: the same writes
-pub task_writes : (q : Csp) (number c : ℕ) (net : Network) {log same_log : List ℕ} {telling same : Telling} → log ≡ same_log → telling ≡ same → choice_writes q log telling number c net ≡ choice_writes q same_log same number c net
-task_writes q number c net {log} {same_log} {telling} {same} e f = ap (λ l. choice_writes q l telling number c net) e ∙ ap (λ t. choice_writes q same_log t number c net) f
+pub task_writes : (q : Csp) (number c : ℕ) (net : Network) {order same_order : Option (List ℕ)} {log same_log : List ℕ} {telling same : Telling} → order ≡ same_order → log ≡ same_log → telling ≡ same
+    → choice_writes order q log telling number c net ≡ choice_writes same_order q same_log same number c net
+task_writes q number c net {order} {same_order} {log} {same_log} {telling} {same} d e f =
+    ap (λ o. choice_writes o q log telling number c net) d ∙ ap (λ l. choice_writes same_order q l telling number c net) e ∙ ap (λ t. choice_writes same_order q same_log t number c net) f
 
 -- the same numbers are kept
 pub keeps_same : (now new numbers : List ℕ) {keep same : Bool} → keep ≡ same → new ≡ now ++ kept keep numbers → new ≡ now ++ kept same numbers
 keeps_same now new numbers e h = h ∙ ap (λ b. now ++ kept b numbers) e
 
 -- what the loop has after each answer of its choices
-module _ (P : Contents) (most : ℕ) (answers : ℕ → Option ℕ) (log : List ℕ) (telling : Telling) (keep : Bool) (k : ℕ) (network : NetworkState) (taken now : List ℕ) (to_come : ℕ → Option ℕ) (a b : World)
-    (h : Turns (session_of P most answers log telling) keep k network taken now answers to_come a b) (room : k < most) where
+module _ (order : Option (List ℕ)) (P : Contents) (most : ℕ) (answers : ℕ → Option ℕ) (log : List ℕ) (telling : Telling) (keep : Bool) (k : ℕ) (network : NetworkState) (taken now : List ℕ) (to_come : ℕ → Option ℕ) (a b : World)
+    (h : Turns (session_of order P most answers log telling) keep k network taken now answers to_come a b) (room : k < most) where
   abbrev s : Session
-  s = session_of P most answers log telling
+  s = session_of order P most answers log telling
 
   answer_here : slice_get (first_answers most answers) k ≡ to_come 0
   answer_here = let e : k ≡ k + 0 = omega arith in answers_at most answers k room h.comes.chosen ∙ ap answers e ∙ sym (h.behind 0)

@@ -1,5 +1,5 @@
 -- A whole run, from the creation of its log to the log's end.
-use Rattle.std.proofs.Common.{◌≡◌, ℕ, Bool, List, [], ◌∷◌, ◌++◌, codes, Option, Result, Ok, Err, OnOk, refl, ap, subst, ◌∙◌}
+use Rattle.std.proofs.Common.{◌≡◌, ℕ, Bool, List, [], ◌∷◌, ◌++◌, codes, Option, Result, Ok, Err, OnOk, ap, subst, ◌∙◌}
 use Rattle.std.specs.Prelude.{Contains, IsErr, IsErrAnd, IfOk}
 use Rattle.std.proofs.lemmas.List.Elements.{Contains-push}
 use Rattle.dcsp_rule.specs.Problems.{Contents}
@@ -8,10 +8,10 @@ use Rattle.dcsp_script.specs.Scripts.{Append, World}
 use Rattle.dcsp_script.specs.Ways.{Wrote}
 use Rattle.dcsp_script.proofs.Lines.{then_rest, then_stopped}
 use Rattle.abt_network.specs.Standing.{NetworkState}
-use Rattle.abt_session.specs.Sessions.{Session, run_of, begun_script, deliveries_write, run_script}
+use Rattle.abt_session.specs.Sessions.{Session, begun_script, deliveries_write, run_script}
 use Rattle.abt_session.specs.declared.telling.Telling.{Telling}
 use Rattle.abt_session.specs.declared.session.RunTask.{RunTask}
-use Rattle.abt_session.specs.Running.{session_of, session_for}
+use Rattle.abt_session.specs.Running.{order_of, session_of, session_for}
 use Rattle.abt_session.specs.Runners.{Leaves, SameTask}
 use Rattle.abt_session.specs.declared.runner.Halt.{Halt}
 use Rattle.abt_session.specs.declared.runner.Runner.{Runner}
@@ -44,10 +44,11 @@ left_as {s} {t} {keep} {keeps} {taken} {takes} {now} {answers} {to_come} {networ
 -- the same task, the same session
 same_session : (answers : ℕ → Option ℕ) {old mid : Runner} → SameTask old mid → session_for mid.network.problem answers mid.task ≡ session_for old.network.problem answers old.task
 same_session answers {old} {mid} same =
-    ap (λ (p : Contents). session_of p mid.task.most answers mid.task.log.now mid.task.telling) same.problem
-    ∙ ap (λ (n : ℕ). session_of old.network.problem n answers mid.task.log.now mid.task.telling) same.most
-    ∙ ap (λ (l : List ℕ). session_of old.network.problem old.task.most answers l mid.task.telling) same.log
-    ∙ ap (λ (t : Telling). session_of old.network.problem old.task.most answers old.task.log.now t) same.telling
+    ap (λ (p : Contents). session_of (order_of mid.task) p mid.task.most answers mid.task.log.now mid.task.telling) same.problem
+    ∙ ap (λ (n : ℕ). session_of (order_of mid.task) old.network.problem n answers mid.task.log.now mid.task.telling) same.most
+    ∙ ap (λ (l : List ℕ). session_of (order_of mid.task) old.network.problem old.task.most answers l mid.task.telling) same.log
+    ∙ ap (λ (t : Telling). session_of (order_of mid.task) old.network.problem old.task.most answers old.task.log.now t) same.telling
+    ∙ ap (λ (o : Option (List ℕ)). session_of o old.network.problem old.task.most answers old.task.log.now old.task.telling) same.order
 
 -- the same task, the same is left
 pub leaves_as : (answers : ℕ → Option ℕ) {old mid : Runner} {now : List ℕ} {to_come : ℕ → Option ℕ} {network : NetworkState} {a b : World} {r : Result Halt Stop} → SameTask old mid → mid.taken ≡ old.taken
@@ -58,7 +59,7 @@ leaves_as answers {old} {mid} same taken h = left_as (same_session answers {old 
 module _ (s : Session) where
   -- it was stopped before its first delivery
   pub begin_stopped : {T : Type 0} {e : Stop} (keep : Bool) (taken now : List ℕ) (answers : ℕ → Option ℕ) (network : NetworkState) (a b : World) → (r : Result Halt Stop) → IsErr r × IsErrAnd r (λ y. y ≡ e)
-      → Wrote {T = T} (begun_script s.problem s.log) a b (Err e) → Leaves s (run_script s) keep taken now answers answers network a b r
+      → Wrote {T = T} (begun_script s.order s.problem s.log) a b (Err e) → Leaves s (run_script s) keep taken now answers answers network a b r
   begin_stopped {T = T} keep taken now answers network a b r is w = record {
     wrote = then_stopped {T = T} (deliveries_write s ++ Append s.log (codes "end\n") ∷ []) is w;
     finishes = no_result _ r is.0;
@@ -66,7 +67,7 @@ module _ (s : Session) where
 
   -- it was stopped among its deliveries
   pub deliveries_stopped : {T : Type 0} {x : T} {e : Stop} {keep : Bool} {taken now : List ℕ} {answers to_come : ℕ → Option ℕ} {network : NetworkState} {a b c : World} (r : Result Halt Stop) → IsErr r × IsErrAnd r (λ y. y ≡ e)
-      → Wrote {T = T} (begun_script s.problem s.log) a b (Ok x) → Leaves s (deliveries_write s) keep taken now answers to_come network b c (Err e) → Leaves s (run_script s) keep taken now answers to_come network a c r
+      → Wrote {T = T} (begun_script s.order s.problem s.log) a b (Ok x) → Leaves s (deliveries_write s) keep taken now answers to_come network b c (Err e) → Leaves s (run_script s) keep taken now answers to_come network a c r
   deliveries_stopped r is w h = record {
     wrote = then_rest w (then_stopped (Append s.log (codes "end\n") ∷ []) is h.wrote);
     finishes = no_result _ r is.0;
@@ -74,7 +75,7 @@ module _ (s : Session) where
 
   module _ {T U : Type 0} {x : T} {halt : Halt} {keep : Bool} {taken now log : List ℕ} {answers to_come : ℕ → Option ℕ} {network : NetworkState} {a b c d : World} where
     -- its log's end was not written
-    pub tail_stopped : {e : Stop} (r : Result Halt Stop) → IsErr r × IsErrAnd r (λ y. y ≡ e) → Wrote {T = T} (begun_script s.problem s.log) a b (Ok x)
+    pub tail_stopped : {e : Stop} (r : Result Halt Stop) → IsErr r × IsErrAnd r (λ y. y ≡ e) → Wrote {T = T} (begun_script s.order s.problem s.log) a b (Ok x)
         → Leaves s (deliveries_write s) keep taken now answers to_come network b c (Ok halt) → log ≡ s.log → Wrote {T = U} (Append log (codes "end\n") ∷ []) c d (Err e)
         → Leaves s (run_script s) keep taken now answers to_come network a d r
     tail_stopped r is w h same tail = record {
@@ -83,7 +84,7 @@ module _ (s : Session) where
     }
 
     -- it was made whole
-    pub whole_run : {y : U} → Wrote {T = T} (begun_script s.problem s.log) a b (Ok x) → Leaves s (deliveries_write s) keep taken now answers to_come network b c (Ok halt) → log ≡ s.log
+    pub whole_run : {y : U} → Wrote {T = T} (begun_script s.order s.problem s.log) a b (Ok x) → Leaves s (deliveries_write s) keep taken now answers to_come network b c (Ok halt) → log ≡ s.log
         → Wrote {T = U} (Append log (codes "end\n") ∷ []) c d (Ok y) → Leaves s (run_script s) keep taken now answers to_come network a d (Ok halt)
     whole_run w h same tail = record {
       wrote = then_rest w (then_rest h.wrote (wrote_as (ap (λ l. Append l (codes "end\n") ∷ []) same) (record { ended = tail.ended; handed = tail.handed })));

@@ -6,13 +6,14 @@ use Rattle.ngd_log.specs.Logs.{open_log, log_text}
 use Rattle.dcsp_outside.specs.Outside.{IsPrefixOf, Told}
 use Rattle.dcsp_script.specs.Scripts.{World}
 use Rattle.dcsp_script.specs.Texts.{HoldsPartOf}
-use Rattle.abt_session.specs.Traces.{delivery_texts}
+use Rattle.dcsp_order.specs.Told.{steps_told}
+use Rattle.abt_session.specs.Traces.{delivery_told, delivery_texts}
 use Rattle.abt_session.specs.Sessions.{Session, run_of, network_after}
 
 -- the texts that tell of these deliveries of the run, the first of which has this number
 abbrev pub texts_from : Session → ℕ → List Delivery → List (List ℕ)
 texts_from s number [] = []
-texts_from s number (d ∷ deliveries) = delivery_texts s.telling number (length (network_after s number).steps) d ++ texts_from s (number + 1) deliveries
+texts_from s number (d ∷ deliveries) = delivery_texts s.telling number (length (network_after s number).steps) (delivery_told s.order d) ++ texts_from s (number + 1) deliveries
 
 -- all that tells of the run's first deliveries, so many of them
 abbrev pub told_of_first : Session → ℕ → List ℕ
@@ -24,7 +25,7 @@ told_text s = told_of_first s (run_of s).net.deliveries
 
 -- the log's head, and the lines of the steps made at the start and by so many first deliveries
 abbrev pub log_of_first : Session → ℕ → List ℕ
-log_of_first s n = open_log (network_after s n).steps
+log_of_first s n = open_log (steps_told s.order (network_after s n).steps)
 
 -- this many bytes are not all that tells of the first n deliveries
 abbrev pub IsShortOf : Session → ℕ → List ℕ → Type 0
@@ -45,7 +46,7 @@ HoldsAtLeast file text = (held : List ℕ) × IsPrefixOf text held × (file ≡ 
 -- the files of a folder before and after, where `out` gained these bytes of what tells of the run
 pub record KeepsUp (s : Session) (gained : List ℕ) (IsCreated : Type 0) (files now : List ℕ → Option (List ℕ)) : Type 0 where
   -- the log, once created, holds a first part of its text; else it is as before, or holds no bytes
-  pub log_part : HoldsPartOf s.log (log_text (run_of s).net.steps) IsCreated (files s.log) (now s.log)
+  pub log_part : HoldsPartOf s.log (log_text (steps_told s.order (run_of s).net.steps)) IsCreated (files s.log) (now s.log)
   -- every other name is as before
   pub others : (name : List ℕ) → name ≢ s.log → now name ≡ files name
   -- as long as a byte is missing of what tells of the first n deliveries, the log, once created, holds no byte of a step made by a later one

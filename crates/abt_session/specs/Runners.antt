@@ -6,7 +6,7 @@ use Rattle.dcsp_script.specs.Ways.{Wrote}
 use Rattle.abt_defs.specs.Runs as runs
 use Rattle.abt_network.specs.Standing.{NetworkState, StandsAt}
 use Rattle.abt_session.specs.Sessions.{Session, run_of}
-use Rattle.abt_session.specs.Running.{kept}
+use Rattle.abt_session.specs.Running.{kept, order_of}
 use Rattle.abt_session.specs.declared.runner.Halt.{Halt}
 use Rattle.abt_session.specs.declared.runner.Halt.TheVariants as halts
 use Rattle.abt_session.specs.declared.runner.Runner.{Runner}
@@ -38,3 +38,4 @@ pub record SameTask (old new : Runner) : Type 0 where
   pub log : new.task.log.now ≡ old.task.log.now
   pub telling : new.task.telling ≡ old.task.telling
   pub keep : new.task.keep ≡ old.task.keep
+  pub order : order_of new.task ≡ order_of old.task

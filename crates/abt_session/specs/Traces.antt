@@ -2,7 +2,13 @@
 use Rattle.std.specs.Prelude.{ℕ, ◌+◌, ◌%◌, ◌&&◌, ◌==◌, Bool, List, [], ◌∷◌, ◌++◌, Option, Some, None, codes, decimal, if◌then◌else◌}
 use Rattle.std.specs.Fmt.{signed_decimal}
 use Rattle.abt_defs.specs.Runs.{Delivery, Cargo, Value, Step_number, Link}
+use Rattle.dcsp_order.specs.Orders.{number_at}
 use Rattle.abt_session.specs.declared.telling.Telling.{Telling}
+
+-- a delivery in the model's own numbers
+abbrev pub delivery_told : Option (List ℕ) → Delivery → Delivery
+delivery_told None d = d
+delivery_told (Some order) d = record d { sender = number_at order d.sender; receiver = number_at order d.receiver }
 
 -- what a message carries
 abbrev pub cargo_text : Cargo → List ℕ

@@ -6,6 +6,9 @@
 //! as the step is made, and before a line that tells of its delivery is put, so that whatever was seen of
 //! a run has its derivations in the log. A run that starves a link has no log, and nothing tells of its
 //! deliveries: it gives how it ended, and its choices.
+//!
+//! A run may be that of the problem under an order of the model's variables. What is written and put of it, and the values
+//! that it gives, have the model's own numbers.
 #![tactic(auto)]
 
 mod lines;
@@ -14,6 +17,7 @@ mod runner;
 mod session;
 mod starved_run;
 mod telling;
+mod told;
 mod trace;
 
 pub use dcsp_script::Stop as SessionError;
@@ -22,6 +26,7 @@ pub use outcome::{End, Outcome};
 pub use session::{RunTask, run};
 pub use starved_run::{Starved, StarvedEnd, starve};
 pub use telling::Telling;
+pub use told::{begun_told, step_told};
 pub use trace::push_cargo;
 
 /// The most deliveries of a run, as lines that run agents have it.

@@ -1,19 +1,19 @@
 //! What a run gives.
 
-ghost use Rattle.std.specs.Prelude.{◌≡◌, ℕ, ◌<◌, ◌≤◌, map, length, Err, IfOk, OnErr};
-ghost use Rattle.dcsp_defs.specs.Csp.{count};
-ghost use Rattle.dcsp_defs.specs.Words.{below};
-ghost use Rattle.abt_defs.specs.Network.{Network as TheNetwork, values};
+ghost use Rattle.std.specs.Prelude.{◌≡◌, ℕ, ◌<◌, ◌≤◌, length, Err, IfOk, IfSome, OnErr, option_copied};
+ghost use Rattle.abt_defs.specs.Network.{Network as TheNetwork};
 ghost use Rattle.dcsp_rule.specs.Problems.{csp_of};
 ghost use Rattle.abt_network.specs.Standing.{StandsAt};
 ghost use Rattle.abt_session.specs.Runners.{end_of};
-ghost use Rattle.abt_session.specs.Running.{IsOutcome};
+ghost use Rattle.dcsp_order.specs.Told.{place_told, Fits};
+ghost use Rattle.abt_session.specs.Running.{values_of, IsOutcome};
 
 use crate::runner::Halt;
 use abt_network::Network;
 use abt_schedule::ChoiceList;
 use dcsp_common::Memory;
 use dcsp_domain::IntList;
+use dcsp_order::Order;
 use dcsp_problem::Problem;
 use dcsp_script::Stop;
 use std::alloc::Global;
@@ -21,7 +21,7 @@ use std::alloc::Global;
 /// How a run ends.
 #[derive(Debug, Drop)]
 pub enum End {
-    /// Nothing is in transit, and nothing was refuted: these are the values of all variables, in order.
+    /// Nothing is in transit, and nothing was refuted: these are the values of all variables, in the order of their own numbers.
     Solved(IntList),
     /// A step with the empty nogood was made.
     Refuted,
@@ -43,14 +43,32 @@ pub struct Outcome {
     pub numbers: ChoiceList,
 }
 
-/// The values of all agents, in order.
-pub fn values_of(alloc: Global, problem: &Problem, network: &Network) -> Result<IntList, Memory>
-    requires { network.now.problem ≡ problem.now }
-    ensures { (net : TheNetwork) → StandsAt network.now net → IfOk result (λ list. list ≡ map (values net) (below (count (csp_of problem.now)))) }
+/// The place of a variable in the order that a run has.
+fn place_in(order: Option<&Order>, number: u32) -> u32
+    requires { IfSome (option_copied order) (λ numbers. number < length numbers) }
+    ensures place { result ≡ place_told (option_copied order.entry) number }
+    ensures within { (n : ℕ) → IfSome (option_copied order.entry) (λ numbers. length numbers ≡ n) → number < n → result < n }
+{
+    match order {
+        Some(order) => order.place(number),
+        None => number,
+    }
+}
+
+/// The values of all variables, in the order of their own numbers. The problem is the one that is run.
+fn values_of(
+    alloc: Global,
+    problem: &Problem,
+    network: &Network,
+    order: Option<&Order>,
+) -> Result<IntList, Memory>
+    requires run { network.now.problem ≡ problem.now }
+    requires fits { Fits (option_copied order) problem.now }
+    ensures { (net : TheNetwork) → StandsAt network.now net → IfOk result (λ list. list ≡ values_of (option_copied order.entry) (csp_of problem.now) net) }
 {
     let mut list = IntList::new(alloc);
-    for agent in 0..problem.vars() {
-        let value = network.value(agent).unwrap_or(0);
+    for number in 0..problem.vars() {
+        let value = network.value(place_in(order, number)).unwrap_or(0);
         if list.push(value).is_err() {
             return Err(Memory);
         }
@@ -58,22 +76,24 @@ pub fn values_of(alloc: Global, problem: &Problem, network: &Network) -> Result<
     Ok(list)
 }
 
-/// What the run gives that has stopped.
+/// What the run of this problem gives that has stopped.
 pub fn outcome_of(
     alloc: Global,
     problem: &Problem,
     network: &Network,
+    order: Option<&Order>,
     halt: Halt,
     numbers: ChoiceList,
 ) -> Result<Outcome, Stop>
-    requires { network.now.problem ≡ problem.now }
-    ensures gives { (net : TheNetwork) → StandsAt network.now net → IfOk result (IsOutcome (csp_of problem.now) net (end_of halt)) }
+    requires run { network.now.problem ≡ problem.now }
+    requires fits { Fits (option_copied order) problem.now }
+    ensures gives { (net : TheNetwork) → StandsAt network.now net → IfOk result (IsOutcome (option_copied order.entry) (csp_of problem.now) net (end_of halt)) }
     ensures numbers { IfOk result (λ outcome. outcome.numbers ≡ numbers) }
     ensures only_memory { OnErr result (result ≡ Err Stop.Memory) }
 {
     let end = match halt {
         Halt::Solved => {
-            let Ok(list) = values_of(alloc, problem, network) else {
+            let Ok(list) = values_of(alloc, problem, network, order) else {
                 return Err(Stop::Memory);
             };
             End::Solved(list)

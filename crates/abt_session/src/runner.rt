@@ -12,15 +12,17 @@ ghost use Rattle.dcsp_script.specs.Ways.{Wrote};
 ghost use Rattle.ngd_log.specs.StepText.{IsInRange};
 ghost use Rattle.abt_network.specs.Standing.{delivery_of, CanDeliver, StandsAt};
 ghost use Rattle.abt_session.specs.Sessions.{begun_script, choice_writes, deliveries_write, run_script, step_writes, telling_writes};
-ghost use Rattle.abt_session.specs.Running.{kept, session_for, IsOnRun};
+ghost use Rattle.abt_session.specs.Running.{kept, order_of, session_for, IsOnRun};
 
 use crate::lines::{append_begun, append_made, put_delivery};
 use crate::session::RunTask;
+use crate::told::{begun_told, delivery_told};
 use abt_network::{Delivery, Network, Standing};
 use abt_schedule::{ChoiceList, Choices};
 use dcsp_outside::{Folder, Sink};
 use dcsp_script::{Stop, append, create};
 use ngd_log::{HEAD, TAIL};
+use std::alloc::Global;
 
 /// Why a run stopped.
 #[derive(Clone, Copy, Debug, PartialEq, Eq)]
@@ -40,6 +42,7 @@ pub struct Runner<'p, 'w> {
     pub taken: ChoiceList,
     /// Where lines are made.
     pub line: Vec<u8>,
+    pub alloc: Global,
 }
 
 impl<'p, 'w> Runner<'p, 'w> {
@@ -71,7 +74,7 @@ impl<'p, 'w> Runner<'p, 'w> {
     fn begin<F: Folder>(&mut self, folder: &mut F) -> Result<(), Stop>
         requires sound { self.old.network.spent ≡ false }
         requires fresh { self.old.network.begun ≡ false }
-        ensures wrote { (out : Stream) → Wrote (begun_script (csp_of self.old.network.problem) self.old.task.log.now)
+        ensures wrote { (out : Stream) → Wrote (begun_script (order_of self.old.task) (csp_of self.old.network.problem) self.old.task.log.now)
             (outside (F.place folder.old) out) (outside (F.place folder.new) out) result }
         ensures stands { OnOk result (StandsAt self.new.network (start (csp_of self.old.network.problem))) }
         ensures same { SameTask self.old self.new }
@@ -82,8 +85,11 @@ impl<'p, 'w> Runner<'p, 'w> {
     {
         create(folder, self.task.log)?;
         append(folder, self.task.log, HEAD)?;
-        match self.network.start() {
-            Ok(begun) => append_begun(folder, self.task.log, &begun, &mut self.line),
+        let Ok(begun) = self.network.start() else {
+            return Err(Stop::Memory);
+        };
+        match begun_told(self.alloc, self.task.order, begun) {
+            Ok(told) => append_begun(folder, self.task.log, &told, &mut self.line),
             Err(_) => Err(Stop::Memory),
         }
     }
@@ -138,7 +144,7 @@ impl<'p, 'w> Runner<'p, 'w> {
         requires problem { IsProblem self.old.network.problem × IsCsp (csp_of self.old.network.problem) }
         requires on_run { IsOnRun self.old.network }
         ensures wrote { (net : TheNetwork) → StandsAt self.old.network net
-            → Wrote (choice_writes (csp_of self.old.network.problem) self.old.task.log.now self.old.task.telling (net.deliveries + 1) choice net)
+            → Wrote (choice_writes (order_of self.old.task) (csp_of self.old.network.problem) self.old.task.log.now self.old.task.telling (net.deliveries + 1) choice net)
             (outside (F.place folder.old) (S.stream out.old)) (outside (F.place folder.new) (S.stream out.new)) result }
         ensures stands { (net : TheNetwork) → StandsAt self.old.network net
             → OnOk result (StandsAt self.new.network (deliver (csp_of self.old.network.problem) choice net)) }
@@ -150,15 +156,17 @@ impl<'p, 'w> Runner<'p, 'w> {
         ensures created { (F.place folder.new).created ≡ (F.place folder.old).created }
     {
         let number = choice % self.network.ready();
-        let made = self.network.deliver(choice);
-        let Ok(delivery) = &made else {
+        let Ok(delivery) = self.network.deliver(choice) else {
             return Err(Stop::Memory);
         };
-        self.write_made(delivery, folder, out)?;
+        let Ok(told) = delivery_told(self.alloc, self.task.order, delivery) else {
+            return Err(Stop::Memory);
+        };
+        self.write_made(&told, folder, out)?;
         self.take_down(number)
     }
 
-    /// Writes what the last delivery writes.
+    /// Writes what the last delivery writes, of which this is told.
     fn write_made<F: Folder, S: Sink>(
         &mut self,
         delivery: &Delivery,

@@ -1,5 +1,5 @@
 -- What the code looks at is what the facts of an act speak of.
-use Rattle.std.proofs.Common.{◌≡◌, ◌∙◌, ℕ, ℤ, List, [], ◌∷◌, ◌++◌, length, map, replicate, Option, None, refl, ap}
+use Rattle.std.proofs.Common.{◌≡◌, ◌∙◌, ℕ, ℤ, List, [], ◌∷◌, ◌++◌, length, map, replicate, Option, None, refl, sym, ap}
 use Rattle.dcsp_defs.specs.declared.Reason.{Reason}
 use Rattle.dcsp_defs.specs.Csp.{Csp, domain}
 use Rattle.dcsp_rule.specs.Problems.{csp_of}
@@ -11,7 +11,9 @@ use Rattle.abt_agent.specs.States.{State, stands_for}
 use Rattle.abt_story.specs.Facts.{Fact}
 use Rattle.abt_story.specs.Telling.{answers, came_with, drops, enters, facts, learns, makes, named_in, receives, sends, stamp_in, reason, reason_before, rules_out, steps_of, takes}
 use Rattle.abt_story.specs.declared.before.Known.{Known}
+use Rattle.abt_story.specs.Numbers.{facts_told}
 use Rattle.abt_story.specs.Looking.{entered, known_at, reason_in, steps_in}
+use Rattle.abt_story.proofs.Numbers.{answers_stay, drops_stay, facts_append, makes_stay, ruled_stay, takes_stay}
 
 -- what entered the view
 pub learned_is : (named : List ℕ) (before after : Agent) (known : List Known) (view : View) → known ≡ map (known_at before.view) named → view ≡ after.view → entered known view ≡ learns named before after
@@ -43,10 +45,38 @@ none_each values n e = ap (λ k. replicate k None) e ∙ each values
     each [] = refl
     each (v ∷ vs) = ap (λ l. None ∷ l) (each vs)
 
+-- two pieces that are told
+joined : (order : Option (List ℕ)) (xs ys one other : List Fact) → one ≡ facts_told order xs → other ≡ facts_told order ys → one ++ other ≡ facts_told order (xs ++ ys)
+joined order xs ys one other e f = ap (λ l. l ++ other) e ∙ ap (λ l. facts_told order xs ++ l) f ∙ sym (facts_append order xs ys)
+
 -- all facts of an act, from what the code tells of each kind
-pub facts_are : (p : Csp) (made : Option ℕ) (a : Act) (received learned dropped answered ruled taken sent : List Fact)
-    → received ≡ receives (came_with a.came) → learned ≡ learns (named_in a.came) a.before a.after → dropped ≡ drops (steps_of a.before) (steps_of a.after)
+pub facts_are : (order : Option (List ℕ)) (p : Csp) (made : Option ℕ) (a : Act) (received learned dropped answered ruled taken sent : List Fact)
+    → received ≡ receives (came_with a.came) → learned ≡ learns (named_in order a.came) a.before a.after → dropped ≡ drops (steps_of a.before) (steps_of a.after)
     → answered ≡ answers (came_with a.came) (steps_of a.after) → ruled ≡ rules_out (domain p a.agent) (reason_before p a.agent a.came a.before) (reason p a.agent a.after)
     → taken ≡ takes a.before.stamp a.after.stamp a.after.value → sent ≡ sends a.sent
-    → received ++ learned ++ dropped ++ answered ++ ruled ++ taken ++ makes made ++ sent ≡ facts p made a
-facts_are p made a received learned dropped answered ruled taken sent e1 e2 e3 e4 e5 e6 e7 = cc
+    → facts_told order received ++ facts_told order learned ++ dropped ++ answered ++ ruled ++ taken ++ makes made ++ facts_told order sent ≡ facts_told order (facts order p made a)
+facts_are order p made a received learned dropped answered ruled taken sent e1 e2 e3 e4 e5 e6 e7 =
+    let r = receives (came_with a.came) in
+    let l = learns (named_in order a.came) a.before a.after in
+    let d = drops (steps_of a.before) (steps_of a.after) in
+    let n = answers (came_with a.came) (steps_of a.after) in
+    let o = rules_out (domain p a.agent) (reason_before p a.agent a.came a.before) (reason p a.agent a.after) in
+    let t = takes a.before.stamp a.after.stamp a.after.value in
+    let m = makes made in
+    let s = sends a.sent in
+    let f = facts_told order in
+    let one : f received ≡ f r = ap f e1 in
+    let two : f learned ≡ f l = ap f e2 in
+    let three : dropped ≡ f d = e3 ∙ sym (drops_stay order (steps_of a.before) (steps_of a.after)) in
+    let four : answered ≡ f n = e4 ∙ sym (answers_stay order (came_with a.came) (steps_of a.after)) in
+    let five : ruled ≡ f o = e5 ∙ sym (ruled_stay order (domain p a.agent) (reason_before p a.agent a.came a.before) (reason p a.agent a.after)) in
+    let six : taken ≡ f t = e6 ∙ sym (takes_stay order a.before.stamp a.after.stamp a.after.value) in
+    let seven : m ≡ f m = sym (makes_stay order made) in
+    let eight : f sent ≡ f s = ap f e7 in
+    joined order (r ++ l ++ d ++ n ++ o ++ t ++ m) s _ _
+    (joined order (r ++ l ++ d ++ n ++ o ++ t) m _ _
+    (joined order (r ++ l ++ d ++ n ++ o) t _ _
+    (joined order (r ++ l ++ d ++ n) o _ _
+    (joined order (r ++ l ++ d) n _ _
+    (joined order (r ++ l) d _ _
+    (joined order r l _ _ one two) three) four) five) six) seven) eight

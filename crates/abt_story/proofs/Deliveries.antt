@@ -13,6 +13,8 @@ use Rattle.abt_defs.specs.Runs as runs
 use Rattle.abt_defs.specs.Runs.{cargo_of, delivery_at, head_on}
 use Rattle.law_agent.proofs.Runs.{In-pairs}
 use Rattle.law_runs.proofs.NextActs.{after_is, choice_is, has_head, next_act}
+use Rattle.dcsp_order.specs.Told.{number_told}
+use Rattle.abt_story.specs.Numbers.{facts_told, lines_told}
 use Rattle.abt_story.specs.Telling.{delivery_lines, facts, sends, step_between}
 use Rattle.abt_story.proofs.Runs.{Chosen, lines_are, none_between, some_between, steps_are, o as outcome_of}
 use Rattle.abt_parts.specs.declared.message.Message.{Message as TheMessage}
@@ -73,8 +75,8 @@ module _ (s : NetworkState) (choices : List ℕ) (st : StandsAt s (reached s cho
   abbrev pub a : Act
   a = next_act p net c k i head.message head.rest chosen head.is
 
-  pub told : lines_text (delivery_lines p c net) ≡ facts_text next.deliveries i (facts p (step_between net next) a)
-  told = ap lines_text (lines_are p c net seat) ∙ lines_are_facts next.deliveries i (facts p (step_between net next) a)
+  pub told : (order : Option (List ℕ)) → lines_text (delivery_lines order p c net) ≡ facts_text next.deliveries (number_told order i) (facts_told order (facts order p (step_between net next) a))
+  told order = ap (λ l. lines_text (lines_told order l)) (lines_are p c net seat order) ∙ lines_are_facts order next.deliveries i (facts order p (step_between net next) a)
 
   step_is : (x : Option Step) → (outcome_of p c net seat).step ≡ x → numbered (next_number net) x ≡ step_between net next
   step_is None e = sym (none_between p c net seat e)

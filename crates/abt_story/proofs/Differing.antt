@@ -1,21 +1,22 @@
 -- Runs with different deliveries have different stories.
-use Rattle.std.proofs.Common.{◌≡◌, ◌∙◌, ℕ, zero, suc, ◌+◌, ◌<◌, ◌≤◌, ◌^◌, false, List, [], ◌∷◌, length, slice_get, slice_index, take, Option, Some, None, inl, refl, sym, ap, subst, arith, codes, FitsSigned, ◌++◌}
-use Rattle.std.specs.Int.{w64}
+use Rattle.std.proofs.Common.{◌≡◌, ◌∙◌, ℕ, zero, suc, ◌<◌, ◌≤◌, ◌^◌, false, List, [], ◌∷◌, length, map, slice_get, slice_index, take, Option, Some, None, inl, refl, sym, ap, subst, arith, codes, ◌++◌}
 use Rattle.std.specs.List.{AllByRecursion}
 use Rattle.dcsp_defs.specs.Words.{In}
 use Rattle.dcsp_defs.specs.Csp.{Csp, IsCsp, count}
 use Rattle.abt_defs.specs.Agents.{Announce, Refuse, Add_link, Message}
-use Rattle.abt_defs.specs.Network.{Network}
-use Rattle.abt_defs.specs.Runs.{Delivery, cargo_of, delivery, delivery_at, head_on, whole}
-use Rattle.law_runs.specs.Deliverable.{AreTwoAgents, Deliverable, IsDeliverable}
+use Rattle.abt_defs.specs.Runs.{Delivery, cargo_of, delivery_at, head_on, whole}
+use Rattle.law_runs.specs.Deliverable.{AreTwoAgents, IsDeliverable}
 use Rattle.law_runs.specs.Stops.{after, Stops}
 use Rattle.law_runs.proofs.Joins.{links_join}
 use Rattle.law_runs.proofs.SizeRuns.{sizes_hold}
 use Rattle.law_runs.proofs.Stopping.{stops}
 use Rattle.law_runs.proofs.Takes.{all_deliverable}
+use Rattle.abt_session.specs.Traces.{delivery_told}
+use Rattle.abt_story.specs.Numbers.{IsOrderIn}
 use Rattle.abt_story.specs.Differing.{HasNames, StoriesDiffer}
 use Rattle.abt_story.specs.Retelling.{deliveries_in, lines_of}
 use Rattle.abt_story.proofs.Bytes.{lines_differ, CargoFits, Fits}
+use Rattle.abt_story.proofs.Numbers.{told_low, told_once}
 use Rattle.abt_story.proofs.Once.{once_holds, steps_in}
 use Rattle.abt_story.proofs.Runs.{Chosen, find_chosen, next_is}
 use Rattle.abt_story.proofs.Traces.{deliveries_are_told}
@@ -69,27 +70,65 @@ module _ (p : Csp) (ok : IsCsp p) (names : HasNames p) (most : ℕ) (small : mos
           let few = steps in omega arith
       by_message Add_link e = tt
 
+  -- the delivery with number k
+  record Place (k : ℕ) (d : Delivery) : Type 0 where
+    inside : k < (whole p most choices).net.deliveries
+    seat : Chosen p (slice_index choices k) (after p choices k)
+    alive : (after p choices k).refuted ≡ false
+    same : record { sender = seat.sender; receiver = seat.receiver; cargo = cargo_of seat.message } ≡ d
+
+  place_of : (k : ℕ) (d : Delivery) → slice_get (whole p most choices).trace k ≡ Some d → Place k d
+  place_of k d e =
+      let law : Stops p most choices (whole p most choices) = stops p most choices in
+      let long = law.trace in
+      let inside = within (whole p most choices).trace k d e in
+      let l : k < (whole p most choices).net.deliveries = omega arith in
+      let n = next_is p most choices k l in
+      let net = after p choices k in
+      let s = find_chosen p (slice_index choices k) net n.made n.is_made in
+      record {
+        inside = l;
+        seat = s;
+        alive = n.alive;
+        same = head (sym (ap (λ x. delivery_at x net) s.chosen ∙ ap (head_on s.sender s.receiver) s.head) ∙ n.is_made) ∙ one (sym n.traced ∙ e);
+      }
+
   trace_fits : AllByRecursion Fits (whole p most choices).trace
-  trace_fits = each_is Fits (whole p most choices).trace at
-    where
-      at : (k : ℕ) (d : Delivery) → slice_get (whole p most choices).trace k ≡ Some d → Fits d
-      at k d e =
-          let law : Stops p most choices (whole p most choices) = stops p most choices in
-          let long = law.trace in
-          let inside = within (whole p most choices).trace k d e in
-          let l : k < (whole p most choices).net.deliveries = omega arith in
-          let n = next_is p most choices k l in
-          let net = after p choices k in
-          let s = find_chosen p (slice_index choices k) net n.made n.is_made in
-          let same : record { sender = s.sender; receiver = s.receiver; cargo = cargo_of s.message } ≡ d =
-          head (sym (ap (λ x. delivery_at x net) s.chosen ∙ ap (head_on s.sender s.receiver) s.head) ∙ n.is_made) ∙ one (sym n.traced ∙ e) in
-          subst Fits same (fits k l s n.alive)
+  trace_fits = each_is Fits (whole p most choices).trace (λ k d e. let x = place_of k d e in subst Fits x.same (fits k x.inside x.seat x.alive))
 
-  told_fits : AllByRecursion Fits (deliveries_in (lines_of p choices (whole p most choices)))
-  told_fits = subst (AllByRecursion Fits) (sym (deliveries_are_told p most choices)) trace_fits
+  -- its agents are those of the problem
+  abbrev IsLow : Delivery → Type 0
+  IsLow d = (d.sender < count p) × (d.receiver < count p)
 
-pub stories_differ : (p : Csp) → StoriesDiffer p
-stories_differ p ok names most small choices others rest more e =
-    sym (deliveries_are_told p most choices)
-    ∙ lines_differ (lines_of p choices (whole p most choices)) (lines_of p others (whole p most others)) (codes "nd " ++ rest) (codes "nd " ++ more) (told_fits p ok names most small choices) (told_fits p ok names most small others) e
-    ∙ deliveries_are_told p most others
+  low_at : (k : ℕ) (d : Delivery) → slice_get (whole p most choices).trace k ≡ Some d → IsLow d
+  low_at k d e =
+      let x = place_of k d e in
+      let there : In x.seat.message ((after p choices k).links x.seat.sender x.seat.receiver) = subst (In x.seat.message) (sym x.seat.head) (inl refl) in
+      let two = links_join p ok (take k choices) x.seat.sender x.seat.receiver x.seat.message there in
+      subst IsLow x.same (two.sender, two.receiver)
+
+  moved_fits : (order : List ℕ) → IsOrderIn (Some order) p → (d : Delivery) → IsLow d → Fits d → Fits (delivery_told (Some order) d)
+  moved_fits order h d low f = record {
+    sender = (let a = told_low (Some order) p h d.sender low.0 in let b = names.few in omega arith);
+    receiver = (let a = told_low (Some order) p h d.receiver low.1 in let b = names.few in omega arith);
+    cargo = f.cargo;
+  }
+
+  renumbered : (order : List ℕ) → IsOrderIn (Some order) p → (ds : List Delivery) → AllByRecursion IsLow ds → AllByRecursion Fits ds → AllByRecursion Fits (map (delivery_told (Some order)) ds)
+  renumbered order h [] low f = tt
+  renumbered order h (d ∷ ds) low f = (moved_fits order h d low.0 f.0, renumbered order h ds low.1 f.1)
+
+  -- and so they are in its lines
+  trace_low : AllByRecursion IsLow (whole p most choices).trace
+  trace_low = each_is IsLow (whole p most choices).trace low_at
+
+  told_fits : (order : Option (List ℕ)) → IsOrderIn order p → AllByRecursion Fits (deliveries_in (lines_of order p choices (whole p most choices)))
+  told_fits None h = subst (AllByRecursion Fits) (sym (deliveries_are_told None p most choices)) trace_fits
+  told_fits (Some order) h = subst (AllByRecursion Fits) (sym (deliveries_are_told (Some order) p most choices)) (renumbered order h (whole p most choices).trace trace_low trace_fits)
+
+pub stories_differ : (order : Option (List ℕ)) (p : Csp) → StoriesDiffer order p
+stories_differ order p ok h names most small choices others rest more e =
+    told_once order p h (whole p most choices).trace (whole p most others).trace
+    (sym (deliveries_are_told order p most choices)
+    ∙ lines_differ (lines_of order p choices (whole p most choices)) (lines_of order p others (whole p most others)) (codes "nd " ++ rest) (codes "nd " ++ more) (told_fits p ok names most small choices order h) (told_fits p ok names most small others order h) e
+    ∙ deliveries_are_told order p most others)

@@ -1,11 +1,10 @@
 -- Folds over lines.
-use Rattle.std.proofs.Common.{◌≡◌, ◌≢◌, ◌∙◌, ℕ, Bool, true, false, cond, List, [], ◌∷◌, ◌++◌, ◌==◌, map, Option, Some, None, refl, sym, ap, eq-eqb, append-nil, append_assoc}
+use Rattle.std.proofs.Common.{◌≡◌, ◌≢◌, ◌∙◌, ℕ, cond, List, [], ◌∷◌, ◌++◌, refl, ap, eq-eqb}
 use Rattle.std.proofs.lemmas.Bool.{ne_eqb}
-use Rattle.std.specs.List.{flat_map}
 use Rattle.abt_defs.specs.Runs.{Cargo}
 use Rattle.abt_story.specs.Facts.{Fact, Line}
 use Rattle.abt_story.specs.Telling.{lines}
-use Rattle.abt_story.specs.Retelling.{by_line, delivery_of, deliveries_in, fold, list_after, list_by, list_told, retold}
+use Rattle.abt_story.specs.Retelling.{by_line, fold, list_after, list_by, list_told, retold}
 
 pub fold_append : {X : Type 0} (change : Fact → X → X) (x : X) (fs gs : List Fact) → fold change x (fs ++ gs) ≡ fold change (fold change x fs) gs
 fold_append change x [] gs = refl

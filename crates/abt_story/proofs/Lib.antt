@@ -3,6 +3,8 @@ pub mod Carrying
 pub mod Deliveries
 pub mod Starts
 pub mod Deeds
+pub mod Numbers
+pub mod Named
 pub mod Folds
 pub mod Segments
 pub mod Outcomes

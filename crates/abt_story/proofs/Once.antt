@@ -1,16 +1,16 @@
 -- The nogood of a step comes to an agent once: while it is in transit, the agent has recorded none of that step.
-use Rattle.std.proofs.Common.{◌≡◌, ◌≢◌, ◌∙◌, ℕ, ◌+◌, ◌%◌, ◌<◌, ◌≤◌, Bool, true, false, cond, not, ◌&&◌, ◌⊎◌, inl, inr, List, [], ◌∷◌, ◌++◌, ◌==◌, filter, length, map, slice_get, Option, Some, None, option_to_list, refl, sym, ap, subst, arith, append-nil, length-append, ℤ}
+use Rattle.std.proofs.Common.{◌≡◌, ◌∙◌, ℕ, ◌+◌, ◌%◌, ◌<◌, ◌≤◌, true, false, cond, not, ◌&&◌, ◌⊎◌, inl, inr, List, [], ◌∷◌, ◌++◌, ◌==◌, filter, length, map, slice_get, Option, Some, None, option_to_list, refl, sym, ap, subst, arith, append-nil, length-append, ℤ}
 use Rattle.std.proofs.lemmas.Bool.Decides.{eqb_tells}
 use native.Mathlib.Decide.{dec_lt}
 use Rattle.dcsp_defs.specs.declared.Step.{Step}
-use Rattle.dcsp_defs.specs.Words.{In, below, update}
+use Rattle.dcsp_defs.specs.Words.{In, below}
 use Rattle.dcsp_defs.specs.Csp.{Csp, count}
-use Rattle.dcsp_defs.proofs.Lists.{In-split, In-left}
-use Rattle.abt_defs.specs.Agents.{Agent, Announce, Refuse, Add_link, Message, Record, Stamped, StampedNogood, lowest, plain}
+use Rattle.dcsp_defs.proofs.Lists.{In-split}
+use Rattle.abt_defs.specs.Agents.{Agent, Announce, Refuse, Add_link, Message, Record, StampedNogood, lowest, plain}
 use Rattle.abt_defs.specs.Reasons.{derived, step_of}
 use Rattle.abt_defs.specs.Steps.{Outcome, choice, first_sent, heed, is_free, is_newer, is_news, learn, own_value, receive, refuse, settle, stay, take_or_refuse, to_each, unlinked}
 use Rattle.abt_defs.specs.Network.{Network, acted, deliver, deliver_at, deliver_head, left, next_number, ready, run, sent_to, start}
-use Rattle.law_runs.specs.Starts.{first_outcome, settled_in, StartsWith}
+use Rattle.law_runs.specs.Starts.{settled_in, StartsWith}
 use Rattle.law_runs.proofs.Starting.{starts_in_order}
 use Rattle.abt_story.specs.Telling.{steps_of}
 use Rattle.abt_story.proofs.Records.{HasNew, receive_records}

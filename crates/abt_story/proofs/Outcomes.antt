@@ -1,15 +1,14 @@
 -- What an event makes of an agent.
-use Rattle.std.proofs.Common.{◌≡◌, ◌∙◌, ℕ, ℤ, ◌+◌, ◌<◌, Bool, true, false, cond, not, ◌&&◌, ◌⊎◌, inl, inr, List, [], ◌∷◌, ◌++◌, ◌==◌, map, Option, Some, None, refl, sym, ap, arith, nat_lt}
+use Rattle.std.proofs.Common.{◌≡◌, ◌∙◌, ℕ, ℤ, ◌+◌, Bool, true, false, cond, not, ◌&&◌, ◌⊎◌, inl, inr, List, [], ◌∷◌, ◌++◌, map, Option, Some, None, refl, sym, ap, arith, nat_lt}
 use Rattle.dcsp_defs.specs.declared.Step.{Step}
 use Rattle.dcsp_defs.specs.Words.{In, update}
 use Rattle.std.proofs.lemmas.Bool.Decides.{eqb_tells, nat_tests}
-use Rattle.dcsp_defs.specs.Csp.{Csp, Nogood}
-use Rattle.abt_defs.specs.Agents.{Agent, Announce, Refuse, Add_link, Message, Record, Stamped, StampedNogood, View, plain}
+use Rattle.dcsp_defs.specs.Csp.{Csp}
+use Rattle.abt_defs.specs.Agents.{Agent, Announce, Refuse, Add_link, Message, Record, Stamped, StampedNogood, plain}
 use Rattle.abt_defs.specs.Reasons.{derived, step_of}
-use Rattle.abt_defs.specs.Steps.{Outcome, ask, choice, first_sent, forget, heed, is_free, is_newer, is_news, keep, learn, learn_all, receive, refuse, settle, stay, take_or_refuse, take_value, to_each, unlinked, fits, is_refused}
+use Rattle.abt_defs.specs.Steps.{Outcome, ask, choice, first_sent, forget, heed, is_free, is_newer, is_news, keep, learn, learn_all, receive, refuse, settle, stay, take_or_refuse, to_each, unlinked, fits, is_refused}
 use Rattle.dcsp_defs.specs.Pairs.{value_at}
 use Rattle.abt_defs.specs.Network.{is_empty}
-use Rattle.abt_defs.specs.Runs.{Cargo, Link, Step_number, Value, cargo_of}
 use Rattle.abt_story.specs.Telling.{is_later, named_by, stamp_in}
 
 -- ---- value, stamp and mark
@@ -123,7 +122,7 @@ learn_enters k s a j = by_test (is_newer (a.view k) s.stamp) refl
       | inr u ↦ inl (ap (λ b. cond b (Some s) (a.view j)) u.0)
     ]
 
-weaken : (A B : Type 0) (x y : Option Stamped) → (A → B) → Enters A x y → Enters B x y
+pub weaken : (A B : Type 0) (x y : Option Stamped) → (A → B) → Enters A x y → Enters B x y
 weaken A B x y f (inl e) = inl e
 weaken A B x y f (inr (a, s, e, l)) = inr (f a, s, e, l)
 
@@ -149,7 +148,7 @@ kept_view : (i : ℕ) (x : Record) (b : Agent) → (keep i x b).view ≡ b.view
 kept_view i x b = elim (fits i x.pairs b && not (is_refused i b.recorded (value_at x.pairs i))) as (λ t. (cond t (record b { recorded = b.recorded ++ x ∷ [] }) b).view ≡ b.view) [ true ↦ refl | false ↦ refl ]
 
 -- what enters the view is newer, and of an agent that the message names
-pub receive_enters : (p : Csp) (i number : ℕ) (a : Agent) (k : ℕ) (m : Message) (j : ℕ) → Enters (In j (named_by k m)) (a.view j) ((receive p i number a k m).agent.view j)
+pub receive_enters : (p : Csp) (i number : ℕ) (a : Agent) (k : ℕ) (m : Message) (j : ℕ) → Enters (In j (named_by None k m)) (a.view j) ((receive p i number a k m).agent.view j)
 receive_enters p i number a k (Announce s) j = by_test (is_newer (a.view k) s.stamp) refl
   where
     by_test : (t : Bool) → is_newer (a.view k) s.stamp ≡ t → Enters ((j ≡ k) ⊎ ⊥) (a.view j) ((cond t (settle p i number (learn k s a)) (stay a)).agent.view j)

@@ -1,11 +1,10 @@
 -- What an event makes of the recorded nogoods of an agent, and what the lines tell of them.
-use Rattle.std.proofs.Common.{◌≡◌, ◌≢◌, ◌∙◌, ℕ, ◌+◌, ◌<◌, ◌≤◌, Bool, true, false, cond, not, ◌&&◌, ◌||◌, ◌⊎◌, inl, inr, List, [], ◌∷◌, ◌++◌, ◌==◌, filter, length, map, nat_lt, Option, Some, None, refl, sym, ap, subst, arith, append-nil, ℤ}
+use Rattle.std.proofs.Common.{◌≡◌, ◌≢◌, ◌∙◌, ℕ, Bool, true, false, cond, not, ◌&&◌, ◌||◌, ◌⊎◌, inl, inr, List, [], ◌∷◌, ◌++◌, ◌==◌, filter, map, nat_lt, Option, Some, None, refl, sym, ap, subst, append-nil, ℤ}
 use Rattle.std.proofs.lemmas.Bool.Decides.{eqb_tells}
 use Rattle.std.proofs.lemmas.List.{map-append}
-use Rattle.std.specs.List.{list_all, list_any}
+use Rattle.std.specs.List.{list_all}
 use Rattle.std.specs.Ordering.{int_eq}
 use Rattle.dcsp_defs.specs.declared.nogood.Pair.{Pair}
-use Rattle.dcsp_defs.specs.declared.Step.{Step}
 use Rattle.dcsp_defs.specs.Words.{In, update}
 use Rattle.dcsp_defs.specs.Csp.{Csp, Nogood, domain}
 use Rattle.dcsp_defs.specs.Pairs.{value_at}
@@ -13,9 +12,8 @@ use Rattle.dcsp_defs.proofs.Lists.{In-filter, In-left, In-list_any, In-map, In-r
 use Rattle.abt_defs.specs.Agents.{Agent, Announce, Refuse, Add_link, Message, Record, Stamped, StampedNogood, is_among, plain}
 use Rattle.abt_defs.specs.Events.{Act, act_of}
 use Rattle.abt_defs.specs.Reasons.{derived, step_of}
-use Rattle.abt_defs.specs.Steps.{Outcome, ask, choice, first_sent, fits, forget, heed, is_free, is_newer, is_news, is_refused, keep, learn, learn_all, receive, refuse, settle, stay, take_or_refuse, to_each, unlinked}
-use Rattle.abt_defs.specs.Runs.{Cargo, Value, Step_number, Link, cargo_of}
-use Rattle.abt_story.specs.Facts.{Fact, Forgets, Keeps, Declines}
+use Rattle.abt_defs.specs.Steps.{Outcome, ask, choice, fits, forget, heed, is_free, is_newer, is_news, is_refused, learn, learn_all, receive, refuse, settle, stay, take_or_refuse}
+use Rattle.abt_story.specs.Facts.{Forgets, Keeps, Declines}
 use Rattle.abt_story.specs.Telling.{answers, came_with, drops, facts, named_in, reason, reason_before, steps_of}
 use Rattle.abt_story.specs.Retelling.{fold, recorded_after}
 use Rattle.abt_story.proofs.Folds.{fold_append}
@@ -258,22 +256,22 @@ module _ (m : Message) (before after : List Record) (c : Changes m before after)
   both_told k = ap (λ xs. fold recorded_after xs (answers (came_with (Some (k, m))) (steps after))) dropped ∙ answered k (steps rest) ∙ sym after_is
 
 -- only what is dropped and recorded tells of them
-recorded_part : (p : Csp) (made : Option ℕ) (a : Act) (x : List ℕ)
-    → fold recorded_after x (facts p made a) ≡ fold recorded_after (fold recorded_after x (drops (steps_of a.before) (steps_of a.after))) (answers (came_with a.came) (steps_of a.after))
-recorded_part p made a x =
+recorded_part : (order : Option (List ℕ)) (p : Csp) (made : Option ℕ) (a : Act) (x : List ℕ)
+    → fold recorded_after x (facts order p made a) ≡ fold recorded_after (fold recorded_after x (drops (steps_of a.before) (steps_of a.after))) (answers (came_with a.came) (steps_of a.after))
+recorded_part order p made a x =
     let f = recorded_after in
     let d = drops (steps_of a.before) (steps_of a.after) in
     let n = answers (came_with a.came) (steps_of a.after) in
-    in_parts f p made a x ∙ pass_sends f (λ k c y. refl) a.sent _ ∙ pass_makes f (λ s y. refl) made _ ∙ pass_takes f (λ v y. refl) a.before.stamp a.after.stamp a.after.value _
+    in_parts f order p made a x ∙ pass_sends f (λ k c y. refl) a.sent _ ∙ pass_makes f (λ s y. refl) made _ ∙ pass_takes f (λ v y. refl) a.before.stamp a.after.stamp a.after.value _
     ∙ pass_rules_out f (λ s y. refl) (domain p a.agent) (reason_before p a.agent a.came a.before) (reason p a.agent a.after) _
-    ∙ ap (λ y. fold f (fold f y d) n) (pass_learns f (λ k v y. refl) (named_in a.came) a.before a.after _ ∙ pass_receives f (λ k c y. refl) (came_with a.came) x)
+    ∙ ap (λ y. fold f (fold f y d) n) (pass_learns f (λ k v y. refl) (named_in order a.came) a.before a.after _ ∙ pass_receives f (λ k c y. refl) (came_with a.came) x)
 
-pub recorded_told : (p : Csp) (made : Option ℕ) (i number : ℕ) (a : Agent) (k : ℕ) (m : Message) → Clear m a.recorded
-    → fold recorded_after (steps_of a) (facts p made (act_of i (Some (k, m)) a (receive p i number a k m))) ≡ steps_of (receive p i number a k m).agent
-recorded_told p made i number a k m clear =
+pub recorded_told : (order : Option (List ℕ)) (p : Csp) (made : Option ℕ) (i number : ℕ) (a : Agent) (k : ℕ) (m : Message) → Clear m a.recorded
+    → fold recorded_after (steps_of a) (facts order p made (act_of i (Some (k, m)) a (receive p i number a k m))) ≡ steps_of (receive p i number a k m).agent
+recorded_told order p made i number a k m clear =
     let o = receive p i number a k m in
-    recorded_part p made (act_of i (Some (k, m)) a o) (steps_of a) ∙ both_told m a.recorded o.agent.recorded (receive_changes p i number a k m) clear k
+    recorded_part order p made (act_of i (Some (k, m)) a o) (steps_of a) ∙ both_told m a.recorded o.agent.recorded (receive_changes p i number a k m) clear k
 
 -- where nothing comes, and nothing is recorded
-pub none_told : (p : Csp) (made : Option ℕ) (i : ℕ) (a : Agent) (o : Outcome) → a.recorded ≡ [] → o.agent.recorded ≡ [] → fold recorded_after [] (facts p made (act_of i None a o)) ≡ []
-none_told p made i a o e f = recorded_part p made (act_of i None a o) [] ∙ ap (λ l. fold recorded_after [] (drops (map (λ (x : Record). x.step) l) (steps_of o.agent))) e
+pub none_told : (order : Option (List ℕ)) (p : Csp) (made : Option ℕ) (i : ℕ) (a : Agent) (o : Outcome) → a.recorded ≡ [] → o.agent.recorded ≡ [] → fold recorded_after [] (facts order p made (act_of i None a o)) ≡ []
+none_told order p made i a o e f = recorded_part order p made (act_of i None a o) [] ∙ ap (λ l. fold recorded_after [] (drops (map (λ (x : Record). x.step) l) (steps_of o.agent))) e

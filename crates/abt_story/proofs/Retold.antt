@@ -1,5 +1,5 @@
 -- What the facts of an act tell of its agent and of the lists.
-use Rattle.std.proofs.Common.{◌≡◌, ◌≢◌, ◌∙◌, ℕ, ℤ, ◌+◌, ◌<◌, Bool, true, false, cond, not, ◌&&◌, ◌||◌, ◌⊎◌, inl, inr, List, [], ◌∷◌, ◌++◌, ◌==◌, map, drop, Option, Some, None, refl, sym, ap, arith, nat_lt, append_assoc, append-nil}
+use Rattle.std.proofs.Common.{◌≡◌, ◌≢◌, ◌∙◌, ℕ, ℤ, ◌+◌, Bool, true, false, cond, not, ◌&&◌, ◌||◌, ◌⊎◌, inl, inr, List, [], ◌∷◌, ◌++◌, ◌==◌, map, drop, Option, Some, None, refl, sym, ap, arith, nat_lt, append_assoc, append-nil}
 use Rattle.std.proofs.lemmas.Bool.Decides.{eqb_tells, nat_tests}
 use Rattle.std.specs.List.{list_any}
 use Rattle.dcsp_defs.specs.declared.Step.{Step}
@@ -12,62 +12,62 @@ use Rattle.abt_defs.specs.Events.{Act, act_of}
 use Rattle.abt_defs.specs.Steps.{Outcome}
 use Rattle.abt_defs.specs.Network.{is_empty, sent_to}
 use Rattle.abt_defs.specs.Runs.{Cargo, cargo_of}
-use Rattle.abt_story.specs.Facts.{RuledOut, Fact, Knows, Out, Takes, Makes, Sends}
-use Rattle.abt_story.specs.Telling.{answers, came_with, drops, enters, facts, is_later, learns, makes, named_in, reason, reason_before, receives, ruled_by, ruled_out, rules_out, same_reason, same_reasons, sends, stamp_in, steps_of, takes, takes_value}
+use Rattle.abt_story.specs.Facts.{RuledOut, Fact, Knows, Out, Takes}
+use Rattle.abt_story.specs.Telling.{came_with, enters, facts, is_later, learns, makes, named_in, reason, reason_before, receives, ruled_by, ruled_out, rules_out, same_reason, same_reasons, sends, stamp_in, steps_of, takes, takes_value}
 use Rattle.abt_story.specs.Retelling.{fold, known_after, list_after, ruled_after, value_after, waits_after}
 use Rattle.abt_story.proofs.Folds.{fold_append}
 use Rattle.abt_story.proofs.Segments.{in_parts, pass_answers, pass_drops, pass_learns, pass_makes, pass_receives, pass_rules_out, pass_sends, pass_takes}
-use Rattle.abt_story.proofs.Outcomes.{Enters, GivesUp, Moves, Stays, TakesOne}
+use Rattle.abt_story.proofs.Outcomes.{Enters, Moves}
 
-module _ (p : Csp) (made : Option ℕ) (a : Act) where
+module _ (order : Option (List ℕ)) (p : Csp) (made : Option ℕ) (a : Act) where
   -- only the value that is taken tells of the value
-  value_part : (x : Option ℤ) → fold value_after x (facts p made a) ≡ fold value_after x (takes a.before.stamp a.after.stamp a.after.value)
+  value_part : (x : Option ℤ) → fold value_after x (facts order p made a) ≡ fold value_after x (takes a.before.stamp a.after.stamp a.after.value)
   value_part x =
       let f = value_after in
       let t = takes a.before.stamp a.after.stamp a.after.value in
-      in_parts f p made a x ∙ pass_sends f (λ k c y. refl) a.sent _ ∙ pass_makes f (λ s y. refl) made _
+      in_parts f order p made a x ∙ pass_sends f (λ k c y. refl) a.sent _ ∙ pass_makes f (λ s y. refl) made _
       ∙ ap (λ y. fold f y t) (pass_rules_out f (λ s y. refl) (domain p a.agent) (reason_before p a.agent a.came a.before) (reason p a.agent a.after) _
       ∙ pass_answers f (λ s y. refl) (λ s y. refl) (came_with a.came) (steps_of a.after) _ ∙ pass_drops f (λ s y. refl) (steps_of a.before) (steps_of a.after) _
-      ∙ pass_learns f (λ k v y. refl) (named_in a.came) a.before a.after _ ∙ pass_receives f (λ k c y. refl) (came_with a.came) x)
+      ∙ pass_learns f (λ k v y. refl) (named_in order a.came) a.before a.after _ ∙ pass_receives f (λ k c y. refl) (came_with a.came) x)
 
   -- of the mark also the step that is made
-  waits_part : (x : Bool) → fold waits_after x (facts p made a) ≡ fold waits_after (fold waits_after x (takes a.before.stamp a.after.stamp a.after.value)) (makes made)
+  waits_part : (x : Bool) → fold waits_after x (facts order p made a) ≡ fold waits_after (fold waits_after x (takes a.before.stamp a.after.stamp a.after.value)) (makes made)
   waits_part x =
       let f = waits_after in
       let t = takes a.before.stamp a.after.stamp a.after.value in
-      in_parts f p made a x ∙ pass_sends f (λ k c y. refl) a.sent _
+      in_parts f order p made a x ∙ pass_sends f (λ k c y. refl) a.sent _
       ∙ ap (λ y. fold f (fold f y t) (makes made)) (pass_rules_out f (λ s y. refl) (domain p a.agent) (reason_before p a.agent a.came a.before) (reason p a.agent a.after) _
       ∙ pass_answers f (λ s y. refl) (λ s y. refl) (came_with a.came) (steps_of a.after) _ ∙ pass_drops f (λ s y. refl) (steps_of a.before) (steps_of a.after) _
-      ∙ pass_learns f (λ k v y. refl) (named_in a.came) a.before a.after _ ∙ pass_receives f (λ k c y. refl) (came_with a.came) x)
+      ∙ pass_learns f (λ k v y. refl) (named_in order a.came) a.before a.after _ ∙ pass_receives f (λ k c y. refl) (came_with a.came) x)
 
   -- of the view what entered it
-  known_part : (k : ℕ) (x : Option ℤ) → fold (known_after k) x (facts p made a) ≡ fold (known_after k) x (learns (named_in a.came) a.before a.after)
+  known_part : (k : ℕ) (x : Option ℤ) → fold (known_after k) x (facts order p made a) ≡ fold (known_after k) x (learns (named_in order a.came) a.before a.after)
   known_part k x =
       let f = known_after k in
-      let l = learns (named_in a.came) a.before a.after in
-      in_parts f p made a x ∙ pass_sends f (λ j c y. refl) a.sent _ ∙ pass_makes f (λ s y. refl) made _ ∙ pass_takes f (λ v y. refl) a.before.stamp a.after.stamp a.after.value _
+      let l = learns (named_in order a.came) a.before a.after in
+      in_parts f order p made a x ∙ pass_sends f (λ j c y. refl) a.sent _ ∙ pass_makes f (λ s y. refl) made _ ∙ pass_takes f (λ v y. refl) a.before.stamp a.after.stamp a.after.value _
       ∙ pass_rules_out f (λ s y. refl) (domain p a.agent) (reason_before p a.agent a.came a.before) (reason p a.agent a.after) _
       ∙ pass_answers f (λ s y. refl) (λ s y. refl) (came_with a.came) (steps_of a.after) _ ∙ pass_drops f (λ s y. refl) (steps_of a.before) (steps_of a.after) _
       ∙ ap (λ y. fold f y l) (pass_receives f (λ j c y. refl) (came_with a.came) x)
 
   -- of the values that are ruled out the list of them
-  ruled_part : (x : List RuledOut) → fold ruled_after x (facts p made a) ≡ fold ruled_after x (rules_out (domain p a.agent) (reason_before p a.agent a.came a.before) (reason p a.agent a.after))
+  ruled_part : (x : List RuledOut) → fold ruled_after x (facts order p made a) ≡ fold ruled_after x (rules_out (domain p a.agent) (reason_before p a.agent a.came a.before) (reason p a.agent a.after))
   ruled_part x =
       let f = ruled_after in
       let o = rules_out (domain p a.agent) (reason_before p a.agent a.came a.before) (reason p a.agent a.after) in
-      in_parts f p made a x ∙ pass_sends f (λ j c y. refl) a.sent _ ∙ pass_makes f (λ s y. refl) made _ ∙ pass_takes f (λ v y. refl) a.before.stamp a.after.stamp a.after.value _
+      in_parts f order p made a x ∙ pass_sends f (λ j c y. refl) a.sent _ ∙ pass_makes f (λ s y. refl) made _ ∙ pass_takes f (λ v y. refl) a.before.stamp a.after.stamp a.after.value _
       ∙ ap (λ y. fold f y o) (pass_answers f (λ s y. refl) (λ s y. refl) (came_with a.came) (steps_of a.after) _ ∙ pass_drops f (λ s y. refl) (steps_of a.before) (steps_of a.after) _
-      ∙ pass_learns f (λ k v y. refl) (named_in a.came) a.before a.after _ ∙ pass_receives f (λ k c y. refl) (came_with a.came) x)
+      ∙ pass_learns f (λ k v y. refl) (named_in order a.came) a.before a.after _ ∙ pass_receives f (λ k c y. refl) (came_with a.came) x)
 
   -- of a list what is received and sent
-  list_part : (k j : ℕ) (x : List Cargo) → fold (list_after k j a.agent) x (facts p made a) ≡ fold (list_after k j a.agent) (fold (list_after k j a.agent) x (receives (came_with a.came))) (sends a.sent)
+  list_part : (k j : ℕ) (x : List Cargo) → fold (list_after k j a.agent) x (facts order p made a) ≡ fold (list_after k j a.agent) (fold (list_after k j a.agent) x (receives (came_with a.came))) (sends a.sent)
   list_part k j x =
       let f = list_after k j a.agent in
-      in_parts f p made a x
+      in_parts f order p made a x
       ∙ ap (λ y. fold f y (sends a.sent)) (pass_makes f (λ s y. refl) made _ ∙ pass_takes f (λ v y. refl) a.before.stamp a.after.stamp a.after.value _
       ∙ pass_rules_out f (λ s y. refl) (domain p a.agent) (reason_before p a.agent a.came a.before) (reason p a.agent a.after) _
       ∙ pass_answers f (λ s y. refl) (λ s y. refl) (came_with a.came) (steps_of a.after) _ ∙ pass_drops f (λ s y. refl) (steps_of a.before) (steps_of a.after) _
-      ∙ pass_learns f (λ i v y. refl) (named_in a.came) a.before a.after _)
+      ∙ pass_learns f (λ i v y. refl) (named_in order a.came) a.before a.after _)
 
 -- ---- values and marks
 
@@ -80,8 +80,8 @@ taken_facts before stamp value v e f = ap (λ n. takes before n value) e ∙ ap 
 kept_facts : (before stamp : ℕ) (value : Option ℤ) → stamp ≡ before → takes before stamp value ≡ []
 kept_facts before stamp value e = elim (eqb_tells stamp before) [ inl t ↦ ap (λ (b : Bool). cond b [] (takes_value value)) t.0 | inr t ↦ absurd (t.1 e) ]
 
-pub value_told : (p : Csp) (made : Option ℕ) (i : ℕ) (came : Option (ℕ × Message)) (a : Agent) (o : Outcome) → Moves a o → fold value_after a.value (facts p made (act_of i came a o)) ≡ o.agent.value
-value_told p made i came a o h = value_part p made (act_of i came a o) a.value ∙ by_move h
+pub value_told : (order : Option (List ℕ)) (p : Csp) (made : Option ℕ) (i : ℕ) (came : Option (ℕ × Message)) (a : Agent) (o : Outcome) → Moves a o → fold value_after a.value (facts order p made (act_of i came a o)) ≡ o.agent.value
+value_told order p made i came a o h = value_part order p made (act_of i came a o) a.value ∙ by_move h
   where
     by_move : Moves a o → fold value_after a.value (takes a.stamp o.agent.stamp o.agent.value) ≡ o.agent.value
     by_move (inl s) = ap (fold value_after a.value) (kept_facts a.stamp o.agent.stamp o.agent.value s.same.stamp) ∙ sym s.same.value
@@ -97,8 +97,8 @@ pub record MadeFits (made : Option ℕ) (o : Outcome) : Type 0 where
   pub none : o.step ≡ None → made ≡ None
   pub some : (s : Step) → o.step ≡ Some s → (n : ℕ) × (made ≡ Some n) × (is_empty s.nogood ≡ false)
 
-pub waits_told : (p : Csp) (made : Option ℕ) (i : ℕ) (came : Option (ℕ × Message)) (a : Agent) (o : Outcome) → Moves a o → MadeFits made o → fold waits_after a.waits (facts p made (act_of i came a o)) ≡ o.agent.waits
-waits_told p made i came a o h fits = waits_part p made (act_of i came a o) a.waits ∙ by_move h
+pub waits_told : (order : Option (List ℕ)) (p : Csp) (made : Option ℕ) (i : ℕ) (came : Option (ℕ × Message)) (a : Agent) (o : Outcome) → Moves a o → MadeFits made o → fold waits_after a.waits (facts order p made (act_of i came a o)) ≡ o.agent.waits
+waits_told order p made i came a o h fits = waits_part order p made (act_of i came a o) a.waits ∙ by_move h
   where
     by_move : Moves a o → fold waits_after (fold waits_after a.waits (takes a.stamp o.agent.stamp o.agent.value)) (makes made) ≡ o.agent.waits
     by_move (inl s) =
@@ -172,9 +172,9 @@ module _ (k : ℕ) (before after : Agent) where
   view_told named (inl e) = nothing_entered e named (known before k) ∙ ap value_in (sym e)
   view_told named (inr (h, s, e, l)) = entered s e l named (known before k) (inr h) ∙ ap value_in (sym e)
 
-pub known_told : (p : Csp) (made : Option ℕ) (i : ℕ) (came : Option (ℕ × Message)) (a : Agent) (o : Outcome) (k : ℕ) → Enters (In k (named_in came)) (a.view k) (o.agent.view k)
-    → fold (known_after k) (known a k) (facts p made (act_of i came a o)) ≡ known o.agent k
-known_told p made i came a o k h = known_part p made (act_of i came a o) k (known a k) ∙ view_told k a o.agent (named_in came) h
+pub known_told : (order : Option (List ℕ)) (p : Csp) (made : Option ℕ) (i : ℕ) (came : Option (ℕ × Message)) (a : Agent) (o : Outcome) (k : ℕ) → Enters (In k (named_in order came)) (a.view k) (o.agent.view k)
+    → fold (known_after k) (known a k) (facts order p made (act_of i came a o)) ≡ known o.agent k
+known_told order p made i came a o k h = known_part order p made (act_of i came a o) k (known a k) ∙ view_told k a o.agent (named_in order came) h
 
 -- ---- the values that are ruled out
 
@@ -205,10 +205,10 @@ list_ruled values before after = by_test (list_any (λ v. not (same_reasons (bef
     by_test true e = refl
     by_test false e = none_changed values before after e
 
-pub ruled_told : (p : Csp) (made : Option ℕ) (i : ℕ) (came : Option (ℕ × Message)) (a : Agent) (o : Outcome) (x : List RuledOut) → x ≡ ruled_out (domain p i) (reason_before p i came a)
-    → fold ruled_after x (facts p made (act_of i came a o)) ≡ ruled_out (domain p i) (reason p i o.agent)
-ruled_told p made i came a o x e =
-    ruled_part p made (act_of i came a o) x ∙ ap (λ y. fold ruled_after y (rules_out (domain p i) (reason_before p i came a) (reason p i o.agent))) e ∙ list_ruled (domain p i) (reason_before p i came a) (reason p i o.agent)
+pub ruled_told : (order : Option (List ℕ)) (p : Csp) (made : Option ℕ) (i : ℕ) (came : Option (ℕ × Message)) (a : Agent) (o : Outcome) (x : List RuledOut) → x ≡ ruled_out (domain p i) (reason_before p i came a)
+    → fold ruled_after x (facts order p made (act_of i came a o)) ≡ ruled_out (domain p i) (reason p i o.agent)
+ruled_told order p made i came a o x e =
+    ruled_part order p made (act_of i came a o) x ∙ ap (λ y. fold ruled_after y (rules_out (domain p i) (reason_before p i came a) (reason p i o.agent))) e ∙ list_ruled (domain p i) (reason_before p i came a) (reason p i o.agent)
 
 pub none_ruled : (values : List ℤ) → ruled_out values (λ v. None) ≡ []
 none_ruled [] = refl
@@ -230,9 +230,9 @@ abbrev pub shorter : ℕ → ℕ → ℕ → Option (ℕ × Message) → List Ca
 shorter k j i None x = x
 shorter k j i (Some y) x = cond (k == y.0 && j == i) (drop 1 x) x
 
-pub list_told_by : (p : Csp) (made : Option ℕ) (i : ℕ) (came : Option (ℕ × Message)) (a : Agent) (o : Outcome) (k j : ℕ) (x : List Cargo)
-    → fold (list_after k j i) x (facts p made (act_of i came a o)) ≡ cond (k == i) (shorter k j i came x ++ map cargo_of (sent_to j o.sent)) (shorter k j i came x)
-list_told_by p made i came a o k j x = list_part p made (act_of i came a o) k j x ∙ ap (λ y. fold (list_after k j i) y (sends o.sent)) (by_came came) ∙ sends_told k j i o.sent (shorter k j i came x)
+pub list_told_by : (order : Option (List ℕ)) (p : Csp) (made : Option ℕ) (i : ℕ) (came : Option (ℕ × Message)) (a : Agent) (o : Outcome) (k j : ℕ) (x : List Cargo)
+    → fold (list_after k j i) x (facts order p made (act_of i came a o)) ≡ cond (k == i) (shorter k j i came x ++ map cargo_of (sent_to j o.sent)) (shorter k j i came x)
+list_told_by order p made i came a o k j x = list_part order p made (act_of i came a o) k j x ∙ ap (λ y. fold (list_after k j i) y (sends o.sent)) (by_came came) ∙ sends_told k j i o.sent (shorter k j i came x)
   where
     by_came : (c : Option (ℕ × Message)) → fold (list_after k j i) x (receives (came_with c)) ≡ shorter k j i c x
     by_came None = refl

@@ -1,5 +1,5 @@
 -- The facts of an act, part by part: a fold passes over those that it does not look at.
-use Rattle.std.proofs.Common.{◌≡◌, ◌∙◌, ℕ, ℤ, Bool, true, false, cond, not, List, [], ◌∷◌, ◌++◌, ◌==◌, Option, Some, None, refl, sym, ap}
+use Rattle.std.proofs.Common.{◌≡◌, ◌∙◌, ℕ, ℤ, true, false, cond, not, List, [], ◌∷◌, ◌++◌, ◌==◌, Option, Some, None, refl, ap}
 use Rattle.std.specs.List.{list_any}
 use Rattle.dcsp_defs.specs.declared.Reason.{Reason}
 use Rattle.dcsp_defs.specs.Csp.{Csp, domain}
@@ -79,12 +79,12 @@ module _ {X : Type 0} (change : Fact → X → X) where
   pass_sends h (y ∷ sent) x = ap (λ z. fold change z (sends sent)) (h y.0 (cargo_of y.1) x) ∙ pass_sends h sent x
 
   -- part by part
-  pub in_parts : (p : Csp) (made : Option ℕ) (a : Act) (x : X) → fold change x (facts p made a)
-      ≡ fold change (fold change (fold change (fold change (fold change (fold change (fold change (fold change x (receives (came_with a.came))) (learns (named_in a.came) a.before a.after)) (drops (steps_of a.before) (steps_of a.after))) (answers (came_with a.came) (steps_of a.after)))
+  pub in_parts : (order : Option (List ℕ)) (p : Csp) (made : Option ℕ) (a : Act) (x : X) → fold change x (facts order p made a)
+      ≡ fold change (fold change (fold change (fold change (fold change (fold change (fold change (fold change x (receives (came_with a.came))) (learns (named_in order a.came) a.before a.after)) (drops (steps_of a.before) (steps_of a.after))) (answers (came_with a.came) (steps_of a.after)))
       (rules_out (domain p a.agent) (reason_before p a.agent a.came a.before) (reason p a.agent a.after))) (takes a.before.stamp a.after.stamp a.after.value)) (makes made)) (sends a.sent)
-  in_parts p made a x =
+  in_parts order p made a x =
       let r = receives (came_with a.came) in
-      let l = learns (named_in a.came) a.before a.after in
+      let l = learns (named_in order a.came) a.before a.after in
       let d = drops (steps_of a.before) (steps_of a.after) in
       let n = answers (came_with a.came) (steps_of a.after) in
       let o = rules_out (domain p a.agent) (reason_before p a.agent a.came a.before) (reason p a.agent a.after) in

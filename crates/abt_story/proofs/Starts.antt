@@ -15,11 +15,14 @@ use Rattle.abt_defs.specs.Steps.{Outcome, refuse, take_or_refuse, to_each}
 use Rattle.law_agent.specs.OneAgent.{Sound}
 use Rattle.law_runs.specs.Starts.{first_act, first_outcome, StartsWith}
 use Rattle.abt_parts.specs.Messages.{told_sent}
-use Rattle.abt_story.specs.Telling.{agentless, facts, first_step, lines, start_lines}
+use Rattle.dcsp_defs.specs.declared.Step.{Step}
+use Rattle.abt_story.specs.Numbers.{lines_told}
+use Rattle.abt_story.specs.Telling.{agentless, facts, first_step, lines, made_by_none, start_lines}
 use Rattle.abt_story.specs.Texts.{line_text, lines_text}
 use Rattle.abt_story.specs.Looking.{first_text, tell_to}
 use Rattle.abt_story.proofs.Carrying.{Carries, numbered, settle_carries}
 use Rattle.abt_story.proofs.Growing.{lines_are_facts}
+use Rattle.abt_story.proofs.Numbers.{lines_append}
 
 filter_on : (f g : ℕ → Bool) (xs : List ℕ) → ((x : ℕ) → f x ≡ g x) → filter f xs ≡ filter g xs
 filter_on f g [] h = refl
@@ -90,15 +93,33 @@ first_carries p i = by_choice (find (λ w. not (ruled_out p i (known (fresh p i)
     by_choice (Some v) h = h
     by_choice None h = refused (derived p i (λ k. None) []) (derived_none p i [] (below i))
 
--- the lines of the start as text
-pub start_text : (p : Csp) (settled : ℕ) → StartsWith p settled → lines_text (start_lines p) ≡ lines_text (agentless (start p).steps) ++ flat_map (first_text p) (below settled)
-start_text p settled h =
-    flat_map-append line_text (agentless (start p).steps) (flat_map (λ (a : Act). lines 0 a.agent (facts p (first_step a.after) a)) (start_acts p))
-    ∙ ap (λ l. lines_text (agentless (start p).steps) ++ lines_text (flat_map (λ (a : Act). lines 0 a.agent (facts p (first_step a.after) a)) l)) h.acts ∙ ap (λ t. lines_text (agentless (start p).steps) ++ t) (all (below settled))
+-- a step that is no agent's is told as it is
+agentless_told : (order : Option (List ℕ)) (steps : List Step) → lines_told order (agentless steps) ≡ agentless steps
+agentless_told None steps = refl
+agentless_told (Some order) [] = refl
+agentless_told (Some order) (s ∷ steps) = by_variable s.variable
   where
-    all : (is : List ℕ) → lines_text (flat_map (λ (a : Act). lines 0 a.agent (facts p (first_step a.after) a)) (map (first_act p) is)) ≡ flat_map (first_text p) is
-    all [] = refl
+    by_variable : (o : Option ℕ) → lines_told (Some order) (made_by_none o) ≡ made_by_none o
+    by_variable None = refl
+    by_variable (Some i) = refl
+
+-- the lines of the start as text
+pub start_text : (order : Option (List ℕ)) (p : Csp) (settled : ℕ) → StartsWith p settled → lines_text (start_lines order p) ≡ lines_text (agentless (start p).steps) ++ flat_map (first_text order p) (below settled)
+start_text order p settled h =
+    ap lines_text (lines_append order (agentless (start p).steps) (flat_map (λ (a : Act). lines 0 a.agent (facts order p (first_step a.after) a)) (start_acts p)))
+    ∙ flat_map-append line_text (lines_told order (agentless (start p).steps)) (lines_told order (flat_map (λ (a : Act). lines 0 a.agent (facts order p (first_step a.after) a)) (start_acts p)))
+    ∙ ap (λ l. lines_text l ++ lines_text (lines_told order (flat_map (λ (a : Act). lines 0 a.agent (facts order p (first_step a.after) a)) (start_acts p)))) (agentless_told order (start p).steps)
+    ∙ ap (λ l. lines_text (agentless (start p).steps) ++ lines_text (lines_told order (flat_map (λ (a : Act). lines 0 a.agent (facts order p (first_step a.after) a)) l))) h.acts
+    ∙ ap (λ t. lines_text (agentless (start p).steps) ++ t) (all (below settled))
+  where
+    none : (o : Option (List ℕ)) → lines_text (lines_told o []) ≡ []
+    none None = refl
+    none (Some order) = refl
+
+    all : (is : List ℕ) → lines_text (lines_told order (flat_map (λ (a : Act). lines 0 a.agent (facts order p (first_step a.after) a)) (map (first_act p) is))) ≡ flat_map (first_text order p) is
+    all [] = none order
     all (i ∷ is) =
-        flat_map-append line_text (lines 0 i (facts p (first_step (first_outcome p i).agent) (first_act p i))) (flat_map (λ (a : Act). lines 0 a.agent (facts p (first_step a.after) a)) (map (first_act p) is))
-        ∙ ap (λ t. t ++ lines_text (flat_map (λ (a : Act). lines 0 a.agent (facts p (first_step a.after) a)) (map (first_act p) is))) (lines_are_facts 0 i (facts p (first_step (first_outcome p i).agent) (first_act p i)))
-        ∙ ap (λ t. first_text p i ++ t) (all is)
+        let mine = lines 0 i (facts order p (first_step (first_outcome p i).agent) (first_act p i)) in
+        let rest = flat_map (λ (a : Act). lines 0 a.agent (facts order p (first_step a.after) a)) (map (first_act p) is) in
+        ap lines_text (lines_append order mine rest) ∙ flat_map-append line_text (lines_told order mine) (lines_told order rest)
+        ∙ ap (λ t. t ++ lines_text (lines_told order rest)) (lines_are_facts order 0 i (facts order p (first_step (first_outcome p i).agent) (first_act p i))) ∙ ap (λ t. first_text order p i ++ t) (all is)

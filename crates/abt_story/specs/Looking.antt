@@ -1,7 +1,8 @@
 -- What the code looks at to tell an event.
-use Rattle.std.specs.Prelude.{◌≡◌, ℕ, ℤ, List, map, flat_map, length, Option, Some, None, unwrap_or, pos}
+use Rattle.std.specs.Prelude.{◌≡◌, ℕ, ℤ, List, map, flat_map, length, Option, Some, None, option_copied, unwrap_or, pos}
 use Rattle.dcsp_defs.specs.declared.Reason.{Reason}
 use Rattle.dcsp_defs.specs.Csp.{Csp, domain}
+use Rattle.dcsp_order.specs.Told.{number_told}
 use Rattle.abt_defs.specs.Agents.{Agent, Message, View}
 use Rattle.abt_defs.specs.Events.{Act}
 use Rattle.abt_defs.specs.Runs as runs
@@ -22,6 +23,7 @@ use Rattle.abt_story.specs.declared.before.Known.{Known}
 use Rattle.abt_story.specs.declared.deed.Came.{Came}
 use Rattle.abt_story.specs.declared.deed.Deed.{Deed}
 use Rattle.abt_story.specs.Facts.{Fact, Sends}
+use Rattle.abt_story.specs.Numbers.{facts_told}
 use Rattle.abt_story.specs.Telling.{came_with, enters, facts, first_step, named_in, reason_before, sends, stamp_in, step_between, steps_of}
 use Rattle.abt_story.specs.Texts.{facts_text}
 
@@ -32,8 +34,8 @@ abbrev pub known_at : View → ℕ → Known
 known_at view k = record { var = k; stamp = stamp_in (view k) }
 
 -- it is what the event of agent i needs of it as it is before, to which this comes
-pub record IsSeen (p : Csp) (i : ℕ) (came : Option (ℕ × Message)) (a : Agent) (before : Before) : Type 0 where
-  pub known : before.known.items ≡ map (known_at a.view) (named_in came)
+pub record IsSeen (order : Option (List ℕ)) (p : Csp) (i : ℕ) (came : Option (ℕ × Message)) (a : Agent) (before : Before) : Type 0 where
+  pub known : before.known.items ≡ map (known_at a.view) (named_in order came)
   pub kept : before.kept.items ≡ steps_of a
   pub reasons : before.reasons.items ≡ map (reason_before p i came a) (domain p i)
   pub stamp : before.stamp ≡ a.stamp
@@ -68,7 +70,7 @@ came_in (Some came) = Some (came.from, cargo_in came.cargo)
 
 -- the agent, which is so after the act, did this in it
 pub record IsDone (a : Act) (deed : Deed) (s : State) : Type 0 where
-  pub agent : deed.who.agent ≡ a.agent
+  pub agent : deed.who.agent ≡ number_told (option_copied deed.order) a.agent
   pub me : s.me ≡ a.agent
   pub came : came_in deed.came ≡ came_with a.came
   pub after : stands_for s ≡ a.after
@@ -88,5 +90,5 @@ abbrev pub tell_to : ℕ → SentTo
 tell_to k = record { to = k; kind = kinds.Tell }
 
 -- the lines of agent i in the start
-abbrev pub first_text : Csp → ℕ → List ℕ
-first_text p i = facts_text 0 i (facts p (first_step (first_outcome p i).agent) (first_act p i))
+abbrev pub first_text : Option (List ℕ) → Csp → ℕ → List ℕ
+first_text order p i = facts_text 0 (number_told order i) (facts_told order (facts order p (first_step (first_outcome p i).agent) (first_act p i)))

@@ -1,12 +1,14 @@
 -- What the lines so far tell: how the agents and the lists of messages stand, read off the lines alone, one after the other.
-use Rattle.std.specs.Prelude.{◌≡◌, ℕ, ◌≤◌, ◌<◌, ℤ, Bool, true, false, not, ◌&&◌, ◌==◌, List, [], ◌∷◌, ◌++◌, drop, filter, flat_map, map, length, Option, Some, None, if◌then◌else◌}
+use Rattle.std.specs.Prelude.{◌≡◌, ℕ, ◌≤◌, ◌<◌, ℤ, Bool, true, false, not, ◌&&◌, ◌==◌, List, [], ◌∷◌, ◌++◌, drop, filter, flat_map, map, Option, Some, None, if◌then◌else◌}
 use Rattle.dcsp_defs.specs.Csp.{Csp, IsCsp, count, domain}
 use Rattle.abt_defs.specs.Agents.{known}
 use Rattle.abt_defs.specs.Network.{Network, start}
 use Rattle.abt_defs.specs.Runs.{Cargo, Delivery, Run, cargo_of, whole}
+use Rattle.dcsp_order.specs.Told.{number_told}
 use Rattle.law_runs.specs.Starts.{settled_in}
 use Rattle.law_runs.specs.Stops.{after}
 use Rattle.abt_story.specs.Facts.{RuledOut, Fact, Receives, Knows, Forgets, Keeps, Out, Takes, Makes, Sends, Line}
+use Rattle.abt_story.specs.Numbers.{deliveries_told, IsOrderIn}
 use Rattle.abt_story.specs.Telling.{events, reason, ruled_out, steps_of}
 
 -- ---- one fact of an agent
@@ -76,22 +78,23 @@ list_told k j old (l ∷ ls) = list_told k j (list_by k j l.agent l.fact old) ls
 abbrev pub HasSettled : Csp → ℕ → Type 0
 HasSettled p i = i < settled_in (count p) (start p).steps
 
--- the lines tell how the network stands; the mark of the agent whose step refutes is told as if it waited
-pub record Shows (p : Csp) (lines : List Line) (net : Network) : Type 0 where
-  pub lists : (k j : ℕ) → list_told k j [] lines ≡ map cargo_of (net.links k j)
-  pub values : (i : ℕ) → HasSettled p i → retold value_after i None lines ≡ (net.agents i).value
-  pub waits : net.refuted ≡ false → (i : ℕ) → HasSettled p i → retold waits_after i false lines ≡ (net.agents i).waits
-  pub known_is : (i k : ℕ) → HasSettled p i → retold (known_after k) i None lines ≡ known (net.agents i) k
-  pub recorded : (i : ℕ) → retold recorded_after i [] lines ≡ steps_of (net.agents i)
-  pub ruled : (i : ℕ) → HasSettled p i → retold ruled_after i [] lines ≡ ruled_out (domain p i) (reason p i (net.agents i))
+-- The lines tell how the network stands, each agent by its own number; the mark of the agent whose step refutes is told as if it waited.
+pub record Shows (order : Option (List ℕ)) (p : Csp) (lines : List Line) (net : Network) : Type 0 where
+  pub lists : (k j : ℕ) → list_told (number_told order k) (number_told order j) [] lines ≡ map cargo_of (net.links k j)
+  pub values : (i : ℕ) → HasSettled p i → retold value_after (number_told order i) None lines ≡ (net.agents i).value
+  pub waits : net.refuted ≡ false → (i : ℕ) → HasSettled p i → retold waits_after (number_told order i) false lines ≡ (net.agents i).waits
+  pub known_is : (i k : ℕ) → HasSettled p i → retold (known_after (number_told order k)) (number_told order i) None lines ≡ known (net.agents i) k
+  pub recorded : (i : ℕ) → retold recorded_after (number_told order i) [] lines ≡ steps_of (net.agents i)
+  pub ruled : (i : ℕ) → HasSettled p i → retold ruled_after (number_told order i) [] lines ≡ ruled_out (domain p i) (reason p i (net.agents i))
 
 -- all lines of the start and of so many deliveries
-abbrev pub lines_so_far : Csp → List ℕ → ℕ → List Line
-lines_so_far p choices k = flat_map (λ l. l) (events p choices k)
+abbrev pub lines_so_far : Option (List ℕ) → Csp → List ℕ → ℕ → List Line
+lines_so_far order p choices k = flat_map (λ l. l) (events order p choices k)
 
 -- nothing is hidden: after each event of a run, the lines so far tell how all agents and all lists stand
-abbrev pub NothingIsHidden : Csp → Type 0
-NothingIsHidden p = IsCsp p → (most : ℕ) (choices : List ℕ) (k : ℕ) → k ≤ (whole p most choices).net.deliveries → Shows p (lines_so_far p choices k) (after p choices k)
+abbrev pub NothingIsHidden : Option (List ℕ) → Csp → Type 0
+NothingIsHidden order p =
+    IsCsp p → IsOrderIn order p → (most : ℕ) (choices : List ℕ) (k : ℕ) → k ≤ (whole p most choices).net.deliveries → Shows order p (lines_so_far order p choices k) (after p choices k)
 
 -- the delivery of a line, if it is one's
 abbrev pub delivery_of : Option ℕ → Fact → List Delivery
@@ -102,9 +105,9 @@ abbrev pub deliveries_in : List Line → List Delivery
 deliveries_in lines = flat_map (λ (l : Line). delivery_of l.agent l.fact) lines
 
 -- all lines of a run
-abbrev pub lines_of : Csp → List ℕ → Run → List Line
-lines_of p choices r = lines_so_far p choices r.net.deliveries
+abbrev pub lines_of : Option (List ℕ) → Csp → List ℕ → Run → List Line
+lines_of order p choices r = lines_so_far order p choices r.net.deliveries
 
 -- the deliveries of a run can be read off its lines
-abbrev pub DeliveriesAreTold : Csp → Type 0
-DeliveriesAreTold p = (most : ℕ) (choices : List ℕ) → deliveries_in (lines_of p choices (whole p most choices)) ≡ (whole p most choices).trace
+abbrev pub DeliveriesAreTold : Option (List ℕ) → Csp → Type 0
+DeliveriesAreTold order p = (most : ℕ) (choices : List ℕ) → deliveries_in (lines_of order p choices (whole p most choices)) ≡ deliveries_told order (whole p most choices).trace

@@ -1,5 +1,6 @@
--- The lines of each event, by the network before it, the choice that delivers, and the network after it.
-use Rattle.std.specs.Prelude.{ℕ, ℤ, Bool, true, false, not, ◌||◌, nat_lt, List, [], ◌∷◌, ◌++◌, ◌==◌, map, flat_map, length, slice_index, Option, Some, None, is_some, if◌then◌else◌}
+-- The lines of each event, by the network before it, the choice that delivers, and the network after it. A run may be one under an order: then its agents
+-- are the places of the order, and are told by the variables' own numbers.
+use Rattle.std.specs.Prelude.{ℕ, ℤ, Bool, true, false, not, nat_lt, List, [], ◌∷◌, ◌++◌, ◌==◌, map, filter, flat_map, length, slice_index, Option, Some, None, is_some, if◌then◌else◌}
 use Rattle.std.specs.List.{list_any}
 use Rattle.dcsp_defs.specs.Words.{below}
 use Rattle.std.specs.Option.{option_map}
@@ -7,27 +8,33 @@ use Rattle.dcsp_defs.specs.declared.Reason.{Reason}
 use Rattle.dcsp_defs.specs.declared.Reason.TheVariants.{Rule, Earlier}
 use Rattle.dcsp_defs.specs.declared.Step.{Step}
 use Rattle.dcsp_defs.specs.Csp.{Csp, domain}
+use Rattle.dcsp_order.specs.Orders.{place_of}
 use Rattle.abt_defs.specs.Agents.{Agent, Announce, Refuse, Add_link, Message, Record, Stamped, is_among, known}
 use Rattle.abt_defs.specs.Reasons.{Item, cause}
-use Rattle.abt_defs.specs.Steps.{is_newer}
 use Rattle.abt_defs.specs.Network.{Network, deliver, start}
 use Rattle.abt_defs.specs.Events.{Act, choice_acts, start_acts}
 use Rattle.abt_defs.specs.Runs.{Cargo, Value, Step_number, Link, cargo_of}
 use Rattle.law_runs.specs.Stops.{after}
 use Rattle.abt_story.specs.Facts.{RuledOut, Fact, Receives, Knows, Forgets, Keeps, Declines, Out, Takes, Makes, Sends, Line}
+use Rattle.abt_story.specs.Numbers.{lines_told}
 
 -- ---- what comes
 
--- the agents that a message from k names, in its order
-abbrev pub named_by : ℕ → Message → List ℕ
-named_by k (Announce s) = k ∷ []
-named_by k (Refuse step pairs) = map (λ (y : ℕ × Stamped). y.0) pairs
-named_by k Add_link = []
+-- these agents, in rising order of their own numbers
+abbrev pub by_numbers : Option (List ℕ) → List ℕ → List ℕ
+by_numbers None agents = agents
+by_numbers (Some order) agents = filter (λ k. is_among k agents) (map (place_of order) (below (length order)))
+
+-- the agents that a message from k names: those of a nogood, whose pairs rise, by their own numbers
+abbrev pub named_by : Option (List ℕ) → ℕ → Message → List ℕ
+named_by order k (Announce s) = k ∷ []
+named_by order k (Refuse step pairs) = by_numbers order (map (λ (y : ℕ × Stamped). y.0) pairs)
+named_by order k Add_link = []
 
 -- those that what came names
-abbrev pub named_in : Option (ℕ × Message) → List ℕ
-named_in None = []
-named_in (Some x) = named_by x.0 x.1
+abbrev pub named_in : Option (List ℕ) → Option (ℕ × Message) → List ℕ
+named_in order None = []
+named_in order (Some x) = named_by order x.0 x.1
 
 -- what came, as a trace has it
 abbrev pub came_with : Option (ℕ × Message) → Option (ℕ × Cargo)
@@ -131,12 +138,12 @@ sends sent = map (λ (x : ℕ × Message). Sends x.0 (cargo_of x.1)) sent
 -- ---- events
 
 -- what an agent does in an event, in which it makes the step with this number, or none
-abbrev pub facts : Csp → Option ℕ → Act → List Fact
-facts p made a =
-    receives (came_with a.came) ++ learns (named_in a.came) a.before a.after ++ drops (steps_of a.before) (steps_of a.after) ++ answers (came_with a.came) (steps_of a.after)
+abbrev pub facts : Option (List ℕ) → Csp → Option ℕ → Act → List Fact
+facts order p made a =
+    receives (came_with a.came) ++ learns (named_in order a.came) a.before a.after ++ drops (steps_of a.before) (steps_of a.after) ++ answers (came_with a.came) (steps_of a.after)
     ++ rules_out (domain p a.agent) (reason_before p a.agent a.came a.before) (reason p a.agent a.after) ++ takes a.before.stamp a.after.stamp a.after.value ++ makes made ++ sends a.sent
 
--- facts of an agent in an event
+-- facts of an agent in an event, all agents being told by their places
 abbrev pub lines : ℕ → ℕ → List Fact → List Line
 lines event i all = map (λ f. record { event = event; agent = Some i; fact = f }) all
 
@@ -145,8 +152,11 @@ abbrev pub step_between : Network → Network → Option ℕ
 step_between before after = if length after.steps == length before.steps then None else Some (length after.steps)
 
 -- the choice delivers in a network
-abbrev pub delivery_lines : Csp → ℕ → Network → List Line
-delivery_lines p c net = let next = deliver p c net in flat_map (λ (a : Act). lines next.deliveries a.agent (facts p (step_between net next) a)) (choice_acts p c net)
+abbrev pub delivery_facts : Option (List ℕ) → Csp → ℕ → Network → List Line
+delivery_facts order p c net = let next = deliver p c net in flat_map (λ (a : Act). lines next.deliveries a.agent (facts order p (step_between net next) a)) (choice_acts p c net)
+
+abbrev pub delivery_lines : Option (List ℕ) → Csp → ℕ → Network → List Line
+delivery_lines order p c net = lines_told order (delivery_facts order p c net)
 
 -- In the start an agent takes a value, or makes the step that refutes.
 abbrev pub first_step : Agent → Option ℕ
@@ -162,15 +172,18 @@ agentless [] = []
 agentless (s ∷ steps) = made_by_none s.variable
 
 -- the agents settle in order
-abbrev pub start_lines : Csp → List Line
-start_lines p = agentless (start p).steps ++ flat_map (λ (a : Act). lines 0 a.agent (facts p (first_step a.after) a)) (start_acts p)
+abbrev pub start_facts : Option (List ℕ) → Csp → List Line
+start_facts order p = agentless (start p).steps ++ flat_map (λ (a : Act). lines 0 a.agent (facts order p (first_step a.after) a)) (start_acts p)
+
+abbrev pub start_lines : Option (List ℕ) → Csp → List Line
+start_lines order p = lines_told order (start_facts order p)
 
 -- ---- runs
 
 -- delivery k under the choices, counted from 0
-abbrev pub lines_at : Csp → List ℕ → ℕ → List Line
-lines_at p choices k = delivery_lines p (slice_index choices k) (after p choices k)
+abbrev pub lines_at : Option (List ℕ) → Csp → List ℕ → ℕ → List Line
+lines_at order p choices k = delivery_lines order p (slice_index choices k) (after p choices k)
 
 -- the start and so many deliveries, one after the other
-abbrev pub events : Csp → List ℕ → ℕ → List (List Line)
-events p choices deliveries = start_lines p ∷ map (lines_at p choices) (below deliveries)
+abbrev pub events : Option (List ℕ) → Csp → List ℕ → ℕ → List (List Line)
+events order p choices deliveries = start_lines order p ∷ map (lines_at order p choices) (below deliveries)

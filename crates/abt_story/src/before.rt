@@ -1,24 +1,25 @@
 //! What an event's lines need of the agent as it is before.
 
-ghost use Rattle.std.specs.Prelude.{◌≡◌, ◌≢◌, ◌<◌, ◌∷◌, ◌++◌, ℕ, [], List, IfOk, None, OnOk, Some, false, length, map};
+ghost use Rattle.std.specs.Prelude.{◌≡◌, ◌≢◌, ◌<◌, ◌∷◌, ◌++◌, ℕ, [], List, IfOk, None, OnOk, Some, false, if◌then◌else◌, length, map, option_copied};
 ghost use Rattle.dcsp_defs.specs.declared.nogood.Pair.{Pair as ThePair};
 ghost use Rattle.dcsp_defs.specs.Csp.{domain as domain_of};
 ghost use Rattle.dcsp_rule.specs.Problems.{csp_of};
-ghost use Rattle.abt_defs.specs.Agents.{Message as TheMessage};
+ghost use Rattle.abt_defs.specs.Agents.{is_among, Message as TheMessage};
 ghost use Rattle.abt_defs.specs.Network.{Network as TheNetwork};
 ghost use Rattle.abt_parts.specs.Messages.{message_of};
 ghost use Rattle.abt_agent.specs.States.{stands_for};
 ghost use Rattle.abt_links.specs.Transit.{link_of};
 ghost use Rattle.abt_network.specs.Standing.{StandsAt};
-ghost use Rattle.abt_story.specs.Telling.{named_by};
+ghost use Rattle.abt_story.specs.Telling.{by_numbers, named_by};
 ghost use Rattle.abt_story.specs.Looking.{known_at, reason_in, steps_in, IsSeen};
 
 use abt_agent::Agent;
 use abt_network::Network;
 use abt_parts::{Message, Recorded};
 use dcsp_common::Memory;
-use dcsp_defs::{Pair, Reason};
+use dcsp_defs::{Nogood, Pair, Reason};
 use dcsp_domain::Domain;
+use dcsp_order::Order;
 use std::alloc::Global;
 
 /// An agent, and the stamp that a view has of it.
@@ -40,11 +41,15 @@ pub struct Before {
     pub reasons: Vec<Option<Reason>>,
     /// How many values it has taken.
     pub stamp: u64,
+    /// How many steps were made in the run.
+    pub steps: u64,
 }
 
-/// Looks at the receiver of what is delivered next from one agent to another, one with this domain.
+/// Looks at the receiver of what is delivered next from one agent to another, one with this domain, in a run under the
+/// order, if there is one.
 pub fn look(
     alloc: Global,
+    order: Option<&Order>,
     network: &Network,
     domain: &Domain,
     from: u32,
@@ -54,12 +59,13 @@ pub fn look(
     requires receiver { to < length network.now.problem.domains }
     requires domain { domain.now ≡ domain_of (csp_of network.now.problem) to }
     requires some { link_of network.now.links from to ≢ [] }
-    ensures { (net : TheNetwork) (m : TheMessage) (rest : List TheMessage) → StandsAt network.now net → net.links from to ≡ m ∷ rest
-        → IfOk result (IsSeen (csp_of network.now.problem) to (Some (from, m)) (net.agents to)) }
+    ensures seen { (net : TheNetwork) (m : TheMessage) (rest : List TheMessage) → StandsAt network.now net → net.links from to ≡ m ∷ rest
+        → IfOk result (IsSeen (option_copied order.entry) (csp_of network.now.problem) to (Some (from, m)) (net.agents to)) }
+    ensures steps { IfOk result (λ before. before.steps ≡ network.now.steps) }
 {
     let message = network.first(from, to).unwrap();
     let agent = network.agent(to);
-    let known = named_by(alloc, agent, from, message)?;
+    let known = named_by(alloc, order, agent, from, message)?;
     let kept = steps_of(alloc, agent.nogoods())?;
     let reasons = reasons_of(alloc, domain, agent)?;
     Ok(Before {
@@ -67,6 +73,7 @@ pub fn look(
         kept,
         reasons,
         stamp: agent.stamp(),
+        steps: network.steps(),
     })
 }
 
@@ -85,25 +92,73 @@ pub fn fresh(alloc: Global, domain: &Domain) -> Result<Before, Memory>
         kept: Vec::new(alloc),
         reasons,
         stamp: 0,
+        steps: 0,
     })
 }
 
 /// What the view has of the agents that a message from an agent names.
 fn named_by(
     alloc: Global,
+    order: Option<&Order>,
     agent: &Agent,
     from: u32,
     message: &Message,
 ) -> Result<Vec<Known>, Memory>
-    ensures { IfOk result (λ known. known.items ≡ map (known_at (stands_for agent.now).view) (named_by from (message_of message.now))) }
+    ensures { IfOk result (λ known. known.items ≡ map (known_at (stands_for agent.now).view) (named_by (option_copied order.entry) from (message_of message.now))) }
 {
     let mut known = Vec::new(alloc);
     match message {
         Message::Tell { .. } => add_known(agent, from, &mut known)?,
-        Message::Refuse { nogood, .. } => add_pairs(agent, nogood.pairs(), &mut known)?,
+        Message::Refuse { nogood, .. } => add_nogood(order, agent, nogood, &mut known)?,
         Message::AddLink => {}
     }
     Ok(known)
+}
+
+/// Adds what the view has of the agents of a nogood, in rising order of their own numbers.
+fn add_nogood(
+    order: Option<&Order>,
+    agent: &Agent,
+    nogood: &Nogood,
+    known: &mut Vec<Known>,
+) -> Result<(), Memory>
+    ensures { OnOk result (known.new.items ≡ known.old.items ++ map (known_at (stands_for agent.now).view) (by_numbers (option_copied order.entry) (map (λ (y : ThePair). y.var) nogood.now))) }
+{
+    match order {
+        Some(order) => add_by_numbers(order, agent, nogood, known),
+        None => add_pairs(agent, nogood.pairs(), known),
+    }
+}
+
+/// Adds what the view has of the agents of a nogood, which stand at places of the order, in rising order of their own
+/// numbers.
+fn add_by_numbers(
+    order: &Order,
+    agent: &Agent,
+    nogood: &Nogood,
+    known: &mut Vec<Known>,
+) -> Result<(), Memory>
+    ensures { OnOk result (known.new.items ≡ known.old.items ++ map (known_at (stands_for agent.now).view) (by_numbers (Some order.now) (map (λ (y : ThePair). y.var) nogood.now))) }
+{
+    for number in 0..order.numbers().len() as u32 {
+        add_if_named(agent, nogood, order.place(number), known)?;
+    }
+    Ok(())
+}
+
+/// Adds what the view has of an agent, if the nogood names it.
+fn add_if_named(
+    agent: &Agent,
+    nogood: &Nogood,
+    var: u32,
+    known: &mut Vec<Known>,
+) -> Result<(), Memory>
+    ensures { OnOk result (known.new.items ≡ known.old.items ++ map (known_at (stands_for agent.now).view) (if is_among var (map (λ (y : ThePair). y.var) nogood.now) then var ∷ [] else [])) }
+{
+    match nogood.value_of(var) {
+        Some(_) => add_known(agent, var, known),
+        None => Ok(()),
+    }
 }
 
 /// Adds what the view has of the agents of these pairs.

@@ -1,12 +1,14 @@
 //! What an agent did in an event, as lines.
 
-ghost use Rattle.std.specs.Prelude.{◌≡◌, ◌∷◌, ◌++◌, [], OnOk, false, length};
+ghost use Rattle.std.specs.Prelude.{◌≡◌, ◌∷◌, ◌++◌, [], OnOk, false, length, option_copied};
 ghost use Rattle.dcsp_defs.specs.Csp.{domain as domain_of};
 ghost use Rattle.dcsp_rule.specs.Problems.{csp_of};
 ghost use Rattle.abt_defs.specs.Agents.{is_among};
 ghost use Rattle.abt_defs.specs.Events.{Act};
 ghost use Rattle.abt_agent.specs.States.{stands_for};
 ghost use Rattle.abt_network.specs.Standing.{cargo_in};
+ghost use Rattle.dcsp_order.specs.Told.{number_told};
+ghost use Rattle.abt_story.specs.Numbers.{facts_told};
 ghost use Rattle.abt_story.specs.Telling.{answers, drops, enters, facts, is_later, makes, receives, takes};
 ghost use Rattle.abt_story.specs.Texts.{facts_text};
 ghost use Rattle.abt_story.specs.Looking.{came_in, cargo_by, entered, sent_facts, steps_in, IsDone, IsSeen};
@@ -18,6 +20,7 @@ use abt_agent::Agent;
 use abt_network::{Cargo, MessageKind, SentTo};
 use abt_parts::Recorded;
 use dcsp_domain::Domain;
+use dcsp_order::Order;
 use std::alloc::AllocError;
 
 /// A message that came.
@@ -31,6 +34,8 @@ pub struct Came {
 /// What an agent did in an event, besides what it has then.
 #[derive(Clone, Copy)]
 pub struct Deed<'a> {
+    /// The order whose numbers tell agents, where the run is one under an order.
+    pub order: Option<&'a Order>,
     pub who: Who,
     /// The message that came; none at the start.
     pub came: Option<Came>,
@@ -40,12 +45,27 @@ pub struct Deed<'a> {
     pub sent: &'a [SentTo],
 }
 
+/// The number by which an agent is told.
+pub fn number_told(order: Option<&Order>, agent: u32) -> u32
+    ensures { result ≡ number_told (option_copied order.entry) agent }
+{
+    match order {
+        Some(order) => order.number(agent),
+        None => agent,
+    }
+}
+
 /// Pushes what came, if anything did.
-fn push_came(who: Who, came: Option<Came>, into: &mut Vec<u8>) -> Result<(), AllocError>
-    ensures { OnOk result (into.new.items ≡ into.old.items ++ facts_text who.event who.agent (receives (came_in came))) }
+fn push_came(
+    order: Option<&Order>,
+    who: Who,
+    came: Option<Came>,
+    into: &mut Vec<u8>,
+) -> Result<(), AllocError>
+    ensures { OnOk result (into.new.items ≡ into.old.items ++ facts_text who.event who.agent (facts_told (option_copied order.entry) (receives (came_in came)))) }
 {
     match came {
-        Some(came) => push_received(who, came.from, came.cargo, into),
+        Some(came) => push_received(who, number_told(order, came.from), came.cargo, into),
         None => Ok(()),
     }
 }
@@ -62,16 +82,17 @@ fn is_later(known: Option<u64>, stamp: u64) -> bool
 
 /// Pushes that an agent's value entered the view, where it did.
 fn push_if_newer(
+    order: Option<&Order>,
     who: Who,
     known: Known,
     agent: &Agent,
     into: &mut Vec<u8>,
 ) -> Result<(), AllocError>
-    ensures { OnOk result (into.new.items ≡ into.old.items ++ facts_text who.event who.agent (enters known.var known.stamp ((stands_for agent.now).view known.var))) }
+    ensures { OnOk result (into.new.items ≡ into.old.items ++ facts_text who.event who.agent (facts_told (option_copied order.entry) (enters known.var known.stamp ((stands_for agent.now).view known.var)))) }
 {
     match agent.told(known.var) {
         Some(told) if is_later(known.stamp, told.stamp) => {
-            push_knows(who, known.var, told.value, into)
+            push_knows(who, number_told(order, known.var), told.value, into)
         }
         Some(_) | None => Ok(()),
     }
@@ -79,15 +100,16 @@ fn push_if_newer(
 
 /// Pushes what entered the view.
 fn push_entered(
+    order: Option<&Order>,
     who: Who,
     known: &[Known],
     agent: &Agent,
     into: &mut Vec<u8>,
 ) -> Result<(), AllocError>
-    ensures { OnOk result (into.new.items ≡ into.old.items ++ facts_text who.event who.agent (entered known.now (stands_for agent.now).view)) }
+    ensures { OnOk result (into.new.items ≡ into.old.items ++ facts_text who.event who.agent (facts_told (option_copied order.entry) (entered known.now (stands_for agent.now).view))) }
 {
     for seen in known {
-        push_if_newer(who, *seen, agent, into)?;
+        push_if_newer(order, who, *seen, agent, into)?;
     }
     Ok(())
 }
@@ -199,11 +221,11 @@ fn cargo_by(kind: MessageKind, value: Option<i64>, made: Option<u64>) -> Cargo
 
 /// Pushes what was sent by an agent that has this value then.
 fn push_sent(deed: &Deed, value: Option<i64>, into: &mut Vec<u8>) -> Result<(), AllocError>
-    ensures { OnOk result (into.new.items ≡ into.old.items ++ facts_text deed.now.who.event deed.now.who.agent (sent_facts deed.now.sent.now value deed.now.made)) }
+    ensures { OnOk result (into.new.items ≡ into.old.items ++ facts_text deed.now.who.event deed.now.who.agent (facts_told (option_copied deed.now.order) (sent_facts deed.now.sent.now value deed.now.made))) }
 {
     for message in deed.sent {
         let cargo = cargo_by(message.kind, value, deed.made);
-        push_sends(deed.who, message.to, cargo, into)?;
+        push_sends(deed.who, number_told(deed.order, message.to), cargo, into)?;
     }
     Ok(())
 }
@@ -219,12 +241,12 @@ pub fn push_deed(
     requires sound { agent.now.spent ≡ false }
     requires domain { domain.now ≡ domain_of (csp_of agent.now.problem) agent.now.me }
     requires long { length before.now.reasons.items ≡ length domain.now }
-    ensures { (a : Act) → IsSeen (csp_of agent.now.problem) agent.now.me a.came a.before before.now → IsDone a deed.now agent.now
-        → OnOk result (into.new.items ≡ into.old.items ++ facts_text deed.now.who.event deed.now.who.agent (facts (csp_of agent.now.problem) deed.now.made a)) }
+    ensures { let order = option_copied deed.now.order in (a : Act) → IsSeen order (csp_of agent.now.problem) agent.now.me a.came a.before before.now → IsDone a deed.now agent.now
+        → OnOk result (into.new.items ≡ into.old.items ++ facts_text deed.now.who.event deed.now.who.agent (facts_told order (facts order (csp_of agent.now.problem) deed.now.made a))) }
 {
     let who = deed.who;
-    push_came(who, deed.came, into)?;
-    push_entered(who, &before.known, agent, into)?;
+    push_came(deed.order, who, deed.came, into)?;
+    push_entered(deed.order, who, &before.known, agent, into)?;
     push_dropped(who, &before.kept, agent.nogoods(), into)?;
     push_answer(who, deed.came, agent.nogoods(), into)?;
     push_out(who, domain, &before.reasons, agent, into)?;

@@ -1,26 +1,31 @@
 //! One delivery with its lines.
 
-ghost use Rattle.std.specs.Prelude.{◌≡◌, ◌<◌, ◌∷◌, ◌++◌, ◌==◌, ℕ, [], List, None, OnOk, Some, false, if◌then◌else◌, length, true};
+ghost use Rattle.std.specs.Prelude.{◌≡◌, ◌<◌, ◌∷◌, ◌++◌, ◌==◌, ℕ, [], List, None, OnOk, Some, false, if◌then◌else◌, length, option_copied, true};
 ghost use Rattle.dcsp_defs.specs.Csp.{domain};
 ghost use Rattle.dcsp_rule.specs.Problems.{csp_of};
 ghost use Rattle.abt_defs.specs.Events.{Act};
 ghost use Rattle.abt_defs.specs.Network.{Network as TheNetwork};
 ghost use Rattle.abt_network.specs.Standing.{reached, CanDeliver, StandsAt};
+ghost use Rattle.dcsp_order.specs.Told.{number_told};
+ghost use Rattle.abt_story.specs.Numbers.{facts_told};
 ghost use Rattle.abt_story.specs.Telling.{delivery_lines, facts, step_between};
 ghost use Rattle.abt_story.specs.Texts.{facts_text, lines_text};
 ghost use Rattle.abt_story.specs.Looking.{IsMade, IsSeen};
 
 use crate::before::{Before, look};
-use crate::deed::{Came, Deed, push_deed};
+use crate::deed::{Came, Deed, number_told, push_deed};
 use crate::texts::Who;
 use abt_network::{Delivery, Network};
 use dcsp_common::Memory;
+use dcsp_order::Order;
 use dcsp_problem::Problem;
 use std::alloc::Global;
 
-/// Makes one delivery, and pushes its lines.
+/// Makes one delivery of a run, and pushes its lines. Where the run is one under an order, agents are told by the
+/// order's numbers.
 pub fn tell_delivery(
     alloc: Global,
+    order: Option<&Order>,
     problem: &Problem,
     network: &mut Network,
     choice: u32,
@@ -31,17 +36,16 @@ pub fn tell_delivery(
     requires problem { network.old.problem ≡ problem.now }
     requires on_run { (choices : List ℕ) × StandsAt network.old (reached network.old choices) }
     ensures told { (choices : List ℕ) → StandsAt network.old (reached network.old choices)
-        → OnOk result (into.new.items ≡ into.old.items ++ lines_text (delivery_lines (csp_of problem.now) choice (reached network.old choices))) }
+        → OnOk result (into.new.items ≡ into.old.items ++ lines_text (delivery_lines (option_copied order.entry) (csp_of problem.now) choice (reached network.old choices))) }
     ensures stands { (choices : List ℕ) → StandsAt network.old (reached network.old choices) → OnOk result (StandsAt network.new (reached network.old (choices ++ choice ∷ []))) }
     ensures sound { OnOk result (network.new.spent ≡ false) }
     ensures begun { OnOk result (network.new.begun ≡ true) }
     ensures problem { network.new.problem ≡ network.old.problem }
 {
     let (from, to) = network.ready_pair(choice % network.ready());
-    let before = look(alloc, network, problem.domain(to), from, to)?;
-    let steps = network.steps();
+    let before = look(alloc, order, network, problem.domain(to), from, to)?;
     let delivery = network.deliver(choice)?;
-    tell_made(problem, network, &before, steps, &delivery, into)
+    tell_made(order, problem, network, &before, &delivery, into)
 }
 
 /// The number of the step that was made since so many steps were made, if one was.
@@ -51,12 +55,12 @@ fn step_since(before: u64, now: u64) -> Option<u64>
     if now == before { None } else { Some(now) }
 }
 
-/// Pushes the lines of the delivery that was made, before which so many steps were made.
+/// Pushes the lines of the delivery that was made.
 fn tell_made(
+    order: Option<&Order>,
     problem: &Problem,
     network: &Network,
     before: &Before,
-    steps: u64,
     delivery: &Delivery,
     into: &mut Vec<u8>,
 ) -> Result<(), Memory>
@@ -64,19 +68,21 @@ fn tell_made(
     requires problem { network.now.problem ≡ problem.now }
     requires receiver { delivery.now.to < length problem.now.domains }
     requires long { length before.now.reasons.items ≡ length (domain (csp_of problem.now) delivery.now.to) }
-    ensures { (a : Act) (old net : TheNetwork) → StandsAt network.now net → IsSeen (csp_of problem.now) delivery.now.to a.came a.before before.now → IsMade a delivery.now steps network.now.sent old net
-        → OnOk result (into.new.items ≡ into.old.items ++ facts_text net.deliveries delivery.now.to (facts (csp_of problem.now) (step_between old net) a)) }
+    ensures { let told = option_copied order.entry in (a : Act) (old net : TheNetwork) → StandsAt network.now net → IsSeen told (csp_of problem.now) delivery.now.to a.came a.before before.now
+        → IsMade a delivery.now before.now.steps network.now.sent old net
+        → OnOk result (into.new.items ≡ into.old.items ++ facts_text net.deliveries (number_told told delivery.now.to) (facts_told told (facts told (csp_of problem.now) (step_between old net) a))) }
 {
     let deed = Deed {
+        order,
         who: Who {
             event: network.deliveries(),
-            agent: delivery.to,
+            agent: number_told(order, delivery.to),
         },
         came: Some(Came {
             from: delivery.from,
             cargo: delivery.cargo,
         }),
-        made: step_since(steps, network.steps()),
+        made: step_since(before.steps, network.steps()),
         sent: network.sent(),
     };
     let domain = problem.domain(delivery.to);

@@ -1,6 +1,6 @@
 //! The start with its lines.
 
-ghost use Rattle.std.specs.Prelude.{◌≡◌, ◌<◌, ◌≤◌, ◌∷◌, ◌++◌, [], IfOk, OnOk, false, flat_map, length, map, true};
+ghost use Rattle.std.specs.Prelude.{◌≡◌, ◌<◌, ◌≤◌, ◌∷◌, ◌++◌, [], IfOk, OnOk, false, flat_map, length, map, option_copied, true};
 ghost use Rattle.dcsp_defs.specs.Words.{below};
 ghost use Rattle.dcsp_rule.specs.Problems.{csp_of};
 ghost use Rattle.abt_defs.specs.Network.{start};
@@ -13,17 +13,20 @@ ghost use Rattle.abt_story.specs.Texts.{lines_text};
 ghost use Rattle.abt_story.specs.Looking.{first_text, tell_to};
 
 use crate::before::fresh;
-use crate::deed::{Deed, push_deed};
+use crate::deed::{Deed, number_told, push_deed};
 use crate::texts::Who;
 use abt_agent::Agent;
 use abt_network::{Begun, MessageKind, Network, SentTo};
 use dcsp_common::Memory;
+use dcsp_order::Order;
 use dcsp_problem::Problem;
 use std::alloc::Global;
 
-/// Starts the agents of a problem, and pushes the lines of the start.
+/// Starts the agents of a problem, and pushes the lines of the start. Where the run is one under an order, agents are
+/// told by the order's numbers.
 pub fn tell_start(
     alloc: Global,
+    order: Option<&Order>,
     problem: &Problem,
     network: &mut Network,
     into: &mut Vec<u8>,
@@ -31,7 +34,7 @@ pub fn tell_start(
     requires sound { network.old.spent ≡ false }
     requires fresh { network.old.begun ≡ false }
     requires problem { network.old.problem ≡ problem.now }
-    ensures told { OnOk result (into.new.items ≡ into.old.items ++ lines_text (start_lines (csp_of problem.now))) }
+    ensures told { OnOk result (into.new.items ≡ into.old.items ++ lines_text (start_lines (option_copied order.entry) (csp_of problem.now))) }
     ensures stands { OnOk result (StandsAt network.new (start (csp_of problem.now))) }
     ensures sound { OnOk result (network.new.spent ≡ false) }
     ensures begun { OnOk result (network.new.begun ≡ true) }
@@ -42,6 +45,7 @@ pub fn tell_start(
     tell_agentless(&begun, into)?;
     tell_settlings(
         alloc,
+        order,
         problem,
         network,
         settled_by(problem.vars(), &begun),
@@ -83,6 +87,7 @@ fn settled_by(agents: u32, begun: &Begun) -> u32
 /// Pushes the lines of so many first agents.
 fn tell_settlings(
     alloc: Global,
+    order: Option<&Order>,
     problem: &Problem,
     network: &Network,
     settled: u32,
@@ -92,10 +97,10 @@ fn tell_settlings(
     requires problem { network.now.problem ≡ problem.now }
     requires stands { StandsAt network.now (start (csp_of problem.now)) }
     requires starts { StartsWith (csp_of problem.now) settled }
-    ensures { OnOk result (into.new.items ≡ into.old.items ++ flat_map (first_text (csp_of problem.now)) (below settled)) }
+    ensures { OnOk result (into.new.items ≡ into.old.items ++ flat_map (first_text (option_copied order.entry) (csp_of problem.now)) (below settled)) }
 {
     for agent in 0..settled {
-        tell_settling(alloc, problem, network, agent, into)?;
+        tell_settling(alloc, order, problem, network, agent, into)?;
     }
     Ok(())
 }
@@ -103,6 +108,7 @@ fn tell_settlings(
 /// Pushes the lines of an agent that settled in the start.
 fn tell_settling(
     alloc: Global,
+    order: Option<&Order>,
     problem: &Problem,
     network: &Network,
     agent: u32,
@@ -112,14 +118,18 @@ fn tell_settling(
     requires problem { network.now.problem ≡ problem.now }
     requires exists { agent < length problem.now.domains }
     requires settled { stands_for (state_at network.now.agents agent) ≡ (first_outcome (csp_of problem.now) agent).agent }
-    ensures { OnOk result (into.new.items ≡ into.old.items ++ first_text (csp_of problem.now) agent) }
+    ensures { OnOk result (into.new.items ≡ into.old.items ++ first_text (option_copied order.entry) (csp_of problem.now) agent) }
 {
     let domain = problem.domain(agent);
     let before = fresh(alloc, domain)?;
     let settled = network.agent(agent);
     let sent = sent_by(alloc, problem, agent, settled)?;
     let deed = Deed {
-        who: Who { event: 0, agent },
+        order,
+        who: Who {
+            event: 0,
+            agent: number_told(order, agent),
+        },
         came: None,
         made: first_step(settled),
         sent: &sent,

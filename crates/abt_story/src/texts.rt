@@ -18,7 +18,7 @@ use std::alloc::AllocError;
 pub struct Who {
     /// The number of the event: 0 for the start.
     pub event: u64,
-    /// The agent, counted from 0.
+    /// The agent's own number, counted from 0.
     pub agent: u32,
 }
 

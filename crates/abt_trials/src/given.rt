@@ -17,6 +17,10 @@ pub const PAIR_LOG: &[u8] =
 pub const APART: &[u8] =
     b"var 0..1: x :: output_var;\nvar 0..1: y :: output_var;\nconstraint int_ne(x,y);\nsolve satisfy;\n";
 
+/// Three variables with one value each, and one that has none beside them.
+pub const STAR: &[u8] =
+    b"var 0..0: x1;\nvar 1..1: x2;\nvar 2..2: x3;\nvar 0..2: x4;\nconstraint int_ne(x1,x4);\nconstraint int_ne(x2,x4);\nconstraint int_ne(x3,x4);\nsolve satisfy;\n";
+
 /// Three variables, of which the first two differ from the third.
 pub const LINKED: &[u8] =
     b"var 0..1: x :: output_var;\nvar 1..1: y :: output_var;\nvar 0..1: z :: output_var;\n\

@@ -18,7 +18,7 @@ struct Line {
 /// Each of the two literals, and neither.
 const FORMULA: &[u8] = b"p cnf 2 3\n1 2 0\n-1 0\n-2 0\n";
 
-const LINES: [Line; 23] = [
+const LINES: [Line; 25] = [
     Line {
         words: &["check", "m.fzn", "l.ngd"],
         files: [("m.fzn", PAIR), ("l.ngd", PAIR_LOG)],
@@ -40,8 +40,8 @@ const LINES: [Line; 23] = [
         creates: &[],
     },
     Line {
-        words: &["survey", "m.fzn", "3", "--from", "7"],
-        files: [("m.fzn", PAIR), NO_FILE],
+        words: &["survey", "m.fzn", "3", "--from", "7", "--order", "o"],
+        files: [("m.fzn", PAIR), ("o", b"order 1\n2\n1\nend\n")],
         creates: &[],
     },
     Line {
@@ -76,6 +76,16 @@ const LINES: [Line; 23] = [
     },
     Line {
         words: &["gen", "binary", "3", "2", "2", "1", "7"],
+        files: [NO_FILE, NO_FILE],
+        creates: &[],
+    },
+    Line {
+        words: &["gen", "meetings", "3", "2", "2", "3", "1", "7"],
+        files: [NO_FILE, NO_FILE],
+        creates: &[],
+    },
+    Line {
+        words: &["gen", "sensors", "2", "2", "3", "7"],
         files: [NO_FILE, NO_FILE],
         creates: &[],
     },

@@ -1,11 +1,11 @@
 //! Runs over a medium that loses, repeats and reorders.
 
-use crate::given::{APART, Case, LINKED, Left, NO_FILE, PAIR, PAIR_LOG, left_by, run_over};
+use crate::given::{APART, Case, LINKED, Left, NO_FILE, PAIR, PAIR_LOG, STAR, left_by, run_over};
 use itoa::Buffer;
 use std::alloc::Global;
 use std::process::Abort;
 
-const CASES: [Case; 7] = [
+const CASES: [Case; 8] = [
     Case {
         words: &["lossy", "m.fzn", "l.ngd", "0", "18446744073709551615"],
         files: [("m.fzn", PAIR), NO_FILE],
@@ -40,6 +40,16 @@ const CASES: [Case; 7] = [
         out: b"x = 0;\ny = 1;\n----------\n% deliveries 1\n% steps 0\n% events 2\n",
         err: b"",
         log: b"ngd 1\nend\n",
+        record: b"",
+    },
+    // Under an order the log has the model's numbers, and refutes the model as it stands.
+    Case {
+        words: &["lossy", "m.fzn", "l.ngd", "0", "0", "--order", "o"],
+        files: [("m.fzn", STAR), ("o", b"order 1\n2\n1\n3\n4\nend\n")],
+        code: 1,
+        out: b"=====UNSATISFIABLE=====\n% deliveries 12\n% steps 4\n% events 35\n",
+        err: b"",
+        log: b"ngd 1\n1 v4 [v1=0,v2=1,v3=2] <- c1 c2 c3\n2 v3 [v1=0,v2=1] <- n1\n3 v1 [v2=1] <- n2\n4 v2 [] <- n3\nend\n",
         record: b"",
     },
     // A world that is quiet at the start makes no event.

@@ -9,7 +9,7 @@ use std::process::Abort;
 /// What `--help` prints.
 const HELP: &[u8] = b"abt: asynchronous backtracking over FlatZinc, with certified answers
 
-  abt solve MODEL LOG [--seed N] [--choices N] [--record FILE] [--trace] [--progress] [--each] [--halves]
+  abt solve MODEL LOG [--seed N] [--choices N] [--record FILE] [--order FILE] [--trace] [--progress] [--each] [--halves]
                         runs the agents of the model, with deliveries chosen from a seed:
                         prints a solution, `=====UNSATISFIABLE=====` or `=====UNKNOWN=====`,
                         and writes the log of its derivations; FILE holds the choices. Where
@@ -17,8 +17,9 @@ const HELP: &[u8] = b"abt: asynchronous backtracking over FlatZinc, with certifi
                         solution and `==========`, and LOG refutes every better value. With
                         --choices the run, or each round of a search, has N choices; with
                         --each a search prints all it finds, with --halves in few rounds;
-                        --progress tells each million deliveries how far the run is
-  abt replay MODEL SCHEDULE LOG [--trace]
+                        --progress tells each million deliveries how far the run is;
+                        with --order the agents have the priorities that `order` wrote
+  abt replay MODEL SCHEDULE LOG [--trace] [--order FILE]
                         runs them under the choices of a schedule, as a record is
   abt check MODEL LOG [--better N]
                         checks whether the log refutes the model: prints `verified`,
@@ -35,22 +36,23 @@ const HELP: &[u8] = b"abt: asynchronous backtracking over FlatZinc, with certifi
                         writes the refutation as a formula in DIMACS, CNF, and a PROOF that
                         SAT checkers read; with --atoms, comments tell what each variable of
                         the formula says; with --better, the log is that of a best value
-  abt starve MODEL FROM TO FILE
+  abt starve MODEL FROM TO FILE [--order FILE]
                         writes to FILE the choices of a run that delivers from the agent of
                         variable FROM to that of TO only where nothing else is in transit
-  abt lossy MODEL LOG EVENTS SEED [--record FILE]
+  abt lossy MODEL LOG EVENTS SEED [--record FILE] [--order FILE]
                         runs the agents over a medium that loses, repeats and reorders in
                         EVENTS events, 0 to 1000000, drawn from SEED, and then calms down
-  abt measure MODEL SCHEDULE
+  abt measure MODEL SCHEDULE [--order FILE]
                         prints the measures of a run under the choices of a schedule, as a
                         record is: messages, checks, nogoods, and what each agent learned
-  abt survey MODEL COUNT [--from SEED]
+  abt survey MODEL COUNT [--from SEED] [--order FILE]
                         prints a table of the measures of the runs of COUNT seeds from SEED
                         on, 0 if not given: names of columns, and a line for each seed
-  abt story MODEL SCHEDULE FILE
+  abt story MODEL SCHEDULE FILE [--order FILE]
                         writes to FILE what happens in a run under the choices of a schedule,
                         as a record is: what each agent receives, learns, rules out and sends
-  abt bound MODEL       prints how many messages a run delivers at most
+  abt bound MODEL [--order FILE]
+                        prints how many messages a run delivers at most
   abt order MODEL RULE FILE
                         writes to FILE an order of the variables by RULE: `degree`, more
                         neighbours first; `links`, each time most neighbours among those
@@ -65,6 +67,12 @@ const HELP: &[u8] = b"abt: asynchronous backtracking over FlatZinc, with certifi
                         prints a random problem of N variables, 1 to 200, with D values, 1
                         to 100, and EDGES constraints of two variables, each of which forbids
                         PAIRS pairs of values
+  abt gen meetings PEOPLE MEETINGS EACH HOURS BUSY SEED
+                        prints a problem of MEETINGS, 1 to 64, of EACH of the PEOPLE, 1 to 64,
+                        who have HOURS, 1 to 100, and are not free in BUSY of them
+  abt gen sensors SIDE TARGETS SEES SEED
+                        prints a problem of TARGETS, 1 to 32, for each of which three of SEES
+                        sensors are wanted that hear each other, in SIDE rows, 2 to 16
   abt drill SEED        runs three generated models, and checks the log of the last
   abt cnf CNF PROOF [--seed N]
                         runs the agents of a formula in DIMACS: prints `s SATISFIABLE` and its
@@ -90,24 +98,26 @@ is proved, docs/FORMATS.md the formats and the lines that refuse a file.
 
 /// What `--usage` prints; tests/usage.sh reads it here.
 const USAGE: &[u8] =
-    b"solve file:MODEL:model:read file:LOG:log:written --seed=number:N:0:18446744073709551615 --choices=number:N:0:1099511627776 --record=file:FILE:schedule:written --trace --progress --each --halves
-replay file:MODEL:model:read file:SCHEDULE:schedule:read file:LOG:log:written --trace
+    b"solve file:MODEL:model:read file:LOG:log:written --seed=number:N:0:18446744073709551615 --choices=number:N:0:1099511627776 --record=file:FILE:schedule:written --order=file:FILE:order:read --trace --progress --each --halves
+replay file:MODEL:model:read file:SCHEDULE:schedule:read file:LOG:log:written --trace --order=file:FILE:order:read
 check file:MODEL:model:read file:LOG:log:read --better=signed:N:-9223372036854775808:9223372036854775807
 upgrade file:LOG:log:read file:NEW:log:written
 core file:MODEL:model:read file:LOG:log:read file:TRIMMED:log:written --better=signed:N:-9223372036854775808:9223372036854775807
 export file:MODEL:model:read file:LOG:log:read file:CNF:formula:written file:PROOF:proof:written --atoms --better=signed:N:-9223372036854775808:9223372036854775807
-starve file:MODEL:model:read number:FROM:1:4096 number:TO:1:4096 file:FILE:schedule:written
-lossy file:MODEL:model:read file:LOG:log:written number:EVENTS:0:1000000 number:SEED:0:18446744073709551615 --record=file:FILE:schedule:written
-measure file:MODEL:model:read file:SCHEDULE:schedule:read
-survey file:MODEL:model:read number:COUNT:1:1000000 --from=number:SEED:0:18446744073709551615
-story file:MODEL:model:read file:SCHEDULE:schedule:read file:FILE:story:written
-bound file:MODEL:model:read
+starve file:MODEL:model:read number:FROM:1:4096 number:TO:1:4096 file:FILE:schedule:written --order=file:FILE:order:read
+lossy file:MODEL:model:read file:LOG:log:written number:EVENTS:0:1000000 number:SEED:0:18446744073709551615 --record=file:FILE:schedule:written --order=file:FILE:order:read
+measure file:MODEL:model:read file:SCHEDULE:schedule:read --order=file:FILE:order:read
+survey file:MODEL:model:read number:COUNT:1:1000000 --from=number:SEED:0:18446744073709551615 --order=file:FILE:order:read
+story file:MODEL:model:read file:SCHEDULE:schedule:read file:FILE:story:written --order=file:FILE:order:read
+bound file:MODEL:model:read --order=file:FILE:order:read
 order file:MODEL:model:read word:RULE:degree:links:reverse file:FILE:order:written
 gen queens number:N:1:200
 gen colouring number:N:1:200 number:K:1:16 number:SEED:0:18446744073709551615
 gen sparse number:N:1:4096 number:SEED:0:18446744073709551615
 gen pigeons number:N:2:200
 gen binary number:N:1:200 number:D:1:100 number:EDGES:0:19900 number:PAIRS:0:10000 number:SEED:0:18446744073709551615
+gen meetings number:PEOPLE:1:64 number:MEETINGS:1:64 number:EACH:1:64 number:HOURS:1:100 number:BUSY:0:99 number:SEED:0:18446744073709551615
+gen sensors number:SIDE:2:16 number:TARGETS:1:32 number:SEES:3:256 number:SEED:0:18446744073709551615
 drill number:SEED:0:18446744073709551615
 cnf file:CNF:formula:read file:PROOF:proof:written --seed=number:N:0:18446744073709551615
 rup file:CNF:formula:read file:PROOF:proof:read

@@ -1,6 +1,6 @@
 //! The line `story`.
 
-use crate::given::{File, LINKED, PAIR, left_by};
+use crate::given::{File, LINKED, PAIR, STAR, left_by};
 
 const NINE: &[u8] = b"schedule 1\n0\n0\n0\n0\n0\n0\n0\n0\n0\nend\n";
 
@@ -99,4 +99,29 @@ fn runs_are_told(rt: HostRuntime) {
         left.expect_text(&rt, "t.txt", run.story);
         left.end();
     }
+}
+
+/// The second variable goes first.
+const ORDER: &[u8] = b"order 1\n2\n1\n3\n4\nend\n";
+
+const ELEVEN: &[u8] = b"schedule 1\n1\n1\n0\n0\n1\n1\n0\n0\n0\n0\n1\nend\n";
+
+/// The story of its run under the order: agents have the model's numbers, and stand and send in the order's.
+const ORDERED: &[u8] =
+    b"story 1\n0 v2 takes 1\n0 v2 sends v4 ok 1\n0 v1 takes 0\n0 v1 sends v4 ok 0\n0 v3 takes 2\n0 v3 sends v4 ok 2\n\
+0 v4 takes 0\n1 v1>v4 ok 0\n1 v4 knows v1=0\n1 v4 out 0:c1\n1 v4 takes 1\n2 v3>v4 ok 2\n2 v4 knows v3=2\n2 v4 out 0:c1 2:c3\n\
+3 v2>v4 ok 1\n3 v4 knows v2=1\n3 v4 out 0:c1 1:c2 2:c3\n3 v4 makes n1\n3 v4 sends v3 nogood 1\n4 v4>v3 nogood 1\n\
+4 v3 knows v1=0\n4 v3 knows v2=1\n4 v3 keeps n1\n4 v3 out 2:n1\n4 v3 makes n2\n4 v3 sends v2 link\n4 v3 sends v1 link\n\
+4 v3 sends v1 nogood 2\n5 v3>v1 link\n5 v1 sends v3 ok 0\n6 v3>v2 link\n6 v2 sends v3 ok 1\n7 v2>v3 ok 1\n8 v1>v3 ok 0\n\
+9 v3>v1 nogood 2\n9 v1 knows v2=1\n9 v1 keeps n2\n9 v1 out 0:n2\n9 v1 makes n3\n9 v1 sends v2 link\n9 v1 sends v2 nogood 3\n\
+10 v1>v2 link\n10 v2 sends v1 ok 1\n11 v1>v2 nogood 3\n11 v2 keeps n3\n11 v2 out 1:n3\n11 v2 makes n4\nend refuted\n";
+
+#[test]
+fn a_run_under_an_order_is_told(rt: HostRuntime) {
+    let files = [("m.fzn", STAR), ("s.sch", ELEVEN), ("o", ORDER)];
+    let words = ["story", "m.fzn", "s.sch", "t.txt", "--order", "o"];
+    let left = left_by(&rt, rt.alloc(), &files, &words, 0);
+    left.expect(&rt, 0, b"story refuted deliveries 11\n", b"");
+    left.expect_text(&rt, "t.txt", ORDERED);
+    left.end();
 }

@@ -6,8 +6,9 @@ use std::alloc::Global;
 use std::process::Abort;
 
 /// Words of each line but `drill`, which runs long.
-const LINES: [&[&str]; 61] = [
+const LINES: [&[&str]; 71] = [
     &["story", "m", "s", "f"],
+    &["story", "m", "s", "f", "--order", "o"],
     &["measure", "m", "s"],
     &["survey", "m", "1"],
     &["survey", "m", "1000000", "--from", "18446744073708551616"],
@@ -67,7 +68,12 @@ const LINES: [&[&str]; 61] = [
     &["lossy", "m", "l", "0", "0"],
     &["lossy", "m", "l", "1000000", "18446744073709551615"],
     &["lossy", "m", "l", "1", "1", "--record", "r"],
+    &["lossy", "m", "l", "1", "1", "--order", "o", "--record", "r"],
     &["bound", "m"],
+    &["bound", "m", "--order", "o"],
+    &["starve", "m", "1", "1", "f", "--order", "o"],
+    &["measure", "m", "s", "--order", "o"],
+    &["survey", "m", "1", "--order", "o", "--from", "3"],
     &["order", "m", "degree", "o"],
     &["order", "m", "links", "o"],
     &["order", "m", "reverse", "o"],
@@ -81,6 +87,19 @@ const LINES: [&[&str]; 61] = [
     &["gen", "binary", "1", "1", "0", "1", "0"],
     &["gen", "binary", "3", "2", "2", "4", "18446744073709551615"],
     &["gen", "binary", "200", "1", "19900", "1", "0"],
+    &["gen", "meetings", "1", "1", "1", "1", "0", "0"],
+    &[
+        "gen",
+        "meetings",
+        "64",
+        "2",
+        "64",
+        "100",
+        "99",
+        "18446744073709551615",
+    ],
+    &["gen", "sensors", "2", "32", "3", "0"],
+    &["gen", "sensors", "16", "1", "256", "18446744073709551615"],
     &["cnf", "c", "p"],
     &["cnf", "c", "p", "--seed", "1"],
     &["rup", "c", "p"],
@@ -91,8 +110,10 @@ const LINES: [&[&str]; 61] = [
 
 /// Words that are no line: too few or too many; options twice, first, without a value or of another line; names
 /// that are equal, empty or begin with `-`; numbers with a sign, with a leading zero or out of range.
-const NO_LINES: [&[&str]; 162] = [
+const NO_LINES: [&[&str]; 110] = [
     &["story", "m", "s"],
+    &["story", "m", "s", "f", "--order", "s"],
+    &["lossy", "m", "l", "1", "1", "--order"],
     &["story", "m", "s", "s"],
     &["story", "m", "s", "f", "--trace"],
     &["measure", "m"],
@@ -194,10 +215,18 @@ const NO_LINES: [&[&str]; 162] = [
     &["lossy", "m", "m", "1", "1"],
     &["bound", "-m"],
     &["bound", "m", "m"],
+    &["bound", "m", "--order", "m"],
+    &["bound", "m", "--order"],
+    &["starve", "m", "1", "2", "f", "--order", "f"],
+    &["measure", "m", "s", "--order", "o", "--order", "p"],
     &["bound"],
     &["order", "m", "left", "o"],
     &["order", "m", "links", "m"],
     &["order", "m", "links"],
+];
+
+/// Words that are no line, as `NO_LINES`: of the lines that take no model, of help, and words with an empty one.
+const NO_OTHER_LINES: [&[&str]; 68] = [
     &["gen", "queens", "0"],
     &["gen", "queens", "201"],
     &["gen", "queens", "01"],
@@ -224,6 +253,16 @@ const NO_LINES: [&[&str]; 162] = [
     &["gen", "binary", "3", "2", "2", "5", "0"],
     &["gen", "binary", "3", "0", "0", "0", "0"],
     &["gen", "binary", "3", "2", "2", "1"],
+    &["gen", "meetings", "3", "2", "4", "3", "1", "0"],
+    &["gen", "meetings", "3", "2", "2", "3", "3", "0"],
+    &["gen", "meetings", "3", "2", "0", "3", "1", "0"],
+    &["gen", "meetings", "65", "2", "2", "3", "1", "0"],
+    &["gen", "meetings", "3", "2", "2", "3", "1"],
+    &["gen", "sensors", "2", "1", "5", "0"],
+    &["gen", "sensors", "1", "1", "3", "0"],
+    &["gen", "sensors", "2", "33", "3", "0"],
+    &["gen", "sensors", "2", "1", "2", "0"],
+    &["gen", "sensors", "2", "1", "3"],
     &["queens", "1"],
     &["drill"],
     &["drill", "-1"],
@@ -277,6 +316,14 @@ fn lines_are_taken(rt: HostRuntime) {
 #[test]
 fn other_words_are_refused(rt: HostRuntime) {
     for words in NO_LINES {
+        let code = ended(&rt, rt.alloc(), words);
+        assert_eq!(rt; code, 2, "{words:?}");
+    }
+}
+
+#[test]
+fn words_without_a_model_are_refused(rt: HostRuntime) {
+    for words in NO_OTHER_LINES {
         let code = ended(&rt, rt.alloc(), words);
         assert_eq!(rt; code, 2, "{words:?}");
     }

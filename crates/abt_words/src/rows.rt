@@ -8,6 +8,19 @@ use crate::row::{
     Access, Content, LineOption, OptionOf, Place, PlaceOf, Row, RowOf, WordKind, WordKindOf,
 };
 
+/// A word that is a number within bounds.
+macro_rules! number {
+    ($shown:literal, $least:literal, $most:expr) => {
+        PlaceOf {
+            shown: $shown,
+            kind: WordKindOf::Number {
+                least: $least,
+                most: $most,
+            },
+        }
+    };
+}
+
 /// The lines of the program, in the order in which help shows them.
 #[derive(Clone, Copy, Debug, PartialEq, Eq)]
 pub enum LineName {
@@ -29,6 +42,8 @@ pub enum LineName {
     Sparse,
     Pigeons,
     Binary,
+    Meetings,
+    Sensors,
     Drill,
     Cnf,
     Rup,
@@ -107,33 +122,15 @@ const VARIABLES: WordKind = WordKindOf::Number {
 };
 
 /// How many queens, nodes or variables a generated model has.
-const SIZE: Place = PlaceOf {
-    shown: "N",
-    kind: WordKindOf::Number {
-        least: 1,
-        most: 200,
-    },
-};
+const SIZE: Place = number!("N", 1, 200);
 
 /// The number from which the choices of a run are drawn.
-const SEED: Place = PlaceOf {
-    shown: "SEED",
-    kind: WordKindOf::Number {
-        least: 0,
-        most: u64::MAX,
-    },
-};
+const SEED: Place = number!("SEED", 0, u64::MAX);
 
 /// The option that gives a seed.
 const SEED_OPTION: LineOption = OptionOf {
     word: "--seed",
-    value: Some(PlaceOf {
-        shown: "N",
-        kind: WordKindOf::Number {
-            least: 0,
-            most: u64::MAX,
-        },
-    }),
+    value: Some(number!("N", 0, u64::MAX)),
 };
 
 /// The option that gives a value than which a better one is refuted.
@@ -148,11 +145,17 @@ const BETTER_OPTION: LineOption = OptionOf {
 /// The option that gives how many choices a run has, which are at most as many as a run may have deliveries.
 const CHOICES_OPTION: LineOption = OptionOf {
     word: "--choices",
+    value: Some(number!("N", 0, 1 << 40)),
+};
+
+/// The option that names an order.
+const ORDER_OPTION: LineOption = OptionOf {
+    word: "--order",
     value: Some(PlaceOf {
-        shown: "N",
-        kind: WordKindOf::Number {
-            least: 0,
-            most: 1 << 40,
+        shown: "FILE",
+        kind: WordKindOf::File {
+            content: Content::Order,
+            access: Access::Read,
         },
     }),
 };
@@ -187,7 +190,8 @@ const HALVES_OPTION: LineOption = OptionOf {
     value: None,
 };
 
-/// `solve MODEL LOG [--seed N] [--choices N] [--record FILE] [--trace] [--progress] [--each] [--halves]`: a run under the choices of a seed.
+/// `solve MODEL LOG [--seed N] [--choices N] [--record FILE] [--order FILE] [--trace] [--progress] [--each] [--halves]`: a run
+/// under the choices of a seed.
 pub const SOLVE: Row = RowOf {
     line: LineName::Solve,
     keyword: &["solve"],
@@ -196,6 +200,7 @@ pub const SOLVE: Row = RowOf {
         SEED_OPTION,
         CHOICES_OPTION,
         RECORD_OPTION,
+        ORDER_OPTION,
         TRACE_OPTION,
         PROGRESS_OPTION,
         EACH_OPTION,
@@ -209,16 +214,17 @@ pub const SOLVE: Row = RowOf {
         "solution and `==========`, and LOG refutes every better value. With",
         "--choices the run, or each round of a search, has N choices; with",
         "--each a search prints all it finds, with --halves in few rounds;",
-        "--progress tells each million deliveries how far the run is",
+        "--progress tells each million deliveries how far the run is;",
+        "with --order the agents have the priorities that `order` wrote",
     ],
 };
 
-/// `replay MODEL SCHEDULE LOG [--trace]`: a run under the choices of a schedule.
+/// `replay MODEL SCHEDULE LOG [--trace] [--order FILE]`: a run under the choices of a schedule.
 pub const REPLAY: Row = RowOf {
     line: LineName::Replay,
     keyword: &["replay"],
     places: &[MODEL, SCHEDULE, NEW_LOG],
-    options: &[TRACE_OPTION],
+    options: &[TRACE_OPTION, ORDER_OPTION],
     tells: &["runs them under the choices of a schedule, as a record is"],
 };
 
@@ -310,7 +316,7 @@ pub const EXPORT: Row = RowOf {
     ],
 };
 
-/// `starve MODEL FROM TO FILE`: a run that delivers from one agent to another only where nothing else is in transit.
+/// `starve MODEL FROM TO FILE [--order FILE]`: a run that delivers from one agent to another only where nothing else is in transit.
 pub const STARVE: Row = RowOf {
     line: LineName::Starve,
     keyword: &["starve"],
@@ -326,73 +332,56 @@ pub const STARVE: Row = RowOf {
         },
         RECORD,
     ],
-    options: &[],
+    options: &[ORDER_OPTION],
     tells: &[
         "writes to FILE the choices of a run that delivers from the agent of",
         "variable FROM to that of TO only where nothing else is in transit",
     ],
 };
 
-/// `lossy MODEL LOG EVENTS SEED [--record FILE]`: a run over a medium that loses, repeats and reorders.
+/// `lossy MODEL LOG EVENTS SEED [--record FILE] [--order FILE]`: a run over a medium that loses, repeats and reorders.
 pub const LOSSY: Row = RowOf {
     line: LineName::Lossy,
     keyword: &["lossy"],
-    places: &[
-        MODEL,
-        NEW_LOG,
-        PlaceOf {
-            shown: "EVENTS",
-            kind: WordKindOf::Number {
-                least: 0,
-                most: 1_000_000,
-            },
-        },
-        SEED,
-    ],
-    options: &[RECORD_OPTION],
+    places: &[MODEL, NEW_LOG, number!("EVENTS", 0, 1_000_000), SEED],
+    options: &[RECORD_OPTION, ORDER_OPTION],
     tells: &[
         "runs the agents over a medium that loses, repeats and reorders in",
         "EVENTS events, 0 to 1000000, drawn from SEED, and then calms down",
     ],
 };
 
-/// `measure MODEL SCHEDULE`: what a run under the choices of a schedule comes to, in numbers.
+/// `measure MODEL SCHEDULE [--order FILE]`: what a run under the choices of a schedule comes to, in numbers.
 pub const MEASURE: Row = RowOf {
     line: LineName::Measure,
     keyword: &["measure"],
     places: &[MODEL, SCHEDULE],
-    options: &[],
+    options: &[ORDER_OPTION],
     tells: &[
         "prints the measures of a run under the choices of a schedule, as a",
         "record is: messages, checks, nogoods, and what each agent learned",
     ],
 };
 
-/// `survey MODEL COUNT [--from SEED]`: the numbers of the runs of many seeds.
+/// `survey MODEL COUNT [--from SEED] [--order FILE]`: the numbers of the runs of many seeds.
 pub const SURVEY: Row = RowOf {
     line: LineName::Survey,
     keyword: &["survey"],
-    places: &[
-        MODEL,
-        PlaceOf {
-            shown: "COUNT",
-            kind: WordKindOf::Number {
-                least: 1,
-                most: 1_000_000,
-            },
+    places: &[MODEL, number!("COUNT", 1, 1_000_000)],
+    options: &[
+        OptionOf {
+            word: "--from",
+            value: Some(SEED),
         },
+        ORDER_OPTION,
     ],
-    options: &[OptionOf {
-        word: "--from",
-        value: Some(SEED),
-    }],
     tells: &[
         "prints a table of the measures of the runs of COUNT seeds from SEED",
         "on, 0 if not given: names of columns, and a line for each seed",
     ],
 };
 
-/// `story MODEL SCHEDULE FILE`: what happens in a run under the choices of a schedule, event by event.
+/// `story MODEL SCHEDULE FILE [--order FILE]`: what happens in a run under the choices of a schedule, event by event.
 pub const STORY: Row = RowOf {
     line: LineName::Story,
     keyword: &["story"],
@@ -407,19 +396,19 @@ pub const STORY: Row = RowOf {
             },
         },
     ],
-    options: &[],
+    options: &[ORDER_OPTION],
     tells: &[
         "writes to FILE what happens in a run under the choices of a schedule,",
         "as a record is: what each agent receives, learns, rules out and sends",
     ],
 };
 
-/// `bound MODEL`: how many messages a run delivers at most.
+/// `bound MODEL [--order FILE]`: how many messages a run delivers at most.
 pub const BOUND: Row = RowOf {
     line: LineName::Bound,
     keyword: &["bound"],
     places: &[MODEL],
-    options: &[],
+    options: &[ORDER_OPTION],
     tells: &["prints how many messages a run delivers at most"],
 };
 
@@ -464,14 +453,7 @@ pub const QUEENS: Row = RowOf {
 pub const COLOURING: Row = RowOf {
     line: LineName::Colouring,
     keyword: &["gen", "colouring"],
-    places: &[
-        SIZE,
-        PlaceOf {
-            shown: "K",
-            kind: WordKindOf::Number { least: 1, most: 16 },
-        },
-        SEED,
-    ],
+    places: &[SIZE, number!("K", 1, 16), SEED],
     options: &[],
     tells: &["prints a colouring of N nodes, 1 to 200, with K colours, 1 to 16"],
 };
@@ -495,13 +477,7 @@ pub const SPARSE: Row = RowOf {
 pub const PIGEONS: Row = RowOf {
     line: LineName::Pigeons,
     keyword: &["gen", "pigeons"],
-    places: &[PlaceOf {
-        shown: "N",
-        kind: WordKindOf::Number {
-            least: 2,
-            most: 200,
-        },
-    }],
+    places: &[number!("N", 2, 200)],
     options: &[],
     tells: &["prints the problem of N pigeons, 2 to 200, in one hole less"],
 };
@@ -512,27 +488,9 @@ pub const BINARY: Row = RowOf {
     keyword: &["gen", "binary"],
     places: &[
         SIZE,
-        PlaceOf {
-            shown: "D",
-            kind: WordKindOf::Number {
-                least: 1,
-                most: 100,
-            },
-        },
-        PlaceOf {
-            shown: "EDGES",
-            kind: WordKindOf::Number {
-                least: 0,
-                most: 19_900,
-            },
-        },
-        PlaceOf {
-            shown: "PAIRS",
-            kind: WordKindOf::Number {
-                least: 0,
-                most: 10_000,
-            },
-        },
+        number!("D", 1, 100),
+        number!("EDGES", 0, 19_900),
+        number!("PAIRS", 0, 10_000),
         SEED,
     ],
     options: &[],
@@ -540,6 +498,42 @@ pub const BINARY: Row = RowOf {
         "prints a random problem of N variables, 1 to 200, with D values, 1",
         "to 100, and EDGES constraints of two variables, each of which forbids",
         "PAIRS pairs of values",
+    ],
+};
+
+/// `gen meetings PEOPLE MEETINGS EACH HOURS BUSY SEED`: a random problem of meetings.
+pub const MEETINGS: Row = RowOf {
+    line: LineName::Meetings,
+    keyword: &["gen", "meetings"],
+    places: &[
+        number!("PEOPLE", 1, 64),
+        number!("MEETINGS", 1, 64),
+        number!("EACH", 1, 64),
+        number!("HOURS", 1, 100),
+        number!("BUSY", 0, 99),
+        SEED,
+    ],
+    options: &[],
+    tells: &[
+        "prints a problem of MEETINGS, 1 to 64, of EACH of the PEOPLE, 1 to 64,",
+        "who have HOURS, 1 to 100, and are not free in BUSY of them",
+    ],
+};
+
+/// `gen sensors SIDE TARGETS SEES SEED`: a random problem of sensors.
+pub const SENSORS: Row = RowOf {
+    line: LineName::Sensors,
+    keyword: &["gen", "sensors"],
+    places: &[
+        number!("SIDE", 2, 16),
+        number!("TARGETS", 1, 32),
+        number!("SEES", 3, 256),
+        SEED,
+    ],
+    options: &[],
+    tells: &[
+        "prints a problem of TARGETS, 1 to 32, for each of which three of SEES",
+        "sensors are wanted that hear each other, in SIDE rows, 2 to 16",
     ],
 };
 
@@ -619,7 +613,8 @@ const RUN_ROWS: &[Row] = &[
 
 /// The lines behind those, likewise.
 const OTHER_ROWS: &[Row] = &[
-    BOUND, ORDER, QUEENS, COLOURING, SPARSE, PIGEONS, BINARY, DRILL, CNF, RUP, HELP, VERSION, USAGE,
+    BOUND, ORDER, QUEENS, COLOURING, SPARSE, PIGEONS, BINARY, MEETINGS, SENSORS, DRILL, CNF, RUP,
+    HELP, VERSION, USAGE,
 ];
 
 // Where a table is named, it is written out, and the prover's steps are limited; so the two are named here alone.

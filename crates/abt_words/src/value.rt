@@ -105,28 +105,12 @@ pub fn value_of<'w>(kind: WordKind, word: &'w str) -> Option<Value<'w>>
     ensures none { IsNone result → (value : saying.Value) → Fits (kind_in kind.entry) value → value_words value ≡ word.now ∷ [] → ⊥ }
 {
     match kind {
-        WordKindOf::File { .. } => {
-            if is_file_name(word) {
-                Some(Value::Name(word))
-            } else {
-                None
-            }
-        }
-        WordKindOf::Number { least, most } => {
-            let number = number_within(word, least, most)?;
-            Some(Value::Number(number))
-        }
-        WordKindOf::Signed => {
-            let number = signed_number_of(word)?;
-            Some(Value::Signed(number))
-        }
-        WordKindOf::OneOf { words } => {
-            if is_one_of(word, words) {
-                Some(Value::Word(word))
-            } else {
-                None
-            }
-        }
+        WordKindOf::File { .. } => is_file_name(word).then_some(Value::Name(word)),
+        WordKindOf::Number { least, most } => Some(Value::Number(number_within(
+            word, least, most,
+        )?)),
+        WordKindOf::Signed => Some(Value::Signed(signed_number_of(word)?)),
+        WordKindOf::OneOf { words } => is_one_of(word, words).then_some(Value::Word(word)),
     }
 }
 

@@ -9,7 +9,7 @@ use Rattle.std.proofs.Math.Nat.{mul-add, mul_comm}
 use Rattle.dcsp_gen.specs.Problems.{pairs, pairs_of}
 use Rattle.dcsp_gen.specs.Selection.{chooses, selected, wanted_after}
 use Rattle.dcsp_gen.specs.Binary.{value_pairs, values_with}
-use Rattle.dcsp_gen.proofs.Selecting.{length_range}
+use Rattle.dcsp_gen.proofs.Selecting.{length_range, once_more}
 use Rattle.dcsp_gen.specs.Chosen.{IsDealt, nothing, to_first, to_second, IsExact}
 
 -- what is still wanted after a thing is not more than what is left
@@ -67,14 +67,6 @@ twice_more c =
     let two : suc (suc c) ≡ c + 2 = omega arith in
     let parts = ap (λ m. suc c * m) two ∙ mul-add (suc c) c 2 in
     let other = mul_comm (suc c) 2 in
-    omega (arith, turned, parts, other)
-
-once_more : (c d : ℕ) → suc c * d ≡ d + c * d
-once_more c d =
-    let turned = mul_comm (suc c) d in
-    let one : suc c ≡ c + 1 = omega arith in
-    let parts = ap (λ m. d * m) one ∙ mul-add d c 1 in
-    let other = mul_comm d c in
     omega (arith, turned, parts, other)
 
 -- as many pairs as there are later numbers, for each number from one on

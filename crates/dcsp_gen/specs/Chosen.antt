@@ -16,9 +16,9 @@ pub record IsExact {X : Type 0} (words : ℕ → ℕ) (wanted : ℕ) (things : L
   pub many : length (selected true words wanted things) ≡ wanted
   pub others : length (selected false words wanted things) ≡ length things - wanted
 
--- Where there are as many things as are wanted, selection is exact, whatever the words: of pairs of variables or of values.
-abbrev pub SelectionIsExact : Type 0
-SelectionIsExact = (words : ℕ → ℕ) (wanted : ℕ) (things : List (ℕ × ℕ)) → wanted ≤ length things → IsExact words wanted things
+-- Where there are as many things as are wanted, selection is exact, whatever the words.
+abbrev pub SelectionIsExact : Type 0 → Type 0
+SelectionIsExact X = (words : ℕ → ℕ) (wanted : ℕ) (things : List X) → wanted ≤ length things → IsExact words wanted things
 
 -- There are n(n-1)/2 pairs of n variables, and d² pairs of d values.
 pub record PairsAreMany : Type 0 where

@@ -1,6 +1,9 @@
 pub mod Lines
 pub mod Words
 pub mod Problems
+pub mod Lists
 pub mod Selection
 pub mod Binary
 pub mod Chosen
+pub mod Meetings
+pub mod Sensors

@@ -95,7 +95,7 @@ fn push_value_lines(text: &mut String, high: u32, count: u32) -> Result<(), Allo
 }
 
 /// The pairs of the numbers 1 to `n`, the lesser first.
-fn variable_pairs(alloc: Global, n: u32) -> Result<Vec<NumberPair>, AllocError>
+pub fn variable_pairs(alloc: Global, n: u32) -> Result<Vec<NumberPair>, AllocError>
     requires { n ≤ 200 }
     ensures { IfOk result (λ list. list.items ≡ pairs n) }
 {
@@ -170,7 +170,7 @@ fn push_table(text: &mut String, edge: NumberPair, rows: &[NumberPair]) -> Resul
 }
 
 /// The rows, with a comma between any two sizes.
-fn push_entries(text: &mut String, rows: &[NumberPair]) -> Result<(), AllocError>
+pub fn push_entries(text: &mut String, rows: &[NumberPair]) -> Result<(), AllocError>
     ensures { OnOk result (string_bytes text.new ≡ string_bytes text.old ++ entries rows.now) }
 {
     let Some((first, later)) = rows.split_first() else {

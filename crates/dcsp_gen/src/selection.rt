@@ -1,8 +1,10 @@
 //! Selection in order: things are gone through one after another, each with a word of its own, and so many of
 //! them are chosen.
-ghost use Rattle.std.specs.Prelude.{◌≡◌, ◌+◌, ◌<◌, ◌^◌, ◌++◌, ◌∷◌, [], if◌then◌else◌, IfOk, OnOk, length};
+ghost use Rattle.std.specs.Prelude.{◌≡◌, ◌+◌, ◌*◌, ◌<◌, ◌^◌, ◌++◌, ◌∷◌, [], if◌then◌else◌, IfOk, OnOk, length};
+ghost use Rattle.std.specs.List.{range_with_len};
 ghost use Rattle.abt_schedule.specs.Answers.{word_at};
-ghost use Rattle.dcsp_gen.specs.Selection.{chooses, selected, wanted_after, words_after};
+ghost use Rattle.dcsp_gen.specs.Lists.{lists_in};
+ghost use Rattle.dcsp_gen.specs.Selection.{chooses, selected, selections, wanted_after, words_after};
 
 use rand_core::utils::NextWord;
 use rand_pcg::Pcg32;
@@ -11,34 +13,68 @@ use std::alloc::{AllocError, Global};
 /// Two variables, or two values.
 pub type NumberPair = (u32, u32);
 
-/// Those of the pairs that are chosen, where so many are wanted, or those that are not chosen.
+/// Those of the things that are chosen, where so many are wanted, or those that are not chosen.
 ///
-/// Each pair takes one word. It is chosen where the remainder of its word by the number of pairs that are left, itself
+/// Each thing takes one word. It is chosen where the remainder of its word by the number of things that are left, itself
 /// included, is below the number of those that are still wanted. So as many are chosen as are wanted, if there are
 /// so many.
-pub fn select(
+pub fn select<T: Copy>(
     alloc: Global,
-    pairs: &[NumberPair],
+    things: &[T],
     kept: bool,
     wanted: u32,
     words: &mut Pcg32,
-) -> Result<Vec<NumberPair>, AllocError>
-    requires { length pairs.now < 2 ^ 31 }
-    ensures pairs { IfOk result (λ list. list.items ≡ selected kept (word_at words.old) wanted pairs.now) }
-    ensures words { OnOk result (word_at words.new ≡ words_after (length pairs.now) (word_at words.old)) }
+) -> Result<Vec<T>, AllocError>
+    requires { length things.now < 2 ^ 31 }
+    ensures things { IfOk result (λ list. list.items ≡ selected kept (word_at words.old) wanted things.now) }
+    ensures words { OnOk result (word_at words.new ≡ words_after (length things.now) (word_at words.old)) }
 {
     let mut list = Vec::new(alloc);
     let mut still = wanted;
-    for place in 0..pairs.len() {
-        let left = (pairs.len() - place) as u32;
+    for place in 0..things.len() {
+        let left = (things.len() - place) as u32;
         let chosen = chooses(words.next_word(), still, left);
         still = wanted_after(chosen, still);
-        push_if(&mut list, chosen == kept, pairs[place])?;
+        push_if(&mut list, chosen == kept, things[place])?;
     }
     Ok(list)
 }
 
-/// Whether a word chooses a pair, where so many are still wanted of those that are left.
+/// So many selections among the numbers 1 to `high`, one after another.
+pub fn select_each(
+    alloc: Global,
+    high: u32,
+    kept: bool,
+    wanted: u32,
+    count: u32,
+    words: &mut Pcg32,
+) -> Result<Vec<Vec<u32>>, AllocError>
+    requires { high < 2 ^ 31 }
+    ensures lists { IfOk result (λ lists. lists_in lists.items ≡ selections kept (word_at words.old) wanted high count) }
+    ensures words { OnOk result (word_at words.new ≡ words_after (count * high) (word_at words.old)) }
+{
+    let numbers = numbers_to(alloc, high)?;
+    let mut lists = Vec::new(alloc);
+    for _done in 0..count {
+        let list = select(alloc, &numbers, kept, wanted, words)?;
+        lists.push(list)?;
+    }
+    Ok(lists)
+}
+
+/// The numbers 1 to `high`.
+fn numbers_to(alloc: Global, high: u32) -> Result<Vec<u32>, AllocError>
+    requires { high < 2 ^ 31 }
+    ensures { IfOk result (λ list. list.items ≡ range_with_len 1 high) }
+{
+    let mut list = Vec::new(alloc);
+    for number in 1..high + 1 {
+        list.push(number)?;
+    }
+    Ok(list)
+}
+
+/// Whether a word chooses a thing, where so many are still wanted of those that are left.
 fn chooses(word: u32, wanted: u32, left: u32) -> bool
     requires { 0 < left }
     ensures { result ≡ chooses word wanted left }
@@ -46,7 +82,7 @@ fn chooses(word: u32, wanted: u32, left: u32) -> bool
     word % left < wanted
 }
 
-/// How many are wanted after a pair.
+/// How many are wanted after a thing.
 fn wanted_after(chosen: bool, wanted: u32) -> u32
     ensures { result ≡ wanted_after chosen wanted }
 {
@@ -57,12 +93,12 @@ fn wanted_after(chosen: bool, wanted: u32) -> u32
     }
 }
 
-/// Appends the pair, if it is to be kept.
-fn push_if(list: &mut Vec<NumberPair>, kept: bool, pair: NumberPair) -> Result<(), AllocError>
-    ensures { OnOk result (list.new.items ≡ (if kept then list.old.items ++ pair ∷ [] else list.old.items)) }
+/// Appends the thing, if it is to be kept.
+pub fn push_if<T: Copy>(list: &mut Vec<T>, kept: bool, thing: T) -> Result<(), AllocError>
+    ensures { OnOk result (list.new.items ≡ (if kept then list.old.items ++ thing ∷ [] else list.old.items)) }
 {
     if kept {
-        list.push(pair)?;
+        list.push(thing)?;
     }
     Ok(())
 }

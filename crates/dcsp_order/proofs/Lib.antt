@@ -14,3 +14,4 @@ pub mod Flags
 pub mod Placing
 pub mod OneOrder
 pub mod Sharing
+pub mod Telling

@@ -26,10 +26,10 @@ given_in (y ∷ ys) k v e = elim (eqb_tells k y.var) [
 
 module _ (order : List ℕ) (pairs : List Pair) where
   -- the pairs of the numbers below n
-  abbrev first_pairs : ℕ → List Pair
+  abbrev pub first_pairs : ℕ → List Pair
   first_pairs n = filter_map (pair_at order pairs) (below n)
 
-  one_more : (n : ℕ) (o : Option ℤ) → value_at pairs (place_of order n) ≡ o → first_pairs (suc n) ≡ first_pairs n ++ filter_map (λ (z : Option ℤ). option_map (pair_of n) z) (o ∷ [])
+  pub one_more : (n : ℕ) (o : Option ℤ) → value_at pairs (place_of order n) ≡ o → first_pairs (suc n) ≡ first_pairs n ++ filter_map (λ (z : Option ℤ). option_map (pair_of n) z) (o ∷ [])
   one_more n o e =
       filter_map-append (pair_at order pairs) (below n) (n ∷ [])
       ∙ ap (λ (z : Option ℤ). first_pairs n ++ filter_map (λ (y : Option ℤ). option_map (pair_of n) y) (z ∷ [])) e

@@ -7,3 +7,4 @@ pub mod ByRule
 pub mod Taken
 pub mod Shared
 pub mod Turns
+pub mod Told

@@ -1,6 +1,8 @@
 -- Orders of a problem's variables: a list of their numbers, the first of which has the highest priority.
-use Rattle.std.specs.Prelude.{◌≡◌, ℕ, ◌+◌, ◌<◌, ◌==◌, List, [], ◌∷◌, length, slice_index_or, if◌then◌else◌}
+use Rattle.std.specs.Prelude.{◌≡◌, ℕ, ◌+◌, ◌<◌, ◌≤◌, ◌==◌, List, [], ◌∷◌, length, slice_index_or, if◌then◌else◌}
 use Rattle.dcsp_defs.specs.Words.{In}
+use Rattle.dcsp_problem.specs.declared.limits.Which.TheVariants.{Variables}
+use Rattle.dcsp_problem.specs.Limits.{most}
 
 -- the number at a place; past the list's end the place itself
 abbrev pub number_at : List ℕ → ℕ → ℕ
@@ -27,7 +29,8 @@ pub record ArePlaces (order places : List ℕ) : Type 0 where
   pub as_many : length places ≡ length order
   pub each : (number : ℕ) → number < length order → slice_index_or places number 0 ≡ place_of order number
 
--- an order beside the places of its numbers
+-- an order beside the places of its numbers, which are no more than a problem may have
 pub record IsKept (order places : List ℕ) : Type 0 where
   pub is_order : IsOrder (length order) order
+  pub few : length order ≤ most Variables
   pub places_are : ArePlaces order places

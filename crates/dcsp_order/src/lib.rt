@@ -6,6 +6,7 @@ mod by_rule;
 mod order;
 mod shared;
 mod text;
+mod told;
 mod under;
 
 ghost use Rattle.dcsp_order.specs.Laws.{DerivationsCome, RefutationsCome, SolutionsCome, SolutionsGo};
@@ -13,6 +14,7 @@ ghost use Rattle.dcsp_order.specs.Laws.{DerivationsCome, RefutationsCome, Soluti
 pub use by_rule::{OrderRule, one_order_by_rule};
 pub use order::Order;
 pub use text::{OrderError, one_answer, read_order};
+pub use told::moved;
 
 /// A problem and the problem under an order have the same solutions, told by numbers and by places.
 pub fn solutions_stay()

@@ -42,13 +42,15 @@ impl Order {
     pub fn numbers(&self) -> &[u32]
         ensures numbers { result.now ≡ self.now }
         ensures order { IsOrder (length self.now) self.now }
+        ensures few { length self.now ≤ most Variables }
     {
         &self.numbers
     }
 
-    /// Every order has each of its numbers once.
+    /// Every order has each of its numbers once, and no more of them than a problem may have variables.
     pub fn has_each_once(&self)
-        ensures { IsOrder (length self.now) self.now }
+        ensures order { IsOrder (length self.now) self.now }
+        ensures few { length self.now ≤ most Variables }
     {
         let _numbers = self.numbers();
     }

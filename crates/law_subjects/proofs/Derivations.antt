@@ -14,7 +14,7 @@ use Rattle.fzn_item.specs.declared.item.Base.TheVariants as base
 use Rattle.fzn_item.specs.declared.item.Marked.TheVariants as marked
 use Rattle.fzn_item.specs.declared.item.Goal.TheVariants.{Satisfy}
 use Rattle.fzn_item.specs.declared.item.Item.TheVariants.{Declare, Constraint, Solve}
-use Rattle.fzn_item.specs.Productions.{IsSeparated, last, more}
+use Rattle.fzn_item.specs.Productions.{IsSeparated, IsListOf, last, more}
 use Rattle.fzn_item.specs.Marks.{AreAnnotations, none}
 use Rattle.fzn_item.specs.Elements.{variable}
 use Rattle.fzn_item.specs.Exprs.{IsAtom, IsExpr}
@@ -126,6 +126,24 @@ sum_read text c f o fo one fm two fc m vo a vm b vc n d p s u v w rest =
     (more (mark_at mark.Comma m) (list_read fo (tok (kind.Whole u) one ∷ after_one) between (Whole one.0 u ∷ Whole two.0 v ∷ []) factors) (refl, refl, refl)
     (more (mark_at mark.Comma n) (list_read vo names comma (Name a.0 a.1 ∷ Name b.0 b.1 ∷ []) (two_names mark.CloseBracket a vm b vc comma)) (refl, refl, refl)
     (last (mark_at mark.CloseParen p) (one_read third (Whole d.0 w) closed (whole_atom w d p mark.CloseParen semi (λ e. cc))) (refl, refl, refl))))
+
+-- constraint NAME([a,b],[ENTRIES]);
+pub table_read : (text : List ℕ) (c f o vo a vm b vc n to p s : ℕ × ℕ) (inside rest : List Token) (atoms : List Atom)
+    → IsListOf IsAtom mark.CloseBracket inside atoms (mark_at mark.CloseParen p ∷ mark_at mark.Semicolon s ∷ rest)
+    → IsItem text (
+    tok (kind.Word word.Constraint) c ∷ tok kind.Name f ∷ mark_at mark.OpenParen o
+    ∷ mark_at mark.OpenBracket vo ∷ tok kind.Name a ∷ mark_at mark.Comma vm ∷ tok kind.Name b ∷ mark_at mark.CloseBracket vc ∷ mark_at mark.Comma n
+    ∷ mark_at mark.OpenBracket to ∷ inside)
+    (Constraint c.0 f.0 f.1 (expr.List vo.0 (Name a.0 a.1 ∷ Name b.0 b.1 ∷ []) ∷ expr.List to.0 atoms ∷ [])) rest
+table_read text c f o vo a vm b vc n to p s inside rest atoms listed =
+    let closed = mark_at mark.CloseParen p ∷ mark_at mark.Semicolon s ∷ rest in
+    let second = mark_at mark.OpenBracket to ∷ inside in
+    let comma = mark_at mark.Comma n ∷ second in
+    let names = tok kind.Name a ∷ mark_at mark.Comma vm ∷ tok kind.Name b ∷ mark_at mark.CloseBracket vc ∷ comma in
+    let table : IsExpr second (expr.List to.0 atoms) closed = inl (mark_at mark.OpenBracket to, inside, (refl, refl, refl), (atoms, closed, listed, (refl, refl))) in
+    constraint_read text c f o s (mark_at mark.OpenBracket vo ∷ names) rest _
+    (more (mark_at mark.Comma n) (list_read vo names comma (Name a.0 a.1 ∷ Name b.0 b.1 ∷ []) (two_names mark.CloseBracket a vm b vc comma)) (refl, refl, refl)
+    (last (mark_at mark.CloseParen p) table (refl, refl, refl)))
 
 -- var LOW..HIGH: NAME;
 pub variable_read : (text : List ℕ) (v l d h c n s : ℕ × ℕ) (low high : ℤ) (rest : List Token)

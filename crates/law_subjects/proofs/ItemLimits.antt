@@ -3,8 +3,9 @@ use Rattle.std.proofs.Common.{ℕ, ◌+◌, ◌-◌, ◌<◌, ◌≤◌, ◌^◌
 use Rattle.std.specs.Prelude.{◌%◌, ◌==◌, if◌then◌else◌}
 use Rattle.std.specs.List.{AllByRecursion, range_with_len}
 use Rattle.dcsp_gen.specs.Problems.{pairs_of, pairs, thrice}
-use Rattle.law_subjects.specs.Lines.{ModelLine, Declare, Print, Differ, Solve, variables, queens_apart, lines_with_words, edge, neighbour, pigeons_apart}
+use Rattle.law_subjects.specs.Lines.{ModelLine, Declare, Print, Differ, Solve, variables, queens_apart, lines_with_words, edge, neighbour, pigeons_apart, binary_tables}
 use Rattle.law_subjects.specs.Laws.{IsSmall, HasSmallNumbers, NumbersAreSmall}
+use Rattle.law_subjects.proofs.Tables.{binary_small}
 
 -- what holds of each of some and of each of others holds of all
 all_append : {X : Type 0} (P : X → Type 0) (xs ys : List X) → AllByRecursion P xs → AllByRecursion P ys → AllByRecursion P (xs ++ ys)
@@ -44,14 +45,14 @@ all_pairs n = all_flat (Between 1 (1 + n)) (IsPair n) (pairs_of n) (range_with_l
     (all_range (first + 1) (n - first) (first + 1) (1 + n) (omega arith) (omega arith)) (λ second bounds. (omega arith, omega arith, omega arith)))
 
 -- the variables' lines
-all_variables : (high count : ℕ) → 1 ≤ high → high ≤ 2 ^ 31 → count ≤ 2 ^ 31 → AllByRecursion HasSmallNumbers (variables high count)
+all_variables : (high count : ℕ) → 1 ≤ high → high ≤ 2 ^ 31 → count ≤ 2 ^ 31 → AllByRecursion HasSmallNumbers (variables 1 high count)
 all_variables high count some small few =
-    all_map (Between 1 (1 + count)) HasSmallNumbers (Declare high) (range_with_len 1 count) (all_range 1 count 1 (1 + count) (omega arith) (omega arith)) (λ k is. ((some, small), (omega arith, omega arith)))
+    all_map (Between 1 (1 + count)) HasSmallNumbers (Declare 1 high) (range_with_len 1 count) (all_range 1 count 1 (1 + count) (omega arith) (omega arith)) (λ k is. (omega arith, small, (omega arith, omega arith)))
 
 -- lines with an array
-all_array : (high count : ℕ) (lines : List ModelLine) → 1 ≤ high → high ≤ 2 ^ 31 → 1 ≤ count → count ≤ 2 ^ 31 → AllByRecursion HasSmallNumbers lines → AllByRecursion HasSmallNumbers (variables high count ++ Print count ∷ lines ++ Solve ∷ [])
+all_array : (high count : ℕ) (lines : List ModelLine) → 1 ≤ high → high ≤ 2 ^ 31 → 1 ≤ count → count ≤ 2 ^ 31 → AllByRecursion HasSmallNumbers lines → AllByRecursion HasSmallNumbers (variables 1 high count ++ Print count ∷ lines ++ Solve ∷ [])
 all_array high count lines some small any few all =
-    all_append HasSmallNumbers (variables high count ++ Print count ∷ lines) (Solve ∷ []) (all_append HasSmallNumbers (variables high count) (Print count ∷ lines) (all_variables high count some small few) ((any, few), all)) (tt, tt)
+    all_append HasSmallNumbers (variables 1 high count ++ Print count ∷ lines) (Solve ∷ []) (all_append HasSmallNumbers (variables 1 high count) (Print count ∷ lines) (all_variables high count some small few) ((any, few), all)) (tt, tt)
 
 -- two pigeons or two nodes
 differ_small : (n : ℕ) (pair : ℕ × ℕ) → n ≤ 2 ^ 31 → IsPair n pair → HasSmallNumbers (Differ pair.0 pair.1)
@@ -97,6 +98,11 @@ numbers_are_small = record {
   pigeons_are = λ n some few.
       let small : n ≤ 2 ^ 31 = omega arith in
       let pairs_small = all_flat (IsPair n) HasSmallNumbers pigeons_apart (pairs n) (all_pairs n) (λ pair is. (differ_small n pair small is, tt)) in
-      all_append HasSmallNumbers (variables (n - 1) n ++ flat_map pigeons_apart (pairs n)) (Solve ∷ [])
-      (all_append HasSmallNumbers (variables (n - 1) n) (flat_map pigeons_apart (pairs n)) (all_variables (n - 1) n (omega arith) (omega arith) small) pairs_small) (tt, tt);
+      all_append HasSmallNumbers (variables 1 (n - 1) n ++ flat_map pigeons_apart (pairs n)) (Solve ∷ [])
+      (all_append HasSmallNumbers (variables 1 (n - 1) n) (flat_map pigeons_apart (pairs n)) (all_variables (n - 1) n (omega arith) (omega arith) small) pairs_small) (tt, tt);
+  binary_is = λ n d edges forbidden words some few any small.
+      all_append HasSmallNumbers (variables 0 (d - 1) n ++ Print n ∷ binary_tables n d edges forbidden words) (Solve ∷ [])
+      (all_append HasSmallNumbers (variables 0 (d - 1) n) (Print n ∷ binary_tables n d edges forbidden words)
+      (all_map (Between 1 (1 + n)) HasSmallNumbers (Declare 0 (d - 1)) (range_with_len 1 n) (all_range 1 n 1 (1 + n) (omega arith) (omega arith)) (λ k is. (omega arith, omega (arith, small), (omega arith, omega arith))))
+      ((some, omega (arith, few)), binary_small n d edges forbidden words few small)) (tt, tt);
 }

@@ -20,6 +20,7 @@ pub mod Constraints
 pub mod Whole
 pub mod Lists
 pub mod Pairs
+pub mod Tables
 pub mod Generators
 pub mod Texts
 pub mod Lengths
@@ -51,3 +52,4 @@ pub mod MeantSteps
 pub mod Goals
 pub mod MeantWhole
 pub mod Optima
+pub mod RandomBinary

@@ -1,22 +1,22 @@
 -- The tokens of each form of line are the item that the line says.
-use Rattle.std.proofs.Common.{◌≡◌, ℕ, ℤ, pos, zero, suc, ◌+◌, List, [], ◌∷◌, ◌++◌, length, refl}
+use Rattle.std.proofs.Common.{◌≡◌, ℕ, ℤ, pos, zero, suc, ◌+◌, List, [], ◌∷◌, ◌++◌, length, inl, inr, refl}
 use Rattle.std.specs.Prelude.{decimal, neg_ℤ}
 use Rattle.fzn_token.specs.declared.token.Token.{Token}
 use Rattle.fzn_token.specs.declared.token.TokenKind.TheVariants as kind
 use Rattle.fzn_token.specs.declared.token.Mark.TheVariants as mark
 use Rattle.fzn_item.specs.declared.item.Atom.{Atom}
-use Rattle.fzn_item.specs.declared.item.Atom.TheVariants.{Name}
+use Rattle.fzn_item.specs.declared.item.Atom.TheVariants.{Name, Whole}
 use Rattle.fzn_item.specs.declared.item.Item.{Item}
-use Rattle.fzn_item.specs.Productions.{IsSeparated, last, more}
+use Rattle.fzn_item.specs.Productions.{IsSeparated, IsListOf, last, more}
 use Rattle.fzn_item.specs.Exprs.{IsAtom}
 use Rattle.fzn_item.specs.Items.{IsItem}
 use Rattle.dcsp_gen.specs.Lines.{name}
-use Rattle.law_subjects.specs.Lines.{ModelLine, Declare, Print, Differ, Above, Below, Solve}
-use Rattle.law_subjects.specs.Says.{AreNamed, IsArray, IsDifferNotBy, Says}
+use Rattle.law_subjects.specs.Lines.{ModelLine, Declare, Print, Differ, Above, Below, Table, Solve}
+use Rattle.law_subjects.specs.Says.{AreNamed, IsArray, IsDifferNotBy, AreWhole, entries_of, IsTable, Says}
 use Rattle.law_subjects.proofs.Pieces.{Piece, tokens_at, AreWritten}
-use Rattle.law_subjects.proofs.Derivations.{mark_at, name_atom, edge_read, sum_read, variable_read, solve_read}
+use Rattle.law_subjects.proofs.Derivations.{mark_at, name_atom, whole_atom, edge_read, sum_read, table_read, variable_read, solve_read}
 use Rattle.law_subjects.proofs.Arrays.{array_read}
-use Rattle.law_subjects.proofs.LinePieces.{list_pieces, array_pieces, sum_pieces, pieces}
+use Rattle.law_subjects.proofs.LinePieces.{list_pieces, array_pieces, sum_pieces, table_pieces, rows_pieces, pieces}
 
 -- the places of a piece, the first of which begins at a place
 abbrev place : ℕ → List Piece → ℕ → ℕ × ℕ
@@ -87,6 +87,90 @@ sum_reads text first second at d bs written = let p = place at (sum_pieces first
   };
 }
 
+-- the entries from a place on are read as atoms
+record EntriesRead (entries : List ℕ) (at : ℕ) : Type 0 where
+  atoms : List Atom
+  paren : ℕ × ℕ
+  semi : ℕ × ℕ
+  listed : (rest : List Token) → IsListOf IsAtom mark.CloseBracket (tokens_at at (table_pieces entries) ++ rest) atoms (mark_at mark.CloseParen paren ∷ mark_at mark.Semicolon semi ∷ rest)
+  whole_are : AreWhole entries atoms
+
+record SomeEntriesRead (entry : ℕ) (entries : List ℕ) (at : ℕ) : Type 0 where
+  atoms : List Atom
+  paren : ℕ × ℕ
+  semi : ℕ × ℕ
+  separated : (rest : List Token) → IsSeparated IsAtom mark.CloseBracket (tokens_at at (table_pieces (entry ∷ entries)) ++ rest) atoms (mark_at mark.CloseParen paren ∷ mark_at mark.Semicolon semi ∷ rest)
+  whole_are : AreWhole (entry ∷ entries) atoms
+
+some_entries_read : (entry : ℕ) (entries : List ℕ) (at : ℕ) → SomeEntriesRead entry entries at
+some_entries_read entry [] at = let p = place at (table_pieces (entry ∷ [])) in record {
+  atoms = Whole (p 0).0 (pos entry) ∷ [];
+  paren = p 2;
+  semi = p 3;
+  separated = λ rest.
+      let closed = mark_at mark.CloseParen (p 2) ∷ mark_at mark.Semicolon (p 3) ∷ rest in
+      last (mark_at mark.CloseBracket (p 1)) (whole_atom (pos entry) (p 0) (p 1) mark.CloseBracket closed (λ e. cc)) (refl, refl, refl);
+  whole_are = (((p 0).0, refl), refl);
+}
+some_entries_read entry (second ∷ entries) at =
+    let p = place at (table_pieces (entry ∷ second ∷ entries)) in
+    let next = (p 1).1 + 0 in
+    let later = some_entries_read second entries next in record {
+      atoms = Whole (p 0).0 (pos entry) ∷ later.atoms;
+      paren = later.paren;
+      semi = later.semi;
+      separated = λ rest.
+          let behind = tokens_at next (table_pieces (second ∷ entries)) ++ rest in
+          more (mark_at mark.Comma (p 1)) (whole_atom (pos entry) (p 0) (p 1) mark.Comma behind (λ e. cc)) (refl, refl, refl) (later.separated rest);
+      whole_are = (((p 0).0, refl), later.whole_are);
+    }
+
+entries_read : (entries : List ℕ) (at : ℕ) → EntriesRead entries at
+entries_read [] at = let p = place at (table_pieces []) in record {
+  atoms = [];
+  paren = p 1;
+  semi = p 2;
+  listed = λ rest. inl (refl, mark_at mark.CloseBracket (p 0), (refl, refl, refl));
+  whole_are = refl;
+}
+entries_read (entry ∷ entries) at = let read = some_entries_read entry entries at in record {
+  atoms = read.atoms;
+  paren = read.paren;
+  semi = read.semi;
+  listed = λ rest. inr (read.separated rest);
+  whole_are = read.whole_are;
+}
+
+-- two values that are a row
+record RowsRead (text first second : List ℕ) (at : ℕ) (rows : List (ℕ × ℕ)) : Type 0 where
+  item : Item
+  reads : (rest : List Token) → IsItem text (tokens_at at (rows_pieces first second (table_pieces (entries_of rows))) ++ rest) item rest
+  says : IsTable text first second rows item
+
+rows_reads : (text first second : List ℕ) (at : ℕ) (rows : List (ℕ × ℕ)) → AreWritten text at (rows_pieces first second (table_pieces (entries_of rows))) → RowsRead text first second at rows
+rows_reads text first second at rows written =
+    let p = place at (rows_pieces first second []) in
+    let inside = (p 9).1 + 0 in
+    let read = entries_read (entries_of rows) inside in record {
+      item = _;
+      reads = λ rest. table_read text (p 0) (p 1) (p 2) (p 3) (p 4) (p 5) (p 6) (p 7) (p 8) (p 9) read.paren read.semi (tokens_at inside (table_pieces (entries_of rows)) ++ rest) rest read.atoms (read.listed rest);
+      says = record {
+        at = (p 0).0;
+        from = (p 1).0;
+        to = (p 1).1;
+        variables_at = (p 3).0;
+        x = Name (p 4).0 (p 4).1;
+        y = Name (p 6).0 (p 6).1;
+        table_at = (p 9).0;
+        atoms = read.atoms;
+        item_is = refl;
+        written_is = written.1.0;
+        x_is = record { from = (p 4).0; to = (p 4).1; atom_is = refl; written_is = written.1.1.1.1.0 };
+        y_is = record { from = (p 6).0; to = (p 6).1; atom_is = refl; written_is = written.1.1.1.1.1.1.0 };
+        atoms_are = read.whole_are;
+      };
+    }
+
 -- the array of the variables 1 to count
 record ArrayReads (text letter : List ℕ) (count at : ℕ) : Type 0 where
   item : Item
@@ -116,9 +200,9 @@ array_reads text letter count at written =
 
 -- a line that is not an empty array
 pub line_reads : (text letter : List ℕ) (at : ℕ) (line : ModelLine) → (line ≡ Print 0 → ⊥) → AreWritten text at (pieces letter line) → LineReads text letter at line
-line_reads text letter at (Declare high variable) some written = let p = place at (pieces letter (Declare high variable)) in record {
+line_reads text letter at (Declare low high variable) some written = let p = place at (pieces letter (Declare low high variable)) in record {
   item = _;
-  reads = λ rest. variable_read text (p 0) (p 1) (p 2) (p 3) (p 4) (p 5) (p 6) (pos 1) (pos high) rest;
+  reads = λ rest. variable_read text (p 0) (p 1) (p 2) (p 3) (p 4) (p 5) (p 6) (pos low) (pos high) rest;
   says = record { at = (p 0).0; from = (p 5).0; to = (p 5).1; item_is = refl; written_is = written.1.1.1.1.1.0 };
 }
 line_reads text letter at (Print zero) some written = absurd (some refl)
@@ -142,6 +226,8 @@ line_reads text letter at (Above first second distance) some written =
     let read = sum_reads text (name letter first) (name letter second) at (pos distance) (decimal distance) written in record { item = read.item; reads = read.reads; says = read.says }
 line_reads text letter at (Below first second distance) some written =
     let read = sum_reads text (name letter first) (name letter second) at (neg_ℤ (pos distance)) (45 ∷ decimal distance) written in record { item = read.item; reads = read.reads; says = read.says }
+line_reads text letter at (Table first second rows) some written =
+    let read = rows_reads text (name letter first) (name letter second) at rows written in record { item = read.item; reads = read.reads; says = read.says }
 line_reads text letter at Solve some written = let p = place at (pieces letter Solve) in record {
   item = _;
   reads = λ rest. solve_read text (p 0) (p 1) (p 2) rest;

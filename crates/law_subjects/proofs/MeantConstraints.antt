@@ -1,18 +1,17 @@
 -- A constraint's rule holds where the constraint of its name holds of the values of its arguments.
-use Rattle.std.proofs.Common.{◌≡◌, ℕ, Bool, true, false, not, List, [], ◌∷◌, length, Option, Some, None, Ok, refl, sym, ap, ◌∙◌}
-use Rattle.std.specs.Prelude.{map, ℤ, ◌==◌, if◌then◌else◌}
+use Rattle.std.proofs.Common.{◌≡◌, ℕ, Bool, true, false, not, List, [], length, Option, Some, None, Ok, refl, sym, ap, ◌∙◌}
+use Rattle.std.specs.Prelude.{map, ℤ, ◌==◌}
 use Rattle.std.proofs.lemmas.Bool.{eqb-true}
 use Rattle.fzn_item.specs.declared.item.Expr.{Expr}
 use Rattle.dcsp_meaning.specs.declared.linear.Rel.{Rel}
-use Rattle.dcsp_meaning.specs.declared.kinds.ConstraintKind.TheVariants as kind
 use Rattle.dcsp_defs.specs.Csp.{Assignment}
 use Rattle.dcsp_rule.specs.declared.rule.Rule.{Rule}
 use Rattle.dcsp_rule.specs.Rules.{rule_truth}
 use Rattle.fzn_scope.specs.declared.form.Form.{Form}
-use Rattle.fzn_scope.specs.declared.form.Form.TheVariants.{Plain, Sum}
+use Rattle.fzn_scope.specs.declared.form.Form.TheVariants.{Sum}
 use Rattle.fzn_scope.specs.declared.refusal.Refusal.TheVariants as refusal
 use Rattle.fzn_scope.specs.Names.{Scope}
-use Rattle.fzn_scope.specs.Forms.{truth, places_of, form_named}
+use Rattle.fzn_scope.specs.Forms.{places_of, form_named}
 use Rattle.fzn_scope.specs.Rules.{no_arguments, arguments_after, rule_of, lengths_agree, known_form, form_at, constraint_rule}
 use Rattle.fzn_scope.proofs.PlacesInOrder.{are_constant, in_order}
 use Rattle.law_subjects.specs.Environments.{Environment, expr_value}

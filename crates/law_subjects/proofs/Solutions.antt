@@ -15,19 +15,20 @@ use Rattle.dcsp_defs.proofs.Lists.{list_any-In, In-list_any, and_left, and_right
 use Rattle.dcsp_rule.specs.declared.rule.Rule.{Rule}
 use Rattle.dcsp_rule.specs.Rules.{rule_truth}
 use Rattle.dcsp_rule.specs.Problems.{csp_of, constraint_of}
-use Rattle.law_subjects.specs.Lines.{ModelLine, Declare, Print, Differ, Above, Below, Solve}
-use Rattle.law_subjects.specs.Problems.{rules_of, problem_of, all_lines, AreWithin}
+use Rattle.law_subjects.specs.Lines.{ModelLine, Declare, Print, Differ, Above, Below, Table, Solve}
+use Rattle.law_subjects.specs.Problems.{table_rule, rules_of, problem_of, all_lines, AreWithin}
 use Rattle.law_subjects.specs.GeneratedSolutions.{value_of, AreWithinHigh}
 use Rattle.law_subjects.proofs.Lists.{all_flat_map}
 use Rattle.law_subjects.proofs.Whole.{lines_say_problem}
 
 -- what a line says of values
 abbrev pub Holds : Assignment → ModelLine → Type 0
-Holds values (Declare high number) = Unit {0}
+Holds values (Declare low high number) = Unit {0}
 Holds values (Print n) = Unit {0}
 Holds values (Differ first second) = value_of values first ≡ value_of values second → ⊥
 Holds values (Above first second distance) = value_of values first -ℤ value_of values second ≡ pos distance → ⊥
 Holds values (Below first second distance) = value_of values first -ℤ value_of values second ≡ neg_ℤ (pos distance) → ⊥
+Holds values (Table first second rows) = rule_truth (table_rule first second rows) values ≡ true
 Holds values Solve = Unit {0}
 
 abbrev pub IsTrueOf : Assignment → Rule → Type 0
@@ -46,7 +47,7 @@ difference_sum : (x y : ℤ) → (pos 1 *ℤ x) +ℤ ((neg_ℤ (pos 1) *ℤ y) +
 difference_sum x y = omega (arith, ints)
 
 line_holds : (values : Assignment) (line : ModelLine) → AllByRecursion (IsTrueOf values) (rules_of line) ↔ Holds values line
-line_holds values (Declare high number) = (λ h. tt, λ h. tt)
+line_holds values (Declare low high number) = (λ h. tt, λ h. tt)
 line_holds values (Print n) = (λ h. tt, λ h. tt)
 line_holds values (Differ first second) =
     let e = unequal (value_of values first) (value_of values second) in (λ h. e.0 h.0, λ h. (e.1 h, tt))
@@ -58,6 +59,7 @@ line_holds values (Below first second distance) =
     let sum = difference_sum (value_of values first) (value_of values second) in
     let e = unequal (value_of values first -ℤ value_of values second) (neg_ℤ (pos distance)) in
     (λ h. e.0 (rw sum at h.0), λ h. (rw sum (e.1 h), tt))
+line_holds values (Table first second rows) = (λ h. h.0, λ h. (h, tt))
 line_holds values Solve = (λ h. tt, λ h. tt)
 
 -- of lists that are made of lists, from the whole to each
@@ -145,9 +147,9 @@ plain_solutions high n constraints values =
     )
 
 -- The solutions of lines.
-pub solutions : (letter : List ℕ) (high n : ℕ) (printed constraints : List ModelLine) → AreWithin high n printed constraints → (values : Assignment)
-    → IsSolution (csp_of (problem_of letter (all_lines high n printed constraints))) values ↔ (AreWithinHigh high n (value_of values) × AllByRecursion (Holds values) constraints)
+pub solutions : (letter : List ℕ) (high n : ℕ) (printed constraints : List ModelLine) → AreWithin 1 high n printed constraints → (values : Assignment)
+    → IsSolution (csp_of (problem_of letter (all_lines 1 high n printed constraints))) values ↔ (AreWithinHigh high n (value_of values) × AllByRecursion (Holds values) constraints)
 solutions letter high n printed constraints within values =
-    let is = lines_say_problem letter high n printed constraints within in
-    let same : csp_of (problem_of letter (all_lines high n printed constraints)) ≡ plain_csp high n (flat_map rules_of constraints) = ap csp_of is in
+    let is = lines_say_problem letter 1 high n printed constraints within in
+    let same : csp_of (problem_of letter (all_lines 1 high n printed constraints)) ≡ plain_csp high n (flat_map rules_of constraints) = ap csp_of is in
     rw same (plain_solutions high n constraints values)

@@ -1,9 +1,10 @@
 -- What one item adds that says a line.
-use Rattle.std.proofs.Common.{◌≡◌, ℕ, zero, suc, ◌+◌, ◌*◌, ◌<◌, ◌≤◌, ◌==◌, Bool, true, false, List, [], ◌∷◌, ◌++◌, map, length, Some, None, Ok, refl, sym, ap, ◌∙◌, append_assoc, append-nil, eq-eqb, arith}
+use Rattle.std.proofs.Common.{◌≡◌, ℕ, zero, suc, ◌+◌, ◌*◌, ◌<◌, ◌≤◌, ◌-◌, ◌%◌, ◌==◌, Bool, true, false, List, [], ◌∷◌, ◌++◌, map, length, Some, None, Ok, refl, sym, ap, ◌∙◌, append_assoc, append-nil, eq-eqb, arith}
 use Rattle.std.specs.Prelude.{ℤ, pos, neg_ℤ, nat_lt, codes}
 use Rattle.std.specs.List.{range_with_len}
 use Rattle.std.specs.Ordering.{int_eq}
 use Rattle.std.proofs.lemmas.Bool.Decides.{Decides-int_eq}
+use Rattle.std.proofs.Math.Nat.{mul-mod_right}
 use Rattle.std.proofs.lemmas.List.FromFn.{length-map-range_with_len}
 use Rattle.fzn_item.specs.declared.item.Atom.{Atom}
 use Rattle.fzn_item.specs.declared.item.Atom.TheVariants.{Whole}
@@ -14,7 +15,7 @@ use Rattle.fzn_item.specs.declared.item.Marked.TheVariants as marked
 use Rattle.fzn_item.specs.declared.item.Item.{Item}
 use Rattle.dcsp_domain.specs.Ranges.{count_between, numbers_between}
 use Rattle.dcsp_rule.specs.declared.rule.Term.{Term}
-use Rattle.dcsp_rule.specs.declared.rule.Term.TheVariants.{Var}
+use Rattle.dcsp_rule.specs.declared.rule.Term.TheVariants.{Const, Var}
 use Rattle.dcsp_rule.specs.declared.rule.Rule.{Rule}
 use Rattle.dcsp_rule.specs.declared.output.Output.{Output}
 use Rattle.dcsp_rule.specs.declared.aim.Aim.TheVariants.{Satisfy}
@@ -28,9 +29,9 @@ use Rattle.fzn_scope.specs.Places.{term_of, terms_after}
 use Rattle.fzn_scope.specs.Rules.{constraint_rule}
 use Rattle.fzn_model.specs.Declarations.{SoFar, variable as with_one, array, elements, with_members}
 use Rattle.fzn_model.specs.Items.{declare, after, after_all, constraint, solve, finished}
-use Rattle.law_subjects.specs.Says.{IsNamed, AreNamed, IsVariable, IsArray, IsDiffer, IsDifferNotBy, IsSolve}
-use Rattle.law_subjects.specs.Problems.{variable, differ_rule, differ_not_by_rule, array_output}
-use Rattle.law_subjects.proofs.Limits.{within_test, count_is}
+use Rattle.law_subjects.specs.Says.{IsNamed, AreNamed, IsVariable, IsArray, IsDiffer, IsDifferNotBy, AreWhole, entries_of, IsTable, IsSolve}
+use Rattle.law_subjects.specs.Problems.{variable, differ_rule, differ_not_by_rule, table_rule, array_output}
+use Rattle.law_subjects.proofs.Limits.{within_test, count_is, count_from}
 
 -- what the items so far gave
 abbrev pub problem_so_far : List (List ℤ) → List Rule → List Output → Contents
@@ -52,6 +53,14 @@ same_number n = (Decides-int_eq (pos n) (pos n)).1 refl
 same_count : (n m : ℕ) → n ≡ m → (n * 1 == m) ≡ true
 same_count n m e = eq-eqb (n * 1) m (omega (arith, e))
 
+-- rows have two entries each
+pub many_entries : (rows : List (ℕ × ℕ)) → length (map {B = Term} (λ entry. Const (pos entry)) (entries_of rows)) ≡ 2 * length rows
+many_entries [] = omega arith
+many_entries (row ∷ rows) = let rest = many_entries rows in omega (arith, rest)
+
+even_entries : (rows : List (ℕ × ℕ)) → (length (map {B = Term} (λ entry. Const (pos entry)) (entries_of rows)) % 2 == 0) ≡ true
+even_entries rows = eq-eqb _ 0 (ap (λ n. n % 2) (many_entries rows) ∙ mul-mod_right 2 (length rows))
+
 module _ (text : List ℕ) where
   -- there is one atom for each name
   named_count : (letter : List ℕ) (first count : ℕ) (atoms : List Atom) → AreNamed text letter first count atoms → length atoms ≡ count
@@ -60,23 +69,23 @@ module _ (text : List ℕ) where
   named_count letter first (suc count) (atom ∷ atoms) says = let rest = named_count letter (first + 1) count atoms says.1 in omega (arith, rest)
 
   -- a variable's declaration adds its name and its domain
-  declared_step : (scope : Scope) (domains : List (List ℤ)) (k at from : ℕ) (written : List ℕ) → k ≤ 65536 → declared_as scope written ≡ None
-      → variable_refusal (problem_so_far domains [] []) (numbers_between (pos 1) (pos k)) ≡ None
-      → declare text (so_far scope domains [] [] false) at true None (base.Range (pos 1) (pos k)) from written marked.Nothing None
-      ≡ Ok (so_far (scope ++ (written, declared.One false (Var (length domains))) ∷ []) (domains ++ numbers_between (pos 1) (pos k) ∷ []) [] [] false)
+  declared_step : (scope : Scope) (domains : List (List ℤ)) (low k at from : ℕ) (written : List ℕ) → suc k - low ≤ 65536 → declared_as scope written ≡ None
+      → variable_refusal (problem_so_far domains [] []) (numbers_between (pos low) (pos k)) ≡ None
+      → declare text (so_far scope domains [] [] false) at true None (base.Range (pos low) (pos k)) from written marked.Nothing None
+      ≡ Ok (so_far (scope ++ (written, declared.One false (Var (length domains))) ∷ []) (domains ++ numbers_between (pos low) (pos k) ∷ []) [] [] false)
   unfolding with_one
-  declared_step scope domains k at from written small fresh free =
-      let test : nat_lt 65536 (count_between (pos 1) (pos k)) ≡ false = within_test 65536 (count_between (pos 1) (pos k)) (rw count_is small) in
+  declared_step scope domains low k at from written small fresh free =
+      let test : nat_lt 65536 (count_between (pos low) (pos k)) ≡ false = within_test 65536 (count_between (pos low) (pos k)) (rw (count_from low k) small) in
       rw (fresh, test, free) refl
 
-  pub variable_step : (scope : Scope) (domains : List (List ℤ)) (k : ℕ) (written : List ℕ) (i : Item) → IsVariable text written k i → k ≤ 65536 → declared_as scope written ≡ None
-      → variable_refusal (problem_so_far domains [] []) (numbers_between (pos 1) (pos k)) ≡ None
+  pub variable_step : (scope : Scope) (domains : List (List ℤ)) (low k : ℕ) (written : List ℕ) (i : Item) → IsVariable text written low k i → suc k - low ≤ 65536 → declared_as scope written ≡ None
+      → variable_refusal (problem_so_far domains [] []) (numbers_between (pos low) (pos k)) ≡ None
       → after text (so_far scope domains [] [] false) i
-      ≡ Ok (so_far (scope ++ (written, declared.One false (Var (length domains))) ∷ []) (domains ++ numbers_between (pos 1) (pos k) ∷ []) [] [] false)
-  variable_step scope domains k written i says small fresh free =
+      ≡ Ok (so_far (scope ++ (written, declared.One false (Var (length domains))) ∷ []) (domains ++ numbers_between (pos low) (pos k) ∷ []) [] [] false)
+  variable_step scope domains low k written i says small fresh free =
       ap (after text (so_far scope domains [] [] false)) says.item_is
-      ∙ ap (λ (w : List ℕ). declare text (so_far scope domains [] [] false) says.at true None (base.Range (pos 1) (pos k)) says.from w marked.Nothing None) says.written_is
-      ∙ declared_step scope domains k says.at says.from written small fresh free
+      ∙ ap (λ (w : List ℕ). declare text (so_far scope domains [] [] false) says.at true None (base.Range (pos low) (pos k)) says.from w marked.Nothing None) says.written_is
+      ∙ declared_step scope domains low k says.at says.from written small fresh free
 
   -- a name's term
   name_term : (scope : Scope) (written : List ℕ) (number : ℕ) (atom : Atom) → IsNamed text written atom → StandsFor scope written number
@@ -177,6 +186,35 @@ module _ (text : List ℕ) where
       ∙ ap (λ (w : List ℕ). constraint text (so_far scope domains rules outputs c) says.at says.from w exprs) says.written_is
       ∙ rule_after scope domains rules outputs c (differ_not_by_rule a b difference) says.at says.from (codes "int_lin_ne") exprs
       (differ_not_by_rule_is scope a b says.from says.factors_at says.one_at says.minus_at says.variables_at says.difference_at difference says.x says.y first second says.x_is says.y_is there also) free
+
+  -- the terms of numbers
+  whole_terms : (scope : Scope) (done : List Term) (numbers : List ℕ) (atoms : List Atom) → AreWhole numbers atoms
+      → terms_after text scope (record { boolean = false; constant = true }) done atoms ≡ Ok (done ++ map (λ entry. Const (pos entry)) numbers)
+  whole_terms scope done [] atoms says = rw (says, append-nil done) refl
+  whole_terms scope done (number ∷ numbers) [] says = absurd says
+  whole_terms scope done (number ∷ numbers) (atom ∷ atoms) says =
+      rw says.0.1 (
+      whole_terms scope (done ++ Const (pos number) ∷ []) numbers atoms says.1
+      ∙ ap (λ (ts : List Term). Ok ts) (append_assoc done (Const (pos number) ∷ []) (map (λ entry. Const (pos entry)) numbers)))
+
+  -- the rule of two names and rows
+  table_rule_is : (scope : Scope) (a b at variables_at table_at : ℕ) (rows : List (ℕ × ℕ)) (x y : Atom) (atoms : List Atom) (first second : List ℕ)
+      → IsNamed text first x → IsNamed text second y → AreWhole (entries_of rows) atoms → StandsFor scope first a → StandsFor scope second b
+      → constraint_rule text scope at (codes "fzn_table_int") (expr.List variables_at (x ∷ y ∷ []) ∷ expr.List table_at atoms ∷ []) ≡ Ok (table_rule a b rows)
+  unfolding constraint_rule
+  table_rule_is scope a b at variables_at table_at rows x y atoms first second x_is y_is whole there also =
+      let even : (length (map {B = Term} (λ entry. Const (pos entry)) (entries_of rows)) % 2 == 0) ≡ true = even_entries rows in
+      rw (name_term scope first a x x_is there, name_term scope second b y y_is also, whole_terms scope [] (entries_of rows) atoms whole, even) refl
+
+  pub table_step : (scope : Scope) (domains : List (List ℤ)) (rules : List Rule) (outputs : List Output) (c : Bool) (a b : ℕ) (rows : List (ℕ × ℕ)) (first second : List ℕ) (i : Item)
+      → IsTable text first second rows i → StandsFor scope first a → StandsFor scope second b → rule_refusal (problem_so_far domains rules outputs) (table_rule a b rows) ≡ None
+      → after text (so_far scope domains rules outputs c) i ≡ Ok (so_far scope domains (rules ++ table_rule a b rows ∷ []) outputs true)
+  table_step scope domains rules outputs c a b rows first second i says there also free =
+      let exprs : List Expr = expr.List says.variables_at (says.x ∷ says.y ∷ []) ∷ expr.List says.table_at says.atoms ∷ [] in
+      ap (after text (so_far scope domains rules outputs c)) says.item_is
+      ∙ ap (λ (w : List ℕ). constraint text (so_far scope domains rules outputs c) says.at says.from w exprs) says.written_is
+      ∙ rule_after scope domains rules outputs c (table_rule a b rows) says.at says.from (codes "fzn_table_int") exprs
+      (table_rule_is scope a b says.from says.variables_at says.table_at rows says.x says.y says.atoms first second says.x_is says.y_is says.atoms_are there also) free
 
   -- the solve item ends the problem
   pub solve_step : (scope : Scope) (domains : List (List ℤ)) (rules : List Rule) (outputs : List Output) (c : Bool) (i : Item) → IsSolve i

@@ -1,15 +1,16 @@
 -- Generated texts have the problems of their lines.
 use Rattle.std.proofs.Common.{◌≡◌, ℕ, ◌≤◌, inr, List, Ok, codes, refl, sym, ap, subst, arith}
 use Rattle.std.specs.List.{AllByRecursion}
+use Rattle.dcsp_gen.specs.Binary.{binary_text}
 use Rattle.dcsp_gen.specs.Problems.{queens_text, colouring_text, sparse_text, pigeons_text}
 use Rattle.fzn_model.specs.Models.{Answers, answer_of}
-use Rattle.law_subjects.specs.Lines.{ModelLine, queens, colouring, sparse, pigeons}
+use Rattle.law_subjects.specs.Lines.{ModelLine, queens, colouring, sparse, pigeons, binary}
 use Rattle.law_subjects.specs.Laws.{IsSmallLetter, HasSmallNumbers, lines_text, AreRead}
 use Rattle.law_subjects.proofs.WholeItems.{lines_are_read}
 use Rattle.law_subjects.proofs.ItemTexts.{texts_are_lines}
 use Rattle.law_subjects.proofs.ItemLimits.{numbers_are_small}
 use Rattle.law_subjects.specs.Problems.{problem_of}
-use Rattle.law_subjects.specs.Generated.{Resolve, QueensHaveProblem, ColouringHasProblem, SparseHasProblem, PigeonsHaveProblem, HasProblem}
+use Rattle.law_subjects.specs.Generated.{Resolve, QueensHaveProblem, ColouringHasProblem, SparseHasProblem, PigeonsHaveProblem, BinaryHasProblem, HasProblem}
 use Rattle.law_subjects.proofs.Generators.{generated_lines_resolve}
 
 -- a text whose items resolve has their problem
@@ -49,6 +50,15 @@ sparse_has_problem n words some few =
 
 pub pigeons_have_problem : PigeonsHaveProblem
 pigeons_have_problem n some few = text_answered (codes "p") (pigeons_text n) (pigeons n) pigeons_letter (numbers_are_small.pigeons_are n some few) (texts_are_lines.pigeons_are n) (generated_lines_resolve.pigeons_do n some few)
+
+values_letter : IsSmallLetter (codes "x")
+values_letter = record { byte = 120; low = omega arith; high = omega arith; letter_is = refl }
+
+pub binary_has_problem : BinaryHasProblem
+binary_has_problem n d edges forbidden words sizes =
+    text_answered (codes "x") (binary_text n d edges forbidden words) (binary n d edges forbidden words) values_letter
+    (numbers_are_small.binary_is n d edges forbidden words sizes.some_variables sizes.variables sizes.some_values sizes.values) (texts_are_lines.binary_is n d edges forbidden words)
+    (generated_lines_resolve.binary_does n d edges forbidden words sizes)
 
 queens_do : (n : ℕ) → 1 ≤ n → n ≤ 200 → HasProblem (queens_text n)
 queens_do n some few = (problem_of (codes "q") (queens n), queens_have_problem n some few)

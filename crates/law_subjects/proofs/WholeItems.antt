@@ -4,7 +4,7 @@ use Rattle.std.specs.List.{AllByRecursion}
 use Rattle.fzn_token.specs.declared.token.Token.{Token}
 use Rattle.fzn_item.specs.declared.item.Item.{Item}
 use Rattle.fzn_item.specs.Items.{AreItemsTo}
-use Rattle.law_subjects.specs.Lines.{ModelLine, Declare, Print, Differ, Above, Below, Solve, line_text}
+use Rattle.law_subjects.specs.Lines.{ModelLine, Declare, Print, Differ, Above, Below, Table, Solve, line_text}
 use Rattle.law_subjects.specs.Says.{AreSaid}
 use Rattle.law_subjects.specs.Laws.{HasSmallNumbers, lines_text, AreRead, LinesAreRead}
 use Rattle.law_subjects.proofs.Places.{stops}
@@ -19,11 +19,12 @@ not_empty line small is = let count : HasSmallNumbers (Print 0) = subst HasSmall
 
 -- a line begins with a letter
 line_solid : (letter : List ℕ) (line : ModelLine) (rest : List ℕ) → stops is_skip (line_text letter line ++ rest) ≡ true
-line_solid letter (Declare high at) rest = refl
+line_solid letter (Declare low high at) rest = refl
 line_solid letter (Print count) rest = refl
 line_solid letter (Differ first second) rest = refl
 line_solid letter (Above first second distance) rest = refl
 line_solid letter (Below first second distance) rest = refl
+line_solid letter (Table first second rows) rest = refl
 line_solid letter Solve rest = refl
 
 -- so do lines

@@ -1,6 +1,7 @@
 pub mod Lines
 pub mod Says
 pub mod Laws
+pub mod RandomBinary
 pub mod Problems
 pub mod Generated
 pub mod GeneratedSolutions

@@ -1,7 +1,8 @@
 //! Generated problems as lines: their texts are the texts of these lines, each line is read as its item, and the
 //! texts have the problems that their lines say.
 ghost use Rattle.dcsp_gen.specs.Problems.{pigeons_text, queens_text, sparse_text};
-ghost use Rattle.law_subjects.specs.Generated.{AreShort, ColouringHasProblem, GeneratedLinesResolve, HasProblem, PigeonsHaveProblem, QueensHaveProblem, SparseHasProblem};
+ghost use Rattle.law_subjects.specs.Generated.{AreShort, ColouringHasProblem, GeneratedLinesResolve, HasProblem, PigeonsHaveProblem, QueensHaveProblem, BinaryHasProblem, SparseHasProblem};
+ghost use Rattle.law_subjects.specs.RandomBinary.{BinaryIsRandom};
 ghost use Rattle.law_subjects.specs.Laws.{LinesAreRead, NumbersAreSmall, TextsAreLines};
 ghost use Rattle.law_subjects.specs.Problems.{LinesHaveProblem, LinesSayProblem};
 ghost use Rattle.std.specs.Prelude.{ℕ};
@@ -41,7 +42,14 @@ pub fn generated_texts_have_problems()
     ensures colouring { ColouringHasProblem }
     ensures sparse { SparseHasProblem }
     ensures pigeons { PigeonsHaveProblem }
+    ensures binary { BinaryHasProblem }
     ensures short { AreShort }
+{}
+
+/// The problem of a random binary text has as many rules as there are edges, each about two variables, no two about the
+/// same two, and each false at exactly so many pairs of values.
+pub fn random_binary_problems()
+    ensures { BinaryIsRandom }
 {}
 
 /// Six queens, five pigeons, and a sparse graph of 500 nodes with any words.

@@ -12,7 +12,7 @@ use Rattle.ngd_log.proofs.EntryLaws.{entries_or_bad_line}
 use Rattle.dcsp_script.specs.Statuses.{IsFinal, IsRefusal}
 use Rattle.dcsp_script.specs.Clauses.{IsLawful}
 use Rattle.abt_input.specs.declared.error.CommandError.{CommandError}
-use Rattle.abt_input.specs.declared.error.CommandError.TheVariants.{ModelLong, ModelRefused, NoAim, LogLong, LogLine, ScheduleLong, ScheduleLine, Clauses, Fault, Memory}
+use Rattle.abt_input.specs.declared.error.CommandError.TheVariants.{ModelLong, ModelRefused, NoAim, LogLong, LogLine, ScheduleLong, ScheduleLine, OrderRefused, Clauses, Fault, Memory}
 use Rattle.abt_input.specs.Errors.{error_status}
 use Rattle.abt_input.specs.Inputs.{most_log}
 use Rattle.abt_input.specs.Kinds.{IsExact}
@@ -36,6 +36,7 @@ of_entries log LogLong h = too_long h refl
 of_entries log (LogLine number) h = refused_for number h refl
 of_entries log ScheduleLong h = absurd h
 of_entries log (ScheduleLine number) h = absurd h
+of_entries log (OrderRefused error) h = absurd h
 of_entries log NoAim h = absurd h
 of_entries log (Clauses error) h = absurd h
 of_entries log Fault h = absurd h

@@ -8,7 +8,7 @@ use Rattle.dcsp_script.specs.Statuses.{IsFinal}
 use Rattle.abt_input.specs.Inputs.{IsModelOf}
 use Rattle.abt_input.specs.Errors.{IsErrorOfModel, error_status}
 use Rattle.abt_input.specs.declared.error.CommandError.{CommandError}
-use Rattle.abt_input.specs.declared.error.CommandError.TheVariants.{ModelLong, ModelRefused, NoAim, LogLong, LogLine, ScheduleLong, ScheduleLine, Clauses, Fault, Memory}
+use Rattle.abt_input.specs.declared.error.CommandError.TheVariants.{ModelLong, ModelRefused, NoAim, LogLong, LogLine, ScheduleLong, ScheduleLine, OrderRefused, Clauses, Fault, Memory}
 use Rattle.abt_input.proofs.Once.{one_problem, no_error_of_model, one_error_of_model}
 use Rattle.abt_input.specs.Kinds.{ReadsAs, a_model}
 use Rattle.line_check.specs.Taking.{Taking, plain, narrowing, taking_of, IsNarrowedOf, LacksAim, IsErrorOfAim, LeavesBounded, model_by}
@@ -22,6 +22,7 @@ IsOfModel LogLong = ⊥
 IsOfModel (LogLine number) = ⊥
 IsOfModel ScheduleLong = ⊥
 IsOfModel (ScheduleLine number) = ⊥
+IsOfModel (OrderRefused error) = ⊥
 IsOfModel (Clauses error) = ⊥
 IsOfModel Fault = ⊥
 IsOfModel Memory = ⊥
@@ -41,6 +42,7 @@ of_plain model LogLong h = h
 of_plain model (LogLine number) h = h
 of_plain model ScheduleLong h = h
 of_plain model (ScheduleLine number) h = h
+of_plain model (OrderRefused error) h = h
 of_plain model (Clauses error) h = h
 of_plain model Fault h = h
 of_plain model Memory h = h
@@ -54,6 +56,7 @@ of_aim model LogLong h = inr h
 of_aim model (LogLine number) h = inr h
 of_aim model ScheduleLong h = inr h
 of_aim model (ScheduleLine number) h = inr h
+of_aim model (OrderRefused error) h = inr h
 of_aim model (Clauses error) h = inr h
 of_aim model Fault h = inr h
 of_aim model Memory h = inr h
@@ -66,6 +69,7 @@ of_narrowing model LogLong h = h
 of_narrowing model (LogLine number) h = h
 of_narrowing model ScheduleLong h = h
 of_narrowing model (ScheduleLine number) h = h
+of_narrowing model (OrderRefused error) h = h
 of_narrowing model (Clauses error) h = h
 of_narrowing model Fault h = h
 of_narrowing model Memory h = h
@@ -112,6 +116,7 @@ final_of_model LogLong h = absurd h
 final_of_model (LogLine number) h = absurd h
 final_of_model ScheduleLong h = absurd h
 final_of_model (ScheduleLine number) h = absurd h
+final_of_model (OrderRefused error) h = absurd h
 final_of_model (Clauses error) h = absurd h
 final_of_model Fault h = absurd h
 final_of_model Memory h = absurd h
@@ -135,7 +140,9 @@ left_taken (Some bound) model whole (Err (LogLine number)) is h = absurd h
 left_taken None model whole (Err ScheduleLong) is h = absurd h
 left_taken (Some bound) model whole (Err ScheduleLong) is h = absurd h
 left_taken None model whole (Err (ScheduleLine number)) is h = absurd h
+left_taken None model whole (Err (OrderRefused error)) is h = absurd h
 left_taken (Some bound) model whole (Err (ScheduleLine number)) is h = absurd h
+left_taken (Some bound) model whole (Err (OrderRefused error)) is h = absurd h
 left_taken None model whole (Err (Clauses error)) is h = absurd h
 left_taken (Some bound) model whole (Err (Clauses error)) is h = absurd h
 
@@ -149,6 +156,7 @@ refused_taken (Some bound) model LogLong h = h
 refused_taken (Some bound) model (LogLine number) h = h
 refused_taken (Some bound) model ScheduleLong h = h
 refused_taken (Some bound) model (ScheduleLine number) h = h
+refused_taken (Some bound) model (OrderRefused error) h = h
 refused_taken (Some bound) model (Clauses error) h = h
 refused_taken (Some bound) model Fault h = tt
 refused_taken (Some bound) model Memory h = tt

@@ -14,7 +14,7 @@ use Rattle.abt_input.specs.Inputs.{most_log}
 use Rattle.abt_input.specs.Kinds.{FileKind}
 use Rattle.abt_input.specs.declared.error.CommandError.{CommandError}
 use Rattle.line_check.specs.Taking.{Taking, plain, HasProblemFor}
-use Rattle.abt_input.specs.declared.error.CommandError.TheVariants.{ModelLong, ModelRefused, NoAim, LogLong, LogLine, ScheduleLong, ScheduleLine, Clauses, Fault, Memory}
+use Rattle.abt_input.specs.declared.error.CommandError.TheVariants.{ModelLong, ModelRefused, NoAim, LogLong, LogLine, ScheduleLong, ScheduleLine, OrderRefused, Clauses, Fault, Memory}
 
 -- these are the entries of the log, which is of either version
 pub record HasEntries (log : List ℕ) (entries : List Entry) : Type 0 where
@@ -34,6 +34,7 @@ IsErrorOfEntries log LogLong = most_log < length log
 IsErrorOfEntries log (LogLine number) = IsEntryBadAt log number
 IsErrorOfEntries log ScheduleLong = ⊥
 IsErrorOfEntries log (ScheduleLine number) = ⊥
+IsErrorOfEntries log (OrderRefused error) = ⊥
 IsErrorOfEntries log NoAim = ⊥
 IsErrorOfEntries log (Clauses error) = ⊥
 IsErrorOfEntries log Fault = ⊥

@@ -1,5 +1,5 @@
 -- What a run of `cnf` means.
-use Rattle.std.proofs.Common.{◌≡◌, ◌⊎◌, ℕ, zero, suc, ◌+◌, ◌^◌, ◌<◌, Bool, true, false, not, cond, List, length, map, Option, Some, None, refl, sym, ap, subst, ◌∙◌, inl, inr, arith}
+use Rattle.std.proofs.Common.{◌≡◌, ℕ, zero, suc, ◌+◌, ◌^◌, ◌<◌, Bool, true, false, not, cond, List, length, map, Option, Some, None, refl, sym, ap, subst, ◌∙◌, arith}
 use Rattle.std.specs.Prelude.{ℤ, pos, negsuc, neg_ℤ, All, Contains}
 use Rattle.std.proofs.lemmas.List.Elements.{All-contains}
 use Rattle.dcsp_meaning.specs.Words.{is_one}
@@ -17,7 +17,7 @@ use Rattle.dcsp_problem.proofs.RisingNumbers.{Contains-In}
 use Rattle.dcsp_problem.proofs.OwnerLists.{length-map_below}
 use Rattle.dcsp_problem.proofs.Scopes.{In-from_scope, variables_below}
 use Rattle.rup_check.specs.Literals.{is_true, IsUnsatisfiable}
-use Rattle.rup_check.specs.Propagation.{IsAccepted, IsConsistent, IsTotalOn}
+use Rattle.rup_check.specs.Propagation.{IsAccepted, IsTotalOn}
 use Rattle.rup_check.proofs.VerdictLaws.{true_alone, one_of}
 use Rattle.rup_check.proofs.PropagationLaws.{contains_map, contains_mapped, accepted_refutes}
 use Rattle.cnf_front.specs.Clauses.{literal_against, rule_clause, IsClauseRule}
@@ -92,14 +92,14 @@ total truth steps clause x c m =
 module _ (text : List ℕ) (p : Contents) (seed : ℕ) (formula : IsFormulaOf text p) (ok : IsCsp (csp_of p)) (fine : IsProblem p) (status : Status) (status_is : status ≡ end_status (cnf_run p seed).end) where
   satisfied : status ≡ Good → IsSatisfiedBy p (printed_literals p seed)
   satisfied good clause c =
-      let list = final_values p (cnf_run p seed) in
-      let s = verdicts.solved (cnf_asked p seed) refl ok status status_is good in
+      let list = final_values None p (cnf_run p seed) in
+      let s = verdicts.solved (cnf_asked p seed) refl fine tt status status_is good in
       let t = solutions_satisfy text p formula (assigned list) s clause c in
       let r = contains_map rule_clause p.rules clause c in
       (t.0, t.1, true_printed p (formula_rules text p formula) fine.rules list (length-map_below (values (cnf_run p seed).net) (count (csp_of p))) r.0 r.1 t.0 (subst (λ l. Contains l t.0) (sym r.2) t.1) t.2)
 
   is_accepted : status ≡ No → IsAccepted neg_ℤ (clauses_of p) (written_clauses p seed)
-  is_accepted says = let b = formula_binary text p formula in accepted p b.0 b.1 (formula_rules text p formula) fine.rules (cnf_run p seed).net.steps (verdicts.refuted (cnf_asked p seed) refl ok status status_is says)
+  is_accepted says = let b = formula_binary text p formula in accepted p b.0 b.1 (formula_rules text p formula) fine.rules (cnf_run p seed).net.steps (verdicts.refuted (cnf_asked p seed) refl fine tt status status_is says)
 
   unsatisfiable : status ≡ No → IsUnsatisfiable (clauses_of p)
   unsatisfiable says truth sat = accepted_refutes neg_ℤ (clauses_of p) (written_clauses p seed) (is_accepted says) (is_true truth) (true_alone truth) (total truth (cnf_run p seed).net.steps) sat
@@ -112,14 +112,14 @@ module _ (text : List ℕ) (p : Contents) (seed : ℕ) (formula : IsFormulaOf te
 
   pub is_cnf_run : IsCnfRun text p seed status
   is_cnf_run =
-      let u = solve_unfinished p log_name (seed_alone seed) status status_is in
+      let u = solve_unfinished None p log_name (seed_alone seed) status status_is in
       record {
         satisfied = satisfied;
         accepted = is_accepted;
         verified = verified;
         refuted = λ says. is_refuted text p formula (unsatisfiable says);
         unfinished = u;
-        bounded = verdicts.bounded (cnf_asked p seed) refl ok status status_is u;
+        bounded = verdicts.bounded (cnf_asked p seed) refl fine tt status status_is u;
       }
 
 -- where the folder tells the formula

@@ -1,5 +1,5 @@
 -- What a formula's run gave, and what is written of it.
-use Rattle.std.proofs.Common.{◌≡◌, ℕ, ◌≤◌, ◌^◌, List, [], ◌∷◌, ◌++◌, length, take, Result, Ok, Err, refl, sym, ap, subst, ◌∙◌, arith}
+use Rattle.std.proofs.Common.{◌≡◌, ℕ, ◌≤◌, ◌^◌, List, [], ◌∷◌, ◌++◌, length, take, Result, Ok, Err, refl, sym, ap, subst, ◌∙◌, arith, None}
 use Rattle.std.specs.Prelude.{All, IfSome, IsErr, IsErrAnd}
 use Rattle.dcsp_defs.specs.Csp.{IsCsp}
 use Rattle.dcsp_defs.specs.declared.Step.{Step}
@@ -33,20 +33,20 @@ use Rattle.line_cnf.proofs.Domains.{formula_binary}
 use Rattle.line_cnf.proofs.Steps.{all_binary, all_writable}
 
 module _ (p : Contents) (run : Run) where
-  end_text_is : (end : End) → IsEnd (csp_of p) run.net run.end end → end_text end ≡ verdict_text (final_values p run) run.end
+  end_text_is : (end : End) → IsEnd None (csp_of p) run.net run.end end → end_text end ≡ verdict_text (final_values None p run) run.end
   end_text_is (Solved list) h = rw (h.0, h.1) refl
   end_text_is Refuted h = rw h refl
   end_text_is Spent h = rw h refl
   end_text_is Capped h = rw h refl
 
   -- what was given is printed as the run's end
-  pub text_is : (outcome : Outcome) → IsOutcome (csp_of p) run.net run.end outcome → outcome_text outcome ≡ cnf_text p run
+  pub text_is : (outcome : Outcome) → IsOutcome None (csp_of p) run.net run.end outcome → outcome_text outcome ≡ cnf_text p run
   text_is outcome h =
       ap (λ t. t ++ deliveries_text outcome.deliveries) (end_text_is outcome.end h.end)
-      ∙ ap (λ n. verdict_text (final_values p run) run.end ++ deliveries_text n) h.deliveries
+      ∙ ap (λ n. verdict_text (final_values None p run) run.end ++ deliveries_text n) h.deliveries
 
   -- its steps are told where they are a refutation
-  pub refutation_is : (steps : List Step) (end : End) → IsEnd (csp_of p) run.net run.end end → refutation end steps ≡ refutation_at run.end steps
+  pub refutation_is : (steps : List Step) (end : End) → IsEnd None (csp_of p) run.net run.end end → refutation end steps ≡ refutation_at run.end steps
   refutation_is steps (Solved list) h = rw h.0 refl
   refutation_is steps Refuted h = rw h refl
   refutation_is steps Spent h = rw h refl

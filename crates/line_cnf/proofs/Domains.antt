@@ -1,5 +1,5 @@
 -- The variables of a formula's problem.
-use Rattle.std.proofs.Common.{◌≡◌, ◌⊎◌, ℕ, zero, suc, ◌<◌, ◌≤◌, Bool, true, false, cond, eqb, ◌&&◌, List, [], ◌∷◌, length, replicate, Option, Some, None, Result, Ok, Err, refl, sym, ap, subst, ◌∙◌, inl, inr, arith}
+use Rattle.std.proofs.Common.{◌≡◌, ◌⊎◌, ℕ, zero, suc, ◌<◌, ◌≤◌, true, eqb, ◌&&◌, List, [], ◌∷◌, length, replicate, Option, Some, None, Ok, Err, sym, ap, subst, ◌∙◌, inl, inr, arith}
 use Rattle.std.specs.Prelude.{ℤ, pos, negsuc, nat_le, slice_index_or, ◌++◌}
 use Rattle.std.proofs.lemmas.Bool.Decides.{nat_tests}
 use Rattle.std.proofs.lemmas.List.{get_or-replicate, length-replicate}
@@ -12,7 +12,6 @@ use Rattle.dcsp_problem.specs.declared.limits.BuildError.TheVariants as build
 use Rattle.dcsp_problem.specs.declared.limits.Which.TheVariants.{Variables}
 use Rattle.dcsp_rule.specs.Problems.{Contents, csp_of}
 use Rattle.dcsp_problem.specs.Limits.{rule_refusal, most}
-use Rattle.cnf_front.specs.declared.header.CnfError.{CnfError}
 use Rattle.cnf_front.specs.declared.header.Mark.TheVariants.{P, Cnf, Clauses}
 use Rattle.cnf_front.specs.declared.words.Stand.TheVariants.{Start}
 use Rattle.cnf_front.specs.Clauses.{IsBinary}

@@ -1,5 +1,5 @@
 -- What a run of `cnf` means to a user.
-use Rattle.std.specs.Prelude.{◌≡◌, ◌≢◌, ℕ, ◌^◌, ◌<◌, ℤ, neg_ℤ, List, length, map, Option, Some, IfSome, Contains}
+use Rattle.std.specs.Prelude.{◌≡◌, ◌≢◌, ℕ, ◌^◌, ◌<◌, ℤ, neg_ℤ, List, length, map, Option, Some, IfSome, Contains, None}
 use Rattle.dcsp_outside.specs.Outside.{Told, bytes_of}
 use Rattle.dcsp_rule.specs.Problems.{Contents}
 use Rattle.rup_check.specs.ProofText.{proof_text}
@@ -17,7 +17,7 @@ use Rattle.line_cnf.specs.CnfRuns.{cnf_asked, cnf_run, value_literals}
 
 -- the literals that are printed of a run where it is solved
 abbrev pub printed_literals : Contents → ℕ → List ℤ
-printed_literals p seed = value_literals (final_values p (cnf_run p seed))
+printed_literals p seed = value_literals (final_values None p (cnf_run p seed))
 
 -- the clauses that are written of a run where it is refuted
 abbrev pub written_clauses : Contents → ℕ → List (List ℤ)

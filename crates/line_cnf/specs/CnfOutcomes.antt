@@ -40,6 +40,6 @@ refutation Capped steps = None
 
 -- a run came to this: its outcome, and its steps where they are a refutation, and each of them can be a clause
 pub record HasMade (p : Contents) (run : runs.Run) (made : Made) : Type 0 where
-  pub outcome : IsOutcome (csp_of p) run.net run.end made.outcome
+  pub outcome : IsOutcome None (csp_of p) run.net run.end made.outcome
   pub refutation : made.refutation ≡ refutation_at run.end run.net.steps
   pub binary : All IsBinaryStep run.net.steps

@@ -1,5 +1,5 @@
 -- The run that `cnf` makes of a formula's problem, and what it writes of it.
-use Rattle.std.specs.Prelude.{ℕ, ◌+◌, ℤ, pos, negsuc, false, List, [], ◌∷◌, ◌++◌, map, length, slice_index_or, codes, decimal, Option, Some, None, if◌then◌else◌}
+use Rattle.std.specs.Prelude.{ℕ, ◌+◌, ℤ, pos, negsuc, List, [], ◌∷◌, ◌++◌, map, length, slice_index_or, codes, decimal, Option, Some, None, if◌then◌else◌}
 use Rattle.dcsp_meaning.specs.Words.{is_one}
 use Rattle.dcsp_defs.specs.Words.{below}
 use Rattle.dcsp_defs.specs.declared.Step.{Step}
@@ -17,7 +17,7 @@ log_name = codes "cnf"
 
 -- the run under the choices of the seed, without a record or a trace
 abbrev pub cnf_asked : Contents → ℕ → Asked
-cnf_asked p seed = solve p log_name (seed_alone seed)
+cnf_asked p seed = solve None p log_name (seed_alone seed)
 
 abbrev pub cnf_run : Contents → ℕ → Run
 cnf_run p seed = asked_run (cnf_asked p seed)
@@ -63,7 +63,7 @@ deliveries_text deliveries = codes "c deliveries " ++ decimal deliveries ++ code
 
 -- all that is put when the run has ended
 abbrev pub cnf_text : Contents → Run → List ℕ
-cnf_text p run = verdict_text (final_values p run) run.end ++ deliveries_text run.net.deliveries
+cnf_text p run = verdict_text (final_values None p run) run.end ++ deliveries_text run.net.deliveries
 
 -- a refutation is written first, and the answer is put last
 abbrev pub cnf_script : Contents → List ℕ → Run → List Write

@@ -59,6 +59,7 @@ fn run_in(
         most: MOST_DELIVERIES,
         telling: Telling::nothing(),
         keep: false,
+        order: None,
     };
     match run(alloc, problem, &mut choices, task, apart, &mut out) {
         Ok(outcome) => Ok(outcome),

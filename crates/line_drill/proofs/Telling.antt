@@ -1,5 +1,5 @@
 -- What is told of three runs is what the drill says.
-use Rattle.std.proofs.Common.{◌≡◌, ℕ, false, List, ◌++◌, codes, decimal, Result, Ok, Err, refl, sym, ap, subst, ◌∙◌}
+use Rattle.std.proofs.Common.{◌≡◌, ℕ, false, List, ◌++◌, codes, decimal, Result, Ok, Err, refl, sym, ap, subst, ◌∙◌, None}
 use Rattle.std.specs.Prelude.{IsOk, IfOk}
 use Rattle.std.specs.declared.vec.Vec.{Vec}
 use Rattle.std.specs.declared.alloc.Global.{Global}
@@ -25,13 +25,13 @@ use Rattle.line_drill.specs.Outcomes.{outcome_word, outcome_text, is_open_end, t
 
 -- ---- one run
 
-word_is : (p : Csp) (net : Network) (ended : runs.End) (e : End) → IsEnd p net ended e → outcome_word e ≡ end_word ended
+word_is : (p : Csp) (net : Network) (ended : runs.End) (e : End) → IsEnd None p net ended e → outcome_word e ≡ end_word ended
 word_is p net ended (Solved list) h = ap end_word (sym h.0)
 word_is p net ended Refuted h = ap end_word (sym h)
 word_is p net ended Spent h = ap end_word (sym h)
 word_is p net ended Capped h = ap end_word (sym h)
 
-open_is : (p : Csp) (net : Network) (ended : runs.End) (e : End) → IsEnd p net ended e → is_open_end e ≡ is_unfinished ended
+open_is : (p : Csp) (net : Network) (ended : runs.End) (e : End) → IsEnd None p net ended e → is_open_end e ≡ is_unfinished ended
 open_is p net ended (Solved list) h = ap is_unfinished (sym h.0)
 open_is p net ended Refuted h = ap is_unfinished (sym h)
 open_is p net ended Spent h = ap is_unfinished (sym h)
@@ -39,7 +39,7 @@ open_is p net ended Capped h = ap is_unfinished (sym h)
 
 -- the outcome is that of the problem's run from the seed
 abbrev pub IsTrial : ℕ → Contents → Outcome → Type 0
-IsTrial seed p outcome = Gives (seeded_session p seed log_name false) outcome
+IsTrial seed p outcome = Gives (seeded_session None p seed log_name false) outcome
 
 text_is : (seed : ℕ) (name : List ℕ) (p : Contents) (outcome : Outcome) → IsTrial seed p outcome → outcome_text name outcome ≡ run_text name (run_from p seed)
 text_is seed name p outcome h =

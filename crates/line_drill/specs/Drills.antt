@@ -1,5 +1,5 @@
 -- What a drill runs, and what it tells of that.
-use Rattle.std.specs.Prelude.{ℕ, Bool, true, false, ◌||◌, List, ◌++◌, length, codes, decimal, if◌then◌else◌}
+use Rattle.std.specs.Prelude.{ℕ, Bool, true, false, ◌||◌, List, ◌++◌, length, codes, decimal, if◌then◌else◌, None}
 use Rattle.dcsp_rule.specs.Problems.{Contents}
 use Rattle.ngd_log.specs.Logs.{log_text}
 use Rattle.ngd_check.specs.declared.Finding.{Finding}
@@ -19,7 +19,7 @@ log_name = codes "drill"
 
 -- the run of a problem under the choices of a seed, as `solve` makes it
 abbrev pub run_from : Contents → ℕ → Run
-run_from p seed = run_of (seeded_session p seed log_name false)
+run_from p seed = run_of (seeded_session None p seed log_name false)
 
 -- the problem of a sparse graph of 500 nodes, that of 6 queens and that of 5 pigeons, and what is found of the log of the run of the last
 pub record Drill (seed : ℕ) : Type 0 where

@@ -1,6 +1,6 @@
 //! The run of a generated problem.
 
-ghost use Rattle.std.specs.Prelude.{◌≡◌, ℕ, false, List, Some, IfOk, OnOk, IsOk};
+ghost use Rattle.std.specs.Prelude.{◌≡◌, ℕ, false, List, Some, None, IfOk, OnOk, IsOk};
 ghost use Rattle.std.specs.FinMap as map;
 ghost use Rattle.ngd_log.specs.Logs.{log_text};
 ghost use Rattle.abt_session.specs.Running.{Gives};
@@ -38,7 +38,7 @@ pub fn try_text(
     seed: u64,
 ) -> Result<Trial, AllocError>
     ensures model { IfOk result (λ trial. IfOk text (λ bytes. IsModelOf bytes.items trial.problem)) }
-    ensures gives { IfOk result (λ trial. Gives (seeded_session trial.problem seed log_name false) trial.outcome) }
+    ensures gives { IfOk result (λ trial. Gives (seeded_session None trial.problem seed log_name false) trial.outcome) }
     ensures log { IfOk result (λ trial. map.get trial.folder.files log_name ≡ Some (log_text (run_from trial.problem seed).net.steps)) }
     ensures made { OnOk result (IsOk text) }
 {
@@ -67,7 +67,7 @@ fn run_problem(
     seed: u64,
     folder: &mut SureFolder,
 ) -> Result<Outcome, AllocError>
-    ensures gives { IfOk result (Gives (seeded_session problem.now seed log_name false)) }
+    ensures gives { IfOk result (Gives (seeded_session None problem.now seed log_name false)) }
     ensures log { OnOk result (map.get folder.new.files log_name ≡ Some (log_text (run_from problem.now seed).net.steps)) }
 {
     let mut choices = Seeded::new(seed);
@@ -77,6 +77,7 @@ fn run_problem(
         most: MOST_DELIVERIES,
         telling: Telling::nothing(),
         keep: false,
+        order: None,
     };
     match run(alloc, problem, &mut choices, task, folder, &mut out) {
         Ok(outcome) => Ok(outcome),

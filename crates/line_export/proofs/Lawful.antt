@@ -15,7 +15,7 @@ use Rattle.dcsp_script.specs.Clauses.{IsLawful}
 use Rattle.dcsp_script.specs.Statuses.{IsFinal}
 use Rattle.abt_input.specs.Errors.{error_status}
 use Rattle.abt_input.specs.declared.error.CommandError.{CommandError}
-use Rattle.abt_input.specs.declared.error.CommandError.TheVariants.{ModelLong, ModelRefused, NoAim, LogLong, LogLine, ScheduleLong, ScheduleLine, Clauses, Fault, Memory}
+use Rattle.abt_input.specs.declared.error.CommandError.TheVariants.{ModelLong, ModelRefused, NoAim, LogLong, LogLine, ScheduleLong, ScheduleLine, OrderRefused, Clauses, Fault, Memory}
 use Rattle.abt_input.specs.declared.clauses_error.ClausesError.TheVariants.{CnfLong, CnfRefused, CnfLimit, ProofLong, ProofLine}
 use Rattle.abt_input.specs.Kinds.{IsExact, ReadsAs}
 use Rattle.abt_input.specs.Plans.{Answer, WritesOwn, IsSoundPlan}
@@ -48,6 +48,7 @@ module _ (p : Contents) (log : List ℕ) where
   of_export (LogLine number) h = inr h
   of_export ScheduleLong h = inr h
   of_export (ScheduleLine number) h = inr h
+  of_export (OrderRefused error) h = inr h
   of_export NoAim h = inr h
   of_export (Clauses CnfLong) h = inr h
   of_export (Clauses (CnfRefused error)) h = inr h

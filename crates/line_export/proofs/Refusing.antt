@@ -5,7 +5,7 @@ use Rattle.dcsp_outside.specs.Outside.{Place}
 use Rattle.dcsp_rule.specs.Problems.{Contents}
 use Rattle.ngd_check.specs.declared.Finding.TheVariants.{Verified}
 use Rattle.abt_input.specs.declared.error.CommandError.{CommandError}
-use Rattle.abt_input.specs.declared.error.CommandError.TheVariants.{ModelLong, ModelRefused, NoAim, LogLong, LogLine, ScheduleLong, ScheduleLine, Clauses, Fault, Memory}
+use Rattle.abt_input.specs.declared.error.CommandError.TheVariants.{ModelLong, ModelRefused, NoAim, LogLong, LogLine, ScheduleLong, ScheduleLine, OrderRefused, Clauses, Fault, Memory}
 use Rattle.abt_input.specs.declared.clauses_error.ClausesError.TheVariants.{CnfLong, CnfRefused, CnfLimit, ProofLong, ProofLine}
 use Rattle.abt_input.specs.Kinds.{ReadsAs}
 use Rattle.abt_input.specs.Files.{HasRead}
@@ -26,6 +26,7 @@ module _ (p : Contents) (name : List ℕ) (a b : Place) where
   refused_too bytes (LogLine number) h = h
   refused_too bytes ScheduleLong h = h
   refused_too bytes (ScheduleLine number) h = h
+  refused_too bytes (OrderRefused error) h = h
   refused_too bytes (Clauses CnfLong) h = h
   refused_too bytes (Clauses (CnfRefused error)) h = h
   refused_too bytes (Clauses (CnfLimit which count)) h = absurd h
@@ -59,6 +60,7 @@ module _ (p : Contents) (name : List ℕ) (a b : Place) where
     kept_refused verified (LogLine number) w = absurd w
     kept_refused verified ScheduleLong w = absurd w
     kept_refused verified (ScheduleLine number) w = absurd w
+    kept_refused verified (OrderRefused error) w = absurd w
     kept_refused verified (Clauses CnfLong) w = absurd w
     kept_refused verified (Clauses (CnfRefused error)) w = absurd w
     kept_refused verified (Clauses (CnfLimit which count)) w = read_as (Err (Clauses (CnfLimit which count))) h (λ bytes is. record { checked = checked; kept = is; verified = verified; past = w }) (λ f. let no = f in cc)

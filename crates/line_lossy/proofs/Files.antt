@@ -15,7 +15,7 @@ use Rattle.abt_session.specs.Sessions.{step_writes}
 use Rattle.abt_session.proofs.Ordered.{leaves-append}
 use Rattle.line_replay.specs.Asked.{record_script}
 use Rattle.line_replay.proofs.Scripts.{record_puts, record_leaves, record_holds}
-use Rattle.line_lossy.specs.Asked.{Asked, run_world, run_numbers, answer_text, log_script, asked_script}
+use Rattle.line_lossy.specs.Asked.{Asked, run_steps, run_numbers, answer_text, log_script, asked_script}
 use Rattle.line_lossy.specs.Meaning.{HoldsFiles, FilesAreWhole, AnswersArePut}
 use Rattle.line_lossy.proofs.Lawful.{run_leaves}
 
@@ -51,7 +51,7 @@ module _ (log : List ℕ) where
 
 module _ (asked : Asked) where
   abbrev first : List Write
-  first = log_script asked.log (run_world asked).network.steps
+  first = log_script asked.log (run_steps asked)
 
   abbrev recorded : List Write
   recorded = record_script asked.record_file (run_numbers asked)
@@ -61,15 +61,15 @@ module _ (asked : Asked) where
 
   pub puts_answer : put_by (asked_script asked) ≡ answer_text asked
   puts_answer =
-      put_by-append first (recorded ++ last) ∙ ap (λ t. t ++ put_by (recorded ++ last)) (log_puts asked.log (run_world asked).network.steps)
+      put_by-append first (recorded ++ last) ∙ ap (λ t. t ++ put_by (recorded ++ last)) (log_puts asked.log (run_steps asked))
       ∙ put_by-append recorded last ∙ ap (λ t. t ++ put_by last) (record_puts (run_numbers asked) asked.record_file) ∙ append-nil (answer_text asked)
 
   module _ (own : IfSome asked.record_file (λ k. k ≢ asked.log)) (files now : List ℕ → Option (List ℕ)) (after : FilesAfter (asked_script asked) files now) where
-    log_is : now asked.log ≡ Some (log_text (run_world asked).network.steps)
+    log_is : now asked.log ≡ Some (log_text (run_steps asked))
     log_is =
         after asked.log ∙ file_after-append first (recorded ++ last) asked.log (files asked.log)
         ∙ left_alone (recorded ++ last) asked.log (file_after first asked.log (files asked.log)) (leaves-append asked.log recorded last (record_leaves (run_numbers asked) asked.record_file asked.log own) ((λ t. t), tt))
-        ∙ log_holds asked.log (run_world asked).network.steps (files asked.log)
+        ∙ log_holds asked.log (run_steps asked) (files asked.log)
 
     record_is : (kept : Option (List ℕ)) → asked.record_file ≡ kept → IfSome kept (λ name. now name ≡ Some (schedule_text (run_numbers asked)))
     record_is None e = tt

@@ -15,6 +15,8 @@ use Rattle.law_runs.specs.Deliveries.{numbers}
 use Rattle.law_runs.specs.LossyEnds.{is_quiet, has_verdict}
 use Rattle.abt_lossy.specs.declared.parts.Happened.{Happened}
 use Rattle.abt_lossy.specs.InWorld.{LossyState, reached, standing_of, IsAfter, Begins, Happens}
+use Rattle.dcsp_order.specs.Told.{steps_told}
+use Rattle.dcsp_order.proofs.Telling.{length-told, told-append}
 use Rattle.abt_session.specs.Sessions.{step_writes}
 use Rattle.abt_session.specs.Running.{kept}
 use Rattle.line_lossy.specs.Runners.{new_writes, numbers_after, HasMade}
@@ -46,6 +48,13 @@ made_writes log s t None number counted e f g = sym (new_of log s t [] e)
 made_writes log s t (Some x) number counted e f g =
     let same : number ≡ length s + 1 = omega (arith, f, g) in
     ap (λ n. step_writes log n (x ∷ [])) same ∙ sym (new_of log s t (x ∷ []) e)
+
+-- the same, where the step is told in own numbers
+pub told_writes : (order : Option (List ℕ)) (log : List ℕ) (s t : List Step) (step told : Option Step) (number counted : ℕ) → t ≡ s ++ option_to_list step → option_to_list told ≡ steps_told order (option_to_list step) → counted ≡ length s
+    → number ≡ counted + length (option_to_list step) → step_writes log number (option_to_list told) ≡ new_writes log (steps_told order s) (steps_told order t)
+told_writes order log s t step told number counted e d f g =
+    made_writes log (steps_told order s) (steps_told order t) told number counted (ap (steps_told order) e ∙ told-append order s (option_to_list step) ∙ ap (λ l. steps_told order s ++ l) (sym d)) (f ∙ sym (length-told order s))
+    (g ∙ ap (λ n. counted + n) (sym (ap length d ∙ length-told order (option_to_list step))))
 
 pub numbered : (step : Option Step) (number counted : ℕ) → number ≡ counted + length (option_to_list step) → counted < 2 ^ 60 → IfSome step (λ s. IsStepNumber number)
 numbered None number counted e few = tt

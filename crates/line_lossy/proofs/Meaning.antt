@@ -1,10 +1,15 @@
 -- What a run over the medium means.
-use Rattle.std.proofs.Common.{◌≡◌, ◌↔◌, ℕ, ◌+◌, Bool, true, false, cond, ◌||◌, pos, List, length, refl, sym, ap, ◌∙◌, arith}
-use Rattle.dcsp_defs.specs.Csp.{IsCsp, IsSolution, count}
-use Rattle.dcsp_rule.specs.Problems.{csp_of}
-use Rattle.dcsp_problem.proofs.OwnerLists.{get_or-map_below, length-map_below}
+use Rattle.std.proofs.Common.{◌≡◌, ◌↔◌, ℕ, ◌+◌, Bool, true, false, cond, ◌||◌, List, [], Option, Some, None, length, refl, sym, ap, ◌∙◌, arith}
+use Rattle.dcsp_defs.specs.Csp.{Csp, HasNoSolution, IsCsp, IsSolution}
+use Rattle.dcsp_rule.specs.Problems.{Contents, csp_of}
+use Rattle.dcsp_problem.specs.WellFormed.{IsProblem}
+use Rattle.dcsp_problem.proofs.WellFormed.{is_csp}
+use Rattle.dcsp_order.specs.Told.{ordered, values_told, IsOrderFor}
+use Rattle.dcsp_order.specs.Under.{by_place}
+use Rattle.dcsp_order.proofs.Solutions.{solutions_go}
+use Rattle.dcsp_problem.proofs.OwnerLists.{length-map_below}
 use Rattle.abt_defs.specs.Network.{values}
-use Rattle.abt_defs.specs.Runs.{Refuted, Solved, Capped}
+use Rattle.abt_defs.specs.Runs.{Run, Refuted, Solved, Capped}
 use Rattle.law_runs.specs.Worlds.{World}
 use Rattle.law_runs.specs.LossyEnds.{is_quiet, has_verdict}
 use Rattle.law_runs.proofs.WorldRuns.{quiet_is_solved, steps_are_right, handed_up_bounded}
@@ -13,8 +18,9 @@ use Rattle.abt_schedule.specs.Answers.{word_at, generator_of}
 use Rattle.dcsp_script.specs.declared.status.Status.{Status}
 use Rattle.dcsp_script.specs.declared.status.Status.TheVariants.{Good, No, Unfinished}
 use Rattle.line_replay.specs.Endings.{assigned, end_status}
+use Rattle.line_replay.proofs.UnderOrder.{final_value, ordered_csp, refutation_told, solution_told}
 use Rattle.line_replay.proofs.Verdicts.{same_solution}
-use Rattle.line_lossy.specs.Asked.{Asked, lossy, most_calm, seeded_words, run_words, run_world, end_of, world_values}
+use Rattle.line_lossy.specs.Asked.{Asked, lossy, most_calm, seeded_words, run_problem, run_words, run_world, end_of, world_values}
 use Rattle.line_lossy.specs.Meaning.{IsRefutedRun, IsSolvedRun, IsUnfinishedRun, IsBoundedRun, IsLossyRun, RunsAreRight}
 use Rattle.line_lossy.proofs.Counting.{all_made, soon, past_budget}
 
@@ -39,9 +45,22 @@ is_unfinished true b = (λ h. absurd cc, λ h. absurd cc)
 is_unfinished false true = (λ h. absurd cc, λ h. absurd cc)
 is_unfinished false false = (λ h. refl, λ h. refl)
 
+-- ---- solutions under an order
+
+-- where the problem that is run has none, the model has none
+no_solution_told : (order : Option (List ℕ)) (p : Contents) → IsProblem p → IsOrderFor order p → HasNoSolution (csp_of (ordered order p)) → HasNoSolution (csp_of p)
+no_solution_told None p ok good none = none
+no_solution_told (Some order) p ok good none = λ values h. none (by_place order values) (solutions_go p ok order good values h)
+
 -- ---- one run
 
-module _ (asked : Asked) (ok : IsCsp (csp_of asked.problem)) (status : Status) (status_is : status ≡ end_status (end_of (csp_of asked.problem) (run_world asked))) where
+module _ (asked : Asked) (sound : IsProblem asked.problem) (good_order : IsOrderFor asked.order asked.problem) (status : Status) (status_is : status ≡ end_status (end_of (run_problem asked) (run_world asked))) where
+  abbrev run : Csp
+  run = run_problem asked
+
+  ok : IsCsp run
+  ok = ordered_csp asked.order asked.problem sound good_order
+
   abbrev w : World
   w = run_world asked
 
@@ -51,29 +70,34 @@ module _ (asked : Asked) (ok : IsCsp (csp_of asked.problem)) (status : Status) (
   given_long : length given ≡ asked.events
   given_long = length-map_below (word_at (generator_of asked.seed)) asked.events
 
-  abbrev tells_no : (status_by w.network.refuted (is_quiet (csp_of asked.problem) w) ≡ No) ↔ (w.network.refuted ≡ true)
-  tells_no = is_no w.network.refuted (is_quiet (csp_of asked.problem) w)
+  abbrev tells_no : (status_by w.network.refuted (is_quiet (run_problem asked) w) ≡ No) ↔ (w.network.refuted ≡ true)
+  tells_no = is_no w.network.refuted (is_quiet (run_problem asked) w)
 
-  abbrev tells_good : (status_by w.network.refuted (is_quiet (csp_of asked.problem) w) ≡ Good) ↔ ((is_quiet (csp_of asked.problem) w ≡ true) × (w.network.refuted ≡ false))
-  tells_good = is_good w.network.refuted (is_quiet (csp_of asked.problem) w)
+  abbrev tells_good : (status_by w.network.refuted (is_quiet (run_problem asked) w) ≡ Good) ↔ ((is_quiet (run_problem asked) w ≡ true) × (w.network.refuted ≡ false))
+  tells_good = is_good w.network.refuted (is_quiet (run_problem asked) w)
 
-  abbrev tells_unfinished : (status_by w.network.refuted (is_quiet (csp_of asked.problem) w) ≡ Unfinished) ↔ (has_verdict (csp_of asked.problem) w ≡ false)
-  tells_unfinished = is_unfinished w.network.refuted (is_quiet (csp_of asked.problem) w)
+  abbrev tells_unfinished : (status_by w.network.refuted (is_quiet (run_problem asked) w) ≡ Unfinished) ↔ (has_verdict (run_problem asked) w ≡ false)
+  tells_unfinished = is_unfinished w.network.refuted (is_quiet (run_problem asked) w)
 
   refuted : IsRefutedRun asked status
   refuted =
-      let steps = steps_are_right (csp_of asked.problem) ok (run_words asked) in
+      let steps = steps_are_right (run_problem asked) ok (run_words asked) in
+      let told = λ (h : status ≡ No). refutation_told asked.order asked.problem sound good_order w.network.steps (steps.refuted (tells_no.0 (sym status_is ∙ h))) in
       record {
         exactly = (λ h. tells_no.0 (sym status_is ∙ h), λ h. status_is ∙ tells_no.1 h);
-        refutation = λ h. steps.refuted (tells_no.0 (sym status_is ∙ h));
-        no_solution = λ h. steps.no_solution (tells_no.0 (sym status_is ∙ h));
+        refutation = told;
+        no_solution = λ h. no_solution_told asked.order asked.problem sound good_order (steps.no_solution (tells_no.0 (sym status_is ∙ h)));
       }
 
-  solution : status ≡ Good → IsSolution (csp_of asked.problem) (assigned (world_values asked.problem w))
+  solution : status ≡ Good → IsSolution (csp_of asked.problem) (assigned (world_values asked.order asked.problem w))
   solution h =
       let good = tells_good.0 (sym status_is ∙ h) in
-      let solved = quiet_is_solved (csp_of asked.problem) ok (run_words asked) good.1 good.0 in
-      same_solution (csp_of asked.problem) ok (assigned (world_values asked.problem w)) (values w.network) (λ i l. get_or-map_below (values w.network) (count (csp_of asked.problem)) i (pos 0) l) solved.solution
+      let solved = quiet_is_solved (run_problem asked) ok (run_words asked) good.1 good.0 in
+      let o = asked.order in
+      let p = asked.problem in
+      let its_run : Run = record { end = Solved; net = w.network; left = []; numbers = []; trace = [] } in
+      same_solution (csp_of p) (is_csp p sound) (assigned (world_values o p w)) (values_told o (values w.network)) (λ i l. final_value o p sound good_order its_run i l)
+      (solution_told o p sound good_order (values w.network) solved.solution)
 
   solved : IsSolvedRun asked status
   solved = record { exactly = (λ h. tells_good.0 (sym status_is ∙ h), λ h. status_is ∙ tells_good.1 h); solution = solution }
@@ -81,17 +105,17 @@ module _ (asked : Asked) (ok : IsCsp (csp_of asked.problem)) (status : Status) (
   unfinished : IsUnfinishedRun asked status
   unfinished = record {
     exactly = (λ h. tells_unfinished.0 (sym status_is ∙ h), λ h. status_is ∙ tells_unfinished.1 h);
-    all_made = λ h. let all = all_made (csp_of asked.problem) ok given most_calm (tells_unfinished.0 (sym status_is ∙ h)) in all ∙ ap (λ k. k + most_calm) given_long;
-    budget = λ small h. let past = past_budget (csp_of asked.problem) ok given most_calm (tells_unfinished.0 (sym status_is ∙ h)) in let long = given_long in absurd (omega (arith, small, past, long));
+    all_made = λ h. let all = all_made (run_problem asked) ok given most_calm (tells_unfinished.0 (sym status_is ∙ h)) in all ∙ ap (λ k. k + most_calm) given_long;
+    budget = λ small h. let past = past_budget (run_problem asked) ok given most_calm (tells_unfinished.0 (sym status_is ∙ h)) in let long = given_long in absurd (omega (arith, small, past, long));
   }
 
   bounded : IsBoundedRun asked
   bounded =
-      let counts = handed_up_bounded (csp_of asked.problem) ok (run_words asked) in
+      let counts = handed_up_bounded (run_problem asked) ok (run_words asked) in
       record {
         deliveries = counts.bound;
         numbered = counts.numbered;
-        events = let l = soon (csp_of asked.problem) ok given most_calm in let long = given_long in omega (arith, l, long);
+        events = let l = soon (run_problem asked) ok given most_calm in let long = given_long in omega (arith, l, long);
       }
 
   pub is_right : IsLossyRun asked status
@@ -101,8 +125,8 @@ module _ (asked : Asked) (ok : IsCsp (csp_of asked.problem)) (status : Status) (
     solved = solved;
     unfinished = unfinished;
     bounded = bounded;
-    reliable = is_whole (csp_of asked.problem) (run_words asked);
+    reliable = is_whole (run_problem asked) (run_words asked);
   }
 
 pub runs_are_right : RunsAreRight
-runs_are_right p events seed log kept ok status is = is_right (lossy p events seed log kept) ok status is
+runs_are_right p order events seed log kept sound good status is = is_right (lossy order p events seed log kept) sound good status is

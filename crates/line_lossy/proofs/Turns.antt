@@ -1,5 +1,5 @@
 -- The events of a run, made one by one.
-use Rattle.std.proofs.Common.{◌≡◌, ℕ, suc, ◌+◌, ◌-◌, ◌<◌, ◌≤◌, false, true, List, [], ◌∷◌, ◌++◌, map, drop, Result, Ok, Err, append-nil, append_assoc, refl, sym, ap, subst, ◌∙◌, arith}
+use Rattle.std.proofs.Common.{◌≡◌, ℕ, suc, ◌+◌, ◌-◌, ◌<◌, ◌≤◌, false, true, List, [], ◌∷◌, ◌++◌, map, drop, Option, Result, Ok, Err, append-nil, append_assoc, refl, sym, ap, subst, ◌∙◌, arith}
 use Rattle.std.specs.Prelude.{Bool, IsErr, IsErrAnd, ◌||◌}
 use Rattle.std.proofs.lemmas.List.{drop_all}
 use Rattle.dcsp_outside.specs.Outside.{Place, Stream}
@@ -19,13 +19,19 @@ use Rattle.law_runs.specs.LossyEnds.{has_verdict, is_quiet, used, calm_word, cal
 use Rattle.law_runs.proofs.WholeWorlds.{one_more_event}
 use Rattle.abt_lossy.specs.InWorld.{reached}
 use Rattle.abt_session.proofs.Pieces.{wrote_as}
-use Rattle.line_lossy.specs.Runners.{new_writes, HasMade, SameTask}
+use Rattle.dcsp_order.specs.Told.{steps_told}
+use Rattle.line_lossy.specs.Runners.{new_writes, order_of, writes_between, HasMade, SameTask}
 use Rattle.line_lossy.specs.declared.runner.LossyRunner.{LossyRunner}
-use Rattle.line_lossy.proofs.Worlds.{Grown, more_grows, new_both, none_new, first_left, first_used, first_calm}
+use Rattle.line_lossy.proofs.Worlds.{Grown, more_grows, told_grown, new_both, none_new, first_left, first_used, first_calm}
 
--- the steps after these events
-abbrev pub steps_at : Contents → List ℕ → List Step
-steps_at P words = (after (csp_of P) words (begin (csp_of P))).network.steps
+-- the steps after these events, told in own numbers
+abbrev pub steps_at : Option (List ℕ) → Contents → List ℕ → List Step
+steps_at order P words = steps_told order (after (csp_of P) words (begin (csp_of P))).network.steps
+
+-- more words, more steps
+pub more_told : (order : Option (List ℕ)) (P : Contents) (xs ys : List ℕ) → Grown (steps_at order P xs) (steps_at order P (xs ++ ys))
+more_told order P xs ys =
+    told_grown order (after (csp_of P) xs (begin (csp_of P))).network.steps (after (csp_of P) (xs ++ ys) (begin (csp_of P))).network.steps (more_grows (csp_of P) xs ys (begin (csp_of P)))
 
 -- the world after these events
 abbrev pub world_at : Contents → List ℕ → World
@@ -33,7 +39,7 @@ world_at P words = after (csp_of P) words (begin (csp_of P))
 
 -- what more words make
 abbrev pub from_to : LossyRunner → List ℕ → List ℕ → List Write
-from_to r first words = new_writes r.log.now (steps_at r.medium.problem first) (steps_at r.medium.problem words)
+from_to r first words = new_writes r.log.now (steps_at (order_of r) r.medium.problem first) (steps_at (order_of r) r.medium.problem words)
 
 -- The events of these words were made, from those of the first on; other words are to come, and their lines are left.
 pub record Turn (first whole words more : List ℕ) (old new : LossyRunner) (a b : Place) : Type 0 where
@@ -49,7 +55,7 @@ first_turn first whole more r a h e = record {
   joined = e;
   has = h;
   left = λ out. left_all (from_to r first whole) (outside a out);
-  same = record { problem = refl; log = refl; keep = refl };
+  same = record { order = refl; problem = refl; log = refl; keep = refl };
   created = refl;
 }
 
@@ -63,14 +69,15 @@ module _ (first whole words more : List ℕ) (old mid : LossyRunner) (a b : Plac
   -- the line of the next event comes first
   lines : from_to old words whole ≡ from_to old words next ++ from_to old next whole
   lines =
-      let p = csp_of old.medium.problem in
-      new_both old.log.now (steps_at old.medium.problem words) (steps_at old.medium.problem next) (steps_at old.medium.problem whole)
-      (more_grows p words (x ∷ []) (begin p)) (subst (λ l. Grown (steps_at old.medium.problem next) (steps_at old.medium.problem l)) joined (more_grows p next rest (begin p)))
+      let o = order_of old in
+      let P = old.medium.problem in
+      new_both old.log.now (steps_at o P words) (steps_at o P next) (steps_at o P whole) (more_told o P words (x ∷ [])) (subst (λ l. Grown (steps_at o P next) (steps_at o P l)) joined (more_told o P next rest))
 
   same_lines : from_to mid words next ≡ from_to old words next
   same_lines =
-      ap (λ l. new_writes l (steps_at mid.medium.problem words) (steps_at mid.medium.problem next)) t.same.log
-      ∙ ap (λ P. new_writes old.log.now (steps_at P words) (steps_at P next)) t.same.problem
+      ap (λ l. new_writes l (steps_at (order_of mid) mid.medium.problem words) (steps_at (order_of mid) mid.medium.problem next)) t.same.log
+      ∙ ap (λ o. new_writes old.log.now (steps_at o mid.medium.problem words) (steps_at o mid.medium.problem next)) t.same.order
+      ∙ ap (λ P. new_writes old.log.now (steps_at (order_of old) P words) (steps_at (order_of old) P next)) t.same.problem
 
   -- it was made
   pub next_turn : {T : Type 0} (y : T) (new : LossyRunner) (c : Place) → ((out : Stream) → Wrote (from_to mid words next) (outside b out) (outside c out) (Ok y)) → HasMade next new → SameTask mid new → c.created ≡ b.created → Turn first whole next rest old new a c
@@ -78,7 +85,7 @@ module _ (first whole words more : List ℕ) (old mid : LossyRunner) (a b : Plac
     joined = joined;
     has = has;
     left = λ out. left_more (from_to old words whole) lines (t.left out) (wrote_as same_lines (wrote out));
-    same = record { problem = same.problem ∙ t.same.problem; log = same.log ∙ t.same.log; keep = same.keep ∙ t.same.keep };
+    same = record { order = same.order ∙ t.same.order; problem = same.problem ∙ t.same.problem; log = same.log ∙ t.same.log; keep = same.keep ∙ t.same.keep };
     created = created ∙ t.created;
   }
 
@@ -93,7 +100,7 @@ module _ (first whole words more : List ℕ) (old new : LossyRunner) (a b : Plac
 
   pub all_written : {T : Type 0} (y : T) (out : Stream) → Wrote (from_to old first whole) (outside a out) (outside b out) (Ok y)
   all_written y out =
-      left_ends (from_to old words whole) (ap (λ l. from_to old l whole) all ∙ none_new old.log.now (steps_at old.medium.problem whole)) (t.left out) (record { ended = did_nothing (outside b out); handed = refl })
+      left_ends (from_to old words whole) (ap (λ l. from_to old l whole) all ∙ none_new old.log.now (steps_at (order_of old) old.medium.problem whole)) (t.left out) (record { ended = did_nothing (outside b out); handed = refl })
 
   pub all_made : HasMade whole new
   all_made = subst (λ l. HasMade l new) all t.has
@@ -142,7 +149,7 @@ no_calm P n k words l = let m : n - k ≡ 0 = omega (arith, l) in ap (λ i. calm
 
 -- what making the event of this word writes, with this result
 abbrev pub WritesEvent : {T : Type 0} → ℕ → LossyRunner → Place → Place → Result T Stop → Type 0
-WritesEvent x r b c result = (words : List ℕ) (out : Stream) → HasMade words r → Wrote (new_writes r.log.now (reached r.medium words).network.steps (reached r.medium (words ++ x ∷ [])).network.steps) (outside b out) (outside c out) result
+WritesEvent x r b c result = (words : List ℕ) (out : Stream) → HasMade words r → Wrote (writes_between r words (words ++ x ∷ [])) (outside b out) (outside c out) result
 
 -- whether a verdict stands
 abbrev pub Stands : LossyRunner → Bool → Type 0

@@ -1,5 +1,5 @@
 -- What more events bring, and the lines of their steps.
-use Rattle.std.proofs.Common.{◌≡◌, ℕ, zero, suc, ◌+◌, ◌<◌, ◌≤◌, true, false, cond, inl, inr, List, [], ◌∷◌, ◌++◌, length, length-append, map, drop, append-nil, append_assoc, refl, sym, ap, ◌∙◌, arith}
+use Rattle.std.proofs.Common.{◌≡◌, ℕ, zero, suc, ◌+◌, ◌<◌, ◌≤◌, true, false, cond, inl, inr, List, [], ◌∷◌, ◌++◌, length, length-append, map, drop, Option, append-nil, append_assoc, refl, sym, ap, ◌∙◌, arith}
 use Rattle.std.proofs.Math.Seq.{drop-append_seam}
 use Rattle.std.proofs.lemmas.List.{drop_all, drop-append-le, map-append}
 use Rattle.std.proofs.lemmas.Bool.{cases_lt}
@@ -7,6 +7,8 @@ use Rattle.dcsp_defs.specs.Csp.{Csp}
 use Rattle.dcsp_defs.specs.Words.{below}
 use Rattle.dcsp_defs.specs.declared.Step.{Step}
 use Rattle.dcsp_problem.proofs.OwnerLists.{length-map_below}
+use Rattle.dcsp_order.specs.Told.{steps_told}
+use Rattle.dcsp_order.proofs.Telling.{told-append}
 use Rattle.dcsp_script.specs.Scripts.{Append}
 use Rattle.abt_defs.specs.Network.{Network}
 use Rattle.ngd_log.specs.Logs.{step_lines}
@@ -58,6 +60,10 @@ after_grows p (x ∷ xs) w = elim w.network.refuted as (λ b. Grown w.network.st
 -- more events, more steps
 pub more_grows : (p : Csp) (xs ys : List ℕ) (w : World) → Grown (after p xs w).network.steps (after p (xs ++ ys) w).network.steps
 more_grows p xs ys w = let g = after_grows p ys (after p xs w) in (g.0, ap (λ (v : World). v.network.steps) (after_both p xs ys w) ∙ g.1)
+
+-- told in own numbers, they grow in the same way
+pub told_grown : (order : Option (List ℕ)) (s t : List Step) → Grown s t → Grown (steps_told order s) (steps_told order t)
+told_grown order s t g = (steps_told order g.0, ap (steps_told order) g.1 ∙ told-append order s g.0)
 
 -- ---- lines
 

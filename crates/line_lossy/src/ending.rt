@@ -1,18 +1,17 @@
 //! How a run over the medium ended, and as text.
 
-ghost use Rattle.std.specs.Prelude.{◌≡◌, ℕ, List, [], ◌∷◌, ◌++◌, map, length, codes, decimal, Err, IfOk, OnErr, OnOk};
-ghost use Rattle.dcsp_defs.specs.Csp.{count};
-ghost use Rattle.dcsp_defs.specs.Words.{below};
+ghost use Rattle.std.specs.Prelude.{◌≡◌, ℕ, ◌<◌, List, [], ◌∷◌, ◌++◌, length, codes, decimal, Err, IfOk, IfSome, OnErr, OnOk, option_copied};
+ghost use Rattle.dcsp_defs.specs.Csp.{IsCsp};
 ghost use Rattle.dcsp_outside.specs.Outside.{Place, Stream};
 ghost use Rattle.dcsp_rule.specs.Problems.{csp_of};
 ghost use Rattle.dcsp_script.specs.Scripts.{Put, outside};
 ghost use Rattle.dcsp_script.specs.Ways.{Wrote};
-ghost use Rattle.abt_defs.specs.Network.{values};
+ghost use Rattle.dcsp_order.specs.Told.{place_told, Fits};
 ghost use Rattle.abt_lossy.specs.InWorld.{reached, IsAfter};
-ghost use Rattle.abt_session.specs.Running.{IsOutcome};
+ghost use Rattle.abt_session.specs.Running.{values_of, IsOutcome};
 ghost use Rattle.line_replay.specs.Outcomes.{outcome_text, HasAllValues};
 ghost use Rattle.line_lossy.specs.Asked.{end_of, events_text};
-ghost use Rattle.line_lossy.specs.Runners.{HasMade};
+ghost use Rattle.line_lossy.specs.Runners.{order_of, HasMade};
 
 use crate::runner::LossyRunner;
 use abt_lossy::{Lossy, Standing};
@@ -20,6 +19,7 @@ use abt_schedule::ChoiceList;
 use abt_session::{End, Outcome};
 use dcsp_common::Memory;
 use dcsp_domain::IntList;
+use dcsp_order::Order;
 use dcsp_outside::Sink;
 use dcsp_problem::Problem;
 use dcsp_script::{Stop, put};
@@ -35,23 +35,25 @@ pub struct Ended {
     pub events: u64,
 }
 
-/// What the run gives that has stopped.
+/// What the run of a model's problem gives that has stopped.
 pub fn outcome_of(
     alloc: Global,
     problem: &Problem,
     runner: &LossyRunner<'_, '_>,
 ) -> Result<Outcome, Stop>
-    requires problem { runner.now.medium.problem ≡ problem.now }
-    ensures gives { (words : List ℕ) → HasMade words runner.now → IfOk result (IsOutcome (csp_of problem.now) (reached runner.now.medium words).network (end_of (csp_of problem.now) (reached runner.now.medium words))) }
+    requires csp { IsCsp (csp_of runner.now.medium.problem) }
+    requires fits { Fits (order_of runner.now) problem.now }
+    requires count { length runner.now.medium.problem.domains ≡ length problem.now.domains }
+    ensures gives { let p = csp_of runner.now.medium.problem in (words : List ℕ) → HasMade words runner.now
+        → IfOk result (IsOutcome (order_of runner.now) p (reached runner.now.medium words).network (end_of p (reached runner.now.medium words))) }
     ensures only_memory { OnErr result (result ≡ Err Stop.Memory) }
 {
     law_runs::lossy::handed_up_bounded();
-    problem.denotes_csp();
     let end = match runner.medium.state() {
         Standing::Refuted => End::Refuted,
         Standing::Open => End::Capped,
         Standing::Quiet => {
-            let Ok(list) = values_of(alloc, problem, &runner.medium) else {
+            let Ok(list) = values_of(alloc, runner.order, problem, &runner.medium) else {
                 return Err(Stop::Memory);
             };
             End::Solved(list)
@@ -65,19 +67,37 @@ pub fn outcome_of(
     })
 }
 
-/// The values of all agents, in order.
-fn values_of(alloc: Global, problem: &Problem, medium: &Lossy<'_>) -> Result<IntList, Memory>
-    requires { medium.now.problem ≡ problem.now }
-    ensures { (words : List ℕ) → IsAfter medium.now words → IfOk result (λ list. list ≡ map (values (reached medium.now words).network) (below (count (csp_of problem.now)))) }
+/// The values of all variables of a model, by their own numbers.
+fn values_of(
+    alloc: Global,
+    order: Option<&Order>,
+    problem: &Problem,
+    medium: &Lossy<'_>,
+) -> Result<IntList, Memory>
+    requires fits { Fits (option_copied order) problem.now }
+    requires count { length medium.now.problem.domains ≡ length problem.now.domains }
+    ensures { (words : List ℕ) → IsAfter medium.now words → IfOk result (λ list. list ≡ values_of (option_copied order.entry) (csp_of medium.now.problem) (reached medium.now words).network) }
 {
     let mut list = IntList::new(alloc);
-    for agent in 0..problem.vars() {
-        let value = medium.value(agent).unwrap_or(0);
+    for number in 0..problem.vars() {
+        let value = medium.value(place_in(order, number)).unwrap_or(0);
         if list.push(value).is_err() {
             return Err(Memory);
         }
     }
     Ok(list)
+}
+
+/// The place of a variable in the order that a run has.
+fn place_in(order: Option<&Order>, number: u32) -> u32
+    requires { IfSome (option_copied order) (λ numbers. number < length numbers) }
+    ensures place { result ≡ place_told (option_copied order.entry) number }
+    ensures within { (n : ℕ) → IfSome (option_copied order.entry) (λ numbers. length numbers ≡ n) → number < n → result < n }
+{
+    match order {
+        Some(order) => order.place(number),
+        None => number,
+    }
 }
 
 /// Puts how the run ended, in one piece: its solution or what stands in its place, and how many deliveries, steps

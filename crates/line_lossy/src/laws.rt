@@ -7,7 +7,7 @@ ghost use Rattle.line_lossy.specs.Meaning.{AnswersArePut, FilesAreWhole, RunsAre
 
 /// The promise keeps what every line of words keeps.
 pub fn lossy_is_lawful()
-    ensures { (model log : List ℕ) (events seed : ℕ) (record_file : Option (List ℕ)) → IsLawful (lossy_promise model log events seed record_file) }
+    ensures { (model : List ℕ) (order_file : Option (List ℕ)) (log : List ℕ) (events seed : ℕ) (record_file : Option (List ℕ)) → IsLawful (lossy_promise model order_file log events seed record_file) }
 {}
 
 /// A run over the medium ends solved, refuted, or with the most calm events made; it says so rightly, within the

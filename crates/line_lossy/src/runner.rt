@@ -9,20 +9,26 @@ ghost use Rattle.law_runs.specs.LossyEnds.{calm_word, has_verdict};
 ghost use Rattle.abt_network.specs.Standing.{standing_in, steps_of};
 ghost use Rattle.abt_lossy.specs.InWorld.{reached, CanHappen};
 ghost use Rattle.abt_schedule.specs.Answers.{word_at};
+ghost use Rattle.dcsp_order.specs.Told.{steps_told};
 ghost use Rattle.abt_session.specs.Running.{kept};
 ghost use Rattle.abt_session.specs.Sessions.{begun_script};
 ghost use Rattle.line_lossy.specs.Asked.{log_script, seeded_words, words_of};
 
 use abt_lossy::{Begun, Lossy, Standing, Step};
 use abt_schedule::{ChoiceList, Choices, Seeded};
-use abt_session::{append_begun, append_made};
+use abt_session::{append_begun, append_made, begun_told, step_told};
+use dcsp_order::Order;
 use dcsp_outside::Folder;
 use dcsp_script::{Stop, append, create};
 use ngd_log::{HEAD, TAIL};
+use std::alloc::Global;
 
 /// A run over the medium on its way.
 #[derive(Drop)]
 pub struct LossyRunner<'p, 'w> {
+    pub alloc: Global,
+    /// The order whose numbers tell the run, where it is one under an order.
+    pub order: Option<&'p Order>,
     pub medium: Lossy<'p>,
     /// The name of the log.
     pub log: &'w str,
@@ -38,7 +44,7 @@ pub struct LossyRunner<'p, 'w> {
 }
 
 impl<'p, 'w> LossyRunner<'p, 'w> {
-    ghost use Rattle.line_lossy.specs.Runners.{calmed, seeded_until_verdict, writes_between, HasMade, SameTask};
+    ghost use Rattle.line_lossy.specs.Runners.{calmed, order_of, seeded_until_verdict, writes_between, HasMade, SameTask};
 
     /// Makes the whole run, and its log: the events of the seed, so many of them, and then calm ones, at most
     /// `most`, until a verdict stands.
@@ -53,7 +59,7 @@ impl<'p, 'w> LossyRunner<'p, 'w> {
         requires sound { self.old.medium.spent ≡ false }
         requires fresh { self.old.medium.begun ≡ false }
         requires none { (self.old.steps ≡ 0) × (self.old.deliveries ≡ 0) × (self.old.taken ≡ []) }
-        ensures wrote { (out : Stream) → Wrote (log_script self.old.log.now (reached self.old.medium (words_of (csp_of self.old.medium.problem) (seeded_words seed events) most)).network.steps)
+        ensures wrote { (out : Stream) → Wrote (log_script self.old.log.now (steps_told (order_of self.old) (reached self.old.medium (words_of (csp_of self.old.medium.problem) (seeded_words seed events) most)).network.steps))
             (outside (F.place folder.old) out) (outside (F.place folder.new) out) result }
         ensures made { OnOk result (HasMade (words_of (csp_of self.old.medium.problem) (seeded_words seed events) most) self.new) }
         ensures same { SameTask self.old self.new }
@@ -69,7 +75,7 @@ impl<'p, 'w> LossyRunner<'p, 'w> {
         requires sound { self.old.medium.spent ≡ false }
         requires fresh { self.old.medium.begun ≡ false }
         requires none { (self.old.steps ≡ 0) × (self.old.deliveries ≡ 0) × (self.old.taken ≡ []) }
-        ensures wrote { (out : Stream) → Wrote (begun_script (csp_of self.old.medium.problem) self.old.log.now)
+        ensures wrote { (out : Stream) → Wrote (begun_script (order_of self.old) (csp_of self.old.medium.problem) self.old.log.now)
             (outside (F.place folder.old) out) (outside (F.place folder.new) out) result }
         ensures made { OnOk result (HasMade [] self.new) }
         ensures same { SameTask self.old self.new }
@@ -81,7 +87,10 @@ impl<'p, 'w> LossyRunner<'p, 'w> {
             return Err(Stop::Memory);
         };
         self.steps = steps_in(&begun);
-        append_begun(folder, self.log, &begun, &mut self.line)
+        let Ok(told) = begun_told(self.alloc, self.order, begun) else {
+            return Err(Stop::Memory);
+        };
+        append_begun(folder, self.log, &told, &mut self.line)
     }
 
     /// Makes the events of these words, so many of them, until a verdict stands.
@@ -93,7 +102,7 @@ impl<'p, 'w> LossyRunner<'p, 'w> {
     ) -> Result<(), Stop>
         requires created { Contains (F.place folder.old).created self.old.log.now }
         requires made { HasMade [] self.old }
-        ensures wrote { (out : Stream) → Wrote (writes_between self.old.medium self.old.log.now [] (seeded_until_verdict self.old.medium words events))
+        ensures wrote { (out : Stream) → Wrote (writes_between self.old [] (seeded_until_verdict self.old.medium words events))
             (outside (F.place folder.old) out) (outside (F.place folder.new) out) result }
         ensures made { OnOk result (HasMade (seeded_until_verdict self.old.medium words events) self.new) }
         ensures same { SameTask self.old self.new }
@@ -116,7 +125,7 @@ impl<'p, 'w> LossyRunner<'p, 'w> {
         requires created { Contains (F.place folder.old).created self.old.log.now }
         requires made { (words : List ℕ) × HasMade words self.old }
         requires few { self.old.medium.events + most < 2 ^ 48 }
-        ensures wrote { (words : List ℕ) (out : Stream) → HasMade words self.old → Wrote (writes_between self.old.medium self.old.log.now words (calmed self.old.medium words most))
+        ensures wrote { (words : List ℕ) (out : Stream) → HasMade words self.old → Wrote (writes_between self.old words (calmed self.old.medium words most))
             (outside (F.place folder.old) out) (outside (F.place folder.new) out) result }
         ensures made { (words : List ℕ) → HasMade words self.old → OnOk result (HasMade (calmed self.old.medium words most) self.new) }
         ensures same { SameTask self.old self.new }
@@ -156,7 +165,7 @@ impl<'p, 'w> LossyRunner<'p, 'w> {
         requires created { Contains (F.place folder.old).created self.old.log.now }
         requires made { (words : List ℕ) × HasMade words self.old }
         requires can { CanHappen self.old.medium }
-        ensures wrote { (words : List ℕ) (out : Stream) → HasMade words self.old → Wrote (writes_between self.old.medium self.old.log.now words (words ++ word ∷ []))
+        ensures wrote { (words : List ℕ) (out : Stream) → HasMade words self.old → Wrote (writes_between self.old words (words ++ word ∷ []))
             (outside (F.place folder.old) out) (outside (F.place folder.new) out) result }
         ensures made { (words : List ℕ) → HasMade words self.old → OnOk result (HasMade (words ++ word ∷ []) self.new) }
         ensures same { SameTask self.old self.new }
@@ -166,7 +175,10 @@ impl<'p, 'w> LossyRunner<'p, 'w> {
             return Err(Stop::Memory);
         };
         self.count_step(&happened.step);
-        append_made(folder, self.log, self.steps, &happened.step, &mut self.line)?;
+        let Ok(told) = step_told(self.alloc, self.order, happened.step) else {
+            return Err(Stop::Memory);
+        };
+        append_made(folder, self.log, self.steps, &told, &mut self.line)?;
         self.take_down(happened.delivered)
     }
 

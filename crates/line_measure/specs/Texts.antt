@@ -1,5 +1,5 @@
 -- The measures of a run as text.
-use Rattle.std.specs.Prelude.{ℕ, ◌+◌, ◌==◌, List, [], ◌++◌, codes, decimal, filter, flat_map, length, if◌then◌else◌}
+use Rattle.std.specs.Prelude.{ℕ, ◌+◌, ◌==◌, List, [], ◌++◌, Option, codes, decimal, filter, flat_map, length, if◌then◌else◌}
 use Rattle.dcsp_defs.specs.declared.nogood.Pair.{Pair}
 use Rattle.dcsp_defs.specs.Words.{below}
 use Rattle.dcsp_defs.specs.Csp.{Csp, count, domain}
@@ -7,6 +7,7 @@ use Rattle.abt_defs.specs.Network.{Network}
 use Rattle.abt_defs.specs.Runs.{Run}
 use Rattle.abt_defs.specs.Events.{Act, acts}
 use Rattle.abt_defs.specs.Measures.{Kinds, Row, learned, row}
+use Rattle.dcsp_order.specs.Told.{place_told}
 use Rattle.abt_network.specs.declared.Standing.{Standing}
 use Rattle.abt_network.specs.declared.Standing.TheVariants.{Open, Quiet, Refuted}
 use Rattle.line_measure.specs.declared.numbers.Numbers.{Numbers}
@@ -45,50 +46,52 @@ greatest_lines n =
 abbrev pub head_text : Numbers → List ℕ
 head_text n = end_lines n ++ checks_lines n ++ greatest_lines n
 
--- ---- each agent
+-- ---- each agent, by its variable's own number, in the order of these; in the run it has the number of its place
 
 -- three numbers, each behind a blank
 abbrev pub kinds_text : Kinds → List ℕ
 kinds_text k = numbered (codes " ") k.ok ++ numbered (codes " ") k.nogood ++ numbered (codes " ") k.link
 
--- what agent i sent and received by kind, its checks, the most nogoods that it had recorded, and how many values it took; agents count from 1
+-- what the agent of variable i sent and received by kind, its checks, the most nogoods that it had recorded, and how many values it took; variables count from 1
 abbrev pub agent_line : ℕ → Row → ℕ → List ℕ
 agent_line i r values =
     numbered (codes "v") (i + 1) ++ codes " sent" ++ kinds_text r.sent ++ codes " got" ++ kinds_text r.got
     ++ numbered (codes " checks ") r.constraints ++ numbered (codes " ") r.nogoods ++ numbered (codes " recorded ") r.recorded ++ numbered (codes " values ") values ++ codes "\n"
 
-abbrev pub agents_text : Csp → List Act → Network → List ℕ
-agents_text p done net = flat_map (λ i. agent_line i (row p done i) (net.agents i).stamp) (below (count p))
+abbrev pub agents_text : Option (List ℕ) → Csp → List Act → Network → List ℕ
+agents_text order p done net = flat_map (λ i. agent_line i (row p done (place_told order i)) (net.agents (place_told order i)).stamp) (below (count p))
 
--- how many values of agent k, of so many, agent i has learned; nothing where there is none
+-- how many values of variable k, of so many, the agent of variable i has learned; nothing where there is none
 abbrev pub learned_line : ℕ → ℕ → ℕ → ℕ → List ℕ
 learned_line i k values size =
     if values == 0 then []
     else numbered (codes "v") (i + 1) ++ numbered (codes " learned v") (k + 1) ++ numbered (codes " ") values ++ numbered (codes " of ") size ++ codes "\n"
 
--- what agent i has learned of each, where it was told these values
-abbrev pub learner_lines : Csp → ℕ → List Pair → List ℕ
-learner_lines p i pairs = flat_map (λ k. learned_line i k (length (filter (λ (y : Pair). y.var == k) pairs)) (length (domain p k))) (below (count p))
+-- what the agent of variable i has learned of each, where it was told these values
+abbrev pub learner_lines : Option (List ℕ) → Csp → ℕ → List Pair → List ℕ
+learner_lines order p i pairs =
+    flat_map (λ k. learned_line i k (length (filter (λ (y : Pair). y.var == place_told order k) pairs)) (length (domain p (place_told order k)))) (below (count p))
 
-abbrev pub learner_text : Csp → List Act → ℕ → List ℕ
-learner_text p done i = flat_map (λ k. learned_line i k (learned done i k) (length (domain p k))) (below (count p))
+abbrev pub learner_text : Option (List ℕ) → Csp → List Act → ℕ → List ℕ
+learner_text order p done i =
+    flat_map (λ k. learned_line i k (learned done (place_told order i) (place_told order k)) (length (domain p (place_told order k)))) (below (count p))
 
-abbrev pub learned_text : Csp → List Act → List ℕ
-learned_text p done = flat_map (learner_text p done) (below (count p))
+abbrev pub learned_text : Option (List ℕ) → Csp → List Act → List ℕ
+learned_text order p done = flat_map (learner_text order p done) (below (count p))
 
 -- ---- whole texts
 
 -- of each agent, and the last line
-abbrev pub each_text : Csp → List Act → Network → List ℕ
-each_text p done net = agents_text p done net ++ learned_text p done ++ codes "end\n"
+abbrev pub each_text : Option (List ℕ) → Csp → List Act → Network → List ℕ
+each_text order p done net = agents_text order p done net ++ learned_text order p done ++ codes "end\n"
 
 -- of a run, by its acts
-abbrev pub measures_by : Csp → Numbers → Run → List Act → List ℕ
-measures_by p n r done = head_text n ++ each_text p done r.net
+abbrev pub measures_by : Option (List ℕ) → Csp → Numbers → Run → List Act → List ℕ
+measures_by order p n r done = head_text n ++ each_text order p done r.net
 
--- the measures of the run under these choices
-unfoldable pub measures_text : Csp → List ℕ → List ℕ
-measures_text p choices = measures_by p (numbers_of p choices) (run_under p choices) (acts p (used_under p choices))
+-- the measures of the run under these choices, of the problem under this order
+unfoldable pub measures_text : Option (List ℕ) → Csp → List ℕ → List ℕ
+measures_text order p choices = measures_by order p (numbers_of p choices) (run_under p choices) (acts p (used_under p choices))
 
 -- the names of the columns of a survey
 abbrev pub survey_head : List ℕ

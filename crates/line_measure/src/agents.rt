@@ -1,8 +1,9 @@
 //! What `measure` tells of each agent.
 
-ghost use Rattle.std.specs.Prelude.{◌≡◌, ◌++◌, ◌==◌, List, OnOk, filter, length};
+ghost use Rattle.std.specs.Prelude.{◌≡◌, ◌<◌, ◌++◌, ◌==◌, List, IfSome, OnOk, filter, length, option_copied};
 ghost use Rattle.dcsp_defs.specs.declared.nogood.Pair.{Pair as ThePair};
 ghost use Rattle.dcsp_rule.specs.Problems.{csp_of};
+ghost use Rattle.dcsp_order.specs.Told.{place_told, IsOrderFor};
 ghost use Rattle.abt_defs.specs.Events.{Act};
 ghost use Rattle.abt_defs.specs.Network.{Network as TheNetwork};
 ghost use Rattle.abt_network.specs.Standing.{StandsAt};
@@ -14,33 +15,49 @@ ghost use Rattle.line_measure.specs.Texts.{agent_line, agents_text, learned_line
 use crate::texts::{push_kinds, push_number};
 use abt_measure::{Learned, MeasuredRun, Row};
 use dcsp_defs::Pair;
+use dcsp_order::Order;
 use dcsp_problem::Problem;
 use std::alloc::AllocError;
 
-/// Pushes one line for each agent, in order.
+/// The place of the variable with this number under the order, at which its agent stands in the run. Where no order is given,
+/// it is the number itself.
+fn place_of(order: Option<&Order>, number: u32) -> u32
+    requires { IfSome (option_copied order) (λ numbers. number < length numbers) }
+    ensures { result ≡ place_told (option_copied order.entry) number }
+{
+    match order {
+        Some(order) => order.place(number),
+        None => number,
+    }
+}
+
+/// Pushes one line for each variable's agent, in the order of the variables' own numbers.
 pub fn push_agents(
+    order: Option<&Order>,
     problem: &Problem,
     run: &MeasuredRun,
     into: &mut Vec<u8>,
 ) -> Result<(), AllocError>
+    requires order { IsOrderFor (option_copied order) problem.now }
     requires problem { run.now.network.problem ≡ problem.now }
     requires rows { length run.now.measures.rows ≡ length problem.now.domains }
     ensures { (done : List Act) (net : TheNetwork) → AreRows (csp_of problem.now) done run.now.measures.rows → StandsAt run.now.network net
-        → OnOk result (into.new.items ≡ into.old.items ++ agents_text (csp_of problem.now) done net) }
+        → OnOk result (into.new.items ≡ into.old.items ++ agents_text (option_copied order.entry) (csp_of problem.now) done net) }
 {
-    for agent in 0..problem.vars() {
-        let row = run.measures.rows()[agent as usize];
-        push_agent(agent, &row, run.network.agent(agent).stamp(), into)?;
+    for number in 0..problem.vars() {
+        let place = place_of(order, number);
+        let row = run.measures.rows()[place as usize];
+        push_agent(number, &row, run.network.agent(place).stamp(), into)?;
     }
     Ok(())
 }
 
-/// The line of an agent: what it sent and received by kind, its checks, the most nogoods that it had recorded, and how
+/// The line of a variable's agent: what it sent and received by kind, its checks, the most nogoods that it had recorded, and how
 /// many values it took.
-fn push_agent(agent: u32, row: &Row, values: u64, into: &mut Vec<u8>) -> Result<(), AllocError>
-    ensures { OnOk result (into.new.items ≡ into.old.items ++ agent_line agent (as_row row.now) values) }
+fn push_agent(number: u32, row: &Row, values: u64, into: &mut Vec<u8>) -> Result<(), AllocError>
+    ensures { OnOk result (into.new.items ≡ into.old.items ++ agent_line number (as_row row.now) values) }
 {
-    push_number(b"v", agent as u64 + 1, into)?;
+    push_number(b"v", number as u64 + 1, into)?;
     into.extend_from_slice(b" sent")?;
     push_kinds(row.sent, into)?;
     into.extend_from_slice(b" got")?;
@@ -52,52 +69,59 @@ fn push_agent(agent: u32, row: &Row, values: u64, into: &mut Vec<u8>) -> Result<
     into.extend_from_slice(b"\n")
 }
 
-/// Pushes one line for each pair of agents of which the first learned values of the second, by the first and then by
-/// the second.
+/// Pushes one line for each pair of variables of which the agent of the first learned values of the second, by the first and
+/// then by the second.
 pub fn push_learned(
+    order: Option<&Order>,
     problem: &Problem,
     learned: &Learned,
     into: &mut Vec<u8>,
 ) -> Result<(), AllocError>
-    requires { length learned.now ≡ length problem.now.domains }
-    ensures { (done : List Act) → AreLearned done learned.now → OnOk result (into.new.items ≡ into.old.items ++ learned_text (csp_of problem.now) done) }
+    requires order { IsOrderFor (option_copied order) problem.now }
+    requires lists { length learned.now ≡ length problem.now.domains }
+    ensures { (done : List Act) → AreLearned done learned.now
+        → OnOk result (into.new.items ≡ into.old.items ++ learned_text (option_copied order.entry) (csp_of problem.now) done) }
 {
-    for agent in 0..problem.vars() {
-        push_learner(problem, agent, learned.pairs(agent), into)?;
+    for number in 0..problem.vars() {
+        let pairs = learned.pairs(place_of(order, number));
+        push_learner(order, problem, number, pairs, into)?;
     }
     Ok(())
 }
 
-/// The lines of one agent, which learned these values.
+/// The lines of one variable's agent, which learned these values.
 fn push_learner(
+    order: Option<&Order>,
     problem: &Problem,
-    agent: u32,
+    number: u32,
     pairs: &[Pair],
     into: &mut Vec<u8>,
 ) -> Result<(), AllocError>
-    ensures { OnOk result (into.new.items ≡ into.old.items ++ learner_lines (csp_of problem.now) agent pairs.now) }
+    requires { IsOrderFor (option_copied order) problem.now }
+    ensures { OnOk result (into.new.items ≡ into.old.items ++ learner_lines (option_copied order.entry) (csp_of problem.now) number pairs.now) }
 {
     for owner in 0..problem.vars() {
-        let size = problem.domain(owner).len() as u64;
-        push_pair(agent, owner, count_of(pairs, owner), size, into)?;
+        let place = place_of(order, owner);
+        let size = problem.domain(place).len() as u64;
+        push_pair(number, owner, count_of(pairs, place), size, into)?;
     }
     Ok(())
 }
 
 /// The line of a learner and an owner, where there is a value.
 fn push_pair(
-    agent: u32,
+    learner: u32,
     owner: u32,
     count: u64,
     size: u64,
     into: &mut Vec<u8>,
 ) -> Result<(), AllocError>
-    ensures { OnOk result (into.new.items ≡ into.old.items ++ learned_line agent owner count size) }
+    ensures { OnOk result (into.new.items ≡ into.old.items ++ learned_line learner owner count size) }
 {
     if count == 0 {
         return Ok(());
     }
-    push_number(b"v", agent as u64 + 1, into)?;
+    push_number(b"v", learner as u64 + 1, into)?;
     push_number(b" learned v", owner as u64 + 1, into)?;
     push_number(b" ", count, into)?;
     push_number(b" of ", size, into)?;

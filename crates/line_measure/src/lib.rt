@@ -1,4 +1,5 @@
-//! The lines `measure MODEL SCHEDULE`, the measures of a run, and `survey MODEL COUNT [--from SEED]`, those of many.
+//! The lines `measure MODEL SCHEDULE [--order FILE]`, the measures of a run, and `survey MODEL COUNT [--from SEED]
+//! [--order FILE]`, those of many.
 #![tactic(auto)]
 
 mod agents;
@@ -8,6 +9,6 @@ mod numbers;
 mod survey;
 mod texts;
 
-pub use laws::{measures_are_lawful, records_alike, seeds_are_of_solve};
+pub use laws::{lines_are_of_records, measures_are_lawful, records_alike, seeds_are_of_solve};
 pub use measure::{Measure, run_measure};
 pub use survey::{Survey, run_survey};

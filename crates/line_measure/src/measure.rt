@@ -1,10 +1,11 @@
-//! The line `measure MODEL SCHEDULE`.
+//! The line `measure MODEL SCHEDULE [--order FILE]`.
 
-ghost use Rattle.std.specs.Prelude.{◌≡◌, ◌++◌, List, IfOk, OnOk, length};
+ghost use Rattle.std.specs.Prelude.{◌≡◌, ◌++◌, List, IfOk, OnOk, length, option_copied};
 ghost use Rattle.dcsp_outside.specs.Outside.{Place, Stream};
 ghost use Rattle.dcsp_script.specs.Scripts.{outside};
 ghost use Rattle.dcsp_script.specs.Ways.{Wrote};
 ghost use Rattle.dcsp_rule.specs.Problems.{csp_of};
+ghost use Rattle.dcsp_order.specs.Told.{IsOrderFor};
 ghost use Rattle.abt_defs.specs.Network.{Network as TheNetwork};
 ghost use Rattle.abt_defs.specs.Events.{Act};
 ghost use Rattle.abt_network.specs.Standing.{StandsAt};
@@ -19,12 +20,13 @@ ghost use Rattle.line_measure.specs.MeasurePromise.{measure_promise, measure_scr
 use crate::agents::{push_agents, push_learned};
 use crate::numbers::numbers_of;
 use crate::texts::push_head;
-use abt_input::{CommandError, read_choices, read_model};
+use abt_input::{CommandError, read_choices, read_model, read_order_of};
 use abt_measure::{MeasuredRun, measure_run};
 use abt_network::Standing;
 use abt_schedule::Listed;
 use abt_session::MOST_DELIVERIES;
 use dcsp_common::Memory;
+use dcsp_order::{Order, moved};
 use dcsp_outside::{Folder, Sink};
 use dcsp_problem::Problem;
 use dcsp_script::{Status, Stop, put};
@@ -37,38 +39,49 @@ pub struct Measure<'w> {
     pub model: &'w str,
     /// The name of the schedule whose choices the run takes.
     pub schedule: &'w str,
+    /// The name of the order, where one is given.
+    pub order_file: Option<&'w str>,
 }
 
-/// Runs the model under the choices of the schedule, which is read after it, and tells the run's measures.
+/// Runs the model, under the order where one is named, by the choices of the schedule, which is read last, and tells the run's
+/// measures.
 pub fn run_measure<F: Folder, S: Sink>(
     alloc: Global,
     folder: &mut F,
     line: Measure<'_>,
     out: &mut S,
 ) -> Result<Status, CommandError>
-    ensures { CameIn (measure_promise line.entry.model.now line.entry.schedule.now)
+    ensures { CameIn (measure_promise line.entry.model.now line.entry.schedule.now (option_copied line.entry.order_file))
         (outside (F.place folder.old) (S.stream out.old))
         (outside (F.place folder.new) (S.stream out.new)) (way_of result) }
 {
     let problem = read_model(alloc, folder, line.model)?;
+    let read = read_order_of(alloc, folder, line.order_file, &problem)?;
+    let order = read.as_ref();
     let choices = read_choices(alloc, folder, line.schedule)?;
-    let status = tell_measures(alloc, &problem, choices, out)?;
+    let Ok(moved) = moved(alloc, order, &problem) else {
+        return Err(CommandError::Memory);
+    };
+    let run = moved.as_ref().unwrap_or(&problem);
+    let status = tell_measures(alloc, order, run, choices, out)?;
     Ok(status)
 }
 
-/// Makes the run, and puts its measures in one piece.
+/// Makes the run of the problem, which is one under the order, and puts its measures in one piece.
 fn tell_measures<S: Sink>(
     alloc: Global,
+    order: Option<&Order>,
     problem: &Problem,
     choices: Listed,
     out: &mut S,
 ) -> Result<Status, Stop>
-    ensures wrote { (folder : Place) → Wrote (measure_script problem.now choices) (outside folder (S.stream out.old)) (outside folder (S.stream out.new)) result }
+    requires { IsOrderFor (option_copied order) problem.now }
+    ensures wrote { (folder : Place) → Wrote (measure_script (option_copied order.entry) problem.now choices) (outside folder (S.stream out.old)) (outside folder (S.stream out.new)) result }
     ensures status { IfOk result (λ status. status ≡ status_at (numbers_of (csp_of problem.now) (listed choices)).end) }
 {
     let mut choices = choices;
     let mut text = Vec::new(alloc);
-    let Ok(end) = push_run(alloc, problem, &mut choices, &mut text) else {
+    let Ok(end) = push_run(alloc, order, problem, &mut choices, &mut text) else {
         return Err(Stop::Memory);
     };
     put(out, &text)?;
@@ -78,11 +91,13 @@ fn tell_measures<S: Sink>(
 /// Makes the run, and pushes its measures.
 fn push_run(
     alloc: Global,
+    order: Option<&Order>,
     problem: &Problem,
     choices: &mut Listed,
     into: &mut Vec<u8>,
 ) -> Result<Standing, Memory>
-    ensures text { IfOk result (λ end. into.new.items ≡ into.old.items ++ measures_text (csp_of problem.now) (listed choices.old)) }
+    requires { IsOrderFor (option_copied order) problem.now }
+    ensures text { IfOk result (λ end. into.new.items ≡ into.old.items ++ measures_text (option_copied order.entry) (csp_of problem.now) (listed choices.old)) }
     ensures end { IfOk result (λ end. end ≡ (numbers_of (csp_of problem.now) (listed choices.old)).end) }
 {
     let run = measure_run(alloc, problem, choices, MOST_DELIVERIES, true)?;
@@ -90,22 +105,28 @@ fn push_run(
     let Ok(()) = push_head(&numbers, into) else {
         return Err(Memory);
     };
-    push_each(problem, &run, into)?;
+    push_each(order, problem, &run, into)?;
     Ok(numbers.end)
 }
 
 /// Pushes what is told of each agent, and the last line.
-fn push_each(problem: &Problem, run: &MeasuredRun, into: &mut Vec<u8>) -> Result<(), Memory>
+fn push_each(
+    order: Option<&Order>,
+    problem: &Problem,
+    run: &MeasuredRun,
+    into: &mut Vec<u8>,
+) -> Result<(), Memory>
+    requires order { IsOrderFor (option_copied order) problem.now }
     requires problem { run.now.network.problem ≡ problem.now }
     requires rows { length run.now.measures.rows ≡ length problem.now.domains }
     requires lists { length run.now.learned ≡ length problem.now.domains }
     ensures { (done : List Act) (net : TheNetwork) → AreRows (csp_of problem.now) done run.now.measures.rows → AreLearned done run.now.learned → StandsAt run.now.network net
-        → OnOk result (into.new.items ≡ into.old.items ++ each_text (csp_of problem.now) done net) }
+        → OnOk result (into.new.items ≡ into.old.items ++ each_text (option_copied order.entry) (csp_of problem.now) done net) }
 {
-    let Ok(()) = push_agents(problem, run, into) else {
+    let Ok(()) = push_agents(order, problem, run, into) else {
         return Err(Memory);
     };
-    let Ok(()) = push_learned(problem, &run.learned, into) else {
+    let Ok(()) = push_learned(order, problem, &run.learned, into) else {
         return Err(Memory);
     };
     match into.extend_from_slice(b"end\n") {

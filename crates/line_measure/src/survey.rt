@@ -1,6 +1,6 @@
-//! The line `survey MODEL COUNT [--from SEED]`.
+//! The line `survey MODEL COUNT [--from SEED] [--order FILE]`.
 
-ghost use Rattle.std.specs.Prelude.{◌≡◌, ◌+◌, ◌≤◌, ◌^◌, ◌∷◌, [], IfOk};
+ghost use Rattle.std.specs.Prelude.{◌≡◌, ◌+◌, ◌≤◌, ◌^◌, ◌∷◌, [], IfOk, option_copied};
 ghost use Rattle.dcsp_outside.specs.Outside.{Place};
 ghost use Rattle.dcsp_script.specs.Scripts.{outside};
 ghost use Rattle.dcsp_script.specs.Ways.{Wrote};
@@ -14,12 +14,13 @@ ghost use Rattle.line_measure.specs.MeasurePromise.{end_of_seed, seed_write, see
 use crate::measure::status_of;
 use crate::numbers::{Numbers, numbers_of};
 use crate::texts::push_line;
-use abt_input::{CommandError, read_model};
+use abt_input::{CommandError, read_model, read_order_of};
 use abt_measure::measure_run;
 use abt_network::Standing;
 use abt_schedule::Seeded;
 use abt_session::MOST_DELIVERIES;
 use dcsp_common::Memory;
+use dcsp_order::moved;
 use dcsp_outside::{Folder, Sink};
 use dcsp_problem::Problem;
 use dcsp_script::{Status, Stop, put};
@@ -34,13 +35,15 @@ pub struct Survey<'w> {
     pub count: u64,
     /// The first of them.
     pub from: u64,
+    /// The name of the order, where one is given.
+    pub order_file: Option<&'w str>,
 }
 
 /// The names of the columns.
 const HEAD: &[u8] =
     b"seed,end,deliveries,ok,nogood,link,steps,longest_chain,constraint_checks,nogood_checks,concurrent_checks,recorded,transit,links_added\n";
 
-/// Runs the model under the choices of each seed, one after the other, and tells the measures of each run by a put of
+/// Runs the model, under the order where one is named, by the choices of each seed, one after the other, and tells the measures of each run by a put of
 /// its own, behind the names of the columns.
 pub fn run_survey<F: Folder, S: Sink>(
     alloc: Global,
@@ -49,12 +52,17 @@ pub fn run_survey<F: Folder, S: Sink>(
     out: &mut S,
 ) -> Result<Status, CommandError>
     requires { line.from + line.count ≤ 2 ^ 64 }
-    ensures { CameIn (survey_promise line.entry.model.now line.entry.from line.entry.count)
+    ensures { CameIn (survey_promise line.entry.model.now line.entry.from line.entry.count (option_copied line.entry.order_file))
         (outside (F.place folder.old) (S.stream out.old))
         (outside (F.place folder.new) (S.stream out.new)) (way_of result) }
 {
     let problem = read_model(alloc, folder, line.model)?;
-    let end = tell_survey(alloc, &problem, line, out)?;
+    let read = read_order_of(alloc, folder, line.order_file, &problem)?;
+    let Ok(moved) = moved(alloc, read.as_ref(), &problem) else {
+        return Err(CommandError::Memory);
+    };
+    let run = moved.as_ref().unwrap_or(&problem);
+    let end = tell_survey(alloc, run, line, out)?;
     Ok(status_of(end))
 }
 

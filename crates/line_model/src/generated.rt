@@ -5,11 +5,14 @@ ghost use Rattle.dcsp_outside.specs.Outside.{Place};
 ghost use Rattle.dcsp_script.specs.Scripts.{outside};
 ghost use Rattle.dcsp_script.specs.Runs.{CameIn};
 ghost use Rattle.abt_input.specs.Errors.{way_of};
-ghost use Rattle.line_model.specs.Generated.{queens_promise, colouring_promise, sparse_promise, pigeons_promise, binary_promise};
+ghost use Rattle.line_model.specs.Generated.{queens_promise, colouring_promise, sparse_promise, pigeons_promise, binary_promise, meetings_promise, sensors_promise};
 
 use crate::text::print;
 use abt_input::CommandError;
-use dcsp_gen::{BinarySizes, binary, colouring, pigeons, queens, sparse};
+use dcsp_gen::{
+    BinarySizes, MeetingSizes, SensorSizes, binary, colouring, meetings, pigeons, queens, sensors,
+    sparse,
+};
 use dcsp_outside::Sink;
 use dcsp_script::Status;
 use std::alloc::Global;
@@ -90,6 +93,43 @@ pub fn run_binary<S: Sink>(
         (outside folder (S.stream out.old)) (outside folder (S.stream out.new)) (way_of result) }
 {
     match binary(alloc, sizes, seed) {
+        Ok(text) => print(out, &text),
+        Err(_) => Err(CommandError::Memory),
+    }
+}
+
+/// Puts a random problem of meetings of these sizes, with the calendars and groups of `seed`, on `out`.
+pub fn run_meetings<S: Sink>(
+    alloc: Global,
+    sizes: MeetingSizes,
+    seed: u64,
+    out: &mut S,
+) -> Result<Status, CommandError>
+    requires people { sizes.people ≤ 64 }
+    requires meetings { sizes.meetings ≤ 64 }
+    requires hours { sizes.hours ≤ 100 }
+    ensures { (folder : Place) → CameIn (meetings_promise sizes.people sizes.meetings sizes.each sizes.hours sizes.busy seed)
+        (outside folder (S.stream out.old)) (outside folder (S.stream out.new)) (way_of result) }
+{
+    match meetings(alloc, sizes, seed) {
+        Ok(text) => print(out, &text),
+        Err(_) => Err(CommandError::Memory),
+    }
+}
+
+/// Puts a random problem of sensors of these sizes, with what they see by `seed`, on `out`.
+pub fn run_sensors<S: Sink>(
+    alloc: Global,
+    sizes: SensorSizes,
+    seed: u64,
+    out: &mut S,
+) -> Result<Status, CommandError>
+    requires side { (1 ≤ sizes.side) × (sizes.side ≤ 16) }
+    requires targets { sizes.targets ≤ 32 }
+    ensures { (folder : Place) → CameIn (sensors_promise sizes.side sizes.targets sizes.sees seed)
+        (outside folder (S.stream out.old)) (outside folder (S.stream out.new)) (way_of result) }
+{
+    match sensors(alloc, sizes, seed) {
         Ok(text) => print(out, &text),
         Err(_) => Err(CommandError::Memory),
     }

@@ -1,26 +1,26 @@
 -- The headline, sentence by sentence, of a run whose script was made in whole or in part.
-use Rattle.std.proofs.Common.{◌≡◌, ◌≢◌, ◌⊎◌, ◌↔◌, ℕ, zero, suc, ◌+◌, ◌<◌, ◌≤◌, true, List, [], ◌∷◌, ◌++◌, length, Option, Some, None, refl, sym, ap, ◌∙◌, subst, append-nil, append_assoc, inl, inr, arith, length-append}
+use Rattle.std.proofs.Common.{◌≡◌, ◌≢◌, ℕ, ◌+◌, ◌<◌, ◌≤◌, List, [], ◌∷◌, ◌++◌, length, Option, Some, None, refl, sym, ap, ◌∙◌, subst, append-nil, append_assoc, inl, inr, arith, length-append}
 use Rattle.std.specs.Prelude.{Contains, IfSome}
 use Rattle.std.specs.Cmp.Lexicographic.{bytes_decides}
 use Rattle.std.proofs.lemmas.List.Elements.{Contains-append_left, Contains-push}
-use Rattle.dcsp_outside.specs.Outside.{IsPrefixOf, Told}
+use Rattle.dcsp_outside.specs.Outside.{IsPrefixOf}
 use Rattle.dcsp_outside.proofs.Changes.{Told-weaker}
 use Rattle.dcsp_script.specs.Scripts.{Write, Create, Append, Put, World, file_after, put_by, created_by, FilesAfter, PutAfter}
 use Rattle.dcsp_script.specs.Ways.{IsPartOf, Did, DidPartOf}
-use Rattle.dcsp_script.specs.Texts.{LeavesAlone, OnlyAppends, HoldsPartOf, appended_by}
+use Rattle.dcsp_script.specs.Texts.{LeavesAlone, HoldsPartOf, appended_by}
 use Rattle.dcsp_script.proofs.After.{put_by-append, file_after-append, created_by-append}
 use Rattle.dcsp_script.proofs.Parts.{part_splits, part_past, part_leaves, left_alone, put_of_part, prefix_short}
 use Rattle.dcsp_script.proofs.Texts.{holds_part}
 use Rattle.ngd_log.specs.Logs.{log_text}
 use Rattle.abt_schedule.specs.Schedules.{schedule_text}
-use Rattle.abt_session.specs.Sessions.{Session, run_of, run_script}
+use Rattle.abt_session.specs.Sessions.{run_script}
 use Rattle.abt_session.specs.Order.{told_text, told_of_first, IsShortOf}
 use Rattle.abt_session.proofs.Ordered.{whole_puts, whole_leaves, log_whole, log_begins, first_begins, keeps_up}
 use Rattle.dcsp_script.specs.declared.status.Status.{Status}
 use Rattle.line_replay.specs.Endings.{end_status}
-use Rattle.line_replay.specs.Asked.{Asked, asked_run, answer_text, record_script, asked_script}
+use Rattle.line_replay.specs.Asked.{Asked, asked_run, asked_steps, answer_text, record_script, asked_script}
 use Rattle.line_replay.specs.Headline.{whole_text, IsOther, HoldsRun, IsRun, KeepsOrder, WritesOrdered}
-use Rattle.line_replay.proofs.Scripts.{record_puts, record_leaves, record_holds, before_answer, script_is, before_puts, asked_puts, asked_leaves}
+use Rattle.line_replay.proofs.Scripts.{record_leaves, record_holds, before_answer, script_is, before_puts, asked_puts, asked_leaves}
 
 -- the record has a name of its own
 abbrev pub HasOwnRecord : Asked → Type 0
@@ -42,7 +42,7 @@ module _ (asked : Asked) (own : HasOwnRecord asked) where
       leaves h = join (record_script asked.record_file (asked_run asked).numbers) h
 
   -- the log behind the run's whole script
-  log_behind : (more : List Write) (file : Option (List ℕ)) → IsPartOf more rest → file_after (run_script asked.session ++ more) asked.session.log file ≡ Some (log_text (asked_run asked).net.steps)
+  log_behind : (more : List Write) (file : Option (List ℕ)) → IsPartOf more rest → file_after (run_script asked.session ++ more) asked.session.log file ≡ Some (log_text (asked_steps asked))
   log_behind more file h =
       file_after-append (run_script asked.session) more asked.session.log file
       ∙ left_alone more asked.session.log (file_after (run_script asked.session) asked.session.log file) (part_leaves more rest asked.session.log h rest_leaves_log)
@@ -82,7 +82,7 @@ module _ (asked : Asked) (own : HasOwnRecord asked) where
           join [] k = part_leaves more (Put (answer_text asked) ∷ []) asked.session.log h ((λ t. t), tt)
           join (w ∷ s) k = (k.0, join s k.1)
 
-      log_last : (files : List ℕ → Option (List ℕ)) → file_after (run_script asked.session ++ (record_script asked.record_file (asked_run asked).numbers ++ more)) asked.session.log (files asked.session.log) ≡ Some (log_text (asked_run asked).net.steps)
+      log_last : (files : List ℕ → Option (List ℕ)) → file_after (run_script asked.session ++ (record_script asked.record_file (asked_run asked).numbers ++ more)) asked.session.log (files asked.session.log) ≡ Some (log_text (asked_steps asked))
       log_last files =
           file_after-append (run_script asked.session) (record_script asked.record_file (asked_run asked).numbers ++ more) asked.session.log (files asked.session.log)
           ∙ left_alone (record_script asked.record_file (asked_run asked).numbers ++ more) asked.session.log (file_after (run_script asked.session) asked.session.log (files asked.session.log)) leaves
@@ -145,8 +145,8 @@ module _ (asked : Asked) (own : HasOwnRecord asked) where
       -- the whole of it, and then some
       behind : (more : List Write) → part ≡ run_script asked.session ++ more → IsPartOf more rest → KeepsOrder asked (created_by part) (put_by part) files now
       behind more is h =
-          let log : now asked.session.log ≡ Some (log_text (asked_run asked).net.steps) = after asked.session.log ∙ ap (λ s. file_after s asked.session.log (files asked.session.log)) is ∙ log_behind more (files asked.session.log) h in
-          let text = log_text (asked_run asked).net.steps in
+          let log : now asked.session.log ≡ Some (log_text (asked_steps asked)) = after asked.session.log ∙ ap (λ s. file_after s asked.session.log (files asked.session.log)) is ∙ log_behind more (files asked.session.log) h in
+          let text = log_text (asked_steps asked) in
           let made : Contains (created_by part) asked.session.log = subst (λ s. Contains (created_by s) asked.session.log) (sym is) (created_there more) in
           record {
             log_part = record { created = λ c. (text, ([], append-nil text), log); uncreated = λ none. absurd (none made) };

@@ -7,12 +7,12 @@ use Rattle.dcsp_script.specs.Texts.{LeavesAlone}
 use Rattle.abt_defs.specs.Runs.{End, Refuted, Solved, Capped, Spent}
 use Rattle.dcsp_script.specs.Statuses.{IsFinal, IsRefusal}
 use Rattle.dcsp_script.specs.Clauses.{IsLawful}
-use Rattle.abt_input.specs.Plans.{WritesOwn, IsOwn, IsSoundPlan}
+use Rattle.abt_input.specs.Plans.{WritesOwn, IsOwn, order_then, IsSoundPlan}
 use Rattle.abt_input.proofs.ExactKinds.{model_exact, schedule_exact}
-use Rattle.abt_input.proofs.PlanLaws.{plan_lawful}
+use Rattle.abt_input.proofs.PlanLaws.{ordered_sound, plan_lawful}
 use Rattle.line_replay.specs.Endings.{end_status}
 use Rattle.line_replay.specs.Asked.{Asked, asked_run, asked_script, replay, created_names}
-use Rattle.line_replay.specs.ReplayPromise.{replay_plan, replay_promise}
+use Rattle.line_replay.specs.ReplayPromise.{choices_plan, replay_plan, replay_promise}
 use Rattle.line_replay.proofs.Scripts.{touches_none, same_name, asked_leaves}
 
 pub final_end : (end : End) → IsFinal (end_status end)
@@ -49,8 +49,11 @@ run_own asked = record {
   names = own_of_leaves asked.session.log asked.record_file (asked_script asked) (asked_leaves asked);
 }
 
-pub replay_sound : (model schedule log : List ℕ) (trace : Bool) → IsSoundPlan (model ∷ schedule ∷ []) (log ∷ []) (replay_plan log trace)
-replay_sound model schedule log trace = (model_exact, λ problem. (schedule_exact, λ choices. run_own (replay problem choices log trace)))
+pub replay_sound : (model schedule log : List ℕ) (trace : Bool) (order_file : Option (List ℕ)) → IsSoundPlan (model ∷ order_then order_file (schedule ∷ [])) (log ∷ []) (replay_plan log trace order_file)
+replay_sound model schedule log trace order_file = (
+  model_exact,
+  λ problem. ordered_sound (schedule ∷ []) (log ∷ []) (choices_plan log trace problem) order_file problem (λ order. (schedule_exact, λ choices. run_own (replay order problem choices log trace))),
+)
 
-pub replay_lawful : (model schedule log : List ℕ) (trace : Bool) → IsLawful (replay_promise model schedule log trace)
-replay_lawful model schedule log trace = plan_lawful (replay_plan log trace) (replay_sound model schedule log trace)
+pub replay_lawful : (model schedule log : List ℕ) (trace : Bool) (order_file : Option (List ℕ)) → IsLawful (replay_promise model schedule log trace order_file)
+replay_lawful model schedule log trace order_file = plan_lawful (replay_plan log trace order_file) (replay_sound model schedule log trace order_file)

@@ -5,3 +5,4 @@ pub mod HeldProblems
 pub mod Headlines
 pub mod Verdicts
 pub mod Telling
+pub mod UnderOrder

@@ -1,14 +1,11 @@
 -- What a run gave, and what is printed of it.
-use Rattle.std.proofs.Common.{◌≡◌, ℕ, zero, suc, ◌+◌, ◌-◌, ◌<◌, ◌≤◌, ℤ, List, [], ◌∷◌, ◌++◌, length, take, map, Option, Some, None, slice_get, Bor, Result, Ok, Err, refl, sym, ap, ◌∙◌, arith}
+use Rattle.std.proofs.Common.{◌≡◌, ℕ, zero, suc, ◌+◌, ◌-◌, ◌≤◌, List, [], ◌∷◌, ◌++◌, length, take, Option, Some, None, slice_get, Bor, Result, Ok, Err, refl, sym, ap, ◌∙◌, arith}
 use Rattle.std.specs.Prelude.{Bool, is_ok, is_some, option_copied, if◌then◌else◌, OnOk}
-use Rattle.dcsp_defs.specs.Words.{below}
-use Rattle.dcsp_defs.specs.Csp.{count}
 use Rattle.dcsp_rule.specs.Problems.{Contents, csp_of}
-use Rattle.dcsp_problem.proofs.OwnerLists.{length-map_below}
-use Rattle.abt_defs.specs.Network.{values}
-use Rattle.abt_defs.specs.Runs as runs
+use Rattle.dcsp_problem.specs.WellFormed.{IsProblem}
+use Rattle.dcsp_order.specs.Told.{ordered, IsOrderFor}
+use Rattle.line_replay.proofs.UnderOrder.{final_count}
 use Rattle.abt_defs.specs.Runs.{Run}
-use Rattle.law_runs.specs.Stops.{Stops}
 use Rattle.abt_session.specs.Answers.{answer_then, first_answers}
 use Rattle.abt_session.specs.Running.{kept, IsEnd, IsOutcome}
 use Rattle.abt_session.specs.declared.outcome.End.{End}
@@ -20,33 +17,33 @@ use Rattle.abt_session.specs.Sessions.{run_of}
 use Rattle.line_replay.specs.Asked.{most_deliveries, listed_session, record_script}
 use Rattle.line_replay.specs.Outcomes.{end_text, outcome_text, outcome_status, HasAllValues}
 
-module _ (p : Contents) (run : Run) where
-  end_text_is : (end : End) → IsEnd (csp_of p) run.net run.end end → end_text p end ≡ verdict_text p (final_values p run) run.end
+module _ (order : Option (List ℕ)) (p : Contents) (run : Run) where
+  end_text_is : (end : End) → IsEnd order (csp_of (ordered order p)) run.net run.end end → end_text p end ≡ verdict_text p (final_values order p run) run.end
   end_text_is (Solved list) h = rw (h.0, h.1) refl
   end_text_is Refuted h = rw h refl
   end_text_is Spent h = rw h refl
   end_text_is Capped h = rw h refl
 
   -- what was given is printed as the run's end
-  pub text_is : (outcome : Outcome) → IsOutcome (csp_of p) run.net run.end outcome → outcome_text p outcome ≡ ending_text p run
+  pub text_is : (outcome : Outcome) → IsOutcome order (csp_of (ordered order p)) run.net run.end outcome → outcome_text p outcome ≡ ending_text order p run
   text_is outcome h =
       ap (λ t. t ++ counts_text outcome.deliveries outcome.steps) (end_text_is outcome.end h.end)
-      ∙ ap (λ n. verdict_text p (final_values p run) run.end ++ counts_text n outcome.steps) h.deliveries
-      ∙ ap (λ n. verdict_text p (final_values p run) run.end ++ counts_text run.net.deliveries n) h.steps
+      ∙ ap (λ n. verdict_text p (final_values order p run) run.end ++ counts_text n outcome.steps) h.deliveries
+      ∙ ap (λ n. verdict_text p (final_values order p run) run.end ++ counts_text run.net.deliveries n) h.steps
 
   -- and has its status
-  pub status_is : (end : End) → IsEnd (csp_of p) run.net run.end end → outcome_status end ≡ end_status run.end
+  pub status_is : (end : End) → IsEnd order (csp_of (ordered order p)) run.net run.end end → outcome_status end ≡ end_status run.end
   status_is (Solved list) h = rw h.0 refl
   status_is Refuted h = rw h refl
   status_is Spent h = rw h refl
   status_is Capped h = rw h refl
 
   -- and where it is solved, it has a value for each variable
-  pub has_values : (end : End) → IsEnd (csp_of p) run.net run.end end → HasAllValues p end
-  has_values (Solved list) h = rw h.1 (length-map_below (values run.net) (count (csp_of p)))
-  has_values Refuted h = tt
-  has_values Spent h = tt
-  has_values Capped h = tt
+  pub has_values : IsProblem p → IsOrderFor order p → (end : End) → IsEnd order (csp_of (ordered order p)) run.net run.end end → HasAllValues p end
+  has_values ok good (Solved list) h = ap length h.1 ∙ final_count order p ok good run
+  has_values ok good Refuted h = tt
+  has_values ok good Spent h = tt
+  has_values ok good Capped h = tt
 
 -- a text that grew where it could
 pub ok_part : {T E : Type 0} (r : Result T E) (new grown old : List ℕ) → new ≡ (if is_ok r then grown else old) → OnOk r (new ≡ grown)
@@ -90,9 +87,9 @@ take_short (suc n) [] = omega arith
 take_short (suc n) (x ∷ xs) = let l = take_short n xs in omega (arith, l)
 
 -- a run of a list's choices makes no more deliveries than there are choices
-pub made_few : (p : Contents) (choices log : List ℕ) (trace : Bool) → (run_of (listed_session p choices log trace)).net.deliveries ≤ length choices
-made_few p choices log trace =
-    let h = stops (csp_of p) most_deliveries (first_answers most_deliveries (λ k. slice_get choices k)) in
+pub made_few : (order : Option (List ℕ)) (p : Contents) (choices log : List ℕ) (trace : Bool) → (run_of (listed_session order p choices log trace)).net.deliveries ≤ length choices
+made_few order p choices log trace =
+    let h = stops (csp_of (ordered order p)) most_deliveries (first_answers most_deliveries (λ k. slice_get choices k)) in
     let c = h.chosen in
     omega (arith, c, ap length (list_answers most_deliveries choices), take_short most_deliveries choices)
 

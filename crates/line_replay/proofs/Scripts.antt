@@ -1,13 +1,13 @@
 -- What the script of a run that is asked for puts, and which names it changes.
-use Rattle.std.proofs.Common.{◌≡◌, ◌≢◌, ℕ, zero, suc, ◌<◌, Bool, true, false, List, [], ◌∷◌, ◌++◌, get_or, Option, Some, None, refl, sym, ap, ◌∙◌, subst, append-nil, append_assoc, arith, length}
+use Rattle.std.proofs.Common.{◌≡◌, ℕ, zero, suc, ◌<◌, Bool, true, false, List, [], ◌∷◌, ◌++◌, Option, Some, None, refl, sym, ap, ◌∙◌, subst, append-nil, append_assoc, arith, length}
 use Rattle.std.specs.Prelude.{Contains, IfSome}
 use Rattle.std.specs.Str.{bytes_eq}
 use Rattle.std.specs.Cmp.Lexicographic.{bytes_decides}
-use Rattle.dcsp_script.specs.Scripts.{Write, Create, Append, Put, file_after, put_by}
-use Rattle.dcsp_script.specs.Texts.{Touches, LeavesAlone, OnlyAppends, appended_by}
-use Rattle.dcsp_script.proofs.After.{put_by-append, file_after-append}
+use Rattle.dcsp_script.specs.Scripts.{Write, Put, file_after, put_by}
+use Rattle.dcsp_script.specs.Texts.{Touches, LeavesAlone}
+use Rattle.dcsp_script.proofs.After.{put_by-append}
 use Rattle.abt_schedule.specs.Schedules.{schedule_text}
-use Rattle.abt_session.specs.Sessions.{Session, run_script}
+use Rattle.abt_session.specs.Sessions.{run_script}
 use Rattle.abt_session.specs.Order.{told_text}
 use Rattle.abt_session.proofs.Ordered.{leaves-append, whole_puts, whole_leaves}
 use Rattle.line_replay.specs.Asked.{Asked, asked_run, answer_text, record_script, asked_script}

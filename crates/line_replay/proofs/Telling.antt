@@ -35,10 +35,10 @@ module _ (asked : Asked) where
     answered z w v = wrote_as (sym (script_is asked)) (then_rest w (as_ok z (wrote_as (ap (λ t. Put t ∷ []) text_is) v)))
 
 -- what is put is the answer
-pub replay_text : (p : Contents) (choices log : List ℕ) (trace : Bool) (outcome : Outcome) (left : ℕ) → Gives (replay p choices log trace).session outcome → left ≡ left_over choices (asked_run (replay p choices log trace)) → outcome_text p outcome ++ unused_text (Some left) ≡ answer_text (replay p choices log trace)
-replay_text p choices log trace outcome left h e =
-    ap (λ t. t ++ unused_text (Some left)) (text_is p (asked_run (replay p choices log trace)) outcome h)
-    ∙ ap (λ n. ending_text p (asked_run (replay p choices log trace)) ++ unused_text (Some n)) e
+pub replay_text : (order : Option (List ℕ)) (p : Contents) (choices log : List ℕ) (trace : Bool) (outcome : Outcome) (left : ℕ) → Gives (replay order p choices log trace).session outcome → left ≡ left_over choices (asked_run (replay order p choices log trace)) → outcome_text p outcome ++ unused_text (Some left) ≡ answer_text (replay order p choices log trace)
+replay_text order p choices log trace outcome left h e =
+    ap (λ t. t ++ unused_text (Some left)) (text_is order p (asked_run (replay order p choices log trace)) outcome h)
+    ∙ ap (λ n. ending_text order p (asked_run (replay order p choices log trace)) ++ unused_text (Some n)) e
 
-pub solve_text : (p : Contents) (log : List ℕ) (s : Settings) (outcome : Outcome) → Gives (solve p log s).session outcome → outcome_text p outcome ++ unused_text None ≡ answer_text (solve p log s)
-solve_text p log s outcome h = ap (λ t. t ++ unused_text None) (text_is p (asked_run (solve p log s)) outcome h)
+pub solve_text : (order : Option (List ℕ)) (p : Contents) (log : List ℕ) (s : Settings) (outcome : Outcome) → Gives (solve order p log s).session outcome → outcome_text p outcome ++ unused_text None ≡ answer_text (solve order p log s)
+solve_text order p log s outcome h = ap (λ t. t ++ unused_text None) (text_is order p (asked_run (solve order p log s)) outcome h)

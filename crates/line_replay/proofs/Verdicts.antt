@@ -1,13 +1,12 @@
 -- What the verdict of a run means for its problem.
-use Rattle.std.proofs.Common.{◌≡◌, ◌≢◌, ◌⊎◌, ◌↔◌, ℕ, zero, suc, ◌+◌, ◌-◌, ◌^◌, ◌<◌, ◌≤◌, Bool, true, false, ℤ, pos, List, [], ◌∷◌, ◌++◌, length, map, take, drop, Option, Some, None, slice_get, refl, sym, ap, ◌∙◌, subst, inl, inr, arith, length-append, codes, decimal}
+use Rattle.std.proofs.Common.{◌≡◌, ◌⊎◌, ℕ, zero, suc, ◌+◌, ◌^◌, ◌<◌, ◌≤◌, Bool, ℤ, List, [], ◌∷◌, ◌++◌, length, map, take, drop, Option, Some, slice_get, refl, sym, ap, ◌∙◌, subst, inl, inr, arith, length-append, codes, decimal}
 use Rattle.std.specs.List.{concat}
 use Rattle.std.proofs.lemmas.List.{take_all}
 use Rattle.std.proofs.lemmas.List.Folds.{concat-append}
-use Rattle.dcsp_defs.specs.Words.{In, below}
-use Rattle.dcsp_defs.specs.Csp.{Csp, Constraint, IsCsp, IsSolution, count, domain}
+use Rattle.dcsp_defs.specs.Words.{In}
+use Rattle.dcsp_defs.specs.Csp.{Csp, IsCsp, IsSolution, count, domain}
 use Rattle.dcsp_defs.specs.Derivation.{IsDerivation, IsRefutation}
 use Rattle.dcsp_rule.specs.Problems.{Contents, csp_of}
-use Rattle.dcsp_problem.proofs.OwnerLists.{get_or-map_below}
 use Rattle.abt_defs.specs.Bound.{message_bound}
 use Rattle.abt_defs.specs.Network.{values}
 use Rattle.abt_defs.specs.Runs.{End, Refuted, Solved, Capped, Spent, Run, whole}
@@ -18,9 +17,8 @@ use Rattle.law_runs.proofs.Stopping.{stops}
 use Rattle.law_runs.proofs.Again.{replays}
 use Rattle.abt_schedule.specs.Answers.{word_at, generator_of}
 use Rattle.abt_schedule.specs.Schedules.{choice_line, schedule_lines}
-use Rattle.abt_session.specs.Answers.{answer_then, first_answers}
+use Rattle.abt_session.specs.Answers.{first_answers}
 use Rattle.abt_session.specs.Sessions.{Session, run_of}
-use Rattle.abt_session.specs.Running.{session_of}
 use Rattle.dcsp_script.specs.declared.status.Status.{Status}
 use Rattle.dcsp_script.specs.declared.status.Status.TheVariants.{Good, No, Unfinished}
 use Rattle.ngd_log.specs.Logs.{log_text}
@@ -29,10 +27,15 @@ use Rattle.ngd_check.specs.Logged.{IsSmall}
 use Rattle.ngd_check.proofs.Writable.{have_logs}
 use Rattle.abt_input.specs.Inputs.{HasChoices, IsTextOf}
 use Rattle.line_replay.specs.Endings.{assigned, final_values, end_status}
-use Rattle.line_replay.specs.Asked.{Asked, asked_run, most_deliveries, replay, solve, IsReplayed}
+use Rattle.line_replay.specs.Asked.{Asked, asked_run, asked_steps, most_deliveries, replay, solve, IsReplayed}
 use Rattle.line_replay.specs.Settings.{Settings}
 use Rattle.line_replay.specs.Headline.{IsSolvedRun, IsRefutedRun, IsUnfinishedRun, IsBoundedRun}
+use Rattle.dcsp_problem.specs.WellFormed.{IsProblem}
+use Rattle.dcsp_problem.proofs.WellFormed.{is_csp}
+use Rattle.dcsp_order.specs.Told.{ordered, steps_told, values_told, IsOrderFor}
+use Rattle.dcsp_order.proofs.Telling.{length-told}
 use Rattle.line_replay.proofs.Outcomes.{list_answers}
+use Rattle.line_replay.proofs.UnderOrder.{ordered_csp, solution_told, refutation_told, final_value}
 
 -- ---- statuses and ends
 
@@ -65,18 +68,24 @@ same_solution p ok f g same h = record {
 
 -- ---- the run of any choices
 
-module _ (asked : Asked) (same : asked.session.problem ≡ csp_of asked.problem) (ok : IsCsp (csp_of asked.problem)) (status : Status) (status_is : status ≡ end_status (asked_run asked).end) where
-  law : Verdicts (csp_of asked.problem) asked.session.most (asked_run asked)
-  law = subst (λ (p : Csp). Verdicts (csp_of asked.problem) asked.session.most (whole p asked.session.most asked.session.choices)) (sym same) (verdicts (csp_of asked.problem) ok asked.session.most asked.session.choices)
+module _ (asked : Asked) (same : asked.session.problem ≡ csp_of (ordered asked.session.order asked.problem)) (ok : IsProblem asked.problem) (good : IsOrderFor asked.session.order asked.problem)
+    (status : Status) (status_is : status ≡ end_status (asked_run asked).end) where
+  law : Verdicts asked.session.problem asked.session.most (asked_run asked)
+  law = verdicts asked.session.problem (subst IsCsp (sym same) (ordered_csp asked.session.order asked.problem ok good)) asked.session.most asked.session.choices
 
   pub solved : IsSolvedRun asked status
-  solved good =
+  solved is_good =
+      let o = asked.session.order in
+      let p = asked.problem in
       let net = (asked_run asked).net in
-      let h = law.solved (solved_end (asked_run asked).end (sym status_is ∙ good)) in
-      same_solution (csp_of asked.problem) ok (assigned (final_values asked.problem (asked_run asked))) (values net) (λ i l. get_or-map_below (values net) (count (csp_of asked.problem)) i (pos 0) l) h.solution
+      let h = law.solved (solved_end (asked_run asked).end (sym status_is ∙ is_good)) in
+      let told = solution_told o p ok good (values net) (subst (λ (q : Csp). IsSolution q (values net)) same h.solution) in
+      same_solution (csp_of p) (is_csp p ok) (assigned (final_values o p (asked_run asked))) (values_told o (values net)) (λ i l. final_value o p ok good (asked_run asked) i l) told
 
   pub refuted : IsRefutedRun asked status
-  refuted is = law.refuted (refuted_end (asked_run asked).end (sym status_is ∙ is))
+  refuted is =
+      let steps = (asked_run asked).net.steps in
+      refutation_told asked.session.order asked.problem ok good steps (subst (λ (q : Csp). IsRefutation q steps) same (law.refuted (refuted_end (asked_run asked).end (sym status_is ∙ is))))
 
   pub bounded : IsUnfinishedRun asked status → IsBoundedRun asked status
   bounded unfinished = record {
@@ -85,7 +94,7 @@ module _ (asked : Asked) (same : asked.session.problem ≡ csp_of asked.problem)
     verdict = λ low u. let d = (unfinished.0 u).1 in let b = below_bound u in omega (arith, low, d, b);
   }
     where
-      below_bound : status ≡ Unfinished → (asked_run asked).net.deliveries < message_bound (csp_of asked.problem)
+      below_bound : status ≡ Unfinished → (asked_run asked).net.deliveries < message_bound asked.session.problem
       below_bound u = law.unfinished (unfinished_end (asked_run asked).end (sym status_is ∙ u))
 
 -- ---- where the limit lies
@@ -107,22 +116,22 @@ unfolding first_answers
 endless zero f = refl
 endless (suc n) f = ap suc (endless n (λ k. f (k + 1)))
 
-pub solve_unfinished : (p : Contents) (log : List ℕ) (s : Settings) (status : Status) → status ≡ end_status (asked_run (solve p log s)).end → IsUnfinishedRun (solve p log s) status
-solve_unfinished p log s status is = (to, from)
+pub solve_unfinished : (order : Option (List ℕ)) (p : Contents) (log : List ℕ) (s : Settings) (status : Status) → status ≡ end_status (asked_run (solve order p log s)).end → IsUnfinishedRun (solve order p log s) status
+solve_unfinished order p log s status is = (to, from)
   where
     choices : List ℕ
     choices = first_answers s.choices (λ k. Some (word_at (generator_of s.seed) k))
 
     run : Run
-    run = whole (csp_of p) s.choices choices
+    run = whole (csp_of (ordered order p)) s.choices choices
 
-    h : Stops (csp_of p) s.choices choices run
-    h = stops (csp_of p) s.choices choices
+    h : Stops (csp_of (ordered order p)) s.choices choices run
+    h = stops (csp_of (ordered order p)) s.choices choices
 
     long : length choices ≡ s.choices
     long = endless s.choices (word_at (generator_of s.seed))
 
-    to : status ≡ Unfinished → IsOpen (csp_of p) run.net × (run.net.deliveries ≡ s.choices)
+    to : status ≡ Unfinished → IsOpen (csp_of (ordered order p)) run.net × (run.net.deliveries ≡ s.choices)
     to u = elim (unfinished_end run.end (sym is ∙ u)) [
       | inl capped ↦ h.ends.capped.0 capped
       | inr spent ↦
@@ -132,7 +141,7 @@ solve_unfinished p log s status is = (to, from)
           absurd (omega (arith, l, long, few))
     ]
 
-    from : IsOpen (csp_of p) run.net × (run.net.deliveries ≡ s.choices) → status ≡ Unfinished
+    from : IsOpen (csp_of (ordered order p)) run.net × (run.net.deliveries ≡ s.choices) → status ≡ Unfinished
     from o = is ∙ ap end_status (h.ends.capped.1 o)
 
 concat_long : (lines : List (List ℕ)) (f : ℕ → List ℕ) → (cs : List ℕ) → lines ≡ map f cs → ((c : ℕ) → 1 ≤ length (f c)) → length cs ≤ length (concat lines)
@@ -155,8 +164,8 @@ few_choices schedule choices h =
     let short = h.short in
     omega (arith, l, ap length h.reads.same, ap length whole, a, b, short)
 
-pub replay_unfinished : (p : Contents) (schedule choices log : List ℕ) (trace : Bool) (status : Status) → HasChoices schedule choices → status ≡ end_status (asked_run (replay p choices log trace)).end → IsUnfinishedRun (replay p choices log trace) status
-replay_unfinished p schedule choices log trace status has is = (to, from)
+pub replay_unfinished : (order : Option (List ℕ)) (p : Contents) (schedule choices log : List ℕ) (trace : Bool) (status : Status) → HasChoices schedule choices → status ≡ end_status (asked_run (replay order p choices log trace)).end → IsUnfinishedRun (replay order p choices log trace) status
+replay_unfinished order p schedule choices log trace status has is = (to, from)
   where
     used : List ℕ
     used = first_answers most_deliveries (λ k. slice_get choices k)
@@ -168,15 +177,15 @@ replay_unfinished p schedule choices log trace status has is = (to, from)
     used_is = list_answers most_deliveries choices ∙ take_all most_deliveries choices (omega (arith, few))
 
     run : Run
-    run = whole (csp_of p) most_deliveries used
+    run = whole (csp_of (ordered order p)) most_deliveries used
 
-    h : Stops (csp_of p) most_deliveries used run
-    h = stops (csp_of p) most_deliveries used
+    h : Stops (csp_of (ordered order p)) most_deliveries used run
+    h = stops (csp_of (ordered order p)) most_deliveries used
 
     chosen : run.net.deliveries ≤ length choices
     chosen = subst (λ l. run.net.deliveries ≤ length l) used_is h.chosen
 
-    to : status ≡ Unfinished → IsOpen (csp_of p) run.net × (run.net.deliveries ≡ length choices)
+    to : status ≡ Unfinished → IsOpen (csp_of (ordered order p)) run.net × (run.net.deliveries ≡ length choices)
     to u = elim (unfinished_end run.end (sym is ∙ u)) [
       | inl capped ↦ let c = (h.ends.capped.0 capped).1 in absurd (omega (arith, c, chosen, few))
       | inr spent ↦
@@ -185,7 +194,7 @@ replay_unfinished p schedule choices log trace status has is = (to, from)
           (s.0, omega (arith, subst (λ z. length z ≤ run.net.deliveries) used_is l, chosen))
     ]
 
-    from : IsOpen (csp_of p) run.net × (run.net.deliveries ≡ length choices) → status ≡ Unfinished
+    from : IsOpen (csp_of (ordered order p)) run.net × (run.net.deliveries ≡ length choices) → status ≡ Unfinished
     from o =
         let all : length used ≤ run.net.deliveries = subst (λ z. length z ≤ run.net.deliveries) (sym used_is) (omega (arith, o.1)) in
         let below : run.net.deliveries < most_deliveries = omega (arith, o.1, few) in
@@ -194,29 +203,30 @@ replay_unfinished p schedule choices log trace status has is = (to, from)
 -- ---- records
 
 pub records_replay : (p : Contents) (s : Settings) → IsReplayed p s
-records_replay p s few log again told =
+records_replay p s few order log again told =
     let choices = first_answers s.choices (λ k. Some (word_at (generator_of s.seed) k)) in
-    let run = whole (csp_of p) s.choices choices in
-    let h = stops (csp_of p) s.choices choices in
+    let run = whole (csp_of (ordered order p)) s.choices choices in
+    let h = stops (csp_of (ordered order p)) s.choices choices in
     let n = h.numbers in
     let m = h.at_most in
     let all : length run.numbers ≤ most_deliveries = omega (arith, n, m, few) in
     let same : first_answers most_deliveries (λ k. slice_get run.numbers k) ≡ run.numbers = list_answers most_deliveries run.numbers ∙ take_all most_deliveries run.numbers all in
-    subst (λ cs. Repeats run (whole (csp_of p) most_deliveries cs)) (sym same) (replays (csp_of p) s.choices most_deliveries choices few)
+    subst (λ cs. Repeats run (whole (csp_of (ordered order p)) most_deliveries cs)) (sym same) (replays (csp_of (ordered order p)) s.choices most_deliveries choices few)
 
 -- ---- logs
 
--- the log of a run is a text of its steps, where they are a derivation of a problem that logs can name
-pub run_log : (s : Session) (p : Csp) → s.most ≤ 2 ^ 40 → IsCsp s.problem → IsSmall p → IsDerivation p (run_of s).net.steps → IsTextOf (log_text (run_of s).net.steps) (run_of s).net.steps
+-- the log of a run is a text of the steps that it tells, where they are a derivation of a problem that logs can name
+pub run_log : (s : Session) (p : Csp) → s.most ≤ 2 ^ 40 → IsCsp s.problem → IsSmall p → IsDerivation p (steps_told s.order (run_of s).net.steps) → IsTextOf (log_text (steps_told s.order (run_of s).net.steps)) (steps_told s.order (run_of s).net.steps)
 run_log s p most ok small right =
     let h = stops s.problem s.most s.choices in
     let made = h.at_most in
     let size = (sizes_hold s.problem ok (take (run_of s).net.deliveries s.choices)).steps in
     let few : length (run_of s).net.steps ≤ (run_of s).net.deliveries + 1 = subst (λ n. length n.steps ≤ n.deliveries + 1) (sym h.net) size in
-    let log = have_logs p small (run_of s).net.steps right (omega arith) in
+    let as_many = length-told s.order (run_of s).net.steps in
+    let log = have_logs p small (steps_told s.order (run_of s).net.steps) right (omega arith) in
     record { short = log.short; reads = log.log }
 
 -- so the log of a refuted run is
-pub refuted_log : (asked : Asked) → asked.session.problem ≡ csp_of asked.problem → asked.session.most ≤ 2 ^ 40 → IsCsp (csp_of asked.problem) → IsSmall (csp_of asked.problem) → IsRefutation (csp_of asked.problem) (asked_run asked).net.steps
-    → IsTextOf (log_text (asked_run asked).net.steps) (asked_run asked).net.steps
-refuted_log asked same most ok small refutation = run_log asked.session (csp_of asked.problem) most (subst IsCsp (sym same) ok) small refutation.right
+pub refuted_log : (asked : Asked) → asked.session.problem ≡ csp_of (ordered asked.session.order asked.problem) → asked.session.most ≤ 2 ^ 40 → IsProblem asked.problem → IsOrderFor asked.session.order asked.problem → IsSmall (csp_of asked.problem)
+    → IsRefutation (csp_of asked.problem) (asked_steps asked) → IsTextOf (log_text (asked_steps asked)) (asked_steps asked)
+refuted_log asked same most ok good small refutation = run_log asked.session (csp_of asked.problem) most (subst IsCsp (sym same) (ordered_csp asked.session.order asked.problem ok good)) small refutation.right

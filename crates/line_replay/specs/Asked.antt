@@ -1,6 +1,8 @@
 -- The runs that the program makes: by the choices of a schedule, or by those of a seed.
 use Rattle.std.specs.Prelude.{ℕ, ◌-◌, ◌^◌, ◌≤◌, Bool, false, List, [], ◌∷◌, ◌++◌, length, slice_get, Option, Some, None}
+use Rattle.dcsp_defs.specs.declared.Step.{Step}
 use Rattle.dcsp_rule.specs.Problems.{Contents}
+use Rattle.dcsp_order.specs.Told.{ordered, steps_told}
 use Rattle.dcsp_script.specs.Scripts.{Write, Create, Append, Put}
 use Rattle.abt_defs.specs.Runs.{Run}
 use Rattle.law_runs.specs.Replay.{Repeats}
@@ -18,6 +20,7 @@ most_deliveries = 2 ^ 40
 
 -- a run that a line asks for
 pub record Asked : Type 0 where
+  -- the model's problem, of which the run is that under the session's order
   pub problem : Contents
   pub session : Session
   -- the name of the record, where one is asked for
@@ -31,43 +34,47 @@ pub record Asked : Type 0 where
 abbrev pub asked_run : Asked → Run
 asked_run asked = run_of asked.session
 
--- the session under the choices of a list
-abbrev pub listed_session : Contents → List ℕ → List ℕ → Bool → Session
-listed_session p choices log trace = session_of p most_deliveries (λ k. slice_get choices k) log (trace_told trace)
+-- the steps that it logs
+abbrev pub asked_steps : Asked → List Step
+asked_steps asked = steps_told asked.session.order (asked_run asked).net.steps
 
--- the session under the choices of a seed
-abbrev pub seeded_session : Contents → ℕ → List ℕ → Bool → Session
-seeded_session p seed log trace = session_of p most_deliveries (λ k. Some (word_at (generator_of seed) k)) log (trace_told trace)
+-- the session under an order and the choices of a list
+abbrev pub listed_session : Option (List ℕ) → Contents → List ℕ → List ℕ → Bool → Session
+listed_session order p choices log trace = session_of order (ordered order p) most_deliveries (λ k. slice_get choices k) log (trace_told trace)
 
--- the session under so many first choices of a seed, all as it is set; it may be the round of a search with this number
-abbrev pub set_session : Contents → List ℕ → Settings → Option ℕ → Session
-set_session p log s round = session_of p s.choices (λ k. Some (word_at (generator_of s.seed) k)) log (telling_of s round)
+-- the session under an order and the choices of a seed
+abbrev pub seeded_session : Option (List ℕ) → Contents → ℕ → List ℕ → Bool → Session
+seeded_session order p seed log trace = session_of order (ordered order p) most_deliveries (λ k. Some (word_at (generator_of seed) k)) log (trace_told trace)
+
+-- the session under an order and so many first choices of a seed, all as it is set; it may be the round of a search with this number
+abbrev pub set_session : Option (List ℕ) → Contents → List ℕ → Settings → Option ℕ → Session
+set_session order p log s round = session_of order (ordered order p) s.choices (λ k. Some (word_at (generator_of s.seed) k)) log (telling_of s round)
 
 -- a seed alone is set: there are as many choices as a run may have deliveries, and nothing else is asked for
 abbrev pub seed_alone : ℕ → Settings
-seed_alone seed = record { seed = seed; choices = most_deliveries; record_file = None; trace = false; progress = false; each = false; halves = false }
+seed_alone seed = record { seed = seed; choices = most_deliveries; record_file = None; order_file = None; trace = false; progress = false; each = false; halves = false }
 
 -- how many of the choices a run leaves
 abbrev pub left_over : List ℕ → Run → ℕ
 left_over choices run = length choices - run.net.deliveries
 
--- a replay of these choices
-abbrev pub replay : Contents → List ℕ → List ℕ → Bool → Asked
-replay p choices log trace = record {
+-- a replay of these choices under an order
+abbrev pub replay : Option (List ℕ) → Contents → List ℕ → List ℕ → Bool → Asked
+replay order p choices log trace = record {
   problem = p;
-  session = listed_session p choices log trace;
+  session = listed_session order p choices log trace;
   record_file = None;
   limit = length choices;
-  unused = Some (left_over choices (run_of (listed_session p choices log trace)));
+  unused = Some (left_over choices (run_of (listed_session order p choices log trace)));
 }
 
--- a run from a seed, all as it is set
-abbrev pub solve : Contents → List ℕ → Settings → Asked
-solve p log s = record { problem = p; session = set_session p log s None; record_file = s.record_file; limit = s.choices; unused = None }
+-- a run under an order from a seed, all as it is set
+abbrev pub solve : Option (List ℕ) → Contents → List ℕ → Settings → Asked
+solve order p log s = record { problem = p; session = set_session order p log s None; record_file = s.record_file; limit = s.choices; unused = None }
 
 -- all that is put when the run has ended
 abbrev pub answer_text : Asked → List ℕ
-answer_text asked = ending_text asked.problem (asked_run asked) ++ unused_text asked.unused
+answer_text asked = ending_text asked.session.order asked.problem (asked_run asked) ++ unused_text asked.unused
 
 -- the record of these numbers, where one is asked for: it is created, and its text is appended at once
 abbrev pub record_script : Option (List ℕ) → List ℕ → List Write
@@ -87,6 +94,8 @@ created_names log (Some name) = log ∷ name ∷ []
 abbrev pub run_report : Asked → Report
 run_report asked = answered (end_status (asked_run asked).end) (asked_script asked)
 
--- A run from a seed and a replay of its numbers are one run, whatever their logs and traces.
+-- A run from a seed and a replay of its numbers under the same order are one run, whatever their logs and traces.
 abbrev pub IsReplayed : Contents → Settings → Type 0
-IsReplayed p s = s.choices ≤ most_deliveries → (log again : List ℕ) (told : Bool) → let first = run_of (set_session p log s None) in Repeats first (run_of (listed_session p first.numbers again told))
+IsReplayed p s =
+    s.choices ≤ most_deliveries → (order : Option (List ℕ)) (log again : List ℕ) (told : Bool)
+    → let first = run_of (set_session order p log s None) in Repeats first (run_of (listed_session order p first.numbers again told))

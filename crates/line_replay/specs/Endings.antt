@@ -1,10 +1,10 @@
 -- What is printed of a run when it has ended, and its status.
-use Rattle.std.specs.Prelude.{ℕ, ℤ, pos, List, [], ◌++◌, Option, Some, None, length, map, slice_index_or, codes, decimal}
-use Rattle.dcsp_defs.specs.Words.{below}
-use Rattle.dcsp_defs.specs.Csp.{Assignment, count}
+use Rattle.std.specs.Prelude.{ℕ, ℤ, pos, List, [], ◌++◌, Option, Some, None, length, slice_index_or, codes, decimal}
+use Rattle.dcsp_defs.specs.Csp.{Assignment}
 use Rattle.dcsp_rule.specs.Problems.{Contents, csp_of}
-use Rattle.abt_defs.specs.Network.{values}
 use Rattle.abt_defs.specs.Runs.{Run, End, Refuted, Solved, Capped, Spent}
+use Rattle.dcsp_order.specs.Told.{ordered}
+use Rattle.abt_session.specs.Running.{values_of}
 use Rattle.abt_answer.specs.Solutions.{solution_text}
 use Rattle.dcsp_script.specs.declared.status.Status.{Status}
 use Rattle.dcsp_script.specs.declared.status.Status.TheVariants.{Good, No, Unfinished}
@@ -13,9 +13,9 @@ use Rattle.dcsp_script.specs.declared.status.Status.TheVariants.{Good, No, Unfin
 abbrev pub assigned : List ℤ → Assignment
 assigned list var = slice_index_or list var (pos 0)
 
--- the values of all variables at the end of a run
-abbrev pub final_values : Contents → Run → List ℤ
-final_values p run = map (values run.net) (below (count (csp_of p)))
+-- the values of all variables of a model's problem at the end of its run under an order, the first variable's first
+abbrev pub final_values : Option (List ℕ) → Contents → Run → List ℤ
+final_values order p run = values_of order (csp_of (ordered order p)) run.net
 
 -- the lines of an end with these values
 abbrev pub verdict_text : Contents → List ℤ → End → List ℕ
@@ -35,8 +35,8 @@ unused_text None = []
 unused_text (Some choices) = codes "% unused " ++ decimal choices ++ codes "\n"
 
 -- the lines of a run that has ended
-abbrev pub ending_text : Contents → Run → List ℕ
-ending_text p run = verdict_text p (final_values p run) run.end ++ counts_text run.net.deliveries (length run.net.steps)
+abbrev pub ending_text : Option (List ℕ) → Contents → Run → List ℕ
+ending_text order p run = verdict_text p (final_values order p run) run.end ++ counts_text run.net.deliveries (length run.net.steps)
 
 -- the status of an end
 abbrev pub end_status : End → Status

@@ -1,5 +1,5 @@
 -- What a run that a line asks for means to a user: the headline, sentence by sentence.
-use Rattle.std.specs.Prelude.{◌≡◌, ◌≢◌, ◌↔◌, ℕ, ◌+◌, ◌<◌, ◌≤◌, List, ◌++◌, length, Option, Some, None, Contains, IfSome, true}
+use Rattle.std.specs.Prelude.{◌≡◌, ◌≢◌, ◌↔◌, ℕ, ◌+◌, ◌<◌, ◌≤◌, List, ◌++◌, length, Option, Some, Contains, IfSome}
 use Rattle.dcsp_outside.specs.Outside.{IsPrefixOf, Told, bytes_of}
 use Rattle.dcsp_script.specs.Scripts.{World}
 use Rattle.dcsp_script.specs.Texts.{HoldsPartOf}
@@ -16,7 +16,7 @@ use Rattle.dcsp_script.specs.declared.status.Status.{Status}
 use Rattle.dcsp_script.specs.declared.status.Status.TheVariants.{Good, No, Unfinished}
 use Rattle.abt_input.specs.Inputs.{IsModelOf}
 use Rattle.line_replay.specs.Endings.{assigned, final_values, end_status}
-use Rattle.line_replay.specs.Asked.{Asked, asked_run, answer_text}
+use Rattle.line_replay.specs.Asked.{Asked, asked_run, asked_steps, answer_text}
 
 -- the problem of the model under the name, where the folder tells it, is well-formed, and logs can name all that it has
 abbrev pub HoldsProblem : Option (List ℕ → Option (List ℕ)) → List ℕ → Type 0
@@ -32,7 +32,7 @@ IsOther asked name = (name ≢ asked.session.log) × IfSome asked.record_file (�
 
 -- the log is that of the run's derivation, the record that of its numbers, and every other name is as before
 pub record HoldsRun (asked : Asked) (files now : List ℕ → Option (List ℕ)) : Type 0 where
-  pub log : now asked.session.log ≡ Some (log_text (asked_run asked).net.steps)
+  pub log : now asked.session.log ≡ Some (log_text (asked_steps asked))
   pub recorded : IfSome asked.record_file (λ name. now name ≡ Some (schedule_text (asked_run asked).numbers))
   pub others : (name : List ℕ) → IsOther asked name → now name ≡ files name
 
@@ -44,27 +44,27 @@ pub record IsRun (asked : Asked) (status : Status) (old new : World) : Type 0 wh
 
 -- Solved: with status 0 the values that were printed are a solution.
 abbrev pub IsSolvedRun : Asked → Status → Type 0
-IsSolvedRun asked status = status ≡ Good → IsSolution (csp_of asked.problem) (assigned (final_values asked.problem (asked_run asked)))
+IsSolvedRun asked status = status ≡ Good → IsSolution (csp_of asked.problem) (assigned (final_values asked.session.order asked.problem (asked_run asked)))
 
 -- Refuted: with status 1 the derivation that was logged is a refutation.
 abbrev pub IsRefutedRun : Asked → Status → Type 0
-IsRefutedRun asked status = status ≡ No → IsRefutation (csp_of asked.problem) (asked_run asked).net.steps
+IsRefutedRun asked status = status ≡ No → IsRefutation (csp_of asked.problem) (asked_steps asked)
 
 -- No stall: with status 5 nothing was refuted and a message is in transit, and this comes exactly where the run's limit was reached so.
 abbrev pub IsUnfinishedRun : Asked → Status → Type 0
 IsUnfinishedRun asked status =
-    (status ≡ Unfinished) ↔ (IsOpen (csp_of asked.problem) (asked_run asked).net × ((asked_run asked).net.deliveries ≡ asked.limit))
+    (status ≡ Unfinished) ↔ (IsOpen asked.session.problem (asked_run asked).net × ((asked_run asked).net.deliveries ≡ asked.limit))
 
--- The bound: no more messages were delivered than the problem's bound, and fewer with status 5; so a limit at the bound or above is never reached without a verdict.
+-- The bound: no more messages were delivered than the bound of the problem under the order, and fewer with status 5; so a limit at the bound or above is never reached without a verdict.
 pub record IsBoundedRun (asked : Asked) (status : Status) : Type 0 where
-  pub bounded : (asked_run asked).net.deliveries ≤ message_bound (csp_of asked.problem)
-  pub unfinished : status ≡ Unfinished → (asked_run asked).net.deliveries < message_bound (csp_of asked.problem)
-  pub verdict : message_bound (csp_of asked.problem) ≤ asked.limit → status ≢ Unfinished
+  pub bounded : (asked_run asked).net.deliveries ≤ message_bound asked.session.problem
+  pub unfinished : status ≡ Unfinished → (asked_run asked).net.deliveries < message_bound asked.session.problem
+  pub verdict : message_bound asked.session.problem ≤ asked.limit → status ≢ Unfinished
 
 -- the files before and after, where `out` gained these bytes and these names were created
 pub record KeepsOrder (asked : Asked) (names : List (List ℕ)) (gained : List ℕ) (files now : List ℕ → Option (List ℕ)) : Type 0 where
   -- the log, once created, holds a first part of its text; else it is as before, or holds no bytes
-  pub log_part : HoldsPartOf asked.session.log (log_text (asked_run asked).net.steps) (Contains names asked.session.log) (files asked.session.log) (now asked.session.log)
+  pub log_part : HoldsPartOf asked.session.log (log_text (asked_steps asked)) (Contains names asked.session.log) (files asked.session.log) (now asked.session.log)
   -- and so does the record
   pub record_part : IfSome asked.record_file (λ name. HoldsPartOf name (schedule_text (asked_run asked).numbers) (Contains names name) (files name) (now name))
   -- once a byte was put past what tells of the deliveries, both hold their whole texts

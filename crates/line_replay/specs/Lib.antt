@@ -4,3 +4,5 @@ pub mod Asked
 pub mod Outcomes
 pub mod ReplayPromise
 pub mod Headline
+pub mod Tasks
+pub mod Ordering

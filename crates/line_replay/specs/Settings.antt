@@ -10,6 +10,8 @@ pub record Settings : Type 0 where
   pub choices : ℕ
   -- the name of the record, where one is asked for
   pub record_file : Option (List ℕ)
+  -- the name of the order, where one is given
+  pub order_file : Option (List ℕ)
   -- whether the trace is put
   pub trace : Bool
   -- whether it is told every so often how far the run is
@@ -25,6 +27,7 @@ settings_of options = record {
   seed = options.seed;
   choices = options.choices;
   record_file = option_copied options.record_file;
+  order_file = option_copied options.order_file;
   trace = options.trace;
   progress = options.progress;
   each = options.each;

@@ -7,12 +7,14 @@
 
 mod ending;
 mod laws;
+mod ordered;
 mod record;
 mod replay;
 mod solve;
 
 pub use ending::{end_status, push_counts, push_outcome};
 pub use laws::records_replay;
+pub use ordered::Ordered;
 pub use record::write_record;
 pub use replay::{Replay, run_replay};
 pub use solve::{Options, Solve, run_seed};

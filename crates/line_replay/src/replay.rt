@@ -1,6 +1,6 @@
-//! The line `replay MODEL SCHEDULE LOG [--trace]`.
+//! The line `replay MODEL SCHEDULE LOG [--trace] [--order FILE]`.
 
-ghost use Rattle.std.specs.Prelude.{◌≡◌, IfOk};
+ghost use Rattle.std.specs.Prelude.{◌≡◌, IfOk, option_copied};
 ghost use Rattle.dcsp_outside.specs.Outside.{Place, Stream};
 ghost use Rattle.dcsp_script.specs.Scripts.{outside};
 ghost use Rattle.dcsp_script.specs.Ways.{Wrote};
@@ -10,14 +10,15 @@ ghost use Rattle.line_replay.specs.Endings as endings;
 ghost use Rattle.line_replay.specs.Headline.{HoldsProblem};
 ghost use Rattle.line_replay.specs.Asked.{asked_run, asked_script, replay};
 ghost use Rattle.line_replay.specs.ReplayPromise.{replay_promise};
+ghost use Rattle.line_replay.specs.Ordering.{order_in, IsOrderedRightly};
 
 use crate::ending::{end_status, tell};
+use crate::ordered::Ordered;
 use crate::record::{Task, run_recorded};
-use abt_input::{CommandError, read_choices, read_model};
+use abt_input::{CommandError, read_choices, read_model, read_order_of};
 use abt_schedule::Listed;
 use abt_session::{MOST_DELIVERIES, Telling};
 use dcsp_outside::{Folder, Sink};
-use dcsp_problem::Problem;
 use dcsp_script::{Status, Stop};
 use ngd_check::problems_are_small;
 use std::alloc::Global;
@@ -33,16 +34,18 @@ pub struct Replay<'w> {
     pub log: &'w str,
     /// Whether the trace is put.
     pub trace: bool,
+    /// The name of the order, where one is given.
+    pub order_file: Option<&'w str>,
 }
 
-/// Runs the model under the choices of the schedule, which is read after it.
+/// Runs the model under the choices of the schedule, which is read after it and after the order.
 pub fn run_replay<F: Folder, S: Sink>(
     alloc: Global,
     folder: &mut F,
     line: Replay<'_>,
     out: &mut S,
 ) -> Result<Status, CommandError>
-    ensures came { CameIn (replay_promise line.entry.model.now line.entry.schedule.now line.entry.log.now line.entry.trace)
+    ensures came { CameIn (replay_promise line.entry.model.now line.entry.schedule.now line.entry.log.now line.entry.trace (option_copied line.entry.order_file))
         (outside (F.place folder.old) (S.stream out.old))
         (outside (F.place folder.new) (S.stream out.new)) (way_of result) }
     ensures sound { IfOk result (λ status. HoldsProblem (F.place folder.old).held line.entry.model.now) }
@@ -50,32 +53,39 @@ pub fn run_replay<F: Folder, S: Sink>(
     let problem = read_model(alloc, folder, line.model)?;
     problem.denotes_csp();
     problems_are_small(&problem);
+    let order = read_order_of(alloc, folder, line.order_file, &problem)?;
     let choices = read_choices(alloc, folder, line.schedule)?;
-    let status = run_choices(alloc, &problem, choices, line, folder, out)?;
+    let model = Ordered {
+        problem: &problem,
+        order: order.as_ref(),
+    };
+    let status = run_choices(alloc, model, choices, line, folder, out)?;
     Ok(status)
 }
 
 /// Runs the problem under the choices, and tells how the run ended.
-fn run_choices<F: Folder, S: Sink>(
+fn run_choices<'w, F: Folder, S: Sink>(
     alloc: Global,
-    problem: &Problem,
+    model: Ordered<'w>,
     choices: Listed,
-    line: Replay<'_>,
+    line: Replay<'w>,
     folder: &mut F,
     out: &mut S,
 ) -> Result<Status, Stop>
-    ensures wrote { Wrote (asked_script (replay problem.now choices line.entry.log.now line.entry.trace))
+    requires { IsOrderedRightly model }
+    ensures wrote { Wrote (asked_script (replay (order_in model.entry) model.entry.problem.now choices line.entry.log.now line.entry.trace))
         (outside (F.place folder.old) (S.stream out.old)) (outside (F.place folder.new) (S.stream out.new)) result }
-    ensures status { IfOk result (λ status. status ≡ endings.end_status (asked_run (replay problem.now choices line.entry.log.now line.entry.trace)).end) }
+    ensures status { IfOk result (λ status. status ≡ endings.end_status (asked_run (replay (order_in model.entry) model.entry.problem.now choices line.entry.log.now line.entry.trace)).end) }
 {
     let task = Task {
         log: line.log,
         record_file: None,
         most: MOST_DELIVERIES,
         telling: Telling::traced(line.trace),
+        order: model.order,
     };
     let mut choices = choices;
-    let outcome = run_recorded(alloc, problem, &mut choices, task, folder, out)?;
-    tell(alloc, problem, &outcome, Some(choices.left()), out)?;
+    let outcome = run_recorded(alloc, model.problem, &mut choices, task, folder, out)?;
+    tell(alloc, model.problem, &outcome, Some(choices.left()), out)?;
     Ok(end_status(&outcome.end))
 }

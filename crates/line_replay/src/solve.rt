@@ -7,13 +7,14 @@ ghost use Rattle.dcsp_script.specs.Ways.{Wrote};
 ghost use Rattle.line_replay.specs.Endings as endings;
 ghost use Rattle.line_replay.specs.Settings.{settings_of, telling_of};
 ghost use Rattle.line_replay.specs.Asked.{asked_run, asked_script, solve};
+ghost use Rattle.line_replay.specs.Ordering.{order_in, IsOrderedRightly};
 
 use crate::ending::{end_status, tell};
+use crate::ordered::Ordered;
 use crate::record::{Task, run_recorded};
 use abt_schedule::Seeded;
 use abt_session::Telling;
 use dcsp_outside::{Folder, Sink};
-use dcsp_problem::Problem;
 use dcsp_script::{Status, Stop};
 use std::alloc::Global;
 
@@ -37,6 +38,8 @@ pub struct Options<'w> {
     pub choices: u64,
     /// The name of the record, where one is asked for.
     pub record_file: Option<&'w str>,
+    /// The name of the order, where one is given.
+    pub order_file: Option<&'w str>,
     /// Whether the trace is put.
     pub trace: bool,
     /// Whether it is told every so often how far the run is, or each round of a search.
@@ -61,26 +64,28 @@ impl Options<'_> {
 }
 
 /// Runs the problem under the choices of the seed, and tells how the run ended.
-pub fn run_seed<F: Folder, S: Sink>(
+pub fn run_seed<'w, F: Folder, S: Sink>(
     alloc: Global,
-    problem: &Problem,
-    line: Solve<'_>,
+    model: Ordered<'w>,
+    line: Solve<'w>,
     folder: &mut F,
     out: &mut S,
 ) -> Result<Status, Stop>
-    requires { line.options.choices ≤ 2 ^ 40 }
-    ensures wrote { Wrote (asked_script (solve problem.now line.entry.log.now (settings_of line.entry.options)))
+    requires few { line.options.choices ≤ 2 ^ 40 }
+    requires model { IsOrderedRightly model }
+    ensures wrote { Wrote (asked_script (solve (order_in model.entry) model.entry.problem.now line.entry.log.now (settings_of line.entry.options)))
         (outside (F.place folder.old) (S.stream out.old)) (outside (F.place folder.new) (S.stream out.new)) result }
-    ensures status { IfOk result (λ status. status ≡ endings.end_status (asked_run (solve problem.now line.entry.log.now (settings_of line.entry.options))).end) }
+    ensures status { IfOk result (λ status. status ≡ endings.end_status (asked_run (solve (order_in model.entry) model.entry.problem.now line.entry.log.now (settings_of line.entry.options))).end) }
 {
     let task = Task {
         log: line.log,
         record_file: line.options.record_file,
         most: line.options.choices,
         telling: line.options.telling(None),
+        order: model.order,
     };
     let mut choices = Seeded::new(line.options.seed);
-    let outcome = run_recorded(alloc, problem, &mut choices, task, folder, out)?;
-    tell(alloc, problem, &outcome, None, out)?;
+    let outcome = run_recorded(alloc, model.problem, &mut choices, task, folder, out)?;
+    tell(alloc, model.problem, &outcome, None, out)?;
     Ok(end_status(&outcome.end))
 }

@@ -6,7 +6,7 @@ use Rattle.dcsp_outside.specs.Outside.{Place}
 use Rattle.ngd_log.specs.Logs.{IsLogOf, IsFirstBad}
 use Rattle.ngd_rewrite.specs.Endings.{Chains, AreEndings, steps_in}
 use Rattle.abt_input.specs.declared.error.CommandError.{CommandError}
-use Rattle.abt_input.specs.declared.error.CommandError.TheVariants.{ModelLong, ModelRefused, NoAim, LogLong, LogLine, ScheduleLong, ScheduleLine, Clauses, Fault, Memory}
+use Rattle.abt_input.specs.declared.error.CommandError.TheVariants.{ModelLong, ModelRefused, NoAim, LogLong, LogLine, ScheduleLong, ScheduleLine, OrderRefused, Clauses, Fault, Memory}
 use Rattle.abt_input.specs.Inputs.{IsTextOf, IsBadAt}
 use Rattle.abt_input.specs.Kinds.{ReadsAs, a_log}
 use Rattle.abt_input.specs.Files.{HasRead, HasLogBytes, any_log}
@@ -23,6 +23,7 @@ not_read bytes LogLong h = h
 not_read bytes (LogLine number) h = absurd h
 not_read bytes ScheduleLong h = absurd h
 not_read bytes (ScheduleLine number) h = absurd h
+not_read bytes (OrderRefused error) h = absurd h
 not_read bytes (Clauses error) h = absurd h
 not_read bytes Fault h = tt
 not_read bytes Memory h = tt

@@ -26,7 +26,7 @@ use Rattle.abt_optimum.specs.Rounds.{most_rounds_at}
 use Rattle.abt_optimum.specs.Searches.{SearchState}
 use Rattle.dcsp_rule.specs.Problems.{Contents}
 use Rattle.dcsp_rule.specs.Aims.{aimed_at}
-use Rattle.line_solve.specs.Searching.{AskedSearch, next_end, search_after, round_count, session_after, first_run, last_run}
+use Rattle.line_solve.specs.Searching.{AskedSearch, next_end, search_after, round_count, session_after, first_run, last_steps}
 use Rattle.line_solve.specs.BestAnswers.{answer_text, search_status}
 use Rattle.line_solve.specs.SearchScripts.{round_line, line_script, found_script, solution_script, round_script, rounds_script, ending_script, search_script}
 use Rattle.line_solve.specs.BestHeadline.{line_text, solution_put, puts_of_first, whole_text, HoldsSearch, IsSearched, log_after, HoldsRounds, MadeRounds, AddsBytes, WritesRound, in_line, in_run, in_solution, KeepsEnding, WritesEnding, SearchOrdered, in_round, in_ending}
@@ -65,7 +65,7 @@ module _ (asked : AskedSearch) where
   has_round = let m = positive (aimed_at asked.problem.aim) asked.problem in subst (λ (n : ℕ). 1 ≤ length (search_after asked n).rounds) (sym m.1) (some_rounds m.0)
 
   -- what the log holds after all rounds
-  pub last_log : (file : Option (List ℕ)) → log_after asked (round_count asked) file ≡ Some (log_text (last_run asked).net.steps)
+  pub last_log : (file : Option (List ℕ)) → log_after asked (round_count asked) file ≡ Some (log_text (last_steps asked))
   last_log file = let h = has_round in let e : round_count asked ≡ suc (round_count asked - 1) = omega arith in ap (λ (n : ℕ). log_after asked n file) e
 
 -- ---- the whole script was made

@@ -4,7 +4,6 @@ use Rattle.std.specs.Prelude.{IfSome}
 use Rattle.dcsp_rule.specs.declared.aim.Aim.TheVariants.{Satisfy}
 use Rattle.dcsp_rule.specs.Problems.{Contents}
 use Rattle.dcsp_rule.specs.Aims.{is_better}
-use Rattle.dcsp_problem.specs.WellFormed.{IsProblem}
 use Rattle.line_replay.specs.Endings.{assigned}
 use Rattle.abt_optimum.specs.declared.round.Ended.TheVariants as ended
 use Rattle.abt_optimum.specs.declared.round.Round.{Round}
@@ -14,19 +13,19 @@ use Rattle.abt_optimum.specs.Rounds.{known_of, most_rounds}
 use Rattle.abt_optimum.specs.Searches.{SearchState, end_at, next_better, round_after, EndsRightly}
 use Rattle.abt_optimum.proofs.Improving as lists
 use Rattle.abt_optimum.proofs.SearchLaws.{solves_whole}
-use Rattle.line_solve.specs.Searching.{AskedSearch, next_end, search_after, whole_search, round_count, problem_after}
+use Rattle.line_solve.specs.Searching.{AskedSearch, IsAskable, next_end, search_after, whole_search, round_count, problem_after}
 use Rattle.line_solve.specs.BestHeadline.{IsImproving}
 use Rattle.line_solve.proofs.Rounds.{same_problem, counted}
 use Rattle.line_solve.proofs.RoundProblems.{rising_values}
 use Rattle.line_solve.proofs.Searches.{right_after, is_search, has_rounds}
 use Rattle.line_solve.proofs.LastRounds.{entry_at}
 
-module _ (asked : AskedSearch) (ok : IsProblem asked.problem) (aimed : asked.problem.aim ≢ Satisfy) where
+module _ (asked : AskedSearch) (ok : IsAskable asked) (aimed : asked.problem.aim ≢ Satisfy) where
   solved_round : (n : ℕ) (values : List ℤ) → next_end asked (search_after asked n) ≡ Solved values → Solves (problem_after asked n) values
   solved_round n values e = subst (EndsRightly (problem_after asked n)) e (right_after asked ok n)
 
   solves_all : (n : ℕ) (values : List ℤ) → next_end asked (search_after asked n) ≡ Solved values → Solves asked.problem values
-  solves_all n values e = solves_whole asked.problem (next_better (search_after asked n)) values ok.aim (solved_round n values e)
+  solves_all n values e = solves_whole asked.problem (next_better (search_after asked n)) values ok.problem.aim (solved_round n values e)
 
   -- the entry of a round in the whole search
   abbrev entry : ℕ → Round
@@ -45,7 +44,7 @@ module _ (asked : AskedSearch) (ok : IsProblem asked.problem) (aimed : asked.pro
   better_later : (m n : ℕ) (old new : List ℤ) → m < n → n < round_count asked → next_end asked (search_after asked m) ≡ Solved old → next_end asked (search_after asked n) ≡ Solved new
       → is_better asked.problem.aim (aim_value asked.problem.aim (assigned old)) (aim_value asked.problem.aim (assigned new)) ≡ true
   better_later m n old new l less e f =
-      lists.improving asked.set.halves asked.problem (whole_search asked).rounds (λ _. rising_values asked.problem ok) (has_rounds asked ok aimed).rounds m n (entry m) (entry n)
+      lists.improving asked.set.halves asked.problem (whole_search asked).rounds (λ _. rising_values asked.problem ok.problem) (has_rounds asked ok aimed).rounds m n (entry m) (entry n)
       (aim_value asked.problem.aim (assigned old)) (aim_value asked.problem.aim (assigned new)) l (entry_is m (omega arith)) (entry_is n less) (entry_solved m old e) (entry_solved n new f)
 
   pub is_improving : IsImproving asked

@@ -40,11 +40,11 @@ lt-or-eq k n l = by (nat_lt k n) refl
 
 -- ---- how a run ended, by how its round did
 
-pub end_refuted : (aim : Aim) (p : Contents) (run : Run) (end : runs.End) → end_at aim (end_as p run end) ≡ ended.Refuted → end ≡ runs.Refuted
-end_refuted aim p run runs.Solved e = absurd cc
-end_refuted aim p run runs.Refuted e = refl
-end_refuted aim p run runs.Capped e = absurd cc
-end_refuted aim p run runs.Spent e = absurd cc
+pub end_refuted : (aim : Aim) (order : Option (List ℕ)) (p : Contents) (run : Run) (end : runs.End) → end_at aim (end_as order p run end) ≡ ended.Refuted → end ≡ runs.Refuted
+end_refuted aim order p run runs.Solved e = absurd cc
+end_refuted aim order p run runs.Refuted e = refl
+end_refuted aim order p run runs.Capped e = absurd cc
+end_refuted aim order p run runs.Spent e = absurd cc
 
 -- without halves a refuted round is the last one, so a round that another one follows was solved
 plain_last : (s : SearchState) → s.halves ≡ false → is_beyond s.problem.aim (known_of s.rounds).best (next_better s) ≡ false
@@ -54,15 +54,15 @@ plain_last s plain = ap (λ (b : Bool). is_beyond s.problem.aim (known_of s.roun
     by None = refl
     by (Some best) = better_itself s.problem.aim best
 
-pub end_solved : (s : SearchState) (p : Contents) (run : Run) (end : runs.End) → s.halves ≡ false → is_last s.problem.aim (round_after s (end_as p run end)) ≡ false → end_as p run end ≡ Solved (final_values p run)
-end_solved s p run runs.Solved plain e = refl
-end_solved s p run runs.Refuted plain e =
+pub end_solved : (s : SearchState) (order : Option (List ℕ)) (p : Contents) (run : Run) (end : runs.End) → s.halves ≡ false → is_last s.problem.aim (round_after s (end_as order p run end)) ≡ false → end_as order p run end ≡ Solved (final_values order p run)
+end_solved s order p run runs.Solved plain e = refl
+end_solved s order p run runs.Refuted plain e =
     let clash : is_beyond s.problem.aim (known_of s.rounds).best (next_better s) ≡ true = not_or _ _ e in
     let plainly = plain_last s plain in
     let no_way : true ≡ false = sym clash ∙ plainly in
     cc
-end_solved s p run runs.Capped plain e = absurd cc
-end_solved s p run runs.Spent plain e = absurd cc
+end_solved s order p run runs.Capped plain e = absurd cc
+end_solved s order p run runs.Spent plain e = absurd cc
 
 -- ---- whether the last round was capped
 
@@ -120,10 +120,10 @@ module _ (asked : AskedSearch) where
       sym (next ∙ ap (λ (o : Option Round). option_map_or (is_last s.problem.aim) o false) (last_more s.rounds entry)) ∙ still
 
   -- without halves it was solved, and its values are kept
-  pub kept_after : (n : ℕ) → asked.set.halves ≡ false → suc n < round_count asked → (search_after asked (suc n)).values ≡ Some (final_values (problem_after asked n) (run_after asked n))
+  pub kept_after : (n : ℕ) → asked.set.halves ≡ false → suc n < round_count asked → (search_after asked (suc n)).values ≡ Some (final_values asked.order (problem_after asked n) (run_after asked n))
   kept_after n plain l =
       let s = search_after asked n in
-      let solved = end_solved s (problem_after asked n) (run_after asked n) (run_after asked n).end (same_halves asked n ∙ plain) (not_last n l) in
+      let solved = end_solved s asked.order (problem_after asked n) (run_after asked n) (run_after asked n).end (same_halves asked n ∙ plain) (not_last n l) in
       ap (λ (z : SearchState). z.values) (next_after n (omega arith)) ∙ ap (λ (x : RoundEnd). values_after s.values x) solved
 
   -- ---- the last round that was solved

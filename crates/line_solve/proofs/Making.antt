@@ -7,7 +7,7 @@ use Rattle.dcsp_script.specs.declared.stop.Stop.{Stop}
 use Rattle.dcsp_script.specs.Scripts.{World, Put}
 use Rattle.dcsp_script.specs.Ways.{Wrote}
 use Rattle.dcsp_rule.specs.Problems.{Contents, csp_of}
-use Rattle.dcsp_problem.specs.WellFormed.{IsProblem}
+use Rattle.dcsp_order.specs.Told.{ordered, Fits, IsOrderFor}
 use Rattle.dcsp_rule.specs.Aims.{narrowed}
 use Rattle.line_replay.specs.Outcomes.{HasAllValues}
 use Rattle.line_replay.proofs.Outcomes.{has_values}
@@ -24,17 +24,18 @@ use Rattle.line_replay.specs.Settings.{Settings}
 use Rattle.abt_optimum.specs.Rounds.{round_problem}
 use Rattle.abt_optimum.specs.Searches.{SearchState, next_better, EndsRightly}
 use Rattle.abt_optimum.proofs.SearchLaws.{round_many}
-use Rattle.line_solve.specs.Searching.{AskedSearch, best_search, next_problem, next_session, end_as, next_end, told_end, with_round, search_after, problem_after, session_after, run_after, first_run, deliveries_in}
+use Rattle.line_solve.specs.Searching.{AskedSearch, IsAskable, best_search, next_problem, next_session, end_as, next_end, told_end, with_round, search_after, problem_after, session_after, run_after, first_run, deliveries_in}
 use Rattle.line_solve.specs.SearchScripts.{round_line, line_script}
 use Rattle.line_solve.specs.declared.runner.SearchRunner.{SearchRunner}
 use Rattle.line_solve.specs.Runners.{Tells, IsFresh, taken_after, steps_of_last, HasMade}
 use Rattle.line_solve.proofs.Rounds.{is_over, starts, goes_on, same_problem}
-use Rattle.line_solve.proofs.Searches.{ends_rightly, is_csp_after}
+use Rattle.line_solve.proofs.RoundProblems.{round_is_problem}
+use Rattle.line_solve.proofs.Searches.{ends_rightly, is_problem_after, is_order_after, order_of_round}
 use Rattle.line_solve.proofs.LastRounds.{first_is}
 
-pub tells_of : (p : Contents) (s : Session) (r : Result Outcome Stop) → IfOk r (Gives s) → Verdicts (csp_of p) s.most (run_of s) → IfOk r (Tells p s)
-tells_of p s (Ok outcome) gives right = record { gives = gives; right = right }
-tells_of p s (Err stop) gives right = tt
+pub tells_of : (s : Session) (r : Result Outcome Stop) → IfOk r (Gives s) → Verdicts s.problem s.most (run_of s) → IfOk r (Tells s)
+tells_of s (Ok outcome) gives right = record { gives = gives; right = right }
+tells_of s (Err stop) gives right = tt
 
 -- the line of a round, where traces are asked for
 pub line_traced : {T : Type 0} {a b : World} {r : Result T Stop} (trace : Bool) (number : ℕ) → trace ≡ true → Wrote (Put (round_line number) ∷ []) a b r → Wrote (line_script trace number) a b r
@@ -49,29 +50,35 @@ pub whole_next : (p : Contents) (s : SearchState) → next_better s ≡ None →
 whole_next p s e = ap (round_problem p) (sym e)
 
 -- the session on that problem, with the number of the round, is that of the round that follows
-pub next_is : (p q : Contents) (log : List ℕ) (set : Settings) (s : SearchState) (rounds : ℕ) → q ≡ round_problem p (next_better s) → rounds ≡ length s.rounds
-    → set_session q log set (Some (rounds + 1)) ≡ next_session (best_search p log set) s
-next_is p q log set s rounds e f = ap (λ (x : Contents). set_session x log set (Some (rounds + 1))) e ∙ ap (λ (n : ℕ). set_session (round_problem p (next_better s)) log set (Some (n + 1))) f
+pub next_is : (order : Option (List ℕ)) (p q : Contents) (log : List ℕ) (set : Settings) (s : SearchState) (rounds : ℕ) → q ≡ round_problem p (next_better s) → rounds ≡ length s.rounds
+    → set_session order q log set (Some (rounds + 1)) ≡ next_session (best_search order p log set) s
+next_is order p q log set s rounds e f = ap (λ (x : Contents). set_session order x log set (Some (rounds + 1))) e ∙ ap (λ (n : ℕ). set_session order (round_problem p (next_better s)) log set (Some (n + 1))) f
+
+-- an order that fits the whole problem fits the narrowed one
+pub fits_narrowed : (order : Option (List ℕ)) (p q : Contents) (value : ℤ) → q ≡ narrowed p value → IsOrderFor order p → Fits order q
+fits_narrowed None p q value e good = tt
+fits_narrowed (Some order) p q value e good = good.whole ∙ sym (round_many p (Some value)) ∙ ap (λ (x : Contents). length x.domains) (sym e)
 
 -- what the run of the same session gives
-pub tells_as : {p q : Contents} {s t : Session} (r : Result Outcome Stop) → p ≡ q → s ≡ t → IfOk r (Tells p s) → IfOk r (Tells q t)
-tells_as {p = p} {q = q} {s = s} {t = t} r e f h = subst (λ (x : Contents). IfOk r (Tells x t)) e (subst (λ (x : Session). IfOk r (Tells p x)) f h)
+pub tells_as : {s t : Session} (r : Result Outcome Stop) → s ≡ t → IfOk r (Tells s) → IfOk r (Tells t)
+tells_as {s = s} {t = t} r f h = subst (λ (x : Session). IfOk r (Tells x)) f h
 
 -- ---- how a round ended
 
 -- the end that is told is that of the run
-pub told_is : (p : Contents) (run : Run) (end : End) → IsEnd (csp_of p) run.net run.end end → told_end end ≡ end_as p run run.end
-told_is p run (ends.Solved values) h = rw (h.0, h.1) refl
-told_is p run ends.Refuted h = rw h refl
-told_is p run ends.Spent h = rw h refl
-told_is p run ends.Capped h = rw h refl
+pub told_is : (order : Option (List ℕ)) (p : Contents) (run : Run) (end : End) → IsEnd order (csp_of (ordered order p)) run.net run.end end → told_end end ≡ end_as order p run run.end
+told_is order p run (ends.Solved values) h = rw (h.0, h.1) refl
+told_is order p run ends.Refuted h = rw h refl
+told_is order p run ends.Spent h = rw h refl
+told_is order p run ends.Capped h = rw h refl
 
-module _ (asked : AskedSearch) (ok : IsProblem asked.problem) (n : ℕ) where
+module _ (asked : AskedSearch) (ok : IsAskable asked) (n : ℕ) where
   -- and is right
-  pub told_right : (end : End) → IsEnd (csp_of (problem_after asked n)) (run_after asked n).net (run_after asked n).end end → Verdicts (csp_of (problem_after asked n)) asked.set.choices (run_after asked n) → EndsRightly (problem_after asked n) (told_end end)
+  pub told_right : (end : End) → IsEnd asked.order (session_after asked n).problem (run_after asked n).net (run_after asked n).end end → Verdicts (session_after asked n).problem asked.set.choices (run_after asked n) → EndsRightly (problem_after asked n) (told_end end)
   told_right end h law =
-      let right = ends_rightly (problem_after asked n) asked.set.choices (run_after asked n) (run_after asked n).end (is_csp_after asked ok n) refl law in
-      subst (EndsRightly (problem_after asked n)) (sym (told_is (problem_after asked n) (run_after asked n) end h)) right
+      let p = problem_after asked n in
+      let right = ends_rightly asked.order p asked.set.choices (run_after asked n) (run_after asked n).end (is_problem_after asked ok n) (is_order_after asked ok n) refl law in
+      subst (EndsRightly p) (sym (told_is asked.order p (run_after asked n) end h)) right
 
 -- ---- counts
 
@@ -96,7 +103,7 @@ takes_first keep (suc n) first numbers same =
 
 module _ (asked : AskedSearch) (n : ℕ) (r t : SearchRunner) (outcome : Outcome) (made : HasMade asked n r) (still : is_over r.search ≡ false) where
   -- one round more
-  pub made_more : Tells (next_problem asked r.search) (next_session asked r.search) outcome
+  pub made_more : Tells (next_session asked r.search) outcome
       → outcome.numbers ≡ kept (is_some asked.set.record_file && r.rounds == 0) (run_of (next_session asked r.search)).numbers
       → t.search ≡ with_round r.search (told_end outcome.end) → t.rounds ≡ r.rounds + 1 → t.deliveries ≡ r.deliveries + outcome.deliveries → t.steps ≡ outcome.steps
       → t.taken ≡ cond (r.rounds == 0) outcome.numbers r.taken → HasMade asked (n + 1) t
@@ -104,7 +111,7 @@ module _ (asked : AskedSearch) (n : ℕ) (r t : SearchRunner) (outcome : Outcome
       let next : n + 1 ≡ suc n = omega arith in
       let s = made.search in
       let open_ : is_over (search_after asked n) ≡ false = subst (λ (z : SearchState). is_over z ≡ false) s still in
-      let end : told_end outcome.end ≡ next_end asked (search_after asked n) = told_is (next_problem asked r.search) (run_of (next_session asked r.search)) outcome.end tells.gives.end ∙ ap (next_end asked) s in
+      let end : told_end outcome.end ≡ next_end asked (search_after asked n) = told_is asked.order (next_problem asked r.search) (run_of (next_session asked r.search)) outcome.end tells.gives.end ∙ ap (next_end asked) s in
       let is : t.search ≡ search_after asked (suc n) = search ∙ ap (λ (z : SearchState). with_round z (told_end outcome.end)) s ∙ ap (with_round (search_after asked n)) end ∙ sym (goes_on asked n open_) in
       let size : length t.search.rounds ≡ n + 1 = ap (λ (z : SearchState). length z.rounds) search ∙ length-append r.search.rounds (_ ∷ []) ∙ ap (λ (i : ℕ). i + 1) made.many in
       let keep = is_some asked.set.record_file in
@@ -136,19 +143,23 @@ module _ (asked : AskedSearch) (n : ℕ) (r : SearchRunner) (made : HasMade aske
   session_next = ap (next_session asked) made.search
 
   -- how it ends, and the values that it was solved with
-  module _ (outcome : Outcome) (tells : Tells (next_problem asked r.search) (next_session asked r.search) outcome) where
+  module _ (outcome : Outcome) (tells : Tells (next_session asked r.search) outcome) where
     pub end_next : told_end outcome.end ≡ next_end asked (search_after asked n)
-    end_next = told_is (next_problem asked r.search) (run_of (next_session asked r.search)) outcome.end tells.gives.end ∙ ap (next_end asked) made.search
+    end_next = told_is asked.order (next_problem asked r.search) (run_of (next_session asked r.search)) outcome.end tells.gives.end ∙ ap (next_end asked) made.search
 
-    pub all_values : HasAllValues asked.problem outcome.end
-    all_values = values_of_end (next_better r.search) asked.problem outcome.end (has_values (next_problem asked r.search) (run_of (next_session asked r.search)) outcome.end tells.gives.end)
+    pub all_values : IsAskable asked → HasAllValues asked.problem outcome.end
+    all_values ok =
+        let p = next_problem asked r.search in
+        let fine = round_is_problem asked.problem (next_better r.search) ok.problem in
+        let good = order_of_round asked.order asked.problem (next_better r.search) ok.order in
+        values_of_end (next_better r.search) asked.problem outcome.end (has_values asked.order p (run_of (next_session asked r.search)) fine good outcome.end tells.gives.end)
 
   pub problem_is : r.search.problem ≡ asked.problem
   problem_is = ap (λ (s : SearchState). s.problem) made.search ∙ same_problem asked n
 
 module _ (asked : AskedSearch) (n : ℕ) (r : SearchRunner) (outcome : Outcome) (made : HasMade asked n r) where
   -- its counts are small
-  pub few_more : n < 2 ^ 20 → asked.set.choices ≤ most_deliveries → Tells (next_problem asked r.search) (next_session asked r.search) outcome → (r.rounds < 2 ^ 62) × (r.deliveries + outcome.deliveries < 2 ^ 62)
+  pub few_more : n < 2 ^ 20 → asked.set.choices ≤ most_deliveries → Tells (next_session asked r.search) outcome → (r.rounds < 2 ^ 62) × (r.deliveries + outcome.deliveries < 2 ^ 62)
   few_more small choices tells =
       let rounds = made.rounds in
       let deliveries = made.deliveries in
@@ -158,16 +169,16 @@ module _ (asked : AskedSearch) (n : ℕ) (r : SearchRunner) (outcome : Outcome) 
       (omega arith, omega arith)
 
   -- and it ended rightly
-  pub right_next : IsProblem asked.problem → Tells (next_problem asked r.search) (next_session asked r.search) outcome → EndsRightly (round_problem r.search.problem (next_better r.search)) (told_end outcome.end)
+  pub right_next : IsAskable asked → Tells (next_session asked r.search) outcome → EndsRightly (round_problem r.search.problem (next_better r.search)) (told_end outcome.end)
   right_next ok tells =
       let s = search_after asked n in
       let at : EndsRightly (next_problem asked r.search) (told_end outcome.end) = right_at r.search made.search tells in
       subst (λ (z : SearchState). EndsRightly (round_problem z.problem (next_better z)) (told_end outcome.end)) (sym made.search)
       (subst (λ (p : Contents). EndsRightly (round_problem p (next_better s)) (told_end outcome.end)) (sym (same_problem asked n)) (subst (λ (z : SearchState). EndsRightly (next_problem asked z) (told_end outcome.end)) made.search at))
     where
-      right_at : (z : SearchState) → z ≡ search_after asked n → Tells (next_problem asked z) (next_session asked z) outcome → EndsRightly (next_problem asked z) (told_end outcome.end)
+      right_at : (z : SearchState) → z ≡ search_after asked n → Tells (next_session asked z) outcome → EndsRightly (next_problem asked z) (told_end outcome.end)
       right_at z e tells =
-          let law = subst (λ (x : SearchState). Tells (next_problem asked x) (next_session asked x) outcome) e tells in
+          let law = subst (λ (x : SearchState). Tells (next_session asked x) outcome) e tells in
           subst (λ (x : SearchState). EndsRightly (next_problem asked x) (told_end outcome.end)) (sym e) (told_right asked ok n outcome.end law.gives.end law.right)
 
 -- no round was made yet

@@ -1,13 +1,17 @@
 -- The asked search is a search: each of its rounds ends rightly, and after as many as there may be it is over.
-use Rattle.std.proofs.Common.{◌≡◌, ◌≢◌, ℕ, zero, suc, pos, Bool, true, false, length, refl, sym, ap, subst, arith}
+use Rattle.std.proofs.Common.{◌≡◌, ◌≢◌, ℕ, zero, suc, List, Option, Some, None, Bool, true, false, length, refl, sym, ap, subst, arith}
+use Rattle.std.specs.Prelude.{ℤ}
 use Rattle.dcsp_domain.specs.Sets.{IsRising}
-use Rattle.dcsp_defs.specs.Csp.{IsCsp, count}
+use Rattle.dcsp_defs.specs.Csp.{HasNoSolution}
 use Rattle.dcsp_rule.specs.declared.aim.Aim.TheVariants.{Satisfy}
 use Rattle.dcsp_rule.specs.Rules.{IsAimOf}
 use Rattle.dcsp_rule.specs.Problems.{Contents, csp_of}
 use Rattle.dcsp_problem.specs.WellFormed.{IsProblem}
 use Rattle.dcsp_problem.proofs.WellFormed.{is_csp}
-use Rattle.dcsp_problem.proofs.OwnerLists.{length-map_below, get_or-map_below}
+use Rattle.dcsp_order.specs.Orders.{IsOrder}
+use Rattle.dcsp_order.specs.Under.{by_place}
+use Rattle.dcsp_order.specs.Told.{ordered, values_told, IsOrderFor}
+use Rattle.dcsp_order.proofs.Solutions.{solutions_go}
 use Rattle.abt_defs.specs.Network.{values}
 use Rattle.abt_defs.specs.Runs as runs
 use Rattle.abt_defs.specs.Runs.{Run}
@@ -15,45 +19,57 @@ use Rattle.law_runs.specs.Replay.{Verdicts}
 use Rattle.law_runs.proofs.Whole.{verdicts}
 use Rattle.line_replay.specs.Endings.{assigned, final_values}
 use Rattle.line_replay.proofs.Verdicts.{same_solution}
+use Rattle.line_replay.proofs.UnderOrder.{ordered_csp, solution_told, final_value, final_count}
 use Rattle.abt_optimum.specs.Rounds.{aim_values, is_done, round_problem, most_rounds, AreRounds}
 use Rattle.abt_optimum.specs.Searches.{next_better, EndsRightly, IsSearch}
 use Rattle.abt_optimum.proofs.RoundLists.{no_rounds}
 use Rattle.abt_optimum.proofs.Fewer.{room, halved}
-use Rattle.abt_optimum.proofs.SearchLaws.{search_more}
-use Rattle.line_solve.specs.Searching.{AskedSearch, end_as, next_end, search_after, whole_search, problem_after, session_after, run_after}
+use Rattle.abt_optimum.proofs.SearchLaws.{round_many, search_more}
+use Rattle.line_solve.specs.Searching.{AskedSearch, IsAskable, end_as, next_end, search_after, whole_search, problem_after, session_after, run_after}
 use Rattle.line_solve.specs.BestHeadline.{HasRounds}
 use Rattle.line_solve.proofs.Rounds.{is_over, starts, goes_on, stops, same_problem, same_halves, counted}
 use Rattle.line_solve.proofs.RoundProblems.{round_is_problem, rising_values}
 
--- a run of a well-formed problem ends rightly
-pub ends_rightly : (p : Contents) (most : ℕ) (run : Run) (end : runs.End) → IsCsp (csp_of p) → run.end ≡ end → Verdicts (csp_of p) most run → EndsRightly p (end_as p run end)
-ends_rightly p most run runs.Solved ok e law = record {
-  many = length-map_below (values run.net) (count (csp_of p));
-  solution = same_solution (csp_of p) ok (assigned (final_values p run)) (values run.net) (λ i l. get_or-map_below (values run.net) (count (csp_of p)) i (pos 0) l) (law.solved e).solution;
+-- where the problem that is run has no solution, the model's has none
+no_solution_told : (order : Option (List ℕ)) (p : Contents) → IsProblem p → IsOrderFor order p → HasNoSolution (csp_of (ordered order p)) → HasNoSolution (csp_of p)
+no_solution_told None p ok good none = none
+no_solution_told (Some order) p ok good none = λ v h. none (by_place order v) (solutions_go p ok order good v h)
+
+-- a run of a well-formed problem under an order ends rightly
+pub ends_rightly : (order : Option (List ℕ)) (p : Contents) (most : ℕ) (run : Run) (end : runs.End) → IsProblem p → IsOrderFor order p → run.end ≡ end → Verdicts (csp_of (ordered order p)) most run → EndsRightly p (end_as order p run end)
+ends_rightly order p most run runs.Solved ok good e law = record {
+  many = final_count order p ok good run;
+  solution = same_solution (csp_of p) (is_csp p ok) (assigned (final_values order p run)) (values_told order (values run.net)) (λ i l. final_value order p ok good run i l)
+      (solution_told order p ok good (values run.net) (law.solved e).solution);
 }
-ends_rightly p most run runs.Refuted ok e law = law.no_solution e
-ends_rightly p most run runs.Capped ok e law = tt
-ends_rightly p most run runs.Spent ok e law = tt
+ends_rightly order p most run runs.Refuted ok good e law = no_solution_told order p ok good (law.no_solution e)
+ends_rightly order p most run runs.Capped ok good e law = tt
+ends_rightly order p most run runs.Spent ok good e law = tt
 
-module _ (asked : AskedSearch) (ok : IsProblem asked.problem) where
+-- an order of the whole problem's variables is one of those of a round's problem
+pub order_of_round : (order : Option (List ℕ)) (p : Contents) (better : Option ℤ) → IsOrderFor order p → IsOrderFor order (round_problem p better)
+order_of_round None p better good = tt
+order_of_round (Some order) p better good = subst (λ n. IsOrder n order) (sym (round_many p better)) good
+
+module _ (asked : AskedSearch) (ok : IsAskable asked) where
   pub is_problem_after : (n : ℕ) → IsProblem (problem_after asked n)
-  is_problem_after n = round_is_problem asked.problem (next_better (search_after asked n)) ok
+  is_problem_after n = round_is_problem asked.problem (next_better (search_after asked n)) ok.problem
 
-  pub is_csp_after : (n : ℕ) → IsCsp (csp_of (problem_after asked n))
-  is_csp_after n = is_csp (problem_after asked n) (is_problem_after n)
+  pub is_order_after : (n : ℕ) → IsOrderFor asked.order (problem_after asked n)
+  is_order_after n = order_of_round asked.order asked.problem (next_better (search_after asked n)) ok.order
 
   -- what is so of the run of each round
-  pub law_after : (n : ℕ) → Verdicts (csp_of (problem_after asked n)) asked.set.choices (run_after asked n)
-  law_after n = verdicts (csp_of (problem_after asked n)) (is_csp_after n) asked.set.choices (session_after asked n).choices
+  pub law_after : (n : ℕ) → Verdicts (session_after asked n).problem asked.set.choices (run_after asked n)
+  law_after n = verdicts (session_after asked n).problem (ordered_csp asked.order (problem_after asked n) (is_problem_after n) (is_order_after n)) asked.set.choices (session_after asked n).choices
 
   pub right_after : (n : ℕ) → EndsRightly (problem_after asked n) (next_end asked (search_after asked n))
-  right_after n = ends_rightly (problem_after asked n) asked.set.choices (run_after asked n) (run_after asked n).end (is_csp_after n) refl (law_after n)
+  right_after n = ends_rightly asked.order (problem_after asked n) asked.set.choices (run_after asked n) (run_after asked n).end (is_problem_after n) (is_order_after n) refl (law_after n)
 
   pub known_after : (n : ℕ) → IsAimOf (length (search_after asked n).problem.domains) (search_after asked n).problem.aim
-  known_after n = subst (λ (p : Contents). IsAimOf (length p.domains) p.aim) (sym (same_problem asked n)) ok.aim
+  known_after n = subst (λ (p : Contents). IsAimOf (length p.domains) p.aim) (sym (same_problem asked n)) ok.problem.aim
 
   pub rising_after : (n : ℕ) → IsRising (aim_values (search_after asked n).problem)
-  rising_after n = subst (λ (p : Contents). IsRising (aim_values p)) (sym (same_problem asked n)) (rising_values asked.problem ok)
+  rising_after n = subst (λ (p : Contents). IsRising (aim_values p)) (sym (same_problem asked n)) (rising_values asked.problem ok.problem)
 
   module _ (aimed : asked.problem.aim ≢ Satisfy) where
     search_next : (n : ℕ) (over : Bool) → is_over (search_after asked n) ≡ over → IsSearch (search_after asked n) → IsSearch (search_after asked (suc n))
@@ -93,5 +109,5 @@ module _ (asked : AskedSearch) (ok : IsProblem asked.problem) where
           rounds = rounds;
           done = subst (λ (p : Contents). is_done p.aim s.rounds ≡ true) same is_whole;
           few = (counted asked n).at_most;
-          halved = halved asked.set.halves asked.problem (λ _. rising_values asked.problem ok) s.rounds rounds;
+          halved = halved asked.set.halves asked.problem (λ _. rising_values asked.problem ok.problem) s.rounds rounds;
         }

@@ -7,7 +7,6 @@ use Rattle.dcsp_script.specs.Ways.{Wrote}
 use Rattle.dcsp_script.proofs.Lines.{then_rest, then_stopped}
 use Rattle.dcsp_rule.specs.declared.aim.Aim.TheVariants.{Satisfy}
 use Rattle.dcsp_rule.specs.Problems.{Contents}
-use Rattle.dcsp_problem.specs.WellFormed.{IsProblem}
 use Rattle.abt_session.specs.Running.{kept}
 use Rattle.abt_session.proofs.Pieces.{wrote_as, stopped_so}
 use Rattle.line_replay.specs.Endings.{counts_text}
@@ -20,7 +19,7 @@ use Rattle.abt_optimum.specs.Rounds.{best_value, most_rounds}
 use Rattle.abt_optimum.specs.Searches.{SearchState, IsSearch}
 use Rattle.abt_optimum.specs.Outcomes.{EndsCapped, IsBestEnd}
 use Rattle.abt_optimum.specs.Kept.{end_of}
-use Rattle.line_solve.specs.Searching.{AskedSearch, whole_search, round_count, first_run, deliveries_in}
+use Rattle.line_solve.specs.Searching.{AskedSearch, IsAskable, whole_search, round_count, first_run, deliveries_in}
 use Rattle.line_solve.specs.BestAnswers.{ends_capped, found, best_text, rounds_text, answer_text}
 use Rattle.line_solve.specs.SearchScripts.{rounds_script, ending_script, search_script}
 use Rattle.line_solve.specs.declared.answer.Searched.{Searched}
@@ -66,7 +65,7 @@ module _ (asked : AskedSearch) (r : SearchRunner) (made : HasMade asked (round_c
   pub search_is : r.search ≡ whole_search asked
   search_is = made.search ∙ (counted asked (most_rounds asked.problem)).again
 
-  module _ (ok : IsProblem asked.problem) (aimed : asked.problem.aim ≢ Satisfy) where
+  module _ (ok : IsAskable asked) (aimed : asked.problem.aim ≢ Satisfy) where
     pub searched_is : IsSearch r.search
     searched_is = subst IsSearch (sym search_is) (is_search asked ok aimed (most_rounds asked.problem))
 

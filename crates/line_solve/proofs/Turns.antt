@@ -13,7 +13,7 @@ use Rattle.dcsp_rule.specs.Aims.{aimed_at}
 use Rattle.abt_session.proofs.Pieces.{wrote_as}
 use Rattle.abt_optimum.specs.Rounds.{most_rounds, most_rounds_at}
 use Rattle.abt_optimum.specs.Searches.{SearchState}
-use Rattle.line_solve.specs.Searching.{AskedSearch, search_after, whole_search, round_count}
+use Rattle.line_solve.specs.Searching.{AskedSearch, IsAskable, search_after, whole_search, round_count}
 use Rattle.line_solve.specs.SearchScripts.{round_script, rounds_script}
 use Rattle.line_solve.specs.declared.runner.SearchRunner.{SearchRunner}
 use Rattle.line_solve.specs.Runners.{IsFresh, HasMade}
@@ -81,11 +81,11 @@ module _ (asked : AskedSearch) where
     pub few : n < 2 ^ 20
     pub room : n < most_rounds asked.problem
 
-  pub room_is : IsProblem asked.problem → (n : ℕ) (r : SearchRunner) (a b : World) → Turn n r a b → length r.search.rounds < most_rounds r.search.problem → HasRoom n
+  pub room_is : IsAskable asked → (n : ℕ) (r : SearchRunner) (a b : World) → Turn n r a b → length r.search.rounds < most_rounds r.search.problem → HasRoom n
   room_is ok n r a b h less =
       let many = h.made.many in
       let same = ap most_rounds (problem_is asked n r h.made) in
-      let few = few_rounds asked.problem ok in
+      let few = few_rounds asked.problem ok.problem in
       record { few = omega (arith, many, same, few, less); room = omega (arith, many, same, less) }
 
   pub within_is : (n : ℕ) (r : SearchRunner) (a b : World) → Turn n r a b → HasRoom n → is_over r.search ≡ false → n < round_count asked

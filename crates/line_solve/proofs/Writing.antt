@@ -14,7 +14,7 @@ use Rattle.line_replay.specs.Endings.{assigned}
 use Rattle.abt_session.specs.Sessions.{run_script}
 use Rattle.abt_session.specs.Order.{told_text}
 use Rattle.abt_session.proofs.Ordered.{leaves-append, whole_puts, whole_leaves, log_whole}
-use Rattle.line_solve.specs.Searching.{AskedSearch, next_end, search_after, session_after, run_after}
+use Rattle.line_solve.specs.Searching.{AskedSearch, next_end, search_after, session_after, steps_after}
 use Rattle.line_solve.specs.SearchScripts.{round_line, line_script, found_text, found_script, solution_script, round_script, rounds_script}
 use Rattle.line_solve.specs.BestHeadline.{line_text, solution_put, puts_of_first, log_after}
 
@@ -75,7 +75,7 @@ module _ (asked : AskedSearch) where
   round_leaves n name other = leaves-append name (line_script asked.set.trace (n + 1)) (run_and_solution n) (leaves_line n name)
       (leaves-append name (run_script (session_after asked n)) (solution_script asked n) (whole_leaves (session_after asked n) name other) (leaves_solution n name))
 
-  pub round_log : (n : ℕ) (file : Option (List ℕ)) → file_after (round_script asked n) asked.log file ≡ Some (log_text (run_after asked n).net.steps)
+  pub round_log : (n : ℕ) (file : Option (List ℕ)) → file_after (round_script asked n) asked.log file ≡ Some (log_text (steps_after asked n))
   round_log n file =
       let before = file_after (line_script asked.set.trace (n + 1)) asked.log file in
       let made = file_after (run_script (session_after asked n)) asked.log before in

@@ -8,7 +8,7 @@ use Rattle.dcsp_defs.specs.Csp.{HasNoSolution}
 use Rattle.dcsp_defs.specs.Derivation.{IsRefutation}
 use Rattle.dcsp_rule.specs.declared.aim.Aim.TheVariants.{Satisfy}
 use Rattle.dcsp_rule.specs.Problems.{csp_of}
-use Rattle.dcsp_problem.specs.WellFormed.{IsProblem}
+use Rattle.dcsp_order.specs.Told.{ordered}
 use Rattle.dcsp_rule.specs.Aims.{aimed_at, is_better, narrowed}
 use Rattle.ngd_log.specs.Logs.{log_text}
 use Rattle.abt_defs.specs.Bound.{message_bound}
@@ -24,7 +24,7 @@ use Rattle.abt_optimum.specs.declared.best.BestEnd.TheVariants.{Optimal, Open}
 use Rattle.abt_optimum.specs.declared.round.RoundEnd.TheVariants.{Solved}
 use Rattle.abt_optimum.specs.Best.{aim_value, Solves, HasNoBetter, IsBest}
 use Rattle.abt_optimum.specs.Rounds.{known_of, is_done, most_rounds, AreFewByHalves, AreRounds}
-use Rattle.line_solve.specs.Searching.{AskedSearch, next_end, search_after, whole_search, round_count, problem_after, session_after, run_after, first_run, last_run}
+use Rattle.line_solve.specs.Searching.{AskedSearch, IsAskable, next_end, search_after, whole_search, round_count, problem_after, session_after, run_after, steps_after, first_run, last_run, last_steps}
 use Rattle.line_solve.specs.BestAnswers.{found, answer_text, search_status}
 use Rattle.line_solve.specs.SearchScripts.{round_line, line_script, found_text, rounds_script}
 
@@ -53,7 +53,7 @@ IsOther asked name = (name ≢ asked.log) × IfSome asked.set.record_file (λ re
 
 -- the log is that of the last round's derivation, the record that of the first round's numbers, and every other name is as before
 pub record HoldsSearch (asked : AskedSearch) (files now : List ℕ → Option (List ℕ)) : Type 0 where
-  pub log : now asked.log ≡ Some (log_text (last_run asked).net.steps)
+  pub log : now asked.log ≡ Some (log_text (last_steps asked))
   pub recorded : IfSome asked.set.record_file (λ name. now name ≡ Some (schedule_text (first_run asked).numbers))
   pub others : (name : List ℕ) → IsOther asked name → now name ≡ files name
 
@@ -76,7 +76,7 @@ pub record HasRounds (asked : AskedSearch) : Type 0 where
 pub record PrintsBest (asked : AskedSearch) (values : List ℤ) : Type 0 where
   pub printed : found (whole_search asked) ≡ Optimal values
   pub best : IsBest asked.problem values
-  pub shown : IsSome (aimed_at asked.problem.aim) → IsRefutation (csp_of (narrowed asked.problem (aim_value asked.problem.aim (assigned values)))) (last_run asked).net.steps
+  pub shown : IsSome (aimed_at asked.problem.aim) → IsRefutation (csp_of (narrowed asked.problem (aim_value asked.problem.aim (assigned values)))) (last_steps asked)
 
 -- Best: with status 0 the values that were printed are best.
 abbrev pub IsBestSearch : AskedSearch → Status → Type 0
@@ -84,7 +84,7 @@ IsBestSearch asked status = status ≡ Good → (values : List ℤ) × PrintsBes
 
 -- the derivation that was logged is a refutation of the whole problem, which has no solution
 pub record LogsRefutation (asked : AskedSearch) : Type 0 where
-  pub refutes : IsRefutation (csp_of asked.problem) (last_run asked).net.steps
+  pub refutes : IsRefutation (csp_of asked.problem) (last_steps asked)
   pub none : HasNoSolution (csp_of asked.problem)
 
 -- Refuted: status 1 comes exactly where the first round is refuted, and then the whole problem is.
@@ -94,7 +94,7 @@ pub record IsRefutedSearch (asked : AskedSearch) (status : Status) : Type 0 wher
 
 -- the last round was stopped with a message in transit, when its choices were used up
 pub record EndsOpen (asked : AskedSearch) : Type 0 where
-  pub in_transit : IsOpen (csp_of (problem_after asked (round_count asked - 1))) (last_run asked).net
+  pub in_transit : IsOpen (session_after asked (round_count asked - 1)).problem (last_run asked).net
   pub most : (last_run asked).net.deliveries ≡ asked.set.choices
 
 -- these values are those of the last round that was solved
@@ -110,7 +110,7 @@ pub record PrintsLast (asked : AskedSearch) (values : Option (List ℤ)) : Type 
   pub solves : IfSome values (Solves asked.problem)
   pub solved : IfSome values (IsLastSolved asked)
   -- without halves that is the round before the last
-  pub last : asked.set.halves ≡ false → IfSome values (λ list. list ≡ final_values (problem_after asked (round_count asked - 2)) (run_after asked (round_count asked - 2)))
+  pub last : asked.set.halves ≡ false → IfSome values (λ list. list ≡ final_values asked.order (problem_after asked (round_count asked - 2)) (run_after asked (round_count asked - 2)))
   -- there are none only where there is no round before
   pub some : 1 < round_count asked → IsSome values
 
@@ -126,11 +126,11 @@ pub record IsUnfinishedSearch (asked : AskedSearch) (status : Status) : Type 0 w
   pub exactly : (status ≡ Unfinished) ↔ EndsOpen asked
   pub prints : status ≡ Unfinished → PrintsLast asked (whole_search asked).values
 
--- The bound: there are no more rounds than stated above, and each delivers no more messages than the whole problem's bound; so where that is not above the choices of a round, status 5 never comes.
+-- The bound: there are no more rounds than stated above, and each delivers no more messages than the bound of the whole problem under the order; so where that is not above the choices of a round, status 5 never comes.
 pub record IsBoundedSearch (asked : AskedSearch) (status : Status) : Type 0 where
   pub rounds : HasRounds asked
-  pub bounded : (n : ℕ) → n < round_count asked → (run_after asked n).net.deliveries ≤ message_bound (csp_of asked.problem)
-  pub verdict : message_bound (csp_of asked.problem) ≤ asked.set.choices → status ≢ Unfinished
+  pub bounded : (n : ℕ) → n < round_count asked → (run_after asked n).net.deliveries ≤ message_bound (csp_of (ordered asked.order asked.problem))
+  pub verdict : message_bound (csp_of (ordered asked.order asked.problem)) ≤ asked.set.choices → status ≢ Unfinished
 
 -- the same search, by halves or not
 abbrev pub with_halves : Bool → AskedSearch → AskedSearch
@@ -144,14 +144,14 @@ pub record ComesToTheSame (asked : AskedSearch) : Type 0 where
 
 -- Halves change only how a search comes to its answer.
 abbrev pub HalvesChangeNothing : AskedSearch → Type 0
-HalvesChangeNothing asked = IsProblem asked.problem → asked.problem.aim ≢ Satisfy → search_status (with_halves true asked) ≢ Unfinished → search_status (with_halves false asked) ≢ Unfinished → ComesToTheSame asked
+HalvesChangeNothing asked = IsAskable asked → asked.problem.aim ≢ Satisfy → search_status (with_halves true asked) ≢ Unfinished → search_status (with_halves false asked) ≢ Unfinished → ComesToTheSame asked
 
 -- ---- the order of writing
 
 -- what the log holds after so many rounds, where it held this before them
 abbrev pub log_after : AskedSearch → ℕ → Option (List ℕ) → Option (List ℕ)
 log_after asked zero file = file
-log_after asked (suc n) file = Some (log_text (run_after asked n).net.steps)
+log_after asked (suc n) file = Some (log_text (steps_after asked n))
 
 -- the log is that of the last of so many rounds, and every other name is as before
 pub record HoldsRounds (asked : AskedSearch) (n : ℕ) (files now : List ℕ → Option (List ℕ)) : Type 0 where

@@ -1,6 +1,6 @@
 -- A search on its way, and what its code tells of it.
 use Rattle.std.specs.Prelude.{◌≡◌, ℕ, zero, suc, Bool, List, [], ◌++◌, length, Some, None, is_some, ⊤}
-use Rattle.dcsp_rule.specs.Problems.{Contents, csp_of}
+use Rattle.dcsp_rule.specs.Problems.{Contents}
 use Rattle.law_runs.specs.Replay.{Verdicts}
 use Rattle.abt_session.specs.Sessions.{Session, run_of}
 use Rattle.abt_session.specs.Running.{kept, Gives}
@@ -14,9 +14,9 @@ use Rattle.line_solve.specs.declared.answer.Searched.{Searched}
 use Rattle.line_solve.specs.declared.runner.SearchRunner.{SearchRunner}
 
 -- what the run of a round gives, and that it is right
-pub record Tells (p : Contents) (s : Session) (outcome : Outcome) : Type 0 where
+pub record Tells (s : Session) (outcome : Outcome) : Type 0 where
   pub gives : Gives s outcome
-  pub right : Verdicts (csp_of p) s.most (run_of s)
+  pub right : Verdicts s.problem s.most (run_of s)
 
 -- no round of this problem's search has ended, which is by halves or not
 pub record IsFresh (p : Contents) (halves : Bool) (r : SearchRunner) : Type 0 where

@@ -1,7 +1,10 @@
 -- The searches that `solve` makes where a model has an aim: rounds, each of which is a run from the same seed.
-use Rattle.std.specs.Prelude.{ℕ, zero, suc, ◌+◌, ◌-◌, List, [], ◌∷◌, ◌++◌, length, Some, None, if◌then◌else◌}
+use Rattle.std.specs.Prelude.{ℕ, zero, suc, ◌+◌, ◌-◌, List, [], ◌∷◌, ◌++◌, length, Option, Some, None, if◌then◌else◌}
 use Rattle.dcsp_defs.specs.Words.{sum_below}
+use Rattle.dcsp_defs.specs.declared.Step.{Step}
 use Rattle.dcsp_rule.specs.Problems.{Contents}
+use Rattle.dcsp_problem.specs.WellFormed.{IsProblem}
+use Rattle.dcsp_order.specs.Told.{steps_told, IsOrderFor}
 use Rattle.abt_defs.specs.Runs as runs
 use Rattle.abt_defs.specs.Runs.{Run}
 use Rattle.abt_session.specs.declared.outcome.End as outcomes
@@ -17,15 +20,23 @@ use Rattle.abt_optimum.specs.Searches.{SearchState, next_better, round_after, va
 
 -- a search that a line asks for
 pub record AskedSearch : Type 0 where
+  -- the model's problem
   pub problem : Contents
+  -- the order of its variables under which each round is run, where that is not the file's own
+  pub order : Option (List ℕ)
   -- the name of the log, which each round creates anew
   pub log : List ℕ
   -- how it is made: by halves or not; each round has the choices of the seed anew, and as many; the record is that of the first round; and a trace has a line before each round's
   pub set : Settings
 
 -- this search
-abbrev pub best_search : Contents → List ℕ → Settings → AskedSearch
-best_search p log s = record { problem = p; log = log; set = s }
+abbrev pub best_search : Option (List ℕ) → Contents → List ℕ → Settings → AskedSearch
+best_search order p log s = record { problem = p; order = order; log = log; set = s }
+
+-- the problem is within the limits, and the order is one of its variables
+pub record IsAskable (asked : AskedSearch) : Type 0 where
+  pub problem : IsProblem asked.problem
+  pub order : IsOrderFor asked.order asked.problem
 
 -- ---- a round
 
@@ -35,18 +46,18 @@ next_problem asked s = round_problem asked.problem (next_better s)
 
 -- the session of that round, whose number is told with its progress
 abbrev pub next_session : AskedSearch → SearchState → Session
-next_session asked s = set_session (next_problem asked s) asked.log asked.set (Some (length s.rounds + 1))
+next_session asked s = set_session asked.order (next_problem asked s) asked.log asked.set (Some (length s.rounds + 1))
 
 -- how a run of the problem ended, as a search takes it; the choices of a seed are never used up
-abbrev pub end_as : Contents → Run → runs.End → RoundEnd
-end_as p run runs.Solved = Solved (final_values p run)
-end_as p run runs.Refuted = Refuted
-end_as p run runs.Capped = Capped
-end_as p run runs.Spent = Capped
+abbrev pub end_as : Option (List ℕ) → Contents → Run → runs.End → RoundEnd
+end_as order p run runs.Solved = Solved (final_values order p run)
+end_as order p run runs.Refuted = Refuted
+end_as order p run runs.Capped = Capped
+end_as order p run runs.Spent = Capped
 
 -- how that round ends
 abbrev pub next_end : AskedSearch → SearchState → RoundEnd
-next_end asked s = end_as (next_problem asked s) (run_of (next_session asked s)) (run_of (next_session asked s)).end
+next_end asked s = end_as asked.order (next_problem asked s) (run_of (next_session asked s)) (run_of (next_session asked s)).end
 
 -- how a round ended, by what its run gave
 abbrev pub told_end : outcomes.End → RoundEnd
@@ -90,13 +101,21 @@ session_after asked n = next_session asked (search_after asked n)
 abbrev pub run_after : AskedSearch → ℕ → Run
 run_after asked n = run_of (session_after asked n)
 
+-- the steps that it logs
+abbrev pub steps_after : AskedSearch → ℕ → List Step
+steps_after asked n = steps_told asked.order (run_after asked n).net.steps
+
 -- the run of the first round, which is on the whole problem
 abbrev pub first_run : AskedSearch → Run
-first_run asked = run_of (set_session asked.problem asked.log asked.set (Some 1))
+first_run asked = run_of (set_session asked.order asked.problem asked.log asked.set (Some 1))
 
 -- the run of the last round
 abbrev pub last_run : AskedSearch → Run
 last_run asked = run_after asked (round_count asked - 1)
+
+-- the steps that it logs
+abbrev pub last_steps : AskedSearch → List Step
+last_steps asked = steps_after asked (round_count asked - 1)
 
 -- how many deliveries the first rounds make, so many of them
 abbrev pub deliveries_in : AskedSearch → ℕ → ℕ

@@ -1,4 +1,5 @@
-//! The line `solve MODEL LOG [--seed N] [--choices N] [--record FILE] [--trace] [--progress] [--each] [--halves]`.
+//! The line `solve MODEL LOG [--seed N] [--choices N] [--record FILE] [--order FILE] [--trace] [--progress] [--each]
+//! [--halves]`.
 
 ghost use Rattle.std.specs.Prelude.{◌≡◌, ◌≢◌, ◌≤◌, ◌^◌, IfOk};
 ghost use Rattle.dcsp_outside.specs.Outside.{Place, Stream};
@@ -7,6 +8,7 @@ ghost use Rattle.dcsp_script.specs.Ways.{Wrote};
 ghost use Rattle.dcsp_script.specs.Runs.{CameIn};
 ghost use Rattle.abt_input.specs.Errors.{way_of};
 ghost use Rattle.line_replay.specs.Headline.{HoldsProblem};
+ghost use Rattle.line_replay.specs.Ordering.{order_in, IsOrderedRightly};
 ghost use Rattle.line_replay.specs.Settings.{settings_of};
 ghost use Rattle.line_solve.specs.Searching.{best_search};
 ghost use Rattle.line_solve.specs.BestAnswers.{search_status};
@@ -15,11 +17,11 @@ ghost use Rattle.line_solve.specs.SolvePromise.{solve_promise, HoldsWholeProblem
 
 use crate::answer::{best_status, tell};
 use crate::runner::SearchRunner;
-use abt_input::{CommandError, read_model};
+use abt_input::{CommandError, read_model, read_order_of};
 use dcsp_outside::{Folder, Sink};
-use dcsp_problem::{Aim, Problem};
+use dcsp_problem::Aim;
 use dcsp_script::{Status, Stop};
-use line_replay::{Solve, run_seed, write_record};
+use line_replay::{Ordered, Solve, run_seed, write_record};
 use ngd_check::problems_are_small;
 use std::alloc::Global;
 
@@ -41,31 +43,36 @@ pub fn run_solve<F: Folder, S: Sink>(
     let problem = read_model(alloc, folder, line.model)?;
     problem.denotes_csp();
     problems_are_small(&problem);
+    let order = read_order_of(alloc, folder, line.options.order_file, &problem)?;
+    let model = Ordered {
+        problem: &problem,
+        order: order.as_ref(),
+    };
     let Aim::Satisfy = problem.aim() else {
-        let status = run_search(alloc, &problem, line, folder, out)?;
+        let status = run_search(alloc, model, line, folder, out)?;
         return Ok(status);
     };
-    let status = run_seed(alloc, &problem, line, folder, out)?;
+    let status = run_seed(alloc, model, line, folder, out)?;
     Ok(status)
 }
 
 /// Searches for the best value of what the problem aims at, and tells what was found.
-fn run_search<F: Folder, S: Sink>(
+fn run_search<'w, F: Folder, S: Sink>(
     alloc: Global,
-    problem: &Problem,
-    line: Solve<'_>,
+    model: Ordered<'w>,
+    line: Solve<'w>,
     folder: &mut F,
     out: &mut S,
 ) -> Result<Status, Stop>
-    requires aimed { problem.now.aim ≢ Aim.Satisfy }
+    requires aimed { model.problem.now.aim ≢ Aim.Satisfy }
     requires few { line.options.choices ≤ 2 ^ 40 }
-    ensures wrote { Wrote (search_script (best_search problem.now line.entry.log.now (settings_of line.entry.options)))
+    requires model { IsOrderedRightly model }
+    ensures wrote { Wrote (search_script (best_search (order_in model.entry) model.entry.problem.now line.entry.log.now (settings_of line.entry.options)))
         (outside (F.place folder.old) (S.stream out.old)) (outside (F.place folder.new) (S.stream out.new)) result }
-    ensures status { IfOk result (λ status. status ≡ search_status (best_search problem.now line.entry.log.now (settings_of line.entry.options))) }
+    ensures status { IfOk result (λ status. status ≡ search_status (best_search (order_in model.entry) model.entry.problem.now line.entry.log.now (settings_of line.entry.options))) }
 {
-    problem.denotes_csp();
-    let mut runner = SearchRunner::new(alloc, problem, line.options.halves)?;
-    runner.run(alloc, problem, line, folder, out)?;
+    let mut runner = SearchRunner::new(alloc, model.problem, line.options.halves)?;
+    runner.run(alloc, model, line, folder, out)?;
     write_record(
         alloc,
         folder,
@@ -73,6 +80,6 @@ fn run_search<F: Folder, S: Sink>(
         runner.taken.choices(),
     )?;
     let searched = runner.finish();
-    tell(alloc, problem, &searched, line.options.each, out)?;
+    tell(alloc, model.problem, &searched, line.options.each, out)?;
     Ok(best_status(&searched.best.end))
 }

@@ -2,8 +2,8 @@
 
 ghost use Rattle.std.specs.Prelude.{◌≡◌, ◌≢◌, ◌<◌, ◌≤◌, ◌+◌, ◌^◌, ◌&&◌, ◌==◌, false, true, length, IfOk, OnOk, OnErr, Err, Some, is_some, if◌then◌else◌};
 ghost use Rattle.dcsp_outside.specs.Outside.{Place, Stream};
-ghost use Rattle.dcsp_rule.specs.Problems.{csp_of};
-ghost use Rattle.dcsp_problem.specs.WellFormed.{IsProblem};
+ghost use Rattle.dcsp_order.specs.Told.{Fits};
+ghost use Rattle.line_replay.specs.Ordering.{order_in, IsOrderedRightly};
 ghost use Rattle.dcsp_script.specs.Scripts.{outside};
 ghost use Rattle.dcsp_script.specs.Ways.{Wrote};
 ghost use Rattle.law_runs.specs.Replay.{Verdicts};
@@ -13,7 +13,7 @@ ghost use Rattle.line_replay.specs.Asked.{set_session};
 ghost use Rattle.line_replay.specs.Settings.{settings_of};
 ghost use Rattle.abt_optimum.specs.Rounds.{is_done, round_problem};
 ghost use Rattle.abt_optimum.specs.Searches.{next_better, EndsRightly, IsSearch};
-ghost use Rattle.line_solve.specs.Searching.{best_search, next_problem, next_session, round_count, told_end, with_round};
+ghost use Rattle.line_solve.specs.Searching.{best_search, next_session, round_count, told_end, with_round};
 ghost use Rattle.line_solve.specs.BestAnswers.{found};
 ghost use Rattle.line_solve.specs.SearchScripts.{line_script, round_script, rounds_script};
 
@@ -24,7 +24,7 @@ use abt_session::{End, Outcome, RunTask, run};
 use dcsp_outside::{Folder, Sink};
 use dcsp_problem::{Aim, Problem};
 use dcsp_script::Stop;
-use line_replay::Solve;
+use line_replay::{Ordered, Solve};
 use std::alloc::Global;
 
 /// A search on its way.
@@ -63,105 +63,111 @@ impl<'p> SearchRunner<'p> {
     }
 
     /// Makes all rounds.
-    pub fn run<F: Folder, S: Sink>(
+    pub fn run<'w, F: Folder, S: Sink>(
         &mut self,
         alloc: Global,
-        problem: &Problem,
-        line: Solve<'_>,
+        model: Ordered<'w>,
+        line: Solve<'w>,
         folder: &mut F,
         out: &mut S,
     ) -> Result<(), Stop>
-        requires fresh { IsFresh problem.now line.options.halves self.old }
+        requires fresh { IsFresh model.problem.now line.options.halves self.old }
         requires few { line.options.choices ≤ 2 ^ 40 }
-        ensures wrote { let asked = best_search problem.now line.entry.log.now (settings_of line.entry.options) in
+        requires model { IsOrderedRightly model }
+        ensures wrote { let asked = best_search (order_in model.entry) model.entry.problem.now line.entry.log.now (settings_of line.entry.options) in
             Wrote (rounds_script asked (round_count asked))
             (outside (F.place folder.old) (S.stream out.old)) (outside (F.place folder.new) (S.stream out.new)) result }
-        ensures made { let asked = best_search problem.now line.entry.log.now (settings_of line.entry.options) in
+        ensures made { let asked = best_search (order_in model.entry) model.entry.problem.now line.entry.log.now (settings_of line.entry.options) in
             OnOk result (HasMade asked (round_count asked) self.new) }
     {
-        problem.denotes_csp();
         while !self.search.done() {
-            self.make_round(alloc, problem, line, folder, out)?;
+            self.make_round(alloc, model, line, folder, out)?;
         }
         Ok(())
     }
 
     /// Makes the round that follows: its line is put, where traces are asked for, then it is run, and then its
     /// solution is put, where each one is asked for.
-    fn make_round<F: Folder, S: Sink>(
+    fn make_round<'w, F: Folder, S: Sink>(
         &mut self,
         alloc: Global,
-        problem: &Problem,
-        line: Solve<'_>,
+        model: Ordered<'w>,
+        line: Solve<'w>,
         folder: &mut F,
         out: &mut S,
     ) -> Result<(), Stop>
-        requires made { let asked = best_search problem.now line.log.now (settings_of line.options) in
+        requires made { let asked = best_search (order_in model) model.problem.now line.log.now (settings_of line.options) in
             HasMade asked self.old.rounds self.old }
         requires goes_on { is_done self.old.search.problem.aim self.old.search.rounds ≡ false }
         requires few { self.old.rounds < 2 ^ 20 }
         requires choices { line.options.choices ≤ 2 ^ 40 }
-        requires problem { IsProblem problem.now }
-        ensures wrote { let asked = best_search problem.now line.entry.log.now (settings_of line.entry.options) in
+        requires model { IsOrderedRightly model }
+        ensures wrote { let asked = best_search (order_in model.entry) model.entry.problem.now line.entry.log.now (settings_of line.entry.options) in
             Wrote (round_script asked self.old.rounds)
             (outside (F.place folder.old) (S.stream out.old)) (outside (F.place folder.new) (S.stream out.new)) result }
-        ensures made { let asked = best_search problem.now line.entry.log.now (settings_of line.entry.options) in
+        ensures made { let asked = best_search (order_in model.entry) model.entry.problem.now line.entry.log.now (settings_of line.entry.options) in
             OnOk result (HasMade asked (self.old.rounds + 1) self.new) }
     {
         put_round(alloc, line.options.trace, self.rounds + 1, out)?;
-        let outcome = self.run_next(alloc, problem, line, folder, out)?;
-        put_found(alloc, line.options.each, problem, &outcome.end, out)?;
+        let outcome = self.run_next(alloc, model, line, folder, out)?;
+        put_found(alloc, line.options.each, model.problem, &outcome.end, out)?;
         self.count(outcome);
         Ok(())
     }
 
     /// Runs the problem of the round that follows, narrowed to better values than the one that it is to better.
-    fn run_next<F: Folder, S: Sink>(
+    fn run_next<'w, F: Folder, S: Sink>(
         &self,
         alloc: Global,
-        problem: &Problem,
-        line: Solve<'_>,
+        model: Ordered<'w>,
+        line: Solve<'w>,
         folder: &mut F,
         out: &mut S,
     ) -> Result<Outcome, Stop>
         requires goes_on { is_done self.now.search.problem.aim self.now.search.rounds ≡ false }
         requires few { self.now.rounds < 2 ^ 20 }
         requires rounds { self.now.rounds ≡ length self.now.search.rounds }
-        requires problem { self.now.search.problem ≡ problem.now }
+        requires problem { self.now.search.problem ≡ model.problem.now }
+        requires model { IsOrderedRightly model }
         requires choices { line.options.choices ≤ 2 ^ 40 }
-        ensures wrote { let s = next_session (best_search problem.now line.entry.log.now (settings_of line.entry.options)) self.now.search in
+        ensures wrote { let s = next_session (best_search (order_in model.entry) model.entry.problem.now line.entry.log.now (settings_of line.entry.options)) self.now.search in
             Wrote (run_script s) (outside (F.place folder.old) (S.stream out.old)) (outside (F.place folder.new) (S.stream out.new)) result }
-        ensures tells { let asked = best_search problem.now line.entry.log.now (settings_of line.entry.options) in
-            IfOk result (Tells (next_problem asked self.now.search) (next_session asked self.now.search)) }
-        ensures numbers { let asked = best_search problem.now line.entry.log.now (settings_of line.entry.options) in
+        ensures tells { let asked = best_search (order_in model.entry) model.entry.problem.now line.entry.log.now (settings_of line.entry.options) in
+            IfOk result (Tells (next_session asked self.now.search)) }
+        ensures numbers { let asked = best_search (order_in model.entry) model.entry.problem.now line.entry.log.now (settings_of line.entry.options) in
             IfOk result (λ outcome. outcome.numbers ≡ kept (is_some asked.set.record_file && self.now.rounds == 0) (run_of (next_session asked self.now.search)).numbers) }
     {
         match self.search.better() {
-            None => self.run_on(alloc, problem, line, folder, out),
+            None => self.run_on(alloc, model, line, folder, out),
             Some(better) => {
-                let Ok(narrowed) = problem.narrowed(better) else {
+                let Ok(narrowed) = model.problem.narrowed(better) else {
                     return Err(Stop::Memory);
                 };
-                self.run_on(alloc, &narrowed, line, folder, out)
+                let next = Ordered {
+                    problem: &narrowed,
+                    order: model.order,
+                };
+                self.run_on(alloc, next, line, folder, out)
             }
         }
     }
 
     /// Runs the problem of the round that follows, under the choices of the seed anew.
-    fn run_on<F: Folder, S: Sink>(
+    fn run_on<'w, F: Folder, S: Sink>(
         &self,
         alloc: Global,
-        problem: &Problem,
-        line: Solve<'_>,
+        model: Ordered<'w>,
+        line: Solve<'w>,
         folder: &mut F,
         out: &mut S,
     ) -> Result<Outcome, Stop>
         requires choices { line.options.choices ≤ 2 ^ 40 }
         requires few { self.now.rounds < 2 ^ 20 }
-        ensures wrote { Wrote (run_script (set_session problem.now line.entry.log.now (settings_of line.entry.options) (Some (self.now.rounds + 1))))
+        requires fits { Fits (order_in model) model.problem.now }
+        ensures wrote { Wrote (run_script (set_session (order_in model.entry) model.entry.problem.now line.entry.log.now (settings_of line.entry.options) (Some (self.now.rounds + 1))))
             (outside (F.place folder.old) (S.stream out.old)) (outside (F.place folder.new) (S.stream out.new)) result }
-        ensures tells { IfOk result (Tells problem.now (set_session problem.now line.entry.log.now (settings_of line.entry.options) (Some (self.now.rounds + 1)))) }
-        ensures numbers { let s = set_session problem.now line.entry.log.now (settings_of line.entry.options) (Some (self.now.rounds + 1)) in
+        ensures tells { IfOk result (Tells (set_session (order_in model.entry) model.entry.problem.now line.entry.log.now (settings_of line.entry.options) (Some (self.now.rounds + 1)))) }
+        ensures numbers { let s = set_session (order_in model.entry) model.entry.problem.now line.entry.log.now (settings_of line.entry.options) (Some (self.now.rounds + 1)) in
             IfOk result (λ outcome. outcome.numbers ≡ kept (is_some line.entry.options.record_file && self.now.rounds == 0) (run_of s).numbers) }
     {
         let mut choices = Seeded::new(line.options.seed);
@@ -170,8 +176,9 @@ impl<'p> SearchRunner<'p> {
             most: line.options.choices,
             telling: line.options.telling(Some(self.rounds + 1)),
             keep: self.keeps(line.options.record_file),
+            order: model.order,
         };
-        run(alloc, problem, &mut choices, task, folder, out)
+        run(alloc, model.problem, &mut choices, task, folder, out)
     }
 
     /// Whether the numbers of the round that follows are taken down: of the first alone, where a record is asked for.

@@ -1,3 +1,4 @@
 pub mod Lawful
+pub mod Agents
 pub mod Files
 pub mod Replaying

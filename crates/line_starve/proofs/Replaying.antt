@@ -1,5 +1,5 @@
 -- The choices of a starved run: their schedule is read again, and they make the run again.
-use Rattle.std.proofs.Common.{◌≡◌, ℕ, ◌+◌, ◌-◌, ◌*◌, ◌≤◌, List, [], ◌∷◌, ◌++◌, length, map, Result, Ok, Err, slice_get, codes, refl, sym, ap, ◌∙◌, subst, arith, length-append}
+use Rattle.std.proofs.Common.{◌≡◌, ℕ, ◌+◌, ◌*◌, ◌≤◌, List, [], ◌∷◌, ◌++◌, length, map, None, Result, Ok, Err, slice_get, codes, refl, sym, ap, ◌∙◌, subst, arith, length-append}
 use Rattle.std.specs.Prelude.{IsErr, IsErrAnd}
 use Rattle.std.specs.List.{concat, AllByRecursion}
 use Rattle.std.proofs.lemmas.Fmt.{decimal_digit}
@@ -69,28 +69,28 @@ makes_again q most choices small few own =
     subst (λ cs. Repeats (whole q most choices) (whole q most_deliveries cs)) (own ∙ sym same) (replays q most most_deliveries choices small)
 
 module _ (p : Contents) (from to most : ℕ) where
-  pub reads_choices : most ≤ most_starved → AreNear most (starving_choices (csp_of p) (from - 1) (to - 1) most) → HasChoices (schedule_text (choices_of p from to most)) (choices_of p from to most)
+  pub reads_choices : most ≤ most_starved → AreNear most (starving_choices (csp_of p) from to most) → HasChoices (schedule_text (choices_of p from to most)) (choices_of p from to most)
   unfolding choices_of
-  reads_choices few h = is_schedule most (starving_choices (csp_of p) (from - 1) (to - 1) most) few h
+  reads_choices few h = is_schedule most (starving_choices (csp_of p) from to most) few h
 
-  pub replayed : most ≤ most_starved → AreNear most (starving_choices (csp_of p) (from - 1) (to - 1) most) → (starved (csp_of p) (from - 1) (to - 1) most).numbers ≡ starving_choices (csp_of p) (from - 1) (to - 1) most → IsReplayed p from to most
+  pub replayed : most ≤ most_starved → AreNear most (starving_choices (csp_of p) from to most) → (starved (csp_of p) from to most).numbers ≡ starving_choices (csp_of p) from to most → IsReplayed None p from to most
   unfolding choices_of starving_run
-  replayed few h own log trace = makes_again (csp_of p) most (starving_choices (csp_of p) (from - 1) (to - 1) most) (omega arith) h.few own
+  replayed few h own log trace = makes_again (csp_of p) most (starving_choices (csp_of p) from to most) (omega arith) h.few own
 
-  pub bounded : (starved (csp_of p) (from - 1) (to - 1) most).net.deliveries ≤ message_bound (csp_of p) → (starving_run p from to most).net.deliveries ≤ message_bound (csp_of p)
+  pub bounded : (starved (csp_of p) from to most).net.deliveries ≤ message_bound (csp_of p) → (starving_run p from to most).net.deliveries ≤ message_bound (csp_of p)
   unfolding starving_run
   bounded h = h
 
   -- ---- what is written
 
-  module _ (file : List ℕ) (told : Starved) (taken : List ℕ) (is : IsStarved (csp_of p) (from - 1) (to - 1) most told) (choices : taken ≡ starving_choices (csp_of p) (from - 1) (to - 1) most) where
+  module _ (file : List ℕ) (told : Starved) (taken : List ℕ) (is : IsStarved (csp_of p) from to most told) (choices : taken ≡ starving_choices (csp_of p) from to most) where
     parts_are : (Create file ∷ Append file (schedule_text taken) ∷ []) ++ Put (starved_line (starved_end told.end) told.deliveries) ∷ [] ≡ starve_script file (choices_of p from to most) (starving_run p from to most)
     unfolding choices_of starving_run
     parts_are =
-        let run = starved (csp_of p) (from - 1) (to - 1) most in
+        let run = starved (csp_of p) from to most in
         ap (λ cs. Create file ∷ Append file (schedule_text cs) ∷ Put (starved_line (starved_end told.end) told.deliveries) ∷ []) choices
-        ∙ ap (λ e. Create file ∷ Append file (schedule_text (starving_choices (csp_of p) (from - 1) (to - 1) most)) ∷ Put (starved_line e told.deliveries) ∷ []) (sym is.end)
-        ∙ ap (λ d. Create file ∷ Append file (schedule_text (starving_choices (csp_of p) (from - 1) (to - 1) most)) ∷ Put (starved_line run.end d) ∷ []) is.deliveries
+        ∙ ap (λ e. Create file ∷ Append file (schedule_text (starving_choices (csp_of p) from to most)) ∷ Put (starved_line e told.deliveries) ∷ []) (sym is.end)
+        ∙ ap (λ d. Create file ∷ Append file (schedule_text (starving_choices (csp_of p) from to most)) ∷ Put (starved_line run.end d) ∷ []) is.deliveries
 
     -- the choices were not written
     pub choices_stopped : {T U : Type 0} {a b : World} {e : Stop} (r : Result U Stop) → IsErr r × IsErrAnd r (λ y. y ≡ e) → Wrote {T = T} (Create file ∷ Append file (schedule_text taken) ∷ []) a b (Err e) → Wrote (starve_script file (choices_of p from to most) (starving_run p from to most)) a b r

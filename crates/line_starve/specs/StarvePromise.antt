@@ -1,5 +1,5 @@
--- What `starve MODEL FROM TO FILE` promises.
-use Rattle.std.specs.Prelude.{ℕ, ◌-◌, List, [], ◌∷◌, ◌++◌, codes, decimal}
+-- What `starve MODEL FROM TO FILE [--order FILE]` promises.
+use Rattle.std.specs.Prelude.{ℕ, ◌-◌, List, [], ◌∷◌, ◌++◌, Option, codes, decimal}
 use Rattle.dcsp_rule.specs.Problems.{Contents, csp_of}
 use Rattle.dcsp_script.specs.Scripts.{Write, Create, Append, Put}
 use Rattle.abt_defs.specs.Runs.{End, Refuted, Solved, Capped, Spent, Run, starved}
@@ -8,19 +8,20 @@ use Rattle.abt_session.specs.Starving.{starving_choices}
 use Rattle.dcsp_script.specs.declared.status.Status.TheVariants.{Good}
 use Rattle.dcsp_script.specs.Promises.{Promise}
 use Rattle.abt_input.specs.Kinds.{a_model}
-use Rattle.abt_input.specs.Plans.{Plan, Answer, Read, promise_by}
+use Rattle.dcsp_order.specs.Told.{ordered, place_told}
+use Rattle.abt_input.specs.Plans.{Plan, Answer, Read, promise_by, order_then, under_order}
 
 -- the most deliveries of a run that starves a link
 abbrev pub most_starved : ℕ
 most_starved = 7000000
 
--- the run of the problem, with at most so many deliveries, that starves the link from one variable's agent to another's; variables count from 1
+-- the run of the problem, with at most so many deliveries, that starves the link from one agent to another
 unfoldable pub starving_run : Contents → ℕ → ℕ → ℕ → Run
-starving_run p from to most = starved (csp_of p) (from - 1) (to - 1) most
+starving_run p from to most = starved (csp_of p) from to most
 
 -- its choices
 unfoldable pub choices_of : Contents → ℕ → ℕ → ℕ → List ℕ
-choices_of p from to most = starving_choices (csp_of p) (from - 1) (to - 1) most
+choices_of p from to most = starving_choices (csp_of p) from to most
 
 -- how a run ended, in a word
 abbrev pub end_word : End → List ℕ
@@ -37,10 +38,22 @@ starved_line end deliveries = codes "starved " ++ end_word end ++ codes " delive
 abbrev pub starve_script : List ℕ → List ℕ → Run → List Write
 starve_script file choices run = Create file ∷ Append file (schedule_text choices) ∷ Put (starved_line run.end run.net.deliveries) ∷ []
 
--- the model is read, and the run of its problem that starves the link is told
-abbrev pub starve_plan : ℕ → ℕ → List ℕ → Plan
-starve_plan from to file = Read a_model (λ p. Answer Good (starve_script file (choices_of p from to most_starved) (starving_run p from to most_starved)))
+-- the run of this problem that starves this link is told
+abbrev pub starved_script : List ℕ → Contents → ℕ → ℕ → List Write
+starved_script file p from to = starve_script file (choices_of p from to most_starved) (starving_run p from to most_starved)
+
+-- the agent of the variable with this number, which counts from 1
+abbrev pub agent_of : Option (List ℕ) → ℕ → ℕ
+agent_of order number = place_told order (number - 1)
+
+-- the run of the problem under this order that starves the link between these variables is told
+abbrev pub starved_under : ℕ → ℕ → List ℕ → Contents → Option (List ℕ) → Plan
+starved_under from to file p order = Answer Good (starved_script file (ordered order p) (agent_of order from) (agent_of order to))
+
+-- the model is read, and the order where one is named, and the run under it is told
+abbrev pub starve_plan : ℕ → ℕ → List ℕ → Option (List ℕ) → Plan
+starve_plan from to file order_file = Read a_model (λ p. under_order order_file p (starved_under from to file p))
 
 -- the line's promise
-abbrev pub starve_promise : List ℕ → ℕ → ℕ → List ℕ → Promise
-starve_promise model from to file = promise_by (model ∷ []) (file ∷ []) (starve_plan from to file)
+abbrev pub starve_promise : List ℕ → ℕ → ℕ → List ℕ → Option (List ℕ) → Promise
+starve_promise model from to file order_file = promise_by (model ∷ order_then order_file []) (file ∷ []) (starve_plan from to file order_file)

@@ -1,11 +1,13 @@
-//! The line `starve MODEL FROM TO FILE`.
+//! The line `starve MODEL FROM TO FILE [--order FILE]`.
 
-ghost use Rattle.std.specs.Prelude.{◌≡◌, ◌≤◌, ◌∷◌, ◌-◌, [], length, IfOk, OnOk};
+ghost use Rattle.std.specs.Prelude.{◌≡◌, ◌≤◌, ◌∷◌, [], length, IfOk, OnOk, None, option_copied};
 ghost use Rattle.dcsp_outside.specs.Outside.{Place, Stream};
 ghost use Rattle.dcsp_script.specs.Scripts.{Create, Append, Put, outside};
 ghost use Rattle.dcsp_script.specs.Ways.{Wrote};
 ghost use Rattle.abt_schedule.specs.Schedules.{schedule_text};
 ghost use Rattle.dcsp_rule.specs.Problems.{csp_of};
+ghost use Rattle.dcsp_order.specs.Orders.{place_of};
+ghost use Rattle.dcsp_order.specs.Told.{place_told};
 ghost use Rattle.abt_defs.specs.Bound.{message_bound};
 ghost use Rattle.abt_session.specs.Starving.{starved_end};
 ghost use Rattle.dcsp_script.specs.Runs.{CameIn};
@@ -14,9 +16,10 @@ ghost use Rattle.abt_input.specs.Errors.{way_of};
 ghost use Rattle.line_starve.specs.StarvePromise.{choices_of, end_word, most_starved, starve_promise, starve_script, starved_line, starving_run};
 ghost use Rattle.line_starve.specs.Starving.{HoldsStarved, IsReplayed, TellsStarved};
 
-use abt_input::{AnswerLine, CommandError, read_model};
+use abt_input::{AnswerLine, CommandError, read_model, read_order_of};
 use abt_schedule::{ChoiceList, write_schedule};
 use abt_session::{Starved, StarvedEnd};
+use dcsp_order::{Order, moved};
 use dcsp_outside::{Folder, Sink};
 use dcsp_problem::Problem;
 use dcsp_script::{Status, Stop, append, create, put};
@@ -37,10 +40,20 @@ pub struct Starve<'w> {
     pub to: u32,
     /// The name of the file that takes the run's choices.
     pub file: &'w str,
+    /// The name of the order, where one is given.
+    pub order_file: Option<&'w str>,
 }
 
-/// Runs the model so that the link from one variable's agent to another's is starved, writes the choices of
-/// the run as a schedule, and tells how the run ended and how many deliveries it made.
+/// A run that starves a link: its problem, and the places of the agents from which and to which the link leads.
+#[derive(Clone, Copy)]
+struct StarvingRun<'p> {
+    problem: &'p Problem,
+    from: u32,
+    to: u32,
+}
+
+/// Runs the model, under the order where one is named, so that the link from one variable's agent to another's is
+/// starved, writes the choices of the run as a schedule, and tells how the run ended and how many deliveries it made.
 pub fn run_starve<F: Folder, S: Sink>(
     alloc: Global,
     folder: &mut F,
@@ -49,43 +62,74 @@ pub fn run_starve<F: Folder, S: Sink>(
 ) -> Result<Status, CommandError>
     requires from { 1 ≤ line.from }
     requires to { 1 ≤ line.to }
-    ensures came { CameIn (starve_promise line.entry.model.now line.entry.from line.entry.to line.entry.file.now)
+    ensures came { CameIn (starve_promise line.entry.model.now line.entry.from line.entry.to line.entry.file.now (option_copied line.entry.order_file))
         (outside (F.place folder.old) (S.stream out.old))
         (outside (F.place folder.new) (S.stream out.new)) (way_of result) }
-    ensures writes { OnOk result (HoldsStarved line.entry.model.now line.entry.from line.entry.to line.entry.file.now
+    ensures writes { OnOk result (HoldsStarved line.entry.model.now line.entry.from line.entry.to line.entry.file.now (option_copied line.entry.order_file)
         (F.place folder.old).held (F.place folder.new).held) }
-    ensures tells { OnOk result (TellsStarved line.entry.model.now line.entry.from line.entry.to
+    ensures tells { OnOk result (TellsStarved line.entry.model.now line.entry.from line.entry.to (option_copied line.entry.order_file)
         (F.place folder.old).held (S.stream out.old).written (S.stream out.new).written) }
 {
     let problem = read_model(alloc, folder, line.model)?;
-    run_starved(alloc, &problem, line, MOST_STARVED, folder, out)?;
+    let read = read_order_of(alloc, folder, line.order_file, &problem)?;
+    let order = read.as_ref();
+    let Ok(moved) = moved(alloc, order, &problem) else {
+        return Err(CommandError::Memory);
+    };
+    let run = StarvingRun {
+        problem: moved.as_ref().unwrap_or(&problem),
+        from: place_of(order, line.from - 1),
+        to: place_of(order, line.to - 1),
+    };
+    run_starved(alloc, run, MOST_STARVED, folder, line.file, out)?;
     Ok(Status::Good)
 }
 
-/// Makes the run of the problem, with at most `most` deliveries, writes its choices and tells how it ended.
+/// The place of the agent of the variable with this number, which counts from 0. Under an order a number that no variable
+/// has gets the place behind the last, where no agent is.
+fn place_of(order: Option<&Order>, number: u32) -> u32
+    ensures { result ≡ place_told (option_copied order.entry) number }
+{
+    match order {
+        Some(order) => place_under(order, number),
+        None => number,
+    }
+}
+
+/// The place under this order.
+fn place_under(order: &Order, number: u32) -> u32
+    ensures { result ≡ place_of order.now number }
+{
+    let variables = order.numbers().len() as u32;
+    if number < variables {
+        order.place(number)
+    } else {
+        variables
+    }
+}
+
+/// Makes the run, with at most `most` deliveries, writes its choices and tells how it ended.
 fn run_starved<F: Folder, S: Sink>(
     alloc: Global,
-    problem: &Problem,
-    line: Starve<'_>,
+    run: StarvingRun<'_>,
     most: u64,
     folder: &mut F,
+    file: &str,
     out: &mut S,
 ) -> Result<(), Stop>
-    requires from { 1 ≤ line.from }
-    requires to { 1 ≤ line.to }
     requires most { most ≤ most_starved }
-    ensures wrote { Wrote (starve_script line.entry.file.now (choices_of problem.now line.entry.from line.entry.to most) (starving_run problem.now line.entry.from line.entry.to most))
+    ensures wrote { Wrote (starve_script file.now (choices_of run.entry.problem.now run.entry.from run.entry.to most) (starving_run run.entry.problem.now run.entry.from run.entry.to most))
         (outside (F.place folder.old) (S.stream out.old)) (outside (F.place folder.new) (S.stream out.new)) result }
-    ensures schedule { OnOk result (HasChoices (schedule_text (choices_of problem.now line.entry.from line.entry.to most)) (choices_of problem.now line.entry.from line.entry.to most)) }
-    ensures replayed { OnOk result (IsReplayed problem.now line.entry.from line.entry.to most) }
-    ensures bound { OnOk result ((starving_run problem.now line.entry.from line.entry.to most).net.deliveries ≤ message_bound (csp_of problem.now)) }
+    ensures schedule { OnOk result (HasChoices (schedule_text (choices_of run.entry.problem.now run.entry.from run.entry.to most)) (choices_of run.entry.problem.now run.entry.from run.entry.to most)) }
+    ensures replayed { OnOk result (IsReplayed None run.entry.problem.now run.entry.from run.entry.to most) }
+    ensures bound { OnOk result ((starving_run run.entry.problem.now run.entry.from run.entry.to most).net.deliveries ≤ message_bound (csp_of run.entry.problem.now)) }
 {
     let mut taken = ChoiceList::new(alloc);
-    let Ok(told) = abt_session::starve(alloc, problem, line.from - 1, line.to - 1, most, &mut taken)
+    let Ok(told) = abt_session::starve(alloc, run.problem, run.from, run.to, most, &mut taken)
     else {
         return Err(Stop::Memory);
     };
-    write_choices(alloc, folder, line.file, taken.choices())?;
+    write_choices(alloc, folder, file, taken.choices())?;
     tell(told, out)
 }
 

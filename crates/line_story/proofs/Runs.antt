@@ -1,5 +1,5 @@
 -- The loop of a run that is told, and its whole script.
-use Rattle.std.proofs.Common.{◌≡◌, ◌∙◌, ℕ, zero, suc, ◌+◌, ◌-◌, ◌<◌, ◌≤◌, ◌^◌, false, List, [], ◌∷◌, ◌++◌, take, map, slice_get, flat_map, Option, Some, None, Result, Ok, Err, ◌⊎◌, inl, inr, refl, sym, ap, subst, arith, append_assoc}
+use Rattle.std.proofs.Common.{◌≡◌, ◌∙◌, ℕ, zero, suc, ◌+◌, ◌-◌, ◌<◌, ◌≤◌, ◌^◌, List, [], ◌∷◌, ◌++◌, take, map, slice_get, flat_map, Option, Some, None, Result, Ok, Err, ◌⊎◌, inl, inr, refl, sym, ap, subst, arith, append_assoc}
 use Rattle.std.specs.Prelude.{IsErr, IsErrAnd}
 use Rattle.std.specs.List.{range_with_len}
 use Rattle.std.proofs.lemmas.Option.{get_or_from_slice_get}
@@ -31,18 +31,18 @@ use Rattle.abt_story.specs.Telling.{delivery_lines, lines_at, start_lines}
 use Rattle.line_story.specs.StoryPromise.{end_line, end_script, event_write, head, listed, most_told, some_write, story_line, story_script, told_end, told_events, told_run}
 use Rattle.line_story.specs.Telling.{begin_script, deliveries_write}
 
-module _ (P : Contents) (most : ℕ) (answers : ℕ → Option ℕ) (file : List ℕ) where
+module _ (P : Contents) (most : ℕ) (answers : ℕ → Option ℕ) (file : List ℕ) (order : Option (List ℕ)) where
   abbrev pub s : Session
-  s = session_of P most answers [] nothing_told
+  s = session_of None P most answers [] nothing_told
 
   law : Stops s.problem s.most s.choices (run_of s)
   law = stops s.problem s.most s.choices
 
   abbrev pub writes : ℕ → List Write
-  writes k = event_write file (lines_at (csp_of P) (first_answers most answers) k)
+  writes k = event_write file (lines_at order (csp_of P) (first_answers most answers) k)
 
   abbrev pub all_writes : List Write
-  all_writes = deliveries_write file (csp_of P) most (first_answers most answers)
+  all_writes = deliveries_write file order (csp_of P) most (first_answers most answers)
 
   -- the deliveries from number k on write
   abbrev pub left_from : ℕ → List Write
@@ -110,15 +110,15 @@ module _ (P : Contents) (most : ℕ) (answers : ℕ → Option ℕ) (file : List
       one : ComesTo s (k + 1)
       one = one_more s k c h.comes opened found room
 
-      first_left : left_from k ≡ event_write file (delivery_lines (csp_of P) c (network_after s k)) ++ left_from (k + 1)
+      first_left : left_from k ≡ event_write file (delivery_lines order (csp_of P) c (network_after s k)) ++ left_from (k + 1)
       first_left =
           let count = (run_of s).net.deliveries - (k + 1) in
           let more : (run_of s).net.deliveries - k ≡ suc count = let l = not_fewer s (k + 1) one in omega arith in
           ap (λ n. flat_map writes (range_with_len k n)) more
-          ∙ ap (λ x. event_write file (delivery_lines (csp_of P) x (network_after s k)) ++ flat_map writes (range_with_len (k + 1) count)) (get_or_from_slice_get (first_answers most answers) k c 0 found)
+          ∙ ap (λ x. event_write file (delivery_lines order (csp_of P) x (network_after s k)) ++ flat_map writes (range_with_len (k + 1) count)) (get_or_from_slice_get (first_answers most answers) k c 0 found)
 
       abbrev pub one_write : List Write
-      one_write = event_write file (delivery_lines (csp_of P) c (network_after s k))
+      one_write = event_write file (delivery_lines order (csp_of P) c (network_after s k))
 
       -- one delivery more
       pub goes_on : {T : Type 0} (x : T) (network' : NetworkState) (later : ℕ → Option ℕ) (b' : Place) → ((out : Stream) → Wrote one_write (outside b out) (outside b' out) (Ok x))
@@ -135,12 +135,13 @@ module _ (P : Contents) (most : ℕ) (answers : ℕ → Option ℕ) (file : List
       cut_off {T = T} e r b' out wrote same = left_stopped {T = T} (left_from (k + 1)) (left_from k) r first_left same (h.left out) wrote
 
 -- the lines of a delivery, by the problem that the network was made of
-pub event_as : {file file' : List ℕ} {P Q R : Contents} (c : ℕ) (choices : List ℕ) → file ≡ file' → Q ≡ P → R ≡ P
-    → event_write file (delivery_lines (csp_of Q) c (run (csp_of R) choices (start (csp_of R)))) ≡ event_write file' (delivery_lines (csp_of P) c (run (csp_of P) choices (start (csp_of P))))
-event_as {file} {file'} {P} {Q} {R} c choices e f g =
-    ap (λ (l : List ℕ). event_write l (delivery_lines (csp_of Q) c (run (csp_of R) choices (start (csp_of R))))) e
-    ∙ ap (λ (q : Contents). event_write file' (delivery_lines (csp_of q) c (run (csp_of R) choices (start (csp_of R))))) f
-    ∙ ap (λ (r : Contents). event_write file' (delivery_lines (csp_of P) c (run (csp_of r) choices (start (csp_of r))))) g
+pub event_as : {file file' : List ℕ} {o o' : Option (List ℕ)} {P Q R : Contents} (c : ℕ) (choices : List ℕ) → file ≡ file' → o ≡ o' → Q ≡ P → R ≡ P
+    → event_write file (delivery_lines o (csp_of Q) c (run (csp_of R) choices (start (csp_of R)))) ≡ event_write file' (delivery_lines o' (csp_of P) c (run (csp_of P) choices (start (csp_of P))))
+event_as {file} {file'} {o} {o'} {P} {Q} {R} c choices e d f g =
+    ap (λ (l : List ℕ). event_write l (delivery_lines o (csp_of Q) c (run (csp_of R) choices (start (csp_of R))))) e
+    ∙ ap (λ x. event_write file' (delivery_lines x (csp_of Q) c (run (csp_of R) choices (start (csp_of R))))) d
+    ∙ ap (λ (q : Contents). event_write file' (delivery_lines o' (csp_of q) c (run (csp_of R) choices (start (csp_of R))))) f
+    ∙ ap (λ (r : Contents). event_write file' (delivery_lines o' (csp_of P) c (run (csp_of r) choices (start (csp_of r))))) g
 
 -- ---- an event's lines
 
@@ -173,20 +174,25 @@ flat_mapped f g [] = refl
 flat_mapped f g (x ∷ xs) = ap (λ l. f (g x) ++ l) (flat_mapped f g xs)
 
 -- begun, with its deliveries, and ended
-pub whole_script : (p : Contents) (choices file : List ℕ) → begin_script file (csp_of p) ++ (deliveries_write file (csp_of p) most_told (listed choices) ++ end_script file (csp_of p) (told_run (csp_of p) choices)) ≡ story_script p choices file
+pub whole_script : (order : Option (List ℕ)) (p : Contents) (choices file : List ℕ)
+    → begin_script file order (csp_of p) ++ (deliveries_write file order (csp_of p) most_told (listed choices) ++ end_script file (csp_of p) (told_run (csp_of p) choices)) ≡ story_script order p choices file
 unfolding told_run told_events
-whole_script p choices file =
+whole_script order p choices file =
     let q = csp_of p in
     let d = (told_run q choices).net.deliveries in
-    let e : deliveries_write file q most_told (listed choices) ≡ flat_map (event_write file) (map (lines_at q (listed choices)) (below d)) =
-    ap (flat_map (λ k. event_write file (lines_at q (listed choices) k))) (sym (below_range d)) ∙ sym (flat_mapped (event_write file) (lines_at q (listed choices)) (below d)) in
-    ap (λ l. begin_script file q ++ (l ++ end_script file q (told_run q choices))) e
-    ∙ ap (λ (l : List Write). Create file ∷ Append file head ∷ l) (sym (append_assoc (event_write file (start_lines q)) (flat_map (event_write file) (map (lines_at q (listed choices)) (below d))) (end_script file q (told_run q choices))))
+    let e : deliveries_write file order q most_told (listed choices) ≡ flat_map (event_write file) (map (lines_at order q (listed choices)) (below d)) =
+    ap (flat_map (λ k. event_write file (lines_at order q (listed choices) k))) (sym (below_range d)) ∙ sym (flat_mapped (event_write file) (lines_at order q (listed choices)) (below d)) in
+    ap (λ l. begin_script file order q ++ (l ++ end_script file q (told_run q choices))) e
+    ∙ ap (λ (l : List Write). Create file ∷ Append file head ∷ l) (sym (append_assoc (event_write file (start_lines order q)) (flat_map (event_write file) (map (lines_at order q (listed choices)) (below d))) (end_script file q (told_run q choices))))
 
 -- ---- the problem and the file that a teller has are those that it was made of
 
-pub deliveries_as : {file file' : List ℕ} {P Q : Contents} (most : ℕ) (choices : List ℕ) → file ≡ file' → Q ≡ P → deliveries_write file (csp_of Q) most choices ≡ deliveries_write file' (csp_of P) most choices
-deliveries_as {file} {file'} {P} {Q} most choices e f = ap (λ (l : List ℕ). deliveries_write l (csp_of Q) most choices) e ∙ ap (λ (q : Contents). deliveries_write file' (csp_of q) most choices) f
+pub deliveries_as : {file file' : List ℕ} {o o' : Option (List ℕ)} {P Q : Contents} (most : ℕ) (choices : List ℕ) → file ≡ file' → o ≡ o' → Q ≡ P → deliveries_write file o (csp_of Q) most choices ≡ deliveries_write file' o' (csp_of P) most choices
+deliveries_as {file} {file'} {o} {o'} {P} {Q} most choices e d f =
+    ap (λ (l : List ℕ). deliveries_write l o (csp_of Q) most choices) e ∙ ap (λ x. deliveries_write file' x (csp_of Q) most choices) d ∙ ap (λ (q : Contents). deliveries_write file' o' (csp_of q) most choices) f
+
+pub begin_as : (file : List ℕ) (order : Option (List ℕ)) {P Q : Contents} → Q ≡ P → begin_script file order (csp_of Q) ≡ begin_script file order (csp_of P)
+begin_as file order e = ap (λ (q : Contents). begin_script file order (csp_of q)) e
 
 pub stands_as : {P Q : Contents} (choices : List ℕ) (network : NetworkState) → Q ≡ P → StandsAt network (whole (csp_of Q) most_told (listed choices)).net → StandsAt network (told_run (csp_of P) choices).net
 unfolding told_run
@@ -200,26 +206,26 @@ answer_as net f = ap (λ (q : Contents). Put (story_line (standing_of (csp_of q)
 
 -- ---- where the script was stopped
 
-module _ (p : Contents) (choices file : List ℕ) where
+module _ (order : Option (List ℕ)) (p : Contents) (choices file : List ℕ) where
   -- before the first delivery
-  pub begin_stopped : {T U : Type 0} {a b : World} {e : Stop} (r : Result U Stop) → IsErr r × IsErrAnd r (λ y. y ≡ e) → Wrote {T = T} (begin_script file (csp_of p)) a b (Err e) → Wrote (story_script p choices file) a b r
-  begin_stopped r is w = wrote_as (whole_script p choices file) (then_stopped (deliveries_write file (csp_of p) most_told (listed choices) ++ end_script file (csp_of p) (told_run (csp_of p) choices)) is w)
+  pub begin_stopped : {T U : Type 0} {a b : World} {e : Stop} (r : Result U Stop) → IsErr r × IsErrAnd r (λ y. y ≡ e) → Wrote {T = T} (begin_script file order (csp_of p)) a b (Err e) → Wrote (story_script order p choices file) a b r
+  begin_stopped r is w = wrote_as (whole_script order p choices file) (then_stopped (deliveries_write file order (csp_of p) most_told (listed choices) ++ end_script file (csp_of p) (told_run (csp_of p) choices)) is w)
 
-  module _ {T : Type 0} {x : T} {a b : World} (begun : Wrote (begin_script file (csp_of p)) a b (Ok x)) where
+  module _ {T : Type 0} {x : T} {a b : World} (begun : Wrote (begin_script file order (csp_of p)) a b (Ok x)) where
     -- among the deliveries
-    pub deliveries_stopped : {U V : Type 0} {c : World} {e : Stop} (r : Result V Stop) → IsErr r × IsErrAnd r (λ y. y ≡ e) → Wrote {T = U} (deliveries_write file (csp_of p) most_told (listed choices)) b c (Err e) → Wrote (story_script p choices file) a c r
-    deliveries_stopped r is w = wrote_as (whole_script p choices file) (then_rest begun (then_stopped (end_script file (csp_of p) (told_run (csp_of p) choices)) is w))
+    pub deliveries_stopped : {U V : Type 0} {c : World} {e : Stop} (r : Result V Stop) → IsErr r × IsErrAnd r (λ y. y ≡ e) → Wrote {T = U} (deliveries_write file order (csp_of p) most_told (listed choices)) b c (Err e) → Wrote (story_script order p choices file) a c r
+    deliveries_stopped r is w = wrote_as (whole_script order p choices file) (then_rest begun (then_stopped (end_script file (csp_of p) (told_run (csp_of p) choices)) is w))
 
-    module _ {U : Type 0} {y : U} {c : World} (delivered : Wrote (deliveries_write file (csp_of p) most_told (listed choices)) b c (Ok y)) where
+    module _ {U : Type 0} {y : U} {c : World} (delivered : Wrote (deliveries_write file order (csp_of p) most_told (listed choices)) b c (Ok y)) where
       -- at the last line
-      pub last_stopped : {V W : Type 0} {d : World} {e : Stop} (r : Result W Stop) → IsErr r × IsErrAnd r (λ y. y ≡ e) → Wrote {T = V} (Append file (end_line (told_end (csp_of p) choices)) ∷ []) c d (Err e) → Wrote (story_script p choices file) a d r
-      last_stopped r is w = wrote_as (whole_script p choices file) (then_rest begun (then_rest delivered (first_stopped is w)))
+      pub last_stopped : {V W : Type 0} {d : World} {e : Stop} (r : Result W Stop) → IsErr r × IsErrAnd r (λ y. y ≡ e) → Wrote {T = V} (Append file (end_line (told_end (csp_of p) choices)) ∷ []) c d (Err e) → Wrote (story_script order p choices file) a d r
+      last_stopped r is w = wrote_as (whole_script order p choices file) (then_rest begun (then_rest delivered (first_stopped is w)))
 
       module _ {V : Type 0} {z : V} {d : World} (ended : Wrote (Append file (end_line (told_end (csp_of p) choices)) ∷ []) c d (Ok z)) where
         -- at the answer
-        pub answer_stopped : {W X : Type 0} {e : World} {why : Stop} (r : Result X Stop) → IsErr r × IsErrAnd r (λ y. y ≡ why) → Wrote {T = W} (Put (story_line (told_end (csp_of p) choices) (told_run (csp_of p) choices).net.deliveries) ∷ []) d e (Err why) → Wrote (story_script p choices file) a e r
-        answer_stopped r is w = wrote_as (whole_script p choices file) (then_rest begun (then_rest delivered (first_wrote ended (first_stopped is w))))
+        pub answer_stopped : {W X : Type 0} {e : World} {why : Stop} (r : Result X Stop) → IsErr r × IsErrAnd r (λ y. y ≡ why) → Wrote {T = W} (Put (story_line (told_end (csp_of p) choices) (told_run (csp_of p) choices).net.deliveries) ∷ []) d e (Err why) → Wrote (story_script order p choices file) a e r
+        answer_stopped r is w = wrote_as (whole_script order p choices file) (then_rest begun (then_rest delivered (first_wrote ended (first_stopped is w))))
 
         -- nowhere
-        pub told_whole : {W X : Type 0} {e : World} {u : W} (v : X) → Wrote (Put (story_line (told_end (csp_of p) choices) (told_run (csp_of p) choices).net.deliveries) ∷ []) d e (Ok u) → Wrote (story_script p choices file) a e (Ok v)
-        told_whole v w = wrote_as (whole_script p choices file) (then_rest begun (then_rest delivered (first_wrote ended (first_wrote w wrote_nothing))))
+        pub told_whole : {W X : Type 0} {e : World} {u : W} (v : X) → Wrote (Put (story_line (told_end (csp_of p) choices) (told_run (csp_of p) choices).net.deliveries) ∷ []) d e (Ok u) → Wrote (story_script order p choices file) a e (Ok v)
+        told_whole v w = wrote_as (whole_script order p choices file) (then_rest begun (then_rest delivered (first_wrote ended (first_wrote w wrote_nothing))))

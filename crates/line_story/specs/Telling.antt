@@ -1,5 +1,5 @@
 -- A run that is told as it is made.
-use Rattle.std.specs.Prelude.{◌≡◌, ℕ, true, false, List, ◌∷◌, flat_map}
+use Rattle.std.specs.Prelude.{◌≡◌, ℕ, true, false, List, ◌∷◌, Option, flat_map, option_copied}
 use Rattle.std.specs.List.{range_with_len}
 use Rattle.dcsp_defs.specs.Csp.{Csp}
 use Rattle.dcsp_script.specs.Scripts.{Write, Create, Append}
@@ -9,12 +9,12 @@ use Rattle.line_story.specs.StoryPromise.{event_write, head}
 use Rattle.line_story.specs.declared.teller.Teller.{Teller}
 
 -- the file is created and begun, and the lines of the start are appended
-abbrev pub begin_script : List ℕ → Csp → List Write
-begin_script file p = Create file ∷ Append file head ∷ event_write file (start_lines p)
+abbrev pub begin_script : List ℕ → Option (List ℕ) → Csp → List Write
+begin_script file order p = Create file ∷ Append file head ∷ event_write file (start_lines order p)
 
 -- the deliveries of a run write
-abbrev pub deliveries_write : List ℕ → Csp → ℕ → List ℕ → List Write
-deliveries_write file p most choices = flat_map (λ k. event_write file (lines_at p choices k)) (range_with_len 0 (whole p most choices).net.deliveries)
+abbrev pub deliveries_write : List ℕ → Option (List ℕ) → Csp → ℕ → List ℕ → List Write
+deliveries_write file order p most choices = flat_map (λ k. event_write file (lines_at order p choices k)) (range_with_len 0 (whole p most choices).net.deliveries)
 
 -- the run is on its way
 pub record IsReady (t : Teller) : Type 0 where
@@ -22,7 +22,8 @@ pub record IsReady (t : Teller) : Type 0 where
   pub sound : t.network.spent ≡ false
   pub begun : t.network.begun ≡ true
 
--- it is the same run, and the same file
+-- it is the same run, told by the same numbers, and the same file
 pub record SameTask (old new : Teller) : Type 0 where
+  pub order : option_copied new.order ≡ option_copied old.order
   pub problem : new.problem.now ≡ old.problem.now
   pub file : new.file.now ≡ old.file.now

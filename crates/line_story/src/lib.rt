@@ -1,4 +1,4 @@
-//! The line `story MODEL SCHEDULE FILE`: what happened in a run, event by event.
+//! The line `story MODEL SCHEDULE FILE [--order FILE]`: what happened in a run, event by event.
 #![tactic(auto)]
 
 mod laws;

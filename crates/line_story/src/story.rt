@@ -1,23 +1,28 @@
-//! The line `story MODEL SCHEDULE FILE`.
+//! The line `story MODEL SCHEDULE FILE [--order FILE]`.
 
-ghost use Rattle.std.specs.Prelude.{◌≡◌, IfOk, OnOk};
+ghost use Rattle.std.specs.Prelude.{◌≡◌, IfOk, OnOk, option_copied};
 ghost use Rattle.dcsp_outside.specs.Outside.{Place, Stream};
 ghost use Rattle.dcsp_script.specs.Scripts.{outside};
 ghost use Rattle.dcsp_script.specs.Ways.{Wrote};
+ghost use Rattle.dcsp_defs.specs.Csp.{IsCsp};
 ghost use Rattle.dcsp_rule.specs.Problems.{csp_of};
+ghost use Rattle.ngd_check.specs.Logged.{IsSmall};
 ghost use Rattle.dcsp_script.specs.Runs.{CameIn};
+ghost use Rattle.dcsp_order.specs.Told.{ordered, Fits};
 ghost use Rattle.abt_input.specs.Errors.{way_of};
 ghost use Rattle.line_story.specs.Stories.{HoldsStory};
 ghost use Rattle.line_story.specs.StoryPromise.{status_at, story_promise, story_script, told_end};
 
 use crate::teller::Teller;
-use abt_input::{CommandError, read_choices, read_model};
+use abt_input::{CommandError, read_choices, read_model, read_order_of};
 use abt_network::Network;
 use abt_schedule::Listed;
 use abt_session::MOST_DELIVERIES;
+use dcsp_order::{Order, moved};
 use dcsp_outside::{Folder, Sink};
 use dcsp_problem::Problem;
 use dcsp_script::{Status, Stop};
+use ngd_check::problems_are_small;
 use std::alloc::Global;
 
 /// The words of `story`.
@@ -29,51 +34,79 @@ pub struct Story<'w> {
     pub schedule: &'w str,
     /// The name of the file that takes the story.
     pub file: &'w str,
+    /// The name of the order, where one is given.
+    pub order_file: Option<&'w str>,
 }
 
-/// Runs the model under the choices of the schedule, which is read after it, writes what happens in each event as the
-/// event is made, and tells how the run ended and how many deliveries it made.
+/// Runs the model, under the order where one is named, by the choices of the schedule, which is read last, writes what
+/// happens in each event as the event is made, and tells how the run ended and how many deliveries it made.
 pub fn run_story<F: Folder, S: Sink>(
     alloc: Global,
     folder: &mut F,
     line: Story<'_>,
     out: &mut S,
 ) -> Result<Status, CommandError>
-    ensures came { CameIn (story_promise line.entry.model.now line.entry.schedule.now line.entry.file.now)
+    ensures came { CameIn (story_promise line.entry.model.now (option_copied line.entry.order_file) line.entry.schedule.now line.entry.file.now)
         (outside (F.place folder.old) (S.stream out.old))
         (outside (F.place folder.new) (S.stream out.new)) (way_of result) }
-    ensures writes { OnOk result (HoldsStory line.entry.model.now line.entry.schedule.now line.entry.file.now
+    ensures writes { OnOk result (HoldsStory line.entry.model.now (option_copied line.entry.order_file) line.entry.schedule.now line.entry.file.now
         (F.place folder.old).held (F.place folder.new).held) }
 {
     let problem = read_model(alloc, folder, line.model)?;
-    problem.denotes_csp();
-    ngd_check::problems_are_small(&problem);
+    let order = read_order_of(alloc, folder, line.order_file, &problem)?;
     let choices = read_choices(alloc, folder, line.schedule)?;
-    let status = write_story(alloc, &problem, choices, line.file, folder, out)?;
+    let order = order.as_ref();
+    let task = Task {
+        problem: &problem,
+        order,
+        file: line.file,
+    };
+    let status = write_story(alloc, task, choices, folder, out)?;
     Ok(status)
+}
+
+/// What is told, and where.
+#[derive(Clone, Copy)]
+struct Task<'p, 'o, 'w> {
+    /// The model's problem.
+    problem: &'p Problem,
+    /// The order under which it is run, where one is given.
+    order: Option<&'o Order>,
+    /// The name of the file that takes the story.
+    file: &'w str,
 }
 
 /// Makes the run, writes its story, and tells how it ended.
 fn write_story<F: Folder, S: Sink>(
     alloc: Global,
-    problem: &Problem,
+    task: Task<'_, '_, '_>,
     choices: Listed,
-    file: &str,
     folder: &mut F,
     out: &mut S,
 ) -> Result<Status, Stop>
-    ensures wrote { Wrote (story_script problem.now choices file.now) (outside (F.place folder.old) (S.stream out.old)) (outside (F.place folder.new) (S.stream out.new)) result }
-    ensures status { IfOk result (λ status. status ≡ status_at (told_end (csp_of problem.now) choices)) }
+    requires { Fits (option_copied task.order) task.problem.now }
+    ensures wrote { let order = option_copied task.entry.order in Wrote (story_script order (ordered order task.entry.problem.now) choices task.entry.file.now)
+        (outside (F.place folder.old) (S.stream out.old)) (outside (F.place folder.new) (S.stream out.new)) result }
+    ensures status { IfOk result (λ status. status ≡ status_at (told_end (csp_of (ordered (option_copied task.entry.order) task.entry.problem.now)) choices)) }
+    ensures csp { IfOk result (λ status. IsCsp (csp_of (ordered (option_copied task.entry.order) task.entry.problem.now))) }
+    ensures small { IfOk result (λ status. IsSmall (csp_of (ordered (option_copied task.entry.order) task.entry.problem.now))) }
 {
-    let Ok(network) = Network::new(alloc, problem) else {
+    let Ok(moved) = moved(alloc, task.order, task.problem) else {
+        return Err(Stop::Memory);
+    };
+    let run = moved.as_ref().unwrap_or(task.problem);
+    run.denotes_csp();
+    problems_are_small(run);
+    let Ok(network) = Network::new(alloc, run) else {
         return Err(Stop::Memory);
     };
     let mut choices = choices;
     let mut teller = Teller {
         alloc,
-        problem,
+        order: task.order,
+        problem: run,
         network,
-        file,
+        file: task.file,
         text: Vec::new(alloc),
     };
     teller.begin(folder)?;

@@ -1,6 +1,6 @@
 //! A run that is told as it is made.
 
-ghost use Rattle.std.specs.Prelude.{◌≡◌, ◌≤◌, ◌∷◌, ◌++◌, ◌^◌, ℕ, [], Contains, List, OnOk, false, length, true};
+ghost use Rattle.std.specs.Prelude.{◌≡◌, ◌≤◌, ◌∷◌, ◌++◌, ◌^◌, ℕ, [], Contains, List, OnOk, false, length, option_copied, true};
 ghost use Rattle.dcsp_outside.specs.Outside.{Place, Stream};
 ghost use Rattle.dcsp_script.specs.Scripts.{Append, Put, outside};
 ghost use Rattle.dcsp_script.specs.Ways.{Wrote};
@@ -17,6 +17,7 @@ use abt_input::AnswerLine;
 use abt_network::{Network, Standing};
 use abt_schedule::Choices;
 use abt_story::{tell_delivery, tell_start};
+use dcsp_order::Order;
 use dcsp_outside::{Folder, Sink};
 use dcsp_problem::Problem;
 use dcsp_script::{Status, Stop, append, create, put};
@@ -27,6 +28,9 @@ use std::alloc::Global;
 #[derive(Drop)]
 pub struct Teller<'p, 'w> {
     pub alloc: Global,
+    /// The order whose numbers tell agents, where the run is one under an order.
+    pub order: Option<&'p Order>,
+    /// The problem that is run.
     pub problem: &'p Problem,
     pub network: Network<'p>,
     /// The name of the file that takes the story.
@@ -41,7 +45,7 @@ impl<'p, 'w> Teller<'p, 'w> {
         requires sound { self.old.network.spent ≡ false }
         requires fresh { self.old.network.begun ≡ false }
         requires problem { self.old.network.problem ≡ self.old.problem.now }
-        ensures wrote { (out : Stream) → Wrote (begin_script self.old.file.now (csp_of self.old.problem.now))
+        ensures wrote { (out : Stream) → Wrote (begin_script self.old.file.now (option_copied self.old.order) (csp_of self.old.problem.now))
             (outside (F.place folder.old) out) (outside (F.place folder.new) out) result }
         ensures stands { OnOk result (StandsAt self.new.network (start (csp_of self.old.problem.now))) }
         ensures ready { OnOk result (IsReady self.new) }
@@ -51,7 +55,13 @@ impl<'p, 'w> Teller<'p, 'w> {
         create(folder, self.file)?;
         append(folder, self.file, b"story 1\n")?;
         self.text.clear();
-        let Ok(()) = tell_start(self.alloc, self.problem, &mut self.network, &mut self.text) else {
+        let Ok(()) = tell_start(
+            self.alloc,
+            self.order,
+            self.problem,
+            &mut self.network,
+            &mut self.text,
+        ) else {
             return Err(Stop::Memory);
         };
         append_some(folder, self.file, &self.text)
@@ -68,7 +78,7 @@ impl<'p, 'w> Teller<'p, 'w> {
         requires ready { IsReady self.old }
         requires starts { StandsAt self.old.network (start (csp_of self.old.problem.now)) }
         requires created { Contains (F.place folder.old).created self.old.file.now }
-        ensures wrote { (out : Stream) → Wrote (deliveries_write self.old.file.now (csp_of self.old.problem.now) most (first_answers most (C.answers choices.old)))
+        ensures wrote { (out : Stream) → Wrote (deliveries_write self.old.file.now (option_copied self.old.order) (csp_of self.old.problem.now) most (first_answers most (C.answers choices.old)))
             (outside (F.place folder.old) out) (outside (F.place folder.new) out) result }
         ensures stands { OnOk result (StandsAt self.new.network (whole (csp_of self.old.problem.now) most (first_answers most (C.answers choices.old))).net) }
         ensures ready { OnOk result (IsReady self.new) }
@@ -95,7 +105,7 @@ impl<'p, 'w> Teller<'p, 'w> {
         requires on_run { (choices : List ℕ) × StandsAt self.old.network (reached self.old.network choices) }
         requires created { Contains (F.place folder.old).created self.old.file.now }
         ensures wrote { (choices : List ℕ) (out : Stream) → StandsAt self.old.network (reached self.old.network choices)
-            → Wrote (event_write self.old.file.now (delivery_lines (csp_of self.old.problem.now) choice (reached self.old.network choices)))
+            → Wrote (event_write self.old.file.now (delivery_lines (option_copied self.old.order) (csp_of self.old.problem.now) choice (reached self.old.network choices)))
             (outside (F.place folder.old) out) (outside (F.place folder.new) out) result }
         ensures stands { (choices : List ℕ) → StandsAt self.old.network (reached self.old.network choices) → OnOk result (StandsAt self.new.network (reached self.old.network (choices ++ choice ∷ []))) }
         ensures ready { OnOk result (IsReady self.new) }
@@ -105,6 +115,7 @@ impl<'p, 'w> Teller<'p, 'w> {
         self.text.clear();
         let Ok(()) = tell_delivery(
             self.alloc,
+            self.order,
             self.problem,
             &mut self.network,
             choice,

@@ -1,7 +1,10 @@
 //! The texts for the smallest numbers whole, and lengths and MD5 digests of large ones, both from
 //! another program.
 
-use dcsp_gen::{colouring, pigeons, queens, sparse};
+use dcsp_gen::{
+    BinarySizes, MeetingSizes, SensorSizes, binary, colouring, meetings, pigeons, queens, sensors,
+    sparse,
+};
 use md5::{Digest, Md5};
 use std::process::Abort;
 use std::test::Fail;
@@ -44,6 +47,85 @@ fn small_texts(rt: HostRuntime) -> Result<(), Fail> {
         &pigeons(alloc, 3)?,
         "var 1..2: p1;\nvar 1..2: p2;\nvar 1..2: p3;\nconstraint int_ne(p1,p2);\nconstraint int_ne(p1,p3);\nconstraint int_ne(p2,p3);\nsolve satisfy;\n",
     );
+    Ok(())
+}
+
+#[test]
+fn binary_text(rt: HostRuntime) -> Result<(), Fail> {
+    let sizes = BinarySizes {
+        variables: 3,
+        values: 2,
+        edges: 2,
+        forbidden: 1,
+    };
+    expect_text(
+        &rt,
+        &binary(rt.alloc(), sizes, 0)?,
+        "var 0..1: x1;\nvar 0..1: x2;\nvar 0..1: x3;\narray [1..3] of var int: x :: output_array([1..3]) = [x1,x2,x3];\nconstraint fzn_table_int([x1,x2],[0,0,1,0,1,1]);\nconstraint fzn_table_int([x2,x3],[0,0,0,1,1,1]);\nsolve satisfy;\n",
+    );
+    Ok(())
+}
+
+/// People, meetings, people of each, hours, busy hours, seed, and the text.
+const MEETINGS: [([u32; 5], u64, &str); 3] = [
+    (
+        [3, 2, 2, 3, 1],
+        0,
+        "var {2,3}: m1p2 :: output_var;\nvar {2,3}: m1p3 :: output_var;\nvar {2,3}: m2p2 :: output_var;\nvar {2,3}: m2p3 :: output_var;\nconstraint int_eq(m1p2,m1p3);\nconstraint int_eq(m2p2,m2p3);\nconstraint int_ne(m1p2,m2p2);\nconstraint int_ne(m1p3,m2p3);\nsolve satisfy;\n",
+    ),
+    (
+        [1, 2, 1, 1, 0],
+        0,
+        "var {1}: m1p1 :: output_var;\nvar {1}: m2p1 :: output_var;\nconstraint int_ne(m1p1,m2p1);\nsolve satisfy;\n",
+    ),
+    (
+        [4, 3, 2, 5, 1],
+        9,
+        "var {1,2,4,5}: m1p1 :: output_var;\nvar {2,3,4,5}: m1p4 :: output_var;\nvar {1,2,4,5}: m2p1 :: output_var;\nvar {1,3,4,5}: m2p3 :: output_var;\nvar {1,2,3,5}: m3p2 :: output_var;\nvar {1,3,4,5}: m3p3 :: output_var;\nconstraint int_eq(m1p1,m1p4);\nconstraint int_eq(m2p1,m2p3);\nconstraint int_eq(m3p2,m3p3);\nconstraint int_ne(m1p1,m2p1);\nconstraint int_ne(m2p3,m3p3);\nsolve satisfy;\n",
+    ),
+];
+
+#[test]
+fn meeting_texts(rt: HostRuntime) -> Result<(), Fail> {
+    for ([people, count, each, hours, busy], seed, text) in MEETINGS {
+        let sizes = MeetingSizes {
+            people,
+            meetings: count,
+            each,
+            hours,
+            busy,
+        };
+        assert!(rt; sizes.fit());
+        expect_text(&rt, &meetings(rt.alloc(), sizes, seed)?, text);
+    }
+    Ok(())
+}
+
+/// Rows, targets, sensors that see each, seed, and the text. In the second, 4 and 5 do not hear each other, nor do others.
+const SENSORS: [([u32; 3], u64, &str); 2] = [
+    (
+        [2, 1, 3],
+        0,
+        "var {2,3,4}: t1s1 :: output_var;\nvar {2,3,4}: t1s2 :: output_var;\nvar {2,3,4}: t1s3 :: output_var;\nconstraint int_lt(t1s1,t1s2);\nconstraint int_lt(t1s2,t1s3);\nconstraint fzn_table_int([t1s1,t1s2],[2,3,2,4,3,4]);\nconstraint fzn_table_int([t1s1,t1s3],[2,3,2,4,3,4]);\nconstraint fzn_table_int([t1s2,t1s3],[2,3,2,4,3,4]);\nsolve satisfy;\n",
+    ),
+    (
+        [4, 2, 3],
+        1,
+        "var {4,10,16}: t1s1 :: output_var;\nvar {4,10,16}: t1s2 :: output_var;\nvar {4,10,16}: t1s3 :: output_var;\nvar {4,5,10}: t2s1 :: output_var;\nvar {4,5,10}: t2s2 :: output_var;\nvar {4,5,10}: t2s3 :: output_var;\nconstraint int_lt(t1s1,t1s2);\nconstraint int_lt(t1s2,t1s3);\nconstraint fzn_table_int([t1s1,t1s2],[4,10,10,16]);\nconstraint fzn_table_int([t1s1,t1s3],[4,10,10,16]);\nconstraint fzn_table_int([t1s2,t1s3],[4,10,10,16]);\nconstraint int_lt(t2s1,t2s2);\nconstraint int_lt(t2s2,t2s3);\nconstraint fzn_table_int([t2s1,t2s2],[4,10,5,10]);\nconstraint fzn_table_int([t2s1,t2s3],[4,10,5,10]);\nconstraint fzn_table_int([t2s2,t2s3],[4,10,5,10]);\nconstraint int_ne(t1s1,t2s1);\nconstraint int_ne(t1s1,t2s2);\nconstraint int_ne(t1s1,t2s3);\nconstraint int_ne(t1s2,t2s1);\nconstraint int_ne(t1s2,t2s2);\nconstraint int_ne(t1s2,t2s3);\nconstraint int_ne(t1s3,t2s1);\nconstraint int_ne(t1s3,t2s2);\nconstraint int_ne(t1s3,t2s3);\nsolve satisfy;\n",
+    ),
+];
+
+#[test]
+fn sensor_texts(rt: HostRuntime) -> Result<(), Fail> {
+    for ([side, targets, sees], seed, text) in SENSORS {
+        let sizes = SensorSizes {
+            side,
+            targets,
+            sees,
+        };
+        assert!(rt; sizes.fit());
+        expect_text(&rt, &sensors(rt.alloc(), sizes, seed)?, text);
+    }
     Ok(())
 }
 

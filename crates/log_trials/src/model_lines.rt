@@ -5,7 +5,7 @@ use abt_input::CommandError;
 use dcsp_gen::{pigeons, queens};
 use dcsp_outside::{MemoryFolder, MemorySink};
 use dcsp_script::Status;
-use line_model::{run_bound, run_colouring, run_queens};
+use line_model::{Bound, run_bound, run_colouring, run_queens};
 use std::alloc::Global;
 use std::process::Abort;
 use std::test::Fail;
@@ -72,7 +72,11 @@ fn bound(
     folder: &mut MemoryFolder,
     out: &mut MemorySink,
 ) -> Result<Status, CommandError> {
-    run_bound(alloc, folder, "m.fzn", out)
+    let line = Bound {
+        model: "m.fzn",
+        order_file: None,
+    };
+    run_bound(alloc, folder, line, out)
 }
 
 /// Telling the bound of this model comes to this, where these calls of the folder and of `out` fail.

@@ -56,6 +56,7 @@ impl Outside {
             most,
             telling: Telling::traced(trace),
             keep: true,
+            order: None,
         };
         run(
             alloc,

@@ -102,16 +102,16 @@ returns-in-Some-clause-ordered g c = λ model rule file is good.
     means_of _ _ _ (one_line _ (line_of c.in-Some.request) (Order model rule file) c.in-Some.ensures.some is) (c.run_request.ensures.means (subst IsFinal (sym good) tt) (λ r. subst IsRefusal good r))
 
 pub returns-in-Some-clause-starved : goal.returns-in-Some-clause-starved
-returns-in-Some-clause-starved g c = λ model from to file is good.
-    means_of _ _ _ (one_line _ (line_of c.in-Some.request) (Starve model from to file) c.in-Some.ensures.some is) (c.run_request.ensures.means (subst IsFinal (sym good) tt) (λ r. subst IsRefusal good r))
+returns-in-Some-clause-starved g c = λ model from to file order_file is good.
+    means_of _ _ _ (one_line _ (line_of c.in-Some.request) (Starve model from to file order_file) c.in-Some.ensures.some is) (c.run_request.ensures.means (subst IsFinal (sym good) tt) (λ r. subst IsRefusal good r))
 
 pub returns-in-Some-clause-lossy : goal.returns-in-Some-clause-lossy
-returns-in-Some-clause-lossy g c = λ model log events seed kept is final answers.
-    means_of _ _ _ (one_line _ (line_of c.in-Some.request) (Lossy model log events seed kept) c.in-Some.ensures.some is) (c.run_request.ensures.means final answers)
+returns-in-Some-clause-lossy g c = λ model log events seed kept order is final answers.
+    means_of _ _ _ (one_line _ (line_of c.in-Some.request) (Lossy model log events seed kept order) c.in-Some.ensures.some is) (c.run_request.ensures.means final answers)
 
 pub returns-in-Some-clause-told : goal.returns-in-Some-clause-told
-returns-in-Some-clause-told g c = λ model schedule file is final answers.
-    means_of _ _ _ (one_line _ (line_of c.in-Some.request) (Story model schedule file) c.in-Some.ensures.some is) (c.run_request.ensures.means final answers)
+returns-in-Some-clause-told g c = λ model schedule file order is final answers.
+    means_of _ _ _ (one_line _ (line_of c.in-Some.request) (Story model schedule file order) c.in-Some.ensures.some is) (c.run_request.ensures.means final answers)
 
 pub returns-in-Some-clause-no_stall : goal.returns-in-Some-clause-no_stall
 returns-in-Some-clause-no_stall g c = run_unfinished _ (line_of c.in-Some.request) c.in-Some.ensures.some _ _ _ _ c.run_request.result c.run_request.ensures.ran c.run_request.ensures.means

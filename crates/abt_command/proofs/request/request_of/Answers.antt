@@ -45,3 +45,27 @@ binary_of-requires-clause-edges c = at_most c.requires.0 (said_in c.args.said.no
 
 pub binary_of-requires-clause-forbidden : goal.binary_of-requires-clause-forbidden
 binary_of-requires-clause-forbidden c = at_most c.requires.0 (said_in c.args.said.now) c.requires.1 names.Binary c.in-Binary.is 3 _ 0 10000 refl refl
+
+pub meetings_of-requires-clause-people : goal.meetings_of-requires-clause-people
+meetings_of-requires-clause-people c = at_most c.requires.0 (said_in c.args.said.now) c.requires.1 names.Meetings c.in-Meetings.is 0 _ 1 64 refl refl
+
+pub meetings_of-requires-clause-meetings : goal.meetings_of-requires-clause-meetings
+meetings_of-requires-clause-meetings c = at_most c.requires.0 (said_in c.args.said.now) c.requires.1 names.Meetings c.in-Meetings.is 1 _ 1 64 refl refl
+
+pub meetings_of-requires-clause-each : goal.meetings_of-requires-clause-each
+meetings_of-requires-clause-each c = at_most c.requires.0 (said_in c.args.said.now) c.requires.1 names.Meetings c.in-Meetings.is 2 _ 1 64 refl refl
+
+pub meetings_of-requires-clause-hours : goal.meetings_of-requires-clause-hours
+meetings_of-requires-clause-hours c = at_most c.requires.0 (said_in c.args.said.now) c.requires.1 names.Meetings c.in-Meetings.is 3 _ 1 100 refl refl
+
+pub meetings_of-requires-clause-busy : goal.meetings_of-requires-clause-busy
+meetings_of-requires-clause-busy c = at_most c.requires.0 (said_in c.args.said.now) c.requires.1 names.Meetings c.in-Meetings.is 4 _ 0 99 refl refl
+
+pub sensors_of-requires-clause-side : goal.sensors_of-requires-clause-side
+sensors_of-requires-clause-side c = at_most c.requires.0 (said_in c.args.said.now) c.requires.1 names.Sensors c.in-Sensors.is 0 _ 2 16 refl refl
+
+pub sensors_of-requires-clause-targets : goal.sensors_of-requires-clause-targets
+sensors_of-requires-clause-targets c = at_most c.requires.0 (said_in c.args.said.now) c.requires.1 names.Sensors c.in-Sensors.is 1 _ 1 32 refl refl
+
+pub sensors_of-requires-clause-sees : goal.sensors_of-requires-clause-sees
+sensors_of-requires-clause-sees c = at_most c.requires.0 (said_in c.args.said.now) c.requires.1 names.Sensors c.in-Sensors.is 2 _ 3 256 refl refl

@@ -1,4 +1,4 @@
-use Rattle.std.proofs.Common.{map, ◌∷◌, []}
+use Rattle.std.proofs.Common.{map}
 use Rattle.dcsp_script.specs.Scripts.{Put}
 use Rattle.dcsp_script.proofs.Lines.{then_rest, then_stopped}
 use Rattle.abt_network.specs.Standing.{delivery_of}

@@ -1,53 +1,41 @@
-use Rattle.std.proofs.Common.{ℕ}
-use Rattle.dcsp_rule.specs.Problems.{csp_of}
-use Rattle.abt_session.specs.Answers.{first_answers}
+use Rattle.std.proofs.Common.{◌≡◌, ℕ, subst, rules}
+use Rattle.dcsp_rule.specs.Problems.{Contents, csp_of}
+use Rattle.dcsp_order.specs.Told.{ordered}
 use Rattle.dcsp_script.specs.Scripts.{outside}
+use Rattle.dcsp_script.specs.Ways.{Wrote}
+use Rattle.abt_session.specs.Answers.{first_answers}
 use Rattle.abt_session.specs.Sessions.{run_script}
-use Rattle.abt_session.specs.Running.{session_for}
+use Rattle.abt_session.specs.Running.{order_of, session_by, session_for}
 use Rattle.abt_session.proofs.Ordered.{wrote_in_order}
-use Rattle.abt_session.proofs.Pieces.{made_then_memory, memory_at_once, stopped_so}
-use Rattle.abt_session.proofs.Whole.{leaves_at}
+use Rattle.abt_session.proofs.Pieces.{memory_at_once}
 use Rattle.abt_session.proofs.session.run.Goals as goal
-
-pub returns-in_default-clause-verdicts : goal.returns-in_default-clause-verdicts
-returns-in_default-clause-verdicts g c = c.verdicts.ensures (csp_of c.args.problem.now) c.denotes_csp.ensures.csp c.args.task.most (first_answers c.args.task.most (g.C.Choices.answers c.args.choices.now))
-
-pub returns-in_default-clause-stops : goal.returns-in_default-clause-stops
-returns-in_default-clause-stops g c = c.stops.ensures (csp_of c.args.problem.now) c.args.task.most (first_answers c.args.task.most (g.C.Choices.answers c.args.choices.now))
 
 pub returns-in_default-clause-in_order : goal.returns-in_default-clause-in_order
 returns-in_default-clause-in_order g c =
-    let s = session_for c.args.problem.now (g.C.Choices.answers c.args.choices.now) c.args.task in
+    let s = session_by c.args.problem.now (g.C.Choices.answers c.args.choices.now) c.args.task in
     wrote_in_order s {T = ℕ} (memory_at_once (run_script s) (outside (g.F.Folder.place c.args.folder.now) (g.S.Sink.stream c.args.out.now)))
 
-pub returns-in_err-halt-clause-wrote : goal.returns-in_err-halt-clause-wrote
-returns-in_err-halt-clause-wrote g c =
-    let left = leaves_at (g.C.Choices.answers c.args.choices.now) c.args.task c.in-Ok.ensures.problem c.in_err-halt.ensures.leaves in
-    stopped_so c.from_residual.result c.from_residual.ensures left.wrote
+pub returns-in_default-clause-verdicts : goal.returns-in_default-clause-verdicts
+returns-in_default-clause-verdicts g c =
+    c.verdicts.ensures (csp_of (ordered (order_of c.args.task) c.args.problem.now)) c.in_default.ensures.csp c.args.task.most (first_answers c.args.task.most (g.C.Choices.answers c.args.choices.now))
 
-pub returns-in_err-halt-clause-verdicts : goal.returns-in_err-halt-clause-verdicts
-returns-in_err-halt-clause-verdicts g c = c.verdicts.ensures (csp_of c.args.problem.now) c.denotes_csp.ensures.csp c.args.task.most (first_answers c.args.task.most (g.C.Choices.answers c.args.choices.now))
-
-pub returns-in_err-halt-clause-stops : goal.returns-in_err-halt-clause-stops
-returns-in_err-halt-clause-stops g c = c.stops.ensures (csp_of c.args.problem.now) c.args.task.most (first_answers c.args.task.most (g.C.Choices.answers c.args.choices.now))
-
-pub returns-in_err-halt-clause-in_order : goal.returns-in_err-halt-clause-in_order
-returns-in_err-halt-clause-in_order g c =
-    let left = leaves_at (g.C.Choices.answers c.args.choices.now) c.args.task c.in-Ok.ensures.problem c.in_err-halt.ensures.leaves in
-    wrote_in_order (session_for c.args.problem.now (g.C.Choices.answers c.args.choices.now) c.args.task) left.wrote
-
-pub returns-clause-wrote : goal.returns-clause-wrote
-returns-clause-wrote g c =
-    let left = leaves_at (g.C.Choices.answers c.args.choices.now) c.args.task c.in-Ok.ensures.problem c.in_ok-halt.ensures.leaves in
-    made_then_memory c.outcome_of.result c.outcome_of.ensures.only_memory left.wrote
+pub returns-in_default-clause-stops : goal.returns-in_default-clause-stops
+returns-in_default-clause-stops g c =
+    c.stops.ensures (csp_of (ordered (order_of c.args.task) c.args.problem.now)) c.args.task.most (first_answers c.args.task.most (g.C.Choices.answers c.args.choices.now))
 
 pub returns-clause-in_order : goal.returns-clause-in_order
 returns-clause-in_order g c =
-    let left = leaves_at (g.C.Choices.answers c.args.choices.now) c.args.task c.in-Ok.ensures.problem c.in_ok-halt.ensures.leaves in
-    wrote_in_order (session_for c.args.problem.now (g.C.Choices.answers c.args.choices.now) c.args.task) left.wrote
+    let answers = g.C.Choices.answers c.args.choices.now in
+    let p : Contents = ordered (order_of c.args.task) c.args.problem.now in
+    let same : c.unwrap_or-ordered.result.now ≡ p = search rules in
+    wrote_in_order (session_by c.args.problem.now answers c.args.task)
+    (subst (λ (q : Contents). Wrote (run_script (session_for q answers c.args.task)) (outside (g.F.Folder.place c.args.folder.now) (g.S.Sink.stream c.args.out.now)) (outside (g.F.Folder.place c.run_ordered.new.folder) (g.S.Sink.stream c.run_ordered.new.out)) c.run_ordered.result)
+    same c.run_ordered.ensures.wrote)
 
 pub returns-clause-verdicts : goal.returns-clause-verdicts
-returns-clause-verdicts g c = c.verdicts.ensures (csp_of c.args.problem.now) c.denotes_csp.ensures.csp c.args.task.most (first_answers c.args.task.most (g.C.Choices.answers c.args.choices.now))
+returns-clause-verdicts g c =
+    c.verdicts.ensures (csp_of (ordered (order_of c.args.task) c.args.problem.now)) c.in-Ok.ensures.csp c.args.task.most (first_answers c.args.task.most (g.C.Choices.answers c.args.choices.now))
 
 pub returns-clause-stops : goal.returns-clause-stops
-returns-clause-stops g c = c.stops.ensures (csp_of c.args.problem.now) c.args.task.most (first_answers c.args.task.most (g.C.Choices.answers c.args.choices.now))
+returns-clause-stops g c =
+    c.stops.ensures (csp_of (ordered (order_of c.args.task) c.args.problem.now)) c.args.task.most (first_answers c.args.task.most (g.C.Choices.answers c.args.choices.now))

@@ -26,8 +26,9 @@ its_reasons s p i a values e f g =
 pub unwrap-message-requires : goal.unwrap-message-requires
 unwrap-message-requires c = some_first c.first.result _ c.first.ensures.first c.requires.some
 
-pub returns : goal.returns
-returns c net m rest st waiting =
+pub returns-clause-seen : goal.returns-clause-seen
+returns-clause-seen c net m rest st waiting =
+    let order = option_copied c.args.order in
     let s = c.agent-agent.result.now in
     let p = c.args.network.now.problem in
     let to = c.args.to in
@@ -37,8 +38,8 @@ returns c net m rest st waiting =
     let message = its_message c.first.result c.unwrap-message.result _ m rest c.unwrap-message.ensures (c.first.ensures.machine net st) waiting in
     record {
       known =
-          c.in_ok-known.ensures ∙ ap (λ (b : Agent). map (known_at b.view) (named_by c.args.from (message_of c.unwrap-message.result.now))) stands
-          ∙ ap (λ (x : Message). map (known_at a.view) (named_by c.args.from x)) message;
+          c.in_ok-known.ensures ∙ ap (λ (b : Agent). map (known_at b.view) (named_by order c.args.from (message_of c.unwrap-message.result.now))) stands
+          ∙ ap (λ (x : Message). map (known_at a.view) (named_by order c.args.from x)) message;
       kept = c.in_ok-kept.ensures ∙ steps_are c.nogoods.result.now a (c.nogoods.ensures ∙ ap (λ (b : Agent). b.recorded) stands);
       reasons = c.in_ok-reasons.ensures ∙ its_reasons s p to a c.args.domain.now seat.problem seat.me stands ∙ ap (map (reason (csp_of p) to a)) c.requires.domain;
       stamp = c.stamp.ensures ∙ ap (λ (b : Agent). b.stamp) stands;

@@ -1,4 +1,5 @@
 use Rattle.std.proofs.Common.{◌≡◌, ◌∙◌, ◌++◌, List, OnOk, ap, subst, sym, map}
+use Rattle.std.specs.Prelude.{option_copied}
 use Rattle.dcsp_defs.specs.Csp.{domain}
 use Rattle.dcsp_rule.specs.Problems.{csp_of}
 use Rattle.abt_defs.specs.Agents.{Agent}
@@ -14,6 +15,7 @@ pub returns : goal.returns
 returns c = λ a seen done.
     let deed = c.args.deed.now in
     let event = deed.who.event in
+    let order = option_copied deed.order in
     let i = deed.who.agent in
     let old = c.args.into.now.items in
     let s = c.args.agent.now in
@@ -29,9 +31,9 @@ returns c = λ a seen done.
     let all = facts_last c.push_sent.result event i old _ _ _ _ seven c.push_sent.ensures in
     let kept = steps_are c.nogoods.result.now a.after (c.nogoods.ensures ∙ ap (λ (x : Agent). x.recorded) done.after) in
     let kept-2 = steps_are c.nogoods-2.result.now a.after (c.nogoods-2.ensures ∙ ap (λ (x : Agent). x.recorded) done.after) in
-    let is = facts_are p deed.made a _ _ _ _ _ _ _
+    let is = facts_are order p deed.made a _ _ _ _ _ _ _
     (ap receives done.came)
-    (learned_is (named_in a.came) a.before a.after _ _ (c.deref.ensures.value ∙ seen.known) (ap (λ (x : Agent). x.view) done.after))
+    (learned_is (named_in order a.came) a.before a.after _ _ (c.deref.ensures.value ∙ seen.known) (ap (λ (x : Agent). x.view) done.after))
     (ap (λ l. drops l (steps_in c.nogoods.result.now)) (c.deref-2.ensures.value ∙ seen.kept) ∙ ap (drops (steps_of a.before)) kept)
     (ap (λ x. answers x (steps_in c.nogoods-2.result.now)) done.came ∙ ap (answers (came_with a.came)) kept-2)
     (ap (λ l. rules_out l told (reason_in s)) c.requires.domain ∙ ruled_is s a done.after done.me told ∙ ap (λ j. rules_out (domain p a.agent) (reason_before p j a.came a.before) (reason p a.agent a.after)) done.me)

@@ -1,11 +1,13 @@
 use Rattle.std.proofs.Common.{◌≡◌, ◌∙◌, ◌++◌, ◌<◌, ℕ, List, ap, length, subst, sym}
-use Rattle.std.specs.Prelude.{OnOk}
+use Rattle.std.specs.Prelude.{OnOk, option_copied}
 use Rattle.std.proofs.lemmas.List.{length-map}
 use Rattle.dcsp_defs.specs.Csp.{domain}
 use Rattle.dcsp_rule.specs.Problems.{Contents, csp_of}
 use Rattle.abt_defs.specs.Events.{Act}
 use Rattle.abt_defs.specs.Network.{deliver}
 use Rattle.abt_network.specs.Standing.{reached}
+use Rattle.dcsp_order.specs.Told.{number_told}
+use Rattle.abt_story.specs.Numbers.{facts_told}
 use Rattle.abt_story.specs.Telling.{delivery_lines, facts, step_between}
 use Rattle.abt_story.specs.Texts.{facts_text, lines_text}
 use Rattle.abt_story.specs.Looking.{IsSeen}
@@ -58,12 +60,13 @@ tell_made-requires-clause-long c =
     let n_is = c.ready.ensures.machine net r.1 c.requires.sound in
     let chosen = c.ready_pair-from.ensures.machine net r.1 c.requires.sound in
     let first = head s r.0 r.1 c.args.choice c.ready.result pair.0 pair.1 n_is chosen in
-    let seen = c.in_ok-before.ensures net first.message first.rest r.1 first.is in
+    let seen = c.in_ok-before.ensures.seen net first.message first.rest r.1 first.is in
     let same = same_receiver s r.0 r.1 c.args.choice c.ready.result pair.0 pair.1 n_is chosen c.in_ok-delivery.delivery (c.in_ok-delivery.ensures.delivers net r.1).told in
     ap length seen.reasons ∙ length-map _ _ ∙ ap (λ (q : Contents). length (domain (csp_of q) pair.1)) c.requires.problem ∙ ap (λ j. length (domain (csp_of c.args.problem.now) j)) (sym same)
 
 pub returns-clause-told : goal.returns-clause-told
 returns-clause-told c = λ choices st.
+    let order = option_copied c.args.order in
     let s = c.args.network.now in
     let net = reached s choices in
     let pair = c.ready_pair-from.result in
@@ -76,10 +79,11 @@ returns-clause-told c = λ choices st.
     let act : Act = a s choices st c.args.choice c.ready.result pair.0 pair.1 n_is chosen in
     let delivers = c.in_ok-delivery.ensures.delivers net st in
     let same = same_receiver s choices st c.args.choice c.ready.result pair.0 pair.1 n_is chosen d delivers.told in
-    let seen = c.in_ok-before.ensures net first.message first.rest st first.is in
-    let mine = subst (λ j. IsSeen p j act.came act.before c.in_ok-before.before) (sym same) (subst (λ (q : Contents). IsSeen (csp_of q) pair.1 act.came act.before c.in_ok-before.before) c.requires.problem seen) in
-    let made = is_made s choices st c.args.choice c.ready.result pair.0 pair.1 n_is chosen d c.steps-steps.result c.deliver.new.self.sent delivers.told c.steps-steps.ensures.steps (c.in_ok-delivery.ensures.sends net st) in
-    let lines = told s choices st c.args.choice c.ready.result pair.0 pair.1 n_is chosen in
-    let text = ap (λ j. facts_text next.deliveries j (facts p (step_between net next) act)) same ∙ ap (λ (q : Contents). facts_text next.deliveries pair.1 (facts (csp_of q) (step_between net next) act)) (sym c.requires.problem)
-    ∙ sym lines ∙ ap (λ (q : Contents). lines_text (delivery_lines (csp_of q) c.args.choice net)) c.requires.problem in
+    let seen = c.in_ok-before.ensures.seen net first.message first.rest st first.is in
+    let mine = subst (λ j. IsSeen order p j act.came act.before c.in_ok-before.before) (sym same) (subst (λ (q : Contents). IsSeen order (csp_of q) pair.1 act.came act.before c.in_ok-before.before) c.requires.problem seen) in
+    let made = is_made s choices st c.args.choice c.ready.result pair.0 pair.1 n_is chosen d c.in_ok-before.before.steps c.deliver.new.self.sent delivers.told c.in_ok-before.ensures.steps (c.in_ok-delivery.ensures.sends net st) in
+    let lines = told s choices st c.args.choice c.ready.result pair.0 pair.1 n_is chosen order in
+    let text = ap (λ j. facts_text next.deliveries (number_told order j) (facts_told order (facts order p (step_between net next) act))) same
+    ∙ ap (λ (q : Contents). facts_text next.deliveries (number_told order pair.1) (facts_told order (facts order (csp_of q) (step_between net next) act))) (sym c.requires.problem)
+    ∙ sym lines ∙ ap (λ (q : Contents). lines_text (delivery_lines order (csp_of q) c.args.choice net)) c.requires.problem in
     subst (λ (t : List ℕ). OnOk c.tell_made.result (c.tell_made.new.into.items ≡ c.args.into.now.items ++ t)) text (c.tell_made.ensures act net next delivers.stands mine made)

@@ -1,5 +1,5 @@
 use Rattle.std.proofs.Common.{◌≡◌, ◌∙◌, ◌++◌, ◌≤◌, ℕ, List, ap, subst, sym}
-use Rattle.std.specs.Prelude.{OnOk}
+use Rattle.std.specs.Prelude.{OnOk, option_copied}
 use Rattle.std.specs.List.{flat_map}
 use Rattle.dcsp_defs.specs.Words.{below}
 use Rattle.dcsp_defs.specs.Csp.{count}
@@ -37,5 +37,5 @@ returns-clause-told c =
     let steps = ap (λ (q : Contents). (start (csp_of q)).steps) (sym c.requires.problem) ∙ c.in_ok-begun.ensures.starts.steps in
     let settled = ap (settled_in (count p)) steps ∙ ap (λ k. settled_in k (steps_of c.in_ok-begun.begun)) (sym c.vars.ensures.vars) ∙ sym c.settled_by.ensures in
     let starts = subst (StartsWith p) settled (c.starts_in_order.ensures p) in
-    let told = ap (λ l. lines_text (agentless l) ++ flat_map (first_text p) (below n)) (sym steps) ∙ sym (start_text p n starts) in
+    let told = ap (λ l. lines_text (agentless l) ++ flat_map (first_text (option_copied c.args.order) p) (below n)) (sym steps) ∙ sym (start_text (option_copied c.args.order) p n starts) in
     subst (λ (t : List ℕ). OnOk c.tell_settlings.result (c.tell_settlings.new.into.items ≡ old ++ t)) told (piece_last c.tell_settlings.result old _ _ _ _ c.in_ok-tell_agentless.ensures c.tell_settlings.ensures)

@@ -18,7 +18,7 @@ loop-edge-preserved c =
     let words = word_at c.loop-edge.words in
     let rows : List (ℕ × ℕ) = selected false words forbidden values in
     let line : string_bytes c.push_table.new.text ≡ text ++ table_line edge rows =
-    c.in_ok-push_table.ensures ∙ ap (λ (z : List (ℕ × ℕ)). text ++ table_line edge z) (c.deref.ensures.value ∙ c.in_ok-rows.ensures.pairs)
+    c.in_ok-push_table.ensures ∙ ap (λ (z : List (ℕ × ℕ)). text ++ table_line edge z) (c.deref.ensures.value ∙ c.in_ok-rows.ensures.things)
     in
     ap (λ (z : List (ℕ × ℕ)). string_bytes c.push_table.new.text ++ table_lines forbidden values (word_at c.select.new.words) z) next
     ∙ ap (λ (z : List ℕ). z ++ table_lines forbidden values (word_at c.select.new.words) rest) line

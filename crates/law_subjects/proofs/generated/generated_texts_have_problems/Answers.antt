@@ -1,5 +1,5 @@
 use Rattle.law_subjects.proofs.Lengths.{are_short}
-use Rattle.law_subjects.proofs.Texts.{queens_have_problem, colouring_has_problem, sparse_has_problem, pigeons_have_problem}
+use Rattle.law_subjects.proofs.Texts.{queens_have_problem, colouring_has_problem, sparse_has_problem, pigeons_have_problem, binary_has_problem}
 use Rattle.law_subjects.proofs.generated.generated_texts_have_problems.Goals as goal
 
 pub returns : goal.returns
@@ -8,5 +8,6 @@ returns c = record {
   colouring = colouring_has_problem;
   sparse = sparse_has_problem;
   pigeons = pigeons_have_problem;
+  binary = binary_has_problem;
   short = are_short;
 }

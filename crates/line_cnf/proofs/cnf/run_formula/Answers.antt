@@ -1,4 +1,4 @@
-use Rattle.std.proofs.Common.{◌∙◌}
+use Rattle.std.proofs.Common.{◌∙◌, None}
 use Rattle.line_replay.proofs.Outcomes.{status_is}
 use Rattle.line_cnf.specs.CnfRuns.{cnf_run}
 use Rattle.line_cnf.proofs.CnfOutcomes.{made_binary, nothing_made, proof_stopped, answer_stopped, answer_put}
@@ -20,4 +20,4 @@ pub returns-clause-wrote : goal.returns-clause-wrote
 returns-clause-wrote g c = answer_put c.args.problem.now c.args.line.proof.now (cnf_run c.args.problem.now c.args.line.seed) c.in_ok-made.made c.in_ok-made.ensures _ (c.in_ok-write_proof.ensures _) (c.in_ok-tell.ensures _)
 
 pub returns-clause-status : goal.returns-clause-status
-returns-clause-status g c = c.status_of.ensures ∙ status_is c.args.problem.now (cnf_run c.args.problem.now c.args.line.seed) c.in_ok-made.made.outcome.end c.in_ok-made.ensures.outcome.end
+returns-clause-status g c = c.status_of.ensures ∙ status_is None c.args.problem.now (cnf_run c.args.problem.now c.args.line.seed) c.in_ok-made.made.outcome.end c.in_ok-made.ensures.outcome.end

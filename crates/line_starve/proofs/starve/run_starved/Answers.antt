@@ -1,4 +1,4 @@
-use Rattle.std.proofs.Common.{◌∙◌, ap, ◌++◌, ◌-◌}
+use Rattle.std.proofs.Common.{◌∙◌, ap, ◌++◌}
 use Rattle.dcsp_rule.specs.Problems.{csp_of}
 use Rattle.abt_session.specs.Starving.{starving_choices}
 use Rattle.abt_session.proofs.Pieces.{memory_at_once}
@@ -11,19 +11,19 @@ returns-in_default-clause-wrote g c = memory_at_once _ _
 
 pub returns-in_err-write_choices-clause-wrote : goal.returns-in_err-write_choices-clause-wrote
 returns-in_err-write_choices-clause-wrote g c =
-    choices_stopped c.args.problem.now c.args.line.from c.args.line.to c.args.most c.args.line.file.now c.in-Ok.told c.choices.result.now c.in-Ok.ensures.starved (c.choices.ensures ∙ c.in-Ok.ensures.takes ∙ ap (λ l. l ++ starving_choices (csp_of c.args.problem.now) (c.args.line.from - 1) (c.args.line.to - 1) c.args.most) c.new-taken.ensures)
+    choices_stopped c.args.run.problem.now c.args.run.from c.args.run.to c.args.most c.args.file.now c.in-Ok.told c.choices.result.now c.in-Ok.ensures.starved (c.choices.ensures ∙ c.in-Ok.ensures.takes ∙ ap (λ l. l ++ starving_choices (csp_of c.args.run.problem.now) c.args.run.from c.args.run.to c.args.most) c.new-taken.ensures)
     _ c.from_residual.ensures (c.in_err-write_choices.ensures _)
 
 pub returns-clause-wrote : goal.returns-clause-wrote
 returns-clause-wrote g c =
-    line_told c.args.problem.now c.args.line.from c.args.line.to c.args.most c.args.line.file.now c.in-Ok.told c.choices.result.now c.in-Ok.ensures.starved (c.choices.ensures ∙ c.in-Ok.ensures.takes ∙ ap (λ l. l ++ starving_choices (csp_of c.args.problem.now) (c.args.line.from - 1) (c.args.line.to - 1) c.args.most) c.new-taken.ensures)
+    line_told c.args.run.problem.now c.args.run.from c.args.run.to c.args.most c.args.file.now c.in-Ok.told c.choices.result.now c.in-Ok.ensures.starved (c.choices.ensures ∙ c.in-Ok.ensures.takes ∙ ap (λ l. l ++ starving_choices (csp_of c.args.run.problem.now) c.args.run.from c.args.run.to c.args.most) c.new-taken.ensures)
     (c.in_ok-write_choices.ensures _) (c.tell.ensures _)
 
 pub returns-clause-schedule : goal.returns-clause-schedule
-returns-clause-schedule g c = on_ok c.tell.result (reads_choices c.args.problem.now c.args.line.from c.args.line.to c.args.most c.requires.most c.in-Ok.ensures.near)
+returns-clause-schedule g c = on_ok c.tell.result (reads_choices c.args.run.problem.now c.args.run.from c.args.run.to c.args.most c.requires.most c.in-Ok.ensures.near)
 
 pub returns-clause-replayed : goal.returns-clause-replayed
-returns-clause-replayed g c = on_ok c.tell.result (replayed c.args.problem.now c.args.line.from c.args.line.to c.args.most c.requires.most c.in-Ok.ensures.near c.in-Ok.ensures.numbers)
+returns-clause-replayed g c = on_ok c.tell.result (replayed c.args.run.problem.now c.args.run.from c.args.run.to c.args.most c.requires.most c.in-Ok.ensures.near c.in-Ok.ensures.numbers)
 
 pub returns-clause-bound : goal.returns-clause-bound
-returns-clause-bound g c = on_ok c.tell.result (bounded c.args.problem.now c.args.line.from c.args.line.to c.args.most c.in-Ok.ensures.verdicts.bound)
+returns-clause-bound g c = on_ok c.tell.result (bounded c.args.run.problem.now c.args.run.from c.args.run.to c.args.most c.in-Ok.ensures.verdicts.bound)

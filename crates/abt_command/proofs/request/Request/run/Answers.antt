@@ -1,7 +1,7 @@
 use Rattle.std.proofs.Common.{subst}
 use Rattle.abt_command.specs.Lines.{IsSomeLine, line_of}
 use Rattle.abt_command.proofs.Meanings.{always, always_both, good_alone, good_or_no, both_facts}
-use Rattle.abt_command.proofs.Lines.{queens_within, colouring_within, sparse_within, pigeons_within, binary_within, solve_within, starve_within, survey_within}
+use Rattle.abt_command.proofs.Lines.{queens_within, colouring_within, sparse_within, pigeons_within, binary_within, meetings_within, sensors_within, solve_within, starve_within, survey_within}
 use Rattle.abt_command.proofs.request.Request.run.Goals as goal
 
 pub run_queens-requires-clause-least : goal.run_queens-requires-clause-least
@@ -47,6 +47,29 @@ run_binary-requires-clause-values g c =
 pub returns-in-GenBinary-clause-came : goal.returns-in-GenBinary-clause-came
 returns-in-GenBinary-clause-came g c = rw c.in-GenBinary.is (c.run_binary.ensures _)
 
+pub run_meetings-requires-clause-people : goal.run_meetings-requires-clause-people
+run_meetings-requires-clause-people g c = (meetings_within _ _ _ _ _ _ (subst (λ o. IsSomeLine (line_of o)) c.in-GenMeetings.is c.requires)).0
+
+pub run_meetings-requires-clause-meetings : goal.run_meetings-requires-clause-meetings
+run_meetings-requires-clause-meetings g c = (meetings_within _ _ _ _ _ _ (subst (λ o. IsSomeLine (line_of o)) c.in-GenMeetings.is c.requires)).1
+
+pub run_meetings-requires-clause-hours : goal.run_meetings-requires-clause-hours
+run_meetings-requires-clause-hours g c = (meetings_within _ _ _ _ _ _ (subst (λ o. IsSomeLine (line_of o)) c.in-GenMeetings.is c.requires)).2
+
+pub returns-in-GenMeetings-clause-came : goal.returns-in-GenMeetings-clause-came
+returns-in-GenMeetings-clause-came g c = rw c.in-GenMeetings.is (c.run_meetings.ensures _)
+
+pub run_sensors-requires-clause-side : goal.run_sensors-requires-clause-side
+run_sensors-requires-clause-side g c =
+    let sizes = sensors_within _ _ _ _ (subst (λ o. IsSomeLine (line_of o)) c.in-GenSensors.is c.requires) in
+    (sizes.0, sizes.1)
+
+pub run_sensors-requires-clause-targets : goal.run_sensors-requires-clause-targets
+run_sensors-requires-clause-targets g c = (sensors_within _ _ _ _ (subst (λ o. IsSomeLine (line_of o)) c.in-GenSensors.is c.requires)).2
+
+pub returns-in-GenSensors-clause-came : goal.returns-in-GenSensors-clause-came
+returns-in-GenSensors-clause-came g c = rw c.in-GenSensors.is (c.run_sensors.ensures _)
+
 pub returns-in-GenSparse-clause-came : goal.returns-in-GenSparse-clause-came
 returns-in-GenSparse-clause-came g c = rw c.in-GenSparse.is (c.run_sparse.ensures _)
 
@@ -81,10 +104,10 @@ pub returns-in-Upgrade-clause-means : goal.returns-in-Upgrade-clause-means
 returns-in-Upgrade-clause-means g c = rw c.in-Upgrade.is (always _ c.run_upgrade.result c.run_upgrade.ensures.writes)
 
 pub run_starve-requires-clause-from : goal.run_starve-requires-clause-from
-run_starve-requires-clause-from g c = (starve_within _ _ _ _ (subst (λ o. IsSomeLine (line_of o)) c.in-Starve.is c.requires)).0
+run_starve-requires-clause-from g c = (starve_within _ _ _ _ _ (subst (λ o. IsSomeLine (line_of o)) c.in-Starve.is c.requires)).0
 
 pub run_starve-requires-clause-to : goal.run_starve-requires-clause-to
-run_starve-requires-clause-to g c = (starve_within _ _ _ _ (subst (λ o. IsSomeLine (line_of o)) c.in-Starve.is c.requires)).1
+run_starve-requires-clause-to g c = (starve_within _ _ _ _ _ (subst (λ o. IsSomeLine (line_of o)) c.in-Starve.is c.requires)).1
 
 pub returns-in-Core-clause-means : goal.returns-in-Core-clause-means
 returns-in-Core-clause-means g c = rw c.in-Core.is (good_or_no _ c.run_core.result (λ s p q. record { trims = p; rejects = q }) c.run_core.ensures.trims c.run_core.ensures.rejects)
@@ -102,4 +125,4 @@ pub returns-in-Story-clause-means : goal.returns-in-Story-clause-means
 returns-in-Story-clause-means g c = rw c.in-Story.is (always _ c.run_story.result c.run_story.ensures.writes)
 
 pub run_survey-requires : goal.run_survey-requires
-run_survey-requires g c = survey_within _ _ _ (subst (λ o. IsSomeLine (line_of o)) c.in-Survey.is c.requires)
+run_survey-requires g c = survey_within _ _ _ _ (subst (λ o. IsSomeLine (line_of o)) c.in-Survey.is c.requires)

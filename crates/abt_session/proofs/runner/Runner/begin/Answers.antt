@@ -1,5 +1,7 @@
-use Rattle.std.proofs.Common.{sym, ap}
+use Rattle.std.proofs.Common.{sym, ap, ◌∙◌}
 use Rattle.dcsp_script.proofs.Lines.{first_wrote, first_stopped}
+use Rattle.dcsp_order.specs.Told.{steps_told}
+use Rattle.abt_session.specs.Running.{order_of}
 use Rattle.abt_session.specs.Sessions.{step_writes}
 use Rattle.abt_session.proofs.Pieces.{memory_at_once, wrote_as}
 use Rattle.abt_session.proofs.Whole.{created_here, created_still, on_ok}
@@ -18,14 +20,19 @@ returns-in_err-append-clause-wrote g c = λ out.
 pub append_begun-requires-clause-created : goal.append_begun-requires-clause-created
 append_begun-requires-clause-created g c = created_still _ c.args.self.now.task.log.now c.in_ok-create.ensures.created c.in_ok-append.ensures.created
 
-pub returns-in-Ok-clause-wrote : goal.returns-in-Ok-clause-wrote
-returns-in-Ok-clause-wrote g c = λ out.
-    let steps = wrote_as (ap (step_writes c.args.self.now.task.log.now 1) (sym c.in-Ok.ensures.starts.steps)) (c.append_begun.ensures.wrote out) in
+pub returns-in-Ok-begun_told-clause-wrote : goal.returns-in-Ok-begun_told-clause-wrote
+returns-in-Ok-begun_told-clause-wrote g c = λ out.
+    let told = c.in-Ok-begun_told.ensures.told ∙ ap (steps_told (order_of c.args.self.now.task)) (sym c.in-Ok.ensures.starts.steps) in
+    let steps = wrote_as (ap (step_writes c.args.self.now.task.log.now 1) told) (c.append_begun.ensures.wrote out) in
     first_wrote (c.in_ok-create.ensures.wrote out) (first_wrote (c.in_ok-append.ensures.wrote out) steps)
 
-pub returns-in-Ok-clause-created : goal.returns-in-Ok-clause-created
-returns-in-Ok-clause-created g c = on_ok c.append_begun.result (rw c.append_begun.ensures.created (created_still _ c.args.self.now.task.log.now c.in_ok-create.ensures.created c.in_ok-append.ensures.created))
+pub returns-in-Ok-begun_told-clause-created : goal.returns-in-Ok-begun_told-clause-created
+returns-in-Ok-begun_told-clause-created g c = on_ok c.append_begun.result (rw c.append_begun.ensures.created (created_still _ c.args.self.now.task.log.now c.in_ok-create.ensures.created c.in_ok-append.ensures.created))
 
 pub returns-in-Err-clause-wrote : goal.returns-in-Err-clause-wrote
 returns-in-Err-clause-wrote g c = λ out.
+    first_wrote (c.in_ok-create.ensures.wrote out) (first_wrote (c.in_ok-append.ensures.wrote out) (memory_at_once _ _))
+
+pub returns-in_default-clause-wrote : goal.returns-in_default-clause-wrote
+returns-in_default-clause-wrote g c = λ out.
     first_wrote (c.in_ok-create.ensures.wrote out) (first_wrote (c.in_ok-append.ensures.wrote out) (memory_at_once _ _))

@@ -3,7 +3,7 @@ use Rattle.law_runs.specs.Stops.{list_number}
 use Rattle.dcsp_rule.specs.Problems.{csp_of}
 use Rattle.dcsp_script.specs.Scripts.{outside}
 use Rattle.abt_session.specs.Sessions.{network_after}
-use Rattle.abt_session.specs.Running.{session_for}
+use Rattle.abt_session.specs.Running.{order_of, session_for}
 use Rattle.abt_session.proofs.Pieces.{wrote_as}
 use Rattle.abt_session.proofs.Turns.{first_turn, next_turn, cut_off, halts_refuted, halts_solved, halts_spent, halts_capped, is_open, none_found, choice_found, few_made, on_run, task_writes, keeps_same, with_answers}
 use Rattle.abt_session.proofs.runner.Runner.deliver_all.Goals as goal
@@ -15,7 +15,7 @@ loop-made-init g c =
     let s = session_for old.network.problem answers old.task in
     record {
       turns = first_turn s old.task.keep old.network old.taken answers (outside (g.F.Folder.place c.args.folder.now) (g.S.Sink.stream c.args.out.now)) c.requires.starts;
-      same = record { problem = refl; most = refl; log = refl; telling = refl; keep = refl };
+      same = record { problem = refl; most = refl; log = refl; telling = refl; keep = refl; order = refl };
       sound = c.requires.sound;
       begun = c.requires.begun;
       created = refl;
@@ -38,7 +38,7 @@ returns-in_default-clause-leaves g c =
     let answers = g.C.Choices.answers c.args.choices.now in
     let s = session_for old.network.problem answers old.task in
     let open_ = is_open (csp_of c.loop-made.self.network.problem) s.problem (ap csp_of i.same.problem) (network_after s c.loop-made._made) (sym c.in-Open.is ∙ c.state.ensures.machine _ i.turns.stands i.sound) in
-    let used = none_found old.network.problem old.task.most answers old.task.log.now old.task.telling _ _ _ _ _ _ _ _ i.turns c.loop-made-test.true c.next.result c.next.ensures.first c.in_default.is in
+    let used = none_found (order_of old.task) old.network.problem old.task.most answers old.task.log.now old.task.telling _ _ _ _ _ _ _ _ i.turns c.loop-made-test.true c.next.result c.next.ensures.first c.in_default.is in
     let turns = with_answers (g.C.Choices.answers c.next.new.self) i.turns (c.in_default.ensures.none refl) in
     halts_spent s _ _ _ _ _ _ _ _ _ turns i.sound open_ c.loop-made-test.true used
 
@@ -49,14 +49,14 @@ deliver_one-requires-clause-can g c =
     record {
       begun = i.begun;
       open_ = sym c.state.ensures.standing ∙ c.in-Open.is;
-      few = few_made old.network.problem old.task.most (g.C.Choices.answers c.args.choices.now) old.task.log.now old.task.telling _ _ _ _ _ _ _ _ i.turns c.loop-made-test.true c.requires.most;
+      few = few_made (order_of old.task) old.network.problem old.task.most (g.C.Choices.answers c.args.choices.now) old.task.log.now old.task.telling _ _ _ _ _ _ _ _ i.turns c.loop-made-test.true c.requires.most;
     }
 
 pub deliver_one-requires-clause-on_run : goal.deliver_one-requires-clause-on_run
 deliver_one-requires-clause-on_run g c =
     let i = c.loop-made.invariant in
     let old = c.args.self.now in
-    on_run old.network.problem old.task.most (g.C.Choices.answers c.args.choices.now) old.task.log.now old.task.telling _ _ _ _ _ _ _ _ i.turns c.loop-made-test.true i.same.problem
+    on_run (order_of old.task) old.network.problem old.task.most (g.C.Choices.answers c.args.choices.now) old.task.log.now old.task.telling _ _ _ _ _ _ _ _ i.turns c.loop-made-test.true i.same.problem
 
 pub returns-in_err-deliver_one-clause-leaves : goal.returns-in_err-deliver_one-clause-leaves
 returns-in_err-deliver_one-clause-leaves g c =
@@ -67,8 +67,8 @@ returns-in_err-deliver_one-clause-leaves g c =
     let q = csp_of c.loop-made.self.network.problem in
     let net = network_after s c.loop-made._made in
     let open_ = is_open q s.problem (ap csp_of i.same.problem) net (sym c.in-Open.is ∙ c.state.ensures.machine _ i.turns.stands i.sound) in
-    let found = choice_found old.network.problem old.task.most answers old.task.log.now old.task.telling _ _ _ _ _ _ _ _ i.turns c.loop-made-test.true c.next.result c.in-Some.choice c.next.ensures.first c.in-Some.is in
-    let wrote = wrote_as (task_writes q (net.deliveries + 1) c.in-Some.choice net i.same.log i.same.telling) (c.in_err-deliver_one.ensures.wrote net i.turns.stands) in
+    let found = choice_found (order_of old.task) old.network.problem old.task.most answers old.task.log.now old.task.telling _ _ _ _ _ _ _ _ i.turns c.loop-made-test.true c.next.result c.in-Some.choice c.next.ensures.first c.in-Some.is in
+    let wrote = wrote_as (task_writes q (net.deliveries + 1) c.in-Some.choice net i.same.order i.same.log i.same.telling) (c.in_err-deliver_one.ensures.wrote net i.turns.stands) in
     cut_off s old.task.keep c.loop-made._made c.in-Some.choice _ _ _ _ _ _ _ i.turns open_ found c.loop-made-test.true q (ap csp_of i.same.problem) _ c.from_residual.result _ _ _ _ wrote c.from_residual.ensures
 
 pub loop-made-preserved : goal.loop-made-preserved
@@ -80,9 +80,9 @@ loop-made-preserved g c =
     let q = csp_of c.loop-made.self.network.problem in
     let net = network_after s c.loop-made._made in
     let open_ = is_open q s.problem (ap csp_of i.same.problem) net (sym c.in-Open.is ∙ c.state.ensures.machine _ i.turns.stands i.sound) in
-    let found = choice_found old.network.problem old.task.most answers old.task.log.now old.task.telling _ _ _ _ _ _ _ _ i.turns c.loop-made-test.true c.next.result c.in-Some.choice c.next.ensures.first c.in-Some.is in
+    let found = choice_found (order_of old.task) old.network.problem old.task.most answers old.task.log.now old.task.telling _ _ _ _ _ _ _ _ i.turns c.loop-made-test.true c.next.result c.in-Some.choice c.next.ensures.first c.in-Some.is in
     let one = c.in_ok-deliver_one.ensures in
-    let wrote = wrote_as (task_writes q (net.deliveries + 1) c.in-Some.choice net i.same.log i.same.telling) (one.wrote net i.turns.stands) in
+    let wrote = wrote_as (task_writes q (net.deliveries + 1) c.in-Some.choice net i.same.order i.same.log i.same.telling) (one.wrote net i.turns.stands) in
     let takes = keeps_same _ _ (list_number q c.in-Some.choice net ∷ []) i.same.keep (one.takes net i.turns.stands) in
     record {
       turns = next_turn s old.task.keep c.loop-made._made c.in-Some.choice _ _ _ _ _ _ _ i.turns open_ found c.loop-made-test.true q (ap csp_of i.same.problem) _ _ _ _ _ wrote (one.stands net i.turns.stands) takes c.next.ensures.rest;
@@ -92,6 +92,7 @@ loop-made-preserved g c =
         log = one.same.log ∙ i.same.log;
         telling = one.same.telling ∙ i.same.telling;
         keep = one.same.keep ∙ i.same.keep;
+        order = one.same.order ∙ i.same.order;
       };
       sound = one.sound;
       begun = one.begun;

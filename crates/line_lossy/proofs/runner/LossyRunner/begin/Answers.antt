@@ -1,6 +1,8 @@
-use Rattle.std.proofs.Common.{sym, ap}
+use Rattle.std.proofs.Common.{sym, ap, ◌∙◌}
 use Rattle.dcsp_script.proofs.Lines.{first_wrote, first_stopped}
+use Rattle.dcsp_order.specs.Told.{steps_told}
 use Rattle.abt_session.specs.Sessions.{step_writes}
+use Rattle.line_lossy.specs.Runners.{order_of}
 use Rattle.abt_session.proofs.Pieces.{memory_at_once, wrote_as}
 use Rattle.abt_session.proofs.Whole.{created_here, created_still, on_ok}
 use Rattle.line_lossy.proofs.runner.LossyRunner.begin.Goals as goal
@@ -19,12 +21,17 @@ pub returns-in_default-clause-wrote : goal.returns-in_default-clause-wrote
 returns-in_default-clause-wrote g c = λ out.
     first_wrote (c.in_ok-create.ensures.wrote out) (first_wrote (c.in_ok-append.ensures.wrote out) (memory_at_once _ _))
 
+pub returns-in_default-begun_told-clause-wrote : goal.returns-in_default-begun_told-clause-wrote
+returns-in_default-begun_told-clause-wrote g c = λ out.
+    first_wrote (c.in_ok-create.ensures.wrote out) (first_wrote (c.in_ok-append.ensures.wrote out) (memory_at_once _ _))
+
 pub append_begun-requires-clause-created : goal.append_begun-requires-clause-created
 append_begun-requires-clause-created g c = created_still _ c.args.self.now.log.now c.in_ok-create.ensures.created c.in_ok-append.ensures.created
 
 pub returns-clause-wrote : goal.returns-clause-wrote
 returns-clause-wrote g c = λ out.
-    let steps = wrote_as (ap (step_writes c.args.self.now.log.now 1) (sym c.in-Ok.ensures.begins.starts.steps)) (c.append_begun.ensures.wrote out) in
+    let told = c.in-Ok-begun_told.ensures.told ∙ ap (steps_told (order_of c.args.self.now)) (sym c.in-Ok.ensures.begins.starts.steps) in
+    let steps = wrote_as (ap (step_writes c.args.self.now.log.now 1) told) (c.append_begun.ensures.wrote out) in
     first_wrote (c.in_ok-create.ensures.wrote out) (first_wrote (c.in_ok-append.ensures.wrote out) steps)
 
 pub returns-clause-created : goal.returns-clause-created

@@ -1,4 +1,5 @@
 use Rattle.std.proofs.Common.{◌≡◌, ◌∙◌, ◌∷◌, ◌++◌, [], ap, refl, subst, sym, take}
+use Rattle.std.specs.Prelude.{option_copied}
 use Rattle.dcsp_rule.specs.Problems.{Contents, csp_of}
 use Rattle.abt_defs.specs.Network.{run, start}
 use Rattle.abt_network.specs.Standing.{standing_of, StandsAt}
@@ -10,9 +11,9 @@ use Rattle.line_story.proofs.teller.Teller.deliver_all.Goals as goal
 
 pub loop-made-init : goal.loop-made-init
 loop-made-init g c = record {
-  far = at_start c.args.self.now.problem.now c.args.most (g.C.Choices.answers c.args.choices.now) c.args.self.now.file.now c.args.self.now.network (g.F.Folder.place c.args.folder.now) c.requires.starts;
+  far = at_start c.args.self.now.problem.now c.args.most (g.C.Choices.answers c.args.choices.now) c.args.self.now.file.now (option_copied c.args.self.now.order) c.args.self.now.network (g.F.Folder.place c.args.folder.now) c.requires.starts;
   ready = c.requires.ready;
-  same = record { problem = refl; file = refl };
+  same = record { order = refl; problem = refl; file = refl };
   created = refl;
 }
 
@@ -22,9 +23,10 @@ returns-in-Refuted-clause-wrote g c = λ out.
     let P = c.args.self.now.problem.now in
     let answers = g.C.Choices.answers c.args.choices.now in
     let file = c.args.self.now.file.now in
-    let net = network_after (s P c.args.most answers file) c.loop-made._made in
+    let order = option_copied c.args.self.now.order in
+    let net = network_after (s P c.args.most answers file order) c.loop-made._made in
     let st : c.state.result ≡ standing_of (csp_of P) net = c.state.ensures.machine net i.far.stands i.ready.sound ∙ ap (λ (q : Contents). standing_of (csp_of q) net) (i.ready.problem ∙ i.same.problem) in
-    wrote_all P c.args.most answers file c.loop-made._made _ _ _ _ i.far _ out (ends_closed P c.args.most answers file c.loop-made._made _ _ _ _ i.far c.state.result st c.in-Refuted.is)
+    wrote_all P c.args.most answers file order c.loop-made._made _ _ _ _ i.far _ out (ends_closed P c.args.most answers file order c.loop-made._made _ _ _ _ i.far c.state.result st c.in-Refuted.is)
 
 pub returns-in-Refuted-clause-stands : goal.returns-in-Refuted-clause-stands
 returns-in-Refuted-clause-stands g c =
@@ -32,9 +34,10 @@ returns-in-Refuted-clause-stands g c =
     let P = c.args.self.now.problem.now in
     let answers = g.C.Choices.answers c.args.choices.now in
     let file = c.args.self.now.file.now in
-    let net = network_after (s P c.args.most answers file) c.loop-made._made in
+    let order = option_copied c.args.self.now.order in
+    let net = network_after (s P c.args.most answers file order) c.loop-made._made in
     let st : c.state.result ≡ standing_of (csp_of P) net = c.state.ensures.machine net i.far.stands i.ready.sound ∙ ap (λ (q : Contents). standing_of (csp_of q) net) (i.ready.problem ∙ i.same.problem) in
-    stands_last P c.args.most answers file c.loop-made._made _ _ _ _ i.far (ends_closed P c.args.most answers file c.loop-made._made _ _ _ _ i.far c.state.result st c.in-Refuted.is)
+    stands_last P c.args.most answers file order c.loop-made._made _ _ _ _ i.far (ends_closed P c.args.most answers file order c.loop-made._made _ _ _ _ i.far c.state.result st c.in-Refuted.is)
 
 pub returns-in_default-clause-wrote : goal.returns-in_default-clause-wrote
 returns-in_default-clause-wrote g c = λ out.
@@ -42,7 +45,8 @@ returns-in_default-clause-wrote g c = λ out.
     let P = c.args.self.now.problem.now in
     let answers = g.C.Choices.answers c.args.choices.now in
     let file = c.args.self.now.file.now in
-    wrote_all P c.args.most answers file c.loop-made._made _ _ _ _ i.far _ out (ends_spent P c.args.most answers file c.loop-made._made _ _ _ _ i.far c.loop-made-test.true c.next.result c.next.ensures.first c.in_default.is)
+    let order = option_copied c.args.self.now.order in
+    wrote_all P c.args.most answers file order c.loop-made._made _ _ _ _ i.far _ out (ends_spent P c.args.most answers file order c.loop-made._made _ _ _ _ i.far c.loop-made-test.true c.next.result c.next.ensures.first c.in_default.is)
 
 pub returns-in_default-clause-stands : goal.returns-in_default-clause-stands
 returns-in_default-clause-stands g c =
@@ -50,7 +54,8 @@ returns-in_default-clause-stands g c =
     let P = c.args.self.now.problem.now in
     let answers = g.C.Choices.answers c.args.choices.now in
     let file = c.args.self.now.file.now in
-    stands_last P c.args.most answers file c.loop-made._made _ _ _ _ i.far (ends_spent P c.args.most answers file c.loop-made._made _ _ _ _ i.far c.loop-made-test.true c.next.result c.next.ensures.first c.in_default.is)
+    let order = option_copied c.args.self.now.order in
+    stands_last P c.args.most answers file order c.loop-made._made _ _ _ _ i.far (ends_spent P c.args.most answers file order c.loop-made._made _ _ _ _ i.far c.loop-made-test.true c.next.result c.next.ensures.first c.in_default.is)
 
 pub deliver-requires-clause-can : goal.deliver-requires-clause-can
 deliver-requires-clause-can g c =
@@ -58,7 +63,7 @@ deliver-requires-clause-can g c =
     record {
       begun = i.ready.begun;
       open_ = sym c.state.ensures.standing ∙ c.in-Open.is;
-      few = few c.args.self.now.problem.now c.args.most (g.C.Choices.answers c.args.choices.now) c.args.self.now.file.now c.loop-made._made _ _ _ _ i.far c.requires.most;
+      few = few c.args.self.now.problem.now c.args.most (g.C.Choices.answers c.args.choices.now) c.args.self.now.file.now (option_copied c.args.self.now.order) c.loop-made._made _ _ _ _ i.far c.requires.most;
     }
 
 pub deliver-requires-clause-on_run : goal.deliver-requires-clause-on_run
@@ -73,13 +78,14 @@ returns-in_err-deliver-clause-wrote g c = λ out.
     let P = c.args.self.now.problem.now in
     let answers = g.C.Choices.answers c.args.choices.now in
     let file = c.args.self.now.file.now in
-    let net = network_after (s P c.args.most answers file) c.loop-made._made in
+    let order = option_copied c.args.self.now.order in
+    let net = network_after (s P c.args.most answers file order) c.loop-made._made in
     let at = i.ready.problem ∙ i.same.problem in
     let st : c.state.result ≡ standing_of (csp_of P) net = c.state.ensures.machine net i.far.stands i.ready.sound ∙ ap (λ (q : Contents). standing_of (csp_of q) net) at in
     let done = take c.loop-made._made (first_answers c.args.most answers) in
     let here = subst (λ (q : Contents). StandsAt c.loop-made.self.network (run (csp_of q) done (start (csp_of q)))) (sym at) i.far.stands in
-    let wrote = wrote_as (event_as c.in-Some.choice done i.same.file i.same.problem at) (c.in_err-deliver.ensures.wrote done out here) in
-    cut_off P c.args.most answers file c.loop-made._made _ _ _ _ i.far c.loop-made-test.true c.in-Some.choice c.next.result c.next.ensures.first c.in-Some.is (sym c.in-Open.is ∙ st) _ c.from_residual.result _ out wrote c.from_residual.ensures
+    let wrote = wrote_as (event_as c.in-Some.choice done i.same.file i.same.order i.same.problem at) (c.in_err-deliver.ensures.wrote done out here) in
+    cut_off P c.args.most answers file order c.loop-made._made _ _ _ _ i.far c.loop-made-test.true c.in-Some.choice c.next.result c.next.ensures.first c.in-Some.is (sym c.in-Open.is ∙ st) _ c.from_residual.result _ out wrote c.from_residual.ensures
 
 pub loop-made-preserved : goal.loop-made-preserved
 loop-made-preserved g c =
@@ -87,7 +93,8 @@ loop-made-preserved g c =
     let P = c.args.self.now.problem.now in
     let answers = g.C.Choices.answers c.args.choices.now in
     let file = c.args.self.now.file.now in
-    let net = network_after (s P c.args.most answers file) c.loop-made._made in
+    let order = option_copied c.args.self.now.order in
+    let net = network_after (s P c.args.most answers file order) c.loop-made._made in
     let at = i.ready.problem ∙ i.same.problem in
     let st : c.state.result ≡ standing_of (csp_of P) net = c.state.ensures.machine net i.far.stands i.ready.sound ∙ ap (λ (q : Contents). standing_of (csp_of q) net) at in
     let done = take c.loop-made._made (first_answers c.args.most answers) in
@@ -95,11 +102,11 @@ loop-made-preserved g c =
     let here = subst (λ (q : Contents). StandsAt c.loop-made.self.network (run (csp_of q) done (start (csp_of q)))) (sym at) i.far.stands in
     let one = c.in_ok-deliver.ensures in
     record {
-      far = goes_on P c.args.most answers file c.loop-made._made _ _ _ _ i.far c.loop-made-test.true c.in-Some.choice c.next.result c.next.ensures.first c.in-Some.is (sym c.in-Open.is ∙ st) _ c.deliver.new.self.network _ _
-          (λ out. wrote_as (event_as c.in-Some.choice done i.same.file i.same.problem at) (one.wrote done out here))
+      far = goes_on P c.args.most answers file order c.loop-made._made _ _ _ _ i.far c.loop-made-test.true c.in-Some.choice c.next.result c.next.ensures.first c.in-Some.is (sym c.in-Open.is ∙ st) _ c.deliver.new.self.network _ _
+          (λ out. wrote_as (event_as c.in-Some.choice done i.same.file i.same.order i.same.problem at) (one.wrote done out here))
           (subst (λ (q : Contents). StandsAt c.deliver.new.self.network (run (csp_of q) more (start (csp_of q)))) at (one.stands done here)) c.next.ensures.rest;
       ready = one.ready;
-      same = record { problem = one.same.problem ∙ i.same.problem; file = one.same.file ∙ i.same.file };
+      same = record { order = one.same.order ∙ i.same.order; problem = one.same.problem ∙ i.same.problem; file = one.same.file ∙ i.same.file };
       created = one.created ∙ i.created;
     }
 
@@ -109,7 +116,8 @@ returns-clause-wrote g c = λ out.
     let P = c.args.self.now.problem.now in
     let answers = g.C.Choices.answers c.args.choices.now in
     let file = c.args.self.now.file.now in
-    wrote_all P c.args.most answers file c.loop-made._made _ _ _ _ i.far _ out (ends_capped P c.args.most answers file c.loop-made._made _ _ _ _ i.far c.loop-made-test.false)
+    let order = option_copied c.args.self.now.order in
+    wrote_all P c.args.most answers file order c.loop-made._made _ _ _ _ i.far _ out (ends_capped P c.args.most answers file order c.loop-made._made _ _ _ _ i.far c.loop-made-test.false)
 
 pub returns-clause-stands : goal.returns-clause-stands
 returns-clause-stands g c =
@@ -117,4 +125,5 @@ returns-clause-stands g c =
     let P = c.args.self.now.problem.now in
     let answers = g.C.Choices.answers c.args.choices.now in
     let file = c.args.self.now.file.now in
-    stands_last P c.args.most answers file c.loop-made._made _ _ _ _ i.far (ends_capped P c.args.most answers file c.loop-made._made _ _ _ _ i.far c.loop-made-test.false)
+    let order = option_copied c.args.self.now.order in
+    stands_last P c.args.most answers file order c.loop-made._made _ _ _ _ i.far (ends_capped P c.args.most answers file order c.loop-made._made _ _ _ _ i.far c.loop-made-test.false)

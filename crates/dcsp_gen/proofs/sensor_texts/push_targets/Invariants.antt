@@ -1,0 +1,8 @@
+use Rattle.std.proofs.Common.{◌≡◌, ◌++◌, ◌-◌, string_bytes, flat_map}
+use Rattle.std.specs.List.{range_with_len}
+use Rattle.dcsp_gen.specs.Lists.{lists_in}
+use Rattle.dcsp_gen.specs.Sensors.{target_lines}
+use Rattle.dcsp_gen.proofs.sensor_texts.push_targets.Given as goal
+
+abbrev pub invariant-loop-target : goal.invariant-loop-target
+invariant-loop-target l = string_bytes l.text ≡ string_bytes l.initial.text ++ flat_map (target_lines l.side (lists_in l.seen)) (range_with_len 1 (l.target - 1))
