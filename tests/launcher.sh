@@ -92,11 +92,11 @@ row() {
 echo "== words"
 printf 'var 0..1: x;\nvar 0..1: y;\nconstraint int_ne(x,y);\nsolve satisfy;\n' > m
 row "no words" 2 "usage:
-abt solve MODEL LOG [--seed N] [--choices N] [--record FILE] [--trace] [--progress] [--each] [--halves]
+abt solve MODEL LOG [--seed N] [--choices N] [--record FILE] [--order FILE] [--trace] [--progress] [--each] [--halves]
 a first answer"
 row "-h" 2 "abt check MODEL LOG [--better N]" -h
 row "help" 2 "abt bound MODEL" help
-row "solve --help" 2 "usage: abt solve MODEL LOG [--seed N] [--choices N] [--record FILE] [--trace] [--progress] [--each] [--halves]
+row "solve --help" 2 "usage: abt solve MODEL LOG [--seed N] [--choices N] [--record FILE] [--order FILE] [--trace] [--progress] [--each] [--halves]
 LOG is the file that a log is written to" solve --help
 row "version" 2 "did you mean abt --version" version
 row "a log is forgotten" 2 "LOG is missing, as in: abt solve m out.ngd" solve m
@@ -124,7 +124,7 @@ row "an empty log's name" 2 "LOG is empty: LOG is the file that a log is written
 row "- as log" 2 "- is standard input in the place of a model or formula alone" solve m -
 row "leading zeros" 2 "007 is not so written" solve m l --seed 007
 row "an empty name" 2 "MODEL is empty" solve '' l
-row "a name like an option" 2 "solve has no option -x: it has --seed, --choices, --record, --trace, --progress, --each, --halves" solve m -x
+row "a name like an option" 2 "solve has no option -x: it has --seed, --choices, --record, --order, --trace, --progress, --each, --halves" solve m -x
 row "names with blanks, quotes and line feeds" 2 "options follow the names: abt solve 'a b' \$'it\\'s\\n' --trace" solve 'a b' --trace $'it\'s\n'
 row "a word that is not UTF-8" 2 "is not written in UTF-8" solve $'\xff' l
 
@@ -332,14 +332,14 @@ import random, subprocess, sys
 # words.py PROGRAM HELP COUNT: whether words are a line is what the program says of as many random words.
 program, help_py, count = sys.argv[1:4]
 draw = random.Random(7)
-keywords = "solve replay check upgrade core export starve lossy bound gen cnf rup queens colouring sparse pigeons --help --version".split()
-others = ["m", "l", "k", "n", "--seed", "--choices", "--record", "--trace", "--progress", "--each", "--halves", "--better", "0", "7", "007", "-0", "-5", "200", "500", "4097", "", "-", "-x", "--seed=7",
+keywords = "solve replay check upgrade core export starve lossy bound measure survey story order gen cnf rup queens colouring sparse pigeons --help --version".split()
+others = ["m", "l", "k", "n", "--seed", "--choices", "--record", "--order", "--from", "links", "--trace", "--progress", "--each", "--halves", "--better", "0", "7", "007", "-0", "-5", "200", "500", "4097", "", "-", "-x", "--seed=7",
           str(2**64 - 1), str(2**64), str(-(2**63)), str(2**63), "a b", "\n", "x=1", "٣", "+3"]
 wrong = 0
 for at in range(int(count)):
     words = [draw.choice(keywords), *(draw.choice(others) for _ in range(draw.randrange(7)))]
     if words[0] == "gen" and draw.random() < 0.8:
-        words[1:] = [draw.choice(["queens", "colouring", "sparse", "pigeons"]), *(draw.choice(["1", "2", "5", "16", "17", "200", "201", "4096", "4097", "01"]) for _ in range(draw.randrange(4)))]
+        words[1:] = [draw.choice(["queens", "colouring", "sparse", "pigeons", "binary", "meetings", "sensors"]), *(draw.choice(["1", "2", "5", "16", "17", "200", "201", "4096", "4097", "01"]) for _ in range(draw.randrange(8)))]
     if words[0] in ("solve", "lossy", "starve", "check") and draw.random() < 0.6:
         numbers = {"solve": [], "check": [], "lossy": ["0"], "starve": ["1"]}[words[0]]
         words[1:3] = {"starve": ["m", "1", "2", "f"], "lossy": ["m", "l", "5", "7"]}.get(words[0], ["m", "l"])
@@ -353,7 +353,7 @@ END
 mkdir empty
 python3 "$room/words.py" "$program" "$repository/launcher/help.py" 600 empty
 tell "whether 600 random words are lines" "$([ $? = 0 ] && echo 1)"
-missing=$(grep -rhoE 'b"abt: (model|cnf|log|schedule|proof): [^"\\]*' --include='*.rt' --exclude-dir='*_trials' --exclude-dir=out "$repository/crates" | sed -e 's/b"abt: //' | sort -u |
+missing=$(grep -rhoE 'b"abt: (model|cnf|log|schedule|order|proof): [^"\\]*' --include='*.rt' --exclude-dir='*_trials' --exclude-dir=out "$repository/crates" | sed -e 's/b"abt: //' | sort -u |
     while read -r said; do grep -qF -- "$said" "$repository/launcher/refusals.txt" || echo "$said"; done)
 tell "refusals.txt has each refusal of the sources" "$([ -z "$missing" ] && echo 1)"
 [ -z "$missing" ] || echo "$missing"
@@ -497,7 +497,7 @@ for shell in bash fish; do
     completes $shell "abt so" solve
     completes $shell "abt gen " "binary colouring meetings pigeons queens sensors sparse"
     completes $shell "abt solve m1.f" m1.fzn
-    completes $shell "abt solve m l --" "--choices --each --halves --progress --record --seed --trace"
+    completes $shell "abt solve m l --" "--choices --each --halves --order --progress --record --seed --trace"
     completes $shell "abt solve m l --record m1.n" m1.ngd
     completes $shell "abt solve m l --seed " ""
 done
