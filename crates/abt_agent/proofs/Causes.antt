@@ -1,9 +1,9 @@
 -- What the code finds is what the definitions say.
-use Rattle.std.proofs.Common.{◌≡◌, ℕ, ◌+◌, ◌<◌, Bool, true, false, cond, not, ◌||◌, ◌==◌, List, [], ◌∷◌, ◌++◌, length, map, filter, find, take, drop, get_or, slice_get, Option, Some, None, ℤ, is_some, option_map, option_to_list, refl, sym, ap, subst, ◌∙◌, arith}
+use Rattle.std.proofs.Common.{◌≡◌, ℕ, ◌+◌, ◌<◌, Bool, true, false, cond, not, ◌||◌, ◌==◌, List, [], ◌∷◌, ◌++◌, length, map, filter, find, take, get_or, slice_get, Option, Some, None, ℤ, is_some, option_map, option_to_list, refl, sym, ap, subst, ◌∙◌, arith}
 use Rattle.std.specs.Prelude.{All, IfSome, filter_map, slice_index_or, pos, if◌then◌else◌}
 use Rattle.std.specs.Option.{option_or}
 use Rattle.std.specs.List.{list_any, cons_option, enumerate_from}
-use Rattle.std.proofs.lemmas.List.{get_or_at, append_assoc, length_push, at_drop_more, take_more, get_or_default}
+use Rattle.std.proofs.lemmas.List.{get_or_at, append_assoc, length_push, take_more, get_or_default}
 use Rattle.std.proofs.lemmas.List.Elements.{All-head, All-tail, filter_map-append}
 use Rattle.std.proofs.lemmas.List.Folds.{find-append}
 use Rattle.std.proofs.lemmas.Option.{get_or_from_slice_get}
@@ -25,7 +25,11 @@ use Rattle.abt_parts.specs.Views.{view_of}
 use Rattle.abt_defs.specs.Steps.{is_free, choice, is_named}
 use Rattle.abt_agent.specs.declared.body.AgentBody.{AgentBody}
 use Rattle.abt_agent.specs.Bodies.{agent_of}
-use Rattle.abt_reason.specs.Causes.{reason_for, value_at}
+use Rattle.abt_reason.specs.Causes.{is_free_at, reason_for, value_at}
+use Rattle.abt_reason.specs.Cached.{size_of}
+use Rattle.abt_reason.specs.Firsts.{IsFirst}
+use Rattle.abt_reason.proofs.CauseLaws.{first_at}
+use Rattle.abt_reason.proofs.FirstLaws.{first_alike}
 use Rattle.abt_agent.specs.declared.search.Cause.{Cause}
 use Rattle.abt_agent.specs.declared.search.Cause.TheVariants.{OwnedRule, KeptNogood}
 use Rattle.abt_agent.specs.Causes.{first_rule, first_kept, cause_for, causes_for, least_free, item_at, no_record, IsCause, blames_one, blames, told_of}
@@ -34,18 +38,6 @@ use Rattle.abt_agent.proofs.Lists.{one, plain-with_stamps, map_below, mapped_fil
 -- ---- one item after another
 
 module _ (p : Contents) (i : ℕ) (known : PartialAssignment) (kept : List Recorded) (xs : List ℤ) (k : ℕ) (x : ℤ) (within : k < length xs) (at : slice_get xs k ≡ Some x) where
-  pub free_here : is_some (cause_for p i known kept x) ≡ false → least_free p i known kept (drop k xs) ≡ Some x
-  free_here e =
-      at_drop_more (least_free p i known kept) xs k (pos 0) within
-      ∙ ap (λ y. least_free p i known kept (y ∷ drop (k + 1) xs)) (get_or_from_slice_get xs k x (pos 0) at)
-      ∙ ap (λ b. cond (not b) (Some x) (least_free p i known kept (drop (k + 1) xs))) e
-
-  pub free_later : is_some (cause_for p i known kept x) ≡ true → least_free p i known kept (drop k xs) ≡ least_free p i known kept (drop (k + 1) xs)
-  free_later e =
-      at_drop_more (least_free p i known kept) xs k (pos 0) within
-      ∙ ap (λ y. least_free p i known kept (y ∷ drop (k + 1) xs)) (get_or_from_slice_get xs k x (pos 0) at)
-      ∙ ap (λ b. cond (not b) (Some x) (least_free p i known kept (drop (k + 1) xs))) e
-
   pub causes_more : causes_for p i known kept (take (k + 1) xs) ≡ causes_for p i known kept (take k xs) ++ option_to_list (cause_for p i known kept x)
   causes_more =
       ap (causes_for p i known kept) (take_more xs k (pos 0) within)
@@ -288,6 +280,17 @@ module _ (p : Contents) (i : ℕ) (known : PartialAssignment) (kept : List Recor
   -- then a nogood agrees
   pub step_some : (s : ℕ) → reason_for p i known kept v ≡ Some (Earlier s) → is_some (first_kept (with_value i v known) 0 kept) ≡ true
   step_some s e = ap is_some (step_reason s e) ∙ sym reason_some ∙ ap is_some e
+
+-- ---- the least free value
+
+pub free_moved : (p q : Contents) (i j : ℕ) (known : PartialAssignment) (kept : List Recorded) (o : Option ℕ) → q ≡ p → j ≡ i → IsFirst (is_free_at q j known kept) (size_of q j) o → IsFirst (is_free_at p i known kept) (size_of p i) o
+free_moved p q i j known kept o e f h = subst (λ n. IsFirst (is_free_at p n known kept) (size_of p n) o) f (subst (λ z. IsFirst (is_free_at z j known kept) (size_of z j) o) e h)
+
+-- it stands at the first place at which nothing rules out the value
+pub least_at : (p : Contents) (i : ℕ) (known : PartialAssignment) (kept : List Recorded) (o : Option ℕ) → IsFirst (is_free_at p i known kept) (size_of p i) o → option_map (value_at p i) o ≡ least_free p i known kept (domain (csp_of p) i)
+least_at p i known kept o f =
+    sym (first_at (λ v. not (is_some (cause_for p i known kept v))) (domain (csp_of p) i) (pos 0) o
+    (first_alike (is_free_at p i known kept) (λ k. not (is_some (cause_for p i known kept (value_at p i k)))) (size_of p i) o (λ k l. ap not (reason_some p i known kept (value_at p i k))) f))
 
 -- ---- the choice of a value
 

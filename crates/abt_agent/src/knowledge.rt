@@ -99,6 +99,7 @@ impl<'p> Knowledge<'p> {
         ensures in_step { OnOk result (IsInStep self.new) }
     {
         let Recorded { nogood, step } = recorded;
+        self.reasons.make_room(self.alloc)?;
         match self.store.keep(nogood, step) {
             Ok(()) => {
                 self.reasons.after_record(&self.view, &self.store);

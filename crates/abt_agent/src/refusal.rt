@@ -16,7 +16,7 @@ ghost use Rattle.abt_agent.specs.Causes.{all_causes, blames, blames_one, reasons
 use crate::knowledge::Knowledge;
 use crate::search::Cause;
 use abt_parts::{StampList, StampedValue};
-use abt_reason::{make_blank, mark_pairs, mark_variables};
+use abt_reason::{ValueRun, make_blank, mark_pairs, mark_variables};
 use dcsp_common::Memory;
 use dcsp_defs::{Nogood, Pair, Reason, ReasonList};
 use dcsp_row::Row;
@@ -73,8 +73,13 @@ impl<'p> Knowledge<'p> {
         let Ok(mut reasons) = Vec::with_capacity(self.alloc, values) else {
             return Err(Memory);
         };
+        let mut run = ValueRun {
+            first: None,
+            end: 0,
+        };
         for place in 0..values {
-            self.blame_one(&mut reasons, marks, self.cause_at(place));
+            run = self.reasons.run_from(place, run);
+            self.blame_one(&mut reasons, marks, self.cause_in(place, run));
         }
         Ok(ReasonList::from_vec(reasons))
     }

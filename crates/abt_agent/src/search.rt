@@ -5,12 +5,14 @@ ghost use Rattle.dcsp_defs.specs.Csp.{domain};
 ghost use Rattle.abt_defs.specs.Agents.{values_in};
 ghost use Rattle.dcsp_rule.specs.Problems.{csp_of};
 ghost use Rattle.abt_parts.specs.Views.{view_of};
+ghost use Rattle.abt_reason.specs.Cached.{IsValueRunFrom};
 ghost use Rattle.abt_reason.specs.Causes.{reason_for, value_at};
 ghost use Rattle.abt_parts.specs.Stores.{IsOncePerValue};
 ghost use Rattle.abt_agent.specs.Bodies.{AreProper, IsInStep};
 ghost use Rattle.abt_agent.specs.Causes.{first_against, least_free, cause_for};
 
 use crate::knowledge::Knowledge;
+use abt_reason::ValueRun;
 use dcsp_defs::Reason;
 
 /// What rules a value out.
@@ -23,15 +25,18 @@ pub enum Cause {
 }
 
 impl<'p> Knowledge<'p> {
-    /// What rules out the value at a place of the agent's domain first, if anything does.
+    /// What rules out the value at a place of the agent's domain first, if anything does, where it is known in which
+    /// run of its values this is.
     #[inline(always)]
-    pub fn cause_at(&self, place: usize) -> Option<Cause>
+    pub fn cause_in(&self, place: usize, run: ValueRun) -> Option<Cause>
         requires in_step { IsInStep self.now }
         requires proper { AreProper self.now.problem.now self.now.me self.now.store }
         requires place { place < length (domain (csp_of self.now.problem.now) self.now.me) }
+        requires run { IsValueRunFrom self.now.reasons place run }
+        requires within { place < run.end }
         ensures { result ≡ cause_for self.now.problem.now self.now.me (values_in (view_of self.now.view)) self.now.store (value_at self.now.problem.now self.now.me place) }
     {
-        match self.reasons.first(place) {
+        match self.reasons.first_in(place, run) {
             None => None,
             Some(Reason::Rule(rule)) => Some(Cause::OwnedRule(rule)),
             Some(Reason::Earlier(_)) => self.against(self.value_at(place)),
@@ -82,11 +87,9 @@ impl<'p> Knowledge<'p> {
         requires { IsInStep self.now }
         ensures { result ≡ least_free self.now.problem.now self.now.me (values_in (view_of self.now.view)) self.now.store (domain (csp_of self.now.problem.now) self.now.me) }
     {
-        for place in 0..self.problem.domain(self.me).len() {
-            if self.is_free_at(place) {
-                return Some(self.value_at(place));
-            }
+        match self.reasons.first_free() {
+            Some(place) => Some(self.value_at(place)),
+            None => None,
         }
-        None
     }
 }

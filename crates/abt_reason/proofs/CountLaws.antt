@@ -7,6 +7,7 @@ use Rattle.abt_parts.proofs.Counts.{count_by-cons}
 use Rattle.dcsp_row.specs.declared.marks.Marks.{Marks}
 use Rattle.abt_reason.specs.Firsts.{IsFirst}
 use Rattle.abt_reason.specs.Grids.{at_value, count_of, is_marked_at, marks, no_marks, row_at, rows_of, with_row, IsGrid}
+use Rattle.abt_reason.proofs.GridLaws.{counted_inside}
 use Rattle.abt_reason.proofs.GridSteps as steps
 use Rattle.abt_reason.proofs.MarkLaws.{count_rows, in_rows, marks_are}
 
@@ -28,7 +29,7 @@ none_counted p (row ∷ rows) e zero l = by_test (p row) refl where
   by_test true t = absurd (let one : cond (p row) 1 0 ≡ 1 = ap (λ b. cond {A = ℕ} b 1 0) t in omega (arith, e, one, count_by-cons p row rows))
 none_counted p (row ∷ rows) e (suc j) l = none_counted p rows (omega (arith, e, count_by-cons p row rows)) j (omega (arith, l))
 
-module _ (values : ℕ) (rows : List Marks) (place value : ℕ) (here : place < length rows) (inside : value < values) (counts : List ℕ) (firsts : List (Option ℕ)) (row : List Bool)
+module _ (values : ℕ) (rows : List Marks) (place value : ℕ) (here : place < length rows) (counts : List ℕ) (inside : value < length counts) (firsts : List (Option ℕ)) (row : List Bool)
     (grid : IsGrid (with_row values rows place row) values counts firsts) (mark had : Bool) (had_is : at_value value row ≡ had) where
   abbrev pub before : List (List Bool)
   before = with_row values rows place row
@@ -64,7 +65,7 @@ module _ (values : ℕ) (rows : List Marks) (place value : ℕ) (here : place < 
   is_other = steps.is_other before values counts firsts grid place value mark in_before inside put row row_is refl
 
   pub is_kept : (j : ℕ) → j ≢ place → j < length rows → marks after value j ≡ is_marked_at rows j value
-  is_kept j apart l = sym (is_other j apart) ∙ ap (λ (r : List Bool). get_or r value false) (get_or-set_other (rows_of values rows) place j row [] apart) ∙ marks_are values rows j value l inside
+  is_kept j apart l = sym (is_other j apart) ∙ ap (λ (r : List Bool). get_or r value false) (get_or-set_other (rows_of values rows) place j row [] apart) ∙ marks_are values rows j value l (counted_inside values (length counts) value grid.counted inside)
 
   pub first_was : (first : Option ℕ) → first ≡ get_or firsts value first → IsFirst (marks before value) (length rows) first
   first_was first e = subst (λ n. IsFirst (marks before value) n first) count_before (steps.first_was before values counts firsts grid place value mark in_before inside put row row_is refl first e)

@@ -1,41 +1,76 @@
--- The first of the owned rules that is false for a value.
-use Rattle.std.proofs.Common.{◌≡◌, ◌<◌, ◌∙◌, ap, sym, subst, length, get_or, arith, rules, Some, None, Option, ℕ, List, Bool, refl}
+-- The first of the owned rules that is false for a value, and the first value that nothing rules out.
+use Rattle.std.proofs.Common.{◌≡◌, ◌<◌, ◌≤◌, ◌∙◌, ap, sym, subst, length, get_or, arith, Some, None, Option, ℕ, List, Bool, false, refl, not, is_some, inl, inr}
 use Rattle.std.specs.Option.{option_map}
-use Rattle.std.proofs.lemmas.List.{get_or_default}
-use Rattle.dcsp_defs.specs.declared.Reason.TheVariants.{Rule, Earlier}
+use Rattle.std.proofs.lemmas.Bool.{cases_lt}
+use Rattle.dcsp_defs.specs.declared.Reason.{Reason}
+use Rattle.dcsp_defs.specs.declared.Reason.TheVariants.{Earlier}
 use Rattle.dcsp_defs.specs.Csp.{PartialAssignment}
 use Rattle.abt_parts.specs.declared.recorded.Recorded.{Recorded}
-use Rattle.abt_reason.specs.Firsts.{IsFirst}
+use Rattle.abt_reason.specs.Firsts.{IsFirst, IsFirstBetween}
 use Rattle.abt_reason.specs.declared.named.Naming.{Naming}
 use Rattle.dcsp_row.specs.declared.marks.Marks.{Marks}
-use Rattle.abt_reason.specs.Grids.{marks, rows_of}
-use Rattle.abt_reason.proofs.MarkLaws.{count_rows}
-use Rattle.abt_reason.proofs.FirstLaws.{first_alike}
-use Rattle.abt_reason.specs.Causes.{is_false, known_at, value_at, reason_for}
-use Rattle.abt_reason.specs.Cached.{Cached, StandsFor, IsCache, rules_of, size_of}
+use Rattle.abt_reason.specs.Grids.{marks, rows_of, HaveFirst, IsValueRun}
+use Rattle.abt_reason.proofs.FirstLaws.{between_alike, first_alike}
+use Rattle.abt_reason.specs.Causes.{is_false, is_free_at, known_at, value_at}
+use Rattle.abt_reason.specs.Cached.{Cached, StandsFor, IsCache, IsOwner, rules_of, size_of}
 use Rattle.abt_reason.proofs.CauseLaws.{reason_rule, reason_step}
 
-pub within_values : (r : Cached) (shown : Cached) (k : ℕ) → r ≡ shown → k < size_of shown.problem shown.agent → k < size_of r.problem r.agent
-within_values r shown k e l = subst (λ (x : Cached). k < size_of x.problem x.agent) (sym e) l
+-- the run of the rows is one of the owned rules
+pub run_found : (r : Cached) (owned : List ℕ) (rows : List Marks) (counts : List ℕ) (firsts : List (Option ℕ)) (namings : List Naming) (room : Marks) (values place : ℕ) (first : Option ℕ) (end : ℕ) → IsCache r owned rows counts firsts namings room → values ≡ size_of r.problem r.agent
+    → IsValueRun (rows_of values rows) (length rows) values place first end → IsValueRun r.rows (rules_of r.problem r.agent) (size_of r.problem r.agent) place first end
+run_found r owned rows counts firsts namings room values place first end inv size run =
+    let sized = subst (λ n. IsValueRun (rows_of n rows) (length rows) n place first end) size run in
+    let counted = subst (λ n. IsValueRun (rows_of (size_of r.problem r.agent) rows) n (size_of r.problem r.agent) place first end) inv.for_rules.are_rows.each_rule sized in
+    subst (λ (rs : List (List Bool)). IsValueRun rs (rules_of r.problem r.agent) (size_of r.problem r.agent) place first end) (sym inv.rows_are) counted
 
--- the first row that marks the value
-pub first_row : (r : Cached) (owned : List ℕ) (rows : List Marks) (counts : List ℕ) (firsts : List (Option ℕ)) (namings : List Naming) (room : Marks) (k : ℕ) (o : Option ℕ) → IsCache r owned rows counts firsts namings room → k < size_of r.problem r.agent → o ≡ get_or firsts k o
-    → IsFirst (marks r.rows k) (rules_of r.problem r.agent) o
-first_row r owned rows counts firsts namings room k o inv within is =
-    let are = inv.for_rules.are_rows in
-    let for_firsts : k < length firsts = let size = are.grid.first_each in omega arith in
-    let found = are.grid.right_first k within in
-    let held = rows_of (size_of r.problem r.agent) rows in
-    subst (λ (rs : List (List Bool)). IsFirst (marks rs k) (rules_of r.problem r.agent) o) (sym inv.rows_are)
-    (subst (λ n. IsFirst (marks held k) n o) (count_rows (size_of r.problem r.agent) rows ∙ are.each_rule) (subst (IsFirst (marks held k) (length held)) (sym (is ∙ get_or_default firsts k o None for_firsts)) found))
-
-pub place_in_range : (r shown : Cached) (owned : List ℕ) (rows : List Marks) (counts : List ℕ) (firsts : List (Option ℕ)) (namings : List Naming) (room : Marks) (k at : ℕ) (o : Option ℕ) → IsCache r owned rows counts firsts namings room → r ≡ shown → k < size_of shown.problem shown.agent
-    → o ≡ get_or firsts k o → o ≡ Some at → at < rules_of r.problem r.agent
-place_in_range r shown owned rows counts firsts namings room k at o inv e l is some =
-    (subst (IsFirst (marks r.rows k) (rules_of r.problem r.agent)) some (first_row r owned rows counts firsts namings room k o inv (within_values r shown k e l) is)).0
+-- the rule is one of the owned ones
+pub place_in_range : (r shown : Cached) (owned : List ℕ) (place : ℕ) (first : Option ℕ) (end at : ℕ) → IsOwner r.problem r.agent owned (size_of r.problem r.agent) → r ≡ shown
+    → HaveFirst shown.rows (rules_of shown.problem shown.agent) place first end → place < end → first ≡ Some at → at < length owned
+place_in_range r shown owned place first end at owner same run below some =
+    let here = (subst (IsFirst (marks shown.rows place) (rules_of shown.problem shown.agent)) some (run place (omega arith) below)).0 in
+    omega (arith, here, ap length owner.rules_are, ap (λ (x : Cached). rules_of x.problem x.agent) same)
 
 -- it is the first false rule
-pub first_rule : (r : Cached) (owned : List ℕ) (rows : List Marks) (counts : List ℕ) (firsts : List (Option ℕ)) (namings : List Naming) (room : Marks) (known : PartialAssignment) (items : List Recorded) (k : ℕ) (o : Option ℕ) → IsCache r owned rows counts firsts namings room → StandsFor r known items
-    → k < size_of r.problem r.agent → o ≡ get_or firsts k o → IsFirst (is_false r.problem r.agent (known_at r.problem r.agent known k)) (rules_of r.problem r.agent) o
-first_rule r owned rows counts firsts namings room known items k o inv stands within is =
-    first_alike (marks r.rows k) (is_false r.problem r.agent (known_at r.problem r.agent known k)) (rules_of r.problem r.agent) o (λ j l. stands.rules j l k within) (first_row r owned rows counts firsts namings room k o inv within is)
+pub first_rule : (r : Cached) (known : PartialAssignment) (items : List Recorded) → StandsFor r known items → (place : ℕ) (first : Option ℕ) (end : ℕ) → HaveFirst r.rows (rules_of r.problem r.agent) place first end
+    → (k : ℕ) → place ≤ k → k < end → k < size_of r.problem r.agent → IsFirst (is_false r.problem r.agent (known_at r.problem r.agent known k)) (rules_of r.problem r.agent) first
+first_rule r known items stands place first end run k from below within =
+    first_alike (marks r.rows k) (is_false r.problem r.agent (known_at r.problem r.agent known k)) (rules_of r.problem r.agent) first (λ j l. stands.rules j l k within) (run k from below)
+
+module _ (r : Cached) (known : PartialAssignment) (items : List Recorded) (stands : StandsFor r known items) (place : ℕ) (first : Option ℕ) (end : ℕ)
+    (run : IsValueRun r.rows (rules_of r.problem r.agent) (size_of r.problem r.agent) place first end) where
+  within : (k : ℕ) → k < end → k < size_of r.problem r.agent
+  within k below = omega (arith, below, run.most)
+
+  rule_at : (k : ℕ) → place ≤ k → k < end → IsFirst (is_false r.problem r.agent (known_at r.problem r.agent known k)) (rules_of r.problem r.agent) first
+  rule_at k from below = first_rule r known items stands place first end run.same k from below (within k below)
+
+  -- a rule rules out each value of the run
+  pub none_free : (at : ℕ) → first ≡ Some at → IsFirstBetween (is_free_at r.problem r.agent known items) place end None
+  none_free at some = λ k from below.
+      let found = subst (IsFirst (is_false r.problem r.agent (known_at r.problem r.agent known k)) (rules_of r.problem r.agent)) some (rule_at k from below) in
+      ap (λ (o : Option Reason). not (is_some o)) (reason_rule r.problem r.agent known items (value_at r.problem r.agent k) at found)
+
+  no_rule_then : (o : Option ℕ) → not (is_some (option_map Earlier o)) ≡ not (is_some o)
+  no_rule_then None = refl
+  no_rule_then (Some n) = refl
+
+  -- no rule does: then the first value with no step is free
+  pub free_without : (o : Option ℕ) → first ≡ None → IsFirstBetween (λ k. not (is_some (get_or r.steps k None))) place end o → IsFirstBetween (is_free_at r.problem r.agent known items) place end o
+  free_without o none found = between_alike (λ k. not (is_some (get_or r.steps k None))) (is_free_at r.problem r.agent known items) place end o
+      (λ k from below.
+      let no_rule = subst (IsFirst (is_false r.problem r.agent (known_at r.problem r.agent known k)) (rules_of r.problem r.agent)) none (rule_at k from below) in
+      ap (λ (step : Option ℕ). not (is_some step)) (stands.kept.first k (within k below))
+      ∙ sym (no_rule_then _)
+      ∙ sym (ap (λ (o : Option Reason). not (is_some o)) (reason_step r.problem r.agent known items (value_at r.problem r.agent k) no_rule))) found
+
+  -- none before the run is free, and one of the run is
+  pub first_free : (free : ℕ) → ((k : ℕ) → k < place → is_free_at r.problem r.agent known items k ≡ false) → IsFirstBetween (is_free_at r.problem r.agent known items) place end (Some free)
+      → IsFirst (is_free_at r.problem r.agent known items) (size_of r.problem r.agent) (Some free)
+  first_free free before found =
+      let below = found.1 in
+      (omega (arith, below, run.most), found.2, λ k l. elim (cases_lt k place) [ inl earlier ↦ before k earlier | inr later ↦ found.3 k later l ])
+
+  -- none before the run is free, and none of the run is
+  pub none_yet : ((k : ℕ) → k < place → is_free_at r.problem r.agent known items k ≡ false) → IsFirstBetween (is_free_at r.problem r.agent known items) place end None
+      → (k : ℕ) → k < end → is_free_at r.problem r.agent known items k ≡ false
+  none_yet before found = λ k l. elim (cases_lt k place) [ inl earlier ↦ before k earlier | inr later ↦ found k later l ]

@@ -105,8 +105,12 @@ module _ (values : ℕ) (rows : List Marks) (place : ℕ) (new : Marks) (here : 
   pub rows_skip : (from until : ℕ) → from ≤ until → ((k : ℕ) → from ≤ k → k < until → is_marked new k ≡ is_marked old k) → mixed_rows values rows place new from ≡ mixed_rows values rows place new until
   rows_skip from until order same = ap (set (rows_of values rows) place) (mixed_skip values new old from until order same)
 
-  pub rows_end : (now : Marks) → ((k : ℕ) → k < values → is_marked now k ≡ is_marked new k) → mixed_rows values rows place new values ≡ rows_of values (set rows place now)
-  rows_end now same = ap (set (rows_of values rows) place) (mixed_end values new old ∙ sym (same_row values now new same)) ∙ sym (map-set (row_of values) rows place now)
+  pub rows_end : mixed_rows values rows place new values ≡ set (rows_of values rows) place (row_of values new)
+  rows_end = ap (set (rows_of values rows) place) (mixed_end values new old)
+
+-- marks are put at a place
+pub rows_put : (values : ℕ) (rows : List Marks) (place : ℕ) (new now : Marks) → ((k : ℕ) → k < values → is_marked now k ≡ is_marked new k) → set (rows_of values rows) place (row_of values new) ≡ rows_of values (set rows place now)
+rows_put values rows place new now same = ap (set (rows_of values rows) place) (sym (same_row values now new same)) ∙ sym (map-set (row_of values) rows place now)
 
 -- what holds at each place holds with one more at the end
 pub all_pushed : (P : ℕ → Marks → Type 0) (rows : List Marks) (m : Marks) → ((place : ℕ) → place < length rows → P place (marks_at rows place)) → P (length rows) m

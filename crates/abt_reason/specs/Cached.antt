@@ -8,11 +8,14 @@ use Rattle.abt_parts.specs.declared.recorded.Recorded.{Recorded}
 use Rattle.dcsp_row.specs.declared.marks.Marks.{Marks}
 use Rattle.dcsp_row.specs.Marks.{is_marked, is_row, FitsSize}
 use Rattle.dcsp_row.specs.Rows.{is_ruled_out, own_at}
-use Rattle.abt_reason.specs.Grids.{marks, rows_of, AreSized, HaveRoom, IsGrid}
+use Rattle.abt_reason.specs.declared.grid.ValueRun.{ValueRun}
+use Rattle.abt_reason.specs.Grids.{marks, rows_of, AreSized, HaveFirst, HaveRoom, IsGrid}
 use Rattle.abt_reason.specs.declared.named.Naming.{Naming}
 use Rattle.abt_reason.specs.Named.{ListsScopes, RisesByVariable}
-use Rattle.abt_reason.specs.Causes.{known_at, is_false}
-use Rattle.abt_reason.specs.Kept.{AreLeft, KeepsSteps}
+use Rattle.dcsp_defs.specs.declared.Reason.{Reason}
+use Rattle.abt_reason.specs.Causes.{known_at, is_false, is_free_at, reason_for, value_at}
+use Rattle.abt_reason.specs.Firsts.{IsFirst, IsFirstBetween}
+use Rattle.abt_reason.specs.Kept.{AreLeft, HaveSteps, KeepsSteps}
 
 -- for each owned rule the values that it rules out; for each value the step of the first item that agrees; the number
 -- of items; and whether each is known to be a nogood of the agent
@@ -89,6 +92,26 @@ pub record StoodWithoutLast (r : Cached) (known : PartialAssignment) (items : Li
   pub stood : StandsFor r known items_before
   pub added : items ≡ items_before ++ last ∷ []
 
+-- the values from the one at a place on that stand before the run's end have the run's rule as the first that rules them out
+abbrev pub IsValueRunFrom : Cached → ℕ → ValueRun → Type 0
+IsValueRunFrom r place run = HaveFirst r.rows (rules_of r.problem r.agent) place run.first run.end
+
+-- it is the reason for the value at a place, whatever is stood for
+abbrev pub IsReasonAt : Cached → ℕ → Option Reason → Type 0
+IsReasonAt r place reason = (known : PartialAssignment) (items : List Recorded) → StandsFor r known items → reason ≡ reason_for r.problem r.agent known items (value_at r.problem r.agent place)
+
+-- it is the first place whose value nothing rules out
+abbrev pub IsFirstFree : Cached → Option ℕ → Type 0
+IsFirstFree r free = (known : PartialAssignment) (items : List Recorded) → StandsFor r known items → IsFirst (is_free_at r.problem r.agent known items) (size_of r.problem r.agent) free
+
+-- it is the first such place from one on that stands before an end
+abbrev pub IsFirstFreeBetween : Cached → ℕ → ℕ → Option ℕ → Type 0
+IsFirstFreeBetween r from end free = (known : PartialAssignment) (items : List Recorded) → StandsFor r known items → IsFirstBetween (is_free_at r.problem r.agent known items) from end free
+
+-- there is room for a step for each value
+abbrev pub HasRoom : Cached → Type 0
+HasRoom r = length r.steps ≡ size_of r.problem r.agent
+
 -- for each owned rule the marks of the values that it rules out, with counts and firsts; those of a rule that need not rule out one span are bits
 pub record AreRows (p : Contents) (agent : ℕ) (rows : List Marks) (counts : List ℕ) (firsts : List (Option ℕ)) : Type 0 where
   pub each_rule : length rows ≡ rules_of p agent
@@ -113,4 +136,4 @@ pub record IsCache (r : Cached) (owned : List ℕ) (rows : List Marks) (counts :
   pub rising : IsRising (domain (csp_of r.problem) r.agent)
   pub rows_are : r.rows ≡ rows_of (size_of r.problem r.agent) rows
   pub for_rules : AreRuleLists r.problem r.agent rows counts firsts namings room
-  pub kept : length r.steps ≡ size_of r.problem r.agent
+  pub kept : HaveSteps (size_of r.problem r.agent) r.steps r.count

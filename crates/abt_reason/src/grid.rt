@@ -2,6 +2,9 @@
 //!
 //! What puts a span in place of a span runs for each rule at each change of a view. It is inlined, so that no span is
 //! copied through memory from call to call.
+//!
+//! Where there are many values for each rule, nothing is counted: what that takes would grow with the values, and
+//! the rules are gone over instead.
 
 ghost use Rattle.std.specs.Prelude.{◌≡◌, ◌≢◌, ◌<◌, ◌≤◌, ◌+◌, ◌^◌, ℕ, Bool, All, IfOk, IfSome, IsTrue, None, length, true, false, slice_index_or, ◌||◌, ◌==◌};
 ghost use Rattle.dcsp_rule.specs.Problems.{rule_at};
@@ -9,12 +12,18 @@ ghost use Rattle.dcsp_row.specs.Easy.{has_span};
 ghost use Rattle.dcsp_row.specs.Spans.{is_within};
 ghost use Rattle.dcsp_row.specs.Marks.{has_room_for, is_marked, is_row, FitsSize};
 ghost use Rattle.abt_reason.specs.Firsts.{IsFirst};
-ghost use Rattle.abt_reason.specs.Grids.{marks_at, is_marked_at, mixed_rows, rows_of, with_row, few_row, is_only, AreMarksBehind, AreSized, CanReplace, CountsMark, CountsRow, HaveRoom, IsBelow, IsChange, IsGrid, IsReplaced, LosesPlace, NoneIfUncounted, NoneUpTo};
+ghost use Rattle.abt_reason.specs.Grids.{marks_at, is_marked_at, mixed_rows, rows_of, row_of, with_row, few_row, is_only, AreCounted, AreMarksBehind, AreSized, CanReplace, CountsMark, CountsRow, HaveRoom, IsBelow, IsChange, IsGrid, IsReplaced, IsValueRun, LosesPlace, NoneIfUncounted, NoneUpTo};
 
 use dcsp_common::Memory;
 use dcsp_problem::Problem;
 use dcsp_row::{Marks, Row, Span, has_span};
 use std::alloc::Global;
+
+/// So many values are counted, however few rules there are.
+const COUNTED: usize = 1_024;
+
+/// So many values are counted for each rule.
+const COUNTED_BY_RULE: usize = 64;
 
 /// The rules of an agent with so many values, of which none rules anything out yet.
 #[derive(Clone, Copy)]
@@ -47,14 +56,22 @@ struct Cell {
     place: usize,
 }
 
+/// Values of an agent that stand one after another, up to an end, and have the same first rule that rules them out.
+#[derive(Clone, Copy)]
+pub struct ValueRun {
+    /// The rule's place among those that the agent owns; `None` if none rules them out.
+    pub first: Option<u32>,
+    pub end: usize,
+}
+
 /// For each rule the values that it rules out.
 #[derive(Drop)]
 pub struct RuledOut {
     /// A rule whose values always stand in one span of the domain has no bits.
     pub rows: Vec<Marks>,
-    /// For each value how many rules rule it out.
+    /// For each value how many rules rule it out; empty where nothing is counted.
     pub counts: Vec<u32>,
-    /// For each value the first rule that rules it out.
+    /// For each value the first rule that rules it out; empty where nothing is counted.
     pub firsts: Vec<Option<u32>>,
 }
 
@@ -69,13 +86,31 @@ impl RuledOut {
         ensures room { IfOk result (λ grid. HaveRoom empty.now.problem.now empty.now.agent empty.now.rules.now grid.rows.items) }
     {
         let rows = empty_rows(alloc, empty)?;
-        let counts = no_counts(alloc, empty.values)?;
-        let firsts = no_firsts(alloc, empty.values)?;
+        let counted = counted_values(empty);
+        let counts = no_counts(alloc, counted)?;
+        let firsts = no_firsts(alloc, counted)?;
         Ok(RuledOut {
             rows,
             counts,
             firsts,
         })
+    }
+
+    /// How far the values from this one on have the same first rule that rules them out, and which.
+    #[inline(always)]
+    pub fn run(&self, values: usize, value: usize) -> ValueRun
+        requires value { value < values }
+        requires grid { IsGrid (rows_of values self.now.rows.items) values self.now.counts.items self.now.firsts.items }
+        requires sized { AreSized values self.now.rows.items }
+        ensures { IsValueRun (rows_of values self.now.rows.items) (length self.now.rows.items) values value result.first result.end }
+    {
+        if value < self.firsts.len() {
+            return ValueRun {
+                first: self.firsts[value],
+                end: value + 1,
+            };
+        }
+        run_over(&self.rows, values, value)
     }
 
     /// Puts a span in place of what the rule ruled out. Most rules rule out one value, and then another:
@@ -85,15 +120,19 @@ impl RuledOut {
         requires rows { CanReplace values place self.old.rows.items self.old.counts.items self.old.firsts.items }
         ensures { IsReplaced values place (is_within span) self.old.rows.items self.new.rows.items self.new.counts.items self.new.firsts.items }
     {
-        match change_to(&self.rows[place], span, values) {
-            Some(change) => self.replace_few(place, values, span, change),
-            None => self.replace(place, values, &Marks::Span(span)),
+        if self.counts.len() == values {
+            if let Some(change) = change_to(&self.rows[place], span, values) {
+                self.replace_few(place, values, span, change);
+                return;
+            }
         }
+        self.replace(place, values, &Marks::Span(span));
     }
 
     /// The same, where both are spans of one value at most.
     #[inline(always)]
     fn replace_few(&mut self, place: usize, values: usize, span: Span, change: Change)
+        requires counted { length self.old.counts.items ≡ values }
         requires rows { CanReplace values place self.old.rows.items self.old.counts.items self.old.firsts.items }
         requires change { IsChange values (marks_at self.old.rows.items place) span change }
         ensures { IsReplaced values place (is_within span) self.old.rows.items self.new.rows.items self.new.counts.items self.new.firsts.items }
@@ -105,6 +144,7 @@ impl RuledOut {
     /// Takes a rule's new marks, of one value at most, into the counts and firsts.
     #[inline(always)]
     fn count_few(&mut self, place: usize, values: usize, change: Change)
+        requires counted { length self.old.counts.items ≡ values }
         requires place { place < length self.old.rows.items }
         requires grid { IsGrid (with_row values self.old.rows.items place (few_row values change.before)) values self.old.counts.items self.old.firsts.items }
         requires sized { AreSized values self.old.rows.items }
@@ -130,20 +170,32 @@ impl RuledOut {
         }
     }
 
-    /// Puts what the rule rules out in place of what it ruled out. Only values for which that changes
-    /// are touched.
+    /// Puts what the rule rules out in place of what it ruled out.
     pub fn replace(&mut self, place: usize, values: usize, new: &Marks)
         requires rows { CanReplace values place self.old.rows.items self.old.counts.items self.old.firsts.items }
         requires size { FitsSize values new.now }
         requires room { IsTrue (has_room_for (marks_at self.old.rows.items place) new.now) }
         ensures { IsReplaced values place (is_marked new.now) self.old.rows.items self.new.rows.items self.new.counts.items self.new.firsts.items }
     {
+        self.count_changes(place, values, new);
+        self.rows[place].copy_from(values, new);
+    }
+
+    /// Takes a rule's new marks into the counts and firsts. Only values for which they change are touched.
+    fn count_changes(&mut self, place: usize, values: usize, new: &Marks)
+        requires rows { CanReplace values place self.old.rows.items self.old.counts.items self.old.firsts.items }
+        requires size { FitsSize values new.now }
+        ensures grid { IsGrid (with_row values self.new.rows.items place (row_of values new.now)) values self.new.counts.items self.new.firsts.items }
+        ensures rows { self.new.rows.items ≡ self.old.rows.items }
+    {
+        if self.counts.len() != values {
+            return;
+        }
         let mut from = 0;
         while let Some(value) = new.next_change(&self.rows[place], values, from) {
             self.count(place, values, value, new);
             from = value + 1;
         }
-        self.rows[place].copy_from(values, new);
     }
 
     /// Takes a value's new mark for a rule, which differs, into the counts and firsts, where those of the values
@@ -151,11 +203,13 @@ impl RuledOut {
     fn count(&mut self, place: usize, values: usize, value: usize, new: &Marks)
         requires place { place < length self.old.rows.items }
         requires value { value < values }
+        requires counted { length self.old.counts.items ≡ values }
         requires grid { IsGrid (mixed_rows values self.old.rows.items place new.now value) values self.old.counts.items self.old.firsts.items }
         requires sized { AreSized values self.old.rows.items }
         requires size { FitsSize values new.now }
         requires differs { is_marked new.now value ≢ is_marked_at self.old.rows.items place value }
         ensures grid { IsGrid (mixed_rows values self.new.rows.items place new.now (value + 1)) values self.new.counts.items self.new.firsts.items }
+        ensures size { length self.new.counts.items ≡ length self.old.counts.items }
         ensures rows { self.new.rows.items ≡ self.old.rows.items }
     {
         if new.has(values, value) {
@@ -168,9 +222,10 @@ impl RuledOut {
     /// Takes into the counts and firsts that the rule rules out the value.
     fn gain(&mut self, place: usize, values: usize, value: usize)
         requires place { place < length self.old.rows.items }
-        requires value { value < values }
+        requires value { value < length self.old.counts.items }
         requires counts { CountsRow values place value false self.old.rows.items self.old.counts.items self.old.firsts.items }
         ensures grid { CountsMark values place value true self.old.rows.items self.old.counts.items self.old.firsts.items self.new.counts.items self.new.firsts.items }
+        ensures size { length self.new.counts.items ≡ length self.old.counts.items }
         ensures rows { self.new.rows.items ≡ self.old.rows.items }
     {
         self.counts[value] += 1;
@@ -180,10 +235,11 @@ impl RuledOut {
     /// Takes into the counts and firsts that the rule no longer rules out the value.
     fn lose(&mut self, place: usize, values: usize, value: usize)
         requires place { place < length self.old.rows.items }
-        requires value { value < values }
+        requires value { value < length self.old.counts.items }
         requires sized { AreSized values self.old.rows.items }
         requires counts { CountsRow values place value true self.old.rows.items self.old.counts.items self.old.firsts.items }
         ensures grid { CountsMark values place value false self.old.rows.items self.old.counts.items self.old.firsts.items self.new.counts.items self.new.firsts.items }
+        ensures size { length self.new.counts.items ≡ length self.old.counts.items }
         ensures rows { self.new.rows.items ≡ self.old.rows.items }
     {
         self.counts[value] -= 1;
@@ -294,6 +350,38 @@ fn next_marking(rows: &[Marks], cell: Cell, count: u32) -> Option<u32>
         }
     }
     None
+}
+
+/// Goes over the rules for the first that rules the value out, and tells how far the values from this one on have
+/// the same one.
+fn run_over(rows: &[Marks], values: usize, value: usize) -> ValueRun
+    requires few { length rows.now < 2 ^ 32 }
+    requires value { value < values }
+    requires sized { AreSized values rows.now }
+    ensures { IsValueRun (rows_of values rows.now) (length rows.now) values value result.first result.end }
+{
+    let mut end = values;
+    for place in 0..rows.len() {
+        end = end.min(rows[place].end_of_run(values, value));
+        if rows[place].has(values, value) {
+            return ValueRun {
+                first: Some(place as u32),
+                end,
+            };
+        }
+    }
+    ValueRun { first: None, end }
+}
+
+/// How many of the values are counted: all, or none where there are many for each rule.
+fn counted_values(empty: &OwnedRules) -> usize
+    ensures { AreCounted empty.now.values result }
+{
+    if empty.values <= COUNTED || empty.values / COUNTED_BY_RULE <= empty.rules.len() {
+        empty.values
+    } else {
+        0
+    }
 }
 
 /// For each of these rules marks of no value, as bits only where its values need not stand in one span.

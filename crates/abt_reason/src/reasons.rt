@@ -1,6 +1,6 @@
 //! The first reason for each value, kept while the view and the store change.
 
-ghost use Rattle.std.specs.Prelude.{◌≡◌, ◌<◌, ℕ, List, None, [], IfOk, length};
+ghost use Rattle.std.specs.Prelude.{◌≡◌, ◌<◌, ℕ, List, None, [], IfOk, OnOk, length};
 ghost use Rattle.dcsp_defs.specs.Csp.{PartialAssignment};
 ghost use Rattle.abt_defs.specs.Agents.{values_in};
 ghost use Rattle.dcsp_rule.specs.Problems.{csp_of, AreInDomains};
@@ -8,8 +8,10 @@ ghost use Rattle.abt_parts.specs.declared.recorded.Recorded.{Recorded as TheReco
 ghost use Rattle.abt_parts.specs.Views.{view_of};
 ghost use Rattle.abt_reason.specs.Causes.{is_false, known_at, reason_for, value_at};
 ghost use Rattle.abt_reason.specs.Firsts.{IsFirst};
-ghost use Rattle.abt_reason.specs.Cached.{rules_of, size_of, StandsFor, StoodBefore, StoodWithoutLast};
+ghost use Rattle.abt_reason.specs.Grids.{IsValueRun};
+ghost use Rattle.abt_reason.specs.Cached.{rules_of, size_of, HasRoom, IsFirstFree, IsFirstFreeBetween, IsReasonAt, IsValueRunFrom, StandsFor, StoodBefore, StoodWithoutLast};
 
+use crate::grid::ValueRun;
 use crate::kept::KeptSteps;
 use crate::rules::{FirstRules, Owner};
 use crate::search::earlier;
@@ -51,15 +53,14 @@ impl<'p> Reasons<'p> {
         ensures agent { IfOk result (λ reasons. reasons.agent ≡ agent) }
         ensures stands { IfOk result (λ reasons. StandsFor reasons (λ k. None) []) }
     {
-        let values = problem.domain(agent).len();
+        let _values = problem.domain(agent).len();
         let rules = FirstRules::new(alloc, problem, agent)?;
-        let kept = KeptSteps::new(alloc, values)?;
         Ok(Reasons {
             problem,
             agent,
             owned: problem.owned(agent),
             rules,
-            kept,
+            kept: KeptSteps::new(alloc),
         })
     }
 
@@ -89,9 +90,21 @@ impl<'p> Reasons<'p> {
         self.kept.after_view(&seat, var, store);
     }
 
-    /// Takes in that the store has a last item more. It takes no memory.
+    /// Makes room for the steps of nogoods, which is to be done before one is recorded. An `Err` changes nothing.
+    pub fn make_room(&mut self, alloc: Global) -> Result<(), Memory>
+        ensures room { OnOk result (HasRoom self.new) }
+        ensures problem { self.new.problem ≡ self.old.problem }
+        ensures agent { self.new.agent ≡ self.old.agent }
+        ensures stands { (known : PartialAssignment) (items : List TheRecorded) → StandsFor self.old known items → StandsFor self.new known items }
+    {
+        let values = self.problem.domain(self.agent).len();
+        self.kept.make_room(alloc, values)
+    }
+
+    /// Takes in that the store has a last item more, for which there is room. It takes no memory.
     pub fn after_record(&mut self, view: &View, store: &Store)
-        requires { StoodWithoutLast self.old (values_in (view_of view.now)) store.now }
+        requires room { HasRoom self.old }
+        requires stood { StoodWithoutLast self.old (values_in (view_of view.now)) store.now }
         ensures problem { self.new.problem ≡ self.old.problem }
         ensures agent { self.new.agent ≡ self.old.agent }
         ensures stands { StandsFor self.new (values_in (view_of view.now)) store.now }
@@ -110,9 +123,35 @@ impl<'p> Reasons<'p> {
         requires { place < size_of self.now.problem self.now.agent }
         ensures { (known : PartialAssignment) (items : List TheRecorded) → StandsFor self.now known items → result ≡ reason_for self.now.problem self.now.agent known items (value_at self.now.problem self.now.agent place) }
     {
-        match self.rules.ruled_out.firsts[place] {
+        self.first_in(place, self.run(place))
+    }
+
+    /// The same, where it is known in which run the value is.
+    #[inline(always)]
+    pub fn first_in(&self, place: usize, run: ValueRun) -> Option<Reason>
+        requires place { place < size_of self.now.problem self.now.agent }
+        requires run { IsValueRunFrom self.now place run }
+        requires within { place < run.end }
+        ensures { IsReasonAt self.now place result }
+    {
+        match run.first {
             Some(at) => Some(Reason::Rule(self.owned[at as usize])),
-            None => earlier(self.kept.steps[place]),
+            None => earlier(self.kept.step(place)),
+        }
+    }
+
+    /// The run in which the value at a place is: the last one if that goes so far, else one that begins here.
+    #[inline(always)]
+    pub fn run_from(&self, place: usize, last: ValueRun) -> ValueRun
+        requires place { place < size_of self.now.problem self.now.agent }
+        requires last { IsValueRunFrom self.now place last }
+        ensures run { IsValueRunFrom self.now place result }
+        ensures within { place < result.end }
+    {
+        if place < last.end {
+            last
+        } else {
+            self.run(place)
         }
     }
 
@@ -122,6 +161,45 @@ impl<'p> Reasons<'p> {
         requires { place < size_of self.now.problem self.now.agent }
         ensures { (known : PartialAssignment) (items : List TheRecorded) → StandsFor self.now known items → IsFirst (is_false self.now.problem self.now.agent (known_at self.now.problem self.now.agent known place)) (rules_of self.now.problem self.now.agent) result }
     {
-        self.rules.ruled_out.firsts[place]
+        self.run(place).first
+    }
+
+    /// The place of the first value of the agent's domain that is not ruled out.
+    pub fn first_free(&self) -> Option<usize>
+        ensures { IsFirstFree self.now result }
+    {
+        let size = self.problem.domain(self.agent).len();
+        let mut place = 0;
+        while place < size {
+            let run = self.run(place);
+            if let Some(free) = self.free_in(place, run) {
+                return Some(free);
+            }
+            place = run.end;
+        }
+        None
+    }
+
+    /// The place of the first value of a run, which begins here, that is not ruled out.
+    #[inline(always)]
+    fn free_in(&self, place: usize, run: ValueRun) -> Option<usize>
+        requires { IsValueRun self.now.rows (rules_of self.now.problem self.now.agent) (size_of self.now.problem self.now.agent) place run.first run.end }
+        ensures { IsFirstFreeBetween self.now place run.end result }
+    {
+        match run.first {
+            Some(_) => None,
+            None => self.kept.first_without(place, run.end),
+        }
+    }
+
+    /// How far the values from the one at this place on have the same first rule that rules them out, and which
+    /// of the rules that the agent owns it is.
+    #[inline(always)]
+    fn run(&self, place: usize) -> ValueRun
+        requires { place < size_of self.now.problem self.now.agent }
+        ensures { IsValueRun self.now.rows (rules_of self.now.problem self.now.agent) (size_of self.now.problem self.now.agent) place result.first result.end }
+    {
+        let values = self.problem.domain(self.agent).len();
+        self.rules.ruled_out.run(values, place)
     }
 }

@@ -95,6 +95,7 @@ fn record(
     let nogood = Nogood::from_pairs(alloc, pairs).expect(rt, "a nogood");
     let lowest = nogood.lowest().expect(rt, "a pair");
     assert!(rt; !store.rules_out(lowest.value));
+    reasons.make_room(alloc).expect(rt, "memory");
     store.keep(nogood, step).expect(rt, "memory");
     reasons.after_record(view, store);
 }
@@ -244,21 +245,36 @@ fn weighted(rt: &impl Abort, alloc: Global, rel: Rel, coefs: [i64; 2], total: i6
     }
 }
 
-/// Three variables with the values from 0 to 3; the last is neither of the others, and twice it is in sums with
-/// the first.
-fn triangle(rt: &impl Abort, alloc: Global) -> Problem
+/// Three variables with the values from 0 to 3, the last up to another; it is neither of the others, and twice it
+/// is in sums with the first.
+fn triangle(rt: &impl Abort, alloc: Global, greatest: i64) -> Problem
     ensures { length result.domains ≡ 3 }
 {
     let mut builder = ProblemBuilder::new(alloc);
     add_variable(rt, alloc, &mut builder, 3);
     add_variable(rt, alloc, &mut builder, 3);
-    add_variable(rt, alloc, &mut builder, 3);
+    add_variable(rt, alloc, &mut builder, greatest);
     add_between(rt, alloc, &mut builder, ConstraintKind::IntNe, 0, 2);
     add_between(rt, alloc, &mut builder, ConstraintKind::IntNe, 2, 1);
     let at_most = weighted(rt, alloc, Rel::AtMost, [3, -2], 1);
     builder.add_rule(at_most).expect(rt, "within the limits");
     let differ = weighted(rt, alloc, Rel::Differ, [1, 2], 5);
     builder.add_rule(differ).expect(rt, "within the limits");
+    builder.finish().expect(rt, "memory")
+}
+
+/// Three variables with the values from 0 to 3, the last up to another. A rule rules out a span of its values, the
+/// next all but one, as bits, and the last all outside a span.
+fn mixed(rt: &impl Abort, alloc: Global, greatest: i64) -> Problem
+    ensures { length result.domains ≡ 3 }
+{
+    let mut builder = ProblemBuilder::new(alloc);
+    add_variable(rt, alloc, &mut builder, 3);
+    add_variable(rt, alloc, &mut builder, 3);
+    add_variable(rt, alloc, &mut builder, greatest);
+    add_between(rt, alloc, &mut builder, ConstraintKind::IntLt, 0, 2);
+    add_between(rt, alloc, &mut builder, ConstraintKind::IntAbs, 2, 1);
+    add_between(rt, alloc, &mut builder, ConstraintKind::IntEq, 2, 1);
     builder.finish().expect(rt, "memory")
 }
 
@@ -294,7 +310,7 @@ fn learn(
     reasons.after_view(var, view, store);
 }
 
-/// Each value's first reason must be what a search finds.
+/// Each value's first reason must be what a search finds, and so must the first value that has none.
 fn compare(
     rt: &impl Abort,
     problem: &Problem,
@@ -309,11 +325,16 @@ fn compare(
     requires domains { AreInDomains (csp_of problem.now) (values_in (view_of view.now)) }
 {
     let domain = problem.domain(agent);
+    let mut free = None;
     for place in 0..domain.len() {
         let own = own_pair(agent, domain, place);
         let found = first_violated(problem, own, view, store);
+        if found.is_none() && free.is_none() {
+            free = Some(place);
+        }
         expect_first(rt, problem, agent, reasons, place, found);
     }
+    assert_eq!(rt; reasons.first_free(), free);
 }
 
 /// One of the agents above tells a value, and a nogood over it is kept if its own value is free.
@@ -384,22 +405,43 @@ fn drive(
     }
 }
 
-#[test]
-fn equals_the_search(rt: HostRuntime) {
-    let problem = triangle(&rt, rt.alloc());
-    let mut view = blank(&rt, rt.alloc());
-    let mut store = Store::new(rt.alloc());
-    let mut reasons = fresh(&rt, rt.alloc(), &problem, 2, &view, &store);
+/// So many changes at the last of three variables, from nothing known on.
+fn drive_fresh(rt: &impl Abort, alloc: Global, problem: &Problem, changes: u32)
+    requires exists { length problem.now.domains ≡ 3 }
+{
+    let mut view = blank(rt, alloc);
+    let mut store = Store::new(alloc);
+    let mut reasons = fresh(rt, alloc, problem, 2, &view, &store);
     drive(
-        &rt,
-        rt.alloc(),
-        &problem,
+        rt,
+        alloc,
+        problem,
         &mut reasons,
         &mut view,
         &mut store,
-        400,
+        changes,
     );
     end(reasons, view);
     let_store_go(store);
+}
+
+#[test]
+fn equals_the_search(rt: HostRuntime) {
+    let problem = triangle(&rt, rt.alloc(), 3);
+    drive_fresh(&rt, rt.alloc(), &problem, 400);
+    let_go(problem);
+}
+
+#[test]
+fn equals_the_search_where_nothing_is_counted(rt: HostRuntime) {
+    let problem = triangle(&rt, rt.alloc(), 1200);
+    drive_fresh(&rt, rt.alloc(), &problem, 25);
+    let_go(problem);
+}
+
+#[test]
+fn equals_the_search_over_rows(rt: HostRuntime) {
+    let problem = mixed(&rt, rt.alloc(), 1200);
+    drive_fresh(&rt, rt.alloc(), &problem, 25);
     let_go(problem);
 }

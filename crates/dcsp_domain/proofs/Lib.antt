@@ -3,3 +3,4 @@ pub mod SetLaws
 pub mod RangeLaws
 pub mod Searches
 pub mod Domains
+pub mod Parts

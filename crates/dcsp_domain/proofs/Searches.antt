@@ -26,7 +26,7 @@ itself_is : (x : ℤ) → int_cmp x x ≡ Equal
 itself_is x = grind (arith, ints)
 
 -- a rising list is sorted
-sorted_from_rising : (xs : List ℤ) → IsRising xs → IsSorted int_cmp xs
+pub sorted_from_rising : (xs : List ℤ) → IsRising xs → IsSorted int_cmp xs
 sorted_from_rising xs up = λ k d l h. not_less _ _ (up k (k + 1) d (omega arith) h)
 
 -- a strictly sorted list rises

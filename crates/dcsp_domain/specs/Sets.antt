@@ -1,5 +1,5 @@
 -- Sets of numbers as strictly rising lists.
-use Rattle.std.specs.Prelude.{◌≡◌, ◌≤◌, ℤ, ◌<ℤ◌, Bool, List, [], ◌∷◌, length, AllPairs, if◌then◌else◌}
+use Rattle.std.specs.Prelude.{◌≡◌, ◌≤◌, ℕ, ℤ, ◌<ℤ◌, Bool, List, [], ◌∷◌, length, slice_range, AllPairs, if◌then◌else◌}
 use Rattle.std.specs.List.{list_any}
 use Rattle.std.specs.Ordering.{int_eq, int_cmp, is_lt}
 use Rattle.dcsp_domain.specs.declared.TheConstants.{MOST_VALUES}
@@ -21,6 +21,12 @@ pub record IsSetOf (values list : List ℤ) : Type 0 where
 pub record IsDomain (list : List ℤ) : Type 0 where
   pub rising : IsRising list
   pub small : length list ≤ MOST_VALUES
+
+-- those of the numbers from one place on that stand before another are a domain's
+pub record IsPart (numbers : List ℤ) (from to : ℕ) : Type 0 where
+  pub order : from ≤ to
+  pub within : to ≤ length numbers
+  pub domain : IsDomain (slice_range numbers from to)
 
 -- a rising list with one more value, unless it has it
 abbrev pub put : ℤ → List ℤ → List ℤ

@@ -1,8 +1,9 @@
 //! Domains: the finite sets of 64-bit numbers that variables range over.
 #![tactic(auto)]
 
-ghost use Rattle.std.specs.Prelude.{◌≡◌, ◌==◌, ◌<◌, ◌≤◌, ◌↔◌, ◌^◌, ℕ, ℤ, pos, ◌+ℤ◌, ◌<ℤ◌, ◌≤ℤ◌, List, length, true, OnOk, IfOk, IfErr, IfSome, Some, is_some, slice_get, slice_index_or, filter, int_lt};
-ghost use Rattle.dcsp_domain.specs.Sets.{IsRising, IsSetOf, set_of, has};
+ghost use Rattle.std.specs.Prelude.{◌≡◌, ◌==◌, ◌<◌, ◌≤◌, ◌↔◌, ◌^◌, ℕ, ℤ, pos, ◌+ℤ◌, ◌<ℤ◌, ◌≤ℤ◌, List, length, true, OnOk, IfOk, IfErr, IfSome, Some, is_some, slice_get, slice_index_or, slice_range, filter, drop, int_lt, take};
+ghost use Rattle.dcsp_domain.specs.Sets.{IsDomain, IsRising, IsSetOf, set_of, has};
+ghost use Rattle.dcsp_domain.specs.declared.DomainError.TheVariants.{Memory as Lacking};
 ghost use Rattle.dcsp_domain.specs.Ranges.{count_between, numbers_from, numbers_between};
 ghost use Rattle.dcsp_domain.specs.Refusals.{IsRefusalAt};
 
@@ -10,6 +11,7 @@ use dcsp_common::ItemList;
 pub use dcsp_common::Memory;
 use std::alloc::{AllocError, AllocFailed, Global};
 use std::marker::Model;
+use std::rc::Rc;
 
 /// Numbers in a given order, repeats allowed.
 pub type IntList = ItemList<i64>;
@@ -52,20 +54,26 @@ impl<T: Drop> From<AllocFailed<T>> for DomainError {
 }
 
 /// The values of a variable: at most `MOST_VALUES` different numbers, in rising order.
+///
+/// A domain shares its numbers with those that it is narrowed to, so one of them takes no more room than its ends.
 #[derive(Debug, Drop)]
 pub struct Domain {
-    values: Vec<i64>,
+    numbers: Rc<Vec<i64>>,
+    /// The values are the numbers from this place on ..
+    from: usize,
+    /// .. that stand before this one.
+    to: usize,
 }
 
 impl Model for Domain {
-    ghost use Rattle.std.specs.Prelude.{List, ℤ};
-    ghost use Rattle.dcsp_domain.specs.Sets.{IsDomain};
+    ghost use Rattle.std.specs.Prelude.{List, ℤ, slice_range};
+    ghost use Rattle.dcsp_domain.specs.Sets.{IsPart};
 
     ghost Value = { List ℤ };
 
-    ghost view = { λ d. d.values.items };
+    ghost view = { λ d. slice_range d.numbers.value.items d.from d.to };
 
-    ghost invariant = { λ d. IsDomain d.values.items };
+    ghost invariant = { λ d. IsPart d.numbers.value.items d.from d.to };
 }
 
 impl Domain {
@@ -82,8 +90,8 @@ impl Domain {
         if size > MOST_VALUES as u128 {
             return Err(DomainError::Large { size });
         }
-        let values = numbers_from(alloc, low, size as usize)?;
-        Ok(Domain { values })
+        let numbers = numbers_from(alloc, low, size as usize)?;
+        Ok(Domain::whole(alloc, numbers)?)
     }
 
     /// The distinct values among these, in rising order.
@@ -99,7 +107,46 @@ impl Domain {
         if size > MOST_VALUES {
             return Err(DomainError::Large { size: size as u128 });
         }
-        Ok(Domain { values })
+        Ok(Domain::whole(alloc, values)?)
+    }
+
+    /// All of these numbers.
+    fn whole(alloc: Global, numbers: Vec<i64>) -> Result<Domain, DomainError>
+        requires { IsDomain numbers.items }
+        ensures ok { IfOk result (λ d. d ≡ numbers.items) }
+        ensures err { IfErr result (λ e. e ≡ Lacking) }
+    {
+        let to = numbers.len();
+        let numbers = Rc::new(alloc, numbers)?;
+        Ok(Domain {
+            numbers,
+            from: 0,
+            to,
+        })
+    }
+
+    /// The values from one place on that stand before another.
+    fn part(&self, from: usize, to: usize) -> Result<Domain, Memory>
+        requires order { from ≤ to }
+        requires within { to ≤ length self.now }
+        ensures { IfOk result (λ d. d ≡ slice_range self.now from to) }
+    {
+        let Ok(numbers) = self.numbers.clone() else {
+            return Err(Memory);
+        };
+        Ok(Domain {
+            numbers,
+            from: self.from + from,
+            to: self.from + to,
+        })
+    }
+
+    /// The values.
+    fn values(&self) -> &[i64]
+        ensures values { result.now ≡ self.now }
+        ensures rising { IsRising self.now }
+    {
+        &self.numbers[self.from..self.to]
     }
 
     /// The number of values.
@@ -108,14 +155,14 @@ impl Domain {
         ensures rising { IsRising self.now }
         ensures small { length self.now ≤ MOST_VALUES }
     {
-        self.values.len()
+        self.to - self.from
     }
 
     /// Whether there is no value.
     pub fn is_empty(&self) -> bool
         ensures { result ≡ (length self.now == 0) }
     {
-        self.values.is_empty()
+        self.from == self.to
     }
 
     /// The value at a place, from the lowest on.
@@ -123,33 +170,28 @@ impl Domain {
         requires { place < length self.now }
         ensures { slice_get self.now place ≡ Some result }
     {
-        self.values[place]
+        self.values()[place]
     }
 
     /// The same values once more.
     pub fn copied(&self) -> Result<Domain, Memory>
         ensures { IfOk result (λ d. d ≡ self.now) }
     {
-        match Vec::from_slice(*self.values.allocator(), &self.values) {
-            Ok(values) => Ok(Domain { values }),
-            Err(_) => Err(Memory),
-        }
+        self.part(0, self.len())
     }
 
     /// The values below the bound.
     pub fn below(&self, bound: i64) -> Result<Domain, Memory>
         ensures { IfOk result (λ d. d ≡ filter (λ value. int_lt value bound) self.now) }
     {
-        let values = numbers_below(*self.values.allocator(), &self.values, bound)?;
-        Ok(Domain { values })
+        self.part(0, place_for(self.values(), bound))
     }
 
     /// The values above the bound.
     pub fn above(&self, bound: i64) -> Result<Domain, Memory>
         ensures { IfOk result (λ d. d ≡ filter (λ value. int_lt bound value) self.now) }
     {
-        let values = numbers_above(*self.values.allocator(), &self.values, bound)?;
-        Ok(Domain { values })
+        self.part(place_behind(self.values(), bound), self.len())
     }
 
     /// The place of a value; `None` exactly if the domain does not have it.
@@ -157,38 +199,32 @@ impl Domain {
         ensures found { IfSome result (λ place. slice_get self.now place ≡ Some value) }
         ensures has { is_some result ≡ has self.now value }
     {
-        place_in(&self.values, value)
+        place_in(self.values(), value)
     }
 }
 
-/// Those of the numbers that are below the bound.
-fn numbers_below(alloc: Global, numbers: &[i64], bound: i64) -> Result<Vec<i64>, Memory>
-    ensures { IfOk result (λ v. v.items ≡ filter (λ value. int_lt value bound) numbers.now) }
+/// The place of the first of some rising numbers that is not below the bound; how many there are if each is.
+fn place_for(numbers: &[i64], bound: i64) -> usize
+    requires { IsRising numbers.now }
+    ensures within { result ≤ length numbers.now }
+    ensures below { take result numbers.now ≡ filter (λ value. int_lt value bound) numbers.now }
 {
-    let mut kept = Vec::new(alloc);
-    for number in numbers {
-        if *number < bound {
-            let Ok(()) = kept.push(*number) else {
-                return Err(Memory);
-            };
-        }
+    match numbers.binary_search(&bound) {
+        Ok(place) => place,
+        Err(place) => place,
     }
-    Ok(kept)
 }
 
-/// Those of the numbers that are above the bound.
-fn numbers_above(alloc: Global, numbers: &[i64], bound: i64) -> Result<Vec<i64>, Memory>
-    ensures { IfOk result (λ v. v.items ≡ filter (λ value. int_lt bound value) numbers.now) }
+/// The place of the first of some rising numbers that is above the bound; how many there are if none is.
+fn place_behind(numbers: &[i64], bound: i64) -> usize
+    requires { IsRising numbers.now }
+    ensures within { result ≤ length numbers.now }
+    ensures above { drop result numbers.now ≡ filter (λ value. int_lt bound value) numbers.now }
 {
-    let mut kept = Vec::new(alloc);
-    for number in numbers {
-        if bound < *number {
-            let Ok(()) = kept.push(*number) else {
-                return Err(Memory);
-            };
-        }
+    match numbers.binary_search(&bound) {
+        Ok(place) => place + 1,
+        Err(place) => place,
     }
-    Ok(kept)
 }
 
 /// The place of a value among rising ones.

@@ -74,6 +74,20 @@ impl Marks {
         None
     }
 
+    /// The end of a run of places from this one on, of so many, of which all are marked or none is. Of a row it
+    /// is this place alone.
+    pub fn end_of_run(&self, size: usize, place: usize) -> usize
+        requires { place < size }
+        ensures later { place < result }
+        ensures most { result ≤ size }
+        ensures same { (k : ℕ) → place ≤ k → k < result → is_marked self.now k ≡ is_marked self.now place }
+    {
+        match self {
+            Marks::Span(span) => span.end_of_run(size, place),
+            Marks::Row(_) => place + 1,
+        }
+    }
+
     /// The word of a block in which the bits of its marked places are set.
     fn word(&self, size: usize, block: usize) -> u64
         requires { FitsSize size self.now }

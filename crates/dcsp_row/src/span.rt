@@ -67,6 +67,17 @@ impl Span {
         None
     }
 
+    /// The end of a run of places from this one on, of so many, of which the span has all or none. It looks at
+    /// its ends alone.
+    pub fn end_of_run(self, size: usize, place: usize) -> usize
+        requires { place < size }
+        ensures later { place < result }
+        ensures most { result ≤ size }
+        ensures same { (k : ℕ) → place ≤ k → k < result → is_within self k ≡ is_within self place }
+    {
+        cut(cut(size, place, self.from), place, self.to)
+    }
+
     /// The word of a block in which their bits are set.
     pub fn word(self, block: usize) -> u64
         ensures { (bit : ℕ) → bit < 64 → (bit_at result bit == 1) ≡ is_within self (block * 64 + bit) }

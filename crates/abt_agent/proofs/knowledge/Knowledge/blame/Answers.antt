@@ -18,7 +18,7 @@ pub blame_one-requires-clause-cause : goal.blame_one-requires-clause-cause
 blame_one-requires-clause-cause c =
     let p = c.args.self.now.problem.now in
     let me = c.args.self.now.me in
-    found_valid p me (values_in (view_of c.args.self.now.view)) c.args.self.now.store (value_at p me c.loop-place.place) c.cause_at.result c.owned-rules.ensures.inside c.cause_at.ensures
+    found_valid p me (values_in (view_of c.args.self.now.view)) c.args.self.now.store (value_at p me c.loop-place.place) c.cause_in.result c.owned-rules.ensures.inside c.cause_in.ensures
 
 pub loop-place-preserved : goal.loop-place-preserved
 loop-place-preserved c =
@@ -32,10 +32,10 @@ loop-place-preserved c =
     let within : k < length values = omega (arith, ap length c.domain.ensures, c.len-values.ensures.len, c.loop-place-test.true) in
     let x = get_or values k (pos 0) in
     let before = causes_for p me known store (take k values) in
-    let here = option_to_list c.cause_at.result in
+    let here = option_to_list c.cause_in.result in
     let more : causes_for p me known store (take (k + 1) values) ≡ before ++ here =
     causes_more p me known store values k x within (slice_get-get_or values k (pos 0) within)
-    ∙ ap (λ o. before ++ option_to_list o) (sym c.cause_at.ensures) in
+    ∙ ap (λ o. before ++ option_to_list o) (sym c.cause_in.ensures) in
     let size = c.blame_one.ensures.size ∙ c.loop-place.invariant.size in
     record {
       reasons = c.blame_one.ensures.reasons
@@ -44,6 +44,7 @@ loop-place-preserved c =
           ∙ ap (reasons_at p store) (sym more);
       len = omega (arith, c.blame_one.ensures.len, c.loop-place.invariant.len);
       room = omega (arith, c.blame_one.ensures.capacity, c.loop-place.invariant.room);
+      run = λ j from below. c.run_from-run.ensures.run j (omega (arith, from)) below;
       size = size;
       marks = λ v. c.blame_one.ensures.marks v
           ∙ ap (λ n. has_mark c.loop-place.marks v || (nat_lt v n && blames p store here v)) c.loop-place.invariant.size

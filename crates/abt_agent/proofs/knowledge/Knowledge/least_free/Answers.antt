@@ -1,39 +1,30 @@
-use Rattle.std.proofs.Common.{◌<◌, ap, sym, ◌∙◌, is_some, true, false, Some, length, get_or, rules, w64, SFits, arith}
-use Rattle.std.specs.Prelude.{pos}
+use Rattle.std.proofs.Common.{ap, ◌∙◌, None, Some, rules, w64, SFits}
 use Rattle.std.proofs.lemmas.Int.{to_z-of_z}
-use Rattle.std.proofs.lemmas.Option.{slice_get-get_or}
-use Rattle.dcsp_defs.specs.Csp.{domain}
 use Rattle.abt_defs.specs.Agents.{values_in}
-use Rattle.dcsp_rule.specs.Problems.{csp_of}
 use Rattle.abt_parts.specs.Views.{view_of}
-use Rattle.abt_agent.specs.Causes.{cause_for}
-use Rattle.abt_agent.proofs.Causes.{free_here, free_later, flip}
+use Rattle.abt_agent.proofs.Causes.{free_moved, least_at}
 use Rattle.abt_agent.proofs.knowledge.Knowledge.least_free.Goals as goal
 
-pub returns-then-is_free_at : goal.returns-then-is_free_at
-returns-then-is_free_at c =
-    let p = c.args.self.now.problem.now in
-    let me = c.args.self.now.me in
-    let values = domain (csp_of p) me in
-    let known = values_in (view_of c.args.self.now.view) in
-    let store = c.args.self.now.store in
-    let k = c.loop-place.place in
-    let within : k < length values = omega (arith, ap length c.domain.ensures, c.len-place-end.ensures.len, c.loop-place-test.true) in
-    let x = get_or values k (pos 0) in
-    let at = slice_get-get_or values k (pos 0) within in
+pub value_at-requires-clause-place : goal.value_at-requires-clause-place
+value_at-requires-clause-place c =
+    let k = c.args.self.now in
+    let s = c.requires in
+    (free_moved k.problem.now k.reasons.problem k.me k.reasons.agent (values_in (view_of k.view)) k.store (Some c.in-Some.place) s.problem s.agent (c.in-Some.ensures (values_in (view_of k.view)) k.store s.stands)).0
+
+pub returns-in-Some : goal.returns-in-Some
+returns-in-Some c =
+    let k = c.args.self.now in
+    let s = c.requires in
+    let known = values_in (view_of k.view) in
     let v = c.value_at.result in
     let fits : SFits w64 v = search rules in
-    ap Some (to_z-of_z w64 v fits ∙ c.value_at.ensures) ∙ sym (free_here p me known store values k x within at (flip true (is_some (cause_for p me known store x)) c.if-is_free_at.ensures)) ∙ c.loop-place.invariant
+    let first = free_moved k.problem.now k.reasons.problem k.me k.reasons.agent known k.store (Some c.in-Some.place) s.problem s.agent (c.in-Some.ensures known k.store s.stands) in
+    ap Some (to_z-of_z w64 v fits ∙ c.value_at.ensures) ∙ least_at k.problem.now k.me known k.store (Some c.in-Some.place) first
 
-pub loop-place-preserved : goal.loop-place-preserved
-loop-place-preserved c =
-    let p = c.args.self.now.problem.now in
-    let me = c.args.self.now.me in
-    let values = domain (csp_of p) me in
-    let known = values_in (view_of c.args.self.now.view) in
-    let store = c.args.self.now.store in
-    let k = c.loop-place.place in
-    let within : k < length values = omega (arith, ap length c.domain.ensures, c.len-place-end.ensures.len, c.loop-place-test.true) in
-    let x = get_or values k (pos 0) in
-    let at = slice_get-get_or values k (pos 0) within in
-    sym (free_later p me known store values k x within at (flip false (is_some (cause_for p me known store x)) c.if-is_free_at.ensures)) ∙ c.loop-place.invariant
+pub returns-in-None : goal.returns-in-None
+returns-in-None c =
+    let k = c.args.self.now in
+    let s = c.requires in
+    let known = values_in (view_of k.view) in
+    let first = free_moved k.problem.now k.reasons.problem k.me k.reasons.agent known k.store None s.problem s.agent (c.in-None.ensures known k.store s.stands) in
+    least_at k.problem.now k.me known k.store None first

@@ -10,7 +10,7 @@ use Rattle.abt_agent.specs.Causes.{first_against}
 use Rattle.abt_agent.proofs.Causes.{reason_moved, no_reason, rule_reason, step_reason, step_some}
 use Rattle.abt_agent.proofs.Against.{against_is}
 use Rattle.abt_agent.proofs.Proper.{proper_own}
-use Rattle.abt_agent.proofs.knowledge.Knowledge.cause_at.Goals as goal
+use Rattle.abt_agent.proofs.knowledge.Knowledge.cause_in.Goals as goal
 
 pub returns-in-None : goal.returns-in-None
 returns-in-None c =
@@ -22,7 +22,7 @@ returns-in-None c =
     let r = c.args.self.now.reasons in
     let place = c.args.place in
     let v = value_at p me place in
-    let found = reason_moved p r.problem me r.agent known store place c.first.result c.requires.in_step.problem c.requires.in_step.agent (c.first.ensures known store c.requires.in_step.stands) in
+    let found = reason_moved p r.problem me r.agent known store place c.first_in.result c.requires.in_step.problem c.requires.in_step.agent (c.first_in.ensures known store c.requires.in_step.stands) in
     no_reason p me known store v (sym found ∙ c.in-None.is)
 
 pub returns-in-Some-Rule : goal.returns-in-Some-Rule
@@ -35,8 +35,8 @@ returns-in-Some-Rule c =
     let r = c.args.self.now.reasons in
     let place = c.args.place in
     let v = value_at p me place in
-    let found = reason_moved p r.problem me r.agent known store place c.first.result c.requires.in_step.problem c.requires.in_step.agent (c.first.ensures known store c.requires.in_step.stands) in
-    let is : c.first.result ≡ Some (Rule c.in-Some-Rule.rule) = cc (c.in-Some-Rule.is, c.in-Some-Rule.field-0-is) in
+    let found = reason_moved p r.problem me r.agent known store place c.first_in.result c.requires.in_step.problem c.requires.in_step.agent (c.first_in.ensures known store c.requires.in_step.stands) in
+    let is : c.first_in.result ≡ Some (Rule c.in-Some-Rule.rule) = cc (c.in-Some-Rule.is, c.in-Some-Rule.field-0-is) in
     rule_reason p me known store v c.in-Some-Rule.rule (sym found ∙ is)
 
 pub returns-in-Some-Earlier : goal.returns-in-Some-Earlier
@@ -49,8 +49,8 @@ returns-in-Some-Earlier c =
     let r = c.args.self.now.reasons in
     let place = c.args.place in
     let v = value_at p me place in
-    let found = reason_moved p r.problem me r.agent known store place c.first.result c.requires.in_step.problem c.requires.in_step.agent (c.first.ensures known store c.requires.in_step.stands) in
-    let is : c.first.result ≡ Some (Earlier c.in-Some-Earlier.field-0-0) = cc (c.in-Some-Earlier.is, c.in-Some-Earlier.field-0-is) in
+    let found = reason_moved p r.problem me r.agent known store place c.first_in.result c.requires.in_step.problem c.requires.in_step.agent (c.first_in.ensures known store c.requires.in_step.stands) in
+    let is : c.first_in.result ≡ Some (Earlier c.in-Some-Earlier.field-0-0) = cc (c.in-Some-Earlier.is, c.in-Some-Earlier.field-0-is) in
     let fits : SFits w64 c.value_at.result = search rules in
     let found_step = sym found ∙ is in
     c.against.ensures.cause

@@ -1,6 +1,0 @@
-use Rattle.std.proofs.Common.{◌≡◌, take, filter}
-use Rattle.std.specs.Prelude.{int_lt}
-use Rattle.dcsp_domain.proofs.numbers_below.Given as goal
-
-abbrev pub invariant-loop-number : goal.invariant-loop-number
-invariant-loop-number l = l.kept.items ≡ filter (λ v. int_lt v l.bound) (take l.number-index l.numbers)
