@@ -47,7 +47,7 @@ pub list_read : (o : ℕ × ℕ) (inside rest : List Token) (atoms : List Atom) 
 list_read o inside rest atoms h = inl (mark_at mark.OpenBracket o, inside, (refl, refl, refl), (atoms, rest, inr h, (refl, refl)))
 
 -- no annotations before a `;`
-no_annotations : (text : List ℕ) (at : ℕ × ℕ) (rest : List Token) → AreAnnotations text (mark_at mark.Semicolon at ∷ rest) marked.Nothing (mark_at mark.Semicolon at ∷ rest)
+pub no_annotations : (text : List ℕ) (at : ℕ × ℕ) (rest : List Token) → AreAnnotations text (mark_at mark.Semicolon at ∷ rest) marked.Nothing (mark_at mark.Semicolon at ∷ rest)
 no_annotations text at rest = none refl (refl, λ v r h. let e = h.0 in cc)
 
 -- constraint NAME(ARGUMENTS);

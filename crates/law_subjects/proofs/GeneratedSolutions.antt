@@ -18,25 +18,25 @@ use Rattle.law_subjects.proofs.Solutions.{Holds, solutions, lines_hold, tested, 
 
 -- ---- pairs
 
-range_all : (P : ℕ → Type 0) (a count : ℕ) → AllByRecursion P (range_with_len a count) → (i : ℕ) → a ≤ i → i < a + count → P i
+pub range_all : (P : ℕ → Type 0) (a count : ℕ) → AllByRecursion P (range_with_len a count) → (i : ℕ) → a ≤ i → i < a + count → P i
 range_all P a zero h i l r = absurd (omega (arith, l, r))
 range_all P a (suc count) h i l r = elim (eqb_tells a i) [
   | inl same ↦ subst P same.1 h.0
   | inr other ↦ range_all P (a + 1) count h.1 i (omega (arith, l, other.1)) (omega (arith, r))
 ]
 
-map_all : {X Y : Type 0} (P : Y → Type 0) (f : X → Y) (xs : List X) → AllByRecursion P (map f xs) → AllByRecursion (λ x. P (f x)) xs
+pub map_all : {X Y : Type 0} (P : Y → Type 0) (f : X → Y) (xs : List X) → AllByRecursion P (map f xs) → AllByRecursion (λ x. P (f x)) xs
 map_all P f [] h = tt
 map_all P f (x ∷ xs) h = (h.0, map_all P f xs h.1)
 
 -- what holds of each pair of numbers from 1 to n holds of the list of pairs, and the other way round
-pairs_each : (n : ℕ) (P : ℕ × ℕ → Type 0) → AllByRecursion P (pairs n) → (a b : ℕ) → 1 ≤ a → a < b → b ≤ n → P (a, b)
+pub pairs_each : (n : ℕ) (P : ℕ × ℕ → Type 0) → AllByRecursion P (pairs n) → (a b : ℕ) → 1 ≤ a → a < b → b ≤ n → P (a, b)
 pairs_each n P h a b low less high =
     let rows = flat_map_all P (pairs_of n) (range_with_len 1 n) h in
     let row : AllByRecursion P (pairs_of n a) = range_all (λ first. AllByRecursion P (pairs_of n first)) 1 n rows a low (omega (arith, less, high)) in
     range_all (λ second. P (a, second)) (a + 1) (n - a) (map_all P (λ second. (a, second)) (range_with_len (a + 1) (n - a)) row) b (omega (arith, less)) (omega (arith, less, high))
 
-each_pair : (n : ℕ) (P : ℕ × ℕ → Type 0) → ((a b : ℕ) → 1 ≤ a → a < b → b ≤ n → P (a, b)) → AllByRecursion P (pairs n)
+pub each_pair : (n : ℕ) (P : ℕ × ℕ → Type 0) → ((a b : ℕ) → 1 ≤ a → a < b → b ≤ n → P (a, b)) → AllByRecursion P (pairs n)
 each_pair n P f =
     all_flat_map P (pairs_of n) (range_with_len 1 n) (
     all_range (λ first. AllByRecursion P (pairs_of n first)) 1 n (λ first l r.

@@ -23,19 +23,19 @@ use Rattle.law_subjects.proofs.Tables.{fit, binary_many}
 digits : (n : ℕ) → IsSmall n → length (decimal n) ≤ 10
 digits n small = length-decimal-le 10 n (omega arith) (omega (arith, small.1)) (omega (arith, small.1))
 
-digits_to : (n : ℕ) → n ≤ 2 ^ 31 → length (decimal n) ≤ 10
+pub digits_to : (n : ℕ) → n ≤ 2 ^ 31 → length (decimal n) ≤ 10
 digits_to n small = length-decimal-le 10 n (omega arith) (omega (arith, small)) (omega (arith, small))
 
 few_digits : (n : ℕ) → n ≤ 2 ^ 16 → length (decimal n) ≤ 5
 few_digits n small = length-decimal-le 5 n (omega arith) (omega (arith, small)) (omega (arith, small))
 
 -- what each of some counts for, added up
-abbrev total : {X : Type 0} → (X → ℕ) → List X → ℕ
+abbrev pub total : {X : Type 0} → (X → ℕ) → List X → ℕ
 total f [] = 0
 total f (x ∷ xs) = f x + total f xs
 
 -- pieces one after another
-concat_length : (pieces : List (List ℕ)) → length (concat pieces) ≡ total (λ (piece : List ℕ). length piece) pieces
+pub concat_length : (pieces : List (List ℕ)) → length (concat pieces) ≡ total (λ (piece : List ℕ). length piece) pieces
 concat_length [] = refl
 concat_length (piece ∷ pieces) = length-append piece (concat pieces) ∙ ap (λ n. length piece + n) (concat_length pieces)
 
@@ -66,7 +66,7 @@ later_length (row ∷ rows) small =
     let rest = later_length rows small.1 in
     omega (arith, here, rest, length-append (later_entry row) (flat_map later_entry rows))
 
-entries_length : (rows : List (ℕ × ℕ)) → AllByRecursion HasSmallEntries rows → length (entries rows) ≤ 12 * length rows
+pub entries_length : (rows : List (ℕ × ℕ)) → AllByRecursion HasSmallEntries rows → length (entries rows) ≤ 12 * length rows
 entries_length [] small = omega arith
 entries_length (row ∷ rows) small =
     let here = row_length row small.0 in

@@ -53,3 +53,16 @@ pub mod Goals
 pub mod MeantWhole
 pub mod Optima
 pub mod RandomBinary
+pub mod NamedPieces
+pub mod NamedItems
+pub mod NamedWhole
+pub mod NamedProblems
+pub mod PairNames
+pub mod Folded
+pub mod NamedTexts
+pub mod MeetingLines
+pub mod Hearing
+pub mod SensorLines
+pub mod NamedSolutions
+pub mod MeetingSolutions
+mod SensorSolutions

@@ -19,7 +19,7 @@ use Rattle.law_subjects.proofs.Arrays.{array_read}
 use Rattle.law_subjects.proofs.LinePieces.{list_pieces, array_pieces, sum_pieces, table_pieces, rows_pieces, pieces}
 
 -- the places of a piece, the first of which begins at a place
-abbrev place : ℕ → List Piece → ℕ → ℕ × ℕ
+abbrev pub place : ℕ → List Piece → ℕ → ℕ × ℕ
 place at [] k = (at, at)
 place at (p ∷ ps) zero = (at, at + length p.bytes)
 place at (p ∷ ps) (suc k) = place (at + length p.bytes + length p.gap) ps k
@@ -142,12 +142,12 @@ entries_read (entry ∷ entries) at = let read = some_entries_read entry entries
 }
 
 -- two values that are a row
-record RowsRead (text first second : List ℕ) (at : ℕ) (rows : List (ℕ × ℕ)) : Type 0 where
-  item : Item
-  reads : (rest : List Token) → IsItem text (tokens_at at (rows_pieces first second (table_pieces (entries_of rows))) ++ rest) item rest
-  says : IsTable text first second rows item
+pub record RowsRead (text first second : List ℕ) (at : ℕ) (rows : List (ℕ × ℕ)) : Type 0 where
+  pub item : Item
+  pub reads : (rest : List Token) → IsItem text (tokens_at at (rows_pieces first second (table_pieces (entries_of rows))) ++ rest) item rest
+  pub says : IsTable text first second rows item
 
-rows_reads : (text first second : List ℕ) (at : ℕ) (rows : List (ℕ × ℕ)) → AreWritten text at (rows_pieces first second (table_pieces (entries_of rows))) → RowsRead text first second at rows
+pub rows_reads : (text first second : List ℕ) (at : ℕ) (rows : List (ℕ × ℕ)) → AreWritten text at (rows_pieces first second (table_pieces (entries_of rows))) → RowsRead text first second at rows
 rows_reads text first second at rows written =
     let p = place at (rows_pieces first second []) in
     let inside = (p 9).1 + 0 in

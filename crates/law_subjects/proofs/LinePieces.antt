@@ -86,7 +86,7 @@ later_bytes ((first, second) ∷ rows) =
     ∙ ap (λ t. 44 ∷ t) (row_front first second (bytes_of (entry_pieces (entries_of rows))))
 
 -- the rows
-table_bytes : (rows : List (ℕ × ℕ)) → entries rows ++ codes "]);\n" ≡ bytes_of (table_pieces (entries_of rows))
+pub table_bytes : (rows : List (ℕ × ℕ)) → entries rows ++ codes "]);\n" ≡ bytes_of (table_pieces (entries_of rows))
 table_bytes [] = refl
 table_bytes ((first, second) ∷ rows) =
     append_assoc (entry (first, second)) (flat_map later_entry rows) (codes "]);\n")

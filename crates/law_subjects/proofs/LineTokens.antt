@@ -20,7 +20,7 @@ one_digits : AreDigits 1 (codes "1")
 one_digits = record { all = refl; some = omega arith; value = refl }
 
 -- the entries of rows are small
-entries_small : (rows : List (ℕ × ℕ)) → AllByRecursion HasSmallEntries rows → AllByRecursion (λ entry. entry ≤ 2 ^ 31) (entries_of rows)
+pub entries_small : (rows : List (ℕ × ℕ)) → AllByRecursion HasSmallEntries rows → AllByRecursion (λ entry. entry ≤ 2 ^ 31) (entries_of rows)
 entries_small [] h = tt
 entries_small (row ∷ rows) h = let first = h.0.0 in let second = h.0.1 in (omega (arith, first), (omega (arith, second), entries_small rows h.1))
 
@@ -114,11 +114,11 @@ module _ (b : ℕ) (low : 97 ≤ b) (high : b ≤ 122) (after : List ℕ) (solid
       & is_number entry (decimal entry) [] _ (decimal_digits entry small.0) small.0 (entries_end entries) refl (entries_solid entries)
       & entry_tokens entries small.1
 
-  table_solid : (entries : List ℕ) → AllByRecursion (λ entry. entry ≤ 2 ^ 31) entries → stops is_skip (bytes_of (table_pieces entries) ++ after) ≡ true
+  pub table_solid : (entries : List ℕ) → AllByRecursion (λ entry. entry ≤ 2 ^ 31) entries → stops is_skip (bytes_of (table_pieces entries) ++ after) ≡ true
   table_solid [] small = refl
   table_solid (entry ∷ entries) small = decimal_solid entry _ _ small.0
 
-  table_tokens : (entries : List ℕ) → AllByRecursion (λ entry. entry ≤ 2 ^ 31) entries → ArePieces (table_pieces entries) after
+  pub table_tokens : (entries : List ℕ) → AllByRecursion (λ entry. entry ≤ 2 ^ 31) entries → ArePieces (table_pieces entries) after
   table_tokens [] small = entry_tokens [] small
   table_tokens (entry ∷ entries) small =
       is_number entry (decimal entry) [] _ (decimal_digits entry small.0) small.0 (entries_end entries) refl (entries_solid entries)

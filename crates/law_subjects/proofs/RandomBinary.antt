@@ -28,7 +28,7 @@ use Rattle.law_subjects.proofs.Whole.{lines_say_problem}
 
 -- ---- what is selected of things of which none stands twice
 
-in_selected : {X : Type 0} (kept : Bool) (words : ℕ → ℕ) (wanted : ℕ) (xs : List X) (y : X) → In y (selected kept words wanted xs) → In y xs
+pub in_selected : {X : Type 0} (kept : Bool) (words : ℕ → ℕ) (wanted : ℕ) (xs : List X) (y : X) → In y (selected kept words wanted xs) → In y xs
 in_selected kept words wanted [] y i = i
 in_selected {X = X} kept words wanted (x ∷ xs) y i =
     let chosen = chooses (words 0) wanted (suc (length xs)) in
@@ -39,7 +39,7 @@ in_selected {X = X} kept words wanted (x ∷ xs) y i =
     by rest f true (inr j) = inr (f j)
     by rest f false j = inr (f j)
 
-apart_selected : {X : Type 0} (kept : Bool) (words : ℕ → ℕ) (wanted : ℕ) (xs : List X) → AreApart xs → AreApart (selected kept words wanted xs)
+pub apart_selected : {X : Type 0} (kept : Bool) (words : ℕ → ℕ) (wanted : ℕ) (xs : List X) → AreApart xs → AreApart (selected kept words wanted xs)
 apart_selected kept words wanted [] h = tt
 apart_selected {X = X} kept words wanted (x ∷ xs) h =
     let chosen = chooses (words 0) wanted (suc (length xs)) in
@@ -89,20 +89,20 @@ count_selected {X = X} p words wanted (x ∷ xs) h k =
 
 -- ---- pairs
 
-in_range : (low count k : ℕ) → In k (range_with_len low count) → low ≤ k
+pub in_range : (low count k : ℕ) → In k (range_with_len low count) → low ≤ k
 in_range low zero k i = absurd i
 in_range low (suc count) k (inl e) = omega (arith, e)
 in_range low (suc count) k (inr i) = let rest = in_range (low + 1) count k i in omega (arith, rest)
 
-apart_range : (low count : ℕ) → AreApart (range_with_len low count)
+pub apart_range : (low count : ℕ) → AreApart (range_with_len low count)
 apart_range low zero = tt
 apart_range low (suc count) = ((λ i. let h = in_range (low + 1) count low i in omega (arith, h)), apart_range (low + 1) count)
 
 -- a number beside each of some
-abbrev beside : ℕ → List ℕ → List (ℕ × ℕ)
+abbrev pub beside : ℕ → List ℕ → List (ℕ × ℕ)
 beside first seconds = map (λ second. (first, second)) seconds
 
-in_beside : (first : ℕ) (seconds : List ℕ) (pair : ℕ × ℕ) → In pair (beside first seconds) → (pair.0 ≡ first) × In pair.1 seconds
+pub in_beside : (first : ℕ) (seconds : List ℕ) (pair : ℕ × ℕ) → In pair (beside first seconds) → (pair.0 ≡ first) × In pair.1 seconds
 in_beside first [] pair i = absurd i
 in_beside first (second ∷ seconds) pair (inl e) = (ap (λ (q : ℕ × ℕ). q.0) e, inl (ap (λ (q : ℕ × ℕ). q.1) e))
 in_beside first (second ∷ seconds) pair (inr i) = let rest = in_beside first seconds pair i in (rest.0, inr rest.1)
@@ -111,7 +111,7 @@ apart_beside : (first : ℕ) (seconds : List ℕ) → AreApart seconds → AreAp
 apart_beside first [] h = tt
 apart_beside first (second ∷ seconds) h = ((λ i. h.0 (in_beside first seconds (first, second) i).1), apart_beside first seconds h.1)
 
-in_append : {X : Type 0} (x : X) (xs ys : List X) → In x (xs ++ ys) → In x xs ⊎ In x ys
+pub in_append : {X : Type 0} (x : X) (xs ys : List X) → In x (xs ++ ys) → In x xs ⊎ In x ys
 in_append x [] ys i = inr i
 in_append x (z ∷ xs) ys (inl e) = inl (inl e)
 in_append x (z ∷ xs) ys (inr i) = ⊎_elim (λ j. inl (inr j)) (λ j. inr j) (in_append x xs ys i)
@@ -127,7 +127,7 @@ in_grid seconds low (suc count) pair i =
     ⊎_elim (λ j. let e = (in_beside low (seconds low) pair j).0 in omega (arith, e)) (λ j. let rest = in_grid seconds (low + 1) count pair j in omega (arith, rest))
     (in_append pair (beside low (seconds low)) (flat_map (λ first. beside first (seconds first)) (range_with_len (low + 1) count)) i)
 
-apart_grid : (seconds : ℕ → List ℕ) → ((first : ℕ) → AreApart (seconds first)) → (low count : ℕ) → AreApart (flat_map (λ first. beside first (seconds first)) (range_with_len low count))
+pub apart_grid : (seconds : ℕ → List ℕ) → ((first : ℕ) → AreApart (seconds first)) → (low count : ℕ) → AreApart (flat_map (λ first. beside first (seconds first)) (range_with_len low count))
 apart_grid seconds h low zero = tt
 apart_grid seconds h low (suc count) =
     apart_append (beside low (seconds low)) (flat_map (λ first. beside first (seconds first)) (range_with_len (low + 1) count)) (apart_beside low (seconds low) (h low)) (apart_grid seconds h (low + 1) count)
@@ -142,7 +142,7 @@ values_apart d = apart_grid (λ first. range_with_len 0 d) (λ first. apart_rang
 -- ---- rows as one list
 
 -- the entries of rows, as values
-abbrev flat : List (ℕ × ℕ) → List ℤ
+abbrev pub flat : List (ℕ × ℕ) → List ℤ
 flat rows = map (λ entry. pos entry) (entries_of rows)
 
 -- where the entries of a row stand
@@ -158,7 +158,7 @@ entry_at (row ∷ rows) (suc k) =
 same_value : (x y : ℤ) → (int_eq x y ≡ true) ↔ (x ≡ y)
 same_value x y = ((Decides-int_eq x y).0, (Decides-int_eq x y).1)
 
-pos_inside : (m n : ℕ) → pos m ≡ pos n → m ≡ n
+pub pos_inside : (m n : ℕ) → pos m ≡ pos n → m ≡ n
 pos_inside m n e = cc
 
 both_parts : (pair row : ℕ × ℕ) → pair.0 ≡ row.0 → pair.1 ≡ row.1 → pair ≡ row
@@ -199,12 +199,12 @@ stands_is rows pair k =
           (and_true second ((same_value (pos pair.1) (argument (flat rows) (k * 2 + 1))).1 (ap (λ (q : ℕ × ℕ). pos q.1) e ∙ sym at.1))),
     )
 
-in_get : (rows : List (ℕ × ℕ)) (k : ℕ) → k < length rows → In (get_or rows k (0, 0)) rows
+pub in_get : (rows : List (ℕ × ℕ)) (k : ℕ) → k < length rows → In (get_or rows k (0, 0)) rows
 in_get [] k l = absurd (omega (arith, l))
 in_get (row ∷ rows) zero l = inl refl
 in_get (row ∷ rows) (suc k) l = inr (in_get rows k (omega (arith, l)))
 
-place_of : (rows : List (ℕ × ℕ)) (pair : ℕ × ℕ) → In pair rows → (k : ℕ) × (k < length rows) × (pair ≡ get_or rows k (0, 0))
+pub place_of : (rows : List (ℕ × ℕ)) (pair : ℕ × ℕ) → In pair rows → (k : ℕ) × (k < length rows) × (pair ≡ get_or rows k (0, 0))
 place_of [] pair i = absurd i
 place_of (row ∷ rows) pair (inl e) = (0, omega arith, e)
 place_of (row ∷ rows) pair (inr i) = let rest = place_of rows pair i in let l = rest.1 in (suc rest.0, omega (arith, l), rest.2)
@@ -235,7 +235,7 @@ flat_long [] = omega arith
 flat_long (row ∷ rows) = let rest = flat_long rows in omega (arith, rest)
 
 -- a table has exactly its rows
-has_is : (rows : List (ℕ × ℕ)) (pair : ℕ × ℕ) → (has_row int_eq (pos pair.0 ∷ pos pair.1 ∷ []) (flat rows) ≡ true) ↔ In pair rows
+pub has_is : (rows : List (ℕ × ℕ)) (pair : ℕ × ℕ) → (has_row int_eq (pos pair.0 ∷ pos pair.1 ∷ []) (flat rows) ≡ true) ↔ In pair rows
 has_is rows pair =
     let row = pos pair.0 ∷ pos pair.1 ∷ [] in
     let many : length (flat rows) / 2 ≡ length rows = ap (λ n. n / 2) (flat_long rows) ∙ half (length rows) in
@@ -246,7 +246,7 @@ has_is rows pair =
 
 -- ---- the rule of a table
 
-constants : (values : Assignment) (entries : List ℕ) → map (value_under values) (map (λ entry. Const (pos entry)) entries) ≡ map (λ entry. pos entry) entries
+pub constants : (values : Assignment) (entries : List ℕ) → map (value_under values) (map (λ entry. Const (pos entry)) entries) ≡ map (λ entry. pos entry) entries
 constants values [] = refl
 constants values (entry ∷ entries) = ap (λ (vs : List ℤ). pos entry ∷ vs) (constants values entries)
 

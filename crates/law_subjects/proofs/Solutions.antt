@@ -35,7 +35,7 @@ abbrev pub IsTrueOf : Assignment → Rule → Type 0
 IsTrueOf values rule = rule_truth rule values ≡ true
 
 -- the test of two numbers is false exactly where they differ
-unequal : (x y : ℤ) → (not (int_eq x y) ≡ true) ↔ (x ≡ y → ⊥)
+pub unequal : (x y : ℤ) → (not (int_eq x y) ≡ true) ↔ (x ≡ y → ⊥)
 unequal x y =
     let tells = Decides-int_eq x y in (
       λ h e. let is : int_eq x y ≡ true = tells.1 e in let is_not : int_eq x y ≡ false = not-true (int_eq x y) h in cc,
@@ -89,11 +89,11 @@ tested values (rule ∷ rules) h =
     (and_left (rule_truth rule values) (list_all (λ r. rule_truth r values) rules) h, tested values rules (and_right (rule_truth rule values) (list_all (λ r. rule_truth r values) rules) h))
 
 -- the constraints of rules are true exactly where the rules are
-constraints_all : (m : ℕ) (values : Assignment) (rules : List Rule) → ((c : Constraint) → In c (map (constraint_of m) rules) → c.test values ≡ true) → AllByRecursion (IsTrueOf values) rules
+pub constraints_all : (m : ℕ) (values : Assignment) (rules : List Rule) → ((c : Constraint) → In c (map (constraint_of m) rules) → c.test values ≡ true) → AllByRecursion (IsTrueOf values) rules
 constraints_all m values [] h = tt
 constraints_all m values (rule ∷ rules) h = (h (constraint_of m rule) (inl refl), constraints_all m values rules (λ c i. h c (inr i)))
 
-all_constraints : (m : ℕ) (values : Assignment) (rules : List Rule) → AllByRecursion (IsTrueOf values) rules → (c : Constraint) → In c (map (constraint_of m) rules) → c.test values ≡ true
+pub all_constraints : (m : ℕ) (values : Assignment) (rules : List Rule) → AllByRecursion (IsTrueOf values) rules → (c : Constraint) → In c (map (constraint_of m) rules) → c.test values ≡ true
 all_constraints m values [] h c i = absurd i
 all_constraints m values (rule ∷ rules) h c (inl e) = ap (λ (x : Constraint). x.test values) e ∙ h.0
 all_constraints m values (rule ∷ rules) h c (inr i) = all_constraints m values rules h.1 c i

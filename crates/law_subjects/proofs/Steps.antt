@@ -88,7 +88,7 @@ module _ (text : List ℕ) where
       ∙ declared_step scope domains low k says.at says.from written small fresh free
 
   -- a name's term
-  name_term : (scope : Scope) (written : List ℕ) (number : ℕ) (atom : Atom) → IsNamed text written atom → StandsFor scope written number
+  pub name_term : (scope : Scope) (written : List ℕ) (number : ℕ) (atom : Atom) → IsNamed text written atom → StandsFor scope written number
       → term_of text scope (record { boolean = false; constant = false }) atom ≡ Ok (variable number)
   name_term scope written number atom says there = rw (says.atom_is, says.written_is, there) refl
 
@@ -159,7 +159,7 @@ module _ (text : List ℕ) where
       rw (name_term scope first a x x_is there, name_term scope second b y y_is also) refl
 
   -- a constraint adds its rule
-  rule_after : (scope : Scope) (domains : List (List ℤ)) (rules : List Rule) (outputs : List Output) (c : Bool) (rule : Rule) (at from : ℕ) (written : List ℕ) (exprs : List Expr)
+  pub rule_after : (scope : Scope) (domains : List (List ℤ)) (rules : List Rule) (outputs : List Output) (c : Bool) (rule : Rule) (at from : ℕ) (written : List ℕ) (exprs : List Expr)
       → constraint_rule text scope from written exprs ≡ Ok rule → rule_refusal (problem_so_far domains rules outputs) rule ≡ None
       → constraint text (so_far scope domains rules outputs c) at from written exprs ≡ Ok (so_far scope domains (rules ++ rule ∷ []) outputs true)
   unfolding constraint

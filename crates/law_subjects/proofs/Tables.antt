@@ -87,7 +87,7 @@ tables_small n forbidden values words (edge ∷ edges) few small h =
 
 -- ---- of numbers that go together
 
-le_from : (a b : ℕ) → nat_le a b ≡ true → a ≤ b
+pub le_from : (a b : ℕ) → nat_le a b ≡ true → a ≤ b
 le_from a b h = grind (arith, nat_tests)
 
 -- there are enough pairs of variables and of values, and not too many terms and entries

@@ -47,11 +47,11 @@ no_keyword_by b bs None is none = is
 no_keyword_by b bs (Some word) is none = absurd (false≢true (sym none ∙ ap (λ t. starts is_letter (behind t)) (word_found (b ∷ bs) word is) ∙ second_letter word))
 
 -- no keyword has no letter there
-no_keyword : (b : ℕ) (bs : List ℕ) → starts is_letter bs ≡ false → word_in (b ∷ bs) ≡ None
+pub no_keyword : (b : ℕ) (bs : List ℕ) → starts is_letter bs ≡ false → word_in (b ∷ bs) ≡ None
 no_keyword b bs none = no_keyword_by b bs (word_in (b ∷ bs)) refl none
 
 -- a digit is no letter
-digit_no_letter : (b : ℕ) → is_digit_in 10 b ≡ true → is_letter b ≡ false
+pub digit_no_letter : (b : ℕ) → is_digit_in 10 b ≡ true → is_letter b ≡ false
 digit_no_letter b e = let range = digit_range b e in grind (arith, nat_tests)
 
 -- digits begin with no letter
@@ -60,7 +60,7 @@ digits_no_letter [] all = refl
 digits_no_letter (b ∷ bs) all = digit_no_letter b (both_first (is_digit_in 10 b) (list_all (is_digit_in 10) bs) all)
 
 -- digits are bytes of names
-digits_of_name : (bs : List ℕ) → list_all (is_digit_in 10) bs ≡ true → list_all is_name_byte bs ≡ true
+pub digits_of_name : (bs : List ℕ) → list_all (is_digit_in 10) bs ≡ true → list_all is_name_byte bs ≡ true
 digits_of_name [] all = refl
 digits_of_name (b ∷ bs) all =
     let first = digit_of_name b (both_first (is_digit_in 10 b) (list_all (is_digit_in 10) bs) all) in

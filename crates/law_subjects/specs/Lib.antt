@@ -18,3 +18,7 @@ pub mod Environments
 pub mod Holding
 pub mod Meaning
 pub mod Best
+pub mod Named
+pub mod MeetingLines
+pub mod SensorLines
+pub mod Appointments

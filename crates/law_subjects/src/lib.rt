@@ -6,6 +6,7 @@ pub mod meaning;
 
 ghost use Rattle.dcsp_defs.specs.Csp.{Csp};
 ghost use Rattle.law_subjects.specs.Accepting.{AcceptedAreProblems};
+ghost use Rattle.law_subjects.specs.Appointments.{MeetingsAreTimetables, SensorsTrackTargets};
 ghost use Rattle.law_subjects.specs.Finding.{EntriesHaveFinding};
 ghost use Rattle.law_subjects.specs.Formulas.{EachHasAnswer, FormulasSayClauses, GapsAreIgnored, TextsAreWords};
 ghost use Rattle.law_subjects.specs.Learning.{LearnedFew};
@@ -20,13 +21,16 @@ ghost use Rattle.law_subjects.specs.GeneratedSolutions.{ColouringsAreProper, Pig
 
 /// What the solutions of generated problems are: the placements of queens of which none attacks another, and the
 /// proper colourings of the graph that was drawn. Pigeons have none; a sparse graph has one, whatever the words, and
-/// so have six queens.
+/// so have six queens. Those of meetings are the timetables of the calendars and groups that the words make, and those
+/// of sensors are three sensors for each target that see it and hear each other, none of them for two targets.
 pub fn generated_solutions()
     ensures queens { QueensArePlaced }
     ensures colourings { ColouringsAreProper }
     ensures pigeons { PigeonsDoNotFit }
     ensures sparse { SparseGraphsAreColoured }
     ensures six_queens { SixQueensArePlaced }
+    ensures meetings { MeetingsAreTimetables }
+    ensures sensors { SensorsTrackTargets }
 {}
 
 /// An upgraded log has the steps of its log in order, and deletes each step once at the most: right behind the last

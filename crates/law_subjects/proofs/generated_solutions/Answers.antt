@@ -1,4 +1,6 @@
 use Rattle.law_subjects.proofs.GeneratedSolutions.{queens_are_placed, colourings_are_proper, pigeons_do_not_fit, sparse_graphs_are_coloured, six_queens_are_placed}
+use Rattle.law_subjects.proofs.MeetingSolutions.{meetings_are_timetables}
+use Rattle.law_subjects.proofs.SensorSolutions.{sensors_track_targets}
 use Rattle.law_subjects.proofs.generated_solutions.Goals as goal
 
 pub returns-clause-queens : goal.returns-clause-queens
@@ -15,3 +17,9 @@ returns-clause-sparse c = sparse_graphs_are_coloured
 
 pub returns-clause-six_queens : goal.returns-clause-six_queens
 returns-clause-six_queens c = six_queens_are_placed
+
+pub returns-clause-meetings : goal.returns-clause-meetings
+returns-clause-meetings c = meetings_are_timetables
+
+pub returns-clause-sensors : goal.returns-clause-sensors
+returns-clause-sensors c = sensors_track_targets
