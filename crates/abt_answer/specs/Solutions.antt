@@ -1,8 +1,7 @@
 -- The text of a solution.
-use Rattle.std.specs.Prelude.{ℕ, ℤ, List, [], ◌∷◌, ◌++◌, Bool, length, map, flat_map, codes, decimal, if◌then◌else◌}
+use Rattle.std.specs.Prelude.{ℕ, ℤ, List, [], ◌∷◌, ◌++◌, Bool, length, flat_map, codes, decimal, if◌then◌else◌}
 use Rattle.std.specs.Fmt.{signed_decimal}
 use Rattle.dcsp_meaning.specs.Words.{is_one}
-use Rattle.dcsp_rule.specs.declared.rule.Term.{Term}
 use Rattle.dcsp_rule.specs.declared.output.Output.{Output}
 use Rattle.dcsp_rule.specs.declared.output.Shape.{Shape}
 use Rattle.dcsp_rule.specs.declared.output.Shape.TheVariants.{One, Ranges}

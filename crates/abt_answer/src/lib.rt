@@ -10,9 +10,12 @@ ghost use Rattle.dcsp_problem.specs.Outputs.{IsOutputOf};
 ghost use Rattle.dcsp_outside.specs.Outside.{AddsPartOf, Rose, Told, UnlessPutFailed};
 ghost use Rattle.abt_answer.specs.Solutions.{value_text, values_text, range_text, laid_out, output_line, solution_text};
 
+mod laws;
+
 use dcsp_common::{Memory, push_number, push_signed};
 use dcsp_outside::{Sink, SinkError};
 use dcsp_problem::{Output, Problem, Shape, Term};
+pub use laws::texts_tell_values;
 use std::alloc::{AllocError, Global};
 
 /// Puts the text of a solution, the values in the order of the variables, as one piece. It is refused as

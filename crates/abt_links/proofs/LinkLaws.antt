@@ -1,17 +1,18 @@
 -- What a change of one list makes of the look-ups.
 use Rattle.std.proofs.Common.{◌≡◌, ◌≢◌, ℕ, zero, suc, ◌+◌, ◌<◌, ◌⊎◌, inl, inr, List, [], ◌∷◌, ◌++◌, filter, length, Option, Some, None, get_or, set, slice_get, refl, sym, ◌∙◌, ap, subst, arith, get_or-set_same, get_or-set_other, Bool, true, false, not, ◌&&◌, ◌||◌, cond, is_some, eq-eqb, eqb, ltb}
-use Rattle.std.specs.List.{position, list_any, position_or_len}
+use Rattle.std.specs.List.{position, list_any, position_or_len, sum_by}
 use Rattle.std.specs.Option.{option_map}
 use Rattle.std.proofs.lemmas.Bool.{cases_lt, cases_Bool, and_parts, and_from, eqb-true, lt-ltb, le-ltb, cond-true, cond-false, both_ways, or_cases, or_left, or_right}
 use Rattle.std.proofs.lemmas.List.{length-set}
 use Rattle.std.proofs.lemmas.List.Quantifiers.{position-Some}
 use Rattle.std.proofs.lemmas.List.Folds.{list_any-append}
 use Rattle.std.proofs.lemmas.List.{length-append}
+use Rattle.std.proofs.lemmas.List.Sums.{sum_by-set, sum_by_push}
 use Rattle.std.proofs.lemmas.List.Elements.{filter_agree}
 use Rattle.abt_parts.specs.declared.message.Message.{Message}
 use Rattle.abt_defs.specs.Network.{is_empty, pairs}
 use Rattle.abt_links.specs.PairTables.{PairTable, has_pair, members}
-use Rattle.abt_links.specs.Transit.{Transit, is_pair, list_at, link_of, IsOpen, ready_pairs, Sends, Takes, Opens}
+use Rattle.abt_links.specs.Transit.{Transit, is_pair, list_at, link_of, IsOpen, ready_pairs, message_count, Sends, Takes, Opens}
 use Rattle.abt_links.specs.Whole.{IsWhole}
 
 -- the tests of one pair
@@ -272,3 +273,25 @@ pair-whole t ready from to whole sender receiver = record {
   ];
   filled = λ k i. whole.filled k i ∙ ap (λ l. not (is_empty l)) (sym (pair-links t from to whole.long k i));
 }
+
+-- ---- how many there are
+
+-- how long one list is
+abbrev weight : List Message → ℕ
+weight ms = length ms
+
+-- a message more on one list is one more in all
+pub sent-count : (t : Transit) (lists' : List (List Message)) (ready : PairTable) (e from to : ℕ) (m : Message) → IsWhole t ready → position (is_pair from to) t.opened ≡ Some e
+    → lists' ≡ set t.lists e (get_or t.lists e [] ++ m ∷ []) → message_count (record { agents = t.agents; opened = t.opened; lists = lists' }) ≡ message_count t + 1
+sent-count t lists' ready e from to m whole at lists =
+    ap (sum_by weight) lists ∙ omega (arith, sum_by-set weight t.lists e (get_or t.lists e [] ++ m ∷ []) [] (has_list t ready e from to whole at), length-append (get_or t.lists e []) (m ∷ []))
+
+-- a message less on one list is one less in all
+pub taken-count : (t : Transit) (lists' : List (List Message)) (ready : PairTable) (e from to : ℕ) (m : Message) → IsWhole t ready → position (is_pair from to) t.opened ≡ Some e
+    → get_or t.lists e [] ≡ m ∷ get_or lists' e [] → lists' ≡ set t.lists e (get_or lists' e []) → message_count (record { agents = t.agents; opened = t.opened; lists = lists' }) + 1 ≡ message_count t
+taken-count t lists' ready e from to m whole at head lists =
+    omega (arith, ap (sum_by weight) lists, sum_by-set weight t.lists e (get_or lists' e []) [] (has_list t ready e from to whole at), ap weight head)
+
+-- an empty list more changes nothing
+pub opened-count : (agents : ℕ) (opened more : List (ℕ × ℕ)) (lists : List (List Message)) → message_count (record { agents = agents; opened = more; lists = lists ++ [] ∷ [] }) ≡ message_count (record { agents = agents; opened = opened; lists = lists })
+opened-count agents opened more lists = omega (arith, sum_by_push weight lists [])

@@ -1,6 +1,6 @@
 //! The messages in transit.
 
-ghost use Rattle.std.specs.Prelude.{◌≡◌, ◌≢◌, ◌<◌, ◌≤◌, [], IfErr, IfOk, OnErr, OnOk, Some, position, option_copied, slice_get, length};
+ghost use Rattle.std.specs.Prelude.{◌≡◌, ◌≢◌, ◌+◌, ◌<◌, ◌≤◌, [], IfErr, IfOk, OnErr, OnOk, Some, position, option_copied, slice_get, length};
 ghost use Rattle.abt_links.specs.Transit.{is_pair, link_of, IsOpen, Opens, Sends, Posts, Keeps, Takes, ready_pairs, message_count};
 
 use crate::open_pairs::OpenPairs;
@@ -63,13 +63,14 @@ impl Links {
         })
     }
 
-    /// Opens the pair, if it is not open. A refusal changes nothing.
+    /// Opens the pair, if it is not open. A refusal changes nothing. As many messages are in transit as before.
     pub fn open_pair(&mut self, from: u32, to: u32) -> Result<(), Memory>
         requires sender { from < self.old.agents }
         requires receiver { to < self.old.agents }
         ensures ok { OnOk result (Opens self.old self.new from to) }
         ensures again { IsOpen self.old from to → self.new ≡ self.old }
         ensures err { OnErr result (self.new ≡ self.old) }
+        ensures stays { message_count self.new ≡ message_count self.old }
     {
         if self.opened.find(from, to).is_some() {
             return Ok(());
@@ -82,10 +83,12 @@ impl Links {
         Ok(())
     }
 
-    /// Puts a message last on the list of its pair. A refusal hands it back and changes nothing.
+    /// Puts a message last on the list of its pair, so that one more is in transit. A refusal hands it back and
+    /// changes nothing.
     pub fn send(&mut self, from: u32, to: u32, message: Message) -> Result<(), (Message, Memory)>
         requires { IsOpen self.old from to }
         ensures ok { OnOk result (Sends self.old self.new from to message) }
+        ensures rises { OnOk result (message_count self.new ≡ message_count self.old + 1) }
         ensures handed_back { IfErr result (λ refused. refused.0 ≡ message) }
         ensures err { OnErr result (self.new ≡ self.old) }
     {
@@ -93,15 +96,17 @@ impl Links {
         self.put_last(list, from, to, message)
     }
 
-    /// Opens the pair, if it is not open, and puts a message last on its list. A refusal hands it back, and
-    /// may leave the pair open.
+    /// Opens the pair, if it is not open, and puts a message last on its list, so that one more is in transit.
+    /// A refusal hands it back, and may leave the pair open.
     pub fn post(&mut self, from: u32, to: u32, message: Message) -> Result<(), (Message, Memory)>
         requires sender { from < self.old.agents }
         requires receiver { to < self.old.agents }
         ensures ok { OnOk result (Posts self.old self.new from to message) }
+        ensures rises { OnOk result (message_count self.new ≡ message_count self.old + 1) }
         ensures again { IsOpen self.old from to → OnOk result (Sends self.old self.new from to message) }
         ensures handed_back { IfErr result (λ refused. refused.0 ≡ message) }
         ensures err { OnErr result (Keeps self.old self.new from to) }
+        ensures stays { OnErr result (message_count self.new ≡ message_count self.old) }
         ensures err_again { IsOpen self.old from to → OnErr result (self.new ≡ self.old) }
     {
         match self.opened.find(from, to) {
@@ -124,6 +129,7 @@ impl Links {
     ) -> Result<(), (Message, Memory)>
         requires { position (is_pair from to) self.old.opened ≡ Some list }
         ensures ok { OnOk result (Sends self.old self.new from to message) }
+        ensures rises { OnOk result (message_count self.new ≡ message_count self.old + 1) }
         ensures handed_back { IfErr result (λ refused. refused.0 ≡ message) }
         ensures err { OnErr result (self.new ≡ self.old) }
     {
@@ -184,13 +190,14 @@ impl Links {
         self.ready.number(from, to)
     }
 
-    /// Takes the first message of the ready list with this number.
+    /// Takes the first message of the ready list with this number, so that one less is in transit.
     pub fn take_ready(&mut self, number: u32) -> Carried
         requires { number < length (ready_pairs self.old) }
         ensures pair { slice_get (ready_pairs self.old) number ≡ Some (result.from, result.to) }
         ensures sender { result.from < self.old.agents }
         ensures receiver { result.to < self.old.agents }
         ensures takes { Takes self.old self.new result.from result.to result.message }
+        ensures falls { message_count self.new + 1 ≡ message_count self.old }
     {
         let (from, to) = self.ready.nth(number);
         let place = self.opened.place_of(from, to);

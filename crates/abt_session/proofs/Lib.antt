@@ -8,3 +8,4 @@ pub mod Writing
 pub mod Links
 pub mod Delays
 pub mod Nearest
+pub mod Tracing

@@ -5,3 +5,4 @@ pub mod Order
 pub mod Running
 pub mod Runners
 pub mod Starving
+pub mod Tracing

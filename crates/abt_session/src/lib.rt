@@ -11,6 +11,7 @@
 //! that it gives, have the model's own numbers.
 #![tactic(auto)]
 
+mod laws;
 mod lines;
 mod outcome;
 mod runner;
@@ -21,6 +22,7 @@ mod told;
 mod trace;
 
 pub use dcsp_script::Stop as SessionError;
+pub use laws::{lines_tell_deliveries, traces_tell_deliveries};
 pub use lines::{append_begun, append_made};
 pub use outcome::{End, Outcome};
 pub use session::{RunTask, run};

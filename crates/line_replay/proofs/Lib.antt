@@ -6,3 +6,5 @@ pub mod Headlines
 pub mod Verdicts
 pub mod Telling
 pub mod UnderOrder
+pub mod Recording
+pub mod HeldOrders

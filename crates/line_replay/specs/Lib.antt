@@ -6,3 +6,4 @@ pub mod ReplayPromise
 pub mod Headline
 pub mod Tasks
 pub mod Ordering
+pub mod Recorded

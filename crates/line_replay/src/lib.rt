@@ -13,7 +13,7 @@ mod replay;
 mod solve;
 
 pub use ending::{end_status, push_counts, push_outcome};
-pub use laws::records_replay;
+pub use laws::{records_are_schedules, records_are_whole, records_replay};
 pub use ordered::Ordered;
 pub use record::write_record;
 pub use replay::{Replay, run_replay};

@@ -1,7 +1,7 @@
 //! The line `solve MODEL LOG [--seed N] [--choices N] [--record FILE] [--order FILE] [--trace] [--progress] [--each]
 //! [--halves]`.
 
-ghost use Rattle.std.specs.Prelude.{◌≡◌, ◌≢◌, ◌≤◌, ◌^◌, IfOk};
+ghost use Rattle.std.specs.Prelude.{◌≡◌, ◌≢◌, ◌≤◌, ◌^◌, IfOk, OnOk};
 ghost use Rattle.dcsp_outside.specs.Outside.{Place, Stream};
 ghost use Rattle.dcsp_script.specs.Scripts.{outside};
 ghost use Rattle.dcsp_script.specs.Ways.{Wrote};
@@ -9,6 +9,7 @@ ghost use Rattle.dcsp_script.specs.Runs.{CameIn};
 ghost use Rattle.abt_input.specs.Errors.{way_of};
 ghost use Rattle.line_replay.specs.Headline.{HoldsProblem};
 ghost use Rattle.line_replay.specs.Ordering.{order_in, IsOrderedRightly};
+ghost use Rattle.line_replay.specs.Recorded.{HoldsRecord};
 ghost use Rattle.line_replay.specs.Settings.{settings_of};
 ghost use Rattle.line_solve.specs.Searching.{best_search};
 ghost use Rattle.line_solve.specs.BestAnswers.{search_status};
@@ -26,7 +27,8 @@ use ngd_check::problems_are_small;
 use std::alloc::Global;
 
 /// Runs the model under the choices of the seed, or where it asks for the best value of a term, searches for that in
-/// rounds, each of which is a run under these choices.
+/// rounds, each of which is a run under these choices. Where a record is asked for, its file then holds that of the run,
+/// or of the first round: a schedule of which `replay` makes that run again.
 pub fn run_solve<F: Folder, S: Sink>(
     alloc: Global,
     folder: &mut F,
@@ -39,6 +41,8 @@ pub fn run_solve<F: Folder, S: Sink>(
         (outside (F.place folder.new) (S.stream out.new)) (way_of result) }
     ensures sound { IfOk result (λ status. HoldsProblem (F.place folder.old).held line.entry.model.now) }
     ensures whole { IfOk result (λ status. HoldsWholeProblem (F.place folder.old).held line.entry.model.now) }
+    ensures records { OnOk result (HoldsRecord line.entry.model.now line.entry.log.now (settings_of line.entry.options)
+        (F.place folder.old).held (F.place folder.new).held) }
 {
     let problem = read_model(alloc, folder, line.model)?;
     problem.denotes_csp();

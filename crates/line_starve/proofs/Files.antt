@@ -1,6 +1,6 @@
 -- What is under the file's name once a starved run was written.
-use Rattle.std.proofs.Common.{◌≡◌, ℕ, List, [], ◌++◌, Option, Some, None, Ok, length, refl, sym, ap, subst, ◌∙◌, append-nil}
-use Rattle.std.specs.Prelude.{if◌then◌else◌, IfSome}
+use Rattle.std.proofs.Common.{◌≡◌, ℕ, List, [], ◌++◌, Option, Some, None, Ok, refl, sym, ap, subst, ◌∙◌, append-nil}
+use Rattle.std.specs.Prelude.{if◌then◌else◌}
 use Rattle.std.specs.Cmp.Lexicographic.{bytes_decides}
 use Rattle.dcsp_outside.specs.Outside.{Place, Stream, Told, bytes_of}
 use Rattle.dcsp_outside.proofs.Changes.{Told-weaker}
@@ -13,11 +13,9 @@ use Rattle.abt_defs.specs.Runs.{Run}
 use Rattle.abt_schedule.specs.Schedules.{schedule_text}
 use Rattle.dcsp_script.specs.Promises.{IsHeld}
 use Rattle.dcsp_order.specs.Told.{ordered}
-use Rattle.abt_input.specs.Inputs.{IsModelOf, HasOrder, IsOrderIn}
-use Rattle.abt_input.specs.Files.{HasOrderRead, ReadsOrder}
-use Rattle.abt_input.proofs.Files.{read_held}
-use Rattle.abt_input.proofs.Once as once
+use Rattle.abt_input.specs.Inputs.{IsModelOf, IsOrderIn}
 use Rattle.abt_input.proofs.Once.{one_problem}
+use Rattle.line_replay.proofs.HeldOrders.{IsOrderHeld, one_order}
 use Rattle.line_starve.specs.StarvePromise.{most_starved, starving_run, choices_of, starve_script, starved_script, agent_of}
 use Rattle.line_starve.proofs.Agents.{StarvesRightly}
 use Rattle.line_starve.specs.Starving.{WritesStarved, HoldsStarved, TellsStarved, EachStarved, line_of_run}
@@ -33,50 +31,7 @@ module _ (file choices : List ℕ) (run : Run) where
   leaves : (other : List ℕ) → (file ≡ other → ⊥) → LeavesAlone (starve_script file choices run) other
   leaves other unlike = (unlike, (unlike, ((λ u. u), tt)))
 
--- ---- the files under the names, where the folder tells them
-
--- an order was read as the one of the file under its name, or none where none is named
-abbrev pub IsOrderHeld : Option (List ℕ → Option (List ℕ)) → Option (List ℕ) → Contents → Option (List ℕ) → Type 0
-IsOrderHeld held order_file p order = IfSome held (λ files. IsOrderIn files order_file p order)
-
-pub order_held : {order_file order : Option (List ℕ)} {p : Contents} {a b : Place} → HasOrderRead order_file p a b (Ok order) → IsOrderHeld a.held order_file p order
-order_held {order_file = order_file} {order = order} {p = p} {a = a} {b = b} h = by order_file order h.reads
-  where
-    in_files : (held : Option (List ℕ → Option (List ℕ))) (name numbers bytes : List ℕ) → IsHeld held name bytes → HasOrder (length p.domains) bytes numbers → IsOrderHeld held (Some name) p (Some numbers)
-    in_files None name numbers bytes is read = tt
-    in_files (Some files) name numbers bytes is read = subst (λ (x : List ℕ). HasOrder (length p.domains) x numbers) is read
-
-    unnamed : (held : Option (List ℕ → Option (List ℕ))) → IsOrderHeld held None p None
-    unnamed None = tt
-    unnamed (Some files) = tt
-
-    by : (order_file order : Option (List ℕ)) → ReadsOrder order_file p a b (Ok order) → IsOrderHeld a.held order_file p order
-    by None None h = unnamed a.held
-    by None (Some numbers) h = absurd (let no = h.0 in cc)
-    by (Some name) None h = absurd h
-    by (Some name) (Some numbers) h = let r = read_held h in in_files a.held name numbers r.0 r.1 r.2
-
--- in files that are told alike
-pub order_in : (order_file order : Option (List ℕ)) (p : Contents) {held files : Option (List ℕ → Option (List ℕ))} → held ≡ files → IsOrderHeld held order_file p order → IsOrderHeld files order_file p order
-order_in order_file order p same h = subst (λ f. IsOrderHeld f order_file p order) same h
-
--- reading an order changes nothing of what the folder tells
-pub order_kept : {order_file order : Option (List ℕ)} {p : Contents} {a b : Place} → HasOrderRead order_file p a b (Ok order) → b.held ≡ a.held
-order_kept {order_file = order_file} {order = order} {p = p} {a = a} {b = b} h = by order_file order h.reads
-  where
-    by : (order_file order : Option (List ℕ)) → ReadsOrder order_file p a b (Ok order) → b.held ≡ a.held
-    by None None h = ap (λ (q : Place). q.held) h.1
-    by None (Some numbers) h = absurd (let no = h.0 in cc)
-    by (Some name) None h = absurd h
-    by (Some name) (Some numbers) h = h.held
-
-one_order : (files : List ℕ → Option (List ℕ)) (order_file a b : Option (List ℕ)) (p : Contents) → IsOrderIn files order_file p a → IsOrderIn files order_file p b → a ≡ b
-one_order files None None None p h k = refl
-one_order files None None (Some b) p h k = absurd k
-one_order files None (Some a) b p h k = absurd h
-one_order files (Some name) None b p h k = absurd h
-one_order files (Some name) (Some a) None p h k = absurd k
-one_order files (Some name) (Some a) (Some b) p h k = ap (λ (x : List ℕ). Some x) (once.one_order (length p.domains) (bytes_of (files name)) a b h k)
+-- ---- the runs that are asked for
 
 -- what holds of the run of this problem under this order holds of each run that is asked for
 each_starved : (files : List ℕ → Option (List ℕ)) (m : List ℕ) (from to : ℕ) (order_file : Option (List ℕ)) (p : Contents) (order : Option (List ℕ)) (model : List ℕ) (P : Option (List ℕ) → Contents → ℕ → ℕ → Type 0)

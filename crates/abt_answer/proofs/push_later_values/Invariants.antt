@@ -1,4 +1,4 @@
-use Rattle.std.proofs.Common.{◌≡◌, ◌++◌, ℕ, pos, codes, flat_map, take, slice_index_or}
+use Rattle.std.proofs.Common.{◌≡◌, ◌++◌, pos, codes, flat_map, take, slice_index_or}
 use Rattle.dcsp_rule.specs.Rules.{value_under}
 use Rattle.abt_answer.specs.Solutions.{value_text}
 use Rattle.abt_answer.proofs.push_later_values.Given as goal

@@ -1,4 +1,4 @@
-use Rattle.std.proofs.Common.{ℕ, pos, slice_index_or}
+use Rattle.std.proofs.Common.{pos, slice_index_or}
 use Rattle.abt_answer.proofs.Texts.{made_more}
 use Rattle.abt_answer.specs.Solutions.{output_line}
 use Rattle.abt_answer.proofs.push_outputs.Goals as goal

@@ -1,4 +1,4 @@
-use Rattle.std.proofs.Common.{◌≡◌, ◌++◌, ℕ, pos, take, flat_map, slice_index_or}
+use Rattle.std.proofs.Common.{◌≡◌, ◌++◌, pos, take, flat_map, slice_index_or}
 use Rattle.abt_answer.specs.Solutions.{output_line}
 use Rattle.abt_answer.proofs.push_outputs.Given as goal
 

@@ -1,11 +1,19 @@
 use Rattle.std.proofs.Common.{◌≡◌, [], Result, Ok, Err, ◌∙◌, sym, option_copied, rules}
-use Rattle.std.specs.Prelude.{IfOk, IsErr, IsErrAnd}
+use Rattle.std.specs.Prelude.{IfOk, OnOk, IsErr, IsErrAnd}
 use Rattle.dcsp_script.specs.declared.status.Status.{Status}
 use Rattle.abt_input.specs.declared.error.CommandError.{CommandError}
 use Rattle.abt_input.proofs.Files.{read_held}
 use Rattle.abt_input.proofs.Keeping.{kept, came_unread, came_read, came_unordered, came_ordered, came_answer_with, came_stopped}
+use Rattle.abt_session.specs.Sessions.{run_script}
 use Rattle.line_replay.specs.Settings.{settings_of}
+use Rattle.line_replay.specs.Asked as asks
+use Rattle.line_replay.specs.Asked.{solve}
+use Rattle.line_replay.proofs.HeldOrders.{order_held, order_in, order_kept}
+use Rattle.line_replay.proofs.Recording.{holds_record}
 use Rattle.line_replay.proofs.HeldProblems.{holds_problem}
+use Rattle.line_solve.specs.BestAnswers as answers
+use Rattle.line_solve.specs.Searching.{best_search, round_count}
+use Rattle.line_solve.specs.SearchScripts.{rounds_script}
 use Rattle.line_solve.specs.SolvePromise.{plan_for, solve_plan}
 use Rattle.line_solve.proofs.WholeProblems.{holds_whole}
 use Rattle.line_solve.proofs.Lawful.{solve_sound, keeps_run, keeps_search}
@@ -15,6 +23,11 @@ use Rattle.line_solve.proofs.line.run_solve.Goals as goal
 error_alone : (P : CommandError → Type 0) (Q : Status → Type 0) (r : Result Status CommandError) → IsErr r × IsErrAnd r P → IfOk r Q
 error_alone P Q (Ok x) is = absurd (let no = is.0 in cc)
 error_alone P Q (Err e) is = tt
+
+-- nor of what is left
+error_left : (P : CommandError → Type 0) (Q : Type 0) (r : Result Status CommandError) → IsErr r × IsErrAnd r P → OnOk r Q
+error_left P Q (Ok x) is = absurd (let no = is.0 in cc)
+error_left P Q (Err e) is = tt
 
 pub returns-in_err-problem-clause-came : goal.returns-in_err-problem-clause-came
 returns-in_err-problem-clause-came g c =
@@ -39,6 +52,7 @@ returns-in_err-status g c =
           (came_read e (came_ordered (plan_for c.in_ok-problem.problem.aim c.in_ok-problem.problem l.log.now (settings_of l.options)) [] c.in_ok-order.ensures.read (keeps_search c.in_ok-problem.problem l.log.now (settings_of l.options) c.in_ok-order.order _ (λ s. c.in_default.not-Satisfy (c.aim.ensures.aim ∙ s)) (came_stopped _ r.ensures (rw same at c.in_err-status.ensures.wrote)))));
       sound = error_alone _ _ r.result r.ensures;
       whole = error_alone _ _ r.result r.ensures;
+      records = error_left _ _ r.result r.ensures;
     }
 
 pub returns-in_default : goal.returns-in_default
@@ -52,6 +66,13 @@ returns-in_default g c =
           (came_read e (came_ordered (plan_for c.in_ok-problem.problem.aim c.in_ok-problem.problem l.log.now (settings_of l.options)) [] c.in_ok-order.ensures.read (keeps_search c.in_ok-problem.problem l.log.now (settings_of l.options) c.in_ok-order.order _ (λ s. c.in_default.not-Satisfy (c.aim.ensures.aim ∙ s)) (came_answer_with _ (rw same at c.in_ok-status.ensures.status) (rw same at c.in_ok-status.ensures.wrote)))));
       sound = holds_problem held l.model.now c.in_ok-problem.problem (read_held e) c.denotes_csp.ensures.csp c.problems_are_small.ensures;
       whole = holds_whole held l.model.now c.in_ok-problem.problem (read_held e) c.denotes_csp.ensures.problem;
+      records =
+          let s = settings_of l.options in
+          let p = c.in_ok-problem.problem in
+          let order = c.in_ok-order.order in
+          let search_of = best_search order p l.log.now s in
+          holds_record l.model.now l.log.now s p order c.denotes_csp.ensures.problem c.requires (rounds_script search_of (round_count search_of)) (answers.answer_text search_of) _ _ _ _ _ (order_kept c.in_ok-order.ensures.read ∙ e.held)
+          (read_held e) (order_in (option_copied l.options.order_file) order p e.held (order_held c.in_ok-order.ensures.read)) (rw same at c.in_ok-status.ensures.wrote);
     }
 
 pub returns-in_err-status-2-clause-came : goal.returns-in_err-status-2-clause-came
@@ -73,3 +94,15 @@ returns-clause-sound g c = holds_problem (g.F.Folder.place c.args.folder.now).he
 
 pub returns-clause-whole : goal.returns-clause-whole
 returns-clause-whole g c = holds_whole (g.F.Folder.place c.args.folder.now).held c.args.line.model.now c.in_ok-problem.problem (read_held c.in_ok-problem.ensures) c.denotes_csp.ensures.problem
+
+pub returns-clause-records : goal.returns-clause-records
+returns-clause-records g c =
+    let same : option_copied c.as_ref.result ≡ c.in_ok-order.order = search rules in
+    let l = c.args.line in
+    let e = c.in_ok-problem.ensures in
+    let s = settings_of l.options in
+    let p = c.in_ok-problem.problem in
+    let order = c.in_ok-order.order in
+    let asked = solve order p l.log.now s in
+    holds_record l.model.now l.log.now s p order c.denotes_csp.ensures.problem c.requires (run_script asked.session) (asks.answer_text asked) _ _ _ _ _ (order_kept c.in_ok-order.ensures.read ∙ e.held)
+    (read_held e) (order_in (option_copied l.options.order_file) order p e.held (order_held c.in_ok-order.ensures.read)) (rw same at c.in_ok-status-2.ensures.wrote)

@@ -6,7 +6,8 @@ use Rattle.abt_input.proofs.Keeping.{kept, came_unread, came_read, came_unordere
 use Rattle.line_starve.specs.StarvePromise.{starve_plan, starved_under, agent_of}
 use Rattle.line_starve.proofs.Lawful.{starve_sound}
 use Rattle.line_starve.proofs.Agents.{starved_as, rightly_as}
-use Rattle.line_starve.proofs.Files.{order_held, order_in, order_kept, holds_starved, tells_starved}
+use Rattle.line_replay.proofs.HeldOrders.{order_held, order_in, order_kept}
+use Rattle.line_starve.proofs.Files.{holds_starved, tells_starved}
 use Rattle.line_starve.proofs.starve.run_starve.Goals as goal
 
 pub returns-in_err-problem-clause-came : goal.returns-in_err-problem-clause-came
