@@ -242,10 +242,9 @@ def built_program():
     """The program itself, which the launcher makes where it is not there or is older than its sources."""
     top = os.path.dirname(os.path.dirname(os.path.abspath(__file__)))
     launcher, program = os.path.join(top, "abt"), os.path.join(top, "crates", "abt_main", "out", "abt_main")
-    try:
-        call(launcher, ["gen", "pigeons", 2])
-    except Failed as failure:
-        sys.exit(str(failure))
+    # what the launcher says is shown, since a first build takes long
+    if subprocess.run([launcher, "gen", "pigeons", "2"], stdout=subprocess.DEVNULL).returncode != 0:
+        sys.exit(f"{launcher} made no program")
     return program if os.path.exists(program) else launcher
 
 

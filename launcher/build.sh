@@ -37,8 +37,8 @@ copy_crates() {
   cp "$here/HANDLES" "$room"
 }
 
-# weigh NAME..: the bytes of these crates, which their proofs' costs follow
-weigh() { (cd "$room/crates" && cat /dev/null $(find "$@" -type f -name '*.rt' -o -type f -name '*.antt') | wc -c); }
+# weigh NAME..: the bytes of these crates, which their proofs' costs follow; what is made of a crate, in out/, has such files too
+weigh() { (cd "$room/crates" && cat /dev/null $(find "$@" -name out -prune -o -type f -name '*.rt' -print -o -type f -name '*.antt' -print) | wc -c); }
 
 # crates_with WORDS: of which crates the toolchain's words, a pattern, stand in the log
 crates_with() { sed -nE "s/^rt: ([a-z0-9_]+) ($1).*/\1/p" "$room/log" | sort -u; }

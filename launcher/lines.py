@@ -5,6 +5,7 @@ import re
 from collections import namedtuple
 
 import texts
+import together
 
 # What one word may be: `sort` is file, number, signed or word; `rest` is content and access, the bounds, or the words.
 Place = namedtuple("Place", "sort shown rest")
@@ -58,8 +59,8 @@ def meaning(place):
     """Returns what a place stands for, in words."""
     if place.sort == "file":
         content, access = place.rest
-        does = f"a {content} is written to" if access == "written" else f"a {content} is read from"
-        return f"{place.shown} is the file that {does}"
+        one = f"an {content}" if content[0] in "aeiou" else f"a {content}"
+        return f"{place.shown} is the file that {one} is {'written to' if access == 'written' else 'read from'}"
     if place.sort == "word":
         return f"{place.shown} is {' or '.join(place.rest)}"
     return f"{place.shown} is a number from {bound(place.rest[0])} to {bound(place.rest[1])}"
@@ -135,6 +136,7 @@ def wrong_with(row, words):
         or wrong_order(row, words, names, chosen)
         or next((it for it in (wrong_word(place, word) for place, word in given if place) if it), None)
         or wrong_names([(place, word) for place, word in given if place and place.sort == "file"])
+        or together.wrong_together(row.keyword, {place.shown: int(word) for place, word in given if place and place.sort == "number"})
     )
 
 
@@ -261,7 +263,7 @@ def overview(rows):
         *(f"  {usage(it)}" for it in rows),
         "abt --help tells what each line does; abt LINE --help tells what its words are",
         "the launcher's own: picture, --unproved before a line, --install PREFIX, --pack FILE; README.md tells of them",
-        "a first answer, at the top of a clone: ./abt solve examples/meeting.fzn out.ngd --trace",
+        "a first answer, at the top of a clone: ./abt --unproved solve examples/meeting.fzn out.ngd --trace",
     ]
 
 

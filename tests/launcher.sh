@@ -116,6 +116,13 @@ y is variable 2 of m" starve m x y
 row "starve by names" 2 "FROM is a number from 1 to 4,096, in digits; x is none
 x is variable 1 of m" starve m x y s
 row "gen queens 500" 2 "N is a number from 1 to 200; 500 is out of range" gen queens 500
+row "more people in a meeting than there are" 2 "EACH is 2 at most, as many as there are people" gen meetings 2 2 3 3 1 0
+row "people without a free hour" 2 "BUSY is 2 at most, so that each person has a free hour" gen meetings 3 2 3 3 3 0
+row "more sensors than there are" 2 "SEES is 4 at most, as many as there are sensors" gen sensors 2 1 5 0
+row "more edges than pairs" 2 "EDGES is 3 at most, the pairs of 3 variables" gen binary 3 2 4 0 0
+row "more forbidden pairs than there are" 2 "PAIRS is 4 at most, the pairs of 2 values" gen binary 3 2 3 5 0
+row "too many terms" 2 "a model has 1,048,576 terms at most, and this one would have 398,039,800" gen binary 200 100 19900 0 1
+row "a seed past the last" 2 "the last seed is 2^64 - 1 at most, and 18446744073709551616 is not" survey m 2 --from 18446744073709551615
 row "gen" 2 "the word after gen is queens or colouring" gen
 row "an unknown option" 2 "solve has no option --sed: did you mean --seed?" solve m l --sed 7
 row "a word too many" 2 "b is one word too many" solve m l b
@@ -340,6 +347,9 @@ for at in range(int(count)):
     words = [draw.choice(keywords), *(draw.choice(others) for _ in range(draw.randrange(7)))]
     if words[0] == "gen" and draw.random() < 0.8:
         words[1:] = [draw.choice(["queens", "colouring", "sparse", "pigeons", "binary", "meetings", "sensors"]), *(draw.choice(["1", "2", "5", "16", "17", "200", "201", "4096", "4097", "01"]) for _ in range(draw.randrange(8)))]
+    if words[0] == "gen" and draw.random() < 0.4:
+        word, count = draw.choice([("binary", 5), ("meetings", 6), ("sensors", 4)])
+        words[1:] = [word, *(str(draw.randrange(8)) for _ in range(count))]
     if words[0] in ("solve", "lossy", "starve", "check") and draw.random() < 0.6:
         numbers = {"solve": [], "check": [], "lossy": ["0"], "starve": ["1"]}[words[0]]
         words[1:3] = {"starve": ["m", "1", "2", "f"], "lossy": ["m", "l", "5", "7"]}.get(words[0], ["m", "l"])
