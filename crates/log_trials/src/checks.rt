@@ -95,7 +95,7 @@ fn expect_of_entries(
     list: &[Next],
     finding: Finding,
 ) {
-    let mut checker = Checker::new(alloc, problem);
+    let mut checker = Checker::new(alloc, problem, false);
     for next in list {
         take(rt, &mut checker, steps, *next);
     }

@@ -2,9 +2,9 @@
 
 use crate::given::{add_between, add_variable, derivation_of, let_go, let_steps_go, smallest};
 use dcsp_problem::{ConstraintKind, Problem, ProblemBuilder};
-use ngd_check::{Finding, check};
-use ngd_log::{Derivation, Step};
-use ngd_rewrite::{Core, core_of};
+use ngd_check::{Checker, Finding, KeptSteps, check};
+use ngd_log::{Derivation, Lent, LentStep, Step};
+use ngd_rewrite::{Core, Trimmed, core_of};
 use std::alloc::Global;
 use std::process::Abort;
 
@@ -32,28 +32,40 @@ fn is_same(step: &Step, other: &Step) -> bool {
         && step.reasons.items() == other.reasons.items()
 }
 
-/// Whether the derivations have the same steps.
-fn are_same(steps: &Derivation, others: &Derivation) -> bool {
-    for (step, other) in steps.steps().iter().zip(others.steps()) {
-        if !is_same(step, other) {
+/// Whether the trimmed steps are those of the derivation.
+fn are_same(rt: &impl Abort, steps: &Trimmed<'_, '_>, others: &Derivation) -> bool {
+    for (place, other) in others.steps().iter().enumerate() {
+        if place >= steps.len() {
+            return false;
+        }
+        let step = steps.step(place).expect(rt, "memory");
+        if !is_same(&step, other) {
             return false;
         }
     }
-    steps.len() == others.len()
+    steps.len() as u64 == others.len()
 }
 
-/// The core of a refutation.
-fn core(rt: &impl Abort, alloc: Global, problem: &Problem, derivation: &Derivation) -> Core {
-    match check(problem, derivation) {
-        Finding::Verified => core_of(alloc, problem, derivation).expect(rt, "memory"),
-        finding => panic!(rt; "{finding:?}"),
+/// The steps of the derivation, as a check keeps them.
+fn kept<'p>(
+    rt: &impl Abort,
+    alloc: Global,
+    problem: &'p Problem,
+    derivation: Derivation,
+) -> KeptSteps<'p> {
+    let mut checker = Checker::new(alloc, problem, true);
+    for step in derivation.steps() {
+        checker
+            .take(&Lent::Step(LentStep::of(step)))
+            .expect(rt, "memory");
     }
+    checker.into_steps(alloc)
 }
 
 /// The core has these rules and these steps.
-fn expect_parts(rt: &impl Abort, core: Core, rules: &[u32], steps: Derivation) {
+fn expect_parts(rt: &impl Abort, core: Core<'_, '_>, rules: &[u32], steps: Derivation) {
     assert_eq!(rt; core.rules.items(), rules);
-    assert!(rt; are_same(&core.steps, &steps));
+    assert!(rt; are_same(rt, &core.steps, &steps));
 }
 
 /// The core of the steps has these rules and these steps.
@@ -65,10 +77,17 @@ fn expect_core(
     rules: &[u32],
     trimmed: &str,
 ) {
-    let derivation = derivation_of(rt, alloc, steps);
-    let core = core(rt, alloc, problem, &derivation);
-    let_steps_go(derivation);
-    expect_parts(rt, core, rules, derivation_of(rt, alloc, trimmed));
+    let kept = kept(rt, alloc, problem, derivation_of(rt, alloc, steps));
+    let copy = kept.derivation(alloc).expect(rt, "memory");
+    let finding = check(problem, &copy);
+    match finding {
+        Finding::Verified => {
+            let core = core_of(alloc, problem, &kept).expect(rt, "memory");
+            expect_parts(rt, core, rules, derivation_of(rt, alloc, trimmed));
+        }
+        finding => panic!(rt; "{finding:?}"),
+    }
+    let_steps_go(copy);
 }
 
 const TWO: &str = "1 v2 [v1=0] <- c1 c2\n2 v2 [v1=1] <- c2 c1\n3 v1 [] <- n1 n2\n";

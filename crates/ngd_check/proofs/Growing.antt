@@ -13,6 +13,7 @@ use Rattle.ngd_check.specs.Citing.{nogood_at}
 use Rattle.ngd_check.specs.Entries.{steps_of, is_deleted, cited_after, IsRightEntry, AreRight}
 use Rattle.ngd_check.specs.Progress.{kept_at}
 use Rattle.ngd_check.proofs.Once.{compared}
+pub use Rattle.ngd_store.proofs.Growing.{index_before, index_last, length_more}
 
 pub steps_more : (es : List Entry) (s : Step) → steps_of (es ++ A_step s ∷ []) ≡ steps_of es ++ s ∷ []
 steps_more [] s = refl
@@ -55,23 +56,10 @@ get_past [] k l = refl
 get_past (y ∷ ys) zero l = absurd (omega arith)
 get_past (y ∷ ys) (suc k) l = get_past ys k (omega arith)
 
-pub index_before : {X : Type 0} (xs : List X) (x d : X) (k : ℕ) → k < length xs → slice_index_or (xs ++ x ∷ []) k d ≡ slice_index_or xs k d
-index_before [] x d k l = absurd (omega arith)
-index_before (y ∷ ys) x d zero l = refl
-index_before (y ∷ ys) x d (suc k) l = index_before ys x d k (omega arith)
-
-pub index_last : {X : Type 0} (xs : List X) (x d : X) → slice_index_or (xs ++ x ∷ []) (length xs) d ≡ x
-index_last [] x d = refl
-index_last (y ∷ ys) x d = index_last ys x d
-
 index_past : {X : Type 0} (xs : List X) (d : X) (k : ℕ) → length xs ≤ k → slice_index_or xs k d ≡ d
 index_past [] d k l = refl
 index_past (y ∷ ys) d zero l = absurd (omega arith)
 index_past (y ∷ ys) d (suc k) l = index_past ys d k (omega arith)
-
-pub length_more : {X : Type 0} (xs : List X) (x : X) → length (xs ++ x ∷ []) ≡ suc (length xs)
-length_more [] x = refl
-length_more (y ∷ ys) x = ap suc (length_more ys x)
 
 pub take_length : {X : Type 0} (xs ys : List X) → take (length xs) (xs ++ ys) ≡ xs
 take_length [] ys = refl

@@ -117,7 +117,7 @@ lines_length number (s ∷ steps) fits all =
     omega (arith, length-append (step_line number s) (concat (step_lines (number + 1) steps)))
 
 -- a log of few steps is short
-pub short_log : (steps : List Step) → length steps ≤ 2 ^ 40 + 1 → AllByRecursion (λ s. IsWritable s × (length s.reasons ≤ 65536)) steps → length (log_text steps) ≤ 2 ^ 62
+pub short_log : (steps : List Step) → length steps ≤ 2 ^ 40 + 2 ^ 32 → AllByRecursion (λ s. IsWritable s × (length s.reasons ≤ 65536)) steps → length (log_text steps) ≤ 2 ^ 62
 short_log steps few all =
     let lines = lines_length 1 steps (omega arith) all in
     omega (arith, length-append (codes "ngd 1\n") (concat (step_lines 1 steps)), length-append (open_log steps) (codes "end\n"))

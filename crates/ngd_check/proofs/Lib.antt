@@ -6,7 +6,6 @@ pub mod KeptLists
 pub mod Once
 pub mod Parts
 pub mod Placing
-pub mod Rooms
 pub mod Steps
 pub mod Taking
 pub mod Zips

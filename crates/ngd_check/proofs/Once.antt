@@ -9,6 +9,7 @@ use Rattle.dcsp_defs.specs.declared.entry.Entry.{Entry}
 use Rattle.dcsp_defs.specs.declared.entry.Entry.TheVariants.{Step as A_step, Delete}
 use Rattle.ngd_check.specs.Entries.{steps_of, IsRightEntry, AreRight}
 use Rattle.ngd_check.specs.Findings.{IsFirstWrong, IsFinding, IsFirstWrongEntry, IsFirstWrongStep, IsFirstWrongDeletion, IsFindingOf}
+pub use Rattle.ngd_store.proofs.Growing.{compared}
 
 -- an item at a place below m is an item of the first m
 pub get_below : {X : Type 0} (xs : List X) (n m : ℕ) (x : X) → n < m → slice_get xs n ≡ Some x → slice_get (take m xs) n ≡ Some x
@@ -23,19 +24,6 @@ take_below xs n zero l = absurd (omega arith)
 take_below xs zero (suc m) l = refl
 take_below [] (suc n) (suc m) l = refl
 take_below (y ∷ ys) (suc n) (suc m) l = ap (λ (zs : List _). y ∷ zs) (take_below ys n m (omega arith))
-
--- of two numbers one is less, or they are equal
-pub compared : (n m : ℕ) → (n < m) ⊎ ((n ≡ m) ⊎ (m < n))
-compared zero zero = inr (inl refl)
-compared zero (suc m) = inl (omega arith)
-compared (suc n) zero = inr (inr (omega arith))
-compared (suc n) (suc m) = elim (compared n m) [
-  | inl l ↦ inl (omega arith)
-  | inr r ↦ elim r [
-    | inl e ↦ inr (inl (ap suc e))
-    | inr l ↦ inr (inr (omega arith))
-  ]
-]
 
 -- a derivation has no wrong step
 none_wrong : (p : Csp) (steps : List Step) (number : ℕ) → IsDerivation p steps → IsFirstWrong p steps number → ⊥

@@ -9,8 +9,8 @@ use Rattle.dcsp_defs.specs.Words.{In}
 use Rattle.dcsp_defs.specs.Csp.{Csp, Nogood, domain, count}
 use Rattle.dcsp_defs.specs.Derivation.{IsKnownPair}
 use Rattle.dcsp_defs.proofs.Lists.{get-In}
-use Rattle.ngd_check.specs.declared.arena.Placed.{Placed}
-use Rattle.ngd_check.specs.declared.arena.TheConstants.{NO_VAR}
+use Rattle.ngd_store.specs.declared.arena.Placed.{Placed}
+use Rattle.ngd_store.specs.declared.arena.TheConstants.{NO_VAR}
 use Rattle.ngd_check.specs.Places.{pair_of, IsPlaced, IsPlacedAt, ArePlaced}
 use Rattle.ngd_check.proofs.Parts.{within}
 

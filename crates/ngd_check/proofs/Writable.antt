@@ -42,7 +42,7 @@ zip_each R P each [] (y ∷ ys) h = absurd h
 zip_each R P each (x ∷ xs) [] h = absurd h
 zip_each R P each (x ∷ xs) (y ∷ ys) h = (each x y h.0, zip_each R P each xs ys h.1)
 
-module _ (p : Csp) (small : IsSmall p) (earlier : List Step) (few : length earlier ≤ 2 ^ 40 + 1) where
+module _ (p : Csp) (small : IsSmall p) (earlier : List Step) (few : length earlier ≤ 2 ^ 40 + 2 ^ 32) where
   in_range : (pairs : List Pair) (x : ℕ) (v : ℤ) (r : Reason) → IsReason p earlier pairs x v r → IsReasonInRange r
   in_range pairs x v (Rule r) h = let l = place_within p.constraints r h.0 h.1 in let m = small.rules in omega arith
   in_range pairs x v (Earlier zero) h = absurd (let no = h.1 in cc)

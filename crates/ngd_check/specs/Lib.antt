@@ -3,6 +3,5 @@ pub mod Entries
 pub mod Findings
 pub mod Places
 pub mod Progress
-pub mod Rooms
 pub mod Tables
 pub mod Logged

@@ -19,6 +19,6 @@ pub record HaveLog (steps : List Step) : Type 0 where
   pub log : IsLogOf (log_text steps) steps
   pub short : length (log_text steps) ≤ 2 ^ 62
 
--- A derivation of at most 2^40 + 1 steps has one.
+-- A derivation of at most 2^40 + 2^32 steps has one.
 abbrev pub DerivationsHaveLogs : Csp → Type 0
-DerivationsHaveLogs p = IsSmall p → (steps : List Step) → IsDerivation p steps → length steps ≤ 2 ^ 40 + 1 → HaveLog steps
+DerivationsHaveLogs p = IsSmall p → (steps : List Step) → IsDerivation p steps → length steps ≤ 2 ^ 40 + 2 ^ 32 → HaveLog steps

@@ -1,9 +1,10 @@
 -- How far a checker is, and what it has taken.
-use Rattle.std.specs.Prelude.{◌≡◌, ◌↔◌, ◌≤◌, ℕ, zero, suc, ℤ, Bool, true, List, length, slice_index_or, Option, None, MatchOption}
+use Rattle.std.specs.Prelude.{◌≡◌, ◌↔◌, ◌≤◌, ℕ, zero, suc, ℤ, Bool, true, false, List, [], length, slice_index_or, Option, None, MatchOption}
 use Rattle.dcsp_defs.specs.Csp.{Csp, IsCsp, Nogood}
 use Rattle.dcsp_defs.specs.Derivation.{EndsEmpty}
 use Rattle.dcsp_rule.specs.Problems.{Contents, csp_of}
 use Rattle.dcsp_defs.specs.declared.entry.Entry.{Entry}
+use Rattle.dcsp_defs.specs.declared.Step.{Step}
 use Rattle.ngd_check.specs.declared.Finding.{Finding}
 use Rattle.ngd_check.specs.declared.Finding.TheVariants.{Verified, BadStep, BadDeletion, NotEmpty}
 use Rattle.ngd_check.specs.Citing.{Cited}
@@ -11,12 +12,14 @@ use Rattle.ngd_check.specs.Tables.{IsClear}
 use Rattle.ngd_check.specs.Entries.{steps_of, is_deleted, cited_after, AreRight}
 use Rattle.ngd_check.specs.Findings.{IsFirstWrongStep, IsFirstWrongDeletion}
 
--- the problem; for each step the nogood that is kept of it; whether the last step's is empty; and what is found of the first wrong entry
+-- the problem; for each step the nogood that is kept of it; whether the last step's is empty; what is found of the first wrong entry; whether whole steps are kept, and those that are
 pub record Progress : Type 0 where
   pub problem : Contents
   pub kept : List (Option Nogood)
   pub ends_empty : Bool
   pub wrong : Option Finding
+  pub keeps : Bool
+  pub steps : List Step
 
 -- the problem is well formed, and has so many variables
 pub record IsOver (vars : ℕ) (problem : Contents) : Type 0 where
@@ -53,3 +56,15 @@ abbrev pub HasTaken : List Entry → Progress → Type 0
 HasTaken entries checker = MatchOption checker.wrong
     (HasTakenRight (csp_of checker.problem) entries checker.kept checker.ends_empty)
     (IsWrongAt (csp_of checker.problem) entries)
+
+-- where steps are kept and no entry was wrong, those of the entries are; where they are not, none is
+pub record HasKept (entries : List Entry) (checker : Progress) : Type 0 where
+  pub all : checker.wrong ≡ None → checker.keeps ≡ true → checker.steps ≡ steps_of entries
+  pub none : checker.keeps ≡ false → checker.steps ≡ []
+
+-- of these steps: all where each entry was right, none where one was wrong
+abbrev pub right_steps : Finding → List Step → List Step
+right_steps Verified steps = steps
+right_steps (BadStep number) steps = []
+right_steps (BadDeletion after) steps = []
+right_steps NotEmpty steps = steps

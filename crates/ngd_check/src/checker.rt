@@ -1,6 +1,6 @@
 //! A checker of entries that come one by one.
 
-ghost use Rattle.std.specs.Prelude.{◌≡◌, ◌↔◌, IsTrue, IfOk, [], ◌∷◌, ◌++◌, None, Some, List, OnOk, OnErr};
+ghost use Rattle.std.specs.Prelude.{◌≡◌, ◌↔◌, IsTrue, IfOk, [], ◌∷◌, ◌++◌, true, false, None, Some, List, OnOk, OnErr};
 ghost use Rattle.dcsp_defs.specs.Csp.{HasNoSolution};
 ghost use Rattle.dcsp_rule.specs.Problems.{csp_of};
 ghost use Rattle.dcsp_defs.specs.declared.entry.Entry.{Entry};
@@ -9,25 +9,28 @@ ghost use Rattle.ngd_log.specs.Lent.{lent_entries};
 ghost use Rattle.ngd_check.specs.Findings.{IsFindingOf};
 ghost use Rattle.ngd_check.specs.Citing.{IsRightCiting};
 ghost use Rattle.ngd_check.specs.Places.{ArePlaced};
-ghost use Rattle.ngd_check.specs.Progress.{HasTaken, kept_at};
+ghost use Rattle.ngd_check.specs.Entries.{steps_of};
+ghost use Rattle.ngd_check.specs.Progress.{HasTaken, HasKept, right_steps, kept_at};
+ghost use Rattle.ngd_check.specs.declared.Finding.{Finding as AFinding};
 ghost use Rattle.ngd_check.specs.Tables.{IsClear};
 
 use crate::Finding;
-use crate::arena::Placed;
 use crate::kept::Kept;
+use crate::kept_steps::KeptSteps;
 use crate::places::place_each;
 use crate::present::Present;
 use crate::step::is_right_by;
 use dcsp_common::Memory;
 use dcsp_problem::Problem;
 use ngd_log::{Lent, LentStep};
+use ngd_store::Placed;
 use std::alloc::Global;
 use std::marker::Model;
 
 /// Takes the entries of a log one by one, and tells what is found of those taken.
 ///
 /// It keeps the nogoods of the steps that no deletion has named, 4 bytes a pair and 8 bytes a step, and
-/// nothing else of an entry. It keeps the allocator that it was made with.
+/// nothing else of an entry, unless steps are to be kept. It keeps the allocator that it was made with.
 #[derive(Drop)]
 pub struct Checker<'p> {
     /// The number of the problem's variables.
@@ -48,20 +51,23 @@ impl<'p> Model for Checker<'p> {
 
     ghost Value = { Progress };
 
-    ghost view = { λ checker. record { problem = checker.kept.problem; kept = checker.kept.nogoods; ends_empty = checker.ends_empty; wrong = checker.wrong } };
+    ghost view = { λ checker. record { problem = checker.kept.problem; kept = checker.kept.nogoods; ends_empty = checker.ends_empty; wrong = checker.wrong; keeps = checker.kept.keeps; steps = checker.kept.steps } };
 
     ghost invariant = { λ checker. IsAtRest checker.vars checker.kept.problem checker.present };
 }
 
 impl<'p> Checker<'p> {
-    /// A checker that has taken no entry. It takes no memory.
-    pub fn new(alloc: Global, problem: &'p Problem) -> Checker<'p>
+    /// A checker that has taken no entry. It takes no memory. Where `keeps` is set, it keeps the steps that it takes,
+    /// up to the first wrong entry; else none.
+    pub fn new(alloc: Global, problem: &'p Problem, keeps: bool) -> Checker<'p>
         ensures problem { result.problem ≡ problem.now }
+        ensures keeps { result.keeps ≡ keeps }
         ensures taken { HasTaken [] result }
+        ensures kept { HasKept [] result }
     {
         Checker {
             vars: problem.vars(),
-            kept: Kept::new(alloc, problem),
+            kept: Kept::new(alloc, problem, keeps),
             present: Present::new(alloc),
             placed: Vec::new(alloc),
             ends_empty: false,
@@ -73,7 +79,9 @@ impl<'p> Checker<'p> {
     /// the checker as it was.
     pub fn take(&mut self, entry: &Lent<'_>) -> Result<(), Memory>
         ensures problem { self.new.problem ≡ self.old.problem }
+        ensures keeps { self.new.keeps ≡ self.old.keeps }
         ensures taken { (entries : List Entry) → HasTaken entries self.old → OnOk result (HasTaken (entries ++ lent_entries (Some entry.now)) self.new) }
+        ensures kept { (entries : List Entry) → HasKept entries self.old → OnOk result (HasKept (entries ++ lent_entries (Some entry.now)) self.new) }
         ensures err { OnErr result (self.new ≡ self.old) }
     {
         if self.wrong.is_some() {
@@ -81,22 +89,21 @@ impl<'p> Checker<'p> {
         }
         match entry {
             Lent::Step(step) => self.take_step(step),
-            Lent::Delete(numbers) => {
-                self.take_deletion(numbers);
-                Ok(())
-            }
+            Lent::Delete(numbers) => self.take_deletion(numbers),
         }
     }
 
     fn take_step(&mut self, step: &LentStep<'_>) -> Result<(), Memory>
         requires { self.old.wrong ≡ None }
         ensures problem { self.new.problem ≡ self.old.problem }
+        ensures keeps { self.new.keeps ≡ self.old.keeps }
         ensures taken { (entries : List Entry) → HasTaken entries self.old → OnOk result (HasTaken (entries ++ A_step step.now ∷ []) self.new) }
+        ensures kept { (entries : List Entry) → HasKept entries self.old → OnOk result (HasKept (entries ++ A_step step.now ∷ []) self.new) }
         ensures err { OnErr result (self.new ≡ self.old) }
     {
         let right = is_right_after(&self.kept, &mut self.present, &mut self.placed, step)?;
         if right {
-            self.kept.push(&self.placed)?;
+            self.kept.push(&self.placed, step)?;
             self.ends_empty = step.pairs().is_empty();
         } else {
             self.wrong = Some(Finding::BadStep {
@@ -106,18 +113,21 @@ impl<'p> Checker<'p> {
         Ok(())
     }
 
-    fn take_deletion(&mut self, numbers: &[u64])
+    fn take_deletion(&mut self, numbers: &[u64]) -> Result<(), Memory>
         requires { self.old.wrong ≡ None }
         ensures problem { self.new.problem ≡ self.old.problem }
-        ensures taken { (entries : List Entry) → HasTaken entries self.old → HasTaken (entries ++ Delete numbers.now ∷ []) self.new }
+        ensures keeps { self.new.keeps ≡ self.old.keeps }
+        ensures taken { (entries : List Entry) → HasTaken entries self.old → OnOk result (HasTaken (entries ++ Delete numbers.now ∷ []) self.new) }
+        ensures kept { (entries : List Entry) → HasKept entries self.old → OnOk result (HasKept (entries ++ Delete numbers.now ∷ []) self.new) }
+        ensures err { OnErr result (self.new ≡ self.old) }
     {
         if self.kept.has_each(numbers) {
-            self.kept.drop_each(numbers);
-        } else {
-            self.wrong = Some(Finding::BadDeletion {
-                after: self.kept.len(),
-            });
+            return self.kept.drop_each(numbers);
         }
+        self.wrong = Some(Finding::BadDeletion {
+            after: self.kept.len(),
+        });
+        Ok(())
     }
 
     /// What is found of the entries taken. It takes no memory.
@@ -134,6 +144,18 @@ impl<'p> Checker<'p> {
                     Finding::NotEmpty
                 }
             }
+        }
+    }
+
+    /// The steps that were taken, where they were kept and each entry was right; none after a wrong entry. It takes no
+    /// memory.
+    pub fn into_steps(self, alloc: Global) -> KeptSteps<'p>
+        ensures kept { (entries : List Entry) (finding : AFinding) → HasTaken entries self.entry → HasKept entries self.entry → self.entry.keeps ≡ true → IsFindingOf (csp_of self.entry.problem) entries finding → result ≡ right_steps finding (steps_of entries) }
+        ensures none { (entries : List Entry) → HasKept entries self.entry → self.entry.keeps ≡ false → result ≡ [] }
+    {
+        match self.wrong {
+            Some(_) => KeptSteps::none(alloc, self.kept.problem()),
+            None => self.kept.into_steps(),
         }
     }
 }

@@ -6,10 +6,10 @@ ghost use Rattle.dcsp_defs.specs.Csp.{with_value, agrees};
 ghost use Rattle.dcsp_rule.specs.Problems.{csp_of};
 ghost use Rattle.ngd_check.specs.Places.{IsPlaced, pairs_of};
 
-use crate::arena::Placed;
 use crate::places::pair_at;
 use dcsp_defs::{Nogood, Pair};
 use dcsp_problem::{Lookup, Problem};
+use ngd_store::Placed;
 
 /// Values that are known, with a value of a further variable.
 #[derive(Drop)]

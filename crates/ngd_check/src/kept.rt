@@ -1,48 +1,62 @@
 //! The nogoods that a checker keeps.
 
-ghost use Rattle.std.specs.Prelude.{◌≡◌, ◌↔◌, ◌++◌, ◌∷◌, [], ◌<◌, ◌≤◌, ◌^◌, ℕ, None, Some, Option, List, IsTrue, OnOk, OnErr, length, is_some, All, true, if◌then◌else◌, ◌==◌};
+ghost use Rattle.std.specs.Prelude.{◌≡◌, ◌↔◌, ◌++◌, ◌∷◌, [], ◌<◌, ◌≤◌, ◌^◌, ◌+◌, ◌||◌, ℕ, None, Some, Option, List, IsTrue, IfSome, IsNone, OnOk, OnErr, length, is_some, All, true, false, if◌then◌else◌, ◌==◌, slice_index_or};
 ghost use Rattle.std.specs.List.{list_any};
 ghost use Rattle.dcsp_defs.specs.Csp.{with_value};
 ghost use Rattle.dcsp_rule.specs.Problems.{csp_of};
 ghost use Rattle.ngd_check.specs.Citing.{AgreesWith};
-ghost use Rattle.ngd_check.specs.Places.{IsPlaced, IsNumber, pairs_of, list_at};
+ghost use Rattle.ngd_check.specs.Places.{ArePlaced, IsListOf, IsNumber, list_at};
+ghost use Rattle.ngd_store.specs.declared.arena.TheConstants.{NO_VAR};
 ghost use Rattle.ngd_check.specs.Progress.{kept_at};
 
-use crate::arena::{Arena, Placed};
 use crate::cites::Cites;
 use crate::given::Given;
+use crate::kept_steps::KeptSteps;
 use dcsp_common::Memory;
 use dcsp_problem::{Lookup, Problem};
+use ngd_log::LentStep;
+use ngd_store::{Arena, Placed, Rests};
 use std::alloc::Global;
 use std::marker::Model;
 
-/// The nogoods of steps, numbered from 1, but for those that were dropped.
+/// The nogoods of steps, numbered from 1, but for those that were dropped; and the steps, where they are kept.
+///
+/// Where steps are kept nothing is given back: a nogood that is dropped is marked, at a byte for each step once
+/// there is a mark.
 #[derive(Drop)]
 pub struct Kept<'p> {
     pub problem: &'p Problem,
+    keeps: bool,
     lists: Arena,
+    dropped: Vec<bool>,
+    rests: Rests,
 }
 
 impl<'p> Model for Kept<'p> {
     ghost use Rattle.dcsp_rule.specs.Problems.{csp_of};
-    ghost use Rattle.ngd_check.specs.Places.{KeptFor, nogoods_of, AreLists};
+    ghost use Rattle.ngd_check.specs.Places.{KeptFor, nogoods_of, steps_in, AreStored};
 
     ghost Value = { KeptFor };
 
-    ghost view = { λ kept. record { problem = kept.problem.now; nogoods = nogoods_of (csp_of kept.problem.now) kept.lists } };
+    ghost view = { λ kept. record { problem = kept.problem.now; nogoods = nogoods_of (csp_of kept.problem.now) kept.lists kept.dropped.items; keeps = kept.keeps; steps = steps_in (csp_of kept.problem.now) kept.lists kept.rests } };
 
-    ghost invariant = { λ kept. AreLists (csp_of kept.problem.now) kept.lists };
+    ghost invariant = { λ kept. AreStored (csp_of kept.problem.now) kept.lists kept.dropped.items kept.rests kept.keeps };
 }
 
 impl<'p> Kept<'p> {
-    /// No nogood. It takes no memory.
-    pub fn new(alloc: Global, problem: &'p Problem) -> Kept<'p>
+    /// No nogood. It takes no memory. Where `keeps` is set, steps are kept.
+    pub fn new(alloc: Global, problem: &'p Problem, keeps: bool) -> Kept<'p>
         ensures problem { result.problem ≡ problem.now }
         ensures nogoods { result.nogoods ≡ [] }
+        ensures keeps { result.keeps ≡ keeps }
+        ensures steps { result.steps ≡ [] }
     {
         Kept {
             problem,
+            keeps,
             lists: Arena::new(alloc),
+            dropped: Vec::new(alloc),
+            rests: Rests::new(alloc),
         }
     }
 
@@ -61,24 +75,44 @@ impl<'p> Kept<'p> {
         self.lists.len() as u64
     }
 
-    /// Keeps a copy of the nogood of the next step. After a refusal nothing has changed.
-    pub fn push(&mut self, placed: &[Placed]) -> Result<(), Memory>
-        requires { All (IsPlaced (csp_of self.old.problem)) placed.now }
+    /// Keeps a copy of the nogood of the next step, which has these places; and of the step, where steps are kept.
+    /// After a refusal nothing has changed.
+    pub fn push(&mut self, placed: &[Placed], step: &LentStep<'_>) -> Result<(), Memory>
+        requires { ArePlaced (csp_of self.old.problem) step.now.nogood placed.now }
         ensures problem { self.new.problem ≡ self.old.problem }
-        ensures ok { OnOk result (self.new.nogoods ≡ self.old.nogoods ++ Some (pairs_of (csp_of self.old.problem) placed.now) ∷ []) }
+        ensures keeps { self.new.keeps ≡ self.old.keeps }
+        ensures ok { OnOk result (self.new.nogoods ≡ self.old.nogoods ++ Some step.now.nogood ∷ []) }
+        ensures all { self.old.keeps ≡ true → OnOk result (self.new.steps ≡ self.old.steps ++ step.now ∷ []) }
+        ensures none { self.old.keeps ≡ false → self.new.steps ≡ self.old.steps }
         ensures err { OnErr result (self.new ≡ self.old) }
     {
-        self.lists.push(placed)
+        if self.keeps {
+            push_both(&mut self.lists, &mut self.rests, placed, step)
+        } else {
+            self.lists.push(placed)
+        }
     }
 
     /// Whether the nogood of the step with this number is kept.
     pub fn has(&self, number: u64) -> bool
         ensures { result ≡ is_some (kept_at self.now.nogoods number) }
     {
-        if number == 0 || number > self.lists.len() as u64 {
-            return false;
+        self.list(number).is_some()
+    }
+
+    /// The pairs of the nogood of the step with this number, if it is kept.
+    fn list(&self, number: u64) -> Option<&[Placed]>
+        ensures some { IfSome result (λ placed. IsListOf self.now (kept_at self.now.nogoods number) placed.now) }
+        ensures none { IsNone result → kept_at self.now.nogoods number ≡ None }
+    {
+        if number == 0 {
+            return None;
         }
-        self.lists.has(number as usize - 1)
+        let place = number as usize - 1;
+        if is_marked(&self.dropped, place) {
+            return None;
+        }
+        self.lists.get(place)
     }
 
     /// Whether the nogood of the step with each of these numbers is kept.
@@ -93,14 +127,87 @@ impl<'p> Kept<'p> {
         true
     }
 
-    /// Gives back the nogoods of the steps with these numbers.
-    pub fn drop_each(&mut self, numbers: &[u64])
+    /// Drops the nogoods of the steps with these numbers. After a refusal nothing has changed.
+    pub fn drop_each(&mut self, numbers: &[u64]) -> Result<(), Memory>
         requires { All (λ number. is_some (kept_at self.old.nogoods number) ≡ true) numbers.now }
         ensures problem { self.new.problem ≡ self.old.problem }
-        ensures steps { length self.new.nogoods ≡ length self.old.nogoods }
-        ensures dropped { (number : ℕ) → kept_at self.new.nogoods number ≡ (if list_any (λ dropped. number == dropped) numbers.now then None else kept_at self.old.nogoods number) }
+        ensures keeps { self.new.keeps ≡ self.old.keeps }
+        ensures count { length self.new.nogoods ≡ length self.old.nogoods }
+        ensures steps { self.new.steps ≡ self.old.steps }
+        ensures dropped { OnOk result ((number : ℕ) → kept_at self.new.nogoods number ≡ (if list_any (λ dropped. number == dropped) numbers.now then None else kept_at self.old.nogoods number)) }
+        ensures err { OnErr result (self.new ≡ self.old) }
     {
-        clear_each(&mut self.lists, numbers);
+        if self.keeps {
+            mark_each(&mut self.dropped, self.lists.len(), numbers)
+        } else {
+            clear_each(&mut self.lists, numbers);
+            Ok(())
+        }
+    }
+
+    /// The steps that are kept.
+    pub fn into_steps(self) -> KeptSteps<'p>
+        ensures { result ≡ self.entry.steps }
+    {
+        KeptSteps::of(self.problem, self.lists, self.rests)
+    }
+}
+
+/// Adds the list of the next step, and what else the step has. After a refusal nothing has changed.
+fn push_both(
+    lists: &mut Arena,
+    rests: &mut Rests,
+    placed: &[Placed],
+    step: &LentStep<'_>,
+) -> Result<(), Memory>
+    requires { All (λ pair. pair.var < NO_VAR) placed.now }
+    ensures lists { OnOk result (lists.new ≡ lists.old ++ Some placed.now ∷ []) }
+    ensures rests { OnOk result (rests.new ≡ rests.old ++ record { variable = step.now.variable; reasons = step.now.reasons } ∷ []) }
+    ensures same_lists { OnErr result (lists.new ≡ lists.old) }
+    ensures same_rests { OnErr result (rests.new ≡ rests.old) }
+{
+    rests.push(step.variable(), step.reasons())?;
+    match lists.push(placed) {
+        Ok(()) => Ok(()),
+        Err(memory) => {
+            rests.pop();
+            Err(memory)
+        }
+    }
+}
+
+/// Whether the place is marked.
+fn is_marked(marks: &[bool], place: usize) -> bool
+    ensures { result ≡ slice_index_or marks.now place false }
+{
+    match marks.get(place) {
+        Some(mark) => *mark,
+        None => false,
+    }
+}
+
+/// Marks the places of these numbers, which count from 1, among so many. After a refusal nothing has changed.
+fn mark_each(marks: &mut Vec<bool>, count: usize, numbers: &[u64]) -> Result<(), Memory>
+    requires few { length marks.old.items ≤ count }
+    requires numbers { All (λ number. IsNumber count number) numbers.now }
+    ensures count { OnOk result (length marks.new.items ≡ count) }
+    ensures marked { OnOk result ((k : ℕ) → slice_index_or marks.new.items k false ≡ (list_any (λ number. k + 1 == number) numbers.now || slice_index_or marks.old.items k false)) }
+    ensures err { OnErr result (marks.new.items ≡ marks.old.items) }
+{
+    let Ok(()) = marks.resize(count, false) else {
+        return Err(Memory);
+    };
+    mark_all(marks, numbers);
+    Ok(())
+}
+
+fn mark_all(marks: &mut [bool], numbers: &[u64])
+    requires { All (λ number. IsNumber (length marks.old) number) numbers.now }
+    ensures count { length marks.new ≡ length marks.old }
+    ensures marked { (k : ℕ) → slice_index_or marks.new k false ≡ (list_any (λ number. k + 1 == number) numbers.now || slice_index_or marks.old k false) }
+{
+    for number in numbers {
+        marks[*number as usize - 1] = true;
     }
 }
 
@@ -119,10 +226,7 @@ impl Cites for Kept<'_> {
     ghost cited = { λ kept. kept_at kept.nogoods };
 
     fn agrees<L: Lookup>(&self, number: u64, given: &Given<L>) -> bool {
-        if number == 0 || number > self.lists.len() as u64 {
-            return false;
-        }
-        match self.lists.get(number as usize - 1) {
+        match self.list(number) {
             Some(placed) => given.agrees_at(self.problem, placed),
             None => false,
         }

@@ -1,12 +1,11 @@
 //! Checks whether a derivation, or the entries of a log, refute a problem. It knows nothing of agents.
 #![tactic(auto)]
 
-mod arena;
 mod checker;
 mod cites;
-mod freed;
 mod given;
 mod kept;
+mod kept_steps;
 mod logs;
 mod places;
 mod present;
@@ -25,6 +24,7 @@ ghost use Rattle.dcsp_defs.specs.declared.entry.Entry.{Entry};
 pub use checker::Checker;
 use cites::NogoodsOf;
 use dcsp_problem::Problem;
+pub use kept_steps::KeptSteps;
 pub use logs::derivations_have_logs;
 use ngd_log::{Derivation, Step};
 pub use small::problems_are_small;

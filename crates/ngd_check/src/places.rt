@@ -5,10 +5,10 @@ ghost use Rattle.dcsp_defs.specs.Derivation.{IsKnownPair};
 ghost use Rattle.dcsp_rule.specs.Problems.{csp_of};
 ghost use Rattle.ngd_check.specs.Places.{ArePlaced, IsPlaced, IsPlacedAt, pair_of};
 
-use crate::arena::Placed;
 use dcsp_common::Memory;
 use dcsp_defs::Pair;
 use dcsp_problem::Problem;
+use ngd_store::Placed;
 
 /// Finds the place of each pair's value in the domain of its variable, and tells whether each pair has one.
 pub fn place_each(

@@ -1,13 +1,14 @@
 -- The lines of a text.
-use Rattle.std.proofs.Common.{◌≡◌, ℕ, zero, suc, ◌+◌, ◌<◌, ◌^◌, Bool, true, false, ◌||◌, cond, eqb, List, [], ◌∷◌, ◌++◌, length, take, drop, get_or, Option, Some, None, ℤ, pos, negsuc, FitsSigned, inl, inr, refl, sym, ap, subst, ◌∙◌, append_assoc, arith}
+use Rattle.std.proofs.Common.{◌≡◌, ℕ, zero, suc, ◌+◌, ◌<◌, ◌≤◌, ◌^◌, true, false, cond, eqb, List, [], ◌∷◌, ◌++◌, length, take, drop, get_or, Option, Some, None, ℤ, pos, negsuc, FitsSigned, inl, inr, refl, sym, ap, subst, ◌∙◌, append_assoc, arith}
 use Rattle.std.specs.Prelude.{codes, decimal, flat_map}
 use Rattle.std.specs.Int.{w64}
 use Rattle.std.specs.List.{AllByRecursion, concat}
 use Rattle.std.specs.Str.{all_ascii_digits}
 use Rattle.std.specs.Char.{is_ascii_digit}
 use Rattle.std.specs.Fmt.{signed_decimal}
-use Rattle.std.proofs.lemmas.Bool.{false≢true, ne_eqb}
-use Rattle.std.proofs.lemmas.List.{take_more, take-append-drop}
+use Rattle.std.proofs.lemmas.Bool.{false≢true, eqb-true, eq-eqb, ne_eqb}
+use Rattle.std.proofs.lemmas.List.{take_all, take_more, take-append-drop}
+use Rattle.memchr.specs.Find.{is_byte, Passes, Nowhere, NoneBefore}
 use Rattle.dcsp_defs.proofs.Lists.{and_left, and_right}
 use Rattle.dcsp_defs.specs.declared.nogood.Pair.{Pair}
 use Rattle.dcsp_defs.specs.declared.Reason.{Reason}
@@ -150,19 +151,31 @@ line_has_feed line is h = in_body is.body (subst HasNoLineFeed is.same h)
     in_body [] k = let e : true ≡ false = k.0 in cc
     in_body (b ∷ body) k = in_body body k.1
 
--- no line feed up to a place, and none in so many bytes from there on
-pub plain_more : (text : List ℕ) (i n : ℕ) → HasNoLineFeed (take i text) → HasNoLineFeed (take n (drop i text)) → HasNoLineFeed (take (i + n) text)
-plain_more text zero n h k = let e : 0 + n ≡ n = omega arith in rw e k
-plain_more [] (suc i) n h k = let e : suc i + n ≡ suc (i + n) = omega arith in rw e tt
-plain_more (b ∷ text) (suc i) n h k = let e : suc i + n ≡ suc (i + n) = omega arith in rw e (h.0, plain_more text i n h.1 k)
-
--- one byte more is no line feed
-pub plain_next : (bytes : List ℕ) (i : ℕ) (found : Bool) → i < length bytes → (found ≡ false → HasNoLineFeed (take i bytes)) → (found || eqb (get_or bytes i 0) 10) ≡ false → HasNoLineFeed (take (i + 1) bytes)
-plain_next bytes i true lt h e = absurd (false≢true (sym e))
-plain_next bytes i false lt h e = rw (take_more bytes i 0 lt) (both (take i bytes) (get_or bytes i 0 ∷ []) (h refl) (e, tt))
-
 -- a text up to its first line feed, and what follows it
 pub lines_split : (text : List ℕ) (at : ℕ) → at < length text → get_or text at 0 ≡ 10 → HasNoLineFeed (take at text) → lines text ≡ take (at + 1) text ∷ lines (drop (at + 1) text)
 lines_split text at lt feed plain =
     let front : take (at + 1) text ≡ take at text ++ codes "\n" = take_more text at 0 lt ∙ ap (λ (b : ℕ). take at text ++ b ∷ []) feed in
     ap lines (sym (take-append-drop (at + 1) text)) ∙ lines_after (take (at + 1) text) (drop (at + 1) text) (record { body = take at text; plain = plain; same = front })
+
+-- before a place that a search came to stands no line feed
+none_before : (text : List ℕ) (n : ℕ) → n ≤ length text → Nowhere (Passes (is_byte 10) text) 0 n → HasNoLineFeed (take n text)
+none_before text zero le h = tt
+none_before [] (suc n) le h = tt
+none_before (b ∷ text) (suc n) le h = (
+  ne_eqb b 10 (λ e. h 0 (omega arith) (omega arith) (eq-eqb b 10 e)),
+  none_before text n (omega (arith, le)) (λ k low high. h (suc k) (omega arith) (omega (arith, high))),
+)
+
+-- a text up to the line feed that the search came to is a line
+pub first_is_line : (text : List ℕ) (at : ℕ) → NoneBefore (Passes (is_byte 10) text) 0 (length text) at → Passes (is_byte 10) text at → IsLine (take (at + 1) text)
+first_is_line text at h found =
+    let lt = h.high in
+    record { body = take at text; plain = none_before text at (omega (arith, lt)) h.before; same = take_more text at 0 lt ∙ ap (λ (b : ℕ). take at text ++ b ∷ []) (eqb-true _ _ found) }
+
+-- it is the first of the text's lines
+pub first_found : (text : List ℕ) (at : ℕ) → NoneBefore (Passes (is_byte 10) text) 0 (length text) at → Passes (is_byte 10) text at → lines text ≡ take (at + 1) text ∷ lines (drop (at + 1) text)
+first_found text at h found = let lt = h.high in lines_split text at lt (eqb-true _ _ found) (none_before text at (omega (arith, lt)) h.before)
+
+-- the search found none
+pub none_found : (text : List ℕ) → Nowhere (Passes (is_byte 10) text) 0 (length text) → HasNoLineFeed text
+none_found text h = subst HasNoLineFeed (take_all (length text) text (omega arith)) (none_before text (length text) (omega arith) h)

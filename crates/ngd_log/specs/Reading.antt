@@ -1,7 +1,8 @@
 -- Reading a line of a log from left to right, on lists. A field is a value and the bytes after it; what is no field gives none.
 use Rattle.std.specs.Prelude.{◌≡◌, ℕ, zero, suc, ◌-◌, ◌^◌, Bool, true, false, ◌&&◌, List, [], ◌∷◌, length, Option, Some, None, Result, Ok, Err, ℤ, pos, neg_ℤ, nat_lt, nat_le, ◌==◌, if◌then◌else◌, codes}
 use Rattle.std.specs.Str.{byte}
-use Rattle.dcsp_common.specs.Reading.{◌>>=◌, number_at}
+pub use Rattle.dcsp_common.specs.Reading.{number_at, digits_at}
+use Rattle.dcsp_common.specs.Reading.{◌>>=◌}
 use Rattle.dcsp_defs.specs.declared.nogood.Pair.{Pair}
 use Rattle.dcsp_defs.specs.declared.Reason.{Reason}
 use Rattle.dcsp_defs.specs.declared.Reason.TheVariants.{Rule, Earlier}

@@ -38,6 +38,17 @@ struct After {
     kind: Option<EntryKind>,
 }
 
+/// After a line that is no entry's.
+fn no_entry(standing: Standing) -> After
+    ensures standing { result.standing ≡ standing }
+    ensures kind { result.kind ≡ None }
+{
+    After {
+        standing,
+        kind: None,
+    }
+}
+
 /// The version of a log with this first line.
 fn version_of(line: &[u8]) -> Option<Version>
     ensures { result ≡ version_of line.now }
@@ -83,7 +94,8 @@ fn after_entry(place: Place, kind: EntryKind) -> Place
     }
 }
 
-/// Reads a line that is neither the first nor stands after `end`.
+/// Reads a line that is neither the first nor stands after `end`. Inlined, so that no standing goes through memory.
+#[inline(always)]
 fn after_inside(gathered: &mut Gathered, place: Place, line: &[u8]) -> After
     requires whole { IsLine line.now }
     requires room { IsWithin (Standing.Inside place) (2 ^ 63) }
@@ -92,28 +104,20 @@ fn after_inside(gathered: &mut Gathered, place: Place, line: &[u8]) -> After
     ensures within { (fed : ℕ) → IsWithin (Standing.Inside place) fed → IsWithin result.standing (fed + 1) }
 {
     if line == TAIL {
-        return After {
-            standing: Standing::Ended(place.line + 1),
-            kind: None,
-        };
+        return no_entry(Standing::Ended(place.line + 1));
     }
     match read_entry(gathered, place.version, place.step, line) {
         Ok(kind) => After {
             standing: Standing::Inside(after_entry(place, kind)),
             kind: Some(kind),
         },
-        Err(LineError::Bad) => After {
-            standing: Standing::Refused(LogError::Line { number: place.line }),
-            kind: None,
-        },
-        Err(LineError::Memory) => After {
-            standing: Standing::Refused(LogError::Memory),
-            kind: None,
-        },
+        Err(LineError::Bad) => no_entry(Standing::Refused(LogError::Line { number: place.line })),
+        Err(LineError::Memory) => no_entry(Standing::Refused(LogError::Memory)),
     }
 }
 
 /// Reads a line with its line feed.
+#[inline(always)]
 fn after_line(gathered: &mut Gathered, standing: Standing, line: &[u8]) -> After
     requires whole { IsLine line.now }
     requires room { IsWithin standing (2 ^ 63) }
@@ -122,19 +126,10 @@ fn after_line(gathered: &mut Gathered, standing: Standing, line: &[u8]) -> After
     ensures within { (fed : ℕ) → IsWithin standing fed → IsWithin result.standing (fed + 1) }
 {
     match standing {
-        Standing::Start => After {
-            standing: after_head(line),
-            kind: None,
-        },
+        Standing::Start => no_entry(after_head(line)),
         Standing::Inside(place) => after_inside(gathered, place, line),
-        Standing::Ended(number) => After {
-            standing: Standing::Refused(LogError::Line { number }),
-            kind: None,
-        },
-        Standing::Refused(error) => After {
-            standing: Standing::Refused(error),
-            kind: None,
-        },
+        Standing::Ended(number) => no_entry(Standing::Refused(LogError::Line { number })),
+        Standing::Refused(error) => no_entry(Standing::Refused(error)),
     }
 }
 

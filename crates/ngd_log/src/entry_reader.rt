@@ -61,6 +61,7 @@ fn deletion_at(numbers: &mut Vec<u64>, bytes: &[u8]) -> Result<(), LineError>
 
 /// Reads the step of a whole line, which has this number.
 #[tactic(auto, unfolding(crate::specs::EntryReading::step_entry))]
+#[inline(always)]
 fn step_entry(gathered: &mut Gathered, number: u64, line: &[u8]) -> Result<EntryKind, LineError>
     ensures { Gives (λ kind. entry_in kind gathered.new) result (step_entry number line.now) }
 {

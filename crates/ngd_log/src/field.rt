@@ -2,11 +2,10 @@
 //!
 //! They are inlined into the loops over a line's pairs and reasons, which are the time of reading a log: there a text
 //! of known length is compared by its bytes, and no result goes through memory.
-ghost use Rattle.std.specs.Prelude.{◌≡◌, ℕ, ◌+◌, ◌≤◌, length, IfSome};
-ghost use Rattle.dcsp_common.specs.Reading.{Reads};
+ghost use Rattle.std.specs.Prelude.{◌≡◌, ℕ, ◌+◌, ◌<◌, ◌≤◌, length, IfSome};
+ghost use Rattle.dcsp_common.specs.Reading.{Reads, digits_at, number_at};
 ghost use Rattle.ngd_log.specs.Reading.{after, integer_at, counted_at, step_number_at, pair_at, reason_at};
 
-use dcsp_common::number_at;
 use dcsp_defs::{Pair, Reason};
 
 /// The greatest number of a variable.
@@ -25,6 +24,52 @@ pub fn after<'t>(text: &[u8], bytes: &'t [u8]) -> Option<&'t [u8]>
     ensures shorter { IfSome result (λ x. length x.now + length text.now ≡ length bytes.now) }
 {
     bytes.strip_prefix(text)
+}
+
+/// Below this a number with one digit more has 64 bits too.
+const SHORT: u64 = u64::MAX / 10;
+
+/// The number with this first digit and the digits at the front.
+#[tactic(auto, unfolding(crate::specs::Reading::digits_at))]
+#[inline(always)]
+fn digits_after(digit: u64, bytes: &[u8]) -> Option<(u64, &[u8])>
+    requires { digit < 10 }
+    ensures reads { Reads (λ x. (x.0, x.1.now)) result (digits_at digit bytes.now) }
+    ensures shorter { IfSome result (λ x. length x.1.now ≤ length bytes.now) }
+{
+    let mut number = digit;
+    let mut rest = bytes;
+    while let [byte, others @ ..] = rest {
+        if !byte.is_ascii_digit() {
+            break;
+        }
+        let digit = u64::from(byte - b'0');
+        number = if number < SHORT {
+            number * 10 + digit
+        } else {
+            number.checked_mul(10)?.checked_add(digit)?
+        };
+        rest = others;
+    }
+    Some((number, rest))
+}
+
+/// A number of 64 bits in decimal digits, without leading zeros. Its first digit is looked at once.
+#[tactic(auto, unfolding(crate::specs::Reading::number_at, crate::specs::Reading::digits_at))]
+#[inline(always)]
+fn number_at(bytes: &[u8]) -> Option<(u64, &[u8])>
+    ensures reads { Reads (λ x. (x.0, x.1.now)) result (number_at bytes.now) }
+    ensures shorter { IfSome result (λ x. length x.1.now ≤ length bytes.now) }
+{
+    let (first, rest) = bytes.split_first()?;
+    match *first {
+        b'0' => match rest {
+            [b'0'..=b'9', ..] => None,
+            _ => Some((0, rest)),
+        },
+        b'1'..=b'9' => digits_after(u64::from(*first - b'0'), rest),
+        _ => None,
+    }
 }
 
 /// A signed number of 64 bits in decimal digits, without leading zeros and without `-0`.

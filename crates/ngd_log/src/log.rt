@@ -7,6 +7,7 @@ ghost use Rattle.ngd_log.specs.Logs.{IsLogOf, IsFirstBad, LogOrBadLine, LogsDiff
 use crate::reader::{Gathered, LineError, read_step};
 use crate::writer::{HEAD, TAIL};
 use dcsp_defs::Derivation;
+use memchr::memchr;
 use std::alloc::Global;
 
 /// Why a text gives no derivation.
@@ -76,41 +77,8 @@ pub(crate) fn split_line(text: &[u8]) -> Option<(&[u8], &[u8])>
     ensures whole { IfSome result (λ x. IsLine x.0.now) }
     ensures none { IfNone result (HasNoLineFeed text.now) }
 {
-    for at in plain_front(text)..text.len() {
-        if text[at] == b'\n' {
-            return Some(text.split_at(at + 1));
-        }
-    }
-    None
-}
-
-/// How many bytes are looked at together.
-const BLOCK: usize = 16;
-
-/// The first line feed is not among so many bytes at the front, which are whole blocks.
-fn plain_front(text: &[u8]) -> usize
-    ensures within { result ≤ length text.now }
-    ensures plain { HasNoLineFeed (take result text.now) }
-{
-    let mut front = 0;
-    while text.len() - front >= BLOCK {
-        if has_line_feed(&text[front..front + BLOCK]) {
-            return front;
-        }
-        front += BLOCK;
-    }
-    front
-}
-
-/// Whether a line feed is among the bytes. Each of them is looked at, since that is done many at a time.
-fn has_line_feed(bytes: &[u8]) -> bool
-    ensures { result ≡ false → HasNoLineFeed bytes.now }
-{
-    let mut found = false;
-    for byte in bytes {
-        found |= *byte == b'\n';
-    }
-    found
+    let at = memchr(b'\n', text)?;
+    Some(text.split_at(at + 1))
 }
 
 /// Different derivations have different logs, and no log begins another.

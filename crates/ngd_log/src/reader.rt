@@ -1,9 +1,10 @@
 //! Reading a line of a log.
-ghost use Rattle.std.specs.Prelude.{◌≡◌, ℕ, [], IfOk, IfErr, IsErrOf};
+ghost use Rattle.std.specs.Prelude.{◌≡◌, ℕ, [], IfOk, IfErr, IsErrOf, codes};
+ghost use Rattle.dcsp_common.specs.Reading.{Reads};
 ghost use Rattle.ngd_log.specs.declared.reader.LineError.TheVariants.{Memory as OutOfMemory};
 ghost use Rattle.dcsp_defs.specs.declared.Step.{Step as DerivationStep};
 ghost use Rattle.ngd_log.specs.StepText.{IsStepLine};
-ghost use Rattle.ngd_log.specs.Reading.{Gives, pairs_from, pairs_at, reasons_at, rises, is_line_feed, variable_step, rule_step, step_of};
+ghost use Rattle.ngd_log.specs.Reading.{Gives, after, pairs_from, pairs_at, reasons_at, rises, is_line_feed, variable_step, rule_step, step_of};
 ghost use Rattle.ngd_log.specs.Lent.{step_in};
 
 use crate::field::{RULES, VARIABLES, after, counted_at, pair_at, reason_at, step_number_at};
@@ -173,6 +174,18 @@ fn rule_step(gathered: &mut Gathered, bytes: &[u8]) -> Result<(), LineError>
     Ok(())
 }
 
+/// What stands after the mark of a step without a variable, if the bytes begin with it: one byte tells most that do not.
+#[tactic(auto, unfolding(crate::specs::Reading::after))]
+#[inline(always)]
+fn after_mark(bytes: &[u8]) -> Option<&[u8]>
+    ensures { Reads (λ x. x.now) result (after (codes "- [] <- c") bytes.now) }
+{
+    match bytes {
+        [b'-', ..] => after(b"- [] <- c", bytes),
+        _ => None,
+    }
+}
+
 /// Reads the step of a whole line, which has this number.
 #[tactic(auto, unfolding(crate::specs::Reading::step_of))]
 pub(crate) fn step_of(gathered: &mut Gathered, number: u64, line: &[u8]) -> Result<(), LineError>
@@ -183,7 +196,7 @@ pub(crate) fn step_of(gathered: &mut Gathered, number: u64, line: &[u8]) -> Resu
     if found != number {
         return Err(LineError::Bad);
     }
-    match after(b"- [] <- c", rest) {
+    match after_mark(rest) {
         Some(rest) => rule_step(gathered, rest),
         None => variable_step(gathered, rest),
     }
@@ -210,9 +223,8 @@ pub(crate) fn owned_step(alloc: Global, gathered: &Gathered) -> Result<Step, Lin
     ensures step { IfOk result (λ step. step ≡ step_in gathered.now) }
     ensures memory { IfErr result (λ error. error ≡ OutOfMemory) }
 {
-    let nogood = match Nogood::from_pairs(alloc, &gathered.pairs) {
-        Ok(nogood) => nogood,
-        Err(_) => return Err(LineError::Memory),
+    let Ok(nogood) = Nogood::from_pairs(alloc, &gathered.pairs) else {
+        return Err(LineError::Memory);
     };
     match Vec::from_slice(alloc, &gathered.reasons) {
         Ok(reasons) => Ok(Step {

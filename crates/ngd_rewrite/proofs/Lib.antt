@@ -1,3 +1,4 @@
+pub mod Choosing
 pub mod Limiting
 pub mod Marking
 pub mod Refuting

@@ -1,7 +1,8 @@
 -- Tables of marks and of numbers.
-use Rattle.std.specs.Prelude.{◌≡◌, ℕ, zero, suc, ◌<◌, ◌≤◌, Bool, true, false, List, slice_get, slice_index_or, Some}
+use Rattle.std.specs.Prelude.{◌≡◌, ℕ, zero, suc, ◌<◌, ◌≤◌, Bool, true, false, List, map, slice_get, slice_index_or, Some}
 use Rattle.dcsp_defs.specs.declared.Step.{Step}
-use Rattle.ngd_rewrite.specs.Needed.{cites}
+use Rattle.ngd_check.specs.Places.{no_step}
+use Rattle.ngd_rewrite.specs.Needed.{cites, renumbered}
 
 -- whether the place, which counts from 0, is marked
 abbrev pub has_mark : List Bool → ℕ → Bool
@@ -25,3 +26,11 @@ pub record IsNumber (steps : ℕ) (number : ℕ) : Type 0 where
 -- steps cite steps before them alone
 abbrev pub CiteBack : List Step → Type 0
 CiteBack steps = (place : ℕ) (step : Step) → slice_get steps place ≡ Some step → (number : ℕ) → cites step.reasons number ≡ true → IsNumber place number
+
+-- the step at a place, renumbered
+abbrev pub renumbered_at : List Step → List ℕ → ℕ → Step
+renumbered_at steps numbers place = renumbered (number_in numbers) (slice_index_or steps place no_step)
+
+-- the steps at these places, renumbered
+abbrev pub steps_at : List Step → List ℕ → List ℕ → List Step
+steps_at steps places numbers = map (renumbered_at steps numbers) places

@@ -15,4 +15,5 @@ mod upgrade;
 pub use cores::{Core, RuleNumbers, core_of};
 pub use dcsp_common::Memory;
 pub use endings::Endings;
+pub use trim::Trimmed;
 pub use upgrade::{one_finding, upgraded, upgraded_have_text};

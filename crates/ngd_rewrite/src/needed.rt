@@ -1,15 +1,17 @@
 //! Which steps a refutation needs.
 
-ghost use Rattle.std.specs.Prelude.{◌≡◌, ◌↔◌, ◌||◌, ◌==◌, ◌<◌, ◌≤◌, ℕ, true, length, IfOk};
+ghost use Rattle.std.specs.Prelude.{◌≡◌, ◌↔◌, ◌||◌, ◌==◌, ◌<◌, ◌≤◌, ℕ, true, length, IfOk, OnOk, slice_index_or};
+ghost use Rattle.ngd_check.specs.Places.{no_step};
 ghost use Rattle.ngd_rewrite.specs.Needed.{names_step, cites, IsNeeded};
 ghost use Rattle.ngd_rewrite.specs.Marks.{is_marked, IsNumber, CiteBack};
 
 use dcsp_common::Memory;
-use ngd_log::{Reason, Step};
+use ngd_check::KeptSteps;
+use ngd_log::Reason;
 use std::alloc::Global;
 
 /// A mark for each step, whether the last step needs it.
-pub fn needed_steps(alloc: Global, steps: &[Step]) -> Result<Vec<bool>, Memory>
+pub fn needed_steps(alloc: Global, steps: &KeptSteps<'_>) -> Result<Vec<bool>, Memory>
     requires some { 0 < length steps.now }
     requires back { CiteBack steps.now }
     ensures as_many { IfOk result (λ needed. length needed.items ≡ length steps.now) }
@@ -19,25 +21,41 @@ pub fn needed_steps(alloc: Global, steps: &[Step]) -> Result<Vec<bool>, Memory>
         return Err(Memory);
     };
     mark(&mut needed, steps.len() as u64);
-    mark_needed(&mut needed, steps);
+    mark_needed(alloc, &mut needed, steps)?;
     Ok(needed)
 }
 
 /// Marks what marked steps cite, from the last step on.
-fn mark_needed(needed: &mut [bool], steps: &[Step])
+fn mark_needed(alloc: Global, needed: &mut [bool], steps: &KeptSteps<'_>) -> Result<(), Memory>
     requires as_many { length needed.old ≡ length steps.now }
     requires back { CiteBack steps.now }
     requires last { (number : ℕ) → (is_marked needed.old number ≡ true) ↔ (number ≡ length steps.now) }
     ensures as_many { length needed.new ≡ length needed.old }
-    ensures exact { (number : ℕ) → (is_marked needed.new number ≡ true) ↔ IsNeeded steps.now number }
+    ensures exact { OnOk result ((number : ℕ) → (is_marked needed.new number ≡ true) ↔ IsNeeded steps.now number) }
 {
+    let mut reasons = Vec::new(alloc);
     let mut left = steps.len();
     while left > 0 {
         left -= 1;
         if needed[left] {
-            mark_cited(needed, steps[left].reasons.items());
+            read_reasons(steps, left, &mut reasons)?;
+            mark_cited(needed, &reasons);
         }
     }
+    Ok(())
+}
+
+/// Reads the reasons of the step at a place into the list, in place of what it has.
+pub fn read_reasons(
+    steps: &KeptSteps<'_>,
+    place: usize,
+    into: &mut Vec<Reason>,
+) -> Result<(), Memory>
+    requires { place < length steps.now }
+    ensures { OnOk result (into.new.items ≡ (slice_index_or steps.now place no_step).reasons) }
+{
+    into.clear();
+    steps.add_reasons(place, into)
 }
 
 /// Marks the steps that the reasons cite.

@@ -6,12 +6,17 @@ ghost use Rattle.ngd_rewrite.specs.Needed.{names_rule, cites_rule, is_cited};
 ghost use Rattle.ngd_rewrite.specs.Marks.{has_mark};
 
 use crate::cores::RuleNumbers;
+use crate::trim::Trimmed;
 use dcsp_common::Memory;
-use ngd_log::{Reason, Step};
+use ngd_log::Reason;
 use std::alloc::Global;
 
 /// The rules, of so many, that the steps cite, strictly rising.
-pub fn cited_rules(alloc: Global, rules: u32, steps: &[Step]) -> Result<RuleNumbers, Memory>
+pub fn cited_rules(
+    alloc: Global,
+    rules: u32,
+    steps: &Trimmed<'_, '_>,
+) -> Result<RuleNumbers, Memory>
     requires { (rule : ℕ) → is_cited steps.now rule ≡ true → rule < rules }
     ensures rising { IfOk result (λ cited. IsRising cited) }
     ensures exact { IfOk result (λ cited. (rule : ℕ) → In rule cited ↔ (is_cited steps.now rule ≡ true)) }
@@ -19,8 +24,10 @@ pub fn cited_rules(alloc: Global, rules: u32, steps: &[Step]) -> Result<RuleNumb
     let Ok(mut cited) = vec![in alloc; false; rules as usize] else {
         return Err(Memory);
     };
-    for step in steps {
-        mark_cited(&mut cited, step.reasons.items());
+    let mut reasons = Vec::new(alloc);
+    for place in 0..steps.len() {
+        steps.read_old_reasons(place, &mut reasons)?;
+        mark_cited(&mut cited, &reasons);
     }
     marked_places(alloc, &cited)
 }
@@ -58,7 +65,7 @@ fn mark(cited: &mut [bool], rule: u32)
 }
 
 /// The marked places, strictly rising.
-fn marked_places(alloc: Global, marks: &[bool]) -> Result<RuleNumbers, Memory>
+pub fn marked_places(alloc: Global, marks: &[bool]) -> Result<RuleNumbers, Memory>
     requires { length marks.now ≤ 2 ^ 32 }
     ensures { IfOk result (λ places. places ≡ filter (has_mark marks.now) (below (length marks.now))) }
 {

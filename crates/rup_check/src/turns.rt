@@ -1,10 +1,10 @@
 //! The clauses that watch a literal, once it is false.
 ghost use Rattle.rup_check.specs.Kept.{clauses_of, AreWatched, LooksAt, Visits};
-ghost use Rattle.std.specs.Prelude.{◌≡◌, ◌<◌, ◌≤◌, ◌+◌, ◌-◌, [], ◌++◌, length, true, false, not, OnOk, IfOk, slice_set, slice_index_or};
+ghost use Rattle.std.specs.Prelude.{◌≡◌, ◌≢◌, ◌<◌, ◌≤◌, ◌+◌, ◌-◌, [], ◌++◌, length, true, false, not, OnOk, IfOk, MatchOption, slice_set, slice_index_or};
 ghost use Rattle.std.specs.List.{All};
 ghost use Rattle.rup_check.specs.Assignments.{flipped, Has, IsAssignment};
 ghost use Rattle.rup_check.specs.Sets.{KeepsSound, Grows};
-ghost use Rattle.rup_check.specs.Watches.{IsTurn, IsPairOf, IsEntry, IsClean, Extends};
+ghost use Rattle.rup_check.specs.Watches.{IsTurn, IsOther, IsPairOf, IsEntry, IsClean, Extends};
 
 use crate::assignment::{Assignment, open_before};
 use crate::places::{Known, flipped};
@@ -39,6 +39,25 @@ pub enum Look {
     IsFalse,
 }
 
+/// The other literal of a pair that watches this one. Which of the two it is, no jump tells: none could be foretold.
+#[inline(always)]
+fn other_of(pair: WatchedPair, literal: u16) -> Option<u16>
+    requires first { pair.first ≤ 8191 }
+    requires second { pair.second ≤ 8191 }
+    ensures { MatchOption result ((pair.first ≢ literal) × (pair.second ≢ literal)) (IsOther pair literal) }
+{
+    let other = if pair.first == literal {
+        pair.second
+    } else {
+        pair.first
+    };
+    let this = pair.first + pair.second - other;
+    if this != literal {
+        return None;
+    }
+    Some(other)
+}
+
 /// What is to be done with a clause of the list of `literal`, which is false.
 fn turn_of(
     known: &Known,
@@ -52,13 +71,8 @@ fn turn_of(
     requires pair { IsPairOf (slice_index_or (clauses_of known.now) number []) pair }
     ensures { IsTurn assignment.now.marks.items (slice_index_or (clauses_of known.now) number []) pair literal result }
 {
-    let other = if pair.first == literal {
-        pair.second
-    } else {
-        if pair.second != literal {
-            return Turn::Drop;
-        }
-        pair.first
+    let Some(other) = other_of(pair, literal) else {
+        return Turn::Drop;
     };
     if assignment.has(other) {
         return Turn::Stay;

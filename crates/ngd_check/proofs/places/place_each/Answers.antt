@@ -3,7 +3,7 @@ use Rattle.std.proofs.lemmas.List.Elements.{All-more}
 use Rattle.dcsp_defs.specs.Pairs.{no_pair}
 use Rattle.dcsp_defs.specs.Derivation.{IsKnownPair}
 use Rattle.dcsp_rule.specs.Problems.{csp_of}
-use Rattle.ngd_check.specs.declared.arena.Placed.{Placed}
+use Rattle.ngd_store.specs.declared.arena.Placed.{Placed}
 use Rattle.ngd_check.specs.Places.{ArePlaced}
 use Rattle.ngd_check.proofs.Placing.{placed_known, placed_more}
 use Rattle.ngd_check.proofs.places.place_each.Goals as goal

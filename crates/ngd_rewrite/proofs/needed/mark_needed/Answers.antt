@@ -1,9 +1,9 @@
-use Rattle.std.proofs.Common.{◌≡◌, ◌-◌, ◌<◌, ◌||◌, ℕ, List, length, Some, slice_get, refl, sym, ap, ◌∙◌, subst, arith, true, false}
+use Rattle.std.proofs.Common.{◌≡◌, ◌-◌, ◌<◌, ◌||◌, ℕ, List, length, get_or, Some, slice_get, refl, ap, ◌∙◌, subst, arith, true, false}
 use Rattle.std.proofs.lemmas.Option.{slice_get-get_or}
 use Rattle.dcsp_defs.specs.declared.Reason.{Reason}
-use Rattle.dcsp_defs.specs.declared.Step.{Step}
 use Rattle.dcsp_defs.proofs.Lists.{or_left}
 use Rattle.ngd_rewrite.specs.Needed.{cites, is_last}
+use Rattle.ngd_check.specs.Places.{no_step}
 use Rattle.ngd_rewrite.specs.Marks.{is_marked}
 use Rattle.ngd_rewrite.proofs.Marking.{AreClosed, mark_at, needed_more, closed_more, closed_stays, all_needed}
 use Rattle.ngd_rewrite.proofs.needed.mark_needed.Goals as goal
@@ -19,10 +19,10 @@ loop-left-init c = record {
 
 pub mark_cited-requires : goal.mark_cited-requires
 mark_cited-requires c number t =
-    let step = c.index-steps-left.result in
     let place = c.loop-left.left - 1 in
-    let there : slice_get c.args.steps.now place ≡ Some step = slice_get-get_or c.args.steps.now place step (omega arith) ∙ ap Some (sym c.index-steps-left.is) in
-    let reasons = c.items.ensures ∙ ap (λ (s : Step). s.reasons) (sym c.index-steps-left.is) in
+    let step = get_or c.args.steps.now place no_step in
+    let there : slice_get c.args.steps.now place ≡ Some step = slice_get-get_or c.args.steps.now place no_step (omega (arith, c.loop-left.invariant.left)) in
+    let reasons = c.deref.ensures.value ∙ c.in_ok-read_reasons.ensures in
     let n = c.requires.back place step there number (subst (λ (rs : List Reason). cites rs number ≡ true) reasons t) in
     record { from_one = n.from_one; within = omega (arith, n.within, c.loop-left.invariant.as_many, c.loop-left.invariant.left, c.requires.as_many) }
 
@@ -30,13 +30,13 @@ pub loop-left-preserved-then-needed-left : goal.loop-left-preserved-then-needed-
 loop-left-preserved-then-needed-left c =
     let steps = c.args.steps.now in
     let left = c.loop-left.left in
-    let step = c.index-steps-left.result in
+    let step = get_or steps (left - 1) no_step in
     let some : 0 < left = omega arith in
-    let there : slice_get steps (left - 1) ≡ Some step = slice_get-get_or steps (left - 1) step (omega arith) ∙ ap Some (sym c.index-steps-left.is) in
+    let there : slice_get steps (left - 1) ≡ Some step = slice_get-get_or steps (left - 1) no_step (omega (arith, some, c.loop-left.invariant.left)) in
     let here : is_marked c.loop-left.needed left ≡ true = mark_at c.loop-left.needed left true some c.if-needed-left.true in
     let m = is_marked c.loop-left.needed in
     let new = is_marked c.mark_cited.new.needed in
-    let reasons = c.items.ensures ∙ ap (λ (s : Step). s.reasons) (sym c.index-steps-left.is) in
+    let reasons = c.deref.ensures.value ∙ c.in_ok-read_reasons.ensures in
     let eq : (n : ℕ) → new n ≡ (m n || cites step.reasons n) = λ n. c.mark_cited.ensures.marked n ∙ ap (λ (rs : List Reason). m n || cites rs n) reasons in
     record {
       left = omega (arith, c.loop-left.invariant.left);

@@ -1,0 +1,4 @@
+pub mod Below
+pub mod Growing
+pub mod Rooms
+pub mod Words
