@@ -4,6 +4,7 @@ pub mod Rising
 pub mod Posting
 pub mod Causes
 mod Blamed
+mod Others
 pub mod Fits
 pub mod GivesUp
 pub mod Takes

@@ -1,5 +1,5 @@
 -- The first item that rules a value out, as the code finds it.
-use Rattle.std.specs.Prelude.{ℕ, ◌+◌, ◌<◌, length, ℤ, Bool, List, [], ◌∷◌, find, filter_map, map, Option, Some, None, is_some, not, slice_index_or, if◌then◌else◌}
+use Rattle.std.specs.Prelude.{◌≡◌, ◌==◌, ℕ, ◌+◌, ◌<◌, length, ℤ, Bool, List, [], ◌∷◌, find, filter_map, map, Option, Some, None, is_some, not, slice_index_or, if◌then◌else◌}
 use Rattle.std.specs.List.{list_any}
 use Rattle.std.specs.Option.{option_or}
 use Rattle.dcsp_defs.specs.declared.Reason.{Reason}
@@ -71,6 +71,10 @@ IsCause p kept (KeptNogood k) = k < length kept
 -- the item at the place names k
 abbrev pub blames_one : Contents → List Recorded → Cause → ℕ → Bool
 blames_one p kept x k = is_among k (item_at p kept x).variables
+
+-- if another agent is told, it is the only one of the first so many that the item at the place names
+abbrev pub NamesOther : Contents → List Recorded → ℕ → Cause → Option ℕ → Type 0
+NamesOther p kept count x other = (var : ℕ) → other ≡ Some var → (k : ℕ) → k < count → blames_one p kept x k ≡ (k == var)
 
 -- an item at the places names k
 abbrev pub blames : Contents → List Recorded → List Cause → ℕ → Bool

@@ -64,7 +64,8 @@ impl<'p> Agent<'p> {
 
     /// Settles for the first time: the agent takes its least value, or makes a step with the empty
     /// nogood, which is right after any steps. The messages are appended to `out`, in which all that stood
-    /// there stays. What `value` says of the agent holds here too.
+    /// there stays. What `value` says of the agent holds here too. An agent that refused, for want of memory,
+    /// refuses from then on, and what it appended to `out` is left open.
     pub fn start(&mut self, out: &mut Outbox) -> Result<Turn, Memory>
         requires { self.old.spent ≡ false → IsFresh self.old.problem self.old.me self.old }
         ensures does { (number : ℕ) → IfOk result (λ turn. Settles self.old self.new number out.old out.new turn) }
@@ -98,7 +99,8 @@ impl<'p> Agent<'p> {
     /// appended to `out`, in which all that stood there stays: link requests first, then what settling
     /// sends. A nogood that is sent carries `next_step`, the number of the step that derives it. A step
     /// that it makes is right after any steps of which those that the kept nogoods and the message name
-    /// have these nogoods. What `value` says of the agent holds here too.
+    /// have these nogoods. What `value` says of the agent holds here too. An agent that refused, for want of
+    /// memory, refuses from then on, and what it appended to `out` is left open.
     pub fn receive(
         &mut self,
         from: u32,

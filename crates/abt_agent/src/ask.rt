@@ -24,10 +24,7 @@ pub fn post(out: &mut Outbox, to: u32, message: Message) -> Result<(), Memory>
     requires { IsStamped message }
     ensures { OnOk result (Posts out.old out.new ((to, message_of message) ∷ [])) }
 {
-    match out.push(Sent { to, message }) {
-        Ok(()) => Ok(()),
-        Err(_) => Err(Memory),
-    }
+    out.push(Sent { to, message }).map_err(|_| Memory)
 }
 
 /// Whether the agent has a place in the table of links, and is not marked there.

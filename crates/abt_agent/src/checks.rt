@@ -38,10 +38,7 @@ impl<'p> Knowledge<'p> {
     fn has_value(&self, var: u32) -> bool
         ensures { (v : ℤ) → result ≡ is_some (with_value self.now.me v (values_in (view_of self.now.view)) var) }
     {
-        if var == self.me {
-            return true;
-        }
-        self.view.value_of(var).is_some()
+        var == self.me || self.view.value_of(var).is_some()
     }
 
     /// How many of so many first rules that the agent owns are decided.
@@ -99,7 +96,7 @@ impl<'p> Knowledge<'p> {
         let domain = self.problem.domain(self.me);
         let mut sum = so_far;
         for place in 0..domain.len() {
-            if is_own(own, self.value_at(place)) {
+            if own == Some(self.value_at(place)) {
                 continue;
             }
             sum = sum.plus(self.value_checks(place))?;
@@ -131,15 +128,5 @@ impl<'p> Knowledge<'p> {
             return Ok(first);
         }
         self.other_checks(own, first)
-    }
-}
-
-/// Whether there is a value of the agent's own, and it is this one.
-fn is_own(own: Option<i64>, value: i64) -> bool
-    ensures { result ≡ is_value own value }
-{
-    match own {
-        Some(own) => own == value,
-        None => false,
     }
 }

@@ -139,7 +139,6 @@ impl<'p> AgentBody<'p> {
         if !self.is_wanted(&recorded.nogood, fits) {
             return Ok(());
         }
-        self.known.keep(recorded)?;
-        Ok(())
+        self.known.keep(recorded)
     }
 }

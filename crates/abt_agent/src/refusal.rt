@@ -11,12 +11,12 @@ ghost use Rattle.abt_parts.specs.Views.{stamped_in, view_of};
 ghost use Rattle.abt_agent.specs.Bodies.{AreProper, IsInStep};
 ghost use Rattle.abt_agent.specs.Outgoing.{ArePositive, AreStampsOf, IsStampedView};
 ghost use Rattle.abt_reason.specs.Marks.{has_mark};
-ghost use Rattle.abt_agent.specs.Causes.{all_causes, blames, blames_one, reasons_at, item_at, told_of, IsCause};
+ghost use Rattle.abt_agent.specs.Causes.{all_causes, blames, blames_one, reasons_at, item_at, told_of, IsCause, NamesOther};
 
 use crate::knowledge::Knowledge;
 use crate::search::Cause;
 use abt_parts::{StampList, StampedValue};
-use abt_reason::{ValueRun, make_blank, mark_pairs, mark_variables};
+use abt_reason::{ValueRun, make_blank, mark, mark_pairs, mark_variables};
 use dcsp_common::Memory;
 use dcsp_defs::{Nogood, Pair, Reason, ReasonList};
 use dcsp_row::Row;
@@ -28,13 +28,6 @@ use std::alloc::Global;
 pub struct StampedStep {
     pub step: Step,
     pub stamps: StampList,
-}
-
-/// A nogood, and the stamps of its values.
-#[derive(Debug, Drop)]
-struct Basis {
-    nogood: Nogood,
-    stamps: StampList,
 }
 
 impl<'p> Knowledge<'p> {
@@ -49,7 +42,7 @@ impl<'p> Knowledge<'p> {
     {
         make_blank(self.alloc, marks, self.me as usize)?;
         let reasons = self.blame(marks)?;
-        let Basis { nogood, stamps } = self.gather(marks, reasons.len())?;
+        let (nogood, stamps) = self.gather(marks, reasons.len())?;
         let step = Step {
             variable: Some(self.me),
             nogood,
@@ -63,6 +56,7 @@ impl<'p> Knowledge<'p> {
     fn blame(&self, marks: &mut Row) -> Result<ReasonList, Memory>
         requires in_step { IsInStep self.now }
         requires proper { AreProper self.now.problem.now self.now.me self.now.store }
+        requires size { length marks.old ≡ self.now.me }
         ensures reasons { IfOk result (λ reasons. reasons ≡ reasons_at self.now.problem.now self.now.store (all_causes self.now)) }
         ensures size { OnOk result (length marks.new ≡ length marks.old) }
         ensures marks { OnOk result ((k : ℕ) → has_mark marks.new k ≡ (has_mark marks.old k || (nat_lt k (length marks.old) && blames self.now.problem.now self.now.store (all_causes self.now) k))) }
@@ -79,16 +73,24 @@ impl<'p> Knowledge<'p> {
         };
         for place in 0..values {
             run = self.reasons.run_from(place, run);
-            self.blame_one(&mut reasons, marks, self.cause_in(place, run));
+            let other = self.reasons.other_in(place, run);
+            self.blame_one(&mut reasons, marks, self.cause_in(place, run), other);
         }
         Ok(ReasonList::from_vec(reasons))
     }
 
-    /// Adds what a step cites for the cause, if there is one, and marks the higher agents that it names.
-    /// There is room for it.
+    /// Adds what a step cites for the cause, if there is one, and marks the higher agents that it names: the
+    /// other one, if that is known to be the only one. There is room for the reason.
     #[inline(always)]
-    fn blame_one(&self, reasons: &mut Vec<Reason>, marks: &mut Row, cause: Option<Cause>)
+    fn blame_one(
+        &self,
+        reasons: &mut Vec<Reason>,
+        marks: &mut Row,
+        cause: Option<Cause>,
+        other: Option<u32>,
+    )
         requires cause { IfSome cause (IsCause self.now.problem.now self.now.store) }
+        requires other { IfSome cause (λ x. NamesOther self.now.problem.now self.now.store (length marks.old) x other) }
         requires room { vec_len reasons.old < vec_capacity reasons.old }
         ensures reasons { reasons.new.items ≡ reasons.old.items ++ reasons_at self.now.problem.now self.now.store (option_to_list cause) }
         ensures len { vec_len reasons.new ≤ vec_len reasons.old + 1 }
@@ -97,31 +99,36 @@ impl<'p> Knowledge<'p> {
         ensures marks { (k : ℕ) → has_mark marks.new k ≡ (has_mark marks.old k || (nat_lt k (length marks.old) && blames self.now.problem.now self.now.store (option_to_list cause) k)) }
     {
         if let Some(cause) = cause {
-            self.name_one(marks, cause);
+            self.name_one(marks, cause, other);
             reasons.push_reserved(self.reason_of(cause));
         }
     }
 
-    /// Marks the higher agents that the cause names.
+    /// Marks the higher agents that the cause names, or the other one alone, if it is told.
     #[inline(always)]
-    fn name_one(&self, marks: &mut Row, cause: Cause)
-        requires { IsCause self.now.problem.now self.now.store cause }
+    fn name_one(&self, marks: &mut Row, cause: Cause, other: Option<u32>)
+        requires cause { IsCause self.now.problem.now self.now.store cause }
+        requires other { NamesOther self.now.problem.now self.now.store (length marks.old) cause other }
         ensures size { length marks.new ≡ length marks.old }
         ensures marks { (k : ℕ) → has_mark marks.new k ≡ (has_mark marks.old k || (nat_lt k (length marks.old) && blames_one self.now.problem.now self.now.store cause k)) }
     {
+        if let Some(var) = other {
+            mark(marks, var);
+            return;
+        }
         match cause {
             Cause::OwnedRule(rule) => mark_variables(marks, self.problem.scope(rule)),
             Cause::KeptNogood(place) => mark_pairs(marks, self.store.items()[place].nogood.pairs()),
         }
     }
 
-    /// What the view has of the marked agents, in order. At first there is room for so many, if there are
+    /// What the view has of the marked agents, in order, with its stamps. At first there is room for so many, if there are
     /// as many agents.
-    fn gather(&self, marks: &Row, many: usize) -> Result<Basis, Memory>
+    fn gather(&self, marks: &Row, many: usize) -> Result<(Nogood, StampList), Memory>
         requires few { length marks.now < 2 ^ 32 }
         requires stamps { IsStampedView (view_of self.now.view) }
-        ensures told { IfOk result (λ basis. with_stamps basis.nogood basis.stamps ≡ filter_map (told_of (view_of self.now.view)) (filter (has_mark marks.now) (below (length marks.now)))) }
-        ensures stamped { IfOk result (λ basis. AreStampsOf basis.nogood basis.stamps) }
+        ensures told { IfOk result (λ basis. with_stamps basis.0 basis.1 ≡ filter_map (told_of (view_of self.now.view)) (filter (has_mark marks.now) (below (length marks.now)))) }
+        ensures stamped { IfOk result (λ basis. AreStampsOf basis.0 basis.1) }
     {
         let room = marks.len().min(many);
         let Ok(mut pairs) = Vec::with_capacity(self.alloc, room) else {
@@ -140,10 +147,7 @@ impl<'p> Knowledge<'p> {
         let Ok(nogood) = Nogood::from_vec(pairs) else {
             return Err(Memory);
         };
-        Ok(Basis {
-            nogood,
-            stamps: StampList::from_vec(stamps),
-        })
+        Ok((nogood, StampList::from_vec(stamps)))
     }
 
     /// What the view has of the agent.
@@ -207,8 +211,5 @@ fn push<T: Drop>(items: &mut Vec<T>, item: T) -> Result<(), Memory>
         items.push_reserved(item);
         return Ok(());
     }
-    match items.push(item) {
-        Ok(()) => Ok(()),
-        Err(_) => Err(Memory),
-    }
+    items.push(item).map_err(|_| Memory)
 }

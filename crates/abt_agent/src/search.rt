@@ -1,11 +1,12 @@
 //! The search for what rules a value out.
 
-ghost use Rattle.std.specs.Prelude.{◌≡◌, ◌<◌, is_some, length, not};
+ghost use Rattle.std.specs.Prelude.{◌≡◌, ◌<◌, ℕ, Some, is_some, length, not};
 ghost use Rattle.dcsp_defs.specs.Csp.{domain};
 ghost use Rattle.abt_defs.specs.Agents.{values_in};
 ghost use Rattle.dcsp_rule.specs.Problems.{csp_of};
 ghost use Rattle.abt_parts.specs.Views.{view_of};
-ghost use Rattle.abt_reason.specs.Cached.{IsValueRunFrom};
+ghost use Rattle.abt_reason.specs.Cached.{owned_at, IsValueRunFrom};
+ghost use Rattle.abt_agent.specs.declared.search.Cause.TheVariants.{OwnedRule};
 ghost use Rattle.abt_reason.specs.Causes.{reason_for, value_at};
 ghost use Rattle.abt_parts.specs.Stores.{IsOncePerValue};
 ghost use Rattle.abt_agent.specs.Bodies.{AreProper, IsInStep};
@@ -34,7 +35,8 @@ impl<'p> Knowledge<'p> {
         requires place { place < length (domain (csp_of self.now.problem.now) self.now.me) }
         requires run { IsValueRunFrom self.now.reasons place run }
         requires within { place < run.end }
-        ensures { result ≡ cause_for self.now.problem.now self.now.me (values_in (view_of self.now.view)) self.now.store (value_at self.now.problem.now self.now.me place) }
+        ensures cause { result ≡ cause_for self.now.problem.now self.now.me (values_in (view_of self.now.view)) self.now.store (value_at self.now.problem.now self.now.me place) }
+        ensures rule { (at : ℕ) → run.first ≡ Some at → result ≡ Some (OwnedRule (owned_at self.now.reasons at)) }
     {
         match self.reasons.first_in(place, run) {
             None => None,

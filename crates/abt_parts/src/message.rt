@@ -114,6 +114,7 @@ impl Outbox {
     }
 
     /// Adds a message at the end. A refusal hands it back and changes nothing.
+    #[inline(always)]
     pub fn push(&mut self, sent: Sent) -> Result<(), (Sent, Memory)>
         ensures ok { OnOk result (self.new ≡ self.old ++ sent ∷ []) }
         ensures handed_back { IfErr result (λ refused. refused.0 ≡ sent) }

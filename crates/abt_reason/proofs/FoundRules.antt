@@ -1,6 +1,10 @@
 -- The first of the owned rules that is false for a value, and the first value that nothing rules out.
 use Rattle.std.proofs.Common.{◌≡◌, ◌<◌, ◌≤◌, ◌∙◌, ap, sym, subst, length, get_or, arith, Some, None, Option, ℕ, List, Bool, false, refl, not, is_some, inl, inr}
-use Rattle.std.specs.Option.{option_map}
+use Rattle.std.specs.Option.{option_map, IfSome}
+use Rattle.std.proofs.lemmas.List.{get_or-map}
+use Rattle.dcsp_rule.specs.Problems.{constraint_at}
+use Rattle.abt_reason.specs.declared.grid.ValueRun.{ValueRun}
+use Rattle.abt_reason.specs.Named.{only_other, others_of}
 use Rattle.std.proofs.lemmas.Bool.{cases_lt}
 use Rattle.dcsp_defs.specs.declared.Reason.{Reason}
 use Rattle.dcsp_defs.specs.declared.Reason.TheVariants.{Earlier}
@@ -12,13 +16,13 @@ use Rattle.dcsp_row.specs.declared.marks.Marks.{Marks}
 use Rattle.abt_reason.specs.Grids.{marks, rows_of, HaveFirst, IsValueRun}
 use Rattle.abt_reason.proofs.FirstLaws.{between_alike, first_alike}
 use Rattle.abt_reason.specs.Causes.{is_false, is_free_at, known_at, value_at}
-use Rattle.abt_reason.specs.Cached.{Cached, StandsFor, IsCache, IsOwner, rules_of, size_of}
+use Rattle.abt_reason.specs.Cached.{Cached, StandsFor, IsCache, IsOtherIn, IsOwner, other_at, rules_of, size_of}
 use Rattle.abt_reason.proofs.CauseLaws.{reason_rule, reason_step}
 
 -- the run of the rows is one of the owned rules
-pub run_found : (r : Cached) (owned : List ℕ) (rows : List Marks) (counts : List ℕ) (firsts : List (Option ℕ)) (namings : List Naming) (room : Marks) (values place : ℕ) (first : Option ℕ) (end : ℕ) → IsCache r owned rows counts firsts namings room → values ≡ size_of r.problem r.agent
+pub run_found : (r : Cached) (owned : List ℕ) (others : List (Option ℕ)) (rows : List Marks) (counts : List ℕ) (firsts : List (Option ℕ)) (namings : List Naming) (room : Marks) (values place : ℕ) (first : Option ℕ) (end : ℕ) → IsCache r owned others rows counts firsts namings room → values ≡ size_of r.problem r.agent
     → IsValueRun (rows_of values rows) (length rows) values place first end → IsValueRun r.rows (rules_of r.problem r.agent) (size_of r.problem r.agent) place first end
-run_found r owned rows counts firsts namings room values place first end inv size run =
+run_found r owned others rows counts firsts namings room values place first end inv size run =
     let sized = subst (λ n. IsValueRun (rows_of n rows) (length rows) n place first end) size run in
     let counted = subst (λ n. IsValueRun (rows_of (size_of r.problem r.agent) rows) n (size_of r.problem r.agent) place first end) inv.for_rules.are_rows.each_rule sized in
     subst (λ (rs : List (List Bool)). IsValueRun rs (rules_of r.problem r.agent) (size_of r.problem r.agent) place first end) (sym inv.rows_are) counted
@@ -29,6 +33,18 @@ pub place_in_range : (r shown : Cached) (owned : List ℕ) (place : ℕ) (first 
 place_in_range r shown owned place first end at owner same run below some =
     let here = (subst (IsFirst (marks shown.rows place) (rules_of shown.problem shown.agent)) some (run place (omega arith) below)).0 in
     omega (arith, here, ap length owner.rules_are, ap (λ (x : Cached). rules_of x.problem x.agent) same)
+
+-- the variable that is kept for an owned rule is the one that it names beside the agent
+pub other_found : (r shown : Cached) (owned : List ℕ) (others : List (Option ℕ)) (run : ValueRun) (at : ℕ) (found : Option ℕ) → IsOwner r.problem r.agent owned (size_of r.problem r.agent) → others ≡ others_of r.problem r.agent owned → r ≡ shown
+    → run.first ≡ Some at → at < length owned → found ≡ get_or others at found → IfSome found (IsOtherIn shown run)
+other_found r shown owned others run at found owner are same first below read =
+    let is : found ≡ other_at shown at =
+    read ∙ ap (λ (xs : List (Option ℕ)). get_or xs at found) are ∙ get_or-map (λ rule. only_other r.agent (constraint_at r.problem rule).scope) owned at 0 found below
+    ∙ ap (λ (rules : List ℕ). only_other r.agent (constraint_at r.problem (get_or rules at 0)).scope) owner.rules_are ∙ ap (λ (x : Cached). other_at x at) same in
+    by_found found is where
+      by_found : (o : Option ℕ) → o ≡ other_at shown at → IfSome o (IsOtherIn shown run)
+      by_found None e = tt
+      by_found (Some var) e = record { at = at; first = first; other = sym e }
 
 -- it is the first false rule
 pub first_rule : (r : Cached) (known : PartialAssignment) (items : List Recorded) → StandsFor r known items → (place : ℕ) (first : Option ℕ) (end : ℕ) → HaveFirst r.rows (rules_of r.problem r.agent) place first end

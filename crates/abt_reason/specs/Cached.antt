@@ -1,8 +1,8 @@
 -- What is kept for each value of an agent's domain, and what it stands for.
-use Rattle.std.specs.Prelude.{◌≡◌, ◌≢◌, ℕ, ◌<◌, All, Bool, true, List, [], ◌∷◌, ◌++◌, length, Option}
+use Rattle.std.specs.Prelude.{◌≡◌, ◌≢◌, ℕ, ◌<◌, All, Bool, true, List, [], ◌∷◌, ◌++◌, length, slice_index_or, Option, Some}
 use Rattle.dcsp_domain.specs.Sets.{IsRising}
 use Rattle.dcsp_defs.specs.Csp.{PartialAssignment, domain}
-use Rattle.dcsp_rule.specs.Problems.{Contents, csp_of}
+use Rattle.dcsp_rule.specs.Problems.{Contents, constraint_at, csp_of}
 use Rattle.dcsp_problem.specs.Index.{owned_rules}
 use Rattle.abt_parts.specs.declared.recorded.Recorded.{Recorded}
 use Rattle.dcsp_row.specs.declared.marks.Marks.{Marks}
@@ -11,7 +11,7 @@ use Rattle.dcsp_row.specs.Rows.{is_ruled_out, own_at}
 use Rattle.abt_reason.specs.declared.grid.ValueRun.{ValueRun}
 use Rattle.abt_reason.specs.Grids.{marks, rows_of, AreSized, HaveFirst, HaveRoom, IsGrid}
 use Rattle.abt_reason.specs.declared.named.Naming.{Naming}
-use Rattle.abt_reason.specs.Named.{ListsScopes, RisesByVariable}
+use Rattle.abt_reason.specs.Named.{only_other, others_of, ListsScopes, RisesByVariable}
 use Rattle.dcsp_defs.specs.declared.Reason.{Reason}
 use Rattle.abt_reason.specs.Causes.{known_at, is_false, is_free_at, reason_for, value_at}
 use Rattle.abt_reason.specs.Firsts.{IsFirst, IsFirstBetween}
@@ -96,6 +96,20 @@ pub record StoodWithoutLast (r : Cached) (known : PartialAssignment) (items : Li
 abbrev pub IsValueRunFrom : Cached → ℕ → ValueRun → Type 0
 IsValueRunFrom r place run = HaveFirst r.rows (rules_of r.problem r.agent) place run.first run.end
 
+-- the owned rule at a place
+abbrev pub owned_at : Cached → ℕ → ℕ
+owned_at r at = slice_index_or (owned_rules r.problem r.agent) at 0
+
+-- the one variable that the owned rule at a place names beside the agent
+abbrev pub other_at : Cached → ℕ → Option ℕ
+other_at r at = only_other r.agent (constraint_at r.problem (owned_at r at)).scope
+
+-- the run's rule names this variable alone beside the agent
+pub record IsOtherIn (r : Cached) (run : ValueRun) (var : ℕ) : Type 0 where
+  pub at : ℕ
+  pub first : run.first ≡ Some at
+  pub other : other_at r at ≡ Some var
+
 -- it is the reason for the value at a place, whatever is stood for
 abbrev pub IsReasonAt : Cached → ℕ → Option Reason → Type 0
 IsReasonAt r place reason = (known : PartialAssignment) (items : List Recorded) → StandsFor r known items → reason ≡ reason_for r.problem r.agent known items (value_at r.problem r.agent place)
@@ -131,8 +145,9 @@ pub record AreRuleLists (p : Contents) (agent : ℕ) (rows : List Marks) (counts
   pub has_room : IsRoom (size_of p agent) room
 
 -- what every cache is
-pub record IsCache (r : Cached) (owned : List ℕ) (rows : List Marks) (counts : List ℕ) (firsts : List (Option ℕ)) (namings : List Naming) (room : Marks) : Type 0 where
+pub record IsCache (r : Cached) (owned : List ℕ) (others : List (Option ℕ)) (rows : List Marks) (counts : List ℕ) (firsts : List (Option ℕ)) (namings : List Naming) (room : Marks) : Type 0 where
   pub owner : IsOwner r.problem r.agent owned (size_of r.problem r.agent)
+  pub others_are : others ≡ others_of r.problem r.agent owned
   pub rising : IsRising (domain (csp_of r.problem) r.agent)
   pub rows_are : r.rows ≡ rows_of (size_of r.problem r.agent) rows
   pub for_rules : AreRuleLists r.problem r.agent rows counts firsts namings room

@@ -1,5 +1,5 @@
 -- For each variable the places of the rules that name it.
-use Rattle.std.specs.Prelude.{◌≡◌, ℕ, ◌<◌, true, List, All, Contains, slice_index_or}
+use Rattle.std.specs.Prelude.{◌≡◌, ◌==◌, ℕ, ◌<◌, true, List, [], ◌∷◌, All, Contains, Option, Some, None, map, slice_index_or, if◌then◌else◌}
 use Rattle.std.specs.List.Sorted.{IsNonDecreasingBy}
 use Rattle.dcsp_defs.specs.Csp.{IsConstraint}
 use Rattle.abt_defs.specs.Agents.{is_among}
@@ -15,6 +15,17 @@ pub record ListsScopes (p : Contents) (numbers : List ℕ) (namings : List Namin
   pub within : All (λ (n : Naming). n.place < count) namings
   pub complete : (j var : ℕ) → j < count → is_among var (constraint_at p (slice_index_or numbers j 0)).scope ≡ true → Contains namings (naming j var)
   pub constraints : (j : ℕ) → j < count → IsConstraint (csp_of p) (constraint_at p (slice_index_or numbers j 0))
+
+-- the one variable of a scope that stands before the agent's own
+abbrev pub only_other : ℕ → List ℕ → Option ℕ
+only_other agent [] = None
+only_other agent (var ∷ []) = None
+only_other agent (var ∷ own ∷ []) = if own == agent then Some var else None
+only_other agent (var ∷ own ∷ more ∷ rest) = None
+
+-- for each of the rules the one variable that it names beside the agent's own
+abbrev pub others_of : Contents → ℕ → List ℕ → List (Option ℕ)
+others_of p agent rules = map (λ rule. only_other agent (constraint_at p rule).scope) rules
 
 -- the variables do not fall
 abbrev pub RisesByVariable : List Naming → Type 0

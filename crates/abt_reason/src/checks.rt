@@ -17,15 +17,11 @@ impl Checks {
     pub fn plus(self, other: Checks) -> Result<Checks, Memory>
         ensures { IfOk result (λ sum. as_checks sum ≡ sum_of (as_checks self) (as_checks other)) }
     {
-        let Some(constraints) = self.constraints.checked_add(other.constraints) else {
-            return Err(Memory);
-        };
-        let Some(nogoods) = self.nogoods.checked_add(other.nogoods) else {
-            return Err(Memory);
-        };
+        let constraints = self.constraints.checked_add(other.constraints);
+        let nogoods = self.nogoods.checked_add(other.nogoods);
         Ok(Checks {
-            constraints,
-            nogoods,
+            constraints: constraints.ok_or(Memory)?,
+            nogoods: nogoods.ok_or(Memory)?,
         })
     }
 }

@@ -422,10 +422,7 @@ fn no_firsts(alloc: Global, values: usize) -> Result<Vec<Option<u32>>, Memory>
     ensures size { IfOk result (λ firsts. length firsts.items ≡ values) }
     ensures none { IfOk result (λ firsts. (k : ℕ) → slice_index_or firsts.items k None ≡ None) }
 {
-    let Ok(firsts) = vec![in alloc; None; values] else {
-        return Err(Memory);
-    };
-    Ok(firsts)
+    vec![in alloc; None; values].map_err(|_| Memory)
 }
 
 /// No row, for each of so many values.
@@ -433,8 +430,5 @@ fn no_counts(alloc: Global, values: usize) -> Result<Vec<u32>, Memory>
     ensures size { IfOk result (λ counts. length counts.items ≡ values) }
     ensures none { IfOk result (λ counts. (k : ℕ) → slice_index_or counts.items k 0 ≡ 0) }
 {
-    let Ok(counts) = vec![in alloc; 0; values] else {
-        return Err(Memory);
-    };
-    Ok(counts)
+    vec![in alloc; 0; values].map_err(|_| Memory)
 }

@@ -13,7 +13,7 @@ use std::alloc::Global;
 
 /// Marks the variable, if there is a place for it.
 #[inline(always)]
-fn mark(marks: &mut Row, var: u32)
+pub fn mark(marks: &mut Row, var: u32)
     ensures size { length marks.new ≡ length marks.old }
     ensures marks { (k : ℕ) → has_mark marks.new k ≡ (has_mark marks.old k || (nat_lt k (length marks.old) && (k == var))) }
 {

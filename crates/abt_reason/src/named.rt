@@ -1,7 +1,7 @@
 //! For each variable the places of the rules that name it.
 
 ghost use Rattle.std.specs.Prelude.{◌≡◌, ◌≤◌, ◌<◌, ◌^◌, ◌∷◌, [], ◌++◌, ℕ, All, Contains, IfOk, OnOk, IsPermutation, length, map, slice_index_or};
-ghost use Rattle.abt_reason.specs.Named.{naming, ListsScopes, RisesByVariable};
+ghost use Rattle.abt_reason.specs.Named.{naming, only_other, others_of, ListsScopes, RisesByVariable};
 
 use dcsp_common::Memory;
 use dcsp_problem::Problem;
@@ -46,6 +46,37 @@ impl NamedIn {
     }
 }
 
+/// For each of the rules the one variable that it names beside the agent's own; `None` where it names none, or more.
+pub fn others_of(
+    alloc: Global,
+    problem: &Problem,
+    rules: &[u32],
+    agent: u32,
+) -> Result<Vec<Option<u32>>, Memory>
+    requires { All (λ rule. rule < length problem.now.rules) rules.now }
+    ensures { IfOk result (λ others. others.items ≡ others_of problem.now agent rules.now) }
+{
+    let Ok(mut others) = Vec::with_capacity(alloc, rules.len()) else {
+        return Err(Memory);
+    };
+    for rule in rules {
+        let Ok(()) = others.push(only_other(problem.scope(*rule), agent)) else {
+            return Err(Memory);
+        };
+    }
+    Ok(others)
+}
+
+/// The one variable of a scope that stands before the agent's own.
+fn only_other(scope: &[u32], agent: u32) -> Option<u32>
+    ensures { result ≡ only_other agent scope.now }
+{
+    match scope {
+        [other, own] if *own == agent => Some(*other),
+        _ => None,
+    }
+}
+
 /// The variables of the scopes of these rules, rule by rule.
 fn namings_of(alloc: Global, problem: &Problem, rules: &[u32]) -> Result<Vec<Naming>, Memory>
     requires rules { All (λ rule. rule < length problem.now.rules) rules.now }
@@ -64,18 +95,10 @@ fn add_scope(namings: &mut Vec<Naming>, scope: &[u32], place: u32) -> Result<(),
     ensures { OnOk result (namings.new.items ≡ namings.old.items ++ map (naming place) scope.now) }
 {
     for var in scope {
-        add(namings, Naming { var: *var, place })?;
+        let Ok(()) = namings.push(Naming { var: *var, place }) else {
+            return Err(Memory);
+        };
     }
-    Ok(())
-}
-
-/// Adds one.
-fn add(namings: &mut Vec<Naming>, naming: Naming) -> Result<(), Memory>
-    ensures { OnOk result (namings.new.items ≡ namings.old.items ++ naming ∷ []) }
-{
-    let Ok(()) = namings.push(naming) else {
-        return Err(Memory);
-    };
     Ok(())
 }
 

@@ -1,6 +1,7 @@
 //! The first reason for each value, kept while the view and the store change.
 
-ghost use Rattle.std.specs.Prelude.{◌≡◌, ◌<◌, ℕ, List, None, [], IfOk, OnOk, length};
+ghost use Rattle.std.specs.Prelude.{◌≡◌, ◌<◌, ℕ, List, None, Some, [], IfOk, IfSome, OnOk, length};
+ghost use Rattle.dcsp_defs.specs.declared.Reason.TheVariants.{Rule};
 ghost use Rattle.dcsp_defs.specs.Csp.{PartialAssignment};
 ghost use Rattle.abt_defs.specs.Agents.{values_in};
 ghost use Rattle.dcsp_rule.specs.Problems.{csp_of, AreInDomains};
@@ -9,10 +10,11 @@ ghost use Rattle.abt_parts.specs.Views.{view_of};
 ghost use Rattle.abt_reason.specs.Causes.{is_false, known_at, reason_for, value_at};
 ghost use Rattle.abt_reason.specs.Firsts.{IsFirst};
 ghost use Rattle.abt_reason.specs.Grids.{IsValueRun};
-ghost use Rattle.abt_reason.specs.Cached.{rules_of, size_of, HasRoom, IsFirstFree, IsFirstFreeBetween, IsReasonAt, IsValueRunFrom, StandsFor, StoodBefore, StoodWithoutLast};
+ghost use Rattle.abt_reason.specs.Cached.{rules_of, size_of, HasRoom, owned_at, IsFirstFree, IsFirstFreeBetween, IsOtherIn, IsReasonAt, IsValueRunFrom, StandsFor, StoodBefore, StoodWithoutLast};
 
 use crate::grid::ValueRun;
 use crate::kept::KeptSteps;
+use crate::named::others_of;
 use crate::rules::{FirstRules, Owner};
 use crate::search::earlier;
 use crate::under::{Seat, ViewValues};
@@ -30,6 +32,8 @@ pub struct Reasons<'p> {
     agent: u32,
     /// The rules that the agent owns. They are kept at hand, since each step asks for some for each value.
     owned: &'p [u32],
+    /// For each of them the one variable that it names beside the agent's own, if it names just one.
+    others: Vec<Option<u32>>,
     rules: FirstRules,
     kept: KeptSteps,
 }
@@ -42,7 +46,7 @@ impl<'p> Model for Reasons<'p> {
 
     ghost view = { λ r. record { problem = r.problem.now; agent = r.agent; rows = rows_of (size_of r.problem.now r.agent) r.rules.ruled_out.rows.items; steps = r.kept.steps.items; count = r.kept.count; own = r.kept.own } };
 
-    ghost invariant = { λ r. IsCache (record { problem = r.problem.now; agent = r.agent; rows = rows_of (size_of r.problem.now r.agent) r.rules.ruled_out.rows.items; steps = r.kept.steps.items; count = r.kept.count; own = r.kept.own }) r.owned.now r.rules.ruled_out.rows.items r.rules.ruled_out.counts.items r.rules.ruled_out.firsts.items r.rules.named.namings.items r.rules.room };
+    ghost invariant = { λ r. IsCache (record { problem = r.problem.now; agent = r.agent; rows = rows_of (size_of r.problem.now r.agent) r.rules.ruled_out.rows.items; steps = r.kept.steps.items; count = r.kept.count; own = r.kept.own }) r.owned.now r.others.items r.rules.ruled_out.rows.items r.rules.ruled_out.counts.items r.rules.ruled_out.firsts.items r.rules.named.namings.items r.rules.room };
 }
 
 impl<'p> Reasons<'p> {
@@ -55,10 +59,12 @@ impl<'p> Reasons<'p> {
     {
         let _values = problem.domain(agent).len();
         let rules = FirstRules::new(alloc, problem, agent)?;
+        let owned = problem.owned(agent);
         Ok(Reasons {
             problem,
             agent,
-            owned: problem.owned(agent),
+            owned,
+            others: others_of(alloc, problem, owned, agent)?,
             rules,
             kept: KeptSteps::new(alloc),
         })
@@ -132,11 +138,25 @@ impl<'p> Reasons<'p> {
         requires place { place < size_of self.now.problem self.now.agent }
         requires run { IsValueRunFrom self.now place run }
         requires within { place < run.end }
-        ensures { IsReasonAt self.now place result }
+        ensures reason { IsReasonAt self.now place result }
+        ensures rule { (at : ℕ) → run.first ≡ Some at → result ≡ Some (Rule (owned_at self.now at)) }
     {
         match run.first {
             Some(at) => Some(Reason::Rule(self.owned[at as usize])),
             None => earlier(self.kept.step(place)),
+        }
+    }
+
+    /// The one variable that the run's rule names beside the agent's own, if there is a rule and it names just one.
+    #[inline(always)]
+    pub fn other_in(&self, place: usize, run: ValueRun) -> Option<u32>
+        requires run { IsValueRunFrom self.now place run }
+        requires within { place < run.end }
+        ensures { IfSome result (λ var. IsOtherIn self.now run var) }
+    {
+        match run.first {
+            Some(at) => self.others[at as usize],
+            None => None,
         }
     }
 

@@ -6,7 +6,8 @@ use Rattle.std.proofs.lemmas.Bool.{cases_eq, cases_lt}
 use Rattle.std.proofs.lemmas.Bool.Decides.{Decides-int_eq, nat_tests}
 use Rattle.std.proofs.lemmas.Int.{ints}
 use Rattle.std.proofs.Math.IntN.{zero-*ℤ, suc_ℤ-*ℤ, *ℤ-negsuc, *ℤ_comm}
-use Rattle.dcsp_domain.specs.Sets.{IsRising}
+use Rattle.std.proofs.lemmas.List.Folds.{list_any_at}
+use Rattle.dcsp_domain.specs.Sets.{IsRising, has}
 use Rattle.dcsp_row.specs.declared.cut.Cut.{Cut}
 use Rattle.dcsp_meaning.specs.declared.linear.Rel.{Rel}
 use Rattle.dcsp_meaning.specs.declared.linear.Rel.TheVariants.{Equal, Differ, AtMost}
@@ -161,6 +162,19 @@ module _ (factor : ℕ) (some : 0 < factor) (values : List ℤ) (up : IsRising v
       | inr apart ↦ sym (after_it k l (omega (arith, past, apart)))
     ]
   ]
+
+-- the value at a place is a number
+pub only_value : (values : List ℤ) → IsRising values → (number : ℤ) (from : ℕ) → from < length values → own_at values from ≡ number → (k : ℕ) → k < length values → (nat_lt k (from + 1) && not (nat_lt k from)) ≡ int_eq (own_at values k) number
+only_value values up number from within is k l =
+    only_there 1 (omega arith) values up number from (λ j m. ap (λ z. int_lt z number) (once (own_at values j)) ∙ before_bound values up number from within is j m) (once (own_at values from) ∙ is) k l
+    ∙ ap (λ z. int_eq z number) (once (own_at values k))
+
+-- no value is the number
+pub no_value : (values : List ℤ) (number : ℤ) → has values number ≡ false → (k : ℕ) → k < length values → int_eq (own_at values k) number ≡ false
+no_value values number none k l = by_test (int_eq (own_at values k) number) refl where
+  by_test : (b : Bool) → int_eq (own_at values k) number ≡ b → b ≡ false
+  by_test true t = sym (list_any_at (int_eq number) values k (pos 0) l (same_either number (own_at values k) ∙ t)) ∙ none
+  by_test false f = refl
 
 -- the product with the open variable, which is none where it is no term
 own_product : (own : Option ℤ) (x : ℤ) → own_part own x ≡ unwrap_or own (pos 0) *ℤ x

@@ -86,6 +86,11 @@ fn span_of_number(number: i128, factor: u64, domain: &Domain) -> Span
     requires { 0 < factor }
     ensures { SpansWhere (λ x. int_eq (pos factor *ℤ x) number) domain.now result }
 {
+    if factor == 1 {
+        if let Ok(value) = i64::try_from(number) {
+            return span_of_value(value, domain);
+        }
+    }
     let from = count_below(domain, factor, number);
     if from >= domain.len() {
         return Span::whole(false);
@@ -97,6 +102,25 @@ fn span_of_number(number: i128, factor: u64, domain: &Domain) -> Span
         from,
         to: from + 1,
         outside: 0,
+    }
+}
+
+/// The place of the value, if it is one of these.
+#[inline(always)]
+fn span_of_value(value: i64, domain: &Domain) -> Span
+    ensures { SpansWhere (λ x. int_eq x value) domain.now result }
+{
+    let values = domain.len();
+    if values > 0 {
+        // Where no value is missing below it, its place is its distance from the first.
+        let place = value.abs_diff(domain.value(0)) as usize;
+        if place < values && domain.value(place) == value {
+            return Span::one(place);
+        }
+    }
+    match domain.place_of(value) {
+        Some(place) => Span::one(place),
+        None => Span::whole(false),
     }
 }
 

@@ -121,6 +121,11 @@ impl Row {
 fn fill_span(words: &mut [u64], span: Span)
     ensures { (k : ℕ) → k / 64 < length words.new → has_bit words.new k ≡ is_within span k }
 {
+    // One word takes no loop: that would be a call.
+    if words.len() == 1 {
+        words[0] = span.word(0);
+        return;
+    }
     for block in 0..words.len() {
         words[block] = span.word(block);
     }

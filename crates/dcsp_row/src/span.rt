@@ -1,6 +1,6 @@
 //! Runs of places, and all places outside them.
 
-ghost use Rattle.std.specs.Prelude.{◌≡◌, ◌≢◌, ◌<◌, ◌≤◌, ◌+◌, ◌*◌, ◌==◌, ℕ, IfSome, not, unwrap_or};
+ghost use Rattle.std.specs.Prelude.{◌≡◌, ◌≢◌, ◌<◌, ◌≤◌, ◌+◌, ◌*◌, ◌^◌, ◌==◌, ℕ, IfSome, not, unwrap_or};
 ghost use Rattle.std.specs.Int.{bit_at};
 ghost use Rattle.dcsp_row.specs.Spans.{is_between, is_within};
 
@@ -26,6 +26,19 @@ impl Span {
             from: 0,
             to: 0,
             outside: u64::from(all),
+        }
+    }
+
+    /// This place alone.
+    #[inline(always)]
+    pub fn one(place: usize) -> Span
+        requires { place < 2 ^ 63 }
+        ensures { (k : ℕ) → is_within result k ≡ is_between place (place + 1) k }
+    {
+        Span {
+            from: place,
+            to: place + 1,
+            outside: 0,
         }
     }
 

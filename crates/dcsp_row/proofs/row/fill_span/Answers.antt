@@ -10,4 +10,4 @@ loop-block-preserved c =
     let block = c.loop-block.block in
     let size = c.loop-block.invariant.0 in
     let inside : block < length words = omega (arith, size, c.loop-block-test.true) in
-    (length-set words block c.word.result ∙ size, block_more words block c.word.result (is_within c.args.span) inside c.word.ensures c.loop-block.invariant.1)
+    (length-set words block c.word-in-loop-block.result ∙ size, block_more words block c.word-in-loop-block.result (is_within c.args.span) inside c.word-in-loop-block.ensures c.loop-block.invariant.1)

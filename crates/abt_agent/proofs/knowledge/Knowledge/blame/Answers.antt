@@ -11,6 +11,7 @@ use Rattle.abt_reason.specs.Causes.{value_at}
 use Rattle.abt_reason.specs.Marks.{has_mark}
 use Rattle.abt_agent.specs.Causes.{blames, blames_one, causes_for, reasons_at, item_at}
 use Rattle.abt_agent.proofs.Blamed.{marks_join}
+use Rattle.abt_agent.proofs.Others.{names_other}
 use Rattle.abt_agent.proofs.Causes.{causes_more, found_valid}
 use Rattle.abt_agent.proofs.knowledge.Knowledge.blame.Goals as goal
 
@@ -18,7 +19,13 @@ pub blame_one-requires-clause-cause : goal.blame_one-requires-clause-cause
 blame_one-requires-clause-cause c =
     let p = c.args.self.now.problem.now in
     let me = c.args.self.now.me in
-    found_valid p me (values_in (view_of c.args.self.now.view)) c.args.self.now.store (value_at p me c.loop-place.place) c.cause_in.result c.owned-rules.ensures.inside c.cause_in.ensures
+    found_valid p me (values_in (view_of c.args.self.now.view)) c.args.self.now.store (value_at p me c.loop-place.place) c.cause_in.result c.owned-rules.ensures.inside c.cause_in.ensures.cause
+
+pub blame_one-requires-clause-other : goal.blame_one-requires-clause-other
+blame_one-requires-clause-other c =
+    let k = c.args.self.now in
+    names_other k.problem.now k.me k.store k.reasons c.run_from-run.result c.cause_in.result c.other_in-other.result (length c.loop-place.marks) c.requires.in_step.problem c.requires.in_step.agent
+    (c.loop-place.invariant.size ∙ c.requires.size) c.other_in-other.ensures c.cause_in.ensures.rule
 
 pub loop-place-preserved : goal.loop-place-preserved
 loop-place-preserved c =
@@ -35,7 +42,7 @@ loop-place-preserved c =
     let here = option_to_list c.cause_in.result in
     let more : causes_for p me known store (take (k + 1) values) ≡ before ++ here =
     causes_more p me known store values k x within (slice_get-get_or values k (pos 0) within)
-    ∙ ap (λ o. before ++ option_to_list o) (sym c.cause_in.ensures) in
+    ∙ ap (λ o. before ++ option_to_list o) (sym c.cause_in.ensures.cause) in
     let size = c.blame_one.ensures.size ∙ c.loop-place.invariant.size in
     record {
       reasons = c.blame_one.ensures.reasons

@@ -1,4 +1,6 @@
-use Rattle.std.proofs.Common.{◌≡◌, ◌∙◌, ◌+◌, ◌<◌, ◌≤◌, true, false, is_some, drop, length, ap, sym, refl, rules, arith, w64, SFits}
+use Rattle.std.specs.Option.{option_eq}
+use Rattle.std.specs.Ordering.{int_eq}
+use Rattle.std.proofs.Common.{Option, Some, None, ℤ, ◌≡◌, ◌∙◌, ◌+◌, ◌<◌, ◌≤◌, true, false, is_some, drop, length, ap, sym, refl, rules, arith, w64, SFits}
 use Rattle.std.specs.Prelude.{pos}
 use Rattle.std.proofs.lemmas.Int.{to_z-of_z}
 use Rattle.std.proofs.lemmas.List.{at_drop_more, drop_all}
@@ -17,11 +19,16 @@ use Rattle.abt_agent.proofs.Causes.{flip, ruled_is}
 use Rattle.abt_agent.proofs.Examining.{same_checks, checks_at, own_value, last_other, one_other, sum_none, sum_assoc}
 use Rattle.abt_agent.proofs.knowledge.Knowledge.other_checks.Goals as goal
 
+-- the test for the agent's own value
+is_own : (own : Option ℤ) (value : ℤ) → is_value own value ≡ option_eq int_eq own (Some value)
+is_own None value = refl
+is_own (Some own) value = refl
+
 pub loop-place-init : goal.loop-place-init
 loop-place-init c = refl
 
-pub loop-place-preserved-then-is_own : goal.loop-place-preserved-then-is_own
-loop-place-preserved-then-is_own c =
+pub loop-place-preserved-then-eq : goal.loop-place-preserved-then-eq
+loop-place-preserved-then-eq c =
     let p = c.args.self.now.problem.now in
     let me = c.args.self.now.me in
     let values = domain (csp_of p) me in
@@ -31,7 +38,7 @@ loop-place-preserved-then-is_own c =
     let within : k < length values = omega (arith, ap length c.domain-domain.ensures, c.len-place-end.ensures.len, c.loop-place-test.true) in
     let v = value_at p me k in
     let fits : SFits w64 c.value_at.result = search rules in
-    let own : is_value c.args.own v ≡ true = ap (is_value c.args.own) (sym (to_z-of_z w64 c.value_at.result fits ∙ c.value_at.ensures)) ∙ sym c.if-is_own.ensures in
+    let own : is_value c.args.own v ≡ true = ap (is_value c.args.own) (sym (to_z-of_z w64 c.value_at.result fits ∙ c.value_at.ensures)) ∙ is_own c.args.own _ ∙ sym c.if-eq.ensures in
     let here = at_drop_more (checks_but p me known recorded c.args.own) values k (pos 0) within ∙ own_value p me known recorded c.args.own v (drop (k + 1) values) own in
     ap (sum_of (as_checks c.loop-place.sum)) (sym here) ∙ c.loop-place.invariant
 
@@ -46,7 +53,7 @@ returns-then-is_free_at c =
     let within : k < length values = omega (arith, ap length c.domain-domain.ensures, c.len-place-end.ensures.len, c.loop-place-test.true) in
     let v = value_at p me k in
     let fits : SFits w64 c.value_at.result = search rules in
-    let own : is_value c.args.own v ≡ false = ap (is_value c.args.own) (sym (to_z-of_z w64 c.value_at.result fits ∙ c.value_at.ensures)) ∙ sym c.if-is_own.ensures in
+    let own : is_value c.args.own v ≡ false = ap (is_value c.args.own) (sym (to_z-of_z w64 c.value_at.result fits ∙ c.value_at.ensures)) ∙ is_own c.args.own _ ∙ sym c.if-eq.ensures in
     let free : ruled_out (csp_of p) me known recorded v ≡ false = ruled_is p me known c.args.self.now.store v ∙ flip true (is_some (cause_for p me known c.args.self.now.store v)) c.if-is_free_at.ensures in
     let here = at_drop_more (checks_but p me known recorded c.args.own) values k (pos 0) within ∙ last_other p me known recorded c.args.own v (drop (k + 1) values) own free in
     let one : as_checks c.value_checks.result ≡ checks_at p me known recorded v = same_checks _ _ c.value_checks.ensures.constraints c.value_checks.ensures.nogoods in
@@ -63,7 +70,7 @@ loop-place-preserved c =
     let within : k < length values = omega (arith, ap length c.domain-domain.ensures, c.len-place-end.ensures.len, c.loop-place-test.true) in
     let v = value_at p me k in
     let fits : SFits w64 c.value_at.result = search rules in
-    let own : is_value c.args.own v ≡ false = ap (is_value c.args.own) (sym (to_z-of_z w64 c.value_at.result fits ∙ c.value_at.ensures)) ∙ sym c.if-is_own.ensures in
+    let own : is_value c.args.own v ≡ false = ap (is_value c.args.own) (sym (to_z-of_z w64 c.value_at.result fits ∙ c.value_at.ensures)) ∙ is_own c.args.own _ ∙ sym c.if-eq.ensures in
     let out : ruled_out (csp_of p) me known recorded v ≡ true = ruled_is p me known c.args.self.now.store v ∙ flip false (is_some (cause_for p me known c.args.self.now.store v)) c.if-is_free_at.ensures in
     let rest = checks_but p me known recorded c.args.own (drop (k + 1) values) in
     let here = at_drop_more (checks_but p me known recorded c.args.own) values k (pos 0) within ∙ one_other p me known recorded c.args.own v (drop (k + 1) values) own out in

@@ -27,5 +27,5 @@ pub returns-clause-step : goal.returns-clause-step
 returns-clause-step c =
     let p = c.args.self.now.problem.now in
     let kept = c.args.self.now.store in
-    step_is p c.args.self.now.me (view_of c.args.self.now.view) kept c.in_ok-nogood.field-0.nogood c.in_ok-nogood.field-0.stamps c.in_ok-reasons.reasons (returns-clause-pairs c)
+    step_is p c.args.self.now.me (view_of c.args.self.now.view) kept c.in_ok-nogood.nogood c.in_ok-nogood.stamps c.in_ok-reasons.reasons (returns-clause-pairs c)
     c.in_ok-reasons.ensures.reasons
