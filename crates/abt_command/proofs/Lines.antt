@@ -16,7 +16,7 @@ use Rattle.abt_input.proofs.Cnfs.{clauses_refuse}
 use Rattle.abt_words.specs.declared.rows.LineName.{LineName}
 use Rattle.abt_words.specs.declared.row.Content.TheVariants.{Model, Log, Formula, Proof}
 use Rattle.abt_words.specs.declared.row.Access.TheVariants.{Read, Written}
-use Rattle.abt_words.specs.declared.rows.TheConstants.{SOLVE, REPLAY, EXPORT, STARVE, QUEENS, COLOURING, SPARSE, PIGEONS, BINARY, MEETINGS, SENSORS}
+use Rattle.abt_words.specs.declared.rows.TheConstants.{SOLVE, REPLAY, EXPORT, LOSSY, STARVE, QUEENS, COLOURING, SPARSE, PIGEONS, BINARY, MEETINGS, SENSORS}
 use Rattle.abt_words.specs.Rows.{Number, Place, Row, row_of, run_rows, other_rows, the_rows}
 use Rattle.abt_words.specs.Saying.{Value, Absent, Fill, Said, IsSaidBy, names_differ, setting_of, name_in, given_name, given_number, Gives, none_given}
 use Rattle.abt_words.proofs.Once.{one_said, rows_are_apart}
@@ -24,11 +24,10 @@ use Rattle.abt_words.proofs.Read.{of_each, number_within, given_within, a_name, 
 use Rattle.line_model.proofs.Lawful.{bound_lawful, order_lawful, print_lawful}
 use Rattle.line_replay.specs.Settings.{Settings}
 use Rattle.line_replay.specs.Asked.{most_deliveries}
-use Rattle.line_replay.specs.Headline.{HoldsProblem}
 use Rattle.line_replay.proofs.Lawful.{replay_lawful}
 use Rattle.line_solve.proofs.Lawful.{solve_lawful}
 use Rattle.abt_command.specs.declared.request.Request.{Request}
-use Rattle.abt_command.specs.Lines.{Line, Help, Version, Usage, Check, Replay, Solve, Bound, Order, Queens, Colouring, Sparse, Pigeons, Binary, Meetings, Sensors, Drill, Upgrade, Core, Export, Starve, Lossy, Measure, Survey, Story, Rup, Cnf, IsLine, IsNoLine, IsRequest, IsSomeLine, Meaning, Nothing, Holds, AnswerMeans, CameMeans, Means, line_named, line_by, last_seed, line_of, number_at, promise_of, value_of}
+use Rattle.abt_command.specs.Lines.{Line, Help, Version, Usage, Check, Replay, Solve, Bound, Order, Queens, Colouring, Sparse, Pigeons, Binary, Meetings, Sensors, Drill, Upgrade, Core, Export, Starve, Lossy, Measure, Survey, Story, Rup, Cnf, IsLine, IsNoLine, IsRequest, IsSomeLine, Meaning, Nothing, Holds, AnswerMeans, CameMeans, line_named, line_by, last_seed, line_of, number_at, promise_of, value_of}
 use Rattle.line_check.proofs.Lawful.{check_lawful}
 use Rattle.line_drill.proofs.Lawful.{drill_lawful}
 use Rattle.line_rewrite.proofs.Lawful.{upgrade_lawful}
@@ -207,6 +206,16 @@ starve_within model from to file order_file some =
     the_to : (a b : List ℕ) (m n k l : ℕ) (f g : List ℕ) (o p : Option (List ℕ)) → Starve a m k f o ≡ Starve b n l g p → k ≡ l
     the_to a b m n k l f g o p e = cc
 
+-- there are few events
+pub lossy_within : (model log : List ℕ) (events seed : ℕ) (record_file order_file : Option (List ℕ)) → IsSomeLine (Lossy model log events seed record_file order_file) → events ≤ 1000000
+lossy_within model log events seed record_file order_file some =
+    let s = spoken some.0 (Lossy model log events seed record_file order_file) some.1 in
+    let is : events ≡ number_at s.said 2 = the_events _ _ _ _ _ _ _ _ _ _ _ _ s.line_is in
+    subst (λ m. m ≤ 1000000) (sym is) (number_within (row_of LOSSY).places s.said.values 2 _ 0 1000000 refl refl s.fill).1
+  where
+    the_events : (a b m n : List ℕ) (e f s t : ℕ) (r q o p : Option (List ℕ)) → Lossy a m e s r o ≡ Lossy b n f t q p → e ≡ f
+    the_events a b m n e f s t r q o p is = cc
+
 -- a number of choices, where one is given, is at most as many as a run may have deliveries
 or_most : (given : Option ℕ) → IfSome given (λ n. n ≤ most_deliveries) → unwrap_or given most_deliveries ≤ most_deliveries
 or_most None h = omega arith
@@ -261,6 +270,40 @@ solve_names words model log settings h =
     the_kept : (s : Spoken (Solve model log settings)) → settings.record_file ≡ given_name (setting_of s.said.row.options s.said.settings (codes "--record"))
     the_kept s = ap (λ (x : Settings). x.record_file) (the_settings _ _ _ _ _ _ s.line_is)
 
+lossy_apart : (values settings : List Value) → Fill (row_of LOSSY).places values → names_differ (values ++ settings) ≡ true
+    → (name_in (get_or values 0 Absent) ≢ name_in (get_or values 1 Absent))
+    × IfSome (given_name (get_or settings 0 Absent)) (λ k. name_in (get_or values 0 Absent) ≢ k)
+    × IfSome (given_name (get_or settings 0 Absent)) (λ k. k ≡ name_in (get_or values 1 Absent) → ⊥)
+lossy_apart [] settings h d = absurd h
+lossy_apart (v ∷ []) settings h d = absurd h.1
+lossy_apart (v ∷ w ∷ []) settings h d = absurd h.1.1
+lossy_apart (v ∷ w ∷ x ∷ []) settings h d = absurd h.1.1.1
+lossy_apart (v ∷ w ∷ x ∷ y ∷ []) settings h d =
+    let a = a_name _ v Model Read refl h.0 in
+    let b = a_name _ w Log Written refl h.1.0 in (
+      names_apart (v ∷ w ∷ x ∷ y ∷ settings) d 0 1 (name_in v) (name_in w) (omega arith) a b,
+      if_name (get_or settings 0 Absent) (λ k. name_in v ≢ k) (λ k e. names_apart (v ∷ w ∷ x ∷ y ∷ settings) d 0 4 (name_in v) k (omega arith) a e),
+      if_name (get_or settings 0 Absent) (λ k. k ≡ name_in w → ⊥) (λ k e g. names_apart (v ∷ w ∷ x ∷ y ∷ settings) d 1 4 (name_in w) k (omega arith) b e (sym g)),
+    )
+lossy_apart (v ∷ w ∷ x ∷ y ∷ z ∷ more) settings h d = absurd h.1.1.1.1
+
+-- the names of `lossy` differ
+pub lossy_names : (words : List (List ℕ)) (model log : List ℕ) (events seed : ℕ) (record_file order_file : Option (List ℕ)) → IsLine words (Lossy model log events seed record_file order_file) → SolveNames model log record_file
+lossy_names words model log events seed record_file order_file h =
+    let s = spoken words (Lossy model log events seed record_file order_file) h in
+    let k = ap (λ (r : Row). given_name (setting_of r.options s.said.settings (codes "--record"))) s.row_is in
+    let apart = lossy_apart s.said.values s.said.settings s.fill s.differ in
+    let m : model ≡ name_in (get_or s.said.values 0 Absent) = cc in
+    let l : log ≡ name_in (get_or s.said.values 1 Absent) = cc in
+    let r : record_file ≡ given_name (get_or s.said.settings 0 Absent) = the_record s ∙ k in
+    same_names _ _ _ _ _ _ m l r (record { log_is_other = apart.0; record_is_other = apart.1; record_is_own = apart.2 })
+  where
+    the_record : (s : Spoken (Lossy model log events seed record_file order_file)) → record_file ≡ given_name (setting_of s.said.row.options s.said.settings (codes "--record"))
+    the_record s = the_given _ _ _ _ _ _ _ _ _ _ _ _ s.line_is
+      where
+        the_given : (a b m n : List ℕ) (e f s t : ℕ) (r q o p : Option (List ℕ)) → Lossy a m e s r o ≡ Lossy b n f t q p → r ≡ q
+        the_given a b m n e f s t r q o p is = cc
+
 replay_apart : (values settings : List Value) → Fill (row_of REPLAY).places values → names_differ (values ++ settings) ≡ true → name_in (get_or values 0 Absent) ≢ name_in (get_or values 2 Absent)
 replay_apart [] settings h d = absurd h
 replay_apart (v ∷ []) settings h d = absurd h.1
@@ -294,41 +337,34 @@ export_names words model log cnf proof told better h =
 
 -- ---- promises
 
--- a line's promise is lawful; and where it makes a run of a model and answers, the model's problem is one
-pub record IsSound (line : Line) : Type 0 where
-  pub lawful : IsLawful (promise_of line)
-  pub problem : (a b : World) (status : Status) → IfSome (value_of line).runs (λ model. Means line a b status → HoldsProblem a.folder.held model)
-
-pub sound : (line : Line) → IsSound line
-sound Help = record { lawful = print_lawful _; problem = λ a b s. tt }
-sound Version = record { lawful = print_lawful _; problem = λ a b s. tt }
-sound Usage = record { lawful = print_lawful _; problem = λ a b s. tt }
-sound (Check m l better) = record { lawful = check_lawful better m l; problem = λ a b s. tt }
-sound (Replay m c l t o) = record { lawful = replay_lawful m c l t o; problem = λ a b s h. h }
-sound (Solve m l s) = record { lawful = solve_lawful m l s; problem = λ a b s h. h.sound }
-sound (Bound m o) = record { lawful = bound_lawful m o; problem = λ a b s. tt }
-sound (Order m rule f) = record { lawful = order_lawful m rule f; problem = λ a b s. tt }
-sound (Queens n) = record { lawful = print_lawful _; problem = λ a b s. tt }
-sound (Colouring n k c) = record { lawful = print_lawful _; problem = λ a b s. tt }
-sound (Sparse n c) = record { lawful = print_lawful _; problem = λ a b s. tt }
-sound (Binary n d edges forbidden seed) = record { lawful = print_lawful _; problem = λ a b s. tt }
-sound (Meetings people meetings each hours busy seed) = record { lawful = print_lawful _; problem = λ a b s. tt }
-sound (Sensors side targets sees seed) = record { lawful = print_lawful _; problem = λ a b s. tt }
-sound (Pigeons n) = record { lawful = print_lawful _; problem = λ a b s. tt }
-sound (Drill c) = record { lawful = drill_lawful c; problem = λ a b s. tt }
-sound (Upgrade m o) = record { lawful = upgrade_lawful m o; problem = λ a b s. tt }
-sound (Core m o t b) = record { lawful = core_lawful b m o t; problem = λ a b s. tt }
-sound (Export m l c r t n) = record { lawful = export_lawful n m l c r t; problem = λ a b s. tt }
-sound (Starve m c d f o) = record { lawful = starve_lawful m c d f o; problem = λ a b s. tt }
-sound (Lossy m o n c k w) = record { lawful = lossy_lawful m w o n c k; problem = λ a b s. tt }
-sound (Measure m c o) = record { lawful = measure_lawful m c o; problem = λ a b s. tt }
-sound (Story m c o w) = record { lawful = story_lawful m w c o; problem = λ a b s. tt }
-sound (Survey m n c o) = record { lawful = survey_lawful m c n o; problem = λ a b s. tt }
-sound (Rup m o) = record { lawful = rup_lawful m o; problem = λ a b s. tt }
-sound (Cnf m o c) = record { lawful = cnf_lawful m o c; problem = λ a b s. tt }
-
+-- a line's promise is lawful
 pub lawful : (line : Line) → IsLawful (promise_of line)
-lawful line = (sound line).lawful
+lawful Help = print_lawful _
+lawful Version = print_lawful _
+lawful Usage = print_lawful _
+lawful (Check m l better) = check_lawful better m l
+lawful (Replay m c l t o) = replay_lawful m c l t o
+lawful (Solve m l s) = solve_lawful m l s
+lawful (Bound m o) = bound_lawful m o
+lawful (Order m rule f) = order_lawful m rule f
+lawful (Queens n) = print_lawful _
+lawful (Colouring n k c) = print_lawful _
+lawful (Sparse n c) = print_lawful _
+lawful (Binary n d edges forbidden seed) = print_lawful _
+lawful (Meetings people meetings each hours busy seed) = print_lawful _
+lawful (Sensors side targets sees seed) = print_lawful _
+lawful (Pigeons n) = print_lawful _
+lawful (Drill c) = drill_lawful c
+lawful (Upgrade m o) = upgrade_lawful m o
+lawful (Core m o t b) = core_lawful b m o t
+lawful (Export m l c r t n) = export_lawful n m l c r t
+lawful (Starve m c d f o) = starve_lawful m c d f o
+lawful (Lossy m o n c k w) = lossy_lawful m w o n c k
+lawful (Measure m c o) = measure_lawful m c o
+lawful (Story m c o w) = story_lawful m w c o
+lawful (Survey m n c o) = survey_lawful m c n o
+lawful (Rup m o) = rup_lawful m o
+lawful (Cnf m o c) = cnf_lawful m o c
 
 -- what is said of an error
 pub concluded : (e : CommandError) (err now : Stream) (status : Status) → status ≡ error_status e → IsSaid (error_text e) err now → Concludes (way_of (Err e)) err now status

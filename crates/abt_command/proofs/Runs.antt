@@ -1,23 +1,25 @@
 -- What a run that the words ask for left, sentence by sentence.
-use Rattle.std.proofs.Common.{◌≡◌, ◌≤◌, ◌^◌, arith, ℕ, map, List, [], ◌∷◌, Option, Some, None, refl, sym, ap, subst, inr}
+use Rattle.std.proofs.Common.{◌≡◌, ◌+◌, ◌<◌, ◌≤◌, ◌^◌, arith, ℕ, map, List, [], ◌∷◌, ◌++◌, length, Option, Some, None, refl, sym, ap, ◌∙◌, subst, inr, length-append}
 use Rattle.std.specs.Prelude.{Bool, IfSome}
 use Rattle.dcsp_outside.specs.Outside.{Stream, Told, bytes_of}
+use Rattle.dcsp_outside.proofs.Changes.{Told-weaker}
 use Rattle.dcsp_script.specs.Scripts.{World}
 use Rattle.dcsp_script.specs.Ways.{Did, DidPartOf}
-use Rattle.dcsp_defs.specs.Csp.{Csp, IsCsp, IsSolution}
+use Rattle.dcsp_defs.specs.Csp.{IsCsp, IsSolution}
 use Rattle.dcsp_defs.specs.Derivation.{IsRefutation}
 use Rattle.dcsp_rule.specs.Problems.{Contents, csp_of}
 use Rattle.dcsp_problem.specs.WellFormed.{IsProblem}
 use Rattle.dcsp_order.specs.Told.{ordered, IsOrderFor}
-use Rattle.abt_defs.specs.Runs.{Solved, whole}
+use Rattle.abt_defs.specs.Runs.{Solved}
 use Rattle.law_runs.specs.Replay.{Verdicts}
 use Rattle.law_runs.proofs.Whole.{verdicts}
 use Rattle.law_subjects.proofs.Accepting.{accepted_are_problems}
 use Rattle.dcsp_script.specs.declared.status.Status.{Status}
-use Rattle.dcsp_script.specs.Statuses.{IsFinal, IsRefusal}
+use Rattle.dcsp_script.specs.Statuses.{IsFinal}
 use Rattle.dcsp_script.specs.Runs.{Ran}
 use Rattle.dcsp_script.proofs.Following.{report_part, report_did}
 use Rattle.ngd_log.specs.Logs.{log_text}
+use Rattle.abt_session.specs.Order.{told_text}
 use Rattle.ngd_check.specs.Logged.{IsSmall}
 use Rattle.abt_input.specs.Inputs.{IsModelOf, IsTextOf, IsOrderIn, HasChoices}
 use Rattle.abt_input.specs.Plans.{PlanReports, order_then}
@@ -28,17 +30,17 @@ use Rattle.line_replay.specs.Endings.{assigned, final_values, end_status}
 use Rattle.line_replay.specs.Asked.{Asked, asked_run, asked_steps, asked_script, run_report, replay, solve}
 use Rattle.line_replay.specs.ReplayPromise.{choices_plan, replay_plan, replay_promise}
 use Rattle.line_solve.specs.SolvePromise.{solve_promise}
-use Rattle.line_replay.specs.Headline.{HoldsProblem, IsOther, HoldsRun, IsRun, IsSolvedRun, IsRefutedRun, IsUnfinishedRun, IsBoundedRun, WritesOrdered}
-use Rattle.line_replay.proofs.Lawful.{no_refusal, replay_lawful}
+use Rattle.line_replay.specs.Headline.{IsOther, HoldsRun, KeepsOrder, IsRun, IsSolvedRun, IsRefutedRun, IsUnfinishedRun, IsBoundedRun, WritesOrdered}
+use Rattle.line_replay.proofs.Lawful.{replay_lawful}
 use Rattle.line_solve.proofs.Lawful.{solve_lawful, reports_run}
 use Rattle.line_replay.proofs.Headlines.{HasOwnRecord, is_run, part_ordered}
 use Rattle.line_replay.proofs.UnderOrder.{ordered_csp}
 use Rattle.line_replay.proofs.Verdicts.{solved, refuted, bounded, replay_unfinished, solve_unfinished, refuted_log}
 use Rattle.law_subjects.specs.Meaning.{SatisfiesText}
 use Rattle.law_subjects.proofs.MeantWhole.{solutions_satisfy}
-use Rattle.abt_command.specs.Lines.{Line, Replay, Solve, IsLine, IsNoLine, Means, promise_of}
-use Rattle.abt_command.specs.AskedRuns.{AsksFor, replays, solves, EachRun, RunsModel, AskForModel, IsCheckedRun, IsSatisfyingRun, IsTrueRun, EachTrueRun}
-use Rattle.abt_command.proofs.Lines.{one_line, one_some, sound, solve_names, solve_within, replay_names}
+use Rattle.abt_command.specs.Lines.{Line, Replay, Solve, IsLine, IsNoLine, promise_of}
+use Rattle.abt_command.specs.AskedRuns.{AsksFor, replays, solves, EachRun, RunsModel, AskForModel, IsCheckedRun, IsCheckedAnswer, IsSatisfyingRun, IsTrueRun, EachTrueRun}
+use Rattle.abt_command.proofs.Lines.{one_line, one_some, solve_names, solve_within, replay_names}
 
 -- words that are no line ask for no run
 pub asks_for_none : (words : List (List ℕ)) (held : Option (List ℕ → Option (List ℕ))) (P : Asked → Type 0) → IsNoLine words → EachRun words held P
@@ -71,6 +73,11 @@ module _ (words : List (List ℕ)) (files : List ℕ → Option (List ℕ)) wher
   is_problem : (asked : Asked) → AsksFor words files asked → IsProblem asked.problem
   is_problem asked (replays m s l t o h p mp ord ho cs hc e) = rw e ((accepted_are_problems (bytes_of (files m))).within_limits p mp.short mp.reads)
   is_problem asked (solves m l s h p mp aim ord ho e) = rw e ((accepted_are_problems (bytes_of (files m))).within_limits p mp.short mp.reads)
+
+  -- and logs can name all that it has
+  small : (asked : Asked) → AsksFor words files asked → IsSmall (csp_of asked.problem)
+  small asked (replays m s l t o h p mp ord ho cs hc e) = rw e ((accepted_are_problems (bytes_of (files m))).small p mp.short mp.reads)
+  small asked (solves m l s h p mp aim ord ho e) = rw e ((accepted_are_problems (bytes_of (files m))).small p mp.short mp.reads)
 
   -- and so is its order, one of its variables
   is_order : (asked : Asked) → AsksFor words files asked → IsOrderFor asked.session.order asked.problem
@@ -106,11 +113,7 @@ pub runs_are_true : (words : List (List ℕ)) (held : Option (List ℕ → Optio
 runs_are_true words None = tt
 runs_are_true words (Some files) = λ asked asks. is_true words files asked asks
 
-module _ (words : List (List ℕ)) (line : Line) (is : IsLine words line) (a b : World) (err now : Stream) (status : Status) (line_ran : Ran (promise_of line) a b err now status)
-    (means : IsFinal status → (IsRefusal status → ⊥) → Means line a b status) where
-  runs_problem : (model : List ℕ) → RunsModel line model → IsFinal status → (IsRefusal status → ⊥) → HoldsProblem a.folder.held model
-  runs_problem model runs f n = subst (λ r. IfSome r (λ m. Means line a b status → HoldsProblem a.folder.held m)) runs ((sound line).problem a b status) (means f n)
-
+module _ (words : List (List ℕ)) (line : Line) (is : IsLine words line) (a b : World) (err now : Stream) (status : Status) (line_ran : Ran (promise_of line) a b err now status) where
   as_line : (l : Line) → IsLine words l → Ran (promise_of l) a b err now status
   as_line l h = subst (λ x. Ran (promise_of x) a b err now status) (one_line words line l is h) line_ran
 
@@ -133,15 +136,6 @@ module _ (words : List (List ℕ)) (line : Line) (is : IsLine words line) (a b :
     own asked (replays m s l t o h p mp ord ho cs hc e) = rw e tt
     own asked (solves m l s h p mp aim ord ho e) = rw e (solve_names words m l s h).record_is_own
 
-    -- the model's problem is well-formed
-    of_model : (l : Line) (name : List ℕ) → IsLine words l → RunsModel l name → IsFinal status → (IsRefusal status → ⊥) → HoldsProblem (Some files) name
-    of_model l name h r f n = subst (λ held. HoldsProblem held name) told (runs_problem name (subst (λ x. RunsModel x name) (sym (one_line words line l is h)) r) f n)
-
-    -- logs can name all that the model's problem has
-    small : (asked : Asked) → AsksFor words files asked → IsFinal status → (IsRefusal status → ⊥) → IsSmall (csp_of asked.problem)
-    small asked (replays m s l t o h p mp ord ho cs hc e) f n = rw e (of_model (Replay m s l t o) m h refl f n p mp).1
-    small asked (solves m l s h p mp aim ord ho e) f no_refused = rw e (of_model (Solve m l s) m h refl f no_refused p mp).1
-
     at_most : (asked : Asked) → AsksFor words files asked → asked.session.most ≤ 2 ^ 40
     at_most asked (replays m s l t o h p mp ord ho cs hc e) = rw e (omega arith)
     at_most asked (solves m l s h p mp aim ord ho e) = rw e (solve_within m l s (words, h))
@@ -150,8 +144,20 @@ module _ (words : List (List ℕ)) (line : Line) (is : IsLine words line) (a b :
     at_limit asked (replays m s l t o h p mp ord ho cs hc e) = rw e (λ i. replay_unfinished ord p (bytes_of (files s)) cs l t status hc i)
     at_limit asked (solves m l s h p mp aim ord ho e) = rw e (λ i. solve_unfinished ord p l s status i)
 
-    not_refused : (asked : Asked) → status ≡ end_status (asked_run asked).end → IsRefusal status → ⊥
-    not_refused asked i r = no_refusal (asked_run asked).end (subst IsRefusal i r)
+    -- a log that was written whole is verified, where it refutes the model's problem
+    verifies : (asked : Asked) → AsksFor words files asked → IsRefutation (csp_of asked.problem) (asked_steps asked) → (model : List ℕ) → AskForModel words model
+        → Told a.folder.held b.folder.held (HoldsRun asked) → IfSome b.folder.held (λ left. IsVerified left model asked.session.log)
+    verifies asked asks refutes model runs holds = at b.folder.held (subst (λ x. Told x b.folder.held (HoldsRun asked)) told holds)
+      where
+        log : IsTextOf (log_text (asked_steps asked)) (asked_steps asked)
+        log = refuted_log asked (same_problem words files asked asks) (at_most asked asks) (is_problem words files asked asks) (is_order words files asked asks) (small words files asked asks) refutes
+
+        at : (held : Option (List ℕ → Option (List ℕ))) → Told (Some files) held (HoldsRun asked) → IfSome held (λ left. IsVerified left model asked.session.log)
+        at None h = tt
+        at (Some left) h =
+            let mine = own_model words files asked asks model runs in
+            let same : left model ≡ files model = h.others model mine.0 in
+            refutation_verified left model asked.session.log asked.problem (asked_steps asked) (subst (λ x. IsModelOf (bytes_of x) asked.problem) (sym same) mine.1) (subst (λ x. IsTextOf (bytes_of x) (asked_steps asked)) (sym h.log) log) refutes
 
   each : (P : Asked → Type 0) → ((files : List ℕ → Option (List ℕ)) → a.folder.held ≡ Some files → (asked : Asked) → AsksFor words files asked → P asked) → EachRun words a.folder.held P
   each P to = by_held a.folder.held refl
@@ -187,27 +193,21 @@ module _ (words : List (List ℕ)) (line : Line) (is : IsLine words line) (a b :
   run_ordered = each (λ asked. WritesOrdered asked a b) (λ files told asked asks. part_ordered asked (own files told asked asks) a b (made_part files told asked asks))
 
   pub run_checked : EachRun words a.folder.held (λ asked. IsCheckedRun words b.folder.held asked status)
-  run_checked = each (λ asked. IsCheckedRun words b.folder.held asked status) (λ files told asked asks answer model runs.
-      let f = subst IsFinal (sym answer) tt in
-      let d = did_run files told asked asks f in
-      let no_refused = not_refused files told asked d.0 in
-      let same = same_problem words files asked asks in
-      let ok = is_problem words files asked asks in
-      let good = is_order words files asked asks in
-      let refutes = refuted asked same ok good status d.0 answer in
-      let log = refuted_log asked same (at_most files told asked asks) ok good (small files told asked asks f no_refused) refutes in
-      let mine = own_model words files asked asks model runs in
-      by_held asked model files told mine log refutes (is_run asked (own files told asked asks) a b status d.0 d.1).files)
-    where
-      by_held : (asked : Asked) (model : List ℕ) (files : List ℕ → Option (List ℕ)) → a.folder.held ≡ Some files → IsOther asked model × IsModelOf (bytes_of (files model)) asked.problem → IsTextOf (log_text (asked_steps asked)) (asked_steps asked) → IsRefutation (csp_of asked.problem) (asked_steps asked)
-          → Told a.folder.held b.folder.held (HoldsRun asked) → IfSome b.folder.held (λ now. IsVerified now model asked.session.log)
-      by_held asked model files told mine log refutes holds = at b.folder.held (subst (λ x. Told x b.folder.held (HoldsRun asked)) told holds)
-        where
-          at : (held : Option (List ℕ → Option (List ℕ))) → Told (Some files) held (HoldsRun asked) → IfSome held (λ now. IsVerified now model asked.session.log)
-          at None h = tt
-          at (Some now) h =
-              let same : now model ≡ files model = h.others model mine.0 in
-              refutation_verified now model asked.session.log asked.problem (asked_steps asked) (subst (λ x. IsModelOf (bytes_of x) asked.problem) (sym same) mine.1) (subst (λ x. IsTextOf (bytes_of x) (asked_steps asked)) (sym h.log) log) refutes
+  run_checked = each (λ asked. IsCheckedRun words b.folder.held asked status) (λ files told asked asks answer.
+      let d = did_run files told asked asks (subst IsFinal (sym answer) tt) in
+      let refutes = refuted asked (same_problem words files asked asks) (is_problem words files asked asks) (is_order words files asked asks) status d.0 answer in
+      λ model runs. verifies files told asked asks refutes model runs (is_run asked (own files told asked asks) a b status d.0 d.1).files)
+
+  pub run_answered : EachRun words a.folder.held (λ asked. IsCheckedAnswer words asked a b)
+  run_answered = each (λ asked. IsCheckedAnswer words asked a b) (λ files told asked asks.
+      let end = end_status (asked_run asked).end in
+      let order = part_ordered asked (own files told asked asks) a b (made_part files told asked asks) in
+      Told-weaker (λ before after. after ≡ before ++ order.gained) (λ before after. length before + length (told_text asked.session) < length after → IsCheckedRun words b.folder.held asked end) (λ before after grows long refuted_so.
+      let size = ap length grows ∙ length-append before order.gained in
+      let past : length (told_text asked.session) < length order.gained = omega (arith, size, long) in
+      let holds = Told-weaker (KeepsOrder asked order.names order.gained) (HoldsRun asked) (λ x y keeps. keeps.answer_last past) a.folder.held b.folder.held order.files in
+      let refutes = refuted asked (same_problem words files asked asks) (is_problem words files asked asks) (is_order words files asked asks) end refl refuted_so in
+      λ model runs. verifies files told asked asks refutes model runs holds) a.out.written b.out.written order.out)
 
   pub run_satisfies : EachRun words a.folder.held (λ asked. IsSatisfyingRun words a.folder.held asked status)
   run_satisfies = each (λ asked. IsSatisfyingRun words a.folder.held asked status) (λ files told asked asks good model runs.

@@ -1,6 +1,7 @@
 -- The runs that words ask for.
-use Rattle.std.specs.Prelude.{◌≡◌, ◌⊎◌, ◌<◌, ◌≤◌, ℕ, Bool, List, Option, Some, IfSome}
-use Rattle.dcsp_outside.specs.Outside.{bytes_of}
+use Rattle.std.specs.Prelude.{◌≡◌, ◌⊎◌, ◌+◌, ◌<◌, ◌≤◌, ℕ, Bool, List, length, Option, Some, IfSome}
+use Rattle.dcsp_outside.specs.Outside.{Told, bytes_of}
+use Rattle.dcsp_script.specs.Scripts.{World}
 use Rattle.dcsp_defs.specs.Csp.{IsSolution}
 use Rattle.dcsp_defs.specs.Derivation.{IsRefutation}
 use Rattle.abt_defs.specs.Bound.{message_bound}
@@ -10,9 +11,10 @@ use Rattle.dcsp_rule.specs.Problems.{Contents, csp_of}
 use Rattle.abt_input.specs.Inputs.{IsModelOf, IsOrderIn, HasChoices}
 use Rattle.dcsp_script.specs.declared.status.Status.{Status}
 use Rattle.dcsp_script.specs.declared.status.Status.TheVariants.{Good, No}
+use Rattle.abt_session.specs.Order.{told_text}
 use Rattle.line_check.specs.Verifying.{IsVerified}
 use Rattle.law_subjects.specs.Meaning.{SatisfiesText}
-use Rattle.line_replay.specs.Endings.{assigned, final_values}
+use Rattle.line_replay.specs.Endings.{assigned, end_status, final_values}
 use Rattle.line_replay.specs.Settings.{Settings}
 use Rattle.line_replay.specs.Asked.{Asked, asked_run, asked_steps, replay, solve}
 use Rattle.abt_command.specs.Lines.{Line, Replay, Solve, IsLine, value_of}
@@ -43,6 +45,11 @@ pub record AskForModel (words : List (List ℕ)) (model : List ℕ) : Type 0 whe
 -- with status 1 a check of the log against the model, over the folder that the run left, verifies it, unless it is stopped
 abbrev pub IsCheckedRun : List (List ℕ) → Option (List ℕ → Option (List ℕ)) → Asked → Status → Type 0
 IsCheckedRun words held asked status = status ≡ No → (model : List ℕ) → AskForModel words model → IfSome held (λ files. IsVerified files model asked.session.log)
+
+-- Whatever comes of the call: once a byte of the answer was put, past what tells of the deliveries, a check of the log says of the run's end what it says with the status of that end.
+abbrev pub IsCheckedAnswer : List (List ℕ) → Asked → World → World → Type 0
+IsCheckedAnswer words asked old new =
+    Told old.out.written new.out.written (λ before now. length before + length (told_text asked.session) < length now → IsCheckedRun words new.folder.held asked (end_status (asked_run asked).end))
 
 -- with status 0 the values that were printed satisfy the model's text
 abbrev pub IsSatisfyingRun : List (List ℕ) → Option (List ℕ → Option (List ℕ)) → Asked → Status → Type 0

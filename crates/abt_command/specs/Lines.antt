@@ -33,7 +33,7 @@ use Rattle.line_measure.specs.MeasurePromise.{measure_promise, survey_promise}
 use Rattle.line_story.specs.StoryPromise.{story_promise}
 use Rattle.line_cnf.specs.RupPromise.{rup_promise}
 use Rattle.line_cnf.specs.CnfPromise.{cnf_promise}
-use Rattle.abt_command.specs.Meanings.{means_check, means_replay, means_solve, means_upgrade, means_core, means_export, means_order, means_starve, means_lossy, means_story, means_rup, means_cnf}
+use Rattle.abt_command.specs.Meanings.{means_check, means_solve, means_upgrade, means_core, means_export, means_order, means_starve, means_story, means_rup, means_cnf}
 use Rattle.abt_command.specs.declared.plain.TheConstants as plain
 use Rattle.abt_command.specs.declared.request.Request.{Request}
 use Rattle.abt_command.specs.declared.request.Request.TheVariants as requests
@@ -188,8 +188,8 @@ abbrev pub meaning_more : Row → Promise → (World → World → Status → Ty
 meaning_more row promise P = record { row = row; promise = promise; meaning = Holds P; runs = None; within = true }
 
 -- a line that makes a run of a model
-abbrev pub running : Row → Promise → (World → World → Status → Type 0) → List ℕ → LineValue
-running row promise P model = record { row = row; promise = promise; meaning = Holds P; runs = Some model; within = true }
+abbrev pub running : List ℕ → LineValue → LineValue
+running model value = record value { runs = Some model }
 
 -- the last of so many seeds from this one on
 abbrev pub last_seed : ℕ → ℕ → ℕ
@@ -200,8 +200,8 @@ value_of Help = reporting (row_of HELP) (print_promise (help_text the_rows))
 value_of Version = reporting (row_of VERSION) (print_promise plain.VERSION.now)
 value_of Usage = reporting (row_of USAGE) (print_promise (usage_text the_rows))
 value_of (Check model log better) = meaning_more (row_of CHECK) (check_promise (taking_of better) model log) (means_check model better)
-value_of (Replay model schedule log trace order_file) = running (row_of REPLAY) (replay_promise model schedule log trace order_file) (means_replay model) model
-value_of (Solve model log settings) = running (row_of SOLVE) (solve_promise model log settings) (means_solve model) model
+value_of (Replay model schedule log trace order_file) = running model (reporting (row_of REPLAY) (replay_promise model schedule log trace order_file))
+value_of (Solve model log settings) = running model (meaning_more (row_of SOLVE) (solve_promise model log settings) (means_solve model log settings))
 value_of (Bound model order_file) = reporting (row_of BOUND) (bound_promise model order_file)
 value_of (Order model rule file) = meaning_more (row_of ORDER) (order_promise model rule file) (means_order model rule file)
 value_of (Queens n) = reporting (row_of QUEENS) (queens_promise n)
@@ -218,7 +218,7 @@ value_of (Upgrade log new) = meaning_more (row_of UPGRADE) (upgrade_promise log 
 value_of (Core model log trimmed better) = meaning_more (row_of CORE) (core_promise (taking_of better) model log trimmed) (means_core model log trimmed better)
 value_of (Export model log cnf proof told better) = meaning_more (row_of EXPORT) (export_promise (taking_of better) model log cnf proof told) (means_export model log cnf proof told better)
 value_of (Starve model from to file order_file) = meaning_more (row_of STARVE) (starve_promise model from to file order_file) (means_starve model from to file order_file)
-value_of (Lossy model log events seed record_file order_file) = meaning_more (row_of LOSSY) (lossy_promise model order_file log events seed record_file) (means_lossy model log events seed record_file order_file)
+value_of (Lossy model log events seed record_file order_file) = reporting (row_of LOSSY) (lossy_promise model order_file log events seed record_file)
 value_of (Measure model schedule order_file) = reporting (row_of MEASURE) (measure_promise model schedule order_file)
 value_of (Story model schedule file order_file) = meaning_more (row_of STORY) (story_promise model order_file schedule file) (means_story model schedule file order_file)
 value_of (Survey model count from order_file) =

@@ -1,19 +1,23 @@
 -- What an answer of a line means beyond its report.
-use Rattle.std.specs.Prelude.{◌≡◌, ◌≢◌, ◌↔◌, Bool, ℕ, ℤ, List, Option, IfSome}
-use Rattle.dcsp_outside.specs.Outside.{bytes_of}
+use Rattle.std.specs.Prelude.{◌≡◌, ◌≢◌, ◌↔◌, Bool, ℕ, ℤ, neg_ℤ, List, ◌++◌, Option, IfSome}
+use Rattle.dcsp_outside.specs.Outside.{Told, bytes_of}
 use Rattle.dcsp_defs.specs.declared.entry.Entry.{Entry}
 use Rattle.dcsp_rule.specs.Problems.{Contents, csp_of}
 use Rattle.ngd_check.specs.Entries.{DoRefute}
 use Rattle.abt_optimum.specs.Best.{HasNoBetter}
-use Rattle.abt_input.specs.Inputs.{IsModelOf}
+use Rattle.rup_check.specs.Verdicts.{IsVerdict}
+use Rattle.rup_check.specs.declared.check.Rup.{Rup}
+use Rattle.abt_input.specs.Inputs.{IsModelOf, IsFormulaOf, HasClauses}
 use Rattle.dcsp_script.specs.Scripts.{World}
 use Rattle.dcsp_script.specs.declared.status.Status.{Status}
 use Rattle.dcsp_script.specs.declared.status.Status.TheVariants.{Good, No}
 use Rattle.line_check.specs.Taking.{Taking, taking_of}
 use Rattle.line_check.specs.Checks.{HasEntries, IsRefutedBy}
-use Rattle.line_replay.specs.Headline.{HoldsProblem}
-use Rattle.line_solve.specs.SolvePromise.{HoldsWholeProblem}
-use Rattle.line_cnf.specs.RupPromise.{HoldsRefuted, TellsExactly}
+use Rattle.line_replay.specs.Recorded.{HoldsRecord}
+use Rattle.line_replay.specs.Settings.{Settings}
+use Rattle.line_cnf.specs.Satisfying.{clauses_of}
+use Rattle.line_cnf.specs.CnfRuns.{cnf_run, cnf_text}
+use Rattle.line_cnf.specs.RupPromise.{rup_text, HoldsRefuted, TellsExactly}
 use Rattle.line_cnf.specs.CnfHeadline.{HoldsCnfRun, HoldsProof}
 use Rattle.line_rewrite.specs.Upgrading.{HoldsUpgrade}
 use Rattle.line_rewrite.specs.Trimming.{HoldsCore, CreatesNothing}
@@ -21,13 +25,7 @@ use Rattle.line_export.specs.Exporting.{HoldsExport}
 use Rattle.dcsp_order.specs.declared.by_rule.OrderRule.{OrderRule}
 use Rattle.line_model.specs.OrderHeld.{HoldsOrder}
 use Rattle.line_starve.specs.Starving.{HoldsStarved, TellsStarved}
-use Rattle.line_lossy.specs.Meaning.{HoldsLossyRun}
 use Rattle.line_story.specs.Stories.{HoldsStory}
-
--- `solve`: the model's problem is well-formed, keeps the limits, and logs can name all that it has
-pub record IsSolveAnswer (old : Option (List ℕ → Option (List ℕ))) (model : List ℕ) : Type 0 where
-  pub sound : HoldsProblem old model
-  pub whole : HoldsWholeProblem old model
 
 -- `check`: a problem is taken of the model, and the log has entries; the status is 0 exactly where these refute the problem, and 1 where they do not
 pub record IsCheckAnswer (t : Taking) (model log : List ℕ) (status : Status) : Type 0 where
@@ -47,10 +45,31 @@ pub record IsRupAnswer (old : Option (List ℕ → Option (List ℕ))) (cnf proo
   pub exact : TellsExactly old cnf proof status
   pub refutes : status ≡ Good → HoldsRefuted old cnf
 
+-- Where the folder tells the formula and the proof, both are read, and this is the verdict on them, its line was put.
+abbrev pub TellsVerdict : (cnf proof : List ℕ) → World → World → Type 0
+TellsVerdict cnf proof old new =
+    IfSome old.folder.held (λ f. (problem : Contents) (clauses : List (List ℤ)) (verdict : Rup) → IsFormulaOf (bytes_of (f cnf)) problem → HasClauses (bytes_of (f proof)) clauses → IsVerdict neg_ℤ (clauses_of problem) clauses verdict
+    → Told old.out.written new.out.written (λ before now. now ≡ before ++ rup_text verdict))
+
+-- `rup`, with what was put
+pub record IsProved (cnf proof : List ℕ) (old new : World) (status : Status) : Type 0 where
+  pub answer : IsRupAnswer old.folder.held cnf proof status
+  pub tells : TellsVerdict cnf proof old new
+
 -- `cnf`: the literals that were printed satisfy the formula, the proof that was written is accepted, and it is the run's
 pub record IsCnfAnswer (old now : Option (List ℕ → Option (List ℕ))) (cnf proof : List ℕ) (seed : ℕ) (status : Status) : Type 0 where
   pub means : HoldsCnfRun old cnf seed status
   pub writes : HoldsProof cnf proof seed status old now
+
+-- Where the folder tells the formula, and it is read, the end of its run was put.
+abbrev pub TellsCnf : (cnf : List ℕ) (seed : ℕ) → World → World → Type 0
+TellsCnf cnf seed old new =
+    IfSome old.folder.held (λ f. (problem : Contents) → IsFormulaOf (bytes_of (f cnf)) problem → Told old.out.written new.out.written (λ before now. now ≡ before ++ cnf_text problem (cnf_run problem seed)))
+
+-- `cnf`, with what was put
+pub record IsFormulaRun (cnf proof : List ℕ) (seed : ℕ) (old new : World) (status : Status) : Type 0 where
+  pub answer : IsCnfAnswer old.folder.held new.folder.held cnf proof seed status
+  pub tells : TellsCnf cnf seed old new
 
 -- `core`: with status 0 the log was trimmed and its core told, with status 1 nothing was created
 pub record IsCoreAnswer (better : Option ℤ) (model log trimmed : List ℕ) (old new : World) (status : Status) : Type 0 where
@@ -77,12 +96,9 @@ HoldsNoBetter files model bound = IfSome files (λ f. (problem : Contents) → I
 abbrev pub means_check : List ℕ → Option ℤ → World → World → Status → Type 0
 means_check model better old new status = status ≡ Good → IsRefutedBy (taking_of better) old.folder.held model
 
--- the model's problem is one
-abbrev pub means_replay : List ℕ → World → World → Status → Type 0
-means_replay model old new status = HoldsProblem old.folder.held model
-
-abbrev pub means_solve : List ℕ → World → World → Status → Type 0
-means_solve model old new status = IsSolveAnswer old.folder.held model
+-- the record of the run, or of the first round, was written whole
+abbrev pub means_solve : (model log : List ℕ) (settings : Settings) → World → World → Status → Type 0
+means_solve model log settings old new status = HoldsRecord model log settings old.folder.held new.folder.held
 
 abbrev pub means_upgrade : (log new_log : List ℕ) → World → World → Status → Type 0
 means_upgrade log new_log old new status = HoldsUpgrade log new_log old.folder.held new.folder.held
@@ -99,9 +115,6 @@ means_order model rule file old new status = HoldsOrder model rule file old.fold
 
 abbrev pub means_starve : (model : List ℕ) (from to : ℕ) (file : List ℕ) (order_file : Option (List ℕ)) → World → World → Status → Type 0
 means_starve model from to file order_file old new status = IsStarvedAnswer model from to file order_file old new
-
-abbrev pub means_lossy : (model log : List ℕ) (events seed : ℕ) (record_file order_file : Option (List ℕ)) → World → World → Status → Type 0
-means_lossy model log events seed record_file order_file old new status = HoldsLossyRun old.folder.held model order_file events seed log record_file status
 
 -- the run under the schedule's choices was told
 abbrev pub means_story : (model schedule file : List ℕ) (order_file : Option (List ℕ)) → World → World → Status → Type 0

@@ -12,15 +12,18 @@ ghost use Rattle.dcsp_script.specs.Clauses.{HasCause, IsComplete, GainsText, Lea
 ghost use Rattle.abt_input.specs.Errors.{way_of, error_text};
 ghost use Rattle.line_check.specs.Checks.{IsRefuted};
 ghost use Rattle.line_replay.specs.Headline.{IsRun, IsSolvedRun, IsRefutedRun, IsUnfinishedRun, IsBoundedRun, WritesOrdered};
-ghost use Rattle.abt_command.specs.AskedRuns.{EachRun, EachTrueRun, IsCheckedRun, IsSatisfyingRun};
+ghost use Rattle.abt_command.specs.AskedRuns.{EachRun, EachTrueRun, IsCheckedRun, IsCheckedAnswer, IsSatisfyingRun};
+ghost use Rattle.line_replay.specs.Recorded.{HoldsRecord};
+ghost use Rattle.line_replay.specs.Settings.{Settings};
 ghost use Rattle.line_solve.specs.BestHeadline.{IsSearched, IsBestSearch, IsImproving, IsRefutedSearch, IsUnfinishedSearch, IsBoundedSearch, SearchOrdered};
-ghost use Rattle.abt_command.specs.AskedSearches.{EachSearch, IsCheckedSearch, IsSatisfyingSearch};
+ghost use Rattle.abt_command.specs.AskedSearches.{EachSearch, EachTrueSearch, IsCheckedSearch, IsCheckedBest, IsSatisfyingSearch};
 ghost use Rattle.dcsp_order.specs.declared.by_rule.OrderRule.{OrderRule};
 ghost use Rattle.line_model.specs.OrderHeld.{HoldsOrder};
-ghost use Rattle.abt_command.specs.Meanings.{AnswersCheck, HoldsNoBetter, IsRupAnswer, IsCnfAnswer, IsCoreAnswer, IsExportAnswer, IsStarvedAnswer};
-ghost use Rattle.line_rewrite.specs.Upgrading.{HoldsUpgrade};
-ghost use Rattle.line_lossy.specs.Meaning.{HoldsLossyRun};
+ghost use Rattle.abt_command.specs.Meanings.{AnswersCheck, HoldsNoBetter, IsProved, IsFormulaRun, IsCoreAnswer, IsExportAnswer, IsStarvedAnswer};
+ghost use Rattle.line_rewrite.specs.Upgrading.{IsUpgraded};
+ghost use Rattle.abt_command.specs.AskedLosses.{EachLossy, IsLossyAnswer, IsTrueLossy};
 ghost use Rattle.line_story.specs.Stories.{HoldsStory};
+ghost use Rattle.abt_command.specs.Drilled.{IsDrilled};
 ghost use Rattle.abt_command.specs.Lines as lines;
 ghost use Rattle.abt_command.specs.Lines.{Line, IsLine, IsSomeLine, IsNoLine, Means, line_of, promise_of};
 ghost use Rattle.abt_command.specs.LinePromises.{EachPromise, HasRun};
@@ -144,19 +147,28 @@ pub fn run_command<F: Folder, S: Sink>(
     ensures solved { EachRun (map string_bytes words.now) (F.place folder.old).held (λ asked. IsSolvedRun asked result) }
     ensures refuted { EachRun (map string_bytes words.now) (F.place folder.old).held (λ asked. IsRefutedRun asked result) }
     ensures checks { EachRun (map string_bytes words.now) (F.place folder.old).held (λ asked. IsCheckedRun (map string_bytes words.now) (F.place folder.new).held asked result) }
+    ensures answer_checks { EachRun (map string_bytes words.now) (F.place folder.old).held (λ asked. IsCheckedAnswer (map string_bytes words.now) asked
+        (outside (F.place folder.old) (S.stream out.old)) (outside (F.place folder.new) (S.stream out.new))) }
     ensures satisfies { EachRun (map string_bytes words.now) (F.place folder.old).held (λ asked. IsSatisfyingRun (map string_bytes words.now) (F.place folder.old).held asked result) }
     ensures no_stall { EachRun (map string_bytes words.now) (F.place folder.old).held (λ asked. IsFinal result → IsUnfinishedRun asked result) }
     ensures bound { EachRun (map string_bytes words.now) (F.place folder.old).held (λ asked. IsFinal result → IsBoundedRun asked result) }
     ensures in_order { EachRun (map string_bytes words.now) (F.place folder.old).held (λ asked. WritesOrdered asked
         (outside (F.place folder.old) (S.stream out.old)) (outside (F.place folder.new) (S.stream out.new))) }
 
+    // The record of a run from a seed, or of a search's first round: the choices of which `replay` makes that run again.
+    ensures records { (model log : List ℕ) (settings : Settings) → IsLine (map string_bytes words.now) (lines.Solve model log settings)
+        → IsFinal result → (IsRefusal result → ⊥) → HoldsRecord model log settings (F.place folder.old).held (F.place folder.new).held }
+
     // A search for the best value.
+    ensures true_searches { EachTrueSearch (map string_bytes words.now) (F.place folder.old).held }
     ensures the_search { EachSearch (map string_bytes words.now) (F.place folder.old).held (λ asked. IsFinal result → IsSearched asked result
         (outside (F.place folder.old) (S.stream out.old)) (outside (F.place folder.new) (S.stream out.new))) }
     ensures best { EachSearch (map string_bytes words.now) (F.place folder.old).held (λ asked. IsBestSearch asked result) }
     ensures each_better { EachSearch (map string_bytes words.now) (F.place folder.old).held IsImproving }
     ensures none_at_all { EachSearch (map string_bytes words.now) (F.place folder.old).held (λ asked. IsFinal result → IsRefutedSearch asked result) }
     ensures best_checks { EachSearch (map string_bytes words.now) (F.place folder.old).held (λ asked. IsCheckedSearch (map string_bytes words.now) (F.place folder.new).held asked result) }
+    ensures best_answer_checks { EachSearch (map string_bytes words.now) (F.place folder.old).held (λ asked. IsCheckedBest (map string_bytes words.now) asked
+        (outside (F.place folder.old) (S.stream out.old)) (outside (F.place folder.new) (S.stream out.new))) }
     ensures best_satisfies { EachSearch (map string_bytes words.now) (F.place folder.old).held (λ asked. IsSatisfyingSearch (map string_bytes words.now) (F.place folder.old).held asked result) }
     ensures capped { EachSearch (map string_bytes words.now) (F.place folder.old).held (λ asked. IsFinal result → IsUnfinishedSearch asked result) }
     ensures rounds { EachSearch (map string_bytes words.now) (F.place folder.old).held (λ asked. IsFinal result → IsBoundedSearch asked result) }
@@ -165,13 +177,16 @@ pub fn run_command<F: Folder, S: Sink>(
 
     // And the proofs about formulas.
     ensures proved { (cnf proof : List ℕ) → IsLine (map string_bytes words.now) (lines.Rup cnf proof)
-        → IsFinal result → (IsRefusal result → ⊥) → IsRupAnswer (F.place folder.old).held cnf proof result }
+        → IsFinal result → (IsRefusal result → ⊥) → IsProved cnf proof
+        (outside (F.place folder.old) (S.stream out.old)) (outside (F.place folder.new) (S.stream out.new)) result }
     ensures formula { (cnf proof : List ℕ) (seed : ℕ) → IsLine (map string_bytes words.now) (lines.Cnf cnf proof seed)
-        → IsFinal result → (IsRefusal result → ⊥) → IsCnfAnswer (F.place folder.old).held (F.place folder.new).held cnf proof seed result }
+        → IsFinal result → (IsRefusal result → ⊥) → IsFormulaRun cnf proof seed
+        (outside (F.place folder.old) (S.stream out.old)) (outside (F.place folder.new) (S.stream out.new)) result }
 
     // And a log that was upgraded, or trimmed.
     ensures upgraded { (log new : List ℕ) → IsLine (map string_bytes words.now) (lines.Upgrade log new)
-        → result ≡ Status.Good → HoldsUpgrade log new (F.place folder.old).held (F.place folder.new).held }
+        → result ≡ Status.Good → IsUpgraded log new
+        (outside (F.place folder.old) (S.stream out.old)) (outside (F.place folder.new) (S.stream out.new)) }
     ensures trimmed { (model log trimmed : List ℕ) (better : Option ℤ) → IsLine (map string_bytes words.now) (lines.Core model log trimmed better)
         → IsFinal result → (IsRefusal result → ⊥) → IsCoreAnswer better model log trimmed
         (outside (F.place folder.old) (S.stream out.old)) (outside (F.place folder.new) (S.stream out.new)) result }
@@ -190,8 +205,14 @@ pub fn run_command<F: Folder, S: Sink>(
     ensures starved { (model : List ℕ) (from to : ℕ) (file : List ℕ) (order_file : Option (List ℕ)) → IsLine (map string_bytes words.now) (lines.Starve model from to file order_file)
         → result ≡ Status.Good → IsStarvedAnswer model from to file order_file
         (outside (F.place folder.old) (S.stream out.old)) (outside (F.place folder.new) (S.stream out.new)) }
-    ensures lossy { (model log : List ℕ) (events seed : ℕ) (record_file order_file : Option (List ℕ)) → IsLine (map string_bytes words.now) (lines.Lossy model log events seed record_file order_file)
-        → IsFinal result → (IsRefusal result → ⊥) → HoldsLossyRun (F.place folder.old).held model order_file events seed log record_file result }
+    ensures lossy { EachLossy (map string_bytes words.now) (F.place folder.old).held (λ files model asked. IsFinal result → IsLossyAnswer files model asked
+        (outside (F.place folder.old) (S.stream out.old)) (outside (F.place folder.new) (S.stream out.new)) result) }
+    ensures true_lossy { EachLossy (map string_bytes words.now) (F.place folder.old).held (λ files model asked. IsTrueLossy files model asked
+        (outside (F.place folder.old) (S.stream out.old)) (outside (F.place folder.new) (S.stream out.new))) }
+
+    // And a drill: how its runs ended is not left open, but that of the sparse graph, and the log that is checked is verified.
+    ensures drilled { (seed : ℕ) → IsLine (map string_bytes words.now) (lines.Drill seed) → IsFinal result → IsDrilled seed
+        (outside (F.place folder.old) (S.stream out.old)) (outside (F.place folder.new) (S.stream out.new)) result }
 
     // And a run that is told: the file holds its story, which hides nothing and is no other run's.
     ensures told { (model schedule file : List ℕ) (order_file : Option (List ℕ)) → IsLine (map string_bytes words.now) (lines.Story model schedule file order_file)

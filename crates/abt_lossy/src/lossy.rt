@@ -69,7 +69,8 @@ impl<'p> Lossy<'p> {
 
     /// Starts the agents as over reliable links: the first false rule without variables refutes; else
     /// they settle in order until one makes a step, whose nogood is empty. The answer says the step.
-    /// No packet is on its way then.
+    /// No packet is on its way then. What refused, for want of memory, refuses from then on, and how it stands is
+    /// left open.
     pub fn start(&mut self) -> Result<Begun, Memory>
         requires { self.old.spent ≡ false → self.old.begun ≡ false }
         ensures begins { IfOk result (λ told. Begins self.old self.new told) }
@@ -95,7 +96,8 @@ impl<'p> Lossy<'p> {
     /// Makes the event of this word, and tells what was handed up and the step that was made. Over
     /// every list of events each link is in order and the world is a run over reliable links, in which
     /// each handing up is one delivery: at most as many as the message bound, and a quiet world that
-    /// is not refuted has a solution.
+    /// is not refuted has a solution. What refused, for want of memory, refuses from then on, and how it stands
+    /// is left open.
     pub fn event(&mut self, word: u32) -> Result<Happened, Memory>
         requires { self.old.spent ≡ false → CanHappen self.old }
         ensures happens { (words : List ℕ) → IsAfter self.old words → IfOk result (λ happened. Happens self.old self.new words word happened) }

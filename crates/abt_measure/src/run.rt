@@ -31,7 +31,8 @@ pub struct MeasuredRun<'p> {
 }
 
 /// Makes the run of a problem's agents under the choices, with at most `most` deliveries, and counts what they do; what
-/// they are told of others is kept where `listens` is true.
+/// they are told of others is kept where `listens` is true. How many answers of `choices` a run took that refused, for want
+/// of memory, is left open.
 pub fn measure_run<'p, C: Choices>(
     alloc: Global,
     problem: &'p Problem,

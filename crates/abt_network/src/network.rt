@@ -55,7 +55,8 @@ impl<'p> Network<'p> {
     }
 
     /// Starts the agents: the first false rule without variables refutes; else they settle in order until
-    /// one makes a step, whose nogood is empty. The answer says the step.
+    /// one makes a step, whose nogood is empty. The answer says the step. A network that refused, for want of
+    /// memory, refuses from then on, and how it stands is left open.
     pub fn start(&mut self) -> Result<Begun, Memory>
         requires { self.old.spent ≡ false → self.old.begun ≡ false }
         ensures starts { IfOk result (λ told. Starts self.old.problem self.new told) }
@@ -79,7 +80,8 @@ impl<'p> Network<'p> {
 
     /// Delivers the first message of the ready list whose number is the remainder of `choice` by the
     /// number of ready lists, and tells of it. Whatever the choices before were, no run makes more
-    /// deliveries than the bound, and a step is right after the steps of the run.
+    /// deliveries than the bound, and a step is right after the steps of the run. A network that refused, for
+    /// want of memory, refuses from then on, and how it stands is left open.
     pub fn deliver(&mut self, choice: u32) -> Result<Delivery, Memory>
         requires { self.old.spent ≡ false → CanDeliver self.old }
         ensures delivers { (net : TheNetwork) → StandsAt self.old net → IfOk result (λ d. Delivers self.old.problem self.new net choice d) }

@@ -43,7 +43,7 @@ pub struct RunTask<'w> {
 ///
 /// The log is created; each step's line goes to it by an append of its own as the step is made, and the
 /// last line once the run has stopped. What tells of a delivery is put on `out` after the line of its step.
-/// Of each delivery one answer of `choices` is taken.
+/// Of each delivery one answer of `choices` is taken. How many were taken by a run that refuses is left open.
 ///
 /// Wherever the run is stopped, `out` gained a first part of what tells of its deliveries, no name but the
 /// log's changed, and the log, once created, holds a first part of its text; before, it is unchanged or

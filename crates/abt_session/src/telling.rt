@@ -5,7 +5,7 @@ ghost use Rattle.abt_session.specs.Running.{nothing_told, trace_told};
 ghost use Rattle.abt_session.specs.Traces as traces;
 ghost use Rattle.abt_session.specs.Traces.{progress_line, round_name, so_far, steps_so_far};
 
-use itoa::Buffer;
+use dcsp_common::push_number;
 use std::alloc::AllocError;
 
 /// After how many deliveries it is told again how far a run is.
@@ -89,11 +89,4 @@ fn push_round_name(line: &mut Vec<u8>, round: Option<u64>) -> Result<(), AllocEr
     line.extend_from_slice(b"round ")?;
     push_number(line, number)?;
     line.extend_from_slice(b" ")
-}
-
-/// Appends a number in decimal digits. A refusal may leave a part of it.
-pub fn push_number(line: &mut Vec<u8>, number: u64) -> Result<(), AllocError>
-    ensures { OnOk result (line.new.items ≡ line.old.items ++ decimal number) }
-{
-    line.extend_from_slice(Buffer::new().format(number).as_bytes())
 }

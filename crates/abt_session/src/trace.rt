@@ -4,9 +4,8 @@ ghost use Rattle.std.specs.Prelude.{◌≡◌, ◌++◌, OnOk};
 ghost use Rattle.abt_network.specs.Standing.{cargo_in, delivery_of};
 ghost use Rattle.abt_session.specs.Traces.{cargo_text, trace_line};
 
-use crate::telling::push_number;
 use abt_network::{Cargo, Delivery};
-use itoa::Buffer;
+use dcsp_common::{push_number, push_signed};
 use std::alloc::AllocError;
 
 /// Appends the line of the delivery with this number. A refusal may leave a part of it.
@@ -30,7 +29,7 @@ pub fn push_cargo(line: &mut Vec<u8>, cargo: Cargo) -> Result<(), AllocError>
     match cargo {
         Cargo::Tell { value } => {
             line.extend_from_slice(b" ok ")?;
-            line.extend_from_slice(Buffer::new().format(value).as_bytes())
+            push_signed(line, value)
         }
         Cargo::Refuse { step } => {
             line.extend_from_slice(b" nogood ")?;

@@ -1,7 +1,6 @@
 -- The lines of a story, byte by byte: they can be told apart, and a delivery can be read off its line.
-use Rattle.std.proofs.Common.{◌≡◌, ◌∙◌, ℕ, zero, suc, ◌+◌, ◌/◌, ◌%◌, ◌<◌, ◌^◌, ℤ, pos, negsuc, Bool, true, false, ◌⊎◌, inl, inr, List, [], ◌∷◌, ◌++◌, ◌==◌, drop, Option, Some, None, refl, sym, ap, subst, arith, append-nil, append_assoc, codes, decimal, FitsSigned}
+use Rattle.std.proofs.Common.{◌≡◌, ◌∙◌, ℕ, zero, suc, ◌+◌, ◌/◌, ◌%◌, ◌<◌, ℤ, pos, negsuc, Bool, true, false, ◌⊎◌, inl, inr, List, [], ◌∷◌, ◌++◌, ◌==◌, drop, Option, Some, None, refl, sym, ap, subst, arith, append-nil, append_assoc, codes, decimal}
 use Rattle.std.specs.Prelude.{if◌then◌else◌}
-use Rattle.std.specs.Int.{w64}
 use Rattle.std.specs.List.{AllByRecursion, flat_map}
 use Rattle.std.specs.Char.{is_ascii_digit}
 use Rattle.std.specs.Fmt.{signed_decimal, digits, digits_onto, digit_glyph}
@@ -13,6 +12,7 @@ use Rattle.ngd_log.specs.StepText.{reason_text}
 use Rattle.ngd_log.specs.Reading.{integer_at}
 use Rattle.ngd_log.proofs.Fields.{integer_again}
 use Rattle.abt_defs.specs.Runs.{Cargo, Value, Step_number, Link, Delivery}
+use Rattle.abt_session.specs.Tracing.{CargoFits, DeliveryFits}
 use Rattle.abt_session.specs.Traces.{cargo_text}
 use Rattle.abt_story.specs.Facts.{RuledOut, Fact, Receives, Knows, Forgets, Keeps, Declines, Out, Takes, Makes, Sends, Line}
 use Rattle.abt_story.specs.Texts.{agent_text, fact_text, line_text, lines_text, ruled_text, who_text}
@@ -256,19 +256,6 @@ tells who (Sends to cargo) = inr (record { none = none_of who; rest = _; marked 
     none_of None = refl
     none_of (Some i) = refl
 
--- ---- and read
-
--- its numbers have 64 bits
-abbrev pub CargoFits : Cargo → Type 0
-CargoFits (Value v) = FitsSigned w64 v
-CargoFits (Step_number n) = n < 2 ^ 64
-CargoFits Link = Unit {0}
-
-pub record Fits (d : Delivery) : Type 0 where
-  pub sender : d.sender + 1 < 2 ^ 64
-  pub receiver : d.receiver + 1 < 2 ^ 64
-  pub cargo : CargoFits d.cargo
-
 one : {X : Type 0} {x y : X} → Some x ≡ Some y → x ≡ y
 one e = cc
 
@@ -322,7 +309,7 @@ module _ (from to : ℕ) (cargo : Cargo) where
   cargo_read : skip (drop 2 (mark one_said)) ≡ cargo_text cargo
   cargo_read = ap (λ l. skip (drop 2 l)) one_marked ∙ skip_digits (decimal (to + 1)) (cargo_text cargo ++ []) (all_digits (to + 1)) ∙ (cargo_led cargo).1 ∙ append-nil (cargo_text cargo)
 
-one_delivery : (a b c d : ℕ) (x y : Cargo) → Fits (record { sender = a; receiver = b; cargo = x }) → Fits (record { sender = c; receiver = d; cargo = y })
+one_delivery : (a b c d : ℕ) (x y : Cargo) → DeliveryFits (record { sender = a; receiver = b; cargo = x }) → DeliveryFits (record { sender = c; receiver = d; cargo = y })
     → said (Some b) (Receives a x) ≡ said (Some d) (Receives c y) → delivery_of (Some b) (Receives a x) ≡ delivery_of (Some d) (Receives c y)
 one_delivery a b c d x y f g e =
     let from = decimal_injective (a + 1) (c + 1) f.sender g.sender (sym (from_read a b x) ∙ ap (λ l. lead (drop 1 l)) e ∙ from_read c d y) in
@@ -347,7 +334,7 @@ apart from to cargo who f n e = by_mark (mark (said who f)) (sym (one_marked fro
     by_mark m same (inr h) = no_dash (same ∙ h)
 
 -- equal lines tell the same delivery, or none
-same_told : (who other : Option ℕ) (f g : Fact) → AllByRecursion Fits (delivery_of who f) → AllByRecursion Fits (delivery_of other g) → said who f ≡ said other g → delivery_of who f ≡ delivery_of other g
+same_told : (who other : Option ℕ) (f g : Fact) → AllByRecursion DeliveryFits (delivery_of who f) → AllByRecursion DeliveryFits (delivery_of other g) → said who f ≡ said other g → delivery_of who f ≡ delivery_of other g
 same_told who other f g fits fits' e = by_kind (tells who f) (tells other g)
   where
     by_kind : TellsOne who f ⊎ TellsNone who f → TellsOne other g ⊎ TellsNone other g → delivery_of who f ≡ delivery_of other g
@@ -356,7 +343,7 @@ same_told who other f g fits fits' e = by_kind (tells who f) (tells other g)
         let two : delivery_of other g ≡ delivery_of (Some b.to) (Receives b.from b.cargo) = ap (λ w. delivery_of w g) b.who_is ∙ ap (delivery_of (Some b.to)) b.fact_is in
         let said_one : said who f ≡ said (Some a.to) (Receives a.from a.cargo) = ap (λ w. said w f) a.who_is ∙ ap (said (Some a.to)) a.fact_is in
         let said_two : said other g ≡ said (Some b.to) (Receives b.from b.cargo) = ap (λ w. said w g) b.who_is ∙ ap (said (Some b.to)) b.fact_is in
-        one ∙ one_delivery a.from a.to b.from b.to a.cargo b.cargo (subst (AllByRecursion Fits) one fits).0 (subst (AllByRecursion Fits) two fits').0 (sym said_one ∙ e ∙ said_two) ∙ sym two
+        one ∙ one_delivery a.from a.to b.from b.to a.cargo b.cargo (subst (AllByRecursion DeliveryFits) one fits).0 (subst (AllByRecursion DeliveryFits) two fits').0 (sym said_one ∙ e ∙ said_two) ∙ sym two
     by_kind (inl a) (inr b) =
         let said_one : said who f ≡ said (Some a.to) (Receives a.from a.cargo) = ap (λ w. said w f) a.who_is ∙ ap (said (Some a.to)) a.fact_is in
         absurd (apart a.from a.to a.cargo other g b (sym said_one ∙ e))
@@ -396,16 +383,16 @@ begins_otherwise (d ∷ ds) xs ys h e = no_digit (subst IsDigit (first_byte e) h
 not_last : (l : Line) (rest more : List ℕ) → line_text l ++ rest ≡ 101 ∷ more → ⊥
 not_last l rest more e = begins_otherwise (decimal l.event) (said l.agent l.fact ++ 10 ∷ rest) more (all_digits l.event) (sym (begun l rest) ∙ e)
 
-fits_left : (xs ys : List Delivery) → AllByRecursion Fits (xs ++ ys) → AllByRecursion Fits xs
+fits_left : (xs ys : List Delivery) → AllByRecursion DeliveryFits (xs ++ ys) → AllByRecursion DeliveryFits xs
 fits_left [] ys h = tt
 fits_left (x ∷ xs) ys h = (h.0, fits_left xs ys h.1)
 
-fits_right : (xs ys : List Delivery) → AllByRecursion Fits (xs ++ ys) → AllByRecursion Fits ys
+fits_right : (xs ys : List Delivery) → AllByRecursion DeliveryFits (xs ++ ys) → AllByRecursion DeliveryFits ys
 fits_right [] ys h = h
 fits_right (x ∷ xs) ys h = fits_right xs ys h.1
 
 -- texts that begin with lines, and go on with a last line, are equal only if the lines tell the same deliveries
-pub lines_differ : (ls ms : List Line) (rest more : List ℕ) → AllByRecursion Fits (deliveries_in ls) → AllByRecursion Fits (deliveries_in ms) → lines_text ls ++ 101 ∷ rest ≡ lines_text ms ++ 101 ∷ more → deliveries_in ls ≡ deliveries_in ms
+pub lines_differ : (ls ms : List Line) (rest more : List ℕ) → AllByRecursion DeliveryFits (deliveries_in ls) → AllByRecursion DeliveryFits (deliveries_in ms) → lines_text ls ++ 101 ∷ rest ≡ lines_text ms ++ 101 ∷ more → deliveries_in ls ≡ deliveries_in ms
 lines_differ [] [] rest more f g e = refl
 lines_differ [] (m ∷ ms) rest more f g e = absurd (not_last m (lines_text ms ++ 101 ∷ more) rest (sym (append_assoc (line_text m) (lines_text ms) (101 ∷ more)) ∙ sym e))
 lines_differ (l ∷ ls) [] rest more f g e = absurd (not_last l (lines_text ls ++ 101 ∷ rest) more (sym (append_assoc (line_text l) (lines_text ls) (101 ∷ rest)) ∙ e))

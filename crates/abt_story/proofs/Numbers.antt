@@ -17,7 +17,7 @@ use Rattle.dcsp_order.specs.Told.{number_told}
 use Rattle.dcsp_order.proofs.Places.{item_in, place_there_again}
 use Rattle.abt_story.specs.Facts.{Fact, Receives, Knows, Forgets, Keeps, Declines, Out, Takes, Sends, Line, RuledOut}
 use Rattle.abt_session.specs.Traces.{delivery_told}
-use Rattle.abt_story.specs.Numbers.{deliveries_told, fact_told, facts_told, line_told, lines_told, IsOrderIn}
+use Rattle.abt_story.specs.Numbers.{deliveries_told, fact_told, facts_told, line_told, lines_told, IsOrderOn}
 use Rattle.abt_story.specs.Telling.{answers, by_numbers, drops, makes, ruled_out, rules_out, same_reasons, takes, takes_value}
 use Rattle.abt_story.specs.Retelling.{by_line, deliveries_in, delivery_of, known_after, list_after, list_by, list_told, recorded_after, retold, ruled_after, value_after, waits_after, Shows}
 
@@ -213,15 +213,15 @@ module _ (n : ℕ) (order : List ℕ) (h : IsOrder n order) where
 
 -- ---- the same, without an order too
 
-pub shows_told : (order : Option (List ℕ)) (p : Csp) → IsOrderIn order p → (ls : List Line) (net : Network) → Shows None p ls net → Shows order p (lines_told order ls) net
+pub shows_told : (order : Option (List ℕ)) (p : Csp) → IsOrderOn order p → (ls : List Line) (net : Network) → Shows None p ls net → Shows order p (lines_told order ls) net
 shows_told None p h ls net s = s
 shows_told (Some order) p h ls net s = moved_shows (count p) order h p ls net s
 
-pub named_too : (order : Option (List ℕ)) (p : Csp) → IsOrderIn order p → (agents : List ℕ) (k : ℕ) → k < count p → In k agents → In k (by_numbers order agents)
+pub named_too : (order : Option (List ℕ)) (p : Csp) → IsOrderOn order p → (agents : List ℕ) (k : ℕ) → k < count p → In k agents → In k (by_numbers order agents)
 named_too None p h agents k l i = i
 named_too (Some order) p h agents k l i = in_numbers (count p) order h agents k l i
 
-pub told_low : (order : Option (List ℕ)) (p : Csp) → IsOrderIn order p → (k : ℕ) → k < count p → number_told order k < count p
+pub told_low : (order : Option (List ℕ)) (p : Csp) → IsOrderOn order p → (k : ℕ) → k < count p → number_told order k < count p
 told_low None p h k l = l
 told_low (Some order) p h k l = inside (count p) order h k l
 
@@ -229,6 +229,6 @@ pub told_in : (order : Option (List ℕ)) (ls : List Line) → deliveries_in (li
 told_in None ls = refl
 told_in (Some order) ls = moved_in order ls
 
-pub told_once : (order : Option (List ℕ)) (p : Csp) → IsOrderIn order p → (ds es : List Delivery) → deliveries_told order ds ≡ deliveries_told order es → ds ≡ es
+pub told_once : (order : Option (List ℕ)) (p : Csp) → IsOrderOn order p → (ds es : List Delivery) → deliveries_told order ds ≡ deliveries_told order es → ds ≡ es
 told_once None p h ds es same = same
 told_once (Some order) p h ds es same = same_deliveries (count p) order h ds es same

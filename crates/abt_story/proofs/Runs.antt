@@ -27,7 +27,7 @@ use Rattle.law_runs.proofs.Stopping.{stops}
 use Rattle.law_runs.proofs.Takes.{all_deliverable}
 use Rattle.law_runs.specs.Deliverable.{Deliverable, IsDeliverable}
 use Rattle.abt_story.specs.Facts.{Fact, Line}
-use Rattle.abt_story.specs.Numbers.{lines_told, IsOrderIn}
+use Rattle.abt_story.specs.Numbers.{lines_told, IsOrderOn}
 use Rattle.abt_story.specs.Telling.{agentless, delivery_facts, facts, first_step, lines, lines_at, made_by_none, named_by, reason, ruled_out, start_facts, start_lines, step_between, steps_of}
 use Rattle.abt_story.specs.Retelling.{fold, known_after, lines_so_far, list_told, recorded_after, retold, ruled_after, value_after, waits_after, NothingIsHidden, Shows}
 use Rattle.abt_story.proofs.Numbers.{lines_append, named_too, shows_told}
@@ -347,7 +347,7 @@ next_clear p ok c cs alive s = record {
 value_low : (p : Csp) (i : ℕ) (v : ℤ) → In v (domain p i) → i < count p
 value_low p i v h = elim (lt_or_ge i (count p)) [ inl l ↦ l | inr l ↦ absurd (subst (In v) (get_or_past p.domains i [] l) h) ]
 
-next_named : (order : Option (List ℕ)) (p : Csp) → IsCsp p → IsOrderIn order p → (c : ℕ) (cs : List ℕ) → (run p cs (start p)).refuted ≡ false → (s : Chosen p c (run p cs (start p)))
+next_named : (order : Option (List ℕ)) (p : Csp) → IsCsp p → IsOrderOn order p → (c : ℕ) (cs : List ℕ) → (run p cs (start p)).refuted ≡ false → (s : Chosen p c (run p cs (start p)))
     → (q : ℕ) → In q (named_by None s.sender s.message) → In q (named_by order s.sender s.message)
 next_named order p ok in_order c cs alive s = by_message s.message refl
   where
@@ -424,7 +424,7 @@ module _ (p : Csp) (most : ℕ) (choices : List ℕ) where
     lines_tell (suc k) =
         so_far_more k ∙ ap (λ l. l ++ lines_at order p choices k) (lines_tell k) ∙ sym (lines_append order (facts_so_far k) (facts_at k)) ∙ ap (lines_told order) (sym (facts_more k))
 
-    shown : IsCsp p → IsOrderIn order p → (k : ℕ) → k ≤ (whole p most choices).net.deliveries → Shows None p (facts_so_far k) (after p choices k)
+    shown : IsCsp p → IsOrderOn order p → (k : ℕ) → k ≤ (whole p most choices).net.deliveries → Shows None p (facts_so_far k) (after p choices k)
     shown ok in_order zero l = subst (λ ls. Shows None p ls (after p choices 0)) (sym (append-nil (start_facts order p))) (start_shows order p ok)
     shown ok in_order (suc k) l =
         let n = next_is k (omega arith) in

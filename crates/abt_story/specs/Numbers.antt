@@ -9,8 +9,8 @@ use Rattle.abt_session.specs.Traces.{delivery_told}
 use Rattle.abt_story.specs.Facts.{Fact, Receives, Knows, Forgets, Keeps, Declines, Out, Takes, Makes, Sends, Line}
 
 -- an order, where there is one, is one of the problem's variables
-abbrev pub IsOrderIn : Option (List ℕ) → Csp → Type 0
-IsOrderIn order p = IfSome order (IsOrder (count p))
+abbrev pub IsOrderOn : Option (List ℕ) → Csp → Type 0
+IsOrderOn order p = IfSome order (IsOrder (count p))
 
 -- a fact
 abbrev pub fact_told : Option (List ℕ) → Fact → Fact

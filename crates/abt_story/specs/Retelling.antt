@@ -8,7 +8,7 @@ use Rattle.dcsp_order.specs.Told.{number_told}
 use Rattle.law_runs.specs.Starts.{settled_in}
 use Rattle.law_runs.specs.Stops.{after}
 use Rattle.abt_story.specs.Facts.{RuledOut, Fact, Receives, Knows, Forgets, Keeps, Out, Takes, Makes, Sends, Line}
-use Rattle.abt_story.specs.Numbers.{deliveries_told, IsOrderIn}
+use Rattle.abt_story.specs.Numbers.{deliveries_told, IsOrderOn}
 use Rattle.abt_story.specs.Telling.{events, reason, ruled_out, steps_of}
 
 -- ---- one fact of an agent
@@ -94,7 +94,7 @@ lines_so_far order p choices k = flat_map (λ l. l) (events order p choices k)
 -- nothing is hidden: after each event of a run, the lines so far tell how all agents and all lists stand
 abbrev pub NothingIsHidden : Option (List ℕ) → Csp → Type 0
 NothingIsHidden order p =
-    IsCsp p → IsOrderIn order p → (most : ℕ) (choices : List ℕ) (k : ℕ) → k ≤ (whole p most choices).net.deliveries → Shows order p (lines_so_far order p choices k) (after p choices k)
+    IsCsp p → IsOrderOn order p → (most : ℕ) (choices : List ℕ) (k : ℕ) → k ≤ (whole p most choices).net.deliveries → Shows order p (lines_so_far order p choices k) (after p choices k)
 
 -- the delivery of a line, if it is one's
 abbrev pub delivery_of : Option ℕ → Fact → List Delivery

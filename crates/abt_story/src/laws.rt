@@ -2,7 +2,7 @@
 
 ghost use Rattle.std.specs.Prelude.{ℕ, List, Option};
 ghost use Rattle.dcsp_defs.specs.Csp.{Csp};
-ghost use Rattle.abt_story.specs.Differing.{StoriesDiffer};
+ghost use Rattle.abt_story.specs.Differing.{StoriesDiffer, TracesDiffer};
 ghost use Rattle.abt_story.specs.Retelling.{DeliveriesAreTold, NothingIsHidden};
 
 /// After each event of a run the lines so far tell how the lists of messages stand, and of each agent that has settled
@@ -20,4 +20,9 @@ pub fn deliveries_are_told()
 /// Runs of a problem with different deliveries have different stories, as texts.
 pub fn stories_differ()
     ensures { (order : Option (List ℕ)) (p : Csp) → StoriesDiffer order p }
+{}
+
+/// Runs of a problem with different deliveries have different traces, as texts, whatever answers stand behind them.
+pub fn traces_differ()
+    ensures { TracesDiffer }
 {}

@@ -15,5 +15,5 @@ mod texts;
 
 pub use dcsp_common::Memory;
 pub use delivery::tell_delivery;
-pub use laws::{deliveries_are_told, nothing_is_hidden, stories_differ};
+pub use laws::{deliveries_are_told, nothing_is_hidden, stories_differ, traces_differ};
 pub use start::tell_start;

@@ -20,7 +20,8 @@ const HELP: &[u8] = b"abt: asynchronous backtracking over FlatZinc, with certifi
                         --progress tells each million deliveries how far the run is;
                         with --order the agents have the priorities that `order` wrote
   abt replay MODEL SCHEDULE LOG [--trace] [--order FILE]
-                        runs them under the choices of a schedule, as a record is
+                        runs them under the choices of a schedule, as a record is; reads at
+                        most 67,108,864 bytes of one, or 33,554,424 choices of one digit
   abt check MODEL LOG [--better N]
                         checks whether the log refutes the model: prints `verified`,
                         `rejected step K`, `rejected deletion after step K` or

@@ -225,7 +225,10 @@ pub const REPLAY: Row = RowOf {
     keyword: &["replay"],
     places: &[MODEL, SCHEDULE, NEW_LOG],
     options: &[TRACE_OPTION, ORDER_OPTION],
-    tells: &["runs them under the choices of a schedule, as a record is"],
+    tells: &[
+        "runs them under the choices of a schedule, as a record is; reads at",
+        "most 67,108,864 bytes of one, or 33,554,424 choices of one digit",
+    ],
 };
 
 /// `check MODEL LOG [--better N]`: whether a log refutes a model, or a better value.

@@ -63,6 +63,7 @@ use Rattle.std.proofs.lemmas.Bool.{not-false}
 use Rattle.fzn_scope.specs.Rules.{constraint_rule}
 use Rattle.fzn_model.proofs.Meanings.{meant}
 use Rattle.law_subjects.specs.Accepting.{AcceptedAreProblems}
+use Rattle.law_subjects.proofs.ValueBounds.{AllFit, DomainsFit, all_fit, is_small, none_fit, tokens_fit}
 use Rattle.law_subjects.proofs.Building.{parts_of, if_ok, variable_added, rule_added, output_added}
 
 -- so far a problem, whose names stand for its own variables, with room for so many outputs more
@@ -433,6 +434,13 @@ resolved_problem text items p few h =
     let fine = all_fine text start items parts.0 (begun (length items) few) parts.1 in
     subst (λ (x : Contents). IsProblem x) (end_is parts.0 p parts.2) fine.problem
 
+-- the values of its domains
+resolved_values : (text : List ℕ) (ts : List Token) (items : List Item) (p : Contents) → AreItemsTo text ts items [] → AllFit ts → resolved text items ≡ Ok p → DomainsFit p.domains
+unfolding resolved
+resolved_values text ts items p read fit h =
+    let parts = parts_of (after_all text start items) finished p h in
+    subst (λ (x : Contents). DomainsFit x.domains) (end_is parts.0 p parts.2) (all_fit text ts items [] start parts.0 read fit parts.1 none_fit)
+
 answer_ok : (r : Result Contents ItemRefusal) (p : Contents) → Ok p ≡ answer_of r → r ≡ Ok p
 answer_ok (Ok q) p h = cc
 answer_ok (Err e) p h = cc
@@ -445,10 +453,21 @@ read_problem text p short r =
     let fewer = few_items text r.tokens r.items [] items in
     resolved_problem text r.items p (omega (arith, short, few, fewer)) (answer_ok (resolved text r.items) p r.result_is)
 
+read_values : (text : List ℕ) (p : Contents) → IsResolved text (Ok p) → DomainsFit p.domains
+read_values text p r =
+    let tokens : AreTokens text r.tokens = r.lexed in
+    let items : AreItemsTo text r.tokens r.items [] = r.read in
+    resolved_values text r.tokens r.items p items (tokens_fit text 0 r.tokens tokens.end tokens.all) (answer_ok (resolved text r.items) p r.result_is)
+
 accepted : (text : List ℕ) (p : Contents) → length text ≤ longest_text → Answers text (Ok p) → IsProblem p
 accepted text p short (inl lexical) = elim lexical.1 [ inl bad ↦ cc (bad.0) | inr wide ↦ cc (wide.0) ]
 accepted text p short (inr (inl unread)) = let is = unread.result_is in cc
 accepted text p short (inr (inr resolved_)) = read_problem text p short resolved_
 
+values : (text : List ℕ) (p : Contents) → Answers text (Ok p) → DomainsFit p.domains
+values text p (inl lexical) = elim lexical.1 [ inl bad ↦ cc (bad.0) | inr wide ↦ cc (wide.0) ]
+values text p (inr (inl unread)) = let is = unread.result_is in cc
+values text p (inr (inr resolved_)) = read_values text p resolved_
+
 pub accepted_are_problems : (text : List ℕ) → AcceptedAreProblems text
-accepted_are_problems text = record { within_limits = accepted text; well_formed = λ p short h. is_csp p (accepted text p short h) }
+accepted_are_problems text = record { within_limits = accepted text; well_formed = λ p short h. is_csp p (accepted text p short h); small = λ p short h. is_small p (accepted text p short h) (values text p h) }

@@ -25,7 +25,7 @@ pub mod Generators
 pub mod Texts
 pub mod Lengths
 mod Solutions
-mod GeneratedSolutions
+pub mod GeneratedSolutions
 mod Upgrading
 mod Starving
 mod Losing
@@ -34,6 +34,7 @@ mod Formulas
 mod Refusals
 mod Clauses
 mod Building
+pub mod ValueBounds
 pub mod Accepting
 mod Finding
 pub mod Learning

@@ -74,7 +74,8 @@ pub fn formulas_are_words()
     ensures answers { EachHasAnswer }
 {}
 
-/// A text that is accepted denotes a problem within the limits, and so a well-formed one.
+/// A text that is accepted denotes a problem within the limits, and so a well-formed one; its values have 64 bits, so logs
+/// can name all that it has.
 pub fn accepted_are_problems()
     ensures { (text : List ℕ) → AcceptedAreProblems text }
 {}

@@ -6,6 +6,7 @@ use Rattle.ngd_check.specs.declared.Finding.{Finding}
 use Rattle.ngd_check.specs.declared.Finding.TheVariants.{Verified, BadStep, BadDeletion, NotEmpty}
 use Rattle.ngd_check.specs.Findings.{IsFindingOf}
 use Rattle.ngd_check.specs.Entries.{steps_of}
+use Rattle.ngd_check.specs.Progress.{right_steps}
 use Rattle.ngd_check.proofs.Once.{one_finding_of}
 use Rattle.dcsp_defs.specs.declared.entry.Entry.{Entry}
 use Rattle.ngd_log.proofs.EntryLaws.{entries_or_bad_line}
@@ -74,7 +75,7 @@ one_kept_for : (p : Contents) (log : List ℕ) (a b : Checked) → IsKeptFor p l
 one_kept_for p log a b h k =
     let entries : h.entries ≡ k.entries = one_list log h.entries k.entries h.log_is k.log_is in
     let found : a.finding ≡ b.finding = one_found_for p log a.finding b.finding (record { entries = h.entries; log_is = h.log_is; found = h.found }) (record { entries = k.entries; log_is = k.log_is; found = k.found }) in
-    let steps : a.steps ≡ b.steps = h.steps ∙ ap steps_of entries ∙ sym k.steps in
+    let steps : a.steps ≡ b.steps = h.steps ∙ ap (λ (es : List Entry). right_steps a.finding (steps_of es)) entries ∙ ap (λ (f : Finding). right_steps f (steps_of k.entries)) found ∙ sym k.steps in
     ap (λ f. checked_with f a.steps) found ∙ ap (checked_with b.finding) steps
 
 -- ---- the line

@@ -1,19 +1,16 @@
 -- Entries and pieces that a check takes.
-use Rattle.std.proofs.Common.{◌≡◌, ℕ, ◌+◌, ◌<◌, ◌≤◌, true, false, List, [], ◌∷◌, ◌++◌, length, take, drop, Option, Some, None, Result, Ok, Err, refl, sym, ap, subst, ◌∙◌, append_assoc, arith}
+use Rattle.std.proofs.Common.{◌≡◌, ℕ, ◌+◌, ◌<◌, ◌≤◌, List, [], ◌∷◌, ◌++◌, length, take, drop, Option, Some, None, Result, Ok, Err, refl, sym, ap, subst, ◌∙◌, append_assoc, arith}
 use Rattle.std.specs.Prelude.{IfSome, OnOk, IsErr, IsErrAnd}
 use Rattle.std.proofs.Math.Seq.{drop-append_seam, take-append_seam}
 use Rattle.std.proofs.lemmas.List.{append-nil, length-append, take-append-drop}
-use Rattle.dcsp_defs.specs.declared.Step.{Step}
 use Rattle.dcsp_outside.specs.Handed.{Handed, PartOf, EndOf}
 use Rattle.dcsp_outside.specs.Outside.{Place, IsPrefixOf, FetchesPiece, AddsPiece, gained, handed_piece, bytes_of}
 use Rattle.dcsp_outside.specs.declared.folder.Piece.{Piece}
 use Rattle.dcsp_outside.specs.declared.folder.Piece.TheVariants.{Part, End}
 use Rattle.dcsp_defs.specs.declared.entry.Entry.{Entry}
-use Rattle.dcsp_defs.specs.declared.entry.Entry.TheVariants.{Step as A_step, Delete}
 use Rattle.ngd_log.specs.EntryReading.{good_entries}
 use Rattle.ngd_log.specs.Pieces.{IsFed, TakesFront, Completes}
-use Rattle.ngd_check.specs.Entries.{steps_of}
-use Rattle.ngd_check.specs.Progress.{HasTaken}
+use Rattle.ngd_check.specs.Progress.{HasTaken, HasKept}
 use Rattle.dcsp_script.specs.declared.stop.Stop.{Stop}
 use Rattle.dcsp_script.specs.Promises.{TellOf, AreBytesOf}
 use Rattle.dcsp_script.proofs.Fetched.{tell_both}
@@ -22,12 +19,6 @@ use Rattle.line_check.specs.declared.log_check.LogCheck.{LogCheck}
 use Rattle.line_check.specs.LogChecks.{HasSameTask, HasGoneOn, HasTakenFront, HasCome, HasHanded, StandsAt, HasEndedBelow, WasStopped, LeadsOn, LeadsToEnd, IsLogLong}
 
 -- ---- entries
-
--- the steps of entries after others
-steps_after : (xs ys : List Entry) → steps_of (xs ++ ys) ≡ steps_of xs ++ steps_of ys
-steps_after [] ys = refl
-steps_after (A_step s ∷ xs) ys = ap (λ (x : List Step). s ∷ x) (steps_after xs ys)
-steps_after (Delete ns ∷ xs) ys = steps_after xs ys
 
 -- the same task after two turns
 pub same_task : (a b c : LogCheck) → HasSameTask a b → HasSameTask b c → HasSameTask a c
@@ -38,26 +29,19 @@ gone_nowhere a = record {
   task = record { problem = refl; keeps = refl };
   reader = refl;
   taken = λ before t. subst (λ es. HasTaken es a.checker) (sym (append-nil before)) t;
-  kept = λ e. sym (append-nil a.steps);
-  not_kept = λ e. refl;
+  kept = λ before t. subst (λ es. HasKept es a.checker) (sym (append-nil before)) t;
 }
 
 -- ---- pieces
 
 -- the entries of a piece were read by the one check, and then taken by the other
-pub piece_come : (old mid new : LogCheck) (text piece : List ℕ) (entries : List Entry) → mid.keeps ≡ old.keeps → mid.checker ≡ old.checker → mid.steps ≡ old.steps
-    → IsFed mid.reader (text ++ piece) → Completes text piece [] entries → HasGoneOn mid new entries → HasCome old text → HasCome new (text ++ piece)
-piece_come old mid new text piece entries keeps checker steps fed completes on h =
+pub piece_come : (old mid new : LogCheck) (text piece : List ℕ) (entries : List Entry) → mid.checker ≡ old.checker → IsFed mid.reader (text ++ piece) → Completes text piece [] entries → HasGoneOn mid new entries → HasCome old text → HasCome new (text ++ piece)
+piece_come old mid new text piece entries checker fed completes on h =
     let all : good_entries text ++ entries ≡ good_entries (text ++ piece) = ap (λ es. good_entries text ++ es) completes.same ∙ completes.entries in
     record {
       fed = subst (λ r. IsFed r (text ++ piece)) (sym on.reader) fed;
       taken = subst (λ es. HasTaken es new.checker) all (on.taken (good_entries text) (subst (λ k. HasTaken (good_entries text) k) (sym checker) h.taken));
-      kept = λ e.
-          let was : old.keeps ≡ true = sym (on.task.keeps ∙ keeps) ∙ e in
-          on.kept (keeps ∙ was) ∙ ap (λ s. s ++ steps_of entries) (steps ∙ h.kept was) ∙ sym (steps_after (good_entries text) entries) ∙ ap steps_of all;
-      none_kept = λ e.
-          let was : old.keeps ≡ false = sym (on.task.keeps ∙ keeps) ∙ e in
-          on.not_kept (keeps ∙ was) ∙ steps ∙ h.none_kept was;
+      kept = subst (λ es. HasKept es new.checker) all (on.kept (good_entries text) (subst (λ k. HasKept (good_entries text) k) (sym checker) h.kept));
     }
 
 -- no byte has come
@@ -71,9 +55,8 @@ front_none a piece = record {
 }
 
 -- the reader took more, and the check took what it lends
-pub front_more : (a b mid c : LogCheck) (piece rest others : List ℕ) → HasTakenFront a b piece rest → HasSameTask b mid → mid.checker ≡ b.checker → mid.steps ≡ b.steps
-    → TakesFront b.reader mid.reader rest others → HasGoneOn mid c mid.reader.lent → HasTakenFront a c piece others
-front_more a b mid c piece rest others h task checker steps t on = record {
+pub front_more : (a b mid c : LogCheck) (piece rest others : List ℕ) → HasTakenFront a b piece rest → HasSameTask b mid → mid.checker ≡ b.checker → TakesFront b.reader mid.reader rest others → HasGoneOn mid c mid.reader.lent → HasTakenFront a c piece others
+front_more a b mid c piece rest others h task checker t on = record {
   front = h.front ++ t.front;
   parts = h.parts ∙ ap (λ p. h.front ++ p) t.parts ∙ sym (append_assoc h.front t.front others);
   task = same_task a mid c (same_task a b mid h.task task) on.task;
@@ -83,13 +66,12 @@ front_more a b mid c piece rest others h task checker steps t on = record {
       let at = text ++ h.front in
       let completes : Completes at t.front [] mid.reader.lent = record { appended = mid.reader.lent; same = refl; entries = t.entries at before.fed } in
       subst (λ p. HasCome c p) (append_assoc text h.front t.front)
-      (piece_come b mid c at t.front mid.reader.lent task.keeps checker steps (t.fed at before.fed) completes on before);
+      (piece_come b mid c at t.front mid.reader.lent checker (t.fed at before.fed) completes on before);
 }
 
 -- the reader took the rest, which lends nothing
-pub front_whole : (a b mid : LogCheck) (piece rest : List ℕ) → HasTakenFront a b piece rest → HasSameTask b mid → mid.checker ≡ b.checker → mid.steps ≡ b.steps
-    → TakesFront b.reader mid.reader rest [] → mid.reader.lent ≡ [] → HasTakenFront a mid piece []
-front_whole a b mid piece rest h task checker steps t none = front_more a b mid mid piece rest [] h task checker steps t (subst (λ es. HasGoneOn mid mid es) (sym none) (gone_nowhere mid))
+pub front_whole : (a b mid : LogCheck) (piece rest : List ℕ) → HasTakenFront a b piece rest → HasSameTask b mid → mid.checker ≡ b.checker → TakesFront b.reader mid.reader rest [] → mid.reader.lent ≡ [] → HasTakenFront a mid piece []
+front_whole a b mid piece rest h task checker t none = front_more a b mid mid piece rest [] h task checker t (subst (λ es. HasGoneOn mid mid es) (sym none) (gone_nowhere mid))
 
 -- all of the piece has come
 pub front_come : (a b : LogCheck) (piece : List ℕ) → HasTakenFront a b piece [] → (text : List ℕ) → HasCome a text → HasCome b (text ++ piece)

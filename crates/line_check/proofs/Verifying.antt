@@ -38,7 +38,7 @@ as_entries : (text : List ℕ) (steps : List Step) → IsLogOf text steps → Is
 as_entries text steps is = (One, record { writable = have_text One steps is.writable; same = is.same ∙ sym (ap (λ (ls : List (List ℕ)). codes "ngd 1\n" ++ concat ls ++ codes "end\n") (lines_same 1 steps)) })
 
 -- the log of a refutation is verified
-refutation_found : (log : List ℕ) (p : Contents) (steps : List Step) → IsTextOf log steps → IsRefutation (csp_of p) steps → IsFoundFor p log Verified
+pub refutation_found : (log : List ℕ) (p : Contents) (steps : List Step) → IsTextOf log steps → IsRefutation (csp_of p) steps → IsFoundFor p log Verified
 refutation_found log p steps is refutes = record {
   entries = entries_of steps;
   log_is = record { short = is.short; reads = as_entries log steps is.reads };

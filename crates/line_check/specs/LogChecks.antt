@@ -1,5 +1,5 @@
 -- A log that is checked as its pieces come.
-use Rattle.std.specs.Prelude.{◌≡◌, ℕ, ◌+◌, ◌<◌, true, false, List, [], ◌++◌, length, Option, IfSome, Result, Ok, Err, ⊤}
+use Rattle.std.specs.Prelude.{◌≡◌, ℕ, ◌+◌, ◌<◌, List, ◌++◌, length, Option, IfSome, Result, Ok, Err, ⊤}
 use Rattle.dcsp_outside.specs.Outside.{Place, SameCounts, IsPrefixOf, bytes_of}
 use Rattle.dcsp_outside.specs.declared.folder.Piece.{Piece}
 use Rattle.dcsp_outside.specs.declared.folder.Piece.TheVariants.{Part, End}
@@ -9,7 +9,7 @@ use Rattle.dcsp_defs.specs.declared.entry.Entry.{Entry}
 use Rattle.ngd_log.specs.EntryReading.{good_entries}
 use Rattle.ngd_log.specs.Pieces.{IsFed}
 use Rattle.ngd_check.specs.Entries.{steps_of}
-use Rattle.ngd_check.specs.Progress.{HasTaken}
+use Rattle.ngd_check.specs.Progress.{HasTaken, HasKept, right_steps}
 use Rattle.dcsp_outside.specs.Handed.{Handed}
 use Rattle.dcsp_script.specs.Promises.{TellOf, AreBytesOf}
 use Rattle.abt_input.specs.Kinds.{FileKind}
@@ -23,22 +23,20 @@ use Rattle.line_check.specs.Checks.{HasEntries, IsErrorOfEntries}
 -- the check is of the same problem, and keeps steps or not as before
 pub record HasSameTask (old new : LogCheck) : Type 0 where
   pub problem : new.checker.problem ≡ old.checker.problem
-  pub keeps : new.keeps ≡ old.keeps
+  pub keeps : new.checker.keeps ≡ old.checker.keeps
 
 -- taking these entries leads from one check to the other
 pub record HasGoneOn (old new : LogCheck) (entries : List Entry) : Type 0 where
   pub task : HasSameTask old new
   pub reader : new.reader ≡ old.reader
   pub taken : (before : List Entry) → HasTaken before old.checker → HasTaken (before ++ entries) new.checker
-  pub kept : old.keeps ≡ true → new.steps ≡ old.steps ++ steps_of entries
-  pub not_kept : old.keeps ≡ false → new.steps ≡ old.steps
+  pub kept : (before : List Entry) → HasKept before old.checker → HasKept (before ++ entries) new.checker
 
--- the text has come: it was read, the entries of its good lines were checked, and their steps are kept where steps are; else none is
+-- the text has come: it was read, the entries of its good lines were checked, and their steps are kept where steps are and each is right; where steps are not, none is
 pub record HasCome (check : LogCheck) (text : List ℕ) : Type 0 where
   pub fed : IsFed check.reader text
   pub taken : HasTaken (good_entries text) check.checker
-  pub kept : check.keeps ≡ true → check.steps ≡ steps_of (good_entries text)
-  pub none_kept : check.keeps ≡ false → check.steps ≡ []
+  pub kept : HasKept (good_entries text) check.checker
 
 -- the front of a piece has come, and the rest waits
 pub record HasTakenFront (old new : LogCheck) (piece rest : List ℕ) : Type 0 where
@@ -89,14 +87,14 @@ LeadsToEnd old new name check (Ok Part) = IsLogLong old.held old.handed new.hand
 LeadsToEnd old new name check (Ok End) = HasEndedBelow old.held old.handed new.handed name (most_log + 1) check
 LeadsToEnd old new name check (Err stop) = WasStopped old.held old.handed new.handed name
 
--- what is found of the log's entries for this problem, with the log's steps, deletions left out
+-- what is found of the log's entries for this problem, with the log's steps, deletions left out, where each entry is right
 pub record IsKeptFor (problem : Contents) (log : List ℕ) (checked : Checked) : Type 0 where
   pub entries : List Entry
   pub log_is : HasEntries log entries
   pub found : IsFindingOf (csp_of problem) entries checked.finding
-  pub steps : checked.steps ≡ steps_of entries
+  pub steps : checked.steps ≡ right_steps checked.finding (steps_of entries)
 
--- a log of either version, of which it is found what it is for the problem, and whose steps are kept
+-- a log of either version, of which it is found what it is for the problem, and whose steps are kept where each entry is right
 abbrev pub kept_log : Contents → FileKind
 kept_log problem = record { Value = Checked; Is = IsKeptFor problem; Refuses = IsErrorOfEntries }
 

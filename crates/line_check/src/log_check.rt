@@ -1,10 +1,8 @@
 //! A log that is checked as its pieces come.
 
-ghost use Rattle.std.specs.Prelude.{◌≡◌, ℕ, ◌+◌, ◌++◌, ◌∷◌, [], ◌^◌, ◌≤◌, true, List, length, Some, OnOk, Ok, Err};
+ghost use Rattle.std.specs.Prelude.{◌≡◌, ℕ, ◌+◌, ◌++◌, [], ◌^◌, ◌≤◌, List, length, OnOk, Ok, Err};
 ghost use Rattle.dcsp_defs.specs.Csp.{HasNoSolution};
 ghost use Rattle.dcsp_rule.specs.Problems.{csp_of};
-ghost use Rattle.ngd_log.specs.Lent.{lent_entries};
-ghost use Rattle.ngd_check.specs.Entries.{steps_of};
 ghost use Rattle.abt_input.specs.Inputs.{most_log};
 ghost use Rattle.abt_input.specs.Kinds.{ReadsAs};
 ghost use Rattle.line_check.specs.Checks.{log_for};
@@ -13,63 +11,39 @@ ghost use Rattle.line_check.specs.LogChecks.{HasSameTask, HasGoneOn, HasCome};
 use abt_input::CommandError;
 use dcsp_common::Memory;
 use dcsp_problem::Problem;
-use ngd_check::{Checker, Finding};
-use ngd_log::{Derivation, Lent, LogError, LogReader, Step};
+use ngd_check::{Checker, Finding, KeptSteps};
+use ngd_log::{LogError, LogReader};
 use std::alloc::Global;
 
-/// A log of either version that is checked as its pieces come. Neither its text nor its entries are kept.
+/// A log of either version that is checked as its pieces come. Its text is not kept; its steps are where the checker
+/// keeps them, and no other entry is.
 #[derive(Drop)]
 pub struct LogCheck<'p> {
     pub alloc: Global,
     pub reader: LogReader,
     pub checker: Checker<'p>,
-    /// Whether the steps are kept.
-    pub keeps: bool,
-    /// The steps so far, where they are kept.
-    pub steps: Derivation,
 }
 
 /// What is found of a log, with its steps.
 #[derive(Drop)]
-pub struct Checked {
+pub struct Checked<'p> {
     /// What is found of the log's entries.
     pub finding: Finding,
-    /// The log's steps in order, deletions left out.
-    pub steps: Derivation,
-}
-
-/// Keeps a copy of the entry where it is a step.
-fn keep_step(alloc: Global, steps: &mut Derivation, entry: &Lent<'_>) -> Result<(), Memory>
-    ensures { OnOk result (steps.new ≡ steps.old ++ steps_of (lent_entries (Some entry.now))) }
-{
-    match entry {
-        Lent::Step(step) => push_step(steps, step.copy(alloc)?),
-        Lent::Delete(_) => Ok(()),
-    }
-}
-
-fn push_step(steps: &mut Derivation, step: Step) -> Result<(), Memory>
-    ensures { OnOk result (steps.new ≡ steps.old ++ step ∷ []) }
-{
-    let Ok(()) = steps.push(step) else {
-        return Err(Memory);
-    };
-    Ok(())
+    /// The log's steps in order, deletions left out, where each entry is right; else none.
+    pub steps: KeptSteps<'p>,
 }
 
 impl<'p> LogCheck<'p> {
-    /// A check of which nothing has come. It takes no memory.
+    /// A check of which nothing has come. It takes no memory. Where `keeps` is set, the log's steps are kept.
     pub fn new(alloc: Global, problem: &'p Problem, keeps: bool) -> LogCheck<'p>
         ensures problem { result.checker.problem ≡ problem.now }
-        ensures keeps { result.keeps ≡ keeps }
+        ensures keeps { result.checker.keeps ≡ keeps }
         ensures come { HasCome result [] }
     {
         LogCheck {
             alloc,
             reader: LogReader::new(alloc),
-            checker: Checker::new(alloc, problem),
-            keeps,
-            steps: Derivation::new(alloc),
+            checker: Checker::new(alloc, problem, keeps),
         }
     }
 
@@ -80,11 +54,7 @@ impl<'p> LogCheck<'p> {
         let Some(entry) = self.reader.lent() else {
             return Ok(());
         };
-        self.checker.take(&entry)?;
-        if !self.keeps {
-            return Ok(());
-        }
-        keep_step(self.alloc, &mut self.steps, &entry)
+        self.checker.take(&entry)
     }
 
     /// Takes the next piece of the log, and checks the entries of the lines that it completes.

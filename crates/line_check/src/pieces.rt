@@ -92,13 +92,13 @@ pub fn check_log<F: Folder>(
     }
 }
 
-/// The same as `check_log`, with the log's steps, which are all kept. Nothing is written.
-pub fn check_and_keep<F: Folder>(
+/// The same as `check_log`, with the log's steps, which are kept as long as each entry is right. Nothing is written.
+pub fn check_and_keep<'p, F: Folder>(
     alloc: Global,
     folder: &mut F,
-    problem: &Problem,
+    problem: &'p Problem,
     log: &str,
-) -> Result<Checked, CommandError>
+) -> Result<Checked<'p>, CommandError>
     ensures { HasRead (kept_log problem.now) log.now (F.place folder.old) (F.place folder.new) result }
 {
     let mut check = LogCheck::new(alloc, problem, true);
@@ -107,7 +107,7 @@ pub fn check_and_keep<F: Folder>(
         Piece::End => match check.finding() {
             Ok(finding) => Ok(Checked {
                 finding,
-                steps: check.steps,
+                steps: check.checker.into_steps(alloc),
             }),
             Err(error) => Err(error),
         },

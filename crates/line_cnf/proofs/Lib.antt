@@ -7,7 +7,6 @@ pub mod Accepting
 pub mod CnfOutcomes
 pub mod CnfLawful
 pub mod Printed
-pub mod Held
 pub mod Written
 pub mod CnfTexts
 pub mod CnfFiles

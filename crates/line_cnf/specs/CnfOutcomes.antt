@@ -1,15 +1,18 @@
 -- What is written of what a formula's run gave.
 use Rattle.std.specs.Prelude.{◌≡◌, List, [], ◌++◌, ℕ, Option, Some, None, All}
+use Rattle.std.specs.FinMap as map
+use Rattle.dcsp_outside.specs.Memory.{Files}
 use Rattle.dcsp_defs.specs.declared.Step.{Step}
 use Rattle.dcsp_rule.specs.Problems.{Contents, csp_of}
 use Rattle.cnf_front.specs.Clauses.{IsBinary}
+use Rattle.ngd_log.specs.Logs.{log_text, AreWritable}
 use Rattle.abt_defs.specs.Runs as runs
 use Rattle.abt_session.specs.Running.{IsOutcome}
 use Rattle.abt_session.specs.declared.outcome.End.{End}
 use Rattle.abt_session.specs.declared.outcome.End.TheVariants.{Solved, Refuted, Spent, Capped}
 use Rattle.abt_session.specs.declared.outcome.Outcome.{Outcome}
 use Rattle.abt_input.specs.Inputs.{IsFormulaOf}
-use Rattle.line_cnf.specs.CnfRuns.{verdict_text, deliveries_text, refutation_at}
+use Rattle.line_cnf.specs.CnfRuns.{log_name, verdict_text, deliveries_text, refutation_at}
 use Rattle.line_cnf.specs.declared.apart.Made.{Made}
 
 -- the problem is that of some formula
@@ -37,6 +40,10 @@ refutation (Solved list) steps = None
 refutation Refuted steps = Some steps
 refutation Spent steps = None
 refutation Capped steps = None
+
+-- the files hold the log of some steps, under the name of a formula's log
+abbrev pub HoldsLog : Files → Type 0
+HoldsLog files = (steps : List Step) × AreWritable steps × (map.get files log_name ≡ Some (log_text steps))
 
 -- a run came to this: its outcome, and its steps where they are a refutation, and each of them can be a clause
 pub record HasMade (p : Contents) (run : runs.Run) (made : Made) : Type 0 where

@@ -11,9 +11,9 @@ ghost use Rattle.line_cnf.specs.CnfRuns.{deliveries_text, value_literal, value_l
 ghost use Rattle.line_cnf.specs.CnfOutcomes.{end_text, outcome_text};
 
 use abt_session::{End, Outcome};
+use dcsp_common::{push_number, push_signed};
 use dcsp_outside::Sink;
 use dcsp_script::{Status, Stop, put};
-use itoa::Buffer;
 use std::alloc::{AllocError, Global};
 
 /// The status of an end.
@@ -45,7 +45,7 @@ fn push_outcome(outcome: &Outcome, into: &mut Vec<u8>) -> Result<(), AllocError>
 {
     push_end(&outcome.end, into)?;
     into.extend_from_slice(b"c deliveries ")?;
-    into.extend_from_slice(Buffer::new().format(outcome.deliveries).as_bytes())?;
+    push_number(into, outcome.deliveries)?;
     into.extend_from_slice(b"\n")
 }
 
@@ -91,12 +91,6 @@ fn push_literal(values: &[i64], variable: usize, into: &mut Vec<u8>) -> Result<(
     requires { variable < length values.now }
     ensures { OnOk result (into.new.items ≡ into.old.items ++ literal_text (value_literal values.now variable)) }
 {
-    push_number(value_literal(values, variable), into)?;
+    push_signed(into, value_literal(values, variable))?;
     into.extend_from_slice(b" ")
-}
-
-fn push_number(number: i64, into: &mut Vec<u8>) -> Result<(), AllocError>
-    ensures { OnOk result (into.new.items ≡ into.old.items ++ signed_decimal number) }
-{
-    into.extend_from_slice(Buffer::new().format(number).as_bytes())
 }

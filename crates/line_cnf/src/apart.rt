@@ -6,13 +6,14 @@ ghost use Rattle.dcsp_defs.specs.declared.Step.{Step};
 ghost use Rattle.ngd_log.specs.Logs.{log_text, AreWritable};
 ghost use Rattle.abt_session.specs.Running.{Gives};
 ghost use Rattle.line_cnf.specs.CnfRuns.{log_name, cnf_asked, cnf_run};
-ghost use Rattle.line_cnf.specs.CnfOutcomes.{refutation, HasMade, IsFormula};
+ghost use Rattle.line_cnf.specs.CnfOutcomes.{refutation, HasMade, HoldsLog, IsFormula};
 
 use abt_schedule::Seeded;
 use abt_session::{End, MOST_DELIVERIES, Outcome, RunTask, Telling, run};
 use dcsp_outside::{SureFolder, SureSink};
 use dcsp_problem::Problem;
-use ngd_log::{Derivation, read_log};
+use dcsp_script::Stop;
+use ngd_log::{Derivation, LogError, read_log};
 use std::alloc::{AllocError, Global};
 
 /// The name of the run's log.
@@ -63,7 +64,9 @@ fn run_in(
     };
     match run(alloc, problem, &mut choices, task, apart, &mut out) {
         Ok(outcome) => Ok(outcome),
-        Err(_) => Err(AllocError),
+        Err(Stop::Memory) => Err(AllocError),
+        // neither a sure folder nor a sure sink fails
+        Err(Stop::Fault) => unreachable!(),
     }
 }
 
@@ -73,6 +76,7 @@ fn refutation_in(
     end: &End,
     apart: &SureFolder,
 ) -> Result<Option<Derivation>, AllocError>
+    requires { HoldsLog apart.now.files }
     ensures { (steps : List Step) → map.get apart.now.files log_name ≡ Some (log_text steps) → AreWritable steps
         → IfOk result (λ told. told ≡ refutation end.now steps) }
 {
@@ -85,14 +89,19 @@ fn refutation_in(
     }
 }
 
-/// The steps of the log in this folder.
+/// The steps of the log in this folder. It refuses only for want of memory.
 fn read_back(alloc: Global, apart: &SureFolder) -> Result<Derivation, AllocError>
+    requires { HoldsLog apart.now.files }
     ensures { (steps : List Step) → map.get apart.now.files log_name ≡ Some (log_text steps) → AreWritable steps
         → IfOk result (λ told. told ≡ steps) }
 {
-    let text = apart.file(LOG).unwrap_or(&[]);
+    let Some(text) = apart.file(LOG) else {
+        unreachable!();
+    };
     match read_log(alloc, text) {
         Ok(steps) => Ok(steps),
-        Err(_) => Err(AllocError),
+        Err(LogError::Memory) => Err(AllocError),
+        // the text is a log
+        Err(LogError::Line { .. }) => unreachable!(),
     }
 }

@@ -1,5 +1,7 @@
 -- What a drill runs, and what it tells of that.
-use Rattle.std.specs.Prelude.{ℕ, Bool, true, false, ◌||◌, List, ◌++◌, length, codes, decimal, if◌then◌else◌, None}
+use Rattle.std.specs.Prelude.{◌≡◌, ℕ, Bool, true, false, ◌||◌, List, ◌++◌, length, codes, decimal, if◌then◌else◌, Some, None}
+use Rattle.std.specs.FinMap as map
+use Rattle.dcsp_outside.specs.Memory.{Files}
 use Rattle.dcsp_rule.specs.Problems.{Contents}
 use Rattle.ngd_log.specs.Logs.{log_text}
 use Rattle.ngd_check.specs.declared.Finding.{Finding}
@@ -13,9 +15,17 @@ use Rattle.abt_input.specs.Inputs.{IsModelOf}
 use Rattle.line_check.specs.Checks.{IsFoundFor, finding_text}
 use Rattle.line_replay.specs.Asked.{seeded_session}
 
+-- the text is the model of a problem
+abbrev pub HasProblem : List ℕ → Type 0
+HasProblem text = (p : Contents) × IsModelOf text p
+
 -- the name of the log of each run
 abbrev pub log_name : List ℕ
 log_name = codes "drill"
+
+-- the files hold a log, under the name of a run's, and something is found of it for the problem
+abbrev pub HasFinding : Contents → Files → Type 0
+HasFinding p files = (log : List ℕ) × (map.get files log_name ≡ Some log) × (finding : Finding) × IsFoundFor p log finding
 
 -- the run of a problem under the choices of a seed, as `solve` makes it
 abbrev pub run_from : Contents → ℕ → Run

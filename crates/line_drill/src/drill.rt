@@ -10,9 +10,10 @@ ghost use Rattle.line_drill.specs.DrillPromise.{drill_promise};
 ghost use Rattle.line_drill.specs.Outcomes.{is_open_end, told_status, told_text};
 
 use crate::run::{Trial, try_text};
-use crate::text::{push_number, push_run};
+use crate::text::push_run;
 use abt_input::CommandError;
 use abt_session::{End, Outcome};
+use dcsp_common::push_number;
 use dcsp_gen::{pigeons, queens, sparse};
 use dcsp_outside::Sink;
 use dcsp_script::{Status, put};

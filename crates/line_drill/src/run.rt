@@ -7,14 +7,15 @@ ghost use Rattle.abt_session.specs.Running.{Gives};
 ghost use Rattle.abt_input.specs.Inputs.{IsModelOf};
 ghost use Rattle.line_check.specs.Checks.{IsFoundFor};
 ghost use Rattle.line_replay.specs.Asked.{seeded_session};
-ghost use Rattle.line_drill.specs.Drills.{log_name, run_from};
+ghost use Rattle.line_drill.specs.Drills.{log_name, run_from, HasFinding, HasProblem};
 
-use abt_input::read_model;
+use abt_input::{CommandError, read_model};
 use abt_schedule::Seeded;
 use abt_session::{MOST_DELIVERIES, Outcome, RunTask, Telling, run};
 use dcsp_common::Memory;
 use dcsp_outside::{SureFolder, SureSink};
 use dcsp_problem::Problem;
+use dcsp_script::Stop;
 use line_check::check_log;
 use ngd_check::Finding;
 use std::alloc::{AllocError, Global};
@@ -28,15 +29,13 @@ pub struct Trial {
     pub folder: SureFolder,
 }
 
-/// Runs the problem of a generated text under the choices of the seed.
-///
-/// A generated text has a problem and a sure folder never fails, so what is answered in place of a trial
-/// is want of memory.
+/// Runs the problem of a generated text under the choices of the seed. It refuses only for want of memory.
 pub fn try_text(
     alloc: Global,
     text: Result<Vec<u8>, Memory>,
     seed: u64,
 ) -> Result<Trial, AllocError>
+    requires { IfOk text (λ bytes. HasProblem bytes.items) }
     ensures model { IfOk result (λ trial. IfOk text (λ bytes. IsModelOf bytes.items trial.problem)) }
     ensures gives { IfOk result (λ trial. Gives (seeded_session None trial.problem seed log_name false) trial.outcome) }
     ensures log { IfOk result (λ trial. map.get trial.folder.files log_name ≡ Some (log_text (run_from trial.problem seed).net.steps)) }
@@ -49,8 +48,10 @@ pub fn try_text(
     let Ok(()) = folder.place("model", &text) else {
         return Err(AllocError);
     };
-    let Ok(problem) = read_model(alloc, &mut folder, "model") else {
-        return Err(AllocError);
+    let problem = match read_model(alloc, &mut folder, "model") {
+        Ok(problem) => problem,
+        // the text has a problem, and a sure folder never fails
+        Err(error) => return Err(lacked(error)),
     };
     let outcome = run_problem(alloc, &problem, seed, &mut folder)?;
     Ok(Trial {
@@ -58,6 +59,16 @@ pub fn try_text(
         outcome,
         folder,
     })
+}
+
+/// The answer to this error, which is want of memory.
+fn lacked(error: CommandError) -> AllocError
+    requires { error ≡ CommandError.Memory }
+{
+    match error {
+        CommandError::Memory => AllocError,
+        _ => unreachable!(),
+    }
 }
 
 /// Runs the problem, with its log in the folder.
@@ -81,19 +92,23 @@ fn run_problem(
     };
     match run(alloc, problem, &mut choices, task, folder, &mut out) {
         Ok(outcome) => Ok(outcome),
-        Err(_) => Err(AllocError),
+        Err(Stop::Memory) => Err(AllocError),
+        // neither a sure folder nor a sure sink fails
+        Err(Stop::Fault) => unreachable!(),
     }
 }
 
 impl Trial {
-    /// What is found of the log.
+    /// What is found of the log. It refuses only for want of memory.
     pub fn check(&mut self, alloc: Global) -> Result<Finding, AllocError>
+        requires { HasFinding self.old.problem self.old.folder.files }
         ensures found { (log : List ℕ) → map.get self.old.folder.files log_name ≡ Some log → IfOk result (IsFoundFor self.old.problem log) }
         ensures same { (self.new.problem ≡ self.old.problem) × (self.new.outcome ≡ self.old.outcome) }
     {
         match check_log(alloc, &mut self.folder, &self.problem, "drill") {
             Ok(finding) => Ok(finding),
-            Err(_) => Err(AllocError),
+            // something is found of the log, and a sure folder never fails
+            Err(error) => Err(lacked(error)),
         }
     }
 }

@@ -1,18 +1,11 @@
 //! What is told of a drill.
 
-ghost use Rattle.std.specs.Prelude.{◌≡◌, ◌++◌, codes, decimal, OnOk};
+ghost use Rattle.std.specs.Prelude.{◌≡◌, ◌++◌, codes, OnOk};
 ghost use Rattle.line_drill.specs.Outcomes.{outcome_word, outcome_text};
 
 use abt_session::{End, Outcome};
-use itoa::Buffer;
+use dcsp_common::push_number;
 use std::alloc::AllocError;
-
-/// Appends a number.
-pub fn push_number(into: &mut Vec<u8>, number: u64) -> Result<(), AllocError>
-    ensures { OnOk result (into.new.items ≡ into.old.items ++ decimal number) }
-{
-    into.extend_from_slice(Buffer::new().format(number).as_bytes())
-}
 
 /// The word for an end.
 fn word(end: &End) -> &'static [u8]

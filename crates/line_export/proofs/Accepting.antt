@@ -1,20 +1,20 @@
 -- The clauses of a refutation's steps are a proof: each has the property under the formula and those before it.
-use Rattle.std.proofs.Common.{◌≡◌, ◌⊎◌, ℕ, zero, suc, ◌-◌, ◌<◌, Bool, true, false, not, List, [], ◌∷◌, ◌++◌, length, map, take, get_or, Option, Some, None, slice_get, is_some, unwrap_or, refl, sym, ap, subst, ◌∙◌, inl, inr, arith, MatchOption}
-use Rattle.std.specs.Prelude.{ℤ, pos, negsuc, neg_ℤ, Contains, IsSomeAnd, flat_map}
+use Rattle.std.proofs.Common.{◌≡◌, ◌⊎◌, ℕ, zero, suc, ◌-◌, ◌<◌, true, not, List, [], ◌∷◌, ◌++◌, length, map, take, get_or, Option, Some, None, slice_get, is_some, refl, sym, ap, subst, ◌∙◌, inl, inr, arith, MatchOption}
+use Rattle.std.specs.Prelude.{ℤ, neg_ℤ, Contains, flat_map}
 use Rattle.std.specs.List.{list_all, AllZip}
 use Rattle.std.proofs.lemmas.List.{take-map, length-map, get_or-map}
 use Rattle.std.proofs.lemmas.List.Elements.{Contains-append_left, Contains-append_right}
 use Rattle.std.proofs.lemmas.Option.{slice_get_within, get_or_from_slice_get}
 use Rattle.dcsp_defs.specs.declared.nogood.Pair.{Pair}
-use Rattle.dcsp_defs.specs.Pairs.{value_at, pair_of}
+use Rattle.dcsp_defs.specs.Pairs.{pair_of}
 use Rattle.dcsp_defs.specs.Words.{In, below, is_value}
-use Rattle.dcsp_defs.specs.Csp.{Constraint, Nogood, PartialAssignment, is_violated, filled, given_with, domain}
+use Rattle.dcsp_defs.specs.Csp.{Constraint, Nogood, PartialAssignment, filled, given_with, domain}
 use Rattle.dcsp_defs.specs.declared.Reason.{Reason}
 use Rattle.dcsp_defs.specs.declared.Reason.TheVariants.{Rule, Earlier}
 use Rattle.dcsp_defs.specs.declared.Step.{Step}
 use Rattle.dcsp_defs.specs.Derivation as derivations
 use Rattle.dcsp_defs.specs.Derivation.{step_at, IsReason, IsRight, IsRightAt, IsRightNowhere, IsDerivation, IsRefutation}
-use Rattle.dcsp_defs.proofs.Lists.{and_left, list_all-In, below-In, get-In, get-take}
+use Rattle.dcsp_defs.proofs.Lists.{and_left, list_all-In, below-In, get-In}
 use Rattle.dcsp_problem.proofs.RisingNumbers.{Contains-In, In-Contains}
 use Rattle.dcsp_rule.specs.Rules.{no_rule}
 use Rattle.dcsp_rule.specs.Problems.{Contents, csp_of, constraint_of, constraint_at}

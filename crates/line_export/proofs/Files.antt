@@ -20,15 +20,16 @@ use Rattle.ngd_check.specs.Entries.{steps_of}
 use Rattle.dcsp_script.specs.Promises.{IsHeld}
 use Rattle.line_check.specs.declared.log_check.Checked.{Checked}
 use Rattle.line_check.specs.Checks.{HasEntries}
+use Rattle.ngd_check.specs.declared.Finding.TheVariants.{Verified}
 use Rattle.line_check.specs.LogChecks.{IsKeptFor}
+use Rattle.line_rewrite.proofs.CoreFiles.{all_steps}
 use Rattle.line_check.specs.Taking.{taking_of}
 use Rattle.line_check.proofs.Taken.{settled}
 use Rattle.line_rewrite.specs.UpgradePromise.{appends, file_script}
 use Rattle.line_rewrite.proofs.Files.{whole_file, leaves}
 use Rattle.line_export.specs.Clauses.{Clause, formula, proof}
 use Rattle.line_export.specs.Texts.{cnf_lines, counts_text, export_script}
-use Rattle.line_export.specs.Limits.{limit_past}
-use Rattle.line_export.specs.Exporting.{cnf_text, WritesExport, IsProofVerified, HasExported, HoldsExport}
+use Rattle.line_export.specs.Exporting.{cnf_text, WritesExport, IsProofVerified, HasExported}
 use Rattle.line_export.proofs.Accepting.{accepted}
 use Rattle.line_export.proofs.Saying.{says}
 use Rattle.line_export.proofs.Fine.{formula_fine, proof_read}
@@ -133,12 +134,12 @@ module _ (p : Contents) (ok : IsCsp (csp_of p)) (many : length p.domains ≤ 409
 
 -- what was done for what was found was done for the model and the log under the names
 module _ (better : Option ℤ) (m l cnf proof_name : List ℕ) (wanted : Bool) where
-  pub told_export : (files mid : Option (List ℕ → Option (List ℕ))) (p : Contents) (checked : Checked) (old new : World) → mid ≡ files → (model : List ℕ) × IsHeld files m model × (taking_of better).Is model p → (log : List ℕ) × IsHeld mid l log × IsKeptFor p log checked → HasExported p checked.steps wanted cnf proof_name old new
+  pub told_export : (files mid : Option (List ℕ → Option (List ℕ))) (p : Contents) (checked : Checked) (old new : World) → checked.finding ≡ Verified → mid ≡ files → (model : List ℕ) × IsHeld files m model × (taking_of better).Is model p → (log : List ℕ) × IsHeld mid l log × IsKeptFor p log checked → HasExported p checked.steps wanted cnf proof_name old new
       → IfSome files (λ g. (problem : Contents) (entries : List Entry) → (taking_of better).Is (bytes_of (g m)) problem → HasEntries (bytes_of (g l)) entries → HasExported problem (steps_of entries) wanted cnf proof_name old new)
-  told_export None mid p checked old new same h k has = tt
-  told_export (Some g) mid p checked old new same h k has = λ problem entries is_model is_log.
+  told_export None mid p checked old new verified same h k has = tt
+  told_export (Some g) mid p checked old new verified same h k has = λ problem entries is_model is_log.
       let held : IsHeld (Some g) l k.0 = subst (λ f. IsHeld f l k.0) same k.1 in
       let kept = k.2 in
       let problems : p ≡ problem = (settled better).one (bytes_of (g m)) p problem (subst (λ (x : List ℕ). (taking_of better).Is x p) h.1 h.2) is_model in
       let lists : kept.entries ≡ entries = (entries_or_bad_line (bytes_of (g l))).one_list kept.entries entries (subst (λ (x : List ℕ). IsLogOfEntries x kept.entries) held kept.log_is.reads) is_log.reads in
-      subst (λ (x : Contents). HasExported x (steps_of entries) wanted cnf proof_name old new) problems (subst (λ (s : List Step). HasExported p s wanted cnf proof_name old new) (kept.steps ∙ ap steps_of lists) has)
+      subst (λ (x : Contents). HasExported x (steps_of entries) wanted cnf proof_name old new) problems (subst (λ (s : List Step). HasExported p s wanted cnf proof_name old new) (all_steps p k.0 checked kept verified ∙ ap steps_of lists) has)

@@ -1,6 +1,6 @@
 -- The clauses of an exported formula and proof are those of formulas: their literals are of its atoms, and of one sign.
-use Rattle.std.proofs.Common.{◌≡◌, ◌⊎◌, ℕ, zero, suc, ◌+◌, ◌*◌, ◌^◌, ◌<◌, ◌≤◌, List, [], ◌∷◌, ◌++◌, length, map, Option, Some, None, slice_get, take, refl, sym, ap, subst, ◌∙◌, inl, inr, arith, append_assoc, length-append, MatchOption}
-use Rattle.std.specs.Prelude.{ℤ, Contains, flat_map, codes, ⊤}
+use Rattle.std.proofs.Common.{◌≡◌, ℕ, zero, suc, ◌+◌, ◌*◌, ◌^◌, ◌<◌, ◌≤◌, List, [], ◌∷◌, length, map, Option, Some, None, slice_get, take, refl, sym, ap, subst, inl, inr, arith, append_assoc, length-append, MatchOption}
+use Rattle.std.specs.Prelude.{ℤ, Contains, flat_map, codes}
 use Rattle.std.specs.List.{AllByRecursion}
 use Rattle.std.proofs.lemmas.List.{length-map}
 use Rattle.std.proofs.lemmas.List.Sums.{length-filter, count_by-le-length}
@@ -8,10 +8,9 @@ use Rattle.dcsp_defs.specs.declared.nogood.Pair.{Pair}
 use Rattle.dcsp_defs.specs.Pairs.{var_at}
 use Rattle.dcsp_defs.specs.Pairs as pairs
 use Rattle.dcsp_defs.specs.Words.{In, below}
-use Rattle.dcsp_defs.specs.Csp.{Csp, IsCsp, Constraint, Nogood, filled, domain, count}
+use Rattle.dcsp_defs.specs.Csp.{IsCsp, Constraint, Nogood, filled, domain}
 use Rattle.dcsp_defs.specs.declared.Step.{Step}
 use Rattle.dcsp_defs.specs.Derivation.{IsRight, IsRightAt, IsRightNowhere, IsKnownPair, IsDerivation}
-use Rattle.dcsp_problem.proofs.RisingNumbers.{Contains-In}
 use Rattle.dcsp_rule.specs.Rules.{mentions}
 use Rattle.dcsp_rule.specs.Problems.{Contents, csp_of, value_count, rule_at}
 use Rattle.rup_check.specs.Literals.{IsLiteral}
@@ -19,8 +18,8 @@ use Rattle.rup_check.specs.ProofText.{literal_text, clause_line, proof_text, IsC
 use Rattle.rup_check.proofs.PropagationLaws.{contains_head, contains_cons}
 use Rattle.abt_input.specs.Inputs.{HasClauses}
 use Rattle.line_cnf.proofs.CnfTexts.{at_least, literal_short}
-use Rattle.line_export.specs.Atoms.{has_value, lacks_value, values_before, atoms_before}
-use Rattle.line_export.specs.Clauses.{Clause, value_clause, exclusion, nogood_clause, formula, proof}
+use Rattle.line_export.specs.Atoms.{has_value, lacks_value}
+use Rattle.line_export.specs.Clauses.{Clause, value_clause, nogood_clause, formula, proof}
 use Rattle.line_export.proofs.Numbering.{atom_below, all_values, before_few}
 use Rattle.line_export.proofs.ReadBack.{IsOf, IsPlain, IsNegated, IsFine}
 use Rattle.line_export.proofs.Accepting.{constraint_is}

@@ -1,6 +1,6 @@
 -- An exported formula is read as the clauses that were written.
 use Rattle.std.proofs.Common.{◌≡◌, ℕ, zero, suc, ◌+◌, ◌*◌, ◌^◌, ◌<◌, ◌≤◌, Bool, true, false, List, [], ◌∷◌, ◌++◌, length, map, Ok, Result, refl, sym, ap, subst, ◌∙◌, append_assoc, append-nil, length-append, arith}
-use Rattle.std.specs.Prelude.{ℤ, codes, decimal, flat_map, sum_by, nat_le, replicate}
+use Rattle.std.specs.Prelude.{ℤ, codes, decimal, flat_map, sum_by, nat_le}
 use Rattle.std.specs.List.{AllByRecursion, concat}
 use Rattle.std.specs.Fmt.{signed_decimal}
 use Rattle.std.proofs.lemmas.List.{length-map}
@@ -11,22 +11,20 @@ use Rattle.std.proofs.lemmas.List.Sums.{sum_by-cons}
 use Rattle.dcsp_defs.specs.Words.{below}
 use Rattle.dcsp_defs.specs.Csp.{Csp, domain, count}
 use Rattle.dcsp_rule.specs.Problems.{Contents, csp_of, value_count}
-use Rattle.rup_check.specs.Literals.{IsLiteral}
 use Rattle.rup_check.specs.ProofText.{literal_text, clause_line, proof_text}
-use Rattle.cnf_front.specs.Clauses.{rule_clause}
 use Rattle.cnf_front.specs.declared.header.CnfError.{CnfError}
 use Rattle.cnf_front.specs.declared.words.Stand.TheVariants.{Start, Inside}
 use Rattle.cnf_front.specs.Dimacs.{TextWord, word_at, words}
-use Rattle.cnf_front.specs.Formulas.{header, problem_of, number_of, is_number, within_limit, only_variables, no_literals, clauses_from, ◌>>=◌}
+use Rattle.cnf_front.specs.Formulas.{header, problem_of, only_variables, no_literals, clauses_from, ◌>>=◌}
 use Rattle.abt_input.specs.Inputs.{IsFormulaOf}
 use Rattle.line_cnf.specs.Satisfying.{clauses_of}
 use Rattle.line_cnf.proofs.CnfTexts.{literal_short}
 use Rattle.line_export.specs.Clauses.{Clause}
 use Rattle.line_export.specs.Atoms.{values_before, atoms_before}
-use Rattle.line_export.specs.Texts.{atom_line, variable_lines, atom_lines, header_line, cnf_lines}
+use Rattle.line_export.specs.Texts.{atom_line, variable_lines, atom_lines, header_line}
 use Rattle.line_export.specs.Exporting.{cnf_text}
 use Rattle.line_export.proofs.Numbering.{all_values}
-use Rattle.line_export.proofs.Words.{AreInLine, inside_byte, start_byte, decimal_some, word_read, comment_read, number_read, number_is, bytes_read, decimal_digits, decimal_bytes, decimal_short, signed_bytes, signed_short, in_lines, IsOfNumber}
+use Rattle.line_export.proofs.Words.{AreInLine, inside_byte, start_byte, decimal_some, word_read, comment_read, number_read, number_is, bytes_read, decimal_bytes, decimal_short, signed_bytes, signed_short, in_lines}
 use Rattle.line_export.proofs.ReadBack.{IsOf, IsFine, lines_read}
 
 -- ---- comments

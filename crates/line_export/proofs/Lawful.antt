@@ -1,11 +1,11 @@
 -- The plan of `export` is sound, and so its promise is lawful.
-use Rattle.std.proofs.Common.{◌≡◌, ◌⊎◌, ℕ, ℤ, Bool, true, List, [], ◌∷◌, ◌++◌, map, Option, Some, None, Ok, Err, refl, sym, ap, subst, ◌∙◌, inl, inr}
+use Rattle.std.proofs.Common.{◌≡◌, ◌⊎◌, ℕ, ℤ, Bool, List, [], ◌∷◌, map, Option, Some, refl, sym, ap, subst, ◌∙◌, inl, inr}
 use Rattle.std.specs.Prelude.{◌≢◌, Contains}
 use Rattle.std.proofs.lemmas.List.Elements.{Contains-append_left, Contains-push}
 use Rattle.dcsp_defs.specs.declared.Step.{Step}
-use Rattle.dcsp_rule.specs.Problems.{Contents, value_count}
+use Rattle.dcsp_rule.specs.Problems.{Contents}
 use Rattle.dcsp_problem.specs.declared.limits.Which.{Which}
-use Rattle.dcsp_script.specs.Scripts.{World, Put}
+use Rattle.dcsp_script.specs.Scripts.{World}
 use Rattle.rup_check.specs.ProofText.{clause_line}
 use Rattle.ngd_check.specs.declared.Finding.{Finding}
 use Rattle.ngd_check.specs.declared.Finding.TheVariants.{Verified, BadStep, BadDeletion, NotEmpty}
@@ -17,7 +17,7 @@ use Rattle.abt_input.specs.Errors.{error_status}
 use Rattle.abt_input.specs.declared.error.CommandError.{CommandError}
 use Rattle.abt_input.specs.declared.error.CommandError.TheVariants.{ModelLong, ModelRefused, NoAim, LogLong, LogLine, ScheduleLong, ScheduleLine, OrderRefused, Clauses, Fault, Memory}
 use Rattle.abt_input.specs.declared.clauses_error.ClausesError.TheVariants.{CnfLong, CnfRefused, CnfLimit, ProofLong, ProofLine}
-use Rattle.abt_input.specs.Kinds.{IsExact, ReadsAs}
+use Rattle.abt_input.specs.Kinds.{IsExact}
 use Rattle.abt_input.specs.Plans.{Answer, WritesOwn, IsSoundPlan}
 use Rattle.abt_input.proofs.Keeping.{Keeps}
 use Rattle.abt_input.proofs.OwnWrites.{own_none, own_put, own_create, own_both, own_appends}
@@ -25,10 +25,9 @@ use Rattle.abt_input.proofs.PlanLaws.{plan_lawful}
 use Rattle.line_check.specs.declared.log_check.Checked.{Checked}
 use Rattle.line_check.specs.Taking.{taking_of}
 use Rattle.line_check.specs.Checks.{IsErrorOfEntries}
-use Rattle.line_check.specs.LogChecks.{IsKeptFor, kept_log}
+use Rattle.line_check.specs.LogChecks.{IsKeptFor}
 use Rattle.line_check.specs.CheckReports.{finding_plan}
 use Rattle.line_check.proofs.Lawful.{kept_exact, model_exact}
-use Rattle.line_rewrite.specs.UpgradePromise.{file_script}
 use Rattle.line_export.specs.Clauses.{formula, proof}
 use Rattle.line_export.specs.Texts.{cnf_lines, export_script}
 use Rattle.line_export.specs.Limits.{limit_past}

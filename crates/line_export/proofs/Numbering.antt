@@ -1,5 +1,5 @@
 -- Where atoms stand: different values have different atoms, and there are as many as values.
-use Rattle.std.proofs.Common.{◌≡◌, ◌≢◌, ◌⊎◌, ℕ, zero, suc, ◌+◌, ◌<◌, ◌≤◌, Bool, true, false, List, [], ◌∷◌, ◌++◌, length, take, get_or, map, Option, Some, None, slice_get, is_some, unwrap_or, refl, sym, ap, subst, ◌∙◌, inl, inr, arith, take_all}
+use Rattle.std.proofs.Common.{◌≡◌, ◌⊎◌, ℕ, zero, suc, ◌+◌, ◌<◌, ◌≤◌, Bool, true, false, List, [], ◌∷◌, length, take, get_or, Option, Some, None, slice_get, is_some, unwrap_or, refl, sym, ap, subst, ◌∙◌, inl, inr, arith, take_all}
 use Rattle.std.specs.Prelude.{ℤ, ◌<ℤ◌, IfSome, sum_by, if◌then◌else◌}
 use Rattle.std.specs.Int.Signed.{<ℤ_irrefl}
 use Rattle.std.specs.Ordering.{int_eq}
@@ -8,8 +8,8 @@ use Rattle.std.proofs.lemmas.List.Sums.{sum_by-append}
 use Rattle.std.proofs.Math.Seq.{take-suc}
 use Rattle.std.proofs.lemmas.Option.{slice_get_within, get_or_from_slice_get}
 use Rattle.dcsp_domain.specs.Sets.{has, IsRising}
-use Rattle.dcsp_defs.specs.Words.{In, below, sum_below}
-use Rattle.dcsp_defs.specs.Csp.{Csp, IsCsp, domain, count}
+use Rattle.dcsp_defs.specs.Words.{In, sum_below}
+use Rattle.dcsp_defs.specs.Csp.{Csp, domain, count}
 use Rattle.dcsp_problem.proofs.OwnerLists.{length-map_below, get_or-map_below}
 use Rattle.dcsp_rule.specs.Problems.{Contents, csp_of, value_count}
 use Rattle.line_export.specs.declared.atoms.Atoms.{Atoms}

@@ -1,6 +1,6 @@
 -- The clauses of a formula are read as they were written.
-use Rattle.std.proofs.Common.{◌≡◌, ◌⊎◌, ℕ, zero, suc, ◌+◌, ◌-◌, ◌^◌, ◌<◌, ◌≤◌, ◌==◌, Bool, true, false, List, [], ◌∷◌, ◌++◌, length, map, Option, Some, None, Ok, Err, refl, sym, ap, subst, ◌∙◌, inl, inr, append_assoc, append-nil, length-append, arith}
-use Rattle.std.specs.Prelude.{ℤ, pos, negsuc, neg_ℤ, codes, decimal, unsigned_abs, flat_map, sum_by, nat_lt, nat_le, ⊤, if◌then◌else◌}
+use Rattle.std.proofs.Common.{◌≡◌, ◌⊎◌, ℕ, zero, suc, ◌+◌, ◌-◌, ◌^◌, ◌<◌, ◌≤◌, ◌==◌, Bool, true, false, List, [], ◌∷◌, ◌++◌, length, map, Some, None, Ok, refl, sym, ap, subst, ◌∙◌, inl, inr, append_assoc, append-nil, length-append, arith}
+use Rattle.std.specs.Prelude.{ℤ, pos, negsuc, codes, decimal, unsigned_abs, flat_map, sum_by, nat_lt, ⊤, if◌then◌else◌}
 use Rattle.std.specs.List.{AllByRecursion}
 use Rattle.std.specs.Fmt.{signed_decimal}
 use Rattle.std.proofs.lemmas.List.{length-map, map-append}
@@ -13,7 +13,6 @@ use Rattle.dcsp_rule.specs.Rules.{size_of}
 use Rattle.dcsp_rule.specs.Problems.{Contents, term_count}
 use Rattle.dcsp_problem.specs.Limits.{rule_refusal}
 use Rattle.rup_check.specs.ProofText.{literal_text, clause_line, proof_text}
-use Rattle.cnf_front.specs.declared.header.CnfError.{CnfError}
 use Rattle.cnf_front.specs.Clauses.{literal_of, negation_of, rule_clause}
 use Rattle.cnf_front.specs.Dimacs.{TextWord, word_at, words}
 use Rattle.cnf_front.specs.Formulas as formulas

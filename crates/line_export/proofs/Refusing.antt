@@ -1,5 +1,5 @@
 -- A log that was kept was read as one of which a formula can be written, or is refused for the formula's sake.
-use Rattle.std.proofs.Common.{◌≡◌, ℕ, List, Option, Some, None, Ok, Err, refl}
+use Rattle.std.proofs.Common.{◌≡◌, ℕ, List, None, Ok, Err, refl}
 use Rattle.std.specs.Prelude.{◌≢◌}
 use Rattle.dcsp_outside.specs.Outside.{Place}
 use Rattle.dcsp_rule.specs.Problems.{Contents}

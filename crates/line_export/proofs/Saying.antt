@@ -1,14 +1,14 @@
 -- Each clause of an exported formula is a variable's or a constraint's, and follows from it.
-use Rattle.std.proofs.Common.{◌≡◌, ◌≢◌, ◌⊎◌, ℕ, suc, ◌<◌, ◌==◌, Bool, true, false, not, List, [], ◌∷◌, ◌++◌, length, map, take, Option, Some, None, slice_get, is_some, unwrap_or, refl, sym, ap, subst, ◌∙◌, inl, inr, arith, MatchOption}
-use Rattle.std.specs.Prelude.{ℤ, pos, negsuc, Contains, flat_map}
-use Rattle.std.specs.List.{list_any, list_all, AllZip}
+use Rattle.std.proofs.Common.{◌≡◌, ◌≢◌, ◌⊎◌, ℕ, suc, ◌<◌, ◌==◌, Bool, true, false, not, List, [], ◌∷◌, ◌++◌, length, take, Option, Some, None, slice_get, is_some, refl, sym, ap, subst, ◌∙◌, inl, inr, arith, MatchOption}
+use Rattle.std.specs.Prelude.{ℤ, Contains, flat_map}
+use Rattle.std.specs.List.{list_all, AllZip}
 use Rattle.std.specs.Ordering.{int_eq}
 use Rattle.std.proofs.lemmas.Bool.{eqb-true, eq-eqb}
 use Rattle.std.proofs.lemmas.Bool.Decides.{Decides-int_eq}
 use Rattle.std.proofs.lemmas.List.Elements.{Contains-append_cases}
-use Rattle.dcsp_defs.specs.Pairs.{value_at, pair_of}
+use Rattle.dcsp_defs.specs.Pairs.{pair_of}
 use Rattle.dcsp_defs.specs.Words.{In, below}
-use Rattle.dcsp_defs.specs.Csp.{Csp, IsCsp, IsConstraint, Constraint, Nogood, PartialAssignment, Assignment, is_violated, filled, given_with, domain, count}
+use Rattle.dcsp_defs.specs.Csp.{Csp, IsCsp, IsConstraint, Constraint, PartialAssignment, Assignment, filled, given_with, domain, count}
 use Rattle.dcsp_defs.specs.declared.Reason.{Reason}
 use Rattle.dcsp_defs.specs.declared.Reason.TheVariants.{Rule, Earlier}
 use Rattle.dcsp_defs.specs.declared.Step.{Step}
@@ -16,7 +16,6 @@ use Rattle.dcsp_defs.specs.Derivation.{IsReason, IsRight, IsRightAt, IsRightNowh
 use Rattle.dcsp_defs.proofs.Lists.{and_left, and_right, list_all-In, list_any-In, In-list_any, In-below, below-In, get-In}
 use Rattle.dcsp_problem.proofs.RisingNumbers.{Contains-In, In-Contains}
 use Rattle.dcsp_rule.specs.Problems.{Contents, csp_of, constraint_at}
-use Rattle.rup_check.specs.Literals.{is_true}
 use Rattle.rup_check.proofs.PropagationLaws.{contains_cases, contains_nil, contains_map, contains_mapped}
 use Rattle.line_cnf.proofs.Accepting.{is_given, is_some_value}
 use Rattle.line_export.specs.Atoms.{atoms_before, has_value, lacks_value, is_true_atom, HasValues}

@@ -1,5 +1,5 @@
 -- Whatever `rup` leaves of an exported formula and proof, it verified the proof or was stopped.
-use Rattle.std.proofs.Common.{◌≡◌, ℕ, ℤ, List, [], ◌∷◌, Option, Some, refl, sym, ap, subst, inr, ◌∙◌}
+use Rattle.std.proofs.Common.{◌≡◌, ℕ, List, Option, Some, refl, sym, subst, inr}
 use Rattle.std.specs.Prelude.{neg_ℤ}
 use Rattle.dcsp_outside.specs.Outside.{bytes_of}
 use Rattle.rup_check.specs.Propagation.{IsAccepted}
@@ -12,7 +12,6 @@ use Rattle.dcsp_script.proofs.Following.{report_did}
 use Rattle.abt_input.specs.Inputs.{HasClauses}
 use Rattle.line_check.specs.Verifying.{VerifiesUnlessStopped}
 use Rattle.line_cnf.specs.RupPromise.{rup_report, rup_promise, RupReport}
-use Rattle.line_cnf.specs.Satisfying.{clauses_of}
 use Rattle.line_cnf.proofs.Lawful.{rup_lawful}
 use Rattle.line_export.specs.Clauses.{Clause}
 use Rattle.line_export.specs.Exporting.{IsProofVerified}

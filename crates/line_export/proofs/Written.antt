@@ -8,7 +8,7 @@ use Rattle.std.specs.Prelude.{Bool, All}
 use Rattle.dcsp_defs.specs.Words.{below}
 use Rattle.dcsp_problem.proofs.OwnerLists.{get_or-map_below}
 use Rattle.dcsp_rule.specs.Problems.{value_count}
-use Rattle.dcsp_script.specs.Scripts.{Write, Create, Append}
+use Rattle.dcsp_script.specs.Scripts.{Create, Append}
 use Rattle.line_rewrite.specs.UpgradePromise.{file_script}
 use Rattle.rup_check.specs.ProofText.{clause_line}
 use Rattle.line_rewrite.specs.UpgradePromise.{appends}

@@ -1,5 +1,5 @@
 -- What an exported refutation means to a user.
-use Rattle.std.specs.Prelude.{◌≡◌, ◌≢◌, ◌<◌, ◌^◌, ◌⊎◌, ℕ, ℤ, neg_ℤ, true, Bool, List, map, length, ◌++◌, Option, Some, IfSome, slice_get, Contains}
+use Rattle.std.specs.Prelude.{◌≡◌, ◌≢◌, ◌<◌, ◌^◌, ◌⊎◌, ℕ, neg_ℤ, true, Bool, List, length, ◌++◌, Option, Some, IfSome, slice_get, Contains}
 use Rattle.std.specs.List.{concat}
 use Rattle.dcsp_defs.specs.Csp.{Csp, Constraint, PartialAssignment, Assignment, count}
 use Rattle.dcsp_defs.specs.declared.Step.{Step}

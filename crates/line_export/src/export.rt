@@ -1,6 +1,6 @@
 //! The line `export MODEL LOG CNF PROOF [--atoms] [--better N]`.
 
-ghost use Rattle.std.specs.Prelude.{◌≡◌, ◌≢◌, All, Ok};
+ghost use Rattle.std.specs.Prelude.{◌≡◌, ◌≢◌, All, IfOk, Ok};
 ghost use Rattle.dcsp_script.specs.Scripts.{outside};
 ghost use Rattle.dcsp_script.specs.Ways.{Wrote};
 ghost use Rattle.dcsp_script.specs.Runs.{CameIn};
@@ -22,7 +22,8 @@ use dcsp_defs::Derivation;
 use dcsp_outside::{Folder, Sink};
 use dcsp_script::{Status, Stop};
 use line_check::{check_and_keep, is_verified, take_problem, tell as tell_finding};
-use std::alloc::Global;
+use ngd_check::KeptSteps;
+use std::alloc::{AllocError, Global};
 
 /// The words of `export`.
 #[derive(Clone, Copy)]
@@ -70,11 +71,22 @@ pub fn run_export<F: Folder, S: Sink>(
         tell_finding(checked.finding, out)?;
         return Ok(Status::No);
     }
+    let copy = copied(alloc, checked.steps)?;
     let atoms = Atoms::of(alloc, &problem)?;
-    let clauses = formula_within(alloc, &atoms, checked.steps.steps())?;
+    let clauses = formula_within(alloc, &atoms, copy.steps())?;
     let formula = Formula { atoms, clauses };
-    write(alloc, folder, line, &formula, &checked.steps, out)?;
+    write(alloc, folder, line, &formula, &copy, out)?;
     Ok(Status::Good)
+}
+
+/// The same steps, each in lists of its own; the others go.
+fn copied(alloc: Global, steps: KeptSteps<'_>) -> Result<Derivation, AllocError>
+    ensures { IfOk result (λ copy. copy ≡ steps.entry) }
+{
+    match steps.derivation(alloc) {
+        Ok(copy) => Ok(copy),
+        Err(_) => Err(AllocError),
+    }
 }
 
 /// The clauses that say that a problem has a solution, and the atoms that they are over.

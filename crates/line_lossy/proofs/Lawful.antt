@@ -18,12 +18,12 @@ use Rattle.line_replay.proofs.Scripts.{record_leaves}
 use Rattle.line_lossy.specs.Asked.{Asked, lossy, run_problem, run_steps, run_world, run_numbers, end_of, answer_text, log_script, asked_script}
 use Rattle.line_lossy.specs.LossyPromise.{lossy_plan, lossy_promise, ordered_plan}
 
-log_leaves : (log : List ℕ) (steps : List Step) (name : List ℕ) → (log ≡ name → ⊥) → LeavesAlone (log_script log steps) name
+pub log_leaves : (log : List ℕ) (steps : List Step) (name : List ℕ) → (log ≡ name → ⊥) → LeavesAlone (log_script log steps) name
 log_leaves log steps name other =
     (other, (other, leaves-append name (step_writes log 1 steps) (Append log (codes "end\n") ∷ []) (append_lines_leave log name other (step_lines 1 steps)) (other, tt)))
 
 -- a name that is not the log's or the record's is left alone
-pub run_leaves : (asked : Asked) (name : List ℕ) → (asked.log ≡ name → ⊥) → IfSome asked.record_file (λ k. k ≡ name → ⊥) → LeavesAlone (asked_script asked) name
+run_leaves : (asked : Asked) (name : List ℕ) → (asked.log ≡ name → ⊥) → IfSome asked.record_file (λ k. k ≡ name → ⊥) → LeavesAlone (asked_script asked) name
 run_leaves asked name other h =
     leaves-append name (log_script asked.log (run_steps asked)) (record_script asked.record_file (run_numbers asked) ++ Put (answer_text asked) ∷ []) (log_leaves asked.log (run_steps asked) name other)
     (leaves-append name (record_script asked.record_file (run_numbers asked)) (Put (answer_text asked) ∷ []) (record_leaves (run_numbers asked) asked.record_file name h) ((λ t. t), tt))

@@ -9,3 +9,4 @@ pub mod Meaning
 pub mod Lawful
 pub mod HeldRuns
 pub mod Files
+pub mod Logs

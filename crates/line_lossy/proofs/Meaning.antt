@@ -1,5 +1,6 @@
 -- What a run over the medium means.
-use Rattle.std.proofs.Common.{◌≡◌, ◌↔◌, ℕ, ◌+◌, Bool, true, false, cond, ◌||◌, List, [], Option, Some, None, length, refl, sym, ap, ◌∙◌, arith}
+use Rattle.std.proofs.Common.{◌≡◌, ◌↔◌, ℕ, ◌+◌, Bool, true, false, cond, ◌||◌, List, [], Option, Some, None, length, slice_get, refl, sym, ap, ◌∙◌, subst, arith}
+use Rattle.std.proofs.lemmas.List.{take_all}
 use Rattle.dcsp_defs.specs.Csp.{Csp, HasNoSolution, IsCsp, IsSolution}
 use Rattle.dcsp_rule.specs.Problems.{Contents, csp_of}
 use Rattle.dcsp_problem.specs.WellFormed.{IsProblem}
@@ -9,19 +10,26 @@ use Rattle.dcsp_order.specs.Under.{by_place}
 use Rattle.dcsp_order.proofs.Solutions.{solutions_go}
 use Rattle.dcsp_problem.proofs.OwnerLists.{length-map_below}
 use Rattle.abt_defs.specs.Network.{values}
-use Rattle.abt_defs.specs.Runs.{Run, Refuted, Solved, Capped}
+use Rattle.abt_defs.specs.Runs.{Run, Refuted, Solved, Capped, whole}
 use Rattle.law_runs.specs.Worlds.{World}
 use Rattle.law_runs.specs.LossyEnds.{is_quiet, has_verdict}
 use Rattle.law_runs.proofs.WorldRuns.{quiet_is_solved, steps_are_right, handed_up_bounded}
 use Rattle.law_runs.proofs.WholeWorlds.{is_whole}
+use Rattle.law_runs.specs.LossyRuns.{IsWholeRun}
 use Rattle.abt_schedule.specs.Answers.{word_at, generator_of}
+use Rattle.abt_schedule.specs.Schedules.{schedule_text, AreChoices, IsScheduleOf}
+use Rattle.abt_schedule.proofs.ScheduleLaws.{schedule_or_bad_line}
+use Rattle.abt_session.specs.Answers.{first_answers}
 use Rattle.dcsp_script.specs.declared.status.Status.{Status}
 use Rattle.dcsp_script.specs.declared.status.Status.TheVariants.{Good, No, Unfinished}
+use Rattle.line_replay.specs.Asked.{most_deliveries}
 use Rattle.line_replay.specs.Endings.{assigned, end_status}
-use Rattle.line_replay.proofs.UnderOrder.{final_value, ordered_csp, refutation_told, solution_told}
-use Rattle.line_replay.proofs.Verdicts.{same_solution}
-use Rattle.line_lossy.specs.Asked.{Asked, lossy, most_calm, seeded_words, run_problem, run_words, run_world, end_of, world_values}
-use Rattle.line_lossy.specs.Meaning.{IsRefutedRun, IsSolvedRun, IsUnfinishedRun, IsBoundedRun, IsLossyRun, RunsAreRight}
+use Rattle.line_replay.proofs.Outcomes.{list_answers}
+use Rattle.line_replay.proofs.Recording.{numbers_fit}
+use Rattle.line_replay.proofs.UnderOrder.{final_value, ordered_count, ordered_csp, refutation_told, solution_told}
+use Rattle.line_replay.proofs.Verdicts.{few_choices, same_solution}
+use Rattle.line_lossy.specs.Asked.{Asked, lossy, most_calm, seeded_words, run_numbers, run_problem, run_words, run_world, end_of, world_values}
+use Rattle.line_lossy.specs.Meaning.{IsRefutedRun, IsSolvedRun, IsUnfinishedRun, IsBoundedRun, IsRecorded, IsLossyRun, RunsAreRight}
 use Rattle.line_lossy.proofs.Counting.{all_made, soon, past_budget}
 
 -- ---- statuses
@@ -118,6 +126,28 @@ module _ (asked : Asked) (sound : IsProblem asked.problem) (good_order : IsOrder
         events = let l = soon (run_problem asked) ok given most_calm in let long = given_long in omega (arith, l, long);
       }
 
+  numbers_are_choices : AreChoices (run_numbers asked)
+  numbers_are_choices =
+      let variables = sound.few_variables in
+      let as_many = ordered_count asked.order asked.problem sound good_order in
+      let again = is_whole run (run_words asked) (length (run_numbers asked)) (omega arith) in
+      subst AreChoices again.numbers (numbers_fit run (length (run_numbers asked)) (run_numbers asked) (omega (arith, variables, as_many)))
+
+  recorded : IsRecorded asked (schedule_text (run_numbers asked))
+  recorded =
+      let numbers = run_numbers asked in
+      let text = schedule_text numbers in
+      let schedule : IsScheduleOf text numbers = record { in_range = numbers_are_choices; same = refl } in
+      record {
+        schedule = schedule;
+        read = λ short. record { short = short; reads = schedule };
+        alone = λ choices is. (schedule_or_bad_line text).one_schedule choices numbers is.reads schedule;
+        replayed = λ short log trace.
+            let few = few_choices text numbers (record { short = short; reads = schedule }) in
+            let same : first_answers most_deliveries (λ k. slice_get numbers k) ≡ numbers = list_answers most_deliveries numbers ∙ take_all most_deliveries numbers (omega (arith, few)) in
+            subst (λ cs. IsWholeRun run most_deliveries numbers w (whole run most_deliveries cs)) (sym same) (is_whole run (run_words asked) most_deliveries (omega (arith, few)));
+      }
+
   pub is_right : IsLossyRun asked status
   is_right = record {
     status_is = status_is;
@@ -126,6 +156,7 @@ module _ (asked : Asked) (sound : IsProblem asked.problem) (good_order : IsOrder
     unfinished = unfinished;
     bounded = bounded;
     reliable = is_whole (run_problem asked) (run_words asked);
+    recorded = recorded;
   }
 
 pub runs_are_right : RunsAreRight

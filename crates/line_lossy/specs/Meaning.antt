@@ -1,21 +1,23 @@
 -- What a run over the medium means to a user.
-use Rattle.std.specs.Prelude.{◌≡◌, ◌≢◌, ◌↔◌, ℕ, ◌+◌, ◌*◌, ◌≤◌, false, true, List, length, Option, Some, None, IfSome}
-use Rattle.dcsp_outside.specs.Outside.{bytes_of}
+use Rattle.std.specs.Prelude.{◌≡◌, ◌≢◌, ◌↔◌, ℕ, ◌+◌, ◌*◌, ◌<◌, ◌≤◌, Bool, false, true, List, length, Option, Some, IfSome}
+use Rattle.dcsp_outside.specs.Outside.{Told, bytes_of}
 use Rattle.dcsp_defs.specs.Csp.{IsSolution, HasNoSolution}
 use Rattle.dcsp_defs.specs.Derivation.{IsRefutation}
 use Rattle.dcsp_rule.specs.Problems.{Contents, csp_of}
 use Rattle.dcsp_problem.specs.WellFormed.{IsProblem}
 use Rattle.dcsp_order.specs.Told.{ordered, IsOrderFor}
-use Rattle.dcsp_script.specs.Scripts.{put_by, FilesAfter}
+use Rattle.dcsp_script.specs.Scripts.{World, put_by, FilesAfter}
+use Rattle.dcsp_script.specs.Ways.{DidPartOf}
 use Rattle.ngd_log.specs.Logs.{log_text}
-use Rattle.abt_schedule.specs.Schedules.{schedule_text}
+use Rattle.abt_schedule.specs.Schedules.{schedule_text, IsScheduleOf}
 use Rattle.abt_defs.specs.Bound.{message_bound}
 use Rattle.abt_defs.specs.Runs.{whole}
 use Rattle.law_runs.specs.LossyEnds.{is_quiet, has_verdict}
 use Rattle.law_runs.specs.LossyRuns.{IsWholeRun}
-use Rattle.abt_input.specs.Inputs.{IsModelOf, HasOrder}
+use Rattle.abt_input.specs.Inputs.{most_schedule, HasChoices, IsModelOf, IsOrderIn}
 use Rattle.dcsp_script.specs.declared.status.Status.{Status}
 use Rattle.dcsp_script.specs.declared.status.Status.TheVariants.{Good, No, Unfinished}
+use Rattle.line_replay.specs.Asked.{asked_run, most_deliveries, replay}
 use Rattle.line_replay.specs.Endings.{assigned, end_status}
 use Rattle.line_lossy.specs.Asked.{Asked, lossy, run_problem, run_words, run_world, run_numbers, run_steps, end_of, world_values, most_calm, answer_text, asked_script}
 
@@ -47,6 +49,16 @@ pub record IsBoundedRun (asked : Asked) : Type 0 where
 abbrev pub IsReliableRun : Asked → Type 0
 IsReliableRun asked = (most : ℕ) → length (run_numbers asked) ≤ most → IsWholeRun (run_problem asked) most (run_numbers asked) (run_world asked) (whole (run_problem asked) most (run_numbers asked))
 
+-- The record: the schedule of the numbers of all that was handed up.
+pub record IsRecorded (asked : Asked) (text : List ℕ) : Type 0 where
+  pub schedule : IsScheduleOf text (run_numbers asked)
+  -- where it is not too long for `replay`, that reads these choices, and no other ones
+  pub read : length text ≤ most_schedule → HasChoices text (run_numbers asked)
+  pub alone : (choices : List ℕ) → HasChoices text choices → choices ≡ run_numbers asked
+  -- and makes the world's run over reliable links of it, under the same order, whatever its log and its trace
+  pub replayed : length text ≤ most_schedule → (log : List ℕ) (trace : Bool)
+      → IsWholeRun (run_problem asked) most_deliveries (run_numbers asked) (run_world asked) (asked_run (replay asked.order asked.problem (run_numbers asked) log trace))
+
 -- a run with this status
 pub record IsLossyRun (asked : Asked) (status : Status) : Type 0 where
   pub status_is : status ≡ end_status (end_of (run_problem asked) (run_world asked))
@@ -55,6 +67,7 @@ pub record IsLossyRun (asked : Asked) (status : Status) : Type 0 where
   pub unfinished : IsUnfinishedRun asked status
   pub bounded : IsBoundedRun asked
   pub reliable : IsReliableRun asked
+  pub recorded : IsRecorded asked (schedule_text (run_numbers asked))
 
 -- it is so of every run of a problem within the limits, under any order of its variables, that ends with the status of its report
 abbrev pub RunsAreRight : Type 0
@@ -62,16 +75,10 @@ RunsAreRight =
     (p : Contents) (order : Option (List ℕ)) (events seed : ℕ) (log : List ℕ) (record_file : Option (List ℕ)) → IsProblem p → IsOrderFor order p → (status : Status)
     → status ≡ end_status (end_of (csp_of (ordered order p)) (run_world (lossy order p events seed log record_file))) → IsLossyRun (lossy order p events seed log record_file) status
 
--- the file under the name, where one is given, holds this order of the problem's variables
-abbrev pub HasOrderIn : Option (List ℕ) → (List ℕ → Option (List ℕ)) → Contents → Option (List ℕ) → Type 0
-HasOrderIn None files problem order = order ≡ None
-HasOrderIn (Some name) files problem None = ⊥
-HasOrderIn (Some name) files problem (Some order) = HasOrder (length problem.domains) (bytes_of (files name)) order
-
 -- the run of the model under the name, and under the order that is named, where the folder tells both, has this status
 abbrev pub HoldsLossyRun : Option (List ℕ → Option (List ℕ)) → List ℕ → Option (List ℕ) → ℕ → ℕ → List ℕ → Option (List ℕ) → Status → Type 0
 HoldsLossyRun files name order_name events seed log record_file status =
-    IfSome files (λ f. (problem : Contents) (order : Option (List ℕ)) → IsModelOf (bytes_of (f name)) problem → HasOrderIn order_name f problem order
+    IfSome files (λ f. (problem : Contents) (order : Option (List ℕ)) → IsModelOf (bytes_of (f name)) problem → IsOrderIn f order_name problem order
     → IsLossyRun (lossy order problem events seed log record_file) status)
 
 -- ---- what is written
@@ -89,3 +96,8 @@ FilesAreWhole = (asked : Asked) → IfSome asked.record_file (λ record_name. re
 -- All that the script puts is the answer.
 abbrev pub AnswersArePut : Type 0
 AnswersArePut = (asked : Asked) → put_by (asked_script asked) ≡ answer_text asked
+
+-- Once a byte was put, the log was written whole, and so was the record, where it does not have the log's name.
+abbrev pub AnswersComeLast : Type 0
+AnswersComeLast = (asked : Asked) → IfSome asked.record_file (λ record_name. record_name ≢ asked.log) → (old new : World) → DidPartOf (asked_script asked) old new
+    → Told old.out.written new.out.written (λ before now. length before < length now → Told old.folder.held new.folder.held (HoldsFiles asked))

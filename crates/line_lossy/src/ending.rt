@@ -17,13 +17,12 @@ use crate::runner::LossyRunner;
 use abt_lossy::{Lossy, Standing};
 use abt_schedule::ChoiceList;
 use abt_session::{End, Outcome};
-use dcsp_common::Memory;
+use dcsp_common::{Memory, push_number};
 use dcsp_domain::IntList;
 use dcsp_order::Order;
 use dcsp_outside::Sink;
 use dcsp_problem::Problem;
 use dcsp_script::{Stop, put};
-use itoa::Buffer;
 use line_replay::push_outcome;
 use std::alloc::{AllocError, Global};
 
@@ -132,6 +131,6 @@ fn push_events(events: u64, into: &mut Vec<u8>) -> Result<(), AllocError>
     ensures { OnOk result (into.new.items ≡ into.old.items ++ events_text events) }
 {
     into.extend_from_slice(b"% events ")?;
-    into.extend_from_slice(Buffer::new().format(events).as_bytes())?;
+    push_number(into, events)?;
     into.extend_from_slice(b"\n")
 }

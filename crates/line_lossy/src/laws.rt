@@ -3,7 +3,7 @@
 ghost use Rattle.std.specs.Prelude.{ℕ, List, Option};
 ghost use Rattle.dcsp_script.specs.Clauses.{IsLawful};
 ghost use Rattle.line_lossy.specs.LossyPromise.{lossy_promise};
-ghost use Rattle.line_lossy.specs.Meaning.{AnswersArePut, FilesAreWhole, RunsAreRight};
+ghost use Rattle.line_lossy.specs.Meaning.{AnswersArePut, AnswersComeLast, FilesAreWhole, RunsAreRight};
 
 /// The promise keeps what every line of words keeps.
 pub fn lossy_is_lawful()
@@ -16,8 +16,10 @@ pub fn lossy_runs_are_right()
     ensures { RunsAreRight }
 {}
 
-/// What a run writes when nothing stops it: its log whole, its record, if one is asked for, and its answer.
+/// What a run writes when nothing stops it: its log whole, its record, if one is asked for, and its answer; and wherever
+/// it was stopped, log and record are whole once a byte of the answer was put.
 pub fn lossy_runs_are_whole()
     ensures files { FilesAreWhole }
     ensures answers { AnswersArePut }
+    ensures last { AnswersComeLast }
 {}

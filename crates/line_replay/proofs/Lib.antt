@@ -8,3 +8,5 @@ pub mod Telling
 pub mod UnderOrder
 pub mod Recording
 pub mod HeldOrders
+pub mod SolutionTexts
+pub mod Printed

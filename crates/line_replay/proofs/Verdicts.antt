@@ -153,7 +153,7 @@ concat_long lines f (c ∷ cs) e h =
     subst (λ z. length (c ∷ cs) ≤ length (concat z)) (sym e) (omega (arith, l, one, s))
 
 -- a schedule has more bytes than choices
-few_choices : (schedule choices : List ℕ) → HasChoices schedule choices → length choices < most_deliveries
+pub few_choices : (schedule choices : List ℕ) → HasChoices schedule choices → length choices < most_deliveries
 few_choices schedule choices h =
     let lines = map choice_line choices in
     let last : List (List ℕ) = codes "end\n" ∷ [] in

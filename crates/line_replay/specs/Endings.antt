@@ -5,7 +5,7 @@ use Rattle.dcsp_rule.specs.Problems.{Contents, csp_of}
 use Rattle.abt_defs.specs.Runs.{Run, End, Refuted, Solved, Capped, Spent}
 use Rattle.dcsp_order.specs.Told.{ordered}
 use Rattle.abt_session.specs.Running.{values_of}
-use Rattle.abt_answer.specs.Solutions.{solution_text}
+use Rattle.line_replay.specs.Solutions.{solution_text}
 use Rattle.dcsp_script.specs.declared.status.Status.{Status}
 use Rattle.dcsp_script.specs.declared.status.Status.TheVariants.{Good, No, Unfinished}
 

@@ -7,3 +7,5 @@ pub mod Headline
 pub mod Tasks
 pub mod Ordering
 pub mod Recorded
+pub mod Solutions
+pub mod Printed

@@ -7,12 +7,12 @@ ghost use Rattle.dcsp_script.specs.Ways.{Wrote};
 ghost use Rattle.line_replay.specs.Endings.{counts_text, unused_text};
 ghost use Rattle.line_replay.specs.Outcomes.{end_text, outcome_text, outcome_status, HasAllValues};
 
-use abt_answer::push_solution;
+use crate::solution::push_solution;
 use abt_session::{End, Outcome};
+use dcsp_common::push_number;
 use dcsp_outside::Sink;
 use dcsp_problem::Problem;
 use dcsp_script::{Status, Stop, put};
-use itoa::Buffer;
 use std::alloc::{AllocError, Global};
 
 /// The status of an end.
@@ -82,9 +82,9 @@ pub fn push_counts(deliveries: u64, steps: u64, into: &mut Vec<u8>) -> Result<()
     ensures { OnOk result (into.new.items ≡ into.old.items ++ counts_text deliveries steps) }
 {
     into.extend_from_slice(b"% deliveries ")?;
-    into.extend_from_slice(Buffer::new().format(deliveries).as_bytes())?;
+    push_number(into, deliveries)?;
     into.extend_from_slice(b"\n% steps ")?;
-    into.extend_from_slice(Buffer::new().format(steps).as_bytes())?;
+    push_number(into, steps)?;
     into.extend_from_slice(b"\n")
 }
 
@@ -96,6 +96,6 @@ fn push_unused(unused: Option<u64>, into: &mut Vec<u8>) -> Result<(), AllocError
         return Ok(());
     };
     into.extend_from_slice(b"% unused ")?;
-    into.extend_from_slice(Buffer::new().format(choices).as_bytes())?;
+    push_number(into, choices)?;
     into.extend_from_slice(b"\n")
 }

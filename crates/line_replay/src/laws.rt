@@ -1,7 +1,8 @@
-//! Laws of recorded runs.
+//! Laws of recorded runs, and of solution texts.
 
 ghost use Rattle.dcsp_rule.specs.Problems.{Contents};
 ghost use Rattle.line_replay.specs.Asked.{IsReplayed};
+ghost use Rattle.line_replay.specs.Printed.{TextTellsValues};
 ghost use Rattle.line_replay.specs.Recorded.{RecordsAreSchedules, RecordsAreWhole};
 ghost use Rattle.line_replay.specs.Settings.{Settings};
 
@@ -20,4 +21,10 @@ pub fn records_are_schedules()
 /// A record's file holds the schedule of its numbers once the record was written and the answer put behind it.
 pub fn records_are_whole()
     ensures { RecordsAreWhole }
+{}
+
+/// Two texts of solutions of one problem are equal exactly where each output, by its place, has the same values: of a
+/// variable its value, of an array each element, of a Boolean its truth. Names may repeat, so places tell.
+pub fn texts_tell_values()
+    ensures { (p : Contents) → TextTellsValues p }
 {}

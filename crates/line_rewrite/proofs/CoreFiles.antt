@@ -20,6 +20,7 @@ use Rattle.ngd_check.specs.declared.Finding.{Finding}
 use Rattle.ngd_check.specs.declared.Finding.TheVariants.{Verified}
 use Rattle.ngd_check.specs.Findings.{IsFindingOf}
 use Rattle.ngd_check.specs.Entries.{steps_of}
+use Rattle.ngd_check.specs.Progress.{right_steps}
 use Rattle.ngd_rewrite.specs.declared.cores.Core.{Core}
 use Rattle.ngd_rewrite.specs.Cores.{limited}
 use Rattle.ngd_rewrite.specs.Needed.{IsTrimmed}
@@ -55,15 +56,19 @@ pub found_in : (better : Option ℤ) (files mid : Option (List ℕ → Option (L
 found_in better files mid m l p checked same h k = record { model = h.0; log = k.0; model_held = h.1; log_held = subst (λ f. IsHeld f l k.0) same k.1; model_is = h.2; log_is = k.2 }
 
 module _ (p : Contents) (log : List ℕ) (checked : Checked) (k : IsKeptFor p log checked) where
+  -- all steps of a log that is verified are there
+  pub all_steps : checked.finding ≡ Verified → checked.steps ≡ steps_of k.entries
+  all_steps e = k.steps ∙ ap (λ (x : Finding). right_steps x (steps_of k.entries)) e
+
   -- the steps of a log that is verified are a refutation
   pub found_refutes : checked.finding ≡ Verified → IsRefutation (csp_of p) checked.steps
-  found_refutes e = subst (IsRefutation (csp_of p)) (sym k.steps) (steps_refute (csp_of p) k.entries (subst (λ (x : Finding). IsFindingOf (csp_of p) k.entries x) e k.found))
+  found_refutes e = subst (IsRefutation (csp_of p)) (sym (all_steps e)) (steps_refute (csp_of p) k.entries (subst (λ (x : Finding). IsFindingOf (csp_of p) k.entries x) e k.found))
 
-  pub found_writable : AreWritable checked.steps
-  found_writable = subst AreWritable (sym k.steps) (log_writable log k.entries k.log_is.reads)
+  pub found_writable : checked.finding ≡ Verified → AreWritable checked.steps
+  found_writable e = subst AreWritable (sym (all_steps e)) (log_writable log k.entries k.log_is.reads)
 
-  found_short : (trimmed : List Step) → IsTrimmed checked.steps trimmed → length (log_text trimmed) ≤ most_log
-  found_short trimmed is = trimmed_short log k.entries trimmed k.log_is (subst (λ (s : List Step). IsTrimmed s trimmed) k.steps is)
+  found_short : checked.finding ≡ Verified → (trimmed : List Step) → IsTrimmed checked.steps trimmed → length (log_text trimmed) ≤ most_log
+  found_short e trimmed is = trimmed_short log k.entries trimmed k.log_is (subst (λ (s : List Step). IsTrimmed s trimmed) (all_steps e) is)
 
 -- ---- what was written
 
@@ -88,7 +93,7 @@ module _ (name : List ℕ) (p : Contents) (steps : List Step) (core : Core) wher
   told_trimmed (Some files) None t = t
   told_trimmed (Some files) (Some now) t = writes_trimmed files now t
 
-put_last : (name : List ℕ) (lines : List (List ℕ)) (text : List ℕ) → put_by (appends name lines ++ Put text ∷ []) ≡ text
+pub put_last : (name : List ℕ) (lines : List (List ℕ)) (text : List ℕ) → put_by (appends name lines ++ Put text ∷ []) ≡ text
 put_last name [] text = append-nil text
 put_last name (line ∷ lines) text = put_last name lines text
 
@@ -112,22 +117,22 @@ check_verifies better m l t p checked core (Some files) (Some after) h is told u
     is.refutes
 
 -- what was done for what was found was done for the model and the log under the names
-told_core : (better : Option ℤ) (files : Option (List ℕ → Option (List ℕ))) (m l t : List ℕ) (p : Contents) (checked : Checked) (old new : World) → IsFoundIn better files m l p checked → HasTrimmed (taking_of better) p checked.steps m t old new
+told_core : (better : Option ℤ) (files : Option (List ℕ → Option (List ℕ))) (m l t : List ℕ) (p : Contents) (checked : Checked) (old new : World) → checked.finding ≡ Verified → IsFoundIn better files m l p checked → HasTrimmed (taking_of better) p checked.steps m t old new
     → IfSome files (λ g. (problem : Contents) (entries : List Entry) → (taking_of better).Is (bytes_of (g m)) problem → HasEntries (bytes_of (g l)) entries → HasTrimmed (taking_of better) problem (steps_of entries) m t old new)
-told_core better None m l t p checked old new h has = tt
-told_core better (Some g) m l t p checked old new h has = λ problem entries is_model is_log.
+told_core better None m l t p checked old new verified h has = tt
+told_core better (Some g) m l t p checked old new verified h has = λ problem entries is_model is_log.
     let k = h.log_is in
     let problems : p ≡ problem = (settled better).one (bytes_of (g m)) p problem (subst (λ (x : List ℕ). (taking_of better).Is x p) h.model_held h.model_is) is_model in
     let lists : k.entries ≡ entries = (entries_or_bad_line (bytes_of (g l))).one_list k.entries entries (subst (λ (x : List ℕ). IsLogOfEntries x k.entries) h.log_held k.log_is.reads) is_log.reads in
-    subst (λ (x : Contents). HasTrimmed (taking_of better) x (steps_of entries) m t old new) problems (subst (λ (s : List Step). HasTrimmed (taking_of better) p s m t old new) (k.steps ∙ ap steps_of lists) has)
+    subst (λ (x : Contents). HasTrimmed (taking_of better) x (steps_of entries) m t old new) problems (subst (λ (s : List Step). HasTrimmed (taking_of better) p s m t old new) (all_steps p h.log checked k verified ∙ ap steps_of lists) has)
 
 module _ (better : Option ℤ) (m l t : List ℕ) (a b : Place) (out : Stream) (held : b.held ≡ a.held) (p : Contents) (checked : Checked) (core : Core) where
-  pub holds_core : {T : Type 0} (x : T) (w : World) → IsFoundIn better a.held m l p checked → IsCoreOf checked.steps core → IsRefutation (csp_of p) core.steps → HasNoSolution (limited (csp_of p) core.rules) → Wrote (core_script t p checked.steps core) (outside b out) w (Ok x) → HoldsCore (taking_of better) m l t (outside a out) w
-  holds_core x w h is refutes none wrote =
+  pub holds_core : {T : Type 0} (x : T) (w : World) → checked.finding ≡ Verified → IsFoundIn better a.held m l p checked → IsCoreOf checked.steps core → IsRefutation (csp_of p) core.steps → HasNoSolution (limited (csp_of p) core.rules) → Wrote (core_script t p checked.steps core) (outside b out) w (Ok x) → HoldsCore (taking_of better) m l t (outside a out) w
+  holds_core x w verified h is refutes none wrote =
       let done = wrote.ended.after in
-      let core_is = is_core p checked.steps core (found_writable p h.log checked h.log_is) (found_short p h.log checked h.log_is core.steps is.trimmed) is refutes none in
+      let core_is = is_core p checked.steps core (found_writable p h.log checked h.log_is verified) (found_short p h.log checked h.log_is verified core.steps is.trimmed) is refutes none in
       let files_are = told_trimmed t p checked.steps core a.held w.folder.held (subst (λ (x : Option (List ℕ → Option (List ℕ))). Told x w.folder.held (FilesAfter (core_script t p checked.steps core))) held done.files) in
-      told_core better a.held m l t p checked (outside a out) w h (record {
+      told_core better a.held m l t p checked (outside a out) w verified h (record {
         core = core;
         is = core_is;
         files = files_are;

@@ -14,6 +14,7 @@ use Rattle.dcsp_script.proofs.Parts.{left_alone}
 use Rattle.dcsp_script.proofs.Texts.{appended_by-append}
 use Rattle.dcsp_defs.specs.declared.entry.Entry.{Entry}
 use Rattle.ngd_log.specs.declared.standing.Version.TheVariants.{Two}
+use Rattle.ngd_log.specs.Logs.{AreWritable}
 use Rattle.ngd_log.specs.EntryTexts.{entry_lines, head, entries_text, text_lines}
 use Rattle.ngd_rewrite.specs.Upgrade.{upgraded}
 use Rattle.dcsp_script.specs.Promises.{IsHeld}
@@ -21,6 +22,7 @@ use Rattle.abt_input.specs.Inputs.{IsTextOf}
 use Rattle.abt_input.proofs.Once.{one_text}
 use Rattle.line_rewrite.specs.UpgradePromise.{appends, file_script, upgrade_text, upgrade_script}
 use Rattle.line_rewrite.specs.Upgrading.{new_text, WritesUpgrade, HoldsUpgrade}
+use Rattle.line_rewrite.proofs.Meaning.{is_upgrade}
 
 -- the lines of a text, joined, are the text
 pub lines_joined : (entries : List Entry) → concat (text_lines Two entries) ≡ entries_text Two entries
@@ -67,9 +69,10 @@ module _ (name other : List ℕ) (unlike : name ≡ other → ⊥) where
   pub upgrade_leaves : (steps : List Step) → LeavesAlone (upgrade_script name steps) other
   upgrade_leaves steps = (unlike, leaves (text_lines Two (upgraded steps)) (Put (upgrade_text steps) ∷ []) ((λ u. u), tt))
 
-writes_upgrade : (steps : List Step) (name : List ℕ) (files now : List ℕ → Option (List ℕ)) → FilesAfter (upgrade_script name steps) files now → WritesUpgrade steps name files now
-writes_upgrade steps name files now after = record {
+writes_upgrade : (steps : List Step) (name : List ℕ) (files now : List ℕ → Option (List ℕ)) → AreWritable steps → FilesAfter (upgrade_script name steps) files now → WritesUpgrade steps name files now
+writes_upgrade steps name files now writable after = record {
   written = after name ∙ upgraded_file name steps (files name);
+  upgrade = is_upgrade steps writable;
   others = λ other unlike. after other ∙ left_alone (upgrade_script name steps) other (files other) (upgrade_leaves name other (λ e. unlike (sym e)) steps);
 }
 
@@ -79,7 +82,7 @@ module _ (log name : List ℕ) (steps : List Step) where
   told_upgrade None (Some now) h t = t
   told_upgrade (Some files) None h t = t
   told_upgrade (Some files) (Some now) h t = λ other is.
-      subst (λ x. WritesUpgrade x name files now) (one_text (bytes_of (files log)) steps other (subst (λ m. IsTextOf m steps) h.1 h.2) is) (writes_upgrade steps name files now t)
+      subst (λ x. WritesUpgrade x name files now) (one_text (bytes_of (files log)) steps other (subst (λ m. IsTextOf m steps) h.1 h.2) is) (writes_upgrade steps name files now h.2.reads.writable t)
 
   -- in a folder that told the same when the log was read
   pub holds_upgrade : {T : Type 0} (files : Option (List ℕ → Option (List ℕ))) (q : Place) (out : Stream) (w : World) (x : T) → q.held ≡ files → (text : List ℕ) × IsHeld files log text × IsTextOf text steps → Wrote (upgrade_script name steps) (outside q out) w (Ok x) → HoldsUpgrade log name files w.folder.held

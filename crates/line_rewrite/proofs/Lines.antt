@@ -2,7 +2,8 @@
 use Rattle.std.proofs.Common.{◌≡◌, ℕ, zero, suc, ◌+◌, ◌<◌, ◌≤◌, List, [], ◌∷◌, length, get_or, drop, Result, Ok, Err, sym, ap, subst, ◌∙◌, arith, drop-cons, add-one}
 use Rattle.std.specs.Prelude.{IsErr, IsErrAnd}
 use Rattle.std.specs.List.{AllByRecursion}
-use Rattle.std.proofs.lemmas.List.{drop_all}
+use Rattle.std.proofs.lemmas.List.{drop_all, get_or_default}
+use Rattle.ngd_check.specs.Places.{no_step}
 use Rattle.dcsp_defs.specs.declared.Step.{Step}
 use Rattle.dcsp_rule.specs.Problems.{Contents}
 use Rattle.dcsp_script.specs.declared.stop.Stop.{Stop}
@@ -26,6 +27,10 @@ lines_left steps i step below is =
 pub steps_left : (name : List ℕ) (steps : List Step) (i : ℕ) (step : Step) → i < length steps → step ≡ get_or steps i step → appends name (step_lines (i + 1) (drop i steps)) ≡ Append name (step_line (i + 1) step) ∷ appends name (step_lines (i + 1 + 1) (drop (i + 1) steps))
 steps_left name steps i step below is = ap (appends name) (lines_left steps i step below is)
 
+-- the same by its place
+pub here_left : (name : List ℕ) (steps : List Step) (i : ℕ) → i < length steps → appends name (step_lines (i + 1) (drop i steps)) ≡ Append name (step_line (i + 1) (get_or steps i no_step)) ∷ appends name (step_lines (i + 1 + 1) (drop (i + 1) steps))
+here_left name steps i l = steps_left name steps i (get_or steps i no_step) l (sym (get_or_default steps i (get_or steps i no_step) no_step l))
+
 -- no line is left
 pub steps_done : (name : List ℕ) (steps : List Step) (i : ℕ) → length steps ≤ i → appends name (step_lines (i + 1) (drop i steps)) ≡ []
 steps_done name steps i l = ap (λ (s : List Step). appends name (step_lines (i + 1) s)) (drop_all i steps l)
@@ -38,6 +43,9 @@ each_at (s ∷ steps) (suc i) step l is h = each_at steps i step (omega (arith, 
 -- the step at hand can be written, with its number
 pub step_writable : (steps : List Step) (i : ℕ) (step : Step) → i < length steps → step ≡ get_or steps i step → AreWritable steps → IsInRange step
 step_writable steps i step l is w = (each_at steps i step l is w.each).in_range
+
+pub here_writable : (steps : List Step) (i : ℕ) → i < length steps → AreWritable steps → IsInRange (get_or steps i no_step)
+here_writable steps i l w = step_writable steps i (get_or steps i no_step) l (sym (get_or_default steps i (get_or steps i no_step) no_step l)) w
 
 pub step_numbered : (steps : List Step) (i : ℕ) → i < length steps → AreWritable steps → IsStepNumber (i + 1)
 step_numbered steps i l w = record { positive = omega arith; bounded = (let c = w.count in omega (arith, c, l)) }

@@ -14,12 +14,12 @@ ghost use Rattle.line_rewrite.specs.Trimming.{HoldsCore, CreatesNothing};
 
 use crate::steps::write_steps;
 use abt_input::CommandError;
+use dcsp_common::push_number;
 use dcsp_outside::{Folder, Sink};
 use dcsp_problem::Problem;
 use dcsp_script::{Status, Stop, put};
-use itoa::Buffer;
-use line_check::{Checked, check_and_keep, finding_line, is_verified, take_problem};
-use ngd_check::Finding;
+use line_check::{check_and_keep, finding_line, is_verified, take_problem};
+use ngd_check::{Finding, KeptSteps};
 use ngd_rewrite::{Core, core_of};
 use std::alloc::{AllocError, Global};
 
@@ -36,13 +36,11 @@ pub struct CoreLine<'w> {
     pub better: Option<i64>,
 }
 
-/// A model's problem, and what is found of a log for it.
-#[derive(Drop)]
-struct Found {
-    /// The model's problem.
-    problem: Problem,
-    /// What is found of the log's entries, and its steps.
-    checked: Checked,
+/// A problem, and the steps of a log that refutes it.
+#[derive(Clone, Copy)]
+struct Refuted<'r, 'p> {
+    problem: &'r Problem,
+    steps: &'r KeptSteps<'p>,
 }
 
 /// Checks the log against the problem that is taken of the model. Where it refutes the problem, the steps that its end needs are written under
@@ -68,15 +66,18 @@ pub fn run_core<F: Folder, S: Sink>(
 {
     let problem = take_problem(alloc, folder, line.model, line.better)?;
     let checked = check_and_keep(alloc, folder, &problem, line.log)?;
-    let found = Found { problem, checked };
-    if !is_verified(found.checked.finding) {
-        reject(found.checked.finding, out)?;
+    if !is_verified(checked.finding) {
+        reject(checked.finding, out)?;
         return Ok(Status::No);
     }
-    let Ok(core) = core_of(alloc, &found.problem, &found.checked.steps) else {
+    let refuted = Refuted {
+        problem: &problem,
+        steps: &checked.steps,
+    };
+    let Ok(core) = core_of(alloc, refuted.problem, refuted.steps) else {
         return Err(CommandError::Memory);
     };
-    write_core(alloc, folder, line.trimmed, &found, &core, out)?;
+    write_core(alloc, folder, line.trimmed, refuted, &core, out)?;
     Ok(Status::Good)
 }
 
@@ -94,24 +95,24 @@ fn write_core<F: Folder, S: Sink>(
     alloc: Global,
     folder: &mut F,
     trimmed: &str,
-    found: &Found,
-    core: &Core,
+    refuted: Refuted<'_, '_>,
+    core: &Core<'_, '_>,
     out: &mut S,
 ) -> Result<(), Stop>
     requires { AreWritable core.now.steps }
-    ensures { Wrote (core_script trimmed.now found.now.problem found.now.checked.steps core.now)
+    ensures { Wrote (core_script trimmed.now refuted.entry.problem.now refuted.entry.steps.now core.now)
         (outside (F.place folder.old) (S.stream out.old))
         (outside (F.place folder.new) (S.stream out.new)) result }
 {
-    write_steps(alloc, folder, trimmed, core.steps.steps())?;
-    let rules = found.problem.rules() as u64;
-    tell(alloc, core, rules, found.checked.steps.len(), out)
+    write_steps(alloc, folder, trimmed, &core.steps)?;
+    let rules = refuted.problem.rules() as u64;
+    tell(alloc, core, rules, refuted.steps.len() as u64, out)
 }
 
 /// Puts what tells of the core on `out`, in one piece.
 fn tell<S: Sink>(
     alloc: Global,
-    core: &Core,
+    core: &Core<'_, '_>,
     rules: u64,
     steps: u64,
     out: &mut S,
@@ -124,12 +125,17 @@ fn tell<S: Sink>(
 }
 
 /// A line for each rule of the core, and then how many rules and steps are kept.
-fn text_of(alloc: Global, core: &Core, rules: u64, steps: u64) -> Result<Vec<u8>, AllocError>
+fn text_of(
+    alloc: Global,
+    core: &Core<'_, '_>,
+    rules: u64,
+    steps: u64,
+) -> Result<Vec<u8>, AllocError>
     ensures { IfOk result (λ text. text.items ≡ core_text rules steps core.now) }
 {
     let mut text = rule_lines(alloc, core.rules.items())?;
     add_count(&mut text, b"rules", core.rules.len() as u64, rules)?;
-    add_count(&mut text, b"steps", core.steps.len(), steps)?;
+    add_count(&mut text, b"steps", core.steps.len() as u64, steps)?;
     Ok(text)
 }
 
@@ -149,7 +155,7 @@ fn add_rule(text: &mut Vec<u8>, rule: u32) -> Result<(), AllocError>
     ensures { OnOk result (text.new.items ≡ text.old.items ++ rule_line rule) }
 {
     text.extend_from_slice(b"c")?;
-    text.extend_from_slice(Buffer::new().format(rule as u64 + 1).as_bytes())?;
+    push_number(text, rule as u64 + 1)?;
     text.extend_from_slice(b"\n")
 }
 
@@ -160,8 +166,8 @@ fn add_count(text: &mut Vec<u8>, kind: &[u8], kept: u64, total: u64) -> Result<(
     text.extend_from_slice(b"% ")?;
     text.extend_from_slice(kind)?;
     text.extend_from_slice(b" ")?;
-    text.extend_from_slice(Buffer::new().format(kept).as_bytes())?;
+    push_number(text, kept)?;
     text.extend_from_slice(b" of ")?;
-    text.extend_from_slice(Buffer::new().format(total).as_bytes())?;
+    push_number(text, total)?;
     text.extend_from_slice(b"\n")
 }

@@ -17,7 +17,7 @@ use Rattle.abt_session.proofs.Ordered.{leaves-append, part_in_order}
 use Rattle.dcsp_script.specs.declared.status.Status.{Status}
 use Rattle.line_replay.specs.Asked.{record_script}
 use Rattle.line_replay.proofs.Scripts.{record_puts, record_leaves, record_holds}
-use Rattle.abt_answer.specs.Solutions.{solution_text}
+use Rattle.line_replay.specs.Solutions.{solution_text}
 use Rattle.line_replay.specs.Endings.{assigned}
 use Rattle.abt_optimum.specs.declared.round.Round.{Round}
 use Rattle.abt_optimum.specs.declared.round.RoundEnd.{RoundEnd}

@@ -3,6 +3,7 @@ pub mod Rounds
 pub mod Writing
 pub mod Moments
 pub mod Headlines
+pub mod Answered
 pub mod RoundProblems
 pub mod Searches
 pub mod LastRounds

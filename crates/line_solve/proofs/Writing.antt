@@ -7,7 +7,7 @@ use Rattle.dcsp_script.proofs.After.{put_by-append, file_after-append}
 use Rattle.dcsp_script.proofs.Parts.{part_splits, left_alone}
 use Rattle.ngd_log.specs.Logs.{log_text}
 use Rattle.dcsp_rule.specs.Problems.{Contents}
-use Rattle.abt_answer.specs.Solutions.{solution_text}
+use Rattle.line_replay.specs.Solutions.{solution_text}
 use Rattle.abt_optimum.specs.declared.round.RoundEnd.{RoundEnd}
 use Rattle.abt_optimum.specs.declared.round.RoundEnd.TheVariants.{Solved, Refuted, Capped}
 use Rattle.line_replay.specs.Endings.{assigned}
@@ -98,7 +98,7 @@ module _ (asked : AskedSearch) where
   unfolding puts_of_first
   traces_none = refl
 
-  puts_more : (n : ℕ) → puts_of_first asked (suc n) ≡ puts_of_first asked n ++ (line_text asked n ++ (told_text (session_after asked n) ++ solution_put asked n))
+  pub puts_more : (n : ℕ) → puts_of_first asked (suc n) ≡ puts_of_first asked n ++ (line_text asked n ++ (told_text (session_after asked n) ++ solution_put asked n))
   unfolding puts_of_first
   puts_more n = refl
 

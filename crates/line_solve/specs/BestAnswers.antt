@@ -2,7 +2,7 @@
 use Rattle.std.specs.Prelude.{ℕ, ℤ, Bool, true, false, List, [], ◌++◌, if◌then◌else◌, length, codes, decimal, Some, None}
 use Rattle.std.specs.Option.{option_map_or}
 use Rattle.dcsp_rule.specs.Problems.{Contents}
-use Rattle.abt_answer.specs.Solutions.{solution_text}
+use Rattle.line_replay.specs.Solutions.{solution_text}
 use Rattle.dcsp_script.specs.declared.status.Status.{Status}
 use Rattle.dcsp_script.specs.declared.status.Status.TheVariants.{Good, No, Unfinished}
 use Rattle.line_replay.specs.Endings.{assigned, counts_text}

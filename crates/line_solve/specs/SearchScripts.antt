@@ -4,7 +4,7 @@ use Rattle.dcsp_script.specs.Scripts.{Write, Put}
 use Rattle.abt_session.specs.Sessions.{run_script}
 use Rattle.dcsp_script.specs.Promises.{Report, answered}
 use Rattle.dcsp_rule.specs.Problems.{Contents}
-use Rattle.abt_answer.specs.Solutions.{solution_text}
+use Rattle.line_replay.specs.Solutions.{solution_text}
 use Rattle.abt_optimum.specs.declared.round.RoundEnd.{RoundEnd}
 use Rattle.abt_optimum.specs.declared.round.RoundEnd.TheVariants.{Solved, Refuted, Capped}
 use Rattle.line_replay.specs.Endings.{assigned}

@@ -4,7 +4,7 @@ ghost use Rattle.std.specs.Prelude.{◌≡◌, ◌++◌, [], ◌∷◌, length, 
 ghost use Rattle.dcsp_outside.specs.Outside.{Place, Stream};
 ghost use Rattle.dcsp_script.specs.Scripts.{Put, outside};
 ghost use Rattle.dcsp_script.specs.Ways.{Wrote};
-ghost use Rattle.abt_answer.specs.Solutions.{solution_text};
+ghost use Rattle.line_replay.specs.Solutions.{solution_text};
 ghost use Rattle.abt_optimum.specs.Best.{assigned};
 ghost use Rattle.line_solve.specs.BestAnswers as answers;
 ghost use Rattle.line_solve.specs.BestAnswers.{best_text, last_text, rounds_text};
@@ -13,14 +13,13 @@ ghost use Rattle.line_replay.specs.Outcomes.{HasAllValues};
 ghost use Rattle.line_solve.specs.Searching.{told_end};
 ghost use Rattle.line_solve.specs.Runners.{searched_text, HasBestValues};
 
-use abt_answer::push_solution;
 use abt_optimum::{Best, BestEnd};
 use abt_session::End;
+use dcsp_common::push_number;
 use dcsp_outside::Sink;
 use dcsp_problem::Problem;
 use dcsp_script::{Status, Stop, put};
-use itoa::Buffer;
-use line_replay::push_counts;
+use line_replay::{push_counts, push_solution};
 use std::alloc::{AllocError, Global};
 
 /// What a search found, and how much work it was.
@@ -63,7 +62,7 @@ fn push_round(number: u64, into: &mut Vec<u8>) -> Result<(), AllocError>
     ensures { OnOk result (into.new.items ≡ into.old.items ++ round_line number) }
 {
     into.extend_from_slice(b"% round ")?;
-    into.extend_from_slice(Buffer::new().format(number).as_bytes())?;
+    push_number(into, number)?;
     into.extend_from_slice(b"\n")
 }
 
@@ -193,6 +192,6 @@ fn push_rounds(rounds: u64, into: &mut Vec<u8>) -> Result<(), AllocError>
     ensures { OnOk result (into.new.items ≡ into.old.items ++ rounds_text rounds) }
 {
     into.extend_from_slice(b"% rounds ")?;
-    into.extend_from_slice(Buffer::new().format(rounds).as_bytes())?;
+    push_number(into, rounds)?;
     into.extend_from_slice(b"\n")
 }

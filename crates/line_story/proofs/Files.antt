@@ -15,18 +15,18 @@ use Rattle.dcsp_script.specs.Texts.{LeavesAlone}
 use Rattle.dcsp_script.proofs.Parts.{left_alone}
 use Rattle.ngd_check.specs.Logged.{IsSmall}
 use Rattle.dcsp_script.specs.Promises.{IsHeld}
-use Rattle.abt_input.specs.Inputs.{IsModelOf, HasChoices, HasOrder}
+use Rattle.abt_input.specs.Inputs.{IsModelOf, IsOrderIn, HasChoices, HasOrder}
 use Rattle.abt_input.specs.Files.{HasOrderRead, ReadsOrder}
 use Rattle.abt_input.proofs.Files.{read_held}
 use Rattle.abt_input.proofs.Once.{one_list, one_order, one_problem}
 use Rattle.abt_story.specs.Differing.{HasNames}
 use Rattle.abt_story.specs.Facts.{Line}
-use Rattle.abt_story.specs.Numbers.{IsOrderIn}
+use Rattle.abt_story.specs.Numbers.{IsOrderOn}
 use Rattle.abt_story.specs.Retelling.{lines_of}
 use Rattle.abt_story.specs.Texts.{line_text, lines_text}
 use Rattle.abt_story.proofs.Differing.{stories_differ}
 use Rattle.abt_story.proofs.Runs.{nothing_is_hidden}
-use Rattle.line_story.specs.Stories.{HasOrderIn, HidesNothing, HoldsStory, IsItsOwn, WritesStory}
+use Rattle.line_story.specs.Stories.{HidesNothing, HoldsStory, IsItsOwn, WritesStory}
 use Rattle.line_story.specs.StoryPromise.{end_line, end_script, end_word, event_write, head, listed, most_told, some_write, story_script, story_text, told_end, told_events, told_run}
 
 -- ---- the file
@@ -81,7 +81,7 @@ flattened (lines ∷ all) = ap (λ t. lines_text lines ++ t) (flattened all) ∙
     both [] ys = refl
     both (x ∷ xs) ys = ap (λ t. line_text x ++ t) (both xs ys) ∙ sym (append_assoc (line_text x) (lines_text xs) (lines_text ys))
 
-hides_nothing : (order : Option (List ℕ)) (p : Csp) → IsCsp p → IsOrderIn order p → (choices : List ℕ) → HidesNothing order p choices
+hides_nothing : (order : Option (List ℕ)) (p : Csp) → IsCsp p → IsOrderOn order p → (choices : List ℕ) → HidesNothing order p choices
 unfolding told_run
 hides_nothing order p ok numbers choices k l = nothing_is_hidden order p ok numbers most_told (listed choices) k l
 
@@ -94,7 +94,7 @@ text_is order p choices =
     append_assoc head (flat_map lines_text (told_events order p choices)) (end_line (told_end p choices))
     ∙ ap (λ t. head ++ (t ++ end_line (told_end p choices))) (flattened (told_events order p choices))
 
-its_own : (order : Option (List ℕ)) (p : Csp) → IsCsp p → IsOrderIn order p → HasNames p → (choices : List ℕ) → IsItsOwn order p choices
+its_own : (order : Option (List ℕ)) (p : Csp) → IsCsp p → IsOrderOn order p → HasNames p → (choices : List ℕ) → IsItsOwn order p choices
 unfolding told_run
 its_own order p ok numbers names choices others e =
     stories_differ order p ok numbers names most_told (omega arith) (listed others) (listed choices) (end_rest p others) (end_rest p choices) (behind_head (sym (text_is order p others) ∙ e ∙ text_is order p choices))
@@ -126,7 +126,7 @@ pub order_is : {o x y : Option (List ℕ)} {problem : Contents} {p q : Place} �
 order_is {o = o} {problem = problem} {p = p} {q = q} e h = subst (λ z. HasOrderRead o problem p q (Ok z)) (sym e) h
 
 -- it is one of the problem that is run
-its_order : (o : Option (List ℕ)) (files : Option (List ℕ → Option (List ℕ))) (problem : Contents) (order : Option (List ℕ)) → HeldOrder o files problem order → IsOrderIn order (csp_of (ordered order problem))
+its_order : (o : Option (List ℕ)) (files : Option (List ℕ → Option (List ℕ))) (problem : Contents) (order : Option (List ℕ)) → HeldOrder o files problem order → IsOrderOn order (csp_of (ordered order problem))
 its_order None files problem None h = tt
 its_order None files problem (Some order) h = absurd (let no = h in cc)
 its_order (Some name) files problem None h = absurd h
@@ -134,8 +134,9 @@ its_order (Some name) files problem (Some order) h =
     let is = h.2.reads.is_order in subst (λ n. IsOrder n order) (sym is.whole ∙ sym (length-map order (domain_at problem))) is
 
 -- the file says one order
-same_order : (o : Option (List ℕ)) (files : List ℕ → Option (List ℕ)) (problem : Contents) (order other : Option (List ℕ)) → HeldOrder o (Some files) problem order → HasOrderIn o files problem other → order ≡ other
-same_order None files problem order other h g = h ∙ sym g
+same_order : (o : Option (List ℕ)) (files : List ℕ → Option (List ℕ)) (problem : Contents) (order other : Option (List ℕ)) → HeldOrder o (Some files) problem order → IsOrderIn files o problem other → order ≡ other
+same_order None files problem order None h g = h
+same_order None files problem order (Some other) h g = absurd g
 same_order (Some name) files problem None other h g = absurd h
 same_order (Some name) files problem (Some order) None h g = absurd g
 same_order (Some name) files problem (Some order) (Some other) h g = ap Some (one_order (length problem.domains) (bytes_of (files name)) order other (subst (λ b. HasOrder (length problem.domains) b order) h.1 h.2) g)
@@ -146,7 +147,7 @@ module _ (m : List ℕ) (o : Option (List ℕ)) (s file : List ℕ) (problem : C
   abbrev p : Contents
   p = ordered order problem
 
-  writes_story : IsOrderIn order (csp_of p) → (files now : List ℕ → Option (List ℕ)) → FilesAfter (story_script order p choices file) files now → WritesStory order p choices file files now
+  writes_story : IsOrderOn order (csp_of p) → (files now : List ℕ → Option (List ℕ)) → FilesAfter (story_script order p choices file) files now → WritesStory order p choices file files now
   writes_story numbers files now after = record {
     written = after file ∙ file_is file order p choices (files file);
     others = λ other unlike. after other ∙ left_alone (story_script order p choices file) other (files other) (leaves file other (λ e. unlike (sym e)) order p choices);
@@ -161,7 +162,7 @@ module _ (m : List ℕ) (o : Option (List ℕ)) (s file : List ℕ) (problem : C
   told_story (Some files) None h d g t = t
   told_story (Some files) (Some now) h d g t = λ other under list is in_order has.
       let one : problem ≡ other = one_problem (bytes_of (files m)) problem other (subst (λ b. IsModelOf b problem) h.1 h.2) is in
-      let two : order ≡ under = same_order o files problem order under d (subst (λ x. HasOrderIn o files x under) (sym one) in_order) in
+      let two : order ≡ under = same_order o files problem order under d (subst (λ x. IsOrderIn files o x under) (sym one) in_order) in
       let same = one_list (bytes_of (files s)) choices list (subst (λ b. HasChoices b choices) g.1 g.2) has in
       let told = writes_story (its_order o (Some files) problem order d) files now t in
       subst (λ x. WritesStory under (ordered under x) list file files now) one

@@ -1,11 +1,11 @@
 -- What the story of a run means to a user.
-use Rattle.std.specs.Prelude.{◌≡◌, ◌≢◌, ◌≤◌, ℕ, List, length, Option, Some, None}
+use Rattle.std.specs.Prelude.{◌≡◌, ◌≢◌, ◌≤◌, ℕ, List, Option, Some}
 use Rattle.dcsp_outside.specs.Outside.{Told, bytes_of}
 use Rattle.dcsp_defs.specs.Csp.{Csp}
 use Rattle.dcsp_rule.specs.Problems.{Contents, csp_of}
 use Rattle.dcsp_order.specs.Told.{ordered}
 use Rattle.law_runs.specs.Stops.{after}
-use Rattle.abt_input.specs.Inputs.{IsModelOf, HasChoices, HasOrder}
+use Rattle.abt_input.specs.Inputs.{IsModelOf, IsOrderIn, HasChoices}
 use Rattle.abt_story.specs.Retelling.{Shows, lines_so_far}
 use Rattle.line_story.specs.StoryPromise.{listed, story_text, told_run}
 
@@ -25,15 +25,9 @@ pub record WritesStory (order : Option (List ℕ)) (p : Contents) (choices file 
   pub hides_nothing : HidesNothing order (csp_of p) choices
   pub its_own : IsItsOwn order (csp_of p) choices
 
--- the file under the name, where one is given, holds this order of the problem's variables
-abbrev pub HasOrderIn : Option (List ℕ) → (List ℕ → Option (List ℕ)) → Contents → Option (List ℕ) → Type 0
-HasOrderIn None files problem order = order ≡ None
-HasOrderIn (Some name) files problem None = ⊥
-HasOrderIn (Some name) files problem (Some order) = HasOrder (length problem.domains) (bytes_of (files name)) order
-
 -- Where the folder tells its files, the model under the name has a problem, an order that is named is one of its variables, and the schedule has choices, the
 -- run under them was told.
 abbrev pub HoldsStory : List ℕ → Option (List ℕ) → List ℕ → List ℕ → Option (List ℕ → Option (List ℕ)) → Option (List ℕ → Option (List ℕ)) → Type 0
 HoldsStory model_name order_name schedule_name file files now =
-    Told files now (λ before after. (problem : Contents) (order : Option (List ℕ)) (choices : List ℕ) → IsModelOf (bytes_of (before model_name)) problem → HasOrderIn order_name before problem order
+    Told files now (λ before after. (problem : Contents) (order : Option (List ℕ)) (choices : List ℕ) → IsModelOf (bytes_of (before model_name)) problem → IsOrderIn before order_name problem order
     → HasChoices (bytes_of (before schedule_name)) choices → WritesStory order (ordered order problem) choices file before after)

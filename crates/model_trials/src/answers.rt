@@ -3,10 +3,10 @@
 ghost use Rattle.std.specs.Prelude.{◌≡◌, ◌+◌, [], length};
 
 use crate::problems::let_go;
-use abt_answer::{push_solution, write_solution};
 use dcsp_domain::{Domain, RangeList};
 use dcsp_outside::{MemorySink, SinkError};
 use dcsp_problem::{NameText, Output, Problem, ProblemBuilder, Shape, Term, TermList};
+use line_replay::{push_solution, write_solution};
 use std::alloc::Global;
 use std::process::Abort;
 

@@ -99,6 +99,14 @@ fn expect_refuted(rt: &impl Abort, outcome: Outcome, deliveries: u64, steps: u64
     assert!(rt; outcome.numbers.choices() == [0u32, 0, 0, 0].as_slice());
 }
 
+/// The run was stopped with these numbers, one delivery before its problem is refuted.
+fn expect_capped(rt: &impl Abort, outcome: Outcome, deliveries: u64, steps: u64) {
+    assert!(rt; matches!(&outcome.end, End::Capped));
+    assert_eq!(rt; outcome.deliveries, deliveries);
+    assert_eq!(rt; outcome.steps, steps);
+    assert!(rt; outcome.numbers.choices() == [0u32, 0, 0].as_slice());
+}
+
 #[test]
 fn a_refuted_run(rt: HostRuntime) {
     let alloc = rt.alloc();
@@ -109,6 +117,19 @@ fn a_refuted_run(rt: HostRuntime) {
     let log = b"ngd 1\n1 v2 [v1=0] <- c1 c2\n2 v2 [v1=1] <- c2 c1\n3 v1 [] <- n1 n2\nend\n";
     outside.expect_log(&rt, log);
     assert!(rt; outside.out.bytes().is_empty());
+    outside.end();
+    let_go(problem);
+}
+
+#[test]
+fn a_capped_run(rt: HostRuntime) {
+    let alloc = rt.alloc();
+    let problem = torn(&rt, alloc);
+    let mut outside = Outside::new(&rt, alloc, 0, 0);
+    let ended = outside.run(&rt, alloc, &problem, Seeded::new(1), 3, false);
+    expect_capped(&rt, ended.expect(&rt, "no write fails"), 3, 2);
+    let log = b"ngd 1\n1 v2 [v1=0] <- c1 c2\n2 v2 [v1=1] <- c2 c1\nend\n";
+    outside.expect_log(&rt, log);
     outside.end();
     let_go(problem);
 }

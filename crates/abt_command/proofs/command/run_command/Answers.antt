@@ -2,12 +2,15 @@ use Rattle.std.proofs.Common.{Some, None, inl, inr, refl, sym, subst}
 use Rattle.dcsp_script.proofs.Ways.{did_nothing}
 use Rattle.dcsp_script.specs.Statuses.{IsFinal, IsRefusal}
 use Rattle.dcsp_script.proofs.Following.{ran_answers, ran_cause, ran_complete, ran_creates, ran_faults, ran_lacks, ran_others, ran_refused, ran_stays, ran_text}
-use Rattle.abt_command.specs.Lines.{Check, Core, Export, Order, Starve, Lossy, Story, Rup, Cnf, Upgrade, line_of, promise_of}
+use Rattle.abt_command.specs.Lines.{Check, Solve, Core, Export, Order, Starve, Story, Rup, Cnf, Upgrade, line_of, promise_of}
 use Rattle.abt_command.proofs.Meanings.{means_of, refuted_by, no_better_by}
 use Rattle.abt_command.proofs.Checks.{check_told}
 use Rattle.abt_command.proofs.Lines.{one_line, lawful, export_names}
-use Rattle.abt_command.proofs.Searches.{asks_no_search, searches_improve, the_search, search_best, search_refuted, search_checked, search_satisfies, search_unfinished, search_bounded, search_ordered}
-use Rattle.abt_command.proofs.Runs.{runs_are_true, asks_for_none, the_run, run_solved, run_refuted, run_checked, run_satisfies, run_unfinished, run_bounded, run_ordered}
+use Rattle.abt_command.proofs.Searches.{asks_no_search, searches_improve, the_search, search_best, search_refuted, search_checked, search_satisfies, search_unfinished, search_bounded, search_ordered, search_answered, searches_are_true}
+use Rattle.abt_command.proofs.Drilled.{is_drilled}
+use Rattle.abt_command.proofs.Puts.{tells_cnf, tells_upgrade, tells_verdict}
+use Rattle.abt_command.proofs.Losses.{asks_no_lossy, lossy_answers, lossy_is_true}
+use Rattle.abt_command.proofs.Runs.{runs_are_true, asks_for_none, the_run, run_solved, run_refuted, run_checked, run_satisfies, run_unfinished, run_bounded, run_ordered, run_answered}
 use Rattle.abt_command.proofs.command.run_command.Goals as goal
 
 pub returns-in-Some-clause-answers : goal.returns-in-Some-clause-answers
@@ -65,29 +68,61 @@ pub returns-in-Some-clause-runs : goal.returns-in-Some-clause-runs
 returns-in-Some-clause-runs g c = inl (line_of c.in-Some.request, c.in-Some.ensures.some, c.run_request.ensures.ran)
 
 pub returns-in-Some-clause-the_run : goal.returns-in-Some-clause-the_run
-returns-in-Some-clause-the_run g c = the_run _ (line_of c.in-Some.request) c.in-Some.ensures.some _ _ _ _ c.run_request.result c.run_request.ensures.ran c.run_request.ensures.means
+returns-in-Some-clause-the_run g c = the_run _ (line_of c.in-Some.request) c.in-Some.ensures.some _ _ _ _ c.run_request.result c.run_request.ensures.ran
 
 pub returns-in-Some-clause-solved : goal.returns-in-Some-clause-solved
-returns-in-Some-clause-solved g c = run_solved _ (line_of c.in-Some.request) c.in-Some.ensures.some _ _ _ _ c.run_request.result c.run_request.ensures.ran c.run_request.ensures.means
+returns-in-Some-clause-solved g c = run_solved _ (line_of c.in-Some.request) c.in-Some.ensures.some _ _ _ _ c.run_request.result c.run_request.ensures.ran
 
 pub returns-in-Some-clause-refuted : goal.returns-in-Some-clause-refuted
-returns-in-Some-clause-refuted g c = run_refuted _ (line_of c.in-Some.request) c.in-Some.ensures.some _ _ _ _ c.run_request.result c.run_request.ensures.ran c.run_request.ensures.means
+returns-in-Some-clause-refuted g c = run_refuted _ (line_of c.in-Some.request) c.in-Some.ensures.some _ _ _ _ c.run_request.result c.run_request.ensures.ran
 
 pub returns-in-Some-clause-checks : goal.returns-in-Some-clause-checks
-returns-in-Some-clause-checks g c = run_checked _ (line_of c.in-Some.request) c.in-Some.ensures.some _ _ _ _ c.run_request.result c.run_request.ensures.ran c.run_request.ensures.means
+returns-in-Some-clause-checks g c = run_checked _ (line_of c.in-Some.request) c.in-Some.ensures.some _ _ _ _ c.run_request.result c.run_request.ensures.ran
+
+pub returns-in-Some-clause-answer_checks : goal.returns-in-Some-clause-answer_checks
+returns-in-Some-clause-answer_checks g c = run_answered _ (line_of c.in-Some.request) c.in-Some.ensures.some _ _ _ _ c.run_request.result c.run_request.ensures.ran
+
+pub returns-in-None-clause-answer_checks : goal.returns-in-None-clause-answer_checks
+returns-in-None-clause-answer_checks g c = asks_for_none _ _ _ (c.in-None.ensures.none refl)
+
+pub returns-in-Some-clause-best_answer_checks : goal.returns-in-Some-clause-best_answer_checks
+returns-in-Some-clause-best_answer_checks g c = search_answered _ (line_of c.in-Some.request) c.in-Some.ensures.some _ _ _ _ c.run_request.result c.run_request.ensures.ran
+
+pub returns-in-None-clause-best_answer_checks : goal.returns-in-None-clause-best_answer_checks
+returns-in-None-clause-best_answer_checks g c = asks_no_search _ _ _ (c.in-None.ensures.none refl)
+
+pub returns-in-Some-clause-true_searches : goal.returns-in-Some-clause-true_searches
+returns-in-Some-clause-true_searches g c = searches_are_true _ _
+
+pub returns-in-None-clause-true_searches : goal.returns-in-None-clause-true_searches
+returns-in-None-clause-true_searches g c = searches_are_true _ _
+
+pub returns-in-Some-clause-records : goal.returns-in-Some-clause-records
+returns-in-Some-clause-records g c = λ model log settings is final answers.
+    means_of _ _ _ (one_line _ (line_of c.in-Some.request) (Solve model log settings) c.in-Some.ensures.some is) (c.run_request.ensures.means final answers)
 
 pub returns-in-Some-clause-satisfies : goal.returns-in-Some-clause-satisfies
-returns-in-Some-clause-satisfies g c = run_satisfies _ (line_of c.in-Some.request) c.in-Some.ensures.some _ _ _ _ c.run_request.result c.run_request.ensures.ran c.run_request.ensures.means
+returns-in-Some-clause-satisfies g c = run_satisfies _ (line_of c.in-Some.request) c.in-Some.ensures.some _ _ _ _ c.run_request.result c.run_request.ensures.ran
 
 pub returns-in-Some-clause-proved : goal.returns-in-Some-clause-proved
-returns-in-Some-clause-proved g c = λ cnf proof is final answers. means_of _ _ _ (one_line _ (line_of c.in-Some.request) (Rup cnf proof) c.in-Some.ensures.some is) (c.run_request.ensures.means final answers)
+returns-in-Some-clause-proved g c = λ cnf proof is final answers. record {
+  answer = means_of _ _ _ (one_line _ (line_of c.in-Some.request) (Rup cnf proof) c.in-Some.ensures.some is) (c.run_request.ensures.means final answers);
+  tells = tells_verdict _ (line_of c.in-Some.request) c.in-Some.ensures.some _ _ _ _ c.run_request.result c.run_request.ensures.ran cnf proof is final;
+}
 
 pub returns-in-Some-clause-formula : goal.returns-in-Some-clause-formula
-returns-in-Some-clause-formula g c = λ cnf proof seed is final answers. means_of _ _ _ (one_line _ (line_of c.in-Some.request) (Cnf cnf proof seed) c.in-Some.ensures.some is) (c.run_request.ensures.means final answers)
+returns-in-Some-clause-formula g c = λ cnf proof seed is final answers. record {
+  answer = means_of _ _ _ (one_line _ (line_of c.in-Some.request) (Cnf cnf proof seed) c.in-Some.ensures.some is) (c.run_request.ensures.means final answers);
+  tells = tells_cnf _ (line_of c.in-Some.request) c.in-Some.ensures.some _ _ _ _ c.run_request.result c.run_request.ensures.ran cnf proof seed is final;
+}
 
 pub returns-in-Some-clause-upgraded : goal.returns-in-Some-clause-upgraded
 returns-in-Some-clause-upgraded g c = λ log new is good.
-    means_of _ _ _ (one_line _ (line_of c.in-Some.request) (Upgrade log new) c.in-Some.ensures.some is) (c.run_request.ensures.means (subst IsFinal (sym good) tt) (λ r. subst IsRefusal good r))
+    let final = subst IsFinal (sym good) tt in
+    record {
+      writes = means_of _ _ _ (one_line _ (line_of c.in-Some.request) (Upgrade log new) c.in-Some.ensures.some is) (c.run_request.ensures.means final (λ r. subst IsRefusal good r));
+      tells = tells_upgrade _ (line_of c.in-Some.request) c.in-Some.ensures.some _ _ _ _ c.run_request.result c.run_request.ensures.ran log new is final;
+    }
 
 pub returns-in-Some-clause-trimmed : goal.returns-in-Some-clause-trimmed
 returns-in-Some-clause-trimmed g c = λ model log trimmed better is final answers.
@@ -106,45 +141,56 @@ returns-in-Some-clause-starved g c = λ model from to file order_file is good.
     means_of _ _ _ (one_line _ (line_of c.in-Some.request) (Starve model from to file order_file) c.in-Some.ensures.some is) (c.run_request.ensures.means (subst IsFinal (sym good) tt) (λ r. subst IsRefusal good r))
 
 pub returns-in-Some-clause-lossy : goal.returns-in-Some-clause-lossy
-returns-in-Some-clause-lossy g c = λ model log events seed kept order is final answers.
-    means_of _ _ _ (one_line _ (line_of c.in-Some.request) (Lossy model log events seed kept order) c.in-Some.ensures.some is) (c.run_request.ensures.means final answers)
+returns-in-Some-clause-lossy g c = lossy_answers _ (line_of c.in-Some.request) c.in-Some.ensures.some _ _ _ _ c.run_request.result c.run_request.ensures.ran
+
+pub returns-in-None-clause-lossy : goal.returns-in-None-clause-lossy
+returns-in-None-clause-lossy g c = asks_no_lossy _ _ _ (c.in-None.ensures.none refl)
+
+pub returns-in-Some-clause-true_lossy : goal.returns-in-Some-clause-true_lossy
+returns-in-Some-clause-true_lossy g c = lossy_is_true _ (line_of c.in-Some.request) c.in-Some.ensures.some _ _ _ _ c.run_request.result c.run_request.ensures.ran
+
+pub returns-in-None-clause-true_lossy : goal.returns-in-None-clause-true_lossy
+returns-in-None-clause-true_lossy g c = asks_no_lossy _ _ _ (c.in-None.ensures.none refl)
+
+pub returns-in-Some-clause-drilled : goal.returns-in-Some-clause-drilled
+returns-in-Some-clause-drilled g c = is_drilled _ (line_of c.in-Some.request) c.in-Some.ensures.some _ _ _ _ c.run_request.result c.run_request.ensures.ran
 
 pub returns-in-Some-clause-told : goal.returns-in-Some-clause-told
 returns-in-Some-clause-told g c = λ model schedule file order is final answers.
     means_of _ _ _ (one_line _ (line_of c.in-Some.request) (Story model schedule file order) c.in-Some.ensures.some is) (c.run_request.ensures.means final answers)
 
 pub returns-in-Some-clause-no_stall : goal.returns-in-Some-clause-no_stall
-returns-in-Some-clause-no_stall g c = run_unfinished _ (line_of c.in-Some.request) c.in-Some.ensures.some _ _ _ _ c.run_request.result c.run_request.ensures.ran c.run_request.ensures.means
+returns-in-Some-clause-no_stall g c = run_unfinished _ (line_of c.in-Some.request) c.in-Some.ensures.some _ _ _ _ c.run_request.result c.run_request.ensures.ran
 
 pub returns-in-Some-clause-bound : goal.returns-in-Some-clause-bound
-returns-in-Some-clause-bound g c = run_bounded _ (line_of c.in-Some.request) c.in-Some.ensures.some _ _ _ _ c.run_request.result c.run_request.ensures.ran c.run_request.ensures.means
+returns-in-Some-clause-bound g c = run_bounded _ (line_of c.in-Some.request) c.in-Some.ensures.some _ _ _ _ c.run_request.result c.run_request.ensures.ran
 
 pub returns-in-Some-clause-in_order : goal.returns-in-Some-clause-in_order
-returns-in-Some-clause-in_order g c = run_ordered _ (line_of c.in-Some.request) c.in-Some.ensures.some _ _ _ _ c.run_request.result c.run_request.ensures.ran c.run_request.ensures.means
+returns-in-Some-clause-in_order g c = run_ordered _ (line_of c.in-Some.request) c.in-Some.ensures.some _ _ _ _ c.run_request.result c.run_request.ensures.ran
 
 pub returns-in-Some-clause-the_search : goal.returns-in-Some-clause-the_search
-returns-in-Some-clause-the_search g c = the_search _ (line_of c.in-Some.request) c.in-Some.ensures.some _ _ _ _ c.run_request.result c.run_request.ensures.ran c.run_request.ensures.means
+returns-in-Some-clause-the_search g c = the_search _ (line_of c.in-Some.request) c.in-Some.ensures.some _ _ _ _ c.run_request.result c.run_request.ensures.ran
 
 pub returns-in-Some-clause-best : goal.returns-in-Some-clause-best
-returns-in-Some-clause-best g c = search_best _ (line_of c.in-Some.request) c.in-Some.ensures.some _ _ _ _ c.run_request.result c.run_request.ensures.ran c.run_request.ensures.means
+returns-in-Some-clause-best g c = search_best _ (line_of c.in-Some.request) c.in-Some.ensures.some _ _ _ _ c.run_request.result c.run_request.ensures.ran
 
 pub returns-in-Some-clause-none_at_all : goal.returns-in-Some-clause-none_at_all
-returns-in-Some-clause-none_at_all g c = search_refuted _ (line_of c.in-Some.request) c.in-Some.ensures.some _ _ _ _ c.run_request.result c.run_request.ensures.ran c.run_request.ensures.means
+returns-in-Some-clause-none_at_all g c = search_refuted _ (line_of c.in-Some.request) c.in-Some.ensures.some _ _ _ _ c.run_request.result c.run_request.ensures.ran
 
 pub returns-in-Some-clause-best_checks : goal.returns-in-Some-clause-best_checks
-returns-in-Some-clause-best_checks g c = search_checked _ (line_of c.in-Some.request) c.in-Some.ensures.some _ _ _ _ c.run_request.result c.run_request.ensures.ran c.run_request.ensures.means
+returns-in-Some-clause-best_checks g c = search_checked _ (line_of c.in-Some.request) c.in-Some.ensures.some _ _ _ _ c.run_request.result c.run_request.ensures.ran
 
 pub returns-in-Some-clause-best_satisfies : goal.returns-in-Some-clause-best_satisfies
-returns-in-Some-clause-best_satisfies g c = search_satisfies _ (line_of c.in-Some.request) c.in-Some.ensures.some _ _ _ _ c.run_request.result c.run_request.ensures.ran c.run_request.ensures.means
+returns-in-Some-clause-best_satisfies g c = search_satisfies _ (line_of c.in-Some.request) c.in-Some.ensures.some _ _ _ _ c.run_request.result c.run_request.ensures.ran
 
 pub returns-in-Some-clause-capped : goal.returns-in-Some-clause-capped
-returns-in-Some-clause-capped g c = search_unfinished _ (line_of c.in-Some.request) c.in-Some.ensures.some _ _ _ _ c.run_request.result c.run_request.ensures.ran c.run_request.ensures.means
+returns-in-Some-clause-capped g c = search_unfinished _ (line_of c.in-Some.request) c.in-Some.ensures.some _ _ _ _ c.run_request.result c.run_request.ensures.ran
 
 pub returns-in-Some-clause-rounds : goal.returns-in-Some-clause-rounds
-returns-in-Some-clause-rounds g c = search_bounded _ (line_of c.in-Some.request) c.in-Some.ensures.some _ _ _ _ c.run_request.result c.run_request.ensures.ran c.run_request.ensures.means
+returns-in-Some-clause-rounds g c = search_bounded _ (line_of c.in-Some.request) c.in-Some.ensures.some _ _ _ _ c.run_request.result c.run_request.ensures.ran
 
 pub returns-in-Some-clause-rounds_in_order : goal.returns-in-Some-clause-rounds_in_order
-returns-in-Some-clause-rounds_in_order g c = search_ordered _ (line_of c.in-Some.request) c.in-Some.ensures.some _ _ _ _ c.run_request.result c.run_request.ensures.ran c.run_request.ensures.means
+returns-in-Some-clause-rounds_in_order g c = search_ordered _ (line_of c.in-Some.request) c.in-Some.ensures.some _ _ _ _ c.run_request.result c.run_request.ensures.ran
 
 pub returns-in-None-clause-the_search : goal.returns-in-None-clause-the_search
 returns-in-None-clause-the_search g c = asks_no_search _ _ _ (c.in-None.ensures.none refl)

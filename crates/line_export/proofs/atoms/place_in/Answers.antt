@@ -1,4 +1,4 @@
-use Rattle.std.proofs.Common.{◌≡◌, ◌≤◌, ℕ, ℤ, length, ap, ◌∙◌, arith, rules, w64, SFits, unwrap_or}
+use Rattle.std.proofs.Common.{ℕ, ap, ◌∙◌, arith, rules, w64, SFits, unwrap_or}
 use Rattle.std.proofs.lemmas.Int.{to_z-of_z}
 use Rattle.line_export.specs.Atoms.{place_in}
 use Rattle.line_export.proofs.Numbering.{place_found, place_most}

@@ -1,4 +1,4 @@
-use Rattle.std.proofs.Common.{◌≡◌, ◌<◌, ◌≤◌, length, ap, ◌∙◌, arith}
+use Rattle.std.proofs.Common.{◌≡◌, ◌<◌, length, ap, ◌∙◌, arith}
 use Rattle.dcsp_rule.specs.Problems.{csp_of}
 use Rattle.line_export.specs.Atoms.{values_before}
 use Rattle.line_export.proofs.Numbering.{all_values, before_few}

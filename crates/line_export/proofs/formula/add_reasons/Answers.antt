@@ -1,4 +1,4 @@
-use Rattle.std.proofs.Common.{◌≡◌, ◌+◌, ℤ, List, length, drop, get_or, refl, sym, ap, subst, ◌∙◌, arith, Option, Some, rules, w64, SFits}
+use Rattle.std.proofs.Common.{◌+◌, ℤ, List, length, drop, get_or, refl, sym, ap, subst, ◌∙◌, arith, rules, w64, SFits}
 use Rattle.std.proofs.lemmas.Int.{to_z-of_z}
 use Rattle.dcsp_defs.specs.declared.Reason.TheVariants.{Rule}
 use Rattle.dcsp_defs.specs.Csp.{domain, given_with}

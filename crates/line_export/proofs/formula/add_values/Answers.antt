@@ -1,4 +1,4 @@
-use Rattle.std.proofs.Common.{◌≡◌, List, length, map, refl, sym, ap, ◌∙◌, arith}
+use Rattle.std.proofs.Common.{◌≡◌, List, length, map, sym, ap, ◌∙◌, arith}
 use Rattle.dcsp_defs.specs.Words.{below}
 use Rattle.dcsp_rule.specs.Problems.{csp_of}
 use Rattle.line_export.specs.Clauses.{Clause, value_clause, with_clause, with_clauses}

@@ -1,4 +1,4 @@
-use Rattle.std.proofs.Common.{◌≡◌, ◌+◌, List, [], drop, refl, sym, ap, ◌∙◌}
+use Rattle.std.proofs.Common.{◌+◌, List, [], drop, sym, ap, ◌∙◌}
 use Rattle.std.specs.Prelude.{flat_map}
 use Rattle.std.proofs.lemmas.List.{drop_all}
 use Rattle.dcsp_defs.specs.declared.Step.{Step}

@@ -1,4 +1,4 @@
-use Rattle.std.proofs.Common.{◌≡◌, ℤ, ◌++◌, ◌∷◌, [], List, rules, w32, w64, SFits, sym, ap, ◌∙◌}
+use Rattle.std.proofs.Common.{ℤ, ◌++◌, ◌∷◌, [], List, rules, w32, w64, SFits, sym, ap, ◌∙◌}
 use Rattle.std.proofs.lemmas.Int.{to_z-of_z}
 use Rattle.dcsp_rule.specs.Problems.{csp_of}
 use Rattle.line_export.specs.Atoms.{has_value}

@@ -1,15 +1,10 @@
 use Rattle.std.proofs.Common.{◌≡◌, map, drop}
-use Rattle.std.specs.Prelude.{Contains, flat_map}
+use Rattle.std.specs.Prelude.{Contains}
 use Rattle.dcsp_outside.specs.Outside.{Stream}
-use Rattle.dcsp_defs.specs.Words.{below}
-use Rattle.dcsp_defs.specs.Csp.{count}
-use Rattle.dcsp_rule.specs.Problems.{csp_of}
 use Rattle.dcsp_script.specs.Scripts.{outside}
 use Rattle.dcsp_script.specs.Left.{HasLeft}
 use Rattle.rup_check.specs.ProofText.{clause_line}
 use Rattle.line_rewrite.specs.UpgradePromise.{appends}
-use Rattle.line_export.specs.Clauses.{proof}
-use Rattle.line_export.specs.Texts.{atom_line, variable_lines}
 use Rattle.line_export.proofs.write.append_clauses.Given as goal
 
 abbrev pub invariant-loop-place : goal.invariant-loop-place

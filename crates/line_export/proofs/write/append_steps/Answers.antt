@@ -1,17 +1,8 @@
-use Rattle.std.proofs.Common.{ℕ, ℤ, Bool, List, [], ◌∷◌, ◌++◌, length, map, subst, sym, refl, ap, ◌∙◌, arith}
+use Rattle.std.proofs.Common.{subst, sym, refl, ◌∙◌}
 use Rattle.std.specs.Prelude.{Contains}
-use Rattle.std.proofs.lemmas.Option.{slice_get_within, get_or_from_slice_get}
-use Rattle.dcsp_script.specs.Scripts.{Append}
 use Rattle.dcsp_script.proofs.Left.{left_all, left_more, left_stopped, left_ends}
-use Rattle.dcsp_script.proofs.Lines.{wrote_nothing, first_wrote, first_stopped, then_rest, then_stopped}
-use Rattle.dcsp_rule.specs.Problems.{csp_of, value_count}
-use Rattle.dcsp_defs.specs.Words.{below}
-use Rattle.rup_check.specs.ProofText.{clause_line}
-use Rattle.line_rewrite.specs.UpgradePromise.{appends, file_script}
-use Rattle.line_rewrite.proofs.Writing.{wrote_as, left_memory, created_here}
-use Rattle.line_export.specs.Clauses.{Clause, proof, nogood_clause}
-use Rattle.line_export.specs.Texts.{atom_line, variable_lines, header_line}
-use Rattle.line_export.proofs.Written.{items_left, items_done, steps_left, steps_done, groups_left, groups_done, below_at, cnf_script}
+use Rattle.dcsp_script.proofs.Lines.{wrote_nothing}
+use Rattle.line_export.proofs.Written.{steps_left, steps_done}
 use Rattle.line_export.proofs.Written.{step_in}
 use Rattle.line_export.proofs.write.append_steps.Goals as goal
 

@@ -1,29 +1,23 @@
-use Rattle.std.proofs.Common.{subst, sym, refl, ◌∙◌}
+use Rattle.std.proofs.Common.{subst, sym, refl, ◌∙◌, arith}
 use Rattle.std.specs.Prelude.{Contains}
 use Rattle.dcsp_script.proofs.Left.{left_all, left_more, left_stopped, left_ends}
 use Rattle.dcsp_script.proofs.Lines.{wrote_nothing}
-use Rattle.line_rewrite.proofs.Lines.{steps_left, steps_done, step_writable, step_numbered}
+use Rattle.line_rewrite.proofs.Lines.{here_left, steps_done}
 use Rattle.line_rewrite.proofs.steps.append_steps.Goals as goal
 
 pub loop-place-init : goal.loop-place-init
 loop-place-init g c = record { left = λ out. left_all _ _; created = c.requires.created; same = refl }
 
-pub append_step-requires-clause-number : goal.append_step-requires-clause-number
-append_step-requires-clause-number g c = step_numbered c.args.steps.now c.loop-place.place c.loop-place-test.true c.requires.writable
-
-pub append_step-requires-clause-step : goal.append_step-requires-clause-step
-append_step-requires-clause-step g c = step_writable c.args.steps.now c.loop-place.place _ c.loop-place-test.true c.index-steps-place.is c.requires.writable
-
 pub returns-in_err-append_step-clause-wrote : goal.returns-in_err-append_step-clause-wrote
 returns-in_err-append_step-clause-wrote g c = λ out.
-    left_stopped _ _ _ (steps_left c.args.name.now c.args.steps.now c.loop-place.place _ c.loop-place-test.true c.index-steps-place.is) c.from_residual.ensures (c.loop-place.invariant.left out) (c.in_err-append_step.ensures.wrote out)
+    left_stopped _ _ _ (here_left c.args.name.now c.args.steps.now c.loop-place.place (omega (arith, c.len-place-end.ensures))) c.from_residual.ensures (c.loop-place.invariant.left out) (c.in_err-append_step.ensures.wrote out)
 
 pub loop-place-preserved : goal.loop-place-preserved
 loop-place-preserved g c = record {
-  left = λ out. left_more _ (steps_left c.args.name.now c.args.steps.now c.loop-place.place _ c.loop-place-test.true c.index-steps-place.is) (c.loop-place.invariant.left out) (c.in_ok-append_step.ensures.wrote out);
+  left = λ out. left_more _ (here_left c.args.name.now c.args.steps.now c.loop-place.place (omega (arith, c.len-place-end.ensures))) (c.loop-place.invariant.left out) (c.in_ok-append_step.ensures.wrote out);
   created = subst (λ names. Contains names c.args.name.now) (sym c.in_ok-append_step.ensures.created) c.loop-place.invariant.created;
   same = c.in_ok-append_step.ensures.created ∙ c.loop-place.invariant.same;
 }
 
 pub returns-clause-wrote : goal.returns-clause-wrote
-returns-clause-wrote g c = λ out. left_ends _ (steps_done c.args.name.now c.args.steps.now _ c.loop-place-test.false) (c.loop-place.invariant.left out) wrote_nothing
+returns-clause-wrote g c = λ out. left_ends _ (steps_done c.args.name.now c.args.steps.now _ (omega (arith, c.len-place-end.ensures))) (c.loop-place.invariant.left out) wrote_nothing

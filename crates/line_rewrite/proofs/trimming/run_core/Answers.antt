@@ -49,7 +49,7 @@ returns-in_default-clause-came g c =
 pub write_core-requires : goal.write_core-requires
 write_core-requires g c =
     let log = read_held c.in_ok-checked.ensures in
-    trimmed_writable c.in_ok-checked.checked.steps _ c.in-Ok.ensures.steps (found_writable c.in_ok-problem.problem log.0 c.in_ok-checked.checked log.2)
+    trimmed_writable c.in_ok-checked.checked.steps _ c.in-Ok.ensures.steps (found_writable c.in_ok-problem.problem log.0 c.in_ok-checked.checked log.2 (c.is_verified.ensures.0 c.if-not-is_verified.false))
 
 pub returns-in_err-write_core-clause-came : goal.returns-in_err-write_core-clause-came
 returns-in_err-write_core-clause-came g c =
@@ -75,6 +75,6 @@ returns-clause-trims g c = λ good.
     let is = c.in-Ok.ensures in
     let before = g.F.Folder.place c.args.folder.now in
     let mid = g.F.Folder.place c.take_problem.new.folder in
-    holds_core c.args.line.better c.args.line.model.now c.args.line.log.now c.args.line.trimmed.now before (g.F.Folder.place c.check_and_keep.new.folder) _ (k.held ∙ m.held) c.in_ok-problem.problem c.in_ok-checked.checked c.in-Ok.core _ _
+    holds_core c.args.line.better c.args.line.model.now c.args.line.log.now c.args.line.trimmed.now before (g.F.Folder.place c.check_and_keep.new.folder) _ (k.held ∙ m.held) c.in_ok-problem.problem c.in_ok-checked.checked c.in-Ok.core _ _ (c.is_verified.ensures.0 c.if-not-is_verified.false)
     (found_in c.args.line.better before.held mid.held c.args.line.model.now c.args.line.log.now c.in_ok-problem.problem c.in_ok-checked.checked m.held (read_held m) (read_held k))
     (record { trimmed = is.steps; rising = is.rising; cited = is.rules }) is.refutation is.unsolvable c.in_ok-write_core.ensures

@@ -82,14 +82,11 @@ returns-in-Drill-clause-came g c = rw c.in-Drill.is (c.run_drill.ensures _)
 pub returns-in-Check-clause-means : goal.returns-in-Check-clause-means
 returns-in-Check-clause-means g c = rw c.in-Check.is (good_alone c.run_check.result c.run_check.ensures.verified)
 
-pub returns-in-Replay-clause-means : goal.returns-in-Replay-clause-means
-returns-in-Replay-clause-means g c = rw c.in-Replay.is c.run_replay.ensures.sound
-
 pub run_solve-requires : goal.run_solve-requires
 run_solve-requires g c = solve_within _ _ _ (subst (λ o. IsSomeLine (line_of o)) c.in-Solve.is c.requires)
 
 pub returns-in-Solve-clause-means : goal.returns-in-Solve-clause-means
-returns-in-Solve-clause-means g c = rw c.in-Solve.is (both_facts _ c.run_solve.result (λ status x y. record { sound = x; whole = y }) c.run_solve.ensures.sound c.run_solve.ensures.whole)
+returns-in-Solve-clause-means g c = rw c.in-Solve.is (always _ c.run_solve.result c.run_solve.ensures.records)
 
 pub returns-in-Rup-clause-means : goal.returns-in-Rup-clause-means
 returns-in-Rup-clause-means g c = rw c.in-Rup.is (both_facts _ c.run_rup.result (λ s p q. record { exact = p; refutes = q }) c.run_rup.ensures.exact c.run_rup.ensures.refutes)
@@ -117,9 +114,6 @@ returns-in-Export-clause-means g c = rw c.in-Export.is (good_or_no _ c.run_expor
 
 pub returns-in-Starve-clause-means : goal.returns-in-Starve-clause-means
 returns-in-Starve-clause-means g c = rw c.in-Starve.is (always_both _ c.run_starve.result (λ p q. record { writes = p; tells = q }) c.run_starve.ensures.writes c.run_starve.ensures.tells)
-
-pub returns-in-Lossy-clause-means : goal.returns-in-Lossy-clause-means
-returns-in-Lossy-clause-means g c = rw c.in-Lossy.is c.run_lossy.ensures.run
 
 pub returns-in-Story-clause-means : goal.returns-in-Story-clause-means
 returns-in-Story-clause-means g c = rw c.in-Story.is (always _ c.run_story.result c.run_story.ensures.writes)

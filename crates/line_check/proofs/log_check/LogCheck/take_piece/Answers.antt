@@ -15,20 +15,20 @@ take_line-requires c =
 pub loop-others-preserved : goal.loop-others-preserved
 loop-others-preserved c =
     let b = c.loop-others.self in
-    let mid : LogCheck = record { alloc = b.alloc; reader = c.take_line.new.self; checker = b.checker; keeps = b.keeps; steps = b.steps } in
-    front_more c.args.self.now b mid c.take_lent.new.self c.args.piece.now c.loop-others.rest.now c.in-Some.others.now c.loop-others.invariant (record { problem = refl; keeps = refl }) refl refl
+    let mid : LogCheck = record { alloc = b.alloc; reader = c.take_line.new.self; checker = b.checker } in
+    front_more c.args.self.now b mid c.take_lent.new.self c.args.piece.now c.loop-others.rest.now c.in-Some.others.now c.loop-others.invariant (record { problem = refl; keeps = refl }) refl
     (rw c.in-Some.is at c.in_ok-others.ensures.line) c.in_ok-take_lent.ensures
 
 pub returns-clause-task : goal.returns-clause-task
 returns-clause-task c =
     let b = c.loop-others.self in
-    let mid : LogCheck = record { alloc = b.alloc; reader = c.take_line.new.self; checker = b.checker; keeps = b.keeps; steps = b.steps } in
-    (front_whole c.args.self.now b mid c.args.piece.now c.loop-others.rest.now c.loop-others.invariant (record { problem = refl; keeps = refl }) refl refl
+    let mid : LogCheck = record { alloc = b.alloc; reader = c.take_line.new.self; checker = b.checker } in
+    (front_whole c.args.self.now b mid c.args.piece.now c.loop-others.rest.now c.loop-others.invariant (record { problem = refl; keeps = refl }) refl
     (rw c.in_default.is at c.in_ok-others.ensures.part) (rw c.in_default.is at c.in_ok-others.ensures.silent)).task
 
 pub returns-clause-come : goal.returns-clause-come
 returns-clause-come c = λ text h.
     let b = c.loop-others.self in
-    let mid : LogCheck = record { alloc = b.alloc; reader = c.take_line.new.self; checker = b.checker; keeps = b.keeps; steps = b.steps } in
-    front_come c.args.self.now mid c.args.piece.now (front_whole c.args.self.now b mid c.args.piece.now c.loop-others.rest.now c.loop-others.invariant (record { problem = refl; keeps = refl }) refl refl
+    let mid : LogCheck = record { alloc = b.alloc; reader = c.take_line.new.self; checker = b.checker } in
+    front_come c.args.self.now mid c.args.piece.now (front_whole c.args.self.now b mid c.args.piece.now c.loop-others.rest.now c.loop-others.invariant (record { problem = refl; keeps = refl }) refl
     (rw c.in_default.is at c.in_ok-others.ensures.part) (rw c.in_default.is at c.in_ok-others.ensures.silent)) text h

@@ -1,6 +1,4 @@
-use Rattle.std.proofs.Common.{◌≡◌, ◌≤◌, ◌+◌, ℕ, length, ap, ◌∙◌, arith}
-use Rattle.dcsp_defs.specs.Csp.{domain}
-use Rattle.dcsp_rule.specs.Problems.{csp_of}
+use Rattle.std.proofs.Common.{length, ap, ◌∙◌, arith}
 use Rattle.line_export.specs.Atoms.{place_in}
 use Rattle.line_export.proofs.Numbering.{before_few, before_length, before_at}
 use Rattle.line_export.proofs.atoms.Atoms.number.Goals as goal

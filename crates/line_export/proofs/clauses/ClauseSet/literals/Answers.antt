@@ -1,4 +1,4 @@
-use Rattle.std.proofs.Common.{◌≡◌, ◌+◌, ℕ, suc, length, take, get_or, [], ◌∷◌, refl, sym, ap, ◌∙◌, arith, add-one, take_all}
+use Rattle.std.proofs.Common.{length, take, get_or, [], ◌∷◌, refl, ap, ◌∙◌, arith, add-one, take_all}
 use Rattle.std.specs.Prelude.{sum_by}
 use Rattle.std.proofs.lemmas.List.Sums.{sum_by-append}
 use Rattle.std.proofs.lemmas.Option.{slice_get_within, get_or_from_slice_get}

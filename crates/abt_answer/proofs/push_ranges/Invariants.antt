@@ -1,6 +1,0 @@
-use Rattle.std.proofs.Common.{◌≡◌, ◌++◌, take, flat_map}
-use Rattle.abt_answer.specs.Solutions.{range_text}
-use Rattle.abt_answer.proofs.push_ranges.Given as goal
-
-abbrev pub invariant-loop-range : goal.invariant-loop-range
-invariant-loop-range l = l.into.items ≡ l.initial.into.items ++ flat_map range_text (take l.range-index l.ranges)

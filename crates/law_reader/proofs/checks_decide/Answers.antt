@@ -1,8 +1,0 @@
-use Rattle.law_reader.proofs.Accepting.{accepted_items, accepted_texts}
-use Rattle.law_reader.proofs.checks_decide.Goals as goal
-
-pub returns-clause-items : goal.returns-clause-items
-returns-clause-items c = accepted_items
-
-pub returns-clause-texts : goal.returns-clause-texts
-returns-clause-texts c = accepted_texts

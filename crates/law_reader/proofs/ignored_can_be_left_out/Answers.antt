@@ -1,5 +1,0 @@
-use Rattle.law_reader.proofs.LeftOut.{ignored_can_be_left_out}
-use Rattle.law_reader.proofs.ignored_can_be_left_out.Goals as goal
-
-pub returns : goal.returns
-returns c = ignored_can_be_left_out

@@ -1,5 +1,0 @@
-use Rattle.law_reader.proofs.LeftOut.{ignored_changes_nothing}
-use Rattle.law_reader.proofs.ignored_changes_nothing.Goals as goal
-
-pub returns : goal.returns
-returns c = ignored_changes_nothing

@@ -1,5 +1,0 @@
-use Rattle.law_reader.proofs.SkippedItems.{predicates_are_ignored}
-use Rattle.law_reader.proofs.predicates_are_ignored.Goals as goal
-
-pub returns : goal.returns
-returns c = predicates_are_ignored

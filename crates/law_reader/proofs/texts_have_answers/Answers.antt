@@ -1,5 +1,0 @@
-use Rattle.law_reader.proofs.Problems.{texts_have_answers}
-use Rattle.law_reader.proofs.texts_have_answers.Goals as goal
-
-pub returns : goal.returns
-returns c = texts_have_answers
