@@ -135,12 +135,8 @@ impl<'c, D: Disk> Folder for RealFolder<'c, D, D::File> {
     }
 
     fn create(&mut self, name: &str) -> Result<(), FolderError> {
-        let Ok(key) = String::from_str(self.alloc, name) else {
-            return Err(FolderError::Memory);
-        };
-        if self.created.push(key).is_err() {
-            return Err(FolderError::Memory);
-        }
+        let key = String::from_str(self.alloc, name)?;
+        self.created.push(key)?;
         match self.make(name) {
             Ok(()) => Ok(()),
             Err(error) => {

@@ -36,12 +36,8 @@ impl<W: Write + Drop> OpenFile<W> {
     fn with_room(alloc: Global, name: &str) -> Result<OpenFile<W>, FolderError>
         ensures { IfOk result (λ file. string_bytes file.name ≡ name.now) }
     {
-        let Ok(name) = String::from_str(alloc, name) else {
-            return Err(FolderError::Memory);
-        };
-        let Ok(waiting) = Vec::with_capacity(alloc, MOST_WAITING) else {
-            return Err(FolderError::Memory);
-        };
+        let name = String::from_str(alloc, name)?;
+        let waiting = Vec::with_capacity(alloc, MOST_WAITING)?;
         Ok(OpenFile {
             name,
             id: None,
@@ -93,10 +89,8 @@ impl<W: Write + Drop> OpenFile<W> {
             let wrote = write_to(&mut self.file, bytes);
             return self.told(wrote);
         }
-        match self.waiting.extend_from_slice(bytes) {
-            Ok(()) => Ok(()),
-            Err(_) => Err(FolderError::Memory),
-        }
+        self.waiting.extend_from_slice(bytes)?;
+        Ok(())
     }
 
     /// Writes what waits, if so many bytes more would be too many.
@@ -245,10 +239,8 @@ impl<D: Disk> OpenFiles<D, D::File> {
         if is_seen(&self.seen, id) {
             return Ok(());
         }
-        match self.seen.push(id) {
-            Ok(()) => Ok(()),
-            Err(_) => Err(FolderError::Memory),
-        }
+        self.seen.push(id)?;
+        Ok(())
     }
 
     /// Appends all bytes of a name, if there are at most `most`, once all that waits was written.
@@ -311,10 +303,8 @@ impl<D: Disk> OpenFiles<D, D::File> {
         ensures waits { OnOk result (NoneWaits self.new.files.items) }
     {
         let file = self.open(name)?;
-        match String::from_str(self.alloc, name) {
-            Ok(name) => Ok(ReadFile { name, file, at: 0 }),
-            Err(_) => Err(FolderError::Memory),
-        }
+        let name = String::from_str(self.alloc, name)?;
+        Ok(ReadFile { name, file, at: 0 })
     }
 
     /// The place of a name that was created, or that room was made for.
@@ -347,9 +337,7 @@ impl<D: Disk> OpenFiles<D, D::File> {
     {
         let file = OpenFile::with_room(self.alloc, name)?;
         let place = self.files.len();
-        if self.files.push(file).is_err() {
-            return Err(FolderError::Memory);
-        }
+        self.files.push(file)?;
         Ok(place)
     }
 

@@ -70,9 +70,7 @@ impl Disk for HostRuntime {
 fn opened(rt: &HostRuntime, name: &str, how: &OpenOptions) -> Result<SystemFile, FolderError>
     ensures { IfOk result (λ file. string_bytes file.name ≡ name.now) }
 {
-    let Ok(kept) = String::from_str(rt.alloc(), name) else {
-        return Err(FolderError::Memory);
-    };
+    let kept = String::from_str(rt.alloc(), name)?;
     let Ok(file) = how.open(rt, name) else {
         return Err(FolderError::Failed);
     };

@@ -69,9 +69,7 @@ impl OpenPairs {
         let Ok(number) = u32::try_from(self.pairs.len()) else {
             return Err(Memory);
         };
-        let Ok(()) = self.pairs.reserve(1) else {
-            return Err(Memory);
-        };
+        self.pairs.reserve(1)?;
         reach(&mut self.senders, self.alloc, from)?;
         self.senders[from as usize].add(to, number)?;
         self.pairs.push_reserved((from, to));
@@ -85,9 +83,7 @@ fn reach(senders: &mut Vec<Receivers>, alloc: Global, from: u32) -> Result<(), M
     ensures same { (k : ℕ) → receivers_of senders.new.items k ≡ receivers_of senders.old.items k }
 {
     while senders.len() <= from as usize {
-        let Ok(()) = senders.push(Receivers::new(alloc)) else {
-            return Err(Memory);
-        };
+        senders.push(Receivers::new(alloc))?;
     }
     Ok(())
 }

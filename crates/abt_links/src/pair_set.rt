@@ -43,9 +43,7 @@ impl PairSet {
         let sums = Sums::new(alloc, agents)?;
         let mut rows = Vec::new(alloc);
         for _ in 0..agents {
-            if let Err(_) = rows.push(Row::new(alloc, agents)?) {
-                return Err(Memory);
-            }
+            rows.push(Row::new(alloc, agents)?)?;
         }
         Ok(PairSet { agents, rows, sums })
     }

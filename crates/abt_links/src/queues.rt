@@ -72,9 +72,7 @@ impl Queues {
             last: 0,
             count: 0,
         };
-        if self.ends.push(none).is_err() {
-            return Err(Memory);
-        }
+        self.ends.push(none)?;
         Ok(())
     }
 
@@ -166,10 +164,8 @@ fn make_room(cells: &mut Slab<Cell>) -> Result<(), Memory>
     if cells.len() < cells.capacity() {
         return Ok(());
     }
-    match cells.reserve_exact(cells.len() / 2 + 1) {
-        Ok(()) => Ok(()),
-        Err(_) => Err(Memory),
-    }
+    cells.reserve_exact(cells.len() / 2 + 1)?;
+    Ok(())
 }
 
 /// Stores a message behind the last one of a list. A refusal hands it back.

@@ -30,10 +30,8 @@ impl Row {
         ensures short { IfOk result (λ r. length r ≤ 64) }
         ensures none { IfOk result (λ r. (i : ℕ) → is_set r i ≡ false) }
     {
-        match vec![in alloc; 0u64; (bound as usize + 63) / 64] {
-            Ok(words) => Ok(Row { words }),
-            Err(_) => Err(Memory),
-        }
+        let words = vec![in alloc; 0u64; (bound as usize + 63) / 64]?;
+        Ok(Row { words })
     }
 
     /// Whether a number is in.

@@ -39,19 +39,14 @@ impl Sums {
     {
         let size = size as usize;
         let width = width_for(size);
-        let counts = match vec![in alloc; 0u32; size] {
-            Ok(counts) => counts,
-            Err(_) => return Err(Memory),
-        };
-        match vec![in alloc; 0u32; (size + width - 1) / width] {
-            Ok(blocks) => Ok(Sums {
-                width,
-                counts,
-                blocks,
-                total: 0,
-            }),
-            Err(_) => Err(Memory),
-        }
+        let counts = vec![in alloc; 0u32; size]?;
+        let blocks = vec![in alloc; 0u32; (size + width - 1) / width]?;
+        Ok(Sums {
+            width,
+            counts,
+            blocks,
+            total: 0,
+        })
     }
 
     /// Raises a count by one.

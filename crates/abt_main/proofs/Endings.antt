@@ -3,7 +3,7 @@ use Rattle.std.proofs.Common.{◌≡◌, ℕ, Ok, Err, Result, inl, inr}
 use Rattle.std.specs.declared.vec.Vec.{Vec}
 use Rattle.std.specs.declared.string.String.{String}
 use Rattle.std.specs.declared.alloc.Global.{Global}
-use Rattle.dcsp_common.specs.declared.Memory.{Memory as Lack}
+use Rattle.std.specs.declared.alloc.AllocError.{AllocError as Lack}
 use Rattle.dcsp_outside.specs.Outside.{Stream}
 use Rattle.dcsp_script.specs.Scripts.{World}
 use Rattle.abt_main.specs.Ending.{EndsRun, EndsWith, IsFresh}

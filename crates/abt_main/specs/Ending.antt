@@ -3,7 +3,7 @@ use Rattle.std.specs.Prelude.{◌≡◌, ◌⊎◌, ℕ, List, [], Result, Ok, E
 use Rattle.std.specs.declared.vec.Vec.{Vec}
 use Rattle.std.specs.declared.string.String.{String}
 use Rattle.std.specs.declared.alloc.Global.{Global}
-use Rattle.dcsp_common.specs.declared.Memory.{Memory as Lack}
+use Rattle.std.specs.declared.alloc.AllocError.{AllocError as Lack}
 use Rattle.dcsp_outside.specs.Outside.{Stream}
 use Rattle.dcsp_script.specs.declared.stop.Stop.TheVariants as stops
 use Rattle.dcsp_script.specs.Scripts.{World}

@@ -3,7 +3,7 @@ use Rattle.std.specs.Prelude.{◌≡◌, ℕ, ◌<◌, ◌≤◌, ◌^◌, Bool,
 use Rattle.dcsp_defs.specs.Words.{In}
 use Rattle.abt_defs.specs.Agents as machine
 use Rattle.abt_defs.specs.Steps.{receive}
-use Rattle.abt_defs.specs.Network.{empty_network}
+use Rattle.abt_defs.specs.Network.{Network as TheNetwork, empty_network}
 use Rattle.dcsp_rule.specs.Problems.{Contents, csp_of}
 use Rattle.abt_parts.specs.declared.message.Message.{Message}
 use Rattle.abt_parts.specs.Messages.{message_of}
@@ -11,11 +11,15 @@ use Rattle.abt_agent.specs.Outgoing.{IsStamped}
 use Rattle.abt_agent.specs.States.{State, stands_for, CanReceive, IsFresh}
 use Rattle.abt_links.specs.Transit.{Transit, link_of}
 use Rattle.abt_network.specs.declared.body.NetworkBody.{NetworkBody}
-use Rattle.abt_network.specs.Standing.{NetworkState, StandsAt, state_at, reached}
+use Rattle.abt_network.specs.Standing.{NetworkState, Stands, StandsAt, state_at, reached}
 
 -- what callers see
 abbrev pub shown : NetworkBody → Bool → NetworkState
 shown b spent = record { problem = b.problem.now; agents = b.agents.items; links = b.links; refuted = b.refuted; deliveries = b.deliveries; steps = b.steps; begun = b.begun; sent = b.sent.items; spent = spent }
+
+-- agents and links stand where the network is
+abbrev pub StandsIn : NetworkBody → TheNetwork → Type 0
+StandsIn b net = Stands b.problem.now b.agents.items b.links net
 
 -- there are as many agents as variables, and links between them
 pub record IsSized (b : NetworkBody) : Type 0 where

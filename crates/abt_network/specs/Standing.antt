@@ -1,5 +1,5 @@
 -- How the code's network stands to the network of the definitions.
-use Rattle.std.specs.Prelude.{◌≡◌, ℕ, ◌<◌, ◌≤◌, ◌^◌, Bool, true, false, List, [], ◌∷◌, ◌++◌, map, flat_map, length, Option, None, Some, option_to_list, slice_index_or, IfSome, if◌then◌else◌}
+use Rattle.std.specs.Prelude.{◌≡◌, ℕ, ◌<◌, ◌≤◌, ◌^◌, Bool, true, false, List, [], ◌∷◌, ◌++◌, map, flat_map, length, Option, None, Some, option_to_list, slice_index_or, IfSome, if◌then◌else◌, ◌==◌, ◌&&◌}
 use Rattle.std.specs.List.{AllByRecursion}
 use Rattle.dcsp_defs.specs.Csp.{Csp}
 use Rattle.dcsp_defs.specs.Derivation.{IsDerivation, IsRight}
@@ -7,7 +7,7 @@ use Rattle.dcsp_defs.specs.declared.Step.{Step}
 use Rattle.abt_defs.specs.Agents.{Message}
 use Rattle.abt_defs.specs.Bound.{message_bound}
 use Rattle.abt_defs.specs.Network as machine
-use Rattle.abt_defs.specs.Network.{run, start, deliver, ready, is_empty, refutes}
+use Rattle.abt_defs.specs.Network.{run, start, deliver, ready, is_empty, refutes, sent_to}
 use Rattle.abt_defs.specs.Runs as runs
 use Rattle.abt_defs.specs.Events.{Act, choice_acts}
 use Rattle.ngd_log.specs.StepText.{IsInRange}
@@ -41,6 +41,14 @@ pub record NetworkState : Type 0 where
 abbrev pub messages_on : Transit → ℕ → ℕ → List Message
 messages_on t k i = map message_of (link_of t k i)
 
+-- the messages in transit from k to i, once this message was sent from one agent to another
+abbrev pub messages_with : Transit → (from to : ℕ) → Message → ℕ → ℕ → List Message
+messages_with t from to m k i = if k == from && i == to then messages_on t k i ++ m ∷ [] else messages_on t k i
+
+-- the messages in transit from k to i, once an agent sent these messages
+abbrev pub messages_after : Transit → ℕ → List (ℕ × Message) → ℕ → ℕ → List Message
+messages_after t from sent k i = if k == from then messages_on t k i ++ sent_to i sent else messages_on t k i
+
 -- what stands past the last agent
 abbrev pub no_state : State
 no_state = record { problem = record { domains = []; rules = []; outputs = []; aim = Satisfy }; me = 0; value = None; stamp = 0; waits = false; view = []; store = []; tells = []; linked = []; spent = false }
@@ -64,6 +72,10 @@ pub record StandsAt (s : NetworkState) (net : machine.Network) : Type 0 where
 -- the network that a run of its problem reaches under these choices
 abbrev pub reached : NetworkState → List ℕ → machine.Network
 reached s choices = run (csp_of s.problem) choices (start (csp_of s.problem))
+
+-- the network stands where a run of its problem under these choices leads
+abbrev pub IsAfter : NetworkState → List ℕ → Type 0
+IsAfter s choices = StandsAt s (reached s choices)
 
 -- ---- the start
 

@@ -5,8 +5,8 @@ ghost use Rattle.abt_defs.specs.Network.{Network as TheNetwork, start};
 ghost use Rattle.dcsp_rule.specs.Problems.{csp_of};
 ghost use Rattle.abt_agent.specs.States.{IsFresh, Settles};
 ghost use Rattle.abt_agent.specs.Turns.{IsFirstTurn};
-ghost use Rattle.abt_network.specs.Standing.{state_at, Stands, Starts};
-ghost use Rattle.abt_network.specs.Bodies.{shown, AreFreshFrom, IsBlank, IsKept, IsSized, IsTidy};
+ghost use Rattle.abt_network.specs.Standing.{state_at, Starts};
+ghost use Rattle.abt_network.specs.Bodies.{shown, AreFreshFrom, IsBlank, IsKept, IsSized, IsTidy, StandsIn};
 ghost use Rattle.abt_network.specs.Settling.{all_settled, first_false, HasSettled, HaveSettled, IsRuleStep};
 
 use crate::Begun;
@@ -51,17 +51,12 @@ fn first_false(problem: &Problem) -> Option<u32>
 fn step_of_rule(alloc: Global, rule: u32) -> Result<Step, Memory>
     ensures { IfOk result (IsRuleStep rule) }
 {
-    let Ok(nogood) = Nogood::from_pairs(alloc, &[]) else {
-        return Err(Memory);
-    };
-    let mut reasons = ReasonList::new(alloc);
-    let Ok(()) = reasons.push(Reason::Rule(rule)) else {
-        return Err(Memory);
-    };
+    let mut reasons = Vec::new(alloc);
+    reasons.push(Reason::Rule(rule))?;
     Ok(Step {
         variable: None,
-        nogood,
-        reasons,
+        nogood: Nogood::of_rising(Vec::new(alloc)),
+        reasons: ReasonList::from_vec(reasons),
     })
 }
 
@@ -71,7 +66,7 @@ impl<'p> NetworkBody<'p> {
         requires tidy { IsTidy self.old }
         requires exists { agent < length self.old.problem.now.domains }
         requires fresh { IsFresh self.old.problem.now agent (state_at self.old.agents.items agent) }
-        ensures settles { (net : TheNetwork) → Stands self.old.problem.now self.old.agents.items self.old.links net → IfOk result (λ step. HasSettled self.old.problem.now self.new.agents.items self.new.links net agent step) }
+        ensures settles { (net : TheNetwork) → StandsIn self.old net → IfOk result (λ step. HasSettled self.old.problem.now self.new.agents.items self.new.links net agent step) }
         ensures tidy { OnOk result (IsTidy self.new) }
         ensures others { (k : ℕ) → k ≢ agent → state_at self.new.agents.items k ≡ state_at self.old.agents.items k }
         ensures sized { IsSized self.new }
@@ -176,8 +171,6 @@ pub fn fresh_agents<'p>(alloc: Global, problem: &'p Problem) -> Result<Vec<Agent
 fn add_agent<'p>(agents: &mut Vec<Agent<'p>>, agent: Agent<'p>) -> Result<(), Memory>
     ensures { OnOk result (agents.new.items ≡ agents.old.items ++ agent.entry ∷ []) }
 {
-    match agents.push(agent) {
-        Ok(()) => Ok(()),
-        Err(_) => Err(Memory),
-    }
+    agents.push(agent)?;
+    Ok(())
 }

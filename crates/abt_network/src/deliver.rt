@@ -6,7 +6,7 @@ ghost use Rattle.abt_defs.specs.Runs.{cargo_of};
 ghost use Rattle.abt_parts.specs.Messages.{message_of};
 ghost use Rattle.abt_agent.specs.States.{CanReceive, Receives};
 ghost use Rattle.abt_links.specs.Transit.{ready_pairs};
-ghost use Rattle.abt_network.specs.Standing.{cargo_in, reached, state_at, CanDeliver, Delivers, LeadsOn, StandsAt, TellsSent};
+ghost use Rattle.abt_network.specs.Standing.{cargo_in, state_at, CanDeliver, Delivers, IsAfter, LeadsOn, StandsAt, TellsSent};
 ghost use Rattle.abt_network.specs.Bodies.{shown, ExpectsAll, IsKept, IsSized, IsTidy};
 ghost use Rattle.abt_network.specs.Passing.{step_in, steps_made, PassesOn};
 
@@ -22,20 +22,19 @@ use ngd_log::Step;
 /// Hands the message to its receiver.
 fn hand_over(
     agents: &mut Vec<Agent>,
-    from: u32,
-    to: u32,
-    message: Message,
+    carried: Carried,
     next_step: u64,
     out: &mut Outbox,
 ) -> Result<Turn, Memory>
-    requires exists { to < length agents.old.items }
-    requires fit { CanReceive (state_at agents.old.items to) from next_step message }
-    ensures does { IfOk result (λ turn. Receives (state_at agents.old.items to) (state_at agents.new.items to) next_step from message out.old out.new turn) }
-    ensures others { (k : ℕ) → k ≢ to → state_at agents.new.items k ≡ state_at agents.old.items k }
+    requires exists { carried.to < length agents.old.items }
+    requires fit { CanReceive (state_at agents.old.items carried.to) carried.from next_step carried.message }
+    ensures does { IfOk result (λ turn. Receives (state_at agents.old.items carried.to) (state_at agents.new.items carried.to)
+        next_step carried.from carried.message out.old out.new turn) }
+    ensures others { (k : ℕ) → k ≢ carried.to → state_at agents.new.items k ≡ state_at agents.old.items k }
     ensures long { length agents.new.items ≡ length agents.old.items }
 {
-    let agent = &mut agents[to as usize];
-    agent.receive(from, message, next_step, out)
+    let agent = &mut agents[carried.to as usize];
+    agent.receive(carried.from, carried.message, next_step, out)
 }
 
 /// What is told of a message.
@@ -99,10 +98,11 @@ impl<'p> NetworkBody<'p> {
     {
         self.problem.denotes_csp();
         let count = self.links.ready_count();
-        let Carried { from, to, message } = self.links.take_ready(choice % count);
-        let cargo = cargo_of(&message);
+        let carried = self.links.take_ready(choice % count);
+        let (from, to) = (carried.from, carried.to);
+        let cargo = cargo_of(&carried.message);
         let next = self.steps + 1;
-        let turn = hand_over(&mut self.agents, from, to, message, next, &mut self.out)?;
+        let turn = hand_over(&mut self.agents, carried, next, &mut self.out)?;
         self.sent.clear();
         post(&mut self.links, to, &mut self.out, &mut self.sent)?;
         let step = step_of(turn);
@@ -121,7 +121,7 @@ impl<'p> NetworkBody<'p> {
         requires can { CanDeliver (shown self.old false) }
         ensures delivers { (net : TheNetwork) → StandsAt (shown self.old false) net → IfOk result (λ d. Delivers self.old.problem.now (shown self.new false) net choice d) }
         ensures sends { (net : TheNetwork) → StandsAt (shown self.old false) net → OnOk result (TellsSent self.old.problem.now self.new.sent.items net choice) }
-        ensures leads { (choices : List ℕ) → StandsAt (shown self.old false) (reached (shown self.old false) choices) → IfOk result (λ d. LeadsOn (shown self.old false) (shown self.new false) choices choice d) }
+        ensures leads { (choices : List ℕ) → IsAfter (shown self.old false) choices → IfOk result (λ d. LeadsOn (shown self.old false) (shown self.new false) choices choice d) }
         ensures kept { OnOk result (IsKept self.new) }
         ensures begun { OnOk result (self.new.begun ≡ true) }
         ensures sized { IsSized self.new }

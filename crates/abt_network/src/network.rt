@@ -9,7 +9,7 @@ ghost use Rattle.abt_parts.specs.Messages.{message_of};
 ghost use Rattle.abt_agent.specs.Outgoing.{IsStamped};
 ghost use Rattle.abt_agent.specs.States.{stands_for};
 ghost use Rattle.abt_links.specs.Transit.{link_of, ready_pairs};
-ghost use Rattle.abt_network.specs.Standing.{reached, standing_in, standing_of, state_at, CanDeliver, Delivers, IsSeat, LeadsOn, StandsAt, Starts, TellsSent};
+ghost use Rattle.abt_network.specs.Standing.{reached, standing_in, standing_of, state_at, CanDeliver, Delivers, IsAfter, IsSeat, LeadsOn, StandsAt, Starts, TellsSent};
 
 use crate::body::NetworkBody;
 use crate::{Begun, Delivery, Standing};
@@ -86,7 +86,7 @@ impl<'p> Network<'p> {
         requires { self.old.spent ≡ false → CanDeliver self.old }
         ensures delivers { (net : TheNetwork) → StandsAt self.old net → IfOk result (λ d. Delivers self.old.problem self.new net choice d) }
         ensures sends { (net : TheNetwork) → StandsAt self.old net → OnOk result (TellsSent self.old.problem self.new.sent net choice) }
-        ensures leads { (choices : List ℕ) → StandsAt self.old (reached self.old choices) → IfOk result (λ d. LeadsOn self.old self.new choices choice d) }
+        ensures leads { (choices : List ℕ) → IsAfter self.old choices → IfOk result (λ d. LeadsOn self.old self.new choices choice d) }
         ensures begun { IfOk result (λ _. self.new.begun ≡ true) }
         ensures problem { self.new.problem ≡ self.old.problem }
         ensures sound { OnOk result (self.new.spent ≡ false) }
@@ -110,7 +110,7 @@ impl<'p> Network<'p> {
     pub fn state(&self) -> Standing
         ensures standing { result ≡ standing_in self.now }
         ensures machine { (net : TheNetwork) → StandsAt self.now net → self.now.spent ≡ false → result ≡ standing_of (csp_of self.now.problem) net }
-        ensures solved { (choices : List ℕ) → StandsAt self.now (reached self.now choices) → self.now.spent ≡ false → result ≡ Standing.Quiet → IsSolved (csp_of self.now.problem) (reached self.now choices) }
+        ensures solved { (choices : List ℕ) → IsAfter self.now choices → self.now.spent ≡ false → result ≡ Standing.Quiet → IsSolved (csp_of self.now.problem) (reached self.now choices) }
     {
         self.body.problem.denotes_csp();
         if self.body.refuted {
@@ -186,7 +186,7 @@ impl<'p> Network<'p> {
         requires { agent < length self.now.problem.domains }
         ensures value { result ≡ (state_at self.now.agents agent).value }
         ensures machine { (net : TheNetwork) → StandsAt self.now net → result ≡ (net.agents agent).value }
-        ensures bounded { (choices : List ℕ) → StandsAt self.now (reached self.now choices) → IsBoundedStore (csp_of self.now.problem) agent (stands_for (state_at self.now.agents agent)) }
+        ensures bounded { (choices : List ℕ) → IsAfter self.now choices → IsBoundedStore (csp_of self.now.problem) agent (stands_for (state_at self.now.agents agent)) }
     {
         self.body.problem.denotes_csp();
         self.body.agents[agent as usize].value()

@@ -5,7 +5,7 @@ ghost use Rattle.abt_defs.specs.Network.{sent_to};
 ghost use Rattle.abt_parts.specs.Messages.{message_of, messages_of, told_sent};
 ghost use Rattle.abt_parts.specs.declared.message.Sent.{Sent as TheSent};
 ghost use Rattle.abt_agent.specs.Outgoing.{IsStamped};
-ghost use Rattle.abt_network.specs.Standing.{messages_on};
+ghost use Rattle.abt_network.specs.Standing.{messages_on, messages_with, messages_after};
 ghost use Rattle.abt_network.specs.Bodies.{AreStamped};
 
 use abt_links::Links;
@@ -19,7 +19,7 @@ fn post_one(links: &mut Links, from: u32, sent: Sent) -> Result<(), Memory>
     requires stamps { IsStamped sent.message }
     requires stamped { AreStamped links.old }
     ensures agents { links.new.agents ≡ links.old.agents }
-    ensures lists { (k i : ℕ) → OnOk result (messages_on links.new k i ≡ (if k == from && i == sent.to then messages_on links.old k i ++ message_of sent.message ∷ [] else messages_on links.old k i)) }
+    ensures lists { (k i : ℕ) → OnOk result (messages_on links.new k i ≡ messages_with links.old from sent.to (message_of sent.message) k i) }
     ensures stamped { OnOk result (AreStamped links.new) }
 {
     let Sent { to, message } = sent;
@@ -41,7 +41,7 @@ pub fn post(
     requires stamps { All (λ (sent : TheSent). IsStamped sent.message) out.old }
     requires stamped { AreStamped links.old }
     ensures agents { links.new.agents ≡ links.old.agents }
-    ensures lists { (k i : ℕ) → OnOk result (messages_on links.new k i ≡ (if k == from then messages_on links.old k i ++ sent_to i (messages_of out.old) else messages_on links.old k i)) }
+    ensures lists { (k i : ℕ) → OnOk result (messages_on links.new k i ≡ messages_after links.old from (messages_of out.old) k i) }
     ensures stamped { OnOk result (AreStamped links.new) }
     ensures out { OnOk result (out.new ≡ []) }
     ensures told { OnOk result (told.new.items ≡ told.old.items ++ map told_sent (messages_of out.old)) }
@@ -58,8 +58,6 @@ pub fn post(
 fn add_told(told: &mut Vec<SentTo>, heading: SentTo) -> Result<(), Memory>
     ensures { OnOk result (told.new.items ≡ told.old.items ++ heading ∷ []) }
 {
-    match told.push(heading) {
-        Ok(()) => Ok(()),
-        Err(_) => Err(Memory),
-    }
+    told.push(heading)?;
+    Ok(())
 }

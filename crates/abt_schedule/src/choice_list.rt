@@ -35,10 +35,8 @@ impl ChoiceList {
         ensures ok { OnOk result (self.new ≡ self.old ++ choice ∷ []) }
         ensures err { OnErr result (self.new ≡ self.old) }
     {
-        match self.choices.push(choice) {
-            Ok(()) => Ok(()),
-            Err(_) => Err(Memory),
-        }
+        self.choices.push(choice)?;
+        Ok(())
     }
 
     /// The choices in order.

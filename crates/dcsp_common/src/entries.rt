@@ -79,10 +79,10 @@ pub fn put<T: Copy>(entries: &mut Vec<Entry<T>>, number: u32, item: T) -> Result
             entries[place].item = item;
             Ok(())
         }
-        Err(place) => match entries.insert(place, Entry { number, item }) {
-            Ok(()) => Ok(()),
-            Err(_) => Err(Memory),
-        },
+        Err(place) => {
+            entries.insert(place, Entry { number, item })?;
+            Ok(())
+        }
     }
 }
 

@@ -6,8 +6,7 @@ use std::alloc::Global;
 use std::marker::Model;
 
 /// Want of memory: the one refusal that no contract ties to a cause.
-#[derive(Clone, Copy, Debug, PartialEq, Eq)]
-pub struct Memory;
+pub use std::alloc::AllocError as Memory;
 
 /// A list that grows at its end. It keeps the allocator that it was made with.
 ///

@@ -7,8 +7,8 @@ ghost use Rattle.std.specs.Prelude.{◌≡◌, ◌≤◌, ◌++◌, length, deci
 ghost use Rattle.std.specs.Fmt.{signed_decimal};
 ghost use Rattle.dcsp_common.specs.Reading.{Reads, digits_at, number_at};
 
+use crate::list::Memory;
 use itoa::Buffer;
-use std::alloc::AllocError;
 
 /// Below this a number with one digit more has 64 bits too.
 const SHORT: u64 = u64::MAX / 10;
@@ -53,14 +53,14 @@ pub fn number_at(bytes: &[u8]) -> Option<(u64, &[u8])>
 }
 
 /// Appends a number. After a refusal the text may have a part of it.
-pub fn push_number(into: &mut Vec<u8>, number: u64) -> Result<(), AllocError>
+pub fn push_number(into: &mut Vec<u8>, number: u64) -> Result<(), Memory>
     ensures { OnOk result (into.new.items ≡ into.old.items ++ decimal number) }
 {
     into.extend_from_slice(Buffer::new().format(number).as_bytes())
 }
 
 /// Appends a number, after `-` where it is negative. After a refusal the text may have a part of it.
-pub fn push_signed(into: &mut Vec<u8>, number: i64) -> Result<(), AllocError>
+pub fn push_signed(into: &mut Vec<u8>, number: i64) -> Result<(), Memory>
     ensures { OnOk result (into.new.items ≡ into.old.items ++ signed_decimal number) }
 {
     into.extend_from_slice(Buffer::new().format(number).as_bytes())

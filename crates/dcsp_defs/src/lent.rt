@@ -64,18 +64,13 @@ impl<'l> LentStep<'l> {
     pub fn copy(&self, alloc: Global) -> Result<Step, Memory>
         ensures { IfOk result (λ step. step ≡ self.now) }
     {
-        let nogood = match Nogood::from_pairs(alloc, self.pairs) {
-            Ok(nogood) => nogood,
-            Err(_) => return Err(Memory),
-        };
-        match Vec::from_slice(alloc, self.reasons) {
-            Ok(reasons) => Ok(Step {
-                variable: self.variable,
-                nogood,
-                reasons: ReasonList::from_vec(reasons),
-            }),
-            Err(_) => Err(Memory),
-        }
+        let pairs = Vec::from_slice(alloc, self.pairs)?;
+        let reasons = Vec::from_slice(alloc, self.reasons)?;
+        Ok(Step {
+            variable: self.variable,
+            nogood: Nogood::of_rising(pairs),
+            reasons: ReasonList::from_vec(reasons),
+        })
     }
 }
 

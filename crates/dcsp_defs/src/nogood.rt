@@ -82,14 +82,21 @@ impl Nogood {
         }
     }
 
+    /// The nogood of exactly these pairs, which rise, whose list it takes over.
+    #[inline(always)]
+    pub fn of_rising(pairs: Vec<Pair>) -> Nogood
+        requires { IsRising pairs.items }
+        ensures { result ≡ pairs.items }
+    {
+        Nogood { pairs }
+    }
+
     /// An equal nogood.
     pub fn copy(&self, alloc: Global) -> Result<Nogood, Memory>
         ensures { IfOk result (λ nogood. nogood ≡ self.now) }
     {
-        match Vec::from_slice(alloc, &self.pairs) {
-            Ok(pairs) => Ok(Nogood { pairs }),
-            Err(_) => Err(Memory),
-        }
+        let pairs = Vec::from_slice(alloc, &self.pairs)?;
+        Ok(Nogood { pairs })
     }
 
     /// The pairs, strictly rising by variable.

@@ -50,10 +50,8 @@ impl CallPlan {
         ensures ok { OnOk result (self.new ≡ record self.old { failing = self.old.failing ++ failure ∷ [] }) }
         ensures err { OnErr result (self.new ≡ self.old) }
     {
-        match self.failing.push(failure) {
-            Ok(()) => Ok(()),
-            Err(_) => Err(Memory),
-        }
+        self.failing.push(failure)?;
+        Ok(())
     }
 
     /// Counts one more call. Where it is to fail, tells how many first bytes of its piece are kept.

@@ -54,16 +54,10 @@ impl FileTable {
             (ChangesName name.now (λ old new. new ≡ Some bytes.now) (map.get self.old) (map.get self.new)) }
         ensures err { OnErr result (self.new ≡ self.old) }
     {
-        let Ok(key) = String::from_str(self.alloc, name) else {
-            return Err(Memory);
-        };
-        let Ok(copy) = Vec::from_slice(self.alloc, bytes) else {
-            return Err(Memory);
-        };
-        match self.files.insert(key, copy) {
-            Ok(_) => Ok(()),
-            Err(_) => Err(Memory),
-        }
+        let key = String::from_str(self.alloc, name)?;
+        let copy = Vec::from_slice(self.alloc, bytes)?;
+        self.files.insert(key, copy)?;
+        Ok(())
     }
 
     /// Adds the bytes at the end of the name, which is held afterwards.
@@ -75,9 +69,7 @@ impl FileTable {
         let Some(file) = self.files.get_mut(name) else {
             return self.write(name, bytes);
         };
-        match file.extend_from_slice(bytes) {
-            Ok(()) => Ok(()),
-            Err(_) => Err(Memory),
-        }
+        file.extend_from_slice(bytes)?;
+        Ok(())
     }
 }

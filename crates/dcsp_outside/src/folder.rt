@@ -3,6 +3,8 @@
 ghost use Rattle.std.specs.Prelude.{◌≡◌, ◌^◌, ◌≤◌, [], ◌∷◌, ◌++◌, ◌⊎◌, IfSome, OnOk, IsErrOf, Contains, is_ok, if◌then◌else◌};
 ghost use Rattle.dcsp_outside.specs.Outside.{Place, Rose, NoneFalls, SameCounts, UnlessFailed, Told, ChangesName, AppendsPartOf, Fetches, AddsUpTo, FetchesPiece, AddsPiece, bytes_of, gained, handed_by, handed_piece};
 
+use std::alloc::{AllocError, AllocFailed};
+
 /// What a fetch found.
 #[derive(Clone, Copy, Debug, PartialEq, Eq)]
 pub enum Fetched {
@@ -31,6 +33,28 @@ pub enum FolderError {
     Failed,
     /// Want of memory.
     Memory,
+}
+
+impl From<AllocError> for FolderError {
+    ghost use Rattle.std.specs.Prelude.{◌≡◌};
+    ghost use Rattle.dcsp_outside.specs.declared.folder.FolderError.TheVariants.{Memory};
+
+    ghost from_gives = { λ _ e. e ≡ Memory };
+
+    fn from(_: AllocError) -> FolderError {
+        FolderError::Memory
+    }
+}
+
+impl<T: Drop> From<AllocFailed<T>> for FolderError {
+    ghost use Rattle.std.specs.Prelude.{◌≡◌};
+    ghost use Rattle.dcsp_outside.specs.declared.folder.FolderError.TheVariants.{Memory};
+
+    ghost from_gives = { λ _ e. e ≡ Memory };
+
+    fn from(_: AllocFailed<T>) -> FolderError {
+        FolderError::Memory
+    }
 }
 
 /// A folder: bytes under names.

@@ -66,12 +66,8 @@ impl KeptFiles {
         ensures created { OnOk result (self.new.created ≡ self.old.created ++ name.now ∷ []) }
         ensures err { OnErr result (self.new ≡ self.old) }
     {
-        let Ok(key) = String::from_str(self.alloc, name) else {
-            return Err(Memory);
-        };
-        if self.created.push(key).is_err() {
-            return Err(Memory);
-        }
+        let key = String::from_str(self.alloc, name)?;
+        self.created.push(key)?;
         if self.files.write(name, &[]).is_err() {
             self.created.pop();
             return Err(Memory);
@@ -128,10 +124,8 @@ fn extend(into: &mut Vec<u8>, bytes: &[u8]) -> Result<(), FolderError>
     ensures err { OnErr result (into.new.items ≡ into.old.items) }
     ensures never_fails { IsErrOf result FolderError.Failed → ⊥ }
 {
-    match into.extend_from_slice(bytes) {
-        Ok(()) => Ok(()),
-        Err(_) => Err(FolderError::Memory),
-    }
+    into.extend_from_slice(bytes)?;
+    Ok(())
 }
 
 /// The bytes from a place on; none where there are fewer.

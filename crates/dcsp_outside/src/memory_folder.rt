@@ -145,10 +145,8 @@ impl MemoryFolder {
         ensures calls { self.new.calls ≡ self.old.calls }
         ensures handed { self.new.handed ≡ self.old.handed }
     {
-        match self.kept.append(name, bytes) {
-            Ok(()) => Ok(()),
-            Err(Memory) => Err(FolderError::Memory),
-        }
+        self.kept.append(name, bytes)?;
+        Ok(())
     }
 }
 
@@ -224,10 +222,8 @@ impl Folder for MemoryFolder {
             self.calls.count_fault();
             return Err(FolderError::Failed);
         }
-        match self.kept.create(name) {
-            Ok(()) => Ok(()),
-            Err(Memory) => Err(FolderError::Memory),
-        }
+        self.kept.create(name)?;
+        Ok(())
     }
 
     fn append(&mut self, name: &str, bytes: &[u8]) -> Result<(), FolderError>

@@ -114,10 +114,8 @@ impl Folder for SureFolder {
         ensures handed { self.new.handed ≡ self.old.handed }
         ensures never_fails { IsErrOf result FolderError.Failed → ⊥ }
     {
-        match self.kept.create(name) {
-            Ok(()) => Ok(()),
-            Err(Memory) => Err(FolderError::Memory),
-        }
+        self.kept.create(name)?;
+        Ok(())
     }
 
     fn append(&mut self, name: &str, bytes: &[u8]) -> Result<(), FolderError>
@@ -128,9 +126,7 @@ impl Folder for SureFolder {
         ensures err { OnErr result (self.new ≡ self.old) }
         ensures never_fails { IsErrOf result FolderError.Failed → ⊥ }
     {
-        match self.kept.append(name, bytes) {
-            Ok(()) => Ok(()),
-            Err(Memory) => Err(FolderError::Memory),
-        }
+        self.kept.append(name, bytes)?;
+        Ok(())
     }
 }

@@ -3,7 +3,7 @@ use Rattle.std.proofs.Common.{◌≡◌, ℕ, List, codes, Result, Ok, Err, sym,
 use Rattle.std.specs.Prelude.{IfOk}
 use Rattle.std.specs.declared.vec.Vec.{Vec}
 use Rattle.std.specs.declared.alloc.Global.{Global}
-use Rattle.dcsp_common.specs.declared.list.Memory.{Memory}
+use Rattle.std.specs.declared.alloc.AllocError.{AllocError as Memory}
 use Rattle.dcsp_gen.specs.Problems.{sparse_text, queens_text, pigeons_text}
 use Rattle.law_subjects.specs.Lines.{queens, sparse, pigeons}
 use Rattle.law_subjects.specs.Problems.{problem_of}

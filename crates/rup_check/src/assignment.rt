@@ -27,9 +27,7 @@ impl Assignment {
         ensures assigned { IfOk result (λ a. IsAssignment a.marks.items a.trail.items) }
         ensures empty { IfOk result (λ a. a.trail.items ≡ []) }
     {
-        let Ok(marks) = vec![in alloc; false; 8192] else {
-            return Err(Memory);
-        };
+        let marks = vec![in alloc; false; 8192]?;
         Ok(Assignment {
             marks,
             trail: Vec::new(alloc),
@@ -61,9 +59,7 @@ impl Assignment {
         ensures trail { OnOk result (self.new.trail.items ≡ self.old.trail.items ++ literal ∷ []) }
         ensures assigned { OnOk result (IsAssignment self.new.marks.items self.new.trail.items) }
     {
-        let Ok(()) = self.trail.push(literal) else {
-            return Err(Memory);
-        };
+        self.trail.push(literal)?;
         self.marks[literal as usize] = true;
         Ok(())
     }

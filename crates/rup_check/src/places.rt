@@ -101,9 +101,7 @@ fn add_places(places: &mut Vec<u16>, numbers: &[i32]) -> Result<(), Memory>
     ensures err { OnErr result (Extends places.old.items places.new.items) }
 {
     for number in numbers {
-        let Ok(()) = places.push(place_of(*number)) else {
-            return Err(Memory);
-        };
+        places.push(place_of(*number))?;
     }
     Ok(())
 }

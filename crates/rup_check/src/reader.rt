@@ -91,10 +91,8 @@ fn read_clause<'t>(text: &'t [u8], clause: &mut Vec<i32>) -> Result<Option<&'t [
 fn add_literal(clause: &mut Vec<i32>, literal: i32) -> Result<(), Memory>
     ensures { OnOk result (clause.new.items ≡ clause.old.items ++ literal ∷ []) }
 {
-    match clause.push(literal) {
-        Ok(()) => Ok(()),
-        Err(_) => Err(Memory),
-    }
+    clause.push(literal)?;
+    Ok(())
 }
 
 /// What stands after `0` and a line feed.

@@ -82,10 +82,8 @@ impl Watches {
             second: 0,
             at: 0,
         };
-        match self.pairs.push(none) {
-            Ok(()) => Ok(()),
-            Err(_) => Err(Memory),
-        }
+        self.pairs.push(none)?;
+        Ok(())
     }
 
     /// Adds a clause that watches two literals.
@@ -102,10 +100,8 @@ impl Watches {
         };
         push_to(&mut self.lists, pair.first, number)?;
         push_to(&mut self.lists, pair.second, number)?;
-        match self.pairs.push(pair) {
-            Ok(()) => Ok(()),
-            Err(_) => Err(Memory),
-        }
+        self.pairs.push(pair)?;
+        Ok(())
     }
 }
 
@@ -153,9 +149,7 @@ fn empty_lists(alloc: Global) -> Result<Vec<ItemList<u32>>, Memory>
 {
     let mut lists = Vec::new(alloc);
     for _place in 0..8192u16 {
-        let Ok(()) = lists.push(ItemList::new(alloc)) else {
-            return Err(Memory);
-        };
+        lists.push(ItemList::new(alloc))?;
     }
     Ok(lists)
 }

@@ -9,7 +9,7 @@ loop-init c = subst (AllFresh c.args.agents 0) (sym c.new-rows.ensures.items) (n
 
 pub loop-preserved : goal.loop-preserved
 loop-preserved c =
-    subst (AllFresh c.args.agents (c.loop.counter + 1)) (sym c.in_default.ensures.items)
+    subst (AllFresh c.args.agents (c.loop.counter + 1)) (sym c.in_ok-push.ensures.items)
     (fresh_more c.args.agents c.loop.counter c.loop.rows.items c.in_ok-new.field-0 c.loop.invariant
     (record { room = c.in_ok-new.ensures.room; short = c.in_ok-new.ensures.short; none = c.in_ok-new.ensures.none }))
 
