@@ -14,6 +14,10 @@ copy_line free meeting person = domain (list_of free person) ++ concat (codes ":
 abbrev pub copy_lines : List (List ℕ) → List (List ℕ) → ℕ → List ℕ
 copy_lines free groups meeting = flat_map (copy_line free meeting) (list_of groups meeting)
 
+-- the copies of so many meetings, from the first one on
+abbrev pub first_copies : List (List ℕ) → List (List ℕ) → ℕ → List ℕ
+first_copies free groups count = flat_map (copy_lines free groups) (range_with_len 1 count)
+
 -- constraint int_eq(mMEETINGpFIRST,mMEETINGpSECOND);
 abbrev pub tie_line : ℕ → ℕ × ℕ → List ℕ
 tie_line meeting (first, second) = concat (

@@ -6,7 +6,7 @@ ghost use Rattle.dcsp_gen.specs.Problems.{pairs, pairs_of};
 ghost use Rattle.dcsp_gen.specs.Binary.{binary_text, entries, entry, later_entry, table_line, table_lines, sizes_fit, value_line, value_lines, value_pairs, values_with};
 
 use crate::lines::{push_array, push_solve};
-use crate::selection::{NumberPair, select};
+use crate::selection::{Choosing, NumberPair, select};
 use dcsp_common::Memory;
 use rand_core::SeedableRng;
 use rand_pcg::Pcg32;
@@ -54,10 +54,8 @@ pub fn binary(alloc: Global, sizes: BinarySizes, seed: u64) -> Result<Vec<u8>, M
     ensures { IfOk result (λ text. text.items ≡ binary_text sizes.variables sizes.values sizes.edges sizes.forbidden (word_at (generator_of seed))) }
 {
     let mut words = Pcg32::seed_from_u64(seed);
-    match binary_lines(alloc, sizes, &mut words) {
-        Ok(text) => Ok(text.into_bytes()),
-        Err(_) => Err(Memory),
-    }
+    let text = binary_lines(alloc, sizes, &mut words)?;
+    Ok(text.into_bytes())
 }
 
 fn binary_lines(alloc: Global, sizes: BinarySizes, words: &mut Pcg32) -> Result<String, AllocError>
@@ -69,9 +67,13 @@ fn binary_lines(alloc: Global, sizes: BinarySizes, words: &mut Pcg32) -> Result<
     push_value_lines(&mut text, sizes.values - 1, sizes.variables)?;
     push_array(&mut text, "x", sizes.variables)?;
     let all = variable_pairs(alloc, sizes.variables)?;
-    let edges = select(alloc, &all, true, sizes.edges, words)?;
+    let joined = Choosing {
+        wanted: sizes.edges,
+        kept: true,
+    };
+    let edges = select(alloc, &all, joined, words)?;
     let values = value_pairs(alloc, sizes.values)?;
-    push_tables(alloc, &mut text, sizes.forbidden, &values, &edges, words)?;
+    push_tables(&mut text, sizes.forbidden, &values, &edges, words)?;
     push_solve(&mut text)?;
     Ok(text)
 }
@@ -141,7 +143,6 @@ fn push_values_with(list: &mut Vec<NumberPair>, count: u32, first: u32) -> Resul
 
 /// The table of each edge: the pairs of values that its words do not choose.
 fn push_tables(
-    alloc: Global,
     text: &mut String,
     forbidden: u32,
     values: &[NumberPair],
@@ -151,8 +152,13 @@ fn push_tables(
     requires { length values.now < 2 ^ 31 }
     ensures { OnOk result (string_bytes text.new ≡ string_bytes text.old ++ table_lines forbidden values.now (word_at words.old) edges.now) }
 {
+    let alloc = *text.allocator();
+    let allowed = Choosing {
+        wanted: forbidden,
+        kept: false,
+    };
     for edge in edges {
-        let rows = select(alloc, values, false, forbidden, words)?;
+        let rows = select(alloc, values, allowed, words)?;
         push_table(text, *edge, &rows)?;
     }
     Ok(())

@@ -4,11 +4,11 @@ ghost use Rattle.std.specs.Prelude.{◌≡◌, ◌+◌, ◌<◌, ◌≤◌, ◌^
 ghost use Rattle.std.specs.List.{range_with_len};
 ghost use Rattle.abt_schedule.specs.Answers.{generator_of, word_at};
 ghost use Rattle.dcsp_gen.specs.Lists.{lists_in, list_of};
-ghost use Rattle.dcsp_gen.specs.Meetings.{agenda, attends, clash_line, clash_lines, copy_line, copy_lines, meetings_fit, meetings_of, meetings_text, tie_line, tie_lines};
+ghost use Rattle.dcsp_gen.specs.Meetings.{agenda, attends, clash_line, clash_lines, copy_line, copy_lines, first_copies, meetings_fit, meetings_of, meetings_text, tie_line, tie_lines};
 
 use crate::lines::push_solve;
 use crate::lists::{list_of, pairs_in, push_domain};
-use crate::selection::{NumberPair, push_if, select_each};
+use crate::selection::{Choosing, NumberPair, push_if, select_each};
 use dcsp_common::Memory;
 use rand_core::SeedableRng;
 use rand_pcg::Pcg32;
@@ -47,10 +47,8 @@ pub fn meetings(alloc: Global, sizes: MeetingSizes, seed: u64) -> Result<Vec<u8>
     ensures { IfOk result (λ text. text.items ≡ meetings_text sizes.people sizes.meetings sizes.each sizes.hours sizes.busy (word_at (generator_of seed))) }
 {
     let mut words = Pcg32::seed_from_u64(seed);
-    match meetings_lines(alloc, sizes, &mut words) {
-        Ok(text) => Ok(text.into_bytes()),
-        Err(_) => Err(Memory),
-    }
+    let text = meetings_lines(alloc, sizes, &mut words)?;
+    Ok(text.into_bytes())
 }
 
 fn meetings_lines(
@@ -63,8 +61,16 @@ fn meetings_lines(
     requires hours { sizes.hours ≤ 100 }
     ensures { IfOk result (λ text. string_bytes text ≡ meetings_text sizes.people sizes.meetings sizes.each sizes.hours sizes.busy (word_at words.old)) }
 {
-    let free = select_each(alloc, sizes.hours, false, sizes.busy, sizes.people, words)?;
-    let groups = select_each(alloc, sizes.people, true, sizes.each, sizes.meetings, words)?;
+    let busy = Choosing {
+        wanted: sizes.busy,
+        kept: false,
+    };
+    let each = Choosing {
+        wanted: sizes.each,
+        kept: true,
+    };
+    let free = select_each(alloc, sizes.hours, busy, sizes.people, words)?;
+    let groups = select_each(alloc, sizes.people, each, sizes.meetings, words)?;
     agenda(alloc, &free, &groups)
 }
 
@@ -85,7 +91,7 @@ fn agenda(alloc: Global, free: &[Vec<u32>], groups: &[Vec<u32>]) -> Result<Strin
 /// The copies of each meeting.
 fn push_copies(text: &mut String, free: &[Vec<u32>], groups: &[Vec<u32>]) -> Result<(), AllocError>
     requires { length groups.now < 2 ^ 31 }
-    ensures { OnOk result (string_bytes text.new ≡ string_bytes text.old ++ flat_map (copy_lines (lists_in free.now) (lists_in groups.now)) (range_with_len 1 (length groups.now))) }
+    ensures { OnOk result (string_bytes text.new ≡ string_bytes text.old ++ first_copies (lists_in free.now) (lists_in groups.now) (length groups.now)) }
 {
     for meeting in 1..groups.len() as u32 + 1 {
         push_copies_of(text, free, groups, meeting)?;

@@ -19,10 +19,8 @@ pub fn queens(alloc: Global, n: u32) -> Result<Vec<u8>, Memory>
     requires most { n ≤ 200 }
     ensures { IfOk result (λ text. text.items ≡ queens_text n) }
 {
-    match queens_lines(alloc, n) {
-        Ok(text) => Ok(text.into_bytes()),
-        Err(_) => Err(Memory),
-    }
+    let text = queens_lines(alloc, n)?;
+    Ok(text.into_bytes())
 }
 
 fn queens_lines(alloc: Global, n: u32) -> Result<String, AllocError>
@@ -62,10 +60,8 @@ pub fn colouring(alloc: Global, n: u32, k: u32, seed: u64) -> Result<Vec<u8>, Me
     ensures { IfOk result (λ text. text.items ≡ colouring_text n k (word_at (generator_of seed))) }
 {
     let mut words = Pcg32::seed_from_u64(seed);
-    match colouring_lines(alloc, n, k, &mut words) {
-        Ok(text) => Ok(text.into_bytes()),
-        Err(_) => Err(Memory),
-    }
+    let text = colouring_lines(alloc, n, k, &mut words)?;
+    Ok(text.into_bytes())
 }
 
 fn colouring_lines(alloc: Global, n: u32, k: u32, words: &mut Pcg32) -> Result<String, AllocError>
@@ -114,10 +110,8 @@ pub fn sparse(alloc: Global, n: u32, seed: u64) -> Result<Vec<u8>, Memory>
     ensures { IfOk result (λ text. text.items ≡ sparse_text n (word_at (generator_of seed))) }
 {
     let mut words = Pcg32::seed_from_u64(seed);
-    match sparse_lines(alloc, n, &mut words) {
-        Ok(text) => Ok(text.into_bytes()),
-        Err(_) => Err(Memory),
-    }
+    let text = sparse_lines(alloc, n, &mut words)?;
+    Ok(text.into_bytes())
 }
 
 fn sparse_lines(alloc: Global, n: u32, words: &mut Pcg32) -> Result<String, AllocError>
@@ -163,10 +157,8 @@ pub fn pigeons(alloc: Global, n: u32) -> Result<Vec<u8>, Memory>
     requires most { n ≤ 200 }
     ensures { IfOk result (λ text. text.items ≡ pigeons_text n) }
 {
-    match pigeons_lines(alloc, n) {
-        Ok(text) => Ok(text.into_bytes()),
-        Err(_) => Err(Memory),
-    }
+    let text = pigeons_lines(alloc, n)?;
+    Ok(text.into_bytes())
 }
 
 fn pigeons_lines(alloc: Global, n: u32) -> Result<String, AllocError>

@@ -13,7 +13,16 @@ use std::alloc::{AllocError, Global};
 /// Two variables, or two values.
 pub type NumberPair = (u32, u32);
 
-/// Those of the things that are chosen, where so many are wanted, or those that are not chosen.
+/// What a selection takes: so many things are chosen, and these are kept, or the others.
+#[derive(Clone, Copy, Debug)]
+pub struct Choosing {
+    /// How many are chosen.
+    pub wanted: u32,
+    /// Whether those that are chosen are kept, or those that are not.
+    pub kept: bool,
+}
+
+/// Those of the things that are kept.
 ///
 /// Each thing takes one word. It is chosen where the remainder of its word by the number of things that are left, itself
 /// included, is below the number of those that are still wanted. So as many are chosen as are wanted, if there are
@@ -21,21 +30,20 @@ pub type NumberPair = (u32, u32);
 pub fn select<T: Copy>(
     alloc: Global,
     things: &[T],
-    kept: bool,
-    wanted: u32,
+    choosing: Choosing,
     words: &mut Pcg32,
 ) -> Result<Vec<T>, AllocError>
     requires { length things.now < 2 ^ 31 }
-    ensures things { IfOk result (λ list. list.items ≡ selected kept (word_at words.old) wanted things.now) }
+    ensures things { IfOk result (λ list. list.items ≡ selected choosing.kept (word_at words.old) choosing.wanted things.now) }
     ensures words { OnOk result (word_at words.new ≡ words_after (length things.now) (word_at words.old)) }
 {
     let mut list = Vec::new(alloc);
-    let mut still = wanted;
+    let mut still = choosing.wanted;
     for place in 0..things.len() {
         let left = (things.len() - place) as u32;
         let chosen = chooses(words.next_word(), still, left);
         still = wanted_after(chosen, still);
-        push_if(&mut list, chosen == kept, things[place])?;
+        push_if(&mut list, chosen == choosing.kept, things[place])?;
     }
     Ok(list)
 }
@@ -44,19 +52,18 @@ pub fn select<T: Copy>(
 pub fn select_each(
     alloc: Global,
     high: u32,
-    kept: bool,
-    wanted: u32,
+    choosing: Choosing,
     count: u32,
     words: &mut Pcg32,
 ) -> Result<Vec<Vec<u32>>, AllocError>
     requires { high < 2 ^ 31 }
-    ensures lists { IfOk result (λ lists. lists_in lists.items ≡ selections kept (word_at words.old) wanted high count) }
+    ensures lists { IfOk result (λ lists. lists_in lists.items ≡ selections choosing.kept (word_at words.old) choosing.wanted high count) }
     ensures words { OnOk result (word_at words.new ≡ words_after (count * high) (word_at words.old)) }
 {
     let numbers = numbers_to(alloc, high)?;
     let mut lists = Vec::new(alloc);
     for _done in 0..count {
-        let list = select(alloc, &numbers, kept, wanted, words)?;
+        let list = select(alloc, &numbers, choosing, words)?;
         lists.push(list)?;
     }
     Ok(lists)

@@ -10,7 +10,7 @@ ghost use Rattle.dcsp_gen.specs.Sensors.{hear, hearing, hearing_line, is_near, r
 use crate::binary_texts::{push_entries, variable_pairs};
 use crate::lines::push_solve;
 use crate::lists::{list_of, pairs_in, push_domain};
-use crate::selection::{NumberPair, select_each};
+use crate::selection::{Choosing, NumberPair, select_each};
 use dcsp_common::Memory;
 use rand_core::SeedableRng;
 use rand_pcg::Pcg32;
@@ -51,10 +51,8 @@ pub fn sensors(alloc: Global, sizes: SensorSizes, seed: u64) -> Result<Vec<u8>, 
     ensures { IfOk result (λ text. text.items ≡ sensors_text sizes.side sizes.targets sizes.sees (word_at (generator_of seed))) }
 {
     let mut words = Pcg32::seed_from_u64(seed);
-    match sensors_lines(alloc, sizes, &mut words) {
-        Ok(text) => Ok(text.into_bytes()),
-        Err(_) => Err(Memory),
-    }
+    let text = sensors_lines(alloc, sizes, &mut words)?;
+    Ok(text.into_bytes())
 }
 
 fn sensors_lines(alloc: Global, sizes: SensorSizes, words: &mut Pcg32) -> Result<String, AllocError>
@@ -63,7 +61,11 @@ fn sensors_lines(alloc: Global, sizes: SensorSizes, words: &mut Pcg32) -> Result
     ensures { IfOk result (λ text. string_bytes text ≡ sensors_text sizes.side sizes.targets sizes.sees (word_at words.old)) }
 {
     let all = sizes.side * sizes.side;
-    let seen = select_each(alloc, all, true, sizes.sees, sizes.targets, words)?;
+    let sees = Choosing {
+        wanted: sizes.sees,
+        kept: true,
+    };
+    let seen = select_each(alloc, all, sees, sizes.targets, words)?;
     tracking(alloc, sizes.side, &seen)
 }
 

@@ -15,13 +15,13 @@ loop-place-preserved g c =
     let left = length-drop (suc place) things in
     record {
       items =
-          ap (λ (z : List g.row.T.Denot). c.push_if.new.list.items ++ selected c.args.kept (word_at c.next_word.new.self) c.wanted_after-still.result z) next
-          ∙ one_selected c.args.kept c.loop-place.words c.next_word.new.self c.next_word.result c.loop-place.still x rest c.chooses-chosen.result c.wanted_after-still.result c.loop-place.list.items c.push_if.new.list.items
+          ap (λ (z : List g.row.T.Denot). c.push_if.new.list.items ++ selected c.args.choosing.kept (word_at c.next_word.new.self) c.wanted_after-still.result z) next
+          ∙ one_selected c.args.choosing.kept c.loop-place.words c.next_word.new.self c.next_word.result c.loop-place.still x rest c.chooses-chosen.result c.wanted_after-still.result c.loop-place.list.items c.push_if.new.list.items
           c.next_word.ensures
           (c.chooses-chosen.ensures ∙ ap (chooses c.next_word.result c.loop-place.still) (omega (arith, left, c.loop-place-test.true)))
           c.wanted_after-still.ensures
           c.in_ok-push_if.ensures
-          ∙ ap (λ (z : List g.row.T.Denot). c.loop-place.list.items ++ selected c.args.kept (word_at c.loop-place.words) c.loop-place.still z) (sym here)
+          ∙ ap (λ (z : List g.row.T.Denot). c.loop-place.list.items ++ selected c.args.choosing.kept (word_at c.loop-place.words) c.loop-place.still z) (sym here)
           ∙ c.loop-place.invariant.items;
       words =
           ap (λ (z : List g.row.T.Denot). words_after (length z) (word_at c.next_word.new.self)) next
