@@ -10,11 +10,9 @@ ghost use Rattle.cnf_front.specs.Formulas.{with_clause, with_last, with_word, li
 use crate::header::{CnfError, is_end, literal_in, read_header};
 use crate::words::{Rest, Stand, next_word};
 use dcsp_problem::{
-    BuildError, ConstraintKind, Domain, IntList, Members, Problem, ProblemBuilder, Rule, Term,
-    TermList,
+    BuildError, ConstraintKind, Domain, MembersRef, Problem, ProblemBuilder, RuleRef, Term,
 };
 use std::alloc::Global;
-use std::mem;
 
 /// The problem of a DIMACS text: each variable has the domain 0, 1, and each clause is a rule, `bool_clause` of its
 /// positive and its negated variables in their order. There is no output.
@@ -65,18 +63,18 @@ fn read_clauses(
     ensures { Gives (λ _. builder.new) result (clauses_from variables builder.old no_literals (words from.entry.stand from.entry.at from.entry.bytes.now)) }
 {
     let mut clause = Open {
-        positive: TermList::new(alloc),
-        negative: TermList::new(alloc),
+        positive: Vec::new(alloc),
+        negative: Vec::new(alloc),
     };
     let mut here = from;
     loop {
         let (word, rest) = next_word(here);
         let at = word.at as u32;
         if is_end(word.bytes) {
-            return close_last(alloc, builder, &mut clause, at);
+            return close_last(builder, &mut clause, at);
         }
         let literal = literal_in(variables, word.bytes);
-        if let Err(error) = read_word(alloc, builder, &mut clause, literal, at) {
+        if let Err(error) = read_word(builder, &mut clause, literal, at) {
             return Err(error);
         }
         here = rest;
@@ -84,20 +82,15 @@ fn read_clauses(
 }
 
 /// Closes the clause at the text's end, if it has a literal.
-fn close_last(
-    alloc: Global,
-    builder: &mut ProblemBuilder,
-    clause: &mut Open,
-    at: u32,
-) -> Result<(), CnfError>
-    requires positive { All (IsTermOf (length builder.old.domains)) clause.old.positive }
-    requires negative { All (IsTermOf (length builder.old.domains)) clause.old.negative }
-    ensures { Gives (λ _. builder.new) result (with_last at builder.old (terms_so_far clause.old.positive clause.old.negative)) }
+fn close_last(builder: &mut ProblemBuilder, clause: &mut Open, at: u32) -> Result<(), CnfError>
+    requires positive { All (IsTermOf (length builder.old.domains)) clause.old.positive.items }
+    requires negative { All (IsTermOf (length builder.old.domains)) clause.old.negative.items }
+    ensures { Gives (λ _. builder.new) result (with_last at builder.old (terms_so_far clause.old.positive.items clause.old.negative.items)) }
 {
     if clause.positive.len() == 0 && clause.negative.len() == 0 {
         return Ok(());
     }
-    close_clause(alloc, builder, clause, at)
+    close_clause(builder, clause, at)
 }
 
 /// Adds so many variables with the domain 0, 1. It refuses only for want of memory.
@@ -127,35 +120,32 @@ fn add_variables(
 /// The terms of a clause that is being read.
 #[derive(Drop)]
 struct Open {
-    positive: TermList,
-    negative: TermList,
+    positive: Vec<Term>,
+    negative: Vec<Term>,
 }
 
 /// Makes the clause the next rule, and begins the next one.
-fn close_clause(
-    alloc: Global,
-    builder: &mut ProblemBuilder,
-    clause: &mut Open,
-    at: u32,
-) -> Result<(), CnfError>
-    requires positive { All (IsTermOf (length builder.old.domains)) clause.old.positive }
-    requires negative { All (IsTermOf (length builder.old.domains)) clause.old.negative }
-    ensures given { Gives (λ _. builder.new) result (with_clause at builder.old (terms_so_far clause.old.positive clause.old.negative)) }
-    ensures positive { OnOk result (clause.new.positive ≡ []) }
-    ensures negative { OnOk result (clause.new.negative ≡ []) }
+fn close_clause(builder: &mut ProblemBuilder, clause: &mut Open, at: u32) -> Result<(), CnfError>
+    requires positive { All (IsTermOf (length builder.old.domains)) clause.old.positive.items }
+    requires negative { All (IsTermOf (length builder.old.domains)) clause.old.negative.items }
+    ensures given { Gives (λ _. builder.new) result (with_clause at builder.old (terms_so_far clause.old.positive.items clause.old.negative.items)) }
+    ensures positive { OnOk result (clause.new.positive.items ≡ []) }
+    ensures negative { OnOk result (clause.new.negative.items ≡ []) }
     ensures domains { OnOk result (builder.new.domains ≡ builder.old.domains) }
 {
-    let first = mem::replace(&mut clause.positive, TermList::new(alloc));
-    let second = mem::replace(&mut clause.negative, TermList::new(alloc));
-    let rule = Rule::Plain {
+    let rule = RuleRef::Plain {
         kind: ConstraintKind::BoolClause,
-        scalars: TermList::new(alloc),
-        first,
-        second,
-        members: Members::Listed(IntList::new(alloc)),
+        scalars: &[],
+        first: &clause.positive,
+        second: &clause.negative,
+        members: MembersRef::Listed(&[]),
     };
-    match builder.add_rule(rule) {
-        Ok(_) => Ok(()),
+    match builder.add_lent(rule) {
+        Ok(_) => {
+            clause.positive.clear();
+            clause.negative.clear();
+            Ok(())
+        }
         Err(BuildError::Limit { which, count }) => Err(CnfError::Limit { which, count, at }),
         Err(BuildError::WideSum) => Err(CnfError::Memory),
         Err(BuildError::Memory) => Err(CnfError::Memory),
@@ -164,25 +154,24 @@ fn close_clause(
 
 /// Adds a literal to the clause, or closes it at 0.
 fn read_word(
-    alloc: Global,
     builder: &mut ProblemBuilder,
     clause: &mut Open,
     literal: Option<i32>,
     at: u32,
 ) -> Result<(), CnfError>
     requires literal { IfSome literal (λ z. unsigned_abs z ≤ length builder.old.domains) }
-    requires positive { All (IsTermOf (length builder.old.domains)) clause.old.positive }
-    requires negative { All (IsTermOf (length builder.old.domains)) clause.old.negative }
-    ensures given { Gives (λ _. (builder.new, terms_so_far clause.new.positive clause.new.negative)) result (with_word at builder.old (terms_so_far clause.old.positive clause.old.negative) literal) }
+    requires positive { All (IsTermOf (length builder.old.domains)) clause.old.positive.items }
+    requires negative { All (IsTermOf (length builder.old.domains)) clause.old.negative.items }
+    ensures given { Gives (λ _. (builder.new, terms_so_far clause.new.positive.items clause.new.negative.items)) result (with_word at builder.old (terms_so_far clause.old.positive.items clause.old.negative.items) literal) }
     ensures domains { OnOk result (builder.new.domains ≡ builder.old.domains) }
-    ensures positive { OnOk result (All (IsTermOf (length builder.new.domains)) clause.new.positive) }
-    ensures negative { OnOk result (All (IsTermOf (length builder.new.domains)) clause.new.negative) }
+    ensures positive { OnOk result (All (IsTermOf (length builder.new.domains)) clause.new.positive.items) }
+    ensures negative { OnOk result (All (IsTermOf (length builder.new.domains)) clause.new.negative.items) }
 {
     let Some(literal) = literal else {
         return Err(CnfError::Syntax { at });
     };
     if literal == 0 {
-        return close_clause(alloc, builder, clause, at);
+        return close_clause(builder, clause, at);
     }
     let term = Term::Var(literal.unsigned_abs() - 1);
     if literal > 0 {
@@ -192,8 +181,8 @@ fn read_word(
     }
 }
 
-fn add_term(terms: &mut TermList, term: Term) -> Result<(), CnfError>
-    ensures added { OnOk result (terms.new ≡ terms.old ++ term ∷ []) }
+fn add_term(terms: &mut Vec<Term>, term: Term) -> Result<(), CnfError>
+    ensures added { OnOk result (terms.new.items ≡ terms.old.items ++ term ∷ []) }
     ensures refusal { IfErr result (λ e. e ≡ CnfError.Memory) }
 {
     match terms.push(term) {

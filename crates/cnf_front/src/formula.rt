@@ -3,9 +3,10 @@ ghost use Rattle.std.specs.Prelude.{◌≡◌, ℕ, ℤ, ◌+◌, ◌≤◌, ◌
 ghost use Rattle.rup_check.specs.Literals.{IsLiteral};
 ghost use Rattle.cnf_front.specs.Clauses.{literal_of, negation_of, rule_clause, IsVariable, IsClauseRule, AddsSome};
 ghost use Rattle.dcsp_rule.specs.Rules.{IsTermOf, IsRuleOf};
+ghost use Rattle.dcsp_rule.specs.Lent.{lent_rule};
 
 use dcsp_common::Memory;
-use dcsp_problem::{Problem, Rule, Term};
+use dcsp_problem::{Problem, RuleRef, Term};
 use rup_check::ClauseList;
 use std::alloc::Global;
 
@@ -30,20 +31,20 @@ pub fn formula_of(alloc: Global, problem: &Problem, into: &mut ClauseList) -> Re
 }
 
 /// The rule's clause, put into an empty list.
-fn read_rule(rule: &Rule, variables: u32, clause: &mut Vec<i32>) -> Result<(), Memory>
-    requires form { IsClauseRule rule.now }
-    requires known { IsRuleOf variables rule.now }
+fn read_rule(rule: RuleRef<'_>, variables: u32, clause: &mut Vec<i32>) -> Result<(), Memory>
+    requires form { IsClauseRule (lent_rule rule) }
+    requires known { IsRuleOf variables (lent_rule rule) }
     requires few { variables ≤ 4096 }
     requires empty { clause.old.items ≡ [] }
-    ensures clause { OnOk result (clause.new.items ≡ rule_clause rule.now) }
+    ensures clause { OnOk result (clause.new.items ≡ rule_clause (lent_rule rule.entry)) }
     ensures literals { OnOk result (All IsLiteral clause.new.items) }
 {
     match rule {
-        Rule::Plain { first, second, .. } => {
-            add_variables(clause, first.items(), variables)?;
-            add_negations(clause, second.items(), variables)
+        RuleRef::Plain { first, second, .. } => {
+            add_variables(clause, first, variables)?;
+            add_negations(clause, second, variables)
         }
-        Rule::Sum { .. } => Ok(()),
+        RuleRef::Sum { .. } => Ok(()),
     }
 }
 

@@ -98,8 +98,11 @@ module _ (order : List ℕ) (pairs : List Pair) where
           let end = last_var (first_pairs n) (pair_of n v) in
           subst (RisesBelow (suc n)) (sym (one_more n (Some v) e)) (IsRising-push (first_pairs n) (pair_of n v) h.0 h.1, λ l. omega (arith, end))
 
+  pub first_rise : (n : ℕ) → IsRising (first_pairs n)
+  first_rise n = (rising_below n).0
+
   pub rising_renumbered : IsRising (pairs_renumbered order pairs)
-  rising_renumbered = (rising_below (length order)).0
+  rising_renumbered = first_rise (length order)
 
   -- a number is given what its place is
   pub given_renumbered : (k : ℕ) → k < length order → value_at (pairs_renumbered order pairs) k ≡ value_at pairs (place_of order k)

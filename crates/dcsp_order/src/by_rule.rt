@@ -54,9 +54,7 @@ fn weights_of(
     let vars = problem.vars();
     let mut weights = Vec::new(alloc);
     for var in 0..vars {
-        let Ok(()) = weights.push(weight_of(problem, rule, shared, var)) else {
-            return Err(Memory);
-        };
+        weights.push(weight_of(problem, rule, shared, var))?;
     }
     Ok(weights)
 }
@@ -113,20 +111,14 @@ fn placed_in_turn(
 {
     problem.denotes_csp();
     let vars = problem.vars();
-    let Ok(mut left) = vec![in alloc; true; vars as usize] else {
-        return Err(Memory);
-    };
-    let Ok(mut linked) = vec![in alloc; 0u32; vars as usize] else {
-        return Err(Memory);
-    };
+    let mut left = vec![in alloc; true; vars as usize]?;
+    let mut linked = vec![in alloc; 0u32; vars as usize]?;
     let mut numbers = Vec::new(alloc);
     for _place in 0..vars {
         let Some(number) = next_of(&left, &linked, weights) else {
             unreachable!();
         };
-        let Ok(()) = numbers.push(number) else {
-            return Err(Memory);
-        };
+        numbers.push(number)?;
         left[number as usize] = false;
         count_links(rule, &mut linked, shared, number);
     }

@@ -71,9 +71,7 @@ fn places_of(alloc: Global, numbers: &[u32]) -> Result<Vec<u32>, Memory>
     requires few { length numbers.now ≤ most Variables }
     ensures { IfOk result (λ places. ArePlaces numbers.now places.items) }
 {
-    let Ok(mut places) = vec![in alloc; 0u32; numbers.len()] else {
-        return Err(Memory);
-    };
+    let mut places = vec![in alloc; 0u32; numbers.len()]?;
     for place in 0..numbers.len() {
         places[numbers[place] as usize] = place as u32;
     }

@@ -14,9 +14,7 @@ pub(crate) fn shared_scopes(alloc: Global, problem: &Problem) -> Result<Vec<bool
 {
     problem.denotes_csp();
     let width = problem.vars() as usize;
-    let Ok(mut flags) = vec![in alloc; false; width * width] else {
-        return Err(Memory);
-    };
+    let mut flags = vec![in alloc; false; width * width]?;
     for rule in 0..problem.rules() {
         set_rows(&mut flags, width, problem.scope(rule));
     }

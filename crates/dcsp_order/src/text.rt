@@ -110,9 +110,7 @@ fn take(numbers: &mut Vec<u32>, taken: &mut Vec<bool>, number: u32) -> Result<bo
     if taken[number as usize] {
         return Ok(false);
     }
-    let Ok(()) = numbers.push(number) else {
-        return Err(Memory);
-    };
+    numbers.push(number)?;
     taken[number as usize] = true;
     Ok(true)
 }
@@ -122,10 +120,7 @@ impl Order {
     pub fn text(&self, alloc: Global) -> Result<Vec<u8>, Memory>
         ensures { IfOk result (λ text. text.items ≡ order_text self.now) }
     {
-        match text_of(alloc, self.numbers()) {
-            Ok(text) => Ok(text),
-            Err(_) => Err(Memory),
-        }
+        text_of(alloc, self.numbers())
     }
 }
 

@@ -54,15 +54,9 @@ impl Order {
             let Some(value) = nogood.value_of(self.place(number)) else {
                 continue;
             };
-            let Ok(()) = pairs.push(Pair { var: number, value }) else {
-                return Err(Memory);
-            };
+            pairs.push(Pair { var: number, value })?;
         }
-        match Nogood::from_vec(pairs) {
-            Ok(told) => Ok(told),
-            // It never comes to this: the pairs rise, since they were pushed by rising numbers.
-            Err(_place) => Err(Memory),
-        }
+        Ok(Nogood::of_rising(pairs))
     }
 }
 

@@ -2,14 +2,15 @@
 
 ghost use Rattle.std.specs.Prelude.{◌≡◌, length, All, IfOk, IfSome, map};
 ghost use Rattle.std.specs.Option.{option_map};
+ghost use Rattle.dcsp_rule.specs.Lent.{lent_members, lent_rule};
 ghost use Rattle.dcsp_rule.specs.Rules.{terms_of, IsAimOf, IsTermOf};
 ghost use Rattle.dcsp_order.specs.Under.{aim_under, domain_at, output_under, rule_under, term_under, terms_under, under};
 
 use crate::order::Order;
 use dcsp_common::{ItemList, Memory};
 use dcsp_problem::{
-    Aim, Domain, IntList, Members, NameText, Output, Problem, RangeList, Rule, Shape, Term,
-    TermList,
+    Aim, Domain, IntList, Members, MembersRef, NameText, Output, Problem, RangeList, Rule, RuleRef,
+    RuleTable, Shape, Term, TermList,
 };
 use std::alloc::Global;
 
@@ -38,25 +39,21 @@ impl Order {
         let mut domains = Vec::new(alloc);
         for place in 0..numbers.len() {
             let domain = problem.domain(numbers[place]).copied()?;
-            let Ok(()) = domains.push(domain) else {
-                return Err(Memory);
-            };
+            domains.push(domain)?;
         }
         Ok(domains)
     }
 
     /// The rules, over places.
-    fn rules_under(&self, alloc: Global, problem: &Problem) -> Result<Vec<Rule>, Memory>
+    fn rules_under(&self, alloc: Global, problem: &Problem) -> Result<RuleTable, Memory>
         requires { length self.now ≡ length problem.now.domains }
-        ensures { IfOk result (λ rules. rules.items ≡ map (rule_under self.now) problem.now.rules) }
+        ensures { IfOk result (λ rules. rules ≡ map (rule_under self.now) problem.now.rules) }
     {
         problem.denotes_csp();
-        let mut rules = Vec::new(alloc);
+        let mut rules = RuleTable::new(alloc);
         for number in 0..problem.rules() {
             let rule = self.rule_under(alloc, problem.rule(number))?;
-            let Ok(()) = rules.push(rule) else {
-                return Err(Memory);
-            };
+            rules.push(rule.lent())?;
         }
         Ok(rules)
     }
@@ -70,44 +67,42 @@ impl Order {
         let mut outputs = Vec::new(alloc);
         for place in 0..problem.outputs() {
             let output = self.output_under(alloc, problem.output(place))?;
-            let Ok(()) = outputs.push(output) else {
-                return Err(Memory);
-            };
+            outputs.push(output)?;
         }
         Ok(outputs)
     }
 
     /// A rule over places.
-    fn rule_under(&self, alloc: Global, rule: &Rule) -> Result<Rule, Memory>
-        requires { All (IsTermOf (length self.now)) (terms_of rule.now) }
-        ensures { IfOk result (λ moved. moved ≡ rule_under self.now rule.now) }
+    fn rule_under(&self, alloc: Global, rule: RuleRef<'_>) -> Result<Rule, Memory>
+        requires { All (IsTermOf (length self.now)) (terms_of (lent_rule rule)) }
+        ensures { IfOk result (λ moved. moved ≡ rule_under self.now (lent_rule rule.entry)) }
     {
         match rule {
-            Rule::Plain {
+            RuleRef::Plain {
                 kind,
                 scalars,
                 first,
                 second,
                 members,
             } => Ok(Rule::Plain {
-                kind: *kind,
-                scalars: self.terms_under(alloc, scalars.items())?,
-                first: self.terms_under(alloc, first.items())?,
-                second: self.terms_under(alloc, second.items())?,
+                kind,
+                scalars: self.terms_under(alloc, scalars)?,
+                first: self.terms_under(alloc, first)?,
+                second: self.terms_under(alloc, second)?,
                 members: copied_members(alloc, members)?,
             }),
-            Rule::Sum {
+            RuleRef::Sum {
                 rel,
                 coefs,
                 terms,
                 total,
                 truth,
             } => Ok(Rule::Sum {
-                rel: *rel,
+                rel,
                 coefs: copied_integers(alloc, coefs)?,
-                terms: self.terms_under(alloc, terms.items())?,
-                total: self.term_under(*total),
-                truth: self.told_under(*truth),
+                terms: self.terms_under(alloc, terms)?,
+                total: self.term_under(total),
+                truth: self.told_under(truth),
             }),
         }
     }
@@ -142,13 +137,11 @@ impl Order {
         requires { All (IsTermOf (length self.now)) terms.now }
         ensures { IfOk result (λ moved. moved ≡ terms_under self.now terms.now) }
     {
-        let mut moved = TermList::new(alloc);
+        let mut moved = Vec::new(alloc);
         for term in terms {
-            let Ok(()) = moved.push(self.term_under(*term)) else {
-                return Err(Memory);
-            };
+            moved.push(self.term_under(*term))?;
         }
-        Ok(moved)
+        Ok(ItemList::from_vec(moved))
     }
 
     /// A term over places.
@@ -175,15 +168,12 @@ impl Order {
 }
 
 /// The same members once more.
-fn copied_members(alloc: Global, members: &Members) -> Result<Members, Memory>
-    ensures { IfOk result (λ copy. copy ≡ members.now) }
+fn copied_members(alloc: Global, members: MembersRef<'_>) -> Result<Members, Memory>
+    ensures { IfOk result (λ copy. copy ≡ lent_members members.entry) }
 {
     match members {
-        Members::Between { low, high } => Ok(Members::Between {
-            low: *low,
-            high: *high,
-        }),
-        Members::Listed(values) => Ok(Members::Listed(copied_integers(alloc, values)?)),
+        MembersRef::Between { low, high } => Ok(Members::Between { low, high }),
+        MembersRef::Listed(values) => Ok(Members::Listed(copied_integers(alloc, values)?)),
     }
 }
 
@@ -198,31 +188,24 @@ fn copied_shape(alloc: Global, shape: &Shape) -> Result<Shape, Memory>
 }
 
 /// The same integers once more.
-fn copied_integers(alloc: Global, list: &IntList) -> Result<IntList, Memory>
+fn copied_integers(alloc: Global, list: &[i64]) -> Result<IntList, Memory>
     ensures { IfOk result (λ copy. copy ≡ list.now) }
 {
-    match Vec::from_slice(alloc, list.items()) {
-        Ok(items) => Ok(ItemList::from_vec(items)),
-        Err(_) => Err(Memory),
-    }
+    Ok(ItemList::from_vec(Vec::from_slice(alloc, list)?))
 }
 
 /// The same ranges once more.
 fn copied_ranges(alloc: Global, list: &RangeList) -> Result<RangeList, Memory>
     ensures { IfOk result (λ copy. copy ≡ list.now) }
 {
-    match Vec::from_slice(alloc, list.items()) {
-        Ok(items) => Ok(ItemList::from_vec(items)),
-        Err(_) => Err(Memory),
-    }
+    let items = Vec::from_slice(alloc, list.items())?;
+    Ok(ItemList::from_vec(items))
 }
 
 /// The same name once more.
 fn copied_name(alloc: Global, list: &NameText) -> Result<NameText, Memory>
     ensures { IfOk result (λ copy. copy ≡ list.now) }
 {
-    match Vec::from_slice(alloc, list.items()) {
-        Ok(items) => Ok(ItemList::from_vec(items)),
-        Err(_) => Err(Memory),
-    }
+    let items = Vec::from_slice(alloc, list.items())?;
+    Ok(ItemList::from_vec(items))
 }

@@ -169,3 +169,18 @@ refused_for_terms p rule error terms narrow short few sum e =
     let rest : first_past (rule_counts p rule) ≡ Some (Terms, term_count p + size_of rule) =
     lists_passed (list_counts rule) _ short ∙ past_later Rules (length p.rules + 1) ((Terms, term_count p + size_of rule) ∷ []) few ∙ last in
     error_of (rule_refusal p rule) error (narrow_refusal p rule narrow ∙ ap (λ z. option_map limit_of z) rest ∙ ap (λ z. Some (Limit Terms z)) (sym sum) ∙ ap (λ z. Some z) (sym e.0))
+
+-- a sum that is too wide
+pub refused_for_width : (p : Contents) (rule : Rule) (error : BuildError) → IsErrorOf (if nat_lt WIDEST (rule_width p.domains rule) then Some WideSum else None) error → IsErrorOf (rule_refusal p rule) error
+refused_for_width p rule error h = by_test (nat_lt WIDEST (rule_width p.domains rule)) (option_map limit_of (first_past (rule_counts p rule))) error h where
+  by_test : (b : Bool) (later : Option BuildError) (e : BuildError) → IsErrorOf (if b then Some WideSum else None) e → IsErrorOf (if b then Some WideSum else later) e
+  by_test true later e h = h
+  by_test false later Memory h = tt
+  by_test false later WideSum h = absurd (cc)
+  by_test false later (Limit which count) h = absurd (cc)
+
+-- a narrow rule that passes no limit
+pub not_refused : (p : Contents) (rule : Rule) → rule_width p.domains rule ≤ WIDEST → first_past (list_counts rule) ≡ None → length p.rules + 1 ≤ most Rules → term_count p + size_of rule ≤ most Terms → rule_refusal p rule ≡ None
+not_refused p rule narrow short few small =
+    narrow_refusal p rule narrow
+    ∙ ap (option_map limit_of) (lists_passed (list_counts rule) _ short ∙ past_later Rules (length p.rules + 1) ((Terms, term_count p + size_of rule) ∷ []) few ∙ past_later Terms (term_count p + size_of rule) [] small)

@@ -2,6 +2,7 @@
 
 ghost use Rattle.std.specs.Prelude.{◌≡◌, ◌≤◌, ◌<◌, ◌+◌, ◌-◌, ◌^◌, ◌++◌, ◌∷◌, [], length, All, IsTrue, IfOk, IfErr, OnOk, OnErr, MatchOption, Ok, Err};
 ghost use Rattle.dcsp_rule.specs.Members.{values_of};
+ghost use Rattle.dcsp_rule.specs.Lent.{lent_members, lent_rule};
 ghost use Rattle.dcsp_rule.specs.Rules.{IsTermOf, IsAimOf, terms_of, size_of, has_shape};
 ghost use Rattle.dcsp_problem.specs.Outputs.{IsOutputOf};
 ghost use Rattle.dcsp_problem.specs.Limits.{first_past, list_counts, variable_refusal, rule_refusal, Refuses};
@@ -11,7 +12,7 @@ use crate::problem::Problem;
 use crate::widths::within_width;
 use dcsp_common::Memory;
 use dcsp_domain::Domain;
-use dcsp_rule::{Aim, Members, Output, Rule};
+use dcsp_rule::{Aim, MembersRef, Output, Rule, RuleRef, RuleTable};
 use std::alloc::Global;
 use std::marker::Model;
 
@@ -20,7 +21,7 @@ use std::marker::Model;
 pub struct ProblemBuilder {
     alloc: Global,
     domains: Vec<Domain>,
-    rules: Vec<Rule>,
+    rules: RuleTable,
     outputs: Vec<Output>,
     aim: Aim,
     /// The number of values over all domains.
@@ -35,9 +36,9 @@ impl Model for ProblemBuilder {
 
     ghost Value = { Contents };
 
-    ghost view = { λ b. record { domains = b.domains.items; rules = b.rules.items; outputs = b.outputs.items; aim = b.aim } };
+    ghost view = { λ b. record { domains = b.domains.items; rules = b.rules; outputs = b.outputs.items; aim = b.aim } };
 
-    ghost invariant = { λ b. IsTallied (record { domains = b.domains.items; rules = b.rules.items; outputs = b.outputs.items; aim = b.aim }) b.values b.terms };
+    ghost invariant = { λ b. IsTallied (record { domains = b.domains.items; rules = b.rules; outputs = b.outputs.items; aim = b.aim }) b.values b.terms };
 }
 
 impl ProblemBuilder {
@@ -51,7 +52,7 @@ impl ProblemBuilder {
         ProblemBuilder {
             alloc,
             domains: Vec::new(alloc),
-            rules: Vec::new(alloc),
+            rules: RuleTable::new(alloc),
             outputs: Vec::new(alloc),
             aim: Aim::Satisfy,
             values: 0,
@@ -91,9 +92,21 @@ impl ProblemBuilder {
         ensures refusal { Refuses (rule_refusal self.old rule) result }
         ensures err { OnErr result (self.new ≡ self.old) }
     {
-        within_width(&self.domains, &rule)?;
+        self.add_lent(rule.lent())
+    }
+
+    /// The same of a rule whose lists are another's: they are copied into the problem's.
+    pub fn add_lent(&mut self, rule: RuleRef<'_>) -> Result<u32, BuildError>
+        requires known { All (IsTermOf (length self.old.domains)) (terms_of (lent_rule rule)) }
+        requires shape { IsTrue (has_shape (lent_rule rule)) }
+        ensures number { IfOk result (λ number. number ≡ length self.old.rules) }
+        ensures added { OnOk result (self.new ≡ record self.old { rules = self.old.rules ++ lent_rule rule.entry ∷ [] }) }
+        ensures refusal { Refuses (rule_refusal self.old (lent_rule rule.entry)) result }
+        ensures err { OnErr result (self.new ≡ self.old) }
+    {
+        within_width(&self.domains, rule)?;
         let number = self.rules.len();
-        let added = count_terms(&rule)?;
+        let added = count_terms(rule)?;
         within(Which::Rules, number + 1)?;
         let terms = self.terms + added;
         within(Which::Terms, terms)?;
@@ -132,12 +145,12 @@ impl ProblemBuilder {
 }
 
 /// The number of the rule's terms, unless one of its lists is too long.
-fn count_terms(rule: &Rule) -> Result<usize, BuildError>
-    ensures count { MatchOption (first_past (list_counts rule.now)) (result ≡ Ok (size_of rule.now)) (λ past. result ≡ Err (BuildError.Limit past.0 past.1)) }
+fn count_terms(rule: RuleRef<'_>) -> Result<usize, BuildError>
+    ensures count { MatchOption (first_past (list_counts (lent_rule rule.entry))) (result ≡ Ok (size_of (lent_rule rule.entry))) (λ past. result ≡ Err (BuildError.Limit past.0 past.1)) }
     ensures small { IfOk result (λ count. count < 2 ^ 63) }
 {
     match rule {
-        Rule::Plain {
+        RuleRef::Plain {
             scalars,
             first,
             second,
@@ -149,7 +162,7 @@ fn count_terms(rule: &Rule) -> Result<usize, BuildError>
             within(Which::Elements, second.len())?;
             Ok(scalars.len() + first.len() + second.len() + count_listed(members))
         }
-        Rule::Sum {
+        RuleRef::Sum {
             coefs,
             terms,
             truth,
@@ -164,12 +177,12 @@ fn count_terms(rule: &Rule) -> Result<usize, BuildError>
 }
 
 /// The number of the listed values, as they are written.
-fn count_listed(members: &Members) -> usize
-    ensures count { result ≡ length (values_of members.now) }
+fn count_listed(members: MembersRef<'_>) -> usize
+    ensures count { result ≡ length (values_of (lent_members members.entry)) }
     ensures small { result < 2 ^ 62 }
 {
     match members {
-        Members::Between { .. } => 0,
-        Members::Listed(values) => values.items().len(),
+        MembersRef::Between { .. } => 0,
+        MembersRef::Listed(values) => values.len(),
     }
 }

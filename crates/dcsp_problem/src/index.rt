@@ -4,77 +4,80 @@ ghost use Rattle.std.specs.Prelude.{◌≡◌, ◌≤◌, ◌<◌, ◌^◌, ◌+
 ghost use Rattle.std.specs.List.{filter_map};
 ghost use Rattle.std.specs.Option.{option_to_list};
 ghost use Rattle.dcsp_defs.specs.Words.{below};
+ghost use Rattle.dcsp_rule.specs.Lent.{lent_rule};
 ghost use Rattle.dcsp_rule.specs.Rules.{IsRuleOf, scope_of, variable_of, variables_of};
 ghost use Rattle.dcsp_problem.specs.Owners.{owned_among, with_owned};
 
 use crate::table::NumberTable;
 use dcsp_common::Memory;
-use dcsp_rule::{NumberList, Rule, Term};
+use dcsp_rule::{NumberList, RuleRef, Term};
 use std::alloc::{AllocError, Global};
 
-/// The variables among the rule's terms, rising.
-pub fn scope_list(alloc: Global, rule: &Rule) -> Result<Vec<u32>, AllocError>
-    ensures { IfOk result (λ scope. (variables : ℕ) → IsRuleOf variables rule.now → scope.items ≡ scope_of variables rule.now) }
+/// Puts the variables among the rule's terms into the list, rising, in place of what it holds.
+pub fn put_scope(scope: &mut Vec<u32>, rule: RuleRef<'_>) -> Result<(), Memory>
+    ensures { OnOk result ((variables : ℕ) → IsRuleOf variables (lent_rule rule.entry) → scope.new.items ≡ scope_of variables (lent_rule rule.entry)) }
 {
-    let mut variables = variable_list(alloc, rule)?;
-    variables.sort_unstable();
-    variables.dedup();
-    Ok(variables)
+    scope.clear();
+    push_rule(scope, rule)?;
+    scope.sort_unstable();
+    scope.dedup();
+    Ok(())
 }
 
-/// The variables among the rule's terms, as they stand there.
-fn variable_list(alloc: Global, rule: &Rule) -> Result<Vec<u32>, AllocError>
-    ensures { IfOk result (λ variables. variables.items ≡ variables_of rule.now) }
+/// Puts the variables among the rule's terms into an empty list, as they stand there.
+fn push_rule(variables: &mut Vec<u32>, rule: RuleRef<'_>) -> Result<(), Memory>
+    requires { variables.old.items ≡ [] }
+    ensures { OnOk result (variables.new.items ≡ variables_of (lent_rule rule.entry)) }
 {
     match rule {
-        Rule::Plain {
+        RuleRef::Plain {
             scalars,
             first,
             second,
             ..
-        } => variables_among(alloc, scalars.items(), first.items(), second.items()),
-        Rule::Sum {
+        } => push_three(variables, scalars, first, second),
+        RuleRef::Sum {
             terms,
             total,
             truth,
             ..
-        } => variables_of_sum(alloc, terms.items(), *total, *truth),
+        } => push_sum(variables, terms, total, truth),
     }
 }
 
-/// The variables among the terms of three lists, one after another.
-fn variables_among(
-    alloc: Global,
+/// Puts the variables among the terms of three lists into an empty one, one list after another.
+fn push_three(
+    variables: &mut Vec<u32>,
     scalars: &[Term],
     first: &[Term],
     second: &[Term],
-) -> Result<Vec<u32>, AllocError>
-    ensures { IfOk result (λ variables. variables.items ≡ filter_map variable_of (scalars.now ++ first.now ++ second.now)) }
+) -> Result<(), Memory>
+    requires { variables.old.items ≡ [] }
+    ensures { OnOk result (variables.new.items ≡ filter_map variable_of (scalars.now ++ first.now ++ second.now)) }
 {
-    let mut variables = Vec::new(alloc);
-    push_variables(&mut variables, scalars)?;
-    push_variables(&mut variables, first)?;
-    push_variables(&mut variables, second)?;
-    Ok(variables)
+    push_variables(variables, scalars)?;
+    push_variables(variables, first)?;
+    push_variables(variables, second)?;
+    Ok(())
 }
 
-/// The variables among the terms of a sum, its total, and the term of its truth.
-fn variables_of_sum(
-    alloc: Global,
+/// Puts the variables among the terms of a sum, its total, and the term of its truth into an empty list.
+fn push_sum(
+    variables: &mut Vec<u32>,
     terms: &[Term],
     total: Term,
     truth: Option<Term>,
-) -> Result<Vec<u32>, AllocError>
-    ensures { IfOk result (λ variables. variables.items ≡ filter_map variable_of (terms.now ++ total ∷ option_to_list truth)) }
+) -> Result<(), Memory>
+    requires { variables.old.items ≡ [] }
+    ensures { OnOk result (variables.new.items ≡ filter_map variable_of (terms.now ++ total ∷ option_to_list truth)) }
 {
-    let mut variables = Vec::new(alloc);
-    push_variables(&mut variables, terms)?;
-    push_variable(&mut variables, total)?;
+    push_variables(variables, terms)?;
+    push_variable(variables, total)?;
     match truth {
-        None => Ok(variables),
+        None => Ok(()),
         Some(truth) => {
-            push_variable(&mut variables, truth)?;
-            Ok(variables)
+            push_variable(variables, truth)?;
+            Ok(())
         }
     }
 }

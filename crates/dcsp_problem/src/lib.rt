@@ -17,7 +17,8 @@ pub use builder::ProblemBuilder;
 pub use dcsp_domain::{Domain, DomainError, IntList, Memory, RangeList};
 pub use dcsp_meaning::{ConstraintKind, Rel};
 pub use dcsp_rule::{
-    Aim, BinaryRule, Lookup, Members, NameText, Output, Rule, Shape, Term, TermList,
+    Aim, BinaryRule, Lookup, Members, MembersRef, NameText, Output, Rule, RuleRef, RuleTable,
+    Shape, Term, TermList,
 };
 pub use limits::{BuildError, Which};
 pub use problem::Problem;

@@ -7,6 +7,7 @@ ghost use Rattle.dcsp_defs.specs.Csp.{domain, owner, is_violated, IsConstraint, 
 ghost use Rattle.dcsp_rule.specs.Problems.{csp_of, constraint_at, rule_at, within_domains, AreInDomains};
 ghost use Rattle.dcsp_problem.specs.WellFormed.{IsProblem};
 ghost use Rattle.dcsp_rule.specs.Rules.{IsAimOf};
+ghost use Rattle.dcsp_rule.specs.Lent.{lent_rule};
 ghost use Rattle.dcsp_rule.specs.Aims.{aimed_at, is_better, narrowed_domains, narrowed};
 ghost use Rattle.dcsp_rule.specs.Pairs.{compares_variable, IsPairOf, IsSmallSum};
 ghost use Rattle.dcsp_rule.specs.Forms.{IsFormOf};
@@ -19,7 +20,8 @@ use crate::table::NumberTable;
 use dcsp_common::Memory;
 use dcsp_domain::Domain;
 use dcsp_rule::{
-    Aim, Assignment, BinaryRule, Form, Lookup, Output, Rule, WithinDomains, forms_of, is_true_under,
+    Aim, Assignment, BinaryRule, Form, Lookup, Output, RuleRef, RuleTable, WithinDomains, forms_of,
+    is_true_under,
 };
 use std::alloc::Global;
 use std::marker::Model;
@@ -36,7 +38,7 @@ pub struct Problem {
 /// What a problem has in common with those that it is narrowed to.
 #[derive(Debug, Drop)]
 pub struct SharedPart {
-    pub rules: Vec<Rule>,
+    pub rules: RuleTable,
     pub outputs: Vec<Output>,
     /// What is read off the rules once, when a problem is finished.
     pub tables: Tables,
@@ -61,9 +63,9 @@ impl Model for Problem {
 
     ghost Value = { Contents };
 
-    ghost view = { λ p. record { domains = p.domains.items; rules = p.shared.value.rules.items; outputs = p.shared.value.outputs.items; aim = p.aim } };
+    ghost view = { λ p. record { domains = p.domains.items; rules = p.shared.value.rules; outputs = p.shared.value.outputs.items; aim = p.aim } };
 
-    ghost invariant = { λ p. IsIndexed (record { domains = p.domains.items; rules = p.shared.value.rules.items; outputs = p.shared.value.outputs.items; aim = p.aim }) p.shared.value.tables.scopes p.shared.value.tables.forms.items p.shared.value.tables.owned p.shared.value.tables.lower };
+    ghost invariant = { λ p. IsIndexed (record { domains = p.domains.items; rules = p.shared.value.rules; outputs = p.shared.value.outputs.items; aim = p.aim }) p.shared.value.tables.scopes p.shared.value.tables.forms.items p.shared.value.tables.owned p.shared.value.tables.lower };
 }
 
 impl Problem {
@@ -71,12 +73,12 @@ impl Problem {
     pub fn of_parts(
         alloc: Global,
         domains: Vec<Domain>,
-        rules: Vec<Rule>,
+        rules: RuleTable,
         outputs: Vec<Output>,
         aim: Aim,
     ) -> Result<Problem, Memory>
-        requires { IsProblem (record { domains = domains.items; rules = rules.items; outputs = outputs.items; aim = aim }) }
-        ensures { IfOk result (λ problem. problem ≡ record { domains = domains.items; rules = rules.items; outputs = outputs.items; aim = aim }) }
+        requires { IsProblem (record { domains = domains.items; rules = rules; outputs = outputs.items; aim = aim }) }
+        ensures { IfOk result (λ problem. problem ≡ record { domains = domains.items; rules = rules; outputs = outputs.items; aim = aim }) }
     {
         let scopes = NumberTable::of_scopes(alloc, &rules)?;
         let forms = forms_of(alloc, &rules)?;
@@ -104,8 +106,8 @@ impl Problem {
         aim: Aim,
         shared: SharedPart,
     ) -> Result<Problem, Memory>
-        requires { IsIndexed (record { domains = domains.items; rules = shared.rules.items; outputs = shared.outputs.items; aim = aim }) shared.tables.scopes shared.tables.forms.items shared.tables.owned shared.tables.lower }
-        ensures { IfOk result (λ problem. problem ≡ record { domains = domains.items; rules = shared.rules.items; outputs = shared.outputs.items; aim = aim }) }
+        requires { IsIndexed (record { domains = domains.items; rules = shared.rules; outputs = shared.outputs.items; aim = aim }) shared.tables.scopes shared.tables.forms.items shared.tables.owned shared.tables.lower }
+        ensures { IfOk result (λ problem. problem ≡ record { domains = domains.items; rules = shared.rules; outputs = shared.outputs.items; aim = aim }) }
     {
         match Rc::new(alloc, shared) {
             Ok(shared) => Ok(Problem {
@@ -152,12 +154,12 @@ impl Problem {
         self.shared.rules.len() as u32
     }
 
-    /// The rule with this number.
-    pub fn rule(&self, number: u32) -> &Rule
+    /// The rule with this number, lent.
+    pub fn rule(&self, number: u32) -> RuleRef<'_>
         requires { number < length self.now.rules }
-        ensures { slice_get self.now.rules number ≡ Some result.now }
+        ensures { slice_get self.now.rules number ≡ Some (lent_rule result) }
     {
-        &self.shared.rules[number as usize]
+        self.shared.rules.rule(number as usize)
     }
 
     /// The rule as a relation of its variables, if it is one: what is true where this is, and over which variables.

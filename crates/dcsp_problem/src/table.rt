@@ -5,9 +5,9 @@ ghost use Rattle.dcsp_rule.specs.Rules.{IsRuleOf, scope_of};
 ghost use Rattle.dcsp_problem.specs.Lower.{set_below};
 ghost use Rattle.dcsp_problem.specs.Pieces.{pieces, AreCuts};
 
-use crate::index::scope_list;
+use crate::index::put_scope;
 use dcsp_common::Memory;
-use dcsp_rule::{NumberList, Rule};
+use dcsp_rule::{NumberList, RuleTable};
 use std::alloc::{AllocError, Global};
 use std::marker::Model;
 
@@ -63,17 +63,14 @@ impl NumberTable {
     }
 
     /// The table of the scope of each rule.
-    pub fn of_scopes(alloc: Global, rules: &[Rule]) -> Result<NumberTable, Memory>
+    pub fn of_scopes(alloc: Global, rules: &RuleTable) -> Result<NumberTable, Memory>
         ensures { IfOk result (λ table. (variables : ℕ) → All (IsRuleOf variables) rules.now → table ≡ map (scope_of variables) rules.now) }
     {
         let mut numbers = Vec::new(alloc);
-        let Ok(mut places) = vec![in alloc; 0] else {
-            return Err(Memory);
-        };
-        for rule in rules {
-            let Ok(scope) = scope_list(alloc, rule) else {
-                return Err(Memory);
-            };
+        let mut places = vec![in alloc; 0]?;
+        let mut scope = Vec::new(alloc);
+        for place in 0..rules.len() {
+            put_scope(&mut scope, rules.rule(place))?;
             push_list(&mut numbers, &mut places, &scope)?;
         }
         Ok(NumberTable { numbers, places })

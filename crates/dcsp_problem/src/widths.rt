@@ -3,30 +3,31 @@
 ghost use Rattle.std.specs.Prelude.{◌≡◌, map, length, All, IsTrue, nat_lt, Some, None, if◌then◌else◌};
 ghost use Rattle.dcsp_meaning.specs.Sums.{widest, width_of};
 ghost use Rattle.dcsp_rule.specs.Rules.{IsTermOf, terms_of, has_shape};
+ghost use Rattle.dcsp_rule.specs.Lent.{lent_rule};
 ghost use Rattle.dcsp_rule.specs.Widths.{greatest_among, greatest_of, rule_width};
 ghost use Rattle.dcsp_problem.specs.Limits.{Refuses};
 
 use crate::limits::BuildError;
 use dcsp_domain::Domain;
 use dcsp_meaning::{WIDEST, plus_greatest};
-use dcsp_rule::{Rule, Term};
+use dcsp_rule::{RuleRef, Term};
 
 /// Refuses a rule whose sum is too wide over these domains.
-pub fn within_width(domains: &[Domain], rule: &Rule) -> Result<(), BuildError>
-    requires known { All (IsTermOf (length domains.now)) (terms_of rule.now) }
-    requires shape { IsTrue (has_shape rule.now) }
-    ensures { Refuses (if nat_lt widest (rule_width domains.now rule.now) then Some BuildError.WideSum else None) result }
+pub fn within_width(domains: &[Domain], rule: RuleRef<'_>) -> Result<(), BuildError>
+    requires known { All (IsTermOf (length domains.now)) (terms_of (lent_rule rule)) }
+    requires shape { IsTrue (has_shape (lent_rule rule)) }
+    ensures { Refuses (if nat_lt widest (rule_width domains.now (lent_rule rule.entry)) then Some BuildError.WideSum else None) result }
 {
     match rule {
-        Rule::Plain { .. } => Ok(()),
-        Rule::Sum {
+        RuleRef::Plain { .. } => Ok(()),
+        RuleRef::Sum {
             coefs,
             terms,
             total,
             ..
         } => {
-            let total = greatest_of(domains, *total);
-            if is_wide(domains, coefs.items(), terms.items(), total) {
+            let total = greatest_of(domains, total);
+            if is_wide(domains, coefs, terms, total) {
                 return Err(BuildError::WideSum);
             }
             Ok(())

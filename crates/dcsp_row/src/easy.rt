@@ -4,9 +4,10 @@ ghost use Rattle.std.specs.Prelude.{◌≡◌, ◌<◌, IsTrue, length};
 ghost use Rattle.dcsp_rule.specs.Problems.{rule_at};
 ghost use Rattle.dcsp_rule.specs.Pairs.{is_comparison};
 ghost use Rattle.dcsp_rule.specs.Rules.{has_shape};
+ghost use Rattle.dcsp_rule.specs.Lent.{lent_rule};
 ghost use Rattle.dcsp_row.specs.Easy.{has_span, is_once, is_truth, is_variable, own_coefs};
 
-use dcsp_problem::{ConstraintKind, Problem, Rule, Term};
+use dcsp_problem::{ConstraintKind, Problem, RuleRef, Term};
 
 /// Whether the values of the variable that the rule rules out are always a run of its domain, or all values
 /// outside one.
@@ -19,23 +20,19 @@ pub fn has_span(problem: &Problem, rule: u32, var: u32) -> bool
 }
 
 /// The same of the rule itself.
-fn is_easy(rule: &Rule, var: u32) -> bool
-    requires { IsTrue (has_shape rule.now) }
-    ensures { result ≡ has_span var rule.now }
+fn is_easy(rule: RuleRef<'_>, var: u32) -> bool
+    requires { IsTrue (has_shape (lent_rule rule)) }
+    ensures { result ≡ has_span var (lent_rule rule.entry) }
 {
     match rule {
-        Rule::Plain { kind, .. } => is_comparison(*kind),
-        Rule::Sum {
+        RuleRef::Plain { kind, .. } => is_comparison(kind),
+        RuleRef::Sum {
             coefs,
             terms,
             total,
             truth,
             ..
-        } => {
-            is_once_in(coefs.items(), terms.items(), var)
-                && !is_variable(*total, var)
-                && !is_truth(*truth, var)
-        }
+        } => { is_once_in(coefs, terms, var) && !is_variable(total, var) && !is_truth(truth, var) }
     }
 }
 

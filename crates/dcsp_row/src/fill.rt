@@ -8,6 +8,7 @@ ghost use Rattle.dcsp_defs.specs.Csp.{domain};
 ghost use Rattle.dcsp_rule.specs.Problems.{csp_of, rule_at, AreInDomains};
 ghost use Rattle.dcsp_meaning.specs.Sums.{widest};
 ghost use Rattle.dcsp_defs.specs.Csp.{filled, with_value};
+ghost use Rattle.dcsp_rule.specs.Lent.{lent_rule};
 ghost use Rattle.dcsp_rule.specs.Rules.{has_shape};
 ghost use Rattle.dcsp_rule.specs.Pairs.{is_missed, IsSmall};
 ghost use Rattle.dcsp_rule.specs.Widths.{rule_sizes};
@@ -25,7 +26,7 @@ use crate::span::Span;
 use crate::sums::{OpenSum, fill_sum, missed_line, off_span, told_by};
 use crate::tables::fill_table;
 use dcsp_domain::Domain;
-use dcsp_problem::{BinaryRule, ConstraintKind, Lookup, Problem, Rule, Term};
+use dcsp_problem::{BinaryRule, ConstraintKind, Lookup, Problem, RuleRef, Term};
 
 /// The values of the open variable at which the rule is violated under these and the others', as a span of
 /// its domain; `None` only where the rule is not one that always has a span.
@@ -72,14 +73,14 @@ fn span_of_pair<L: Lookup>(
 
 /// The values at which the rule is false, if it is a sum with the variable in one of its terms at most.
 fn span_of_sum<L: Lookup>(
-    rule: &Rule,
+    rule: RuleRef<'_>,
     domain: &Domain,
     open_var: &OpenVariable<'_, L>,
 ) -> Option<Span>
-    requires shape { IsTrue (has_shape rule.now) }
-    requires narrow { FitAtEach (λ x. rule_sizes rule.now (filled (with_value open_var.now.var x (L.values open_var.now.lookup.now)))) widest domain.now }
-    ensures span { IfSome result (SpansWhere (is_false rule.now open_var.now.var (L.values open_var.now.lookup.now)) domain.now) }
-    ensures some { IsTrue (not (is_plain rule.now)) → IsTrue (has_span open_var.now.var rule.now) → IsTrue (is_some result) }
+    requires shape { IsTrue (has_shape (lent_rule rule)) }
+    requires narrow { FitAtEach (λ x. rule_sizes (lent_rule rule) (filled (with_value open_var.now.var x (L.values open_var.now.lookup.now)))) widest domain.now }
+    ensures span { IfSome result (SpansWhere (is_false (lent_rule rule.entry) open_var.now.var (L.values open_var.now.lookup.now)) domain.now) }
+    ensures some { IsTrue (not (is_plain (lent_rule rule.entry))) → IsTrue (has_span open_var.now.var (lent_rule rule.entry)) → IsTrue (is_some result) }
 {
     if domain.is_empty() {
         return Some(Span::whole(false));
@@ -119,29 +120,29 @@ pub fn fill_row<L: Lookup>(
 /// For each value of the variable whether the rule is false, if it is a sum with the variable in one of its
 /// terms at most, or a table of integers whose truth the variable does not tell.
 fn fill_known<L: Lookup>(
-    rule: &Rule,
+    rule: RuleRef<'_>,
     domain: &Domain,
     open_var: &OpenVariable<'_, L>,
     row: &mut Row,
 ) -> bool
     requires size { length row.old ≡ length domain.now }
-    requires shape { IsTrue (has_shape rule.now) }
-    requires narrow { FitAtEach (λ x. rule_sizes rule.now (filled (with_value open_var.now.var x (L.values open_var.now.lookup.now)))) widest domain.now }
+    requires shape { IsTrue (has_shape (lent_rule rule)) }
+    requires narrow { FitAtEach (λ x. rule_sizes (lent_rule rule) (filled (with_value open_var.now.var x (L.values open_var.now.lookup.now)))) widest domain.now }
     ensures size { length row.new ≡ length domain.now }
-    ensures tells { IsTrue result → TellsFalse rule.now open_var.now.var domain.now (L.values open_var.now.lookup.now) row.new }
+    ensures tells { IsTrue result → TellsFalse (lent_rule rule.entry) open_var.now.var domain.now (L.values open_var.now.lookup.now) row.new }
 {
     match rule {
-        Rule::Sum { .. } => fill_linear(rule, domain, open_var, row),
-        Rule::Plain {
+        RuleRef::Sum { .. } => fill_linear(rule, domain, open_var, row),
+        RuleRef::Plain {
             kind,
             scalars,
             first,
             second,
             ..
-        } => match told_table(*kind, scalars.items(), open_var) {
+        } => match told_table(kind, scalars, open_var) {
             None => false,
             Some(told) => {
-                fill_table(first.items(), second.items(), told, domain, open_var, row);
+                fill_table(first, second, told, domain, open_var, row);
                 true
             }
         },
@@ -174,16 +175,16 @@ fn told_table<L: Lookup>(
 /// For each value of the variable whether the rule is false, if it is a sum with the variable in one of its
 /// terms at most.
 fn fill_linear<L: Lookup>(
-    rule: &Rule,
+    rule: RuleRef<'_>,
     domain: &Domain,
     open_var: &OpenVariable<'_, L>,
     row: &mut Row,
 ) -> bool
     requires size { length row.old ≡ length domain.now }
-    requires shape { IsTrue (has_shape rule.now) }
-    requires narrow { FitAtEach (λ x. rule_sizes rule.now (filled (with_value open_var.now.var x (L.values open_var.now.lookup.now)))) widest domain.now }
+    requires shape { IsTrue (has_shape (lent_rule rule)) }
+    requires narrow { FitAtEach (λ x. rule_sizes (lent_rule rule) (filled (with_value open_var.now.var x (L.values open_var.now.lookup.now)))) widest domain.now }
     ensures size { length row.new ≡ length domain.now }
-    ensures tells { IsTrue result → TellsFalse rule.now open_var.now.var domain.now (L.values open_var.now.lookup.now) row.new }
+    ensures tells { IsTrue result → TellsFalse (lent_rule rule.entry) open_var.now.var domain.now (L.values open_var.now.lookup.now) row.new }
 {
     if domain.is_empty() {
         return false;
@@ -199,18 +200,18 @@ fn fill_linear<L: Lookup>(
 
 /// The sum with the variable open, if the rule is one with the variable in one of its terms at most.
 fn open_sum<L: Lookup>(
-    rule: &Rule,
+    rule: RuleRef<'_>,
     domain: &Domain,
     open_var: &OpenVariable<'_, L>,
 ) -> Option<OpenSum>
-    requires shape { IsTrue (has_shape rule.now) }
+    requires shape { IsTrue (has_shape (lent_rule rule)) }
     requires some { 0 < length domain.now }
-    requires narrow { FitAtEach (λ x. rule_sizes rule.now (filled (with_value open_var.now.var x (L.values open_var.now.lookup.now)))) widest domain.now }
-    ensures off { IfSome result (λ opened. (x : ℤ) → is_off opened x ≡ is_false rule.now open_var.now.var (L.values open_var.now.lookup.now) x) }
+    requires narrow { FitAtEach (λ x. rule_sizes (lent_rule rule) (filled (with_value open_var.now.var x (L.values open_var.now.lookup.now)))) widest domain.now }
+    ensures off { IfSome result (λ opened. (x : ℤ) → is_off opened x ≡ is_false (lent_rule rule.entry) open_var.now.var (L.values open_var.now.lookup.now) x) }
     ensures fits { IfSome result (λ opened. FitAtEach (line_size opened.line) widest domain.now) }
-    ensures some { IsTrue (not (is_plain rule.now)) → IsTrue (has_span open_var.now.var rule.now) → IsTrue (is_line result) }
+    ensures some { IsTrue (not (is_plain (lent_rule rule.entry))) → IsTrue (has_span open_var.now.var (lent_rule rule.entry)) → IsTrue (is_line result) }
 {
-    let Rule::Sum {
+    let RuleRef::Sum {
         rel,
         coefs,
         terms,
@@ -220,11 +221,11 @@ fn open_sum<L: Lookup>(
     else {
         return None;
     };
-    let line = line_of(coefs.items(), terms.items(), domain, open_var)?;
-    let total = known_value(*total, open_var);
-    let told = told_by(*truth, open_var);
+    let line = line_of(coefs, terms, domain, open_var)?;
+    let total = known_value(total, open_var);
+    let told = told_by(truth, open_var);
     Some(OpenSum {
-        rel: *rel,
+        rel,
         line,
         total,
         told,

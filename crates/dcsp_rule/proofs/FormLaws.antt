@@ -1,8 +1,7 @@
 -- What a form tells of its rule.
 use Rattle.std.proofs.Common.{◌≡◌, ℕ, ◌+◌, ◌-◌, ◌<◌, List, [], ◌∷◌, ◌++◌, map, length, get_or, refl, sym, ap, ◌∙◌, arith, inl, inr}
 use Rattle.std.proofs.Math.Path.{fun_ext}
-use Rattle.std.specs.Prelude.{ℤ, Bool, Option, None, IsTrue, IfOk, Result, Ok, Err}
-use Rattle.dcsp_common.specs.declared.list.Memory.{Memory}
+use Rattle.std.specs.Prelude.{ℤ, Bool, Option, Some, None, IsTrue, IfOk, Result, Ok, Err}
 use Rattle.std.proofs.lemmas.Bool.{cases_eq}
 use Rattle.std.proofs.lemmas.List.{get_or_append_left, get_or-append_right, get_or_default}
 use Rattle.dcsp_domain.specs.Sets.{has, set_of}
@@ -17,7 +16,7 @@ use Rattle.dcsp_rule.specs.declared.form.Form.{Form}
 use Rattle.dcsp_rule.specs.declared.form.Form.TheVariants as form
 use Rattle.dcsp_rule.specs.Members.{is_member, values_of}
 use Rattle.dcsp_rule.specs.Rules.{listed_of, no_rule, value_under}
-use Rattle.dcsp_rule.specs.Pairs.{compares_variable, IsSmallSum}
+use Rattle.dcsp_rule.specs.Pairs.{compares_variable, IsPairOf, IsSmallSum}
 use Rattle.dcsp_rule.specs.Forms.{form_has, is_found_by, pair_in, pair_or_truth, AreForms, IsFormOf, LooksUp}
 
 -- what is found is a member
@@ -46,9 +45,22 @@ looking_form made rule none none_small h = record {
   summed = λ v w t. absurd (none_small v w t);
 }
 
-pub looking_result : (made : Result Form Memory) (rule : Rule) → (IsTrue (compares_variable rule) → ⊥) → ((v w : ℕ) → IsSmallSum v w rule → ⊥) → IfOk made (LooksUp rule) → IfOk made (λ form. IsFormOf form rule)
+pub looking_result : {E : Type 0} (made : Result Form E) (rule : Rule) → (IsTrue (compares_variable rule) → ⊥) → ((v w : ℕ) → IsSmallSum v w rule → ⊥) → IfOk made (LooksUp rule) → IfOk made (λ form. IsFormOf form rule)
 looking_result (Ok form) rule none none_small h = looking_form form rule none none_small h
 looking_result (Err error) rule none none_small h = h
+
+paired_form : (made : Form) (rule : Rule) (pair : BinaryRule) → IsPairOf pair rule → pair_in made ≡ Some pair → IsFormOf made rule
+paired_form made rule pair is there = record {
+  truth = λ values. ap (λ (o : Option BinaryRule). pair_or_truth o (form_has made) rule values) there ∙ is.truth values;
+  pair = rw there is;
+  compared = λ t. rw there refl;
+  summed = λ v w t. rw there refl;
+}
+
+-- the form of a pair is its rule's
+pub paired_result : {E : Type 0} (made : Result Form E) (rule : Rule) (pair : BinaryRule) → IsPairOf pair rule → IfOk made (λ form. pair_in form ≡ Some pair) → IfOk made (λ form. IsFormOf form rule)
+paired_result (Ok form) rule pair is h = paired_form form rule pair is h
+paired_result (Err error) rule pair is h = h
 
 -- one form more
 pub forms_more : (forms : List Form) (rules : List Rule) (i : ℕ) (made : Form) (rule : Rule) → length forms ≡ i → rule ≡ get_or rules i no_rule → IsFormOf made rule

@@ -14,7 +14,7 @@ use Rattle.dcsp_defs.specs.Words.{is_number}
 use Rattle.dcsp_meaning.specs.declared.linear.Rel.{Rel}
 use Rattle.dcsp_rule.specs.Rules.{value_under, variable_of, weighted_values}
 use Rattle.dcsp_rule.specs.Pairs.{is_over, IsSmallSum}
-use Rattle.dcsp_rule.specs.Parts.{at_zero, is_free_for, is_of_part, is_of_parts, AreOver, StaySmall}
+use Rattle.dcsp_rule.specs.Parts.{at_zero, is_free_for, is_of_part, is_of_parts, AreOver}
 use Rattle.dcsp_rule.proofs.PartLaws.{among_last, at_place, in_pairs}
 
 -- where the first part is none, so is the second
@@ -74,9 +74,6 @@ constant_size total taken product coef value e f =
     let rest : unsigned_abs (total -ℤ product) ≤ unsigned_abs total + unsigned_abs product = omega (arith, ints) in
     let same : unsigned_abs taken ≡ unsigned_abs (total -ℤ product) = ap unsigned_abs e in
     omega (arith, size, rest, same)
-
-pub lists_small : (cs coefs : List ℤ) (ts terms : List Term) (result : Option Parts) → cs ≡ coefs → ts ≡ terms → StaySmall cs ts result → StaySmall coefs terms result
-lists_small cs coefs ts terms result e f h = subst (λ (l : List ℤ). StaySmall l terms result) e (subst (λ (l : List Term). StaySmall cs l result) f h)
 
 -- a small sum, part by part
 pub record IsGiven (v w : ℕ) (coefs : List ℤ) (terms : List Term) (total : Term) : Type 0 where

@@ -11,17 +11,19 @@ use Rattle.dcsp_rule.specs.declared.pair.BinaryRule.{BinaryRule}
 use Rattle.dcsp_rule.specs.declared.form.Form.{Form}
 use Rattle.dcsp_rule.specs.declared.form.Form.TheVariants as form
 use Rattle.dcsp_rule.specs.Rules.{rule_truth, value_under, no_rule}
-use Rattle.dcsp_rule.specs.Pairs.{compares_variable, pair_truth, IsPairOf, IsSmallSum}
+use Rattle.dcsp_rule.specs.Pairs.{compares_variable, pair_truth, widened, IsPairOf, IsSmallSum}
 
 -- the pair that a form is, if it is one
 abbrev pub pair_in : Form → Option BinaryRule
-pair_in (form.Linear pair) = Some pair
+pair_in (form.Narrow pair) = Some (widened pair)
+pair_in (form.Wide pair) = Some pair.value
 pair_in (form.Listed set) = None
 pair_in form.Plain = None
 
 -- whether the number is in the form's set; none is where it has no set
 abbrev pub form_has : Form → ℤ → Bool
-form_has (form.Linear pair) value = false
+form_has (form.Narrow pair) value = false
+form_has (form.Wide pair) value = false
 form_has (form.Listed set) value = has set value
 form_has form.Plain value = false
 

@@ -6,3 +6,5 @@ pub mod Aims
 pub mod Pairs
 pub mod Parts
 pub mod Forms
+pub mod Lent
+pub mod Flat

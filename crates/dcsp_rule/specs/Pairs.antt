@@ -6,6 +6,7 @@ use Rattle.dcsp_meaning.specs.declared.kinds.ConstraintKind.TheVariants.{IntEq, 
 use Rattle.dcsp_meaning.specs.Sums.{stands}
 use Rattle.dcsp_defs.specs.Csp.{Assignment, PartialAssignment, filled}
 use Rattle.dcsp_rule.specs.declared.pair.BinaryRule.{BinaryRule}
+use Rattle.dcsp_rule.specs.declared.pair.NarrowPair.{NarrowPair}
 use Rattle.dcsp_rule.specs.declared.rule.Term.{Term}
 use Rattle.dcsp_rule.specs.declared.rule.Term.TheVariants.{Const, Var}
 use Rattle.dcsp_rule.specs.declared.rule.Rule.{Rule}
@@ -16,6 +17,10 @@ use Rattle.dcsp_rule.specs.Widths.{rule_sizes}
 -- the products of a pair's coefficients and two values, added up
 abbrev pub pair_sum : BinaryRule → ℤ → ℤ → ℤ
 pair_sum pair x y = (pair.first_coef *ℤ x) +ℤ (pair.second_coef *ℤ y)
+
+-- the pair that stands in less room
+abbrev pub widened : NarrowPair → BinaryRule
+widened pair = record { rel = pair.rel; first = pair.first; second = pair.second; first_coef = pair.first_coef; second_coef = pair.second_coef; total = pair.total }
 
 -- whether the pair is true where the variables have these values
 abbrev pub pair_truth : BinaryRule → Assignment → Bool

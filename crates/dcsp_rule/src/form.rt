@@ -1,13 +1,15 @@
 //! Rules made ready to be tested, once, when a problem is finished.
 
-ghost use Rattle.std.specs.Prelude.{◌≡◌, All, IfOk, IsTrue};
+ghost use Rattle.std.specs.Prelude.{◌≡◌, All, IfOk, IsTrue, Some};
 ghost use Rattle.dcsp_rule.specs.Rules.{has_shape};
+ghost use Rattle.dcsp_rule.specs.Lent.{lent_rule};
 ghost use Rattle.dcsp_rule.specs.Forms.{form_has, pair_in, AreForms, IsFormOf, LooksUp};
 
+use crate::flat::RuleTable;
+use crate::lent::{MembersRef, RuleRef};
 use crate::members::MemberSet;
-use crate::pair::BinaryRule;
+use crate::pair::{BinaryRule, NarrowPair};
 use crate::parts::pair_of;
-use crate::rule::{Members, Rule};
 use dcsp_common::Memory;
 use std::alloc::Global;
 
@@ -15,7 +17,9 @@ use std::alloc::Global;
 #[derive(Debug, Drop)]
 pub enum Form {
     /// A relation of one or two variables, which tells all.
-    Linear(BinaryRule),
+    Narrow(NarrowPair),
+    /// One whose numbers are great.
+    Wide(Box<BinaryRule>),
     /// A rule that lists members, with their set.
     Listed(MemberSet),
     /// Any other rule, which is looked at itself.
@@ -29,7 +33,8 @@ impl Form {
         ensures { result ≡ pair_in self.now }
     {
         match self {
-            Form::Linear(pair) => Some(*pair),
+            Form::Narrow(pair) => Some(pair.widened()),
+            Form::Wide(pair) => Some(**pair),
             Form::Listed(_) => None,
             Form::Plain => None,
         }
@@ -40,56 +45,59 @@ impl Form {
         ensures { result ≡ form_has self.now value }
     {
         match self {
-            Form::Linear(_) => false,
             Form::Listed(set) => set.contains(value),
-            Form::Plain => false,
+            Form::Narrow(_) | Form::Wide(_) | Form::Plain => false,
         }
     }
 }
 
 /// The form of each rule.
-pub fn forms_of(alloc: Global, rules: &[Rule]) -> Result<Vec<Form>, Memory>
+pub fn forms_of(alloc: Global, rules: &RuleTable) -> Result<Vec<Form>, Memory>
     requires { All (λ rule. IsTrue (has_shape rule)) rules.now }
     ensures { IfOk result (λ forms. AreForms forms.items rules.now) }
 {
-    let Ok(mut forms) = Vec::with_capacity(alloc, rules.len()) else {
-        return Err(Memory);
-    };
-    for rule in rules {
-        let form = form_of(alloc, rule)?;
-        let Ok(()) = forms.push(form) else {
-            return Err(Memory);
-        };
+    let mut forms = Vec::with_capacity(alloc, rules.len())?;
+    for place in 0..rules.len() {
+        let form = form_of(alloc, rules.rule(place))?;
+        forms.push(form)?;
     }
     Ok(forms)
 }
 
 /// The form of the rule.
-fn form_of(alloc: Global, rule: &Rule) -> Result<Form, Memory>
-    requires { IsTrue (has_shape rule.now) }
-    ensures { IfOk result (λ form. IsFormOf form rule.now) }
+fn form_of(alloc: Global, rule: RuleRef<'_>) -> Result<Form, Memory>
+    requires { IsTrue (has_shape (lent_rule rule)) }
+    ensures { IfOk result (λ form. IsFormOf form (lent_rule rule.entry)) }
 {
     match pair_of(rule) {
-        Some(pair) => Ok(Form::Linear(pair)),
+        Some(pair) => form_of_pair(alloc, pair),
         None => form_without_pair(alloc, rule),
     }
 }
 
-/// The form of a rule that is no pair: it takes memory only where members are listed.
-fn form_without_pair(alloc: Global, rule: &Rule) -> Result<Form, Memory>
-    ensures { IfOk result (LooksUp rule.now) }
+/// The form of a pair: it takes memory only where its numbers are great.
+fn form_of_pair(alloc: Global, pair: BinaryRule) -> Result<Form, Memory>
+    ensures { IfOk result (λ form. pair_in form ≡ Some pair) }
 {
-    let Rule::Plain { members, .. } = rule else {
+    match NarrowPair::of(pair) {
+        Some(narrow) => Ok(Form::Narrow(narrow)),
+        None => Ok(Form::Wide(Box::new(alloc, pair)?)),
+    }
+}
+
+/// The form of a rule that is no pair: it takes memory only where members are listed.
+fn form_without_pair(alloc: Global, rule: RuleRef<'_>) -> Result<Form, Memory>
+    ensures { IfOk result (LooksUp (lent_rule rule.entry)) }
+{
+    let RuleRef::Plain { members, .. } = rule else {
         return Ok(Form::Plain);
     };
-    let Members::Listed(values) = members else {
+    let MembersRef::Listed(values) = members else {
         return Ok(Form::Plain);
     };
-    if values.items().is_empty() {
+    if values.is_empty() {
         return Ok(Form::Plain);
     }
-    match MemberSet::new(alloc, values.items()) {
-        Ok(set) => Ok(Form::Listed(set)),
-        Err(_) => Err(Memory),
-    }
+    let set = MemberSet::new(alloc, values)?;
+    Ok(Form::Listed(set))
 }

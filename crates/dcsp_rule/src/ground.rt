@@ -5,12 +5,14 @@ ghost use Rattle.std.specs.Option.{option_map};
 ghost use Rattle.dcsp_defs.specs.Csp.{filled};
 ghost use Rattle.dcsp_meaning.specs.Sums.{widest};
 ghost use Rattle.dcsp_rule.specs.Rules.{value_under, has_shape, weighted_values, is_told};
+ghost use Rattle.dcsp_rule.specs.Lent.{lent_members, lent_rule};
 ghost use Rattle.dcsp_rule.specs.Widths.{rule_sizes};
 ghost use Rattle.dcsp_rule.specs.Forms.{form_has, found_truth, is_found_by};
 
 use crate::form::Form;
+use crate::lent::{MembersRef, RuleRef};
 use crate::lookup::Lookup;
-use crate::rule::{Members, Rule, Term};
+use crate::rule::Term;
 use dcsp_meaning::{Ground, Rel, Weighted, holds, sum_holds};
 
 /// A rule's terms, with the values that a look-up gives their variables, and its members.
@@ -18,7 +20,7 @@ struct GroundTerms<'a, L> {
     scalars: &'a [Term],
     first: &'a [Term],
     second: &'a [Term],
-    members: &'a Members,
+    members: MembersRef<'a>,
     /// It finds the listed members.
     form: &'a Form,
     lookup: &'a L,
@@ -44,7 +46,7 @@ impl<'a, L: Lookup> Ground for GroundTerms<'a, L> {
 
     ghost second_values = { λ g. map (value_under (filled (L.values g.lookup.now))) g.second.now };
 
-    ghost is_member = { λ g. is_found_by (form_has g.form.now) g.members.now };
+    ghost is_member = { λ g. is_found_by (form_has g.form.now) (lent_members g.members) };
 
     fn scalars(&self) -> usize {
         self.scalars.len()
@@ -72,8 +74,8 @@ impl<'a, L: Lookup> Ground for GroundTerms<'a, L> {
 
     fn member(&self, value: i64) -> bool {
         match self.members {
-            Members::Between { low, high } => *low <= value && value <= *high,
-            Members::Listed(_) => self.form.has(value),
+            MembersRef::Between { low, high } => low <= value && value <= high,
+            MembersRef::Listed(_) => self.form.has(value),
         }
     }
 }
@@ -123,13 +125,13 @@ fn value_of_term<L: Lookup>(term: Term, lookup: &L) -> i64
 
 /// Whether the rule is true under the values that the look-up gives, where the form finds its listed members; a
 /// variable without a value counts as 0.
-pub fn is_true_under<L: Lookup>(rule: &Rule, form: &Form, lookup: &L) -> bool
-    requires shape { IsTrue (has_shape rule.now) }
-    requires narrow { rule_sizes rule.now (filled (L.values lookup.now)) ≤ widest }
-    ensures { result ≡ found_truth (form_has form.now) rule.now (filled (L.values lookup.now)) }
+pub fn is_true_under<L: Lookup>(rule: RuleRef<'_>, form: &Form, lookup: &L) -> bool
+    requires shape { IsTrue (has_shape (lent_rule rule)) }
+    requires narrow { rule_sizes (lent_rule rule) (filled (L.values lookup.now)) ≤ widest }
+    ensures { result ≡ found_truth (form_has form.now) (lent_rule rule.entry) (filled (L.values lookup.now)) }
 {
     match rule {
-        Rule::Plain {
+        RuleRef::Plain {
             kind,
             scalars,
             first,
@@ -137,16 +139,16 @@ pub fn is_true_under<L: Lookup>(rule: &Rule, form: &Form, lookup: &L) -> bool
             members,
         } => {
             let ground = GroundTerms {
-                scalars: scalars.items(),
-                first: first.items(),
-                second: second.items(),
+                scalars,
+                first,
+                second,
                 members,
                 form,
                 lookup,
             };
-            holds(*kind, &ground)
+            holds(kind, &ground)
         }
-        Rule::Sum {
+        RuleRef::Sum {
             rel,
             coefs,
             terms,
@@ -154,12 +156,12 @@ pub fn is_true_under<L: Lookup>(rule: &Rule, form: &Form, lookup: &L) -> bool
             truth,
         } => {
             let ground = GroundSum {
-                coefs: coefs.items(),
-                terms: terms.items(),
+                coefs,
+                terms,
                 lookup,
             };
-            let total = value_of_term(*total, lookup);
-            is_told(*truth, sum_holds(*rel, &ground, total), lookup)
+            let total = value_of_term(total, lookup);
+            is_told(truth, sum_holds(rel, &ground, total), lookup)
         }
     }
 }

@@ -6,8 +6,10 @@
 #![tactic(auto)]
 
 mod aim;
+mod flat;
 mod form;
 mod ground;
+mod lent;
 mod lookup;
 mod members;
 mod output;
@@ -16,8 +18,10 @@ mod parts;
 mod rule;
 
 pub use aim::Aim;
+pub use flat::RuleTable;
 pub use form::{Form, forms_of};
 pub use ground::is_true_under;
+pub use lent::{MembersRef, RuleRef};
 pub use lookup::{Assignment, Lookup, WithinDomains};
 pub use members::MemberSet;
 pub use output::{NameText, Output, Shape};

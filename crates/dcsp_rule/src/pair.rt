@@ -1,8 +1,8 @@
 //! Rules over one or two variables, made ready to be tested.
 
-ghost use Rattle.std.specs.Prelude.{◌≡◌, IsTrue};
+ghost use Rattle.std.specs.Prelude.{◌≡◌, IfSome, IsTrue};
 ghost use Rattle.dcsp_meaning.specs.Sums.{stands};
-ghost use Rattle.dcsp_rule.specs.Pairs.{is_missed, pair_sum, IsSmall};
+ghost use Rattle.dcsp_rule.specs.Pairs.{is_missed, pair_sum, widened, IsSmall};
 
 use crate::lookup::Lookup;
 use dcsp_meaning::{Rel, product};
@@ -52,6 +52,48 @@ impl BinaryRule {
                 None => false,
                 Some(second) => !self.holds(first, second),
             },
+        }
+    }
+}
+
+/// The same in less room, where its coefficients and its total have 32 bits at most.
+#[derive(Clone, Copy, Debug)]
+pub struct NarrowPair {
+    pub rel: Rel,
+    pub first: u32,
+    pub second: u32,
+    pub first_coef: i32,
+    pub second_coef: i32,
+    pub total: i32,
+}
+
+impl NarrowPair {
+    /// The pair in less room, if it fits.
+    pub fn of(pair: BinaryRule) -> Option<NarrowPair>
+        ensures { IfSome result (λ narrow. widened narrow ≡ pair) }
+    {
+        Some(NarrowPair {
+            rel: pair.rel,
+            first: pair.first,
+            second: pair.second,
+            first_coef: i32::try_from(pair.first_coef).ok()?,
+            second_coef: i32::try_from(pair.second_coef).ok()?,
+            total: i32::try_from(pair.total).ok()?,
+        })
+    }
+
+    /// The pair.
+    #[inline(always)]
+    pub fn widened(self) -> BinaryRule
+        ensures { result ≡ widened self }
+    {
+        BinaryRule {
+            rel: self.rel,
+            first: self.first,
+            second: self.second,
+            first_coef: i64::from(self.first_coef),
+            second_coef: i64::from(self.second_coef),
+            total: i128::from(self.total),
         }
     }
 }

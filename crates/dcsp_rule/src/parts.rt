@@ -5,12 +5,14 @@ ghost use Rattle.dcsp_meaning.specs.Sums.{stands};
 ghost use Rattle.dcsp_meaning.specs.Table.{is_shape, truth};
 ghost use Rattle.dcsp_meaning.specs.Words.{argument};
 ghost use Rattle.dcsp_rule.specs.Rules.{has_shape};
+ghost use Rattle.dcsp_rule.specs.Lent.{lent_rule};
 ghost use Rattle.dcsp_rule.specs.declared.rule.Term.{Term};
 ghost use Rattle.dcsp_rule.specs.Pairs.{compares_variable, is_comparison, IsPairOf, IsSmallSum};
 ghost use Rattle.dcsp_rule.specs.Parts.{coefs_size, is_free_for, part_size, AddsPart, AddsTerm, AreOfSum, ComparesTerms, IsPairFrom, StaySmall, StaysSmall};
 
+use crate::lent::RuleRef;
 use crate::pair::BinaryRule;
-use crate::rule::{Rule, Term};
+use crate::rule::Term;
 use dcsp_meaning::{ConstraintKind, Rel, product};
 
 /// A coefficient and its variable.
@@ -39,21 +41,21 @@ pub struct Comparison {
 /// The pair that the rule is, if it is one: a comparison, or a sum that nothing tells, over one or two variables.
 ///
 /// Of a sum whose numbers are great, added up, there may be none.
-pub fn pair_of(rule: &Rule) -> Option<BinaryRule>
-    requires { IsTrue (has_shape rule.now) }
-    ensures pair { IfSome result (λ pair. IsPairOf pair rule.now) }
-    ensures compared { IsTrue (compares_variable rule.now) → IsSome result }
-    ensures summed { (v w : ℕ) → IsSmallSum v w rule.now → IsSome result }
+pub fn pair_of(rule: RuleRef<'_>) -> Option<BinaryRule>
+    requires { IsTrue (has_shape (lent_rule rule)) }
+    ensures pair { IfSome result (λ pair. IsPairOf pair (lent_rule rule.entry)) }
+    ensures compared { IsTrue (compares_variable (lent_rule rule.entry)) → IsSome result }
+    ensures summed { (v w : ℕ) → IsSmallSum v w (lent_rule rule.entry) → IsSome result }
 {
     match rule {
-        Rule::Plain { kind, scalars, .. } => {
-            let compared = compared_by(*kind)?;
-            let [first, second] = scalars.items() else {
+        RuleRef::Plain { kind, scalars, .. } => {
+            let compared = compared_by(kind)?;
+            let [first, second] = scalars else {
                 return None;
             };
             pair_of_terms(compared, *first, *second)
         }
-        Rule::Sum {
+        RuleRef::Sum {
             rel,
             coefs,
             terms,
@@ -63,9 +65,9 @@ pub fn pair_of(rule: &Rule) -> Option<BinaryRule>
             if truth.is_some() {
                 return None;
             }
-            let parts = parts_of(coefs.items(), terms.items())?;
-            let parts = with_term(parts, -1, *total)?;
-            pair_of_parts(*rel, parts)
+            let parts = parts_of(coefs, terms)?;
+            let parts = with_term(parts, -1, total)?;
+            pair_of_parts(rel, parts)
         }
     }
 }

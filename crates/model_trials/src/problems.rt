@@ -6,7 +6,7 @@ ghost use Rattle.dcsp_rule.specs.Rules.{IsTermOf, has_shape, terms_of};
 
 use dcsp_problem::{
     Aim, BuildError, ConstraintKind, Domain, IntList, Lookup, Members, NameText, Output, Problem,
-    ProblemBuilder, RangeList, Rel, Rule, Shape, Term, TermList, Which,
+    ProblemBuilder, RangeList, Rel, Rule, RuleRef, Shape, Term, TermList, Which,
 };
 use std::alloc::Global;
 use std::process::Abort;
@@ -151,10 +151,10 @@ fn tells_scopes_and_owners(rt: HostRuntime) {
 }
 
 /// The kind of a rule that is no sum.
-fn kind_of(rule: &Rule) -> Option<ConstraintKind> {
+fn kind_of(rule: RuleRef<'_>) -> Option<ConstraintKind> {
     match rule {
-        Rule::Plain { kind, .. } => Some(*kind),
-        Rule::Sum { .. } => None,
+        RuleRef::Plain { kind, .. } => Some(kind),
+        RuleRef::Sum { .. } => None,
     }
 }
 

@@ -11,7 +11,7 @@ unreachable-requires c =
     let p = csp_of c.args.problem.now in
     let i = c.loop-place.invariant in
     let none : IsNext c.loop-place.left.items c.loop-place.linked.items c.args.weights.now (count p) None =
-    next_stands c.args.weights.now c.deref.ensures.value c.deref-in-loop-place.ensures.value (ap length c.deref.ensures.value ∙ i.counts.left_many) c.in_default-next_of.is c.next_of.ensures in
+    next_stands c.args.weights.now c.deref.ensures.value c.deref-in-loop-place.ensures.value (ap length c.deref.ensures.value ∙ i.counts.left_many) c.in_default.is c.next_of.ensures in
     some_next c.args.rule p c.loop-place.numbers.items c.loop-place.left.items c.loop-place.linked.items c.args.weights.now i.counts c.requires.weights i.partly.some
     (omega (arith, i.count, c.loop-place-test.true, c.vars-vars.ensures.vars)) none
 
@@ -37,9 +37,9 @@ loop-place-preserved c =
     let new = next_new c.args.rule p numbers c.loop-place.left.items c.loop-place.linked.items c.args.weights.now i.counts c.requires.weights number next in
     let before = next_before c.args.rule p numbers c.loop-place.left.items c.loop-place.linked.items c.args.weights.now i.counts c.requires.weights number next in
     record {
-      partly = subst (IsPartly c.args.rule p) (sym c.in-Ok-push.ensures.items) (partly_more c.args.rule p numbers number i.partly next.0 new before);
-      count = ap length c.in-Ok-push.ensures.items ∙ length_push numbers number ∙ ap (λ z. z + 1) i.count;
-      counts = counts_more c.args.rule p numbers c.push.new.self.items c.loop-place.left.items c.loop-place.linked.items c.count_links.new.linked.items c.args.shared.now number i.counts c.requires.shared next.0 c.in-Ok-push.ensures.items
+      partly = subst (IsPartly c.args.rule p) (sym c.in_ok-push.ensures.items) (partly_more c.args.rule p numbers number i.partly next.0 new before);
+      count = ap length c.in_ok-push.ensures.items ∙ length_push numbers number ∙ ap (λ z. z + 1) i.count;
+      counts = counts_more c.args.rule p numbers c.push.new.self.items c.loop-place.left.items c.loop-place.linked.items c.count_links.new.linked.items c.args.shared.now number i.counts c.requires.shared next.0 c.in_ok-push.ensures.items
           c.count_links.ensures;
     }
 

@@ -17,7 +17,7 @@ returns c =
     let within : c.args.number < length taken = omega (arith, c.requires.within) in
     let here : flag_at taken c.args.number ≡ false = sym (c.index.ensures ∙ get_or_default taken c.args.number c.index.result.now false within) ∙ c.if-index.false in (
       absent_from c.args.number c.args.numbers.now.items (sym (c.requires.taken c.args.number within) ∙ here),
-      c.in-Ok.ensures.items,
+      c.in_ok-push.ensures.items,
       length-set taken c.args.number true,
-      taken_more c.args.numbers.now.items c.push.new.self.items taken c.args.number c.requires.taken within c.in-Ok.ensures.items,
+      taken_more c.args.numbers.now.items c.push.new.self.items taken c.args.number c.requires.taken within c.in_ok-push.ensures.items,
     )

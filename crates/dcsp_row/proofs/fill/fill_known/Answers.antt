@@ -1,4 +1,5 @@
-use Rattle.std.proofs.Common.{◌∙◌}
+use Rattle.std.proofs.Common.{◌∙◌, ap, refl}
+use Rattle.dcsp_rule.specs.Lent.{lent_members, lent_rule}
 use Rattle.dcsp_row.specs.Rows.{own_at}
 use Rattle.dcsp_row.proofs.FitLaws.{table_told}
 use Rattle.dcsp_row.proofs.fill.fill_known.Goals as goal
@@ -11,5 +12,5 @@ returns-in-Some-clause-tells g c = λ _.
       λ place within.
           let value = own_at c.args.domain.now place in
           c.fill_table.ensures.1 place within
-          ∙ table_told c.in-Plain.kind c.in-Plain.scalars c.in-Plain.first c.in-Plain.second c.items.result.now c.items-in-Some.result.now c.items-in-Some-2.result.now c.in-Plain.members c.in-Some.told var known value c.args.rule.now c.in-Plain.is c.items.ensures c.items-in-Some.ensures c.items-in-Some-2.ensures (c.in-Some.ensures.told value),
+          ∙ table_told c.in-Plain.kind c.in-Plain.scalars.now c.in-Plain.first.now c.in-Plain.second.now c.in-Plain.scalars.now c.in-Plain.first.now c.in-Plain.second.now (lent_members c.in-Plain.members) c.in-Some.told var known value (lent_rule c.args.rule) (ap lent_rule c.in-Plain.is) refl refl refl (c.in-Some.ensures.told value),
     )

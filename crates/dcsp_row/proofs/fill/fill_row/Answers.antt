@@ -2,6 +2,7 @@ use Rattle.std.proofs.Common.{◌<◌, ◌≤◌, length, arith, ◌∙◌, ap, 
 use Rattle.dcsp_defs.specs.Csp.{domain, filled, with_value}
 use Rattle.dcsp_rule.specs.declared.rule.Rule.{Rule}
 use Rattle.dcsp_rule.specs.Rules.{no_rule}
+use Rattle.dcsp_rule.specs.Lent.{lent_rule}
 use Rattle.dcsp_rule.specs.Problems.{csp_of, constraint_at}
 use Rattle.std.specs.Prelude.{pos}
 use Rattle.dcsp_meaning.specs.Sums.{widest}
@@ -30,8 +31,8 @@ returns-else-not-fill_known g c =
     let known = g.L.Lookup.values c.args.open_var.now.lookup.now in
     let row = c.fill_known.new.row in
     let tells = c.fill_known.ensures.tells c.if-not-fill_known.false in
-    let here = subst (λ (values : List ℤ). TellsFalse c.rule.result.now var values known row) c.domain.ensures tells in
-    let told = subst (λ (rule : Rule). TellsFalse rule var (domain (csp_of p) var) known row) (sym (get_or_found p.rules c.args.rule c.rule.result.now no_rule c.rule.ensures)) here in (
+    let here = subst (λ (values : List ℤ). TellsFalse (lent_rule c.rule.result) var values known row) c.domain.ensures tells in
+    let told = subst (λ (rule : Rule). TellsFalse rule var (domain (csp_of p) var) known row) (sym (get_or_found p.rules c.args.rule (lent_rule c.rule.result) no_rule c.rule.ensures)) here in (
       told.0,
       λ place within.
           let value = own_at (domain (csp_of p) var) place in
@@ -48,5 +49,5 @@ fill_known-requires-clause-narrow g c = λ k within.
     let all = own_in_domains (csp_of p) var (own_at values k) (g.L.Lookup.values c.args.open_var.now.lookup.now) (In-get_or values k (pos 0) there) c.requires.known in
     let scope = scope_within p known c.args.rule c.scope.result.now c.knows_others.result all c.scope.ensures.inside c.scope.ensures.scope (c.knows_others.ensures (own_at values k)) c.if-not-knows_others.false in
     let narrow = narrow_of_known p known c.args.rule c.vars-variables.ensures.problem c.requires.rule scope in
-    subst (λ (d : List ℤ). rule_sizes c.rule.result.now (filled (with_value var (own_at d k) (g.L.Lookup.values c.args.open_var.now.lookup.now))) ≤ widest) (sym c.domain.ensures)
-    (subst (λ (rule : Rule). rule_sizes rule (filled known) ≤ widest) (get_or_found p.rules c.args.rule c.rule.result.now no_rule c.rule.ensures) narrow)
+    subst (λ (d : List ℤ). rule_sizes (lent_rule c.rule.result) (filled (with_value var (own_at d k) (g.L.Lookup.values c.args.open_var.now.lookup.now))) ≤ widest) (sym c.domain.ensures)
+    (subst (λ (rule : Rule). rule_sizes rule (filled known) ≤ widest) (get_or_found p.rules c.args.rule (lent_rule c.rule.result) no_rule c.rule.ensures) narrow)

@@ -4,6 +4,7 @@ use Rattle.dcsp_defs.specs.Csp.{domain, filled, with_value}
 use Rattle.dcsp_rule.specs.declared.rule.Rule.{Rule}
 use Rattle.dcsp_rule.specs.Rules.{has_shape, mentions, no_rule, scope_of, IsRuleOf}
 use Rattle.dcsp_rule.specs.Pairs.{compares_variable, is_missed}
+use Rattle.dcsp_rule.specs.Lent.{lent_rule}
 use Rattle.dcsp_rule.specs.Problems.{csp_of, constraint_at, rule_at}
 use Rattle.dcsp_meaning.specs.Sums.{widest}
 use Rattle.dcsp_rule.specs.Widths.{rule_sizes}
@@ -34,7 +35,7 @@ span_of_pair-requires g c = c.in-Some.ensures.pair.small
 pub span_of_sum-requires-clause-shape : goal.span_of_sum-requires-clause-shape
 span_of_sum-requires-clause-shape g c =
     let p = c.args.problem.now in
-    subst (λ (rule : Rule). IsTrue (has_shape rule)) (get_or_found p.rules c.args.rule c.rule.result.now no_rule c.rule.ensures) (All-get_or (IsRuleOf (length p.domains)) p.rules c.args.rule no_rule c.requires.rule c.vars-variables.ensures.problem.rules).shape
+    subst (λ (rule : Rule). IsTrue (has_shape rule)) (get_or_found p.rules c.args.rule (lent_rule c.rule.result) no_rule c.rule.ensures) (All-get_or (IsRuleOf (length p.domains)) p.rules c.args.rule no_rule c.requires.rule c.vars-variables.ensures.problem.rules).shape
 
 pub span_of_sum-requires-clause-narrow : goal.span_of_sum-requires-clause-narrow
 span_of_sum-requires-clause-narrow g c = λ k within.
@@ -46,8 +47,8 @@ span_of_sum-requires-clause-narrow g c = λ k within.
     let all = own_in_domains (csp_of p) var (own_at values k) (g.L.Lookup.values c.args.open_var.now.lookup.now) (In-get_or values k (pos 0) there) c.requires.known in
     let scope = scope_within p known c.args.rule c.scope-scope.result.now c.knows_others.result all c.scope-scope.ensures.inside c.scope-scope.ensures.scope (c.knows_others.ensures (own_at values k)) c.if-not-knows_others.false in
     let narrow = narrow_of_known p known c.args.rule c.vars-variables.ensures.problem c.requires.rule scope in
-    subst (λ (d : List ℤ). rule_sizes c.rule.result.now (filled (with_value var (own_at d k) (g.L.Lookup.values c.args.open_var.now.lookup.now))) ≤ widest) (sym c.domain-2.ensures)
-    (subst (λ (rule : Rule). rule_sizes rule (filled known) ≤ widest) (get_or_found p.rules c.args.rule c.rule.result.now no_rule c.rule.ensures) narrow)
+    subst (λ (d : List ℤ). rule_sizes (lent_rule c.rule.result) (filled (with_value var (own_at d k) (g.L.Lookup.values c.args.open_var.now.lookup.now))) ≤ widest) (sym c.domain-2.ensures)
+    (subst (λ (rule : Rule). rule_sizes rule (filled known) ≤ widest) (get_or_found p.rules c.args.rule (lent_rule c.rule.result) no_rule c.rule.ensures) narrow)
 
 pub returns-clause-span : goal.returns-clause-span
 returns-clause-span g c =
@@ -55,8 +56,8 @@ returns-clause-span g c =
     let var = c.args.open_var.now.var in
     let known = g.L.Lookup.values c.args.open_var.now.lookup.now in
     let result = c.span_of_sum.result in
-    let here = subst (λ (values : List ℤ). IfSome result (SpansWhere (is_false c.rule.result.now var known) values)) c.domain-2.ensures c.span_of_sum.ensures.span in
-    let told = subst (λ (rule : Rule). IfSome result (SpansWhere (is_false rule var known) (domain (csp_of p) var))) (sym (get_or_found p.rules c.args.rule c.rule.result.now no_rule c.rule.ensures)) here in
+    let here = subst (λ (values : List ℤ). IfSome result (SpansWhere (is_false (lent_rule c.rule.result) var known) values)) c.domain-2.ensures c.span_of_sum.ensures.span in
+    let told = subst (λ (rule : Rule). IfSome result (SpansWhere (is_false rule var known) (domain (csp_of p) var))) (sym (get_or_found p.rules c.args.rule (lent_rule c.rule.result) no_rule c.rule.ensures)) here in
     span_where _ (is_ruled_out p c.args.rule var known) (domain (csp_of p) var)
     (λ value. all_known (with_value var value known) (constraint_at p c.args.rule) c.scope-scope.result.now c.knows_others.result c.scope-scope.ensures.scope (c.knows_others.ensures value) c.if-not-knows_others.false) result told
 
@@ -74,7 +75,7 @@ pub returns-clause-some : goal.returns-clause-some
 returns-clause-some g c = λ has.
     let p = c.args.problem.now in
     let rule = rule_at p c.args.rule in
-    let is = get_or_found p.rules c.args.rule c.rule.result.now no_rule c.rule.ensures in
+    let is = get_or_found p.rules c.args.rule (lent_rule c.rule.result) no_rule c.rule.ensures in
     let shape = (All-get_or (IsRuleOf (length p.domains)) p.rules c.args.rule no_rule c.requires.rule c.vars-variables.ensures.problem.rules).shape in
     let compares : compares_variable rule ≡ true → ⊥ = λ t. let clash : false ≡ true = c.in_default.ensures.compared t in cc in
     let scope = c.scope-scope.result.now in

@@ -5,8 +5,8 @@ use Rattle.dcsp_rule.specs.Rules.{no_rule}
 use Rattle.dcsp_rule.specs.Forms.{IsFormOf}
 use Rattle.dcsp_rule.proofs.form.forms_of.Given as goal
 
-abbrev pub invariant-loop-rule : goal.invariant-loop-rule
-invariant-loop-rule l = record {
-  many : length l.forms.items ≡ l.rule-index;
-  each : (k : ℕ) → k < l.rule-index → IsFormOf (slice_index_or l.forms.items k form.Plain) (slice_index_or l.rules k no_rule);
+abbrev pub invariant-loop-place : goal.invariant-loop-place
+invariant-loop-place l = record {
+  many : length l.forms.items ≡ l.place;
+  each : (k : ℕ) → k < l.place → IsFormOf (slice_index_or l.forms.items k form.Plain) (slice_index_or l.rules k no_rule);
 }

@@ -8,7 +8,7 @@ pub loop-place-preserved : goal.loop-place-preserved
 loop-place-preserved c =
     let f = output_under c.args.self.now in
     let outputs : List Output = c.args.problem.now.outputs in
-    c.in-Ok.ensures.items
+    c.in_ok-push.ensures.items
     ∙ ap (λ (z : List Output). z ++ c.in_ok-output.output ∷ []) c.loop-place.invariant
     ∙ ap (λ (z : Output). map f (take c.loop-place.place outputs) ++ z ∷ []) c.in_ok-output.ensures
     ∙ sym (map_more f outputs c.loop-place.place c.output.result.now c.output.ensures)

@@ -3,4 +3,4 @@ use Rattle.dcsp_order.specs.Under.{rule_under}
 use Rattle.dcsp_order.proofs.order.Order.rules_under.Given as goal
 
 abbrev pub invariant-loop-number : goal.invariant-loop-number
-invariant-loop-number l = l.rules.items ≡ map (rule_under l.self) (take l.number l.problem.rules)
+invariant-loop-number l = l.rules ≡ map (rule_under l.self) (take l.number l.problem.rules)

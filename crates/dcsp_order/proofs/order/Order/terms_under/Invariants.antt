@@ -3,4 +3,4 @@ use Rattle.dcsp_order.specs.Under.{terms_under}
 use Rattle.dcsp_order.proofs.order.Order.terms_under.Given as goal
 
 abbrev pub invariant-loop-term : goal.invariant-loop-term
-invariant-loop-term l = l.moved ≡ terms_under l.self (take l.term-index l.terms)
+invariant-loop-term l = l.moved.items ≡ terms_under l.self (take l.term-index l.terms)

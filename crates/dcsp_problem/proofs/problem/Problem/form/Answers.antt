@@ -7,7 +7,7 @@ use Rattle.dcsp_problem.proofs.problem.Problem.form.Goals as goal
 
 pub returns-clause-form : goal.returns-clause-form
 returns-clause-form c =
-    let p : Contents = record { domains = c.self.inside.domains.items; rules = c.self.inside.shared.value.rules.items; outputs = c.self.inside.shared.value.outputs.items; aim = c.self.inside.aim } in
+    let p : Contents = record { domains = c.self.inside.domains.items; rules = c.self.inside.shared.value.rules; outputs = c.self.inside.shared.value.outputs.items; aim = c.self.inside.aim } in
     let same = ap (λ z. length z.rules) c.self.view_is in
     let is = c.index.ensures ∙ ap (λ (z : SharedPart). get_or z.tables.forms.items c.args.rule c.index.result.now) c.deref.ensures in
     let here = form_at c.self.inside.shared.value.tables.forms.items p.rules c.args.rule c.index.result.now c.self.invariant.each_form (omega (arith, c.requires, same)) is in

@@ -11,7 +11,7 @@ use Rattle.dcsp_problem.proofs.problem.Problem.lower_owners.Goals as goal
 
 pub list-requires : goal.list-requires
 list-requires c =
-    let p : Contents = record { domains = c.self.inside.domains.items; rules = c.self.inside.shared.value.rules.items; outputs = c.self.inside.shared.value.outputs.items; aim = c.self.inside.aim } in
+    let p : Contents = record { domains = c.self.inside.domains.items; rules = c.self.inside.shared.value.rules; outputs = c.self.inside.shared.value.outputs.items; aim = c.self.inside.aim } in
     let size = ap length c.self.invariant.each_lower in
     let many = length-map_below (lower_owners (csp_of p)) (length p.domains) in
     let same = ap (λ z. length z.domains) c.self.view_is in
@@ -20,7 +20,7 @@ list-requires c =
 
 pub returns-clause-owners : goal.returns-clause-owners
 returns-clause-owners c =
-    let p : Contents = record { domains = c.self.inside.domains.items; rules = c.self.inside.shared.value.rules.items; outputs = c.self.inside.shared.value.outputs.items; aim = c.self.inside.aim } in
+    let p : Contents = record { domains = c.self.inside.domains.items; rules = c.self.inside.shared.value.rules; outputs = c.self.inside.shared.value.outputs.items; aim = c.self.inside.aim } in
     let same = ap (λ z. length z.domains) c.self.view_is in
     sym (get_or_from_slice_get c.self.inside.shared.value.tables.lower c.args.var c.list.result.now [] (subst (λ (z : SharedPart). slice_get z.tables.lower c.args.var ≡ Some c.list.result.now) c.deref.ensures c.list.ensures))
     ∙ lower_at p c.self.inside.shared.value.tables.lower c.args.var [] c.self.invariant.each_lower (omega (arith, c.requires))

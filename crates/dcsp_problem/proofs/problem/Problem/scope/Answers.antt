@@ -10,7 +10,7 @@ use Rattle.dcsp_problem.proofs.problem.Problem.scope.Goals as goal
 
 pub list-requires : goal.list-requires
 list-requires c =
-    let p : Contents = record { domains = c.self.inside.domains.items; rules = c.self.inside.shared.value.rules.items; outputs = c.self.inside.shared.value.outputs.items; aim = c.self.inside.aim } in
+    let p : Contents = record { domains = c.self.inside.domains.items; rules = c.self.inside.shared.value.rules; outputs = c.self.inside.shared.value.outputs.items; aim = c.self.inside.aim } in
     let size = ap length c.self.invariant.each_scope in
     let many = length-map p.rules (scope_of (length p.domains)) in
     let same = ap (λ z. length z.rules) c.self.view_is in
@@ -20,7 +20,7 @@ list-requires c =
 -- what the table tells is the rule's scope
 scope_read : goal.returns-clause-scope
 scope_read c =
-    let p : Contents = record { domains = c.self.inside.domains.items; rules = c.self.inside.shared.value.rules.items; outputs = c.self.inside.shared.value.outputs.items; aim = c.self.inside.aim } in
+    let p : Contents = record { domains = c.self.inside.domains.items; rules = c.self.inside.shared.value.rules; outputs = c.self.inside.shared.value.outputs.items; aim = c.self.inside.aim } in
     let same = ap (λ z. length z.rules) c.self.view_is in
     let in_range : c.args.rule < length p.rules = omega (arith, c.requires) in
     let scope = c.list.result.now in

@@ -4,6 +4,7 @@ use Rattle.dcsp_defs.specs.Csp.{filled}
 use Rattle.dcsp_rule.specs.Problems.{csp_of, constraint_at, rule_at}
 use Rattle.dcsp_rule.specs.declared.pair.BinaryRule.{BinaryRule}
 use Rattle.dcsp_rule.specs.Pairs.{IsPairOf}
+use Rattle.dcsp_rule.specs.Lent.{lent_rule}
 use Rattle.dcsp_rule.specs.Forms.{form_has, found_truth, pair_in, pair_or_truth}
 use Rattle.dcsp_problem.proofs.Reading.{constraint_ok, rule_read}
 use Rattle.dcsp_problem.proofs.Narrow.{a_rule, narrow_of_known}
@@ -26,14 +27,14 @@ is_missed-requires g c =
 
 pub is_true_under-requires-clause-shape : goal.is_true_under-requires-clause-shape
 is_true_under-requires-clause-shape g c =
-    rw (rule_read c.args.self.now c.args.rule c.rule.result.now c.rule.ensures) (a_rule c.args.self.now c.args.rule c.form-form.ensures.problem c.requires.rule).shape
+    rw (rule_read c.args.self.now c.args.rule (lent_rule c.rule.result) c.rule.ensures) (a_rule c.args.self.now c.args.rule c.form-form.ensures.problem c.requires.rule).shape
 
 pub is_true_under-requires-clause-narrow : goal.is_true_under-requires-clause-narrow
 is_true_under-requires-clause-narrow g c =
     let p = c.args.self.now in
     let known = g.L.Lookup.values c.args.lookup.now in
     let scope = scope_within (csp_of p) known (constraint_at p c.args.rule) (constraint_ok p c.args.rule c.form-form.ensures.problem c.requires.rule) c.requires.domains (sym c.knows_scope.ensures ∙ c.if-knows_scope.true) in
-    rw (rule_read p c.args.rule c.rule.result.now c.rule.ensures) (narrow_of_known p known c.args.rule c.form-form.ensures.problem c.requires.rule scope)
+    rw (rule_read p c.args.rule (lent_rule c.rule.result) c.rule.ensures) (narrow_of_known p known c.args.rule c.form-form.ensures.problem c.requires.rule scope)
 
 pub returns-then-knows_scope : goal.returns-then-knows_scope
 returns-then-knows_scope g c =
@@ -43,5 +44,5 @@ returns-then-knows_scope g c =
     let rule = rule_at p c.args.rule in
     let none : pair_in form ≡ None = sym c.pair.ensures ∙ c.in-None.is in
     let found : found_truth (form_has form) rule values ≡ pair_or_truth (pair_in form) (form_has form) rule values = sym (ap (λ (o : Option BinaryRule). pair_or_truth o (form_has form) rule values) none) in
-    ap not (c.is_true_under.ensures ∙ ap (λ r. found_truth (form_has form) r values) (rule_read p c.args.rule c.rule.result.now c.rule.ensures) ∙ found ∙ c.form-form.ensures.form.truth values)
+    ap not (c.is_true_under.ensures ∙ ap (λ r. found_truth (form_has form) r values) (rule_read p c.args.rule (lent_rule c.rule.result) c.rule.ensures) ∙ found ∙ c.form-form.ensures.form.truth values)
     ∙ sym (ap (λ b. b && not ((constraint_at p c.args.rule).test values)) (sym c.knows_scope.ensures ∙ c.if-knows_scope.true))
