@@ -6,6 +6,7 @@ pub mod MarkLaws
 pub mod ElementLaws
 pub mod DeclarationLaws
 pub mod ItemLaws
+pub mod LentLaws
 pub mod OneAnswer
 pub mod Semicolons
 pub mod Endings

@@ -1,5 +1,5 @@
 -- Lists with commas between, as far as they are read.
-use Rattle.std.proofs.Common.{◌≡◌, List, [], ◌∷◌, ◌++◌, sym, ◌∙◌, subst, ⊎_elim, append_assoc}
+use Rattle.std.proofs.Common.{◌≡◌, ℕ, ◌+◌, List, [], ◌∷◌, ◌++◌, length, refl, inr, sym, ◌∙◌, ap, subst, ⊎_elim, append_assoc, length-append}
 use Rattle.fzn_token.specs.declared.token.Token.{Token}
 use Rattle.fzn_token.specs.declared.token.TokenKind.TheVariants as kind
 use Rattle.fzn_token.specs.declared.token.Mark.{Mark}
@@ -12,9 +12,19 @@ pub record IsListSoFar {V : Type 0} (R : Production V) (close : Mark) (ts : List
   pub goes_on : (ws : List V) (end : List Token) → IsSeparated R close rest ws end → IsSeparated R close ts (vs ++ ws) end
   pub stops : Fails (IsSeparated R close) rest → Fails (IsSeparated R close) ts
 
+-- the same, of forms that are counted and not kept
+pub record IsCountSoFar {V : Type 0} (R : Production V) (close : Mark) (ts : List Token) (count : ℕ) (rest : List Token) : Type 0 where
+  pub forms : List V
+  pub so_far : IsListSoFar R close ts forms rest
+  pub counted : length forms ≡ count
+
 -- at the start no form is read
 pub list_start : {V : Type 0} (R : Production V) (close : Mark) (ts : List Token) → IsListSoFar R close ts [] ts
 list_start R close ts = record { goes_on = λ ws end p. p; stops = λ fails. fails }
+
+-- at the start none is counted
+pub count_start : {V : Type 0} (R : Production V) (close : Mark) (ts : List Token) → IsCountSoFar R close ts 0 ts
+count_start R close ts = record { forms = []; so_far = list_start R close ts; counted = refl }
 
 module _ {V : Type 0} (R : Production V) (close : Mark) (differ : close ≡ mark.Comma → ⊥) (unique : IsUnique R) where
   -- one more form and a comma
@@ -58,6 +68,18 @@ module _ {V : Type 0} (R : Production V) (close : Mark) (differ : close ≡ mark
   -- neither the closing mark nor a form stands there
   pub list_fails : (ts : List Token) → Fails (IsMark close) ts → Fails (IsSeparated R close) ts → Fails (IsListOf R close) ts
   list_fails ts no_close no_form vs end p = ⊎_elim (λ empty. no_close empty.1 end empty.2) (λ some. no_form vs end some) p
+
+  -- one more form is counted, and a comma
+  pub count_comma : (ts : List Token) (count : ℕ) (rest middle next : List Token) (t : Token) → IsCountSoFar R close ts count rest → (v : V) × R rest v middle → IsMark mark.Comma middle t next → IsCountSoFar R close ts (count + 1) next
+  count_comma ts count rest middle next t c form comma = record {
+    forms = c.forms ++ form.0 ∷ [];
+    so_far = list_comma ts c.forms rest middle next form.0 t c.so_far form.1 comma;
+    counted = length-append c.forms (form.0 ∷ []) ∙ ap (λ n. n + 1) c.counted;
+  }
+
+  -- the last form is counted, and the closing mark
+  pub count_close : (ts : List Token) (count : ℕ) (rest middle end : List Token) (t : Token) → IsCountSoFar R close ts count rest → (v : V) × R rest v middle → IsMark close middle t end → (vs : List V) × IsListOf R close ts vs end × (length vs ≡ count + 1)
+  count_close ts count rest middle end t c form closes = (c.forms ++ form.0 ∷ [], inr (list_close ts c.forms rest middle end form.0 t c.so_far form.1 closes), length-append c.forms (form.0 ∷ []) ∙ ap (λ n. n + 1) c.counted)
 
 -- an integer is read in one way
 pub integer_unique : IsUnique IsInteger

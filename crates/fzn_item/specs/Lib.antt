@@ -7,3 +7,4 @@ pub mod Marks
 pub mod Elements
 pub mod Declarations
 pub mod Items
+pub mod Lent

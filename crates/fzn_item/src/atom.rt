@@ -1,11 +1,11 @@
 //! Atoms.
 
-ghost use Rattle.std.specs.Prelude.{◌≤◌, length, IfOk};
-ghost use Rattle.fzn_item.specs.Readers.{Reads};
+ghost use Rattle.std.specs.Prelude.{◌≤◌, length, IfOk, IfSome};
+ghost use Rattle.fzn_item.specs.Readers.{Reads, Passes};
 ghost use Rattle.fzn_item.specs.Exprs.{AtomAfter};
 
 use crate::item::Atom;
-use crate::lists::{Form, list_of};
+use crate::lists::{Form, list_of, skip_list};
 use crate::single::{Stop, integer, one_of};
 use fzn_token::{Mark, Token, TokenKind, Word};
 use std::alloc::Global;
@@ -21,6 +21,11 @@ impl Form for Atom {
             None => Err(Stop::Unread),
         }
     }
+
+    fn skip(tokens: &[Token]) -> Option<&[Token]> {
+        let (first, rest) = tokens.split_first()?;
+        skip_after(*first, rest)
+    }
 }
 
 /// Integers of listed sets.
@@ -34,6 +39,11 @@ impl Form for i64 {
             Some((value, rest)) => Ok((value, rest)),
             None => Err(Stop::Unread),
         }
+    }
+
+    fn skip(tokens: &[Token]) -> Option<&[Token]> {
+        let (_, rest) = integer(tokens)?;
+        Some(rest)
     }
 }
 
@@ -63,5 +73,36 @@ fn atom_after(alloc: Global, first: Token, tokens: &[Token]) -> Result<(Atom, &[
             _ => Err(Stop::Unread),
         },
         _ => Err(Stop::Unread),
+    }
+}
+
+/// What follows an atom whose first token this is.
+fn skip_after(first: Token, tokens: &[Token]) -> Option<&[Token]>
+    ensures passes { Passes (AtomAfter first.kind first) tokens.now result }
+    ensures shorter { IfSome result (λ x. length x.now ≤ length tokens.now) }
+{
+    match first.kind {
+        TokenKind::Name => Some(tokens),
+        TokenKind::Float => Some(tokens),
+        TokenKind::Word(word) => match word {
+            Word::True => Some(tokens),
+            Word::False => Some(tokens),
+            _ => None,
+        },
+        TokenKind::Whole(_) => match one_of(tokens, TokenKind::Mark(Mark::DotDot)) {
+            Some((_, rest)) => match integer(rest) {
+                Some((_, rest)) => Some(rest),
+                None => None,
+            },
+            None => Some(tokens),
+        },
+        TokenKind::Mark(mark) => match mark {
+            Mark::OpenBrace => match skip_list::<i64>(tokens, Mark::CloseBrace) {
+                Some((_, rest)) => Some(rest),
+                None => None,
+            },
+            _ => None,
+        },
+        _ => None,
     }
 }

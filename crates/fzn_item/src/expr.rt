@@ -5,7 +5,7 @@ ghost use Rattle.fzn_item.specs.Readers.{Reads};
 ghost use Rattle.fzn_item.specs.Exprs.{IsLastExpr};
 
 use crate::item::{Atom, Expr};
-use crate::lists::{Form, list_of};
+use crate::lists::{Form, list_of, skip_list};
 use crate::single::{Stop, one_of};
 use fzn_token::{Mark, Token, TokenKind};
 use std::alloc::Global;
@@ -31,6 +31,16 @@ impl Form for Expr {
                 let (one, rest) = Atom::read(alloc, tokens)?;
                 Ok((Expr::One(one), rest))
             }
+        }
+    }
+
+    fn skip(tokens: &[Token]) -> Option<&[Token]> {
+        match one_of(tokens, TokenKind::Mark(Mark::OpenBracket)) {
+            Some((_, rest)) => match skip_list::<Atom>(rest, Mark::CloseBracket) {
+                Some((_, rest)) => Some(rest),
+                None => None,
+            },
+            None => Atom::skip(tokens),
         }
     }
 }

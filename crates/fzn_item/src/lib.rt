@@ -10,6 +10,7 @@ mod declaration;
 mod element;
 mod expr;
 mod item;
+mod lent;
 mod lists;
 mod marking;
 mod reading;
@@ -18,4 +19,7 @@ mod single;
 pub use dcsp_common::Memory;
 pub use dcsp_domain::{IntList, RangeList};
 pub use item::{Atom, AtomList, Base, Expr, ExprList, Goal, Item, ItemError, ItemList, Marked};
+pub use lent::{
+    LentArguments, LentConstraint, LentExpr, LentItem, after_mark, next_atom, next_expr, next_lent,
+};
 pub use reading::{items, items_end_at_semicolons, items_stay_read, next_item, one_answer};

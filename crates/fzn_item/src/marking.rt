@@ -154,6 +154,11 @@ impl Form for (i64, i64) {
             None => Err(Stop::Unread),
         }
     }
+
+    fn skip(tokens: &[Token]) -> Option<&[Token]> {
+        let (_, rest) = range(tokens)?;
+        Some(rest)
+    }
 }
 
 /// A range of integers.

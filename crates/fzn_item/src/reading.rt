@@ -7,6 +7,7 @@ ghost use Rattle.fzn_item.specs.Items.{ToSemicolon, IsConstraint, GoalAfter, IsG
 use crate::declaration::{array, declaration};
 use crate::expr::last_expr;
 use crate::item::{Expr, Goal, Item, ItemError, ItemList};
+use crate::lent::lent_constraint;
 use crate::lists::list_of;
 use crate::marking::annotations;
 use crate::single::{Stop, one_of};
@@ -86,7 +87,7 @@ fn read_item<'t>(
 }
 
 /// An item, after its first word.
-fn item_after<'t>(
+pub(crate) fn item_after<'t>(
     alloc: Global,
     text: &[u8],
     first: Token,
@@ -140,22 +141,13 @@ fn constraint<'t>(
     ensures reads { Reads (IsConstraint text.now first) tokens.now result }
     ensures shorter { IfOk result (λ x. length x.1.now < length tokens.now) }
 {
-    let Some((name, rest)) = one_of(tokens, TokenKind::Name) else {
-        return Err(Stop::Unread);
-    };
-    let Some((_, rest)) = one_of(rest, TokenKind::Mark(Mark::OpenParen)) else {
-        return Err(Stop::Unread);
-    };
-    let (arguments, rest) = list_of::<Expr>(alloc, rest, Mark::CloseParen)?;
-    let (_, rest) = annotations(alloc, text, rest)?;
-    let Some((_, rest)) = one_of(rest, TokenKind::Mark(Mark::Semicolon)) else {
-        return Err(Stop::Unread);
-    };
+    let (lent, rest) = lent_constraint(alloc, text, first, tokens)?;
+    let (arguments, _) = list_of::<Expr>(alloc, lent.arguments.tokens, Mark::CloseParen)?;
     Ok((
         Item::Constraint {
-            at: first.from,
-            name_at: name.from,
-            name_to: name.to,
+            at: lent.at,
+            name_at: lent.name_at,
+            name_to: lent.name_to,
             arguments,
         },
         rest,

@@ -24,6 +24,8 @@ use Rattle.fzn_token.specs.Reading.{Refuses, TakesRest}
 use Rattle.fzn_item.specs.declared.item.Expr.{Expr}
 use Rattle.fzn_item.specs.declared.item.Item.{Item}
 use Rattle.fzn_item.specs.declared.item.ItemError.{ItemError}
+use Rattle.fzn_item.specs.declared.lent.LentItem.{LentItem}
+use Rattle.fzn_item.specs.Lent.{StandsFor}
 use Rattle.dcsp_rule.specs.Problems.{Contents}
 use Rattle.fzn_model.specs.declared.model.ModelError.{ModelError}
 use Rattle.fzn_model.specs.Declarations.{SoFar, parameter, variable, elements, is_shaped, array}
@@ -81,9 +83,13 @@ named_by text s d = declared_by text s d.at d.variable d.index d.base.now d.name
 abbrev pub declare_by : List ℕ → SoFar → Declaration → Result SoFar ItemRefusal
 declare_by text s d = declare text s d.at d.variable d.index d.base.now d.name_at d.name.now d.marked.now d.right.now
 
--- what a constraint leaves
-abbrev pub constraint_by : List ℕ → SoFar → Constraint → Result SoFar ItemRefusal
-constraint_by text s c = constraint text s c.at c.name_at c.name.now c.arguments.now
+-- what a constraint of these expressions leaves
+abbrev pub constraint_by : List ℕ → SoFar → Constraint → List Expr → Result SoFar ItemRefusal
+constraint_by text s c exprs = constraint text s c.at c.name_at c.name.now exprs
+
+-- what is lent stands for some item
+abbrev pub IsSomeItem : LentItem → Type 0
+IsSomeItem lent = (i : Item) × StandsFor lent i
 
 -- more than any array has elements
 abbrev pub many : ℕ

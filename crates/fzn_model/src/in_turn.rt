@@ -1,18 +1,20 @@
 //! From a text to its problem: each item is read, resolved and let go before the tokens of the next are read.
 
 ghost use Rattle.std.specs.Prelude.{◌≡◌, ◌≤◌, ◌<◌, ◌+◌, length, OnOk, IfErr, Ok, Err};
+ghost use Rattle.fzn_item.specs.declared.item.Item.{Item};
+ghost use Rattle.fzn_item.specs.Lent.{StandsFor};
 ghost use Rattle.fzn_scope.specs.Checks.{Gives};
 ghost use Rattle.fzn_model.specs.Checks.{refusal_of};
 ghost use Rattle.fzn_model.specs.Items.{start};
 ghost use Rattle.fzn_model.specs.Models.{longest_text, AnswersOrLacks};
-ghost use Rattle.fzn_model.specs.Reading.{gave, then_item, problem_given, IsSoundGiven, prints, AreAllTaken, LeavesUnread};
+ghost use Rattle.fzn_model.specs.Reading.{gave, then_item, problem_given, IsSoundGiven, prints, AreAllTaken, LeavesUnread, IsSomeItem};
 
 use crate::model::ModelError;
 use crate::refusal::{ItemRefusal, Stop};
 use crate::resolver::Resolver;
 use dcsp_common::Memory;
 use dcsp_problem::Problem;
-use fzn_item::{Item, ItemError, next_item};
+use fzn_item::{ItemError, LentItem, next_lent};
 use fzn_token::TokenReader;
 use std::alloc::Global;
 
@@ -69,10 +71,10 @@ impl<'t> Taken<'t> {
         let mut piece = Vec::new(alloc);
         'items: loop {
             reader.next_piece(&mut piece)?;
-            match next_item(alloc, text, &piece) {
-                Ok(Some((item, _behind))) => {
-                    let done = self.take(text, &item);
-                    drop(item);
+            match next_lent(alloc, text, &piece) {
+                Ok(Some((lent, _behind))) => {
+                    let done = self.take(text, &lent);
+                    drop(lent);
                     done?;
                 }
                 Ok(None) => return Ok(()),
@@ -82,17 +84,18 @@ impl<'t> Taken<'t> {
     }
 
     /// One item more, which changes nothing after a refusal.
-    fn take(&mut self, text: &'t [u8], item: &Item) -> Result<(), Memory>
+    fn take(&mut self, text: &'t [u8], lent: &LentItem<'_>) -> Result<(), Memory>
+        requires stands { IsSomeItem lent.now }
         requires sound { IsSoundGiven (gave self.old) }
         requires room { prints (gave self.old) < longest_text }
-        ensures is { OnOk result (gave self.new ≡ then_item text.now (gave self.old) item.now) }
+        ensures is { OnOk result ((item : Item) → StandsFor lent.now item → gave self.new ≡ then_item text.now (gave self.old) item) }
         ensures sound { OnOk result (IsSoundGiven (gave self.new)) }
         ensures prints { OnOk result (prints (gave self.new) ≤ prints (gave self.old) + 1) }
     {
         if self.refused.is_some() {
             return Ok(());
         }
-        match self.resolver.take(text, item) {
+        match self.resolver.take(text, lent) {
             Ok(()) => Ok(()),
             Err(Stop::Memory) => Err(Memory),
             Err(Stop::Refused(refusal)) => {

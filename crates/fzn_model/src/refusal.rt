@@ -3,7 +3,6 @@
 ghost use Rattle.std.specs.Prelude.{◌≡◌};
 ghost use Rattle.fzn_model.specs.Checks.{ill_typed};
 
-use dcsp_common::Memory;
 use dcsp_problem::Which;
 use fzn_scope::Refusal;
 use std::alloc::{AllocError, AllocFailed};
@@ -92,17 +91,6 @@ impl From<fzn_scope::Stop> for Stop {
             fzn_scope::Stop::Refused(meaning) => Stop::from(meaning),
             fzn_scope::Stop::Memory => Stop::Memory,
         }
-    }
-}
-
-impl From<Memory> for Stop {
-    ghost use Rattle.std.specs.Prelude.{◌≡◌};
-    ghost use Rattle.fzn_model.specs.declared.refusal.Stop.TheVariants as stop;
-
-    ghost from_gives = { λ _ e. e ≡ stop.Memory };
-
-    fn from(_: Memory) -> Stop {
-        Stop::Memory
     }
 }
 

@@ -1,12 +1,15 @@
 //! What one item adds to the names and to the problem, or its refusal.
 
-ghost use Rattle.std.specs.Prelude.{◌≡◌, ◌≤◌, ◌<◌, ◌+◌, length, OnOk, None};
+ghost use Rattle.std.specs.Prelude.{◌≡◌, ◌≤◌, ◌<◌, ◌+◌, List, length, OnOk, None};
+ghost use Rattle.fzn_item.specs.declared.item.Expr.{Expr};
+ghost use Rattle.fzn_item.specs.declared.item.Item.{Item};
+ghost use Rattle.fzn_item.specs.Lent.{AreArguments, IsLent, IsOther, StandsFor};
 ghost use Rattle.fzn_scope.specs.Checks.{Gives};
 ghost use Rattle.fzn_model.specs.Checks.{refusal_of};
 ghost use Rattle.fzn_scope.specs.Names.{declared_as};
 ghost use Rattle.fzn_model.specs.Declarations.{is_late, declaration};
 ghost use Rattle.fzn_model.specs.Items.{start, solve, predicate, after, finished};
-ghost use Rattle.fzn_model.specs.Reading.{Leaves, so_far, IsSound, HasRoom, parameter_by, variable_by, array_by, named_by, declare_by, constraint_by};
+ghost use Rattle.fzn_model.specs.Reading.{Leaves, so_far, IsSound, HasRoom, parameter_by, variable_by, array_by, named_by, declare_by, constraint_by, IsSomeItem};
 
 use crate::array::{add_members, check_element, elements, within};
 use crate::building::{add_rule, add_variable};
@@ -15,7 +18,7 @@ use crate::goal::aim_of;
 use crate::output::{add_array_output, add_variable_output, check_shape};
 use crate::refusal::{ItemRefusal, Stop};
 use dcsp_problem::{Problem, ProblemBuilder, Term, Which};
-use fzn_item::{Expr, Goal, Item};
+use fzn_item::{Goal, Item, LentArguments, LentItem};
 use fzn_scope::{Context, Declared, Names, bytes_at};
 use std::alloc::Global;
 
@@ -37,7 +40,7 @@ struct Constraint<'i, 't> {
     at: u32,
     name_at: u32,
     name: &'t [u8],
-    arguments: &'i [Expr],
+    arguments: LentArguments<'i>,
 }
 
 impl<'t> Resolver<'t> {
@@ -161,8 +164,10 @@ impl<'t> Resolver<'t> {
     /// A constraint.
     #[tactic(auto, unfolding(crate::specs::Items::constraint))]
     fn constraint(&mut self, text: &[u8], constraint: Constraint<'_, 't>) -> Result<(), Stop>
+        requires lent { IsLent constraint.arguments }
         requires sound { IsSound (so_far self.old) }
-        ensures is { Leaves (so_far self.new) result (constraint_by text.now (so_far self.old) constraint.entry) }
+        ensures is { (exprs : List Expr) → AreArguments constraint.entry.arguments exprs →
+            Leaves (so_far self.new) result (constraint_by text.now (so_far self.old) constraint.entry exprs) }
         ensures sound { OnOk result (IsSound (so_far self.new)) }
         ensures outputs { OnOk result (length self.new.builder.outputs ≤ length self.old.builder.outputs + 1) }
     {
@@ -256,7 +261,31 @@ impl<'t> Resolver<'t> {
     }
 
     /// The next item.
-    pub(crate) fn take(&mut self, text: &'t [u8], item: &Item) -> Result<(), Stop>
+    pub(crate) fn take(&mut self, text: &'t [u8], lent: &LentItem<'_>) -> Result<(), Stop>
+        requires stands { IsSomeItem lent.now }
+        requires sound { IsSound (so_far self.old) }
+        requires room { HasRoom self.old.builder }
+        ensures is { (item : Item) → StandsFor lent.now item → Leaves (so_far self.new) result (after text.now (so_far self.old) item) }
+        ensures sound { OnOk result (IsSound (so_far self.new)) }
+        ensures outputs { OnOk result (length self.new.builder.outputs ≤ length self.old.builder.outputs + 1) }
+    {
+        match lent {
+            LentItem::Constraint(constraint) => {
+                let constraint = Constraint {
+                    at: constraint.at,
+                    name_at: constraint.name_at,
+                    name: bytes_at(text, constraint.name_at, constraint.name_to),
+                    arguments: constraint.arguments,
+                };
+                self.constraint(text, constraint)
+            }
+            LentItem::Other(item) => self.take_other(text, item),
+        }
+    }
+
+    /// The next item, which is no constraint.
+    fn take_other(&mut self, text: &'t [u8], item: &Item) -> Result<(), Stop>
+        requires other { IsOther item.now }
         requires sound { IsSound (so_far self.old) }
         requires room { HasRoom self.old.builder }
         ensures is { Leaves (so_far self.new) result (after text.now (so_far self.old) item.now) }
@@ -287,20 +316,7 @@ impl<'t> Resolver<'t> {
                 };
                 self.declare(text, declaration)
             }
-            Item::Constraint {
-                at,
-                name_at,
-                name_to,
-                arguments,
-            } => {
-                let constraint = Constraint {
-                    at: *at,
-                    name_at: *name_at,
-                    name: bytes_at(text, *name_at, *name_to),
-                    arguments: arguments.items(),
-                };
-                self.constraint(text, constraint)
-            }
+            Item::Constraint { .. } => unreachable!(),
             Item::Solve { at, goal } => self.solve(text, *at, goal),
         }
     }

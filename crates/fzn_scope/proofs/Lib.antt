@@ -4,3 +4,4 @@ pub mod KnownLaws
 pub mod ShapeLaws
 pub mod PlacesInOrder
 pub mod Declaring
+pub mod LentSteps

@@ -4,3 +4,4 @@ pub mod Places
 pub mod Forms
 pub mod Rules
 pub mod Known
+pub mod Lent

@@ -1,18 +1,20 @@
 //! From a constraint's arguments to its rule.
 
-ghost use Rattle.std.specs.Prelude.{◌≡◌, ℕ, Ok, All, IfOk, IfErr, OnOk, IsTrue, length, map};
+ghost use Rattle.std.specs.Prelude.{◌≡◌, ℕ, List, Ok, All, IfOk, IfErr, OnOk, IsTrue, map};
+ghost use Rattle.fzn_item.specs.declared.item.Expr.{Expr};
+ghost use Rattle.fzn_item.specs.Lent.{AreArguments, IsLent};
 ghost use Rattle.dcsp_meaning.specs.Table.{plain_of};
 ghost use Rattle.dcsp_rule.specs.Rules.{IsTermOf, has_shape, terms_of};
 ghost use Rattle.fzn_scope.specs.Checks.{refusal_of, Gives, Stops};
 ghost use Rattle.fzn_scope.specs.Known.{AreKnown};
-ghost use Rattle.fzn_scope.specs.Rules.{no_arguments, with_argument, arguments_after, constant_of, scalar_at, truth_of, rule_of, takes_rows, lengths_agree, form_at, constraint_rule};
+ghost use Rattle.fzn_scope.specs.Rules.{no_arguments, with_argument, constant_of, scalar_at, truth_of, rule_of, takes_rows, lengths_agree, form_at, constraint_rule};
 
 use crate::form::{Form, Place};
 use crate::place::{Context, Wanted};
 use crate::refusal::{Refusal, Stop};
 use dcsp_meaning::{ConstraintKind, is_table};
 use dcsp_problem::{IntList, Members, Rule, Term, TermList};
-use fzn_item::Expr;
+use fzn_item::{Expr, LentArguments};
 use std::alloc::Global;
 
 /// What the arguments of a constraint are: scalars, two lists and a set, each empty where there is none.
@@ -25,7 +27,7 @@ pub struct Arguments {
 }
 
 /// No arguments, with room for so many scalars.
-fn no_arguments(alloc: Global, scalars: usize) -> Result<Arguments, Stop>
+pub(crate) fn no_arguments(alloc: Global, scalars: usize) -> Result<Arguments, Stop>
     ensures { Gives refusal_of result (Ok no_arguments) }
 {
     Ok(Arguments {
@@ -139,7 +141,12 @@ fn form_at(at: u32, name: &[u8]) -> Result<Form, Refusal>
 
 impl<'c, 't> Context<'c, 't> {
     /// Adds an argument, at a place that asks for it.
-    fn add_argument(self, done: &mut Arguments, place: Place, expr: &Expr) -> Result<(), Stop>
+    pub(crate) fn add_argument(
+        self,
+        done: &mut Arguments,
+        place: Place,
+        expr: &Expr,
+    ) -> Result<(), Stop>
         ensures ok { OnOk result (with_argument self.entry.text.now self.entry.names.now done.old place expr.now ≡ Ok done.new) }
         ensures err { IfErr result (λ e. Stops (refusal_of e) (with_argument self.entry.text.now self.entry.names.now done.old place expr.now)) }
     {
@@ -158,43 +165,40 @@ impl<'c, 't> Context<'c, 't> {
         Ok(())
     }
 
-    /// The arguments at these places, from left to right.
-    fn arguments_of(self, places: &[Place], exprs: &[Expr]) -> Result<Arguments, Stop>
-        requires { length exprs.now ≡ length places.now }
-        ensures { Gives refusal_of result (arguments_after self.entry.text.now self.entry.names.now no_arguments places.now exprs.now) }
-    {
-        let mut done = no_arguments(self.alloc, places.len())?;
-        for index in 0..exprs.len() {
-            self.add_argument(&mut done, places[index], &exprs[index])?;
-        }
-        Ok(done)
-    }
-
     /// The rule of a constraint whose name stands at a place.
     ///
     /// `UnknownConstraint` comes for a name that no constraint has, and `IllTyped` for a wrong number of arguments
     /// and for lists whose lengths do not agree, all three at the name: a sum has as many coefficients as terms, and a
     /// table whole rows that are as long as its row, which is not empty. Between them come the refusals of the
     /// arguments, from left to right.
-    pub fn constraint_rule(self, at: u32, name: &[u8], exprs: &[Expr]) -> Result<Rule, Stop>
-        ensures gives { Gives refusal_of result (constraint_rule self.entry.text.now self.entry.names.now at name.now exprs.now) }
+    pub fn constraint_rule(
+        self,
+        at: u32,
+        name: &[u8],
+        arguments: LentArguments<'_>,
+    ) -> Result<Rule, Stop>
+        requires { IsLent arguments }
+        ensures gives { (exprs : List Expr) → AreArguments arguments.entry exprs →
+            Gives refusal_of result (constraint_rule self.entry.text.now self.entry.names.now at name.now exprs) }
         ensures shape { IfOk result (λ rule. IsTrue (has_shape rule)) }
         ensures known { IfOk result (λ rule. (variables : ℕ) → AreKnown variables self.entry.names.now →
             All (IsTermOf variables) (terms_of rule)) }
     {
-        self.checked_rule(at, name, exprs)
+        self.checked_rule(at, name, arguments)
     }
 
     #[tactic(auto, unfolding(crate::specs::Rules::constraint_rule))]
-    fn checked_rule(self, at: u32, name: &[u8], exprs: &[Expr]) -> Result<Rule, Stop>
-        ensures { Gives refusal_of result (constraint_rule self.entry.text.now self.entry.names.now at name.now exprs.now) }
+    fn checked_rule(self, at: u32, name: &[u8], lent: LentArguments<'_>) -> Result<Rule, Stop>
+        requires { IsLent lent }
+        ensures { (exprs : List Expr) → AreArguments lent.entry exprs →
+            Gives refusal_of result (constraint_rule self.entry.text.now self.entry.names.now at name.now exprs) }
     {
         let form = form_at(at, name)?;
-        let places = form.places(exprs.len());
-        if exprs.len() != places.len() {
+        let places = form.places(lent.count);
+        if lent.count != places.len() {
             return Err(Stop::Refused(Refusal::IllTyped { at }));
         }
-        let arguments = self.arguments_of(places, exprs)?;
+        let arguments = self.arguments_at(places, lent)?;
         if !lengths_agree(form, &arguments) {
             return Err(Stop::Refused(Refusal::IllTyped { at }));
         }

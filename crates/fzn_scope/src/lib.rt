@@ -6,6 +6,7 @@
 
 mod arguments;
 mod form;
+mod lent;
 mod names;
 mod place;
 mod refusal;

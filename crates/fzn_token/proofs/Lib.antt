@@ -11,7 +11,9 @@ pub mod LongestTexts
 pub mod NumberForms
 pub mod Extents
 pub mod LongestNumbers
+pub mod PlainNumbers
 pub mod LongestMarks
+pub mod ByteClasses
 pub mod SoFar
 pub mod Joining
 pub mod OneKind

@@ -18,12 +18,12 @@ choose_by true b c P x y same one two = one (same refl)
 choose_by false b c P x y same one two = two
 
 -- one turn of the look-up
-choose : (b c : ℕ) (P : Option Mark → Type 0) (x y : Option Mark) → (b ≡ c → P x) → P y → P (cond (eqb b c) x y)
+pub choose : (b c : ℕ) (P : Option Mark → Type 0) (x y : Option Mark) → (b ≡ c → P x) → P y → P (cond (eqb b c) x y)
 choose b c P x y one two = choose_by (eqb b c) b c P x y ((Decides-eqb b c).0) one two
 
 module _ (text : List ℕ) (i : ℕ) (below : i < length text) (twice : Bool) where
   -- the mark that is found, if one is, is written at place i
-  abbrev Here : Option Mark → Type 0
+  abbrev pub Here : Option Mark → Type 0
   Here o = MatchOption o ⊤ (λ mark. IsHere (mark_text mark) text i (i + length (mark_text mark)))
 
   -- a mark of one byte
@@ -55,7 +55,7 @@ module _ (text : List ℕ) (i : ℕ) (below : i < length text) (twice : Bool) wh
       choose b 125 Here _ _ (found_one 125) tt))))))))))
 
 -- a mark is found, and place to is no later than its end
-abbrev IsWithin : ℕ → ℕ → Option Mark → Type 0
+abbrev pub IsWithin : ℕ → ℕ → Option Mark → Type 0
 IsWithin i to o = MatchOption o ⊥ (λ mark. to ≤ i + length (mark_text mark))
 
 -- no mark of one byte is longer than the one that is found
@@ -96,7 +96,7 @@ module _ (text : List ℕ) (i : ℕ) (here : class_of (slice_index text i) ≡ o
   differs k j not_other s = not_other (sym (spelled_class k text i j s).1 ∙ here)
 
   -- no token is longer than the mark that is found
-  within : (k : TokenKind) (to : ℕ) → Spells k text i to → IsWithin i to (mark_in twice (slice_index text i))
+  pub within : (k : TokenKind) (to : ℕ) → Spells k text i to → IsWithin i to (mark_in twice (slice_index text i))
   within kind.Name to s = absurd (differs kind.Name to (λ e. cc) s)
   within (kind.Word word) to s = absurd (differs (kind.Word word) to (λ e. cc) s)
   within (kind.Whole z) to s = absurd (differs (kind.Whole z) to (λ e. cc) s)

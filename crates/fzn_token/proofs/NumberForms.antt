@@ -1,8 +1,8 @@
 -- The forms of numbers behind their sign.
-use Rattle.std.proofs.Common.{◌≡◌, ℕ, ◌+◌, ◌<◌, ◌≤◌, ◌⊎◌, Bool, true, false, List, [], ◌∷◌, ⊎_elim, arith, sym, ◌∙◌, refl, ap, inl, inr, subst, lit<}
+use Rattle.std.proofs.Common.{◌≡◌, ℕ, ◌+◌, ◌<◌, ◌≤◌, ◌⊎◌, Bool, true, false, List, [], ◌∷◌, length, ⊎_elim, arith, sym, ◌∙◌, refl, ap, inl, inr, subst, lit<}
 use Rattle.std.specs.Prelude.{slice_index, codes}
-use Rattle.std.proofs.lemmas.Bool.{cases_lt}
-use Rattle.fzn_token.specs.Bytes.{IsWholeRun, is_digit_in}
+use Rattle.std.proofs.lemmas.Bool.{cases_lt, false≢true}
+use Rattle.fzn_token.specs.Bytes.{IsWholeRun, is_digit_in, is_letter}
 use Rattle.fzn_token.specs.Numbers.{IsDigits, IsPrefixed, IsNatural, decimal, hexadecimal, octal, IsSign, IsTail, fraction, exponent, both}
 use Rattle.fzn_token.proofs.FloatTails.{digits_at_most, exponent_start, fraction_digits}
 use Rattle.fzn_token.proofs.Classes.{digit_range}
@@ -17,6 +17,12 @@ tail_no_digit (fraction f) = inl (fraction_digits f).0
 tail_no_digit (exponent e) = inr (exponent_start e).letter
 tail_no_digit (both k f e) = inl (fraction_digits f).0
 
+-- a tail begins within the text
+tail_below : {text : List ℕ} {i j : ℕ} → IsTail text i j → i < length text
+tail_below (fraction f) = f.1.0
+tail_below {text} {i} {j} (exponent e) = let start = exponent_start e in ⊎_elim (λ small. small.0) (λ large. large.0) e.2
+tail_below (both k f e) = f.1.0
+
 -- no tail begins with a digit, an `x` or an `o`
 pub tail_not_at : {text : List ℕ} {i j : ℕ} → IsTail text i j → (is_digit_in 10 (slice_index text i) ≡ true) ⊎ ((slice_index text i ≡ 120) ⊎ (slice_index text i ≡ 111)) → ⊥
 tail_not_at {text} {i} {j} t bad = ⊎_elim
@@ -26,6 +32,18 @@ tail_not_at {text} {i} {j} t bad = ⊎_elim
     (λ o. ⊎_elim (λ point. omega arith) (λ letter. ⊎_elim (λ small. omega arith) (λ large. omega arith) letter) (tail_no_digit t))
     prefix)
     bad
+
+-- no tail begins where no `.` and no letter stands
+pub tail_start : (text : List ℕ) (i j : ℕ) → (i < length text → slice_index text i ≡ 46 → ⊥) → (i < length text → is_letter (slice_index text i) ≡ false) → IsTail text i j → ⊥
+tail_start text i j no_point no_letter t =
+    let below : i < length text = tail_below t in
+    ⊎_elim
+    (λ point. no_point below point)
+    (λ letter. ⊎_elim
+    (λ small. false≢true (sym (no_letter below) ∙ ap is_letter small))
+    (λ large. false≢true (sym (no_letter below) ∙ ap is_letter large))
+    letter)
+    (tail_no_digit t)
 
 -- a prefix is a `0` and one byte
 pub record Prefix (c base : ℕ) (text : List ℕ) (i j : ℕ) : Type 0 where
@@ -61,6 +79,15 @@ module _ (text : List ℕ) (start end : ℕ) (whole : IsWholeRun (is_digit_in 10
   -- behind a `0` and a letter that is no digit there are no more digits
   short_end : (c : ℕ) → slice_index text (start + 1) ≡ c → (c < 48) ⊎ (58 ≤ c) → end ≤ start + 1
   short_end c is out = ⊎_elim (λ longer. absurd (no_digit_at _ c (whole.run.each (start + 1) (omega arith) longer) is out)) (λ not_longer. not_longer) (cases_lt (start + 1) end)
+
+  -- with no letter behind the digits there is no prefix
+  pub no_prefix : (c base k to : ℕ) → (c < 48) ⊎ (58 ≤ c) → is_letter c ≡ true → start < end → (end < length text → is_letter (slice_index text end) ≡ false) → IsPrefixed (48 ∷ c ∷ []) base text start k to → ⊥
+  no_prefix c base k to out letter some no_letter p =
+      let here = prefix_is p in
+      let short = short_end c here.letter_here out in
+      let at_end : end ≡ start + 1 = omega arith in
+      let below : end < length text = omega (arith, here.digits.some, here.digits.run.within) in
+      false≢true (sym (no_letter below) ∙ ap (λ x. is_letter (slice_index text x)) at_end ∙ ap is_letter here.letter_here ∙ letter)
 
   -- with a prefix, its whole run of digits is the longest form
   prefixed_at_most : (c base j : ℕ) → (c ≡ 120) ⊎ (c ≡ 111) → slice_index text (start + 1) ≡ c → IsDigits base text (start + 2) j → ((n k : ℕ) → IsPrefixed (codes "0x") 16 text start k n → n ≤ j) → ((n k : ℕ) → IsPrefixed (codes "0o") 8 text start k n → n ≤ j) → (to : ℕ) → Form text start to → to ≤ j

@@ -1,8 +1,10 @@
 pub mod Bytes
 pub mod Numbers
+pub mod Plain
 pub mod Quotes
 pub mod Words
 pub mod Lookup
+pub mod Classes
 pub mod Gaps
 pub mod Tokens
 pub mod Reading

@@ -1,27 +1,16 @@
-//! The classes of bytes.
+//! What single bytes are.
 
 ghost use Rattle.std.specs.Prelude.{◌≡◌, ◌≤◌, ◌↔◌, ◌⊎◌, IsTrue};
-ghost use Rattle.fzn_token.specs.Bytes.{is_blank, is_letter, is_name_byte, is_digit_in};
+ghost use Rattle.fzn_token.specs.Bytes.{is_name_byte, is_digit_in};
 
-/// Whether it is a space, a tab, a line feed or a carriage return.
-pub(crate) fn is_blank(byte: u8) -> bool
-    ensures { result ≡ is_blank byte }
-{
-    byte == b' ' || byte == b'\t' || byte == b'\n' || byte == b'\r'
-}
-
-/// Whether it is a letter of ASCII or `_`.
-pub(crate) fn is_letter(byte: u8) -> bool
-    ensures { result ≡ is_letter byte }
-{
-    byte.is_ascii_alphabetic() || byte == b'_'
-}
+use crate::class::{Class, class_of};
 
 /// Whether it is a letter or digit of ASCII or `_`.
+#[inline(always)]
 pub(crate) fn is_name_byte(byte: u8) -> bool
     ensures { result ≡ is_name_byte byte }
 {
-    byte.is_ascii_alphanumeric() || byte == b'_'
+    matches!(class_of(byte), Class::Letter | Class::Digit)
 }
 
 /// Whether it is a digit in this base, as a letter in either case above 9.

@@ -3,21 +3,20 @@
 ghost use Rattle.std.specs.Prelude.{◌≡◌, ◌<◌, ◌≤◌, ℕ, length, slice_index};
 ghost use Rattle.fzn_token.specs.Gaps.{IsGap};
 
-use crate::bytes::is_blank;
+use crate::class::{Class, class_of};
 
 /// Where the gap ends that begins here.
+#[inline(always)]
 pub(crate) fn gap_end(text: &[u8], from: usize) -> usize
     requires { from ≤ length text.now }
     ensures { IsGap text.now from result }
 {
     let mut at = from;
     while at < text.len() {
-        if is_blank(text[at]) {
-            at += 1;
-        } else if text[at] == b'%' {
-            at = comment_end(text, at);
-        } else {
-            break;
+        match class_of(text[at]) {
+            Class::Blank => at += 1,
+            Class::Percent => at = comment_end(text, at),
+            _ => break,
         }
     }
     at

@@ -3,13 +3,13 @@
 ghost use Rattle.std.specs.Prelude.{◌≡◌, ◌<◌, ◌≤◌, length};
 ghost use Rattle.fzn_token.specs.Reading.{Reads, Answers, HasOneAnswer};
 
-use crate::bytes::{is_digit, is_letter};
-use crate::mark::mark_token;
+use crate::class::{Class, class_of};
+use crate::mark::twin_token;
 use crate::name::name_token;
 use crate::number::number_token;
 use crate::quoted::text_token;
 use crate::reader::TokenReader;
-use crate::token::{LexError, Token, TokenList};
+use crate::token::{LexError, Token, TokenKind, TokenList};
 use std::alloc::Global;
 
 /// The tokens of a text of at most 16,777,216 bytes.
@@ -36,19 +36,22 @@ pub fn one_answer()
 {}
 
 /// The longest token that begins here.
+#[inline(always)]
 pub(crate) fn token_at(text: &[u8], at: usize) -> Result<Token, LexError>
     requires small { length text.now ≤ 16777216 }
     requires within { at < length text.now }
     ensures { Reads text.now at result }
 {
-    let byte = text[at];
-    if is_letter(byte) {
-        name_token(text, at)
-    } else if byte == b'"' {
-        text_token(text, at)
-    } else if byte == b'-' || is_digit(byte, 10) {
-        number_token(text, at)
-    } else {
-        mark_token(text, at)
+    match class_of(text[at]) {
+        Class::Mark(mark) => Ok(Token {
+            kind: TokenKind::Mark(mark),
+            from: at as u32,
+            to: (at + 1) as u32,
+        }),
+        Class::Letter => name_token(text, at),
+        Class::Digit | Class::Minus => number_token(text, at),
+        Class::Twin => twin_token(text, at),
+        Class::Quote => text_token(text, at),
+        Class::Blank | Class::Percent | Class::Other => Err(LexError::Bad { at: at as u32 }),
     }
 }

@@ -6,6 +6,7 @@
 #![tactic(auto)]
 
 mod bytes;
+mod class;
 mod digits;
 mod float;
 mod gap;
@@ -14,6 +15,7 @@ mod mark;
 mod name;
 mod number;
 mod pieces;
+mod plain;
 mod quoted;
 mod reader;
 mod token;

@@ -1,21 +1,19 @@
-//! Punctuation marks.
+//! Punctuation marks of one or two bytes.
 
-ghost use Rattle.std.specs.Prelude.{◌≡◌, ◌≢◌, ◌<◌, ◌≤◌, ◌+◌, ◌↔◌, length, slice_index, IsTrue, false};
-ghost use Rattle.fzn_token.specs.Bytes.{is_letter, is_digit_in};
+ghost use Rattle.std.specs.Prelude.{◌≡◌, ◌<◌, ◌≤◌, ◌+◌, ◌↔◌, ◌⊎◌, length, slice_index, IsTrue};
+ghost use Rattle.fzn_token.specs.Classes.{class_of};
 ghost use Rattle.fzn_token.specs.Lookup.{mark_in};
 ghost use Rattle.fzn_token.specs.Words.{mark_text};
 ghost use Rattle.fzn_token.specs.Reading.{Reads};
 
+use crate::class::Class;
 use crate::token::{LexError, Mark, Token, TokenKind};
 
-/// The mark that begins here, where nothing but a mark can begin.
-pub(crate) fn mark_token(text: &[u8], at: usize) -> Result<Token, LexError>
+/// The mark that begins with the `:` or `.` here.
+pub(crate) fn twin_token(text: &[u8], at: usize) -> Result<Token, LexError>
     requires small { length text.now ≤ 16777216 }
     requires within { at < length text.now }
-    requires no_letter { is_letter (slice_index text.now at) ≡ false }
-    requires no_digit { is_digit_in 10 (slice_index text.now at) ≡ false }
-    requires no_minus { slice_index text.now at ≢ 45 }
-    requires no_quote { slice_index text.now at ≢ 34 }
+    requires twin { class_of (slice_index text.now at) ≡ Class.Twin }
     ensures { Reads text.now at result }
 {
     match mark_in(is_twice(text, at), text[at]) {
@@ -36,23 +34,15 @@ fn is_twice(text: &[u8], at: usize) -> bool
     at + 1 < text.len() && text[at + 1] == text[at]
 }
 
-/// The longest mark that begins with this byte, where `twice` says whether the byte stands there twice.
+/// The longest mark that begins with this `:` or `.`, where `twice` says whether the byte stands there twice.
 fn mark_in(twice: bool, byte: u8) -> Option<Mark>
+    requires { (byte ≡ 58) ⊎ (byte ≡ 46) }
     ensures { result ≡ mark_in twice byte }
 {
-    match byte {
-        b':' => Some(if twice { Mark::ColonColon } else { Mark::Colon }),
-        b'.' => twice.then_some(Mark::DotDot),
-        b';' => Some(Mark::Semicolon),
-        b',' => Some(Mark::Comma),
-        b'=' => Some(Mark::Equals),
-        b'(' => Some(Mark::OpenParen),
-        b')' => Some(Mark::CloseParen),
-        b'[' => Some(Mark::OpenBracket),
-        b']' => Some(Mark::CloseBracket),
-        b'{' => Some(Mark::OpenBrace),
-        b'}' => Some(Mark::CloseBrace),
-        _ => None,
+    if byte == b':' {
+        Some(if twice { Mark::ColonColon } else { Mark::Colon })
+    } else {
+        twice.then_some(Mark::DotDot)
     }
 }
 

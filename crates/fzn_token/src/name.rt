@@ -2,7 +2,7 @@
 
 ghost use Rattle.std.specs.Prelude.{◌≡◌, ◌<◌, ◌≤◌, length, slice_index, true};
 ghost use Rattle.fzn_token.specs.Bytes.{is_letter, is_name_byte, IsWholeRun};
-ghost use Rattle.fzn_token.specs.Lookup.{word_in, later_word_in};
+ghost use Rattle.fzn_token.specs.Lookup.{word_in};
 ghost use Rattle.fzn_token.specs.Reading.{Reads};
 
 use crate::bytes::is_name_byte;
@@ -47,57 +47,22 @@ fn name_end(text: &[u8], from: usize) -> usize
 fn word_in(bytes: &[u8]) -> Option<Word>
     ensures { result ≡ word_in bytes.now }
 {
-    if bytes == b"array".as_slice() {
-        return Some(Word::Array);
+    match bytes {
+        b"array" => Some(Word::Array),
+        b"bool" => Some(Word::Bool),
+        b"constraint" => Some(Word::Constraint),
+        b"false" => Some(Word::False),
+        b"float" => Some(Word::Float),
+        b"int" => Some(Word::Int),
+        b"maximize" => Some(Word::Maximize),
+        b"minimize" => Some(Word::Minimize),
+        b"of" => Some(Word::Of),
+        b"predicate" => Some(Word::Predicate),
+        b"satisfy" => Some(Word::Satisfy),
+        b"set" => Some(Word::Set),
+        b"solve" => Some(Word::Solve),
+        b"true" => Some(Word::True),
+        b"var" => Some(Word::Var),
+        _ => None,
     }
-    if bytes == b"bool".as_slice() {
-        return Some(Word::Bool);
-    }
-    if bytes == b"constraint".as_slice() {
-        return Some(Word::Constraint);
-    }
-    if bytes == b"false".as_slice() {
-        return Some(Word::False);
-    }
-    if bytes == b"float".as_slice() {
-        return Some(Word::Float);
-    }
-    if bytes == b"int".as_slice() {
-        return Some(Word::Int);
-    }
-    later_word_in(bytes)
-}
-
-/// The keyword from `maximize` on that these bytes are.
-fn later_word_in(bytes: &[u8]) -> Option<Word>
-    ensures { result ≡ later_word_in bytes.now }
-{
-    if bytes == b"maximize".as_slice() {
-        return Some(Word::Maximize);
-    }
-    if bytes == b"minimize".as_slice() {
-        return Some(Word::Minimize);
-    }
-    if bytes == b"of".as_slice() {
-        return Some(Word::Of);
-    }
-    if bytes == b"predicate".as_slice() {
-        return Some(Word::Predicate);
-    }
-    if bytes == b"satisfy".as_slice() {
-        return Some(Word::Satisfy);
-    }
-    if bytes == b"set".as_slice() {
-        return Some(Word::Set);
-    }
-    if bytes == b"solve".as_slice() {
-        return Some(Word::Solve);
-    }
-    if bytes == b"true".as_slice() {
-        return Some(Word::True);
-    }
-    if bytes == b"var".as_slice() {
-        return Some(Word::Var);
-    }
-    None
 }

@@ -1,6 +1,6 @@
 //! Integers and floats.
 
-ghost use Rattle.std.specs.Prelude.{◌≡◌, ◌<◌, ◌≤◌, ◌+◌, ◌⊎◌, length, slice_index, slice_range, true};
+ghost use Rattle.std.specs.Prelude.{◌≡◌, ◌<◌, ◌≤◌, ◌+◌, ◌⊎◌, length, slice_index, slice_range, true, false};
 ghost use Rattle.std.specs.Str.Parse.{digits_value};
 ghost use Rattle.fzn_token.specs.Bytes.{is_digit_in, IsWholeRun};
 ghost use Rattle.fzn_token.specs.Numbers.{IsSign, IsDigits, signed};
@@ -9,6 +9,7 @@ ghost use Rattle.fzn_token.specs.Reading.{Reads};
 
 use crate::digits::{digits_end, magnitude, prefixed_end, with_sign};
 use crate::float::tail_end;
+use crate::plain::plain_digits;
 use crate::token::{LexError, Token, TokenKind};
 
 /// The number that begins with the digit or `-` here.
@@ -19,15 +20,29 @@ pub(crate) fn number_token(text: &[u8], at: usize) -> Result<Token, LexError>
     ensures { Reads text.now at result }
 {
     if text[at] == b'-' {
-        let end = digits_end(text, at + 1, 10);
-        if end == at + 1 {
-            Err(LexError::Bad { at: at as u32 })
-        } else {
-            unsigned_token(text, Sign { at, minus: true }, (at + 1, end))
-        }
+        signed_token(text, Sign { at, minus: true }, at + 1)
     } else {
-        let end = digits_end(text, at, 10);
-        unsigned_token(text, Sign { at, minus: false }, (at, end))
+        signed_token(text, Sign { at, minus: false }, at)
+    }
+}
+
+/// The number with this sign, whose digits would begin here.
+#[inline(always)]
+fn signed_token(text: &[u8], sign: Sign, start: usize) -> Result<Token, LexError>
+    requires small { length text.now ≤ 16777216 }
+    requires within { sign.at < length text.now }
+    requires sign { IsSign sign.minus text.now sign.at start }
+    requires number { sign.minus ≡ false → is_digit_in 10 (slice_index text.now start) ≡ true }
+    ensures { Reads text.now sign.at result }
+{
+    if let Some((end, n)) = plain_digits(text, start) {
+        return valued_token(text, sign, end, n);
+    }
+    let end = digits_end(text, start, 10);
+    if end == start {
+        Err(LexError::Bad { at: sign.at as u32 })
+    } else {
+        unsigned_token(text, sign, (start, end))
     }
 }
 
@@ -79,16 +94,27 @@ fn integer_token(
     requires longest { IsLongest (TokenKind.Whole (signed sign.minus (digits_value base (slice_range text.now digits.0 digits.1)))) text.now sign.at digits.1 }
     ensures { Reads text.now sign.at result }
 {
-    let from = sign.at as u32;
     match magnitude(text, digits.0, digits.1, base) {
+        None => Err(LexError::IntRange { at: sign.at as u32 }),
+        Some(n) => valued_token(text, sign, digits.1, n),
+    }
+}
+
+/// The integer with this sign and this value without it, which is the longest token where it begins.
+#[inline(always)]
+fn valued_token(text: &[u8], sign: Sign, to: usize, n: u64) -> Result<Token, LexError>
+    requires small { length text.now ≤ 16777216 }
+    requires within { sign.at < length text.now }
+    requires longest { IsLongest (TokenKind.Whole (signed sign.minus n)) text.now sign.at to }
+    ensures { Reads text.now sign.at result }
+{
+    let from = sign.at as u32;
+    match with_sign(sign.minus, n) {
         None => Err(LexError::IntRange { at: from }),
-        Some(n) => match with_sign(sign.minus, n) {
-            None => Err(LexError::IntRange { at: from }),
-            Some(z) => Ok(Token {
-                kind: TokenKind::Whole(z),
-                from,
-                to: digits.1 as u32,
-            }),
-        },
+        Some(z) => Ok(Token {
+            kind: TokenKind::Whole(z),
+            from,
+            to: to as u32,
+        }),
     }
 }

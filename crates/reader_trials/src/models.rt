@@ -1,6 +1,6 @@
 //! Texts and their answers.
 
-use dcsp_problem::{Aim, ConstraintKind, Problem, Rel, Rule, Shape, Term, Which};
+use dcsp_problem::{Aim, ConstraintKind, Problem, Rel, RuleRef, Shape, Term, Which};
 use fzn_model::{ModelError, problem_of};
 use itoa::Buffer;
 use std::alloc::Global;
@@ -382,7 +382,7 @@ fn problem_in(rt: &impl Abort, alloc: Global, text: &[u8]) -> Problem {
 }
 
 /// The rule with this number.
-fn rule_at<'p>(rt: &impl Abort, problem: &'p Problem, number: u32) -> &'p Rule {
+fn rule_at<'p>(rt: &impl Abort, problem: &'p Problem, number: u32) -> RuleRef<'p> {
     assert!(rt; number < problem.rules());
     problem.rule(number)
 }
@@ -392,33 +392,33 @@ fn expect_terms(rt: &impl Abort, found: &[Term], terms: &[Term]) {
 }
 
 /// The rule is no sum: it has this kind and these terms.
-fn expect_plain(rt: &impl Abort, rule: &Rule, expected: ConstraintKind, terms: &[Term]) {
+fn expect_plain(rt: &impl Abort, rule: RuleRef<'_>, expected: ConstraintKind, terms: &[Term]) {
     match rule {
-        Rule::Plain { kind, scalars, .. } => {
-            assert!(rt; *kind == expected);
-            expect_terms(rt, scalars.items(), terms);
+        RuleRef::Plain { kind, scalars, .. } => {
+            assert!(rt; kind == expected);
+            expect_terms(rt, scalars, terms);
         }
-        Rule::Sum { .. } => panic!(rt; "a sum"),
+        RuleRef::Sum { .. } => panic!(rt; "a sum"),
     }
 }
 
 /// The rule is a sum that is to equal -1: twice the first variable without the second.
-fn expect_equation(rt: &impl Abort, rule: &Rule) {
+fn expect_equation(rt: &impl Abort, rule: RuleRef<'_>) {
     match rule {
-        Rule::Sum {
+        RuleRef::Sum {
             rel,
             coefs,
             terms,
             total,
             truth,
         } => {
-            assert!(rt; *rel == Rel::Equal);
-            assert!(rt; *total == Term::Const(-1));
+            assert!(rt; rel == Rel::Equal);
+            assert!(rt; total == Term::Const(-1));
             assert!(rt; truth.is_none());
-            assert_eq!(rt; coefs.items(), [2, -1].as_slice());
-            expect_terms(rt, terms.items(), &[Term::Var(0), Term::Var(1)]);
+            assert_eq!(rt; coefs, [2, -1].as_slice());
+            expect_terms(rt, terms, &[Term::Var(0), Term::Var(1)]);
         }
-        Rule::Plain { .. } => panic!(rt; "no sum"),
+        RuleRef::Plain { .. } => panic!(rt; "no sum"),
     }
 }
 

@@ -2,21 +2,18 @@
 
 use dcsp_common::Memory;
 use dcsp_problem::{Members, Rel, Rule, Term, TermList};
-use fzn_item::{Item, ItemError, ItemList, items};
+use fzn_item::{Item, LentItem, items, next_lent};
 use fzn_scope::{Context, Declared, Names, Refusal, Stop, bytes_at};
-use fzn_token::tokens;
+use fzn_token::{LexError, TokenList, tokens};
 use std::alloc::{AllocFailed, Global};
 use std::process::Abort;
 
-/// The items of a short text.
-fn read(alloc: Global, text: &[u8]) -> Result<ItemList, ItemError> {
+/// The tokens of a short text.
+fn read(alloc: Global, text: &[u8]) -> Result<TokenList, LexError> {
     if text.len() > 1000 {
-        return Err(ItemError::Memory);
+        return Err(LexError::Memory);
     }
-    match tokens(alloc, text) {
-        Ok(list) => items(alloc, text, &list),
-        Err(_) => Err(ItemError::Memory),
-    }
+    tokens(alloc, text)
 }
 
 /// Adds a name to those in scope.
@@ -64,24 +61,17 @@ fn scope(rt: &impl Abort, alloc: Global) -> Names<'static> {
 
 /// The rule of a text's first item, which is a constraint.
 fn rule_of(rt: &impl Abort, alloc: Global, text: &[u8]) -> Result<Rule, Stop> {
-    let list = read(alloc, text).ok().expect(rt, "items");
+    let list = read(alloc, text).ok().expect(rt, "tokens");
     let names = scope(rt, alloc);
-    match list.items().first() {
-        Some(
-            Item::Constraint {
-                name_at,
-                name_to,
-                arguments,
-                ..
-            },
-        ) => {
-            let name = bytes_at(text, *name_at, *name_to);
+    match next_lent(alloc, text, list.items()) {
+        Ok(Some((LentItem::Constraint(constraint), _))) => {
+            let name = bytes_at(text, constraint.name_at, constraint.name_to);
             let context = Context {
                 alloc,
                 text,
                 names: &names,
             };
-            context.constraint_rule(*name_at, name, arguments.items())
+            context.constraint_rule(constraint.name_at, name, constraint.arguments)
         }
         _ => panic!(rt; "no constraint"),
     }
@@ -285,7 +275,8 @@ fn rules_of_a_sum_and_of_two_truths(rt: HostRuntime) {
 /// The right side at a place of the arguments has so many elements, or is refused.
 fn expect_count(rt: &impl Abort, alloc: Global, place: usize, count: Result<usize, Refusal>) {
     let text = b"constraint p([q,q],xs,q,7);";
-    let list = read(alloc, text).ok().expect(rt, "items");
+    let tokens = read(alloc, text).ok().expect(rt, "tokens");
+    let list = items(alloc, text, &tokens).ok().expect(rt, "items");
     let names = scope(rt, alloc);
     let Some(Item::Constraint { arguments, .. }) = list.items().first() else {
         panic!(rt; "no constraint")

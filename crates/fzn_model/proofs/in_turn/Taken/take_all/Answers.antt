@@ -2,6 +2,7 @@ use Rattle.std.proofs.Common.{List, subst, sym, ◌∙◌, Ok, Err}
 use Rattle.std.proofs.lemmas.Result.{err_from_is_err_and}
 use Rattle.fzn_token.specs.declared.token.Token.{Token}
 use Rattle.fzn_item.specs.Items.{IsItem, GivesNext}
+use Rattle.fzn_item.specs.Lent.{GivesLent}
 use Rattle.fzn_model.specs.Reading.{gave}
 use Rattle.fzn_model.proofs.Turns.{room_for_one, one_more, next_refused, next_unread, all_taken}
 use Rattle.fzn_model.proofs.in_turn.Taken.take_all.Goals as goal
@@ -11,18 +12,23 @@ returns-in_err-next_piece-clause-err c =
     let p = err_from_is_err_and c.from_residual.result c.from_residual.ensures.1 in
     rw (p.1, p.2) (next_refused c.args.text.now c.items.reader (gave c.items.self) _ c.items.invariant c.in_err-next_piece.ensures.takes)
 
+pub take-done-requires-clause-stands : goal.take-done-requires-clause-stands
+take-done-requires-clause-stands c =
+    let gives = subst (λ n. GivesLent c.args.text.now c.deref.result.now (Ok n)) c.in-Ok-Some.field-0-is c.in-Ok-Some.ensures.gives in
+    (gives.0, gives.2)
+
 pub take-done-requires-clause-room : goal.take-done-requires-clause-room
 take-done-requires-clause-room c =
-    let gives = subst (λ n. GivesNext c.args.text.now c.deref.result.now (Ok n)) c.in-Ok-Some.field-0-is c.in-Ok-Some.ensures.gives in
-    let one = subst (λ (us : List Token). IsItem c.args.text.now us c.in-Ok-Some.item c.in-Ok-Some._behind.now) c.deref.ensures.value gives in
-    room_for_one c.args.text.now c.items.reader c.next_piece.new.self (gave c.items.self) c.next_piece.new.tokens.items c.in-Ok-Some.item c.in-Ok-Some._behind.now c.items.invariant c.in_ok-next_piece.ensures.takes one c.requires.short
+    let gives = subst (λ n. GivesLent c.args.text.now c.deref.result.now (Ok n)) c.in-Ok-Some.field-0-is c.in-Ok-Some.ensures.gives in
+    let one = subst (λ (us : List Token). IsItem c.args.text.now us gives.0 c.in-Ok-Some._behind.now) c.deref.ensures.value gives.1 in
+    room_for_one c.args.text.now c.items.reader c.next_piece.new.self (gave c.items.self) c.next_piece.new.tokens.items gives.0 c.in-Ok-Some._behind.now c.items.invariant c.in_ok-next_piece.ensures.takes one c.requires.short
 
 pub items-preserved : goal.items-preserved
 items-preserved c =
-    let gives = subst (λ n. GivesNext c.args.text.now c.deref.result.now (Ok n)) c.in-Ok-Some.field-0-is c.in-Ok-Some.ensures.gives in
-    let one = subst (λ (us : List Token). IsItem c.args.text.now us c.in-Ok-Some.item c.in-Ok-Some._behind.now) c.deref.ensures.value gives in
+    let gives = subst (λ n. GivesLent c.args.text.now c.deref.result.now (Ok n)) c.in-Ok-Some.field-0-is c.in-Ok-Some.ensures.gives in
+    let one = subst (λ (us : List Token). IsItem c.args.text.now us gives.0 c.in-Ok-Some._behind.now) c.deref.ensures.value gives.1 in
     let took = c.in_ok-done-in-Ok-Some.ensures in
-    one_more c.args.text.now c.items.reader c.next_piece.new.self (gave c.items.self) (gave c.take-done.new.self) c.next_piece.new.tokens.items c.in-Ok-Some.item c.in-Ok-Some._behind.now c.items.invariant c.in_ok-next_piece.ensures.takes c.in_ok-next_piece.ensures.ends one took.is took.sound took.prints
+    one_more c.args.text.now c.items.reader c.next_piece.new.self (gave c.items.self) (gave c.take-done.new.self) c.next_piece.new.tokens.items gives.0 c.in-Ok-Some._behind.now c.items.invariant c.in_ok-next_piece.ensures.takes c.in_ok-next_piece.ensures.ends one (took.is gives.0 gives.2) took.sound took.prints
 
 pub returns-in-Err-clause-err : goal.returns-in-Err-clause-err
 returns-in-Err-clause-err c =
@@ -31,5 +37,5 @@ returns-in-Err-clause-err c =
 
 pub returns-in-Ok-None-clause-ok : goal.returns-in-Ok-None-clause-ok
 returns-in-Ok-None-clause-ok c =
-    let gives = subst (λ n. GivesNext c.args.text.now c.deref.result.now (Ok n)) c.in-Ok-None.field-0-is c.in-Ok-None.ensures.gives in
+    let gives = subst (λ n. GivesLent c.args.text.now c.deref.result.now (Ok n)) c.in-Ok-None.field-0-is c.in-Ok-None.ensures.gives in
     all_taken c.args.text.now c.items.reader c.next_piece.new.self (gave c.items.self) c.next_piece.new.tokens.items c.items.invariant c.in_ok-next_piece.ensures.takes c.in_ok-next_piece.ensures.ends (sym c.deref.ensures.value ∙ gives)
