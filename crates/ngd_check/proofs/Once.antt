@@ -1,5 +1,5 @@
 -- A derivation has one finding, and so have entries.
-use Rattle.std.proofs.Common.{◌≡◌, ℕ, zero, suc, ◌-◌, ◌+◌, ◌<◌, List, [], ◌∷◌, length, slice_get, take, Option, Some, inl, inr, ◌⊎◌, refl, sym, ap, ◌∙◌, subst, arith}
+use Rattle.std.proofs.Common.{◌≡◌, ℕ, zero, suc, ◌-◌, ◌+◌, ◌<◌, List, [], ◌∷◌, length, slice_get, take, Option, Some, inl, inr, refl, sym, ap, ◌∙◌, subst, arith}
 use Rattle.dcsp_defs.specs.declared.Step.{Step}
 use Rattle.dcsp_defs.specs.Csp.{Csp}
 use Rattle.dcsp_defs.specs.Derivation.{IsRight, IsDerivation}

@@ -10,7 +10,7 @@ use Rattle.ngd_check.specs.declared.Finding.TheVariants.{Verified, BadStep, BadD
 use Rattle.ngd_check.specs.Citing.{Cited}
 use Rattle.ngd_check.specs.Tables.{IsClear}
 use Rattle.ngd_check.specs.Entries.{steps_of, is_deleted, cited_after, AreRight}
-use Rattle.ngd_check.specs.Findings.{IsFirstWrongStep, IsFirstWrongDeletion}
+use Rattle.ngd_check.specs.Findings.{IsFirstWrongStep, IsFirstWrongDeletion, IsFindingOf}
 
 -- the problem; for each step the nogood that is kept of it; whether the last step's is empty; what is found of the first wrong entry; whether whole steps are kept, and those that are
 pub record Progress : Type 0 where
@@ -68,3 +68,8 @@ right_steps Verified steps = steps
 right_steps (BadStep number) steps = []
 right_steps (BadDeletion after) steps = []
 right_steps NotEmpty steps = steps
+
+-- where steps are kept, those of what was taken, by what is found of it
+abbrev pub AreRightSteps : Progress → List Step → Type 0
+AreRightSteps checker steps = (entries : List Entry) (finding : Finding) → HasTaken entries checker → HasKept entries checker
+    → checker.keeps ≡ true → IsFindingOf (csp_of checker.problem) entries finding → steps ≡ right_steps finding (steps_of entries)

@@ -9,9 +9,7 @@ ghost use Rattle.ngd_log.specs.Lent.{lent_entries};
 ghost use Rattle.ngd_check.specs.Findings.{IsFindingOf};
 ghost use Rattle.ngd_check.specs.Citing.{IsRightCiting};
 ghost use Rattle.ngd_check.specs.Places.{ArePlaced};
-ghost use Rattle.ngd_check.specs.Entries.{steps_of};
-ghost use Rattle.ngd_check.specs.Progress.{HasTaken, HasKept, right_steps, kept_at};
-ghost use Rattle.ngd_check.specs.declared.Finding.{Finding as AFinding};
+ghost use Rattle.ngd_check.specs.Progress.{HasTaken, HasKept, AreRightSteps, kept_at};
 ghost use Rattle.ngd_check.specs.Tables.{IsClear};
 
 use crate::Finding;
@@ -150,7 +148,7 @@ impl<'p> Checker<'p> {
     /// The steps that were taken, where they were kept and each entry was right; none after a wrong entry. It takes no
     /// memory.
     pub fn into_steps(self, alloc: Global) -> KeptSteps<'p>
-        ensures kept { (entries : List Entry) (finding : AFinding) → HasTaken entries self.entry → HasKept entries self.entry → self.entry.keeps ≡ true → IsFindingOf (csp_of self.entry.problem) entries finding → result ≡ right_steps finding (steps_of entries) }
+        ensures kept { AreRightSteps self.entry result }
         ensures none { (entries : List Entry) → HasKept entries self.entry → self.entry.keeps ≡ false → result ≡ [] }
     {
         match self.wrong {

@@ -194,9 +194,7 @@ fn mark_each(marks: &mut Vec<bool>, count: usize, numbers: &[u64]) -> Result<(),
     ensures marked { OnOk result ((k : ℕ) → slice_index_or marks.new.items k false ≡ (list_any (λ number. k + 1 == number) numbers.now || slice_index_or marks.old.items k false)) }
     ensures err { OnErr result (marks.new.items ≡ marks.old.items) }
 {
-    let Ok(()) = marks.resize(count, false) else {
-        return Err(Memory);
-    };
+    marks.resize(count, false)?;
     mark_all(marks, numbers);
     Ok(())
 }

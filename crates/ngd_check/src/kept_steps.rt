@@ -142,9 +142,7 @@ fn pairs_at(alloc: Global, problem: &Problem, placed: &[Placed]) -> Result<Vec<P
     requires { All (IsPlaced (csp_of problem.now)) placed.now }
     ensures { IfOk result (λ pairs. pairs.items ≡ pairs_of (csp_of problem.now) placed.now) }
 {
-    let Ok(mut pairs) = Vec::with_capacity(alloc, placed.len()) else {
-        return Err(Memory);
-    };
+    let mut pairs = Vec::with_capacity(alloc, placed.len())?;
     for one in placed {
         // There is room for as many as there are.
         pairs.push_reserved(pair_at(problem, *one));

@@ -32,9 +32,7 @@ pub fn place_each(
 fn add(placed: &mut Vec<Placed>, found: Placed) -> Result<(), Memory>
     ensures { OnOk result (placed.new.items ≡ placed.old.items ++ found ∷ []) }
 {
-    let Ok(()) = placed.push(found) else {
-        return Err(Memory);
-    };
+    placed.push(found)?;
     Ok(())
 }
 

@@ -87,10 +87,8 @@ fn make_long(values: &mut Vec<Option<i64>>, vars: usize) -> Result<(), Memory>
     if vars <= values.len() {
         return Ok(());
     }
-    match values.resize(vars, None) {
-        Ok(()) => Ok(()),
-        Err(_) => Err(Memory),
-    }
+    values.resize(vars, None)?;
+    Ok(())
 }
 
 fn fill(values: &mut [Option<i64>], pairs: &[Pair])

@@ -1,12 +1,19 @@
 -- The test of a rising list of pairs.
-use Rattle.std.proofs.Common.{◌≡◌, ℕ, zero, suc, ◌+◌, ◌<◌, Bool, true, false, ◌&&◌, nat_lt, List, [], ◌∷◌, Some, None, cond, refl, sym, ap, arith, ◌-◌, ◌≤◌, length, take, drop}
+use Rattle.std.proofs.Common.{◌≡◌, ℕ, zero, suc, ◌+◌, ◌<◌, Bool, true, false, ◌&&◌, nat_lt, List, [], ◌∷◌, ◌++◌, Some, None, cond, refl, sym, ap, ◌∙◌, arith, ◌≤◌, length}
 use Rattle.std.proofs.lemmas.Bool.{ltb-true, lt-ltb}
 use Rattle.dcsp_defs.proofs.Lists.{and_left, and_right, and_both}
 use Rattle.dcsp_defs.specs.declared.nogood.Pair.{Pair}
-use Rattle.std.specs.Prelude.{slice_index_or}
-use Rattle.std.proofs.lemmas.List.{take_all}
-use Rattle.dcsp_defs.specs.Pairs.{no_pair, IsRising}
+use Rattle.dcsp_defs.specs.Pairs.{IsRising}
 use Rattle.ngd_log.specs.Reading.{rises, nogood_of}
+use Rattle.ngd_log.specs.EntryReading.{rises_after}
+
+and-true : (b : Bool) → (b && true) ≡ b
+and-true true = refl
+and-true false = refl
+
+and-assoc : (a b c : Bool) → ((a && b) && c) ≡ (a && (b && c))
+and-assoc true b c = refl
+and-assoc false b c = refl
 
 -- pairs that pass the test rise
 pub rises-IsRising : (ys : List Pair) → rises ys ≡ true → IsRising ys
@@ -30,22 +37,36 @@ IsRising-rises (y ∷ z ∷ ys) h =
 pub nogood_of-rising : (ys : List Pair) → IsRising ys → nogood_of ys ≡ Some ys
 nogood_of-rising ys h = rw (IsRising-rises ys h) refl
 
--- whether the pairs rise after a variable
-abbrev pub rises_after : ℕ → List Pair → Bool
-rises_after last [] = true
-rises_after last (y ∷ ys) = nat_lt last y.var && rises_after y.var ys
+-- the variable of the last pair, where `last` is that of one before them
+abbrev pub last_var : ℕ → List Pair → ℕ
+last_var last [] = last
+last_var last (y ∷ ys) = last_var y.var ys
 
--- after a first pair the others rise so
-pub rises-after : (y : Pair) (ys : List Pair) → rises (y ∷ ys) ≡ rises_after y.var ys
-rises-after y [] = refl
-rises-after y (z ∷ ys) = ap (λ b. nat_lt y.var z.var && b) (rises-after z ys)
+-- with one pair more
+pub last_var-more : (last : ℕ) (ys : List Pair) (z : Pair) → last_var last (ys ++ z ∷ []) ≡ z.var
+last_var-more last [] z = refl
+last_var-more last (y ∷ ys) z = last_var-more y.var ys z
 
--- the same of the parts of a list
-pub rises-parts : (ys : List Pair) → 1 ≤ length ys → rises_after (slice_index_or ys 0 no_pair).var (drop 0 (take (length ys - 1) (drop 1 ys))) ≡ rises ys
-rises-parts [] h = absurd (omega arith)
-rises-parts (y ∷ zs) h =
-    let e : take (length (y ∷ zs) - 1) zs ≡ zs = take_all (length (y ∷ zs) - 1) zs (omega arith) in
-    rw e (sym (rises-after y zs))
+rises-behind : (y : Pair) (ys : List Pair) (z : Pair) → rises (y ∷ ys ++ z ∷ []) ≡ (rises (y ∷ ys) && nat_lt (last_var y.var ys) z.var)
+rises-behind y [] z = and-true (nat_lt y.var z.var)
+rises-behind y (x ∷ ys) z = ap (λ b. nat_lt y.var x.var && b) (rises-behind x ys z) ∙ sym (and-assoc (nat_lt y.var x.var) (rises (x ∷ ys)) (nat_lt (last_var x.var ys) z.var))
+
+pub rises-more : (last : ℕ) (ys : List Pair) (z : Pair) → 1 ≤ length ys → rises (ys ++ z ∷ []) ≡ (rises ys && nat_lt (last_var last ys) z.var)
+rises-more last [] z some = absurd (omega arith)
+rises-more last (y ∷ ys) z some = rises-behind y ys z
+
+-- the last of numbers, where `last` is the one before them
+abbrev pub last_number : ℕ → List ℕ → ℕ
+last_number last [] = last
+last_number last (k ∷ numbers) = last_number k numbers
+
+pub last_number-more : (last : ℕ) (numbers : List ℕ) (k : ℕ) → last_number last (numbers ++ k ∷ []) ≡ k
+last_number-more last [] k = refl
+last_number-more last (j ∷ numbers) k = last_number-more j numbers k
+
+pub rises_after-more : (last : ℕ) (numbers : List ℕ) (k : ℕ) → rises_after last (numbers ++ k ∷ []) ≡ (rises_after last numbers && nat_lt (last_number last numbers) k)
+rises_after-more last [] k = and-true (nat_lt last k)
+rises_after-more last (j ∷ numbers) k = ap (λ b. nat_lt last j && b) (rises_after-more j numbers k) ∙ sym (and-assoc (nat_lt last j) (rises_after j numbers) (nat_lt (last_number j numbers) k))
 
 -- what is a nogood rises
 pub nogood_of-rises : (ys nogood : List Pair) → nogood_of ys ≡ Some nogood → (ys ≡ nogood) × IsRising ys

@@ -4,41 +4,32 @@ ghost use Rattle.ngd_log.specs.Reading.{Gives};
 ghost use Rattle.ngd_log.specs.EntryReading.{numbers_at, rises_after, deletion_at, step_entry, entry_of};
 ghost use Rattle.ngd_log.specs.Lent.{entry_in};
 
-use crate::field::{after, step_number_at};
+use crate::field::{after_byte, step_number_at, still_rises};
 use crate::reader::{Gathered, LineError, is_line_feed, owned_step, step_of};
 use crate::standing::{EntryKind, Version};
 use dcsp_common::Memory;
 use dcsp_defs::{Entry, NumberList};
 use std::alloc::Global;
 
-/// Reads the numbers, each behind a space.
-fn numbers_at<'t>(numbers: &mut Vec<u64>, bytes: &'t [u8]) -> Result<&'t [u8], LineError>
-    ensures { Gives (λ x. (numbers.new.items, x.now)) result (numbers_at bytes.now) }
+/// Reads the numbers, each behind a space, and tells whether they rise, the first above 0.
+fn numbers_at<'t>(numbers: &mut Vec<u64>, bytes: &'t [u8]) -> Result<(bool, &'t [u8]), LineError>
+    ensures read { Gives (λ x. (numbers.new.items, x.1.now)) result (numbers_at bytes.now) }
+    ensures rising { IfOk result (λ x. x.0 ≡ rises_after 0 numbers.new.items) }
 {
     numbers.clear();
+    let mut rising = true;
+    let mut last = 0;
     let mut rest = bytes;
-    while let Some(next) = after(b" ", rest) {
+    while let Some(next) = after_byte(b' ', rest) {
         let Some((number, others)) = step_number_at(next) else {
             return Err(LineError::Bad);
         };
+        rising = still_rises(rising, last, number);
+        last = number;
         numbers.push(number)?;
         rest = others;
     }
-    Ok(rest)
-}
-
-/// Whether each number is above the one before it, and the first above 0.
-fn are_rising(numbers: &[u64]) -> bool
-    ensures { result ≡ rises_after 0 numbers.now }
-{
-    let mut last = 0;
-    for number in numbers {
-        if *number <= last {
-            return false;
-        }
-        last = *number;
-    }
-    true
+    Ok((rising, rest))
 }
 
 /// Reads the numbers of a deletion, whose line after its `d` this is.
@@ -46,11 +37,11 @@ fn are_rising(numbers: &[u64]) -> bool
 fn deletion_at(numbers: &mut Vec<u64>, bytes: &[u8]) -> Result<(), LineError>
     ensures { Gives (λ _. numbers.new.items) result (deletion_at bytes.now) }
 {
-    let rest = numbers_at(numbers, bytes)?;
+    let (rising, rest) = numbers_at(numbers, bytes)?;
     if numbers.is_empty() {
         return Err(LineError::Bad);
     }
-    if !are_rising(numbers) {
+    if !rising {
         return Err(LineError::Bad);
     }
     if !is_line_feed(rest) {
@@ -81,7 +72,7 @@ pub(crate) fn read_entry(
 {
     match version {
         Version::One => step_entry(gathered, number, line),
-        Version::Two => match after(b"d", line) {
+        Version::Two => match after_byte(b'd', line) {
             Some(rest) => {
                 deletion_at(&mut gathered.numbers, rest)?;
                 Ok(EntryKind::Delete)

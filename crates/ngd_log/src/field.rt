@@ -1,8 +1,8 @@
 //! Fields of a text, read from left to right: each call gives a value and the bytes after it.
 //!
-//! They are inlined into the loops over a line's pairs and reasons, which are the time of reading a log: there a text
-//! of known length is compared by its bytes, and no result goes through memory.
-ghost use Rattle.std.specs.Prelude.{◌≡◌, ℕ, ◌+◌, ◌<◌, ◌≤◌, length, IfSome};
+//! They are inlined into the loops over a line's pairs and reasons, which are the time of reading a log: there no
+//! result goes through memory.
+ghost use Rattle.std.specs.Prelude.{◌≡◌, ℕ, ◌+◌, ◌<◌, ◌≤◌, ◌&&◌, nat_lt, ◌∷◌, [], length, IfSome};
 ghost use Rattle.dcsp_common.specs.Reading.{Reads, digits_at, number_at};
 ghost use Rattle.ngd_log.specs.Reading.{after, integer_at, counted_at, step_number_at, pair_at, reason_at};
 
@@ -24,6 +24,27 @@ pub fn after<'t>(text: &[u8], bytes: &'t [u8]) -> Option<&'t [u8]>
     ensures shorter { IfSome result (λ x. length x.now + length text.now ≡ length bytes.now) }
 {
     bytes.strip_prefix(text)
+}
+
+/// What stands after this byte, where the bytes begin with it.
+#[tactic(auto, unfolding(crate::specs::Reading::after))]
+#[inline(always)]
+pub(crate) fn after_byte(byte: u8, bytes: &[u8]) -> Option<&[u8]>
+    ensures reads { Reads (λ x. x.now) result (after (byte ∷ []) bytes.now) }
+    ensures shorter { IfSome result (λ x. length x.now + 1 ≡ length bytes.now) }
+{
+    let [first, rest @ ..] = bytes else {
+        return None;
+    };
+    if *first == byte { Some(rest) } else { None }
+}
+
+/// Whether a list rises with this number behind it, where it tells whether it rises and which is its last.
+#[inline(always)]
+pub(crate) fn still_rises(rises: bool, last: u64, next: u64) -> bool
+    ensures { result ≡ (rises && nat_lt last next) }
+{
+    rises && last < next
 }
 
 /// Below this a number with one digit more has 64 bits too.
@@ -79,7 +100,7 @@ pub fn integer_at(bytes: &[u8]) -> Option<(i64, &[u8])>
     ensures reads { Reads (λ x. (x.0, x.1.now)) result (integer_at bytes.now) }
     ensures shorter { IfSome result (λ x. length x.1.now ≤ length bytes.now) }
 {
-    match after(b"-", bytes) {
+    match after_byte(b'-', bytes) {
         Some(unsigned) => {
             let (number, rest) = number_at(unsigned)?;
             if number == 0 {
@@ -132,9 +153,9 @@ pub(crate) fn pair_at(bytes: &[u8]) -> Option<(Pair, &[u8])>
     ensures reads { Reads (λ x. (x.0, x.1.now)) result (pair_at bytes.now) }
     ensures shorter { IfSome result (λ x. length x.1.now ≤ length bytes.now) }
 {
-    let rest = after(b"v", bytes)?;
+    let rest = after_byte(b'v', bytes)?;
     let (var, rest) = counted_at(rest, VARIABLES)?;
-    let rest = after(b"=", rest)?;
+    let rest = after_byte(b'=', rest)?;
     let (value, rest) = integer_at(rest)?;
     Some((Pair { var, value }, rest))
 }

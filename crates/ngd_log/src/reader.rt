@@ -7,7 +7,10 @@ ghost use Rattle.ngd_log.specs.StepText.{IsStepLine};
 ghost use Rattle.ngd_log.specs.Reading.{Gives, after, pairs_from, pairs_at, reasons_at, rises, is_line_feed, variable_step, rule_step, step_of};
 ghost use Rattle.ngd_log.specs.Lent.{step_in};
 
-use crate::field::{RULES, VARIABLES, after, counted_at, pair_at, reason_at, step_number_at};
+use crate::field::{
+    RULES, VARIABLES, after, after_byte, counted_at, pair_at, reason_at, step_number_at,
+    still_rises,
+};
 use dcsp_defs::{Nogood, Pair, Reason, ReasonList, Step};
 use std::alloc::{AllocFailed, Global};
 
@@ -60,41 +63,47 @@ impl Gathered {
     }
 }
 
-/// Reads the pairs after this first one, each behind a comma.
+/// Reads the pairs after this first one, each behind a comma, and tells whether all of them rise.
 fn pairs_from<'t>(
     pairs: &mut Vec<Pair>,
     first: Pair,
     bytes: &'t [u8],
-) -> Result<&'t [u8], LineError>
-    ensures { Gives (λ x. (pairs.new.items, x.now)) result (pairs_from first bytes.now) }
+) -> Result<(bool, &'t [u8]), LineError>
+    ensures read { Gives (λ x. (pairs.new.items, x.1.now)) result (pairs_from first bytes.now) }
+    ensures rising { IfOk result (λ x. x.0 ≡ rises pairs.new.items) }
 {
     pairs.clear();
     pairs.push(first)?;
+    let mut rising = true;
+    let mut last = first.var;
     let mut rest = bytes;
-    while let Some(next) = after(b",", rest) {
+    while let Some(next) = after_byte(b',', rest) {
         let Some((pair, others)) = pair_at(next) else {
             return Err(LineError::Bad);
         };
+        rising = still_rises(rising, last as u64, pair.var as u64);
+        last = pair.var;
         pairs.push(pair)?;
         rest = others;
     }
-    Ok(rest)
+    Ok((rising, rest))
 }
 
-/// Reads the pairs in brackets.
+/// Reads the pairs in brackets, and tells whether they rise.
 #[tactic(auto, unfolding(crate::specs::Reading::pairs_at, crate::specs::Reading::pairs_before))]
-fn pairs_at<'t>(pairs: &mut Vec<Pair>, bytes: &'t [u8]) -> Result<&'t [u8], LineError>
-    ensures { Gives (λ x. (pairs.new.items, x.now)) result (pairs_at bytes.now) }
+fn pairs_at<'t>(pairs: &mut Vec<Pair>, bytes: &'t [u8]) -> Result<(bool, &'t [u8]), LineError>
+    ensures read { Gives (λ x. (pairs.new.items, x.1.now)) result (pairs_at bytes.now) }
+    ensures rising { IfOk result (λ x. x.0 ≡ rises pairs.new.items) }
 {
-    let rest = after(b"[", bytes).ok_or(LineError::Bad)?;
-    if let Some(rest) = after(b"]", rest) {
+    let rest = after_byte(b'[', bytes).ok_or(LineError::Bad)?;
+    if let Some(rest) = after_byte(b']', rest) {
         pairs.clear();
-        return Ok(rest);
+        return Ok((true, rest));
     }
     let (first, rest) = pair_at(rest).ok_or(LineError::Bad)?;
-    let rest = pairs_from(pairs, first, rest)?;
-    let rest = after(b"]", rest).ok_or(LineError::Bad)?;
-    Ok(rest)
+    let (rising, rest) = pairs_from(pairs, first, rest)?;
+    let rest = after_byte(b']', rest).ok_or(LineError::Bad)?;
+    Ok((rising, rest))
 }
 
 /// Reads the reasons, each behind a space.
@@ -103,7 +112,7 @@ fn reasons_at<'t>(reasons: &mut Vec<Reason>, bytes: &'t [u8]) -> Result<&'t [u8]
 {
     reasons.clear();
     let mut rest = bytes;
-    while let Some(next) = after(b" ", rest) {
+    while let Some(next) = after_byte(b' ', rest) {
         let Some((reason, others)) = reason_at(next) else {
             return Err(LineError::Bad);
         };
@@ -111,23 +120,6 @@ fn reasons_at<'t>(reasons: &mut Vec<Reason>, bytes: &'t [u8]) -> Result<&'t [u8]
         rest = others;
     }
     Ok(rest)
-}
-
-/// Whether each pair's variable is above the one before it.
-fn are_rising(pairs: &[Pair]) -> bool
-    ensures { result ≡ rises pairs.now }
-{
-    let [first, others @ ..] = pairs else {
-        return true;
-    };
-    let mut last = first.var;
-    for pair in others {
-        if pair.var <= last {
-            return false;
-        }
-        last = pair.var;
-    }
-    true
 }
 
 /// Whether this is one line feed.
@@ -142,13 +134,13 @@ pub(crate) fn is_line_feed(bytes: &[u8]) -> bool
 fn variable_step(gathered: &mut Gathered, bytes: &[u8]) -> Result<(), LineError>
     ensures { Gives (λ _. step_in gathered.new) result (variable_step bytes.now) }
 {
-    let rest = after(b"v", bytes).ok_or(LineError::Bad)?;
+    let rest = after_byte(b'v', bytes).ok_or(LineError::Bad)?;
     let (variable, rest) = counted_at(rest, VARIABLES).ok_or(LineError::Bad)?;
-    let rest = after(b" ", rest).ok_or(LineError::Bad)?;
-    let rest = pairs_at(&mut gathered.pairs, rest)?;
+    let rest = after_byte(b' ', rest).ok_or(LineError::Bad)?;
+    let (rising, rest) = pairs_at(&mut gathered.pairs, rest)?;
     let rest = after(b" <-", rest).ok_or(LineError::Bad)?;
     let rest = reasons_at(&mut gathered.reasons, rest)?;
-    if !are_rising(&gathered.pairs) {
+    if !rising {
         return Err(LineError::Bad);
     }
     if !is_line_feed(rest) {
@@ -192,7 +184,7 @@ pub(crate) fn step_of(gathered: &mut Gathered, number: u64, line: &[u8]) -> Resu
     ensures { Gives (λ _. step_in gathered.new) result (step_of number line.now) }
 {
     let (found, rest) = step_number_at(line).ok_or(LineError::Bad)?;
-    let rest = after(b" ", rest).ok_or(LineError::Bad)?;
+    let rest = after_byte(b' ', rest).ok_or(LineError::Bad)?;
     if found != number {
         return Err(LineError::Bad);
     }

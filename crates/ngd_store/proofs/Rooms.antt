@@ -1,13 +1,13 @@
 -- Rooms of an arena, as lists of pairs are added and given back.
-use Rattle.std.proofs.Common.{◌≡◌, ◌≢◌, ℕ, ◌+◌, ◌-◌, ◌<◌, ◌≤◌, ◌==◌, Bool, true, false, cond, List, [], ◌∷◌, ◌++◌, length, take, drop, map, get_or, set, Option, Some, None, Result, Ok, Err, OnOk, OnErr, ◌⊎◌, inl, inr, refl, sym, ap, ◌∙◌, subst, arith, All}
-use Rattle.std.proofs.lemmas.List.{length-take-le, length-drop, get_or-take, get_or-drop, ext_get_or, get_or_past, get_or-set_same, get_or-set_other, length-map, map-append}
+use Rattle.std.proofs.Common.{◌≡◌, ◌≢◌, ℕ, zero, suc, ◌+◌, ◌-◌, ◌<◌, ◌≤◌, ◌==◌, Bool, true, false, cond, List, [], ◌∷◌, ◌++◌, length, take, drop, map, get_or, set, Option, Some, None, Result, Ok, Err, OnOk, OnErr, ◌⊎◌, inl, inr, refl, sym, ap, ◌∙◌, subst, arith, All}
+use Rattle.std.proofs.lemmas.List.{length-take-le, length-drop, get_or-take, get_or-drop, ext_get_or, get_or_past, get_or-set_same, get_or-set_other, get_or_default, length-map, length-set, map-append}
 use Rattle.std.proofs.Math.ListN.{get_or-map}
 use Rattle.std.proofs.lemmas.List.Elements.{All-weaker, All-append, All-get_or, All-set, All-cons, All-nil}
 use Rattle.std.proofs.lemmas.Bool.Decides.{eqb_tells}
 use Rattle.ngd_store.specs.declared.arena.Placed.{Placed}
 use Rattle.ngd_store.specs.declared.arena.Room.{Room}
 use Rattle.ngd_store.specs.declared.arena.TheConstants.{NO_VAR}
-use Rattle.ngd_store.specs.Rooms.{no_cell, no_room, cell_at, room_at, content, IsWithin, Holds, IsTidy, IsSameBeside, IsPut}
+use Rattle.ngd_store.specs.Rooms.{no_cell, no_room, cell_at, room_at, content, IsWithin, Holds, HadBack, AreThere, AreGivenBack, IsTidy, IsAmong, IsSameBeside, HasGivenBack, HasWritten, IsPut}
 use Rattle.ngd_store.proofs.Growing.{compared}
 use Rattle.ngd_store.proofs.Growing.{index_before, index_last, length_more}
 
@@ -54,7 +54,7 @@ contents_same old new rooms within longer h = ext_get_or None (map (content new)
 module _ (old new : List Placed) (pairs : List Placed) (room : Room) (rooms : List Room) (tidy : IsTidy old rooms) (put : IsPut old new pairs room) where
   -- no kept room has a cell that was written
   free : (i k : ℕ) → Holds (room_at rooms i) k → room.start ≤ k → k < room.start + room.len → ⊥
-  free i k h f t = let u = put.unused k f t (held_there old rooms i k tidy h) in let n = tidy.in_use i k h in omega (arith, u, n)
+  free i k h f t = tidy.free room.start i k (put.back k f t (held_there old rooms i k tidy h)) h
 
   same : (i k : ℕ) → Holds (room_at rooms i) k → cell_at new k ≡ cell_at old k
   same i k h = elim (compared k room.start) [
@@ -64,14 +64,6 @@ module _ (old new : List Placed) (pairs : List Placed) (room : Room) (rooms : Li
       | inr t ↦ put.beside.after k (elim t [ inl e ↦ omega (arith, e) | inr m ↦ omega (arith, m) ])
     ]
   ]
-
-  -- the rooms are tidy, and have what they had
-  pub put_tidy : IsTidy new rooms
-  put_tidy = record {
-    within = All-weaker (IsWithin (length old)) (IsWithin (length new)) (λ room w. let l = put.beside.longer in omega (arith, w, l)) rooms tidy.within;
-    in_use = λ i k h. subst (λ (cell : Placed). cell.var < NO_VAR) (sym (same i k h)) (tidy.in_use i k h);
-    apart = tidy.apart;
-  }
 
   pub put_same : map (content new) rooms ≡ map (content old) rooms
   put_same = contents_same old new rooms tidy.within put.beside.longer same
@@ -96,6 +88,42 @@ module _ (old new : List Placed) (pairs : List Placed) (room : Room) (rooms : Li
         let c = put.count in
         subst (λ (cell : Placed). cell.var < NO_VAR) at (All-get_or (λ (pair : Placed). pair.var < NO_VAR) pairs (k - room.start) no_cell (omega (arith, i, c)) named)
 
+    -- what is given back still was
+    outside : (s k : ℕ) → HadBack new s k → IsAmong room.start room.len s → ⊥
+    outside s k h a = let w = written s (record { kept = put.kept; from = a.from; to = a.to }) in let m = h.mark in omega (arith, w, m)
+
+    by_cell : (s k : ℕ) → cell_at new s ≡ cell_at old s → HadBack new s k → HadBack old s k
+    by_cell s k e h = record { mark = ap (λ (cell : Placed). cell.var) (sym e) ∙ h.mark; from = h.from; to = let t = h.to in let p = ap (λ (cell : Placed). cell.place) e in omega (arith, t, p) }
+
+    still : (s k : ℕ) → HadBack new s k → HadBack old s k
+    still s k h = elim (compared s room.start) [
+      | inl l ↦ by_cell s k (put.beside.before s l) h
+      | inr l ↦ elim (compared s (room.start + room.len)) [
+        | inl t ↦ absurd (outside s k h (record { from = elim l [ inl e ↦ omega (arith, e) | inr m ↦ omega (arith, m) ]; to = t }))
+        | inr t ↦ by_cell s k (put.beside.after s (elim t [ inl e ↦ omega (arith, e) | inr m ↦ omega (arith, m) ])) h
+      ]
+    ]
+
+    -- the rooms are tidy, and have what they had
+    pub put_tidy : IsTidy new rooms
+    put_tidy = record {
+      within = All-weaker (IsWithin (length old)) (IsWithin (length new)) (λ room w. let l = put.beside.longer in omega (arith, w, l)) rooms tidy.within;
+      in_use = λ i k h. subst (λ (cell : Placed). cell.var < NO_VAR) (sym (same i k h)) (tidy.in_use i k h);
+      apart = tidy.apart;
+      there = λ s k h. let t = tidy.there s k (still s k h) in let l = put.beside.longer in omega (arith, t, l);
+      free = λ s i k h g. tidy.free s i k (still s k h) g;
+      distinct = λ s t k h g. tidy.distinct s t k (still s k h) (still t k g);
+    }
+
+    -- nothing that is given back has a cell that was written
+    clear : (s k : ℕ) → HadBack new s k → Holds room k → ⊥
+    clear s k h g =
+        let o = still s k h in
+        let e = tidy.distinct s room.start k o (put.back k g.from g.to (tidy.there s k o)) in
+        let f = g.from in
+        let t = g.to in
+        outside s k h (record { from = omega (arith, e); to = omega (arith, e, f, t) })
+
     -- with one room more
     pub added_tidy : IsTidy new (rooms ++ room ∷ [])
     added_tidy = record {
@@ -114,6 +142,12 @@ module _ (old new : List Placed) (pairs : List Placed) (room : Room) (rooms : Li
           | inr n ↦ m.0 ∙ sym n.0
         ]
       ];
+      there = put_tidy.there;
+      free = λ s i k h g. elim (more i k g) [
+        | inl o ↦ put_tidy.free s i k h o
+        | inr n ↦ clear s k h n.1
+      ];
+      distinct = put_tidy.distinct;
     }
 
     in_room : content new room ≡ Some pairs
@@ -127,7 +161,10 @@ pub either : {T E X : Type 0} (r : Result T E) (P : X → Type 0) (x a b : X) �
 either (Ok t) P x a b o e p q = subst P (sym o) p
 either (Err t) P x a b o e p q = subst P (sym e) q
 
-module _ (old new : List Placed) (rooms : List Room) (number : ℕ) (tidy : IsTidy old rooms) (there : number < length rooms) (beside : IsSameBeside old new (room_at rooms number).start (room_at rooms number).len) (kept : (room_at rooms number).kept ≡ true) where
+module _ (old new : List Placed) (rooms : List Room) (number : ℕ) (tidy : IsTidy old rooms) (there : number < length rooms) (given : HasGivenBack old new (room_at rooms number).start (room_at rooms number).len) (kept : (room_at rooms number).kept ≡ true) where
+  beside : IsSameBeside old new (room_at rooms number).start (room_at rooms number).len
+  beside = given.beside
+
   abbrev pub shut : Room
   shut = record { start = (room_at rooms number).start; len = (room_at rooms number).len; kept = false }
 
@@ -146,12 +183,33 @@ module _ (old new : List Placed) (rooms : List Room) (number : ℕ) (tidy : IsTi
     ]
   ]
 
+  held : {k : ℕ} → IsAmong (room_at rooms number).start (room_at rooms number).len k → Holds (room_at rooms number) k
+  held a = record { kept = kept; from = a.from; to = a.to }
+
   -- the rooms without this one
   pub cleared_tidy : IsTidy new (set rooms number shut)
   cleared_tidy = record {
     within = All-weaker (IsWithin (length old)) (IsWithin (length new)) (λ room w. let l = beside.longer in omega (arith, w, l)) (set rooms number shut) (All-set (IsWithin (length old)) rooms number shut (All-get_or (IsWithin (length old)) rooms number no_room there tidy.within) tidy.within);
     in_use = λ i k h. let o = other i k h in subst (λ (cell : Placed). cell.var < NO_VAR) (sym (same_other i k o.0 o.1)) (tidy.in_use i k o.1);
     apart = λ i j k h g. tidy.apart i j k (other i k h).1 (other j k g).1;
+    there = λ s k h. elim (given.back s k h) [
+      | inl o ↦ (let t = tidy.there s k o in let l = given.same in omega (arith, t, l))
+      | inr n ↦ (let w = All-get_or (IsWithin (length old)) rooms number no_room there tidy.within in let t = n.1.to in let l = given.same in omega (arith, w, t, l))
+    ];
+    free = λ s i k h g. let o = other i k g in elim (given.back s k h) [
+      | inl b ↦ tidy.free s i k b o.1
+      | inr n ↦ o.0 (tidy.apart i number k o.1 (held n.1))
+    ];
+    distinct = λ s t k h g. elim (given.back s k h) [
+      | inl b ↦ elim (given.back t k g) [
+        | inl d ↦ tidy.distinct s t k b d
+        | inr n ↦ absurd (tidy.free s number k b (held n.1))
+      ]
+      | inr m ↦ elim (given.back t k g) [
+        | inl d ↦ absurd (tidy.free t number k d (held m.1))
+        | inr n ↦ m.0 ∙ sym n.0
+      ]
+    ];
   }
 
   pub cleared_content : (i : ℕ) → get_or (map (content new) (set rooms number shut)) i None ≡ cond (i == number) None (get_or (map (content old) rooms) i None)
@@ -170,3 +228,61 @@ module _ (old new : List Placed) (rooms : List Room) (number : ℕ) (tidy : IsTi
             let past = get_or_past rooms i no_room (elim l [ inl q ↦ omega (arith, q) | inr m ↦ omega (arith, m) ]) in
             ap (content new) past ∙ sym (ap (content old) past)
       ]
+
+-- a mark tells of a list that was given back
+pub marked : (cells : List Placed) (start count : ℕ) (cell d : Placed) → AreThere cells → start < length cells → cell ≡ get_or cells start d → cell.var ≡ NO_VAR → cell.place ≡ count → AreGivenBack cells start count
+marked cells start count cell d all l e v n = record { there = fits count n; back = λ k f t. had k f t }
+  where
+    at : cell_at cells start ≡ cell
+    at = get_or_default cells start no_cell d l ∙ sym e
+
+    had : (k : ℕ) → start ≤ k → k < start + count → HadBack cells start k
+    had k f t = record { mark = ap (λ (c : Placed). c.var) at ∙ v; from = f; to = let p = ap (λ (c : Placed). c.place) at in omega (arith, t, p, n) }
+
+    fits : (m : ℕ) → cell.place ≡ m → start + count ≤ length cells
+    fits zero z = omega (arith, l, z, n)
+    fits (suc m) z = let k = all start (start + m) (had (start + m) (omega arith) (omega (arith, z, n))) in omega (arith, k, z, n)
+
+-- a mark that is made tells of a list that is given back
+pub marks : (cells : List Placed) (start len : ℕ) → start + len ≤ length cells → 0 < len → HasGivenBack cells (set cells start (record { var = NO_VAR; place = len })) start len
+marks cells start len fits some = record {
+  beside = record {
+    before = λ k l. get_or-set_other cells start k mark no_cell (λ e. omega (arith, l, e));
+    after = λ k l. get_or-set_other cells start k mark no_cell (λ e. omega (arith, l, e, some));
+    longer = let e = length-set cells start mark in omega (arith, e);
+  };
+  same = length-set cells start mark;
+  back = λ s k h. elim (eqb_tells s start) [
+    | inl e ↦ inr (e.1, here s k e.1 h)
+    | inr e ↦ inl (other s k e.1 h)
+  ];
+}
+  where
+    mark : Placed
+    mark = record { var = NO_VAR; place = len }
+
+    here : (s k : ℕ) → s ≡ start → HadBack (set cells start mark) s k → IsAmong start len k
+    here s k e h =
+        let at : cell_at (set cells start mark) s ≡ mark = ap (cell_at (set cells start mark)) e ∙ get_or-set_same cells start mark no_cell (omega (arith, fits, some)) in
+        let p = ap (λ (c : Placed). c.place) at in
+        let f = h.from in
+        let t = h.to in
+        record { from = omega (arith, f, e); to = omega (arith, t, p, e) }
+
+    other : (s k : ℕ) → s ≢ start → HadBack (set cells start mark) s k → HadBack cells s k
+    other s k e h =
+        let at : cell_at (set cells start mark) s ≡ cell_at cells s = get_or-set_other cells start s mark no_cell e in
+        let p = ap (λ (c : Placed). c.place) at in
+        let t = h.to in
+        record { mark = sym (ap (λ (c : Placed). c.var) at) ∙ h.mark; from = h.from; to = omega (arith, t, p) }
+
+pub marks_none : (cells : List Placed) (start : ℕ) → HasGivenBack cells cells start 0
+marks_none cells start = record {
+  beside = record { before = λ k l. refl; after = λ k l. refl; longer = omega arith };
+  same = refl;
+  back = λ s k h. inl h;
+}
+
+-- cells that were given back are used again
+pub reused : (old new pairs : List Placed) (room : Room) (start : ℕ) → room ≡ record { start = start; len = length pairs; kept = true } → HasWritten old new start pairs → AreGivenBack old start (length pairs) → IsPut old new pairs room
+reused old new pairs room start e w b = subst (IsPut old new pairs) (sym e) (record { kept = refl; count = refl; beside = w.beside; there = w.there; written = w.written; back = λ k f t l. b.back k f t })

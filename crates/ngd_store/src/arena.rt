@@ -1,7 +1,7 @@
 //! Lists of pairs, each given as a variable and a place in its domain, in one list of cells.
 
 ghost use Rattle.std.specs.Prelude.{◌≡◌, ◌++◌, ◌∷◌, [], ◌<◌, ◌≤◌, ◌+◌, ◌^◌, ◌==◌, ℕ, true, None, Some, All, OnOk, OnErr, is_some, IfSome, IfOk, IsNone, IsTrue, length, slice_index_or, if◌then◌else◌};
-ghost use Rattle.ngd_store.specs.Rooms.{AreUnused, IsSameBeside, IsPut};
+ghost use Rattle.ngd_store.specs.Rooms.{AreThere, AreGivenBack, HasGivenBack, HasWritten, IsPut};
 
 use crate::freed::Freed;
 use dcsp_common::Memory;
@@ -15,7 +15,7 @@ pub struct Placed {
     pub place: u16,
 }
 
-/// What a cell that is not in use has in place of a variable.
+/// What the first cell of a list that was given back has in place of a variable. Its place is the list's length.
 pub const NO_VAR: u16 = u16::MAX;
 
 /// Where a list of pairs lies among the cells, and whether it is kept.
@@ -103,7 +103,7 @@ impl Arena {
             return;
         }
         self.rooms[number].kept = false;
-        blank(&mut self.cells, room.start as usize, room.len as usize);
+        give_back(&mut self.cells, room.start as usize, room.len);
         self.freed.give(room.start, room.len as usize);
     }
 }
@@ -127,53 +127,58 @@ fn add_room(rooms: &mut Vec<Room>, room: Room) -> Result<(), Memory>
     ensures ok { OnOk result (rooms.new.items ≡ rooms.old.items ++ room ∷ []) }
     ensures err { OnErr result (rooms.new.items ≡ rooms.old.items) }
 {
-    let Ok(()) = rooms.push(room) else {
-        return Err(Memory);
-    };
+    rooms.push(room)?;
     Ok(())
 }
 
 /// Writes the pairs into cells that were given back, or behind all cells, and tells their room.
 fn put(cells: &mut Vec<Placed>, freed: &mut Freed, pairs: &[Placed]) -> Result<Room, Memory>
+    requires { AreThere cells.old.items }
     ensures put { IfOk result (λ room. IsPut cells.old.items cells.new.items pairs.now room) }
     ensures err { OnErr result (cells.new.items ≡ cells.old.items) }
 {
     let again = freed.take(pairs.len()) as usize;
-    if are_unused(cells, again, pairs.len()) {
+    if is_given_back(cells, again, pairs.len()) {
         let room = room_of(again, pairs.len())?;
-        cells[again..again + pairs.len()].copy_from_slice(pairs);
+        write_at(cells, again, pairs);
         return Ok(room);
     }
     let room = room_of(cells.len(), pairs.len())?;
-    match cells.extend_from_slice(pairs) {
-        Ok(()) => Ok(room),
-        Err(_) => Err(Memory),
-    }
+    cells.extend_from_slice(pairs)?;
+    Ok(room)
 }
 
-/// Whether so many cells from this one on are there, and not in use.
-fn are_unused(cells: &[Placed], start: usize, count: usize) -> bool
-    ensures { IsTrue result → AreUnused cells.now start count }
+/// Writes the pairs over the cells from this one on.
+fn write_at(cells: &mut Vec<Placed>, start: usize, pairs: &[Placed])
+    requires { start + length pairs.now ≤ length cells.old.items }
+    ensures { HasWritten cells.old.items cells.new.items start pairs.now }
 {
-    if start > cells.len() || cells.len() - start < count {
+    cells[start..start + pairs.len()].copy_from_slice(pairs);
+}
+
+/// Whether a list of so many pairs that was given back begins at this cell.
+fn is_given_back(cells: &[Placed], start: usize, count: usize) -> bool
+    requires { AreThere cells.now }
+    ensures { IsTrue result → AreGivenBack cells.now start count }
+{
+    let Some(cell) = cells.get(start) else {
+        return false;
+    };
+    if cell.var != NO_VAR {
         return false;
     }
-    for k in start..start + count {
-        if cells[k].var != NO_VAR {
-            return false;
-        }
-    }
-    true
+    cell.place as usize == count
 }
 
-/// Marks so many cells from this one on as not in use.
-fn blank(cells: &mut Vec<Placed>, start: usize, count: usize)
-    requires { start + count ≤ length cells.old.items }
-    ensures { IsSameBeside cells.old.items cells.new.items start count }
+/// Marks the cells of a list of this length as given back.
+fn give_back(cells: &mut Vec<Placed>, start: usize, len: u16)
+    requires { start + len ≤ length cells.old.items }
+    ensures { HasGivenBack cells.old.items cells.new.items start len }
 {
-    let unused = Placed {
-        var: NO_VAR,
-        place: 0,
-    };
-    cells[start..start + count].fill(unused);
+    if len > 0 {
+        cells[start] = Placed {
+            var: NO_VAR,
+            place: len,
+        };
+    }
 }

@@ -135,9 +135,7 @@ fn push_end(ends: &mut Vec<u32>, end: u32) -> Result<(), Memory>
     ensures ok { OnOk result (ends.new.items ≡ ends.old.items ++ end ∷ []) }
     ensures err { OnErr result (ends.new.items ≡ ends.old.items) }
 {
-    let Ok(()) = ends.push(end) else {
-        return Err(Memory);
-    };
+    ends.push(end)?;
     Ok(())
 }
 
@@ -227,10 +225,7 @@ fn put(words: &mut Vec<u16>, more: &[u16]) -> Result<(), Memory>
     ensures ok { OnOk result (words.new.items ≡ words.old.items ++ more.now) }
     ensures err { OnErr result (words.new.items ≡ words.old.items) }
 {
-    match words.extend_from_slice(more) {
-        Ok(()) => Ok(()),
-        Err(_) => Err(Memory),
-    }
+    words.extend_from_slice(more)
 }
 
 /// Adds the reasons that the words stand for.
@@ -248,9 +243,7 @@ fn add_reasons(words: &[u16], into: &mut Vec<Reason>) -> Result<(), Memory>
 fn add(into: &mut Vec<Reason>, reason: Reason) -> Result<(), Memory>
     ensures { OnOk result (into.new.items ≡ into.old.items ++ reason ∷ []) }
 {
-    let Ok(()) = into.push(reason) else {
-        return Err(Memory);
-    };
+    into.push(reason)?;
     Ok(())
 }
 

@@ -1,17 +1,18 @@
-use Rattle.std.proofs.Common.{◌≡◌, ◌+◌, ◌-◌, ◌++◌, ◌∷◌, [], length, arith, codes}
+use Rattle.std.proofs.Common.{◌≡◌, ◌+◌, ◌-◌, ◌++◌, ◌∷◌, [], ◌&&◌, nat_lt, length, ap, sym, ◌∙◌, arith, codes}
 use Rattle.std.proofs.lemmas.List.{length_push}
-use Rattle.ngd_log.specs.Reading.{pair_at, pairs_from}
+use Rattle.ngd_log.specs.Reading.{pair_at, pairs_from, rises}
 use Rattle.ngd_log.proofs.Items.{goes_on, fails_on, is_done}
+use Rattle.ngd_log.proofs.Rising.{rises-more, last_var-more}
 use Rattle.ngd_log.proofs.reader.pairs_from.Goals as goal
 
-pub returns-in_default-pair_at : goal.returns-in_default-pair_at
-returns-in_default-pair_at c =
+pub returns-in_default-pair_at-clause-read : goal.returns-in_default-pair_at-clause-read
+returns-in_default-pair_at-clause-read c =
     let l = c.loop-next in
     fails_on (codes ",") pair_at l.pairs.items (length c.args.bytes.now + 1 - length l.pairs.items - 1) (length c.args.bytes.now + 1 - length l.pairs.items) l.rest.now c.in-Some.next.now (pairs_from c.args.first c.args.bytes.now)
     (let s = c.in-Some.ensures.shorter in let r = l.invariant.room in omega arith) c.in-Some.ensures.reads c.in_default-pair_at.ensures.reads l.invariant.same
 
-pub returns : goal.returns
-returns c =
+pub returns-clause-read : goal.returns-clause-read
+returns-clause-read c =
     let l = c.loop-next in
     is_done (codes ",") pair_at l.pairs.items (length c.args.bytes.now + 1 - length l.pairs.items) l.rest.now (pairs_from c.args.first c.args.bytes.now) c.in_default.ensures.reads l.invariant.same
 
@@ -29,4 +30,7 @@ loop-next-preserved c =
       same = rw (left, pushed) (goes_on (codes ",") pair_at l.pairs.items (length c.args.bytes.now + 1 - length l.pairs.items - 1) (length c.args.bytes.now + 1 - length l.pairs.items) l.rest.now c.in-Some.next.now x c.in-Some-pair_at.others.now (pairs_from c.args.first c.args.bytes.now)
           (omega arith) c.in-Some.ensures.reads c.in-Some-pair_at.ensures.reads l.invariant.same);
       room = rw pushed (omega arith);
+      some = rw pushed (omega arith);
+      rising = rw pushed (c.still_rises-rising.ensures ∙ (ap (λ b. b && nat_lt l.last x.var) l.invariant.rising ∙ (ap (λ k. rises l.pairs.items && nat_lt k x.var) (sym l.invariant.last) ∙ sym (rises-more 0 l.pairs.items x l.invariant.some))));
+      last = rw pushed (last_var-more 0 l.pairs.items x);
     }

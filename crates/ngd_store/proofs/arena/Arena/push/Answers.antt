@@ -11,7 +11,7 @@ invariant_of-self-2 c =
     let put = c.in_ok-room.ensures.put in
     either c.add_room.result (IsTidy new) c.add_room.new.rooms.items (c.self.inside.rooms.items ++ c.in_ok-room.room ∷ []) c.self.inside.rooms.items c.add_room.ensures.ok c.add_room.ensures.err
     (added_tidy c.self.inside.cells.items new c.args.pairs.now c.in_ok-room.room c.self.inside.rooms.items c.self.invariant put c.requires)
-    (put_tidy c.self.inside.cells.items new c.args.pairs.now c.in_ok-room.room c.self.inside.rooms.items c.self.invariant put)
+    (put_tidy c.self.inside.cells.items new c.args.pairs.now c.in_ok-room.room c.self.inside.rooms.items c.self.invariant put c.requires)
 
 pub returns-clause-ok : goal.returns-clause-ok
 returns-clause-ok c =
