@@ -64,23 +64,23 @@ module _ (number : ℕ) (b : AgentBody) (sized : IsSized b) (out : List Sent) (s
   same_outcome : steps.take_or_refuse p me number (agent_of b) None ≡ steps.refuse number (agent_of b) s (with_stamps s.nogood stamps)
   same_outcome = λ x. steps.refuse number (agent_of b) (sym same_step x) (sym same_pairs x)
 
-  pub gives_up_empty : (room : List Bool) → None ≡ slice_get s.nogood (length s.nogood - 1)
-      → Does (steps.take_or_refuse p me number (agent_of b) None) b (record b { room = room }) out out (Empty s)
-  gives_up_empty room e =
+  pub gives_up_empty : (room : List Bool) (went : List Sent) → went ≡ out → None ≡ slice_get s.nogood (length s.nogood - 1)
+      → Does (steps.take_or_refuse p me number (agent_of b) None) b (record b { room = room }) out went (Empty s)
+  gives_up_empty room went same e =
       let none = last_none s.nogood e in
       let all : steps.take_or_refuse p me number (agent_of b) None ≡ record { agent = agent_of b; sent = []; step = Some s } =
       same_outcome ∙ ap (λ z. steps.refuse number (agent_of b) s (with_stamps z stamps)) none in
-      subst (λ o. Does o b (record b { room = room }) out out (Empty s)) (sym all) (record { agent = refl; sent = posts_none out; turn_is = (refl, none); sized = still })
+      subst (λ o. Does o b (record b { room = room }) out went (Empty s)) (sym all) (record { agent = refl; sent = subst (λ (w : List Sent). Posts out w []) (sym same) (posts_none out); turn_is = (refl, none); sized = still })
 
-  pub gives_up : (room : List Bool) (last : Pair) (copy : List Pair) (went : List Sent) → Some last ≡ slice_get s.nogood (length s.nogood - 1) → copy ≡ s.nogood
-      → Posts out went ((last.var, Refuse number (with_stamps copy stamps)) ∷ [])
+  pub gives_up : (room : List Bool) (last : Pair) (copy : List Pair) (before went : List Sent) → before ≡ out → Some last ≡ slice_get s.nogood (length s.nogood - 1) → copy ≡ s.nogood
+      → Posts before went ((last.var, Refuse number (with_stamps copy stamps)) ∷ [])
       → Does (steps.take_or_refuse p me number (agent_of b) None) b (record b { waits = true; room = room }) out went (Derived s)
-  gives_up room last copy went e c m =
+  gives_up room last copy before went same e c m =
       let all : steps.take_or_refuse p me number (agent_of b) None ≡ record { agent = record (agent_of b) { waits = true }; sent = (last.var, Refuse number (with_stamps s.nogood stamps)) ∷ []; step = Some s } =
       same_outcome ∙ refused number (agent_of b) s s.nogood stamps last e in
       subst (λ o. Does o b (record b { waits = true; room = room }) out went (Derived s)) (sym all) (record {
         agent = refl;
-        sent = subst (λ z. Posts out went ((last.var, Refuse number (with_stamps z stamps)) ∷ [])) c m;
+        sent = subst (λ (o : List Sent). Posts o went ((last.var, Refuse number (with_stamps s.nogood stamps)) ∷ [])) same (subst (λ z. Posts before went ((last.var, Refuse number (with_stamps z stamps)) ∷ [])) c m);
         turn_is = (refl, last_some s.nogood last e);
         sized = still;
       })

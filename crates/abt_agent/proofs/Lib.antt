@@ -14,6 +14,7 @@ pub mod Fresh
 pub mod Proper
 pub mod Against
 pub mod Asks
+mod Gathered
 pub mod Rights
 pub mod Acting
 pub mod Tracks

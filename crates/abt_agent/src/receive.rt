@@ -69,7 +69,9 @@ impl<'p> AgentBody<'p> {
                 step,
             } => {
                 let recorded = Recorded { nogood, step };
-                self.receive_refuse(recorded, stamps.items(), number, out)
+                let turn = self.receive_refuse(recorded, stamps.items(), number, out);
+                out.give_back(stamps);
+                turn
             }
             Message::AddLink => self.receive_link(from, out),
         }

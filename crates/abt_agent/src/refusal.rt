@@ -32,8 +32,9 @@ pub struct StampedStep {
 
 impl<'p> Knowledge<'p> {
     /// The step at the agent's variable that the reasons against all its values make. The row is room for
-    /// marks, whatever it has.
-    pub fn refuse(&self, marks: &mut Row) -> Result<StampedStep, Memory>
+    /// marks, whatever it has, and `spare` for stamps.
+    pub fn refuse(&self, marks: &mut Row, spare: Vec<u64>) -> Result<StampedStep, Memory>
+        requires spare { spare.items ≡ [] }
         requires in_step { IsInStep self.now }
         requires proper { AreProper self.now.problem.now self.now.me self.now.store }
         ensures step { IfOk result (λ refusal. refusal.step ≡ step_of (csp_of self.now.problem.now) self.now.me (view_of self.now.view) (records_of self.now.store)) }
@@ -42,7 +43,7 @@ impl<'p> Knowledge<'p> {
     {
         make_blank(self.alloc, marks, self.me as usize)?;
         let reasons = self.blame(marks)?;
-        let (nogood, stamps) = self.gather(marks, reasons.len())?;
+        let (nogood, stamps) = self.gather(marks, reasons.len(), spare)?;
         let step = Step {
             variable: Some(self.me),
             nogood,
@@ -64,9 +65,7 @@ impl<'p> Knowledge<'p> {
         // Each rule that the agent owns is one of the problem's.
         let _rules = self.problem.owned(self.me);
         let values = self.problem.domain(self.me).len();
-        let Ok(mut reasons) = Vec::with_capacity(self.alloc, values) else {
-            return Err(Memory);
-        };
+        let mut reasons = Vec::with_capacity(self.alloc, values)?;
         let mut run = ValueRun {
             first: None,
             end: 0,
@@ -122,32 +121,29 @@ impl<'p> Knowledge<'p> {
         }
     }
 
-    /// What the view has of the marked agents, in order, with its stamps. At first there is room for so many, if there are
-    /// as many agents.
-    fn gather(&self, marks: &Row, many: usize) -> Result<(Nogood, StampList), Memory>
+    /// What the view has of the marked agents, in order, with its stamps. At first there is room for so many pairs, if
+    /// there are as many agents.
+    fn gather(
+        &self,
+        marks: &Row,
+        many: usize,
+        mut stamps: Vec<u64>,
+    ) -> Result<(Nogood, StampList), Memory>
+        requires empty { stamps.items ≡ [] }
         requires few { length marks.now < 2 ^ 32 }
         requires stamps { IsStampedView (view_of self.now.view) }
         ensures told { IfOk result (λ basis. with_stamps basis.0 basis.1 ≡ filter_map (told_of (view_of self.now.view)) (filter (has_mark marks.now) (below (length marks.now)))) }
         ensures stamped { IfOk result (λ basis. AreStampsOf basis.0 basis.1) }
     {
-        let room = marks.len().min(many);
-        let Ok(mut pairs) = Vec::with_capacity(self.alloc, room) else {
-            return Err(Memory);
-        };
-        let Ok(mut stamps) = Vec::with_capacity(self.alloc, room) else {
-            return Err(Memory);
-        };
+        let mut pairs = Vec::with_capacity(self.alloc, marks.len().min(many))?;
         let mut from = 0;
         while let Some(agent) = marks.next_marked(from) {
             let var = agent as u32;
             add_told(&mut pairs, &mut stamps, var, self.stamped_value(var))?;
             from = agent + 1;
         }
-        // The agents rise, so nothing refuses.
-        let Ok(nogood) = Nogood::from_vec(pairs) else {
-            return Err(Memory);
-        };
-        Ok((nogood, StampList::from_vec(stamps)))
+        // The agents rise.
+        Ok((Nogood::of_rising(pairs), StampList::from_vec(stamps)))
     }
 
     /// What the view has of the agent.
@@ -211,5 +207,6 @@ fn push<T: Drop>(items: &mut Vec<T>, item: T) -> Result<(), Memory>
         items.push_reserved(item);
         return Ok(());
     }
-    items.push(item).map_err(|_| Memory)
+    items.push(item)?;
+    Ok(())
 }

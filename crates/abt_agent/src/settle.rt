@@ -83,7 +83,8 @@ impl<'p> AgentBody<'p> {
         ensures does { IfOk result (λ turn. Does (steps.take_or_refuse (csp_of self.old.known.problem.now) self.old.known.me number (agent_of self.old) None) self.old self.new out.old out.new turn) }
         ensures owner { owner_of self.new.known ≡ owner_of self.old.known }
     {
-        let StampedStep { step, stamps } = self.known.refuse(&mut self.room)?;
+        let spare = out.spare_stamps(self.known.alloc);
+        let StampedStep { step, stamps } = self.known.refuse(&mut self.room, spare)?;
         match step.nogood.lowest() {
             None => Ok(Turn::Empty(step)),
             Some(lowest) => {

@@ -92,6 +92,8 @@ impl Sent {
 #[derive(Debug, Drop)]
 pub struct Outbox {
     waiting: VecDeque<Sent>,
+    /// Lists of stamps that were let go, for their room.
+    spare: Vec<StampList>,
 }
 
 impl Model for Outbox {
@@ -110,6 +112,7 @@ impl Outbox {
     {
         Outbox {
             waiting: VecDeque::new(alloc),
+            spare: Vec::new(alloc),
         }
     }
 
@@ -120,6 +123,11 @@ impl Outbox {
         ensures handed_back { IfErr result (λ refused. refused.0 ≡ sent) }
         ensures err { OnErr result (self.new ≡ self.old) }
     {
+        // Most find room that was made before, and take no call.
+        if self.waiting.len() < self.waiting.capacity() {
+            self.waiting.push_back_reserved(sent);
+            return Ok(());
+        }
         match self.waiting.push_back(sent) {
             Ok(()) => Ok(()),
             Err(failed) => Err((failed.value, Memory)),
@@ -132,6 +140,29 @@ impl Outbox {
         ensures rest { self.new ≡ drop 1 self.old }
     {
         self.waiting.pop_front()
+    }
+
+    /// Lets a list of stamps go, whose room `spare_stamps` may give again.
+    pub fn give_back(&mut self, stamps: StampList)
+        ensures { self.new ≡ self.old }
+    {
+        // Where it finds no place it is dropped.
+        let _kept = self.spare.push(stamps);
+    }
+
+    /// An empty list for stamps, with the room of one that was let go, if there is one.
+    pub fn spare_stamps(&mut self, alloc: Global) -> Vec<u64>
+        ensures empty { result.items ≡ [] }
+        ensures messages { self.new ≡ self.old }
+    {
+        match self.spare.pop() {
+            Some(stamps) => {
+                let mut room = stamps.into_vec();
+                room.clear();
+                room
+            }
+            None => Vec::new(alloc),
+        }
     }
 
     /// The number of messages.

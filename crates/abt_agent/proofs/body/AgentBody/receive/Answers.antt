@@ -4,6 +4,7 @@ use Rattle.abt_defs.specs.Agents as agents
 use Rattle.abt_defs.specs.Steps as steps
 use Rattle.dcsp_rule.specs.Problems.{csp_of}
 use Rattle.abt_parts.specs.declared.message.Message.{Message}
+use Rattle.abt_parts.specs.declared.message.Sent.{Sent}
 use Rattle.abt_parts.specs.Messages.{message_of, with_stamps}
 use Rattle.abt_agent.specs.declared.Turn.{Turn}
 use Rattle.abt_agent.specs.Bodies.{agent_of, Does}
@@ -17,9 +18,10 @@ use Rattle.abt_agent.proofs.body.AgentBody.receive.Goals as goal
 
 pub returns-in-Refuse-clause-does : goal.returns-in-Refuse-clause-does
 returns-in-Refuse-clause-does c =
-    let received = λ (m : agents.Message). IfOk c.receive_refuse.result (λ (turn : Turn). Does (steps.receive (csp_of c.args.self.now.known.problem.now) c.args.self.now.known.me c.args.number (agent_of c.args.self.now) c.args.from m) c.args.self.now c.receive_refuse.new.self c.args.out.now c.receive_refuse.new.out turn) in
-    subst (λ (m : Message). received (message_of m)) (sym c.in-Refuse.is)
-    (subst (λ (z : List ℕ). received (agents.Refuse c.in-Refuse.step (with_stamps c.in-Refuse.nogood z))) c.items.ensures (c.receive_refuse.ensures.does c.args.from))
+    let received = λ (went : List Sent) (m : agents.Message). IfOk c.receive_refuse-turn.result (λ (turn : Turn). Does (steps.receive (csp_of c.args.self.now.known.problem.now) c.args.self.now.known.me c.args.number (agent_of c.args.self.now) c.args.from m) c.args.self.now c.receive_refuse-turn.new.self c.args.out.now went turn) in
+    subst (λ (m : Message). received c.give_back.new.self (message_of m)) (sym c.in-Refuse.is)
+    (subst (λ (went : List Sent). received went (agents.Refuse c.in-Refuse.step (with_stamps c.in-Refuse.nogood c.in-Refuse.stamps))) (sym c.give_back.ensures)
+    (subst (λ (z : List ℕ). received c.receive_refuse-turn.new.out (agents.Refuse c.in-Refuse.step (with_stamps c.in-Refuse.nogood z))) c.items.ensures (c.receive_refuse-turn.ensures.does c.args.from)))
 
 pub returns-in-Tell-clause-right : goal.returns-in-Tell-clause-right
 returns-in-Tell-clause-right c made rooted brings =
@@ -40,10 +42,10 @@ returns-in-Refuse-clause-right c made rooted brings =
     let a = agent_of c.args.self.now in
     let fit = subst (λ (m : Message). IsFit p c.args.self.now.known.me c.args.number c.args.from m) c.in-Refuse.is c.requires.fit in
     let of_step = subst (λ (m : Message). BringsOfStep made m) c.in-Refuse.is brings in
-    ok_both c.receive_refuse.result
+    ok_both c.receive_refuse-turn.result
     (λ up turn d. refused_right (csp_of p) made c.args.self.now.known.me a (c.agents_step_right.ensures (csp_of p) c.denotes_csp.ensures.csp c.args.self.now.known.me c.requires.good.sized.in_step.me_exists made a c.requires.good.sound rooted) c.args.number turn
     c.args.from c.in-Refuse.step c.in-Refuse.nogood c.items.result.now (proper_nogood p c.args.self.now.known.me c.in-Refuse.nogood c.in-Refuse.stamps c.requires.good.sized.in_step.me_exists up fit.0) of_step d.turn_is)
-    c.receive_refuse.ensures.rising (c.receive_refuse.ensures.does c.args.from)
+    c.receive_refuse-turn.ensures.rising (c.receive_refuse-turn.ensures.does c.args.from)
 
 pub returns-in-AddLink-clause-right : goal.returns-in-AddLink-clause-right
 returns-in-AddLink-clause-right c made rooted brings =
