@@ -297,9 +297,10 @@ impl Problem {
         ensures { result ≡ is_violated (L.values lookup.now) (constraint_at self.now rule) }
     {
         let form = self.form(rule);
-        match form.pair() {
-            Some(pair) => pair.is_missed(lookup),
-            None => {
+        match form {
+            Form::Narrow(pair) => pair.is_missed(lookup),
+            Form::Wide(pair) => pair.is_missed(lookup),
+            Form::Listed(_) | Form::Plain => {
                 self.knows_scope(rule, lookup) && !is_true_under(self.rule(rule), form, lookup)
             }
         }

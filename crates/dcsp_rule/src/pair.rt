@@ -96,4 +96,12 @@ impl NarrowPair {
             total: i128::from(self.total),
         }
     }
+
+    /// Whether the look-up gives both variables a value, and the rule is false under these. Its numbers are small.
+    #[inline(always)]
+    pub fn is_missed<L: Lookup>(self, lookup: &L) -> bool
+        ensures { result ≡ is_missed (widened self) (L.values lookup.now) }
+    {
+        self.widened().is_missed(lookup)
+    }
 }
