@@ -30,25 +30,23 @@ pub fn is_right<C: Cites>(problem: &Problem, vars: u32, nogoods: &C, step: &Step
     let known = Searched {
         nogood: &step.nogood,
     };
-    is_right_known(problem, vars, nogoods, &known, &LentStep::of(step))
+    is_right_known(problem, nogoods, &known, &LentStep::of(step))
 }
 
 /// The same of a step whose pairs are those of variables of the problem and values of their domains, and are
 /// at hand.
 pub fn is_right_known<C: Cites, L: Lookup>(
     problem: &Problem,
-    vars: u32,
     nogoods: &C,
     known: &L,
     step: &LentStep<'_>,
 ) -> bool
-    requires vars { vars ≡ length problem.now.domains }
     requires pairs { All (IsKnownPair (csp_of problem.now)) step.now.nogood }
     requires known { L.values known.now ≡ value_at step.now.nogood }
     ensures { IsTrue result ↔ IsRightCiting (csp_of problem.now) (C.cited nogoods.now) step.now }
 {
     match step.variable() {
-        Some(var) => is_right_at(problem, vars, nogoods, known, var, step),
+        Some(var) => is_right_at(problem, nogoods, known, var, step),
         None => is_right_nowhere(problem, step),
     }
 }
@@ -68,27 +66,25 @@ pub fn is_right_by<C: Cites>(
     let vars = problem.vars();
     present.make_ready(vars)?;
     present.take_in(step.pairs());
-    let right = is_right_known(problem, vars, nogoods, present, step);
+    let right = is_right_known(problem, nogoods, present, step);
     present.clear(step.pairs());
     Ok(right)
 }
 
 fn is_right_at<C: Cites, L: Lookup>(
     problem: &Problem,
-    vars: u32,
     nogoods: &C,
     known: &L,
     var: u32,
     step: &LentStep<'_>,
 ) -> bool
-    requires vars { vars ≡ length problem.now.domains }
     requires pairs { All (IsKnownPair (csp_of problem.now)) step.now.nogood }
     requires known { L.values known.now ≡ value_at step.now.nogood }
     ensures { IsTrue result ↔ IsRightAtCiting (csp_of problem.now) (C.cited nogoods.now) var step.now }
 {
     // The pairs of a nogood rise, whatever is asked of them.
     let _pairs = step.pairs();
-    if var >= vars {
+    if var >= problem.vars() {
         return false;
     }
     if known.value_of(var).is_some() {

@@ -1,5 +1,5 @@
 -- A deletion's line has one line feed; a deletion that is read is the one that was written, and one that was written is read again.
-use Rattle.std.proofs.Common.{◌≡◌, ℕ, ◌<◌, true, cond, ◌&&◌, ltb, List, [], ◌∷◌, ◌++◌, length, Some, None, inl, inr, refl, subst, arith}
+use Rattle.std.proofs.Common.{◌≡◌, ℕ, ◌<◌, true, cond, ◌&&◌, ltb, List, [], ◌∷◌, ◌++◌, length, Some, None, inl, inr, refl, subst, append_assoc, arith}
 use Rattle.std.specs.Prelude.{codes, decimal}
 use Rattle.std.specs.List.{AllByRecursion}
 use Rattle.std.proofs.lemmas.Bool.{ltb-true, lt-ltb}
@@ -8,15 +8,15 @@ use Rattle.dcsp_defs.specs.Words.{In, IsRising}
 use Rattle.ngd_log.specs.StepText.{IsStepNumber}
 use Rattle.ngd_log.specs.Entries.{IsDeletion}
 use Rattle.ngd_log.specs.EntryTexts.{deletion_line}
-use Rattle.ngd_log.specs.EntryReading.{numbers_at, rises_after, has_number, deletion_at}
-use Rattle.ngd_log.specs.Reading.{after, step_number_at, is_line_feed}
+use Rattle.ngd_log.specs.EntryReading.{numbers_at, rises_after, has_number, deletion_front}
+use Rattle.ngd_log.specs.Reading.{after, step_number_at}
 use Rattle.ngd_log.specs.Lines.{IsLine}
-use Rattle.dcsp_common.proofs.Chosen.{passed, bind_then}
-use Rattle.ngd_log.proofs.AfterPrefix.{after_other}
-use Rattle.ngd_log.proofs.Fields.{step_number_takes, step_number_again}
+use Rattle.dcsp_common.specs.Reading.{◌>>=◌}
+use Rattle.dcsp_common.proofs.Chosen.{chosen, passed, bind_then, some_is}
+use Rattle.ngd_log.proofs.AfterPrefix.{after_other, after_takes}
+use Rattle.ngd_log.proofs.Fields.{Took, step_number_takes, step_number_again}
 use Rattle.ngd_log.proofs.ItemLaws.{items_text, items_takes, items_again, fewer}
 use Rattle.ngd_log.proofs.LineFeeds.{no_feed_in_decimal, no_feed_in_items}
-use Rattle.ngd_log.proofs.LineLaws.{line_feed_is}
 
 -- ---- rising numbers
 
@@ -65,35 +65,43 @@ deletion_line-IsLine ns d = record {
 }
 
 -- numbers that were read, and a line feed
-parts : (bytes : List ℕ) (ns rest : List ℕ) → bytes ≡ items_text 32 decimal ns ++ rest → rest ≡ codes "\n" → codes "d" ++ bytes ≡ deletion_line ns
-parts bytes ns rest e f = rw (e, f) refl
+parts : (bytes : List ℕ) (ns after_numbers rest : List ℕ) → bytes ≡ items_text 32 decimal ns ++ after_numbers → after_numbers ≡ codes "\n" ++ rest → codes "d" ++ bytes ≡ deletion_line ns ++ rest
+parts bytes ns after_numbers rest e f = rw (e, f) (simp append_assoc)
+
+-- what is in front of these bytes, behind a `d`: a deletion's line
+pub record IsDeletionFront (bytes : List ℕ) (x : List ℕ × List ℕ) : Type 0 where
+  pub deletion : IsDeletion x.0
+  pub parts : codes "d" ++ bytes ≡ deletion_line x.0 ++ x.1
 
 -- a deletion that was read
-pub deletion_takes : (bytes ns : List ℕ) → deletion_at bytes ≡ Some ns → (IsDeletion ns) × (codes "d" ++ bytes ≡ deletion_line ns)
-unfolding deletion_at
-deletion_takes bytes ns h =
-    bind_then (numbers_at bytes) (λ xs. cond (has_number xs.0 && rises_after 0 xs.0 && is_line_feed xs.1) (Some xs.0) None) ns h (λ xs rx e.
-    let p = passed (has_number xs.0 && rises_after 0 xs.0 && is_line_feed xs.1) xs.0 ns e in
+pub deletion_takes : (bytes : List ℕ) (x : List ℕ × List ℕ) → deletion_front bytes ≡ Some x → IsDeletionFront bytes x
+unfolding deletion_front
+deletion_takes bytes x h =
+    bind_then (numbers_at bytes >>= λ ns. cond (rises_after 0 ns.0) (Some ns) None) (λ ns. cond (has_number ns.0) (after (codes "\n") ns.1) None >>= λ rest. Some (ns.0, rest)) x h (λ ns rn h1.
+    bind_then (numbers_at bytes) (λ ns. cond (rises_after 0 ns.0) (Some ns) None) ns rn (λ xs rx e.
+    bind_then (cond (has_number ns.0) (after (codes "\n") ns.1) None) (λ rest. Some (ns.0, rest)) x h1 (λ rest re h2.
+    let p = passed (rises_after 0 xs.0) xs ns e in
+    let q = chosen (has_number ns.0) (after (codes "\n") ns.1) None (Some rest) re in
     let t = items_takes 32 step_number_at decimal IsStepNumber step_number_takes (length bytes) bytes xs.0 xs.1 rx in
-    let first = and_left (has_number xs.0 && rises_after 0 xs.0) (is_line_feed xs.1) p.0 in
-    let last = and_right (has_number xs.0 && rises_after 0 xs.0) (is_line_feed xs.1) p.0 in
-    let made : (IsDeletion xs.0) × (codes "d" ++ bytes ≡ deletion_line xs.0) = (
-      record {
-        some = has_some xs.0 (and_left (has_number xs.0) (rises_after 0 xs.0) first);
-        rising = rises-IsRising 0 xs.0 (and_right (has_number xs.0) (rises_after 0 xs.0) first);
-        each = t.holds;
-      },
-      parts bytes xs.0 xs.1 t.parts (line_feed_is xs.1 last),
-    ) in
-    subst (λ (ys : List ℕ). (IsDeletion ys) × (codes "d" ++ bytes ≡ deletion_line ys)) p.1 made)
+    let u : Took bytes (items_text 32 decimal ns.0) ns.1 (AllByRecursion IsStepNumber ns.0) = subst (λ (y : List ℕ × List ℕ). Took bytes (items_text 32 decimal y.0) y.1 (AllByRecursion IsStepNumber y.0)) p.1 t in
+    let rising : rises_after 0 ns.0 ≡ true = subst (λ (y : List ℕ × List ℕ). rises_after 0 y.0 ≡ true) p.1 p.0 in
+    elim q [
+      | inl f ↦
+          let made : IsDeletionFront bytes (ns.0, rest) = record {
+            deletion = record { some = has_some ns.0 f.0; rising = rises-IsRising 0 ns.0 rising; each = u.holds };
+            parts = parts bytes ns.0 ns.1 rest u.parts (after_takes (codes "\n") ns.1 rest f.1);
+          } in
+          subst (λ (y : List ℕ × List ℕ). IsDeletionFront bytes y) (some_is (ns.0, rest) x h2) made
+      | inr f ↦ absurd (let g = f.1 in cc)
+    ])))
 
--- a deletion's line without its `d` is read again
-pub deletion_again : (ns : List ℕ) → IsDeletion ns → deletion_at (items_text 32 decimal ns ++ codes "\n") ≡ Some ns
-unfolding deletion_at
+-- a deletion's line without its `d` is read again, and nothing stands after it
+pub deletion_again : (ns : List ℕ) → IsDeletion ns → deletion_front (items_text 32 decimal ns ++ codes "\n") ≡ Some (ns, [])
+unfolding deletion_front after
 deletion_again ns d =
     let bytes = items_text 32 decimal ns ++ codes "\n" in
     let read : numbers_at bytes ≡ Some (ns, codes "\n") = items_again 32 step_number_at decimal IsStepNumber step_number_again refl (length bytes) ns (codes "\n") (fewer 32 decimal ns (codes "\n")) d.each refl none in
-    rw (read, some_has ns d.some, IsRising-rises 0 ns d.rising (above_zero ns d.each)) refl
+    rw (read, IsRising-rises 0 ns d.rising (above_zero ns d.each), some_has ns d.some) refl
   where
     none : after (codes " ") (codes "\n") ≡ None
     none = after_other 32 10 [] [] (λ e. omega arith)

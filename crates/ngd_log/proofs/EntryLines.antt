@@ -1,5 +1,5 @@
 -- The lines of entries, and reading them.
-use Rattle.std.proofs.Common.{◌≡◌, ℕ, ◌+◌, ◌<◌, ◌≤◌, ◌^◌, true, false, if◌then◌else◌, List, [], ◌∷◌, ◌++◌, length, get_or, Some, None, refl, sym, ap, subst, ◌∙◌, arith}
+use Rattle.std.proofs.Common.{◌≡◌, ℕ, ◌+◌, ◌<◌, ◌≤◌, ◌^◌, true, false, if◌then◌else◌, List, [], ◌∷◌, ◌++◌, length, get_or, Option, Some, None, refl, sym, ap, subst, ◌∙◌, arith}
 use Rattle.std.specs.Prelude.{codes, decimal}
 use Rattle.std.specs.List.{AllByRecursion, concat}
 use Rattle.std.specs.Str.{bytes_eq}
@@ -15,14 +15,15 @@ use Rattle.ngd_log.specs.StepText.{step_line, IsStepNumber, IsWritable, IsStepLi
 use Rattle.ngd_log.specs.Lines.{lines, IsLine}
 use Rattle.ngd_log.specs.Entries.{steps_of}
 use Rattle.ngd_log.specs.EntryTexts.{deletion_line, entry_line, next_number, entry_lines, head, entries_text, text_lines, IsNumbered, IsEntryLine, IsWritableEntry, HaveText, IsTextOf}
-use Rattle.ngd_log.specs.EntryReading.{step_entry, either_entry, entry_of, deletion_at, version_of}
-use Rattle.ngd_log.specs.Reading.{after, step_of}
+use Rattle.ngd_log.specs.EntryReading.{either_entry, entry_front, entry_of, deletion_front, version_of}
+use Rattle.dcsp_common.specs.Reading.{◌>>=◌}
+use Rattle.ngd_log.specs.Reading.{after, alone, step_front}
 use Rattle.dcsp_common.proofs.Chosen.{bind_then, some_is}
 use Rattle.ngd_log.proofs.AfterPrefix.{after_takes, after_again, after_no_digit}
 use Rattle.dcsp_common.proofs.Decimals.{begins_decimal}
 use Rattle.ngd_log.proofs.Each.{each_push, each_append}
 use Rattle.ngd_log.proofs.ItemLaws.{items_text}
-use Rattle.ngd_log.proofs.LineLaws.{rest_text, step_line_is, step_takes, step_again}
+use Rattle.ngd_log.proofs.LineLaws.{rest_text, step_line_is, alone_is, front_takes, front_again}
 use Rattle.ngd_log.proofs.LineFeeds.{step_line-IsLine, lines-concat}
 use Rattle.ngd_log.proofs.LogLines.{tail, tail-IsLine, not_tail}
 use Rattle.ngd_log.proofs.Deletions.{deletion_line-IsLine, deletion_takes, deletion_again}
@@ -52,28 +53,40 @@ pub not_end : (number : ℕ) (entry : Entry) → IsNumbered number entry → ent
 not_end number (A_step s) n e = let b = n.bounded in not_tail number s (omega arith) e
 not_end number (Delete ns) n e = let f : 100 ≡ 101 = ap (λ (t : List ℕ). get_or t 0 0) e in omega (arith, f)
 
--- a step that is read as an entry
-step_entry_takes : (number : ℕ) (line : List ℕ) (entry : Entry) → step_entry number line ≡ Some entry → (s : Step) × (entry ≡ A_step s) × IsStepLine number line s
-unfolding step_entry
-step_entry_takes number line entry h =
-    bind_then (step_of number line) (λ s. Some (A_step s)) entry h (λ s rs e. (s, sym (some_is (A_step s) entry e), step_takes number line s rs))
+-- an entry whose line is in front, with what stands after the line
+pub record IsEntryFront (v : Version) (number : ℕ) (bytes : List ℕ) (x : Entry × List ℕ) : Type 0 where
+  pub parts : bytes ≡ entry_line number x.0 ++ x.1
+  pub numbered : IsNumbered number x.0
+  pub writable : IsWritableEntry v x.0
 
--- as the line of an entry
-of_step : (v : Version) (number : ℕ) (line : List ℕ) (entry : Entry) → (s : Step) × (entry ≡ A_step s) × IsStepLine number line s → IsEntryLine v number line entry
-of_step v number line entry h = subst (λ (e : Entry). IsEntryLine v number line e) (sym h.1) (record { numbered = h.2.numbered; writable = h.2.writable; same = h.2.same })
+-- a step that is read as an entry
+step_takes_front : (v : Version) (number : ℕ) (bytes : List ℕ) (x : Entry × List ℕ) → (step_front number bytes >>= λ s. Some (A_step s.0, s.1)) ≡ Some x → IsEntryFront v number bytes x
+step_takes_front v number bytes x h =
+    bind_then (step_front number bytes) (λ s. Some (A_step s.0, s.1)) x h (λ s rs e.
+    let t = front_takes number bytes s rs in
+    subst (λ (y : Entry × List ℕ). IsEntryFront v number bytes y) (some_is (A_step s.0, s.1) x e) (record { parts = t.parts; numbered = t.numbered; writable = t.writable }))
+
+-- an entry that is read is one whose line is in front
+pub entry_front_takes : (v : Version) (number : ℕ) (bytes : List ℕ) (x : Entry × List ℕ) → entry_front v number bytes ≡ Some x → IsEntryFront v number bytes x
+unfolding entry_front
+entry_front_takes One number bytes x h = step_takes_front One number bytes x h
+entry_front_takes Two number bytes x h =
+    (elim (after (codes "d") bytes) as (λ o. after (codes "d") bytes ≡ o → either_entry number bytes o ≡ Some x → IsEntryFront Two number bytes x) [
+      | None ↦ λ a k. step_takes_front Two number bytes x k
+      | Some rest ↦ λ a k.
+          bind_then (deletion_front rest) (λ y. Some (Delete y.0, y.1)) x k (λ y ry e.
+          let d = deletion_takes rest y ry in
+          subst (λ (z : Entry × List ℕ). IsEntryFront Two number bytes z) (some_is (Delete y.0, y.1) x e) (record { parts = after_takes (codes "d") bytes rest a ∙ d.parts; numbered = tt; writable = d.deletion }))
+    ]) refl h
 
 -- an entry that is read is the one whose line it is
 pub entry_takes : (v : Version) (number : ℕ) (line : List ℕ) (entry : Entry) → entry_of v number line ≡ Some entry → IsEntryLine v number line entry
 unfolding entry_of
-entry_takes One number line entry h = of_step One number line entry (step_entry_takes number line entry h)
-entry_takes Two number line entry h =
-    (elim (after (codes "d") line) as (λ o. after (codes "d") line ≡ o → either_entry number line o ≡ Some entry → IsEntryLine Two number line entry) [
-      | None ↦ λ a k. of_step Two number line entry (step_entry_takes number line entry k)
-      | Some rest ↦ λ a k.
-          bind_then (deletion_at rest) (λ ns. Some (Delete ns)) entry k (λ ns rn e.
-          let d = deletion_takes rest ns rn in
-          subst (λ (x : Entry). IsEntryLine Two number line x) (some_is (Delete ns) entry e) (record { numbered = tt; writable = d.0; same = after_takes (codes "d") line rest a ∙ d.1 }))
-    ]) refl h
+entry_takes v number line entry h =
+    bind_then (entry_front v number line) alone entry h (λ x rx e.
+    let t = entry_front_takes v number line x rx in
+    let is = alone_is x entry e in
+    subst (λ (y : Entry). IsEntryLine v number line y) is.0 (record { numbered = t.numbered; writable = t.writable; same = t.parts ∙ ap (λ (z : List ℕ). entry_line number x.0 ++ z) is.1 ∙ append-nil (entry_line number x.0) }))
 
 -- a step's line does not begin with `d`
 no_deletion : (number : ℕ) (s : Step) → IsStepNumber number → after (codes "d") (step_line number s) ≡ None
@@ -81,21 +94,20 @@ no_deletion number s n =
     let b = n.bounded in
     ap (after (codes "d")) (step_line_is number s) ∙ after_no_digit 100 [] (decimal number ++ (codes " " ++ rest_text s.variable s.nogood s.reasons)) refl (begins_decimal number (codes " " ++ rest_text s.variable s.nogood s.reasons) (omega arith))
 
--- a step's line is read again as an entry
-step_entry_again : (number : ℕ) (s : Step) → IsStepNumber number → IsWritable s → step_entry number (step_line number s) ≡ Some (A_step s)
-unfolding step_entry
-step_entry_again number s n w = rw (step_again number s n w) refl
-
--- an entry's line is read again
-pub entry_again : (v : Version) (number : ℕ) (entry : Entry) → IsNumbered number entry → IsWritableEntry v entry → entry_of v number (entry_line number entry) ≡ Some entry
-unfolding entry_of
-entry_again One number (A_step s) n w = step_entry_again number s n w
-entry_again One number (Delete ns) n w = absurd w
-entry_again Two number (A_step s) n w = rw (no_deletion number s n) (step_entry_again number s n w)
-entry_again Two number (Delete ns) n w =
+-- an entry's line is read again, and nothing stands after it
+entry_front_again : (v : Version) (number : ℕ) (entry : Entry) → IsNumbered number entry → IsWritableEntry v entry → entry_front v number (entry_line number entry) ≡ Some (entry, [])
+unfolding entry_front
+entry_front_again One number (A_step s) n w = rw (front_again number s n w) refl
+entry_front_again One number (Delete ns) n w = absurd w
+entry_front_again Two number (A_step s) n w = rw (no_deletion number s n, front_again number s n w) refl
+entry_front_again Two number (Delete ns) n w =
     let rest = items_text 32 decimal ns ++ codes "\n" in
     let split : deletion_line ns ≡ codes "d" ++ rest = refl in
     rw (split, after_again (codes "d") rest, deletion_again ns w) refl
+
+pub entry_again : (v : Version) (number : ℕ) (entry : Entry) → IsNumbered number entry → IsWritableEntry v entry → entry_of v number (entry_line number entry) ≡ Some entry
+unfolding entry_of
+entry_again v number entry n w = ap (λ (o : Option (Entry × List ℕ)). o >>= alone) (entry_front_again v number entry n w)
 
 -- a line that gives no entry is none's
 pub entry_none : (v : Version) (number : ℕ) (line : List ℕ) (entry : Entry) → entry_of v number line ≡ None → IsEntryLine v number line entry → ⊥

@@ -13,7 +13,7 @@ use Rattle.ngd_log.specs.Lines.{lines, HasNoLineFeed, IsLine}
 use Rattle.ngd_log.specs.Entries.{steps_of}
 use Rattle.ngd_log.specs.EntryTexts.{head, entries_text, HaveText, IsLogOfEntries, IsFirstBadLine}
 use Rattle.ngd_log.specs.EntryReading.{good_entries}
-use Rattle.ngd_log.specs.Pieces.{Kept, refusal_of, fault_of, Tells, open_text, IsStuck, IsAt, IsFed, Feeds, TakesFront, Completes, GoesOn, IsWhole, IsRefused}
+use Rattle.ngd_log.specs.Pieces.{Kept, refusal_of, fault_of, Tells, open_text, IsStuck, IsAt, IsFed, Feeds, FeedsFront, TakesFront, Completes, GoesOn, IsWhole, IsRefused}
 use Rattle.ngd_log.proofs.LogLines.{tail, cons_head}
 use Rattle.ngd_log.proofs.LineFeeds.{lines_plain, line_has_feed, lines_after, no_lines}
 use Rattle.ngd_log.proofs.EntryLines.{head-IsLine, entry_line-IsLine, front_lines, lines_of_front, lines_of_text, entry_none, version_none}
@@ -332,6 +332,10 @@ takes_front old new piece front rest e h enough = record {
   fed = λ text f. feed_fed old new text front [] new.lent h f;
   entries = λ text f. let c = feed_completes old new text front [] new.lent h enough f in ap (λ (es : List Entry). good_entries text ++ es) c.same ∙ c.entries;
 }
+
+-- the same of an entry that is in front
+pub takes_entry : (old new : Kept) (piece rest : List ℕ) → FeedsFront old new piece rest [] new.lent → (new.standing ≡ Refused Memory → ⊥) → TakesFront old new piece rest
+takes_entry old new piece rest h enough = takes_front old new piece h.front rest h.parts h.feeds enough
 
 -- all of a piece, which lends nothing
 pub takes_part : (old new : Kept) (piece : List ℕ) → new.lent ≡ [] → ((entries : List Entry) → Feeds old new piece entries entries) → (new.standing ≡ Refused Memory → ⊥) → TakesFront old new piece []

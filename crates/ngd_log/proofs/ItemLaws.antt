@@ -8,9 +8,11 @@ use Rattle.dcsp_defs.specs.declared.nogood.Pair.{Pair}
 use Rattle.dcsp_defs.specs.declared.Reason.{Reason}
 use Rattle.ngd_log.specs.StepText.{pair_text, pairs_text, reason_text, reasons_text, IsReasonInRange}
 use Rattle.dcsp_common.specs.Reading.{◌>>=◌, begins_with_digit}
-use Rattle.ngd_log.specs.Reading.{after, if_next, items_at, pair_at, pairs_from, pairs_before, pairs_at, reason_at, reasons_at}
+use Rattle.ngd_log.specs.Reading.{after, if_next, items_at, pair_at, nogood_of, nogood_from, nogood_before, nogood_at, reason_at, reasons_at}
 use Rattle.dcsp_common.proofs.Chosen.{bind_then, some_is}
 use Rattle.ngd_log.proofs.AfterPrefix.{after_takes, after_again}
+use Rattle.dcsp_defs.specs.Pairs.{IsRising}
+use Rattle.ngd_log.proofs.Rising.{nogood_of-rising, nogood_of-rises}
 use Rattle.ngd_log.proofs.Fields.{Took, IsPair, pair_takes, pair_again, reason_takes, reason_again}
 
 -- the items' texts, each behind the separator
@@ -93,38 +95,48 @@ regroup a b c d rest = simp append_assoc
 joined : (bytes a : List ℕ) (y : Pair) (b : List ℕ) (ys : List Pair) (d r : List ℕ) → bytes ≡ codes "[" ++ a → a ≡ pair_text y ++ b → b ≡ items_text 44 pair_text ys ++ d → d ≡ codes "]" ++ r → bytes ≡ pairs_text (y ∷ ys) ++ r
 joined bytes a y b ys d r e f g h = rw (e, f, g, h) (sym (regroup (codes "[") (pair_text y) (items_text 44 pair_text ys) (codes "]") r))
 
--- pairs that were read
-pub pairs_takes : (bytes : List ℕ) (ys : List Pair) (rest : List ℕ) → pairs_at bytes ≡ Some (ys, rest) → Took bytes (pairs_text ys) rest (AllByRecursion IsPair ys)
-unfolding pairs_at pairs_before
-pairs_takes bytes ys rest h =
-    bind_then (after (codes "[") bytes) (λ a. pairs_before a (after (codes "]") a)) (ys, rest) h (λ a ra e.
-    (elim (after (codes "]") a) as (λ o. after (codes "]") a ≡ o → pairs_before a o ≡ Some (ys, rest) → Took bytes (pairs_text ys) rest (AllByRecursion IsPair ys)) [
+-- pairs that can be those of a nogood
+pub record AreNogood (ys : List Pair) : Type 0 where
+  pub pairs : AllByRecursion IsPair ys
+  pub rising : IsRising ys
+
+-- the pairs of a nogood that were read
+pub nogood_takes : (bytes : List ℕ) (ys : List Pair) (rest : List ℕ) → nogood_at bytes ≡ Some (ys, rest) → Took bytes (pairs_text ys) rest (AreNogood ys)
+unfolding nogood_at nogood_before
+nogood_takes bytes ys rest h =
+    bind_then (after (codes "[") bytes) (λ a. nogood_before a (after (codes "]") a)) (ys, rest) h (λ a ra e.
+    (elim (after (codes "]") a) as (λ o. after (codes "]") a ≡ o → nogood_before a o ≡ Some (ys, rest) → Took bytes (pairs_text ys) rest (AreNogood ys)) [
       | Some r ↦ λ b k.
           let parts : bytes ≡ codes "[]" ++ r = after_takes (codes "[") bytes a ra ∙ ap (λ (x : List ℕ). codes "[" ++ x) (after_takes (codes "]") a r b) in
-          subst (λ (p : List Pair × List ℕ). Took bytes (pairs_text p.0) p.1 (AllByRecursion IsPair p.0)) (some_is ([], r) (ys, rest) k) (record { parts = parts; holds = tt })
+          subst (λ (p : List Pair × List ℕ). Took bytes (pairs_text p.0) p.1 (AreNogood p.0)) (some_is ([], r) (ys, rest) k) (record { parts = parts; holds = record { pairs = tt; rising = λ k lt. absurd (omega arith) } })
       | None ↦ λ b k.
-          bind_then (pair_at a) (λ y. pairs_from y.0 y.1 >>= λ zs. after (codes "]") zs.1 >>= λ r. Some (zs.0, r)) (ys, rest) k (λ y ry f.
-          bind_then (pairs_from y.0 y.1) (λ zs. after (codes "]") zs.1 >>= λ r. Some (zs.0, r)) (ys, rest) f (λ zs rz g.
+          bind_then (pair_at a) (λ y. nogood_from y.0 y.1 >>= λ zs. after (codes "]") zs.1 >>= λ r. Some (zs.0, r)) (ys, rest) k (λ y ry f.
+          bind_then (nogood_from y.0 y.1) (λ zs. after (codes "]") zs.1 >>= λ r. Some (zs.0, r)) (ys, rest) f (λ zs rz g.
           bind_then (after (codes "]") zs.1) (λ r. Some (zs.0, r)) (ys, rest) g (λ r rr i.
-          bind_then (items_at (codes ",") pair_at (length y.1) y.1) (λ ws. Some (y.0 ∷ ws.0, ws.1)) zs rz (λ ws rows j.
+          bind_then (items_at (codes ",") pair_at (length y.1) y.1 >>= λ ws. Some (y.0 ∷ ws.0, ws.1)) (λ ws. nogood_of ws.0 >>= λ nogood. Some (nogood, ws.1)) zs rz (λ all read rs.
+          bind_then (items_at (codes ",") pair_at (length y.1) y.1) (λ ws. Some (y.0 ∷ ws.0, ws.1)) all read (λ ws rows j.
+          bind_then (nogood_of all.0) (λ nogood. Some (nogood, all.1)) zs rs (λ nogood rn m.
           let t = pair_takes a y.0 y.1 ry in
           let u = items_takes 44 pair_at pair_text IsPair pair_takes (length y.1) y.1 ws.0 ws.1 rows in
-          let last : ws.1 ≡ codes "]" ++ r = ap (λ (p : List Pair × List ℕ). p.1) (some_is (y.0 ∷ ws.0, ws.1) zs j) ∙ after_takes (codes "]") zs.1 r rr in
-          let all : y.0 ∷ ws.0 ≡ zs.0 = ap (λ (p : List Pair × List ℕ). p.0) (some_is (y.0 ∷ ws.0, ws.1) zs j) in
-          let parts = joined bytes a y.0 y.1 ws.0 ws.1 r (after_takes (codes "[") bytes a ra) t.parts u.parts last in
-          let first : Took bytes (pairs_text (y.0 ∷ ws.0)) r (AllByRecursion IsPair (y.0 ∷ ws.0)) = record { parts = parts; holds = (t.holds, u.holds) } in
-          let second : Took bytes (pairs_text zs.0) r (AllByRecursion IsPair zs.0) = subst (λ (p : List Pair). Took bytes (pairs_text p) r (AllByRecursion IsPair p)) all first in
-          subst (λ (p : List Pair × List ℕ). Took bytes (pairs_text p.0) p.1 (AllByRecursion IsPair p.0)) (some_is (zs.0, r) (ys, rest) i) second))))
+          let n = nogood_of-rises all.0 nogood rn in
+          let same : y.0 ∷ ws.0 ≡ zs.0 = ap (λ (p : List Pair × List ℕ). p.0) (some_is (y.0 ∷ ws.0, ws.1) all j) ∙ n.0 ∙ ap (λ (p : List Pair × List ℕ). p.0) (some_is (nogood, all.1) zs m) in
+          let left : ws.1 ≡ zs.1 = ap (λ (p : List Pair × List ℕ). p.1) (some_is (y.0 ∷ ws.0, ws.1) all j) ∙ ap (λ (p : List Pair × List ℕ). p.1) (some_is (nogood, all.1) zs m) in
+          let parts = joined bytes a y.0 y.1 ws.0 ws.1 r (after_takes (codes "[") bytes a ra) t.parts u.parts (left ∙ after_takes (codes "]") zs.1 r rr) in
+          let rising : IsRising (y.0 ∷ ws.0) = subst IsRising (sym (ap (λ (p : List Pair × List ℕ). p.0) (some_is (y.0 ∷ ws.0, ws.1) all j))) n.1 in
+          let first : Took bytes (pairs_text (y.0 ∷ ws.0)) r (AreNogood (y.0 ∷ ws.0)) = record { parts = parts; holds = record { pairs = (t.holds, u.holds); rising = rising } } in
+          let second : Took bytes (pairs_text zs.0) r (AreNogood zs.0) = subst (λ (p : List Pair). Took bytes (pairs_text p) r (AreNogood p)) same first in
+          subst (λ (p : List Pair × List ℕ). Took bytes (pairs_text p.0) p.1 (AreNogood p.0)) (some_is (zs.0, r) (ys, rest) i) second))))))
     ]) refl e)
 
 -- the text of pairs is read again
-pub pairs_again : (ys : List Pair) (rest : List ℕ) → AllByRecursion IsPair ys → pairs_at (pairs_text ys ++ rest) ≡ Some (ys, rest)
-unfolding pairs_at pairs_before after
-pairs_again [] rest h = refl
-pairs_again (y ∷ ys) rest h =
+pub nogood_again : (ys : List Pair) (rest : List ℕ) → AllByRecursion IsPair ys → IsRising ys → nogood_at (pairs_text ys ++ rest) ≡ Some (ys, rest)
+unfolding nogood_at nogood_before after
+nogood_again [] rest h rising = refl
+nogood_again (y ∷ ys) rest h rising =
     let others = items_text 44 pair_text ys ++ (codes "]" ++ rest) in
     let regrouped : pairs_text (y ∷ ys) ++ rest ≡ codes "[" ++ (pair_text y ++ others) = regroup (codes "[") (pair_text y) (items_text 44 pair_text ys) (codes "]") rest in
-    ap pairs_at regrouped ∙ rw (
+    ap nogood_at regrouped ∙ rw (
       pair_again y others h.0 (stops 44 pair_text ys (codes "]" ++ rest) refl refl),
       items_again 44 pair_at pair_text IsPair pair_again refl (length others) ys (codes "]" ++ rest) (fewer 44 pair_text ys (codes "]" ++ rest)) h.1 refl refl,
+      nogood_of-rising (y ∷ ys) rising,
     ) refl

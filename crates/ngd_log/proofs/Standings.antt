@@ -17,13 +17,13 @@ use Rattle.ngd_log.specs.Entries.{steps_of}
 use Rattle.ngd_log.specs.declared.standing.EntryKind.{EntryKind}
 use Rattle.ngd_log.specs.declared.standing.EntryKind.TheVariants as kinds
 use Rattle.ngd_log.specs.declared.reader.Gathered.{Gathered}
-use Rattle.ngd_log.specs.EntryTexts.{next_number, head, entries_text, IsEntryLine, IsWritableEntry}
+use Rattle.ngd_log.specs.EntryTexts.{next_number, entry_line, head, entries_text, IsEntryLine, IsWritableEntry}
 use Rattle.ngd_log.specs.Lent.{entry_in, RisesIn}
-use Rattle.ngd_log.specs.EntryReading.{entry_of, version_of}
-use Rattle.ngd_log.specs.Pieces.{Kept, open_text, IsEnded, IsStuck, Stands, IsPart, IsAt, IsWithin, IsNextPlace, IsSound, IsLentAlone, Feeds, FeedsFront, Follows}
+use Rattle.ngd_log.specs.EntryReading.{entry_front, entry_of, version_of}
+use Rattle.ngd_log.specs.Pieces.{Kept, unheard, open_text, IsEnded, IsStuck, Stands, IsPart, IsAt, IsWithin, IsNextPlace, IsSound, IsLentAlone, Feeds, FeedsFront, Follows}
 use Rattle.ngd_log.proofs.LogLines.{tail}
 use Rattle.ngd_log.proofs.LineFeeds.{both}
-use Rattle.ngd_log.proofs.EntryLines.{no_entries, HaveText-push, steps_of-append, front_lines, entry_takes}
+use Rattle.ngd_log.proofs.EntryLines.{no_entries, HaveText-push, steps_of-append, front_lines, entry_takes, entry_front_takes, entry_again, entry_line-IsLine}
 use Rattle.ngd_log.proofs.EntryBad.{front_lines-push}
 
 -- ---- a refusal stays
@@ -192,6 +192,46 @@ feeds_line old new line joined xs ys open_still j p f h = record {
   };
   stays = λ error e. absurd (open_still error e);
 }
+
+-- the standing after an entry is within what was fed with it
+pub within_next : (place next : Place) (kind : EntryKind) (fed : ℕ) → IsNextPlace place kind next → IsWithin (Inside place) fed → IsWithin (Inside next) (fed + 1)
+within_next place next kinds.Step fed n w = let a = n.step in let b = n.line in let c = w.0 in let d = w.1 in (omega (arith, a, b, c), omega (arith, b, d))
+within_next place next kinds.Delete fed n w = let a = n.step in let b = n.line in let c = w.0 in let d = w.1 in (omega (arith, a, b, c), omega (arith, b, d))
+
+-- the line of an entry that was read in front of a piece, and its length
+pub front_of : (v : Version) (number : ℕ) (piece rest : List ℕ) (entry : Entry) → entry_front v number piece ≡ Some (entry, rest) → IsLine (entry_line number entry) × (length piece ≡ length (entry_line number entry) + length rest)
+front_of v number piece rest entry read =
+    let t = entry_front_takes v number piece (entry, rest) read in
+    (entry_line-IsLine v number entry t.numbered t.writable, ap length t.parts ∙ length-append (entry_line number entry) rest)
+
+-- its pairs rise
+pub rising_front : (v : Version) (number : ℕ) (piece rest : List ℕ) (entry : Entry) → entry_front v number piece ≡ Some (entry, rest) → AllByRecursion RisesIn (entry ∷ [])
+rising_front v number piece rest entry read = (rises_in v entry (entry_front_takes v number piece (entry, rest) read).writable, tt)
+
+-- it is taken, where no bytes are at hand
+pub feeds_entry : (old new : Kept) (place next : Place) (kind : EntryKind) (g : Gathered) (piece rest : List ℕ) → old.standing ≡ Inside place → old.part ≡ [] → entry_front place.version place.step piece ≡ Some (entry_in kind g, rest)
+    → IsNextPlace place kind next → new.standing ≡ Inside next → new.part ≡ [] → new.fed + length rest ≡ old.fed + length piece → new.lent ≡ entry_in kind g ∷ [] → FeedsFront old new piece rest [] new.lent
+feeds_entry old new place next kind g piece rest stood empty read is stands left fed lent =
+    let entry = entry_in kind g in
+    let line = entry_line place.step entry in
+    let t = entry_front_takes place.version place.step piece (entry, rest) read in
+    let size = (front_of place.version place.step piece rest entry read).1 in
+    let follows : Follows (Inside place) (Inside next) line [] (entry ∷ []) = after_kind place next line kind g (entry_again place.version place.step entry t.numbered t.writable) is in
+    record {
+      front = line;
+      parts = t.parts;
+      feeds = feeds_line old new line line [] new.lent (λ error e. absurd (apart error (sym stood ∙ e))) (ap (λ (part : List ℕ). part ++ line) (sym empty)) left (omega (arith, fed, size)) (rw (stood, stands, lent) follows);
+    }
+  where
+    apart : (error : LogError) → Inside place ≡ Refused error → ⊥
+    apart error e = cc
+
+-- what was lent before does not count
+pub heard : (old mid new : Kept) (piece : List ℕ) (xs ys : List Entry) → mid ≡ unheard old → Feeds mid new piece xs ys → Feeds old new piece xs ys
+heard old mid new piece xs ys same f = as_before (subst (λ (k : Kept). Feeds k new piece xs ys) same f)
+  where
+    as_before : Feeds (unheard old) new piece xs ys → Feeds old new piece xs ys
+    as_before f = record { appended = f.appended; same = f.same; fed = f.fed; stands = f.stands; stays = f.stays }
 
 -- nothing is appended
 silent : (old new : Kept) (piece : List ℕ) (xs : List Entry) → ((error : LogError) → old.standing ≡ Refused error → new.standing ≡ Refused error) → new.fed ≡ old.fed + length piece → ((text : List ℕ) (entries : List Entry) → IsAt old.standing old.part text entries → IsAt new.standing new.part (text ++ piece) entries) → Feeds old new piece xs xs

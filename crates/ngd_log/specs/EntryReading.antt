@@ -6,7 +6,7 @@ use Rattle.dcsp_defs.specs.declared.entry.Entry.TheVariants.{Step as A_step, Del
 use Rattle.ngd_log.specs.declared.standing.Version.{Version}
 use Rattle.ngd_log.specs.declared.standing.Version.TheVariants.{One, Two}
 use Rattle.dcsp_common.specs.Reading.{◌>>=◌}
-use Rattle.ngd_log.specs.Reading.{after, items_at, step_number_at, is_line_feed, step_of}
+use Rattle.ngd_log.specs.Reading.{alone, after, items_at, step_number_at, step_front}
 use Rattle.ngd_log.specs.Lines.{lines}
 use Rattle.ngd_log.specs.EntryTexts.{next_number}
 
@@ -19,30 +19,41 @@ abbrev pub rises_after : ℕ → List ℕ → Bool
 rises_after last [] = true
 rises_after last (k ∷ numbers) = nat_lt last k && rises_after k numbers
 
+-- the numbers, each behind a space, where they rise, the first above 0
+abbrev pub rising_at : List ℕ → Option (List ℕ × List ℕ)
+rising_at bytes = do
+  ns ← numbers_at bytes
+  if rises_after 0 ns.0 then Some ns else None
+
 -- whether there is a number
 abbrev pub has_number : List ℕ → Bool
 has_number [] = false
 has_number (k ∷ numbers) = true
 
--- the numbers of a deletion's line after its `d`
-unfoldable pub deletion_at : List ℕ → Option (List ℕ)
-deletion_at bytes = do
-  ns ← numbers_at bytes
-  if has_number ns.0 && rises_after 0 ns.0 && is_line_feed ns.1 then Some ns.0 else None
+-- the numbers of a deletion, whose line after its `d` is in front, and what stands after the line
+unfoldable pub deletion_front : List ℕ → Option (List ℕ × List ℕ)
+deletion_front bytes = do
+  ns ← rising_at bytes
+  rest ← if has_number ns.0 then after (codes "\n") ns.1 else None
+  Some (ns.0, rest)
 
--- the step of a whole line, as an entry
-unfoldable pub step_entry : ℕ → List ℕ → Option Entry
-step_entry number line = step_of number line >>= λ step. Some (A_step step)
+-- what stands after the mark of a deletion, which a text of version 1 has not
+abbrev pub after_deletion_mark : Version → List ℕ → Option (List ℕ)
+after_deletion_mark One bytes = None
+after_deletion_mark Two bytes = after (codes "d") bytes
 
--- the entry of a whole line, where `rest` is what stands after `d` if that is next
-abbrev pub either_entry : ℕ → List ℕ → Option (List ℕ) → Option Entry
-either_entry number line None = step_entry number line
-either_entry number line (Some rest) = deletion_at rest >>= λ numbers. Some (Delete numbers)
+-- the entry whose line is in front, where `rest` is what stands after the mark of a deletion if that is next
+abbrev pub either_entry : ℕ → List ℕ → Option (List ℕ) → Option (Entry × List ℕ)
+either_entry number bytes None = step_front number bytes >>= λ x. Some (A_step x.0, x.1)
+either_entry number bytes (Some rest) = deletion_front rest >>= λ x. Some (Delete x.0, x.1)
 
--- the entry of a whole line in a text of this version, where the next step has this number
+-- the entry whose line is in front in a text of this version, where the next step has this number, and what stands after the line
+unfoldable pub entry_front : Version → ℕ → List ℕ → Option (Entry × List ℕ)
+entry_front version number bytes = either_entry number bytes (after_deletion_mark version bytes)
+
+-- the entry of a whole line
 unfoldable pub entry_of : Version → ℕ → List ℕ → Option Entry
-entry_of One number line = step_entry number line
-entry_of Two number line = either_entry number line (after (codes "d") line)
+entry_of version number line = entry_front version number line >>= alone
 
 -- the version of a text with this first line
 abbrev pub version_of : List ℕ → Option Version

@@ -31,6 +31,10 @@ pub record Kept : Type 0 where
 abbrev pub kept : ReaderBody → Kept
 kept body = record { standing = body.standing; part = body.part.items; fed = body.fed; lent = lent_in body.kind body.gathered }
 
+-- the same reader, which lends nothing
+abbrev pub unheard : Kept → Kept
+unheard reader = record { standing = reader.standing; part = reader.part; fed = reader.fed; lent = [] }
+
 -- the refusal that stands
 abbrev pub refusal_of : Standing → Option LogError
 refusal_of Start = None

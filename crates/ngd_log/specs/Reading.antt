@@ -92,21 +92,6 @@ pairs_from first bytes = do
   ys ← items_at (codes ",") pair_at (length bytes) bytes
   Some (first ∷ ys.0, ys.1)
 
--- the pairs up to `]`, where `rest` is what stands after it if it is next
-unfoldable pub pairs_before : List ℕ → Option (List ℕ) → Option (List Pair × List ℕ)
-pairs_before bytes (Some rest) = Some ([], rest)
-pairs_before bytes None = do
-  y ← pair_at bytes
-  ys ← pairs_from y.0 y.1
-  rest ← after (codes "]") ys.1
-  Some (ys.0, rest)
-
--- the pairs in brackets
-unfoldable pub pairs_at : List ℕ → Option (List Pair × List ℕ)
-pairs_at bytes = do
-  a ← after (codes "[") bytes
-  pairs_before a (after (codes "]") a)
-
 -- whether each pair's variable is above the one before it
 abbrev pub rises : List Pair → Bool
 rises [] = true
@@ -117,38 +102,64 @@ rises (y ∷ z ∷ ys) = nat_lt y.var z.var && rises (z ∷ ys)
 abbrev pub nogood_of : List Pair → Option (List Pair)
 nogood_of pairs = if rises pairs then Some pairs else None
 
--- whether this is one line feed
-abbrev pub is_line_feed : List ℕ → Bool
-is_line_feed [] = false
-is_line_feed (b ∷ []) = b == 10
-is_line_feed (b ∷ c ∷ bytes) = false
+-- the pairs after this first one, each behind a comma, where all of them rise
+abbrev pub nogood_from : Pair → List ℕ → Option (List Pair × List ℕ)
+nogood_from first bytes = do
+  ys ← pairs_from first bytes
+  nogood ← nogood_of ys.0
+  Some (nogood, ys.1)
 
--- the rest of a line with a variable, after the step's number
-unfoldable pub variable_step : List ℕ → Option Step
-variable_step bytes = do
+-- the pairs up to `]`, where `rest` is what stands after it if it is next
+unfoldable pub nogood_before : List ℕ → Option (List ℕ) → Option (List Pair × List ℕ)
+nogood_before bytes (Some rest) = Some ([], rest)
+nogood_before bytes None = do
+  y ← pair_at bytes
+  ys ← nogood_from y.0 y.1
+  rest ← after (codes "]") ys.1
+  Some (ys.0, rest)
+
+-- the pairs of a nogood in brackets
+unfoldable pub nogood_at : List ℕ → Option (List Pair × List ℕ)
+nogood_at bytes = do
+  a ← after (codes "[") bytes
+  nogood_before a (after (codes "]") a)
+
+-- what was read, where nothing stands after it
+abbrev pub alone : {X : Type 0} → X × List ℕ → Option X
+alone (x, []) = Some x
+alone (x, b ∷ bytes) = None
+
+-- the rest of a line with a variable, after the step's number, and what stands after its line feed
+unfoldable pub variable_front : List ℕ → Option (Step × List ℕ)
+variable_front bytes = do
   a ← after (codes "v") bytes
   x ← counted_at 4096 a
   b ← after (codes " ") x.1
-  ys ← pairs_at b
+  ys ← nogood_at b
   c ← after (codes " <-") ys.1
   rs ← reasons_at c
-  nogood ← nogood_of ys.0
-  if is_line_feed rs.1 then Some (record { variable = Some x.0; nogood = nogood; reasons = rs.0 }) else None
+  rest ← after (codes "\n") rs.1
+  Some (record { variable = Some x.0; nogood = ys.0; reasons = rs.0 }, rest)
 
--- the rest of a line without a variable, after `- [] <- c`
-unfoldable pub rule_step : List ℕ → Option Step
-rule_step bytes = do
+-- the rest of a line without a variable, after `- [] <- c`, and what stands after its line feed
+unfoldable pub rule_front : List ℕ → Option (Step × List ℕ)
+rule_front bytes = do
   n ← counted_at 262144 bytes
-  if is_line_feed n.1 then Some (record { variable = None; nogood = []; reasons = Rule n.0 ∷ [] }) else None
+  rest ← after (codes "\n") n.1
+  Some (record { variable = None; nogood = []; reasons = Rule n.0 ∷ [] }, rest)
 
 -- the rest of a line after the step's number, where `rest` is what stands after `- [] <- c` if that is next
-abbrev pub form_at : List ℕ → Option (List ℕ) → Option Step
-form_at bytes None = variable_step bytes
-form_at bytes (Some rest) = rule_step rest
+abbrev pub form_front : List ℕ → Option (List ℕ) → Option (Step × List ℕ)
+form_front bytes None = variable_front bytes
+form_front bytes (Some rest) = rule_front rest
+
+-- the step whose line is in front, which has this number, and what stands after the line
+unfoldable pub step_front : ℕ → List ℕ → Option (Step × List ℕ)
+step_front number bytes = do
+  n ← step_number_at bytes
+  a ← after (codes " ") n.1
+  if n.0 == number then form_front a (after (codes "- [] <- c") a) else None
 
 -- the step of a whole line, which has this number
 unfoldable pub step_of : ℕ → List ℕ → Option Step
-step_of number line = do
-  n ← step_number_at line
-  a ← after (codes " ") n.1
-  if n.0 == number then form_at a (after (codes "- [] <- c") a) else None
+step_of number line = step_front number line >>= alone

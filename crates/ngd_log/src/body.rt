@@ -1,14 +1,14 @@
 //! What a reader of a log keeps between pieces, and how it takes a line and a piece.
-ghost use Rattle.std.specs.Prelude.{◌≡◌, ◌≢◌, None, ℕ, ◌+◌, ◌≤◌, ◌^◌, [], ◌++◌, List, length, OnOk, OnErr};
+ghost use Rattle.std.specs.Prelude.{◌≡◌, ◌≢◌, None, ℕ, ◌+◌, ◌<◌, ◌≤◌, ◌^◌, [], ◌++◌, List, length, OnOk, OnErr, IfSome, IsSome, IsNone};
 ghost use Rattle.std.specs.List.{AllByRecursion};
 ghost use Rattle.dcsp_defs.specs.declared.entry.Entry.{Entry as AnEntry};
 ghost use Rattle.ngd_log.specs.EntryReading.{version_of};
 ghost use Rattle.ngd_log.specs.Lent.{lent_in, RisesIn};
 ghost use Rattle.ngd_log.specs.Lines.{IsLine, HasNoLineFeed};
-ghost use Rattle.ngd_log.specs.Pieces.{kept, Feeds, Follows, IsNextPlace, IsWithin, IsSound, IsLentAlone};
+ghost use Rattle.ngd_log.specs.Pieces.{kept, unheard, refusal_of, Feeds, FeedsFront, Follows, IsNextPlace, IsWithin, IsSound, IsLentAlone};
 
 use crate::deletion::HEAD2;
-use crate::entry_reader::{owned_entry, read_entry};
+use crate::entry_reader::{entry_front, owned_entry, read_entry};
 use crate::log::{LogError, split_line};
 use crate::reader::{Gathered, LineError};
 use crate::standing::{EntryKind, Place, Standing, Version};
@@ -133,6 +133,34 @@ fn after_line(gathered: &mut Gathered, standing: Standing, line: &[u8]) -> After
     }
 }
 
+/// Takes the next entry, whose whole line a piece begins with, lends it, and gives what stands after its line; its line
+/// feed is not looked for beforehand. Nothing is taken, and nothing lent, where the piece begins with anything else.
+pub fn take_entry<'t>(body: &mut ReaderBody, piece: &'t [u8]) -> Option<&'t [u8]>
+    requires sound { IsSound (kept body.old) }
+    requires room { body.old.fed + length piece.now ≤ 2 ^ 63 }
+    ensures front { IfSome result (λ rest. FeedsFront (kept body.old) (kept body.new) piece.now rest.now [] (kept body.new).lent) }
+    ensures shorter { IfSome result (λ rest. length rest.now < length piece.now) }
+    ensures going { IsSome result → refusal_of body.new.standing ≡ None }
+    ensures none { IsNone result → kept body.new ≡ unheard (kept body.old) }
+    ensures sound { IsSound (kept body.new) }
+{
+    body.kind = None;
+    if !body.part.is_empty() {
+        return None;
+    }
+    let Standing::Inside(place) = body.standing else {
+        return None;
+    };
+    let read = entry_front(&mut body.gathered, place.version, place.step, piece);
+    let Ok((kind, rest)) = read else {
+        return None;
+    };
+    body.fed += (piece.len() - rest.len()) as u64;
+    body.standing = Standing::Inside(after_entry(place, kind));
+    body.kind = Some(kind);
+    Some(rest)
+}
+
 /// Takes a piece that ends with its only line feed, and lends what it is the line of.
 pub fn take_line(body: &mut ReaderBody, line: &[u8])
     requires whole { IsLine line.now }
@@ -147,13 +175,7 @@ pub fn take_line(body: &mut ReaderBody, line: &[u8])
     if let Standing::Refused(_) = body.standing {
         return;
     }
-    // Only a line that two pieces share is joined.
-    if body.part.is_empty() {
-        let after = after_line(&mut body.gathered, body.standing, line);
-        body.standing = after.standing;
-        body.kind = after.kind;
-        return;
-    }
+    // Of a log that is taken by entries only the lines that two pieces share come here, and few others.
     let after = match body.part.extend_from_slice(line) {
         Ok(()) => after_line(&mut body.gathered, body.standing, &body.part),
         Err(_) => After {
@@ -195,6 +217,7 @@ pub fn take_part(body: &mut ReaderBody, part: &[u8])
 
 /// Appends what is lent, in lists of its own.
 fn append_lent(body: &ReaderBody, into: &mut Entries) -> Result<(), Memory>
+    requires { AllByRecursion RisesIn (kept body.now).lent }
     ensures ok { OnOk result (into.new ≡ into.old ++ (kept body.now).lent) }
     ensures err { OnErr result (into.new ≡ into.old) }
     ensures some { OnErr result ((kept body.now).lent ≢ []) }

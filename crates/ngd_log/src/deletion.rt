@@ -4,7 +4,7 @@ ghost use Rattle.ngd_log.specs.Entries.{IsDeletion};
 ghost use Rattle.ngd_log.specs.EntryTexts.{deletion_line};
 
 use dcsp_common::{Memory, push_number};
-use std::alloc::{AllocError, Global};
+use std::alloc::Global;
 
 /// The first line of a log of version 2.
 pub const HEAD2: &[u8] = b"ngd 2\n";
@@ -20,14 +20,13 @@ pub fn write_deletion(numbers: &[u64], into: &mut Vec<u8>) -> Result<(), Memory>
 {
     // The line is made apart, so that a refusal in its middle leaves nothing of it.
     let alloc = *into.allocator();
-    match line_of(alloc, numbers) {
-        Ok(line) => into.extend_from_slice(&line).map_err(|_| Memory),
-        Err(_) => Err(Memory),
-    }
+    let line = line_of(alloc, numbers)?;
+    into.extend_from_slice(&line)?;
+    Ok(())
 }
 
 /// The line of a deletion.
-fn line_of(alloc: Global, numbers: &[u64]) -> Result<Vec<u8>, AllocError>
+fn line_of(alloc: Global, numbers: &[u64]) -> Result<Vec<u8>, Memory>
     ensures { IfOk result (λ line. line.items ≡ deletion_line numbers.now) }
 {
     let mut line = Vec::new(alloc);

@@ -1,66 +1,86 @@
 //! Reading the line of an entry.
 ghost use Rattle.std.specs.Prelude.{◌≡◌, IfOk};
+ghost use Rattle.dcsp_common.specs.Reading.{Reads};
 ghost use Rattle.ngd_log.specs.Reading.{Gives};
-ghost use Rattle.ngd_log.specs.EntryReading.{numbers_at, rises_after, deletion_at, step_entry, entry_of};
-ghost use Rattle.ngd_log.specs.Lent.{entry_in};
+ghost use Rattle.ngd_log.specs.EntryReading.{rising_at, deletion_front, after_deletion_mark, entry_front, entry_of};
+ghost use Rattle.ngd_log.specs.Lent.{entry_in, RisesIn};
 
-use crate::field::{after_byte, step_number_at, still_rises};
-use crate::reader::{Gathered, LineError, is_line_feed, owned_step, step_of};
+use crate::field::{after_byte, step_number_at};
+use crate::reader::{Gathered, LineError, step_front};
 use crate::standing::{EntryKind, Version};
 use dcsp_common::Memory;
 use dcsp_defs::{Entry, NumberList};
 use std::alloc::Global;
 
-/// Reads the numbers, each behind a space, and tells whether they rise, the first above 0.
-fn numbers_at<'t>(numbers: &mut Vec<u64>, bytes: &'t [u8]) -> Result<(bool, &'t [u8]), LineError>
-    ensures read { Gives (λ x. (numbers.new.items, x.1.now)) result (numbers_at bytes.now) }
-    ensures rising { IfOk result (λ x. x.0 ≡ rises_after 0 numbers.new.items) }
+/// Reads the numbers, each behind a space, as long as they rise, the first above 0.
+fn rising_at<'t>(numbers: &mut Vec<u64>, bytes: &'t [u8]) -> Result<&'t [u8], LineError>
+    ensures { Gives (λ rest. (numbers.new.items, rest.now)) result (rising_at bytes.now) }
 {
     numbers.clear();
-    let mut rising = true;
     let mut last = 0;
     let mut rest = bytes;
     while let Some(next) = after_byte(b' ', rest) {
         let Some((number, others)) = step_number_at(next) else {
             return Err(LineError::Bad);
         };
-        rising = still_rises(rising, last, number);
+        if number <= last {
+            return Err(LineError::Bad);
+        }
         last = number;
         numbers.push(number)?;
         rest = others;
     }
-    Ok((rising, rest))
+    Ok(rest)
 }
 
-/// Reads the numbers of a deletion, whose line after its `d` this is.
-#[tactic(auto, unfolding(crate::specs::EntryReading::deletion_at))]
-fn deletion_at(numbers: &mut Vec<u64>, bytes: &[u8]) -> Result<(), LineError>
-    ensures { Gives (λ _. numbers.new.items) result (deletion_at bytes.now) }
+/// Reads the numbers of a deletion, whose line after its `d` is in front.
+#[tactic(auto, unfolding(crate::specs::EntryReading::deletion_front))]
+fn deletion_front<'t>(numbers: &mut Vec<u64>, bytes: &'t [u8]) -> Result<&'t [u8], LineError>
+    ensures { Gives (λ rest. (numbers.new.items, rest.now)) result (deletion_front bytes.now) }
 {
-    let (rising, rest) = numbers_at(numbers, bytes)?;
+    let rest = rising_at(numbers, bytes)?;
     if numbers.is_empty() {
         return Err(LineError::Bad);
     }
-    if !rising {
-        return Err(LineError::Bad);
-    }
-    if !is_line_feed(rest) {
-        return Err(LineError::Bad);
-    }
-    Ok(())
+    after_byte(b'\n', rest).ok_or(LineError::Bad)
 }
 
-/// Reads the step of a whole line, which has this number.
-#[tactic(auto, unfolding(crate::specs::EntryReading::step_entry))]
+/// What stands after the mark of a deletion, which a text of version 1 has not.
 #[inline(always)]
-fn step_entry(gathered: &mut Gathered, number: u64, line: &[u8]) -> Result<EntryKind, LineError>
-    ensures { Gives (λ kind. entry_in kind gathered.new) result (step_entry number line.now) }
+fn after_deletion_mark(version: Version, bytes: &[u8]) -> Option<&[u8]>
+    ensures { Reads (λ x. x.now) result (after_deletion_mark version bytes.now) }
 {
-    step_of(gathered, number, line)?;
-    Ok(EntryKind::Step)
+    match version {
+        Version::One => None,
+        Version::Two => after_byte(b'd', bytes),
+    }
 }
 
-/// Reads the entry of a whole line in a log of this version, where the next step has this number.
+/// Reads the entry whose line is in front in a log of this version, where the next step has this number, and gives
+/// what stands after the line.
+#[tactic(auto, unfolding(crate::specs::EntryReading::entry_front))]
+#[inline(always)]
+pub(crate) fn entry_front<'t>(
+    gathered: &mut Gathered,
+    version: Version,
+    number: u64,
+    bytes: &'t [u8],
+) -> Result<(EntryKind, &'t [u8]), LineError>
+    ensures { Gives (λ x. (entry_in x.0 gathered.new, x.1.now)) result (entry_front version number bytes.now) }
+{
+    match after_deletion_mark(version, bytes) {
+        Some(rest) => {
+            let rest = deletion_front(&mut gathered.numbers, rest)?;
+            Ok((EntryKind::Delete, rest))
+        }
+        None => {
+            let rest = step_front(gathered, number, bytes)?;
+            Ok((EntryKind::Step, rest))
+        }
+    }
+}
+
+/// Reads the entry of a whole line.
 #[tactic(auto, unfolding(crate::specs::EntryReading::entry_of))]
 pub(crate) fn read_entry(
     gathered: &mut Gathered,
@@ -70,15 +90,9 @@ pub(crate) fn read_entry(
 ) -> Result<EntryKind, LineError>
     ensures { Gives (λ kind. entry_in kind gathered.new) result (entry_of version number line.now) }
 {
-    match version {
-        Version::One => step_entry(gathered, number, line),
-        Version::Two => match after_byte(b'd', line) {
-            Some(rest) => {
-                deletion_at(&mut gathered.numbers, rest)?;
-                Ok(EntryKind::Delete)
-            }
-            None => step_entry(gathered, number, line),
-        },
+    match entry_front(gathered, version, number, line)? {
+        (kind, []) => Ok(kind),
+        _ => Err(LineError::Bad),
     }
 }
 
@@ -88,16 +102,14 @@ pub(crate) fn owned_entry(
     kind: EntryKind,
     gathered: &Gathered,
 ) -> Result<Entry, Memory>
+    requires { RisesIn (entry_in kind gathered.now) }
     ensures { IfOk result (λ entry. entry ≡ entry_in kind gathered.now) }
 {
     match kind {
-        EntryKind::Step => match owned_step(alloc, gathered) {
-            Ok(step) => Ok(Entry::Step(step)),
-            Err(_) => Err(Memory),
-        },
-        EntryKind::Delete => match Vec::from_slice(alloc, &gathered.numbers) {
-            Ok(numbers) => Ok(Entry::Delete(NumberList::from_vec(numbers))),
-            Err(_) => Err(Memory),
-        },
+        EntryKind::Step => Ok(Entry::Step(gathered.step().copy(alloc)?)),
+        EntryKind::Delete => {
+            let numbers = Vec::from_slice(alloc, &gathered.numbers)?;
+            Ok(Entry::Delete(NumberList::from_vec(numbers)))
+        }
     }
 }

@@ -2,7 +2,7 @@
 //!
 //! They are inlined into the loops over a line's pairs and reasons, which are the time of reading a log: there no
 //! result goes through memory.
-ghost use Rattle.std.specs.Prelude.{◌≡◌, ℕ, ◌+◌, ◌<◌, ◌≤◌, ◌&&◌, nat_lt, ◌∷◌, [], length, IfSome};
+ghost use Rattle.std.specs.Prelude.{◌≡◌, ℕ, ◌+◌, ◌<◌, ◌≤◌, ◌∷◌, [], length, IfSome};
 ghost use Rattle.dcsp_common.specs.Reading.{Reads, digits_at, number_at};
 ghost use Rattle.ngd_log.specs.Reading.{after, integer_at, counted_at, step_number_at, pair_at, reason_at};
 
@@ -37,14 +37,6 @@ pub(crate) fn after_byte(byte: u8, bytes: &[u8]) -> Option<&[u8]>
         return None;
     };
     if *first == byte { Some(rest) } else { None }
-}
-
-/// Whether a list rises with this number behind it, where it tells whether it rises and which is its last.
-#[inline(always)]
-pub(crate) fn still_rises(rises: bool, last: u64, next: u64) -> bool
-    ensures { result ≡ (rises && nat_lt last next) }
-{
-    rises && last < next
 }
 
 /// Below this a number with one digit more has 64 bits too.

@@ -1,10 +1,9 @@
 //! Derivations and their logs.
 //!
-//! A log is a text of lines, each ended by one line feed: `ngd 1`, a line for each step of a
-//! derivation in order, and `end`. Numbers are decimal, without leading zeros and without `-0`.
-//! A step's line is `K vX [vA=N,vB=N] <- R R`: its number from 1, its variable counted from 1, the
-//! pairs of its nogood, and its reasons, `cN` for the rule with number N from 1 and `nN` for an
-//! earlier step. A step without a variable has the line `K - [] <- cN`.
+//! A log is a text of lines, each ended by one line feed: `ngd 1`, a line for each step of a derivation in order, and
+//! `end`. Numbers are decimal, without leading zeros and without `-0`. A step's line is `K vX [vA=N,vB=N] <- R R`: its
+//! number from 1, its variable counted from 1, the pairs of its nogood, and its reasons, `cN` for the rule with number N
+//! from 1 and `nN` for an earlier step. A step without a variable has the line `K - [] <- cN`.
 //!
 //! This is version 1. A log of version 2 has the first line `ngd 2`, and a line `d K K K` for each
 //! deletion: the numbers of the steps that no later step cites. Deletions have no numbers.

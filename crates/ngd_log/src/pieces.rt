@@ -6,19 +6,19 @@ ghost use Rattle.ngd_log.specs.EntryReading.{good_entries};
 ghost use Rattle.ngd_log.specs.Pieces.{refusal_of, Tells, joined, IsFed, TakesFront, Completes, IsRefused, GoodLines};
 ghost use Rattle.ngd_log.specs.Lent.{lent_entries};
 
-use crate::body::{ReaderBody, take_line, take_part, take_piece};
+use crate::body::{ReaderBody, take_entry, take_line, take_part, take_piece};
 use crate::log::{LogError, split_line};
 use crate::reader::Gathered;
 use crate::standing::{EntryKind, Standing};
 use dcsp_common::Memory;
-use dcsp_defs::{Entries, Lent, LentStep};
+use dcsp_defs::{Entries, Lent};
 use std::alloc::Global;
 use std::marker::Model;
 
 /// Reads a log of either version that comes in pieces, however it is cut.
 ///
-/// It keeps the bytes after the last line feed, and of the entries the one of the line that it took
-/// last, which it lends and whose lists it uses again. It keeps the allocator that it was made with.
+/// It keeps the bytes after the last line feed, and of the entries the one of the line that it took last, which it
+/// lends and whose lists it uses again. It keeps the allocator that it was made with.
 #[derive(Drop)]
 pub struct LogReader {
     body: ReaderBody,
@@ -52,10 +52,10 @@ impl LogReader {
 
     /// Takes the next piece of the text, and appends the entries of the lines that it completes.
     ///
-    /// The text with this piece has at most 2^63 bytes. `LogError::Line` comes exactly where in the
-    /// text so far a line with its line feed is bad, or a byte follows the line `end`. It names the
-    /// first, the entries of the good lines before it were appended, and each later call answers the
-    /// same. After `LogError::Memory` each later call answers that, and what stands in `into` is open.
+    /// The text with this piece has at most 2^63 bytes. `LogError::Line` comes exactly where in the text so far a line
+    /// with its line feed is bad, or a byte follows the line `end`. It names the first, the entries of the good lines
+    /// before it were appended, and each later call answers the same. After `LogError::Memory` each later call answers
+    /// that, and what stands in `into` is open.
     pub fn feed(&mut self, piece: &[u8], into: &mut Entries) -> Result<(), LogError>
         requires { self.old.fed + length piece.now ≤ 2 ^ 63 }
         ensures fed { (text : List ℕ) → IsFed self.old text → IsFed self.new (text ++ piece.now) }
@@ -86,6 +86,9 @@ impl LogReader {
         ensures stands { IsErr result ↔ (refusal_of self.new.standing ≡ Some LogError.Memory) }
         ensures again { IfSome (refusal_of self.old.standing) (λ error. refusal_of self.new.standing ≡ Some error) }
     {
+        if let Some(rest) = take_entry(&mut self.body, piece) {
+            return Ok(Some(rest));
+        }
         let Some((line, others)) = split_line(piece) else {
             take_part(&mut self.body, piece);
             self.body.standing.memory()?;
@@ -105,19 +108,15 @@ impl LogReader {
             return None;
         };
         match kind {
-            EntryKind::Step => Some(Lent::Step(LentStep {
-                variable: gathered.variable,
-                pairs: &gathered.pairs,
-                reasons: &gathered.reasons,
-            })),
+            EntryKind::Step => Some(Lent::Step(gathered.step())),
             EntryKind::Delete => Some(Lent::Delete(&gathered.numbers)),
         }
     }
 
     /// Whether the text that was fed is a log of either version. It takes no memory.
     ///
-    /// `LogError::Line` comes exactly where it is none, and names its first bad line: an unfinished or
-    /// missing line is one. `LogError::Memory` comes exactly where a call of `feed` or `take_line` lacked memory.
+    /// `LogError::Line` comes exactly where it is none, and names its first bad line: an unfinished or missing line is
+    /// one. `LogError::Memory` comes exactly where a call of `feed` or `take_line` lacked memory.
     pub fn finish(&self) -> Result<(), LogError>
         ensures log { OnOk result ((text : List ℕ) → IsFed self.now text → IsLogOfEntries text (good_entries text)) }
         ensures line { (number : ℕ) → IsErrOf result (LogError.Line number) → (text : List ℕ) → IsFed self.now text → IsFirstBadLine text number }
@@ -129,8 +128,8 @@ impl LogReader {
     }
 }
 
-/// The entries of a log of either version that comes in these pieces. However it is cut, the answer
-/// is that of the whole text, which has at most 2^63 bytes.
+/// The entries of a log of either version that comes in these pieces. However it is cut, the answer is that of the whole
+/// text, which has at most 2^63 bytes.
 ///
 /// `LogError::Line` comes exactly where the text is no log, and names its first bad line.
 pub fn read_pieces(alloc: Global, pieces: &[Vec<u8>]) -> Result<Entries, LogError>
@@ -168,8 +167,7 @@ pub fn one_answer()
     ensures { (text : List ℕ) → (IsHeadedTwo text → ⊥) → IsOneAnswer text }
 {}
 
-/// The entries of the good lines of a text: all of a log's, and else those before the first line
-/// that is no entry's.
+/// The entries of the good lines of a text: all of a log's, and else those before the first line that is no entry's.
 pub fn good_lines()
     ensures { (text : List ℕ) → GoodLines text }
 {}

@@ -1,17 +1,17 @@
 //! Reading a line of a log.
-ghost use Rattle.std.specs.Prelude.{◌≡◌, ℕ, [], IfOk, IfErr, IsErrOf, codes};
+ghost use Rattle.std.specs.Prelude.{◌≡◌, ℕ, IfOk, IsErrOf, codes};
 ghost use Rattle.dcsp_common.specs.Reading.{Reads};
 ghost use Rattle.ngd_log.specs.declared.reader.LineError.TheVariants.{Memory as OutOfMemory};
+ghost use Rattle.dcsp_defs.specs.Pairs.{IsRising};
 ghost use Rattle.dcsp_defs.specs.declared.Step.{Step as DerivationStep};
 ghost use Rattle.ngd_log.specs.StepText.{IsStepLine};
-ghost use Rattle.ngd_log.specs.Reading.{Gives, after, pairs_from, pairs_at, reasons_at, rises, is_line_feed, variable_step, rule_step, step_of};
+ghost use Rattle.ngd_log.specs.Reading.{Gives, after, nogood_from, nogood_at, reasons_at, variable_front, rule_front, step_front};
 ghost use Rattle.ngd_log.specs.Lent.{step_in};
 
 use crate::field::{
     RULES, VARIABLES, after, after_byte, counted_at, pair_at, reason_at, step_number_at,
-    still_rises,
 };
-use dcsp_defs::{Nogood, Pair, Reason, ReasonList, Step};
+use dcsp_defs::{LentStep, Pair, Reason, Step};
 use std::alloc::{AllocFailed, Global};
 
 /// Why a line gives no step.
@@ -26,14 +26,6 @@ impl<T: Drop> From<AllocFailed<T>> for LineError {
     ghost from_gives = { λ _ e. e ≡ OutOfMemory };
 
     fn from(_refused: AllocFailed<T>) -> LineError {
-        LineError::Memory
-    }
-}
-
-impl<T: Drop> From<(T, dcsp_common::Memory)> for LineError {
-    ghost from_gives = { λ _ e. e ≡ OutOfMemory };
-
-    fn from(_refused: (T, dcsp_common::Memory)) -> LineError {
         LineError::Memory
     }
 }
@@ -61,49 +53,59 @@ impl Gathered {
             numbers: Vec::new(alloc),
         }
     }
+
+    /// The step that was read, lent.
+    pub fn step(&self) -> LentStep<'_>
+        requires { IsRising self.now.pairs.items }
+        ensures { result ≡ step_in self.now }
+    {
+        LentStep {
+            variable: self.variable,
+            pairs: &self.pairs,
+            reasons: &self.reasons,
+        }
+    }
 }
 
-/// Reads the pairs after this first one, each behind a comma, and tells whether all of them rise.
-fn pairs_from<'t>(
+/// Reads the pairs after this first one, each behind a comma, as long as they rise.
+fn nogood_from<'t>(
     pairs: &mut Vec<Pair>,
     first: Pair,
     bytes: &'t [u8],
-) -> Result<(bool, &'t [u8]), LineError>
-    ensures read { Gives (λ x. (pairs.new.items, x.1.now)) result (pairs_from first bytes.now) }
-    ensures rising { IfOk result (λ x. x.0 ≡ rises pairs.new.items) }
+) -> Result<&'t [u8], LineError>
+    ensures { Gives (λ rest. (pairs.new.items, rest.now)) result (nogood_from first bytes.now) }
 {
     pairs.clear();
     pairs.push(first)?;
-    let mut rising = true;
     let mut last = first.var;
     let mut rest = bytes;
     while let Some(next) = after_byte(b',', rest) {
         let Some((pair, others)) = pair_at(next) else {
             return Err(LineError::Bad);
         };
-        rising = still_rises(rising, last as u64, pair.var as u64);
+        if pair.var <= last {
+            return Err(LineError::Bad);
+        }
         last = pair.var;
         pairs.push(pair)?;
         rest = others;
     }
-    Ok((rising, rest))
+    Ok(rest)
 }
 
-/// Reads the pairs in brackets, and tells whether they rise.
-#[tactic(auto, unfolding(crate::specs::Reading::pairs_at, crate::specs::Reading::pairs_before))]
-fn pairs_at<'t>(pairs: &mut Vec<Pair>, bytes: &'t [u8]) -> Result<(bool, &'t [u8]), LineError>
-    ensures read { Gives (λ x. (pairs.new.items, x.1.now)) result (pairs_at bytes.now) }
-    ensures rising { IfOk result (λ x. x.0 ≡ rises pairs.new.items) }
+/// Reads the pairs of a nogood in brackets.
+#[tactic(auto, unfolding(crate::specs::Reading::nogood_at, crate::specs::Reading::nogood_before))]
+fn nogood_at<'t>(pairs: &mut Vec<Pair>, bytes: &'t [u8]) -> Result<&'t [u8], LineError>
+    ensures { Gives (λ rest. (pairs.new.items, rest.now)) result (nogood_at bytes.now) }
 {
     let rest = after_byte(b'[', bytes).ok_or(LineError::Bad)?;
     if let Some(rest) = after_byte(b']', rest) {
         pairs.clear();
-        return Ok((true, rest));
+        return Ok(rest);
     }
     let (first, rest) = pair_at(rest).ok_or(LineError::Bad)?;
-    let (rising, rest) = pairs_from(pairs, first, rest)?;
-    let rest = after_byte(b']', rest).ok_or(LineError::Bad)?;
-    Ok((rising, rest))
+    let rest = nogood_from(pairs, first, rest)?;
+    after_byte(b']', rest).ok_or(LineError::Bad)
 }
 
 /// Reads the reasons, each behind a space.
@@ -122,48 +124,34 @@ fn reasons_at<'t>(reasons: &mut Vec<Reason>, bytes: &'t [u8]) -> Result<&'t [u8]
     Ok(rest)
 }
 
-/// Whether this is one line feed.
-pub(crate) fn is_line_feed(bytes: &[u8]) -> bool
-    ensures { result ≡ is_line_feed bytes.now }
-{
-    matches!(bytes, [b'\n'])
-}
-
-/// Reads the step of a line with a variable, whose rest after the number this is.
-#[tactic(auto, unfolding(crate::specs::Reading::variable_step))]
-fn variable_step(gathered: &mut Gathered, bytes: &[u8]) -> Result<(), LineError>
-    ensures { Gives (λ _. step_in gathered.new) result (variable_step bytes.now) }
+/// Reads the step of a line with a variable, whose rest after the number is in front.
+#[tactic(auto, unfolding(crate::specs::Reading::variable_front))]
+fn variable_front<'t>(gathered: &mut Gathered, bytes: &'t [u8]) -> Result<&'t [u8], LineError>
+    ensures { Gives (λ rest. (step_in gathered.new, rest.now)) result (variable_front bytes.now) }
 {
     let rest = after_byte(b'v', bytes).ok_or(LineError::Bad)?;
     let (variable, rest) = counted_at(rest, VARIABLES).ok_or(LineError::Bad)?;
     let rest = after_byte(b' ', rest).ok_or(LineError::Bad)?;
-    let (rising, rest) = pairs_at(&mut gathered.pairs, rest)?;
+    let rest = nogood_at(&mut gathered.pairs, rest)?;
     let rest = after(b" <-", rest).ok_or(LineError::Bad)?;
     let rest = reasons_at(&mut gathered.reasons, rest)?;
-    if !rising {
-        return Err(LineError::Bad);
-    }
-    if !is_line_feed(rest) {
-        return Err(LineError::Bad);
-    }
+    let rest = after_byte(b'\n', rest).ok_or(LineError::Bad)?;
     gathered.variable = Some(variable);
-    Ok(())
+    Ok(rest)
 }
 
-/// Reads the step of a line without a variable, whose rest after `- [] <- c` this is.
-#[tactic(auto, unfolding(crate::specs::Reading::rule_step))]
-fn rule_step(gathered: &mut Gathered, bytes: &[u8]) -> Result<(), LineError>
-    ensures { Gives (λ _. step_in gathered.new) result (rule_step bytes.now) }
+/// Reads the step of a line without a variable, whose rest after `- [] <- c` is in front.
+#[tactic(auto, unfolding(crate::specs::Reading::rule_front))]
+fn rule_front<'t>(gathered: &mut Gathered, bytes: &'t [u8]) -> Result<&'t [u8], LineError>
+    ensures { Gives (λ rest. (step_in gathered.new, rest.now)) result (rule_front bytes.now) }
 {
     let (rule, rest) = counted_at(bytes, RULES).ok_or(LineError::Bad)?;
-    if !is_line_feed(rest) {
-        return Err(LineError::Bad);
-    }
+    let rest = after_byte(b'\n', rest).ok_or(LineError::Bad)?;
     gathered.variable = None;
     gathered.pairs.clear();
     gathered.reasons.clear();
     gathered.reasons.push(Reason::Rule(rule))?;
-    Ok(())
+    Ok(rest)
 }
 
 /// What stands after the mark of a step without a variable, if the bytes begin with it: one byte tells most that do not.
@@ -178,19 +166,23 @@ fn after_mark(bytes: &[u8]) -> Option<&[u8]>
     }
 }
 
-/// Reads the step of a whole line, which has this number.
-#[tactic(auto, unfolding(crate::specs::Reading::step_of))]
-pub(crate) fn step_of(gathered: &mut Gathered, number: u64, line: &[u8]) -> Result<(), LineError>
-    ensures { Gives (λ _. step_in gathered.new) result (step_of number line.now) }
+/// Reads the step whose line is in front and has this number, and gives what stands after the line.
+#[tactic(auto, unfolding(crate::specs::Reading::step_front))]
+pub(crate) fn step_front<'t>(
+    gathered: &mut Gathered,
+    number: u64,
+    bytes: &'t [u8],
+) -> Result<&'t [u8], LineError>
+    ensures { Gives (λ rest. (step_in gathered.new, rest.now)) result (step_front number bytes.now) }
 {
-    let (found, rest) = step_number_at(line).ok_or(LineError::Bad)?;
+    let (found, rest) = step_number_at(bytes).ok_or(LineError::Bad)?;
     let rest = after_byte(b' ', rest).ok_or(LineError::Bad)?;
     if found != number {
         return Err(LineError::Bad);
     }
     match after_mark(rest) {
-        Some(rest) => rule_step(gathered, rest),
-        None => variable_step(gathered, rest),
+        Some(rest) => rule_front(gathered, rest),
+        None => variable_front(gathered, rest),
     }
 }
 
@@ -204,26 +196,12 @@ pub fn read_step(
     ensures step { IfOk result (λ step. IsStepLine number line.now step) }
     ensures bad { IsErrOf result LineError.Bad → (step : DerivationStep) → IsStepLine number line.now step → ⊥ }
 {
-    match step_of(gathered, number, line) {
-        Ok(()) => owned_step(alloc, gathered),
+    match step_front(gathered, number, line) {
+        Ok([]) => match gathered.step().copy(alloc) {
+            Ok(step) => Ok(step),
+            Err(_) => Err(LineError::Memory),
+        },
+        Ok(_) => Err(LineError::Bad),
         Err(error) => Err(error),
-    }
-}
-
-/// The step that was read, in lists of its own, which are as long as they have to be.
-pub(crate) fn owned_step(alloc: Global, gathered: &Gathered) -> Result<Step, LineError>
-    ensures step { IfOk result (λ step. step ≡ step_in gathered.now) }
-    ensures memory { IfErr result (λ error. error ≡ OutOfMemory) }
-{
-    let Ok(nogood) = Nogood::from_pairs(alloc, &gathered.pairs) else {
-        return Err(LineError::Memory);
-    };
-    match Vec::from_slice(alloc, &gathered.reasons) {
-        Ok(reasons) => Ok(Step {
-            variable: gathered.variable,
-            nogood,
-            reasons: ReasonList::from_vec(reasons),
-        }),
-        Err(_) => Err(LineError::Memory),
     }
 }

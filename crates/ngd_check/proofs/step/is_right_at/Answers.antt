@@ -23,7 +23,7 @@ returns g c =
     let R : PartialAssignment → ℤ → _ → Type 0 = λ f value. IsReasonUnder p (g.C.Cites.cited c.args.nogoods.now) (with_value c.args.var value f) in
     let here : value_at nogood c.args.var ≡ c.value_of.result = ap (λ (f : PartialAssignment). f c.args.var) (sym c.requires.known) ∙ sym c.value_of.ensures in (
       λ t. record {
-        variable = omega arith;
+        variable = (let v = c.vars.ensures.vars in omega (arith, v));
         rising = c.pairs-pairs.ensures.rising;
         pairs = all_in _ _ c.requires.pairs;
         other = none_of (value_at nogood c.args.var) (ap is_some here ∙ (sym c.is_some.ensures ∙ c.if-is_some.false));
