@@ -1,5 +1,4 @@
 //! Atoms.
-
 ghost use Rattle.std.specs.Prelude.{◌≤◌, length, IfOk, IfSome};
 ghost use Rattle.fzn_item.specs.Readers.{Reads, Passes};
 ghost use Rattle.fzn_item.specs.Exprs.{AtomAfter};
@@ -15,6 +14,7 @@ impl Form for Atom {
 
     ghost form = { IsAtom };
 
+    #[inline(always)]
     fn read(alloc: Global, tokens: &[Token]) -> Result<(Atom, &[Token]), Stop> {
         match tokens.split_first() {
             Some((first, rest)) => atom_after(alloc, *first, rest),
@@ -48,6 +48,7 @@ impl Form for i64 {
 }
 
 /// An atom whose first token this is.
+#[inline(always)]
 fn atom_after(alloc: Global, first: Token, tokens: &[Token]) -> Result<(Atom, &[Token]), Stop>
     ensures reads { Reads (AtomAfter first.kind first) tokens.now result }
     ensures shorter { IfOk result (λ x. length x.1.now ≤ length tokens.now) }

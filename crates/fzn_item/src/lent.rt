@@ -127,7 +127,8 @@ pub(crate) fn lent_constraint<'t>(
     Ok((constraint, rest))
 }
 
-/// The expression that these tokens begin with.
+/// The expression that these tokens begin with. It is inlined where arguments are resolved: no atom goes through memory.
+#[inline(always)]
 pub fn next_expr(alloc: Global, tokens: &[Token]) -> Result<LentExpr<'_>, Memory>
     requires { Begins IsExpr tokens.now }
     ensures { IfOk result (IsLentExpr tokens.now) }
@@ -145,6 +146,7 @@ pub fn next_expr(alloc: Global, tokens: &[Token]) -> Result<LentExpr<'_>, Memory
 }
 
 /// The atom that these tokens begin with, and the tokens behind it.
+#[inline(always)]
 pub fn next_atom(alloc: Global, tokens: &[Token]) -> Result<(Atom, &[Token]), Memory>
     requires { Begins IsAtom tokens.now }
     ensures reads { IfOk result (λ x. IsAtom tokens.now x.0 x.1.now) }

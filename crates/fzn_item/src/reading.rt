@@ -16,9 +16,8 @@ use std::alloc::Global;
 
 /// The items of the tokens of a text.
 ///
-/// The tokens are cut after each `;`, and each piece is read by one production. `Syntax` comes exactly
-/// where some item is read by none, a rest without `;` among them, and names the first byte of the first
-/// such item.
+/// The tokens are cut after each `;`, and each piece is read by one production. `Syntax` comes exactly where some item
+/// is read by none, a rest without `;` among them, and names the first byte of the first such item.
 pub fn items(alloc: Global, text: &[u8], tokens: &TokenList) -> Result<ItemList, ItemError>
     ensures { Answers text.now tokens.now result }
 {
@@ -58,8 +57,7 @@ pub fn one_answer()
     ensures { HasOneAnswer }
 {}
 
-/// An item is the tokens up to the first `;` and with it, so that items are the pieces that are cut
-/// after each `;`.
+/// An item is the tokens up to the first `;` and with it, so that items are the pieces that are cut after each `;`.
 pub fn items_end_at_semicolons()
     ensures { ItemsEndAtSemicolons }
 {}

@@ -1,6 +1,8 @@
 //! Arrays: their elements, and the sets that these are in.
 
 ghost use Rattle.std.specs.Prelude.{◌≡◌, ℕ, ◌≤◌, length, All, OnOk, IfOk, Ok};
+ghost use Rattle.std.specs.Option.{option_map};
+ghost use Rattle.dcsp_rule.specs.Lent.{lent_members};
 ghost use Rattle.dcsp_rule.specs.Rules.{IsTermOf};
 ghost use Rattle.dcsp_problem.specs.Limits.{most};
 ghost use Rattle.fzn_scope.specs.Checks.{Gives};
@@ -13,11 +15,9 @@ ghost use Rattle.fzn_model.specs.Reading.{Leaves, elements_by};
 use crate::building::add_rule;
 use crate::declaration::{Declaration, is_boolean};
 use crate::refusal::{ItemRefusal, Stop, ill_typed};
-use dcsp_domain::IntList;
-use dcsp_problem::{ConstraintKind, Members, ProblemBuilder, Rule, Term, TermList, Which};
+use dcsp_problem::{ConstraintKind, MembersRef, ProblemBuilder, RuleRef, Term, TermList, Which};
 use fzn_item::{Base, Expr};
 use fzn_scope::{Context, Wanted};
-use std::alloc::Global;
 
 /// Refuses arrays of floats and of sets.
 pub(crate) fn check_element(at: u32, base: &Base) -> Result<(), ItemRefusal>
@@ -73,26 +73,22 @@ pub(crate) fn elements(
     Ok(context.list_of(wanted, right)?)
 }
 
-/// A copy of a set that elements are in, if the element type says one.
-fn element_set(alloc: Global, base: &Base) -> Result<Option<Members>, Stop>
-    ensures { Gives refusal_of result (Ok (element_set base.now)) }
+/// The set that elements are in, if the element type says one.
+fn element_set(base: &Base) -> Option<MembersRef<'_>>
+    ensures { option_map lent_members result ≡ element_set base.now }
 {
     match base {
-        Base::Range { low, high } => Ok(Some(Members::Between {
+        Base::Range { low, high } => Some(MembersRef::Between {
             low: *low,
             high: *high,
-        })),
-        Base::Listed(values) => {
-            let values = Vec::from_slice(alloc, values.items())?;
-            Ok(Some(Members::Listed(IntList::from_vec(values))))
-        }
-        Base::Bool | Base::Int | Base::Float | Base::Set => Ok(None),
+        }),
+        Base::Listed(values) => Some(MembersRef::Listed(values.items())),
+        Base::Bool | Base::Int | Base::Float | Base::Set => None,
     }
 }
 
 /// Adds the rule that an element is in the set of its type, if that says one.
 fn add_member(
-    alloc: Global,
     builder: &mut ProblemBuilder,
     declaration: Declaration<'_, '_>,
     term: Term,
@@ -102,14 +98,14 @@ fn add_member(
     ensures domains { OnOk result (builder.new.domains ≡ builder.old.domains) }
     ensures outputs { OnOk result (builder.new.outputs ≡ builder.old.outputs) }
 {
-    let Some(members) = element_set(alloc, declaration.base)? else {
+    let Some(members) = element_set(declaration.base) else {
         return Ok(());
     };
-    let rule = Rule::Plain {
+    let rule = RuleRef::Plain {
         kind: ConstraintKind::SetIn,
-        scalars: TermList::from_vec(vec![in alloc; term]?),
-        first: TermList::new(alloc),
-        second: TermList::new(alloc),
+        scalars: &[term],
+        first: &[],
+        second: &[],
         members,
     };
     add_rule(builder, declaration.name_at, rule)
@@ -117,7 +113,6 @@ fn add_member(
 
 /// Adds the rules that the elements of an array of variables are in the set of their type, in order, if that says one.
 pub(crate) fn add_members(
-    alloc: Global,
     builder: &mut ProblemBuilder,
     declaration: Declaration<'_, '_>,
     terms: &[Term],
@@ -131,7 +126,7 @@ pub(crate) fn add_members(
         return Ok(());
     }
     for term in terms {
-        add_member(alloc, builder, declaration, *term)?;
+        add_member(builder, declaration, *term)?;
     }
     Ok(())
 }

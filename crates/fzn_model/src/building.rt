@@ -1,12 +1,13 @@
 //! A problem with one thing more, or the refusal at the place of the item that adds it.
 
 ghost use Rattle.std.specs.Prelude.{◌≡◌, ◌+◌, length, All, IsTrue, IfOk, OnOk};
+ghost use Rattle.dcsp_rule.specs.Lent.{lent_rule};
 ghost use Rattle.dcsp_rule.specs.Rules.{IsTermOf, terms_of, has_shape};
 ghost use Rattle.fzn_model.specs.Building.{with_variable, with_rule};
 ghost use Rattle.fzn_model.specs.Reading.{Leaves, stop_at};
 
 use crate::refusal::{ItemRefusal, Stop};
-use dcsp_problem::{BuildError, Domain, ProblemBuilder, Rule};
+use dcsp_problem::{BuildError, Domain, ProblemBuilder, RuleRef};
 
 /// The builder's refusal, at a place.
 fn stop_at(at: u32, error: BuildError) -> Stop
@@ -40,15 +41,15 @@ pub(crate) fn add_variable(
     }
 }
 
-/// Adds a rule.
-pub(crate) fn add_rule(builder: &mut ProblemBuilder, at: u32, rule: Rule) -> Result<(), Stop>
-    requires known { All (IsTermOf (length builder.old.domains)) (terms_of rule) }
-    requires shape { IsTrue (has_shape rule) }
-    ensures added { Leaves builder.new result (with_rule at builder.old rule) }
+/// Adds a rule, whose lists are copied.
+pub(crate) fn add_rule(builder: &mut ProblemBuilder, at: u32, rule: RuleRef<'_>) -> Result<(), Stop>
+    requires known { All (IsTermOf (length builder.old.domains)) (terms_of (lent_rule rule)) }
+    requires shape { IsTrue (has_shape (lent_rule rule)) }
+    ensures added { Leaves builder.new result (with_rule at builder.old (lent_rule rule.entry)) }
     ensures domains { OnOk result (builder.new.domains ≡ builder.old.domains) }
     ensures outputs { OnOk result (builder.new.outputs ≡ builder.old.outputs) }
 {
-    match builder.add_rule(rule) {
+    match builder.add_lent(rule) {
         Ok(_number) => Ok(()),
         Err(error) => Err(stop_at(at, error)),
     }

@@ -13,7 +13,7 @@ ghost use Rattle.fzn_model.specs.Reading.{Leaves};
 use crate::building::add_rule;
 use crate::refusal::{ItemRefusal, Stop, ill_typed};
 use dcsp_domain::{Domain, DomainError, IntList};
-use dcsp_problem::{ConstraintKind, Members, ProblemBuilder, Rule, Term, TermList, Which};
+use dcsp_problem::{ConstraintKind, MembersRef, ProblemBuilder, RuleRef, Term, Which};
 use fzn_item::{Base, Expr, Marked};
 use fzn_scope::{Context, Declared, Wanted};
 use std::alloc::Global;
@@ -162,7 +162,6 @@ impl<'i, 't> Declaration<'i, 't> {
     /// Adds the rule that the variable of this number is equal to its right side, if it has one.
     pub(crate) fn add_source(
         self,
-        alloc: Global,
         builder: &mut ProblemBuilder,
         number: u32,
         source: Option<Term>,
@@ -176,12 +175,12 @@ impl<'i, 't> Declaration<'i, 't> {
         let Some(source) = source else {
             return Ok(());
         };
-        let rule = Rule::Plain {
+        let rule = RuleRef::Plain {
             kind: equality(is_boolean(self.base)),
-            scalars: TermList::from_vec(vec![in alloc; Term::Var(number), source]?),
-            first: TermList::new(alloc),
-            second: TermList::new(alloc),
-            members: Members::Listed(IntList::new(alloc)),
+            scalars: &[Term::Var(number), source],
+            first: &[],
+            second: &[],
+            members: MembersRef::Listed(&[]),
         };
         add_rule(builder, self.name_at, rule)
     }

@@ -19,7 +19,7 @@ use crate::output::{add_array_output, add_variable_output, check_shape};
 use crate::refusal::{ItemRefusal, Stop};
 use dcsp_problem::{Problem, ProblemBuilder, Term, Which};
 use fzn_item::{Goal, Item, LentArguments, LentItem};
-use fzn_scope::{Context, Declared, Names, bytes_at};
+use fzn_scope::{ArgumentLists, Context, Declared, Names, bytes_at};
 use std::alloc::Global;
 
 /// What the items so far gave.
@@ -27,6 +27,8 @@ use std::alloc::Global;
 pub(crate) struct Resolver<'t> {
     alloc: Global,
     names: Names<'t>,
+    /// What the arguments of a constraint are read into.
+    lists: ArgumentLists,
     builder: ProblemBuilder,
     /// Whether there was a constraint.
     constrained: bool,
@@ -51,6 +53,7 @@ impl<'t> Resolver<'t> {
         Resolver {
             alloc,
             names: Names::new(alloc),
+            lists: ArgumentLists::new(alloc),
             builder: ProblemBuilder::new(alloc),
             constrained: false,
             solved: false,
@@ -117,7 +120,7 @@ impl<'t> Resolver<'t> {
         };
         let source = source_of(context, boolean, declaration.right)?;
         let number = add_variable(&mut self.builder, declaration.name_at, domain)?;
-        declaration.add_source(self.alloc, &mut self.builder, number, source)?;
+        declaration.add_source(&mut self.builder, number, source)?;
         add_variable_output(self.alloc, &mut self.builder, declaration, number)?;
         let term = Term::Var(number);
         self.names
@@ -150,7 +153,7 @@ impl<'t> Resolver<'t> {
         let terms = elements(context, declaration, index, right)?;
         check_shape(declaration, terms.len())?;
         within(Which::Elements, terms.len(), declaration.name_at)?;
-        add_members(self.alloc, &mut self.builder, declaration, terms.items())?;
+        add_members(&mut self.builder, declaration, terms.items())?;
         add_array_output(self.alloc, &mut self.builder, declaration, terms.items())?;
         let value = Declared::Many {
             boolean: is_boolean(declaration.base),
@@ -185,7 +188,7 @@ impl<'t> Resolver<'t> {
             text,
             names: &self.names,
         };
-        let rule = context.constraint_rule(name_at, name, arguments)?;
+        let rule = context.constraint_rule(&mut self.lists, name_at, name, arguments)?;
         add_rule(&mut self.builder, name_at, rule)?;
         self.constrained = true;
         Ok(())

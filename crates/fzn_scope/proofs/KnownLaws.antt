@@ -19,7 +19,7 @@ use Rattle.fzn_scope.specs.declared.form.Place.{Place}
 use Rattle.fzn_scope.specs.declared.form.Place.TheVariants.{Scalar, First, Second, Set}
 use Rattle.fzn_scope.specs.declared.form.Form.{Form}
 use Rattle.fzn_scope.specs.declared.form.Form.TheVariants.{Plain, Sum}
-use Rattle.fzn_scope.specs.declared.arguments.Arguments.{Arguments}
+use Rattle.fzn_scope.specs.Arguments.{Arguments}
 use Rattle.fzn_scope.specs.declared.refusal.Refusal.TheVariants as refusal
 use Rattle.fzn_scope.specs.Names.{Scope, declared_as, bytes_at}
 use Rattle.fzn_scope.specs.Places.{is_constant, same, truth_term, wanted_term, term_named, term_of, one_of, terms_after, terms_named, list_of, set_of}

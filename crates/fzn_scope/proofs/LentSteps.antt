@@ -1,5 +1,5 @@
 -- Arguments that are lent from the tokens of a constraint, one after another.
-use Rattle.std.proofs.Common.{◌≡◌, ℕ, suc, arith, Option, Some, None, List, [], ◌∷◌, ◌++◌, ◌⊎◌, length, Ok, Err, sym, ◌∙◌, refl, ap, subst, ⊎_elim, inl, inr}
+use Rattle.std.proofs.Common.{◌≡◌, ℕ, Result, suc, arith, Option, Some, None, List, [], ◌∷◌, ◌++◌, ◌⊎◌, length, Ok, Err, sym, ◌∙◌, refl, ap, subst, ⊎_elim, inl, inr}
 use Rattle.std.specs.Borrow.{Bor}
 use Rattle.fzn_token.specs.declared.token.Token.{Token}
 use Rattle.fzn_token.specs.declared.token.Mark.{Mark}
@@ -15,9 +15,10 @@ use Rattle.fzn_item.specs.Exprs.{IsAtom, IsExpr}
 use Rattle.fzn_item.specs.Lent.{AreArguments, IsLent, IsLentExpr}
 use Rattle.fzn_item.specs.declared.lent.LentArguments.{LentArguments}
 use Rattle.fzn_scope.specs.declared.form.Place.{Place}
-use Rattle.fzn_scope.specs.declared.form.Place.TheVariants.{First, Second}
-use Rattle.fzn_scope.specs.declared.arguments.Arguments.{Arguments}
-use Rattle.fzn_scope.specs.Checks.{Stops}
+use Rattle.fzn_scope.specs.Arguments.{Arguments}
+use Rattle.fzn_scope.specs.Checks.{◌>>=◌, Stops, refusal_of}
+use Rattle.fzn_scope.specs.declared.refusal.Stop.{Stop}
+use Rattle.fzn_scope.specs.Lent.{LeavesAt}
 use Rattle.fzn_scope.specs.Rules.{no_arguments, with_argument, arguments_after}
 use Rattle.fzn_item.specs.Readers.{Begins}
 use Rattle.fzn_item.proofs.Combining.{IsUnique, one_unique, comma_apart}
@@ -160,23 +161,15 @@ arguments_start text scope places a lent_as count = record {
   same = refl;
 }
 
--- the terms of a list at the place of the first list
-pub first_given : (text : List ℕ) (scope : Scope) (done : Arguments) (wanted : Wanted) (at : ℕ) (atoms : List Atom) (terms : List Term) → terms_after text scope wanted [] atoms ≡ Ok terms → with_argument text scope done (First wanted) (expr.List at atoms) ≡ Ok (record done { first = terms })
-first_given text scope done wanted at atoms terms is = rw is refl
+-- what a call stopped with before the next step is what both stop with
+stops_then : {X Y : Type 0} (f : X → Result Y Refusal) (told : Option Refusal) (meaning : Result X Refusal) → Stops told meaning → Stops told (meaning >>= f)
+stops_then f None meaning stops = tt
+stops_then f (Some e) meaning is = rw is refl
 
--- and at that of the second
-pub second_given : (text : List ℕ) (scope : Scope) (done : Arguments) (wanted : Wanted) (at : ℕ) (atoms : List Atom) (terms : List Term) → terms_after text scope wanted [] atoms ≡ Ok terms → with_argument text scope done (Second wanted) (expr.List at atoms) ≡ Ok (record done { second = terms })
-second_given text scope done wanted at atoms terms is = rw is refl
-
--- a list that is refused at the place of the first list
-pub first_refused : (text : List ℕ) (scope : Scope) (done : Arguments) (wanted : Wanted) (at : ℕ) (atoms : List Atom) (told : Option Refusal) → Stops told (terms_after text scope wanted [] atoms) → Stops told (with_argument text scope done (First wanted) (expr.List at atoms))
-first_refused text scope done wanted at atoms None stops = tt
-first_refused text scope done wanted at atoms (Some e) is = rw is refl
-
--- and at that of the second
-pub second_refused : (text : List ℕ) (scope : Scope) (done : Arguments) (wanted : Wanted) (at : ℕ) (atoms : List Atom) (told : Option Refusal) → Stops told (terms_after text scope wanted [] atoms) → Stops told (with_argument text scope done (Second wanted) (expr.List at atoms))
-second_refused text scope done wanted at atoms None stops = tt
-second_refused text scope done wanted at atoms (Some e) is = rw is refl
+-- a call that does a part of what is meant, and gives the tokens behind, does the whole, where the rest follows of it
+pub leaves_in_at : {X Y : Type 0} (rest : List Token) (f : X → Y) (x : X) (r : Result (Bor (List Token)) Stop) (meaning : Result X Refusal) → LeavesAt rest x r meaning → LeavesAt rest (f x) r (meaning >>= λ y. Ok (f y))
+leaves_in_at rest f x (Ok behind) meaning given = (rw given.0 refl, given.1)
+leaves_in_at rest f x (Err e) meaning stops = stops_then (λ y. Ok (f y)) (refusal_of e) meaning stops
 
 -- some arguments are left where some places are
 some_left : {standing : List Token} {left : List Expr} {end : List Token} {n : ℕ} → length left ≡ suc n → (left ≡ []) ⊎ IsSeparated IsExpr mark.CloseParen standing left end → IsSeparated IsExpr mark.CloseParen standing left end

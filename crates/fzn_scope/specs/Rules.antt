@@ -14,7 +14,8 @@ use Rattle.fzn_scope.specs.declared.form.Place.{Place}
 use Rattle.fzn_scope.specs.declared.form.Place.TheVariants.{Scalar, First, Second, Set}
 use Rattle.fzn_scope.specs.declared.form.Form.{Form}
 use Rattle.fzn_scope.specs.declared.form.Form.TheVariants.{Plain, Sum}
-use Rattle.fzn_scope.specs.declared.arguments.Arguments.{Arguments}
+use Rattle.fzn_scope.specs.declared.lists.ArgumentLists.{ArgumentLists}
+use Rattle.fzn_scope.specs.Arguments.{Arguments, arguments_in}
 use Rattle.fzn_scope.specs.declared.refusal.Refusal.{Refusal}
 use Rattle.fzn_scope.specs.declared.refusal.Refusal.TheVariants as refusal
 use Rattle.fzn_scope.specs.Checks.{◌>>=◌, refused_if}
@@ -68,6 +69,11 @@ abbrev pub rule_of : Form → Arguments → Rule
 rule_of (Plain kind) arguments = rule.Plain kind arguments.scalars arguments.first arguments.second arguments.members
 rule_of (Sum rel boolean reified) arguments =
     rule.Sum rel (map constant_of arguments.first) arguments.second (scalar_at arguments 0) (truth_of reified arguments)
+
+-- the rule that lists make, whose coefficients stand there
+abbrev pub rule_in : Form → ArgumentLists → Rule
+rule_in (Plain kind) lists = rule_of (Plain kind) (arguments_in lists)
+rule_in (Sum rel boolean reified) lists = rule.Sum rel lists.coefs.items lists.second.items (scalar_at (arguments_in lists) 0) (truth_of reified (arguments_in lists))
 
 -- whether a constraint that is not reified takes a row and a table
 abbrev pub takes_rows : ConstraintKind → Bool

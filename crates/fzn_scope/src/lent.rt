@@ -10,33 +10,35 @@ ghost use Rattle.fzn_item.specs.Productions.{IsListOf};
 ghost use Rattle.fzn_item.specs.Readers.{Begins};
 ghost use Rattle.fzn_item.specs.Exprs.{IsAtom, IsExpr};
 ghost use Rattle.fzn_item.specs.Lent.{AreArguments, IsLent};
-ghost use Rattle.fzn_scope.specs.Checks.{refusal_of, Gives};
+ghost use Rattle.fzn_scope.specs.Arguments.{arguments_in};
 ghost use Rattle.fzn_scope.specs.Places.{terms_after};
-ghost use Rattle.fzn_scope.specs.Rules.{no_arguments, with_argument, arguments_after};
-ghost use Rattle.fzn_scope.specs.Lent.{GivesAt, LeavesAt};
+ghost use Rattle.fzn_scope.specs.Rules.{no_arguments, arguments_after};
+ghost use Rattle.fzn_scope.specs.Lent.{argument_after, Leaves, LeavesAt};
 
-use crate::arguments::{Arguments, no_arguments};
 use crate::form::Place;
+use crate::lists::ArgumentLists;
 use crate::place::{Context, Wanted};
 use crate::refusal::{Refusal, Stop};
-use dcsp_problem::TermList;
-use fzn_item::{Expr, LentArguments, LentExpr, after_mark, next_atom, next_expr};
+use dcsp_problem::Term;
+use fzn_item::{LentArguments, LentExpr, after_mark, next_atom, next_expr};
 use fzn_token::{Mark, Token};
 
 impl<'c, 't> Context<'c, 't> {
-    /// The terms of a list's atoms, from left to right, and the tokens behind its bracket.
-    fn terms_at<'e>(
+    /// Puts the terms of a list's atoms, from left to right, in place of those in a list, and gives the tokens behind
+    /// its bracket.
+    fn put_atoms<'e>(
         self,
+        terms: &mut Vec<Term>,
         wanted: Wanted,
         tokens: &'e [Token],
-    ) -> Result<(TermList, &'e [Token]), Stop>
+    ) -> Result<&'e [Token], Stop>
         requires { Begins (IsListOf IsAtom mark.CloseBracket) tokens.now }
         ensures { (atoms : List Atom) (rest : List Token) → IsListOf IsAtom mark.CloseBracket tokens.now atoms rest →
-            GivesAt rest result (terms_after self.entry.text.now self.entry.names.now wanted [] atoms) }
+            LeavesAt rest terms.new.items result (terms_after self.entry.text.now self.entry.names.now wanted [] atoms) }
     {
-        let mut terms = Vec::new(self.alloc);
+        terms.clear();
         if let Some(rest) = after_mark(tokens, Mark::CloseBracket) {
-            return Ok((TermList::from_vec(terms), rest));
+            return Ok(rest);
         }
         let mut rest = tokens;
         'atoms: loop {
@@ -46,7 +48,7 @@ impl<'c, 't> Context<'c, 't> {
             match after_mark(after, Mark::Comma) {
                 Some(next) => rest = next,
                 None => match after_mark(after, Mark::CloseBracket) {
-                    Some(end) => return Ok((TermList::from_vec(terms), end)),
+                    Some(end) => return Ok(end),
                     None => unreachable!(),
                 },
             }
@@ -56,26 +58,18 @@ impl<'c, 't> Context<'c, 't> {
     /// Adds an argument that is a list, whose bracket stands at a place, and gives the tokens behind it.
     fn add_list<'e>(
         self,
-        done: &mut Arguments,
+        done: &mut ArgumentLists,
         place: Place,
         at: u32,
         inside: &'e [Token],
     ) -> Result<&'e [Token], Stop>
         requires { Begins (IsListOf IsAtom mark.CloseBracket) inside.now }
         ensures { (atoms : List Atom) (rest : List Token) → IsListOf IsAtom mark.CloseBracket inside.now atoms rest →
-            LeavesAt rest done.new result (with_argument self.entry.text.now self.entry.names.now done.old place (expr.List at atoms)) }
+            LeavesAt rest (arguments_in done.new) result (argument_after self.entry done.old place (expr.List at atoms)) }
     {
         match place {
-            Place::First(wanted) => {
-                let (terms, behind) = self.terms_at(wanted, inside)?;
-                done.first = terms;
-                Ok(behind)
-            }
-            Place::Second(wanted) => {
-                let (terms, behind) = self.terms_at(wanted, inside)?;
-                done.second = terms;
-                Ok(behind)
-            }
+            Place::First(wanted) => self.put_atoms(&mut done.first, wanted, inside),
+            Place::Second(wanted) => self.put_atoms(&mut done.second, wanted, inside),
             Place::Scalar { .. } => Err(Stop::Refused(Refusal::IllTyped { at })),
             Place::Set => Err(Stop::Refused(Refusal::IllTyped { at })),
         }
@@ -84,44 +78,45 @@ impl<'c, 't> Context<'c, 't> {
     /// Adds the argument that these tokens begin with, and gives the tokens behind it.
     fn argument_at<'e>(
         self,
-        done: &mut Arguments,
+        done: &mut ArgumentLists,
         place: Place,
         tokens: &'e [Token],
     ) -> Result<&'e [Token], Stop>
         requires { Begins IsExpr tokens.now }
         ensures { (argument : Expr) (rest : List Token) → IsExpr tokens.now argument rest →
-            LeavesAt rest done.new result (with_argument self.entry.text.now self.entry.names.now done.old place argument) }
+            LeavesAt rest (arguments_in done.new) result (argument_after self.entry done.old place argument) }
     {
         let argument = next_expr(self.alloc, tokens)?;
         match argument {
             LentExpr::List { at, inside } => self.add_list(done, place, at, inside),
             LentExpr::One { atom, behind } => {
-                self.add_argument(done, place, &Expr::One(atom))?;
+                self.add_atom(done, place, &atom)?;
                 Ok(behind)
             }
         }
     }
 
-    /// The arguments at these places, from left to right.
-    pub(crate) fn arguments_at(
+    /// Puts the arguments at these places, from left to right, into the lists.
+    pub(crate) fn put_arguments(
         self,
+        done: &mut ArgumentLists,
         places: &[Place],
         arguments: LentArguments<'_>,
-    ) -> Result<Arguments, Stop>
+    ) -> Result<(), Stop>
         requires lent { IsLent arguments }
         requires count { arguments.count ≡ length places.now }
         ensures { (exprs : List Expr) → AreArguments arguments.entry exprs →
-            Gives refusal_of result (arguments_after self.entry.text.now self.entry.names.now no_arguments places.now exprs) }
+            Leaves (arguments_in done.new) result (arguments_after self.entry.text.now self.entry.names.now no_arguments places.now exprs) }
     {
-        let mut done = no_arguments(self.alloc, places.len())?;
+        done.clear();
         let mut rest = arguments.tokens;
         for place in places {
-            let behind = self.argument_at(&mut done, *place, rest)?;
+            let behind = self.argument_at(done, *place, rest)?;
             rest = match after_mark(behind, Mark::Comma) {
                 Some(next) => next,
                 None => behind,
             };
         }
-        Ok(done)
+        Ok(())
     }
 }

@@ -7,12 +7,13 @@
 mod arguments;
 mod form;
 mod lent;
+mod lists;
 mod names;
 mod place;
 mod refusal;
 
-pub use arguments::Arguments;
 pub use form::{Form, Place};
+pub use lists::ArgumentLists;
 pub use names::{Declared, Names, bytes_at};
 pub use place::{Context, Wanted};
 pub use refusal::{Refusal, Stop};

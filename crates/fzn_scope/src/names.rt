@@ -1,6 +1,6 @@
 //! The names that were declared, and what each stands for.
 
-ghost use Rattle.std.specs.Prelude.{◌≡◌, [], ◌∷◌, ◌++◌, None, OnOk, OnErr, option_copied};
+ghost use Rattle.std.specs.Prelude.{◌≡◌, [], ◌∷◌, ◌++◌, None, Some, IfSome, OnOk, OnErr, option_copied};
 ghost use Rattle.fzn_scope.specs.Names.{declared_as, bytes_at};
 
 use dcsp_common::Memory;
@@ -27,10 +27,24 @@ pub enum Declared {
     },
 }
 
+/// A slot for a guess has so many bits.
+const SLOT_BITS: u32 = 13;
+
+const SLOTS: usize = 1 << SLOT_BITS;
+
+/// 2^64 over the golden ratio: a product with it has all bytes of a number in its upper bits.
+const SPREAD: u64 = 0x9e37_79b9_7f4a_7c15;
+
 /// Names that are slices of the text, in the order in which they were declared.
+///
+/// Most look-ups are of names that stand where it is guessed, and cost one comparison of bytes. The table decides the
+/// others, so a guess need not be right.
 #[derive(Drop)]
 pub struct Names<'t> {
     table: IndexMap<&'t [u8], Declared>,
+    /// By slots, the place in the table of the name of that slot which was declared last. There are none before the
+    /// first name.
+    guesses: Vec<u32>,
 }
 
 impl<'t> Model for Names<'t> {
@@ -49,11 +63,32 @@ impl<'t> Names<'t> {
     {
         Names {
             table: IndexMap::new(alloc),
+            guesses: Vec::new(alloc),
         }
     }
 
     /// What the name stands for; `None` where it was not declared.
     pub fn get(&self, name: &[u8]) -> Option<&Declared>
+        ensures { option_copied result ≡ declared_as self.now name.now }
+    {
+        match self.guessed(name) {
+            Some(declared) => Some(declared),
+            None => self.looked_up(name),
+        }
+    }
+
+    /// What the name stands for, where it is guessed.
+    #[inline(always)]
+    fn guessed(&self, name: &[u8]) -> Option<&Declared>
+        ensures { IfSome result (λ declared. declared_as self.now name.now ≡ Some declared.now) }
+    {
+        let place = *self.guesses.get(slot_of(name))?;
+        let (known, declared) = self.table.get_index(place as usize)?;
+        if *known == name { Some(declared) } else { None }
+    }
+
+    /// What the name stands for, by the table.
+    fn looked_up(&self, name: &[u8]) -> Option<&Declared>
         ensures { option_copied result ≡ declared_as self.now name.now }
     {
         self.table.get(name)
@@ -65,11 +100,53 @@ impl<'t> Names<'t> {
         ensures ok { OnOk result (self.new ≡ self.old ++ (name.now, declared) ∷ []) }
         ensures err { OnErr result (self.new ≡ self.old) }
     {
+        self.guess_next(name)?;
+        self.add(name, declared)
+    }
+
+    /// Guesses that this name is added next.
+    fn guess_next(&mut self, name: &[u8]) -> Result<(), Memory>
+        ensures { self.new ≡ self.old }
+    {
+        if self.guesses.is_empty() {
+            self.guesses.resize(SLOTS, 0)?;
+        }
+        if let Some(guess) = self.guesses.get_mut(slot_of(name)) {
+            *guess = u32::try_from(self.table.len()).unwrap_or(u32::MAX);
+        }
+        Ok(())
+    }
+
+    /// Adds a name to the table.
+    fn add(&mut self, name: &'t [u8], declared: Declared) -> Result<(), Memory>
+        requires { declared_as self.old name.now ≡ None }
+        ensures ok { OnOk result (self.new ≡ self.old ++ (name.now, declared) ∷ []) }
+        ensures err { OnErr result (self.new ≡ self.old) }
+    {
         match self.table.insert(name, declared) {
             Ok(_) => Ok(()),
             Err(_) => Err(Memory),
         }
     }
+}
+
+/// The slot of a name, by its last eight bytes: names that are numbered differ there.
+#[inline(always)]
+fn slot_of(name: &[u8]) -> usize {
+    let last = match name.last_chunk::<8>() {
+        Some(bytes) => u64::from_le_bytes(*bytes),
+        None => number_of(name),
+    };
+    (last.wrapping_mul(SPREAD) >> (64 - SLOT_BITS)) as usize
+}
+
+/// The number that a few bytes are.
+fn number_of(bytes: &[u8]) -> u64 {
+    let mut number: u64 = 0;
+    for byte in bytes {
+        number = number << 8 | u64::from(*byte);
+    }
+    number
 }
 
 /// The bytes of the text from one place up to another; none where these are no places of the text in order.

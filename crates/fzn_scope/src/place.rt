@@ -1,15 +1,19 @@
 //! What expressions mean at the places that ask for them.
 
-ghost use Rattle.std.specs.Prelude.{◌≡◌, ℕ, [], Ok, All, IfOk, option_copied};
+ghost use Rattle.std.specs.Prelude.{◌≡◌, ℕ, [], All, IfOk, option_copied};
+ghost use Rattle.fzn_item.specs.declared.item.Expr.TheVariants as expr;
 ghost use Rattle.dcsp_rule.specs.Rules.{IsTermOf};
+ghost use Rattle.fzn_scope.specs.Arguments.{members_in};
+ghost use Rattle.fzn_scope.specs.Lent.{Leaves};
 ghost use Rattle.fzn_scope.specs.Known.{AreKnown};
 ghost use Rattle.fzn_scope.specs.Checks.{refusal_of, Gives};
 ghost use Rattle.fzn_scope.specs.Names.{declared_as, bytes_at};
 ghost use Rattle.fzn_scope.specs.Places.{truth_term, is_constant, wanted_term, term_named, term_of, one_of, terms_named, terms_after, list_of, count_named, count_of, set_named, set_of};
 
+use crate::lists::{SetList, put_terms};
 use crate::names::{Declared, Names, bytes_at};
 use crate::refusal::{Refusal, Stop};
-use dcsp_problem::{IntList, Members, Term, TermList};
+use dcsp_problem::{Members, MembersRef, Term, TermList};
 use fzn_item::{Atom, Expr};
 use std::alloc::Global;
 
@@ -80,20 +84,15 @@ fn ill_typed(at: u32) -> Stop
     Stop::Refused(Refusal::IllTyped { at })
 }
 
-fn copy_of_terms(alloc: Global, terms: &[Term]) -> Result<TermList, Stop>
-    ensures { Gives refusal_of result (Ok terms.now) }
-{
-    Ok(TermList::from_vec(Vec::from_slice(alloc, terms)?))
-}
-
-/// The terms of a name that stands for this. An array of variables is none of constants, whatever it holds.
-fn terms_named(
-    alloc: Global,
+/// Puts the terms of a name that stands for this in place of those in a list. An array of variables is none of
+/// constants, whatever it holds.
+fn put_array_named(
+    terms: &mut Vec<Term>,
     wanted: Wanted,
     at: u32,
     declared: Option<&Declared>,
-) -> Result<TermList, Stop>
-    ensures { Gives refusal_of result (terms_named wanted at (option_copied declared.entry)) }
+) -> Result<(), Stop>
+    ensures { Leaves terms.new.items result (terms_named wanted at (option_copied declared.entry)) }
 {
     match declared {
         None => Err(Stop::Refused(Refusal::Undeclared { at })),
@@ -101,11 +100,11 @@ fn terms_named(
             Declared::Many {
                 boolean,
                 variable,
-                terms,
+                terms: named,
             },
         ) => {
             if *boolean == wanted.boolean && (!wanted.constant || !*variable) {
-                copy_of_terms(alloc, terms.items())
+                Ok(put_terms(terms, named.items())?)
             } else {
                 Err(ill_typed(at))
             }
@@ -126,30 +125,13 @@ fn count_named(at: u32, declared: Option<&Declared>) -> Result<usize, Refusal>
     }
 }
 
-fn copy_of_integers(alloc: Global, values: &[i64]) -> Result<IntList, Stop>
-    ensures { Gives refusal_of result (Ok values.now) }
-{
-    Ok(IntList::from_vec(Vec::from_slice(alloc, values)?))
-}
-
-fn copy_of_set(alloc: Global, set: &Members) -> Result<Members, Stop>
-    ensures { Gives refusal_of result (Ok set.now) }
-{
-    match set {
-        Members::Between { low, high } => Ok(Members::Between {
-            low: *low,
-            high: *high,
-        }),
-        Members::Listed(values) => Ok(Members::Listed(copy_of_integers(alloc, values.items())?)),
-    }
-}
-
-fn set_named(alloc: Global, at: u32, declared: Option<&Declared>) -> Result<Members, Stop>
-    ensures { Gives refusal_of result (set_named at (option_copied declared.entry)) }
+/// Puts the set of a name that stands for this in place of another.
+fn put_set_named(set: &mut SetList, at: u32, declared: Option<&Declared>) -> Result<(), Stop>
+    ensures { Leaves (members_in set.new) result (set_named at (option_copied declared.entry)) }
 {
     match declared {
         None => Err(Stop::Refused(Refusal::Undeclared { at })),
-        Some(Declared::Set(set)) => copy_of_set(alloc, set),
+        Some(Declared::Set(named)) => Ok(set.put(named.lent())?),
         Some(Declared::One { .. }) => Err(ill_typed(at)),
         Some(Declared::Many { .. }) => Err(ill_typed(at)),
     }
@@ -204,6 +186,34 @@ impl<'c, 't> Context<'c, 't> {
         Ok(TermList::from_vec(terms))
     }
 
+    /// Puts the terms of an array in place of those in a list, where the atom is the array's name.
+    pub(crate) fn put_array(
+        self,
+        terms: &mut Vec<Term>,
+        wanted: Wanted,
+        atom: &Atom,
+    ) -> Result<(), Stop>
+        ensures { Leaves terms.new.items result (list_of self.entry.text.now self.entry.names.now wanted (expr.One atom.now)) }
+    {
+        match atom {
+            Atom::Name { at, to } => put_array_named(terms, wanted, *at, self.named(*at, *to)),
+            Atom::Truth { at, .. }
+            | Atom::Whole { at, .. }
+            | Atom::Float { at }
+            | Atom::Range { at, .. }
+            | Atom::Listed { at, .. } => Err(ill_typed(*at)),
+        }
+    }
+
+    /// The terms of an array whose name the atom is.
+    fn array_of(self, wanted: Wanted, atom: &Atom) -> Result<TermList, Stop>
+        ensures { Gives refusal_of result (list_of self.entry.text.now self.entry.names.now wanted (expr.One atom.now)) }
+    {
+        let mut terms = Vec::new(self.alloc);
+        self.put_array(&mut terms, wanted, atom)?;
+        Ok(TermList::from_vec(terms))
+    }
+
     /// The terms of an expression at a place that asks for a list: a list of atoms, or the name of an array.
     ///
     /// A list is refused as the first of its atoms that is, from left to right. `Undeclared` comes for a name that
@@ -213,17 +223,9 @@ impl<'c, 't> Context<'c, 't> {
         ensures known { IfOk result (λ terms. (variables : ℕ) → AreKnown variables self.entry.names.now →
             All (IsTermOf variables) terms) }
     {
-        let atom = match expr {
-            Expr::List { atoms, .. } => return self.terms_of(wanted, atoms.items()),
-            Expr::One(atom) => atom,
-        };
-        match atom {
-            Atom::Name { at, to } => terms_named(self.alloc, wanted, *at, self.named(*at, *to)),
-            Atom::Truth { at, .. }
-            | Atom::Whole { at, .. }
-            | Atom::Float { at }
-            | Atom::Range { at, .. }
-            | Atom::Listed { at, .. } => Err(ill_typed(*at)),
+        match expr {
+            Expr::List { atoms, .. } => self.terms_of(wanted, atoms.items()),
+            Expr::One(atom) => self.array_of(wanted, atom),
         }
     }
 
@@ -248,6 +250,23 @@ impl<'c, 't> Context<'c, 't> {
         }
     }
 
+    /// Puts the set of an atom in place of another: a range, a listed set as it is written, or a set's name.
+    pub(crate) fn put_set(self, set: &mut SetList, atom: &Atom) -> Result<(), Stop>
+        ensures { Leaves (members_in set.new) result (set_of self.entry.text.now self.entry.names.now (expr.One atom.now)) }
+    {
+        match atom {
+            Atom::Range { low, high, .. } => {
+                let (low, high) = (*low, *high);
+                Ok(set.put(MembersRef::Between { low, high })?)
+            }
+            Atom::Listed { values, .. } => Ok(set.put(MembersRef::Listed(values.items()))?),
+            Atom::Name { at, to } => put_set_named(set, *at, self.named(*at, *to)),
+            Atom::Truth { at, .. } | Atom::Whole { at, .. } | Atom::Float { at } => {
+                Err(ill_typed(*at))
+            }
+        }
+    }
+
     /// The set of an expression at a place that asks for one: a range, a listed set as it is written, or a set's name.
     ///
     /// `Undeclared` comes for a name that was not declared, and `IllTyped` for anything else, at the first byte.
@@ -258,18 +277,8 @@ impl<'c, 't> Context<'c, 't> {
             Expr::List { at, .. } => return Err(ill_typed(*at)),
             Expr::One(atom) => atom,
         };
-        match atom {
-            Atom::Range { low, high, .. } => Ok(Members::Between {
-                low: *low,
-                high: *high,
-            }),
-            Atom::Listed { values, .. } => {
-                Ok(Members::Listed(copy_of_integers(self.alloc, values.items())?))
-            }
-            Atom::Name { at, to } => set_named(self.alloc, *at, self.named(*at, *to)),
-            Atom::Truth { at, .. } | Atom::Whole { at, .. } | Atom::Float { at } => {
-                Err(ill_typed(*at))
-            }
-        }
+        let mut set = SetList::new(self.alloc);
+        self.put_set(&mut set, atom)?;
+        Ok(set.into_members())
     }
 }

@@ -9,6 +9,7 @@ use crate::bytes::is_name_byte;
 use crate::token::{LexError, Token, TokenKind, Word};
 
 /// The name or keyword that begins with the letter here.
+#[inline(always)]
 pub(crate) fn name_token(text: &[u8], at: usize) -> Result<Token, LexError>
     requires small { length text.now ≤ 16777216 }
     requires within { at < length text.now }

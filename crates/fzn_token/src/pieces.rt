@@ -22,7 +22,9 @@ impl<'t> TokenReader<'t> {
 
     /// The next token; `None` at the text's end.
     ///
-    /// The refusal is that of the text, since the tokens before were read.
+    /// The refusal is that of the text, since the tokens before were read. It is inlined into the loops over a text's
+    /// tokens, so that no token is handed over through memory.
+    #[inline(always)]
     pub(crate) fn next_token(&mut self) -> Result<Option<Token>, LexError>
         ensures { TakesOne self.old self.new result }
     {

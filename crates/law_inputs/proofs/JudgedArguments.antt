@@ -11,7 +11,7 @@ use Rattle.fzn_scope.specs.declared.place.Wanted.{Wanted}
 use Rattle.fzn_scope.specs.declared.form.Place.{Place}
 use Rattle.fzn_scope.specs.declared.form.Place.TheVariants as place
 use Rattle.fzn_scope.specs.declared.form.Form.{Form}
-use Rattle.fzn_scope.specs.declared.arguments.Arguments.{Arguments}
+use Rattle.fzn_scope.specs.Arguments.{Arguments}
 use Rattle.fzn_scope.specs.Names.{Scope}
 use Rattle.fzn_scope.specs.Places.{one_of, list_of, set_of}
 use Rattle.fzn_scope.specs.Forms.{places_of}

@@ -24,7 +24,7 @@ use Rattle.fzn_scope.specs.declared.form.Place.{Place}
 use Rattle.fzn_scope.specs.declared.form.Place.TheVariants as place
 use Rattle.fzn_scope.specs.declared.form.Form.{Form}
 use Rattle.fzn_scope.specs.declared.form.Form.TheVariants.{Plain, Sum}
-use Rattle.fzn_scope.specs.declared.arguments.Arguments.{Arguments}
+use Rattle.fzn_scope.specs.Arguments.{Arguments}
 use Rattle.fzn_scope.specs.declared.refusal.Refusal.{Refusal}
 use Rattle.fzn_scope.specs.declared.refusal.Refusal.TheVariants as refusal
 use Rattle.fzn_scope.specs.Checks.{◌>>=◌, refused_if}

@@ -1,9 +1,9 @@
 //! Constraints over names in scope, their rules and refusals.
 
 use dcsp_common::Memory;
-use dcsp_problem::{Members, Rel, Rule, Term, TermList};
+use dcsp_problem::{Members, Rel, RuleRef, Term, TermList};
 use fzn_item::{Item, LentItem, items, next_lent};
-use fzn_scope::{Context, Declared, Names, Refusal, Stop, bytes_at};
+use fzn_scope::{ArgumentLists, Context, Declared, Names, Refusal, Stop, bytes_at};
 use fzn_token::{LexError, TokenList, tokens};
 use std::alloc::{AllocFailed, Global};
 use std::process::Abort;
@@ -59,8 +59,13 @@ fn scope(rt: &impl Abort, alloc: Global) -> Names<'static> {
     names
 }
 
-/// The rule of a text's first item, which is a constraint.
-fn rule_of(rt: &impl Abort, alloc: Global, text: &[u8]) -> Result<Rule, Stop> {
+/// The rule of a text's first item, which is a constraint, lent from lists.
+fn rule_of<'l>(
+    rt: &impl Abort,
+    alloc: Global,
+    lists: &'l mut ArgumentLists,
+    text: &[u8],
+) -> Result<RuleRef<'l>, Stop> {
     let list = read(alloc, text).ok().expect(rt, "tokens");
     let names = scope(rt, alloc);
     match next_lent(alloc, text, list.items()) {
@@ -71,7 +76,7 @@ fn rule_of(rt: &impl Abort, alloc: Global, text: &[u8]) -> Result<Rule, Stop> {
                 text,
                 names: &names,
             };
-            context.constraint_rule(constraint.name_at, name, constraint.arguments)
+            context.constraint_rule(lists, constraint.name_at, name, constraint.arguments)
         }
         _ => panic!(rt; "no constraint"),
     }
@@ -79,13 +84,15 @@ fn rule_of(rt: &impl Abort, alloc: Global, text: &[u8]) -> Result<Rule, Stop> {
 
 /// The text's first item is a constraint that has a rule.
 fn expect_rule(rt: &impl Abort, alloc: Global, text: &[u8]) {
-    assert!(rt; rule_of(rt, alloc, text).is_ok());
+    let mut lists = ArgumentLists::new(alloc);
+    assert!(rt; rule_of(rt, alloc, &mut lists, text).is_ok());
 }
 
 /// The text's first item is a constraint that is refused for this.
 fn expect_refused(rt: &impl Abort, alloc: Global, text: &[u8], refusal: Refusal) {
+    let mut lists = ArgumentLists::new(alloc);
     assert_eq!(rt;
-        rule_of(rt, alloc, text).err(),
+        rule_of(rt, alloc, &mut lists, text).err(),
         Some(Stop::Refused(refusal))
     );
 }
@@ -231,45 +238,50 @@ fn expect_terms(rt: &impl Abort, found: &[Term], terms: &[Term]) {
 }
 
 /// The rule is a sum, with a truth.
-fn expect_sum(rt: &impl Abort, rule: &Rule) {
+fn expect_sum(rt: &impl Abort, rule: RuleRef<'_>) {
     match rule {
-        Rule::Sum {
+        RuleRef::Sum {
             rel,
             coefs,
             terms,
             total,
             truth,
         } => {
-            assert_eq!(rt; *rel, Rel::AtMost);
-            expect_numbers(rt, coefs.items(), &[1, -1]);
-            expect_terms(rt, terms.items(), &[Term::Var(0), Term::Const(3)]);
-            assert_eq!(rt; *total, Term::Var(1));
-            assert_eq!(rt; *truth, Some(Term::Var(2)));
+            assert_eq!(rt; rel, Rel::AtMost);
+            expect_numbers(rt, coefs, &[1, -1]);
+            expect_terms(rt, terms, &[Term::Var(0), Term::Const(3)]);
+            assert_eq!(rt; total, Term::Var(1));
+            assert_eq!(rt; truth, Some(Term::Var(2)));
         }
-        Rule::Plain { .. } => panic!(rt; "no sum"),
+        RuleRef::Plain { .. } => panic!(rt; "no sum"),
     }
 }
 
-/// The rule is of two truths, and has no list.
-fn expect_truths(rt: &impl Abort, rule: &Rule) {
+/// The rule is of two truths, and has no list, whatever stood in the lists before.
+fn expect_truths(rt: &impl Abort, rule: RuleRef<'_>) {
     match rule {
-        Rule::Plain { scalars, first, .. } => {
-            expect_terms(rt, scalars.items(), &[Term::Var(2), Term::Const(1)]);
+        RuleRef::Plain { scalars, first, .. } => {
+            expect_terms(rt, scalars, &[Term::Var(2), Term::Const(1)]);
             assert!(rt; first.is_empty());
         }
-        Rule::Sum { .. } => panic!(rt; "a sum"),
+        RuleRef::Sum { .. } => panic!(rt; "a sum"),
     }
 }
 
 #[test]
 fn rules_of_a_sum_and_of_two_truths(rt: HostRuntime) {
     let alloc = rt.alloc();
+    let mut lists = ArgumentLists::new(alloc);
     let text = b"constraint int_lin_le_reif(cs,[x,n],y,b);";
-    let sum = rule_of(&rt, alloc, text).ok().expect(&rt, "a rule");
-    expect_sum(&rt, &sum);
+    let sum = rule_of(&rt, alloc, &mut lists, text)
+        .ok()
+        .expect(&rt, "a rule");
+    expect_sum(&rt, sum);
     let text = b"constraint bool_xor(b,t);";
-    let truths = rule_of(&rt, alloc, text).ok().expect(&rt, "a rule");
-    expect_truths(&rt, &truths);
+    let truths = rule_of(&rt, alloc, &mut lists, text)
+        .ok()
+        .expect(&rt, "a rule");
+    expect_truths(&rt, truths);
 }
 
 /// The right side at a place of the arguments has so many elements, or is refused.

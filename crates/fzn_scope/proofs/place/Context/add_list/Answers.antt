@@ -1,23 +1,13 @@
-use Rattle.std.proofs.lemmas.Result.{err_from_is_err_and}
-use Rattle.fzn_scope.proofs.LentSteps.{first_given, second_given, first_refused, second_refused}
+use Rattle.std.proofs.Common.{[]}
+use Rattle.fzn_scope.specs.Arguments.{arguments_in}
+use Rattle.fzn_scope.specs.Places.{terms_after}
+use Rattle.fzn_scope.proofs.LentSteps.{leaves_in_at}
 use Rattle.fzn_scope.proofs.place.Context.add_list.Goals as goal
 
-pub returns-in_err-terms-in-First : goal.returns-in_err-terms-in-First
-returns-in_err-terms-in-First c = λ atoms rest list.
-    let p = err_from_is_err_and c.from_residual.result c.from_residual.ensures.1 in
-    rw (p.1, p.2, c.in-First.is) (first_refused c.args.self.text.now c.args.self.names.now c.args.done.now c.in-First.wanted c.args.at atoms _ (c.in_err-terms-in-First.ensures atoms rest list))
+pub returns-in-First : goal.returns-in-First
+returns-in-First c = λ atoms rest list.
+    rw c.in-First.is (leaves_in_at rest (λ terms. record (arguments_in c.args.done.now) { first = terms }) c.put_atoms.new.terms.items c.put_atoms.result (terms_after c.args.self.text.now c.args.self.names.now c.in-First.wanted [] atoms) (c.put_atoms.ensures atoms rest list))
 
-pub returns-in_err-terms-in-Second : goal.returns-in_err-terms-in-Second
-returns-in_err-terms-in-Second c = λ atoms rest list.
-    let p = err_from_is_err_and c.from_residual-in_err-terms-in-Second.result c.from_residual-in_err-terms-in-Second.ensures.1 in
-    rw (p.1, p.2, c.in-Second.is) (second_refused c.args.self.text.now c.args.self.names.now c.args.done.now c.in-Second.wanted c.args.at atoms _ (c.in_err-terms-in-Second.ensures atoms rest list))
-
-pub returns-in_ok-terms-in-First : goal.returns-in_ok-terms-in-First
-returns-in_ok-terms-in-First c = λ atoms rest list.
-    let given = c.in_ok-terms-in-First.ensures atoms rest list in
-    (rw c.in-First.is (first_given c.args.self.text.now c.args.self.names.now c.args.done.now c.in-First.wanted c.args.at atoms c.in_ok-terms-in-First.terms given.0), given.1)
-
-pub returns-in_ok-terms-in-Second : goal.returns-in_ok-terms-in-Second
-returns-in_ok-terms-in-Second c = λ atoms rest list.
-    let given = c.in_ok-terms-in-Second.ensures atoms rest list in
-    (rw c.in-Second.is (second_given c.args.self.text.now c.args.self.names.now c.args.done.now c.in-Second.wanted c.args.at atoms c.in_ok-terms-in-Second.terms given.0), given.1)
+pub returns-in-Second : goal.returns-in-Second
+returns-in-Second c = λ atoms rest list.
+    rw c.in-Second.is (leaves_in_at rest (λ terms. record (arguments_in c.args.done.now) { second = terms }) c.put_atoms-in-Second.new.terms.items c.put_atoms-in-Second.result (terms_after c.args.self.text.now c.args.self.names.now c.in-Second.wanted [] atoms) (c.put_atoms-in-Second.ensures atoms rest list))

@@ -1,6 +1,6 @@
 use Rattle.std.proofs.Common.{length}
 use Rattle.fzn_scope.proofs.LentSteps.{IsLeft}
-use Rattle.fzn_scope.proofs.place.Context.terms_at.Given as goal
+use Rattle.fzn_scope.proofs.place.Context.put_atoms.Given as goal
 
 abbrev pub invariant-atoms : goal.invariant-atoms
 invariant-atoms l = IsLeft l.self.text.now l.self.names.now l.wanted l.tokens l.terms.items l.rest

@@ -4,7 +4,7 @@ use Rattle.std.specs.Str.{bytes_eq}
 use Rattle.indexmap.proofs.CallerLemmas.{insert_entry-new}
 use Rattle.fzn_scope.specs.Names.{declared_as}
 use Rattle.fzn_scope.proofs.NameTable.{looked_up}
-use Rattle.fzn_scope.proofs.names.Names.declare.Goals as goal
+use Rattle.fzn_scope.proofs.names.Names.add.Goals as goal
 
 pub returns-in-Ok-clause-ok : goal.returns-in-Ok-clause-ok
 returns-in-Ok-clause-ok c =

@@ -1,6 +1,0 @@
-use Rattle.std.proofs.Common.{drop}
-use Rattle.fzn_scope.proofs.LentSteps.{AreArgumentsLeft}
-use Rattle.fzn_scope.proofs.place.Context.arguments_at.Given as goal
-
-abbrev pub invariant-loop-place : goal.invariant-loop-place
-invariant-loop-place l = AreArgumentsLeft l.self.text.now l.self.names.now l.places l.arguments l.done (drop l.place-index l.places) l.rest
