@@ -1,8 +1,8 @@
 -- Who is asked for a link.
-use Rattle.std.proofs.Common.{◌≡◌, ℕ, ◌+◌, ◌<◌, Bool, true, false, cond, not, ◌&&◌, ◌||◌, ◌==◌, List, [], ◌∷◌, ◌++◌, filter, take, get_or, length, nat_lt, refl, sym, ap, ◌∙◌, arith}
+use Rattle.std.proofs.Common.{◌≡◌, ℕ, ◌+◌, ◌<◌, ◌≤◌, Bool, true, false, cond, not, ◌&&◌, ◌||◌, ◌==◌, List, [], ◌∷◌, ◌++◌, filter, take, get_or, length, nat_lt, refl, sym, ap, ◌∙◌, arith, inl, inr}
 use Rattle.std.specs.List.{list_any}
 use Rattle.std.proofs.Math.Bool.{and_comm}
-use Rattle.std.proofs.lemmas.Bool.{and_from, and_parts, both_ways, lt-ltb, ltb-true}
+use Rattle.std.proofs.lemmas.Bool.{and_from, and_parts, and_right, both_ways, cases_lt, false_from_ne_true, lt-ltb, ltb-true}
 use Rattle.std.proofs.lemmas.List.{map-append, take_more}
 use Rattle.std.proofs.lemmas.List.Elements.{filter-append}
 use Rattle.dcsp_defs.specs.declared.nogood.Pair.{Pair}
@@ -11,7 +11,7 @@ use Rattle.dcsp_defs.specs.Words.{In, below}
 use Rattle.dcsp_defs.specs.Csp.{names}
 use Rattle.abt_defs.specs.Agents.{is_among, Add_link}
 use Rattle.abt_defs.specs.Steps.{is_named, to_each}
-use Rattle.abt_agent.specs.Asks.{is_unlinked, unlinked_names}
+use Rattle.abt_agent.specs.Asks.{is_unlinked, unlinked_names, AreLinkedBefore}
 use Rattle.abt_reason.specs.Marks.{has_mark}
 use Rattle.abt_agent.proofs.Causes.{any-map}
 use Rattle.abt_agent.proofs.Proper.{names_rise}
@@ -79,3 +79,18 @@ none_marked linked me pairs size none k = by_tests (has_mark linked k) (nat_lt k
     by_tests false false named h = refl
     by_tests false true false h = refl
     by_tests false true true h = absurd (h refl refl refl)
+
+-- where each agent with a place is marked, none is unlinked
+pub none_unlinked : (linked : List Bool) (end : ℕ) → AreLinkedBefore end linked → length linked ≤ end → (ks : List ℕ) → list_any (is_unlinked linked) ks ≡ false
+none_unlinked linked end all size [] = refl
+none_unlinked linked end all size (k ∷ ks) = ap (λ b. b || list_any (is_unlinked linked) ks) (elim (cases_lt k (length linked)) [
+  | inl within ↦ ap (λ b. nat_lt k (length linked) && not b) (all.marked k (omega (arith, size, within))) ∙ and_right (nat_lt k (length linked)) false refl
+  | inr past ↦ ap (λ b. b && not (has_mark linked k)) (false_from_ne_true (nat_lt k (length linked)) (λ e. let low = ltb-true k (length linked) e in omega (arith, low, past)))
+]) ∙ none_unlinked linked end all size ks
+
+-- marks that are added leave the marked ones
+pub still_linked : (end : ℕ) (old new : List Bool) (more : ℕ → Bool) → length new ≡ length old → ((k : ℕ) → has_mark new k ≡ (has_mark old k || more k)) → AreLinkedBefore end old → AreLinkedBefore end new
+still_linked end old new more size marks all = record {
+  within = let fits = all.within in omega (arith, size, fits);
+  marked = λ k l. marks k ∙ ap (λ b. b || more k) (all.marked k l);
+}

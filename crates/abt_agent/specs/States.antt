@@ -11,8 +11,7 @@ use Rattle.abt_parts.specs.declared.message.Message.{Message}
 use Rattle.abt_parts.specs.declared.message.Message.TheVariants.{Tell, Refuse, AddLink}
 use Rattle.abt_parts.specs.declared.message.Sent.{Sent}
 use Rattle.abt_parts.specs.Messages.{message_of}
-use Rattle.abt_parts.specs.declared.view.StampedValue.{StampedValue}
-use Rattle.abt_parts.specs.Views.{view_of}
+use Rattle.abt_parts.specs.Views.{view_of, Slots}
 use Rattle.abt_parts.specs.declared.recorded.Recorded.{Recorded}
 use Rattle.abt_parts.specs.Stores.{records_of}
 use Rattle.abt_agent.specs.declared.Turn.{Turn}
@@ -27,7 +26,7 @@ pub record State : Type 0 where
   pub value : Option ℤ
   pub stamp : ℕ
   pub waits : Bool
-  pub view : List (Option StampedValue)
+  pub view : Slots
   pub store : List Recorded
   pub tells : List ℕ  -- rising
   pub linked : List Bool

@@ -1,9 +1,7 @@
 //! Link requests.
 
-ghost use Rattle.std.specs.Prelude.{◌≡◌, ◌∷◌, [], OnOk, true, if◌then◌else◌};
-ghost use Rattle.std.specs.List.{list_any};
+ghost use Rattle.std.specs.Prelude.{◌≡◌, ◌∷◌, [], OnOk, if◌then◌else◌};
 ghost use Rattle.dcsp_defs.specs.Pairs.{IsRising};
-ghost use Rattle.dcsp_defs.specs.Csp.{names};
 ghost use Rattle.abt_defs.specs.Agents.{Add_link};
 ghost use Rattle.abt_defs.specs.Steps as steps;
 ghost use Rattle.abt_parts.specs.Messages.{message_of};
@@ -12,11 +10,10 @@ ghost use Rattle.abt_agent.specs.Outgoing.{IsStamped, Posts};
 ghost use Rattle.abt_agent.specs.Asks.{unlinked_names, is_unlinked};
 
 use crate::body::AgentBody;
+use crate::link_table::LinkTable;
 use abt_parts::{Message, Outbox, Sent};
-use abt_reason::mark_pairs;
 use dcsp_common::Memory;
 use dcsp_defs::Pair;
-use dcsp_row::Row;
 
 /// Sends the message.
 #[inline(always)]
@@ -27,38 +24,18 @@ pub fn post(out: &mut Outbox, to: u32, message: Message) -> Result<(), Memory>
     out.push(Sent { to, message }).map_err(|_| Memory)
 }
 
-/// Whether the agent has a place in the table of links, and is not marked there.
-#[inline(always)]
-fn is_unlinked(linked: &Row, to: u32) -> bool
-    ensures { result ≡ is_unlinked linked.now to }
-{
-    (to as usize) < linked.len() && !linked.has(to as usize)
-}
-
-/// Whether an agent that the pairs name is unlinked. Few are.
-fn wants_link(linked: &Row, pairs: &[Pair]) -> bool
-    ensures { result ≡ list_any (is_unlinked linked.now) (names pairs.now) }
-{
-    for pair in pairs {
-        if is_unlinked(linked, pair.var) {
-            return true;
-        }
-    }
-    false
-}
-
 /// Asks the agent for a link, if it is unlinked.
-fn ask_one(linked: &Row, to: u32, out: &mut Outbox) -> Result<(), Memory>
+fn ask_one(linked: &LinkTable, to: u32, out: &mut Outbox) -> Result<(), Memory>
     ensures { OnOk result (Posts out.old out.new (if is_unlinked linked.now to then (to, Add_link) ∷ [] else [])) }
 {
-    if !is_unlinked(linked, to) {
+    if !linked.is_unlinked(to) {
         return Ok(());
     }
     post(out, to, Message::AddLink)
 }
 
 /// Asks for a link each agent that the pairs name and that has none, rising.
-fn ask_each(linked: &Row, pairs: &[Pair], out: &mut Outbox) -> Result<(), Memory>
+fn ask_each(linked: &LinkTable, pairs: &[Pair], out: &mut Outbox) -> Result<(), Memory>
     ensures { OnOk result (Posts out.old out.new (steps.to_each Add_link (unlinked_names linked.now pairs.now))) }
 {
     for pair in pairs {
@@ -77,11 +54,11 @@ impl<'p> AgentBody<'p> {
         ensures owner { owner_of self.new.known ≡ owner_of self.old.known }
         ensures sized { OnOk result (IsSized self.new) }
     {
-        if !wants_link(&self.linked, pairs) {
+        if !self.linked.wants_link(pairs) {
             return Ok(());
         }
         ask_each(&self.linked, pairs, out)?;
-        mark_pairs(&mut self.linked, pairs);
+        self.linked.mark_pairs(pairs);
         Ok(())
     }
 }

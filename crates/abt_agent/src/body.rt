@@ -8,6 +8,7 @@ ghost use Rattle.dcsp_rule.specs.Problems.{csp_of};
 ghost use Rattle.abt_agent.specs.Bodies.{agent_of, owner_of, IsGood};
 
 use crate::knowledge::Knowledge;
+use crate::link_table::LinkTable;
 use abt_reason::named_by;
 use dcsp_common::Memory;
 use dcsp_problem::Problem;
@@ -26,7 +27,7 @@ pub struct AgentBody<'p> {
     /// The agents that are told of each value, rising.
     pub tells: Vec<u32>,
     /// For each higher agent whether it is linked or asked.
-    pub linked: Row,
+    pub linked: LinkTable,
     /// Room for marks of higher agents, of which nothing is known. It takes none before the first step.
     pub room: Row,
 }
@@ -58,12 +59,12 @@ impl<'p> AgentBody<'p> {
 }
 
 /// The higher agents that are linked at first.
-fn first_linked(alloc: Global, problem: &Problem, me: u32) -> Result<Row, Memory>
+fn first_linked(alloc: Global, problem: &Problem, me: u32) -> Result<LinkTable, Memory>
     requires { me < length problem.now.domains }
     ensures { IfOk result (λ marks. marks ≡ map (shares (csp_of problem.now) me) (below me)) }
 {
     let marks = named_by(alloc, problem, problem.owned(me), me)?;
-    Ok(marks)
+    Ok(LinkTable::of(marks))
 }
 
 /// The lower agents that are told at first, rising.

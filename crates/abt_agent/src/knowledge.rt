@@ -7,7 +7,7 @@ ghost use Rattle.dcsp_defs.specs.Csp.{domain};
 ghost use Rattle.dcsp_rule.specs.Problems.{csp_of};
 ghost use Rattle.abt_defs.specs.Agents.{values_in};
 ghost use Rattle.abt_defs.specs.Steps as steps;
-ghost use Rattle.abt_parts.specs.Views.{view_of, stamped_of};
+ghost use Rattle.abt_parts.specs.Views.{has_place, view_of, stamped_of};
 ghost use Rattle.abt_parts.specs.Stores.{is_ruled_out, lowest_value, records_of};
 ghost use Rattle.abt_agent.specs.Bodies.{owner_of, IsInStep};
 
@@ -40,22 +40,36 @@ impl<'p> Knowledge<'p> {
         ensures store { IfOk result (λ known. known.store ≡ []) }
         ensures in_step { IfOk result IsInStep }
     {
-        let view = View::new(alloc, me)?;
         let reasons = Reasons::new(alloc, problem, me)?;
         Ok(Knowledge {
             alloc,
             problem,
             me,
-            view,
+            view: View::without_places(alloc, me),
             store: Store::new(alloc),
             reasons,
         })
+    }
+
+    /// Gives a higher agent a place in the view, if it has none. What is known stays.
+    #[inline(always)]
+    pub fn make_place(&mut self, from: u32) -> Result<(), Memory>
+        requires in_step { IsInStep self.old }
+        requires higher { from < self.old.me }
+        ensures place { OnOk result (has_place self.new.view from ≡ true) }
+        ensures view { view_of self.new.view ≡ view_of self.old.view }
+        ensures store { self.new.store ≡ self.old.store }
+        ensures owner { owner_of self.new ≡ owner_of self.old }
+        ensures in_step { IsInStep self.new }
+    {
+        self.view.make_place(from)
     }
 
     /// Takes in a value that is newer than what the view has, and forgets what disagrees with it. True
     /// exactly if it is newer.
     pub fn learn(&mut self, from: u32, told: StampedValue) -> bool
         requires in_step { IsInStep self.old }
+        requires place { has_place self.old.view from ≡ true }
         requires higher { from < self.old.me }
         requires value { In told.value (domain (csp_of self.old.problem.now) from) }
         requires stamped { 0 < told.stamp }

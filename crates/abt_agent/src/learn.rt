@@ -1,6 +1,6 @@
 //! What an agent learns of higher agents, and which nogoods it keeps.
 
-ghost use Rattle.std.specs.Prelude.{◌≡◌, ◌<◌, ◌∷◌, [], ◌&&◌, OnOk, false, length, nat_lt, not, true, if◌then◌else◌};
+ghost use Rattle.std.specs.Prelude.{◌≡◌, ◌<◌, ◌∷◌, [], ◌&&◌, IfOk, OnOk, false, length, nat_lt, not, true, if◌then◌else◌};
 ghost use Rattle.std.specs.Option.{ForSome};
 ghost use Rattle.dcsp_defs.specs.Pairs.{pair_of, value_at, IsRising as PairsRise};
 ghost use Rattle.dcsp_defs.specs.declared.nogood.Pair.{Pair as ThePair};
@@ -22,54 +22,56 @@ use dcsp_defs::{Nogood, Pair};
 impl<'p> AgentBody<'p> {
     /// Takes in a value that is newer than what the view has, and forgets what disagrees with it. True
     /// exactly if it is newer.
-    pub fn learn(&mut self, from: u32, told: StampedValue) -> bool
+    pub fn learn(&mut self, from: u32, told: StampedValue) -> Result<bool, Memory>
         requires sized { IsSized self.old }
         requires higher { from < self.old.known.me }
         requires value { In told.value (domain (csp_of self.old.known.problem.now) from) }
         requires stamped { 0 < told.stamp }
-        ensures news { result ≡ steps.is_newer (view_of self.old.known.view from) told.stamp }
-        ensures agent { agent_of self.new ≡ steps.learn from (stamped_of told) (agent_of self.old) }
+        ensures news { IfOk result (λ news. news ≡ steps.is_newer (view_of self.old.known.view from) told.stamp) }
+        ensures agent { OnOk result (agent_of self.new ≡ steps.learn from (stamped_of told) (agent_of self.old)) }
         ensures owner { owner_of self.new.known ≡ owner_of self.old.known }
-        ensures sized { IsSized self.new }
+        ensures sized { OnOk result (IsSized self.new) }
     {
-        self.known.learn(from, told)
+        self.known.make_place(from)?;
+        Ok(self.known.learn(from, told))
     }
 
     /// Takes in what is told of an agent, if that is higher. True exactly if the view then has this value, or
     /// the agent is not higher.
     #[inline(always)]
-    fn learn_higher(&mut self, var: u32, told: StampedValue) -> bool
+    fn learn_higher(&mut self, var: u32, told: StampedValue) -> Result<bool, Memory>
         requires sized { IsSized self.old }
         requires value { In told.value (domain (csp_of self.old.known.problem.now) var) }
         requires stamped { 0 < told.stamp }
-        ensures fits { result ≡ steps.fits self.old.known.me (pair_of var told.value ∷ []) (agent_of self.new) }
-        ensures agent { agent_of self.new ≡ (if nat_lt var self.old.known.me then steps.learn var (stamped_of told) (agent_of self.old) else agent_of self.old) }
+        ensures fits { IfOk result (λ fits. fits ≡ steps.fits self.old.known.me (pair_of var told.value ∷ []) (agent_of self.new)) }
+        ensures agent { OnOk result (agent_of self.new ≡ (if nat_lt var self.old.known.me then steps.learn var (stamped_of told) (agent_of self.old) else agent_of self.old)) }
         ensures owner { owner_of self.new.known ≡ owner_of self.old.known }
-        ensures sized { IsSized self.new }
+        ensures sized { OnOk result (IsSized self.new) }
     {
         if var >= self.known.me {
-            return true;
+            return Ok(true);
         }
         // Most of what a nogood tells is known.
         if let Some(known) = self.known.view.stamped_value(var) {
             if told.stamp <= known.stamp {
-                return known.value == told.value;
+                return Ok(known.value == told.value);
             }
         }
-        self.learn(var, told)
+        let is_news = self.learn(var, told)?;
+        Ok(is_news)
     }
 
     /// Takes in what is told of higher agents, in order. True exactly if each pair of a higher agent is then
     /// as the view has it.
-    pub fn learn_all(&mut self, pairs: &[Pair], stamps: &[u64]) -> bool
+    pub fn learn_all(&mut self, pairs: &[Pair], stamps: &[u64]) -> Result<bool, Memory>
         requires sized { IsSized self.old }
         requires rising { PairsRise pairs.now }
         requires stamped { AreStampsOf pairs.now stamps.now }
         requires values { (pair : ThePair) → In pair pairs.now → In pair.value (domain (csp_of self.old.known.problem.now) pair.var) }
-        ensures fits { result ≡ steps.fits self.old.known.me pairs.now (agent_of self.new) }
-        ensures agent { agent_of self.new ≡ steps.learn_all self.old.known.me (with_stamps pairs.now stamps.now) (agent_of self.old) }
+        ensures fits { IfOk result (λ fits. fits ≡ steps.fits self.old.known.me pairs.now (agent_of self.new)) }
+        ensures agent { OnOk result (agent_of self.new ≡ steps.learn_all self.old.known.me (with_stamps pairs.now stamps.now) (agent_of self.old)) }
         ensures owner { owner_of self.new.known ≡ owner_of self.old.known }
-        ensures sized { IsSized self.new }
+        ensures sized { OnOk result (IsSized self.new) }
     {
         let mut fits = true;
         for place in 0..pairs.len() {
@@ -79,9 +81,10 @@ impl<'p> AgentBody<'p> {
                 stamp: stamps[place],
             };
             // As the pairs rise, what is learned later is of other agents.
-            fits = self.learn_higher(pair.var, told) && fits;
+            let is_so = self.learn_higher(pair.var, told)?;
+            fits = is_so && fits;
         }
-        fits
+        Ok(fits)
     }
 
     /// Whether the stamp is that of a higher agent, and newer than the view.

@@ -13,6 +13,7 @@ mod body;
 mod checks;
 mod knowledge;
 mod learn;
+mod link_table;
 mod receive;
 mod refusal;
 mod search;

@@ -93,7 +93,8 @@ impl<'p> AgentBody<'p> {
         ensures good { OnOk result (IsGood self.new) }
     {
         law_agent::agents_stay_sound();
-        if !self.learn(from, told) {
+        let is_news = self.learn(from, told)?;
+        if !is_news {
             return Ok(Turn::Quiet);
         }
         self.settle(number, out)
@@ -161,7 +162,7 @@ impl<'p> AgentBody<'p> {
         law_agent::agents_only_learn();
         law_agent::agents_stay_sound();
         self.ask(recorded.nogood.pairs(), out)?;
-        let fits = self.learn_all(recorded.nogood.pairs(), stamps);
+        let fits = self.learn_all(recorded.nogood.pairs(), stamps)?;
         self.keep(recorded, fits)?;
         Ok(())
     }

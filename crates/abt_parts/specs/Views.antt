@@ -1,5 +1,5 @@
 -- What the slots of a view stand for.
-use Rattle.std.specs.Prelude.{ℕ, ◌≤◌, List, Option, Some, None, map, slice_index_or, replicate, unwrap_or}
+use Rattle.std.specs.Prelude.{ℕ, Bool, List, Option, Some, None, is_some, map, slice_index_or, replicate, unwrap_or}
 use Rattle.std.specs.List.{range_with_len}
 use Rattle.abt_defs.specs.Agents.{Stamped, View}
 use Rattle.dcsp_common.specs.declared.entries.Entry.{Entry}
@@ -15,29 +15,40 @@ abbrev pub stamped_in : Option StampedValue → Option Stamped
 stamped_in None = None
 stamped_in (Some told) = Some (stamped_of told)
 
--- the view that has a slot for each higher agent; there is nothing past the last slot
-abbrev pub view_of : List (Option StampedValue) → View
-view_of slots k = stamped_in (slice_index_or slots k None)
+-- the slots of a view: for each higher agent its place, if it has one, with what it told, if it told anything
+abbrev pub Slots : Type 0
+Slots = List (Option (Option StampedValue))
 
--- so many slots in which there is nothing
-abbrev pub blank : ℕ → List (Option StampedValue)
-blank agents = replicate agents None
+-- the agent has a place
+abbrev pub has_place : Slots → ℕ → Bool
+has_place slots k = is_some (slice_index_or slots k None)
+
+-- what the agent told
+abbrev pub told_at : Slots → ℕ → Option StampedValue
+told_at slots k = unwrap_or (slice_index_or slots k None) None
+
+-- the view that has a slot for each higher agent; there is nothing past the last slot
+abbrev pub view_of : Slots → View
+view_of slots k = stamped_in (told_at slots k)
+
+-- so many slots, each with a place in which there is nothing
+abbrev pub blank : ℕ → Slots
+blank agents = replicate agents (Some None)
+
+-- so many slots without a place
+abbrev pub placeless : ℕ → Slots
+placeless agents = replicate agents None
 
 -- the stamp without its value
 abbrev pub stamp_in : Option Stamped → Option ℕ
 stamp_in None = None
 stamp_in (Some s) = Some s.stamp
 
--- what the agent told whose slot is among these
-abbrev pub told_in : List (Entry (Option StampedValue)) → ℕ → Option StampedValue
-told_in slots agent = unwrap_or (item_for slots agent) None
+-- the places of so many agents, as they stand among these
+abbrev pub slots_of : ℕ → List (Entry (Option StampedValue)) → Slots
+slots_of agents places = map (item_for places) (range_with_len 0 agents)
 
--- for each of so many agents what it told
-abbrev pub slots_of : ℕ → List (Entry (Option StampedValue)) → List (Option StampedValue)
-slots_of agents slots = map (told_in slots) (range_with_len 0 agents)
-
--- slots of agents below a number, by agent, in a list with room for all of them
-pub record AreSlots (agents capacity : ℕ) (slots : List (Entry (Option StampedValue))) : Type 0 where
-  pub rising : AreRising slots
-  pub below : AreBelow agents slots
-  pub room : agents ≤ capacity
+-- places of agents below a number, by agent
+pub record ArePlaces (agents : ℕ) (places : List (Entry (Option StampedValue))) : Type 0 where
+  pub rising : AreRising places
+  pub below : AreBelow agents places

@@ -4,13 +4,13 @@
 //! asynchronous backtracking (Yokoo, Durfee, Ishida and Kuwabara, IEEE TKDE 10(5), 1998), with a
 //! stamp beside each value.
 
-ghost use Rattle.std.specs.Prelude.{◌≡◌, ◌<◌, Some, None, IfOk, length, set, slice_index_or, if◌then◌else◌};
+ghost use Rattle.std.specs.Prelude.{◌≡◌, ◌<◌, ℕ, Some, None, IfOk, OnErr, OnOk, length, set, true, if◌then◌else◌};
 ghost use Rattle.dcsp_defs.specs.Words.{update};
 ghost use Rattle.abt_defs.specs.Agents.{values_in};
 ghost use Rattle.abt_defs.specs.Steps.{is_newer};
-ghost use Rattle.abt_parts.specs.Views.{blank, stamp_in, view_of};
+ghost use Rattle.abt_parts.specs.Views.{blank, has_place, placeless, stamp_in, told_at, view_of};
 
-use dcsp_common::{Entry, Memory, item_of, put_reserved};
+use dcsp_common::{Entry, Memory, item_of, place_of, put};
 use std::alloc::Global;
 use std::marker::Model;
 
@@ -21,97 +21,141 @@ pub struct StampedValue {
     pub stamp: u64,
 }
 
-/// How many of the first agents are near: as soon as one of them is told of, each one before it gets a slot,
-/// so that theirs stand at their own numbers and are found without a search.
+/// How many of the first agents are near: as soon as one of them gets a place, each one before it gets one too, so
+/// that theirs stand at their own numbers and are found without a search.
 const NEAR: u32 = 128;
 
-/// For each higher agent the value and the stamp last told, if there was one.
+/// For each higher agent the value and the stamp last told, if there was one. What is told of an agent is learned
+/// once it has a place.
 #[derive(Debug, Drop)]
 pub struct View {
-    /// Slots of agents above, by agent. There is room for all of them, which is not touched before.
-    slots: Vec<Entry<Option<StampedValue>>>,
-    /// How many there are above.
+    /// The places of agents above, by agent, with what they told.
+    places: Vec<Entry<Option<StampedValue>>>,
+    /// How many agents there are above.
     agents: usize,
 }
 
 impl Model for View {
-    ghost use Rattle.std.specs.Prelude.{List, Option, vec_capacity};
-    ghost use Rattle.abt_parts.specs.declared.view.StampedValue.{StampedValue};
-    ghost use Rattle.abt_parts.specs.Views.{slots_of, AreSlots};
+    ghost use Rattle.abt_parts.specs.Views.{slots_of, ArePlaces, Slots};
 
-    ghost Value = { List (Option StampedValue) };
+    ghost Value = { Slots };
 
-    ghost view = { λ view. slots_of view.agents view.slots.items };
+    ghost view = { λ view. slots_of view.agents view.places.items };
 
-    ghost invariant = { λ view. AreSlots view.agents (vec_capacity view.slots) view.slots.items };
+    ghost invariant = { λ view. ArePlaces view.agents view.places.items };
 }
 
 impl View {
-    /// The view of an agent that was told nothing, with room for each agent above it.
+    /// The view of an agent that was told nothing, with a place for each agent above it.
     pub fn new(alloc: Global, agent: u32) -> Result<View, Memory>
         ensures slots { IfOk result (λ view. view ≡ blank agent) }
         ensures empty { IfOk result (λ view. view_of view ≡ (λ k. None)) }
     {
-        let agents = agent as usize;
-        match Vec::with_capacity(alloc, agents) {
-            Ok(slots) => Ok(View { slots, agents }),
-            Err(_) => Err(Memory),
+        let mut view = View::without_places(alloc, agent);
+        for higher in 0..agent {
+            view.make_one_place(higher)?;
+        }
+        Ok(view)
+    }
+
+    /// The view of an agent that was told nothing, in which no agent has a place. It takes no memory.
+    pub fn without_places(alloc: Global, agent: u32) -> View
+        ensures slots { result ≡ placeless agent }
+        ensures empty { view_of result ≡ (λ k. None) }
+    {
+        View {
+            places: Vec::new(alloc),
+            agents: agent as usize,
         }
     }
 
-    /// Takes a value and its stamp for a higher agent, and is true, exactly if there is no stamp for
-    /// it or a lower one.
-    pub fn learn(&mut self, var: u32, value: i64, stamp: u64) -> bool
+    /// Gives a higher agent a place, if it has none. What was told stays.
+    #[inline(always)]
+    pub fn make_place(&mut self, var: u32) -> Result<(), Memory>
         requires { var < length self.old }
+        ensures place { OnOk result (has_place self.new var ≡ true) }
+        ensures stay { (k : ℕ) → has_place self.old k ≡ true → has_place self.new k ≡ true }
+        ensures told { view_of self.new ≡ view_of self.old }
+        ensures slots { length self.new ≡ length self.old }
+    {
+        if self.has_place(var) {
+            return Ok(());
+        }
+        if var < NEAR {
+            self.make_places_before(var)?;
+        }
+        self.make_one_place(var)?;
+        Ok(())
+    }
+
+    /// Whether an agent has a place.
+    #[inline(always)]
+    fn has_place(&self, var: u32) -> bool
+        ensures { result ≡ has_place self.now var }
+    {
+        item_of(&self.places, var).is_some()
+    }
+
+    /// Gives each agent above this one a place, if it has none.
+    fn make_places_before(&mut self, var: u32) -> Result<(), Memory>
+        requires { var < length self.old }
+        ensures stay { (k : ℕ) → has_place self.old k ≡ true → has_place self.new k ≡ true }
+        ensures told { view_of self.new ≡ view_of self.old }
+        ensures slots { length self.new ≡ length self.old }
+    {
+        for near in 0..var {
+            self.make_one_place(near)?;
+        }
+        Ok(())
+    }
+
+    /// Gives one agent a place, if it has none.
+    fn make_one_place(&mut self, var: u32) -> Result<(), Memory>
+        requires { var < length self.old }
+        ensures made { OnOk result (self.new ≡ set self.old var (Some (told_at self.old var))) }
+        ensures err { OnErr result (self.new ≡ self.old) }
+    {
+        if self.has_place(var) {
+            return Ok(());
+        }
+        put(&mut self.places, var, None)?;
+        Ok(())
+    }
+
+    /// Takes a value and its stamp for a higher agent, which has a place, and is true, exactly if there is no stamp
+    /// for it or a lower one.
+    pub fn learn(&mut self, var: u32, value: i64, stamp: u64) -> bool
+        requires { has_place self.old var ≡ true }
         ensures newer { result ≡ is_newer (view_of self.old var) stamp }
         ensures view { view_of self.new ≡ (if result then update (view_of self.old) var (Some (record { value = value; stamp = stamp })) else view_of self.old) }
         ensures slots { length self.new ≡ length self.old }
+        ensures places { (k : ℕ) → has_place self.new k ≡ has_place self.old k }
     {
-        let told = Some(StampedValue { value, stamp });
+        let told = StampedValue { value, stamp };
         match self.stamp_of(var) {
             None => {
-                self.put_first(var, told);
+                self.put_told(var, told);
                 true
             }
             Some(known) => {
                 let is_newer = known < stamp;
                 if is_newer {
-                    self.put(var, told);
+                    self.put_told(var, told);
                 }
                 is_newer
             }
         }
     }
 
-    /// Puts into the slot of an agent what it told first. A near one gets the slots before its own too.
-    fn put_first(&mut self, var: u32, told: Option<StampedValue>)
-        requires { var < length self.old }
-        ensures { self.new ≡ set self.old var told }
-    {
-        if var < NEAR {
-            self.make_slots(var);
-        }
-        self.put(var, told);
-    }
-
-    /// Makes the slots of the agents above this one, where they are not there.
-    fn make_slots(&mut self, var: u32)
-        requires { var < length self.old }
-        ensures { self.new ≡ self.old }
-    {
-        for near in 0..var {
-            let told = self.stamped_value(near);
-            self.put(near, told);
-        }
-    }
-
-    /// Puts into an agent's slot what it told.
+    /// Puts into an agent's place what it told.
     #[inline(always)]
-    fn put(&mut self, var: u32, told: Option<StampedValue>)
-        requires { var < length self.old }
-        ensures { self.new ≡ set self.old var told }
+    fn put_told(&mut self, var: u32, told: StampedValue)
+        requires { has_place self.old var ≡ true }
+        ensures { self.new ≡ set self.old var (Some (Some told)) }
     {
-        put_reserved(&mut self.slots, var, told);
+        if let Ok(place) = place_of(&self.places, var) {
+            self.places[place].item = Some(told);
+        }
     }
 
     /// The value last told by an agent; `None` where it told nothing or is not higher.
@@ -130,8 +174,8 @@ impl View {
 
     /// The value and the stamp last told by an agent; `None` where it told nothing or is not higher.
     pub fn stamped_value(&self, var: u32) -> Option<StampedValue>
-        ensures { result ≡ slice_index_or self.now var None }
+        ensures { result ≡ told_at self.now var }
     {
-        item_of(&self.slots, var)?
+        item_of(&self.places, var)?
     }
 }

@@ -1,6 +1,7 @@
 //! The kept reasons, beside the plain search.
 
-ghost use Rattle.std.specs.Prelude.{◌≡◌, ◌<◌, ℕ, None, [], ◌∷◌, length};
+ghost use Rattle.std.specs.Prelude.{◌≡◌, ◌<◌, ℕ, None, Some, [], ◌∷◌, length, if◌then◌else◌};
+ghost use Rattle.dcsp_defs.specs.Words.{update};
 ghost use Rattle.dcsp_defs.specs.Pairs.{pair_of};
 ghost use Rattle.abt_defs.specs.Agents.{values_in};
 ghost use Rattle.abt_parts.specs.Views.{view_of};
@@ -278,6 +279,16 @@ fn mixed(rt: &impl Abort, alloc: Global, greatest: i64) -> Problem
     builder.finish().expect(rt, "memory")
 }
 
+/// A value is told by an agent above, which gets a place in the view, if it has none. True exactly if it is newer.
+fn hear(rt: &impl Abort, view: &mut View, var: u32, value: i64, stamp: u64) -> bool
+    requires { var < length view.old }
+    ensures view { view_of view.new ≡ (if result then update (view_of view.old) var (Some (record { value = value; stamp = stamp })) else view_of view.old) }
+    ensures slots { length view.new ≡ length view.old }
+{
+    view.make_place(var).expect(rt, "memory");
+    view.learn(var, value, stamp)
+}
+
 /// A value at a place of a domain is told by an agent above.
 fn learn(
     rt: &impl Abort,
@@ -303,7 +314,7 @@ fn learn(
     let domain = problem.domain(var);
     assert!(rt; place < domain.len());
     let told = own_pair(var, domain, place);
-    if !view.learn(var, told.value, stamp) {
+    if !hear(rt, view, var, told.value, stamp) {
         return;
     }
     store.forget(var, told.value);

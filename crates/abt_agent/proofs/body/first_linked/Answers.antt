@@ -29,7 +29,7 @@ pub returns : goal.returns
 returns c =
     let p = c.args.problem.now in
     let me = c.args.me in
-    marks_are_all (shares (csp_of p) me) c.in_ok-marks.marks me c.in_ok-marks.ensures.size (λ j l.
+    c.of.ensures ∙ marks_are_all (shares (csp_of p) me) c.in_ok-marks.marks me c.in_ok-marks.ensures.size (λ j l.
     c.in_ok-marks.ensures.marks j l
     ∙ ap (names_any p j) c.owned.ensures.rules
     ∙ ap (λ b. b && names_any p j (owned_rules p me)) (sym (apart j me l))

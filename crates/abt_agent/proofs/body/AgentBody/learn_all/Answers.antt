@@ -10,7 +10,7 @@ use Rattle.abt_agent.specs.Bodies.{agent_of}
 use Rattle.abt_agent.proofs.Fits.{fits_next, learn_next}
 use Rattle.abt_agent.proofs.Members.{In-get_or}
 use Rattle.abt_agent.proofs.body.AgentBody.learn_all.Goals as goal
-use Rattle.abt_agent.proofs.body.AgentBody.learn_all.Goals.{then-learn_higher, else-learn_higher}
+use Rattle.abt_agent.proofs.body.AgentBody.learn_all.Goals.{then-is_so, else-is_so}
 
 pub learn_higher-requires-clause-value : goal.learn_higher-requires-clause-value
 learn_higher-requires-clause-value c =
@@ -29,18 +29,18 @@ loop-place-preserved c =
     let before = agent_of c.loop-place.self in
     let after = agent_of c.learn_higher.new.self in
     let me : c.loop-place.self.known.me ≡ c.args.self.now.known.me = ap (λ (x : Contents × ℕ). x.1) c.loop-place.invariant.owner in
-    let both : c.if-learn_higher.fits ≡ (c.learn_higher.result && c.loop-place.fits) = elim c.if-learn_higher.branch [
-      | then-learn_higher w ↦ w.fits-is ∙ ap (λ z. z && c.loop-place.fits) (sym w.if-learn_higher.true)
-      | else-learn_higher w ↦ w.fits-is ∙ w.if-learn_higher.false ∙ ap (λ z. z && c.loop-place.fits) (sym w.if-learn_higher.false)
+    let both : c.if-is_so.fits ≡ (c.in_ok-is_so.is_so && c.loop-place.fits) = elim c.if-is_so.branch [
+      | then-is_so w ↦ w.fits-is ∙ ap (λ z. z && c.loop-place.fits) (sym w.if-is_so.true)
+      | else-is_so w ↦ w.fits-is ∙ w.if-is_so.false ∙ ap (λ z. z && c.loop-place.fits) (sym w.if-is_so.false)
     ] in
     record {
-      fits = both ∙ subst (λ (m : ℕ). (c.learn_higher.result && c.loop-place.fits) ≡ steps.fits m (take (place + 1) pairs) after) me
-          (fits_next c.loop-place.self.known.me place pairs (record { value = to_z w64 (of_z w64 pair.value); stamp = get_or stamps place 0 }) before after c.learn_higher.result c.loop-place.fits
-          c.loop-place-test.true c.requires.rising (to_z-of_z w64 pair.value value) c.learn_higher.ensures.agent c.learn_higher.ensures.fits
+      fits = both ∙ subst (λ (m : ℕ). (c.in_ok-is_so.is_so && c.loop-place.fits) ≡ steps.fits m (take (place + 1) pairs) after) me
+          (fits_next c.loop-place.self.known.me place pairs (record { value = to_z w64 (of_z w64 pair.value); stamp = get_or stamps place 0 }) before after c.in_ok-is_so.is_so c.loop-place.fits
+          c.loop-place-test.true c.requires.rising (to_z-of_z w64 pair.value value) c.in_ok-is_so.ensures.agent c.in_ok-is_so.ensures.fits
           (c.loop-place.invariant.fits ∙ ap (λ (m : ℕ). steps.fits m (take place pairs) before) (sym me)));
       agent = subst (λ (m : ℕ). steps.learn_all m (with_stamps (drop (place + 1) pairs) (drop (place + 1) stamps)) after ≡ steps.learn_all m (with_stamps (drop place pairs) (drop place stamps)) before) me
-          (learn_next c.loop-place.self.known.me place pairs stamps (to_z w64 (of_z w64 pair.value)) before after c.loop-place-test.true c.requires.stamped.many (to_z-of_z w64 pair.value value) c.learn_higher.ensures.agent)
+          (learn_next c.loop-place.self.known.me place pairs stamps (to_z w64 (of_z w64 pair.value)) before after c.loop-place-test.true c.requires.stamped.many (to_z-of_z w64 pair.value value) c.in_ok-is_so.ensures.agent)
           ∙ c.loop-place.invariant.agent;
       owner = c.learn_higher.ensures.owner ∙ c.loop-place.invariant.owner;
-      sized = c.learn_higher.ensures.sized;
+      sized = c.in_ok-is_so.ensures.sized;
     }

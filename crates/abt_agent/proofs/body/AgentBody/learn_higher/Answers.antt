@@ -9,5 +9,5 @@ pub returns-clause-fits : goal.returns-clause-fits
 returns-clause-fits c =
     let low : c.args.var < c.args.self.now.known.me = search rules in
     let newer : steps.is_newer (view_of c.args.self.now.known.view c.args.var) c.args.told.stamp ≡ true = search rules in
-    c.learn.ensures.news ∙ newer
-    ∙ fits_learnt c.args.self.now.known.me c.args.var (stamped_of c.args.told) (agent_of c.args.self.now) (agent_of c.learn.new.self) low c.learn.ensures.agent newer
+    c.in_ok-is_news.ensures.news ∙ newer
+    ∙ fits_learnt c.args.self.now.known.me c.args.var (stamped_of c.args.told) (agent_of c.args.self.now) (agent_of c.learn.new.self) low c.in_ok-is_news.ensures.agent newer

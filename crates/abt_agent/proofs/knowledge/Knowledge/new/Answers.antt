@@ -10,11 +10,11 @@ use Rattle.abt_agent.proofs.knowledge.Knowledge.new.Goals as goal
 pub returns-clause-in_step : goal.returns-clause-in_step
 returns-clause-in_step c = record {
   me_exists = c.requires;
-  view = ap length c.in_ok-view.ensures.slots ∙ length-replicate c.args.me None;
-  domains = λ var v l e. let none : values_in (view_of c.in_ok-view.view) ≡ (λ k. None) = ap values_in c.in_ok-view.ensures.empty in let at : None ≡ Some v = sym (ap (λ (f : PartialAssignment). f var) none) ∙ e in cc;
-  stamps = λ k s e. let none : None ≡ Some s = sym (ap (λ (w : View). w k) c.in_ok-view.ensures.empty) ∙ e in cc;
+  view = ap length c.without_places.ensures.slots ∙ length-replicate c.args.me None;
+  domains = λ var v l e. let none : values_in (view_of c.without_places.result) ≡ (λ k. None) = ap values_in c.without_places.ensures.empty in let at : None ≡ Some v = sym (ap (λ (f : PartialAssignment). f var) none) ∙ e in cc;
+  stamps = λ k s e. let none : None ≡ Some s = sym (ap (λ (w : View). w k) c.without_places.ensures.empty) ∙ e in cc;
   problem = c.in_ok-reasons.ensures.problem;
   agent = c.in_ok-reasons.ensures.agent;
-  stands = subst (λ (items : List Recorded). StandsFor c.in_ok-reasons.reasons (values_in (view_of c.in_ok-view.view)) items) (sym c.new-3.ensures)
-      (subst (λ (w : View). StandsFor c.in_ok-reasons.reasons (values_in w) []) (sym c.in_ok-view.ensures.empty) c.in_ok-reasons.ensures.stands);
+  stands = subst (λ (items : List Recorded). StandsFor c.in_ok-reasons.reasons (values_in (view_of c.without_places.result)) items) (sym c.new-2.ensures)
+      (subst (λ (w : View). StandsFor c.in_ok-reasons.reasons (values_in w) []) (sym c.without_places.ensures.empty) c.in_ok-reasons.ensures.stands);
 }
