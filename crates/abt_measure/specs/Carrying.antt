@@ -1,6 +1,6 @@
 -- Messages in transit, each by its sender and the clock that it carries.
-use Rattle.std.specs.Prelude.{ℕ, ◌<◌, ◌≢◌, List, [], ◌∷◌, cond, ◌==◌, map, slice_index_or, if◌then◌else◌}
-use Rattle.abt_defs.specs.Clocks.{copies}
+use Rattle.std.specs.Prelude.{ℕ, ◌<◌, ◌≢◌, List, [], ◌∷◌, cond, ◌==◌, map, slice_index_or, Option, if◌then◌else◌}
+use Rattle.abt_defs.specs.Clocks.{copies, Event}
 use Rattle.abt_parts.specs.declared.message.SentTo.{SentTo}
 use Rattle.abt_measure.specs.declared.carried.Carried.{Carried}
 
@@ -24,6 +24,10 @@ clocks_on lists a b = clocks_from a (slice_index_or lists b [])
 -- the receivers of what was sent
 abbrev pub receivers_of : List SentTo → List ℕ
 receivers_of sent = map (λ (x : SentTo). x.to) sent
+
+-- what a clock sees of an act in which this was sent
+abbrev pub event_with : ℕ → Option ℕ → ℕ → List SentTo → Event
+event_with agent sender work sent = record { agent = agent; sender = sender; work = work; receivers = receivers_of sent }
 
 -- what sending with this clock adds from a to b
 abbrev pub sent_with : ℕ → ℕ → List ℕ → ℕ → ℕ → List ℕ

@@ -14,6 +14,7 @@ use Rattle.abt_reason.specs.declared.checks.Checks.{Checks}
 use Rattle.abt_reason.specs.Checked.{as_checks}
 use Rattle.abt_measure.specs.declared.row.Row.{Row}
 use Rattle.abt_measure.specs.declared.counts.Came.{Came}
+use Rattle.abt_measure.specs.declared.counts.Deed.{Deed}
 use Rattle.abt_measure.specs.Clocks.{ClockState, as_weights, clocks_of}
 use Rattle.abt_measure.specs.Rows.{as_row, blank_row}
 
@@ -38,6 +39,10 @@ pub record IsAct (p : Csp) (a : Act) (agent : ℕ) (came : Option Came) (checks 
   pub checks_are : as_checks checks ≡ checks_of p a
   pub recorded_is : recorded ≡ length a.after.recorded
   pub sent_is : sent ≡ map told_sent a.sent
+
+-- the same, of what the code has of it
+abbrev pub IsDeed : Csp → Act → Deed → Type 0
+IsDeed p a deed = IsAct p a deed.agent deed.came deed.checks deed.recorded deed.sent.now
 
 -- the clock is that of these acts
 pub record IsClock (p : Csp) (w : clocks.Weights) (acts : List Act) (s : ClockState) : Type 0 where

@@ -1,6 +1,7 @@
 -- All that is counted in a run.
 use Rattle.std.specs.Prelude.{◌≡◌, ℕ, ◌+◌, ◌-◌, List, [], ◌∷◌, ◌++◌, map, length, max, sum_by, Option, Some, None}
 use Rattle.dcsp_defs.specs.Csp.{Csp}
+use Rattle.dcsp_rule.specs.Problems.{csp_of}
 use Rattle.abt_defs.specs.Agents.{Agent, Message}
 use Rattle.abt_defs.specs.Network.{Network, run, start}
 use Rattle.abt_defs.specs.Events.{Act, acts, later_acts, start_acts}
@@ -47,6 +48,10 @@ pub record IsCounted (p : Csp) (acts : List Act) (m : MeasureState) : Type 0 whe
   pub messages : IsClock p messages_alone acts m.messages
   pub sent : m.sent ≡ sum_by (λ (a : Act). length a.sent) acts
   pub got : m.got ≡ sum_by (λ (a : Act). length (messages_got a)) acts
+
+-- the same, of the acts of a run of this network's problem
+abbrev pub CountsIn : NetworkState → List Act → MeasureState → Type 0
+CountsIn s acts m = IsCounted (csp_of s.problem) acts m
 
 -- no event was made
 pub record HasNoEvents (m : MeasureState) : Type 0 where
@@ -107,3 +112,7 @@ pub record CountsNext (p : Csp) (acts : List Act) (a : Act) (before : ℕ) (old 
 pub record IsOnRun (s : NetworkState) : Type 0 where
   pub choices : List ℕ
   pub stands : StandsAt s (reached s choices)
+
+-- the same, of the run of this network's problem
+abbrev pub MeasuresIn : NetworkState → List ℕ → MeasureState → Type 0
+MeasuresIn s choices m = IsMeasured (csp_of s.problem) choices m

@@ -3,7 +3,7 @@
 ghost use Rattle.std.specs.Prelude.{◌≡◌, ◌<◌, ◌*◌, ◌+◌, [], All, length, max, IfOk, OnOk, slice_index};
 ghost use Rattle.abt_defs.specs.Clocks.{no_clocks, reached, tick};
 ghost use Rattle.abt_parts.specs.declared.message.SentTo.{SentTo as TheSentTo};
-ghost use Rattle.abt_measure.specs.Carrying.{receivers_of};
+ghost use Rattle.abt_measure.specs.Carrying.{event_with};
 ghost use Rattle.abt_measure.specs.Clocks.{clocks_of, IsTaken};
 
 use crate::ways::Ways;
@@ -87,7 +87,7 @@ impl RunClock {
     ) -> Result<(), Memory>
         requires exists { agent < length self.old.agents }
         requires receivers { All (λ (x : TheSentTo). x.to < length self.old.agents) sent.now }
-        ensures ticks { OnOk result (clocks_of self.new ≡ tick self.old.weights.latency (record { agent = agent; sender = sender; work = work; receivers = receivers_of sent.now }) (clocks_of self.old)) }
+        ensures ticks { OnOk result (clocks_of self.new ≡ tick self.old.weights.latency (event_with agent sender work sent.now) (clocks_of self.old)) }
         ensures long { length self.new.agents ≡ length self.old.agents }
         ensures weights { OnOk result (self.new.weights ≡ self.old.weights) }
     {

@@ -1,11 +1,11 @@
 //! Rows and clocks, one act after another.
 
-ghost use Rattle.std.specs.Prelude.{◌≡◌, ◌<◌, ◌∷◌, ◌++◌, ℕ, [], All, List, IfOk, OnOk, length};
+ghost use Rattle.std.specs.Prelude.{◌≡◌, ◌<◌, ◌∷◌, ◌++◌, [], All, List, IfOk, OnOk, length};
 ghost use Rattle.dcsp_defs.specs.Csp.{Csp, count};
 ghost use Rattle.abt_defs.specs.Events.{Act};
 ghost use Rattle.abt_parts.specs.declared.message.SentTo.{SentTo as TheSentTo};
 ghost use Rattle.abt_measure.specs.Clocks.{as_weights};
-ghost use Rattle.abt_measure.specs.Counting.{kind_in, sender_in, AreRows, IsAct, IsClock};
+ghost use Rattle.abt_measure.specs.Counting.{kind_in, sender_in, AreRows, IsClock, IsDeed};
 
 use crate::clock::RunClock;
 use crate::row::Row;
@@ -21,6 +21,21 @@ pub struct Came {
     /// Its sender, counted from 0.
     pub from: u32,
     pub kind: MessageKind,
+}
+
+/// What an agent did in an act.
+#[derive(Clone, Copy)]
+pub struct Deed<'s> {
+    /// The agent, counted from 0.
+    pub agent: u32,
+    /// The message that it received, if one came.
+    pub came: Option<Came>,
+    /// The checks that it made.
+    pub checks: Checks,
+    /// How many nogoods it has recorded after the act.
+    pub recorded: u64,
+    /// What it sent.
+    pub sent: &'s [SentTo],
 }
 
 /// The sender of what came.
@@ -44,21 +59,15 @@ fn kind_of(came: Option<Came>) -> Option<MessageKind>
 }
 
 /// Counts an act by the clock.
-pub fn count_by_clock(
-    clock: &mut RunClock,
-    agent: u32,
-    came: Option<Came>,
-    checks: Checks,
-    sent: &[SentTo],
-) -> Result<(), Memory>
-    requires exists { agent < length clock.old.agents }
-    requires receivers { All (λ (x : TheSentTo). x.to < length clock.old.agents) sent.now }
-    ensures counts { (p : Csp) (acts : List Act) (a : Act) (recorded : ℕ) → IsClock p (as_weights clock.old.weights) acts clock.old → IsAct p a agent came checks recorded sent.now
+pub fn count_by_clock(clock: &mut RunClock, deed: Deed<'_>) -> Result<(), Memory>
+    requires exists { deed.agent < length clock.old.agents }
+    requires receivers { All (λ (x : TheSentTo). x.to < length clock.old.agents) deed.sent.now }
+    ensures counts { (p : Csp) (acts : List Act) (a : Act) → IsClock p (as_weights clock.old.weights) acts clock.old → IsDeed p a deed.entry
         → OnOk result (IsClock p (as_weights clock.old.weights) (acts ++ a ∷ []) clock.new) }
     ensures long { length clock.new.agents ≡ length clock.old.agents }
 {
-    let work = clock.work(checks.constraints, checks.nogoods)?;
-    clock.act(agent, sender_of(came), work, sent)
+    let work = clock.work(deed.checks.constraints, deed.checks.nogoods)?;
+    clock.act(deed.agent, sender_of(deed.came), work, deed.sent)
 }
 
 /// The rows of all agents.
@@ -84,29 +93,19 @@ impl Rows {
     {
         let mut rows = Vec::new(alloc);
         for _agent in 0..agents {
-            let Ok(()) = rows.push(Row::none()) else {
-                return Err(Memory);
-            };
+            rows.push(Row::none())?;
         }
         Ok(Rows { rows })
     }
 
     /// Counts an act.
-    pub fn count(
-        &mut self,
-        agent: u32,
-        came: Option<Came>,
-        checks: Checks,
-        recorded: u64,
-        sent: &[SentTo],
-    ) -> Result<(), Memory>
-        requires { agent < length self.old }
-        ensures counts { (p : Csp) (acts : List Act) (a : Act) → AreRows p acts self.old → IsAct p a agent came checks recorded sent.now
-            → OnOk result (AreRows p (acts ++ a ∷ []) self.new) }
+    pub fn count(&mut self, deed: Deed<'_>) -> Result<(), Memory>
+        requires { deed.agent < length self.old }
+        ensures counts { (p : Csp) (acts : List Act) (a : Act) → AreRows p acts self.old → IsDeed p a deed.entry → OnOk result (AreRows p (acts ++ a ∷ []) self.new) }
         ensures long { length self.new ≡ length self.old }
     {
-        let row = &mut self.rows[agent as usize];
-        row.act(kind_of(came), checks, recorded, sent)
+        let row = &mut self.rows[deed.agent as usize];
+        row.act(kind_of(deed.came), deed.checks, deed.recorded, deed.sent)
     }
 
     /// All rows, by agent.

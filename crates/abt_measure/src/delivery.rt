@@ -12,9 +12,9 @@ ghost use Rattle.abt_parts.specs.declared.message.SentTo.{SentTo as TheSentTo};
 ghost use Rattle.abt_reason.specs.Checked.{as_checks};
 ghost use Rattle.abt_links.specs.Transit.{link_of};
 ghost use Rattle.abt_network.specs.Standing.{reached, CanDeliver, StandsAt};
-ghost use Rattle.abt_measure.specs.Measuring.{CountsNext, IsComing, IsCounted, IsMeasured, IsNext, IsOnRun};
+ghost use Rattle.abt_measure.specs.Measuring.{CountsIn, CountsNext, IsComing, IsNext, IsOnRun, MeasuresIn};
 
-use crate::counts::Came;
+use crate::counts::{Came, Deed};
 use crate::learned::Learned;
 use crate::measures::Measures;
 use abt_agent::Checks;
@@ -66,7 +66,8 @@ pub fn deliver_one(
     requires csp { IsCsp (csp_of network.old.problem) }
     requires on_run { IsOnRun network.old }
     requires long { length measures.old.rows ≡ length network.old.problem.domains }
-    ensures measured { (choices : List ℕ) → StandsAt network.old (reached network.old choices) → IsMeasured (csp_of network.old.problem) choices measures.old → OnOk result (IsMeasured (csp_of network.old.problem) (choices ++ choice ∷ []) measures.new) }
+    ensures measured { (choices : List ℕ) → StandsAt network.old (reached network.old choices) → MeasuresIn network.old choices measures.old
+        → OnOk result (MeasuresIn network.old (choices ++ choice ∷ []) measures.new) }
     ensures stands { (choices : List ℕ) → StandsAt network.old (reached network.old choices) → OnOk result (StandsAt network.new (reached network.old (choices ++ choice ∷ []))) }
     ensures sound { OnOk result (network.new.spent ≡ false) }
     ensures begun { OnOk result (network.new.begun ≡ true) }
@@ -91,7 +92,7 @@ fn count_delivery(
     requires long { length measures.old.rows ≡ length network.now.problem.domains }
     requires own { (v : ℤ) → coming.own ≡ Some v → In v (domain (csp_of network.now.problem) to) }
     requires receivers { All (λ (x : TheSentTo). x.to < length measures.old.rows) network.now.sent }
-    ensures counts { (acts : List Act) (a : Act) (net : TheNetwork) → StandsAt network.now net → IsCounted (csp_of network.now.problem) acts measures.old → IsNext a to coming network.now.sent net
+    ensures counts { (acts : List Act) (a : Act) (net : TheNetwork) → StandsAt network.now net → CountsIn network.now acts measures.old → IsNext a to coming network.now.sent net
         → OnOk result (CountsNext (csp_of network.now.problem) acts a coming.before measures.old measures.new) }
     ensures long { length measures.new.rows ≡ length measures.old.rows }
 {
@@ -106,7 +107,14 @@ fn count_delivery(
         from: coming.from,
         kind: coming.kind,
     };
-    measures.count(to, Some(came), checks, after, network.sent())?;
+    let deed = Deed {
+        agent: to,
+        came: Some(came),
+        checks,
+        recorded: after,
+        sent: network.sent(),
+    };
+    measures.count(deed)?;
     measures.end_event(coming.before, after)
 }
 

@@ -36,9 +36,7 @@ impl Learned {
     {
         let mut lists = Vec::new(alloc);
         for _agent in 0..agents {
-            let Ok(()) = lists.push(ItemList::new(alloc)) else {
-                return Err(Memory);
-            };
+            lists.push(ItemList::new(alloc))?;
         }
         Ok(Learned { agents: lists })
     }

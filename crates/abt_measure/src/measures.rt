@@ -6,13 +6,11 @@ ghost use Rattle.abt_defs.specs.Events.{Act};
 ghost use Rattle.abt_defs.specs.Clocks.{clock, all_checks, constraints_alone, messages_alone};
 ghost use Rattle.abt_parts.specs.declared.message.SentTo.{SentTo as TheSentTo};
 ghost use Rattle.abt_measure.specs.Measuring.{received_in, EndsEvent, HasNoEvents, IsCounted, SameEvents};
-ghost use Rattle.abt_measure.specs.Counting.{IsAct};
+ghost use Rattle.abt_measure.specs.Counting.{IsDeed};
 
 use crate::clock::{RunClock, Weights, greater, plus};
-use crate::counts::{Came, Rows, count_by_clock};
+use crate::counts::{Came, Deed, Rows, count_by_clock};
 use crate::row::Row;
-use abt_agent::Checks;
-use abt_parts::SentTo;
 use dcsp_common::Memory;
 use std::alloc::Global;
 use std::marker::Model;
@@ -88,27 +86,20 @@ impl Measures {
         })
     }
 
-    /// Counts an act: an agent received this, if a message came, made checks, has recorded so many nogoods, and sent.
-    pub fn count(
-        &mut self,
-        agent: u32,
-        came: Option<Came>,
-        checks: Checks,
-        recorded: u64,
-        sent: &[SentTo],
-    ) -> Result<(), Memory>
-        requires exists { agent < length self.old.rows }
-        requires receivers { All (λ (x : TheSentTo). x.to < length self.old.rows) sent.now }
-        ensures counted { (p : Csp) (acts : List Act) (a : Act) → IsCounted p acts self.old → IsAct p a agent came checks recorded sent.now → OnOk result (IsCounted p (acts ++ a ∷ []) self.new) }
+    /// Counts what an agent did in an act.
+    pub fn count(&mut self, deed: Deed<'_>) -> Result<(), Memory>
+        requires exists { deed.agent < length self.old.rows }
+        requires receivers { All (λ (x : TheSentTo). x.to < length self.old.rows) deed.sent.now }
+        ensures counted { (p : Csp) (acts : List Act) (a : Act) → IsCounted p acts self.old → IsDeed p a deed.entry → OnOk result (IsCounted p (acts ++ a ∷ []) self.new) }
         ensures long { length self.new.rows ≡ length self.old.rows }
         ensures events { OnOk result (SameEvents self.old self.new) }
     {
-        self.rows.count(agent, came, checks, recorded, sent)?;
-        count_by_clock(&mut self.all, agent, came, checks, sent)?;
-        count_by_clock(&mut self.constraints, agent, came, checks, sent)?;
-        count_by_clock(&mut self.messages, agent, came, checks, sent)?;
-        self.sent = plus(self.sent, sent.len() as u64)?;
-        self.got = plus(self.got, received(came))?;
+        self.rows.count(deed)?;
+        count_by_clock(&mut self.all, deed)?;
+        count_by_clock(&mut self.constraints, deed)?;
+        count_by_clock(&mut self.messages, deed)?;
+        self.sent = plus(self.sent, deed.sent.len() as u64)?;
+        self.got = plus(self.got, received(deed.came))?;
         Ok(())
     }
 }

@@ -9,9 +9,10 @@ ghost use Rattle.law_runs.specs.Starts.{settled_in, StartsWith};
 ghost use Rattle.abt_parts.specs.declared.message.SentTo.{SentTo as TheSentTo};
 ghost use Rattle.abt_links.specs.Transit.{ready_pairs};
 ghost use Rattle.abt_network.specs.Standing.{steps_of, StandsAt};
-ghost use Rattle.abt_measure.specs.Measuring.{HasNoEvents, IsCounted, IsMeasured, SameEvents};
+ghost use Rattle.abt_measure.specs.Measuring.{CountsIn, HasNoEvents, IsCounted, IsMeasured, SameEvents};
 ghost use Rattle.abt_measure.specs.Starting.{leading, tell_to, IsFirst};
 
+use crate::counts::Deed;
 use crate::measures::Measures;
 use abt_network::{Begun, Network};
 use abt_parts::{MessageKind, SentTo};
@@ -71,7 +72,7 @@ fn count_settlings(
     requires starts { StartsWith (csp_of network.now.problem) settled }
     requires csp { IsCsp (csp_of network.now.problem) }
     requires long { length measures.old.rows ≡ length network.now.problem.domains }
-    ensures counted { IsCounted (csp_of network.now.problem) [] measures.old → OnOk result (IsCounted (csp_of network.now.problem) (start_acts (csp_of network.now.problem)) measures.new) }
+    ensures counted { CountsIn network.now [] measures.old → OnOk result (CountsIn network.now (start_acts (csp_of network.now.problem)) measures.new) }
     ensures events { OnOk result (SameEvents measures.old measures.new) }
     ensures long { length measures.new.rows ≡ length measures.old.rows }
 {
@@ -96,13 +97,20 @@ fn count_settling(
     requires exists { agent < length network.now.problem.domains }
     requires long { length measures.old.rows ≡ length network.now.problem.domains }
     requires receivers { All (λ (x : TheSentTo). x.to < length measures.old.rows) sent.now }
-    ensures counts { (acts : List Act) (a : Act) (net : TheNetwork) → StandsAt network.now net → IsCounted (csp_of network.now.problem) acts measures.old → IsFirst a agent sent.now net
-        → OnOk result (IsCounted (csp_of network.now.problem) (acts ++ a ∷ []) measures.new) }
+    ensures counts { (acts : List Act) (a : Act) (net : TheNetwork) → StandsAt network.now net → CountsIn network.now acts measures.old → IsFirst a agent sent.now net
+        → OnOk result (CountsIn network.now (acts ++ a ∷ []) measures.new) }
     ensures events { OnOk result (SameEvents measures.old measures.new) }
     ensures long { length measures.new.rows ≡ length measures.old.rows }
 {
     let checks = network.agent(agent).checks(None)?;
-    measures.count(agent, None, checks, 0, sent)
+    let deed = Deed {
+        agent,
+        came: None,
+        checks,
+        recorded: 0,
+        sent,
+    };
+    measures.count(deed)
 }
 
 /// What an agent sent in the start: its value to the receivers of the ready lists that are its own, the first of which is
@@ -139,8 +147,6 @@ fn add_told(sent: &mut Vec<SentTo>, to: u32) -> Result<(), Memory>
         to,
         kind: MessageKind::Tell,
     };
-    match sent.push(told) {
-        Ok(()) => Ok(()),
-        Err(_) => Err(Memory),
-    }
+    sent.push(told)?;
+    Ok(())
 }

@@ -1,4 +1,4 @@
-pub mod Ordered
+pub mod InOrder
 pub mod Pieces
 pub mod Places
 pub mod Stopping

@@ -6,3 +6,5 @@ pub mod Running
 pub mod Runners
 pub mod Starving
 pub mod Tracing
+pub mod Ordering
+pub mod Making

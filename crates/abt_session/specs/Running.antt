@@ -1,5 +1,5 @@
 -- What the code of a run keeps, and what a run gives.
-use Rattle.std.specs.Prelude.{◌≡◌, ℕ, ℤ, Bool, false, None, List, [], ◌++◌, map, length, Option, option_copied, if◌then◌else◌}
+use Rattle.std.specs.Prelude.{◌≡◌, ℕ, ℤ, Bool, false, None, List, [], ◌++◌, map, length, Option, if◌then◌else◌}
 use Rattle.dcsp_defs.specs.Csp.{Csp, count}
 use Rattle.dcsp_defs.specs.Words.{below}
 use Rattle.dcsp_outside.specs.Outside.{IsPrefixOf}
@@ -11,6 +11,7 @@ use Rattle.dcsp_order.specs.Told.{ordered, values_told}
 use Rattle.abt_session.specs.Answers.{first_answers}
 use Rattle.abt_session.specs.declared.telling.Telling.{Telling}
 use Rattle.abt_session.specs.declared.session.RunTask.{RunTask}
+use Rattle.abt_session.specs.Ordering.{order_in}
 use Rattle.abt_session.specs.Sessions.{Session, run_of}
 use Rattle.abt_session.specs.declared.outcome.End.{End}
 use Rattle.abt_session.specs.declared.outcome.End.TheVariants.{Solved, Refuted, Spent, Capped}
@@ -22,15 +23,15 @@ session_of order run most answers log telling = record { problem = csp_of run; o
 
 -- the order that a task asks for
 abbrev pub order_of : RunTask → Option (List ℕ)
-order_of task = option_copied task.order
+order_of task = order_in task.model
 
 -- the run of this problem by these answers that a task asks for
 abbrev pub session_for : Contents → (ℕ → Option ℕ) → RunTask → Session
 session_for run answers task = session_of (order_of task) run task.most answers task.log.now task.telling
 
--- the run of a model's problem that it asks for: that of the problem under the order
-abbrev pub session_by : Contents → (ℕ → Option ℕ) → RunTask → Session
-session_by p answers task = session_for (ordered (order_of task) p) answers task
+-- the run that it asks for: that of its problem under the order
+abbrev pub session_by : (ℕ → Option ℕ) → RunTask → Session
+session_by answers task = session_for (ordered (order_of task) task.model.problem.now) answers task
 
 -- nothing tells of a run's deliveries
 abbrev pub nothing_told : Telling
@@ -40,9 +41,13 @@ nothing_told = record { trace = false; progress = false; round = None }
 abbrev pub trace_told : Bool → Telling
 trace_told trace = record { trace = trace; progress = false; round = None }
 
--- some choices lead to where the network stands
+-- these choices lead to where the network stands
+abbrev pub IsAfter : NetworkState → List ℕ → Type 0
+IsAfter s choices = StandsAt s (reached s choices)
+
+-- some choices do
 abbrev pub IsOnRun : NetworkState → Type 0
-IsOnRun s = (choices : List ℕ) × StandsAt s (reached s choices)
+IsOnRun s = (choices : List ℕ) × IsAfter s choices
 
 -- what is taken down of these numbers
 abbrev pub kept : Bool → List ℕ → List ℕ

@@ -2,6 +2,7 @@
 use Rattle.std.specs.Prelude.{◌≡◌, ◌↔◌, ◌≤◌, ℕ, List, length, if◌then◌else◌}
 use Rattle.std.specs.List.{AllByRecursion}
 use Rattle.dcsp_defs.specs.Csp.{Csp}
+use Rattle.dcsp_rule.specs.Problems.{csp_of}
 use Rattle.abt_defs.specs.Network.{Network, start, ready, is_empty}
 use Rattle.abt_defs.specs.Bound.{message_bound}
 use Rattle.abt_defs.specs.Runs as runs
@@ -10,10 +11,19 @@ use Rattle.law_runs.specs.Stops.{IsOpen}
 use Rattle.abt_session.specs.declared.starved_run.StarvedEnd.{StarvedEnd}
 use Rattle.abt_session.specs.declared.starved_run.StarvedEnd.TheVariants.{Solved, Refuted, Open}
 use Rattle.abt_session.specs.declared.starved_run.Starved.{Starved}
+use Rattle.abt_session.specs.declared.starved_run.StarvingRun.{StarvingRun}
 
 -- the choices that starve the link from a to b, from the start on, for at most this many deliveries
 abbrev pub starving_choices : Csp → ℕ → ℕ → ℕ → List ℕ
 starving_choices p a b most = starved_choices p a b most (start p)
+
+-- the choices of the run that is asked for
+abbrev pub choices_of : StarvingRun → List ℕ
+choices_of run = starving_choices (csp_of run.problem.now) run.from run.to run.most
+
+-- the run that is asked for
+abbrev pub run_of : StarvingRun → runs.Run
+run_of run = starved (csp_of run.problem.now) run.from run.to run.most
 
 -- the choices of a run that starves a link: no more than so many, each of which is 0 or 1
 pub record AreNear (most : ℕ) (choices : List ℕ) : Type 0 where

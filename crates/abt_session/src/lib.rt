@@ -13,6 +13,7 @@
 
 mod laws;
 mod lines;
+mod ordered;
 mod outcome;
 mod runner;
 mod session;
@@ -24,9 +25,10 @@ mod trace;
 pub use dcsp_script::Stop as SessionError;
 pub use laws::{lines_tell_deliveries, traces_tell_deliveries};
 pub use lines::{append_begun, append_made};
+pub use ordered::Ordered;
 pub use outcome::{End, Outcome};
 pub use session::{RunTask, run};
-pub use starved_run::{Starved, StarvedEnd, starve};
+pub use starved_run::{Starved, StarvedEnd, StarvingRun, starve};
 pub use telling::Telling;
 pub use told::{begun_told, step_told};
 pub use trace::push_cargo;

@@ -8,7 +8,8 @@ ghost use Rattle.dcsp_script.specs.Ways.{Wrote};
 ghost use Rattle.ngd_log.specs.StepText.{step_line, IsInRange, IsStepNumber};
 ghost use Rattle.abt_network.specs.Standing.{delivery_of, steps_of};
 ghost use Rattle.abt_session.specs.Traces.{progress_texts, trace_texts};
-ghost use Rattle.abt_session.specs.Sessions.{step_writes, telling_writes};
+ghost use Rattle.abt_session.specs.Sessions.{step_writes};
+ghost use Rattle.abt_session.specs.Making.{made_writes};
 
 use crate::telling::{Telling, push_progress, tells_progress};
 use crate::trace::push_line;
@@ -80,20 +81,28 @@ pub fn append_begun<F: Folder>(
     }
 }
 
-/// Puts what tells of the delivery with this number, after which so many steps are made.
+/// A delivery that was made.
+#[derive(Clone, Copy)]
+pub struct Made<'d> {
+    /// Its number, counted from 1.
+    pub number: u64,
+    /// How many steps the run has made with it.
+    pub steps: u64,
+    pub delivery: &'d Delivery,
+}
+
+/// Puts what tells of the delivery.
 pub fn put_delivery<S: Sink>(
     out: &mut S,
     telling: Telling,
-    number: u64,
-    steps: u64,
-    delivery: &Delivery,
+    made: Made<'_>,
     line: &mut Vec<u8>,
 ) -> Result<(), Stop>
-    ensures { (folder : Place) → Wrote (telling_writes telling number steps (delivery_of delivery.now ∷ []))
+    ensures { (folder : Place) → Wrote (made_writes telling made.entry)
         (outside folder (S.stream out.old)) (outside folder (S.stream out.new)) result }
 {
-    put_trace(out, telling, number, delivery, line)?;
-    put_progress(out, telling, number, steps, line)
+    put_trace(out, telling, made.number, made.delivery, line)?;
+    put_progress(out, telling, made.number, made.steps, line)
 }
 
 /// Puts the line of the delivery with this number, where a trace is asked for.

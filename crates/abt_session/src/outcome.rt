@@ -6,15 +6,16 @@ ghost use Rattle.dcsp_rule.specs.Problems.{csp_of};
 ghost use Rattle.abt_network.specs.Standing.{StandsAt};
 ghost use Rattle.abt_session.specs.Runners.{end_of};
 ghost use Rattle.dcsp_order.specs.Told.{place_told, Fits};
+ghost use Rattle.abt_session.specs.Ordering.{order_in};
 ghost use Rattle.abt_session.specs.Running.{values_of, IsOutcome};
 
+use crate::ordered::Ordered;
 use crate::runner::Halt;
 use abt_network::Network;
 use abt_schedule::ChoiceList;
 use dcsp_common::Memory;
 use dcsp_domain::IntList;
 use dcsp_order::Order;
-use dcsp_problem::Problem;
 use dcsp_script::Stop;
 use std::alloc::Global;
 
@@ -56,19 +57,14 @@ fn place_in(order: Option<&Order>, number: u32) -> u32
 }
 
 /// The values of all variables, in the order of their own numbers. The problem is the one that is run.
-fn values_of(
-    alloc: Global,
-    problem: &Problem,
-    network: &Network,
-    order: Option<&Order>,
-) -> Result<IntList, Memory>
-    requires run { network.now.problem ≡ problem.now }
-    requires fits { Fits (option_copied order) problem.now }
-    ensures { (net : TheNetwork) → StandsAt network.now net → IfOk result (λ list. list ≡ values_of (option_copied order.entry) (csp_of problem.now) net) }
+fn values_of(alloc: Global, model: Ordered<'_>, network: &Network) -> Result<IntList, Memory>
+    requires run { network.now.problem ≡ model.problem.now }
+    requires fits { Fits (order_in model) model.problem.now }
+    ensures { (net : TheNetwork) → StandsAt network.now net → IfOk result (λ list. list ≡ values_of (order_in model.entry) (csp_of model.entry.problem.now) net) }
 {
     let mut list = IntList::new(alloc);
-    for number in 0..problem.vars() {
-        let value = network.value(place_in(order, number)).unwrap_or(0);
+    for number in 0..model.problem.vars() {
+        let value = network.value(place_in(model.order, number)).unwrap_or(0);
         if list.push(value).is_err() {
             return Err(Memory);
         }
@@ -79,25 +75,19 @@ fn values_of(
 /// What the run of this problem gives that has stopped.
 pub fn outcome_of(
     alloc: Global,
-    problem: &Problem,
+    model: Ordered<'_>,
     network: &Network,
-    order: Option<&Order>,
     halt: Halt,
     numbers: ChoiceList,
 ) -> Result<Outcome, Stop>
-    requires run { network.now.problem ≡ problem.now }
-    requires fits { Fits (option_copied order) problem.now }
-    ensures gives { (net : TheNetwork) → StandsAt network.now net → IfOk result (IsOutcome (option_copied order.entry) (csp_of problem.now) net (end_of halt)) }
+    requires run { network.now.problem ≡ model.problem.now }
+    requires fits { Fits (order_in model) model.problem.now }
+    ensures gives { (net : TheNetwork) → StandsAt network.now net → IfOk result (IsOutcome (order_in model.entry) (csp_of model.entry.problem.now) net (end_of halt)) }
     ensures numbers { IfOk result (λ outcome. outcome.numbers ≡ numbers) }
     ensures only_memory { OnErr result (result ≡ Err Stop.Memory) }
 {
     let end = match halt {
-        Halt::Solved => {
-            let Ok(list) = values_of(alloc, problem, network, order) else {
-                return Err(Stop::Memory);
-            };
-            End::Solved(list)
-        }
+        Halt::Solved => End::Solved(values_of(alloc, model, network)?),
         Halt::Refuted => End::Refuted,
         Halt::Spent => End::Spent,
         Halt::Capped => End::Capped,

@@ -14,7 +14,7 @@ ghost use Rattle.abt_network.specs.Standing.{delivery_of, CanDeliver, StandsAt};
 ghost use Rattle.abt_session.specs.Sessions.{begun_script, choice_writes, deliveries_write, run_script, step_writes, telling_writes};
 ghost use Rattle.abt_session.specs.Running.{kept, order_of, session_for, IsOnRun};
 
-use crate::lines::{append_begun, append_made, put_delivery};
+use crate::lines::{Made, append_begun, append_made, put_delivery};
 use crate::session::RunTask;
 use crate::told::{begun_told, delivery_told};
 use abt_network::{Delivery, Network, Standing};
@@ -88,7 +88,7 @@ impl<'p, 'w> Runner<'p, 'w> {
         let Ok(begun) = self.network.start() else {
             return Err(Stop::Memory);
         };
-        match begun_told(self.alloc, self.task.order, begun) {
+        match begun_told(self.alloc, self.task.model.order, begun) {
             Ok(told) => append_begun(folder, self.task.log, &told, &mut self.line),
             Err(_) => Err(Stop::Memory),
         }
@@ -159,7 +159,7 @@ impl<'p, 'w> Runner<'p, 'w> {
         let Ok(delivery) = self.network.deliver(choice) else {
             return Err(Stop::Memory);
         };
-        let Ok(told) = delivery_told(self.alloc, self.task.order, delivery) else {
+        let Ok(told) = delivery_told(self.alloc, self.task.model.order, delivery) else {
             return Err(Stop::Memory);
         };
         self.write_made(&told, folder, out)?;
@@ -187,15 +187,12 @@ impl<'p, 'w> Runner<'p, 'w> {
     {
         let steps = self.network.steps();
         append_made(folder, self.task.log, steps, &delivery.step, &mut self.line)?;
-        let made = self.network.deliveries();
-        put_delivery(
-            out,
-            self.task.telling,
-            made,
+        let made = Made {
+            number: self.network.deliveries(),
             steps,
             delivery,
-            &mut self.line,
-        )
+        };
+        put_delivery(out, self.task.telling, made, &mut self.line)
     }
 
     /// Takes the number of a list down, where that is asked for.

@@ -11,21 +11,24 @@ ghost use Rattle.abt_session.specs.Order.{WritesInOrder};
 ghost use Rattle.abt_session.specs.Sessions.{run_of, run_script};
 ghost use Rattle.abt_session.specs.Running.{kept, order_of, session_by, session_for, Gives};
 
+use crate::ordered::Ordered;
 use crate::outcome::{Outcome, outcome_of};
 use crate::runner::Runner;
 use crate::telling::Telling;
 use abt_network::Network;
 use abt_schedule::{ChoiceList, Choices};
-use dcsp_order::{Order, moved};
+use dcsp_order::moved;
 use dcsp_outside::{Folder, Sink};
-use dcsp_problem::Problem;
 use dcsp_script::Stop;
 use std::alloc::Global;
 use std::mem;
 
-/// What is asked of a run, beside its problem and its choices.
+/// A run that is asked for, beside its choices.
 #[derive(Clone, Copy)]
 pub struct RunTask<'w> {
+    /// The problem whose agents run, and the order under which they do. What is written and put of the run, and its values,
+    /// have the model's own numbers.
+    pub model: Ordered<'w>,
     /// The name of its log.
     pub log: &'w str,
     /// How many deliveries it makes at most.
@@ -34,9 +37,6 @@ pub struct RunTask<'w> {
     pub telling: Telling,
     /// Whether the number of the list of each delivery is taken down.
     pub keep: bool,
-    /// The order of the model's variables under which its problem is run, where that is not the file's own. What is written
-    /// and put of the run, and its values, have the model's own numbers.
-    pub order: Option<&'w Order>,
 }
 
 /// Runs the agents of a problem under choices, as it is asked for.
@@ -52,59 +52,61 @@ pub struct RunTask<'w> {
 /// line of a later one's step.
 pub fn run<C: Choices, F: Folder, S: Sink>(
     alloc: Global,
-    problem: &Problem,
-    choices: &mut C,
     task: RunTask<'_>,
+    choices: &mut C,
     folder: &mut F,
     out: &mut S,
 ) -> Result<Outcome, Stop>
     requires most { task.most ≤ 2 ^ 40 }
-    requires fits { Fits (order_of task) problem.now }
-    ensures wrote { Wrote (run_script (session_by problem.now (C.answers choices.old) task.entry))
+    requires fits { Fits (order_of task) task.model.problem.now }
+    ensures wrote { Wrote (run_script (session_by (C.answers choices.old) task.entry))
         (outside (F.place folder.old) (S.stream out.old)) (outside (F.place folder.new) (S.stream out.new)) result }
-    ensures in_order { WritesInOrder (session_by problem.now (C.answers choices.old) task.entry)
+    ensures in_order { WritesInOrder (session_by (C.answers choices.old) task.entry)
         (outside (F.place folder.old) (S.stream out.old)) (outside (F.place folder.new) (S.stream out.new)) }
-    ensures gives { IfOk result (Gives (session_by problem.now (C.answers choices.old) task.entry)) }
-    ensures numbers { let s = session_by problem.now (C.answers choices.old) task.entry in
+    ensures gives { IfOk result (Gives (session_by (C.answers choices.old) task.entry)) }
+    ensures numbers { let s = session_by (C.answers choices.old) task.entry in
         IfOk result (λ outcome. outcome.numbers ≡ kept task.entry.keep (run_of s).numbers) }
-    ensures answers { let s = session_by problem.now (C.answers choices.old) task.entry in
+    ensures answers { let s = session_by (C.answers choices.old) task.entry in
         OnOk result ((k : ℕ) → C.answers choices.new k ≡ C.answers choices.old ((run_of s).net.deliveries + k)) }
-    ensures verdicts { let s = session_by problem.now (C.answers choices.old) task.entry in
+    ensures verdicts { let s = session_by (C.answers choices.old) task.entry in
         Verdicts s.problem task.entry.most (run_of s) }
-    ensures stops { let s = session_by problem.now (C.answers choices.old) task.entry in
+    ensures stops { let s = session_by (C.answers choices.old) task.entry in
         Stops s.problem task.entry.most s.choices (run_of s) }
 {
     law_runs::verdicts();
     law_runs::stops();
-    problem.denotes_csp();
-    let Ok(moved) = moved(alloc, task.order, problem) else {
+    task.model.problem.denotes_csp();
+    let Ok(moved) = moved(alloc, task.model.order, task.model.problem) else {
         return Err(Stop::Memory);
     };
-    let ordered = moved.as_ref().unwrap_or(problem);
-    run_ordered(alloc, ordered, choices, task, folder, out)
+    let ordered = moved.as_ref().unwrap_or(task.model.problem);
+    let model = Ordered {
+        problem: ordered,
+        order: task.model.order,
+    };
+    run_ordered(alloc, RunTask { model, ..task }, choices, folder, out)
 }
 
-/// Runs the agents of a problem that is under the task's order already.
+/// Runs the agents of a problem that is under its order already.
 fn run_ordered<C: Choices, F: Folder, S: Sink>(
     alloc: Global,
-    problem: &Problem,
-    choices: &mut C,
     task: RunTask<'_>,
+    choices: &mut C,
     folder: &mut F,
     out: &mut S,
 ) -> Result<Outcome, Stop>
     requires most { task.most ≤ 2 ^ 40 }
-    requires fits { Fits (order_of task) problem.now }
-    ensures wrote { Wrote (run_script (session_for problem.now (C.answers choices.old) task.entry))
+    requires fits { Fits (order_of task) task.model.problem.now }
+    ensures wrote { Wrote (run_script (session_for task.entry.model.problem.now (C.answers choices.old) task.entry))
         (outside (F.place folder.old) (S.stream out.old)) (outside (F.place folder.new) (S.stream out.new)) result }
-    ensures gives { IfOk result (Gives (session_for problem.now (C.answers choices.old) task.entry)) }
-    ensures numbers { let s = session_for problem.now (C.answers choices.old) task.entry in
+    ensures gives { IfOk result (Gives (session_for task.entry.model.problem.now (C.answers choices.old) task.entry)) }
+    ensures numbers { let s = session_for task.entry.model.problem.now (C.answers choices.old) task.entry in
         IfOk result (λ outcome. outcome.numbers ≡ kept task.entry.keep (run_of s).numbers) }
-    ensures answers { let s = session_for problem.now (C.answers choices.old) task.entry in
+    ensures answers { let s = session_for task.entry.model.problem.now (C.answers choices.old) task.entry in
         OnOk result ((k : ℕ) → C.answers choices.new k ≡ C.answers choices.old ((run_of s).net.deliveries + k)) }
 {
-    problem.denotes_csp();
-    let Ok(network) = Network::new(alloc, problem) else {
+    task.model.problem.denotes_csp();
+    let Ok(network) = Network::new(alloc, task.model.problem) else {
         return Err(Stop::Memory);
     };
     let mut runner = Runner {
@@ -116,5 +118,5 @@ fn run_ordered<C: Choices, F: Folder, S: Sink>(
     };
     let halt = runner.run(choices, folder, out)?;
     let taken = mem::replace(&mut runner.taken, ChoiceList::new(alloc));
-    outcome_of(alloc, problem, &runner.network, task.order, halt, taken)
+    outcome_of(alloc, task.model, &runner.network, halt, taken)
 }

@@ -8,7 +8,7 @@ ghost use Rattle.law_runs.specs.Replay.{Verdicts};
 ghost use Rattle.abt_links.specs.Transit.{ready_pairs};
 ghost use Rattle.abt_network.specs.Standing.{CanDeliver, StandsAt};
 ghost use Rattle.abt_session.specs.Running.{TakesPart};
-ghost use Rattle.abt_session.specs.Starving.{end_at, starving_choices, AreNear, IsStarved};
+ghost use Rattle.abt_session.specs.Starving.{choices_of, end_at, run_of, starving_choices, AreNear, IsStarved};
 
 use abt_network::{Network, Standing};
 use abt_schedule::ChoiceList;
@@ -35,33 +35,41 @@ pub struct Starved {
     pub deliveries: u64,
 }
 
-/// Runs the agents of a problem, with at most `most` deliveries, and starves the link from `from` to `to`:
-/// each delivery is from the first list that is ready and not that link's, and from that link's only where
-/// it is the only one. Agents count from 0; a pair without messages starves nothing.
+/// A run that is asked for, and the link that it starves. A pair without messages starves nothing.
+#[derive(Clone, Copy)]
+pub struct StarvingRun<'p> {
+    pub problem: &'p Problem,
+    /// The agent that sends over the link, counted from 0.
+    pub from: u32,
+    /// The agent that the link leads to, counted from 0.
+    pub to: u32,
+    /// How many deliveries the run makes at most.
+    pub most: u64,
+}
+
+/// Runs the agents of a problem and starves a link: each delivery is from the first list that is ready and not that
+/// link's, and from that link's only where it is the only one.
 ///
 /// The choices are pushed to `taken`. Each is 0 or 1 and is the number of its list, so that a run by those
 /// numbers is a run under the choices. After want of memory some first ones of them were pushed.
 pub fn starve(
     alloc: Global,
-    problem: &Problem,
-    from: u32,
-    to: u32,
-    most: u64,
+    run: StarvingRun<'_>,
     taken: &mut ChoiceList,
 ) -> Result<Starved, Memory>
-    requires { most ≤ 2 ^ 40 }
-    ensures starved { IfOk result (IsStarved (csp_of problem.now) from to most) }
-    ensures takes { OnOk result (taken.new ≡ taken.old ++ starving_choices (csp_of problem.now) from to most) }
-    ensures takes_part { TakesPart true (starving_choices (csp_of problem.now) from to most) taken.old taken.new }
-    ensures numbers { (starved (csp_of problem.now) from to most).numbers ≡ starving_choices (csp_of problem.now) from to most }
-    ensures near { AreNear most (starving_choices (csp_of problem.now) from to most) }
-    ensures verdicts { Verdicts (csp_of problem.now) most (starved (csp_of problem.now) from to most) }
+    requires { run.most ≤ 2 ^ 40 }
+    ensures starved { IfOk result (IsStarved (csp_of run.entry.problem.now) run.entry.from run.entry.to run.entry.most) }
+    ensures takes { OnOk result (taken.new ≡ taken.old ++ choices_of run.entry) }
+    ensures takes_part { TakesPart true (choices_of run.entry) taken.old taken.new }
+    ensures numbers { (run_of run.entry).numbers ≡ choices_of run.entry }
+    ensures near { AreNear run.entry.most (choices_of run.entry) }
+    ensures verdicts { Verdicts (csp_of run.entry.problem.now) run.entry.most (run_of run.entry) }
 {
     law_runs::verdicts();
-    problem.denotes_csp();
-    let mut network = Network::new(alloc, problem)?;
+    run.problem.denotes_csp();
+    let mut network = Network::new(alloc, run.problem)?;
     let _begun = network.start()?;
-    deliver_others(&mut network, from, to, most, taken)?;
+    deliver_others(&mut network, run.from, run.to, run.most, taken)?;
     Ok(Starved {
         end: end_of(&network),
         deliveries: network.deliveries(),

@@ -2,7 +2,7 @@
 
 ghost use Rattle.std.specs.Prelude.{◌≡◌, ◌≢◌, ◌<◌, ◌∷◌, ◌++◌, ℕ, [], List, IfOk, None, OnOk, Some, false, if◌then◌else◌, length, map, option_copied};
 ghost use Rattle.dcsp_defs.specs.declared.nogood.Pair.{Pair as ThePair};
-ghost use Rattle.dcsp_defs.specs.Csp.{domain as domain_of};
+ghost use Rattle.dcsp_defs.specs.Csp.{domain as domain_of, names};
 ghost use Rattle.dcsp_rule.specs.Problems.{csp_of};
 ghost use Rattle.abt_defs.specs.Agents.{is_among, Message as TheMessage};
 ghost use Rattle.abt_defs.specs.Network.{Network as TheNetwork};
@@ -10,12 +10,14 @@ ghost use Rattle.abt_parts.specs.Messages.{message_of};
 ghost use Rattle.abt_agent.specs.States.{stands_for};
 ghost use Rattle.abt_links.specs.Transit.{link_of};
 ghost use Rattle.abt_network.specs.Standing.{StandsAt};
+ghost use Rattle.abt_session.specs.Ordering.{order_in};
 ghost use Rattle.abt_story.specs.Telling.{by_numbers, named_by};
-ghost use Rattle.abt_story.specs.Looking.{known_at, reason_in, steps_in, IsSeen};
+ghost use Rattle.abt_story.specs.Looking.{known_at, known_by, reason_in, steps_in, IsSeen};
 
 use abt_agent::Agent;
 use abt_network::Network;
 use abt_parts::{Message, Recorded};
+use abt_session::Ordered;
 use dcsp_common::Memory;
 use dcsp_defs::{Nogood, Pair, Reason};
 use dcsp_domain::Domain;
@@ -45,29 +47,28 @@ pub struct Before {
     pub steps: u64,
 }
 
-/// Looks at the receiver of what is delivered next from one agent to another, one with this domain, in a run under the
-/// order, if there is one.
+/// Looks at the receiver of what is delivered next from one agent to another in a run of the problem, under its order, if
+/// there is one.
 pub fn look(
     alloc: Global,
-    order: Option<&Order>,
+    model: Ordered<'_>,
     network: &Network,
-    domain: &Domain,
     from: u32,
     to: u32,
 ) -> Result<Before, Memory>
     requires sound { network.now.spent ≡ false }
+    requires problem { network.now.problem ≡ model.problem.now }
     requires receiver { to < length network.now.problem.domains }
-    requires domain { domain.now ≡ domain_of (csp_of network.now.problem) to }
     requires some { link_of network.now.links from to ≢ [] }
     ensures seen { (net : TheNetwork) (m : TheMessage) (rest : List TheMessage) → StandsAt network.now net → net.links from to ≡ m ∷ rest
-        → IfOk result (IsSeen (option_copied order.entry) (csp_of network.now.problem) to (Some (from, m)) (net.agents to)) }
+        → IfOk result (IsSeen (order_in model.entry) (csp_of network.now.problem) to (Some (from, m)) (net.agents to)) }
     ensures steps { IfOk result (λ before. before.steps ≡ network.now.steps) }
 {
     let message = network.first(from, to).unwrap();
     let agent = network.agent(to);
-    let known = named_by(alloc, order, agent, from, message)?;
+    let known = named_by(alloc, model.order, agent, from, message)?;
     let kept = steps_of(alloc, agent.nogoods())?;
-    let reasons = reasons_of(alloc, domain, agent)?;
+    let reasons = reasons_of(alloc, model.problem.domain(to), agent)?;
     Ok(Before {
         known,
         kept,
@@ -84,9 +85,7 @@ pub fn fresh(alloc: Global, domain: &Domain) -> Result<Before, Memory>
     ensures reasons { IfOk result (λ before. before.reasons.items ≡ map (λ v. None) domain.now) }
     ensures stamp { IfOk result (λ before. before.stamp ≡ 0) }
 {
-    let Ok(reasons) = vec![in alloc; None; domain.len()] else {
-        return Err(Memory);
-    };
+    let reasons = vec![in alloc; None; domain.len()]?;
     Ok(Before {
         known: Vec::new(alloc),
         kept: Vec::new(alloc),
@@ -104,7 +103,7 @@ fn named_by(
     from: u32,
     message: &Message,
 ) -> Result<Vec<Known>, Memory>
-    ensures { IfOk result (λ known. known.items ≡ map (known_at (stands_for agent.now).view) (named_by (option_copied order.entry) from (message_of message.now))) }
+    ensures { IfOk result (λ known. known.items ≡ known_by agent.now (named_by (option_copied order.entry) from (message_of message.now))) }
 {
     let mut known = Vec::new(alloc);
     match message {
@@ -122,7 +121,7 @@ fn add_nogood(
     nogood: &Nogood,
     known: &mut Vec<Known>,
 ) -> Result<(), Memory>
-    ensures { OnOk result (known.new.items ≡ known.old.items ++ map (known_at (stands_for agent.now).view) (by_numbers (option_copied order.entry) (map (λ (y : ThePair). y.var) nogood.now))) }
+    ensures { OnOk result (known.new.items ≡ known.old.items ++ known_by agent.now (by_numbers (option_copied order.entry) (names nogood.now))) }
 {
     match order {
         Some(order) => add_by_numbers(order, agent, nogood, known),
@@ -138,7 +137,7 @@ fn add_by_numbers(
     nogood: &Nogood,
     known: &mut Vec<Known>,
 ) -> Result<(), Memory>
-    ensures { OnOk result (known.new.items ≡ known.old.items ++ map (known_at (stands_for agent.now).view) (by_numbers (Some order.now) (map (λ (y : ThePair). y.var) nogood.now))) }
+    ensures { OnOk result (known.new.items ≡ known.old.items ++ known_by agent.now (by_numbers (Some order.now) (names nogood.now))) }
 {
     for number in 0..order.numbers().len() as u32 {
         add_if_named(agent, nogood, order.place(number), known)?;
@@ -153,7 +152,7 @@ fn add_if_named(
     var: u32,
     known: &mut Vec<Known>,
 ) -> Result<(), Memory>
-    ensures { OnOk result (known.new.items ≡ known.old.items ++ map (known_at (stands_for agent.now).view) (if is_among var (map (λ (y : ThePair). y.var) nogood.now) then var ∷ [] else [])) }
+    ensures { OnOk result (known.new.items ≡ known.old.items ++ known_by agent.now (if is_among var (names nogood.now) then var ∷ [] else [])) }
 {
     match nogood.value_of(var) {
         Some(_) => add_known(agent, var, known),
@@ -179,10 +178,8 @@ fn add_known(agent: &Agent, var: u32, known: &mut Vec<Known>) -> Result<(), Memo
         Some(told) => Some(told.stamp),
         None => None,
     };
-    match known.push(Known { var, stamp }) {
-        Ok(()) => Ok(()),
-        Err(_) => Err(Memory),
-    }
+    known.push(Known { var, stamp })?;
+    Ok(())
 }
 
 /// The steps of these nogoods.
@@ -191,9 +188,7 @@ fn steps_of(alloc: Global, kept: &[Recorded]) -> Result<Vec<u64>, Memory>
 {
     let mut steps = Vec::new(alloc);
     for recorded in kept {
-        let Ok(()) = steps.push(recorded.step) else {
-            return Err(Memory);
-        };
+        steps.push(recorded.step)?;
     }
     Ok(steps)
 }
@@ -206,9 +201,7 @@ fn reasons_of(alloc: Global, domain: &Domain, agent: &Agent) -> Result<Vec<Optio
 {
     let mut reasons = Vec::new(alloc);
     for place in 0..domain.len() {
-        let Ok(()) = reasons.push(agent.reason(place)) else {
-            return Err(Memory);
-        };
+        reasons.push(agent.reason(place))?;
     }
     Ok(reasons)
 }

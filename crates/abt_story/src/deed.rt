@@ -11,7 +11,7 @@ ghost use Rattle.dcsp_order.specs.Told.{number_told};
 ghost use Rattle.abt_story.specs.Numbers.{facts_told};
 ghost use Rattle.abt_story.specs.Telling.{answers, drops, enters, facts, is_later, makes, receives, takes};
 ghost use Rattle.abt_story.specs.Texts.{facts_text};
-ghost use Rattle.abt_story.specs.Looking.{came_in, cargo_by, entered, sent_facts, steps_in, IsDone, IsSeen};
+ghost use Rattle.abt_story.specs.Looking.{came_in, cargo_by, entered, sent_facts, steps_in, told_of, IsDone, IsSeenBy};
 
 use crate::before::{Before, Known};
 use crate::reasons::push_out;
@@ -88,7 +88,7 @@ fn push_if_newer(
     agent: &Agent,
     into: &mut Vec<u8>,
 ) -> Result<(), AllocError>
-    ensures { OnOk result (into.new.items ≡ into.old.items ++ facts_text who.event who.agent (facts_told (option_copied order.entry) (enters known.var known.stamp ((stands_for agent.now).view known.var)))) }
+    ensures { OnOk result (into.new.items ≡ into.old.items ++ told_of who (option_copied order.entry) (enters known.var known.stamp ((stands_for agent.now).view known.var))) }
 {
     match agent.told(known.var) {
         Some(told) if is_later(known.stamp, told.stamp) => {
@@ -106,7 +106,7 @@ fn push_entered(
     agent: &Agent,
     into: &mut Vec<u8>,
 ) -> Result<(), AllocError>
-    ensures { OnOk result (into.new.items ≡ into.old.items ++ facts_text who.event who.agent (facts_told (option_copied order.entry) (entered known.now (stands_for agent.now).view))) }
+    ensures { OnOk result (into.new.items ≡ into.old.items ++ told_of who (option_copied order.entry) (entered known.now (stands_for agent.now).view)) }
 {
     for seen in known {
         push_if_newer(order, who, *seen, agent, into)?;
@@ -221,7 +221,7 @@ fn cargo_by(kind: MessageKind, value: Option<i64>, made: Option<u64>) -> Cargo
 
 /// Pushes what was sent by an agent that has this value then.
 fn push_sent(deed: &Deed, value: Option<i64>, into: &mut Vec<u8>) -> Result<(), AllocError>
-    ensures { OnOk result (into.new.items ≡ into.old.items ++ facts_text deed.now.who.event deed.now.who.agent (facts_told (option_copied deed.now.order) (sent_facts deed.now.sent.now value deed.now.made))) }
+    ensures { OnOk result (into.new.items ≡ into.old.items ++ told_of deed.now.who (option_copied deed.now.order) (sent_facts deed.now.sent.now value deed.now.made)) }
 {
     for message in deed.sent {
         let cargo = cargo_by(message.kind, value, deed.made);
@@ -241,8 +241,8 @@ pub fn push_deed(
     requires sound { agent.now.spent ≡ false }
     requires domain { domain.now ≡ domain_of (csp_of agent.now.problem) agent.now.me }
     requires long { length before.now.reasons.items ≡ length domain.now }
-    ensures { let order = option_copied deed.now.order in (a : Act) → IsSeen order (csp_of agent.now.problem) agent.now.me a.came a.before before.now → IsDone a deed.now agent.now
-        → OnOk result (into.new.items ≡ into.old.items ++ facts_text deed.now.who.event deed.now.who.agent (facts_told order (facts order (csp_of agent.now.problem) deed.now.made a))) }
+    ensures { let order = option_copied deed.now.order in (a : Act) → IsSeenBy order agent.now a before.now → IsDone a deed.now agent.now
+        → OnOk result (into.new.items ≡ into.old.items ++ told_of deed.now.who order (facts order (csp_of agent.now.problem) deed.now.made a)) }
 {
     let who = deed.who;
     push_came(deed.order, who, deed.came, into)?;

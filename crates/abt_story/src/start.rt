@@ -1,6 +1,6 @@
 //! The start with its lines.
 
-ghost use Rattle.std.specs.Prelude.{◌≡◌, ◌<◌, ◌≤◌, ◌∷◌, ◌++◌, [], IfOk, OnOk, false, flat_map, length, map, option_copied, true};
+ghost use Rattle.std.specs.Prelude.{◌≡◌, ◌<◌, ◌≤◌, ◌∷◌, ◌++◌, [], IfOk, OnOk, false, flat_map, length, map, true};
 ghost use Rattle.dcsp_defs.specs.Words.{below};
 ghost use Rattle.dcsp_rule.specs.Problems.{csp_of};
 ghost use Rattle.abt_defs.specs.Network.{start};
@@ -8,6 +8,7 @@ ghost use Rattle.law_runs.specs.Starts.{first_outcome, settled_in, StartsWith};
 ghost use Rattle.abt_parts.specs.Messages.{told_sent};
 ghost use Rattle.abt_agent.specs.States.{stands_for};
 ghost use Rattle.abt_network.specs.Standing.{state_at, steps_of, StandsAt};
+ghost use Rattle.abt_session.specs.Ordering.{order_in};
 ghost use Rattle.abt_story.specs.Telling.{agentless, first_step, start_lines};
 ghost use Rattle.abt_story.specs.Texts.{lines_text};
 ghost use Rattle.abt_story.specs.Looking.{first_text, tell_to};
@@ -17,8 +18,8 @@ use crate::deed::{Deed, number_told, push_deed};
 use crate::texts::Who;
 use abt_agent::Agent;
 use abt_network::{Begun, MessageKind, Network, SentTo};
+use abt_session::Ordered;
 use dcsp_common::Memory;
-use dcsp_order::Order;
 use dcsp_problem::Problem;
 use std::alloc::Global;
 
@@ -26,31 +27,24 @@ use std::alloc::Global;
 /// told by the order's numbers.
 pub fn tell_start(
     alloc: Global,
-    order: Option<&Order>,
-    problem: &Problem,
+    model: Ordered<'_>,
     network: &mut Network,
     into: &mut Vec<u8>,
 ) -> Result<(), Memory>
     requires sound { network.old.spent ≡ false }
     requires fresh { network.old.begun ≡ false }
-    requires problem { network.old.problem ≡ problem.now }
-    ensures told { OnOk result (into.new.items ≡ into.old.items ++ lines_text (start_lines (option_copied order.entry) (csp_of problem.now))) }
-    ensures stands { OnOk result (StandsAt network.new (start (csp_of problem.now))) }
+    requires problem { network.old.problem ≡ model.problem.now }
+    ensures told { OnOk result (into.new.items ≡ into.old.items ++ lines_text (start_lines (order_in model.entry) (csp_of model.entry.problem.now))) }
+    ensures stands { OnOk result (StandsAt network.new (start (csp_of model.entry.problem.now))) }
     ensures sound { OnOk result (network.new.spent ≡ false) }
     ensures begun { OnOk result (network.new.begun ≡ true) }
-    ensures problem { network.new.problem ≡ problem.now }
+    ensures problem { network.new.problem ≡ model.entry.problem.now }
 {
     law_runs::measures::starts_in_order();
     let begun = network.start()?;
     tell_agentless(&begun, into)?;
-    tell_settlings(
-        alloc,
-        order,
-        problem,
-        network,
-        settled_by(problem.vars(), &begun),
-        into,
-    )
+    let settled = settled_by(model.problem.vars(), &begun);
+    tell_settlings(alloc, model, network, settled, into)
 }
 
 /// Pushes the line of a step that is no agent's, if the start made one.
@@ -63,10 +57,8 @@ fn tell_agentless(begun: &Begun, into: &mut Vec<u8>) -> Result<(), Memory>
     if step.variable.is_some() {
         return Ok(());
     }
-    match into.extend_from_slice(b"0 - makes n1\n") {
-        Ok(()) => Ok(()),
-        Err(_) => Err(Memory),
-    }
+    into.extend_from_slice(b"0 - makes n1\n")?;
+    Ok(())
 }
 
 /// How many agents have settled in a start of so many: all, or those up to the one whose step refutes; none where a
@@ -87,20 +79,19 @@ fn settled_by(agents: u32, begun: &Begun) -> u32
 /// Pushes the lines of so many first agents.
 fn tell_settlings(
     alloc: Global,
-    order: Option<&Order>,
-    problem: &Problem,
+    model: Ordered<'_>,
     network: &Network,
     settled: u32,
     into: &mut Vec<u8>,
 ) -> Result<(), Memory>
     requires sound { network.now.spent ≡ false }
-    requires problem { network.now.problem ≡ problem.now }
-    requires stands { StandsAt network.now (start (csp_of problem.now)) }
-    requires starts { StartsWith (csp_of problem.now) settled }
-    ensures { OnOk result (into.new.items ≡ into.old.items ++ flat_map (first_text (option_copied order.entry) (csp_of problem.now)) (below settled)) }
+    requires problem { network.now.problem ≡ model.problem.now }
+    requires stands { StandsAt network.now (start (csp_of model.problem.now)) }
+    requires starts { StartsWith (csp_of model.problem.now) settled }
+    ensures { OnOk result (into.new.items ≡ into.old.items ++ flat_map (first_text (order_in model.entry) (csp_of model.entry.problem.now)) (below settled)) }
 {
     for agent in 0..settled {
-        tell_settling(alloc, order, problem, network, agent, into)?;
+        tell_settling(alloc, model, network, agent, into)?;
     }
     Ok(())
 }
@@ -108,36 +99,33 @@ fn tell_settlings(
 /// Pushes the lines of an agent that settled in the start.
 fn tell_settling(
     alloc: Global,
-    order: Option<&Order>,
-    problem: &Problem,
+    model: Ordered<'_>,
     network: &Network,
     agent: u32,
     into: &mut Vec<u8>,
 ) -> Result<(), Memory>
     requires sound { network.now.spent ≡ false }
-    requires problem { network.now.problem ≡ problem.now }
-    requires exists { agent < length problem.now.domains }
-    requires settled { stands_for (state_at network.now.agents agent) ≡ (first_outcome (csp_of problem.now) agent).agent }
-    ensures { OnOk result (into.new.items ≡ into.old.items ++ first_text (option_copied order.entry) (csp_of problem.now) agent) }
+    requires problem { network.now.problem ≡ model.problem.now }
+    requires exists { agent < length model.problem.now.domains }
+    requires settled { stands_for (state_at network.now.agents agent) ≡ (first_outcome (csp_of model.problem.now) agent).agent }
+    ensures { OnOk result (into.new.items ≡ into.old.items ++ first_text (order_in model.entry) (csp_of model.entry.problem.now) agent) }
 {
-    let domain = problem.domain(agent);
+    let domain = model.problem.domain(agent);
     let before = fresh(alloc, domain)?;
     let settled = network.agent(agent);
-    let sent = sent_by(alloc, problem, agent, settled)?;
+    let sent = sent_by(alloc, model.problem, agent, settled)?;
     let deed = Deed {
-        order,
+        order: model.order,
         who: Who {
             event: 0,
-            agent: number_told(order, agent),
+            agent: number_told(model.order, agent),
         },
         came: None,
         made: first_step(settled),
         sent: &sent,
     };
-    match push_deed(&deed, domain, &before, settled, into) {
-        Ok(()) => Ok(()),
-        Err(_) => Err(Memory),
-    }
+    push_deed(&deed, domain, &before, settled, into)?;
+    Ok(())
 }
 
 /// The step that an agent made in the start: one that has no value then has made the first.
@@ -188,8 +176,6 @@ fn add_told(sent: &mut Vec<SentTo>, to: u32) -> Result<(), Memory>
         to,
         kind: MessageKind::Tell,
     };
-    match sent.push(told) {
-        Ok(()) => Ok(()),
-        Err(_) => Err(Memory),
-    }
+    sent.push(told)?;
+    Ok(())
 }

@@ -9,7 +9,7 @@ use Rattle.dcsp_script.specs.Clauses.{IsLawful}
 use Rattle.abt_input.specs.Plans.{IsSoundPlan}
 use Rattle.abt_input.proofs.ExactKinds.{formula_exact}
 use Rattle.abt_input.proofs.PlanLaws.{plan_lawful}
-use Rattle.abt_session.proofs.Ordered.{leaves-append}
+use Rattle.abt_session.proofs.InOrder.{leaves-append}
 use Rattle.line_replay.proofs.Lawful.{final_end, no_refusal, own_of_leaves}
 use Rattle.line_cnf.specs.CnfRuns.{cnf_run, cnf_text, clause_write, proof_script, refutation_at, cnf_script}
 use Rattle.line_cnf.specs.CnfPromise.{cnf_plan, cnf_promise}

@@ -9,7 +9,7 @@ ghost use Rattle.line_cnf.specs.CnfRuns.{log_name, cnf_asked, cnf_run};
 ghost use Rattle.line_cnf.specs.CnfOutcomes.{refutation, HasMade, HoldsLog, IsFormula};
 
 use abt_schedule::Seeded;
-use abt_session::{End, MOST_DELIVERIES, Outcome, RunTask, Telling, run};
+use abt_session::{End, MOST_DELIVERIES, Ordered, Outcome, RunTask, Telling, run};
 use dcsp_outside::{SureFolder, SureSink};
 use dcsp_problem::Problem;
 use dcsp_script::Stop;
@@ -55,14 +55,18 @@ fn run_in(
 {
     let mut choices = Seeded::new(seed);
     let mut out = SureSink::new(alloc);
+    let model = Ordered {
+        problem,
+        order: None,
+    };
     let task = RunTask {
+        model,
         log: LOG,
         most: MOST_DELIVERIES,
         telling: Telling::nothing(),
         keep: false,
-        order: None,
     };
-    match run(alloc, problem, &mut choices, task, apart, &mut out) {
+    match run(alloc, task, &mut choices, apart, &mut out) {
         Ok(outcome) => Ok(outcome),
         Err(Stop::Memory) => Err(AllocError),
         // neither a sure folder nor a sure sink fails

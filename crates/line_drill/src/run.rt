@@ -11,7 +11,7 @@ ghost use Rattle.line_drill.specs.Drills.{log_name, run_from, HasFinding, HasPro
 
 use abt_input::{CommandError, read_model};
 use abt_schedule::Seeded;
-use abt_session::{MOST_DELIVERIES, Outcome, RunTask, Telling, run};
+use abt_session::{MOST_DELIVERIES, Ordered, Outcome, RunTask, Telling, run};
 use dcsp_common::Memory;
 use dcsp_outside::{SureFolder, SureSink};
 use dcsp_problem::Problem;
@@ -83,14 +83,18 @@ fn run_problem(
 {
     let mut choices = Seeded::new(seed);
     let mut out = SureSink::new(alloc);
+    let model = Ordered {
+        problem,
+        order: None,
+    };
     let task = RunTask {
+        model,
         log: "drill",
         most: MOST_DELIVERIES,
         telling: Telling::nothing(),
         keep: false,
-        order: None,
     };
-    match run(alloc, problem, &mut choices, task, folder, &mut out) {
+    match run(alloc, task, &mut choices, folder, &mut out) {
         Ok(outcome) => Ok(outcome),
         Err(Stop::Memory) => Err(AllocError),
         // neither a sure folder nor a sure sink fails

@@ -10,7 +10,7 @@ use Rattle.abt_input.specs.Plans.{order_then, IsOwn, IsSoundPlan}
 use Rattle.abt_input.proofs.ExactKinds.{model_exact}
 use Rattle.abt_input.proofs.PlanLaws.{ordered_sound, plan_lawful}
 use Rattle.abt_session.specs.Sessions.{step_writes}
-use Rattle.abt_session.proofs.Ordered.{leaves-append, append_lines_leave}
+use Rattle.abt_session.proofs.InOrder.{leaves-append, append_lines_leave}
 use Rattle.line_replay.specs.Asked.{record_script, created_names}
 use Rattle.line_replay.specs.Endings.{end_status}
 use Rattle.line_replay.proofs.Lawful.{final_end, no_refusal, own_of_leaves}

@@ -16,7 +16,7 @@ use Rattle.law_runs.specs.Worlds.{World, event, after}
 use Rattle.law_runs.specs.LossyEnds.{has_verdict, used, calm_word, calm_words}
 use Rattle.law_runs.proofs.Events.{effect}
 use Rattle.abt_session.specs.Sessions.{step_writes}
-use Rattle.abt_session.proofs.Ordered.{step_lines-append}
+use Rattle.abt_session.proofs.InOrder.{step_lines-append}
 use Rattle.line_lossy.specs.Runners.{new_writes}
 
 -- ---- worlds

@@ -13,8 +13,8 @@ use Rattle.rand_pcg.specs.Lcg.{Lcg}
 use Rattle.abt_lossy.specs.InWorld.{LossyState, IsAfter, reached}
 use Rattle.abt_session.specs.Running.{kept, IsOutcome}
 use Rattle.abt_session.specs.Sessions.{step_writes}
-use Rattle.line_replay.specs.declared.ordered.Ordered.{Ordered}
-use Rattle.line_replay.specs.Ordering.{order_in}
+use Rattle.abt_session.specs.declared.ordered.Ordered.{Ordered}
+use Rattle.abt_session.specs.Ordering.{order_in}
 use Rattle.line_lossy.specs.declared.line.Losses.{Losses}
 use Rattle.line_lossy.specs.Asked.{Asked, lossy, end_of, run_problem, run_words, run_world}
 use Rattle.line_lossy.specs.declared.runner.LossyRunner.{LossyRunner}

@@ -1,6 +1,6 @@
 //! The line `lossy MODEL LOG EVENTS SEED [--record FILE] [--order FILE]`.
 
-ghost use Rattle.std.specs.Prelude.{◌≡◌, ◌++◌, IfOk, is_some, option_copied};
+ghost use Rattle.std.specs.Prelude.{◌≡◌, ◌++◌, IfOk, is_some};
 ghost use Rattle.dcsp_outside.specs.Outside.{Place, Stream};
 ghost use Rattle.dcsp_order.specs.Told.{ordered};
 ghost use Rattle.dcsp_script.specs.Scripts.{outside};
@@ -10,10 +10,9 @@ ghost use Rattle.abt_input.specs.Errors.{way_of};
 ghost use Rattle.line_replay.specs.Endings as endings;
 ghost use Rattle.line_replay.specs.Asked.{record_script};
 ghost use Rattle.line_replay.specs.Headline.{HoldsProblem};
-ghost use Rattle.line_replay.specs.Ordering.{order_in, IsOrderedRightly};
+ghost use Rattle.abt_session.specs.Ordering.{order_in, IsOrderedRightly};
 ghost use Rattle.line_lossy.specs.Asked.{asked_script, end_of, log_script, run_numbers, run_problem, run_steps, run_world};
-ghost use Rattle.line_lossy.specs.LossyPromise.{lossy_promise};
-ghost use Rattle.line_lossy.specs.Meaning.{HoldsLossyRun};
+ghost use Rattle.line_lossy.specs.Asking.{promise_of, HoldsItsRun};
 ghost use Rattle.line_lossy.specs.Runners.{asked_by, IsEnded, IsFresh};
 
 use crate::ending::{Ended, outcome_of, tell};
@@ -22,10 +21,11 @@ use crate::runner::LossyRunner;
 use abt_input::{CommandError, read_model, read_order_of};
 use abt_lossy::Lossy;
 use abt_schedule::ChoiceList;
+use abt_session::Ordered;
 use dcsp_order::moved;
 use dcsp_outside::{Folder, Sink};
 use dcsp_script::{Status, Stop};
-use line_replay::{Ordered, end_status, write_record};
+use line_replay::{end_status, write_record};
 use ngd_check::problems_are_small;
 use std::alloc::Global;
 
@@ -57,11 +57,11 @@ pub fn run_lossy<F: Folder, S: Sink>(
     line: Losses<'_>,
     out: &mut S,
 ) -> Result<Status, CommandError>
-    ensures came { CameIn (lossy_promise line.entry.model.now (option_copied line.entry.order_file) line.entry.log.now line.entry.events line.entry.seed (option_copied line.entry.record_file))
+    ensures came { CameIn (promise_of line.entry)
         (outside (F.place folder.old) (S.stream out.old))
         (outside (F.place folder.new) (S.stream out.new)) (way_of result) }
     ensures sound { IfOk result (λ status. HoldsProblem (F.place folder.old).held line.entry.model.now) }
-    ensures run { IfOk result (HoldsLossyRun (F.place folder.old).held line.entry.model.now (option_copied line.entry.order_file) line.entry.events line.entry.seed line.entry.log.now (option_copied line.entry.record_file)) }
+    ensures run { IfOk result (HoldsItsRun (F.place folder.old).held line.entry) }
 {
     let problem = read_model(alloc, folder, line.model)?;
     problem.denotes_csp();

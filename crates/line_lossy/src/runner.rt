@@ -9,10 +9,10 @@ ghost use Rattle.law_runs.specs.LossyEnds.{calm_word, has_verdict};
 ghost use Rattle.abt_network.specs.Standing.{standing_in, steps_of};
 ghost use Rattle.abt_lossy.specs.InWorld.{reached, CanHappen};
 ghost use Rattle.abt_schedule.specs.Answers.{word_at};
-ghost use Rattle.dcsp_order.specs.Told.{steps_told};
 ghost use Rattle.abt_session.specs.Running.{kept};
 ghost use Rattle.abt_session.specs.Sessions.{begun_script};
-ghost use Rattle.line_lossy.specs.Asked.{log_script, seeded_words, words_of};
+ghost use Rattle.line_lossy.specs.Asked.{log_script};
+ghost use Rattle.line_lossy.specs.Asking.{steps_by, words_by};
 
 use abt_lossy::{Begun, Lossy, Standing, Step};
 use abt_schedule::{ChoiceList, Choices, Seeded};
@@ -59,9 +59,9 @@ impl<'p, 'w> LossyRunner<'p, 'w> {
         requires sound { self.old.medium.spent ≡ false }
         requires fresh { self.old.medium.begun ≡ false }
         requires none { (self.old.steps ≡ 0) × (self.old.deliveries ≡ 0) × (self.old.taken ≡ []) }
-        ensures wrote { (out : Stream) → Wrote (log_script self.old.log.now (steps_told (order_of self.old) (reached self.old.medium (words_of (csp_of self.old.medium.problem) (seeded_words seed events) most)).network.steps))
+        ensures wrote { (out : Stream) → Wrote (log_script self.old.log.now (steps_by self.old (words_by self.old seed events most)))
             (outside (F.place folder.old) out) (outside (F.place folder.new) out) result }
-        ensures made { OnOk result (HasMade (words_of (csp_of self.old.medium.problem) (seeded_words seed events) most) self.new) }
+        ensures made { OnOk result (HasMade (words_by self.old seed events most) self.new) }
         ensures same { SameTask self.old self.new }
     {
         self.begin(folder)?;

@@ -15,7 +15,7 @@ use Rattle.ngd_log.specs.Logs.{log_text}
 use Rattle.abt_schedule.specs.Schedules.{schedule_text}
 use Rattle.abt_session.specs.Sessions.{run_script}
 use Rattle.abt_session.specs.Order.{told_text, told_of_first, IsShortOf}
-use Rattle.abt_session.proofs.Ordered.{whole_puts, whole_leaves, log_whole, log_begins, first_begins, keeps_up}
+use Rattle.abt_session.proofs.InOrder.{whole_puts, whole_leaves, log_whole, log_begins, first_begins, keeps_up}
 use Rattle.dcsp_script.specs.declared.status.Status.{Status}
 use Rattle.line_replay.specs.Endings.{end_status}
 use Rattle.line_replay.specs.Asked.{Asked, asked_run, asked_steps, answer_text, record_script, asked_script}

@@ -9,7 +9,7 @@ use Rattle.dcsp_script.proofs.After.{put_by-append}
 use Rattle.abt_schedule.specs.Schedules.{schedule_text}
 use Rattle.abt_session.specs.Sessions.{run_script}
 use Rattle.abt_session.specs.Order.{told_text}
-use Rattle.abt_session.proofs.Ordered.{leaves-append, whole_puts, whole_leaves}
+use Rattle.abt_session.proofs.InOrder.{leaves-append, whole_puts, whole_leaves}
 use Rattle.line_replay.specs.Asked.{Asked, asked_run, answer_text, record_script, asked_script}
 
 -- a script that leaves a name alone has no write that changes it

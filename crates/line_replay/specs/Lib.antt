@@ -5,7 +5,6 @@ pub mod Outcomes
 pub mod ReplayPromise
 pub mod Headline
 pub mod Tasks
-pub mod Ordering
 pub mod Recorded
 pub mod Solutions
 pub mod Printed

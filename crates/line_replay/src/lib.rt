@@ -7,7 +7,6 @@
 
 mod ending;
 mod laws;
-mod ordered;
 mod record;
 mod replay;
 mod solution;
@@ -15,7 +14,6 @@ mod solve;
 
 pub use ending::{end_status, push_counts, push_outcome};
 pub use laws::{records_are_schedules, records_are_whole, records_replay, texts_tell_values};
-pub use ordered::Ordered;
 pub use record::write_record;
 pub use replay::{Replay, run_replay};
 pub use solution::{push_solution, write_solution};

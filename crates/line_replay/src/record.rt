@@ -6,21 +6,22 @@ ghost use Rattle.dcsp_script.specs.Scripts.{outside};
 ghost use Rattle.dcsp_script.specs.Ways.{Wrote};
 ghost use Rattle.abt_session.specs.Sessions.{run_of, run_script};
 ghost use Rattle.dcsp_order.specs.Told.{Fits};
+ghost use Rattle.abt_session.specs.Ordering.{order_in};
 ghost use Rattle.abt_session.specs.Running.{Gives};
 ghost use Rattle.line_replay.specs.Asked.{record_script};
 ghost use Rattle.line_replay.specs.Tasks.{task_session};
 
 use abt_schedule::{Choices, write_schedule};
-use abt_session::{Outcome, RunTask, Telling, run};
-use dcsp_order::Order;
+use abt_session::{Ordered, Outcome, RunTask, Telling, run};
 use dcsp_outside::{Folder, Sink};
-use dcsp_problem::Problem;
 use dcsp_script::{Stop, append, create};
 use std::alloc::Global;
 
-/// What a run writes beside its answer.
+/// A run, and what it writes beside its answer.
 #[derive(Clone, Copy)]
 pub struct Task<'w> {
+    /// The problem that is run, and its order.
+    pub model: Ordered<'w>,
     /// The name of its log.
     pub log: &'w str,
     /// The name of its record, where one is asked for.
@@ -29,36 +30,33 @@ pub struct Task<'w> {
     pub most: u64,
     /// What is put of each delivery.
     pub telling: Telling,
-    /// The order under which the problem is run, where that is not the file's own.
-    pub order: Option<&'w Order>,
 }
 
 /// Makes the run under the choices, and then its record, where one is asked for.
 pub fn run_recorded<C: Choices, F: Folder, S: Sink>(
     alloc: Global,
-    problem: &Problem,
-    choices: &mut C,
     task: Task<'_>,
+    choices: &mut C,
     folder: &mut F,
     out: &mut S,
 ) -> Result<Outcome, Stop>
     requires most { task.most ≤ 2 ^ 40 }
-    requires fits { Fits (option_copied task.order) problem.now }
-    ensures wrote { let s = task_session problem.now (C.answers choices.old) task.entry in
+    requires fits { Fits (order_in task.model) task.model.problem.now }
+    ensures wrote { let s = task_session (C.answers choices.old) task.entry in
         Wrote (run_script s ++ record_script (option_copied task.entry.record_file) (run_of s).numbers)
         (outside (F.place folder.old) (S.stream out.old)) (outside (F.place folder.new) (S.stream out.new)) result }
-    ensures gives { IfOk result (Gives (task_session problem.now (C.answers choices.old) task.entry)) }
-    ensures answers { let s = task_session problem.now (C.answers choices.old) task.entry in
+    ensures gives { IfOk result (Gives (task_session (C.answers choices.old) task.entry)) }
+    ensures answers { let s = task_session (C.answers choices.old) task.entry in
         OnOk result ((k : ℕ) → C.answers choices.new k ≡ C.answers choices.old ((run_of s).net.deliveries + k)) }
 {
     let asked = RunTask {
+        model: task.model,
         log: task.log,
         most: task.most,
         telling: task.telling,
         keep: task.record_file.is_some(),
-        order: task.order,
     };
-    let outcome = run(alloc, problem, choices, asked, folder, out)?;
+    let outcome = run(alloc, asked, choices, folder, out)?;
     write_record(alloc, folder, task.record_file, outcome.numbers.choices())?;
     Ok(outcome)
 }

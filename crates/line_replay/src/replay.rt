@@ -8,16 +8,16 @@ ghost use Rattle.dcsp_script.specs.Runs.{CameIn};
 ghost use Rattle.abt_input.specs.Errors.{way_of};
 ghost use Rattle.line_replay.specs.Endings as endings;
 ghost use Rattle.line_replay.specs.Headline.{HoldsProblem};
-ghost use Rattle.line_replay.specs.Asked.{asked_run, asked_script, replay};
+ghost use Rattle.line_replay.specs.Asked.{asked_run, asked_script};
+ghost use Rattle.line_replay.specs.Tasks.{replay_of};
 ghost use Rattle.line_replay.specs.ReplayPromise.{replay_promise};
-ghost use Rattle.line_replay.specs.Ordering.{order_in, IsOrderedRightly};
+ghost use Rattle.abt_session.specs.Ordering.{IsOrderedRightly};
 
 use crate::ending::{end_status, tell};
-use crate::ordered::Ordered;
 use crate::record::{Task, run_recorded};
 use abt_input::{CommandError, read_choices, read_model, read_order_of};
 use abt_schedule::Listed;
-use abt_session::{MOST_DELIVERIES, Telling};
+use abt_session::{MOST_DELIVERIES, Ordered, Telling};
 use dcsp_outside::{Folder, Sink};
 use dcsp_script::{Status, Stop};
 use ngd_check::problems_are_small;
@@ -59,33 +59,40 @@ pub fn run_replay<F: Folder, S: Sink>(
         problem: &problem,
         order: order.as_ref(),
     };
-    let status = run_choices(alloc, model, choices, line, folder, out)?;
+    let status = run_choices(alloc, Chosen { model, choices }, line, folder, out)?;
     Ok(status)
+}
+
+/// What was read for a replay: the problem with its order, and the choices of the schedule.
+#[derive(Drop)]
+struct Chosen<'p> {
+    model: Ordered<'p>,
+    choices: Listed,
 }
 
 /// Runs the problem under the choices, and tells how the run ended.
 fn run_choices<'w, F: Folder, S: Sink>(
     alloc: Global,
-    model: Ordered<'w>,
-    choices: Listed,
+    read: Chosen<'w>,
     line: Replay<'w>,
     folder: &mut F,
     out: &mut S,
 ) -> Result<Status, Stop>
-    requires { IsOrderedRightly model }
-    ensures wrote { Wrote (asked_script (replay (order_in model.entry) model.entry.problem.now choices line.entry.log.now line.entry.trace))
+    requires { IsOrderedRightly read.model }
+    ensures wrote { Wrote (asked_script (replay_of read.entry line.entry))
         (outside (F.place folder.old) (S.stream out.old)) (outside (F.place folder.new) (S.stream out.new)) result }
-    ensures status { IfOk result (λ status. status ≡ endings.end_status (asked_run (replay (order_in model.entry) model.entry.problem.now choices line.entry.log.now line.entry.trace)).end) }
+    ensures status { IfOk result (λ status. status ≡ endings.end_status (asked_run (replay_of read.entry line.entry)).end) }
 {
+    let Chosen { model, choices } = read;
     let task = Task {
+        model,
         log: line.log,
         record_file: None,
         most: MOST_DELIVERIES,
         telling: Telling::traced(line.trace),
-        order: model.order,
     };
     let mut choices = choices;
-    let outcome = run_recorded(alloc, model.problem, &mut choices, task, folder, out)?;
+    let outcome = run_recorded(alloc, task, &mut choices, folder, out)?;
     tell(alloc, model.problem, &outcome, Some(choices.left()), out)?;
     Ok(end_status(&outcome.end))
 }

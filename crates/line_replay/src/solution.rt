@@ -45,16 +45,6 @@ pub fn push_solution(problem: &Problem, values: &[i64], into: &mut Vec<u8>) -> R
     requires { length values.now ≡ length problem.now.domains }
     ensures { OnOk result (into.new.items ≡ into.old.items ++ solution_text problem.now (λ var. slice_index_or values.now var (pos 0))) }
 {
-    match push_lines(problem, values, into) {
-        Ok(()) => Ok(()),
-        Err(_) => Err(Memory),
-    }
-}
-
-fn push_lines(problem: &Problem, values: &[i64], into: &mut Vec<u8>) -> Result<(), AllocError>
-    requires { length values.now ≡ length problem.now.domains }
-    ensures { OnOk result (into.new.items ≡ into.old.items ++ solution_text problem.now (λ var. slice_index_or values.now var (pos 0))) }
-{
     push_outputs(problem, values, into)?;
     into.extend_from_slice(b"----------\n")?;
     Ok(())

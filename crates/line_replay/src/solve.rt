@@ -6,14 +6,14 @@ ghost use Rattle.dcsp_script.specs.Scripts.{outside};
 ghost use Rattle.dcsp_script.specs.Ways.{Wrote};
 ghost use Rattle.line_replay.specs.Endings as endings;
 ghost use Rattle.line_replay.specs.Settings.{settings_of, telling_of};
-ghost use Rattle.line_replay.specs.Asked.{asked_run, asked_script, solve};
-ghost use Rattle.line_replay.specs.Ordering.{order_in, IsOrderedRightly};
+ghost use Rattle.line_replay.specs.Asked.{asked_run, asked_script};
+ghost use Rattle.line_replay.specs.Tasks.{solve_of};
+ghost use Rattle.abt_session.specs.Ordering.{IsOrderedRightly};
 
 use crate::ending::{end_status, tell};
-use crate::ordered::Ordered;
 use crate::record::{Task, run_recorded};
 use abt_schedule::Seeded;
-use abt_session::Telling;
+use abt_session::{Ordered, Telling};
 use dcsp_outside::{Folder, Sink};
 use dcsp_script::{Status, Stop};
 use std::alloc::Global;
@@ -73,19 +73,19 @@ pub fn run_seed<'w, F: Folder, S: Sink>(
 ) -> Result<Status, Stop>
     requires few { line.options.choices ≤ 2 ^ 40 }
     requires model { IsOrderedRightly model }
-    ensures wrote { Wrote (asked_script (solve (order_in model.entry) model.entry.problem.now line.entry.log.now (settings_of line.entry.options)))
+    ensures wrote { Wrote (asked_script (solve_of model.entry line.entry))
         (outside (F.place folder.old) (S.stream out.old)) (outside (F.place folder.new) (S.stream out.new)) result }
-    ensures status { IfOk result (λ status. status ≡ endings.end_status (asked_run (solve (order_in model.entry) model.entry.problem.now line.entry.log.now (settings_of line.entry.options))).end) }
+    ensures status { IfOk result (λ status. status ≡ endings.end_status (asked_run (solve_of model.entry line.entry)).end) }
 {
     let task = Task {
+        model,
         log: line.log,
         record_file: line.options.record_file,
         most: line.options.choices,
         telling: line.options.telling(None),
-        order: model.order,
     };
     let mut choices = Seeded::new(line.options.seed);
-    let outcome = run_recorded(alloc, model.problem, &mut choices, task, folder, out)?;
+    let outcome = run_recorded(alloc, task, &mut choices, folder, out)?;
     tell(alloc, model.problem, &outcome, None, out)?;
     Ok(end_status(&outcome.end))
 }

@@ -36,11 +36,12 @@ pub struct CoreLine<'w> {
     pub better: Option<i64>,
 }
 
-/// A problem, and the steps of a log that refutes it.
+/// A problem, the steps of a log that refutes it, and those that its end needs.
 #[derive(Clone, Copy)]
 struct Refuted<'r, 'p> {
     problem: &'r Problem,
     steps: &'r KeptSteps<'p>,
+    core: &'r Core<'r, 'p>,
 }
 
 /// Checks the log against the problem that is taken of the model. Where it refutes the problem, the steps that its end needs are written under
@@ -70,14 +71,15 @@ pub fn run_core<F: Folder, S: Sink>(
         reject(checked.finding, out)?;
         return Ok(Status::No);
     }
+    let Ok(core) = core_of(alloc, &problem, &checked.steps) else {
+        return Err(CommandError::Memory);
+    };
     let refuted = Refuted {
         problem: &problem,
         steps: &checked.steps,
+        core: &core,
     };
-    let Ok(core) = core_of(alloc, refuted.problem, refuted.steps) else {
-        return Err(CommandError::Memory);
-    };
-    write_core(alloc, folder, line.trimmed, refuted, &core, out)?;
+    write_core(alloc, folder, line.trimmed, refuted, out)?;
     Ok(Status::Good)
 }
 
@@ -96,17 +98,16 @@ fn write_core<F: Folder, S: Sink>(
     folder: &mut F,
     trimmed: &str,
     refuted: Refuted<'_, '_>,
-    core: &Core<'_, '_>,
     out: &mut S,
 ) -> Result<(), Stop>
-    requires { AreWritable core.now.steps }
-    ensures { Wrote (core_script trimmed.now refuted.entry.problem.now refuted.entry.steps.now core.now)
+    requires { AreWritable refuted.core.now.steps }
+    ensures { Wrote (core_script trimmed.now refuted.entry.problem.now refuted.entry.steps.now refuted.entry.core.now)
         (outside (F.place folder.old) (S.stream out.old))
         (outside (F.place folder.new) (S.stream out.new)) result }
 {
-    write_steps(alloc, folder, trimmed, &core.steps)?;
+    write_steps(alloc, folder, trimmed, &refuted.core.steps)?;
     let rules = refuted.problem.rules() as u64;
-    tell(alloc, core, rules, refuted.steps.len() as u64, out)
+    tell(alloc, refuted.core, rules, refuted.steps.len() as u64, out)
 }
 
 /// Puts what tells of the core on `out`, in one piece.

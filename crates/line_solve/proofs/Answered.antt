@@ -8,7 +8,7 @@ use Rattle.dcsp_script.proofs.After.{put_by-append}
 use Rattle.dcsp_script.proofs.Parts.{prefix_short}
 use Rattle.abt_session.specs.Order.{told_text}
 use Rattle.abt_session.specs.Sessions.{run_script}
-use Rattle.abt_session.proofs.Ordered.{whole_puts}
+use Rattle.abt_session.proofs.InOrder.{whole_puts}
 use Rattle.line_solve.specs.Searching.{AskedSearch, round_count, session_after}
 use Rattle.line_solve.specs.SearchScripts.{line_script}
 use Rattle.line_solve.specs.BestHeadline.{line_text, solution_put, puts_of_first, HoldsRounds, HoldsSearch, KeepsEnding, MadeRounds, WritesEnding, WritesRound, in_line, in_run, in_solution, SearchOrdered, in_round, in_ending}

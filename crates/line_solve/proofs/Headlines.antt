@@ -13,7 +13,7 @@ use Rattle.dcsp_script.proofs.Texts.{holds_part}
 use Rattle.ngd_log.specs.Logs.{log_text}
 use Rattle.abt_schedule.specs.Schedules.{schedule_text}
 use Rattle.abt_session.specs.Sessions.{run_script}
-use Rattle.abt_session.proofs.Ordered.{leaves-append, part_in_order}
+use Rattle.abt_session.proofs.InOrder.{leaves-append, part_in_order}
 use Rattle.dcsp_script.specs.declared.status.Status.{Status}
 use Rattle.line_replay.specs.Asked.{record_script}
 use Rattle.line_replay.proofs.Scripts.{record_puts, record_leaves, record_holds}

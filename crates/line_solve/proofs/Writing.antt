@@ -13,7 +13,7 @@ use Rattle.abt_optimum.specs.declared.round.RoundEnd.TheVariants.{Solved, Refute
 use Rattle.line_replay.specs.Endings.{assigned}
 use Rattle.abt_session.specs.Sessions.{run_script}
 use Rattle.abt_session.specs.Order.{told_text}
-use Rattle.abt_session.proofs.Ordered.{leaves-append, whole_puts, whole_leaves, log_whole}
+use Rattle.abt_session.proofs.InOrder.{leaves-append, whole_puts, whole_leaves, log_whole}
 use Rattle.line_solve.specs.Searching.{AskedSearch, next_end, search_after, session_after, steps_after}
 use Rattle.line_solve.specs.SearchScripts.{round_line, line_script, found_text, found_script, solution_script, round_script, rounds_script}
 use Rattle.line_solve.specs.BestHeadline.{line_text, solution_put, puts_of_first, log_after}

@@ -4,3 +4,4 @@ pub mod SearchScripts
 pub mod SolvePromise
 pub mod BestHeadline
 pub mod Runners
+pub mod Asking

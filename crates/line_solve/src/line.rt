@@ -8,10 +8,10 @@ ghost use Rattle.dcsp_script.specs.Ways.{Wrote};
 ghost use Rattle.dcsp_script.specs.Runs.{CameIn};
 ghost use Rattle.abt_input.specs.Errors.{way_of};
 ghost use Rattle.line_replay.specs.Headline.{HoldsProblem};
-ghost use Rattle.line_replay.specs.Ordering.{order_in, IsOrderedRightly};
+ghost use Rattle.abt_session.specs.Ordering.{IsOrderedRightly};
 ghost use Rattle.line_replay.specs.Recorded.{HoldsRecord};
 ghost use Rattle.line_replay.specs.Settings.{settings_of};
-ghost use Rattle.line_solve.specs.Searching.{best_search};
+ghost use Rattle.line_solve.specs.Asking.{search_of};
 ghost use Rattle.line_solve.specs.BestAnswers.{search_status};
 ghost use Rattle.line_solve.specs.SearchScripts.{search_script};
 ghost use Rattle.line_solve.specs.SolvePromise.{solve_promise, HoldsWholeProblem};
@@ -19,10 +19,11 @@ ghost use Rattle.line_solve.specs.SolvePromise.{solve_promise, HoldsWholeProblem
 use crate::answer::{best_status, tell};
 use crate::runner::SearchRunner;
 use abt_input::{CommandError, read_model, read_order_of};
+use abt_session::Ordered;
 use dcsp_outside::{Folder, Sink};
 use dcsp_problem::Aim;
 use dcsp_script::{Status, Stop};
-use line_replay::{Ordered, Solve, run_seed, write_record};
+use line_replay::{Solve, run_seed, write_record};
 use ngd_check::problems_are_small;
 use std::alloc::Global;
 
@@ -71,12 +72,12 @@ fn run_search<'w, F: Folder, S: Sink>(
     requires aimed { model.problem.now.aim ≢ Aim.Satisfy }
     requires few { line.options.choices ≤ 2 ^ 40 }
     requires model { IsOrderedRightly model }
-    ensures wrote { Wrote (search_script (best_search (order_in model.entry) model.entry.problem.now line.entry.log.now (settings_of line.entry.options)))
+    ensures wrote { Wrote (search_script (search_of model.entry line.entry))
         (outside (F.place folder.old) (S.stream out.old)) (outside (F.place folder.new) (S.stream out.new)) result }
-    ensures status { IfOk result (λ status. status ≡ search_status (best_search (order_in model.entry) model.entry.problem.now line.entry.log.now (settings_of line.entry.options))) }
+    ensures status { IfOk result (λ status. status ≡ search_status (search_of model.entry line.entry)) }
 {
     let mut runner = SearchRunner::new(alloc, model.problem, line.options.halves)?;
-    runner.run(alloc, model, line, folder, out)?;
+    runner.run(model, line, folder, out)?;
     write_record(
         alloc,
         folder,

@@ -1,35 +1,35 @@
 //! A search on its way.
 
-ghost use Rattle.std.specs.Prelude.{◌≡◌, ◌≢◌, ◌<◌, ◌≤◌, ◌+◌, ◌^◌, ◌&&◌, ◌==◌, false, true, length, IfOk, OnOk, OnErr, Err, Some, is_some, if◌then◌else◌};
+ghost use Rattle.std.specs.Prelude.{◌≡◌, ◌≢◌, ◌<◌, ◌≤◌, ◌+◌, ◌^◌, ◌&&◌, ◌==◌, false, true, length, IfOk, OnOk, OnErr, Err, is_some, if◌then◌else◌};
 ghost use Rattle.dcsp_outside.specs.Outside.{Place, Stream};
 ghost use Rattle.dcsp_order.specs.Told.{Fits};
-ghost use Rattle.line_replay.specs.Ordering.{order_in, IsOrderedRightly};
+ghost use Rattle.abt_session.specs.Ordering.{order_in, IsOrderedRightly};
 ghost use Rattle.dcsp_script.specs.Scripts.{outside};
 ghost use Rattle.dcsp_script.specs.Ways.{Wrote};
 ghost use Rattle.law_runs.specs.Replay.{Verdicts};
 ghost use Rattle.abt_session.specs.Sessions.{run_of, run_script};
 ghost use Rattle.abt_session.specs.Running.{kept, Gives};
-ghost use Rattle.line_replay.specs.Asked.{set_session};
-ghost use Rattle.line_replay.specs.Settings.{settings_of};
 ghost use Rattle.abt_optimum.specs.Rounds.{is_done, round_problem};
 ghost use Rattle.abt_optimum.specs.Searches.{next_better, EndsRightly, IsSearch};
-ghost use Rattle.line_solve.specs.Searching.{best_search, next_session, round_count, told_end, with_round};
+ghost use Rattle.line_solve.specs.Asking.{round_of, search_of};
+ghost use Rattle.line_solve.specs.Searching.{next_session, round_count, told_end, with_round};
 ghost use Rattle.line_solve.specs.BestAnswers.{found};
 ghost use Rattle.line_solve.specs.SearchScripts.{line_script, round_script, rounds_script};
 
 use crate::answer::{Searched, put_found, put_round};
 use abt_optimum::{RoundEnd, Search};
 use abt_schedule::{ChoiceList, Seeded};
-use abt_session::{End, Outcome, RunTask, run};
+use abt_session::{End, Ordered, Outcome, RunTask, run};
 use dcsp_outside::{Folder, Sink};
 use dcsp_problem::{Aim, Problem};
 use dcsp_script::Stop;
-use line_replay::{Ordered, Solve};
+use line_replay::Solve;
 use std::alloc::Global;
 
 /// A search on its way.
 #[derive(Drop)]
 pub struct SearchRunner<'p> {
+    pub alloc: Global,
     pub search: Search<'p>,
     /// How many rounds have ended.
     pub rounds: u64,
@@ -54,6 +54,7 @@ impl<'p> SearchRunner<'p> {
             return Err(Stop::Memory);
         };
         Ok(SearchRunner {
+            alloc,
             search,
             rounds: 0,
             deliveries: 0,
@@ -65,7 +66,6 @@ impl<'p> SearchRunner<'p> {
     /// Makes all rounds.
     pub fn run<'w, F: Folder, S: Sink>(
         &mut self,
-        alloc: Global,
         model: Ordered<'w>,
         line: Solve<'w>,
         folder: &mut F,
@@ -74,14 +74,14 @@ impl<'p> SearchRunner<'p> {
         requires fresh { IsFresh model.problem.now line.options.halves self.old }
         requires few { line.options.choices ≤ 2 ^ 40 }
         requires model { IsOrderedRightly model }
-        ensures wrote { let asked = best_search (order_in model.entry) model.entry.problem.now line.entry.log.now (settings_of line.entry.options) in
+        ensures wrote { let asked = search_of model.entry line.entry in
             Wrote (rounds_script asked (round_count asked))
             (outside (F.place folder.old) (S.stream out.old)) (outside (F.place folder.new) (S.stream out.new)) result }
-        ensures made { let asked = best_search (order_in model.entry) model.entry.problem.now line.entry.log.now (settings_of line.entry.options) in
+        ensures made { let asked = search_of model.entry line.entry in
             OnOk result (HasMade asked (round_count asked) self.new) }
     {
         while !self.search.done() {
-            self.make_round(alloc, model, line, folder, out)?;
+            self.make_round(model, line, folder, out)?;
         }
         Ok(())
     }
@@ -90,27 +90,32 @@ impl<'p> SearchRunner<'p> {
     /// solution is put, where each one is asked for.
     fn make_round<'w, F: Folder, S: Sink>(
         &mut self,
-        alloc: Global,
         model: Ordered<'w>,
         line: Solve<'w>,
         folder: &mut F,
         out: &mut S,
     ) -> Result<(), Stop>
-        requires made { let asked = best_search (order_in model) model.problem.now line.log.now (settings_of line.options) in
+        requires made { let asked = search_of model line in
             HasMade asked self.old.rounds self.old }
         requires goes_on { is_done self.old.search.problem.aim self.old.search.rounds ≡ false }
         requires few { self.old.rounds < 2 ^ 20 }
         requires choices { line.options.choices ≤ 2 ^ 40 }
         requires model { IsOrderedRightly model }
-        ensures wrote { let asked = best_search (order_in model.entry) model.entry.problem.now line.entry.log.now (settings_of line.entry.options) in
+        ensures wrote { let asked = search_of model.entry line.entry in
             Wrote (round_script asked self.old.rounds)
             (outside (F.place folder.old) (S.stream out.old)) (outside (F.place folder.new) (S.stream out.new)) result }
-        ensures made { let asked = best_search (order_in model.entry) model.entry.problem.now line.entry.log.now (settings_of line.entry.options) in
+        ensures made { let asked = search_of model.entry line.entry in
             OnOk result (HasMade asked (self.old.rounds + 1) self.new) }
     {
-        put_round(alloc, line.options.trace, self.rounds + 1, out)?;
-        let outcome = self.run_next(alloc, model, line, folder, out)?;
-        put_found(alloc, line.options.each, model.problem, &outcome.end, out)?;
+        put_round(self.alloc, line.options.trace, self.rounds + 1, out)?;
+        let outcome = self.run_next(model, line, folder, out)?;
+        put_found(
+            self.alloc,
+            line.options.each,
+            model.problem,
+            &outcome.end,
+            out,
+        )?;
         self.count(outcome);
         Ok(())
     }
@@ -118,7 +123,6 @@ impl<'p> SearchRunner<'p> {
     /// Runs the problem of the round that follows, narrowed to better values than the one that it is to better.
     fn run_next<'w, F: Folder, S: Sink>(
         &self,
-        alloc: Global,
         model: Ordered<'w>,
         line: Solve<'w>,
         folder: &mut F,
@@ -130,15 +134,15 @@ impl<'p> SearchRunner<'p> {
         requires problem { self.now.search.problem ≡ model.problem.now }
         requires model { IsOrderedRightly model }
         requires choices { line.options.choices ≤ 2 ^ 40 }
-        ensures wrote { let s = next_session (best_search (order_in model.entry) model.entry.problem.now line.entry.log.now (settings_of line.entry.options)) self.now.search in
+        ensures wrote { let s = next_session (search_of model.entry line.entry) self.now.search in
             Wrote (run_script s) (outside (F.place folder.old) (S.stream out.old)) (outside (F.place folder.new) (S.stream out.new)) result }
-        ensures tells { let asked = best_search (order_in model.entry) model.entry.problem.now line.entry.log.now (settings_of line.entry.options) in
+        ensures tells { let asked = search_of model.entry line.entry in
             IfOk result (Tells (next_session asked self.now.search)) }
-        ensures numbers { let asked = best_search (order_in model.entry) model.entry.problem.now line.entry.log.now (settings_of line.entry.options) in
+        ensures numbers { let asked = search_of model.entry line.entry in
             IfOk result (λ outcome. outcome.numbers ≡ kept (is_some asked.set.record_file && self.now.rounds == 0) (run_of (next_session asked self.now.search)).numbers) }
     {
         match self.search.better() {
-            None => self.run_on(alloc, model, line, folder, out),
+            None => self.run_on(model, line, folder, out),
             Some(better) => {
                 let Ok(narrowed) = model.problem.narrowed(better) else {
                     return Err(Stop::Memory);
@@ -147,7 +151,7 @@ impl<'p> SearchRunner<'p> {
                     problem: &narrowed,
                     order: model.order,
                 };
-                self.run_on(alloc, next, line, folder, out)
+                self.run_on(next, line, folder, out)
             }
         }
     }
@@ -155,7 +159,6 @@ impl<'p> SearchRunner<'p> {
     /// Runs the problem of the round that follows, under the choices of the seed anew.
     fn run_on<'w, F: Folder, S: Sink>(
         &self,
-        alloc: Global,
         model: Ordered<'w>,
         line: Solve<'w>,
         folder: &mut F,
@@ -164,21 +167,21 @@ impl<'p> SearchRunner<'p> {
         requires choices { line.options.choices ≤ 2 ^ 40 }
         requires few { self.now.rounds < 2 ^ 20 }
         requires fits { Fits (order_in model) model.problem.now }
-        ensures wrote { Wrote (run_script (set_session (order_in model.entry) model.entry.problem.now line.entry.log.now (settings_of line.entry.options) (Some (self.now.rounds + 1))))
+        ensures wrote { Wrote (run_script (round_of model.entry line.entry (self.now.rounds + 1)))
             (outside (F.place folder.old) (S.stream out.old)) (outside (F.place folder.new) (S.stream out.new)) result }
-        ensures tells { IfOk result (Tells (set_session (order_in model.entry) model.entry.problem.now line.entry.log.now (settings_of line.entry.options) (Some (self.now.rounds + 1)))) }
-        ensures numbers { let s = set_session (order_in model.entry) model.entry.problem.now line.entry.log.now (settings_of line.entry.options) (Some (self.now.rounds + 1)) in
+        ensures tells { IfOk result (Tells (round_of model.entry line.entry (self.now.rounds + 1))) }
+        ensures numbers { let s = round_of model.entry line.entry (self.now.rounds + 1) in
             IfOk result (λ outcome. outcome.numbers ≡ kept (is_some line.entry.options.record_file && self.now.rounds == 0) (run_of s).numbers) }
     {
         let mut choices = Seeded::new(line.options.seed);
         let task = RunTask {
+            model,
             log: line.log,
             most: line.options.choices,
             telling: line.options.telling(Some(self.rounds + 1)),
             keep: self.keeps(line.options.record_file),
-            order: model.order,
         };
-        run(alloc, model.problem, &mut choices, task, folder, out)
+        run(self.alloc, task, &mut choices, folder, out)
     }
 
     /// Whether the numbers of the round that follows are taken down: of the first alone, where a record is asked for.

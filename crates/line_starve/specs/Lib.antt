@@ -1,2 +1,3 @@
 pub mod StarvePromise
 pub mod Starving
+pub mod Runs

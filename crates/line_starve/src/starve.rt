@@ -13,15 +13,15 @@ ghost use Rattle.abt_session.specs.Starving.{starved_end};
 ghost use Rattle.dcsp_script.specs.Runs.{CameIn};
 ghost use Rattle.abt_input.specs.Inputs.{HasChoices};
 ghost use Rattle.abt_input.specs.Errors.{way_of};
-ghost use Rattle.line_starve.specs.StarvePromise.{choices_of, end_word, most_starved, starve_promise, starve_script, starved_line, starving_run};
+ghost use Rattle.line_starve.specs.StarvePromise.{end_word, most_starved, starve_promise, starve_script, starved_line};
+ghost use Rattle.line_starve.specs.Runs.{its_choices, run_of};
 ghost use Rattle.line_starve.specs.Starving.{HoldsStarved, IsReplayed, TellsStarved};
 
 use abt_input::{AnswerLine, CommandError, read_model, read_order_of};
 use abt_schedule::{ChoiceList, write_schedule};
-use abt_session::{Starved, StarvedEnd};
+use abt_session::{Starved, StarvedEnd, StarvingRun, starve};
 use dcsp_order::{Order, moved};
 use dcsp_outside::{Folder, Sink};
-use dcsp_problem::Problem;
 use dcsp_script::{Status, Stop, append, create, put};
 use itoa::Buffer;
 use std::alloc::Global;
@@ -42,14 +42,6 @@ pub struct Starve<'w> {
     pub file: &'w str,
     /// The name of the order, where one is given.
     pub order_file: Option<&'w str>,
-}
-
-/// A run that starves a link: its problem, and the places of the agents from which and to which the link leads.
-#[derive(Clone, Copy)]
-struct StarvingRun<'p> {
-    problem: &'p Problem,
-    from: u32,
-    to: u32,
 }
 
 /// Runs the model, under the order where one is named, so that the link from one variable's agent to another's is
@@ -80,8 +72,9 @@ pub fn run_starve<F: Folder, S: Sink>(
         problem: moved.as_ref().unwrap_or(&problem),
         from: place_of(order, line.from - 1),
         to: place_of(order, line.to - 1),
+        most: MOST_STARVED,
     };
-    run_starved(alloc, run, MOST_STARVED, folder, line.file, out)?;
+    run_starved(alloc, run, folder, line.file, out)?;
     Ok(Status::Good)
 }
 
@@ -108,25 +101,23 @@ fn place_under(order: &Order, number: u32) -> u32
     }
 }
 
-/// Makes the run, with at most `most` deliveries, writes its choices and tells how it ended.
+/// Makes the run, writes its choices and tells how it ended.
 fn run_starved<F: Folder, S: Sink>(
     alloc: Global,
     run: StarvingRun<'_>,
-    most: u64,
     folder: &mut F,
     file: &str,
     out: &mut S,
 ) -> Result<(), Stop>
-    requires most { most ≤ most_starved }
-    ensures wrote { Wrote (starve_script file.now (choices_of run.entry.problem.now run.entry.from run.entry.to most) (starving_run run.entry.problem.now run.entry.from run.entry.to most))
+    requires most { run.most ≤ most_starved }
+    ensures wrote { Wrote (starve_script file.now (its_choices run.entry) (run_of run.entry))
         (outside (F.place folder.old) (S.stream out.old)) (outside (F.place folder.new) (S.stream out.new)) result }
-    ensures schedule { OnOk result (HasChoices (schedule_text (choices_of run.entry.problem.now run.entry.from run.entry.to most)) (choices_of run.entry.problem.now run.entry.from run.entry.to most)) }
-    ensures replayed { OnOk result (IsReplayed None run.entry.problem.now run.entry.from run.entry.to most) }
-    ensures bound { OnOk result ((starving_run run.entry.problem.now run.entry.from run.entry.to most).net.deliveries ≤ message_bound (csp_of run.entry.problem.now)) }
+    ensures schedule { OnOk result (HasChoices (schedule_text (its_choices run.entry)) (its_choices run.entry)) }
+    ensures replayed { OnOk result (IsReplayed None run.entry.problem.now run.entry.from run.entry.to run.entry.most) }
+    ensures bound { OnOk result ((run_of run.entry).net.deliveries ≤ message_bound (csp_of run.entry.problem.now)) }
 {
     let mut taken = ChoiceList::new(alloc);
-    let Ok(told) = abt_session::starve(alloc, run.problem, run.from, run.to, most, &mut taken)
-    else {
+    let Ok(told) = starve(alloc, run, &mut taken) else {
         return Err(Stop::Memory);
     };
     write_choices(alloc, folder, file, taken.choices())?;

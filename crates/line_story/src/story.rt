@@ -17,7 +17,7 @@ use crate::teller::Teller;
 use abt_input::{CommandError, read_choices, read_model, read_order_of};
 use abt_network::Network;
 use abt_schedule::Listed;
-use abt_session::MOST_DELIVERIES;
+use abt_session::{MOST_DELIVERIES, Ordered};
 use dcsp_order::{Order, moved};
 use dcsp_outside::{Folder, Sink};
 use dcsp_problem::Problem;
@@ -101,10 +101,13 @@ fn write_story<F: Folder, S: Sink>(
         return Err(Stop::Memory);
     };
     let mut choices = choices;
+    let model = Ordered {
+        problem: run,
+        order: task.order,
+    };
     let mut teller = Teller {
         alloc,
-        order: task.order,
-        problem: run,
+        model,
         network,
         file: task.file,
         text: Vec::new(alloc),

@@ -1,25 +1,24 @@
 //! A run that is told as it is made.
 
-ghost use Rattle.std.specs.Prelude.{◌≡◌, ◌≤◌, ◌∷◌, ◌++◌, ◌^◌, ℕ, [], Contains, List, OnOk, false, length, option_copied, true};
+ghost use Rattle.std.specs.Prelude.{◌≡◌, ◌≤◌, ◌∷◌, ◌++◌, ◌^◌, ℕ, [], Contains, List, OnOk, false, length, true};
 ghost use Rattle.dcsp_outside.specs.Outside.{Place, Stream};
 ghost use Rattle.dcsp_script.specs.Scripts.{Append, Put, outside};
 ghost use Rattle.dcsp_script.specs.Ways.{Wrote};
-ghost use Rattle.dcsp_rule.specs.Problems.{csp_of};
 ghost use Rattle.abt_defs.specs.Network.{Network as TheNetwork, start};
 ghost use Rattle.abt_defs.specs.Runs.{whole};
 ghost use Rattle.abt_network.specs.Standing.{reached, standing_of, CanDeliver, StandsAt};
 ghost use Rattle.abt_session.specs.Answers.{first_answers};
-ghost use Rattle.abt_story.specs.Telling.{delivery_lines};
-ghost use Rattle.line_story.specs.StoryPromise.{end_line, end_word, event_write, some_write, status_at, story_line};
-ghost use Rattle.line_story.specs.Telling.{begin_script, deliveries_write, IsReady, SameTask};
+ghost use Rattle.abt_session.specs.Ordering.{order_in};
+ghost use Rattle.abt_session.specs.Running.{IsAfter};
+ghost use Rattle.line_story.specs.StoryPromise.{end_line, end_word, some_write, status_at, story_line};
+ghost use Rattle.line_story.specs.Telling.{begin_script, csp_told, deliveries_write, told_write, IsReady, SameTask};
 
 use abt_input::AnswerLine;
 use abt_network::{Network, Standing};
 use abt_schedule::Choices;
+use abt_session::Ordered;
 use abt_story::{tell_delivery, tell_start};
-use dcsp_order::Order;
 use dcsp_outside::{Folder, Sink};
-use dcsp_problem::Problem;
 use dcsp_script::{Status, Stop, append, create, put};
 use itoa::Buffer;
 use std::alloc::Global;
@@ -28,10 +27,8 @@ use std::alloc::Global;
 #[derive(Drop)]
 pub struct Teller<'p, 'w> {
     pub alloc: Global,
-    /// The order whose numbers tell agents, where the run is one under an order.
-    pub order: Option<&'p Order>,
-    /// The problem that is run.
-    pub problem: &'p Problem,
+    /// The problem that is run, and the order whose numbers tell agents, where the run is one under an order.
+    pub model: Ordered<'p>,
     pub network: Network<'p>,
     /// The name of the file that takes the story.
     pub file: &'w str,
@@ -44,10 +41,10 @@ impl<'p, 'w> Teller<'p, 'w> {
     pub fn begin<F: Folder>(&mut self, folder: &mut F) -> Result<(), Stop>
         requires sound { self.old.network.spent ≡ false }
         requires fresh { self.old.network.begun ≡ false }
-        requires problem { self.old.network.problem ≡ self.old.problem.now }
-        ensures wrote { (out : Stream) → Wrote (begin_script self.old.file.now (option_copied self.old.order) (csp_of self.old.problem.now))
+        requires problem { self.old.network.problem ≡ self.old.model.problem.now }
+        ensures wrote { (out : Stream) → Wrote (begin_script self.old.file.now (order_in self.old.model) (csp_told self.old))
             (outside (F.place folder.old) out) (outside (F.place folder.new) out) result }
-        ensures stands { OnOk result (StandsAt self.new.network (start (csp_of self.old.problem.now))) }
+        ensures stands { OnOk result (StandsAt self.new.network (start (csp_told self.old))) }
         ensures ready { OnOk result (IsReady self.new) }
         ensures same { SameTask self.old self.new }
         ensures created { OnOk result (Contains (F.place folder.new).created self.old.file.now) }
@@ -55,13 +52,7 @@ impl<'p, 'w> Teller<'p, 'w> {
         create(folder, self.file)?;
         append(folder, self.file, b"story 1\n")?;
         self.text.clear();
-        let Ok(()) = tell_start(
-            self.alloc,
-            self.order,
-            self.problem,
-            &mut self.network,
-            &mut self.text,
-        ) else {
+        let Ok(()) = tell_start(self.alloc, self.model, &mut self.network, &mut self.text) else {
             return Err(Stop::Memory);
         };
         append_some(folder, self.file, &self.text)
@@ -76,11 +67,11 @@ impl<'p, 'w> Teller<'p, 'w> {
     ) -> Result<(), Stop>
         requires most { most ≤ 2 ^ 40 }
         requires ready { IsReady self.old }
-        requires starts { StandsAt self.old.network (start (csp_of self.old.problem.now)) }
+        requires starts { StandsAt self.old.network (start (csp_told self.old)) }
         requires created { Contains (F.place folder.old).created self.old.file.now }
-        ensures wrote { (out : Stream) → Wrote (deliveries_write self.old.file.now (option_copied self.old.order) (csp_of self.old.problem.now) most (first_answers most (C.answers choices.old)))
+        ensures wrote { (out : Stream) → Wrote (deliveries_write self.old.file.now (order_in self.old.model) (csp_told self.old) most (first_answers most (C.answers choices.old)))
             (outside (F.place folder.old) out) (outside (F.place folder.new) out) result }
-        ensures stands { OnOk result (StandsAt self.new.network (whole (csp_of self.old.problem.now) most (first_answers most (C.answers choices.old))).net) }
+        ensures stands { OnOk result (StandsAt self.new.network (whole (csp_told self.old) most (first_answers most (C.answers choices.old))).net) }
         ensures ready { OnOk result (IsReady self.new) }
         ensures same { SameTask self.old self.new }
         ensures created { (F.place folder.new).created ≡ (F.place folder.old).created }
@@ -102,12 +93,12 @@ impl<'p, 'w> Teller<'p, 'w> {
     fn deliver<F: Folder>(&mut self, choice: u32, folder: &mut F) -> Result<(), Stop>
         requires can { CanDeliver self.old.network }
         requires ready { IsReady self.old }
-        requires on_run { (choices : List ℕ) × StandsAt self.old.network (reached self.old.network choices) }
+        requires on_run { (choices : List ℕ) × IsAfter self.old.network choices }
         requires created { Contains (F.place folder.old).created self.old.file.now }
-        ensures wrote { (choices : List ℕ) (out : Stream) → StandsAt self.old.network (reached self.old.network choices)
-            → Wrote (event_write self.old.file.now (delivery_lines (option_copied self.old.order) (csp_of self.old.problem.now) choice (reached self.old.network choices)))
+        ensures wrote { (choices : List ℕ) (out : Stream) → IsAfter self.old.network choices
+            → Wrote (told_write self.old choice (reached self.old.network choices))
             (outside (F.place folder.old) out) (outside (F.place folder.new) out) result }
-        ensures stands { (choices : List ℕ) → StandsAt self.old.network (reached self.old.network choices) → OnOk result (StandsAt self.new.network (reached self.old.network (choices ++ choice ∷ []))) }
+        ensures stands { (choices : List ℕ) → IsAfter self.old.network choices → OnOk result (StandsAt self.new.network (reached self.old.network (choices ++ choice ∷ []))) }
         ensures ready { OnOk result (IsReady self.new) }
         ensures same { SameTask self.old self.new }
         ensures created { (F.place folder.new).created ≡ (F.place folder.old).created }
@@ -115,8 +106,7 @@ impl<'p, 'w> Teller<'p, 'w> {
         self.text.clear();
         let Ok(()) = tell_delivery(
             self.alloc,
-            self.order,
-            self.problem,
+            self.model,
             &mut self.network,
             choice,
             &mut self.text,
@@ -130,7 +120,7 @@ impl<'p, 'w> Teller<'p, 'w> {
     pub fn end<F: Folder>(&self, folder: &mut F) -> Result<(), Stop>
         requires ready { IsReady self.now }
         requires created { Contains (F.place folder.old).created self.now.file.now }
-        ensures { (net : TheNetwork) (out : Stream) → StandsAt self.now.network net → Wrote (Append self.now.file.now (end_line (standing_of (csp_of self.now.problem.now) net)) ∷ [])
+        ensures { (net : TheNetwork) (out : Stream) → StandsAt self.now.network net → Wrote (Append self.now.file.now (end_line (standing_of (csp_told self.now) net)) ∷ [])
             (outside (F.place folder.old) out) (outside (F.place folder.new) out) result }
     {
         let line = end_line(self.network.state());
@@ -140,7 +130,7 @@ impl<'p, 'w> Teller<'p, 'w> {
     /// Puts how the run ended, and how many deliveries it made.
     pub fn answer<S: Sink>(&self, out: &mut S) -> Result<(), Stop>
         requires ready { IsReady self.now }
-        ensures { (net : TheNetwork) (folder : Place) → StandsAt self.now.network net → Wrote (Put (story_line (standing_of (csp_of self.now.problem.now) net) net.deliveries) ∷ [])
+        ensures { (net : TheNetwork) (folder : Place) → StandsAt self.now.network net → Wrote (Put (story_line (standing_of (csp_told self.now) net) net.deliveries) ∷ [])
             (outside folder (S.stream out.old)) (outside folder (S.stream out.new)) result }
     {
         let line = story_line(self.network.state(), self.network.deliveries());
@@ -150,7 +140,7 @@ impl<'p, 'w> Teller<'p, 'w> {
     /// The status of the run: unfinished where a message is in transit.
     pub fn status(&self) -> Status
         requires ready { IsReady self.now }
-        ensures { (net : TheNetwork) → StandsAt self.now.network net → result ≡ status_at (standing_of (csp_of self.now.problem.now) net) }
+        ensures { (net : TheNetwork) → StandsAt self.now.network net → result ≡ status_at (standing_of (csp_told self.now) net) }
     {
         match self.network.state() {
             Standing::Quiet | Standing::Refuted => Status::Good,

@@ -4,7 +4,10 @@ ghost use Rattle.std.specs.Prelude.{◌≤◌};
 
 use crate::given::{THIRD, apart, let_go, torn};
 use abt_schedule::{ChoiceList, Choices, Seeded, read_schedule};
-use abt_session::{End, Outcome, RunTask, SessionError, Starved, StarvedEnd, Telling, run, starve};
+use abt_session::{
+    End, Ordered, Outcome, RunTask, SessionError, Starved, StarvedEnd, StarvingRun, Telling, run,
+    starve,
+};
 use dcsp_outside::{MemoryFolder, MemorySink};
 use dcsp_problem::Problem;
 use std::alloc::Global;
@@ -51,21 +54,18 @@ impl Outside {
     ) -> Result<Outcome, SessionError>
         requires { most ≤ 1000 }
     {
+        let model = Ordered {
+            problem,
+            order: None,
+        };
         let task = RunTask {
+            model,
             log: "log",
             most,
             telling: Telling::traced(trace),
             keep: true,
-            order: None,
         };
-        run(
-            alloc,
-            problem,
-            choices,
-            task,
-            &mut self.folder,
-            &mut self.out,
-        )
+        run(alloc, task, choices, &mut self.folder, &mut self.out)
     }
 
     /// Lets these go.
@@ -143,7 +143,13 @@ fn starved(
     taken: &mut ChoiceList,
 ) -> Starved {
     assert!(rt; most <= 1000);
-    starve(alloc, problem, 0, 2, most, taken).expect(rt, "memory")
+    let run = StarvingRun {
+        problem,
+        from: 0,
+        to: 2,
+        most,
+    };
+    starve(alloc, run, taken).expect(rt, "memory")
 }
 
 /// The run ended so.

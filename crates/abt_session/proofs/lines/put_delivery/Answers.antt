@@ -8,9 +8,9 @@ use Rattle.abt_session.proofs.lines.put_delivery.Goals as goal
 
 pub returns-in_err-put_trace : goal.returns-in_err-put_trace
 returns-in_err-put_trace g c = λ folder.
-    wrote_as (both_put c.args.telling c.args.number c.args.steps (delivery_of c.args.delivery.now))
-    (then_stopped (map Put (progress_texts c.args.telling c.args.number c.args.steps)) c.from_residual.ensures (c.in_err-put_trace.ensures folder))
+    wrote_as (both_put c.args.telling c.args.made.number c.args.made.steps (delivery_of c.args.made.delivery.now))
+    (then_stopped (map Put (progress_texts c.args.telling c.args.made.number c.args.made.steps)) c.from_residual.ensures (c.in_err-put_trace.ensures folder))
 
 pub returns : goal.returns
 returns g c = λ folder.
-    wrote_as (both_put c.args.telling c.args.number c.args.steps (delivery_of c.args.delivery.now)) (then_rest (c.in_ok-put_trace.ensures folder) (c.put_progress.ensures folder))
+    wrote_as (both_put c.args.telling c.args.made.number c.args.made.steps (delivery_of c.args.made.delivery.now)) (then_rest (c.in_ok-put_trace.ensures folder) (c.put_progress.ensures folder))

@@ -4,5 +4,5 @@ use Rattle.abt_session.proofs.outcome.values_of.Goals as goal
 
 pub value-requires : goal.value-requires
 value-requires c =
-    let p : Contents = c.args.problem.now in
+    let p : Contents = c.args.model.problem.now in
     subst (λ (q : Contents). c.place_in.result < length q.domains) (sym c.requires.run) (c.place_in.ensures.within (length p.domains) c.requires.fits (omega arith))

@@ -6,36 +6,36 @@ use Rattle.dcsp_script.specs.Ways.{Wrote}
 use Rattle.abt_session.specs.Answers.{first_answers}
 use Rattle.abt_session.specs.Sessions.{run_script}
 use Rattle.abt_session.specs.Running.{order_of, session_by, session_for}
-use Rattle.abt_session.proofs.Ordered.{wrote_in_order}
+use Rattle.abt_session.proofs.InOrder.{wrote_in_order}
 use Rattle.abt_session.proofs.Pieces.{memory_at_once}
 use Rattle.abt_session.proofs.session.run.Goals as goal
 
 pub returns-in_default-clause-in_order : goal.returns-in_default-clause-in_order
 returns-in_default-clause-in_order g c =
-    let s = session_by c.args.problem.now (g.C.Choices.answers c.args.choices.now) c.args.task in
+    let s = session_by (g.C.Choices.answers c.args.choices.now) c.args.task in
     wrote_in_order s {T = ℕ} (memory_at_once (run_script s) (outside (g.F.Folder.place c.args.folder.now) (g.S.Sink.stream c.args.out.now)))
 
 pub returns-in_default-clause-verdicts : goal.returns-in_default-clause-verdicts
 returns-in_default-clause-verdicts g c =
-    c.verdicts.ensures (csp_of (ordered (order_of c.args.task) c.args.problem.now)) c.in_default.ensures.csp c.args.task.most (first_answers c.args.task.most (g.C.Choices.answers c.args.choices.now))
+    c.verdicts.ensures (csp_of (ordered (order_of c.args.task) c.args.task.model.problem.now)) c.in_default.ensures.csp c.args.task.most (first_answers c.args.task.most (g.C.Choices.answers c.args.choices.now))
 
 pub returns-in_default-clause-stops : goal.returns-in_default-clause-stops
 returns-in_default-clause-stops g c =
-    c.stops.ensures (csp_of (ordered (order_of c.args.task) c.args.problem.now)) c.args.task.most (first_answers c.args.task.most (g.C.Choices.answers c.args.choices.now))
+    c.stops.ensures (csp_of (ordered (order_of c.args.task) c.args.task.model.problem.now)) c.args.task.most (first_answers c.args.task.most (g.C.Choices.answers c.args.choices.now))
 
 pub returns-clause-in_order : goal.returns-clause-in_order
 returns-clause-in_order g c =
     let answers = g.C.Choices.answers c.args.choices.now in
-    let p : Contents = ordered (order_of c.args.task) c.args.problem.now in
+    let p : Contents = ordered (order_of c.args.task) c.args.task.model.problem.now in
     let same : c.unwrap_or-ordered.result.now ≡ p = search rules in
-    wrote_in_order (session_by c.args.problem.now answers c.args.task)
+    wrote_in_order (session_by answers c.args.task)
     (subst (λ (q : Contents). Wrote (run_script (session_for q answers c.args.task)) (outside (g.F.Folder.place c.args.folder.now) (g.S.Sink.stream c.args.out.now)) (outside (g.F.Folder.place c.run_ordered.new.folder) (g.S.Sink.stream c.run_ordered.new.out)) c.run_ordered.result)
     same c.run_ordered.ensures.wrote)
 
 pub returns-clause-verdicts : goal.returns-clause-verdicts
 returns-clause-verdicts g c =
-    c.verdicts.ensures (csp_of (ordered (order_of c.args.task) c.args.problem.now)) c.in-Ok.ensures.csp c.args.task.most (first_answers c.args.task.most (g.C.Choices.answers c.args.choices.now))
+    c.verdicts.ensures (csp_of (ordered (order_of c.args.task) c.args.task.model.problem.now)) c.in-Ok.ensures.csp c.args.task.most (first_answers c.args.task.most (g.C.Choices.answers c.args.choices.now))
 
 pub returns-clause-stops : goal.returns-clause-stops
 returns-clause-stops g c =
-    c.stops.ensures (csp_of (ordered (order_of c.args.task) c.args.problem.now)) c.args.task.most (first_answers c.args.task.most (g.C.Choices.answers c.args.choices.now))
+    c.stops.ensures (csp_of (ordered (order_of c.args.task) c.args.task.model.problem.now)) c.args.task.most (first_answers c.args.task.most (g.C.Choices.answers c.args.choices.now))

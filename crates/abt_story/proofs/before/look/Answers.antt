@@ -1,5 +1,6 @@
-use Rattle.std.proofs.Common.{◌≡◌, ◌≢◌, ◌∙◌, ℕ, ℤ, List, [], ◌∷◌, map, slice_get, option_map, Option, Some, None, IsSome, Bor, refl, sym, ap}
+use Rattle.std.proofs.Common.{◌≡◌, ◌≢◌, ◌<◌, ◌∙◌, ℕ, ℤ, List, length, subst, [], ◌∷◌, map, slice_get, option_map, Option, Some, None, IsSome, Bor, refl, sym, ap}
 use Rattle.std.specs.Option.{option_copied}
+use Rattle.dcsp_defs.specs.Csp.{domain}
 use Rattle.dcsp_rule.specs.Problems.{Contents, csp_of}
 use Rattle.abt_defs.specs.Agents.{Agent, Message}
 use Rattle.abt_parts.specs.declared.message.Message.{Message as TheMessage}
@@ -26,21 +27,30 @@ its_reasons s p i a values e f g =
 pub unwrap-message-requires : goal.unwrap-message-requires
 unwrap-message-requires c = some_first c.first.result _ c.first.ensures.first c.requires.some
 
+pub domain-requires : goal.domain-requires
+domain-requires c = subst (λ (q : Contents). c.args.to < length q.domains) c.requires.problem c.requires.receiver
+
+pub reasons_of-requires-clause-domain : goal.reasons_of-requires-clause-domain
+reasons_of-requires-clause-domain c =
+    let seat = c.agent-agent.ensures.seat c.requires.sound in
+    c.domain.ensures ∙ ap (λ (q : Contents). domain (csp_of q) c.args.to) (sym (seat.problem ∙ c.requires.problem)) ∙ ap (domain (csp_of c.agent-agent.result.now.problem)) (sym seat.me)
+
 pub returns-clause-seen : goal.returns-clause-seen
 returns-clause-seen c net m rest st waiting =
-    let order = option_copied c.args.order in
+    let order = option_copied c.args.model.order in
     let s = c.agent-agent.result.now in
     let p = c.args.network.now.problem in
     let to = c.args.to in
     let a = net.agents to in
     let stands : stands_for s ≡ a = c.agent-agent.ensures.machine net st in
     let seat = c.agent-agent.ensures.seat c.requires.sound in
+    let values = c.domain.ensures ∙ ap (λ (q : Contents). domain (csp_of q) to) (sym c.requires.problem) in
     let message = its_message c.first.result c.unwrap-message.result _ m rest c.unwrap-message.ensures (c.first.ensures.machine net st) waiting in
     record {
       known =
           c.in_ok-known.ensures ∙ ap (λ (b : Agent). map (known_at b.view) (named_by order c.args.from (message_of c.unwrap-message.result.now))) stands
           ∙ ap (λ (x : Message). map (known_at a.view) (named_by order c.args.from x)) message;
       kept = c.in_ok-kept.ensures ∙ steps_are c.nogoods.result.now a (c.nogoods.ensures ∙ ap (λ (b : Agent). b.recorded) stands);
-      reasons = c.in_ok-reasons.ensures ∙ its_reasons s p to a c.args.domain.now seat.problem seat.me stands ∙ ap (map (reason (csp_of p) to a)) c.requires.domain;
+      reasons = c.in_ok-reasons.ensures ∙ its_reasons s p to a c.domain.result.now seat.problem seat.me stands ∙ ap (map (reason (csp_of p) to a)) values;
       stamp = c.stamp.ensures ∙ ap (λ (b : Agent). b.stamp) stands;
     }

@@ -14,15 +14,6 @@ use Rattle.abt_story.specs.Looking.{IsSeen}
 use Rattle.abt_story.proofs.Deliveries.{a, head, is_made, receiver, same_receiver, some, told}
 use Rattle.abt_story.proofs.delivery.tell_delivery.Goals as goal
 
-pub domain-requires : goal.domain-requires
-domain-requires c =
-    let s = c.args.network.now in
-    let r = c.requires.on_run in
-    let net = reached s r.0 in
-    let pair = c.ready_pair-from.result in
-    let there = receiver s r.0 r.1 c.args.choice c.ready.result pair.0 pair.1 (c.ready.ensures.machine net r.1 c.requires.sound) (c.ready_pair-from.ensures.machine net r.1 c.requires.sound) in
-    subst (λ (q : Contents). pair.1 < length q.domains) c.requires.problem there
-
 pub look-requires-clause-receiver : goal.look-requires-clause-receiver
 look-requires-clause-receiver c =
     let s = c.args.network.now in
@@ -49,7 +40,7 @@ tell_made-requires-clause-receiver c =
     let chosen = c.ready_pair-from.ensures.machine net r.1 c.requires.sound in
     let there = receiver s r.0 r.1 c.args.choice c.ready.result pair.0 pair.1 n_is chosen in
     let same = same_receiver s r.0 r.1 c.args.choice c.ready.result pair.0 pair.1 n_is chosen c.in_ok-delivery.delivery (c.in_ok-delivery.ensures.delivers net r.1).told in
-    subst (λ j. j < length c.args.problem.now.domains) (sym same) (subst (λ (q : Contents). pair.1 < length q.domains) c.requires.problem there)
+    subst (λ j. j < length c.args.model.problem.now.domains) (sym same) (subst (λ (q : Contents). pair.1 < length q.domains) c.requires.problem there)
 
 pub tell_made-requires-clause-long : goal.tell_made-requires-clause-long
 tell_made-requires-clause-long c =
@@ -62,16 +53,16 @@ tell_made-requires-clause-long c =
     let first = head s r.0 r.1 c.args.choice c.ready.result pair.0 pair.1 n_is chosen in
     let seen = c.in_ok-before.ensures.seen net first.message first.rest r.1 first.is in
     let same = same_receiver s r.0 r.1 c.args.choice c.ready.result pair.0 pair.1 n_is chosen c.in_ok-delivery.delivery (c.in_ok-delivery.ensures.delivers net r.1).told in
-    ap length seen.reasons ∙ length-map _ _ ∙ ap (λ (q : Contents). length (domain (csp_of q) pair.1)) c.requires.problem ∙ ap (λ j. length (domain (csp_of c.args.problem.now) j)) (sym same)
+    ap length seen.reasons ∙ length-map _ _ ∙ ap (λ (q : Contents). length (domain (csp_of q) pair.1)) c.requires.problem ∙ ap (λ j. length (domain (csp_of c.args.model.problem.now) j)) (sym same)
 
 pub returns-clause-told : goal.returns-clause-told
 returns-clause-told c = λ choices st.
-    let order = option_copied c.args.order in
+    let order = option_copied c.args.model.order in
     let s = c.args.network.now in
     let net = reached s choices in
     let pair = c.ready_pair-from.result in
     let d = c.in_ok-delivery.delivery in
-    let p = csp_of c.args.problem.now in
+    let p = csp_of c.args.model.problem.now in
     let next = deliver (csp_of s.problem) c.args.choice net in
     let n_is = c.ready.ensures.machine net st c.requires.sound in
     let chosen = c.ready_pair-from.ensures.machine net st c.requires.sound in

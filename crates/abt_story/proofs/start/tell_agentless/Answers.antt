@@ -15,7 +15,7 @@ made_is (Some i) e = absurd (let z = e in cc)
 its_text : lines_text (record { event = 0; agent = None; fact = Makes 1 } ∷ []) ≡ codes "0 - makes n1\n"
 its_text = rw (decimal_digit 0 (omega arith), decimal_digit 1 (omega arith)) refl
 
-pub returns-in-Ok : goal.returns-in-Ok
-returns-in-Ok c =
+pub returns : goal.returns
+returns c =
     let lines = ap (λ b. agentless (steps_of b)) c.in-Refuted.is ∙ made_is c.in-Refuted.step.variable c.if-is_some.ensures in
-    c.in-Ok.ensures.items ∙ ap (λ t. c.args.into.now.items ++ t) (sym (ap lines_text lines ∙ its_text))
+    c.in_ok-extend_from_slice.ensures.items ∙ ap (λ t. c.args.into.now.items ++ t) (sym (ap lines_text lines ∙ its_text))

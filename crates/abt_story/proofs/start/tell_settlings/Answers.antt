@@ -10,8 +10,8 @@ use Rattle.abt_story.proofs.start.tell_settlings.Goals as goal
 
 pub loop-agent-preserved : goal.loop-agent-preserved
 loop-agent-preserved c =
-    let p = csp_of c.args.problem.now in
-    let order = option_copied c.args.order in
+    let p = csp_of c.args.model.problem.now in
+    let order = option_copied c.args.model.order in
     let i = c.loop-agent.agent in
     let start = c.args.into.now.items in
     let next : i + 1 ≡ suc i = omega arith in

@@ -7,4 +7,4 @@ use Rattle.abt_story.specs.Looking.{first_text}
 use Rattle.abt_story.proofs.start.tell_settlings.Given as goal
 
 abbrev pub invariant-loop-agent : goal.invariant-loop-agent
-invariant-loop-agent l = l.into.items ≡ l.initial.into.items ++ flat_map (first_text (option_copied l.order) (csp_of l.problem)) (below l.agent)
+invariant-loop-agent l = l.into.items ≡ l.initial.into.items ++ flat_map (first_text (option_copied l.model.order) (csp_of l.model.problem.now)) (below l.agent)

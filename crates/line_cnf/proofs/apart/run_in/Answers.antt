@@ -1,6 +1,6 @@
 use Rattle.std.proofs.Common.{◌∙◌}
 use Rattle.std.specs.FinMap as map
-use Rattle.abt_session.proofs.Ordered.{log_whole}
+use Rattle.abt_session.proofs.InOrder.{log_whole}
 use Rattle.line_cnf.specs.CnfRuns.{log_name, cnf_asked}
 use Rattle.line_cnf.proofs.apart.run_in.Goals as goal
 

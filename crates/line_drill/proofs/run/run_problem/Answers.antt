@@ -1,6 +1,6 @@
 use Rattle.std.proofs.Common.{false, ◌∙◌, None}
 use Rattle.std.specs.FinMap as map
-use Rattle.abt_session.proofs.Ordered.{log_whole}
+use Rattle.abt_session.proofs.InOrder.{log_whole}
 use Rattle.line_replay.specs.Asked.{seeded_session}
 use Rattle.line_drill.specs.Drills.{log_name}
 use Rattle.line_drill.proofs.run.run_problem.Goals as goal

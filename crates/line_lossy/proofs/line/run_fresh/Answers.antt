@@ -6,7 +6,7 @@ use Rattle.line_replay.specs.Asked.{record_script}
 use Rattle.line_replay.proofs.Telling.{as_ok}
 use Rattle.dcsp_rule.specs.Problems.{Contents, csp_of}
 use Rattle.dcsp_defs.specs.Csp.{IsCsp}
-use Rattle.line_replay.specs.Ordering.{order_in}
+use Rattle.abt_session.specs.Ordering.{order_in}
 use Rattle.line_replay.proofs.UnderOrder.{ordered_count, ordered_csp}
 use Rattle.line_lossy.specs.Runners.{asked_by}
 use Rattle.line_lossy.specs.Asked.{run_numbers, most_calm}

@@ -1,7 +1,7 @@
 use Rattle.std.proofs.Common.{◌∙◌}
 use Rattle.line_replay.specs.Settings.{settings_of}
 use Rattle.line_replay.specs.Asked.{asked_run, solve}
-use Rattle.line_replay.specs.Ordering.{order_in}
+use Rattle.abt_session.specs.Ordering.{order_in}
 use Rattle.line_replay.proofs.Outcomes.{status_is, has_values}
 use Rattle.line_replay.proofs.Telling.{before_stopped, answer_stopped, answered, solve_text}
 use Rattle.line_replay.proofs.solve.run_seed.Goals as goal

@@ -1,7 +1,7 @@
 use Rattle.std.proofs.Common.{Err, ◌∙◌, ap}
 use Rattle.dcsp_script.proofs.Lines.{wrote_nothing, then_stopped}
 use Rattle.abt_session.proofs.Pieces.{made_then_memory}
-use Rattle.line_replay.specs.Ordering.{order_in}
+use Rattle.abt_session.specs.Ordering.{order_in}
 use Rattle.line_replay.specs.Settings.{settings_of}
 use Rattle.line_solve.specs.Searching.{best_search}
 use Rattle.line_solve.specs.BestAnswers.{best_status, found}

@@ -20,5 +20,5 @@ pub returns-clause-wrote : goal.returns-clause-wrote
 returns-clause-wrote g c =
     let old = c.args.self.now in
     let d = c.args.delivery.now in
-    wrote_as (same_writes old.task.log.now old.task.telling d.step (delivery_of d ∷ []) c.steps-steps.result old.network.steps c.deliveries-made.result old.network.deliveries c.steps-steps.ensures.steps c.deliveries-made.ensures)
+    wrote_as (same_writes old.task.log.now old.task.telling d.step (delivery_of d ∷ []) c.steps-steps.result old.network.steps c.deliveries.result old.network.deliveries c.steps-steps.ensures.steps c.deliveries.ensures)
     (then_rest (c.in_ok-append_made.ensures.wrote _) (c.put_delivery.ensures _))

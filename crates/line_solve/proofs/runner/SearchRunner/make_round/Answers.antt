@@ -2,7 +2,7 @@ use Rattle.std.proofs.Common.{ap}
 use Rattle.abt_session.specs.Sessions.{run_script}
 use Rattle.abt_session.proofs.Pieces.{wrote_as, stopped_so}
 use Rattle.dcsp_script.proofs.Lines.{then_rest, then_stopped}
-use Rattle.line_replay.specs.Ordering.{order_in}
+use Rattle.abt_session.specs.Ordering.{order_in}
 use Rattle.line_replay.specs.Settings.{settings_of}
 use Rattle.line_replay.proofs.Telling.{as_ok}
 use Rattle.line_solve.specs.Searching.{best_search}

@@ -1,7 +1,7 @@
 use Rattle.std.proofs.Common.{rules, ◌∙◌, sym, ap, to_z-of_z, w64, SFits}
 use Rattle.abt_session.specs.Sessions.{run_script}
 use Rattle.abt_session.proofs.Pieces.{wrote_as}
-use Rattle.line_replay.specs.Ordering.{order_in}
+use Rattle.abt_session.specs.Ordering.{order_in}
 use Rattle.line_replay.specs.Settings.{settings_of}
 use Rattle.line_solve.proofs.Making.{fits_narrowed, next_is, numbers_as, problem_next, tells_as, whole_next}
 use Rattle.line_solve.proofs.runner.SearchRunner.run_next.Goals as goal

@@ -8,7 +8,7 @@ use Rattle.line_story.proofs.teller.Teller.answer.Goals as goal
 
 pub returns : goal.returns
 returns g c = λ net folder st.
-    let q = c.args.self.now.problem.now in
+    let q = c.args.self.now.model.problem.now in
     let stands : c.state.result ≡ standing_of (csp_of q) net = c.state.ensures.machine net st c.requires.ready.sound ∙ ap (λ (p : Contents). standing_of (csp_of p) net) c.requires.ready.problem in
     let count : c.deliveries.result ≡ net.deliveries = c.deliveries.ensures ∙ st.deliveries in
     let text : c.bytes.result.now ≡ story_line c.state.result c.deliveries.result = search rules in

@@ -11,7 +11,7 @@ use Rattle.line_story.proofs.teller.Teller.deliver_all.Goals as goal
 
 pub loop-made-init : goal.loop-made-init
 loop-made-init g c = record {
-  far = at_start c.args.self.now.problem.now c.args.most (g.C.Choices.answers c.args.choices.now) c.args.self.now.file.now (option_copied c.args.self.now.order) c.args.self.now.network (g.F.Folder.place c.args.folder.now) c.requires.starts;
+  far = at_start c.args.self.now.model.problem.now c.args.most (g.C.Choices.answers c.args.choices.now) c.args.self.now.file.now (option_copied c.args.self.now.model.order) c.args.self.now.network (g.F.Folder.place c.args.folder.now) c.requires.starts;
   ready = c.requires.ready;
   same = record { order = refl; problem = refl; file = refl };
   created = refl;
@@ -20,10 +20,10 @@ loop-made-init g c = record {
 pub returns-in-Refuted-clause-wrote : goal.returns-in-Refuted-clause-wrote
 returns-in-Refuted-clause-wrote g c = λ out.
     let i = c.loop-made.invariant in
-    let P = c.args.self.now.problem.now in
+    let P = c.args.self.now.model.problem.now in
     let answers = g.C.Choices.answers c.args.choices.now in
     let file = c.args.self.now.file.now in
-    let order = option_copied c.args.self.now.order in
+    let order = option_copied c.args.self.now.model.order in
     let net = network_after (s P c.args.most answers file order) c.loop-made._made in
     let st : c.state.result ≡ standing_of (csp_of P) net = c.state.ensures.machine net i.far.stands i.ready.sound ∙ ap (λ (q : Contents). standing_of (csp_of q) net) (i.ready.problem ∙ i.same.problem) in
     wrote_all P c.args.most answers file order c.loop-made._made _ _ _ _ i.far _ out (ends_closed P c.args.most answers file order c.loop-made._made _ _ _ _ i.far c.state.result st c.in-Refuted.is)
@@ -31,10 +31,10 @@ returns-in-Refuted-clause-wrote g c = λ out.
 pub returns-in-Refuted-clause-stands : goal.returns-in-Refuted-clause-stands
 returns-in-Refuted-clause-stands g c =
     let i = c.loop-made.invariant in
-    let P = c.args.self.now.problem.now in
+    let P = c.args.self.now.model.problem.now in
     let answers = g.C.Choices.answers c.args.choices.now in
     let file = c.args.self.now.file.now in
-    let order = option_copied c.args.self.now.order in
+    let order = option_copied c.args.self.now.model.order in
     let net = network_after (s P c.args.most answers file order) c.loop-made._made in
     let st : c.state.result ≡ standing_of (csp_of P) net = c.state.ensures.machine net i.far.stands i.ready.sound ∙ ap (λ (q : Contents). standing_of (csp_of q) net) (i.ready.problem ∙ i.same.problem) in
     stands_last P c.args.most answers file order c.loop-made._made _ _ _ _ i.far (ends_closed P c.args.most answers file order c.loop-made._made _ _ _ _ i.far c.state.result st c.in-Refuted.is)
@@ -42,19 +42,19 @@ returns-in-Refuted-clause-stands g c =
 pub returns-in_default-clause-wrote : goal.returns-in_default-clause-wrote
 returns-in_default-clause-wrote g c = λ out.
     let i = c.loop-made.invariant in
-    let P = c.args.self.now.problem.now in
+    let P = c.args.self.now.model.problem.now in
     let answers = g.C.Choices.answers c.args.choices.now in
     let file = c.args.self.now.file.now in
-    let order = option_copied c.args.self.now.order in
+    let order = option_copied c.args.self.now.model.order in
     wrote_all P c.args.most answers file order c.loop-made._made _ _ _ _ i.far _ out (ends_spent P c.args.most answers file order c.loop-made._made _ _ _ _ i.far c.loop-made-test.true c.next.result c.next.ensures.first c.in_default.is)
 
 pub returns-in_default-clause-stands : goal.returns-in_default-clause-stands
 returns-in_default-clause-stands g c =
     let i = c.loop-made.invariant in
-    let P = c.args.self.now.problem.now in
+    let P = c.args.self.now.model.problem.now in
     let answers = g.C.Choices.answers c.args.choices.now in
     let file = c.args.self.now.file.now in
-    let order = option_copied c.args.self.now.order in
+    let order = option_copied c.args.self.now.model.order in
     stands_last P c.args.most answers file order c.loop-made._made _ _ _ _ i.far (ends_spent P c.args.most answers file order c.loop-made._made _ _ _ _ i.far c.loop-made-test.true c.next.result c.next.ensures.first c.in_default.is)
 
 pub deliver-requires-clause-can : goal.deliver-requires-clause-can
@@ -63,7 +63,7 @@ deliver-requires-clause-can g c =
     record {
       begun = i.ready.begun;
       open_ = sym c.state.ensures.standing ∙ c.in-Open.is;
-      few = few c.args.self.now.problem.now c.args.most (g.C.Choices.answers c.args.choices.now) c.args.self.now.file.now (option_copied c.args.self.now.order) c.loop-made._made _ _ _ _ i.far c.requires.most;
+      few = few c.args.self.now.model.problem.now c.args.most (g.C.Choices.answers c.args.choices.now) c.args.self.now.file.now (option_copied c.args.self.now.model.order) c.loop-made._made _ _ _ _ i.far c.requires.most;
     }
 
 pub deliver-requires-clause-on_run : goal.deliver-requires-clause-on_run
@@ -75,10 +75,10 @@ deliver-requires-clause-on_run g c =
 pub returns-in_err-deliver-clause-wrote : goal.returns-in_err-deliver-clause-wrote
 returns-in_err-deliver-clause-wrote g c = λ out.
     let i = c.loop-made.invariant in
-    let P = c.args.self.now.problem.now in
+    let P = c.args.self.now.model.problem.now in
     let answers = g.C.Choices.answers c.args.choices.now in
     let file = c.args.self.now.file.now in
-    let order = option_copied c.args.self.now.order in
+    let order = option_copied c.args.self.now.model.order in
     let net = network_after (s P c.args.most answers file order) c.loop-made._made in
     let at = i.ready.problem ∙ i.same.problem in
     let st : c.state.result ≡ standing_of (csp_of P) net = c.state.ensures.machine net i.far.stands i.ready.sound ∙ ap (λ (q : Contents). standing_of (csp_of q) net) at in
@@ -90,10 +90,10 @@ returns-in_err-deliver-clause-wrote g c = λ out.
 pub loop-made-preserved : goal.loop-made-preserved
 loop-made-preserved g c =
     let i = c.loop-made.invariant in
-    let P = c.args.self.now.problem.now in
+    let P = c.args.self.now.model.problem.now in
     let answers = g.C.Choices.answers c.args.choices.now in
     let file = c.args.self.now.file.now in
-    let order = option_copied c.args.self.now.order in
+    let order = option_copied c.args.self.now.model.order in
     let net = network_after (s P c.args.most answers file order) c.loop-made._made in
     let at = i.ready.problem ∙ i.same.problem in
     let st : c.state.result ≡ standing_of (csp_of P) net = c.state.ensures.machine net i.far.stands i.ready.sound ∙ ap (λ (q : Contents). standing_of (csp_of q) net) at in
@@ -113,17 +113,17 @@ loop-made-preserved g c =
 pub returns-clause-wrote : goal.returns-clause-wrote
 returns-clause-wrote g c = λ out.
     let i = c.loop-made.invariant in
-    let P = c.args.self.now.problem.now in
+    let P = c.args.self.now.model.problem.now in
     let answers = g.C.Choices.answers c.args.choices.now in
     let file = c.args.self.now.file.now in
-    let order = option_copied c.args.self.now.order in
+    let order = option_copied c.args.self.now.model.order in
     wrote_all P c.args.most answers file order c.loop-made._made _ _ _ _ i.far _ out (ends_capped P c.args.most answers file order c.loop-made._made _ _ _ _ i.far c.loop-made-test.false)
 
 pub returns-clause-stands : goal.returns-clause-stands
 returns-clause-stands g c =
     let i = c.loop-made.invariant in
-    let P = c.args.self.now.problem.now in
+    let P = c.args.self.now.model.problem.now in
     let answers = g.C.Choices.answers c.args.choices.now in
     let file = c.args.self.now.file.now in
-    let order = option_copied c.args.self.now.order in
+    let order = option_copied c.args.self.now.model.order in
     stands_last P c.args.most answers file order c.loop-made._made _ _ _ _ i.far (ends_capped P c.args.most answers file order c.loop-made._made _ _ _ _ i.far c.loop-made-test.false)

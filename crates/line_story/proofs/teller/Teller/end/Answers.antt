@@ -8,7 +8,7 @@ use Rattle.line_story.proofs.teller.Teller.end.Goals as goal
 
 pub returns : goal.returns
 returns g c = λ net out st.
-    let q = c.args.self.now.problem.now in
+    let q = c.args.self.now.model.problem.now in
     let stands : c.state.result ≡ standing_of (csp_of q) net = c.state.ensures.machine net st c.requires.ready.sound ∙ ap (λ (p : Contents). standing_of (csp_of p) net) c.requires.ready.problem in
     let text : c.bytes.result.now ≡ end_line c.state.result = search rules in
     wrote_as (ap (λ (t : List ℕ). Append c.args.self.now.file.now t ∷ []) (text ∙ ap end_line stands)) (c.append.ensures.wrote out)

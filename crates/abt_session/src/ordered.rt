@@ -1,9 +1,9 @@
-//! A model's problem and the order of its variables.
+//! A problem and the order of its variables.
 
 use dcsp_order::Order;
 use dcsp_problem::Problem;
 
-/// A model's problem, and the order of its variables under which it is run, where that is not the file's own.
+/// A problem, and the order of its variables under which it is run, where that is not the file's own.
 #[derive(Clone, Copy)]
 pub struct Ordered<'p> {
     pub problem: &'p Problem,

@@ -1,8 +1,8 @@
--- A model's problem and the order of its variables under which it is run.
+-- A problem and the order of its variables under which it is run.
 use Rattle.std.specs.Prelude.{ℕ, List, Option, option_copied}
 use Rattle.dcsp_problem.specs.WellFormed.{IsProblem}
 use Rattle.dcsp_order.specs.Told.{IsOrderFor}
-use Rattle.line_replay.specs.declared.ordered.Ordered.{Ordered}
+use Rattle.abt_session.specs.declared.ordered.Ordered.{Ordered}
 
 -- the order, where that is not the file's own
 abbrev pub order_in : Ordered → Option (List ℕ)
