@@ -1,5 +1,5 @@
 -- What a line that keeps to its plan comes to: a step for each read, for each thing found, and for the answer.
-use Rattle.std.proofs.Common.{◌≡◌, ℕ, List, [], ◌∷◌, Option, Some, None, Result, Ok, Err, refl, sym, subst, inl, inr}
+use Rattle.std.proofs.Common.{◌≡◌, ℕ, List, [], ◌∷◌, Option, Some, None, Result, Ok, Err, refl, subst, inl, inr}
 use Rattle.std.specs.Prelude.{IsErr, IsErrAnd}
 use Rattle.dcsp_outside.specs.Outside.{Place, Stream}
 use Rattle.dcsp_rule.specs.Problems.{Contents}

@@ -2,14 +2,14 @@
 use Rattle.std.specs.Prelude.{ℕ, ◌<◌, List, ◌++◌, length, decimal, codes, Result, Ok, Err}
 use Rattle.dcsp_script.specs.declared.stop.Stop.{Stop}
 use Rattle.dcsp_script.specs.declared.stop.Stop.TheVariants as stops
-use Rattle.fzn_model.specs.declared.model.ModelError.{ModelError}
-use Rattle.fzn_model.specs.declared.model.ModelError.TheVariants as errors
+use Rattle.fzn_token.specs.declared.refusal.ModelError.{ModelError}
+use Rattle.fzn_token.specs.declared.refusal.ModelError.TheVariants as errors
 use Rattle.dcsp_script.specs.declared.status.Status.{Status}
 use Rattle.dcsp_script.specs.declared.status.Status.TheVariants as statuses
 use Rattle.dcsp_script.specs.Runs.{Way, Answered, Refused, Stopped}
 use Rattle.cnf_front.specs.declared.header.CnfError.{CnfError}
 use Rattle.cnf_front.specs.declared.header.CnfError.TheVariants as cnf
-use Rattle.abt_input.specs.ModelTexts.{model_error_text}
+use Rattle.abt_input.specs.ModelTexts.{refusal_text}
 use Rattle.abt_input.specs.OrderErrors.{order_refusal_text}
 use Rattle.abt_input.specs.declared.order_error.OrderRefusal.TheVariants as orders
 use Rattle.abt_input.specs.ClausesErrors.{clauses_status, clauses_text}
@@ -25,8 +25,8 @@ stop_error stops.Memory = Memory
 
 -- the error of a command whose model's reader gives this error
 abbrev pub model_error : ModelError → CommandError
+model_error (errors.Refused refusal) = ModelRefused refusal
 model_error errors.Memory = Memory
-model_error error = ModelRefused error
 
 -- the error of a command whose formula's reader gives this error
 abbrev pub cnf_error : CnfError → CommandError
@@ -36,7 +36,7 @@ cnf_error error = Clauses (CnfRefused error)
 -- the status of an error
 abbrev pub error_status : CommandError → Status
 error_status ModelLong = statuses.Model
-error_status (ModelRefused error) = statuses.Model
+error_status (ModelRefused refusal) = statuses.Model
 error_status LogLong = statuses.Input
 error_status (LogLine number) = statuses.Input
 error_status ScheduleLong = statuses.Input
@@ -50,7 +50,7 @@ error_status Memory = statuses.Memory
 -- the line that says it
 abbrev pub error_text : CommandError → List ℕ
 error_text ModelLong = codes "abt: model: too long\n"
-error_text (ModelRefused error) = model_error_text error
+error_text (ModelRefused refusal) = refusal_text refusal
 error_text LogLong = codes "abt: log: too long\n"
 error_text (LogLine number) = codes "abt: log: line " ++ decimal number ++ codes "\n"
 error_text ScheduleLong = codes "abt: schedule: too long\n"
@@ -64,7 +64,7 @@ error_text Memory = codes "abt: memory\n"
 -- this error is why the model is refused
 abbrev pub IsErrorOfModel : List ℕ → CommandError → Type 0
 IsErrorOfModel model ModelLong = most_model < length model
-IsErrorOfModel model (ModelRefused error) = IsRefused model error
+IsErrorOfModel model (ModelRefused refusal) = IsRefused model refusal
 IsErrorOfModel model LogLong = ⊥
 IsErrorOfModel model (LogLine number) = ⊥
 IsErrorOfModel model ScheduleLong = ⊥
@@ -78,7 +78,7 @@ IsErrorOfModel model Memory = ⊥
 -- this error is why the log is refused
 abbrev pub IsErrorOfLog : List ℕ → CommandError → Type 0
 IsErrorOfLog log ModelLong = ⊥
-IsErrorOfLog log (ModelRefused error) = ⊥
+IsErrorOfLog log (ModelRefused refusal) = ⊥
 IsErrorOfLog log LogLong = most_log < length log
 IsErrorOfLog log (LogLine number) = IsBadAt log number
 IsErrorOfLog log ScheduleLong = ⊥
@@ -92,7 +92,7 @@ IsErrorOfLog log Memory = ⊥
 -- this error is why the schedule is refused
 abbrev pub IsErrorOfSchedule : List ℕ → CommandError → Type 0
 IsErrorOfSchedule schedule ModelLong = ⊥
-IsErrorOfSchedule schedule (ModelRefused error) = ⊥
+IsErrorOfSchedule schedule (ModelRefused refusal) = ⊥
 IsErrorOfSchedule schedule LogLong = ⊥
 IsErrorOfSchedule schedule (LogLine number) = ⊥
 IsErrorOfSchedule schedule ScheduleLong = most_schedule < length schedule

@@ -5,14 +5,14 @@ use Rattle.dcsp_defs.specs.declared.Step.{Step}
 use Rattle.dcsp_rule.specs.Problems.{Contents}
 use Rattle.ngd_log.specs.Logs.{IsLogOf, IsFirstBad}
 use Rattle.abt_schedule.specs.Schedules as schedules
-use Rattle.dcsp_problem.specs.declared.limits.Which.TheVariants.{Variables}
-use Rattle.dcsp_problem.specs.Limits.{most}
+use Rattle.dcsp_common.specs.declared.limits.Which.TheVariants.{Variables}
+use Rattle.dcsp_common.specs.Limits.{most}
 use Rattle.dcsp_order.specs.Texts as orders
 use Rattle.cnf_front.specs.Formulas as formulas
 use Rattle.cnf_front.specs.declared.header.CnfError.{CnfError}
 use Rattle.rup_check.specs.ProofText.{IsProofOf, IsFirstBadLine}
 use Rattle.fzn_model.specs.Models.{longest_text, Answers}
-use Rattle.fzn_model.specs.declared.model.ModelError.{ModelError}
+use Rattle.fzn_token.specs.declared.refusal.Refusal.{Refusal}
 
 -- the most bytes of a model
 abbrev pub most_model : ℕ
@@ -40,9 +40,9 @@ pub record IsModelOf (model : List ℕ) (problem : Contents) : Type 0 where
   pub reads : Answers model (Ok problem)
 
 -- the model is short enough, and this is why it has no problem
-pub record IsRefused (model : List ℕ) (error : ModelError) : Type 0 where
+pub record IsRefused (model : List ℕ) (refusal : Refusal) : Type 0 where
   pub short : length model ≤ most_model
-  pub reads : Answers model (Err error)
+  pub reads : Answers model (Err refusal)
 
 -- this is the derivation of the log
 pub record IsTextOf (log : List ℕ) (steps : List Step) : Type 0 where

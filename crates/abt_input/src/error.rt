@@ -5,11 +5,11 @@ ghost use Rattle.abt_input.specs.Errors.{cnf_error, model_error, stop_error, err
 
 use crate::clauses_error::{ClausesError, clauses_line, clauses_status};
 use crate::line::AnswerLine;
-use crate::model_text::model_error_line;
+use crate::model_text::refusal_line;
 use crate::order_error::{OrderRefusal, order_refusal_line};
 use cnf_front::CnfError;
 use dcsp_script::{Status, Stop};
-use fzn_model::ModelError;
+use fzn_model::{ModelError, Refusal};
 use std::alloc::AllocError;
 
 /// Why a command gave no answer.
@@ -17,8 +17,8 @@ use std::alloc::AllocError;
 pub enum CommandError {
     /// The model has more than 16,777,216 bytes.
     ModelLong,
-    /// The model has no problem, and this is why. It is never want of memory.
-    ModelRefused { error: ModelError },
+    /// The model has no problem, and this is why.
+    ModelRefused { refusal: Refusal },
     /// The model has a problem, and what it wants of a solution is at no variable, where a better value is asked for.
     NoAim,
     /// The log has more than 2^62 bytes.
@@ -75,7 +75,7 @@ pub(crate) fn model_error(error: ModelError) -> CommandError
 {
     match error {
         ModelError::Memory => CommandError::Memory,
-        refused => CommandError::ModelRefused { error: refused },
+        ModelError::Refused(refusal) => CommandError::ModelRefused { refusal },
     }
 }
 
@@ -116,7 +116,7 @@ pub fn error_line(error: CommandError) -> AnswerLine
 {
     match error {
         CommandError::ModelLong => AnswerLine::of(b"abt: model: too long\n"),
-        CommandError::ModelRefused { error } => model_error_line(error),
+        CommandError::ModelRefused { refusal } => refusal_line(refusal),
         CommandError::NoAim => AnswerLine::of(b"abt: model: no aim\n"),
         CommandError::LogLong => AnswerLine::of(b"abt: log: too long\n"),
         CommandError::LogLine { number } => AnswerLine::numbered(b"abt: log: line ", number),

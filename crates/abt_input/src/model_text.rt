@@ -1,36 +1,33 @@
 //! The lines that tell why a model has no problem.
 
 ghost use Rattle.std.specs.Prelude.{◌≡◌, ◌≤◌, ◌++◌, length, decimal, codes};
-ghost use Rattle.abt_input.specs.ModelTexts.{which_text, place_text, reached_text, limit_text, model_error_text};
+ghost use Rattle.abt_input.specs.ModelTexts.{which_text, place_text, reached_text, limit_text, refusal_text};
 
 use crate::line::AnswerLine;
-use fzn_model::{ModelError, Which};
+use fzn_model::{Refusal, Which};
 use itoa::Buffer;
 
 /// The line that tells why a model has no problem.
-pub(crate) fn model_error_line(error: ModelError) -> AnswerLine
-    ensures { result ≡ model_error_text error }
+pub(crate) fn refusal_line(refusal: Refusal) -> AnswerLine
+    ensures { result ≡ refusal_text refusal }
 {
-    match error {
-        ModelError::Lex { at } => placed(b"abt: model: bad byte at ", at),
-        ModelError::IntRange { at } => placed(b"abt: model: integer range at ", at),
-        ModelError::Syntax { at } => placed(b"abt: model: syntax at ", at),
-        ModelError::Misplaced { at } => placed(b"abt: model: misplaced at ", at),
-        ModelError::Duplicate { at } => placed(b"abt: model: duplicate at ", at),
-        ModelError::Undeclared { at } => placed(b"abt: model: undeclared at ", at),
-        ModelError::Unbounded { at } => placed(b"abt: model: unbounded at ", at),
-        ModelError::Unsupported { at } => placed(b"abt: model: unsupported at ", at),
-        ModelError::UnknownConstraint { at } => {
-            placed(b"abt: model: unknown constraint at ", at)
-        }
-        ModelError::IllTyped { at } => placed(b"abt: model: ill-typed at ", at),
-        ModelError::OutputShape { at } => placed(b"abt: model: output shape at ", at),
-        ModelError::WideSum { at } => placed(b"abt: model: wide sum at ", at),
-        ModelError::Limit { which, count, at } => {
+    match refusal {
+        Refusal::Lex { at } => placed(b"abt: model: bad byte at ", at),
+        Refusal::IntRange { at } => placed(b"abt: model: integer range at ", at),
+        Refusal::Syntax { at } => placed(b"abt: model: syntax at ", at),
+        Refusal::Misplaced { at } => placed(b"abt: model: misplaced at ", at),
+        Refusal::Duplicate { at } => placed(b"abt: model: duplicate at ", at),
+        Refusal::Undeclared { at } => placed(b"abt: model: undeclared at ", at),
+        Refusal::Unbounded { at } => placed(b"abt: model: unbounded at ", at),
+        Refusal::Unsupported { at } => placed(b"abt: model: unsupported at ", at),
+        Refusal::UnknownConstraint { at } => { placed(b"abt: model: unknown constraint at ", at) }
+        Refusal::IllTyped { at } => placed(b"abt: model: ill-typed at ", at),
+        Refusal::OutputShape { at } => placed(b"abt: model: output shape at ", at),
+        Refusal::WideSum { at } => placed(b"abt: model: wide sum at ", at),
+        Refusal::Limit { which, count, at } => {
             limit_line(b"abt: model: limit ", which, count, at)
         }
-        ModelError::NoSolve => AnswerLine::of(b"abt: model: no solve item\n"),
-        ModelError::Memory => AnswerLine::of(b"abt: memory\n"),
+        Refusal::NoSolve => AnswerLine::of(b"abt: model: no solve item\n"),
     }
 }
 

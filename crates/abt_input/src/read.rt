@@ -2,8 +2,8 @@
 
 ghost use Rattle.std.specs.Prelude.{◌≡◌, ◌≤◌, Err, IfOk, IfSome, All, length, option_copied};
 ghost use Rattle.dcsp_outside.specs.Outside.{Rose, SameCounts};
-ghost use Rattle.dcsp_problem.specs.declared.limits.Which.TheVariants.{Variables};
-ghost use Rattle.dcsp_problem.specs.Limits.{most};
+ghost use Rattle.dcsp_common.specs.declared.limits.Which.TheVariants.{Variables};
+ghost use Rattle.dcsp_common.specs.Limits.{most};
 ghost use Rattle.cnf_front.specs.Clauses.{IsClauseRule};
 ghost use Rattle.abt_input.specs.Kinds.{a_model, a_schedule, an_order, a_formula, a_proof};
 ghost use Rattle.abt_input.specs.Files.{HasOrderRead, HasRead, IsRead, UnlessUnread, any_log};

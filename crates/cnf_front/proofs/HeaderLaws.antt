@@ -7,7 +7,7 @@ use Rattle.cnf_front.specs.declared.header.Mark.{Mark}
 use Rattle.cnf_front.specs.declared.header.Mark.TheVariants.{P, Cnf, Clauses}
 use Rattle.cnf_front.specs.Dimacs.{TextWord, IsNextWord}
 use Rattle.std.proofs.lemmas.Bool.{le-leb}
-use Rattle.dcsp_problem.specs.declared.limits.Which.TheVariants.{Variables}
+use Rattle.dcsp_common.specs.declared.limits.Which.TheVariants.{Variables}
 use Rattle.dcsp_rule.specs.Problems.{Contents}
 use Rattle.cnf_front.specs.Formulas.{◌>>=◌, Gives, Clause, clauses_from, with_last, with_word, literal_in, is_end, passes, expect, within_limit, variables_at, number_of}
 

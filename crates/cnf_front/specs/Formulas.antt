@@ -4,7 +4,7 @@ use Rattle.std.specs.Str.{byte}
 use Rattle.std.specs.Char.{is_ascii_digit}
 use Rattle.dcsp_meaning.specs.declared.kinds.ConstraintKind.TheVariants.{BoolClause}
 use Rattle.dcsp_rule.specs.declared.aim.Aim.TheVariants.{Satisfy}
-use Rattle.dcsp_problem.specs.declared.limits.Which.TheVariants.{Variables}
+use Rattle.dcsp_common.specs.declared.limits.Which.TheVariants.{Variables}
 use Rattle.dcsp_problem.specs.declared.limits.BuildError.{BuildError}
 use Rattle.dcsp_problem.specs.declared.limits.BuildError.TheVariants as build
 use Rattle.dcsp_rule.specs.declared.rule.Term.{Term}
@@ -13,7 +13,8 @@ use Rattle.dcsp_rule.specs.declared.rule.Members.TheVariants.{Listed}
 use Rattle.dcsp_rule.specs.declared.rule.Rule.{Rule}
 use Rattle.dcsp_rule.specs.declared.rule.Rule.TheVariants.{Plain}
 use Rattle.dcsp_rule.specs.Problems.{Contents}
-use Rattle.dcsp_problem.specs.Limits.{rule_refusal, most}
+use Rattle.dcsp_common.specs.Limits.{most}
+use Rattle.dcsp_problem.specs.Limits.{rule_refusal}
 use Rattle.cnf_front.specs.declared.header.CnfError.{CnfError}
 use Rattle.cnf_front.specs.declared.header.CnfError.TheVariants.{Syntax, Limit, Memory}
 use Rattle.cnf_front.specs.declared.header.Mark.{Mark}

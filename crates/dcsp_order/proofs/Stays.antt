@@ -19,7 +19,7 @@ use Rattle.dcsp_rule.specs.declared.aim.Aim.TheVariants.{Satisfy, Least, Greates
 use Rattle.dcsp_rule.specs.Rules.{terms_of, listed_of, size_of, has_shape, IsTermOf, IsRuleOf, IsAimOf}
 use Rattle.dcsp_rule.specs.Widths.{greatest_among, greatest_of, rule_width}
 use Rattle.dcsp_rule.specs.Problems.{Contents, value_count, term_count}
-use Rattle.dcsp_problem.specs.declared.limits.Which.TheVariants.{Elements}
+use Rattle.dcsp_common.specs.declared.limits.Which.TheVariants.{Elements}
 use Rattle.dcsp_problem.specs.Limits.{first_past, list_counts}
 use Rattle.dcsp_problem.specs.Outputs.{IsOutputOf, IsShapeOf}
 use Rattle.dcsp_problem.specs.WellFormed.{IsProblem}

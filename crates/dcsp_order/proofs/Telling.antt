@@ -10,8 +10,8 @@ use Rattle.dcsp_defs.specs.declared.nogood.Pair.{Pair}
 use Rattle.dcsp_defs.specs.declared.Step.{Step}
 use Rattle.dcsp_defs.specs.Words.{In}
 use Rattle.ngd_log.specs.StepText.{IsInRange, IsRuleAlone, IsVariable}
-use Rattle.dcsp_problem.specs.declared.limits.Which.TheVariants.{Variables}
-use Rattle.dcsp_problem.specs.Limits.{most}
+use Rattle.dcsp_common.specs.declared.limits.Which.TheVariants.{Variables}
+use Rattle.dcsp_common.specs.Limits.{most}
 use Rattle.dcsp_order.specs.Orders.{number_at, IsOrder}
 use Rattle.dcsp_order.specs.Renumbered.{pairs_renumbered, step_renumbered}
 use Rattle.dcsp_rule.specs.Problems.{Contents}

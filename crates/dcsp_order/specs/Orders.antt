@@ -1,8 +1,8 @@
 -- Orders of a problem's variables: a list of their numbers, the first of which has the highest priority.
 use Rattle.std.specs.Prelude.{◌≡◌, ℕ, ◌+◌, ◌<◌, ◌≤◌, ◌==◌, List, [], ◌∷◌, length, slice_index_or, if◌then◌else◌}
 use Rattle.dcsp_defs.specs.Words.{In}
-use Rattle.dcsp_problem.specs.declared.limits.Which.TheVariants.{Variables}
-use Rattle.dcsp_problem.specs.Limits.{most}
+use Rattle.dcsp_common.specs.declared.limits.Which.TheVariants.{Variables}
+use Rattle.dcsp_common.specs.Limits.{most}
 
 -- the number at a place; past the list's end the place itself
 abbrev pub number_at : List ℕ → ℕ → ℕ

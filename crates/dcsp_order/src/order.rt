@@ -1,8 +1,8 @@
 //! An order, with the place of each number.
 
 ghost use Rattle.std.specs.Prelude.{◌≡◌, ◌<◌, ◌≤◌, length, IfOk};
-ghost use Rattle.dcsp_problem.specs.declared.limits.Which.TheVariants.{Variables};
-ghost use Rattle.dcsp_problem.specs.Limits.{most};
+ghost use Rattle.dcsp_common.specs.declared.limits.Which.TheVariants.{Variables};
+ghost use Rattle.dcsp_common.specs.Limits.{most};
 ghost use Rattle.dcsp_order.specs.Orders.{place_of, ArePlaces, IsOrder};
 
 use dcsp_common::Memory;

@@ -5,8 +5,8 @@
 
 ghost use Rattle.std.specs.Prelude.{◌≡◌, ◌≤◌, ◌<◌, ◌+◌, ◌++◌, ◌∷◌, [], ℕ, List, length, IfOk, IfErr, IfSome, IfNone, IsErrOf, OnOk, Ok, Err, vec_len};
 ghost use Rattle.dcsp_common.specs.Reading.{Reads};
-ghost use Rattle.dcsp_problem.specs.declared.limits.Which.TheVariants.{Variables};
-ghost use Rattle.dcsp_problem.specs.Limits.{most};
+ghost use Rattle.dcsp_common.specs.declared.limits.Which.TheVariants.{Variables};
+ghost use Rattle.dcsp_common.specs.Limits.{most};
 ghost use Rattle.dcsp_order.specs.Texts.{order_text, variable_at, variable_line, IsCause, IsFirstBad, IsTextOf, IsUnlessMemory, OneAnswer};
 ghost use Rattle.dcsp_order.specs.Taken.{AreTaken, Takes};
 

@@ -8,10 +8,10 @@ use Rattle.std.proofs.lemmas.List.Elements.{All-push, All-weaker}
 use Rattle.std.proofs.lemmas.List.Sums.{sum_by_push}
 use Rattle.dcsp_domain.specs.Sets.{IsDomain}
 use Rattle.dcsp_meaning.specs.declared.linear.TheConstants.{WIDEST}
-use Rattle.dcsp_problem.specs.declared.limits.Which.{Which}
+use Rattle.dcsp_common.specs.declared.limits.Which.{Which}
 use Rattle.dcsp_problem.specs.declared.limits.BuildError.{BuildError}
 use Rattle.dcsp_problem.specs.declared.limits.BuildError.TheVariants.{Limit, WideSum, Memory}
-use Rattle.dcsp_problem.specs.declared.limits.Which.TheVariants.{Variables, DomainValues, Rules, Terms}
+use Rattle.dcsp_common.specs.declared.limits.Which.TheVariants.{Variables, DomainValues, Rules, Terms}
 use Rattle.dcsp_rule.specs.declared.aim.Aim.{Aim}
 use Rattle.dcsp_rule.specs.declared.aim.Aim.TheVariants.{Satisfy, Least, Greatest}
 use Rattle.dcsp_rule.specs.declared.rule.Term.{Term}
@@ -22,7 +22,8 @@ use Rattle.dcsp_rule.specs.Rules.{terms_of, size_of, IsTermOf, IsRuleOf, IsAimOf
 use Rattle.dcsp_rule.specs.Widths.{rule_width}
 use Rattle.dcsp_problem.specs.Outputs.{IsOutputOf}
 use Rattle.dcsp_rule.specs.Problems.{Contents, term_count}
-use Rattle.dcsp_problem.specs.Limits.{most, first_past, limit_of, list_counts, rule_counts, rule_refusal, IsErrorOf}
+use Rattle.dcsp_common.specs.Limits.{most}
+use Rattle.dcsp_problem.specs.Limits.{first_past, limit_of, list_counts, rule_counts, rule_refusal, IsErrorOf}
 use Rattle.dcsp_problem.specs.Index.{IsTallied}
 use Rattle.dcsp_problem.proofs.WidthLaws.{narrow_with}
 

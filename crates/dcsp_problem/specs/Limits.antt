@@ -2,8 +2,9 @@
 use Rattle.std.specs.Prelude.{◌≡◌, ℕ, ◌+◌, ℤ, List, [], ◌∷◌, ◌++◌, length, find, nat_lt, Option, Some, None, Result, Ok, Err, if◌then◌else◌}
 use Rattle.std.specs.Option.{option_map}
 use Rattle.dcsp_meaning.specs.Sums.{widest}
-use Rattle.dcsp_problem.specs.declared.limits.Which.{Which}
-use Rattle.dcsp_problem.specs.declared.limits.Which.TheVariants.{DomainSize, Variables, DomainValues, Rules, Terms, Elements}
+use Rattle.dcsp_common.specs.declared.limits.Which.{Which}
+use Rattle.dcsp_common.specs.Limits.{most}
+use Rattle.dcsp_common.specs.declared.limits.Which.TheVariants.{Variables, DomainValues, Rules, Terms, Elements}
 use Rattle.dcsp_problem.specs.declared.limits.BuildError.{BuildError}
 use Rattle.dcsp_problem.specs.declared.limits.BuildError.TheVariants.{Limit, WideSum, Memory}
 use Rattle.dcsp_rule.specs.declared.rule.Rule.{Rule}
@@ -11,15 +12,6 @@ use Rattle.dcsp_rule.specs.declared.rule.Rule.TheVariants.{Plain, Sum}
 use Rattle.dcsp_rule.specs.Rules.{size_of}
 use Rattle.dcsp_rule.specs.Widths.{rule_width}
 use Rattle.dcsp_rule.specs.Problems.{Contents, value_count, term_count}
-
--- the greatest number that is allowed
-abbrev pub most : Which → ℕ
-most DomainSize = 65536
-most Variables = 4096
-most DomainValues = 1048576
-most Rules = 262144
-most Terms = 1048576
-most Elements = 65536
 
 -- the first of these counts that passes its greatest number
 abbrev pub first_past : List (Which × ℕ) → Option (Which × ℕ)

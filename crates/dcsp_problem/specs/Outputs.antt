@@ -4,9 +4,9 @@ use Rattle.dcsp_domain.specs.Ranges.{count_between}
 use Rattle.dcsp_rule.specs.declared.output.Output.{Output}
 use Rattle.dcsp_rule.specs.declared.output.Shape.{Shape}
 use Rattle.dcsp_rule.specs.declared.output.Shape.TheVariants.{One, Ranges}
-use Rattle.dcsp_problem.specs.declared.limits.Which.TheVariants.{Elements}
+use Rattle.dcsp_common.specs.declared.limits.Which.TheVariants.{Elements}
 use Rattle.dcsp_rule.specs.Rules.{IsTermOf}
-use Rattle.dcsp_problem.specs.Limits.{most}
+use Rattle.dcsp_common.specs.Limits.{most}
 
 -- the product of the ranges' sizes
 abbrev pub range_product : List (ℤ × ℤ) → ℕ

@@ -2,12 +2,13 @@
 use Rattle.std.specs.Prelude.{◌≡◌, ◌<◌, ◌≤◌, ◌^◌, None, length, All}
 use Rattle.dcsp_domain.specs.Sets.{IsDomain}
 use Rattle.dcsp_meaning.specs.Sums.{widest}
-use Rattle.dcsp_problem.specs.declared.limits.Which.TheVariants.{Variables, DomainValues, Rules, Terms}
+use Rattle.dcsp_common.specs.declared.limits.Which.TheVariants.{Variables, DomainValues, Rules, Terms}
 use Rattle.dcsp_rule.specs.Rules.{IsRuleOf, IsAimOf}
 use Rattle.dcsp_rule.specs.Widths.{rule_width}
 use Rattle.dcsp_problem.specs.Outputs.{IsOutputOf}
 use Rattle.dcsp_rule.specs.Problems.{Contents, value_count, term_count}
-use Rattle.dcsp_problem.specs.Limits.{most, first_past, list_counts}
+use Rattle.dcsp_common.specs.Limits.{most}
+use Rattle.dcsp_problem.specs.Limits.{first_past, list_counts}
 
 -- its domains are domains, its rules, outputs and aim are over its variables, no count passes its limit, and no sum is too wide
 pub record IsProblem (p : Contents) : Type 0 where

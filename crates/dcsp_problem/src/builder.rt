@@ -7,10 +7,10 @@ ghost use Rattle.dcsp_rule.specs.Rules.{IsTermOf, IsAimOf, terms_of, size_of, ha
 ghost use Rattle.dcsp_problem.specs.Outputs.{IsOutputOf};
 ghost use Rattle.dcsp_problem.specs.Limits.{first_past, list_counts, variable_refusal, rule_refusal, Refuses};
 
-use crate::limits::{BuildError, Which, within};
+use crate::limits::{BuildError, within};
 use crate::problem::Problem;
 use crate::widths::within_width;
-use dcsp_common::Memory;
+use dcsp_common::{Memory, Which};
 use dcsp_domain::Domain;
 use dcsp_rule::{Aim, MembersRef, Output, Rule, RuleRef, RuleTable};
 use std::alloc::Global;

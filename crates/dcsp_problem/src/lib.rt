@@ -14,11 +14,12 @@ mod table;
 mod widths;
 
 pub use builder::ProblemBuilder;
+pub use dcsp_common::Which;
 pub use dcsp_domain::{Domain, DomainError, IntList, Memory, RangeList};
 pub use dcsp_meaning::{ConstraintKind, Rel};
 pub use dcsp_rule::{
     Aim, BinaryRule, Lookup, Members, MembersRef, NameText, Output, Rule, RuleRef, RuleTable,
     Shape, Term, TermList,
 };
-pub use limits::{BuildError, Which};
+pub use limits::BuildError;
 pub use problem::Problem;

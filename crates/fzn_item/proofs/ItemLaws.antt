@@ -11,8 +11,9 @@ use Rattle.fzn_item.specs.declared.item.Item.{Item}
 use Rattle.fzn_item.specs.declared.item.Item.TheVariants as item
 use Rattle.fzn_item.specs.declared.item.Expr.{Expr}
 use Rattle.fzn_item.specs.declared.item.Marked.{Marked}
-use Rattle.fzn_item.specs.declared.item.ItemError.{ItemError}
-use Rattle.fzn_item.specs.declared.item.ItemError.TheVariants as errors
+use Rattle.fzn_token.specs.declared.refusal.Refusal.TheVariants as refusal
+use Rattle.fzn_token.specs.declared.refusal.ModelError.{ModelError}
+use Rattle.fzn_token.specs.declared.refusal.ModelError.TheVariants as errors
 use Rattle.fzn_item.specs.declared.item.Goal.{Goal}
 use Rattle.fzn_item.specs.declared.item.Goal.TheVariants as goals
 use Rattle.fzn_item.specs.declared.single.Stop.{Stop}
@@ -158,8 +159,9 @@ unread text ts is rest first tail same before fails = record {
 }
 
 -- where items are read and the next is refused, so are all
-pub next_refused : (text : List ℕ) (ts : List Token) (is : List Item) (rest : List Token) (e : ItemError) → AreItemsTo text ts is rest → GivesNext text rest (Err e) → Answers text ts (Err e)
-next_refused text ts is rest (errors.Syntax at) before next = subst (IsUnread text ts) (sym next.place) (unread text ts is rest next.first next.rest next.begins before next.fails)
+pub next_refused : (text : List ℕ) (ts : List Token) (is : List Item) (rest : List Token) (e : ModelError) → AreItemsTo text ts is rest → GivesNext text rest (Err e) → Answers text ts (Err e)
+next_refused text ts is rest (errors.Refused (refusal.Syntax at)) before next = subst (IsUnread text ts) (sym next.place) (unread text ts is rest next.first next.rest next.begins before next.fails)
+next_refused text ts is rest (errors.Refused _) before next = absurd next
 next_refused text ts is rest errors.Memory before next = tt
 
 -- the tokens so far have no `;`

@@ -10,8 +10,9 @@ use Rattle.fzn_item.specs.Productions.{Production, Gives, Nothing, ◌>>=◌, Is
 use Rattle.fzn_item.specs.Exprs.{IsExpr, IsLastExpr}
 use Rattle.fzn_item.specs.Marks.{AreAnnotations}
 use Rattle.fzn_item.specs.Declarations.{IsDeclaration, IsArray}
-use Rattle.fzn_item.specs.declared.item.ItemError.{ItemError}
-use Rattle.fzn_item.specs.declared.item.ItemError.TheVariants as errors
+use Rattle.fzn_token.specs.declared.refusal.Refusal.TheVariants as refusal
+use Rattle.fzn_token.specs.declared.refusal.ModelError.{ModelError}
+use Rattle.fzn_token.specs.declared.refusal.ModelError.TheVariants as errors
 use Rattle.fzn_item.specs.declared.item.Goal.{Goal}
 use Rattle.fzn_item.specs.declared.item.Goal.TheVariants as goals
 use Rattle.fzn_item.specs.declared.item.Item.{Item}
@@ -93,10 +94,11 @@ pub record IsUnread (text : List ℕ) (ts : List Token) (at : ℕ) : Type 0 wher
   pub fails : Fails (IsItem text) (first ∷ rest)
   pub place : at ≡ first.from
 
--- the answer for the tokens of a text: their items, or the first item that is not read
-abbrev pub Answers : List ℕ → List Token → Result (List Item) ItemError → Type 0
+-- the answer for the tokens of a text: their items, or the first item that is not read. Items are refused for nothing else
+abbrev pub Answers : List ℕ → List Token → Result (List Item) ModelError → Type 0
 Answers text ts (Ok is) = AreItemsTo text ts is []
-Answers text ts (Err (errors.Syntax at)) = IsUnread text ts at
+Answers text ts (Err (errors.Refused (refusal.Syntax at))) = IsUnread text ts at
+Answers text ts (Err (errors.Refused other)) = ⊥
 Answers text ts (Err errors.Memory) = Unit {0}
 
 -- no production reads the item that these tokens begin with, and its first token is at this place
@@ -108,15 +110,16 @@ pub record IsNextUnread (text : List ℕ) (ts : List Token) (at : ℕ) : Type 0 
   pub place : at ≡ first.from
 
 -- the next item of these tokens, and the tokens behind it; none where no token is left; or the place of an item that is not read
-abbrev pub GivesNext : List ℕ → List Token → Result (Option (Item × Bor (List Token))) ItemError → Type 0
+abbrev pub GivesNext : List ℕ → List Token → Result (Option (Item × Bor (List Token))) ModelError → Type 0
 GivesNext text ts (Ok (Some x)) = IsItem text ts x.0 x.1.now
 GivesNext text ts (Ok None) = ts ≡ []
-GivesNext text ts (Err (errors.Syntax at)) = IsNextUnread text ts at
+GivesNext text ts (Err (errors.Refused (refusal.Syntax at))) = IsNextUnread text ts at
+GivesNext text ts (Err (errors.Refused other)) = ⊥
 GivesNext text ts (Err errors.Memory) = Unit {0}
 
 -- two answers for one text are the same, want of memory aside
 abbrev pub HasOneAnswer : Type 0
-HasOneAnswer = (text : List ℕ) (ts : List Token) (a b : Result (List Item) ItemError) → Answers text ts a → Answers text ts b → (a ≡ Err errors.Memory → ⊥) → (b ≡ Err errors.Memory → ⊥) → a ≡ b
+HasOneAnswer = (text : List ℕ) (ts : List Token) (a b : Result (List Item) ModelError) → Answers text ts a → Answers text ts b → (a ≡ Err errors.Memory → ⊥) → (b ≡ Err errors.Memory → ⊥) → a ≡ b
 
 -- an item is the tokens up to the first `;` and with it: reading on is reading the pieces that are cut after each `;`
 abbrev pub ItemsEndAtSemicolons : Type 0

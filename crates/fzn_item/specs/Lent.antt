@@ -9,7 +9,7 @@ use Rattle.fzn_item.specs.Items.{IsItem, GivesNext}
 use Rattle.fzn_item.specs.declared.item.Expr.{Expr}
 use Rattle.fzn_item.specs.declared.item.Item.{Item}
 use Rattle.fzn_item.specs.declared.item.Item.TheVariants as item
-use Rattle.fzn_item.specs.declared.item.ItemError.{ItemError}
+use Rattle.fzn_token.specs.declared.refusal.ModelError.{ModelError}
 use Rattle.fzn_item.specs.declared.lent.LentArguments.{LentArguments}
 use Rattle.fzn_item.specs.declared.lent.LentConstraint.{LentConstraint}
 use Rattle.fzn_item.specs.declared.lent.LentItem.{LentItem}
@@ -50,7 +50,7 @@ ReadsAs S R ts (Err stop.Unread) = Fails R ts
 ReadsAs S R ts (Err stop.Memory) = Unit {0}
 
 -- the next item of these tokens, lent, and the tokens behind it; none where no token is left; or the place of an item that is not read
-abbrev pub GivesLent : List ℕ → List Token → Result (Option (LentItem × Bor (List Token))) ItemError → Type 0
+abbrev pub GivesLent : List ℕ → List Token → Result (Option (LentItem × Bor (List Token))) ModelError → Type 0
 GivesLent text ts (Ok (Some x)) = (i : Item) × IsItem text ts i x.1.now × StandsFor x.0 i
 GivesLent text ts (Ok None) = ts ≡ []
 GivesLent text ts (Err e) = GivesNext text ts (Err e)

@@ -1,6 +1,5 @@
-//! What items are, and why tokens have none.
+//! What items are.
 
-use dcsp_common::Memory;
 use dcsp_domain::{IntList, RangeList};
 
 /// A constant, a name, a range or a listed set. `at` is the place of its first byte.
@@ -116,23 +115,3 @@ pub enum Item {
 
 /// Items in the order of a text.
 pub type ItemList = dcsp_common::ItemList<Item>;
-
-/// Why tokens have no list of items.
-#[derive(Clone, Copy, Debug, PartialEq, Eq)]
-pub enum ItemError {
-    /// No production reads an item, and `at` is the first byte of the first such item.
-    Syntax { at: u32 },
-    /// Memory ran out.
-    Memory,
-}
-
-impl<T: Drop> From<(T, Memory)> for ItemError {
-    ghost use Rattle.std.specs.Prelude.{◌≡◌};
-    ghost use Rattle.fzn_item.specs.declared.item.ItemError.TheVariants as errors;
-
-    ghost from_gives = { λ _ e. e ≡ errors.Memory };
-
-    fn from(_: (T, Memory)) -> ItemError {
-        ItemError::Memory
-    }
-}

@@ -8,13 +8,13 @@ ghost use Rattle.fzn_item.specs.Exprs.{IsAtom, IsExpr};
 ghost use Rattle.fzn_item.specs.Items.{IsConstraint, ItemAfter};
 ghost use Rattle.fzn_item.specs.Lent.{ReadsAs, IsThatConstraint, StandsFor, GivesLent, IsLentExpr};
 
-use crate::item::{Atom, Expr, Item, ItemError};
+use crate::item::{Atom, Expr, Item};
 use crate::lists::{Form, skip_list};
 use crate::marking::annotations;
 use crate::reading::item_after;
 use crate::single::{Stop, one_of};
 use dcsp_common::Memory;
-use fzn_token::{Mark, Token, TokenKind, Word};
+use fzn_token::{Mark, ModelError, Refusal, Token, TokenKind, Word};
 use std::alloc::Global;
 
 /// The arguments of a constraint: so many expressions with commas between, and the `)` that closes them.
@@ -60,7 +60,7 @@ pub fn next_lent<'t>(
     alloc: Global,
     text: &[u8],
     tokens: &'t [Token],
-) -> Result<Option<(LentItem<'t>, &'t [Token])>, ItemError>
+) -> Result<Option<(LentItem<'t>, &'t [Token])>, ModelError>
     ensures gives { GivesLent text.now tokens.now result }
     ensures shorter { IfOk result (λ next. IfSome next (λ x. length x.1.now < length tokens.now)) }
 {
@@ -69,8 +69,8 @@ pub fn next_lent<'t>(
     };
     match lent_item(alloc, text, *first, rest) {
         Ok((item, rest)) => Ok(Some((item, rest))),
-        Err(Stop::Unread) => Err(ItemError::Syntax { at: first.from }),
-        Err(Stop::Memory) => Err(ItemError::Memory),
+        Err(Stop::Unread) => Err(ModelError::Refused(Refusal::Syntax { at: first.from })),
+        Err(Stop::Memory) => Err(ModelError::Memory),
     }
 }
 

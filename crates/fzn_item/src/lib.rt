@@ -18,7 +18,7 @@ mod single;
 
 pub use dcsp_common::Memory;
 pub use dcsp_domain::{IntList, RangeList};
-pub use item::{Atom, AtomList, Base, Expr, ExprList, Goal, Item, ItemError, ItemList, Marked};
+pub use item::{Atom, AtomList, Base, Expr, ExprList, Goal, Item, ItemList, Marked};
 pub use lent::{
     LentArguments, LentConstraint, LentExpr, LentItem, after_mark, next_atom, next_expr, next_lent,
 };

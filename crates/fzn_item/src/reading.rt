@@ -6,19 +6,19 @@ ghost use Rattle.fzn_item.specs.Items.{ToSemicolon, IsConstraint, GoalAfter, IsG
 
 use crate::declaration::{array, declaration};
 use crate::expr::last_expr;
-use crate::item::{Expr, Goal, Item, ItemError, ItemList};
+use crate::item::{Expr, Goal, Item, ItemList};
 use crate::lent::lent_constraint;
 use crate::lists::list_of;
 use crate::marking::annotations;
 use crate::single::{Stop, one_of};
-use fzn_token::{Mark, Token, TokenKind, TokenList, Word};
+use fzn_token::{Mark, ModelError, Refusal, Token, TokenKind, TokenList, Word};
 use std::alloc::Global;
 
 /// The items of the tokens of a text.
 ///
 /// The tokens are cut after each `;`, and each piece is read by one production. `Syntax` comes exactly where some item
 /// is read by none, a rest without `;` among them, and names the first byte of the first such item.
-pub fn items(alloc: Global, text: &[u8], tokens: &TokenList) -> Result<ItemList, ItemError>
+pub fn items(alloc: Global, text: &[u8], tokens: &TokenList) -> Result<ItemList, ModelError>
     ensures { Answers text.now tokens.now result }
 {
     let mut list = ItemList::new(alloc);
@@ -38,7 +38,7 @@ pub fn next_item<'t>(
     alloc: Global,
     text: &[u8],
     tokens: &'t [Token],
-) -> Result<Option<(Item, &'t [Token])>, ItemError>
+) -> Result<Option<(Item, &'t [Token])>, ModelError>
     ensures gives { GivesNext text.now tokens.now result }
     ensures shorter { IfOk result (λ next. IfSome next (λ x. length x.1.now < length tokens.now)) }
 {
@@ -47,8 +47,8 @@ pub fn next_item<'t>(
     };
     match read_item(alloc, text, tokens) {
         Ok((item, rest)) => Ok(Some((item, rest))),
-        Err(Stop::Unread) => Err(ItemError::Syntax { at: first.from }),
-        Err(Stop::Memory) => Err(ItemError::Memory),
+        Err(Stop::Unread) => Err(ModelError::Refused(Refusal::Syntax { at: first.from })),
+        Err(Stop::Memory) => Err(ModelError::Memory),
     }
 }
 

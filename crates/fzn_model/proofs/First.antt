@@ -1,20 +1,20 @@
 -- The first refusal, by the items in order.
 use Rattle.std.proofs.Common.{◌≡◌, ℕ, ◌⊎◌, inl, inr, Bool, true, false, List, [], ◌∷◌, ◌++◌, Result, Ok, Err, refl, ap}
 use Rattle.fzn_item.specs.declared.item.Item.{Item}
-use Rattle.fzn_model.specs.declared.refusal.ItemRefusal.{ItemRefusal}
-use Rattle.fzn_model.specs.declared.refusal.ItemRefusal.TheVariants as refusal
+use Rattle.fzn_token.specs.declared.refusal.Refusal.{Refusal}
+use Rattle.fzn_token.specs.declared.refusal.Refusal.TheVariants as refusal
 use Rattle.fzn_scope.specs.Checks.{◌>>=◌}
 use Rattle.fzn_model.specs.Declarations.{SoFar}
 use Rattle.fzn_model.specs.Items.{start, after, after_all, finished, resolved}
 use Rattle.fzn_model.specs.Laws.{RefusesFirst}
 
 -- a check that failed, or the next that did
-bind_err : {A B : Type 0} (x : Result A ItemRefusal) (f : A → Result B ItemRefusal) (r : ItemRefusal) → (x >>= f) ≡ Err r → (x ≡ Err r) ⊎ ((a : A) × (x ≡ Ok a) × (f a ≡ Err r))
+bind_err : {A B : Type 0} (x : Result A Refusal) (f : A → Result B Refusal) (r : Refusal) → (x >>= f) ≡ Err r → (x ≡ Err r) ⊎ ((a : A) × (x ≡ Ok a) × (f a ≡ Err r))
 bind_err (Ok a) f r e = inr (a, refl, e)
 bind_err (Err q) f r e = inl cc
 
 -- the first of these items that is refused, after some before
-pub record IsRefusedFrom (text : List ℕ) (s : SoFar) (items : List Item) (r : ItemRefusal) : Type 0 where
+pub record IsRefusedFrom (text : List ℕ) (s : SoFar) (items : List Item) (r : Refusal) : Type 0 where
   pub before : List Item
   pub item : Item
   pub rest : List Item
@@ -24,7 +24,7 @@ pub record IsRefusedFrom (text : List ℕ) (s : SoFar) (items : List Item) (r : 
   pub refused : after text reached item ≡ Err r
 
 -- a refusal of some items is that of one of them
-refused_from : (text : List ℕ) (s : SoFar) (items : List Item) (r : ItemRefusal) → after_all text s items ≡ Err r → IsRefusedFrom text s items r
+refused_from : (text : List ℕ) (s : SoFar) (items : List Item) (r : Refusal) → after_all text s items ≡ Err r → IsRefusedFrom text s items r
 refused_from text s [] r e = absurd cc
 refused_from text s (i ∷ rest) r e =
     elim (bind_err (after text s i) (λ next. after_all text next rest) r e) [
@@ -35,7 +35,7 @@ refused_from text s (i ∷ rest) r e =
     ]
 
 -- there is no solve item
-unsolved : (s : SoFar) (b : Bool) (r : ItemRefusal) → s.solved ≡ b → finished s ≡ Err r → (s.solved ≡ false) × (r ≡ refusal.NoSolve)
+unsolved : (s : SoFar) (b : Bool) (r : Refusal) → s.solved ≡ b → finished s ≡ Err r → (s.solved ≡ false) × (r ≡ refusal.NoSolve)
 unsolved s true r is e = absurd (let f : finished s ≡ Ok s.problem = rw is refl in cc)
 unsolved s false r is e = (is, (let f : finished s ≡ Err refusal.NoSolve = rw is refl in cc))
 

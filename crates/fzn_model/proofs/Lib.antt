@@ -1,6 +1,5 @@
 pub mod First
 pub mod Counts
-pub mod Meanings
 pub mod Once
 pub mod Sound
 pub mod Turns

@@ -1,30 +1,25 @@
 -- Items that are read and resolved one after another, and what they leave of the answer.
 use Rattle.std.proofs.Common.{◌≡◌, ℕ, ◌+◌, ◌≤◌, ◌<◌, inl, inr, List, [], ◌∷◌, ◌++◌, length, Result, Ok, Err, refl, sym, subst, ap, ◌∙◌, arith, append_assoc, append-nil, length-append}
 use Rattle.fzn_token.specs.declared.token.Token.{Token}
-use Rattle.fzn_token.specs.declared.token.LexError.{LexError}
-use Rattle.fzn_token.specs.declared.token.LexError.TheVariants as lexical
 use Rattle.fzn_token.specs.declared.reader.TokenReader.{TokenReader}
 use Rattle.fzn_token.specs.Tokens.{AreTokens}
 use Rattle.fzn_token.specs.Reading as lexing
 use Rattle.fzn_token.specs.Reading.{IsBehind, IsAtEnd, IsPiece, IsOpen, EndsPiece, ReadsOn, Refuses}
 use Rattle.fzn_token.proofs.Joining.{reads_all}
 use Rattle.fzn_item.specs.declared.item.Item.{Item}
-use Rattle.fzn_item.specs.declared.item.ItemError.{ItemError}
-use Rattle.fzn_item.specs.declared.item.ItemError.TheVariants as syntactic
 use Rattle.fzn_item.specs.Productions.{Fails}
 use Rattle.fzn_item.specs.Items.{ToSemicolon, IsItem, AreItemsTo, GivesNext}
 use Rattle.fzn_item.proofs.ItemLaws.{items_push}
 use Rattle.fzn_item.proofs.Endings.{items_end_law, items_stay_law, refusals_stay_law}
 use Rattle.dcsp_rule.specs.Problems.{Contents}
-use Rattle.fzn_model.specs.declared.refusal.ItemRefusal.{ItemRefusal}
-use Rattle.fzn_model.specs.declared.refusal.Stop.{Stop}
-use Rattle.fzn_model.specs.declared.refusal.Stop.TheVariants as stop
+use Rattle.fzn_token.specs.declared.refusal.Refusal.{Refusal}
+use Rattle.fzn_token.specs.declared.refusal.Refusal.TheVariants as refusal
+use Rattle.fzn_token.specs.declared.refusal.ModelError.{ModelError}
+use Rattle.fzn_token.specs.declared.refusal.ModelError.TheVariants as errors
 use Rattle.fzn_scope.specs.Checks.{◌>>=◌, Gives}
-use Rattle.fzn_model.specs.Checks.{refusal_of}
-use Rattle.fzn_model.specs.declared.model.ModelError.{ModelError}
 use Rattle.fzn_model.specs.Declarations.{SoFar}
 use Rattle.fzn_model.specs.Items.{start, after, after_all, finished, resolved}
-use Rattle.fzn_model.specs.Models.{longest_text, lexical_error, syntactic_error, error_of, stop_error, answer_of, AnswersOrLacks}
+use Rattle.fzn_model.specs.Models.{longest_text, Answers, AnswersOrLacks}
 use Rattle.fzn_model.specs.Reading.{problem_given, IsSoundGiven, prints, AreAllTaken, LeavesUnread}
 use Rattle.fzn_model.proofs.Counts.{tokens_so_far}
 
@@ -34,12 +29,12 @@ items_extend text ts [] rest more read = ap (λ x. x ++ more) read
 items_extend text ts (i ∷ is) rest more read = (read.0 ++ more, items_stay_law text ts i read.0 more read.1, items_extend text read.0 is rest more read.2)
 
 -- two checks in turn that agree
-bind_same : {A B C : Type 0} (x : Result A ItemRefusal) (f : A → Result C ItemRefusal) (g : A → Result B ItemRefusal) (h : B → Result C ItemRefusal) → ((a : A) → f a ≡ (g a >>= h)) → (x >>= f) ≡ ((x >>= g) >>= h)
+bind_same : {A B C : Type 0} (x : Result A Refusal) (f : A → Result C Refusal) (g : A → Result B Refusal) (h : B → Result C Refusal) → ((a : A) → f a ≡ (g a >>= h)) → (x >>= f) ≡ ((x >>= g) >>= h)
 bind_same (Ok a) f g h each = each a
 bind_same (Err e) f g h each = refl
 
 -- a check, and nothing behind it
-bind_last : {A : Type 0} (x : Result A ItemRefusal) → (x >>= Ok) ≡ x
+bind_last : {A : Type 0} (x : Result A Refusal) → (x >>= Ok) ≡ x
 bind_last (Ok a) = refl
 bind_last (Err e) = refl
 
@@ -49,7 +44,7 @@ after_push text s [] i = bind_last (after text s i)
 after_push text s (j ∷ is) i = bind_same (after text s j) _ (λ t. after_all text t is) (λ t. after text t i) (λ t. after_push text t is i)
 
 -- items were read and resolved, or refused, and the reader is behind their tokens. Each item has a token and prints at most one thing
-pub record IsTakenTo (text : List ℕ) (reader : TokenReader) (given : Result SoFar ItemRefusal) : Type 0 where
+pub record IsTakenTo (text : List ℕ) (reader : TokenReader) (given : Result SoFar Refusal) : Type 0 where
   pub tokens : List Token
   pub items : List Item
   pub behind : IsBehind text reader tokens
@@ -93,7 +88,7 @@ more_tokens : (ts us : List Token) → 1 ≤ length us → length ts + 1 ≤ len
 more_tokens ts us some = let both = length-append ts us in omega (arith, both, some)
 
 -- there is room for what one item more prints
-pub room_for_one : (text : List ℕ) (reader next : TokenReader) (given : Result SoFar ItemRefusal) (us : List Token) (i : Item) (rest : List Token) → IsTakenTo text reader given → ReadsOn reader us next → IsItem text us i rest → length text ≤ longest_text → prints given < longest_text
+pub room_for_one : (text : List ℕ) (reader next : TokenReader) (given : Result SoFar Refusal) (us : List Token) (i : Item) (rest : List Token) → IsTakenTo text reader given → ReadsOn reader us next → IsItem text us i rest → length text ≤ longest_text → prints given < longest_text
 room_for_one text reader next given us i rest so_far reads one short =
     let more = more_tokens so_far.tokens us (item_some text us i rest one) in
     let few = so_far.few in
@@ -101,7 +96,7 @@ room_for_one text reader next given us i rest so_far reads one short =
     omega (arith, more, few, within, short)
 
 -- one item more
-pub one_more : (text : List ℕ) (reader next : TokenReader) (given later : Result SoFar ItemRefusal) (us : List Token) (i : Item) (rest : List Token) → IsTakenTo text reader given → ReadsOn reader us next → EndsPiece next us → IsItem text us i rest
+pub one_more : (text : List ℕ) (reader next : TokenReader) (given later : Result SoFar Refusal) (us : List Token) (i : Item) (rest : List Token) → IsTakenTo text reader given → ReadsOn reader us next → EndsPiece next us → IsItem text us i rest
     → later ≡ (given >>= (λ s. after text s i)) → IsSoundGiven later → prints later ≤ prints given + 1 → IsTakenTo text next later
 one_more text reader next given later us i rest so_far reads ends one taken sound few = record {
   tokens = so_far.tokens ++ us;
@@ -114,26 +109,25 @@ one_more text reader next given later us i rest so_far reads ends one taken soun
 }
 
 -- a text that is refused for its tokens
-lexically_refused : (text : List ℕ) (e : LexError) → lexing.Answers text (Err e) → AnswersOrLacks text (Err (lexical_error e))
-lexically_refused text (lexical.Bad at) h = inr (inl (at, inl (refl, h)))
-lexically_refused text (lexical.IntRange at) h = inr (inl (at, inr (refl, h)))
-lexically_refused text lexical.Memory h = inl refl
+lexically_refused : (text : List ℕ) (e : ModelError) → lexing.Answers text (Err e) → AnswersOrLacks text (Err e)
+lexically_refused text (errors.Refused refusal) h = inl (refusal, refl, h)
+lexically_refused text errors.Memory h = tt
 
 -- the next tokens are refused
-pub next_refused : (text : List ℕ) (reader : TokenReader) (given : Result SoFar ItemRefusal) (e : LexError) → IsTakenTo text reader given → Refuses reader e → AnswersOrLacks text (Err (lexical_error e))
+pub next_refused : (text : List ℕ) (reader : TokenReader) (given : Result SoFar Refusal) (e : ModelError) → IsTakenTo text reader given → Refuses reader e → AnswersOrLacks text (Err e)
 next_refused text reader given e so_far refuses = lexically_refused text e (refuses text so_far.tokens so_far.behind)
 
 -- the next item is read by no production
-pub next_unread : (text : List ℕ) (reader next : TokenReader) (given : Result SoFar ItemRefusal) (us : List Token) (error : ItemError) (e : ModelError) → IsTakenTo text reader given → ReadsOn reader us next → EndsPiece next us
+pub next_unread : (text : List ℕ) (reader next : TokenReader) (given : Result SoFar Refusal) (us : List Token) (error e : ModelError) → IsTakenTo text reader given → ReadsOn reader us next → EndsPiece next us
     → GivesNext text us (Err error) → LeavesUnread next error e → AnswersOrLacks text (Err e)
 next_unread text reader next given us error e so_far reads ends unread leaves = elim leaves [
-  | inl refused ↦ subst (λ x. AnswersOrLacks text (Err x)) (sym refused.2) (lexically_refused text refused.0 (refused.1 text (so_far.tokens ++ us) (reads text so_far.tokens so_far.behind)))
+  | inl refused ↦ lexically_refused text e (refused text (so_far.tokens ++ us) (reads text so_far.tokens so_far.behind))
   | inr rest ↦ subst (λ x. AnswersOrLacks text (Err x)) (sym rest.1) (by_error error unread rest.0.0 (rest.0.1 text (so_far.tokens ++ us) (reads text so_far.tokens so_far.behind)))
 ] where
   -- by what the item is refused for, where these tokens are left
-  by_error : (error : ItemError) → GivesNext text us (Err error) → (left : List Token) → AreTokens text ((so_far.tokens ++ us) ++ left) → AnswersOrLacks text (Err (syntactic_error error))
-  by_error syntactic.Memory unread left lexed = inl refl
-  by_error (syntactic.Syntax at) unread left lexed = inr (inr (inl (elim ends [
+  by_error : (error : ModelError) → GivesNext text us (Err error) → (left : List Token) → AreTokens text ((so_far.tokens ++ us) ++ left) → AnswersOrLacks text (Err error)
+  by_error errors.Memory unread left lexed = tt
+  by_error (errors.Refused (refusal.Syntax at)) unread left lexed = inr (inl (elim ends [
     | inl piece ↦ record {
       tokens = (so_far.tokens ++ us) ++ left;
       at = at;
@@ -162,17 +156,18 @@ next_unread text reader next given us error e so_far reads ends unread leaves = 
       };
       result_is = refl;
     }
-  ])))
+  ]))
+  by_error (errors.Refused _) unread left lexed = absurd unread
 
 -- no token is left
-last_piece : (text : List ℕ) (reader next : TokenReader) (given : Result SoFar ItemRefusal) (us : List Token) (so_far : IsTakenTo text reader given) → ReadsOn reader us next → EndsPiece next us → us ≡ [] → AreTokens text so_far.tokens
+last_piece : (text : List ℕ) (reader next : TokenReader) (given : Result SoFar Refusal) (us : List Token) (so_far : IsTakenTo text reader given) → ReadsOn reader us next → EndsPiece next us → us ≡ [] → AreTokens text so_far.tokens
 last_piece text reader next given us so_far reads ends none = elim (subst (EndsPiece next) none ends) [
   | inl piece ↦ absurd piece
   | inr last ↦ subst (AreTokens text) (append-nil so_far.tokens) (reads_all reader [] next (subst (λ x. ReadsOn reader x next) none reads) last.1 text so_far.tokens so_far.behind)
 ]
 
 -- all items are taken
-pub all_taken : (text : List ℕ) (reader next : TokenReader) (given : Result SoFar ItemRefusal) (us : List Token) → IsTakenTo text reader given → ReadsOn reader us next → EndsPiece next us → us ≡ [] → AreAllTaken text given
+pub all_taken : (text : List ℕ) (reader next : TokenReader) (given : Result SoFar Refusal) (us : List Token) → IsTakenTo text reader given → ReadsOn reader us next → EndsPiece next us → us ≡ [] → AreAllTaken text given
 all_taken text reader next given us so_far reads ends none = record {
   tokens = so_far.tokens;
   items = so_far.items;
@@ -182,21 +177,18 @@ all_taken text reader next given us so_far reads ends none = record {
 }
 
 -- what all items gave is their answer
-answered : (text : List ℕ) (given : Result SoFar ItemRefusal) (result : Result Contents ModelError) → AreAllTaken text given → result ≡ answer_of (problem_given given) → AnswersOrLacks text result
+answered : (text : List ℕ) (given : Result SoFar Refusal) (result : Result Contents Refusal) → AreAllTaken text given → problem_given given ≡ result → Answers text result
 unfolding resolved
-answered text given result all is = inr (inr (inr (record {
+answered text given result all is = inr (inr (record {
   tokens = all.tokens;
   items = all.items;
   lexed = all.lexed;
   read = all.read;
-  result_is = is ∙ ap (λ x. answer_of (x >>= finished)) (sym all.resolved);
-})))
+  result_is = sym is ∙ ap (λ x. x >>= finished) (sym all.resolved);
+}))
 
--- the problem of all items
-pub finished_ok : (text : List ℕ) (given : Result SoFar ItemRefusal) (problem : Contents) → AreAllTaken text given → Gives refusal_of (Ok problem) (problem_given given) → AnswersOrLacks text (Ok problem)
-finished_ok text given problem all is = answered text given (Ok problem) all (ap answer_of (sym is))
-
--- there is no problem of all items
-pub finished_err : (text : List ℕ) (given : Result SoFar ItemRefusal) (e : Stop) → AreAllTaken text given → Gives {X = Contents} refusal_of (Err e) (problem_given given) → AnswersOrLacks text (Err (stop_error e))
-finished_err text given (stop.Refused refusal) all is = answered text given (Err (error_of refusal)) all (ap answer_of (sym is))
-finished_err text given stop.Memory all is = inl refl
+-- what a call makes of what all items gave is the answer
+pub finished_as : (text : List ℕ) (given : Result SoFar Refusal) (result : Result Contents ModelError) → AreAllTaken text given → Gives result (problem_given given) → AnswersOrLacks text result
+finished_as text given (Ok problem) all is = answered text given (Ok problem) all is
+finished_as text given (Err (errors.Refused refusal)) all is = answered text given (Err refusal) all is
+finished_as text given (Err errors.Memory) all is = tt

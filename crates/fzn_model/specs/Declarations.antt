@@ -17,17 +17,16 @@ use Rattle.dcsp_rule.specs.declared.rule.Members.TheVariants as members
 use Rattle.dcsp_rule.specs.declared.rule.Rule.TheVariants.{Plain}
 use Rattle.dcsp_rule.specs.declared.output.Output.{Output}
 use Rattle.dcsp_rule.specs.declared.output.Shape.TheVariants as shape
-use Rattle.dcsp_problem.specs.declared.limits.Which.{Which}
-use Rattle.dcsp_problem.specs.declared.limits.Which.TheVariants as which
-use Rattle.dcsp_problem.specs.Limits.{most}
+use Rattle.dcsp_common.specs.declared.limits.Which.{Which}
+use Rattle.dcsp_common.specs.declared.limits.Which.TheVariants as which
+use Rattle.dcsp_common.specs.Limits.{most}
 use Rattle.dcsp_problem.specs.Outputs.{range_product}
 use Rattle.dcsp_rule.specs.Problems.{Contents}
 use Rattle.fzn_scope.specs.declared.names.Declared.{Declared}
 use Rattle.fzn_scope.specs.declared.names.Declared.TheVariants as declared
-use Rattle.fzn_model.specs.declared.refusal.ItemRefusal.{ItemRefusal}
-use Rattle.fzn_model.specs.declared.refusal.ItemRefusal.TheVariants as refusal
+use Rattle.fzn_token.specs.declared.refusal.Refusal.{Refusal}
+use Rattle.fzn_token.specs.declared.refusal.Refusal.TheVariants as refusal
 use Rattle.fzn_scope.specs.Checks.{◌>>=◌, refused_if}
-use Rattle.fzn_model.specs.Checks.{as_check, ill_typed}
 use Rattle.fzn_scope.specs.Names.{Scope, declared_as}
 use Rattle.fzn_scope.specs.Places.{one_of, list_of, count_of, set_of}
 use Rattle.fzn_model.specs.Building.{with_variable, with_rule, with_output}
@@ -44,7 +43,7 @@ abbrev pub named : SoFar → Contents → List ℕ → Declared → SoFar
 named s problem name meant = record s { problem = problem; scope = s.scope ++ (name, meant) ∷ [] }
 
 -- a count at a place that is at most its limit
-abbrev pub within : Which → ℕ → ℕ → Result (Unit {0}) ItemRefusal
+abbrev pub within : Which → ℕ → ℕ → Result (Unit {0}) Refusal
 within which count at = refused_if (nat_lt (most which) count) (refusal.Limit which count at)
 
 -- a declaration stands before the constraints and the solve item
@@ -52,7 +51,7 @@ abbrev pub is_late : SoFar → Bool
 is_late s = s.solved || s.constrained
 
 -- what is checked of every declaration, first: where it stands, and that its name is new
-abbrev pub declaration : SoFar → ℕ → ℕ → List ℕ → Result (Unit {0}) ItemRefusal
+abbrev pub declaration : SoFar → ℕ → ℕ → List ℕ → Result (Unit {0}) Refusal
 declaration s at name_at name = do
   _ ← refused_if (is_late s) (refusal.Misplaced at)
   refused_if (is_some (declared_as s.scope name)) (refusal.Duplicate name_at)
@@ -67,31 +66,31 @@ is_boolean (base.Range low high) = false
 is_boolean (base.Listed values) = false
 
 -- a right side that there must be
-abbrev pub right_side : ℕ → Option Expr → Result Expr ItemRefusal
-right_side at None = Err (ill_typed at)
+abbrev pub right_side : ℕ → Option Expr → Result Expr Refusal
+right_side at None = Err (refusal.IllTyped at)
 right_side at (Some expr) = Ok expr
 
 -- ---- parameters
 
 -- the constant of a right side
-abbrev pub constant : List ℕ → Scope → Bool → Expr → Result Declared ItemRefusal
+abbrev pub constant : List ℕ → Scope → Bool → Expr → Result Declared Refusal
 constant text scope boolean expr = do
-  term ← as_check (one_of text scope (record { boolean = boolean; constant = true }) expr)
+  term ← one_of text scope (record { boolean = boolean; constant = true }) expr
   Ok (declared.One boolean term)
 
 -- a parameter's value: a constant, or a set
-abbrev pub value_of : List ℕ → Scope → ℕ → Base → Expr → Result Declared ItemRefusal
+abbrev pub value_of : List ℕ → Scope → ℕ → Base → Expr → Result Declared Refusal
 value_of text scope at base.Bool expr = constant text scope true expr
 value_of text scope at base.Int expr = constant text scope false expr
 value_of text scope at (base.Range low high) expr = constant text scope false expr
 value_of text scope at (base.Listed values) expr = constant text scope false expr
 value_of text scope at base.Float expr = Err (refusal.Unsupported at)
 value_of text scope at base.Set expr = do
-  set ← as_check (set_of text scope expr)
+  set ← set_of text scope expr
   Ok (declared.Set set)
 
 -- a parameter adds its name
-unfoldable pub parameter : List ℕ → SoFar → ℕ → Base → ℕ → List ℕ → Option Expr → Result SoFar ItemRefusal
+unfoldable pub parameter : List ℕ → SoFar → ℕ → Base → ℕ → List ℕ → Option Expr → Result SoFar Refusal
 parameter text s at base name_at name right = do
   expr ← right_side name_at right
   value ← value_of text s.scope at base expr
@@ -100,7 +99,7 @@ parameter text s at base name_at name right = do
 -- ---- variables
 
 -- the domain of a variable. `var int` has no bounds, and floats and sets are no domains
-abbrev pub domain_of : ℕ → Base → Result (List ℤ) ItemRefusal
+abbrev pub domain_of : ℕ → Base → Result (List ℤ) Refusal
 domain_of at base.Bool = Ok (pos 0 ∷ pos 1 ∷ [])
 domain_of at base.Int = Err (refusal.Unbounded at)
 domain_of at base.Float = Err (refusal.Unsupported at)
@@ -113,10 +112,10 @@ domain_of at (base.Listed values) = do
   Ok (values_of values)
 
 -- what a variable is equal to, if it has a right side
-abbrev pub source_of : List ℕ → Scope → Bool → Option Expr → Result (Option Term) ItemRefusal
+abbrev pub source_of : List ℕ → Scope → Bool → Option Expr → Result (Option Term) Refusal
 source_of text scope boolean None = Ok None
 source_of text scope boolean (Some expr) = do
-  term ← as_check (one_of text scope (record { boolean = boolean; constant = false }) expr)
+  term ← one_of text scope (record { boolean = boolean; constant = false }) expr
   Ok (Some term)
 
 -- equality of integers or of Booleans
@@ -125,7 +124,7 @@ equality true = BoolEq
 equality false = IntEq
 
 -- a variable is equal to its right side, if it has one
-abbrev pub with_source : ℕ → Contents → Bool → ℕ → Option Term → Result Contents ItemRefusal
+abbrev pub with_source : ℕ → Contents → Bool → ℕ → Option Term → Result Contents Refusal
 with_source at problem boolean number None = Ok problem
 with_source at problem boolean number (Some source) =
     with_rule at problem (Plain (equality boolean) (Var number ∷ source ∷ []) [] [] (members.Listed []))
@@ -138,7 +137,7 @@ variable_output name boolean number (marked.Ranges ranges) = None
 variable_output name boolean number marked.Wrong = None
 
 -- a variable adds itself, the rule that it is equal to its right side, what is printed, and its name
-unfoldable pub variable : List ℕ → SoFar → ℕ → Base → ℕ → List ℕ → Marked → Option Expr → Result SoFar ItemRefusal
+unfoldable pub variable : List ℕ → SoFar → ℕ → Base → ℕ → List ℕ → Marked → Option Expr → Result SoFar Refusal
 variable text s at base name_at name marked right = do
   domain ← domain_of at base
   source ← source_of text s.scope (is_boolean base) right
@@ -149,7 +148,7 @@ variable text s at base name_at name marked right = do
 -- ---- arrays
 
 -- floats and sets are no elements of arrays
-abbrev pub check_element : ℕ → Base → Result (Unit {0}) ItemRefusal
+abbrev pub check_element : ℕ → Base → Result (Unit {0}) Refusal
 check_element at base.Bool = Ok tt
 check_element at base.Int = Ok tt
 check_element at base.Float = Err (refusal.Unsupported at)
@@ -178,19 +177,19 @@ is_shaped marked.Wrong count = false
 is_shaped (marked.Ranges ranges) count = nat_le 1 (length ranges) && nat_le (length ranges) 6 && (range_product ranges == count)
 
 -- a term is in the set, if there is one
-abbrev pub with_member : ℕ → Contents → Option Members → Term → Result Contents ItemRefusal
+abbrev pub with_member : ℕ → Contents → Option Members → Term → Result Contents Refusal
 with_member at problem None term = Ok problem
 with_member at problem (Some set) term = with_rule at problem (Plain SetIn (term ∷ []) [] [] set)
 
 -- each of these terms is
-abbrev pub with_members : ℕ → Contents → Option Members → List Term → Result Contents ItemRefusal
+abbrev pub with_members : ℕ → Contents → Option Members → List Term → Result Contents Refusal
 with_members at problem set [] = Ok problem
 with_members at problem set (term ∷ terms) = do
   next ← with_member at problem set term
   with_members at next set terms
 
 -- each element is, where the array is of variables
-abbrev pub with_set : Bool → ℕ → Contents → Option Members → List Term → Result Contents ItemRefusal
+abbrev pub with_set : Bool → ℕ → Contents → Option Members → List Term → Result Contents Refusal
 with_set variable at problem set terms = if variable then with_members at problem set terms else Ok problem
 
 -- what is printed for an array of variables: its elements, where it is marked by `output_array`
@@ -202,14 +201,14 @@ array_output name variable boolean (marked.Ranges ranges) terms =
     if variable then Some (record { name = name; boolean = boolean; shape = shape.Ranges ranges; terms = terms }) else None
 
 -- the elements of an array: a list or the name of an array, as many as the index says, each of the element type
-unfoldable pub elements : List ℕ → Scope → Bool → Base → ℤ × ℤ → ℕ → Expr → Result (List Term) ItemRefusal
+unfoldable pub elements : List ℕ → Scope → Bool → Base → ℤ × ℤ → ℕ → Expr → Result (List Term) Refusal
 elements text scope variable base index name_at expr = do
-  count ← as_check (count_of text scope expr)
-  _ ← refused_if (not (is_index index count)) (ill_typed name_at)
-  as_check (list_of text scope (record { boolean = is_boolean base; constant = not variable }) expr)
+  count ← count_of text scope expr
+  _ ← refused_if (not (is_index index count)) (refusal.IllTyped name_at)
+  list_of text scope (record { boolean = is_boolean base; constant = not variable }) expr
 
 -- an array adds a rule for each element whose type is a set, what is printed, and its name
-unfoldable pub array : List ℕ → SoFar → ℕ → Bool → ℤ × ℤ → Base → ℕ → List ℕ → Marked → Option Expr → Result SoFar ItemRefusal
+unfoldable pub array : List ℕ → SoFar → ℕ → Bool → ℤ × ℤ → Base → ℕ → List ℕ → Marked → Option Expr → Result SoFar Refusal
 array text s at variable index base name_at name marked right = do
   _ ← check_element at base
   expr ← right_side name_at right

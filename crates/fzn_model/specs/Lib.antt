@@ -1,4 +1,3 @@
-pub mod Checks
 pub mod Building
 pub mod Declarations
 pub mod Items

@@ -4,38 +4,37 @@ ghost use Rattle.std.specs.Prelude.{◌≡◌, ℕ, ◌≤◌, length, All, OnOk
 ghost use Rattle.std.specs.Option.{option_map};
 ghost use Rattle.dcsp_rule.specs.Lent.{lent_members};
 ghost use Rattle.dcsp_rule.specs.Rules.{IsTermOf};
-ghost use Rattle.dcsp_problem.specs.Limits.{most};
-ghost use Rattle.fzn_scope.specs.Checks.{Gives};
-ghost use Rattle.fzn_model.specs.Checks.{refusal_of};
+ghost use Rattle.dcsp_common.specs.Limits.{most};
+ghost use Rattle.fzn_scope.specs.Checks.{Gives, Leaves};
 ghost use Rattle.fzn_scope.specs.Known.{AreKnown};
 ghost use Rattle.fzn_model.specs.Building.{with_rule};
 ghost use Rattle.fzn_model.specs.Declarations.{check_element, element_set, is_index, within, with_member, with_set};
-ghost use Rattle.fzn_model.specs.Reading.{Leaves, elements_by};
+ghost use Rattle.fzn_model.specs.Reading.{elements_by};
 
 use crate::building::add_rule;
 use crate::declaration::{Declaration, is_boolean};
-use crate::refusal::{ItemRefusal, Stop, ill_typed};
 use dcsp_problem::{ConstraintKind, MembersRef, ProblemBuilder, RuleRef, Term, TermList, Which};
 use fzn_item::{Base, Expr};
 use fzn_scope::{Context, Wanted};
+use fzn_token::{ModelError, Refusal};
 
 /// Refuses arrays of floats and of sets.
-pub(crate) fn check_element(at: u32, base: &Base) -> Result<(), ItemRefusal>
+pub(crate) fn check_element(at: u32, base: &Base) -> Result<(), Refusal>
     ensures { result ≡ check_element at base.now }
 {
     match base {
-        Base::Float | Base::Set => Err(ItemRefusal::Unsupported { at }),
+        Base::Float | Base::Set => Err(Refusal::Unsupported { at }),
         Base::Bool | Base::Int | Base::Range { .. } | Base::Listed(_) => Ok(()),
     }
 }
 
 /// Refuses a count above its limit.
-pub(crate) fn within(which: Which, count: usize, at: u32) -> Result<(), ItemRefusal>
+pub(crate) fn within(which: Which, count: usize, at: u32) -> Result<(), Refusal>
     ensures is { result ≡ within which count at }
     ensures few { OnOk result (count ≤ most which) }
 {
     if count > which.most() {
-        return Err(ItemRefusal::Limit {
+        return Err(Refusal::Limit {
             which,
             count: count as u128,
             at,
@@ -58,19 +57,21 @@ pub(crate) fn elements(
     declaration: Declaration<'_, '_>,
     index: (i64, i64),
     right: &Expr,
-) -> Result<TermList, Stop>
-    ensures gives { Gives refusal_of result (elements_by context.entry.text.now context.entry.names.now declaration.entry index right.now) }
+) -> Result<TermList, ModelError>
+    ensures gives { Gives result (elements_by context.entry.text.now context.entry.names.now declaration.entry index right.now) }
     ensures known { IfOk result (λ terms. (variables : ℕ) → AreKnown variables context.entry.names.now → All (IsTermOf variables) terms) }
 {
     let count = context.count_of(right)?;
     if !is_index(index, count) {
-        return Err(Stop::from(ill_typed(declaration.name_at)));
+        return Err(ModelError::Refused(Refusal::IllTyped {
+            at: declaration.name_at,
+        }));
     }
     let wanted = Wanted {
         boolean: is_boolean(declaration.base),
         constant: !declaration.variable,
     };
-    Ok(context.list_of(wanted, right)?)
+    context.list_of(wanted, right)
 }
 
 /// The set that elements are in, if the element type says one.
@@ -92,7 +93,7 @@ fn add_member(
     builder: &mut ProblemBuilder,
     declaration: Declaration<'_, '_>,
     term: Term,
-) -> Result<(), Stop>
+) -> Result<(), ModelError>
     requires { IsTermOf (length builder.old.domains) term }
     ensures added { Leaves builder.new result (with_member declaration.entry.name_at builder.old (element_set declaration.entry.base.now) term) }
     ensures domains { OnOk result (builder.new.domains ≡ builder.old.domains) }
@@ -116,7 +117,7 @@ pub(crate) fn add_members(
     builder: &mut ProblemBuilder,
     declaration: Declaration<'_, '_>,
     terms: &[Term],
-) -> Result<(), Stop>
+) -> Result<(), ModelError>
     requires { All (IsTermOf (length builder.old.domains)) terms.now }
     ensures added { Leaves builder.new result (with_set declaration.entry.variable declaration.entry.name_at builder.old (element_set declaration.entry.base.now) terms.now) }
     ensures domains { OnOk result (builder.new.domains ≡ builder.old.domains) }

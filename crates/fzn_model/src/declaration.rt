@@ -3,19 +3,17 @@
 ghost use Rattle.std.specs.Prelude.{◌≡◌, ℕ, ◌<◌, length, OnOk, IfOk, IfErr, IfSome, Ok, Err};
 ghost use Rattle.fzn_item.specs.declared.item.Base.TheVariants as base;
 ghost use Rattle.dcsp_rule.specs.Rules.{IsTermOf};
-ghost use Rattle.fzn_scope.specs.Checks.{Gives};
-ghost use Rattle.fzn_model.specs.Checks.{refusal_of};
+ghost use Rattle.fzn_scope.specs.Checks.{Gives, Leaves};
 ghost use Rattle.fzn_scope.specs.Known.{AreKnown};
 ghost use Rattle.fzn_model.specs.Building.{with_rule};
 ghost use Rattle.fzn_model.specs.Declarations.{is_boolean, right_side, constant, value_of, domain_of, source_of, equality, with_source};
-ghost use Rattle.fzn_model.specs.Reading.{Leaves};
 
 use crate::building::add_rule;
-use crate::refusal::{ItemRefusal, Stop, ill_typed};
 use dcsp_domain::{Domain, DomainError, IntList};
 use dcsp_problem::{ConstraintKind, MembersRef, ProblemBuilder, RuleRef, Term, Which};
 use fzn_item::{Base, Expr, Marked};
 use fzn_scope::{Context, Declared, Wanted};
+use fzn_token::{ModelError, Refusal};
 use std::alloc::Global;
 
 /// What a declaration says of its name.
@@ -43,18 +41,18 @@ pub(crate) fn is_boolean(base: &Base) -> bool
 }
 
 /// A right side that there must be. Where there is none, the refusal is at the name.
-pub(crate) fn right_side(name_at: u32, right: &Option<Expr>) -> Result<&Expr, ItemRefusal>
+pub(crate) fn right_side(name_at: u32, right: &Option<Expr>) -> Result<&Expr, Refusal>
     ensures ok { IfOk result (λ expr. right_side name_at right.now ≡ Ok expr.now) }
     ensures err { IfErr result (λ e. right_side name_at right.now ≡ Err e) }
 {
     match right {
         Some(expr) => Ok(expr),
-        None => Err(ill_typed(name_at)),
+        None => Err(Refusal::IllTyped { at: name_at }),
     }
 }
 
 /// The constant of a right side.
-fn constant(context: Context<'_, '_>, boolean: bool, expr: &Expr) -> Result<Declared, ItemRefusal>
+fn constant(context: Context<'_, '_>, boolean: bool, expr: &Expr) -> Result<Declared, Refusal>
     ensures { result ≡ constant context.entry.text.now context.entry.names.now boolean expr.now }
 {
     let wanted = Wanted {
@@ -71,57 +69,57 @@ pub(crate) fn value_of(
     at: u32,
     base: &Base,
     expr: &Expr,
-) -> Result<Declared, Stop>
-    ensures { Gives refusal_of result (value_of context.entry.text.now context.entry.names.now at base.now expr.now) }
+) -> Result<Declared, ModelError>
+    ensures { Gives result (value_of context.entry.text.now context.entry.names.now at base.now expr.now) }
 {
     match base {
         Base::Bool => Ok(constant(context, true, expr)?),
         Base::Int | Base::Range { .. } | Base::Listed(_) => { Ok(constant(context, false, expr)?) }
-        Base::Float => Err(Stop::Refused(ItemRefusal::Unsupported { at })),
+        Base::Float => Err(ModelError::Refused(Refusal::Unsupported { at })),
         Base::Set => Ok(Declared::Set(context.set_of(expr)?)),
     }
 }
 
 /// A variable's domain.
-pub(crate) fn domain_of(alloc: Global, at: u32, base: &Base) -> Result<Domain, Stop>
-    ensures { Gives refusal_of result (domain_of at base.now) }
+pub(crate) fn domain_of(alloc: Global, at: u32, base: &Base) -> Result<Domain, ModelError>
+    ensures { Gives result (domain_of at base.now) }
 {
     match base {
         Base::Bool => domain_between(alloc, at, 0, 1),
-        Base::Int => Err(Stop::Refused(ItemRefusal::Unbounded { at })),
-        Base::Float | Base::Set => Err(Stop::Refused(ItemRefusal::Unsupported { at })),
+        Base::Int => Err(ModelError::Refused(Refusal::Unbounded { at })),
+        Base::Float | Base::Set => Err(ModelError::Refused(Refusal::Unsupported { at })),
         Base::Range { low, high } => domain_between(alloc, at, *low, *high),
         Base::Listed(values) => listed_domain(alloc, at, values),
     }
 }
 
 /// The domain of a range.
-fn domain_between(alloc: Global, at: u32, low: i64, high: i64) -> Result<Domain, Stop>
-    ensures { Gives refusal_of result (domain_of at (base.Range low high)) }
+fn domain_between(alloc: Global, at: u32, low: i64, high: i64) -> Result<Domain, ModelError>
+    ensures { Gives result (domain_of at (base.Range low high)) }
 {
     match Domain::range(alloc, low, high) {
         Ok(domain) => Ok(domain),
-        Err(DomainError::Large { size }) => Err(Stop::Refused(large(at, size))),
-        Err(DomainError::Memory) => Err(Stop::Memory),
+        Err(DomainError::Large { size }) => Err(ModelError::Refused(large(at, size))),
+        Err(DomainError::Memory) => Err(ModelError::Memory),
     }
 }
 
 /// The domain of a listed set.
-fn listed_domain(alloc: Global, at: u32, values: &IntList) -> Result<Domain, Stop>
-    ensures { Gives refusal_of result (domain_of at (base.Listed values.now)) }
+fn listed_domain(alloc: Global, at: u32, values: &IntList) -> Result<Domain, ModelError>
+    ensures { Gives result (domain_of at (base.Listed values.now)) }
 {
     match Domain::listed(alloc, values.items()) {
         Ok(domain) => Ok(domain),
-        Err(DomainError::Large { size }) => Err(Stop::Refused(large(at, size))),
-        Err(DomainError::Memory) => Err(Stop::Memory),
+        Err(DomainError::Large { size }) => Err(ModelError::Refused(large(at, size))),
+        Err(DomainError::Memory) => Err(ModelError::Memory),
     }
 }
 
 /// A domain would have so many values.
-fn large(at: u32, count: u128) -> ItemRefusal
-    ensures { result ≡ ItemRefusal.Limit Which.DomainSize count at }
+fn large(at: u32, count: u128) -> Refusal
+    ensures { result ≡ Refusal.Limit Which.DomainSize count at }
 {
-    ItemRefusal::Limit {
+    Refusal::Limit {
         which: Which::DomainSize,
         count,
         at,
@@ -133,7 +131,7 @@ pub(crate) fn source_of(
     context: Context<'_, '_>,
     boolean: bool,
     right: &Option<Expr>,
-) -> Result<Option<Term>, ItemRefusal>
+) -> Result<Option<Term>, Refusal>
     ensures is { result ≡ source_of context.entry.text.now context.entry.names.now boolean right.now }
     ensures known { IfOk result (λ source. (variables : ℕ) → AreKnown variables context.entry.names.now → IfSome source (IsTermOf variables)) }
 {
@@ -165,7 +163,7 @@ impl<'i, 't> Declaration<'i, 't> {
         builder: &mut ProblemBuilder,
         number: u32,
         source: Option<Term>,
-    ) -> Result<(), Stop>
+    ) -> Result<(), ModelError>
         requires number { number < length builder.old.domains }
         requires known { IfSome source (IsTermOf (length builder.old.domains)) }
         ensures added { Leaves builder.new result (with_source self.entry.name_at builder.old (is_boolean self.entry.base.now) number source) }

@@ -5,10 +5,10 @@ ghost use Rattle.dcsp_rule.specs.Rules.{IsAimOf};
 ghost use Rattle.fzn_scope.specs.Known.{AreKnown};
 ghost use Rattle.fzn_model.specs.Items.{aim_of};
 
-use crate::refusal::ItemRefusal;
 use dcsp_problem::Aim;
 use fzn_item::Goal;
 use fzn_scope::{Context, Wanted};
+use fzn_token::Refusal;
 
 /// An integer, constant or not.
 const AN_INTEGER: Wanted = Wanted {
@@ -19,7 +19,7 @@ const AN_INTEGER: Wanted = Wanted {
 /// What a goal wants of a solution: any, or the least or the greatest value of an integer.
 ///
 /// `Undeclared` and `IllTyped` come as at every integer's place, at the first byte of the goal's expression.
-pub(crate) fn aim_of(context: Context<'_, '_>, goal: &Goal) -> Result<Aim, ItemRefusal>
+pub(crate) fn aim_of(context: Context<'_, '_>, goal: &Goal) -> Result<Aim, Refusal>
     ensures is { result ≡ aim_of context.entry.text.now context.entry.names.now goal.now }
     ensures known { IfOk result (λ aim. (variables : ℕ) → AreKnown variables context.entry.names.now →
         IsAimOf variables aim) }

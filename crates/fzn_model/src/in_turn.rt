@@ -4,18 +4,15 @@ ghost use Rattle.std.specs.Prelude.{◌≡◌, ◌≤◌, ◌<◌, ◌+◌, leng
 ghost use Rattle.fzn_item.specs.declared.item.Item.{Item};
 ghost use Rattle.fzn_item.specs.Lent.{StandsFor};
 ghost use Rattle.fzn_scope.specs.Checks.{Gives};
-ghost use Rattle.fzn_model.specs.Checks.{refusal_of};
 ghost use Rattle.fzn_model.specs.Items.{start};
 ghost use Rattle.fzn_model.specs.Models.{longest_text, AnswersOrLacks};
 ghost use Rattle.fzn_model.specs.Reading.{gave, then_item, problem_given, IsSoundGiven, prints, AreAllTaken, LeavesUnread, IsSomeItem};
 
-use crate::model::ModelError;
-use crate::refusal::{ItemRefusal, Stop};
 use crate::resolver::Resolver;
 use dcsp_common::Memory;
 use dcsp_problem::Problem;
-use fzn_item::{ItemError, LentItem, next_lent};
-use fzn_token::TokenReader;
+use fzn_item::{LentItem, next_lent};
+use fzn_token::{ModelError, Refusal, TokenReader};
 use std::alloc::Global;
 
 /// The problem of a text of at most 16,777,216 bytes, or its first refusal.
@@ -27,18 +24,18 @@ pub fn problem_of(alloc: Global, text: &[u8]) -> Result<Problem, ModelError>
 {
     let mut taken = Taken::new(alloc);
     taken.take_all(alloc, text)?;
-    Ok(taken.finish()?)
+    taken.finish()
 }
 
 /// Why a text is refused whose next item is read by no production.
 ///
 /// A refusal of a token comes before all that items are refused for, so the tokens behind are read on.
-fn unread(mut reader: TokenReader<'_>, error: ItemError) -> ModelError
+fn unread(mut reader: TokenReader<'_>, error: ModelError) -> ModelError
     ensures { LeavesUnread reader.entry error result }
 {
     match reader.check_rest() {
-        Ok(()) => ModelError::from(error),
-        Err(refused) => ModelError::from(refused),
+        Ok(()) => error,
+        Err(refused) => refused,
     }
 }
 
@@ -46,7 +43,7 @@ fn unread(mut reader: TokenReader<'_>, error: ItemError) -> ModelError
 #[derive(Drop)]
 struct Taken<'t> {
     resolver: Resolver<'t>,
-    refused: Option<ItemRefusal>,
+    refused: Option<Refusal>,
 }
 
 impl<'t> Taken<'t> {
@@ -97,8 +94,8 @@ impl<'t> Taken<'t> {
         }
         match self.resolver.take(text, lent) {
             Ok(()) => Ok(()),
-            Err(Stop::Memory) => Err(Memory),
-            Err(Stop::Refused(refusal)) => {
+            Err(ModelError::Memory) => Err(Memory),
+            Err(ModelError::Refused(refusal)) => {
                 self.refused = Some(refusal);
                 Ok(())
             }
@@ -106,11 +103,11 @@ impl<'t> Taken<'t> {
     }
 
     /// The problem of the items.
-    fn finish(self) -> Result<Problem, Stop>
-        ensures { Gives refusal_of result (problem_given (gave self.entry)) }
+    fn finish(self) -> Result<Problem, ModelError>
+        ensures { Gives result (problem_given (gave self.entry)) }
     {
         match self.refused {
-            Some(refusal) => Err(Stop::Refused(refusal)),
+            Some(refusal) => Err(ModelError::Refused(refusal)),
             None => self.resolver.finish(),
         }
     }

@@ -12,14 +12,11 @@ mod declaration;
 mod goal;
 mod in_turn;
 mod laws;
-mod model;
 mod output;
-mod refusal;
 mod resolver;
 
 pub use dcsp_common::Memory;
 pub use dcsp_problem::{Problem, Which};
+pub use fzn_token::{ModelError, Refusal};
 pub use in_turn::problem_of;
 pub use laws::{first_refusal, one_answer};
-pub use model::ModelError;
-pub use refusal::ItemRefusal;

@@ -4,15 +4,16 @@ ghost use Rattle.std.specs.Prelude.{◌≡◌, ◌<◌, ◌≤◌, ◌^◌, ◌+
 ghost use Rattle.dcsp_domain.specs.Ranges.{count_between};
 ghost use Rattle.dcsp_rule.specs.Rules.{IsTermOf};
 ghost use Rattle.dcsp_problem.specs.Outputs.{range_product, IsOutputOf};
+ghost use Rattle.fzn_scope.specs.Checks.{Leaves};
 ghost use Rattle.fzn_model.specs.Building.{with_output};
-ghost use Rattle.fzn_model.specs.Declarations.{is_boolean, is_shaped, variable_output, array_output};
-ghost use Rattle.fzn_model.specs.Reading.{Leaves, HasRoom, at_most_many, shape_by};
+ghost use Rattle.fzn_model.specs.Declarations.{is_shaped};
+ghost use Rattle.fzn_model.specs.Reading.{HasRoom, at_most_many, shape_by, variable_output_by, array_output_by};
 
 use crate::declaration::{Declaration, is_boolean};
-use crate::refusal::{ItemRefusal, Stop};
 use dcsp_domain::RangeList;
 use dcsp_problem::{BuildError, NameText, Output, ProblemBuilder, Shape, Term, TermList};
 use fzn_item::Marked;
+use fzn_token::{ModelError, Refusal};
 use std::alloc::Global;
 
 /// More than any array has elements.
@@ -65,13 +66,13 @@ fn times(size: u128, product: u128) -> u128
 }
 
 /// Refuses an array of variables, of so many elements, that cannot be printed as its mark says.
-pub(crate) fn check_shape(declaration: Declaration<'_, '_>, count: usize) -> Result<(), ItemRefusal>
+pub(crate) fn check_shape(declaration: Declaration<'_, '_>, count: usize) -> Result<(), Refusal>
     requires { count < 2 ^ 63 }
     ensures is { result ≡ shape_by declaration.entry count }
     ensures shaped { OnOk result (declaration.entry.variable ≡ true → is_shaped declaration.entry.marked.now count ≡ true) }
 {
     if declaration.variable && !is_shaped(declaration.marked, count) {
-        return Err(ItemRefusal::OutputShape {
+        return Err(Refusal::OutputShape {
             at: declaration.name_at,
         });
     }
@@ -84,10 +85,10 @@ pub(crate) fn add_variable_output(
     builder: &mut ProblemBuilder,
     declaration: Declaration<'_, '_>,
     number: u32,
-) -> Result<(), Stop>
+) -> Result<(), ModelError>
     requires number { number < length builder.old.domains }
     requires room { HasRoom builder.old }
-    ensures added { Leaves builder.new result (Ok (with_output builder.old (variable_output declaration.entry.name.now (is_boolean declaration.entry.base.now) number declaration.entry.marked.now))) }
+    ensures added { Leaves builder.new result (Ok (with_output builder.old (variable_output_by declaration.entry number))) }
     ensures domains { OnOk result (builder.new.domains ≡ builder.old.domains) }
     ensures outputs { OnOk result (length builder.new.outputs ≤ length builder.old.outputs + 1) }
 {
@@ -111,12 +112,12 @@ pub(crate) fn add_array_output(
     builder: &mut ProblemBuilder,
     declaration: Declaration<'_, '_>,
     terms: &[Term],
-) -> Result<(), Stop>
+) -> Result<(), ModelError>
     requires known { All (IsTermOf (length builder.old.domains)) terms.now }
     requires elements { length terms.now ≤ 65536 }
     requires shaped { declaration.variable ≡ true → is_shaped declaration.marked.now (length terms.now) ≡ true }
     requires room { HasRoom builder.old }
-    ensures added { Leaves builder.new result (Ok (with_output builder.old (array_output declaration.entry.name.now declaration.entry.variable (is_boolean declaration.entry.base.now) declaration.entry.marked.now terms.now))) }
+    ensures added { Leaves builder.new result (Ok (with_output builder.old (array_output_by declaration.entry terms.now))) }
     ensures domains { OnOk result (builder.new.domains ≡ builder.old.domains) }
     ensures outputs { OnOk result (length builder.new.outputs ≤ length builder.old.outputs + 1) }
 {
@@ -141,7 +142,7 @@ pub(crate) fn add_array_output(
 }
 
 /// Adds what is printed.
-fn add_output(builder: &mut ProblemBuilder, output: Output) -> Result<(), Stop>
+fn add_output(builder: &mut ProblemBuilder, output: Output) -> Result<(), ModelError>
     requires fits { IsOutputOf (length builder.old.domains) output }
     requires room { HasRoom builder.old }
     ensures added { Leaves builder.new result (Ok (with_output builder.old (Some output))) }
@@ -150,6 +151,6 @@ fn add_output(builder: &mut ProblemBuilder, output: Output) -> Result<(), Stop>
 {
     match builder.add_output(output) {
         Ok(()) => Ok(()),
-        Err(_) => Err(Stop::Memory),
+        Err(_) => Err(ModelError::Memory),
     }
 }

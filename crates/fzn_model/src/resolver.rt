@@ -1,25 +1,24 @@
 //! What one item adds to the names and to the problem, or its refusal.
 
-ghost use Rattle.std.specs.Prelude.{◌≡◌, ◌≤◌, ◌<◌, ◌+◌, List, length, OnOk, None};
-ghost use Rattle.fzn_item.specs.declared.item.Expr.{Expr};
+ghost use Rattle.std.specs.Prelude.{◌≡◌, ◌≤◌, ◌<◌, ◌+◌, length, OnOk, None};
 ghost use Rattle.fzn_item.specs.declared.item.Item.{Item};
-ghost use Rattle.fzn_item.specs.Lent.{AreArguments, IsLent, IsOther, StandsFor};
-ghost use Rattle.fzn_scope.specs.Checks.{Gives};
-ghost use Rattle.fzn_model.specs.Checks.{refusal_of};
+ghost use Rattle.fzn_item.specs.Lent.{IsLent, IsOther, StandsFor};
+ghost use Rattle.fzn_scope.specs.Checks.{Gives, Leaves};
+ghost use Rattle.fzn_scope.specs.Lent.{ForArguments};
 ghost use Rattle.fzn_scope.specs.Names.{declared_as};
 ghost use Rattle.fzn_model.specs.Declarations.{is_late, declaration};
 ghost use Rattle.fzn_model.specs.Items.{start, solve, predicate, after, finished};
-ghost use Rattle.fzn_model.specs.Reading.{Leaves, so_far, IsSound, HasRoom, parameter_by, variable_by, array_by, named_by, declare_by, constraint_by, IsSomeItem};
+ghost use Rattle.fzn_model.specs.Reading.{so_far, IsSound, HasRoom, parameter_by, variable_by, array_by, named_by, declare_by, constraint_by, IsSomeItem};
 
 use crate::array::{add_members, check_element, elements, within};
 use crate::building::{add_rule, add_variable};
 use crate::declaration::{Declaration, domain_of, is_boolean, right_side, source_of, value_of};
 use crate::goal::aim_of;
 use crate::output::{add_array_output, add_variable_output, check_shape};
-use crate::refusal::{ItemRefusal, Stop};
 use dcsp_problem::{Problem, ProblemBuilder, Term, Which};
 use fzn_item::{Goal, Item, LentArguments, LentItem};
 use fzn_scope::{ArgumentLists, Context, Declared, Names, bytes_at};
+use fzn_token::{ModelError, Refusal};
 use std::alloc::Global;
 
 /// What the items so far gave.
@@ -68,22 +67,22 @@ impl<'t> Resolver<'t> {
     }
 
     /// What is checked of every declaration, first.
-    fn check_declaration(&self, at: u32, name_at: u32, name: &[u8]) -> Result<(), ItemRefusal>
+    fn check_declaration(&self, at: u32, name_at: u32, name: &[u8]) -> Result<(), Refusal>
         ensures is { result ≡ declaration (so_far self.now) at name_at name.now }
         ensures new { OnOk result (declared_as self.now.names name.now ≡ None) }
     {
         if self.is_late() {
-            return Err(ItemRefusal::Misplaced { at });
+            return Err(Refusal::Misplaced { at });
         }
         if self.names.get(name).is_some() {
-            return Err(ItemRefusal::Duplicate { at: name_at });
+            return Err(Refusal::Duplicate { at: name_at });
         }
         Ok(())
     }
 
     /// A parameter.
     #[tactic(auto, unfolding(crate::specs::Declarations::parameter))]
-    fn parameter(&mut self, text: &[u8], declaration: Declaration<'_, 't>) -> Result<(), Stop>
+    fn parameter(&mut self, text: &[u8], declaration: Declaration<'_, 't>) -> Result<(), ModelError>
         requires new { declared_as self.old.names declaration.name.now ≡ None }
         requires sound { IsSound (so_far self.old) }
         ensures is { Leaves (so_far self.new) result (parameter_by text.now (so_far self.old) declaration.entry) }
@@ -103,7 +102,7 @@ impl<'t> Resolver<'t> {
 
     /// A variable.
     #[tactic(auto, unfolding(crate::specs::Declarations::variable))]
-    fn variable(&mut self, text: &[u8], declaration: Declaration<'_, 't>) -> Result<(), Stop>
+    fn variable(&mut self, text: &[u8], declaration: Declaration<'_, 't>) -> Result<(), ModelError>
         requires new { declared_as self.old.names declaration.name.now ≡ None }
         requires sound { IsSound (so_far self.old) }
         requires room { HasRoom self.old.builder }
@@ -135,7 +134,7 @@ impl<'t> Resolver<'t> {
         text: &[u8],
         index: (i64, i64),
         declaration: Declaration<'_, 't>,
-    ) -> Result<(), Stop>
+    ) -> Result<(), ModelError>
         requires new { declared_as self.old.names declaration.name.now ≡ None }
         requires sound { IsSound (so_far self.old) }
         requires room { HasRoom self.old.builder }
@@ -166,11 +165,11 @@ impl<'t> Resolver<'t> {
 
     /// A constraint.
     #[tactic(auto, unfolding(crate::specs::Items::constraint))]
-    fn constraint(&mut self, text: &[u8], constraint: Constraint<'_, 't>) -> Result<(), Stop>
+    fn constraint(&mut self, text: &[u8], constraint: Constraint<'_, 't>) -> Result<(), ModelError>
         requires lent { IsLent constraint.arguments }
         requires sound { IsSound (so_far self.old) }
-        ensures is { (exprs : List Expr) → AreArguments constraint.entry.arguments exprs →
-            Leaves (so_far self.new) result (constraint_by text.now (so_far self.old) constraint.entry exprs) }
+        ensures is { ForArguments constraint.entry.arguments (so_far self.new) result
+            (constraint_by text.now (so_far self.old) constraint.entry) }
         ensures sound { OnOk result (IsSound (so_far self.new)) }
         ensures outputs { OnOk result (length self.new.builder.outputs ≤ length self.old.builder.outputs + 1) }
     {
@@ -181,7 +180,7 @@ impl<'t> Resolver<'t> {
             arguments,
         } = constraint;
         if self.solved {
-            return Err(Stop::Refused(ItemRefusal::Misplaced { at }));
+            return Err(ModelError::Refused(Refusal::Misplaced { at }));
         }
         let context = Context {
             alloc: self.alloc,
@@ -196,14 +195,14 @@ impl<'t> Resolver<'t> {
 
     /// A solve item.
     #[tactic(auto, unfolding(crate::specs::Items::solve))]
-    fn solve(&mut self, text: &[u8], at: u32, goal: &Goal) -> Result<(), Stop>
+    fn solve(&mut self, text: &[u8], at: u32, goal: &Goal) -> Result<(), ModelError>
         requires sound { IsSound (so_far self.old) }
         ensures is { Leaves (so_far self.new) result (solve text.now (so_far self.old) at goal.now) }
         ensures sound { OnOk result (IsSound (so_far self.new)) }
         ensures outputs { OnOk result (length self.new.builder.outputs ≤ length self.old.builder.outputs + 1) }
     {
         if self.solved {
-            return Err(Stop::Refused(ItemRefusal::Misplaced { at }));
+            return Err(ModelError::Refused(Refusal::Misplaced { at }));
         }
         let context = Context {
             alloc: self.alloc,
@@ -218,20 +217,24 @@ impl<'t> Resolver<'t> {
 
     /// A predicate.
     #[tactic(auto, unfolding(crate::specs::Items::predicate))]
-    fn predicate(&mut self, at: u32) -> Result<(), Stop>
+    fn predicate(&mut self, at: u32) -> Result<(), ModelError>
         requires sound { IsSound (so_far self.old) }
         ensures is { Leaves (so_far self.new) result (predicate (so_far self.old) at) }
         ensures sound { OnOk result (IsSound (so_far self.new)) }
         ensures outputs { OnOk result (length self.new.builder.outputs ≤ length self.old.builder.outputs + 1) }
     {
         if self.is_late() {
-            return Err(Stop::Refused(ItemRefusal::Misplaced { at }));
+            return Err(ModelError::Refused(Refusal::Misplaced { at }));
         }
         Ok(())
     }
 
     /// A declaration of a new name.
-    fn declare_new(&mut self, text: &[u8], declaration: Declaration<'_, 't>) -> Result<(), Stop>
+    fn declare_new(
+        &mut self,
+        text: &[u8],
+        declaration: Declaration<'_, 't>,
+    ) -> Result<(), ModelError>
         requires new { declared_as self.old.names declaration.name.now ≡ None }
         requires sound { IsSound (so_far self.old) }
         requires room { HasRoom self.old.builder }
@@ -252,7 +255,7 @@ impl<'t> Resolver<'t> {
     }
 
     /// A declaration.
-    fn declare(&mut self, text: &[u8], declaration: Declaration<'_, 't>) -> Result<(), Stop>
+    fn declare(&mut self, text: &[u8], declaration: Declaration<'_, 't>) -> Result<(), ModelError>
         requires sound { IsSound (so_far self.old) }
         requires room { HasRoom self.old.builder }
         ensures is { Leaves (so_far self.new) result (declare_by text.now (so_far self.old) declaration.entry) }
@@ -264,7 +267,7 @@ impl<'t> Resolver<'t> {
     }
 
     /// The next item.
-    pub(crate) fn take(&mut self, text: &'t [u8], lent: &LentItem<'_>) -> Result<(), Stop>
+    pub(crate) fn take(&mut self, text: &'t [u8], lent: &LentItem<'_>) -> Result<(), ModelError>
         requires stands { IsSomeItem lent.now }
         requires sound { IsSound (so_far self.old) }
         requires room { HasRoom self.old.builder }
@@ -287,7 +290,7 @@ impl<'t> Resolver<'t> {
     }
 
     /// The next item, which is no constraint.
-    fn take_other(&mut self, text: &'t [u8], item: &Item) -> Result<(), Stop>
+    fn take_other(&mut self, text: &'t [u8], item: &Item) -> Result<(), ModelError>
         requires other { IsOther item.now }
         requires sound { IsSound (so_far self.old) }
         requires room { HasRoom self.old.builder }
@@ -325,11 +328,11 @@ impl<'t> Resolver<'t> {
     }
 
     /// The problem, if there was a solve item.
-    pub(crate) fn finish(self) -> Result<Problem, Stop>
-        ensures { Gives refusal_of result (finished (so_far self.entry)) }
+    pub(crate) fn finish(self) -> Result<Problem, ModelError>
+        ensures { Gives result (finished (so_far self.entry)) }
     {
         if !self.solved {
-            return Err(Stop::Refused(ItemRefusal::NoSolve));
+            return Err(ModelError::Refused(Refusal::NoSolve));
         }
         Ok(self.builder.finish()?)
     }

@@ -1,5 +1,5 @@
 -- Arguments that are lent from the tokens of a constraint, one after another.
-use Rattle.std.proofs.Common.{◌≡◌, ℕ, Result, suc, arith, Option, Some, None, List, [], ◌∷◌, ◌++◌, ◌⊎◌, length, Ok, Err, sym, ◌∙◌, refl, ap, subst, ⊎_elim, inl, inr}
+use Rattle.std.proofs.Common.{◌≡◌, ℕ, Result, suc, arith, List, [], ◌∷◌, ◌++◌, ◌⊎◌, length, Ok, Err, sym, ◌∙◌, refl, ap, subst, ⊎_elim, inl, inr}
 use Rattle.std.specs.Borrow.{Bor}
 use Rattle.fzn_token.specs.declared.token.Token.{Token}
 use Rattle.fzn_token.specs.declared.token.Mark.{Mark}
@@ -16,8 +16,9 @@ use Rattle.fzn_item.specs.Lent.{AreArguments, IsLent, IsLentExpr}
 use Rattle.fzn_item.specs.declared.lent.LentArguments.{LentArguments}
 use Rattle.fzn_scope.specs.declared.form.Place.{Place}
 use Rattle.fzn_scope.specs.Arguments.{Arguments}
-use Rattle.fzn_scope.specs.Checks.{◌>>=◌, Stops, refusal_of}
-use Rattle.fzn_scope.specs.declared.refusal.Stop.{Stop}
+use Rattle.fzn_scope.specs.Checks.{◌>>=◌, Stops}
+use Rattle.fzn_token.specs.declared.refusal.ModelError.{ModelError}
+use Rattle.fzn_token.specs.declared.refusal.ModelError.TheVariants as errors
 use Rattle.fzn_scope.specs.Lent.{LeavesAt}
 use Rattle.fzn_scope.specs.Rules.{no_arguments, with_argument, arguments_after}
 use Rattle.fzn_item.specs.Readers.{Begins}
@@ -25,7 +26,7 @@ use Rattle.fzn_item.proofs.Combining.{IsUnique, one_unique, comma_apart}
 use Rattle.fzn_item.proofs.ExprLaws.{expr_unique, atom_unique, atoms_unique, arguments_unique, atom_not_mark}
 use Rattle.dcsp_rule.specs.declared.rule.Term.{Term}
 use Rattle.fzn_scope.specs.declared.place.Wanted.{Wanted}
-use Rattle.fzn_scope.specs.declared.refusal.Refusal.{Refusal}
+use Rattle.fzn_token.specs.declared.refusal.Refusal.{Refusal}
 use Rattle.fzn_scope.specs.Names.{Scope}
 use Rattle.fzn_scope.specs.Places.{term_of, terms_after}
 
@@ -162,14 +163,14 @@ arguments_start text scope places a lent_as count = record {
 }
 
 -- what a call stopped with before the next step is what both stop with
-stops_then : {X Y : Type 0} (f : X → Result Y Refusal) (told : Option Refusal) (meaning : Result X Refusal) → Stops told meaning → Stops told (meaning >>= f)
-stops_then f None meaning stops = tt
-stops_then f (Some e) meaning is = rw is refl
+stops_then : {X Y : Type 0} (f : X → Result Y Refusal) (e : ModelError) (meaning : Result X Refusal) → Stops e meaning → Stops e (meaning >>= f)
+stops_then f errors.Memory meaning stops = tt
+stops_then f (errors.Refused refusal) meaning is = rw is refl
 
 -- a call that does a part of what is meant, and gives the tokens behind, does the whole, where the rest follows of it
-pub leaves_in_at : {X Y : Type 0} (rest : List Token) (f : X → Y) (x : X) (r : Result (Bor (List Token)) Stop) (meaning : Result X Refusal) → LeavesAt rest x r meaning → LeavesAt rest (f x) r (meaning >>= λ y. Ok (f y))
+pub leaves_in_at : {X Y : Type 0} (rest : List Token) (f : X → Y) (x : X) (r : Result (Bor (List Token)) ModelError) (meaning : Result X Refusal) → LeavesAt rest x r meaning → LeavesAt rest (f x) r (meaning >>= λ y. Ok (f y))
 leaves_in_at rest f x (Ok behind) meaning given = (rw given.0 refl, given.1)
-leaves_in_at rest f x (Err e) meaning stops = stops_then (λ y. Ok (f y)) (refusal_of e) meaning stops
+leaves_in_at rest f x (Err e) meaning stops = stops_then (λ y. Ok (f y)) e meaning stops
 
 -- some arguments are left where some places are
 some_left : {standing : List Token} {left : List Expr} {end : List Token} {n : ℕ} → length left ≡ suc n → (left ≡ []) ⊎ IsSeparated IsExpr mark.CloseParen standing left end → IsSeparated IsExpr mark.CloseParen standing left end
@@ -198,9 +199,9 @@ module _ (text : List ℕ) (scope : Scope) (places : List Place) (a : LentArgume
   step = step_of IsExpr mark.CloseParen expr_unique argument_begins.0 argument_begins.1 some argument_begins.2
 
   -- an argument that is refused
-  pub argument_refused : (told : Option Refusal) → Stops told (with_argument text scope done place argument_begins.0) → (exprs : List Expr) → AreArguments a exprs → Stops told (arguments_after text scope no_arguments places exprs)
-  argument_refused None stops exprs are = tt
-  argument_refused (Some e) stops exprs are = by_step step where
+  pub argument_refused : (error : ModelError) → Stops error (with_argument text scope done place argument_begins.0) → (exprs : List Expr) → AreArguments a exprs → Stops error (arguments_after text scope no_arguments places exprs)
+  argument_refused errors.Memory stops exprs are = tt
+  argument_refused (errors.Refused e) stops exprs are = by_step step where
     -- whatever follows
     first_is : (others_left : List Expr) → l.left ≡ argument_begins.0 ∷ others_left → arguments_after text scope no_arguments places exprs ≡ Err e
     first_is others_left left =

@@ -17,7 +17,7 @@ use Rattle.fzn_scope.specs.declared.form.Place.TheVariants.{Scalar, First, Secon
 use Rattle.fzn_scope.specs.declared.form.Form.{Form}
 use Rattle.fzn_scope.specs.declared.form.Form.TheVariants.{Plain, Sum}
 use Rattle.fzn_scope.specs.Arguments.{Arguments}
-use Rattle.fzn_scope.specs.declared.refusal.Refusal.TheVariants as refusal
+use Rattle.fzn_token.specs.declared.refusal.Refusal.TheVariants as refusal
 use Rattle.fzn_scope.specs.Names.{Scope}
 use Rattle.fzn_scope.specs.Places.{one_of, list_of, set_of}
 use Rattle.fzn_scope.specs.Forms.{truth, places_of}

@@ -1,13 +1,13 @@
 -- Checks made one after another: what holds of the value at the end.
 use Rattle.std.proofs.Common.{◌≡◌, ℕ, Bool, true, false, ◌||◌, Option, Some, Result, Ok, Err, IfSome, IfOk, refl, sym, ◌∙◌}
 use Rattle.std.specs.Prelude.{if◌then◌else◌}
-use Rattle.fzn_scope.specs.declared.refusal.Refusal.{Refusal}
+use Rattle.fzn_token.specs.declared.refusal.Refusal.{Refusal}
 use Rattle.std.proofs.lemmas.Result.{IfOk-at_ok}
-use Rattle.fzn_scope.specs.declared.refusal.Stop.{Stop}
+use Rattle.fzn_token.specs.declared.refusal.ModelError.{ModelError}
 use Rattle.dcsp_rule.specs.declared.lent.RuleRef.{RuleRef}
 use Rattle.dcsp_rule.specs.declared.rule.Rule.{Rule}
 use Rattle.dcsp_rule.specs.Lent.{lent_rule}
-use Rattle.fzn_scope.specs.Checks.{◌>>=◌, refused_if, refusal_of, Gives}
+use Rattle.fzn_scope.specs.Checks.{◌>>=◌, refused_if, Gives}
 use Rattle.fzn_scope.specs.Lent.{GivesRule}
 
 -- what holds after one check and the next
@@ -41,17 +41,17 @@ both_keep true c x y z p q h = absurd cc
 both_keep false c x y z p q h = q h ∙ p refl
 
 -- what holds of a rule that is meant holds of the one that is lent
-pub if_rule : (P : Rule → Type 0) (r : Result RuleRef Stop) (meaning : Result Rule Refusal) → GivesRule r meaning → IfOk meaning P → IfOk r (λ rule. P (lent_rule rule))
+pub if_rule : (P : Rule → Type 0) (r : Result RuleRef ModelError) (meaning : Result Rule Refusal) → GivesRule r meaning → IfOk meaning P → IfOk r (λ rule. P (lent_rule rule))
 if_rule P (Ok rule) meaning given h = IfOk-at_ok P given h
 if_rule P (Err e) meaning given h = tt
 
 -- the same for each number that something holds of
-pub if_rule_each : (K : ℕ → Type 0) (P : ℕ → Rule → Type 0) (r : Result RuleRef Stop) (meaning : Result Rule Refusal) → GivesRule r meaning → ((n : ℕ) → K n → IfOk meaning (P n)) → IfOk r (λ rule. (n : ℕ) → K n → P n (lent_rule rule))
+pub if_rule_each : (K : ℕ → Type 0) (P : ℕ → Rule → Type 0) (r : Result RuleRef ModelError) (meaning : Result Rule Refusal) → GivesRule r meaning → ((n : ℕ) → K n → IfOk meaning (P n)) → IfOk r (λ rule. (n : ℕ) → K n → P n (lent_rule rule))
 if_rule_each K P (Ok rule) meaning given h = λ n k. IfOk-at_ok (P n) given (h n k)
 if_rule_each K P (Err e) meaning given h = tt
 
 -- what holds of a value that is meant, for each such number, holds of one that is given
-pub if_given_each : {X : Type 0} (K : ℕ → Type 0) (P : ℕ → X → Type 0) (r : Result X Stop) (meaning : Result X Refusal) → Gives refusal_of r meaning → ((n : ℕ) → K n → IfOk meaning (P n)) → IfOk r (λ x. (n : ℕ) → K n → P n x)
+pub if_given_each : {X : Type 0} (K : ℕ → Type 0) (P : ℕ → X → Type 0) (r : Result X ModelError) (meaning : Result X Refusal) → Gives r meaning → ((n : ℕ) → K n → IfOk meaning (P n)) → IfOk r (λ x. (n : ℕ) → K n → P n x)
 if_given_each K P (Ok x) meaning given h = λ n k. IfOk-at_ok (P n) given (h n k)
 if_given_each K P (Err e) meaning given h = tt
 

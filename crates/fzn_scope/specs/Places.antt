@@ -11,8 +11,8 @@ use Rattle.dcsp_rule.specs.declared.rule.Members.TheVariants as members
 use Rattle.fzn_scope.specs.declared.names.Declared.{Declared}
 use Rattle.fzn_scope.specs.declared.names.Declared.TheVariants as declared
 use Rattle.fzn_scope.specs.declared.place.Wanted.{Wanted}
-use Rattle.fzn_scope.specs.declared.refusal.Refusal.{Refusal}
-use Rattle.fzn_scope.specs.declared.refusal.Refusal.TheVariants as refusal
+use Rattle.fzn_token.specs.declared.refusal.Refusal.{Refusal}
+use Rattle.fzn_token.specs.declared.refusal.Refusal.TheVariants as refusal
 use Rattle.fzn_scope.specs.Checks.{◌>>=◌}
 use Rattle.fzn_scope.specs.Names.{Scope, declared_as, bytes_at}
 

@@ -9,17 +9,18 @@ ghost use Rattle.dcsp_rule.specs.Lent.{lent_rule};
 ghost use Rattle.dcsp_rule.specs.Rules.{IsTermOf, has_shape, terms_of};
 ghost use Rattle.fzn_scope.specs.Arguments.{arguments_in};
 ghost use Rattle.fzn_scope.specs.Known.{AreKnown};
-ghost use Rattle.fzn_scope.specs.Lent.{argument_after, GivesRule, Leaves};
+ghost use Rattle.fzn_scope.specs.Lent.{argument_after, GivesRule};
+ghost use Rattle.fzn_scope.specs.Checks.{Leaves};
 ghost use Rattle.fzn_scope.specs.Rules.{rule_in, scalar_at, truth_of, rule_of, takes_rows, lengths_agree, form_at, constraint_rule};
 
 use crate::form::{Form, Place};
 use crate::lists::ArgumentLists;
 use crate::place::{Context, Wanted};
-use crate::refusal::{Refusal, Stop};
 use dcsp_common::Memory;
 use dcsp_meaning::{ConstraintKind, is_table};
 use dcsp_problem::{RuleRef, Term};
 use fzn_item::{Atom, LentArguments};
+use fzn_token::{ModelError, Refusal};
 
 /// The scalar at a place, counted from 0.
 fn scalar_at(lists: &ArgumentLists, place: usize) -> Term
@@ -121,7 +122,7 @@ impl<'c, 't> Context<'c, 't> {
         done: &mut ArgumentLists,
         place: Place,
         atom: &Atom,
-    ) -> Result<(), Stop>
+    ) -> Result<(), ModelError>
         ensures { Leaves (arguments_in done.new) result (argument_after self.entry done.old place (expr.One atom.now)) }
     {
         match place {
@@ -151,7 +152,7 @@ impl<'c, 't> Context<'c, 't> {
         at: u32,
         name: &[u8],
         arguments: LentArguments<'_>,
-    ) -> Result<RuleRef<'l>, Stop>
+    ) -> Result<RuleRef<'l>, ModelError>
         requires { IsLent arguments }
         ensures gives { (exprs : List Expr) → AreArguments arguments.entry exprs →
             GivesRule result (constraint_rule self.entry.text.now self.entry.names.now at name.now exprs) }
@@ -169,7 +170,7 @@ impl<'c, 't> Context<'c, 't> {
         at: u32,
         name: &[u8],
         arguments: LentArguments<'_>,
-    ) -> Result<RuleRef<'l>, Stop>
+    ) -> Result<RuleRef<'l>, ModelError>
         requires { IsLent arguments }
         ensures { (exprs : List Expr) → AreArguments arguments.entry exprs →
             GivesRule result (constraint_rule self.entry.text.now self.entry.names.now at name.now exprs) }
@@ -177,11 +178,11 @@ impl<'c, 't> Context<'c, 't> {
         let form = form_at(at, name)?;
         let places = form.places(arguments.count);
         if arguments.count != places.len() {
-            return Err(Stop::Refused(Refusal::IllTyped { at }));
+            return Err(ModelError::Refused(Refusal::IllTyped { at }));
         }
         self.put_arguments(lists, places, arguments)?;
         if !lengths_agree(form, lists) {
-            return Err(Stop::Refused(Refusal::IllTyped { at }));
+            return Err(ModelError::Refused(Refusal::IllTyped { at }));
         }
         Ok(rule_of(form, lists)?)
     }

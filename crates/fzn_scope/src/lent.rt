@@ -1,27 +1,23 @@
 //! Arguments that are lent from the tokens of a constraint: each is resolved where it stands, from left to right.
 
-ghost use Rattle.std.specs.Prelude.{◌≡◌, ◌<◌, List, [], length, IfOk};
-ghost use Rattle.fzn_token.specs.declared.token.Token.{Token};
+ghost use Rattle.std.specs.Prelude.{◌≡◌, [], length};
 ghost use Rattle.fzn_token.specs.declared.token.Mark.TheVariants as mark;
-ghost use Rattle.fzn_item.specs.declared.item.Atom.{Atom};
-ghost use Rattle.fzn_item.specs.declared.item.Expr.{Expr};
 ghost use Rattle.fzn_item.specs.declared.item.Expr.TheVariants as expr;
 ghost use Rattle.fzn_item.specs.Productions.{IsListOf};
 ghost use Rattle.fzn_item.specs.Readers.{Begins};
 ghost use Rattle.fzn_item.specs.Exprs.{IsAtom, IsExpr};
-ghost use Rattle.fzn_item.specs.Lent.{AreArguments, IsLent};
+ghost use Rattle.fzn_item.specs.Lent.{IsLent};
 ghost use Rattle.fzn_scope.specs.Arguments.{arguments_in};
 ghost use Rattle.fzn_scope.specs.Places.{terms_after};
 ghost use Rattle.fzn_scope.specs.Rules.{no_arguments, arguments_after};
-ghost use Rattle.fzn_scope.specs.Lent.{argument_after, Leaves, LeavesAt};
+ghost use Rattle.fzn_scope.specs.Lent.{argument_after, ForAtoms, ForExpr, ForArguments};
 
 use crate::form::Place;
 use crate::lists::ArgumentLists;
 use crate::place::{Context, Wanted};
-use crate::refusal::{Refusal, Stop};
 use dcsp_problem::Term;
 use fzn_item::{LentArguments, LentExpr, after_mark, next_atom, next_expr};
-use fzn_token::{Mark, Token};
+use fzn_token::{Mark, ModelError, Refusal, Token};
 
 impl<'c, 't> Context<'c, 't> {
     /// Puts the terms of a list's atoms, from left to right, in place of those in a list, and gives the tokens behind
@@ -31,10 +27,10 @@ impl<'c, 't> Context<'c, 't> {
         terms: &mut Vec<Term>,
         wanted: Wanted,
         tokens: &'e [Token],
-    ) -> Result<&'e [Token], Stop>
+    ) -> Result<&'e [Token], ModelError>
         requires { Begins (IsListOf IsAtom mark.CloseBracket) tokens.now }
-        ensures { (atoms : List Atom) (rest : List Token) → IsListOf IsAtom mark.CloseBracket tokens.now atoms rest →
-            LeavesAt rest terms.new.items result (terms_after self.entry.text.now self.entry.names.now wanted [] atoms) }
+        ensures { ForAtoms tokens.now terms.new.items result
+            (terms_after self.entry.text.now self.entry.names.now wanted []) }
     {
         terms.clear();
         if let Some(rest) = after_mark(tokens, Mark::CloseBracket) {
@@ -62,16 +58,16 @@ impl<'c, 't> Context<'c, 't> {
         place: Place,
         at: u32,
         inside: &'e [Token],
-    ) -> Result<&'e [Token], Stop>
+    ) -> Result<&'e [Token], ModelError>
         requires { Begins (IsListOf IsAtom mark.CloseBracket) inside.now }
-        ensures { (atoms : List Atom) (rest : List Token) → IsListOf IsAtom mark.CloseBracket inside.now atoms rest →
-            LeavesAt rest (arguments_in done.new) result (argument_after self.entry done.old place (expr.List at atoms)) }
+        ensures { ForAtoms inside.now (arguments_in done.new) result
+            (λ atoms. argument_after self.entry done.old place (expr.List at atoms)) }
     {
         match place {
             Place::First(wanted) => self.put_atoms(&mut done.first, wanted, inside),
             Place::Second(wanted) => self.put_atoms(&mut done.second, wanted, inside),
-            Place::Scalar { .. } => Err(Stop::Refused(Refusal::IllTyped { at })),
-            Place::Set => Err(Stop::Refused(Refusal::IllTyped { at })),
+            Place::Scalar { .. } => Err(ModelError::Refused(Refusal::IllTyped { at })),
+            Place::Set => Err(ModelError::Refused(Refusal::IllTyped { at })),
         }
     }
 
@@ -81,10 +77,9 @@ impl<'c, 't> Context<'c, 't> {
         done: &mut ArgumentLists,
         place: Place,
         tokens: &'e [Token],
-    ) -> Result<&'e [Token], Stop>
+    ) -> Result<&'e [Token], ModelError>
         requires { Begins IsExpr tokens.now }
-        ensures { (argument : Expr) (rest : List Token) → IsExpr tokens.now argument rest →
-            LeavesAt rest (arguments_in done.new) result (argument_after self.entry done.old place argument) }
+        ensures { ForExpr tokens.now (arguments_in done.new) result (argument_after self.entry done.old place) }
     {
         let argument = next_expr(self.alloc, tokens)?;
         match argument {
@@ -102,11 +97,11 @@ impl<'c, 't> Context<'c, 't> {
         done: &mut ArgumentLists,
         places: &[Place],
         arguments: LentArguments<'_>,
-    ) -> Result<(), Stop>
+    ) -> Result<(), ModelError>
         requires lent { IsLent arguments }
         requires count { arguments.count ≡ length places.now }
-        ensures { (exprs : List Expr) → AreArguments arguments.entry exprs →
-            Leaves (arguments_in done.new) result (arguments_after self.entry.text.now self.entry.names.now no_arguments places.now exprs) }
+        ensures { ForArguments arguments.entry (arguments_in done.new) result
+            (arguments_after self.entry.text.now self.entry.names.now no_arguments places.now) }
     {
         done.clear();
         let mut rest = arguments.tokens;

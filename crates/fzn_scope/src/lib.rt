@@ -10,10 +10,8 @@ mod lent;
 mod lists;
 mod names;
 mod place;
-mod refusal;
 
 pub use form::{Form, Place};
 pub use lists::ArgumentLists;
 pub use names::{Declared, Names, bytes_at};
 pub use place::{Context, Wanted};
-pub use refusal::{Refusal, Stop};

@@ -123,10 +123,8 @@ impl<'t> Names<'t> {
         ensures ok { OnOk result (self.new ≡ self.old ++ (name.now, declared) ∷ []) }
         ensures err { OnErr result (self.new ≡ self.old) }
     {
-        match self.table.insert(name, declared) {
-            Ok(_) => Ok(()),
-            Err(_) => Err(Memory),
-        }
+        self.table.insert(name, declared)?;
+        Ok(())
     }
 }
 

@@ -4,17 +4,16 @@ ghost use Rattle.std.specs.Prelude.{◌≡◌, ℕ, [], All, IfOk, option_copied
 ghost use Rattle.fzn_item.specs.declared.item.Expr.TheVariants as expr;
 ghost use Rattle.dcsp_rule.specs.Rules.{IsTermOf};
 ghost use Rattle.fzn_scope.specs.Arguments.{members_in};
-ghost use Rattle.fzn_scope.specs.Lent.{Leaves};
 ghost use Rattle.fzn_scope.specs.Known.{AreKnown};
-ghost use Rattle.fzn_scope.specs.Checks.{refusal_of, Gives};
+ghost use Rattle.fzn_scope.specs.Checks.{Gives, Leaves};
 ghost use Rattle.fzn_scope.specs.Names.{declared_as, bytes_at};
 ghost use Rattle.fzn_scope.specs.Places.{truth_term, is_constant, wanted_term, term_named, term_of, one_of, terms_named, terms_after, list_of, count_named, count_of, set_named, set_of};
 
 use crate::lists::{SetList, put_terms};
 use crate::names::{Declared, Names, bytes_at};
-use crate::refusal::{Refusal, Stop};
 use dcsp_problem::{Members, MembersRef, Term, TermList};
 use fzn_item::{Atom, Expr};
+use fzn_token::{ModelError, Refusal};
 use std::alloc::Global;
 
 /// What a place asks for: integers or Booleans, and whether they must be constants.
@@ -78,10 +77,10 @@ fn term_named(wanted: Wanted, at: u32, declared: Option<&Declared>) -> Result<Te
     }
 }
 
-fn ill_typed(at: u32) -> Stop
-    ensures { result ≡ Stop.Refused (Refusal.IllTyped at) }
+fn ill_typed(at: u32) -> ModelError
+    ensures { result ≡ ModelError.Refused (Refusal.IllTyped at) }
 {
-    Stop::Refused(Refusal::IllTyped { at })
+    ModelError::Refused(Refusal::IllTyped { at })
 }
 
 /// Puts the terms of a name that stands for this in place of those in a list. An array of variables is none of
@@ -91,11 +90,11 @@ fn put_array_named(
     wanted: Wanted,
     at: u32,
     declared: Option<&Declared>,
-) -> Result<(), Stop>
+) -> Result<(), ModelError>
     ensures { Leaves terms.new.items result (terms_named wanted at (option_copied declared.entry)) }
 {
     match declared {
-        None => Err(Stop::Refused(Refusal::Undeclared { at })),
+        None => Err(ModelError::Refused(Refusal::Undeclared { at })),
         Some(
             Declared::Many {
                 boolean,
@@ -126,11 +125,11 @@ fn count_named(at: u32, declared: Option<&Declared>) -> Result<usize, Refusal>
 }
 
 /// Puts the set of a name that stands for this in place of another.
-fn put_set_named(set: &mut SetList, at: u32, declared: Option<&Declared>) -> Result<(), Stop>
+fn put_set_named(set: &mut SetList, at: u32, declared: Option<&Declared>) -> Result<(), ModelError>
     ensures { Leaves (members_in set.new) result (set_named at (option_copied declared.entry)) }
 {
     match declared {
-        None => Err(Stop::Refused(Refusal::Undeclared { at })),
+        None => Err(ModelError::Refused(Refusal::Undeclared { at })),
         Some(Declared::Set(named)) => Ok(set.put(named.lent())?),
         Some(Declared::One { .. }) => Err(ill_typed(at)),
         Some(Declared::Many { .. }) => Err(ill_typed(at)),
@@ -149,6 +148,7 @@ impl<'c, 't> Context<'c, 't> {
     ///
     /// `Undeclared` comes for a name that was not declared, and `IllTyped` for anything else that is not wanted,
     /// both at the atom's first byte.
+    #[inline(always)]
     pub fn term_of(self, wanted: Wanted, atom: &Atom) -> Result<Term, Refusal>
         ensures { result ≡ term_of self.entry.text.now self.entry.names.now wanted atom.now }
     {
@@ -176,8 +176,8 @@ impl<'c, 't> Context<'c, 't> {
     }
 
     /// The terms of atoms, from left to right.
-    fn terms_of(self, wanted: Wanted, atoms: &[Atom]) -> Result<TermList, Stop>
-        ensures { Gives refusal_of result (terms_after self.entry.text.now self.entry.names.now wanted [] atoms.now) }
+    fn terms_of(self, wanted: Wanted, atoms: &[Atom]) -> Result<TermList, ModelError>
+        ensures { Gives result (terms_after self.entry.text.now self.entry.names.now wanted [] atoms.now) }
     {
         let mut terms = Vec::with_capacity(self.alloc, atoms.len())?;
         for atom in atoms {
@@ -192,7 +192,7 @@ impl<'c, 't> Context<'c, 't> {
         terms: &mut Vec<Term>,
         wanted: Wanted,
         atom: &Atom,
-    ) -> Result<(), Stop>
+    ) -> Result<(), ModelError>
         ensures { Leaves terms.new.items result (list_of self.entry.text.now self.entry.names.now wanted (expr.One atom.now)) }
     {
         match atom {
@@ -206,8 +206,8 @@ impl<'c, 't> Context<'c, 't> {
     }
 
     /// The terms of an array whose name the atom is.
-    fn array_of(self, wanted: Wanted, atom: &Atom) -> Result<TermList, Stop>
-        ensures { Gives refusal_of result (list_of self.entry.text.now self.entry.names.now wanted (expr.One atom.now)) }
+    fn array_of(self, wanted: Wanted, atom: &Atom) -> Result<TermList, ModelError>
+        ensures { Gives result (list_of self.entry.text.now self.entry.names.now wanted (expr.One atom.now)) }
     {
         let mut terms = Vec::new(self.alloc);
         self.put_array(&mut terms, wanted, atom)?;
@@ -218,8 +218,8 @@ impl<'c, 't> Context<'c, 't> {
     ///
     /// A list is refused as the first of its atoms that is, from left to right. `Undeclared` comes for a name that
     /// was not declared, and `IllTyped` for any other atom and for an array that is not wanted, at the atom's first byte.
-    pub fn list_of(self, wanted: Wanted, expr: &Expr) -> Result<TermList, Stop>
-        ensures gives { Gives refusal_of result (list_of self.entry.text.now self.entry.names.now wanted expr.now) }
+    pub fn list_of(self, wanted: Wanted, expr: &Expr) -> Result<TermList, ModelError>
+        ensures gives { Gives result (list_of self.entry.text.now self.entry.names.now wanted expr.now) }
         ensures known { IfOk result (λ terms. (variables : ℕ) → AreKnown variables self.entry.names.now →
             All (IsTermOf variables) terms) }
     {
@@ -251,7 +251,7 @@ impl<'c, 't> Context<'c, 't> {
     }
 
     /// Puts the set of an atom in place of another: a range, a listed set as it is written, or a set's name.
-    pub(crate) fn put_set(self, set: &mut SetList, atom: &Atom) -> Result<(), Stop>
+    pub(crate) fn put_set(self, set: &mut SetList, atom: &Atom) -> Result<(), ModelError>
         ensures { Leaves (members_in set.new) result (set_of self.entry.text.now self.entry.names.now (expr.One atom.now)) }
     {
         match atom {
@@ -270,8 +270,8 @@ impl<'c, 't> Context<'c, 't> {
     /// The set of an expression at a place that asks for one: a range, a listed set as it is written, or a set's name.
     ///
     /// `Undeclared` comes for a name that was not declared, and `IllTyped` for anything else, at the first byte.
-    pub fn set_of(self, expr: &Expr) -> Result<Members, Stop>
-        ensures { Gives refusal_of result (set_of self.entry.text.now self.entry.names.now expr.now) }
+    pub fn set_of(self, expr: &Expr) -> Result<Members, ModelError>
+        ensures { Gives result (set_of self.entry.text.now self.entry.names.now expr.now) }
     {
         let atom = match expr {
             Expr::List { at, .. } => return Err(ill_typed(*at)),

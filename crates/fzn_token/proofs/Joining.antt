@@ -1,7 +1,7 @@
 -- Tokens that a reader takes join those before them.
 use Rattle.std.proofs.Common.{◌≡◌, ℕ, ◌<◌, ◌≤◌, List, [], ◌∷◌, ◌++◌, length, Option, Some, None, Ok, Err, inl, inr, refl, sym, subst, ◌∙◌, append_assoc, append-nil}
 use Rattle.fzn_token.specs.declared.token.Token.{Token}
-use Rattle.fzn_token.specs.declared.token.LexError.{LexError}
+use Rattle.fzn_token.specs.declared.refusal.ModelError.{ModelError}
 use Rattle.fzn_token.specs.declared.token.Mark.TheVariants as mark
 use Rattle.fzn_token.specs.declared.token.TokenKind.TheVariants as kind
 use Rattle.fzn_token.specs.declared.reader.TokenReader.{TokenReader}
@@ -19,7 +19,7 @@ pub reads_join : (a : TokenReader) (us : List Token) (b : TokenReader) (vs : Lis
 reads_join a us b vs c first second text ts behind = subst (IsBehind text c) (append_assoc ts us vs) (second text (ts ++ us) (first text ts behind))
 
 -- some tokens are read, and then the text is refused
-pub refuses_join : (a : TokenReader) (us : List Token) (b : TokenReader) (e : LexError) → ReadsOn a us b → Refuses b e → Refuses a e
+pub refuses_join : (a : TokenReader) (us : List Token) (b : TokenReader) (e : ModelError) → ReadsOn a us b → Refuses b e → Refuses a e
 refuses_join a us b e first second text ts behind = second text (ts ++ us) (first text ts behind)
 
 -- some tokens are read, and then the text ends
@@ -36,7 +36,7 @@ reads_one a b t same below read gap text ts behind = record {
 }
 
 -- no token begins at the reader's place
-pub refuses_one : (a : TokenReader) (e : LexError) → a.at < length a.text.now → Reads a.text.now a.at (Err e) → Refuses a e
+pub refuses_one : (a : TokenReader) (e : ModelError) → a.at < length a.text.now → Reads a.text.now a.at (Err e) → Refuses a e
 refuses_one a e below read text ts behind = refused text ts a.at e behind.so_far (subst (λ x. a.at < length x) behind.same below) (subst (λ x. Reads x a.at (Err e)) behind.same read)
 
 -- another token than `;`

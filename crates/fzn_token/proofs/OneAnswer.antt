@@ -1,12 +1,14 @@
 -- A text has one list of tokens, or one refusal.
-use Rattle.std.proofs.Common.{◌≡◌, ℕ, ◌<◌, List, [], ◌∷◌, length, arith, sym, refl, ap, subst, Ok, Err}
+use Rattle.std.proofs.Common.{◌≡◌, ℕ, ◌<◌, List, [], ◌∷◌, length, arith, sym, refl, ap, subst, Result, Ok, Err}
 use Rattle.fzn_token.specs.declared.token.TokenKind.{TokenKind}
 use Rattle.fzn_token.specs.declared.token.TokenKind.TheVariants as kind
 use Rattle.fzn_token.specs.declared.token.Token.{Token}
-use Rattle.fzn_token.specs.declared.token.LexError.TheVariants as errors
+use Rattle.fzn_token.specs.declared.refusal.Refusal.TheVariants as refusal
+use Rattle.fzn_token.specs.declared.refusal.ModelError.{ModelError}
+use Rattle.fzn_token.specs.declared.refusal.ModelError.TheVariants as errors
 use Rattle.fzn_token.specs.Tokens.{Spells, IsLongest, NothingBegins, IsInRange, IsToken, AreTokensTo, AreTokens}
 use Rattle.fzn_token.specs.Gaps.{IsGap}
-use Rattle.fzn_token.specs.Reading.{IsBad, IsOutside, HasOneAnswer}
+use Rattle.fzn_token.specs.Reading.{IsBad, IsOutside, Answers, HasOneAnswer}
 use Rattle.fzn_token.proofs.GapLaws.{same_gap}
 use Rattle.fzn_token.proofs.OneKind.{same_kind}
 
@@ -91,17 +93,41 @@ agree text a b = same_tokens text 0 a.tokens b.tokens a.end b.end a.place b.plac
 not_both : (text : List ℕ) (at : ℕ) → IsBad text at → IsOutside text at → ⊥
 not_both text at b o = b.nothing (kind.Whole o.value) o.to o.longest.spelled
 
+-- the text's end is no place of it
+not_at_end : (text : List ℕ) (at : ℕ) → length text ≡ at → at < length text → ⊥
+not_at_end text at same below = omega (arith, same, below)
+
+-- an answer beside a list of tokens is that list, want of memory aside
+as_tokens : (text : List ℕ) (ts : List Token) (b : Result (List Token) ModelError) → AreTokens text ts → Answers text b → (b ≡ Err errors.Memory → ⊥) → Ok ts ≡ b
+unfolding of_tokens of_bad of_outside
+as_tokens text ts (Ok us) p q not_q = ap Ok (agree text (of_tokens text ts p) (of_tokens text us q)).0
+as_tokens text ts (Err (errors.Refused (refusal.Lex at))) p q not_q = absurd (not_at_end text at (agree text (of_tokens text ts p) (of_bad text at q)).1 q.reached.within)
+as_tokens text ts (Err (errors.Refused (refusal.IntRange at))) p q not_q = absurd (not_at_end text at (agree text (of_tokens text ts p) (of_outside text at q)).1 q.reached.within)
+as_tokens text ts (Err (errors.Refused _)) p q not_q = absurd q
+as_tokens text ts (Err errors.Memory) p q not_q = absurd (not_q refl)
+
+-- an answer beside a place where nothing begins is that refusal
+as_bad : (text : List ℕ) (at : ℕ) (b : Result (List Token) ModelError) → IsBad text at → Answers text b → (b ≡ Err errors.Memory → ⊥) → Err (errors.Refused (refusal.Lex at)) ≡ b
+unfolding of_bad of_outside
+as_bad text at (Ok us) p q not_q = sym (as_tokens text us (Err (errors.Refused (refusal.Lex at))) q p (λ e. cc))
+as_bad text at (Err (errors.Refused (refusal.Lex to))) p q not_q = ap (λ x. Err (errors.Refused (refusal.Lex x))) (agree text (of_bad text at p) (of_bad text to q)).1
+as_bad text at (Err (errors.Refused (refusal.IntRange to))) p q not_q = absurd (not_both text at p (subst (IsOutside text) (sym (agree text (of_bad text at p) (of_outside text to q)).1) q))
+as_bad text at (Err (errors.Refused _)) p q not_q = absurd q
+as_bad text at (Err errors.Memory) p q not_q = absurd (not_q refl)
+
+-- and so is one beside a place of an integer outside 64 bits
+as_outside : (text : List ℕ) (at : ℕ) (b : Result (List Token) ModelError) → IsOutside text at → Answers text b → (b ≡ Err errors.Memory → ⊥) → Err (errors.Refused (refusal.IntRange at)) ≡ b
+unfolding of_outside
+as_outside text at (Ok us) p q not_q = sym (as_tokens text us (Err (errors.Refused (refusal.IntRange at))) q p (λ e. cc))
+as_outside text at (Err (errors.Refused (refusal.Lex to))) p q not_q = sym (as_bad text to (Err (errors.Refused (refusal.IntRange at))) q p (λ e. cc))
+as_outside text at (Err (errors.Refused (refusal.IntRange to))) p q not_q = ap (λ x. Err (errors.Refused (refusal.IntRange x))) (agree text (of_outside text at p) (of_outside text to q)).1
+as_outside text at (Err (errors.Refused _)) p q not_q = absurd q
+as_outside text at (Err errors.Memory) p q not_q = absurd (not_q refl)
+
 -- two answers are the same, want of memory aside
 pub one_answer_lem : HasOneAnswer
-unfolding of_tokens of_bad of_outside
-one_answer_lem text (Ok ts) (Ok us) p q not_p not_q = ap Ok (agree text (of_tokens text ts p) (of_tokens text us q)).0
-one_answer_lem text (Ok ts) (Err (errors.Bad at)) p q not_p not_q = (let same = (agree text (of_tokens text ts p) (of_bad text at q)).1 in let below = q.reached.within in let no : ⊥ = omega arith in absurd no)
-one_answer_lem text (Ok ts) (Err (errors.IntRange at)) p q not_p not_q = (let same = (agree text (of_tokens text ts p) (of_outside text at q)).1 in let below = q.reached.within in let no : ⊥ = omega arith in absurd no)
-one_answer_lem text (Err (errors.Bad at)) (Ok us) p q not_p not_q = (let same = (agree text (of_bad text at p) (of_tokens text us q)).1 in let below = p.reached.within in let no : ⊥ = omega arith in absurd no)
-one_answer_lem text (Err (errors.Bad at)) (Err (errors.Bad to)) p q not_p not_q = ap (λ x. Err (errors.Bad x)) (agree text (of_bad text at p) (of_bad text to q)).1
-one_answer_lem text (Err (errors.Bad at)) (Err (errors.IntRange to)) p q not_p not_q = absurd (not_both text at p (subst (IsOutside text) (sym (agree text (of_bad text at p) (of_outside text to q)).1) q))
-one_answer_lem text (Err (errors.IntRange at)) (Ok us) p q not_p not_q = (let same = (agree text (of_outside text at p) (of_tokens text us q)).1 in let below = p.reached.within in let no : ⊥ = omega arith in absurd no)
-one_answer_lem text (Err (errors.IntRange at)) (Err (errors.Bad to)) p q not_p not_q = absurd (not_both text to q (subst (IsOutside text) (agree text (of_outside text at p) (of_bad text to q)).1 p))
-one_answer_lem text (Err (errors.IntRange at)) (Err (errors.IntRange to)) p q not_p not_q = ap (λ x. Err (errors.IntRange x)) (agree text (of_outside text at p) (of_outside text to q)).1
+one_answer_lem text (Ok ts) b p q not_p not_q = as_tokens text ts b p q not_q
+one_answer_lem text (Err (errors.Refused (refusal.Lex at))) b p q not_p not_q = as_bad text at b p q not_q
+one_answer_lem text (Err (errors.Refused (refusal.IntRange at))) b p q not_p not_q = as_outside text at b p q not_q
+one_answer_lem text (Err (errors.Refused _)) b p q not_p not_q = absurd p
 one_answer_lem text (Err errors.Memory) b p q not_p not_q = absurd (not_p refl)
-one_answer_lem text a (Err errors.Memory) p q not_p not_q = absurd (not_q refl)

@@ -1,7 +1,8 @@
 -- The tokens read so far.
 use Rattle.std.proofs.Common.{◌≡◌, ℕ, ◌<◌, ◌≤◌, List, [], ◌∷◌, ◌++◌, length, arith, refl, sym, subst, Err}
-use Rattle.fzn_token.specs.declared.token.LexError.{LexError}
-use Rattle.fzn_token.specs.declared.token.LexError.TheVariants as errors
+use Rattle.fzn_token.specs.declared.refusal.Refusal.TheVariants as refusal
+use Rattle.fzn_token.specs.declared.refusal.ModelError.{ModelError}
+use Rattle.fzn_token.specs.declared.refusal.ModelError.TheVariants as errors
 use Rattle.fzn_token.specs.declared.token.Token.{Token}
 use Rattle.fzn_token.specs.declared.token.TokenKind.TheVariants as kind
 use Rattle.fzn_token.specs.Gaps.{IsGap}
@@ -35,7 +36,7 @@ pub reached : {text : List ℕ} {ts : List Token} {at : ℕ} → AreSoFar text t
 reached {ts = ts} so_far below = record { tokens = ts; end = so_far.end; before = so_far.before; gap = so_far.gap; within = below }
 
 -- the refusal at a reached place is the refusal of the text
-pub refused : (text : List ℕ) (ts : List Token) (at : ℕ) (e : LexError) → AreSoFar text ts at → at < length text → Reads text at (Err e) → Answers text (Err e)
-refused text ts at (errors.Bad place) so_far below r = record { reached = subst (IsReached text) (sym r.0) (reached so_far below); nothing = subst (NothingBegins text) (sym r.0) r.1 }
-refused text ts at (errors.IntRange place) so_far below r = record { reached = subst (IsReached text) (sym r.0) (reached so_far below); value = r.1.0; to = r.1.1; longest = subst (λ x. IsLongest (kind.Whole r.1.0) text x r.1.1) (sym r.0) r.1.2; outside = r.1.3 }
-refused text ts at errors.Memory so_far below r = absurd r
+pub refused : (text : List ℕ) (ts : List Token) (at : ℕ) (e : ModelError) → AreSoFar text ts at → at < length text → Reads text at (Err e) → Answers text (Err e)
+refused text ts at (errors.Refused (refusal.Lex place)) so_far below r = record { reached = subst (IsReached text) (sym r.0) (reached so_far below); nothing = subst (NothingBegins text) (sym r.0) r.1 }
+refused text ts at (errors.Refused (refusal.IntRange place)) so_far below r = record { reached = subst (IsReached text) (sym r.0) (reached so_far below); value = r.1.0; to = r.1.1; longest = subst (λ x. IsLongest (kind.Whole r.1.0) text x r.1.1) (sym r.0) r.1.2; outside = r.1.3 }
+refused text ts at _ so_far below r = absurd r

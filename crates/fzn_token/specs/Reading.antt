@@ -5,8 +5,12 @@ use Rattle.fzn_token.specs.Gaps.{IsGap}
 use Rattle.fzn_token.specs.Tokens.{IsLongest, NothingBegins, IsToken, AreTokensTo, AreTokens}
 use Rattle.fzn_token.specs.declared.token.TokenKind.TheVariants as kind
 use Rattle.fzn_token.specs.declared.token.Token.{Token}
-use Rattle.fzn_token.specs.declared.token.LexError.{LexError}
-use Rattle.fzn_token.specs.declared.token.LexError.TheVariants as errors
+use Rattle.fzn_token.specs.declared.refusal.BadToken.{BadToken}
+use Rattle.fzn_token.specs.declared.refusal.BadToken.TheVariants as bad
+use Rattle.fzn_token.specs.declared.refusal.Refusal.{Refusal}
+use Rattle.fzn_token.specs.declared.refusal.Refusal.TheVariants as refusal
+use Rattle.fzn_token.specs.declared.refusal.ModelError.{ModelError}
+use Rattle.fzn_token.specs.declared.refusal.ModelError.TheVariants as errors
 use Rattle.fzn_token.specs.declared.token.Mark.TheVariants as mark
 use Rattle.fzn_token.specs.declared.reader.TokenReader.{TokenReader}
 
@@ -37,23 +41,34 @@ pub record IsOutside (text : List ℕ) (at : ℕ) : Type 0 where
   pub longest : IsLongest (kind.Whole value) text at to
   pub outside : FitsSigned w64 value → ⊥
 
--- the answer for a whole text: its tokens, or the first place that is refused
-abbrev pub Answers : List ℕ → Result (List Token) LexError → Type 0
+-- the refusal of a text whose token is read so
+abbrev pub refusal_of : BadToken → Refusal
+refusal_of (bad.Lex at) = refusal.Lex at
+refusal_of (bad.IntRange at) = refusal.IntRange at
+
+-- what is read of a text, or why it is refused
+abbrev pub told : {A : Type 0} → Result A BadToken → Result A ModelError
+told (Ok a) = Ok a
+told (Err bad) = Err (errors.Refused (refusal_of bad))
+
+-- the answer for a whole text: its tokens, or the first place that is refused. Tokens are refused for nothing else
+abbrev pub Answers : List ℕ → Result (List Token) ModelError → Type 0
 Answers text (Ok ts) = AreTokens text ts
-Answers text (Err (errors.Bad at)) = IsBad text at
-Answers text (Err (errors.IntRange at)) = IsOutside text at
+Answers text (Err (errors.Refused (refusal.Lex at))) = IsBad text at
+Answers text (Err (errors.Refused (refusal.IntRange at))) = IsOutside text at
+Answers text (Err (errors.Refused other)) = ⊥
 Answers text (Err errors.Memory) = Unit {0}
 
 -- the answer for one place, which never lacks memory
-abbrev pub Reads : List ℕ → ℕ → Result Token LexError → Type 0
+abbrev pub Reads : List ℕ → ℕ → Result Token ModelError → Type 0
 Reads text i (Ok t) = (t.from ≡ i) × IsToken text t
-Reads text i (Err (errors.Bad at)) = (at ≡ i) × NothingBegins text i
-Reads text i (Err (errors.IntRange at)) = (at ≡ i) × ((z : ℤ) × (to : ℕ) × IsLongest (kind.Whole z) text i to × (FitsSigned w64 z → ⊥))
-Reads text i (Err errors.Memory) = ⊥
+Reads text i (Err (errors.Refused (refusal.Lex at))) = (at ≡ i) × NothingBegins text i
+Reads text i (Err (errors.Refused (refusal.IntRange at))) = (at ≡ i) × ((z : ℤ) × (to : ℕ) × IsLongest (kind.Whole z) text i to × (FitsSigned w64 z → ⊥))
+Reads text i (Err other) = ⊥
 
 -- two answers for one text are the same, want of memory aside
 abbrev pub HasOneAnswer : Type 0
-HasOneAnswer = (text : List ℕ) (a b : Result (List Token) LexError) → Answers text a → Answers text b → (a ≡ Err errors.Memory → ⊥) → (b ≡ Err errors.Memory → ⊥) → a ≡ b
+HasOneAnswer = (text : List ℕ) (a b : Result (List Token) ModelError) → Answers text a → Answers text b → (a ≡ Err errors.Memory → ⊥) → (b ≡ Err errors.Memory → ⊥) → a ≡ b
 
 -- the reader has read these tokens of this text, and the gap behind them
 pub record IsBehind (text : List ℕ) (reader : TokenReader) (ts : List Token) : Type 0 where
@@ -73,22 +88,22 @@ abbrev pub ReadsOn : TokenReader → List Token → TokenReader → Type 0
 ReadsOn old us new = (text : List ℕ) (ts : List Token) → IsBehind text old ts → IsBehind text new (ts ++ us)
 
 -- the text is refused so
-abbrev pub Refuses : TokenReader → LexError → Type 0
+abbrev pub Refuses : TokenReader → ModelError → Type 0
 Refuses old e = (text : List ℕ) (ts : List Token) → IsBehind text old ts → Answers text (Err e)
 
 -- the next token is read; or there is none; or the text is refused
-abbrev pub TakesOne : TokenReader → TokenReader → Result (Option Token) LexError → Type 0
+abbrev pub TakesOne : TokenReader → TokenReader → Result (Option Token) ModelError → Type 0
 TakesOne old new (Ok (Some t)) = ReadsOn old (t ∷ []) new × (left new < left old)
 TakesOne old new (Ok None) = (new ≡ old) × IsAtEnd new
 TakesOne old new (Err e) = Refuses old e
 
 -- these tokens are read, or the text is refused
-abbrev pub TakesPiece : TokenReader → TokenReader → List Token → Result (Unit {0}) LexError → Type 0
+abbrev pub TakesPiece : TokenReader → TokenReader → List Token → Result (Unit {0}) ModelError → Type 0
 TakesPiece old new us (Ok u) = ReadsOn old us new
 TakesPiece old new us (Err e) = Refuses old e
 
 -- the tokens that are left are read, or the text is refused
-abbrev pub TakesRest : TokenReader → Result (Unit {0}) LexError → Type 0
+abbrev pub TakesRest : TokenReader → Result (Unit {0}) ModelError → Type 0
 TakesRest old (Ok u) = (us : List Token) × ((text : List ℕ) (ts : List Token) → IsBehind text old ts → AreTokens text (ts ++ us))
 TakesRest old (Err e) = Refuses old e
 

@@ -1,7 +1,7 @@
 //! From the text to its tokens, in one pass from the left.
 
-ghost use Rattle.std.specs.Prelude.{◌≡◌, ◌<◌, ◌≤◌, length};
-ghost use Rattle.fzn_token.specs.Reading.{Reads, Answers, HasOneAnswer};
+ghost use Rattle.std.specs.Prelude.{◌<◌, ◌≤◌, length};
+ghost use Rattle.fzn_token.specs.Reading.{told, Answers, HasOneAnswer, Reads};
 
 use crate::class::{Class, class_of};
 use crate::mark::twin_token;
@@ -9,16 +9,17 @@ use crate::name::name_token;
 use crate::number::number_token;
 use crate::quoted::text_token;
 use crate::reader::TokenReader;
-use crate::token::{LexError, Token, TokenKind, TokenList};
+use crate::refusal::{BadToken, ModelError};
+use crate::token::{Token, TokenKind, TokenList};
 use std::alloc::Global;
 
 /// The tokens of a text of at most 16,777,216 bytes.
 ///
 /// The text is gaps and the tokens in turn, and each token is the longest that begins at its place. A
-/// refusal names the first place, from the left, that has none: `Bad` where no token begins, an
+/// refusal names the first place, from the left, that has none: `Lex` where no token begins, an
 /// unfinished text at its opening quote among them, and `IntRange` where the longest token is an integer
 /// outside 64 bits.
-pub fn tokens(alloc: Global, text: &[u8]) -> Result<TokenList, LexError>
+pub fn tokens(alloc: Global, text: &[u8]) -> Result<TokenList, ModelError>
     requires { length text.now ≤ 16777216 }
     ensures { Answers text.now result }
 {
@@ -37,10 +38,10 @@ pub fn one_answer()
 
 /// The longest token that begins here.
 #[inline(always)]
-pub(crate) fn token_at(text: &[u8], at: usize) -> Result<Token, LexError>
+pub(crate) fn token_at(text: &[u8], at: usize) -> Result<Token, BadToken>
     requires small { length text.now ≤ 16777216 }
     requires within { at < length text.now }
-    ensures { Reads text.now at result }
+    ensures { Reads text.now at (told result) }
 {
     match class_of(text[at]) {
         Class::Mark(mark) => Ok(Token {
@@ -52,6 +53,6 @@ pub(crate) fn token_at(text: &[u8], at: usize) -> Result<Token, LexError>
         Class::Digit | Class::Minus => number_token(text, at),
         Class::Twin => twin_token(text, at),
         Class::Quote => text_token(text, at),
-        Class::Blank | Class::Percent | Class::Other => Err(LexError::Bad { at: at as u32 }),
+        Class::Blank | Class::Percent | Class::Other => Err(BadToken::Lex { at: at as u32 }),
     }
 }

@@ -18,9 +18,11 @@ mod pieces;
 mod plain;
 mod quoted;
 mod reader;
+mod refusal;
 mod token;
 
 pub use dcsp_common::Memory;
 pub use lexer::{one_answer, tokens};
 pub use reader::TokenReader;
-pub use token::{LexError, Mark, Token, TokenKind, TokenList, Word};
+pub use refusal::{ModelError, Refusal};
+pub use token::{Mark, Token, TokenKind, TokenList, Word};

@@ -4,17 +4,18 @@ ghost use Rattle.std.specs.Prelude.{◌≡◌, ◌<◌, ◌≤◌, ◌+◌, ◌�
 ghost use Rattle.fzn_token.specs.Classes.{class_of};
 ghost use Rattle.fzn_token.specs.Lookup.{mark_in};
 ghost use Rattle.fzn_token.specs.Words.{mark_text};
-ghost use Rattle.fzn_token.specs.Reading.{Reads};
+ghost use Rattle.fzn_token.specs.Reading.{told, Reads};
 
 use crate::class::Class;
-use crate::token::{LexError, Mark, Token, TokenKind};
+use crate::refusal::BadToken;
+use crate::token::{Mark, Token, TokenKind};
 
 /// The mark that begins with the `:` or `.` here.
-pub(crate) fn twin_token(text: &[u8], at: usize) -> Result<Token, LexError>
+pub(crate) fn twin_token(text: &[u8], at: usize) -> Result<Token, BadToken>
     requires small { length text.now ≤ 16777216 }
     requires within { at < length text.now }
     requires twin { class_of (slice_index text.now at) ≡ Class.Twin }
-    ensures { Reads text.now at result }
+    ensures { Reads text.now at (told result) }
 {
     match mark_in(is_twice(text, at), text[at]) {
         Some(mark) => Ok(Token {
@@ -22,7 +23,7 @@ pub(crate) fn twin_token(text: &[u8], at: usize) -> Result<Token, LexError>
             from: at as u32,
             to: (at + mark_len(mark)) as u32,
         }),
-        None => Err(LexError::Bad { at: at as u32 }),
+        None => Err(BadToken::Lex { at: at as u32 }),
     }
 }
 

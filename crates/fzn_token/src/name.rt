@@ -3,18 +3,19 @@
 ghost use Rattle.std.specs.Prelude.{◌≡◌, ◌<◌, ◌≤◌, length, slice_index, true};
 ghost use Rattle.fzn_token.specs.Bytes.{is_letter, is_name_byte, IsWholeRun};
 ghost use Rattle.fzn_token.specs.Lookup.{word_in};
-ghost use Rattle.fzn_token.specs.Reading.{Reads};
+ghost use Rattle.fzn_token.specs.Reading.{told, Reads};
 
 use crate::bytes::is_name_byte;
-use crate::token::{LexError, Token, TokenKind, Word};
+use crate::refusal::BadToken;
+use crate::token::{Token, TokenKind, Word};
 
 /// The name or keyword that begins with the letter here.
 #[inline(always)]
-pub(crate) fn name_token(text: &[u8], at: usize) -> Result<Token, LexError>
+pub(crate) fn name_token(text: &[u8], at: usize) -> Result<Token, BadToken>
     requires small { length text.now ≤ 16777216 }
     requires within { at < length text.now }
     requires letter { is_letter (slice_index text.now at) ≡ true }
-    ensures { Reads text.now at result }
+    ensures { Reads text.now at (told result) }
 {
     let end = name_end(text, at);
     let (from, to) = (at as u32, end as u32);

@@ -2,16 +2,17 @@
 
 ghost use Rattle.std.specs.Prelude.{◌≡◌, ◌<◌, ◌≤◌, ℕ, length, slice_index, MatchOption};
 ghost use Rattle.fzn_token.specs.Quotes.{IsTextEnd};
-ghost use Rattle.fzn_token.specs.Reading.{Reads};
+ghost use Rattle.fzn_token.specs.Reading.{told, Reads};
 
-use crate::token::{LexError, Token, TokenKind};
+use crate::refusal::BadToken;
+use crate::token::{Token, TokenKind};
 
 /// The text that begins with the quote here.
-pub(crate) fn text_token(text: &[u8], at: usize) -> Result<Token, LexError>
+pub(crate) fn text_token(text: &[u8], at: usize) -> Result<Token, BadToken>
     requires small { length text.now ≤ 16777216 }
     requires within { at < length text.now }
     requires quote { slice_index text.now at ≡ 34 }
-    ensures { Reads text.now at result }
+    ensures { Reads text.now at (told result) }
 {
     match text_end(text, at + 1) {
         Some(end) => Ok(Token {
@@ -19,7 +20,7 @@ pub(crate) fn text_token(text: &[u8], at: usize) -> Result<Token, LexError>
             from: at as u32,
             to: end as u32,
         }),
-        None => Err(LexError::Bad { at: at as u32 }),
+        None => Err(BadToken::Lex { at: at as u32 }),
     }
 }
 

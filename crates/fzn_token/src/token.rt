@@ -1,6 +1,6 @@
-//! What tokens are, and why a text has none.
+//! What tokens are.
 
-use dcsp_common::{ItemList, Memory};
+use dcsp_common::ItemList;
 
 /// A keyword.
 #[derive(Clone, Copy, Debug, PartialEq, Eq)]
@@ -97,25 +97,3 @@ pub struct Token {
 
 /// Tokens in the order of a text.
 pub type TokenList = ItemList<Token>;
-
-/// Why a text has no list of tokens: the first place, from the left, that is refused.
-#[derive(Clone, Copy, Debug, PartialEq, Eq)]
-pub enum LexError {
-    /// No token begins at place `at`, which is no blank and in no comment.
-    Bad { at: u32 },
-    /// The longest token at place `at` is an integer below -2^63 or above 2^63 - 1.
-    IntRange { at: u32 },
-    /// Memory ran out.
-    Memory,
-}
-
-impl<T: Drop> From<(T, Memory)> for LexError {
-    ghost use Rattle.std.specs.Prelude.{◌≡◌};
-    ghost use Rattle.fzn_token.specs.declared.token.LexError.TheVariants as errors;
-
-    ghost from_gives = { λ _ e. e ≡ errors.Memory };
-
-    fn from(_: (T, Memory)) -> LexError {
-        LexError::Memory
-    }
-}

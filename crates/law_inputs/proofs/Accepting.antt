@@ -6,14 +6,12 @@ use Rattle.std.proofs.lemmas.List.Concat.{flat_map-append}
 use Rattle.dcsp_defs.proofs.Lists.{and_left, and_right, and_both}
 use Rattle.fzn_item.specs.declared.item.Item.{Item}
 use Rattle.fzn_item.specs.declared.item.Item.TheVariants as item
-use Rattle.dcsp_rule.specs.Problems.{Contents}
-use Rattle.fzn_model.specs.declared.refusal.ItemRefusal.{ItemRefusal}
-use Rattle.fzn_model.specs.declared.refusal.ItemRefusal.TheVariants as refusal
+use Rattle.fzn_token.specs.declared.refusal.Refusal.{Refusal}
+use Rattle.fzn_token.specs.declared.refusal.Refusal.TheVariants as refusal
 use Rattle.fzn_scope.specs.Checks.{◌>>=◌}
 use Rattle.fzn_scope.specs.Names.{bytes_at}
 use Rattle.fzn_model.specs.Declarations.{SoFar, declaration}
 use Rattle.fzn_model.specs.Items.{start, declared_by, after, after_all, finished, resolved}
-use Rattle.fzn_model.specs.Models.{answer_of}
 use Rattle.law_inputs.specs.Sorts.{Names, sort_named}
 use Rattle.law_inputs.specs.Accepted.{declaration_suits, with_name, with_names, variable_sizes, rule_sizes, all_rule_sizes, are_few, is_solve, is_constraint, suits_after, passes, AcceptedItems, AcceptedTexts}
 use Rattle.law_inputs.proofs.Judging.{Judged, judged_bind, judged_choice, judged_test}
@@ -64,7 +62,7 @@ one_item text names variables rules before s (item.Declare at isvar index type n
     let suits = declaration_suits text names isvar index type marked right in
     let few = are_few (variables ++ variable_sizes i) (rules ++ rule_sizes text names i) in
     let P = Stands (with_name text names i) (variables ++ variable_sizes i) (rules ++ rule_sizes text names i) (so || false) (co || false) in
-    let rest : Unit {0} → Result SoFar ItemRefusal = λ _. declared_by text s at isvar index type name_at name marked right in
+    let rest : Unit {0} → Result SoFar Refusal = λ _. declared_by text s at isvar index type name_at name marked right in
     judged_test (declaration s at name_at name >>= rest) (new && (suits && few)) ((new && suits) && few) P (and_assoc new suits few)
     (judged_bind (declaration s at name_at name) rest new (suits && few) (λ _. Unit {0}) P (declaration_judged text names variables rules so co s h at name_at name)
     (λ _ _. declared_by_judged text names variables rules so co s h at isvar index type name_at name_to marked right))
@@ -131,7 +129,7 @@ each_all text before (i ∷ rest) h =
 
 -- ---- the laws
 
-decided : {X : Type 0} (x : Result X ItemRefusal) (b : Bool) → Judged x b (λ _. Unit {0}) → ((a : X) × (x ≡ Ok a)) ↔ (b ≡ true)
+decided : {X : Type 0} (x : Result X Refusal) (b : Bool) → Judged x b (λ _. Unit {0}) → ((a : X) × (x ≡ Ok a)) ↔ (b ≡ true)
 decided (Ok a) b h = ((λ k. h.0), (λ k. (a, refl)))
 decided (Err e) b h = ((λ k. absurd (let f = k.1 in cc)), (λ k. absurd (let f = sym h ∙ k in cc)))
 
@@ -144,18 +142,14 @@ accepted_items text items =
       (λ k. d.1 (and_both all some (each_all text [] items k.each) k.solved)),
     )
 
-resolved_is : (r : Result Contents ItemRefusal) (p : Contents) → Ok p ≡ answer_of r → r ≡ Ok p
-resolved_is (Ok q) p e = let is : q ≡ p = cc in ap Ok is
-resolved_is (Err x) p e = absurd cc
-
 pub accepted_texts : AcceptedTexts
 accepted_texts text = (
   (λ k. elim k.1 [
-    | inl lexical ↦ absurd (elim lexical.1 [ inl bad ↦ (let e = bad.0 in cc) | inr range ↦ (let e = range.0 in cc) ])
+    | inl lexical ↦ absurd (let e = lexical.1 in cc)
     | inr rest ↦ elim rest [
       | inl unread ↦ absurd (let e = unread.result_is in cc)
-      | inr r ↦ record { tokens = r.tokens; items = r.items; lexed = r.lexed; read = r.read; accepted = (accepted_items text r.items).0 (k.0, resolved_is (resolved text r.items) k.0 r.result_is) }
+      | inr r ↦ record { tokens = r.tokens; items = r.items; lexed = r.lexed; read = r.read; accepted = (accepted_items text r.items).0 (k.0, sym r.result_is) }
     ]
   ]),
-  (λ a. let p = (accepted_items text a.items).1 a.accepted in (p.0, inr (inr (record { tokens = a.tokens; items = a.items; lexed = a.lexed; read = a.read; result_is = sym (ap answer_of p.1) })))),
+  (λ a. let p = (accepted_items text a.items).1 a.accepted in (p.0, inr (inr (record { tokens = a.tokens; items = a.items; lexed = a.lexed; read = a.read; result_is = sym p.1 })))),
 )

@@ -10,7 +10,7 @@ use Rattle.dcsp_defs.specs.Words.{below}
 use Rattle.dcsp_defs.specs.Derivation.{step_at}
 use Rattle.dcsp_defs.proofs.Lists.{and_left, and_right, and_both, or_cases, or_left, or_right, In-filter, below-In}
 use Rattle.dcsp_rule.specs.Problems.{Contents, csp_of}
-use Rattle.dcsp_problem.specs.declared.limits.Which.{Which}
+use Rattle.dcsp_common.specs.declared.limits.Which.{Which}
 use Rattle.dcsp_problem.proofs.RisingNumbers.{rising-filter_below, In-filter_below}
 use Rattle.abt_input.specs.Kinds.{IsTotal}
 use Rattle.abt_input.specs.Inputs.{most_log}

@@ -2,7 +2,8 @@
 use Rattle.std.proofs.Common.{ℕ, zero, suc, ◌<◌, inl, inr, List, [], ◌∷◌, ◌++◌, length, Ok, Err, refl, arith}
 use Rattle.fzn_token.specs.declared.token.Token.{Token}
 use Rattle.fzn_item.specs.declared.item.Item.{Item}
-use Rattle.fzn_item.specs.declared.item.ItemError.TheVariants as errors
+use Rattle.fzn_token.specs.declared.refusal.Refusal.TheVariants as refusal
+use Rattle.fzn_token.specs.declared.refusal.ModelError.TheVariants as errors
 use Rattle.fzn_item.specs.Productions.{IsAny}
 use Rattle.fzn_item.specs.Items.{ItemAfter, AreItemsTo}
 use Rattle.fzn_item.proofs.Combining.{fails_then}
@@ -16,7 +17,7 @@ read_on zero text all is rest before below = absurd (omega (arith, below))
 read_on (suc n) text all is [] before below = record { answer = Ok is; answers = before; settled = λ e. cc }
 read_on (suc n) text all is (u ∷ us) before below = elim (item_after_decided text u.kind u us) [
   | inl fails ↦ record {
-    answer = Err (errors.Syntax u.from);
+    answer = Err (errors.Refused (refusal.Syntax u.from));
     answers = unread text all is (u ∷ us) u us refl before (fails_then IsAny (λ first. ItemAfter text first.kind first) (u ∷ us) us u any_unique (refl, refl) fails);
     settled = λ e. cc;
   }

@@ -12,7 +12,7 @@ use Rattle.fzn_item.specs.declared.item.Base.TheVariants as base
 use Rattle.dcsp_meaning.specs.Sums.{widest}
 use Rattle.dcsp_meaning.specs.declared.kinds.ConstraintKind.{ConstraintKind}
 use Rattle.dcsp_meaning.specs.declared.kinds.ConstraintKind.TheVariants.{SetIn}
-use Rattle.dcsp_problem.specs.declared.limits.Which.TheVariants.{DomainSize, Variables, DomainValues, Rules, Terms, Elements}
+use Rattle.dcsp_common.specs.declared.limits.Which.TheVariants.{DomainSize, Variables, DomainValues, Rules, Terms, Elements}
 use Rattle.dcsp_rule.specs.declared.rule.Term.{Term}
 use Rattle.dcsp_rule.specs.declared.rule.Term.TheVariants.{Var}
 use Rattle.dcsp_rule.specs.declared.rule.Members.{Members}
@@ -20,15 +20,14 @@ use Rattle.dcsp_rule.specs.declared.rule.Members.TheVariants as members
 use Rattle.dcsp_rule.specs.declared.rule.Rule.{Rule}
 use Rattle.dcsp_rule.specs.declared.rule.Rule.TheVariants.{Plain}
 use Rattle.dcsp_rule.specs.declared.output.Output.{Output}
-use Rattle.dcsp_problem.specs.Limits.{most}
+use Rattle.dcsp_common.specs.Limits.{most}
 use Rattle.dcsp_rule.specs.Members.{values_of}
 use Rattle.dcsp_rule.specs.Rules.{size_of}
 use Rattle.dcsp_rule.specs.Problems.{Contents, term_count}
 use Rattle.fzn_scope.specs.declared.names.Declared.{Declared}
 use Rattle.fzn_scope.specs.declared.names.Declared.TheVariants as declared
 use Rattle.fzn_scope.specs.declared.place.Wanted.{Wanted}
-use Rattle.fzn_model.specs.Checks.{as_check, ill_typed}
-use Rattle.fzn_model.specs.declared.refusal.ItemRefusal.TheVariants as refusal
+use Rattle.fzn_token.specs.declared.refusal.Refusal.TheVariants as refusal
 use Rattle.fzn_scope.specs.Checks.{◌>>=◌, refused_if}
 use Rattle.fzn_scope.specs.Names.{Scope}
 use Rattle.fzn_scope.specs.Places.{one_of, list_of, count_of, set_of}
@@ -37,7 +36,7 @@ use Rattle.fzn_model.specs.Declarations.{SoFar, named, within, is_boolean, const
 use Rattle.law_inputs.specs.Sorts.{Sort, One, Set, Names, one_suits, one_size, list_suits, list_sizes, set_suits, set_count}
 use Rattle.law_inputs.specs.Arguments.{is_within}
 use Rattle.law_inputs.specs.Accepted.{values_in, is_bounded, is_of_numbers, member_size, value_suits, source_suits, value_sort, source_sizes, member_sizes, are_few}
-use Rattle.law_inputs.proofs.Judging.{Judged, judged_bind, judged_map, judged_check, judged_if, judged_test, judged_more, judged_with, and_absorbs}
+use Rattle.law_inputs.proofs.Judging.{Judged, judged_bind, judged_map, judged_if, judged_test, judged_more, judged_with, and_absorbs}
 use Rattle.law_inputs.proofs.SortedNames.{AreSized, HasSort, HaveSorts}
 use Rattle.law_inputs.proofs.JudgedExprs.{IsGiven, AreGiven, one_judged, list_judged, count_judged, set_judged, is_counted, list_counted}
 use Rattle.law_inputs.proofs.JudgedLimits.{none_past, not_past, Counted, with_domain, with_one_rule, rule_tests, few_split, rule_judged}
@@ -123,14 +122,14 @@ module _ (text : List ℕ) (names : Names) (domains : List (List ℤ)) (scope : 
   constant_judged : (boolean : Bool) (x : Expr) → Judged (constant text scope boolean x) (one_suits text names (record { boolean = boolean; constant = true }) x) (λ d. HasSort domains d (One boolean true (one_size text names x)))
   constant_judged boolean x =
       let w : Wanted = record { boolean = boolean; constant = true } in
-      judged_map (as_check (one_of text scope w x)) (λ term. declared.One boolean term) (one_suits text names w x) (IsGiven domains w (one_size text names x)) (λ d. HasSort domains d (One boolean true (one_size text names x)))
-      (judged_check (one_of text scope w x) (one_suits text names w x) (IsGiven domains w (one_size text names x)) (one_judged text domains scope names sorted w x)) (λ term g. (refl, g.1 refl, g.0))
+      judged_map (one_of text scope w x) (λ term. declared.One boolean term) (one_suits text names w x) (IsGiven domains w (one_size text names x)) (λ d. HasSort domains d (One boolean true (one_size text names x)))
+      (one_judged text domains scope names sorted w x) (λ term g. (refl, g.1 refl, g.0))
 
   pub value_judged : (at : ℕ) (type : Base) (x : Expr) → Judged (value_of text scope at type x) (value_suits text names type x) (λ d. HasSort domains d (value_sort text names type (Some x)))
   value_judged at base.Bool x = constant_judged true x
   value_judged at base.Int x = constant_judged false x
   value_judged at base.Float x = refl
-  value_judged at base.Set x = judged_map (as_check (set_of text scope x)) declared.Set (set_suits text names x) (λ (m : Members). length (values_of m) ≡ set_count text names x) (λ d. HasSort domains d (Set (set_count text names x))) (judged_check (set_of text scope x) (set_suits text names x) (λ (m : Members). length (values_of m) ≡ set_count text names x) (set_judged text domains scope names sorted x)) (λ m e. e)
+  value_judged at base.Set x = judged_map (set_of text scope x) declared.Set (set_suits text names x) (λ (m : Members). length (values_of m) ≡ set_count text names x) (λ d. HasSort domains d (Set (set_count text names x))) (set_judged text domains scope names sorted x) (λ m e. e)
   value_judged at (base.Range low high) x = constant_judged false x
   value_judged at (base.Listed values) x = constant_judged false x
 
@@ -138,7 +137,7 @@ module _ (text : List ℕ) (names : Names) (domains : List (List ℤ)) (scope : 
   source_judged type None = (refl, refl)
   source_judged type (Some x) =
       let w : Wanted = record { boolean = is_boolean type; constant = false } in
-      judged_map (as_check (one_of text scope w x)) (λ term. Some term) (one_suits text names w x) (IsGiven domains w (one_size text names x)) (λ (o : Option Term). is_some o ≡ true) (judged_check (one_of text scope w x) (one_suits text names w x) (IsGiven domains w (one_size text names x)) (one_judged text domains scope names sorted w x)) (λ term g. refl)
+      judged_map (one_of text scope w x) (λ term. Some term) (one_suits text names w x) (IsGiven domains w (one_size text names x)) (λ (o : Option Term). is_some o ≡ true) (one_judged text domains scope names sorted w x) (λ term g. refl)
 
   index_tests : (a b c : Bool) → (c ≡ true → a ≡ true) → (a && (not (not b) && c)) ≡ (c && b)
   index_tests true true c h = and_last c where
@@ -159,11 +158,11 @@ module _ (text : List ℕ) (names : Names) (domains : List (List ℤ)) (scope : 
       let w : Wanted = record { boolean = is_boolean type; constant = not isvar } in
       let n = length (list_sizes text names x) in
       let suits = list_suits text names w x in
-      let rest : (count : ℕ) → count ≡ n → Judged (refused_if (not (is_index index count)) (ill_typed name_at) >>= (λ _. as_check (list_of text scope w x))) (not (not (is_index index n)) && suits) (AreGiven domains w (list_sizes text names x)) =
-      λ count e. subst (λ (k : ℕ). Judged (refused_if (not (is_index index count)) (ill_typed name_at) >>= (λ _. as_check (list_of text scope w x))) (not (not (is_index index k)) && suits) (AreGiven domains w (list_sizes text names x))) e
-      (judged_bind (refused_if (not (is_index index count)) (ill_typed name_at)) (λ _. as_check (list_of text scope w x)) (not (not (is_index index count))) suits (λ _. not (is_index index count) ≡ false) (AreGiven domains w (list_sizes text names x)) (judged_if (not (is_index index count)) (ill_typed name_at)) (λ _ _. judged_check (list_of text scope w x) suits (AreGiven domains w (list_sizes text names x)) (list_judged text domains scope names sorted w x))) in
+      let rest : (count : ℕ) → count ≡ n → Judged (refused_if (not (is_index index count)) (refusal.IllTyped name_at) >>= (λ _. list_of text scope w x)) (not (not (is_index index n)) && suits) (AreGiven domains w (list_sizes text names x)) =
+      λ count e. subst (λ (k : ℕ). Judged (refused_if (not (is_index index count)) (refusal.IllTyped name_at) >>= (λ _. list_of text scope w x)) (not (not (is_index index k)) && suits) (AreGiven domains w (list_sizes text names x))) e
+      (judged_bind (refused_if (not (is_index index count)) (refusal.IllTyped name_at)) (λ _. list_of text scope w x) (not (not (is_index index count))) suits (λ _. not (is_index index count) ≡ false) (AreGiven domains w (list_sizes text names x)) (judged_if (not (is_index index count)) (refusal.IllTyped name_at)) (λ _ _. list_judged text domains scope names sorted w x)) in
       judged_test (elements text scope isvar type index name_at x) _ (suits && is_index index n) (AreGiven domains w (list_sizes text names x)) (index_tests (is_counted text names x) (is_index index n) suits (list_counted text names w x))
-      (judged_bind (as_check (count_of text scope x)) (λ count. refused_if (not (is_index index count)) (ill_typed name_at) >>= (λ _. as_check (list_of text scope w x))) (is_counted text names x) (not (not (is_index index n)) && suits) (λ count. count ≡ n) (AreGiven domains w (list_sizes text names x)) (judged_check (count_of text scope x) (is_counted text names x) (λ count. count ≡ n) (count_judged text domains scope names sorted x)) rest)
+      (judged_bind (count_of text scope x) (λ count. refused_if (not (is_index index count)) (refusal.IllTyped name_at) >>= (λ _. list_of text scope w x)) (is_counted text names x) (not (not (is_index index n)) && suits) (λ count. count ≡ n) (AreGiven domains w (list_sizes text names x)) (count_judged text domains scope names sorted x) rest)
 
 pub domain_judged : (at : ℕ) (type : Base) → Judged (domain_of at type) (is_bounded type) (λ domain. domain ≡ values_in type)
 domain_judged at base.Bool = (refl, refl)

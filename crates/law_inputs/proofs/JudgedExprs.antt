@@ -15,7 +15,7 @@ use Rattle.dcsp_rule.specs.Members.{values_of}
 use Rattle.fzn_scope.specs.declared.names.Declared.{Declared}
 use Rattle.fzn_scope.specs.declared.names.Declared.TheVariants as declared
 use Rattle.fzn_scope.specs.declared.place.Wanted.{Wanted}
-use Rattle.fzn_scope.specs.declared.refusal.Refusal.TheVariants as refusal
+use Rattle.fzn_token.specs.declared.refusal.Refusal.TheVariants as refusal
 use Rattle.fzn_scope.specs.Names.{Scope, declared_as, bytes_at}
 use Rattle.fzn_scope.specs.Places.{truth_term, is_constant, same, wanted_term, term_named, term_of, one_of, terms_after, terms_named, list_of, count_named, count_of, set_named, set_of}
 use Rattle.law_inputs.specs.Sorts.{Sort, One, Set, Many, Names, sort_named, suits, name_suits, atom_suits, one_suits, name_size, truth_size, atom_size, one_size, array_suits, list_suits, array_sizes, list_sizes, set_named_suits, set_suits, set_named_count, set_count}

@@ -8,22 +8,21 @@ use Rattle.fzn_item.specs.declared.item.Marked.{Marked}
 use Rattle.fzn_item.specs.declared.item.Goal.{Goal}
 use Rattle.fzn_item.specs.declared.item.Goal.TheVariants as goals
 use Rattle.fzn_item.specs.declared.item.Item.TheVariants as item
-use Rattle.dcsp_problem.specs.declared.limits.Which.TheVariants.{Elements}
+use Rattle.dcsp_common.specs.declared.limits.Which.TheVariants.{Elements}
 use Rattle.dcsp_rule.specs.declared.aim.Aim.{Aim}
 use Rattle.dcsp_rule.specs.declared.aim.Aim.TheVariants.{Least, Greatest}
 use Rattle.dcsp_rule.specs.declared.rule.Term.{Term}
 use Rattle.dcsp_rule.specs.declared.rule.Term.TheVariants.{Var}
 use Rattle.dcsp_rule.specs.declared.rule.Rule.{Rule}
-use Rattle.dcsp_problem.specs.Limits.{most}
+use Rattle.dcsp_common.specs.Limits.{most}
 use Rattle.dcsp_rule.specs.Rules.{size_of}
 use Rattle.dcsp_rule.specs.Widths.{greatest_among}
 use Rattle.dcsp_rule.specs.Problems.{Contents}
 use Rattle.fzn_scope.specs.declared.names.Declared.{Declared}
 use Rattle.fzn_scope.specs.declared.names.Declared.TheVariants as declared
 use Rattle.fzn_scope.specs.declared.place.Wanted.{Wanted}
-use Rattle.fzn_model.specs.Checks.{as_check, ill_typed}
-use Rattle.fzn_model.specs.declared.refusal.ItemRefusal.{ItemRefusal}
-use Rattle.fzn_model.specs.declared.refusal.ItemRefusal.TheVariants as refusal
+use Rattle.fzn_token.specs.declared.refusal.Refusal.{Refusal}
+use Rattle.fzn_token.specs.declared.refusal.Refusal.TheVariants as refusal
 use Rattle.fzn_scope.specs.Checks.{◌>>=◌, refused_if}
 use Rattle.fzn_scope.specs.Names.{declared_as, bytes_at}
 use Rattle.fzn_scope.specs.Places.{one_of}
@@ -35,7 +34,7 @@ use Rattle.fzn_model.specs.Items.{declared_by, constraint, an_integer, aim_of, s
 use Rattle.law_inputs.specs.Sorts.{Sort, One, Many, Names, sort_named, one_suits, one_size, list_suits, list_sizes}
 use Rattle.law_inputs.specs.Arguments.{is_within, constraint_suits, constraint_size}
 use Rattle.law_inputs.specs.Accepted.{values_in, is_bounded, is_of_numbers, member_size, value_suits, parameter_suits, source_suits, elements_suit, declaration_suits, right_sizes, value_sort, sort_of, variable_sizes, source_sizes, member_sizes, rule_sizes, are_few, goal_suits}
-use Rattle.law_inputs.proofs.Judging.{Judged, judged_bind, judged_map, judged_check, judged_if, judged_test, judged_more, judged_with, and_absorbs}
+use Rattle.law_inputs.proofs.Judging.{Judged, judged_bind, judged_map, judged_if, judged_test, judged_more, judged_with, and_absorbs}
 use Rattle.law_inputs.proofs.SortedNames.{IsSized, AreSized, HasSort, IsDeclaredSo, HaveSorts, Looked, looked, pairwise_push, pairwise_length, sorts_more}
 use Rattle.law_inputs.proofs.JudgedExprs.{IsGiven, AreGiven, one_judged}
 use Rattle.law_inputs.proofs.JudgedLimits.{Counted, with_domain, with_one_rule, variable_judged}
@@ -113,8 +112,8 @@ module _ (text : List ℕ) (names : Names) (variables rules : List ℕ) (solved 
 
   goal_judged : (goal : Goal) → Judged (aim_of text s.scope goal) (goal_suits text names goal) (λ _. Unit {0})
   goal_judged goals.Satisfy = (refl, tt)
-  goal_judged (goals.Minimize at what) = judged_map (as_check (one_of text s.scope an_integer what)) Least (one_suits text names an_integer what) (IsGiven s.problem.domains an_integer (one_size text names what)) (λ _. Unit {0}) (judged_check (one_of text s.scope an_integer what) (one_suits text names an_integer what) (IsGiven s.problem.domains an_integer (one_size text names what)) (one_judged text s.problem.domains s.scope names h.sorted an_integer what)) (λ _ _. tt)
-  goal_judged (goals.Maximize at what) = judged_map (as_check (one_of text s.scope an_integer what)) Greatest (one_suits text names an_integer what) (IsGiven s.problem.domains an_integer (one_size text names what)) (λ _. Unit {0}) (judged_check (one_of text s.scope an_integer what) (one_suits text names an_integer what) (IsGiven s.problem.domains an_integer (one_size text names what)) (one_judged text s.problem.domains s.scope names h.sorted an_integer what)) (λ _ _. tt)
+  goal_judged (goals.Minimize at what) = judged_map (one_of text s.scope an_integer what) Least (one_suits text names an_integer what) (IsGiven s.problem.domains an_integer (one_size text names what)) (λ _. Unit {0}) (one_judged text s.problem.domains s.scope names h.sorted an_integer what) (λ _ _. tt)
+  goal_judged (goals.Maximize at what) = judged_map (one_of text s.scope an_integer what) Greatest (one_suits text names an_integer what) (IsGiven s.problem.domains an_integer (one_size text names what)) (λ _. Unit {0}) (one_judged text s.problem.domains s.scope names h.sorted an_integer what) (λ _ _. tt)
 
   aimed : (aim : Aim) → Stands names (variables ++ []) (rules ++ []) (solved || true) (constrained || false) (record s { problem = record s.problem { aim = aim }; solved = true })
   aimed aim =
@@ -125,7 +124,7 @@ module _ (text : List ℕ) (names : Names) (variables rules : List ℕ) (solved 
   unfolding solve
   solve_judged at goal =
       let P = Stands names (variables ++ []) (rules ++ []) (solved || true) (constrained || false) in
-      let rest : Unit {0} → Result SoFar ItemRefusal = λ _. aim_of text s.scope goal >>= (λ aim. Ok (record s { problem = record s.problem { aim = aim }; solved = true })) in
+      let rest : Unit {0} → Result SoFar Refusal = λ _. aim_of text s.scope goal >>= (λ aim. Ok (record s { problem = record s.problem { aim = aim }; solved = true })) in
       judged_test (refused_if s.solved (refusal.Misplaced at) >>= rest) (not s.solved && goal_suits text names goal) ((not solved && goal_suits text names goal) && are_few (variables ++ []) (rules ++ [])) P
       (ap (λ (b : Bool). not b && goal_suits text names goal) h.solved_is ∙ and_true (not solved && goal_suits text names goal) (are_few (variables ++ []) (rules ++ [])) few)
       (judged_bind (refused_if s.solved (refusal.Misplaced at)) rest (not s.solved) (goal_suits text names goal) (λ _. s.solved ≡ false) P (judged_if s.solved (refusal.Misplaced at))
@@ -154,10 +153,10 @@ module _ (text : List ℕ) (names : Names) (variables rules : List ℕ) (solved 
       let enough = are_few (variables ++ []) (rules ++ n ∷ []) in
       let P = Stands names (variables ++ []) (rules ++ n ∷ []) (solved || false) (constrained || true) in
       let c = subst (λ (vs : List ℕ). Counted s.problem vs rules) (sym (append-nil variables)) h.counted in
-      let put : Rule → Result Contents ItemRefusal = λ rule. with_rule name_at s.problem rule in
+      let put : Rule → Result Contents Refusal = λ rule. with_rule name_at s.problem rule in
       let end : Contents → SoFar = λ q. record s { problem = q; constrained = true } in
-      let added : Result Contents ItemRefusal = as_check (constraint_rule text s.scope name_at name xs) >>= put in
-      let rest : Unit {0} → Result SoFar ItemRefusal = λ _. as_check (constraint_rule text s.scope name_at name xs) >>= (λ rule. put rule >>= (λ q. Ok (end q))) in
+      let added : Result Contents Refusal = constraint_rule text s.scope name_at name xs >>= put in
+      let rest : Unit {0} → Result SoFar Refusal = λ _. constraint_rule text s.scope name_at name xs >>= (λ rule. put rule >>= (λ q. Ok (end q))) in
       let rule_of_it : Judged added (suits && enough) (HasRule text names s.scope s.problem h.sorted name_at xs n) = named_judged text names s.scope s.problem h.sorted name_at xs name (variables ++ []) rules c in
       let whole : Judged (added >>= (λ q. Ok (end q))) (suits && enough) P =
       judged_map added end (suits && enough) (λ q. ((suits && enough) ≡ true) × HasRule text names s.scope s.problem h.sorted name_at xs n q) P (judged_with added (suits && enough) (HasRule text names s.scope s.problem h.sorted name_at xs n) rule_of_it)
@@ -165,7 +164,7 @@ module _ (text : List ℕ) (names : Names) (variables rules : List ℕ) (solved 
       judged_test (refused_if s.solved (refusal.Misplaced at) >>= rest) (not s.solved && (suits && enough)) ((not solved && suits) && enough) P
       (ap (λ (b : Bool). not b && (suits && enough)) h.solved_is ∙ and_assoc (not solved) suits enough)
       (judged_bind (refused_if s.solved (refusal.Misplaced at)) rest (not s.solved) (suits && enough) (λ _. s.solved ≡ false) P (judged_if s.solved (refusal.Misplaced at))
-      (λ _ _. subst (λ (x : Result SoFar ItemRefusal). Judged x (suits && enough) P) (bind_assoc (as_check (constraint_rule text s.scope name_at name xs)) put (λ q. Ok (end q))) whole)) where
+      (λ _ _. subst (λ (x : Result SoFar Refusal). Judged x (suits && enough) P) (bind_assoc (constraint_rule text s.scope name_at name xs) put (λ q. Ok (end q))) whole)) where
         right_of : (a b : Bool) → (a && b) ≡ true → b ≡ true
         right_of true b e = e
         right_of false b e = absurd cc
@@ -181,7 +180,7 @@ module _ (text : List ℕ) (names : Names) (variables rules : List ℕ) (solved 
   pub declaration_judged : (at name_at : ℕ) (name : List ℕ) → Judged (declaration s at name_at name) (not (solved || constrained) && is_none (sort_named names name)) (λ _. Unit {0})
   declaration_judged at name_at name =
       let old = is_some (declared_as s.scope name) in
-      let second : Unit {0} → Result (Unit {0}) ItemRefusal = λ _. refused_if old (refusal.Duplicate name_at) in
+      let second : Unit {0} → Result (Unit {0}) Refusal = λ _. refused_if old (refusal.Duplicate name_at) in
       judged_test (refused_if (is_late s) (refusal.Misplaced at) >>= second) (not (is_late s) && not old) (not (solved || constrained) && is_none (sort_named names name)) (λ _. Unit {0})
       (ap (λ (b : Bool). b && not old) late ∙ ap (λ (b : Bool). not (solved || constrained) && b) (is_new_as (declared_as s.scope name) (sort_named names name) (looked s.problem.domains s.scope names h.sorted name)))
       (judged_bind (refused_if (is_late s) (refusal.Misplaced at)) second (not (is_late s)) (not old) (λ _. is_late s ≡ false) (λ _. Unit {0}) (judged_if (is_late s) (refusal.Misplaced at))
@@ -238,7 +237,7 @@ module _ (text : List ℕ) (names : Names) (variables rules : List ℕ) (solved 
       let third : (o : Option Term) → is_some o ≡ is_some right → Judged (with_variable name_at s.problem domain >>= (λ q. with_source name_at q boolean n o >>= (λ r. Ok (end r)))) (enough && are_few vs rs) P =
       λ o e. judged_bind (with_variable name_at s.problem domain) (λ q. with_source name_at q boolean n o >>= (λ r. Ok (end r))) enough (are_few vs rs) (λ q. (enough ≡ true) × (q ≡ with_domain s.problem domain)) P
       (judged_with (with_variable name_at s.problem domain) enough (λ q. q ≡ with_domain s.problem domain) (variable_judged name_at s.problem variables rules domain h.counted)) (last o e) in
-      let after_domain : List ℤ → Result SoFar ItemRefusal = λ d. source_of text s.scope boolean right >>= (λ o. with_variable name_at s.problem d >>= (λ q. with_source name_at q boolean n o >>= (λ r. Ok (end r)))) in
+      let after_domain : List ℤ → Result SoFar Refusal = λ d. source_of text s.scope boolean right >>= (λ o. with_variable name_at s.problem d >>= (λ q. with_source name_at q boolean n o >>= (λ r. Ok (end r)))) in
       let second : Judged (after_domain domain) (source_suits text names type right && (enough && are_few vs rs)) P =
       judged_bind (source_of text s.scope boolean right) (λ o. with_variable name_at s.problem domain >>= (λ q. with_source name_at q boolean n o >>= (λ r. Ok (end r)))) (source_suits text names type right) (enough && are_few vs rs) (λ (o : Option Term). is_some o ≡ is_some right) P
       (source_judged text names s.problem.domains s.scope h.sorted type right) third in
@@ -267,7 +266,7 @@ module _ (text : List ℕ) (names : Names) (variables rules : List ℕ) (solved 
   array_is_judged at isvar index type name_at name marked None =
       let P = Stands (names ++ (name, Many (is_boolean type) isvar []) ∷ []) (variables ++ []) (rules ++ element_sizes isvar type []) (solved || false) (constrained || false) in
       let enough = are_few (variables ++ []) (rules ++ element_sizes isvar type []) in
-      let refused : Unit {0} → Result SoFar ItemRefusal = λ _. Err (ill_typed name_at) in
+      let refused : Unit {0} → Result SoFar Refusal = λ _. Err (refusal.IllTyped name_at) in
       judged_test (check_element at type >>= refused) (is_of_numbers type && false) ((is_of_numbers type && false) && enough) P (and_nothing (is_of_numbers type) enough)
       (judged_bind (check_element at type) refused (is_of_numbers type) false (λ _. Unit {0}) P (element_judged at type) (λ _ _. refl))
   array_is_judged at isvar index type name_at name marked (Some x) =
@@ -291,9 +290,9 @@ module _ (text : List ℕ) (names : Names) (variables rules : List ℕ) (solved 
         solved_is = h.solved_is ∙ or_false solved;
         constrained_is = h.constrained_is ∙ or_false constrained;
       } in
-      let put : List Term → Result SoFar ItemRefusal = λ terms. with_set isvar name_at s.problem (element_set type) terms >>= (λ r. Ok (end terms r)) in
-      let counted_in : List Term → Result SoFar ItemRefusal = λ terms. within Elements (length terms) name_at >>= (λ _. put terms) in
-      let shaped : List Term → Result SoFar ItemRefusal = λ terms. refused_if (isvar && not (is_shaped marked (length terms))) (refusal.OutputShape name_at) >>= (λ _. counted_in terms) in
+      let put : List Term → Result SoFar Refusal = λ terms. with_set isvar name_at s.problem (element_set type) terms >>= (λ r. Ok (end terms r)) in
+      let counted_in : List Term → Result SoFar Refusal = λ terms. within Elements (length terms) name_at >>= (λ _. put terms) in
+      let shaped : List Term → Result SoFar Refusal = λ terms. refused_if (isvar && not (is_shaped marked (length terms))) (refusal.OutputShape name_at) >>= (λ _. counted_in terms) in
       let enough = are_few vs rs in
       let last : (terms : List Term) → AreGiven s.problem.domains w ns terms → Judged (put terms) enough P =
       λ terms g. judged_map (with_set isvar name_at s.problem (element_set type) terms) (end terms) enough (AreAdded s.problem vs rs) P (with_set_judged isvar name_at vs type terms ns c g.0) (stands terms g) in
@@ -304,7 +303,7 @@ module _ (text : List ℕ) (names : Names) (variables rules : List ℕ) (solved 
       let sized : (terms : List Term) → AreGiven s.problem.domains w ns terms → Judged (shaped terms) (not (isvar && not (is_shaped marked (length ns))) && (is_within Elements (length ns) && enough)) P =
       λ terms g. subst (λ (n : ℕ). Judged (shaped terms) (not (isvar && not (is_shaped marked n)) && (is_within Elements n && enough)) P) (pairwise_length (IsSized s.problem.domains) terms ns g.0) (second terms g) in
       let listed = list_suits text names w x && is_index index (length ns) in
-      let after_element : Unit {0} → Result SoFar ItemRefusal = λ _. elements text s.scope isvar type index name_at x >>= shaped in
+      let after_element : Unit {0} → Result SoFar Refusal = λ _. elements text s.scope isvar type index name_at x >>= shaped in
       let first : Judged (elements text s.scope isvar type index name_at x >>= shaped) (listed && (not (isvar && not (is_shaped marked (length ns))) && (is_within Elements (length ns) && enough))) P =
       judged_bind (elements text s.scope isvar type index name_at x) shaped listed (not (isvar && not (is_shaped marked (length ns))) && (is_within Elements (length ns) && enough)) (AreGiven s.problem.domains w ns) P (elements_judged text names s.problem.domains s.scope h.sorted isvar type index name_at x) sized in
       judged_test (check_element at type >>= after_element) (is_of_numbers type && (listed && (not (isvar && not (is_shaped marked (length ns))) && (is_within Elements (length ns) && enough)))) ((is_of_numbers type && elements_suit text names isvar index type marked (Some x)) && enough) P

@@ -8,14 +8,15 @@ use Rattle.std.proofs.lemmas.List.{length-map}
 use Rattle.std.proofs.lemmas.List.Sums.{sum-map, sum_by_push}
 use Rattle.dcsp_defs.proofs.Lists.{and_left, and_right}
 use Rattle.dcsp_meaning.specs.Sums.{widest}
-use Rattle.dcsp_problem.specs.declared.limits.Which.{Which}
-use Rattle.dcsp_problem.specs.declared.limits.Which.TheVariants.{Variables, DomainValues, Rules, Terms}
+use Rattle.dcsp_common.specs.declared.limits.Which.{Which}
+use Rattle.dcsp_common.specs.declared.limits.Which.TheVariants.{Variables, DomainValues, Rules, Terms}
 use Rattle.dcsp_problem.specs.declared.limits.BuildError.TheVariants.{WideSum}
 use Rattle.dcsp_rule.specs.declared.rule.Rule.{Rule}
 use Rattle.dcsp_rule.specs.Rules.{size_of}
 use Rattle.dcsp_rule.specs.Widths.{rule_width}
 use Rattle.dcsp_rule.specs.Problems.{Contents, term_count, value_count}
-use Rattle.dcsp_problem.specs.Limits.{most, first_past, limit_of, variable_counts, variable_refusal, rule_counts, rule_refusal}
+use Rattle.dcsp_common.specs.Limits.{most}
+use Rattle.dcsp_problem.specs.Limits.{first_past, limit_of, variable_counts, variable_refusal, rule_counts, rule_refusal}
 use Rattle.fzn_model.specs.Building.{refused_at, with_variable, with_rule}
 use Rattle.law_inputs.specs.Arguments.{is_within}
 use Rattle.law_inputs.specs.Accepted.{are_few}

@@ -10,8 +10,8 @@ use Rattle.dcsp_meaning.specs.Rows.{is_table}
 use Rattle.dcsp_meaning.specs.Table.{plain_of}
 use Rattle.dcsp_meaning.specs.Sums.{widest}
 use Rattle.dcsp_meaning.specs.Sums.{greatest_size}
-use Rattle.dcsp_problem.specs.declared.limits.Which.{Which}
-use Rattle.dcsp_problem.specs.declared.limits.Which.TheVariants.{Rules, Terms, Elements}
+use Rattle.dcsp_common.specs.declared.limits.Which.{Which}
+use Rattle.dcsp_common.specs.declared.limits.Which.TheVariants.{Rules, Terms, Elements}
 use Rattle.dcsp_rule.specs.declared.rule.Term.{Term}
 use Rattle.dcsp_rule.specs.declared.rule.Term.TheVariants.{Const, Var}
 use Rattle.dcsp_rule.specs.declared.rule.Rule.{Rule}
@@ -25,19 +25,18 @@ use Rattle.fzn_scope.specs.declared.form.Place.TheVariants as place
 use Rattle.fzn_scope.specs.declared.form.Form.{Form}
 use Rattle.fzn_scope.specs.declared.form.Form.TheVariants.{Plain, Sum}
 use Rattle.fzn_scope.specs.Arguments.{Arguments}
-use Rattle.fzn_scope.specs.declared.refusal.Refusal.{Refusal}
-use Rattle.fzn_scope.specs.declared.refusal.Refusal.TheVariants as refusal
+use Rattle.fzn_token.specs.declared.refusal.Refusal.{Refusal}
+use Rattle.fzn_token.specs.declared.refusal.Refusal.TheVariants as refusal
 use Rattle.fzn_scope.specs.Checks.{◌>>=◌, refused_if}
 use Rattle.fzn_scope.specs.Names.{Scope}
 use Rattle.fzn_scope.specs.Places.{is_constant}
 use Rattle.fzn_scope.specs.Forms.{places_of, form_named}
 use Rattle.fzn_scope.specs.Rules.{no_arguments, arguments_after, constant_of, scalar_at, rule_of, takes_rows, lengths_agree, known_form, constraint_rule}
-use Rattle.fzn_model.specs.Checks.{as_check}
 use Rattle.fzn_model.specs.Building.{with_rule}
 use Rattle.law_inputs.specs.Sorts.{Names}
 use Rattle.law_inputs.specs.Arguments.{is_within, all_suit, scalar_part, Sizes, argument_sizes, lengths_suit, products, width, form_size, constraint_suits, constraint_size}
 use Rattle.law_inputs.specs.Accepted.{are_few}
-use Rattle.law_inputs.proofs.Judging.{Judged, judged_bind, judged_map, judged_check, judged_if, judged_test, judged_more, not_not}
+use Rattle.law_inputs.proofs.Judging.{Judged, judged_bind, judged_map, judged_if, judged_test, judged_more, not_not}
 use Rattle.law_inputs.proofs.SortedNames.{IsSized, AreSized, AreConstant, HaveSorts, pairwise_length}
 use Rattle.fzn_scope.proofs.PlacesInOrder.{in_order, are_constant}
 use Rattle.law_inputs.proofs.JudgedArguments.{AreRead, arguments_judged}
@@ -219,16 +218,16 @@ module _ (text : List ℕ) (names : Names) (scope : Scope) (p : Contents) (sorte
         (judged_more (with_rule at p rule) (not (nat_lt widest (rule_width p.domains rule)) && none_past (rule_counts p rule)) (λ q. q ≡ with_one_rule p rule) (HasRule n) (λ q e. record { rule = rule; added = e; sized = m.size }) (rule_judged at p rule))
 
     -- the rule of a form, added
-    pub ruled_judged : (o : Option Form) → Judged (as_check (known_form at o >>= after_form) >>= (λ rule. with_rule at p rule)) (constraint_suits text names o xs && are_few variables (rules ++ constraint_size text names o xs ∷ [])) (HasRule (constraint_size text names o xs))
+    pub ruled_judged : (o : Option Form) → Judged (known_form at o >>= after_form >>= (λ rule. with_rule at p rule)) (constraint_suits text names o xs && are_few variables (rules ++ constraint_size text names o xs ∷ [])) (HasRule (constraint_size text names o xs))
     ruled_judged None = refl
     ruled_judged (Some form) =
         let s = sizes form in
         let test = not (nat_lt widest (width form s)) && (is_within Elements (length s.first) && is_within Elements (length s.second) && are_few variables (rules ++ form_size form s ∷ [])) in
-        judged_test (as_check (after_form form) >>= (λ rule. with_rule at p rule)) (form_test form && test) (constraint_suits text names (Some form) xs && are_few variables (rules ++ constraint_size text names (Some form) xs ∷ [])) (HasRule (form_size form s))
+        judged_test (after_form form >>= (λ rule. with_rule at p rule)) (form_test form && test) (constraint_suits text names (Some form) xs && are_few variables (rules ++ constraint_size text names (Some form) xs ∷ [])) (HasRule (form_size form s))
         (regroup (length xs == length (places_of form (length xs))) (all_suit text names (places_of form (length xs)) xs) (lengths_suit form s) (not (nat_lt widest (width form s))) (is_within Elements (length s.first)) (is_within Elements (length s.second)) (are_few variables (rules ++ form_size form s ∷ [])))
-        (judged_bind (as_check (after_form form)) (λ rule. with_rule at p rule) (form_test form) test (IsMeasured p.domains form s) (HasRule (form_size form s)) (judged_check (after_form form) (form_test form) (IsMeasured p.domains form s) (form_judged form)) (λ rule m. added_judged form rule m))
+        (judged_bind (after_form form) (λ rule. with_rule at p rule) (form_test form) test (IsMeasured p.domains form s) (HasRule (form_size form s)) (form_judged form) (λ rule m. added_judged form rule m))
 
   -- the same of a constraint's name
-  pub named_judged : (name : List ℕ) (variables rules : List ℕ) → Counted p variables rules → Judged (as_check (constraint_rule text scope at name xs) >>= (λ rule. with_rule at p rule)) (constraint_suits text names (form_named name) xs && are_few variables (rules ++ constraint_size text names (form_named name) xs ∷ [])) (HasRule (constraint_size text names (form_named name) xs))
+  pub named_judged : (name : List ℕ) (variables rules : List ℕ) → Counted p variables rules → Judged (constraint_rule text scope at name xs >>= (λ rule. with_rule at p rule)) (constraint_suits text names (form_named name) xs && are_few variables (rules ++ constraint_size text names (form_named name) xs ∷ [])) (HasRule (constraint_size text names (form_named name) xs))
   unfolding constraint_rule
   named_judged name variables rules counted = ruled_judged variables rules counted (form_named name)

@@ -1,9 +1,7 @@
 -- Checks and their tests: a check passes exactly where its test is true.
 use Rattle.std.proofs.Common.{◌≡◌, Bool, true, false, not, ◌&&◌, Result, Ok, Err, refl, sym, ap, subst}
 use Rattle.std.specs.Prelude.{if◌then◌else◌}
-use Rattle.fzn_scope.specs.declared.refusal.Refusal.{Refusal}
 use Rattle.fzn_scope.specs.Checks.{◌>>=◌, refused_if}
-use Rattle.fzn_model.specs.Checks.{as_check}
 
 -- the check passes exactly where the test is true, and P holds of what it gives
 abbrev pub Judged : {X E : Type 0} → Result X E → Bool → (X → Type 0) → Type 0
@@ -17,11 +15,6 @@ judged_bind (Err e) f b c P Q h k = ap (λ (t : Bool). t && c) h
 pub judged_map : {A B E : Type 0} (x : Result A E) (f : A → B) (b : Bool) (P : A → Type 0) (Q : B → Type 0) → Judged x b P → ((a : A) → P a → Q (f a)) → Judged (x >>= (λ a. Ok (f a))) b Q
 judged_map (Ok a) f b P Q h k = (h.0, k a h.1)
 judged_map (Err e) f b P Q h k = h
-
--- what an expression means, as a check of its item
-pub judged_check : {X : Type 0} (x : Result X Refusal) (b : Bool) (P : X → Type 0) → Judged x b P → Judged (as_check x) b P
-judged_check (Ok a) b P h = h
-judged_check (Err e) b P h = h
 
 pub judged_if : {E : Type 0} (t : Bool) (e : E) → Judged (refused_if t e) (not t) (λ _. t ≡ false)
 judged_if true e = refl

@@ -18,14 +18,13 @@ use Rattle.fzn_scope.specs.declared.form.Place.{Place}
 use Rattle.fzn_scope.specs.declared.form.Place.TheVariants as place
 use Rattle.fzn_scope.specs.declared.form.Form.{Form}
 use Rattle.fzn_scope.specs.Arguments.{Arguments}
-use Rattle.fzn_scope.specs.declared.refusal.Refusal.{Refusal}
-use Rattle.fzn_scope.specs.declared.refusal.Refusal.TheVariants as refusal
+use Rattle.fzn_token.specs.declared.refusal.Refusal.{Refusal}
+use Rattle.fzn_token.specs.declared.refusal.Refusal.TheVariants as refusal
 use Rattle.fzn_scope.specs.Checks.{◌>>=◌, refused_if}
 use Rattle.fzn_scope.specs.Names.{Scope, declared_as, bytes_at}
 use Rattle.fzn_scope.specs.Places.{is_constant, same, truth_term, wanted_term, term_named, term_of, one_of, terms_after, terms_named, list_of, count_named, count_of, set_named, set_of}
 use Rattle.fzn_scope.specs.Forms.{form_named, places_of}
 use Rattle.fzn_scope.specs.Rules.{no_arguments, with_argument, arguments_after, known_form, form_at, lengths_agree, constraint_rule}
-use Rattle.fzn_model.specs.Checks.{as_check}
 use Rattle.fzn_model.specs.Building.{refused_at, with_variable, with_rule}
 use Rattle.law_inputs.proofs.Carrying.{Pairwise}
 use Rattle.law_inputs.proofs.AlikeItems.{AtomsAlike, both_truth, both_whole, both_float, both_name, both_range, both_listed, ExprsAlike, both_one, both_list}
@@ -54,11 +53,6 @@ keeps_if false e d = refl
 pub keeps_choice : {X E : Type 0} (b : Bool) (x : X) (e d : E) → Keeps (if b then Ok x else Err e) (if b then Ok x else Err d)
 keeps_choice true x e d = refl
 keeps_choice false x e d = tt
-
--- what an expression means, as a check of its item
-pub keeps_check : {X : Type 0} (x y : Result X Refusal) → Keeps x y → Keeps (as_check x) (as_check y)
-keeps_check (Ok a) y h = ap as_check h
-keeps_check (Err e) y h = tt
 
 wanted_keeps : (wanted : Wanted) (at to : ℕ) (boolean : Bool) (term : Term) → Keeps (wanted_term wanted at boolean term) (wanted_term wanted to boolean term)
 wanted_keeps wanted at to boolean term = keeps_choice (same boolean wanted.boolean && (not wanted.constant || is_constant term)) term (refusal.IllTyped at) (refusal.IllTyped to)

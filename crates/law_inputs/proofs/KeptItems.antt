@@ -1,5 +1,5 @@
 -- Items that are alike have the same problem.
-use Rattle.std.proofs.Common.{◌≡◌, ℕ, ◌&&◌, not, Bool, true, false, inl, inr, List, [], ◌∷◌, length, Option, Some, None, is_some, Result, Ok, Err, refl, sym, ap, subst}
+use Rattle.std.proofs.Common.{◌≡◌, ℕ, ◌&&◌, not, Bool, true, false, inl, inr, List, [], ◌∷◌, length, Option, Some, None, is_some, Ok, refl, sym, subst}
 use Rattle.std.specs.Prelude.{ℤ, nat_lt}
 use Rattle.dcsp_domain.specs.Ranges.{count_between}
 use Rattle.dcsp_domain.specs.Sets.{set_of as values_in}
@@ -19,27 +19,25 @@ use Rattle.dcsp_rule.specs.declared.rule.Members.{Members}
 use Rattle.dcsp_rule.specs.declared.rule.Members.TheVariants as members
 use Rattle.dcsp_rule.specs.declared.rule.Rule.TheVariants.{Plain}
 use Rattle.dcsp_meaning.specs.declared.kinds.ConstraintKind.TheVariants.{SetIn}
-use Rattle.dcsp_problem.specs.declared.limits.Which.{Which}
-use Rattle.dcsp_problem.specs.declared.limits.Which.TheVariants as which
-use Rattle.dcsp_problem.specs.Limits.{most}
+use Rattle.dcsp_common.specs.declared.limits.Which.{Which}
+use Rattle.dcsp_common.specs.declared.limits.Which.TheVariants as which
+use Rattle.dcsp_common.specs.Limits.{most}
 use Rattle.dcsp_rule.specs.Problems.{Contents}
 use Rattle.fzn_scope.specs.declared.place.Wanted.{Wanted}
-use Rattle.fzn_model.specs.Checks.{as_check, ill_typed}
-use Rattle.fzn_model.specs.declared.refusal.ItemRefusal.{ItemRefusal}
-use Rattle.fzn_model.specs.declared.refusal.ItemRefusal.TheVariants as refusal
+use Rattle.fzn_token.specs.declared.refusal.Refusal.TheVariants as refusal
 use Rattle.fzn_scope.specs.Checks.{refused_if}
 use Rattle.fzn_scope.specs.Names.{Scope, declared_as, bytes_at}
-use Rattle.fzn_scope.specs.Places.{one_of, list_of, count_of, set_of}
+use Rattle.fzn_scope.specs.Places.{one_of, count_of, set_of}
 use Rattle.fzn_scope.specs.Rules.{constraint_rule}
 use Rattle.fzn_model.specs.Building.{with_variable, with_rule}
 use Rattle.fzn_model.specs.Declarations.{SoFar, within, is_late, declaration, is_boolean, constant, value_of, parameter, domain_of, source_of, equality, with_source, variable, check_element, element_set, is_index, is_shaped, with_member, with_members, with_set, elements, array}
 use Rattle.fzn_model.specs.Items.{start, declared_by, declare, constraint, an_integer, aim_of, solve, predicate, after, after_all, finished, resolved}
-use Rattle.fzn_model.specs.Models.{answer_of, Answers}
+use Rattle.fzn_model.specs.Models.{Answers}
 use Rattle.law_inputs.specs.Gapped.{AllAlike, GapsAreIgnored}
 use Rattle.law_inputs.specs.Ignored.{NotesLeftOut, none, kept}
 use Rattle.law_inputs.proofs.Carrying.{Pairwise, none_left}
 use Rattle.law_inputs.proofs.AlikeItems.{ExprsAlike, RightsAlike, both_none, both_some, GoalsAlike, both_satisfy, both_least, both_greatest, ItemsAlike, both_predicate, both_declare, both_constraint, both_solve, item_carried}
-use Rattle.law_inputs.proofs.Keeping.{Keeps, kept_value, keeps_itself, keeps_bind, keeps_check, keeps_if, one_keeps, list_keeps, count_keeps, set_keeps, constraint_keeps, variable_keeps, rule_keeps}
+use Rattle.law_inputs.proofs.Keeping.{Keeps, kept_value, keeps_itself, keeps_bind, keeps_if, one_keeps, list_keeps, count_keeps, set_keeps, constraint_keeps, variable_keeps, rule_keeps}
 
 within_keeps : (w : Which) (count at to : ℕ) → Keeps (within w count at) (within w count to)
 within_keeps w count at to = keeps_if (nat_lt (most w) count) (refusal.Limit w count at) (refusal.Limit w count to)
@@ -87,7 +85,7 @@ predicate_keeps s at to = keeps_bind (refused_if (is_late s) (refusal.Misplaced 
 
 module _ (text other : List ℕ) where
   constant_keeps : (scope : Scope) (boolean : Bool) (a b : Expr) → ExprsAlike text other a b → Keeps (constant text scope boolean a) (constant other scope boolean b)
-  constant_keeps scope boolean a b h = let w : Wanted = record { boolean = boolean; constant = true } in keeps_bind (as_check (one_of text scope w a)) (as_check (one_of other scope w b)) _ _ (keeps_check (one_of text scope w a) (one_of other scope w b) (one_keeps text other scope w a b h)) (λ _. refl)
+  constant_keeps scope boolean a b h = let w : Wanted = record { boolean = boolean; constant = true } in keeps_bind (one_of text scope w a) (one_of other scope w b) _ _ (one_keeps text other scope w a b h) (λ _. refl)
 
   value_keeps : (scope : Scope) (at to : ℕ) (type : Base) (a b : Expr) → ExprsAlike text other a b → Keeps (value_of text scope at type a) (value_of other scope to type b)
   value_keeps scope at to base.Bool a b h = constant_keeps scope true a b h
@@ -95,7 +93,7 @@ module _ (text other : List ℕ) where
   value_keeps scope at to (base.Range low high) a b h = constant_keeps scope false a b h
   value_keeps scope at to (base.Listed values) a b h = constant_keeps scope false a b h
   value_keeps scope at to base.Float a b h = tt
-  value_keeps scope at to base.Set a b h = keeps_bind (as_check (set_of text scope a)) (as_check (set_of other scope b)) _ _ (keeps_check (set_of text scope a) (set_of other scope b) (set_keeps text other scope a b h)) (λ _. refl)
+  value_keeps scope at to base.Set a b h = keeps_bind (set_of text scope a) (set_of other scope b) _ _ (set_keeps text other scope a b h) (λ _. refl)
 
   parameter_keeps : (s : SoFar) (at to : ℕ) (type : Base) (name_at name_to : ℕ) (name : List ℕ) (x y : Option Expr) → RightsAlike text other x y → Keeps (parameter text s at type name_at name x) (parameter other s to type name_to name y)
   unfolding parameter
@@ -104,7 +102,7 @@ module _ (text other : List ℕ) where
 
   source_keeps : (scope : Scope) (boolean : Bool) (x y : Option Expr) → RightsAlike text other x y → Keeps (source_of text scope boolean x) (source_of other scope boolean y)
   source_keeps scope boolean _ _ both_none = refl
-  source_keeps scope boolean _ _ (both_some {a = a} {b = b} h) = let w : Wanted = record { boolean = boolean; constant = false } in keeps_bind (as_check (one_of text scope w a)) (as_check (one_of other scope w b)) _ _ (keeps_check (one_of text scope w a) (one_of other scope w b) (one_keeps text other scope w a b h)) (λ _. refl)
+  source_keeps scope boolean _ _ (both_some {a = a} {b = b} h) = let w : Wanted = record { boolean = boolean; constant = false } in keeps_bind (one_of text scope w a) (one_of other scope w b) _ _ (one_keeps text other scope w a b h) (λ _. refl)
 
   variable_is_kept : (s : SoFar) (at to : ℕ) (type : Base) (name_at name_to : ℕ) (name : List ℕ) (says : Marked) (x y : Option Expr) → RightsAlike text other x y → Keeps (variable text s at type name_at name says x) (variable other s to type name_to name says y)
   unfolding variable
@@ -118,9 +116,9 @@ module _ (text other : List ℕ) where
   elements_keep : (scope : Scope) (isvar : Bool) (type : Base) (index : ℤ × ℤ) (name_at name_to : ℕ) (a b : Expr) → ExprsAlike text other a b → Keeps (elements text scope isvar type index name_at a) (elements other scope isvar type index name_to b)
   unfolding elements
   elements_keep scope isvar type index name_at name_to a b h =
-      keeps_bind (as_check (count_of text scope a)) (as_check (count_of other scope b)) _ _ (keeps_check (count_of text scope a) (count_of other scope b) (count_keeps text other scope a b h)) (λ count.
-      keeps_bind (refused_if (not (is_index index count)) (ill_typed name_at)) (refused_if (not (is_index index count)) (ill_typed name_to)) _ _ (keeps_if (not (is_index index count)) (ill_typed name_at) (ill_typed name_to)) (λ _.
-      let w : Wanted = record { boolean = is_boolean type; constant = not isvar } in keeps_check (list_of text scope w a) (list_of other scope w b) (list_keeps text other scope w a b h)))
+      keeps_bind (count_of text scope a) (count_of other scope b) _ _ (count_keeps text other scope a b h) (λ count.
+      keeps_bind (refused_if (not (is_index index count)) (refusal.IllTyped name_at)) (refused_if (not (is_index index count)) (refusal.IllTyped name_to)) _ _ (keeps_if (not (is_index index count)) (refusal.IllTyped name_at) (refusal.IllTyped name_to)) (λ _.
+      let w : Wanted = record { boolean = is_boolean type; constant = not isvar } in list_keeps text other scope w a b h))
 
   array_keeps : (s : SoFar) (at to : ℕ) (isvar : Bool) (index : ℤ × ℤ) (type : Base) (name_at name_to : ℕ) (name : List ℕ) (says : Marked) (x y : Option Expr) → RightsAlike text other x y → Keeps (array text s at isvar index type name_at name says x) (array other s to isvar index type name_to name says y)
   unfolding array
@@ -141,7 +139,7 @@ module _ (text other : List ℕ) where
   unfolding constraint
   constraint_is_kept s at to name_at name_to name xs ys h =
       keeps_bind (refused_if s.solved (refusal.Misplaced at)) (refused_if s.solved (refusal.Misplaced to)) _ _ (keeps_if s.solved (refusal.Misplaced at) (refusal.Misplaced to)) (λ _.
-      keeps_bind (as_check (constraint_rule text s.scope name_at name xs)) (as_check (constraint_rule other s.scope name_to name ys)) _ _ (keeps_check (constraint_rule text s.scope name_at name xs) (constraint_rule other s.scope name_to name ys) (constraint_keeps text other s.scope name_at name_to name xs ys h)) (λ rule.
+      keeps_bind (constraint_rule text s.scope name_at name xs) (constraint_rule other s.scope name_to name ys) _ _ (constraint_keeps text other s.scope name_at name_to name xs ys h) (λ rule.
       keeps_bind (with_rule name_at s.problem rule) (with_rule name_to s.problem rule) _ _ (rule_keeps name_at name_to s.problem rule) (λ _. refl)))
 
   declare_keeps : (s : SoFar) (at to : ℕ) (isvar : Bool) (index : Option (ℤ × ℤ)) (type : Base) (name_at name_to : ℕ) (name : List ℕ) (says : Marked) (x y : Option Expr) → RightsAlike text other x y → Keeps (declare text s at isvar index type name_at name says x) (declare other s to isvar index type name_to name says y)
@@ -150,8 +148,8 @@ module _ (text other : List ℕ) where
 
   goal_keeps : (scope : Scope) (x y : Goal) → GoalsAlike text other x y → Keeps (aim_of text scope x) (aim_of other scope y)
   goal_keeps scope _ _ both_satisfy = refl
-  goal_keeps scope _ _ (both_least {a = a} {b = b} h) = keeps_bind (as_check (one_of text scope an_integer a)) (as_check (one_of other scope an_integer b)) _ _ (keeps_check (one_of text scope an_integer a) (one_of other scope an_integer b) (one_keeps text other scope an_integer a b h)) (λ _. refl)
-  goal_keeps scope _ _ (both_greatest {a = a} {b = b} h) = keeps_bind (as_check (one_of text scope an_integer a)) (as_check (one_of other scope an_integer b)) _ _ (keeps_check (one_of text scope an_integer a) (one_of other scope an_integer b) (one_keeps text other scope an_integer a b h)) (λ _. refl)
+  goal_keeps scope _ _ (both_least {a = a} {b = b} h) = keeps_bind (one_of text scope an_integer a) (one_of other scope an_integer b) _ _ (one_keeps text other scope an_integer a b h) (λ _. refl)
+  goal_keeps scope _ _ (both_greatest {a = a} {b = b} h) = keeps_bind (one_of text scope an_integer a) (one_of other scope an_integer b) _ _ (one_keeps text other scope an_integer a b h) (λ _. refl)
 
   solve_keeps : (s : SoFar) (at to : ℕ) (a b : Goal) → GoalsAlike text other a b → Keeps (solve text s at a) (solve other s to b)
   unfolding solve
@@ -199,23 +197,19 @@ module _ (text other : List ℕ) where
 same_tokens : (text : List ℕ) (ts us : List Token) → AreTokens text ts → AreTokens text us → ts ≡ us
 same_tokens text ts us h k = let e = one_answer_lem text (Ok ts) (Ok us) h k (λ e. cc) (λ e. cc) in cc
 
-answer_kept : (x : Result Contents ItemRefusal) (p : Contents) → Ok p ≡ answer_of x → x ≡ Ok p
-answer_kept (Ok q) p e = cc
-answer_kept (Err q) p e = absurd cc
-
 -- a text that has a problem has items, and it is theirs
 pub problem_of_items : (text : List ℕ) (ts : List Token) (p : Contents) → AreTokens text ts → Answers text (Ok p) → (is : List Item) × AreItemsTo text ts is [] × (resolved text is ≡ Ok p)
 problem_of_items text ts p lexed h = elim h [
-  | inl lexical ↦ absurd (elim lexical.1 [ inl bad ↦ (let e = bad.0 in cc) | inr range ↦ (let e = range.0 in cc) ])
+  | inl lexical ↦ absurd (let e = lexical.1 in cc)
   | inr rest ↦ elim rest [
     | inl unread ↦ absurd (let e = unread.result_is in cc)
-    | inr r ↦ (r.items, subst (λ (x : List Token). AreItemsTo text x r.items []) (same_tokens text r.tokens ts r.lexed lexed) r.read, answer_kept (resolved text r.items) p r.result_is)
+    | inr r ↦ (r.items, subst (λ (x : List Token). AreItemsTo text x r.items []) (same_tokens text r.tokens ts r.lexed lexed) r.read, sym r.result_is)
   ]
 ]
 
 -- and a text has the problem of its items
 pub items_answer : (text : List ℕ) (ts : List Token) (is : List Item) (p : Contents) → AreTokens text ts → AreItemsTo text ts is [] → resolved text is ≡ Ok p → Answers text (Ok p)
-items_answer text ts is p lexed read resolves = inr (inr (record { tokens = ts; items = is; lexed = lexed; read = read; result_is = ap answer_of (sym resolves) }))
+items_answer text ts is p lexed read resolves = inr (inr (record { tokens = ts; items = is; lexed = lexed; read = read; result_is = sym resolves }))
 
 pub gaps_are_ignored : GapsAreIgnored
 gaps_are_ignored text other d p h =

@@ -9,8 +9,8 @@ use Rattle.dcsp_defs.specs.Words.{In}
 use Rattle.dcsp_defs.specs.Csp.{Csp, count}
 use Rattle.ngd_log.specs.Lines.{lines}
 use Rattle.ngd_log.proofs.LogLines.{tail, cons_head}
-use Rattle.dcsp_problem.specs.declared.limits.Which.TheVariants.{Variables}
-use Rattle.dcsp_problem.specs.Limits.{most}
+use Rattle.dcsp_common.specs.declared.limits.Which.TheVariants.{Variables}
+use Rattle.dcsp_common.specs.Limits.{most}
 use Rattle.dcsp_order.specs.ByRule.{GreaterOr, IsBefore, IsOrderBy}
 use Rattle.dcsp_order.specs.Texts.{variable_line, IsTextOf, IsFirstBad}
 use Rattle.dcsp_order.specs.declared.by_rule.OrderRule.{OrderRule}

@@ -8,8 +8,9 @@ use Rattle.fzn_token.specs.declared.token.Word.{Word}
 use Rattle.fzn_token.specs.declared.token.Mark.{Mark}
 use Rattle.fzn_token.specs.declared.token.Token.{Token}
 use Rattle.fzn_token.specs.declared.token.TokenKind.TheVariants as kind
-use Rattle.fzn_token.specs.declared.token.LexError.{LexError}
-use Rattle.fzn_token.specs.declared.token.LexError.TheVariants as errors
+use Rattle.fzn_token.specs.declared.refusal.Refusal.TheVariants as refusal
+use Rattle.fzn_token.specs.declared.refusal.ModelError.{ModelError}
+use Rattle.fzn_token.specs.declared.refusal.ModelError.TheVariants as errors
 use Rattle.fzn_token.specs.Bytes.{is_letter, is_name_byte, is_digit_in, IsWholeRun}
 use Rattle.fzn_token.specs.Numbers.{IsSign, IsPrefixed, decimal, hexadecimal, octal}
 use Rattle.fzn_token.specs.Words.{mark_text}
@@ -28,7 +29,7 @@ use Rattle.law_inputs.proofs.Tails.{PrefixOrNot, prefix_or_not, TailOrNot, tail_
 
 -- what is read at a place
 abbrev pub IsRead : List ℕ → ℕ → Type 0
-IsRead text i = (answer : Result Token LexError) × Reads text i answer
+IsRead text i = (answer : Result Token ModelError) × Reads text i answer
 
 -- ---- names
 
@@ -42,7 +43,7 @@ name_read text i j whole letter below (Some word) e =
 
 text_read : (text : List ℕ) (i : ℕ) → i < length text → slice_index text i ≡ 34 → EndsOrNot text (i + 1) → IsRead text i
 text_read text i below quote e = elim e [
-  | inl none ↦ (Err (errors.Bad i), (refl, text_missing text i below quote none))
+  | inl none ↦ (Err (errors.Refused (refusal.Lex i)), (refl, text_missing text i below quote none))
   | inr some ↦ (Ok (record { kind = kind.Text; from = i; to = some.0 }), (refl, record { longest = text_longest text i below quote some.1; in_range = tt }))
 ]
 
@@ -56,7 +57,7 @@ fits_or_not (negsuc n) = elim (cases_lt n 9223372036854775808) [ inl low ↦ inl
 integer_read : (text : List ℕ) (i to : ℕ) (z : ℤ) → IsLongest (kind.Whole z) text i to → IsRead text i
 integer_read text i to z longest = elim (fits_or_not z) [
   | inl fits ↦ (Ok (record { kind = kind.Whole z; from = i; to = to }), (refl, record { longest = longest; in_range = fits }))
-  | inr wide ↦ (Err (errors.IntRange i), (refl, (z, to, longest, wide)))
+  | inr wide ↦ (Err (errors.Refused (refusal.IntRange i)), (refl, (z, to, longest, wide)))
 ]
 
 module _ (text : List ℕ) (i start end : ℕ) (minus : Bool) (sign : IsSign minus text i start) (whole : IsWholeRun (is_digit_in 10) text start end) (some : start < end) where
@@ -113,7 +114,7 @@ minus_read text i below minus =
       | inr none ↦
           let ordered = r.1.run.ordered in
           let same : r.0 ≡ i + 1 = omega arith in
-          (Err (errors.Bad i), (refl, minus_alone text i sign (subst (IsWholeRun (is_digit_in 10) text (i + 1)) same r.1)))
+          (Err (errors.Refused (refusal.Lex i)), (refl, minus_alone text i sign (subst (IsWholeRun (is_digit_in 10) text (i + 1)) same r.1)))
     ]
 
 -- ---- marks
@@ -129,7 +130,7 @@ twice_or_not text i = elim (cases_lt (i + 1) (length text)) [
 ]
 
 mark_read : (text : List ℕ) (i : ℕ) → i < length text → class_of (slice_index text i) ≡ other → (twice : Bool) → (twice ≡ true → IsTwice text i) → (IsTwice text i → twice ≡ true) → (o : Option Mark) → mark_in twice (slice_index text i) ≡ o → IsRead text i
-mark_read text i below here twice is_so so None e = (Err (errors.Bad i), (refl, mark_missing text i here twice so e))
+mark_read text i below here twice is_so so None e = (Err (errors.Refused (refusal.Lex i)), (refl, mark_missing text i here twice so e))
 mark_read text i below here twice is_so so (Some mark) e =
     (Ok (record { kind = kind.Mark mark; from = i; to = i + length (mark_text mark) }), (refl, record { longest = mark_longest text i here twice so below is_so mark e; in_range = tt }))
 

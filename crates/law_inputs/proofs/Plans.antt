@@ -1,8 +1,8 @@
 -- A line has a report of any bytes of its files where its plan says something of each.
 use Rattle.std.proofs.Common.{◌≡◌, ℕ, ◌≤◌, List, [], ◌∷◌, length, Option, Some, None, inl, inr, refl, arith}
 use Rattle.dcsp_rule.specs.Problems.{Contents}
-use Rattle.dcsp_problem.specs.declared.limits.Which.TheVariants.{Variables}
-use Rattle.dcsp_problem.specs.Limits.{most}
+use Rattle.dcsp_common.specs.declared.limits.Which.TheVariants.{Variables}
+use Rattle.dcsp_common.specs.Limits.{most}
 use Rattle.dcsp_script.specs.Promises.{Report, answered, refused}
 use Rattle.abt_input.specs.Errors.{error_status, error_text}
 use Rattle.abt_input.specs.Kinds.{IsTotal, an_order}

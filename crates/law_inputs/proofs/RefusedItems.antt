@@ -18,21 +18,20 @@ use Rattle.dcsp_rule.specs.declared.rule.Rule.TheVariants.{Plain}
 use Rattle.dcsp_meaning.specs.declared.kinds.ConstraintKind.TheVariants.{SetIn}
 use Rattle.dcsp_rule.specs.declared.rule.Members.{Members}
 use Rattle.dcsp_rule.specs.declared.rule.Members.TheVariants as members
-use Rattle.dcsp_problem.specs.declared.limits.Which.{Which}
-use Rattle.dcsp_problem.specs.declared.limits.Which.TheVariants as which
-use Rattle.dcsp_problem.specs.Limits.{most}
+use Rattle.dcsp_common.specs.declared.limits.Which.{Which}
+use Rattle.dcsp_common.specs.declared.limits.Which.TheVariants as which
+use Rattle.dcsp_common.specs.Limits.{most}
 use Rattle.dcsp_rule.specs.Problems.{Contents}
-use Rattle.fzn_model.specs.Checks.{as_check, ill_typed}
-use Rattle.fzn_model.specs.declared.refusal.ItemRefusal.TheVariants as refusal
+use Rattle.fzn_token.specs.declared.refusal.Refusal.TheVariants as refusal
 use Rattle.fzn_scope.specs.Checks.{◌>>=◌, refused_if}
 use Rattle.fzn_scope.specs.Names.{Scope, declared_as, bytes_at}
-use Rattle.fzn_scope.specs.Places.{one_of, list_of, count_of, set_of}
+use Rattle.fzn_scope.specs.Places.{one_of, count_of, set_of}
 use Rattle.fzn_scope.specs.Rules.{constraint_rule}
 use Rattle.fzn_model.specs.Building.{with_variable, with_rule}
 use Rattle.fzn_model.specs.Declarations.{SoFar, within, is_late, declaration, is_boolean, right_side, constant, value_of, parameter, domain_of, source_of, equality, with_source, variable, check_element, element_set, is_index, is_shaped, with_member, with_members, with_set, elements, array}
 use Rattle.fzn_model.specs.Items.{start, declared_by, constraint, an_integer, aim_of, solve, predicate, after, after_all, resolved}
 use Rattle.law_inputs.proofs.ItemPlaces.{ExprPlaced, RightPlaced, GoalPlaced, ItemPlaced}
-use Rattle.law_inputs.proofs.Refusing.{RefusalPlaced, Refuses, check_refuses, bind_refuses, if_refuses, choice_refuses, one_refuses, list_refuses, count_refuses, set_refuses, constraint_refuses, variable_refuses, rule_refuses}
+use Rattle.law_inputs.proofs.Refusing.{RefusalPlaced, Refuses, bind_refuses, if_refuses, choice_refuses, one_refuses, list_refuses, count_refuses, set_refuses, constraint_refuses, variable_refuses, rule_refuses}
 
 module _ (P : ℕ → Type 0) where
   within_refuses : (w : Which) (count at : ℕ) → P at → Refuses P (within w count at)
@@ -50,7 +49,7 @@ module _ (P : ℕ → Type 0) where
 
   module _ (text : List ℕ) where
     constant_refuses : (scope : Scope) (boolean : Bool) (e : Expr) → ExprPlaced P e → Refuses P (constant text scope boolean e)
-    constant_refuses scope boolean e h = bind_refuses (RefusalPlaced P) (as_check (one_of text scope (record { boolean = boolean; constant = true }) e)) _ (check_refuses P (one_of text scope (record { boolean = boolean; constant = true }) e) (one_refuses P text scope (record { boolean = boolean; constant = true }) e h)) (λ _. tt)
+    constant_refuses scope boolean e h = bind_refuses (RefusalPlaced P) (one_of text scope (record { boolean = boolean; constant = true }) e) _ (one_refuses P text scope (record { boolean = boolean; constant = true }) e h) (λ _. tt)
 
     value_refuses : (scope : Scope) (at : ℕ) (type : Base) (e : Expr) → P at → ExprPlaced P e → Refuses P (value_of text scope at type e)
     value_refuses scope at base.Bool e h k = constant_refuses scope true e k
@@ -58,7 +57,7 @@ module _ (P : ℕ → Type 0) where
     value_refuses scope at (base.Range low high) e h k = constant_refuses scope false e k
     value_refuses scope at (base.Listed values) e h k = constant_refuses scope false e k
     value_refuses scope at base.Float e h k = h
-    value_refuses scope at base.Set e h k = bind_refuses (RefusalPlaced P) (as_check (set_of text scope e)) _ (check_refuses P (set_of text scope e) (set_refuses P text scope e k)) (λ _. tt)
+    value_refuses scope at base.Set e h k = bind_refuses (RefusalPlaced P) (set_of text scope e) _ (set_refuses P text scope e k) (λ _. tt)
 
     parameter_refuses : (s : SoFar) (at : ℕ) (type : Base) (name_at : ℕ) (name : List ℕ) (right : Option Expr) → P at → P name_at → RightPlaced P right → Refuses P (parameter text s at type name_at name right)
     unfolding parameter
@@ -75,7 +74,7 @@ module _ (P : ℕ → Type 0) where
 
     source_refuses : (scope : Scope) (boolean : Bool) (right : Option Expr) → RightPlaced P right → Refuses P (source_of text scope boolean right)
     source_refuses scope boolean None h = tt
-    source_refuses scope boolean (Some e) h = bind_refuses (RefusalPlaced P) (as_check (one_of text scope (record { boolean = boolean; constant = false }) e)) _ (check_refuses P (one_of text scope (record { boolean = boolean; constant = false }) e) (one_refuses P text scope (record { boolean = boolean; constant = false }) e h)) (λ _. tt)
+    source_refuses scope boolean (Some e) h = bind_refuses (RefusalPlaced P) (one_of text scope (record { boolean = boolean; constant = false }) e) _ (one_refuses P text scope (record { boolean = boolean; constant = false }) e h) (λ _. tt)
 
     with_source_refuses : (at : ℕ) (problem : Contents) (boolean : Bool) (number : ℕ) (source : Option Term) → P at → Refuses P (with_source at problem boolean number source)
     with_source_refuses at problem boolean number None h = tt
@@ -100,9 +99,9 @@ module _ (P : ℕ → Type 0) where
     elements_refuse : (scope : Scope) (isvar : Bool) (type : Base) (index : ℤ × ℤ) (name_at : ℕ) (e : Expr) → P name_at → ExprPlaced P e → Refuses P (elements text scope isvar type index name_at e)
     unfolding elements
     elements_refuse scope isvar type index name_at e h k =
-        bind_refuses (RefusalPlaced P) (as_check (count_of text scope e)) _ (check_refuses P (count_of text scope e) (count_refuses P text scope e k)) (λ count.
-        bind_refuses (RefusalPlaced P) (refused_if (not (is_index index count)) (ill_typed name_at)) _ (if_refuses (RefusalPlaced P) (not (is_index index count)) (ill_typed name_at) h) (λ _.
-        check_refuses P (list_of text scope (record { boolean = is_boolean type; constant = not isvar }) e) (list_refuses P text scope (record { boolean = is_boolean type; constant = not isvar }) e k)))
+        bind_refuses (RefusalPlaced P) (count_of text scope e) _ (count_refuses P text scope e k) (λ count.
+        bind_refuses (RefusalPlaced P) (refused_if (not (is_index index count)) (refusal.IllTyped name_at)) _ (if_refuses (RefusalPlaced P) (not (is_index index count)) (refusal.IllTyped name_at) h) (λ _.
+        list_refuses P text scope (record { boolean = is_boolean type; constant = not isvar }) e k))
 
     member_refuses : (at : ℕ) (problem : Contents) (set : Option Members) (term : Term) → P at → Refuses P (with_member at problem set term)
     member_refuses at problem None term h = tt
@@ -135,13 +134,13 @@ module _ (P : ℕ → Type 0) where
     unfolding constraint
     constraint_is_refused s at name_at name es h k each =
         bind_refuses (RefusalPlaced P) (refused_if s.solved (refusal.Misplaced at)) _ (if_refuses (RefusalPlaced P) s.solved (refusal.Misplaced at) h) (λ _.
-        bind_refuses (RefusalPlaced P) (as_check (constraint_rule text s.scope name_at name es)) _ (check_refuses P (constraint_rule text s.scope name_at name es) (constraint_refuses P text s.scope name_at name es k each)) (λ rule.
+        bind_refuses (RefusalPlaced P) (constraint_rule text s.scope name_at name es) _ (constraint_refuses P text s.scope name_at name es k each) (λ rule.
         bind_refuses (RefusalPlaced P) (with_rule name_at s.problem rule) _ (rule_refuses P name_at s.problem rule k) (λ _. tt)))
 
     goal_refuses : (scope : Scope) (goal : Goal) → GoalPlaced P goal → Refuses P (aim_of text scope goal)
     goal_refuses scope goals.Satisfy h = tt
-    goal_refuses scope (goals.Minimize at what) h = bind_refuses (RefusalPlaced P) (as_check (one_of text scope an_integer what)) _ (check_refuses P (one_of text scope an_integer what) (one_refuses P text scope an_integer what h.1)) (λ _. tt)
-    goal_refuses scope (goals.Maximize at what) h = bind_refuses (RefusalPlaced P) (as_check (one_of text scope an_integer what)) _ (check_refuses P (one_of text scope an_integer what) (one_refuses P text scope an_integer what h.1)) (λ _. tt)
+    goal_refuses scope (goals.Minimize at what) h = bind_refuses (RefusalPlaced P) (one_of text scope an_integer what) _ (one_refuses P text scope an_integer what h.1) (λ _. tt)
+    goal_refuses scope (goals.Maximize at what) h = bind_refuses (RefusalPlaced P) (one_of text scope an_integer what) _ (one_refuses P text scope an_integer what h.1) (λ _. tt)
 
     solve_refuses : (s : SoFar) (at : ℕ) (goal : Goal) → P at → GoalPlaced P goal → Refuses P (solve text s at goal)
     unfolding solve

@@ -2,8 +2,8 @@
 use Rattle.std.proofs.Common.{ℕ, Bool, true, false, List, [], ◌∷◌, Result, Ok, refl}
 use Rattle.fzn_item.specs.declared.item.Item.{Item}
 use Rattle.fzn_item.specs.declared.item.Item.TheVariants as item
-use Rattle.fzn_model.specs.declared.refusal.ItemRefusal.{ItemRefusal}
-use Rattle.fzn_model.specs.declared.refusal.ItemRefusal.TheVariants as refusal
+use Rattle.fzn_token.specs.declared.refusal.Refusal.{Refusal}
+use Rattle.fzn_token.specs.declared.refusal.Refusal.TheVariants as refusal
 use Rattle.fzn_scope.specs.Checks.{◌>>=◌, refused_if}
 use Rattle.fzn_model.specs.Declarations.{SoFar, is_late}
 use Rattle.fzn_model.specs.Items.{start, predicate, after, after_all, finished, resolved}
@@ -11,11 +11,11 @@ use Rattle.law_inputs.specs.Predicates.{without_predicates, PredicatesAreIgnored
 use Rattle.law_inputs.proofs.Keeping.{Keeps, kept_value, keeps_itself, keeps_bind}
 
 -- what is kept after a check that changes nothing
-skipped : (late : Bool) (e : ItemRefusal) (s : SoFar) (f : SoFar → Result SoFar ItemRefusal) (y : Result SoFar ItemRefusal) → Keeps (f s) y → Keeps ((refused_if late e >>= (λ _. Ok s)) >>= f) y
+skipped : (late : Bool) (e : Refusal) (s : SoFar) (f : SoFar → Result SoFar Refusal) (y : Result SoFar Refusal) → Keeps (f s) y → Keeps ((refused_if late e >>= (λ _. Ok s)) >>= f) y
 skipped true e s f y h = tt
 skipped false e s f y h = h
 
-pub skips_predicate : (s : SoFar) (at : ℕ) (f : SoFar → Result SoFar ItemRefusal) (y : Result SoFar ItemRefusal) → Keeps (f s) y → Keeps (predicate s at >>= f) y
+pub skips_predicate : (s : SoFar) (at : ℕ) (f : SoFar → Result SoFar Refusal) (y : Result SoFar Refusal) → Keeps (f s) y → Keeps (predicate s at >>= f) y
 unfolding predicate
 skips_predicate s at f y h = skipped (is_late s) (refusal.Misplaced at) s f y h
 

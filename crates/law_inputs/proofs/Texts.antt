@@ -2,8 +2,8 @@
 use Rattle.std.proofs.Common.{◌≡◌, ℕ, zero, suc, ◌+◌, ◌<◌, ◌≤◌, inl, inr, List, [], ◌∷◌, ◌++◌, length, Result, Ok, Err, arith, refl, sym, ◌∙◌}
 use Rattle.std.proofs.lemmas.Bool.{cases_lt}
 use Rattle.fzn_token.specs.declared.token.Token.{Token}
-use Rattle.fzn_token.specs.declared.token.LexError.{LexError}
-use Rattle.fzn_token.specs.declared.token.LexError.TheVariants as errors
+use Rattle.fzn_token.specs.declared.refusal.ModelError.{ModelError}
+use Rattle.fzn_token.specs.declared.refusal.ModelError.TheVariants as errors
 use Rattle.fzn_token.specs.Reading.{AreSoFar, Reads}
 use Rattle.fzn_token.proofs.Extents.{extent}
 use Rattle.fzn_token.proofs.SoFar.{none_so_far, push_so_far, all_read, refused}
@@ -12,9 +12,8 @@ use Rattle.law_inputs.proofs.Searches.{gap_at}
 use Rattle.law_inputs.proofs.Places.{token_read}
 
 -- a place never lacks memory
-no_lack : (text : List ℕ) (i : ℕ) (e : LexError) → Reads text i (Err e) → (answer : Result (List Token) LexError) → answer ≡ Err e → answer ≡ Err errors.Memory → ⊥
-no_lack text i (errors.Bad at) r answer is h = let e = sym is ∙ h in cc
-no_lack text i (errors.IntRange at) r answer is h = let e = sym is ∙ h in cc
+no_lack : (text : List ℕ) (i : ℕ) (e : ModelError) → Reads text i (Err e) → (answer : Result (List Token) ModelError) → answer ≡ Err e → answer ≡ Err errors.Memory → ⊥
+no_lack text i (errors.Refused refusal) r answer is h = let e = sym is ∙ h in cc
 no_lack text i errors.Memory r answer is h = r
 
 -- all tokens were read
@@ -22,7 +21,7 @@ whole : (text : List ℕ) (ts : List Token) (at : ℕ) → AreSoFar text ts at �
 whole text ts at so_far past = record { answer = Ok ts; answers = all_read so_far past; settled = λ e. cc }
 
 -- one token more, from which the reading goes on
-one_on : (text : List ℕ) (ts : List Token) (at n : ℕ) → ((us : List Token) (to : ℕ) → AreSoFar text us to → length text ≤ to + n → HasTokens text) → AreSoFar text ts at → length text ≤ at + suc n → at < length text → (answer : Result Token LexError) → Reads text at answer → HasTokens text
+one_on : (text : List ℕ) (ts : List Token) (at n : ℕ) → ((us : List Token) (to : ℕ) → AreSoFar text us to → length text ≤ to + n → HasTokens text) → AreSoFar text ts at → length text ≤ at + suc n → at < length text → (answer : Result Token ModelError) → Reads text at answer → HasTokens text
 one_on text ts at n go_on so_far past below (Err e) r = record { answer = Err e; answers = refused text ts at e so_far below r; settled = no_lack text at e r (Err e) refl }
 one_on text ts at n go_on so_far past below (Ok t) r =
     let x = extent t.kind text t.from t.to r.1.longest.spelled in

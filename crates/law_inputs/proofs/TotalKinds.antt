@@ -1,12 +1,13 @@
 -- The kinds of files are total: any bytes say something or are refused.
-use Rattle.std.proofs.Common.{◌≡◌, ℕ, zero, suc, ◌<◌, ◌≤◌, Bool, true, false, List, [], ◌∷◌, ◌++◌, length, Option, Some, None, Result, Ok, Err, ◌⊎◌, inl, inr, refl, sym, ap, subst}
+use Rattle.std.proofs.Common.{◌≡◌, ℕ, zero, suc, ◌<◌, ◌≤◌, Bool, true, false, List, [], ◌∷◌, ◌++◌, length, Option, Some, None, Result, Ok, Err, ◌⊎◌, inl, inr, refl, sym, subst}
 use Rattle.std.specs.Prelude.{ℤ, IsSome, pos, negsuc, nat_le, ◌==◌, ◌&&◌, if◌then◌else◌}
 use Rattle.std.specs.Option.{option_map}
 use Rattle.std.proofs.lemmas.Bool.Decides.{leb_tells}
 use Rattle.dcsp_rule.specs.Problems.{Contents}
-use Rattle.dcsp_problem.specs.declared.limits.Which.{Which}
-use Rattle.dcsp_problem.specs.declared.limits.Which.TheVariants.{Variables}
-use Rattle.dcsp_problem.specs.Limits.{most, limit_of, first_past, rule_counts}
+use Rattle.dcsp_common.specs.declared.limits.Which.{Which}
+use Rattle.dcsp_common.specs.declared.limits.Which.TheVariants.{Variables}
+use Rattle.dcsp_common.specs.Limits.{most}
+use Rattle.dcsp_problem.specs.Limits.{limit_of, first_past, rule_counts}
 use Rattle.dcsp_problem.specs.WellFormed.{IsProblem}
 use Rattle.cnf_front.specs.declared.header.CnfError.{CnfError}
 use Rattle.cnf_front.specs.declared.header.CnfError.TheVariants as cnf
@@ -14,9 +15,7 @@ use Rattle.cnf_front.specs.declared.header.Mark.TheVariants.{P, Cnf, Clauses as 
 use Rattle.cnf_front.specs.declared.words.Stand.TheVariants.{Start}
 use Rattle.cnf_front.specs.Dimacs.{TextWord, words}
 use Rattle.cnf_front.specs.Formulas.{◌>>=◌, Clause, no_literals, clause_rule, refused_at, with_clause, with_word, clauses_from, header, passes, expect, within_limit, variables_at, number_of, literal_in, is_end, only_variables, problem_of}
-use Rattle.fzn_model.specs.declared.model.ModelError.{ModelError}
-use Rattle.fzn_model.specs.declared.model.ModelError.TheVariants as texts
-use Rattle.abt_input.proofs.Once.{no_error_of_model, one_error_of_model}
+use Rattle.fzn_token.specs.declared.refusal.Refusal.{Refusal}
 use Rattle.fzn_model.specs.Models.{Answers}
 use Rattle.ngd_log.proofs.LogLaws.{log_or_bad_line}
 use Rattle.rup_check.proofs.TotalLaws.{proof_or_bad_line}
@@ -28,7 +27,7 @@ use Rattle.abt_input.specs.declared.error.CommandError.TheVariants.{ModelLong, M
 use Rattle.abt_input.specs.declared.order_error.OrderRefusal.TheVariants as orders
 use Rattle.law_inputs.proofs.Orders.{order_or_bad_line}
 use Rattle.abt_input.specs.declared.clauses_error.ClausesError.TheVariants.{CnfLong, CnfRefused, ProofLong, ProofLine}
-use Rattle.abt_input.specs.Inputs.{IsModelOf, IsRefused, most_model, most_log, most_schedule, most_cnf, most_order}
+use Rattle.abt_input.specs.Inputs.{IsModelOf, most_model, most_log, most_schedule, most_cnf, most_order}
 use Rattle.dcsp_rule.specs.Aims.{aimed_at, narrowed}
 use Rattle.line_check.specs.Taking.{taking_of, narrowing, model_by, IsNarrowedOf, IsErrorOfAim}
 use Rattle.abt_input.specs.Kinds.{IsTotal, a_model, a_log, a_schedule, a_formula, a_proof, an_order}
@@ -41,18 +40,9 @@ length_known text m = elim (leb_tells (length text) m) [ inl short ↦ inr short
 
 pub model_total : IsTotal a_model
 model_total text = elim (length_known text most_model) [ inl long ↦ inr (ModelLong, long) | inr short ↦ told short ((texts_have_answers text).answer) (texts_have_answers text).answers ] where
-  told : length text ≤ most_model → (answer : Result Contents ModelError) → Answers text answer → ((p : Contents) × IsModelOf text p) ⊎ ((error : CommandError) × a_model.Refuses text error)
+  told : length text ≤ most_model → (answer : Result Contents Refusal) → Answers text answer → ((p : Contents) × IsModelOf text p) ⊎ ((error : CommandError) × a_model.Refuses text error)
   told short (Ok p) reads = inl (p, record { short = short; reads = reads })
   told short (Err error) reads = inr (ModelRefused error, record { short = short; reads = reads })
-
--- no model is refused for want of memory
-pub model_memory : (text : List ℕ) → IsRefused text texts.Memory → ⊥
-model_memory text refused = by (texts_have_answers text).answer (texts_have_answers text).answers (texts_have_answers text).settled where
-  by : (answer : Result Contents ModelError) → Answers text answer → (answer ≡ Err texts.Memory → ⊥) → ⊥
-  by (Ok p) reads settled = no_error_of_model text p (ModelRefused texts.Memory) (record { short = refused.short; reads = reads }) refused
-  by (Err error) reads settled =
-      let same : ModelRefused error ≡ ModelRefused texts.Memory = one_error_of_model text (ModelRefused error) (ModelRefused texts.Memory) (record { short = refused.short; reads = reads }) refused in
-      settled (let e : error ≡ texts.Memory = cc in ap (λ x. Err x) e)
 
 -- the problem of a model keeps the limits
 pub model_problem : (text : List ℕ) (p : Contents) → IsModelOf text p → IsProblem p
@@ -66,7 +56,7 @@ better_total bound text = elim (length_known text most_model) [ inl long ↦ inr
   taken p is None aimless = inr (NoAim, record { whole = p; model_is = is; aimless = aimless })
   taken p is (Some place) aimed = inl (narrowed p bound, record { whole = p; model_is = is; known = (model_problem text p is).aim; aimed = subst IsSome (sym aimed) refl; narrowed_is = refl })
 
-  told : length text ≤ most_model → (answer : Result Contents ModelError) → Answers text answer → ((q : Contents) × IsNarrowedOf bound text q) ⊎ ((error : CommandError) × IsErrorOfAim text error)
+  told : length text ≤ most_model → (answer : Result Contents Refusal) → Answers text answer → ((q : Contents) × IsNarrowedOf bound text q) ⊎ ((error : CommandError) × IsErrorOfAim text error)
   told short (Ok p) reads = taken p (record { short = short; reads = reads }) (aimed_at p.aim) refl
   told short (Err error) reads = inr (ModelRefused error, record { short = short; reads = reads })
 

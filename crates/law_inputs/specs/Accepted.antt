@@ -14,7 +14,7 @@ use Rattle.fzn_item.specs.declared.item.Item.{Item}
 use Rattle.fzn_item.specs.declared.item.Item.TheVariants as item
 use Rattle.fzn_item.specs.declared.item.Marked.{Marked}
 use Rattle.fzn_item.specs.Items.{AreItemsTo}
-use Rattle.dcsp_problem.specs.declared.limits.Which.TheVariants.{DomainSize, Variables, DomainValues, Rules, Terms, Elements}
+use Rattle.dcsp_common.specs.declared.limits.Which.TheVariants.{DomainSize, Variables, DomainValues, Rules, Terms, Elements}
 use Rattle.dcsp_rule.specs.Widths.{greatest_among}
 use Rattle.dcsp_rule.specs.Problems.{Contents}
 use Rattle.fzn_scope.specs.Names.{bytes_at}

@@ -5,9 +5,9 @@ use Rattle.fzn_item.specs.declared.item.Expr.{Expr}
 use Rattle.dcsp_meaning.specs.Rows.{is_table}
 use Rattle.dcsp_meaning.specs.Sums.{widest}
 use Rattle.dcsp_meaning.specs.Table.{plain_of}
-use Rattle.dcsp_problem.specs.declared.limits.Which.{Which}
-use Rattle.dcsp_problem.specs.declared.limits.Which.TheVariants.{Elements}
-use Rattle.dcsp_problem.specs.Limits.{most}
+use Rattle.dcsp_common.specs.declared.limits.Which.{Which}
+use Rattle.dcsp_common.specs.declared.limits.Which.TheVariants.{Elements}
+use Rattle.dcsp_common.specs.Limits.{most}
 use Rattle.fzn_scope.specs.declared.form.Place.{Place}
 use Rattle.fzn_scope.specs.declared.form.Place.TheVariants as place
 use Rattle.fzn_scope.specs.declared.form.Form.{Form}

@@ -1,5 +1,5 @@
 -- An accepted text denotes a problem.
-use Rattle.std.proofs.Common.{◌≡◌, ℕ, zero, suc, ◌+◌, ◌^◌, ◌<◌, ◌≤◌, ◌==◌, ◌&&◌, inl, inr, Bool, true, false, not, if◌then◌else◌, List, [], ◌∷◌, length, Option, Some, None, Result, Ok, Err, refl, sym, ap, ◌∙◌, subst, arith}
+use Rattle.std.proofs.Common.{◌≡◌, ℕ, zero, suc, ◌+◌, ◌^◌, ◌<◌, ◌≤◌, ◌==◌, ◌&&◌, inl, inr, Bool, true, false, not, if◌then◌else◌, List, [], ◌∷◌, length, Option, Some, None, Ok, Err, refl, sym, ap, ◌∙◌, subst, arith}
 use Rattle.std.specs.Prelude.{ℤ, pos, nat_lt, nat_le, All, IfSome, IsTrue}
 use Rattle.std.proofs.lemmas.Bool.Decides.{eqb_tells, nat_tests}
 use Rattle.std.proofs.lemmas.List.{length_push}
@@ -16,12 +16,13 @@ use Rattle.dcsp_rule.specs.declared.rule.Rule.TheVariants as rule
 use Rattle.dcsp_meaning.specs.Table.{is_shape}
 use Rattle.dcsp_rule.specs.declared.output.Output.{Output}
 use Rattle.dcsp_rule.specs.declared.aim.Aim.{Aim}
-use Rattle.dcsp_problem.specs.declared.limits.Which.{Which}
-use Rattle.dcsp_problem.specs.declared.limits.Which.TheVariants as which
+use Rattle.dcsp_common.specs.declared.limits.Which.{Which}
+use Rattle.dcsp_common.specs.declared.limits.Which.TheVariants as which
 use Rattle.dcsp_rule.specs.Problems.{Contents}
 use Rattle.dcsp_rule.specs.Rules.{IsTermOf, IsRuleOf, IsAimOf, terms_of, has_shape}
 use Rattle.dcsp_problem.specs.Outputs.{IsOutputOf, AreRangesOf, range_product}
-use Rattle.dcsp_problem.specs.Limits.{most, first_past, list_counts}
+use Rattle.dcsp_common.specs.Limits.{most}
+use Rattle.dcsp_problem.specs.Limits.{first_past, list_counts}
 use Rattle.dcsp_problem.specs.WellFormed.{IsProblem}
 use Rattle.dcsp_problem.proofs.WellFormed.{is_csp}
 use Rattle.fzn_item.specs.declared.item.Item.{Item}
@@ -38,15 +39,13 @@ use Rattle.fzn_scope.specs.Places.{one_of, list_of, count_of, set_of}
 use Rattle.fzn_scope.specs.Known.{IsKnown, AreKnown}
 use Rattle.fzn_scope.proofs.KnownLaws.{scope_of_more, scope_with_more, one_known, list_known, constraint_known}
 use Rattle.fzn_scope.proofs.ShapeLaws.{constraint_shape}
-use Rattle.fzn_model.specs.declared.refusal.ItemRefusal.{ItemRefusal}
-use Rattle.fzn_model.specs.declared.refusal.ItemRefusal.TheVariants as refusal
+use Rattle.fzn_token.specs.declared.refusal.Refusal.TheVariants as refusal
 use Rattle.fzn_scope.specs.declared.place.Wanted.{Wanted}
 use Rattle.fzn_model.proofs.Sound.{source_of_more}
 use Rattle.fzn_model.specs.Building.{with_variable, with_rule, with_output}
-use Rattle.fzn_model.specs.Checks.{as_check, ill_typed}
 use Rattle.fzn_model.specs.Declarations.{SoFar, named, within, is_boolean, is_late, right_side, constant, value_of, check_element, is_index, declaration, parameter, domain_of, source_of, equality, with_source, variable_output, variable, array_output, element_set, is_shaped, with_member, with_members, with_set, elements, array}
 use Rattle.fzn_model.specs.Items.{start, declared_by, constraint, an_integer, aim_of, solve, predicate, after, after_all, finished, resolved}
-use Rattle.fzn_model.specs.Models.{Answers, IsResolved, answer_of, longest_text}
+use Rattle.fzn_model.specs.Models.{Answers, IsResolved, longest_text}
 use Rattle.fzn_item.specs.Items.{ToSemicolon, AreItemsTo}
 use Rattle.fzn_item.proofs.Endings.{items_end_law}
 use Rattle.fzn_token.specs.declared.token.Token.{Token}
@@ -61,7 +60,6 @@ use Rattle.dcsp_meaning.specs.Sums.{widest}
 use Rattle.dcsp_rule.specs.Widths.{rule_width}
 use Rattle.std.proofs.lemmas.Bool.{not-false}
 use Rattle.fzn_scope.specs.Rules.{constraint_rule}
-use Rattle.fzn_model.proofs.Meanings.{meant}
 use Rattle.law_subjects.specs.Accepting.{AcceptedAreProblems}
 use Rattle.law_subjects.proofs.ValueBounds.{AllFit, DomainsFit, all_fit, is_small, none_fit, tokens_fit}
 use Rattle.law_subjects.proofs.Building.{parts_of, if_ok, variable_added, rule_added, output_added}
@@ -114,15 +112,15 @@ not_so false e h = refl
 abbrev wanted_as : Bool → Bool → Wanted
 wanted_as boolean fixed = record { boolean = boolean; constant = fixed }
 
-term_meant : (n : ℕ) (text : List ℕ) (scope : Scope) (wanted : Wanted) (expr : Expr) (term : Term) → AreKnown n scope → as_check (one_of text scope wanted expr) ≡ Ok term → IsTermOf n term
-term_meant n text scope wanted expr term known h = if_ok (IsTermOf n) (one_of text scope wanted expr) term (one_known n text scope wanted expr known) (meant (one_of text scope wanted expr) term h)
+term_meant : (n : ℕ) (text : List ℕ) (scope : Scope) (wanted : Wanted) (expr : Expr) (term : Term) → AreKnown n scope → one_of text scope wanted expr ≡ Ok term → IsTermOf n term
+term_meant n text scope wanted expr term known h = if_ok (IsTermOf n) (one_of text scope wanted expr) term (one_known n text scope wanted expr known) h
 
-terms_meant : (n : ℕ) (text : List ℕ) (scope : Scope) (wanted : Wanted) (expr : Expr) (terms : List Term) → AreKnown n scope → as_check (list_of text scope wanted expr) ≡ Ok terms → All (IsTermOf n) terms
-terms_meant n text scope wanted expr terms known h = if_ok (All (IsTermOf n)) (list_of text scope wanted expr) terms (list_known n text scope wanted expr known) (meant (list_of text scope wanted expr) terms h)
+terms_meant : (n : ℕ) (text : List ℕ) (scope : Scope) (wanted : Wanted) (expr : Expr) (terms : List Term) → AreKnown n scope → list_of text scope wanted expr ≡ Ok terms → All (IsTermOf n) terms
+terms_meant n text scope wanted expr terms known h = if_ok (All (IsTermOf n)) (list_of text scope wanted expr) terms (list_known n text scope wanted expr known) h
 
 constant_known : (n : ℕ) (text : List ℕ) (scope : Scope) (boolean : Bool) (expr : Expr) (meaning : Declared) → AreKnown n scope → constant text scope boolean expr ≡ Ok meaning → IsKnown n meaning
 constant_known n text scope boolean expr meaning known h =
-    let parts = parts_of (as_check (one_of text scope (wanted_as boolean true) expr)) (λ (term : Term). Ok (declared.One boolean term)) meaning h in
+    let parts = parts_of (one_of text scope (wanted_as boolean true) expr) (λ (term : Term). Ok (declared.One boolean term)) meaning h in
     let is : declared.One boolean parts.0 ≡ meaning = cc in
     subst (λ (d : Declared). IsKnown n d) is (term_meant n text scope (wanted_as boolean true) expr parts.0 known parts.1)
 
@@ -133,7 +131,7 @@ value_known n text scope at (base.Range low high) expr meaning known h = constan
 value_known n text scope at (base.Listed values) expr meaning known h = constant_known n text scope false expr meaning known h
 value_known n text scope at base.Float expr meaning known h = cc
 value_known n text scope at base.Set expr meaning known h =
-    let parts = parts_of (as_check (set_of text scope expr)) (λ (set : Members). Ok (declared.Set set)) meaning h in
+    let parts = parts_of (set_of text scope expr) (λ (set : Members). Ok (declared.Set set)) meaning h in
     let is : declared.Set parts.0 ≡ meaning = cc in
     subst (λ (d : Declared). IsKnown n d) is tt
 
@@ -170,7 +168,7 @@ domain_is at (base.Listed values) domain h =
 source_known : (n : ℕ) (text : List ℕ) (scope : Scope) (boolean : Bool) (right : Option Expr) (source : Option Term) → AreKnown n scope → source_of text scope boolean right ≡ Ok source → IfSome source (IsTermOf n)
 source_known n text scope boolean None source known h = let is : None ≡ source = cc in subst (λ (o : Option Term). IfSome o (IsTermOf n)) is tt
 source_known n text scope boolean (Some expr) source known h =
-    let parts = parts_of (as_check (one_of text scope (wanted_as boolean false) expr)) (λ (term : Term). Ok (Some term)) source h in
+    let parts = parts_of (one_of text scope (wanted_as boolean false) expr) (λ (term : Term). Ok (Some term)) source h in
     let is : Some parts.0 ≡ source = cc in
     subst (λ (o : Option Term). IfSome o (IsTermOf n)) is (term_meant n text scope (wanted_as boolean false) expr parts.0 known parts.1)
 
@@ -249,9 +247,9 @@ set_kept false at p q set terms h known e = let is : p ≡ q = cc in subst (λ (
 elements_known : (n : ℕ) (text : List ℕ) (scope : Scope) (is_variable : Bool) (b : Base) (index : ℤ × ℤ) (name_at : ℕ) (expr : Expr) (terms : List Term) → AreKnown n scope → elements text scope is_variable b index name_at expr ≡ Ok terms → All (IsTermOf n) terms
 unfolding elements
 elements_known n text scope is_variable b index name_at expr terms known e =
-    let last = as_check (list_of text scope (wanted_as (is_boolean b) (not is_variable)) expr) in
-    let counted = parts_of (as_check (count_of text scope expr)) (λ (count : ℕ). refused_if (not (is_index index count)) (ill_typed name_at) >>= (λ _. last)) terms e in
-    let indexed = parts_of (refused_if (not (is_index index counted.0)) (ill_typed name_at)) (λ _. last) terms counted.2 in
+    let last = list_of text scope (wanted_as (is_boolean b) (not is_variable)) expr in
+    let counted = parts_of (count_of text scope expr) (λ (count : ℕ). refused_if (not (is_index index count)) (refusal.IllTyped name_at) >>= (λ _. last)) terms e in
+    let indexed = parts_of (refused_if (not (is_index index counted.0)) (refusal.IllTyped name_at)) (λ _. last) terms counted.2 in
     terms_meant n text scope (wanted_as (is_boolean b) (not is_variable)) expr terms known indexed.2
 
 ranges_are : (ranges : List (ℤ × ℤ)) (count : ℕ) → is_shaped (marked.Ranges ranges) count ≡ true → AreRangesOf count ranges
@@ -311,11 +309,10 @@ constraint_fine text s at name_at name exprs more t h e =
     let last = λ (ruled : Contents). Ok (record s { problem = ruled; constrained = true }) in
     let second = λ (r : Rule). with_rule name_at s.problem r >>= last in
     let meaning = constraint_rule text s.scope name_at name exprs in
-    let a = parts_of (refused_if s.solved (refusal.Misplaced at)) (λ _. as_check meaning >>= second) t e in
-    let b = parts_of (as_check meaning) second t a.2 in
+    let a = parts_of (refused_if s.solved (refusal.Misplaced at)) (λ _. meaning >>= second) t e in
+    let b = parts_of meaning second t a.2 in
     let c = parts_of (with_rule name_at s.problem b.0) last t b.2 in
-    let said = meant meaning b.0 b.1 in
-    let fits : IsRuleOf n b.0 = record { known = if_ok (λ (r : Rule). All (IsTermOf n) (terms_of r)) meaning b.0 (constraint_known n text s.scope name_at name exprs h.known) said; shape = if_ok (λ (r : Rule). IsTrue (has_shape r)) meaning b.0 (constraint_shape text s.scope name_at name exprs) said } in
+    let fits : IsRuleOf n b.0 = record { known = if_ok (λ (r : Rule). All (IsTermOf n) (terms_of r)) meaning b.0 (constraint_known n text s.scope name_at name exprs h.known) b.1; shape = if_ok (λ (r : Rule). IsTrue (has_shape r)) meaning b.0 (constraint_shape text s.scope name_at name exprs) b.1 } in
     let kept = rule_kept name_at s.problem c.0 b.0 h.problem fits c.1 in
     let outputs = kept.outputs in
     let few = h.few in
@@ -326,11 +323,11 @@ constraint_fine text s at name_at name exprs more t h e =
 aim_known : (n : ℕ) (text : List ℕ) (scope : Scope) (goal : Goal) (aim : Aim) → AreKnown n scope → aim_of text scope goal ≡ Ok aim → IsAimOf n aim
 aim_known n text scope goals.Satisfy aim known e = let is : Satisfy ≡ aim = cc in subst (λ (x : Aim). IsAimOf n x) is tt
 aim_known n text scope (goals.Minimize at what) aim known e =
-    let parts = parts_of (as_check (one_of text scope an_integer what)) (λ (term : Term). Ok (Least term)) aim e in
+    let parts = parts_of (one_of text scope an_integer what) (λ (term : Term). Ok (Least term)) aim e in
     let is : Least parts.0 ≡ aim = cc in
     subst (λ (x : Aim). IsAimOf n x) is (term_meant n text scope an_integer what parts.0 known parts.1)
 aim_known n text scope (goals.Maximize at what) aim known e =
-    let parts = parts_of (as_check (one_of text scope an_integer what)) (λ (term : Term). Ok (Greatest term)) aim e in
+    let parts = parts_of (one_of text scope an_integer what) (λ (term : Term). Ok (Greatest term)) aim e in
     let is : Greatest parts.0 ≡ aim = cc in
     subst (λ (x : Aim). IsAimOf n x) is (term_meant n text scope an_integer what parts.0 known parts.1)
 
@@ -441,31 +438,27 @@ resolved_values text ts items p read fit h =
     let parts = parts_of (after_all text start items) finished p h in
     subst (λ (x : Contents). DomainsFit x.domains) (end_is parts.0 p parts.2) (all_fit text ts items [] start parts.0 read fit parts.1 none_fit)
 
-answer_ok : (r : Result Contents ItemRefusal) (p : Contents) → Ok p ≡ answer_of r → r ≡ Ok p
-answer_ok (Ok q) p h = cc
-answer_ok (Err e) p h = cc
-
 read_problem : (text : List ℕ) (p : Contents) → length text ≤ longest_text → IsResolved text (Ok p) → IsProblem p
 read_problem text p short r =
     let tokens : AreTokens text r.tokens = r.lexed in
     let items : AreItemsTo text r.tokens r.items [] = r.read in
     let few = tokens_so_far text r.tokens (length text) (record { end = tokens.end; before = tokens.all; gap = tokens.gap }) in
     let fewer = few_items text r.tokens r.items [] items in
-    resolved_problem text r.items p (omega (arith, short, few, fewer)) (answer_ok (resolved text r.items) p r.result_is)
+    resolved_problem text r.items p (omega (arith, short, few, fewer)) (sym r.result_is)
 
 read_values : (text : List ℕ) (p : Contents) → IsResolved text (Ok p) → DomainsFit p.domains
 read_values text p r =
     let tokens : AreTokens text r.tokens = r.lexed in
     let items : AreItemsTo text r.tokens r.items [] = r.read in
-    resolved_values text r.tokens r.items p items (tokens_fit text 0 r.tokens tokens.end tokens.all) (answer_ok (resolved text r.items) p r.result_is)
+    resolved_values text r.tokens r.items p items (tokens_fit text 0 r.tokens tokens.end tokens.all) (sym r.result_is)
 
 accepted : (text : List ℕ) (p : Contents) → length text ≤ longest_text → Answers text (Ok p) → IsProblem p
-accepted text p short (inl lexical) = elim lexical.1 [ inl bad ↦ cc (bad.0) | inr wide ↦ cc (wide.0) ]
+accepted text p short (inl lexical) = let is = lexical.1 in cc
 accepted text p short (inr (inl unread)) = let is = unread.result_is in cc
 accepted text p short (inr (inr resolved_)) = read_problem text p short resolved_
 
 values : (text : List ℕ) (p : Contents) → Answers text (Ok p) → DomainsFit p.domains
-values text p (inl lexical) = elim lexical.1 [ inl bad ↦ cc (bad.0) | inr wide ↦ cc (wide.0) ]
+values text p (inl lexical) = let is = lexical.1 in cc
 values text p (inr (inl unread)) = let is = unread.result_is in cc
 values text p (inr (inr resolved_)) = read_values text p resolved_
 

@@ -7,8 +7,8 @@ use Rattle.std.proofs.lemmas.List.{length_push}
 use Rattle.std.proofs.lemmas.List.Elements.{All-push}
 use Rattle.dcsp_domain.specs.Sets.{IsDomain}
 use Rattle.dcsp_meaning.specs.Sums.{widest}
-use Rattle.dcsp_problem.specs.declared.limits.Which.{Which}
-use Rattle.dcsp_problem.specs.declared.limits.Which.TheVariants.{Variables, DomainValues, Rules, Terms}
+use Rattle.dcsp_common.specs.declared.limits.Which.{Which}
+use Rattle.dcsp_common.specs.declared.limits.Which.TheVariants.{Variables, DomainValues, Rules, Terms}
 use Rattle.dcsp_problem.specs.declared.limits.BuildError.TheVariants as errors
 use Rattle.dcsp_rule.specs.declared.output.Output.{Output}
 use Rattle.dcsp_rule.specs.declared.rule.Rule.{Rule}
@@ -17,15 +17,16 @@ use Rattle.dcsp_rule.specs.Rules.{IsRuleOf, size_of}
 use Rattle.dcsp_problem.specs.Outputs.{IsOutputOf}
 use Rattle.dcsp_rule.specs.Widths.{rule_width}
 use Rattle.dcsp_problem.specs.WellFormed.{IsProblem}
-use Rattle.dcsp_problem.specs.Limits.{most, first_past, limit_of, list_counts, rule_counts, rule_refusal, variable_counts, variable_refusal}
+use Rattle.dcsp_common.specs.Limits.{most}
+use Rattle.dcsp_problem.specs.Limits.{first_past, limit_of, list_counts, rule_counts, rule_refusal, variable_counts, variable_refusal}
 use Rattle.dcsp_problem.specs.Index.{IsTallied}
 use Rattle.dcsp_problem.proofs.Counts.{past_here, past_later, tallied_variable, tallied_rule}
 use Rattle.fzn_scope.specs.Checks.{◌>>=◌}
-use Rattle.fzn_model.specs.declared.refusal.ItemRefusal.{ItemRefusal}
+use Rattle.fzn_token.specs.declared.refusal.Refusal.{Refusal}
 use Rattle.fzn_model.specs.Building.{refused_at, with_variable, with_rule}
 
 -- where a result is this, each part was
-pub parts_of : {A B : Type 0} (x : Result A ItemRefusal) (f : A → Result B ItemRefusal) (b : B) → (x >>= f) ≡ Ok b → (a : A) × (x ≡ Ok a) × (f a ≡ Ok b)
+pub parts_of : {A B : Type 0} (x : Result A Refusal) (f : A → Result B Refusal) (b : B) → (x >>= f) ≡ Ok b → (a : A) × (x ≡ Ok a) × (f a ≡ Ok b)
 parts_of (Ok a) f b h = (a, refl, h)
 parts_of (Err e) f b h = cc
 

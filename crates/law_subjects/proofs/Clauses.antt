@@ -6,8 +6,9 @@ use Rattle.std.proofs.lemmas.Bool.Decides.{eqb_tells, nat_tests}
 use Rattle.dcsp_defs.proofs.Lists.{and_left, and_right}
 use Rattle.dcsp_defs.specs.Words.{In}
 use Rattle.dcsp_rule.specs.Problems.{Contents}
-use Rattle.dcsp_problem.specs.Limits.{rule_refusal, most}
-use Rattle.dcsp_problem.specs.declared.limits.Which.TheVariants.{Variables}
+use Rattle.dcsp_common.specs.Limits.{most}
+use Rattle.dcsp_problem.specs.Limits.{rule_refusal}
+use Rattle.dcsp_common.specs.declared.limits.Which.TheVariants.{Variables}
 use Rattle.dcsp_rule.specs.declared.rule.Rule.{Rule}
 use Rattle.dcsp_rule.specs.declared.rule.Term.TheVariants.{Var}
 use Rattle.dcsp_problem.specs.declared.limits.BuildError.{BuildError}

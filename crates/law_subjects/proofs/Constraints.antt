@@ -6,7 +6,7 @@ use Rattle.std.proofs.lemmas.List.Sums.{sum_by-append}
 use Rattle.fzn_item.specs.declared.item.Item.{Item}
 use Rattle.dcsp_domain.specs.Ranges.{numbers_between}
 use Rattle.dcsp_meaning.specs.declared.linear.TheConstants.{WIDEST}
-use Rattle.dcsp_problem.specs.declared.limits.Which.TheVariants.{Rules, Terms, Elements}
+use Rattle.dcsp_common.specs.declared.limits.Which.TheVariants.{Rules, Terms, Elements}
 use Rattle.dcsp_rule.specs.declared.rule.Term.{Term}
 use Rattle.dcsp_rule.specs.declared.rule.Term.TheVariants.{Const}
 use Rattle.dcsp_rule.specs.declared.rule.Rule.{Rule}

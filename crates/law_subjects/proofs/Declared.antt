@@ -21,18 +21,17 @@ use Rattle.dcsp_rule.specs.declared.rule.Members.TheVariants as members
 use Rattle.dcsp_rule.specs.declared.rule.Rule.{Rule}
 use Rattle.dcsp_rule.specs.declared.rule.Rule.TheVariants.{Plain}
 use Rattle.dcsp_rule.specs.declared.output.Output.{Output}
-use Rattle.dcsp_problem.specs.declared.limits.Which.TheVariants as which
-use Rattle.dcsp_problem.specs.Limits.{most, variable_refusal, rule_refusal}
+use Rattle.dcsp_common.specs.declared.limits.Which.TheVariants as which
+use Rattle.dcsp_common.specs.Limits.{most}
+use Rattle.dcsp_problem.specs.Limits.{variable_refusal, rule_refusal}
 use Rattle.dcsp_rule.specs.Members.{is_member}
 use Rattle.dcsp_rule.specs.Rules.{value_under, rule_truth}
 use Rattle.dcsp_rule.specs.Problems.{Contents}
 use Rattle.fzn_scope.specs.declared.names.Declared.{Declared}
 use Rattle.fzn_scope.specs.declared.names.Declared.TheVariants as declared
 use Rattle.fzn_scope.specs.declared.place.Wanted.{Wanted}
-use Rattle.fzn_model.proofs.Meanings.{meant}
-use Rattle.fzn_model.specs.Checks.{ill_typed}
-use Rattle.fzn_model.specs.declared.refusal.ItemRefusal.{ItemRefusal}
-use Rattle.fzn_model.specs.declared.refusal.ItemRefusal.TheVariants as refusal
+use Rattle.fzn_token.specs.declared.refusal.Refusal.{Refusal}
+use Rattle.fzn_token.specs.declared.refusal.Refusal.TheVariants as refusal
 use Rattle.fzn_scope.specs.Checks.{refused_if}
 use Rattle.fzn_scope.specs.Names.{Scope, declared_as}
 use Rattle.fzn_scope.specs.Places.{one_of, list_of, count_of, set_of}
@@ -40,7 +39,7 @@ use Rattle.fzn_model.specs.Building.{refused_at, with_variable, with_output}
 use Rattle.fzn_model.specs.Declarations.{SoFar, named, is_late, declaration, is_boolean, right_side, constant, value_of, parameter, domain_of, source_of, equality, with_source, variable_output, variable, check_element, element_set, is_index, is_shaped, with_member, with_members, with_set, array_output, elements, array}
 use Rattle.law_subjects.specs.Environments.{Value, Number, Numbers, Environment, expr_value}
 use Rattle.law_subjects.specs.Holding.{in_set, in_type, IsVariable, IsArray}
-use Rattle.law_subjects.proofs.Checks.{bind_ok, bind_meaning, not_refused}
+use Rattle.law_subjects.proofs.Checks.{bind_ok, not_refused}
 use Rattle.law_subjects.proofs.MeantNames.{meaning, Agrees}
 use Rattle.law_subjects.proofs.Values.{one_value, list_value, set_value}
 use Rattle.law_subjects.proofs.Sorts.{IsTruthTerm, IsSorted, Sorted, one_is}
@@ -60,7 +59,7 @@ pub output_rules : (p : Contents) (o : Option Output) → (with_output p o).rule
 output_rules p None = refl
 output_rules p (Some o) = refl
 
-refused_not : (b : Bool) (r : ItemRefusal) (u : Unit {0}) → refused_if b r ≡ Ok u → b ≡ false
+refused_not : (b : Bool) (r : Refusal) (u : Unit {0}) → refused_if b r ≡ Ok u → b ≡ false
 refused_not true r u e = absurd cc
 refused_not false r u e = refl
 
@@ -101,7 +100,7 @@ parameter_grown text s t at type name right fresh p = record {
 constant_value : (text : List ℕ) (values : Assignment) (env : Environment) (scope : Scope) → Agrees values env scope → (boolean : Bool) (x : Expr) (d : Declared) → constant text scope boolean x ≡ Ok d → expr_value text env x ≡ meaning values d
 constant_value text values env scope agrees boolean x d e =
     let wanted : Wanted = record { boolean = boolean; constant = true } in
-    let b = bind_meaning (one_of text scope wanted x) (λ term. Ok (declared.One boolean term)) d e in
+    let b = bind_ok (one_of text scope wanted x) (λ term. Ok (declared.One boolean term)) d e in
     let is : declared.One boolean b.0 ≡ d = let k = b.2 in cc in
     one_value text values env scope agrees wanted x b.0 b.1 ∙ ap (meaning values) is
 
@@ -112,19 +111,19 @@ parameter_value text values env scope agrees at (base.Range low high) x d e = co
 parameter_value text values env scope agrees at (base.Listed vs) x d e = constant_value text values env scope agrees false x d e
 parameter_value text values env scope agrees at base.Float x d e = absurd cc
 parameter_value text values env scope agrees at base.Set x d e =
-    let b = bind_meaning (set_of text scope x) (λ set. Ok (declared.Set set)) d e in
+    let b = bind_ok (set_of text scope x) (λ set. Ok (declared.Set set)) d e in
     let is : declared.Set b.0 ≡ d = let k = b.2 in cc in
     set_value text values env scope agrees x b.0 b.1 ∙ ap (meaning values) is
 
 constant_sorted : (text : List ℕ) (domains : List (List ℤ)) (scope : Scope) → Sorted domains scope → (boolean : Bool) (x : Expr) (d : Declared) → constant text scope boolean x ≡ Ok d → IsSorted domains d
 constant_sorted text domains scope sorted true x d e =
     let wanted : Wanted = record { boolean = true; constant = true } in
-    let b = bind_meaning (one_of text scope wanted x) (λ term. Ok (declared.One true term)) d e in
+    let b = bind_ok (one_of text scope wanted x) (λ term. Ok (declared.One true term)) d e in
     let is : declared.One true b.0 ≡ d = let k = b.2 in cc in
     subst (IsSorted domains) is ((one_is text domains scope sorted wanted x b.0 b.1).0 refl)
 constant_sorted text domains scope sorted false x d e =
     let wanted : Wanted = record { boolean = false; constant = true } in
-    let b = bind_meaning (one_of text scope wanted x) (λ term. Ok (declared.One false term)) d e in
+    let b = bind_ok (one_of text scope wanted x) (λ term. Ok (declared.One false term)) d e in
     let is : declared.One false b.0 ≡ d = let k = b.2 in cc in
     subst (IsSorted domains) is tt
 
@@ -135,7 +134,7 @@ parameter_sorted text domains scope sorted at (base.Range low high) x d e = cons
 parameter_sorted text domains scope sorted at (base.Listed vs) x d e = constant_sorted text domains scope sorted false x d e
 parameter_sorted text domains scope sorted at base.Float x d e = absurd cc
 parameter_sorted text domains scope sorted at base.Set x d e =
-    let b = bind_meaning (set_of text scope x) (λ set. Ok (declared.Set set)) d e in
+    let b = bind_ok (set_of text scope x) (λ set. Ok (declared.Set set)) d e in
     let is : declared.Set b.0 ≡ d = let k = b.2 in cc in
     subst (IsSorted domains) is tt
 
@@ -236,7 +235,7 @@ source_holds text values env s fits sorted type n None source h e =
     ((λ x. tt), (λ x. subst (λ (o : Option Term). Hold values (source_rules (is_boolean type) n o)) is (no_rules values)))
 source_holds text values env s fits sorted type n (Some x) source h e =
     let wanted : Wanted = record { boolean = is_boolean type; constant = false } in
-    let b = bind_meaning (one_of text s.scope wanted x) (λ term. Ok (Some term)) source e in
+    let b = bind_ok (one_of text s.scope wanted x) (λ term. Ok (Some term)) source e in
     let is : Some b.0 ≡ source = let k = b.2 in cc in
     let v = one_value text values env s.scope fits.agrees wanted x b.0 b.1 in
     let w = value_under values b.0 in
@@ -307,8 +306,8 @@ pub record Array (text : List ℕ) (s t : SoFar) (isvar : Bool) (type : Base) (n
 elements_are : (text : List ℕ) (scope : Scope) (isvar : Bool) (type : Base) (index : ℤ × ℤ) (name_at : ℕ) (x : Expr) (terms : List Term) → elements text scope isvar type index name_at x ≡ Ok terms → list_of text scope (record { boolean = is_boolean type; constant = not isvar }) x ≡ Ok terms
 unfolding elements
 elements_are text scope isvar type index name_at x terms e =
-    let c = bind_meaning (count_of text scope x) _ terms e in
-    meant _ terms (not_refused (not (is_index index c.0)) (ill_typed name_at) _ terms c.2).1
+    let c = bind_ok (count_of text scope x) _ terms e in
+    (not_refused (not (is_index index c.0)) (refusal.IllTyped name_at) _ terms c.2).1
 
 pub array_is : (text : List ℕ) (s t : SoFar) (at : ℕ) (isvar : Bool) (index : ℤ × ℤ) (type : Base) (name_at : ℕ) (name : List ℕ) (marked : Marked) (right : Option Expr) → array text s at isvar index type name_at name marked right ≡ Ok t → Array text s t isvar type name right
 unfolding array

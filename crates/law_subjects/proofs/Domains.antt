@@ -11,9 +11,9 @@ use Rattle.dcsp_defs.specs.Words.{In}
 use Rattle.dcsp_defs.proofs.Lists.{list_any-In, In-list_any, and_left, and_right, and_both}
 use Rattle.fzn_item.specs.declared.item.Base.{Base}
 use Rattle.fzn_item.specs.declared.item.Base.TheVariants as base
-use Rattle.dcsp_problem.specs.declared.limits.Which.TheVariants as which
-use Rattle.dcsp_problem.specs.Limits.{most}
-use Rattle.fzn_model.specs.declared.refusal.ItemRefusal.TheVariants as refusal
+use Rattle.dcsp_common.specs.declared.limits.Which.TheVariants as which
+use Rattle.dcsp_common.specs.Limits.{most}
+use Rattle.fzn_token.specs.declared.refusal.Refusal.TheVariants as refusal
 use Rattle.fzn_model.specs.Declarations.{domain_of}
 use Rattle.law_subjects.specs.Holding.{in_type}
 use Rattle.law_subjects.proofs.Checks.{not_refused}

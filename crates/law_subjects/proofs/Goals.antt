@@ -12,14 +12,14 @@ use Rattle.dcsp_defs.specs.Csp.{Assignment}
 use Rattle.dcsp_rule.specs.declared.aim.Aim.{Aim}
 use Rattle.dcsp_rule.specs.declared.aim.Aim.TheVariants.{Satisfy, Least, Greatest}
 use Rattle.dcsp_rule.specs.Problems.{Contents}
-use Rattle.fzn_model.specs.declared.refusal.ItemRefusal.TheVariants as refusal
+use Rattle.fzn_token.specs.declared.refusal.Refusal.TheVariants as refusal
 use Rattle.fzn_scope.specs.Names.{Scope, bytes_at}
 use Rattle.fzn_scope.specs.Places.{one_of}
 use Rattle.fzn_model.specs.Declarations.{SoFar, is_late, declaration}
 use Rattle.fzn_model.specs.Items.{start, an_integer, aim_of, declared_by, constraint, solve, predicate, after, after_all, finished, resolved}
 use Rattle.law_subjects.specs.Environments.{Environment}
 use Rattle.law_subjects.specs.Meaning.{Satisfies, goal_of, goals_of, IsAskedBy, AimsAtItsGoal}
-use Rattle.law_subjects.proofs.Checks.{bind_ok, bind_meaning, not_refused}
+use Rattle.law_subjects.proofs.Checks.{bind_ok, not_refused}
 use Rattle.law_subjects.proofs.MeantNames.{Agrees}
 use Rattle.law_subjects.proofs.Values.{one_value}
 use Rattle.law_subjects.proofs.Declared.{parameter_is, variable_is, array_is}
@@ -119,11 +119,11 @@ stated text (item.Constraint at name_at name_to exprs ∷ rest) s t e none some 
 asked : (text : List ℕ) (items : List Item) (goal : Goal) (aim : Aim) (scope : Scope) → ((values : Assignment) (env : Environment) → Satisfies text items values env → Agrees values env scope) → aim_of text scope goal ≡ Ok aim → IsAskedBy text items goal aim
 asked text items goals.Satisfy aim scope agrees e = let is : Satisfy ≡ aim = cc in sym is
 asked text items (goals.Minimize at what) aim scope agrees e =
-    let b = bind_meaning (one_of text scope an_integer what) (λ term. Ok (Least term)) aim e in
+    let b = bind_ok (one_of text scope an_integer what) (λ term. Ok (Least term)) aim e in
     let is : Least b.0 ≡ aim = let k = b.2 in cc in
     (b.0, sym is, λ values env h. one_value text values env scope (agrees values env h) an_integer what b.0 b.1)
 asked text items (goals.Maximize at what) aim scope agrees e =
-    let b = bind_meaning (one_of text scope an_integer what) (λ term. Ok (Greatest term)) aim e in
+    let b = bind_ok (one_of text scope an_integer what) (λ term. Ok (Greatest term)) aim e in
     let is : Greatest b.0 ≡ aim = let k = b.2 in cc in
     (b.0, sym is, λ values env h. one_value text values env scope (agrees values env h) an_integer what b.0 b.1)
 

@@ -18,7 +18,7 @@ use Rattle.dcsp_rule.specs.declared.aim.Aim.{Aim}
 use Rattle.dcsp_problem.specs.Limits.{rule_refusal}
 use Rattle.dcsp_rule.specs.Problems.{Contents}
 use Rattle.fzn_scope.specs.declared.names.Declared.TheVariants as declared
-use Rattle.fzn_model.specs.declared.refusal.ItemRefusal.TheVariants as refusal
+use Rattle.fzn_token.specs.declared.refusal.Refusal.TheVariants as refusal
 use Rattle.fzn_scope.specs.Names.{Scope, declared_as, bytes_at}
 use Rattle.fzn_scope.specs.Rules.{constraint_rule}
 use Rattle.fzn_model.specs.Building.{refused_at, with_rule}
@@ -26,7 +26,7 @@ use Rattle.fzn_model.specs.Declarations.{SoFar, is_late, declaration, domain_of,
 use Rattle.fzn_model.specs.Items.{declared_by, constraint, aim_of, solve, predicate, after}
 use Rattle.law_subjects.specs.Environments.{Value, Environment, expr_value}
 use Rattle.law_subjects.specs.Meaning.{variable_of}
-use Rattle.law_subjects.proofs.Checks.{bind_ok, bind_meaning, not_refused}
+use Rattle.law_subjects.proofs.Checks.{bind_ok, not_refused}
 use Rattle.law_subjects.proofs.MeantNames.{Agrees}
 use Rattle.law_subjects.proofs.Sorts.{IsSorted, Sorted, list_fixed}
 use Rattle.law_subjects.proofs.MeantConstraints.{constraint_row}
@@ -107,7 +107,7 @@ pub constrained_is : (text : List ℕ) (s t : SoFar) (at name_at : ℕ) (name : 
 unfolding constraint
 constrained_is text s t at name_at name exprs e =
     let a = not_refused s.solved (refusal.Misplaced at) _ t e in
-    let b = bind_meaning (constraint_rule text s.scope name_at name exprs) _ t a.1 in
+    let b = bind_ok (constraint_rule text s.scope name_at name exprs) _ t a.1 in
     let c = bind_ok (with_rule name_at s.problem b.0) _ t b.2 in
     let d = bind_ok (refused_at name_at (rule_refusal s.problem b.0)) (λ u. Ok (record s.problem { rules = s.problem.rules ++ b.0 ∷ [] })) c.0 c.1 in
     let ruled : record s.problem { rules = s.problem.rules ++ b.0 ∷ [] } ≡ c.0 = let k = d.2 in cc in

@@ -8,9 +8,10 @@ use Rattle.std.proofs.lemmas.Bool.Decides.{nat_tests}
 use Rattle.dcsp_domain.specs.Ranges.{at_least_zero, count_between, numbers_from, numbers_between}
 use Rattle.dcsp_domain.proofs.RangeLaws.{length-numbers_from}
 use Rattle.dcsp_meaning.specs.declared.linear.TheConstants.{WIDEST}
-use Rattle.dcsp_problem.specs.declared.limits.Which.TheVariants.{Variables, DomainValues}
+use Rattle.dcsp_common.specs.declared.limits.Which.TheVariants.{Variables, DomainValues}
 use Rattle.dcsp_rule.specs.declared.rule.Rule.{Rule}
-use Rattle.dcsp_problem.specs.Limits.{most, first_past, limit_of, rule_counts, variable_refusal, rule_refusal}
+use Rattle.dcsp_common.specs.Limits.{most}
+use Rattle.dcsp_problem.specs.Limits.{first_past, limit_of, rule_counts, variable_refusal, rule_refusal}
 use Rattle.dcsp_rule.specs.Widths.{greatest_among, rule_width}
 use Rattle.dcsp_rule.specs.Problems.{Contents}
 use Rattle.dcsp_problem.proofs.Counts.{past_later}

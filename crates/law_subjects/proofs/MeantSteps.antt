@@ -6,7 +6,7 @@ use Rattle.fzn_item.specs.declared.item.Item.{Item}
 use Rattle.dcsp_defs.specs.Words.{In}
 use Rattle.dcsp_defs.specs.Csp.{Assignment}
 use Rattle.dcsp_rule.specs.Problems.{Contents}
-use Rattle.fzn_model.specs.declared.refusal.ItemRefusal.TheVariants as refusal
+use Rattle.fzn_token.specs.declared.refusal.Refusal.TheVariants as refusal
 use Rattle.fzn_scope.specs.declared.names.Declared.{Declared}
 use Rattle.fzn_scope.specs.Names.{declared_as}
 use Rattle.fzn_model.specs.Declarations.{SoFar}

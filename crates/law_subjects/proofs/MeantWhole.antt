@@ -1,5 +1,5 @@
 -- What the problem of items, and of a text, means.
-use Rattle.std.proofs.Common.{◌≡◌, ℕ, ◌+◌, pos, inl, inr, List, [], Option, Some, None, Result, Ok, Err, sym, ap, ◌∙◌, subst, arith}
+use Rattle.std.proofs.Common.{◌≡◌, ℕ, ◌+◌, pos, inl, inr, List, [], Option, Some, None, Ok, sym, ap, ◌∙◌, subst, arith}
 use Rattle.fzn_token.specs.declared.token.Token.{Token}
 use Rattle.fzn_token.specs.Tokens.{AreTokens}
 use Rattle.fzn_token.proofs.OneAnswer.{one_answer_lem}
@@ -9,10 +9,8 @@ use Rattle.fzn_item.proofs.OneAnswer.{one_answer_law}
 use Rattle.dcsp_defs.specs.Csp.{Assignment, IsSolution}
 use Rattle.dcsp_rule.specs.Problems.{Contents, csp_of}
 use Rattle.fzn_scope.specs.declared.names.Declared.{Declared}
-use Rattle.fzn_model.specs.declared.refusal.ItemRefusal.{ItemRefusal}
 use Rattle.fzn_scope.specs.Names.{declared_as}
 use Rattle.fzn_model.specs.Items.{start, after_all, finished, resolved}
-use Rattle.fzn_model.specs.Models.{answer_of}
 use Rattle.law_subjects.specs.Environments.{Value, Number, Environment}
 use Rattle.law_subjects.specs.Meaning.{Satisfies, MeansItsItems, MeansItsText, SolutionsSatisfy, VariablesDetermine}
 use Rattle.law_subjects.proofs.Checks.{bind_ok}
@@ -47,17 +45,13 @@ means_its_items text items p e values =
           subst (λ (q : Contents). IsSolution (csp_of q) values) is (solves.1 (f.domains, f.rules))),
     )
 
-resolved_is : (r : Result Contents ItemRefusal) (p : Contents) → Ok p ≡ answer_of r → r ≡ Ok p
-resolved_is (Ok q) p e = let is : q ≡ p = cc in ap Ok is
-resolved_is (Err x) p e = absurd cc
-
 pub means_its_text : MeansItsText
 means_its_text text p h = elim h [
-  | inl lexical ↦ absurd (elim lexical.1 [ inl bad ↦ (let e = bad.0 in cc) | inr range ↦ (let e = range.0 in cc) ])
+  | inl lexical ↦ absurd (let e = lexical.1 in cc)
   | inr rest ↦ elim rest [
     | inl unread ↦ absurd (let e = unread.result_is in cc)
     | inr r ↦
-        let is = resolved_is (resolved text r.items) p r.result_is in
+        let is = sym r.result_is in
         record { tokens = r.tokens; items = r.items; lexed = r.lexed; read = r.read; means = means_its_items text r.items p is; aim = aims_at_its_goal text r.items p is }
   ]
 ]

@@ -10,7 +10,7 @@ use Rattle.std.proofs.lemmas.List.Sums.{sum_by-append, sum_by_push}
 use Rattle.std.proofs.lemmas.Slice.Eq.{bytes_eq-Decides}
 use Rattle.dcsp_defs.specs.Words.{In}
 use Rattle.dcsp_domain.specs.Sets.{put, set_of}
-use Rattle.dcsp_problem.specs.declared.limits.Which.TheVariants.{Rules, Terms, Elements}
+use Rattle.dcsp_common.specs.declared.limits.Which.TheVariants.{Rules, Terms, Elements}
 use Rattle.dcsp_problem.specs.Limits.{variable_refusal, rule_refusal}
 use Rattle.dcsp_problem.proofs.Counts.{past_later}
 use Rattle.dcsp_rule.specs.declared.output.Output.{Output}
@@ -30,7 +30,7 @@ use Rattle.fzn_scope.specs.declared.names.Declared.TheVariants as declared
 use Rattle.fzn_scope.specs.Checks.{◌>>=◌}
 use Rattle.fzn_scope.specs.Names.{Scope, declared_as}
 use Rattle.fzn_scope.specs.Rules.{constraint_rule}
-use Rattle.fzn_model.specs.declared.refusal.ItemRefusal.{ItemRefusal}
+use Rattle.fzn_token.specs.declared.refusal.Refusal.{Refusal}
 use Rattle.fzn_model.specs.Declarations.{SoFar, variable as with_one}
 use Rattle.fzn_model.specs.Items.{declare, after, after_all, constraint, finished, resolved}
 use Rattle.law_subjects.specs.Says.{IsNamed, entries_of}
@@ -290,7 +290,7 @@ module _ (text : List ℕ) (names : List (List ℕ)) (scope : Scope) (domains : 
       → AreNamedSaid text (constraints ++ Finish ∷ []) items → (after_all text (so_far scope domains [] outputs false) items >>= finished) ≡ Ok (problem_so_far domains (flat_map (named_rules names) constraints) outputs)
   ended constraints items are rules terms says =
       let ruled = constraints_after constraints [] false items (Finish ∷ []) are (omega (arith, rules)) (omega (arith, terms)) says in
-      ap (λ (r : Result SoFar ItemRefusal). r >>= finished) ruled.reached ∙ last ruled.constrained ruled.left ruled.said
+      ap (λ (r : Result SoFar Refusal). r >>= finished) ruled.reached ∙ last ruled.constrained ruled.left ruled.said
     where
       -- the solve item alone
       last : (c : Bool) (left : List Item) → AreNamedSaid text (Finish ∷ []) left
@@ -394,7 +394,7 @@ named_lines_have_problem text choices constraints items within says =
     let variables = within.variables in
     let values = within.all_values in
     let begun = choices_after text choices [] [] [] (constraints ++ Finish ∷ []) items within.apart (λ name i. refl) (omega (arith, variables)) (omega (arith, values)) within.values says in
-    ap (λ (r : Result SoFar ItemRefusal). r >>= finished) begun.reached
+    ap (λ (r : Result SoFar Refusal). r >>= finished) begun.reached
     ∙ ended text names (numbered 0 names) (map domain_of choices) (all_printed 0 choices) (stands_for names) constraints begun.left within.constrained within.rules within.terms begun.said
     ∙ ap (λ (os : List Output). Ok (problem_so_far (map domain_of choices) (flat_map (named_rules names) constraints) os)) (sym (choices_outputs 0 choices))
     ∙ ap (λ (p : Contents). Ok p) (sym (problem_is choices constraints within.constrained))

@@ -5,7 +5,7 @@ use Rattle.std.proofs.lemmas.Grind.{flat_map-append}
 use Rattle.dcsp_gen.specs.Binary.{entries}
 use Rattle.dcsp_gen.specs.Lines.{solve_line}
 use Rattle.dcsp_gen.specs.Lists.{later_number, listed, domain}
-use Rattle.fzn_model.specs.Models.{longest_text, Answers, answer_of}
+use Rattle.fzn_model.specs.Models.{longest_text, Answers}
 use Rattle.law_subjects.specs.Named.{Equal, Less, Different, NamedLine, Choose, Compare, Allow, Finish, named_text, named_lines_text, IsWellNamed, Choice, choose, named_lines, named_problem, AreNamedWithin}
 use Rattle.law_subjects.proofs.Folded.{total_append}
 use Rattle.law_subjects.proofs.Lengths.{digits_to, total, concat_length, entries_length}
@@ -28,7 +28,7 @@ named_answered text choices constraints is well within =
       items = read.items;
       lexed = read.lexed;
       read = read.parsed;
-      result_is = sym (ap answer_of (named_lines_have_problem (named_lines_text lines) choices constraints read.items within read.said));
+      result_is = sym (named_lines_have_problem (named_lines_text lines) choices constraints read.items within read.said);
     })))
 
 -- the text of the parts

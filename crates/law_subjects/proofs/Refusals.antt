@@ -4,9 +4,10 @@ use Rattle.std.specs.Prelude.{ℤ, pos, negsuc, nat_le}
 use Rattle.std.specs.Option.{option_map}
 use Rattle.dcsp_defs.specs.Words.{In}
 use Rattle.dcsp_rule.specs.Problems.{Contents}
-use Rattle.dcsp_problem.specs.Limits.{rule_refusal, rule_counts, first_past, limit_of, most}
-use Rattle.dcsp_problem.specs.declared.limits.Which.{Which}
-use Rattle.dcsp_problem.specs.declared.limits.Which.TheVariants.{Variables}
+use Rattle.dcsp_common.specs.Limits.{most}
+use Rattle.dcsp_problem.specs.Limits.{rule_refusal, rule_counts, first_past, limit_of}
+use Rattle.dcsp_common.specs.declared.limits.Which.{Which}
+use Rattle.dcsp_common.specs.declared.limits.Which.TheVariants.{Variables}
 use Rattle.dcsp_problem.specs.declared.limits.BuildError.{BuildError}
 use Rattle.dcsp_problem.specs.declared.limits.BuildError.TheVariants as build
 use Rattle.cnf_front.specs.declared.header.CnfError.{CnfError}

@@ -13,7 +13,7 @@ use Rattle.dcsp_rule.specs.Rules.{value_under}
 use Rattle.fzn_scope.specs.declared.names.Declared.{Declared}
 use Rattle.fzn_scope.specs.declared.names.Declared.TheVariants as declared
 use Rattle.fzn_scope.specs.declared.place.Wanted.{Wanted}
-use Rattle.fzn_scope.specs.declared.refusal.Refusal.TheVariants as refusal
+use Rattle.fzn_token.specs.declared.refusal.Refusal.TheVariants as refusal
 use Rattle.fzn_scope.specs.Names.{Scope, declared_as, bytes_at}
 use Rattle.fzn_scope.specs.Places.{truth_term, is_constant, same, wanted_term, term_named, term_of, one_of, terms_after, terms_named, list_of}
 use Rattle.fzn_scope.specs.Rules.{constant_of}

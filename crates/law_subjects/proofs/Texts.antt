@@ -1,9 +1,9 @@
 -- Generated texts have the problems of their lines.
-use Rattle.std.proofs.Common.{◌≡◌, ℕ, ◌≤◌, inr, List, Ok, codes, refl, sym, ap, subst, arith}
+use Rattle.std.proofs.Common.{◌≡◌, ℕ, ◌≤◌, inr, List, Ok, codes, refl, sym, subst, arith}
 use Rattle.std.specs.List.{AllByRecursion}
 use Rattle.dcsp_gen.specs.Binary.{binary_text}
 use Rattle.dcsp_gen.specs.Problems.{queens_text, colouring_text, sparse_text, pigeons_text}
-use Rattle.fzn_model.specs.Models.{Answers, answer_of}
+use Rattle.fzn_model.specs.Models.{Answers}
 use Rattle.law_subjects.specs.Lines.{ModelLine, queens, colouring, sparse, pigeons, binary}
 use Rattle.law_subjects.specs.Laws.{IsSmallLetter, HasSmallNumbers, lines_text, AreRead}
 use Rattle.law_subjects.proofs.WholeItems.{lines_are_read}
@@ -20,7 +20,7 @@ answered letter lines read resolve = inr (inr (record {
   items = read.items;
   lexed = read.lexed;
   read = read.parsed;
-  result_is = sym (ap answer_of (resolve (lines_text letter lines) read.items read.said));
+  result_is = sym (resolve (lines_text letter lines) read.items read.said);
 }))
 
 queens_letter : IsSmallLetter (codes "q")

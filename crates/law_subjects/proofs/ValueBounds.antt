@@ -10,7 +10,7 @@ use Rattle.dcsp_domain.specs.Sets.{has, set_of}
 use Rattle.dcsp_domain.proofs.RangeLaws.{numbers_between_has}
 use Rattle.dcsp_domain.proofs.SetLaws.{set_of_is_set}
 use Rattle.dcsp_domain.proofs.Rising.{has_cases, has_first, has_later}
-use Rattle.dcsp_problem.specs.declared.limits.Which.TheVariants as which
+use Rattle.dcsp_common.specs.declared.limits.Which.TheVariants as which
 use Rattle.dcsp_problem.specs.WellFormed.{IsProblem}
 use Rattle.dcsp_rule.specs.Problems.{Contents, constraint_of, csp_of}
 use Rattle.ngd_check.specs.Logged.{IsSmall}

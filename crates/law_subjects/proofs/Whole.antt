@@ -11,7 +11,7 @@ use Rattle.dcsp_rule.specs.Rules.{size_of}
 use Rattle.dcsp_gen.specs.Lines.{name}
 use Rattle.fzn_scope.specs.declared.names.Declared.{Declared}
 use Rattle.fzn_scope.specs.declared.names.Declared.TheVariants as declared
-use Rattle.fzn_model.specs.declared.refusal.ItemRefusal.{ItemRefusal}
+use Rattle.fzn_token.specs.declared.refusal.Refusal.{Refusal}
 use Rattle.fzn_scope.specs.Checks.{◌>>=◌}
 use Rattle.fzn_scope.specs.Names.{Scope}
 use Rattle.fzn_model.specs.Declarations.{SoFar}
@@ -91,7 +91,7 @@ module _ (text letter : List ℕ) (low high n : ℕ) (constraints : List ModelLi
       → AreSaid text letter (constraints ++ Solve ∷ []) items → (after_all text (so_far scope domains [] outputs false) items >>= finished) ≡ Ok (problem_so_far domains (flat_map rules_of constraints) outputs)
   ended scope outputs items there each says =
       let ruled = constraints_after text letter low high n small scope domains outputs there each constraints [] false items (Solve ∷ []) are (omega (arith, rules)) (omega (arith, terms)) says in
-      ap (λ (r : Result SoFar ItemRefusal). r >>= finished) ruled.reached ∙ last scope outputs ruled.constrained ruled.left ruled.said
+      ap (λ (r : Result SoFar Refusal). r >>= finished) ruled.reached ∙ last scope outputs ruled.constrained ruled.left ruled.said
     where
       last : (scope : Scope) (outputs : List Output) (c : Bool) (left : List Item) → AreSaid text letter (Solve ∷ []) left
           → (after_all text (so_far scope domains (flat_map rules_of constraints) outputs c) left >>= finished) ≡ Ok (problem_so_far domains (flat_map rules_of constraints) outputs)
@@ -107,7 +107,7 @@ module _ (text letter : List ℕ) (low high n : ℕ) (constraints : List ModelLi
   ended_printed scope (i ∷ items) so says =
       let entry : List ℕ × Declared = (letter, declared.Many false true (map variable (range_with_len 1 n))) in
       let step = array_step text scope domains n letter i says.0 (omega (arith, few)) so.free so.there in
-      ap (λ (r : Result SoFar ItemRefusal). r >>= finished) (after_one text (so_far scope domains [] [] false) (so_far (scope ++ entry ∷ []) domains [] (array_output letter n ∷ []) false) i items step)
+      ap (λ (r : Result SoFar Refusal). r >>= finished) (after_one text (so_far scope domains [] [] false) (so_far (scope ++ entry ∷ []) domains [] (array_output letter n ∷ []) false) i items step)
       ∙ ended (scope ++ entry ∷ []) (array_output letter n ∷ []) items (λ j l r. declared-old scope (entry ∷ []) (name letter j) (declared.One false (variable j)) (so.there j l r)) so.each says.1
 
   -- or without
@@ -132,7 +132,7 @@ unfolding resolved
 lines_have_problem text letter low high n printed constraints items within says =
     let begun = variables_after text letter low high (width low high) n (length_between low high) within.values within.variables within.all_values (printed ++ (constraints ++ Solve ∷ [])) n 0 [] [] items (omega arith) (none_declared letter low high (width low high)) says in
     let none = printed_adds n printed within.array in
-    ap (λ (r : Result SoFar ItemRefusal). r >>= finished) begun.reached
+    ap (λ (r : Result SoFar Refusal). r >>= finished) begun.reached
     ∙ ended_either text letter low high n constraints within.constrained within.greatest within.variables within.rules within.terms (flat_map domains_of (variables low high n)) begun.last printed begun.left within.array begun.declared begun.said
     ∙ ap (λ (p : Contents). Ok p) (problem_is letter low high n constraints within.constrained printed none.0 none.1)
 

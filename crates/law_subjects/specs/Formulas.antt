@@ -9,7 +9,7 @@ use Rattle.dcsp_rule.specs.declared.rule.Term.TheVariants.{Var}
 use Rattle.dcsp_rule.specs.declared.rule.Members.TheVariants.{Listed}
 use Rattle.dcsp_rule.specs.declared.rule.Rule.{Rule}
 use Rattle.dcsp_rule.specs.declared.rule.Rule.TheVariants.{Plain}
-use Rattle.dcsp_problem.specs.declared.limits.Which.{Which}
+use Rattle.dcsp_common.specs.declared.limits.Which.{Which}
 use Rattle.cnf_front.specs.declared.header.CnfError.TheVariants.{Syntax, Limit}
 use Rattle.cnf_front.specs.declared.words.Stand.TheVariants.{Start}
 use Rattle.cnf_front.specs.Dimacs.{TextWord, word_at, is_blank, words}

@@ -9,9 +9,10 @@ use Rattle.dcsp_defs.specs.Csp.{domain}
 use Rattle.dcsp_defs.specs.Derivation.{IsKnownPair}
 use Rattle.dcsp_problem.specs.declared.limits.BuildError.{BuildError}
 use Rattle.dcsp_problem.specs.declared.limits.BuildError.TheVariants as build
-use Rattle.dcsp_problem.specs.declared.limits.Which.TheVariants.{Variables}
+use Rattle.dcsp_common.specs.declared.limits.Which.TheVariants.{Variables}
 use Rattle.dcsp_rule.specs.Problems.{Contents, csp_of}
-use Rattle.dcsp_problem.specs.Limits.{rule_refusal, most}
+use Rattle.dcsp_common.specs.Limits.{most}
+use Rattle.dcsp_problem.specs.Limits.{rule_refusal}
 use Rattle.cnf_front.specs.declared.header.Mark.TheVariants.{P, Cnf, Clauses}
 use Rattle.cnf_front.specs.declared.words.Stand.TheVariants.{Start}
 use Rattle.cnf_front.specs.Clauses.{IsBinary}

@@ -1,20 +1,18 @@
 //! Texts, their items, refusals and marks.
 
-use fzn_item::{Item, ItemError, ItemList, Marked, items};
-use fzn_token::tokens;
+use fzn_item::{Item, ItemList, Marked, items};
+use fzn_token::{ModelError, Refusal, tokens};
 use std::alloc::{AllocError, Global};
 use std::process::Abort;
 use std::test::Fail;
 
 /// The items of a short text.
-fn read(alloc: Global, text: &[u8]) -> Result<ItemList, ItemError> {
+fn read(alloc: Global, text: &[u8]) -> Result<ItemList, ModelError> {
     if text.len() > 1000 {
-        return Err(ItemError::Memory);
+        return Err(ModelError::Memory);
     }
-    match tokens(alloc, text) {
-        Ok(list) => items(alloc, text, &list),
-        Err(_) => Err(ItemError::Memory),
-    }
+    let list = tokens(alloc, text)?;
+    items(alloc, text, &list)
 }
 
 /// The mark of a short text's first item.
@@ -135,7 +133,9 @@ fn texts_and_their_numbers_of_items(rt: HostRuntime) {
 
 /// The text is refused at this place.
 fn expect_refused(rt: &impl Abort, alloc: Global, text: &[u8], at: u32) {
-    assert!(rt; matches!(read(alloc, text), Err(ItemError::Syntax { at: place }) if place == at));
+    assert!(rt;
+        matches!(read(alloc, text), Err(ModelError::Refused(Refusal::Syntax { at: place })) if place == at)
+    );
 }
 
 #[test]

@@ -1,7 +1,7 @@
 //! Texts and their answers.
 
 use dcsp_problem::{Aim, ConstraintKind, Problem, Rel, RuleRef, Shape, Term, Which};
-use fzn_model::{ModelError, problem_of};
+use fzn_model::{ModelError, Refusal, problem_of};
 use itoa::Buffer;
 use std::alloc::Global;
 use std::process::Abort;
@@ -15,17 +15,20 @@ fn refusal(rt: &impl Abort, alloc: Global, text: &[u8]) -> Option<ModelError> {
 }
 
 /// The text has no problem, for this reason.
-fn expect_refused(rt: &impl Abort, alloc: Global, text: &[u8], error: ModelError) {
-    assert_eq!(rt; refusal(rt, alloc, text), Some(error));
+fn expect_refused(rt: &impl Abort, alloc: Global, text: &[u8], refused: Refusal) {
+    assert_eq!(rt;
+        refusal(rt, alloc, text),
+        Some(ModelError::Refused(refused))
+    );
 }
 
 /// A text that has no problem, and why.
-type Refused = (&'static [u8], ModelError);
+type Refused = (&'static [u8], Refusal);
 
 /// Each of these texts has no problem, for its reason.
 fn expect_all_refused(rt: &impl Abort, alloc: Global, rows: &[Refused]) {
-    for (text, error) in rows {
-        expect_refused(rt, alloc, text, *error);
+    for (text, refused) in rows {
+        expect_refused(rt, alloc, text, *refused);
     }
 }
 
@@ -37,31 +40,31 @@ fn expect_accepted(rt: &impl Abort, alloc: Global, text: &[u8]) {
 const TELLS_THE_FIRST_REFUSAL: &[Refused] = &[
     (
         b"var int: x;\nsolve satisfy;\n",
-        ModelError::Unbounded { at: 0 },
+        Refusal::Unbounded { at: 0 },
     ),
     (
         b"var 0.0..1.0: f;\nsolve satisfy;\n",
-        ModelError::Unsupported { at: 0 },
+        Refusal::Unsupported { at: 0 },
     ),
     (
         b"var 0..1: x;\nconstraint int_pow(x,x,x);\nsolve satisfy;\n",
-        ModelError::UnknownConstraint { at: 24 },
+        Refusal::UnknownConstraint { at: 24 },
     ),
     (
         b"var 0..1: x;\nconstraint int_ne(x,y);\nvar 0..1: y;\nsolve satisfy;\n",
-        ModelError::Undeclared { at: 33 },
+        Refusal::Undeclared { at: 33 },
     ),
     (
         b"var 0..1: x;\narray [1..2] of var int: a :: output_array([1..3]) = [x,x];\nsolve satisfy;\n",
-        ModelError::OutputShape { at: 38 },
+        Refusal::OutputShape { at: 38 },
     ),
     (
         b"var 0..1: x;\nvar 0..1: x;\nsolve satisfy;\n",
-        ModelError::Duplicate { at: 23 },
+        Refusal::Duplicate { at: 23 },
     ),
     (
         b"var bool: b;\nconstraint int_ne(b,1);\nsolve satisfy;\n",
-        ModelError::IllTyped { at: 31 },
+        Refusal::IllTyped { at: 31 },
     ),
 ];
 
@@ -73,24 +76,21 @@ fn tells_the_first_refusal(rt: HostRuntime) {
 const TELLS_PLACES_AND_LIMITS: &[Refused] = &[
     (
         b"int: k = 9223372036854775808;\nsolve satisfy;\n",
-        ModelError::IntRange { at: 9 },
+        Refusal::IntRange { at: 9 },
     ),
     (
         b"solve satisfy;\nvar 0..1: x;\n",
-        ModelError::Misplaced { at: 15 },
+        Refusal::Misplaced { at: 15 },
     ),
-    (b"", ModelError::NoSolve),
-    (
-        b"var 0..1: x;\nsolve satisfy",
-        ModelError::Syntax { at: 13 },
-    ),
+    (b"", Refusal::NoSolve),
+    (b"var 0..1: x;\nsolve satisfy", Refusal::Syntax { at: 13 }),
     (
         b"var 0..1: \xc3\xa9;\nsolve satisfy;\n",
-        ModelError::Lex { at: 10 },
+        Refusal::Lex { at: 10 },
     ),
     (
         b"var 0..65536: x;\nsolve satisfy;\n",
-        ModelError::Limit {
+        Refusal::Limit {
             which: Which::DomainSize,
             count: 65_537,
             at: 0,
@@ -98,7 +98,7 @@ const TELLS_PLACES_AND_LIMITS: &[Refused] = &[
     ),
     (
         b"var -9223372036854775808..-9223372036854775808: x;\nconstraint int_lin_le([-9223372036854775808],[x],1);\nsolve satisfy;\n",
-        ModelError::WideSum { at: 62 },
+        Refusal::WideSum { at: 62 },
     ),
 ];
 
@@ -111,21 +111,21 @@ const LOOKS_AT_NAMES_AND_TYPES_FIRST: &[Refused] = &[
     // A parameter is found twice as a variable is.
     (
         b"int: k = 1;\nvar 0..1: k;\nsolve satisfy;\n",
-        ModelError::Duplicate { at: 22 },
+        Refusal::Duplicate { at: 22 },
     ),
     // The name is looked at before the type.
     (
         b"var 0..1: x;\nvar int: x;\nsolve satisfy;\n",
-        ModelError::Duplicate { at: 22 },
+        Refusal::Duplicate { at: 22 },
     ),
     // The type is looked at before the right side.
     (
         b"var int: x = y;\nsolve satisfy;\n",
-        ModelError::Unbounded { at: 0 },
+        Refusal::Unbounded { at: 0 },
     ),
     (
         b"var 0..65536: x = y;\nsolve satisfy;\n",
-        ModelError::Limit {
+        Refusal::Limit {
             which: Which::DomainSize,
             count: 65_537,
             at: 0,
@@ -133,19 +133,19 @@ const LOOKS_AT_NAMES_AND_TYPES_FIRST: &[Refused] = &[
     ),
     (
         b"var 0..1: x = y;\nsolve satisfy;\n",
-        ModelError::Undeclared { at: 14 },
+        Refusal::Undeclared { at: 14 },
     ),
     (
         b"float: f = 1.5;\nsolve satisfy;\n",
-        ModelError::Unsupported { at: 0 },
+        Refusal::Unsupported { at: 0 },
     ),
     (
         b"var set of 1..3: s;\nsolve satisfy;\n",
-        ModelError::Unsupported { at: 0 },
+        Refusal::Unsupported { at: 0 },
     ),
     (
         b"array [1..1] of set of int: s = [{1}];\nsolve satisfy;\n",
-        ModelError::Unsupported { at: 0 },
+        Refusal::Unsupported { at: 0 },
     ),
 ];
 
@@ -158,28 +158,28 @@ const LOOKS_AT_INDEXES_AND_SORTS_FIRST: &[Refused] = &[
     // The right side's form, the index, then the elements.
     (
         b"array [1..2] of int: a = 5;\nsolve satisfy;\n",
-        ModelError::IllTyped { at: 25 },
+        Refusal::IllTyped { at: 25 },
     ),
     (
         b"array [1..2] of int: a = [z];\nsolve satisfy;\n",
-        ModelError::IllTyped { at: 21 },
+        Refusal::IllTyped { at: 21 },
     ),
     (
         b"array [1..1] of int: a = [z];\nsolve satisfy;\n",
-        ModelError::Undeclared { at: 26 },
+        Refusal::Undeclared { at: 26 },
     ),
     (
         b"array [0..-1] of int: a = [];\nsolve satisfy;\n",
-        ModelError::IllTyped { at: 22 },
+        Refusal::IllTyped { at: 22 },
     ),
     // The index of a named array before its sort, and its sort before its elements.
     (
         b"array [1..0] of var int: a = [];\narray [1..1] of int: b = a;\nsolve satisfy;\n",
-        ModelError::IllTyped { at: 54 },
+        Refusal::IllTyped { at: 54 },
     ),
     (
         b"array [1..0] of var int: a = [];\narray [1..0] of int: b = a;\nsolve satisfy;\n",
-        ModelError::IllTyped { at: 58 },
+        Refusal::IllTyped { at: 58 },
     ),
 ];
 
@@ -192,24 +192,24 @@ const LOOKS_AT_THE_ORDER_OF_ITEMS_AND_ARGUMENTS: &[Refused] = &[
     // A parameter after a constraint, and a second solve item.
     (
         b"constraint int_le(0,0);\nint: k = 1;\nsolve satisfy;\n",
-        ModelError::Misplaced { at: 24 },
+        Refusal::Misplaced { at: 24 },
     ),
     (
         b"solve satisfy;\nsolve satisfy;\n",
-        ModelError::Misplaced { at: 15 },
+        Refusal::Misplaced { at: 15 },
     ),
     // The number of arguments, then the arguments, then the lengths.
     (
         b"constraint int_le(z);\nsolve satisfy;\n",
-        ModelError::IllTyped { at: 11 },
+        Refusal::IllTyped { at: 11 },
     ),
     (
         b"constraint int_lin_eq([1],[z,z],0);\nsolve satisfy;\n",
-        ModelError::Undeclared { at: 27 },
+        Refusal::Undeclared { at: 27 },
     ),
     (
         b"constraint int_lin_eq([1],[2,3],0);\nsolve satisfy;\n",
-        ModelError::IllTyped { at: 11 },
+        Refusal::IllTyped { at: 11 },
     ),
 ];
 
@@ -272,7 +272,7 @@ fn push_repeated(rt: &impl Abort, text: &mut Vec<u8>, bytes: &[u8], count: u32) 
 
 /// A limit would be passed.
 fn passed(which: Which, count: u128, at: u32) -> Option<ModelError> {
-    Some(ModelError::Limit { which, count, at })
+    Some(ModelError::Refused(Refusal::Limit { which, count, at }))
 }
 
 /// The refusal of so many variables with one value each.
@@ -488,17 +488,17 @@ fn reads_what_is_wanted(rt: HostRuntime) {
 const REFUSES_GOALS_WITHOUT_AN_INTEGER: &[Refused] = &[
     (
         b"var 0..1: x;\nsolve minimize z;\n",
-        ModelError::Undeclared { at: 28 },
+        Refusal::Undeclared { at: 28 },
     ),
     (
         b"var bool: b;\nsolve maximize b;\n",
-        ModelError::IllTyped { at: 28 },
+        Refusal::IllTyped { at: 28 },
     ),
-    (b"solve minimize [1];\n", ModelError::IllTyped { at: 15 }),
+    (b"solve minimize [1];\n", Refusal::IllTyped { at: 15 }),
     // A second solve item is looked at no further.
     (
         b"solve satisfy;\nsolve minimize z;\n",
-        ModelError::Misplaced { at: 15 },
+        Refusal::Misplaced { at: 15 },
     ),
 ];
 

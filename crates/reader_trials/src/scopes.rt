@@ -3,15 +3,15 @@
 use dcsp_common::Memory;
 use dcsp_problem::{Members, Rel, RuleRef, Term, TermList};
 use fzn_item::{Item, LentItem, items, next_lent};
-use fzn_scope::{ArgumentLists, Context, Declared, Names, Refusal, Stop, bytes_at};
-use fzn_token::{LexError, TokenList, tokens};
+use fzn_scope::{ArgumentLists, Context, Declared, Names, bytes_at};
+use fzn_token::{ModelError, Refusal, TokenList, tokens};
 use std::alloc::{AllocFailed, Global};
 use std::process::Abort;
 
 /// The tokens of a short text.
-fn read(alloc: Global, text: &[u8]) -> Result<TokenList, LexError> {
+fn read(alloc: Global, text: &[u8]) -> Result<TokenList, ModelError> {
     if text.len() > 1000 {
-        return Err(LexError::Memory);
+        return Err(ModelError::Memory);
     }
     tokens(alloc, text)
 }
@@ -65,7 +65,7 @@ fn rule_of<'l>(
     alloc: Global,
     lists: &'l mut ArgumentLists,
     text: &[u8],
-) -> Result<RuleRef<'l>, Stop> {
+) -> Result<RuleRef<'l>, ModelError> {
     let list = read(alloc, text).ok().expect(rt, "tokens");
     let names = scope(rt, alloc);
     match next_lent(alloc, text, list.items()) {
@@ -93,7 +93,7 @@ fn expect_refused(rt: &impl Abort, alloc: Global, text: &[u8], refusal: Refusal)
     let mut lists = ArgumentLists::new(alloc);
     assert_eq!(rt;
         rule_of(rt, alloc, &mut lists, text).err(),
-        Some(Stop::Refused(refusal))
+        Some(ModelError::Refused(refusal))
     );
 }
 
@@ -320,10 +320,13 @@ fn places_outside_a_text_have_no_bytes(rt: HostRuntime) {
 
 #[test]
 fn want_of_memory_is_no_refusal(rt: HostRuntime) {
-    assert_eq!(rt; Stop::from((7u32, Memory)), Stop::Memory);
-    assert_eq!(rt; Stop::from(AllocFailed { value: 7u32 }), Stop::Memory);
+    assert_eq!(rt; ModelError::from((7u32, Memory)), ModelError::Memory);
     assert_eq!(rt;
-        Stop::from(Refusal::IllTyped { at: 7 }),
-        Stop::Refused(Refusal::IllTyped { at: 7 })
+        ModelError::from(AllocFailed { value: 7u32 }),
+        ModelError::Memory
+    );
+    assert_eq!(rt;
+        ModelError::from(Refusal::IllTyped { at: 7 }),
+        ModelError::Refused(Refusal::IllTyped { at: 7 })
     );
 }

@@ -2,14 +2,14 @@
 
 use Mark::{Colon, ColonColon, DotDot, Semicolon};
 use TokenKind::{Float, Name, Text, Whole};
-use fzn_token::{LexError, Mark, TokenKind, TokenList, Word, tokens};
+use fzn_token::{Mark, ModelError, Refusal, TokenKind, TokenList, Word, tokens};
 use std::alloc::Global;
 use std::process::Abort;
 
 /// The tokens of a short text.
-fn read(alloc: Global, text: &[u8]) -> Result<TokenList, LexError> {
+fn read(alloc: Global, text: &[u8]) -> Result<TokenList, ModelError> {
     if text.len() > 100 {
-        return Err(LexError::Memory);
+        return Err(ModelError::Memory);
     }
     tokens(alloc, text)
 }
@@ -68,17 +68,20 @@ fn texts_and_their_tokens(rt: HostRuntime) {
 #[test]
 fn texts_and_their_refusals(rt: HostRuntime) {
     for (text, expected) in [
-        (b"\"a".as_slice(), LexError::Bad { at: 0 }),
-        (b"\"a\\\"", LexError::Bad { at: 0 }),
-        (b"a .b", LexError::Bad { at: 2 }),
-        (b"1.e5", LexError::Bad { at: 1 }),
-        (b"1e+", LexError::Bad { at: 2 }),
-        (b"1...2", LexError::Bad { at: 3 }),
-        (b"-", LexError::Bad { at: 0 }),
-        (b"a 9223372036854775808 $", LexError::IntRange { at: 2 }),
-        (b"$ 9223372036854775808", LexError::Bad { at: 0 }),
-        (b"-0x8000000000000001", LexError::IntRange { at: 0 }),
+        (b"\"a".as_slice(), Refusal::Lex { at: 0 }),
+        (b"\"a\\\"", Refusal::Lex { at: 0 }),
+        (b"a .b", Refusal::Lex { at: 2 }),
+        (b"1.e5", Refusal::Lex { at: 1 }),
+        (b"1e+", Refusal::Lex { at: 2 }),
+        (b"1...2", Refusal::Lex { at: 3 }),
+        (b"-", Refusal::Lex { at: 0 }),
+        (b"a 9223372036854775808 $", Refusal::IntRange { at: 2 }),
+        (b"$ 9223372036854775808", Refusal::Lex { at: 0 }),
+        (b"-0x8000000000000001", Refusal::IntRange { at: 0 }),
     ] {
-        assert_eq!(rt; read(rt.alloc(), text).err(), Some(expected));
+        assert_eq!(rt;
+            read(rt.alloc(), text).err(),
+            Some(ModelError::Refused(expected))
+        );
     }
 }

@@ -1,6 +1,6 @@
 use Rattle.dcsp_rule.specs.Problems.{csp_of}
 use Rattle.law_inputs.proofs.Cores.{log_for_total, kept_log_total, a_refutation_total}
-use Rattle.law_inputs.proofs.TotalKinds.{model_total, taking_total, log_total, schedule_total, orders_total, formula_total, proof_total, model_memory, formula_memory}
+use Rattle.law_inputs.proofs.TotalKinds.{model_total, taking_total, log_total, schedule_total, orders_total, formula_total, proof_total, formula_memory}
 use Rattle.law_inputs.proofs.files_are_read_or_refused.Goals as goal
 
 pub returns : goal.returns
@@ -15,6 +15,5 @@ returns c = record {
   orders = orders_total;
   formulas = formula_total;
   proofs = proof_total;
-  model_memory = model_memory;
   formula_memory = formula_memory;
 }
