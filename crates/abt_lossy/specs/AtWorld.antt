@@ -1,5 +1,5 @@
 -- At which world the agents over the medium stand.
-use Rattle.std.specs.Prelude.{◌≡◌, ℕ, ◌+◌, ◌<◌, ◌^◌, Bool, true, false, nat_lt, List, [], ◌∷◌, ◌++◌, length, IfSome, option_to_list}
+use Rattle.std.specs.Prelude.{◌≡◌, ℕ, ◌+◌, ◌<◌, ◌^◌, ◌&&◌, Bool, true, false, nat_lt, if◌then◌else◌, List, [], ◌∷◌, ◌++◌, length, IfSome, option_to_list}
 use Rattle.dcsp_defs.specs.Csp.{Csp, count}
 use Rattle.dcsp_rule.specs.Problems.{csp_of}
 use Rattle.abt_links.specs.Transit.{link_of}
@@ -18,6 +18,10 @@ use Rattle.abt_lossy.specs.declared.parts.Happened.{Happened}
 -- by the counts and what waits, whether the pair has a message that is not acknowledged
 abbrev pub may_send : Parts → ℕ → ℕ → Bool
 may_send l k i = nat_lt (acknowledged_of l.carrier.counts k i) (handed_up_of l.carrier.counts k i + length (link_of l.network.links k i))
+
+-- whether the pair is marked once every pair of the agents is marked by whether it may send
+abbrev pub marked_by_all : Parts → ℕ → ℕ → Bool
+marked_by_all l k i = if nat_lt k l.agents && nat_lt i l.agents then may_send l k i else has_pair l.senders k i
 
 -- all parts stand where these events of this problem lead
 pub record IsAt (p : Csp) (words : List ℕ) (l : Parts) : Type 0 where

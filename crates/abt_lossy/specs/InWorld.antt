@@ -32,6 +32,10 @@ pub record LossyState : Type 0 where
 abbrev pub reached : LossyState → List ℕ → World
 reached s words = after (csp_of s.problem) words (begin (csp_of s.problem))
 
+-- the agents' values solve their problem in the world that these events lead to
+abbrev pub IsSolvedAfter : LossyState → List ℕ → Type 0
+IsSolvedAfter s words = IsSolved (csp_of s.problem) (reached s words).network
+
 -- agents, counts and packets are the world's
 pub record IsIn (s : LossyState) (w : World) : Type 0 where
   pub network : StandsAt s.network (reliable w)

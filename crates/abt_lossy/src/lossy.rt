@@ -3,9 +3,8 @@
 ghost use Rattle.std.specs.Prelude.{◌≡◌, ◌<◌, ◌≤◌, ◌+◌, ◌^◌, ℕ, List, [], ◌∷◌, ◌++◌, IfOk, IsErr, OnErr, OnOk, false, true, length};
 ghost use Rattle.dcsp_defs.specs.Csp.{HasNoSolution};
 ghost use Rattle.dcsp_rule.specs.Problems.{csp_of};
-ghost use Rattle.abt_defs.specs.Network.{IsSolved};
 ghost use Rattle.abt_network.specs.Standing.{standing_in, state_at};
-ghost use Rattle.abt_lossy.specs.InWorld.{reached, standing_of, Begins, CanHappen, Happens, IsAfter, IsOrderly};
+ghost use Rattle.abt_lossy.specs.InWorld.{reached, standing_of, Begins, CanHappen, Happens, IsAfter, IsOrderly, IsSolvedAfter};
 
 use crate::parts::{Happened, Parts};
 use abt_network::{Begun, Standing};
@@ -131,7 +130,7 @@ impl<'p> Lossy<'p> {
     pub fn state(&self) -> Standing
         ensures standing { result ≡ standing_in self.now.network }
         ensures world { (words : List ℕ) → IsAfter self.now words → self.now.spent ≡ false → result ≡ standing_of (csp_of self.now.problem) (reached self.now words) }
-        ensures solved { (words : List ℕ) → IsAfter self.now words → self.now.spent ≡ false → result ≡ Standing.Quiet → IsSolved (csp_of self.now.problem) (reached self.now words).network }
+        ensures solved { (words : List ℕ) → IsAfter self.now words → self.now.spent ≡ false → result ≡ Standing.Quiet → IsSolvedAfter self.now words }
         ensures refuted { (words : List ℕ) → IsAfter self.now words → self.now.spent ≡ false → result ≡ Standing.Refuted → HasNoSolution (csp_of self.now.problem) }
     {
         self.problem.denotes_csp();

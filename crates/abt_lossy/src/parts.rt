@@ -5,7 +5,7 @@ ghost use Rattle.dcsp_rule.specs.Problems.{csp_of};
 ghost use Rattle.abt_network.specs.Standing.{Starts};
 ghost use Rattle.abt_links.specs.PairTables.{has_pair};
 ghost use Rattle.abt_lossy.specs.Carries.{CountsFit};
-ghost use Rattle.abt_lossy.specs.AtWorld.{is_refuted, may_send, Does, IsAt, IsBlank, IsReached};
+ghost use Rattle.abt_lossy.specs.AtWorld.{is_refuted, marked_by_all, may_send, Does, IsAt, IsBlank, IsReached};
 
 use crate::carrier::{Arrival, Carrier};
 use abt_links::PairSet;
@@ -70,7 +70,7 @@ impl<'p> Parts<'p> {
         ensures carrier { self.new.carrier ≡ self.old.carrier }
         ensures count { self.new.agents ≡ self.old.agents }
         ensures agents { self.new.senders.agents ≡ self.old.senders.agents }
-        ensures marks { (k i : ℕ) → has_pair self.new.senders k i ≡ (if nat_lt k self.old.agents && nat_lt i self.old.agents then may_send self.old k i else has_pair self.old.senders k i) }
+        ensures marks { (k i : ℕ) → has_pair self.new.senders k i ≡ marked_by_all self.old k i }
     {
         for sender in 0..self.agents {
             self.mark_all(sender);

@@ -90,9 +90,7 @@ impl Pool {
         ensures ok { OnOk result (self.new ≡ self.old ++ packet ∷ []) }
         ensures err { OnErr result (self.new ≡ self.old) }
     {
-        match self.packets.push(packet) {
-            Ok(()) => Ok(()),
-            Err(_) => Err(Memory),
-        }
+        self.packets.push(packet)?;
+        Ok(())
     }
 }

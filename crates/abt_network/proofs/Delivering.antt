@@ -77,7 +77,7 @@ same_ready p agents t net stands linked =
 
 module _ (p : Contents) (agents agents' : List State) (t mid t' : Transit) (net : Network) (next choice n : ℕ) (m : TheMessage) (went : List Sent) (o : Outcome) (turn : Turn) (d : Delivery)
     (stands : Stands p agents t net) (counted : next ≡ length net.steps + 1) (linked : t.agents ≡ length p.domains)
-    (some : n ≡ length (ready_pairs t)) (pair : slice_get (ready_pairs t) (choice % n) ≡ Some (d.from, d.to)) (receiver : d.to < length p.domains)
+    (some : n ≡ length (ready_pairs t)) (pair : slice_get (ready_pairs t) (choice % n) ≡ Some (d.from, d.to)) (receiver : d.to < length p.domains) (numbered : d.number ≡ choice % n)
     (takes : Takes t mid d.from d.to m)
     (does : o ≡ outcome p agents next d.from d.to m) (agent : stands_for (state_at agents' d.to) ≡ o.agent) (sent : messages_of went ≡ o.sent) (is_turn : IsTurn (stands_for (state_at agents d.to)) o turn)
     (is_cargo : cargo_in d.cargo ≡ runs.cargo_of (message_of m)) (is_step : d.step ≡ step_in turn)
@@ -144,6 +144,7 @@ module _ (p : Contents) (agents agents' : List State) (t mid t' : Transit) (net 
   pub passes : PassesOn p agents' t' net choice d
   passes = record {
     stands = subst (λ (x : Network). Stands p agents' t' x) (sym leads) (record { states = new_states; lists = new_lists });
+    number = numbered ∙ ap (λ k. choice % k) some ∙ ap (λ (l : List (ℕ × ℕ)). choice % length l) (sym (same_ready p agents t net stands linked));
     told = told_is;
     steps = ap (λ (x : Network). x.steps) leads ∙ ap (λ (s : Option Step). net.steps ++ option_to_list s) made;
     refuted = ap (λ (x : Network). x.refuted) leads ∙ ap refutes made;

@@ -42,6 +42,7 @@ delivers_of s s' net choice d st h c = record {
     deliveries = c.deliveries ∙ ap (λ n. n + 1) st.deliveries ∙ sym h.deliveries;
     steps = c.steps ∙ ap (λ n. n + steps_made d.step) st.steps ∙ ap (λ n. length net.steps + n) (sym (length_made d.step)) ∙ sym (length-append net.steps (option_to_list d.step)) ∙ ap length (sym h.steps);
   };
+  number = h.number;
   told = h.told;
   steps = h.steps;
   refuted = h.refuted;

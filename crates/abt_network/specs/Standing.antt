@@ -10,6 +10,7 @@ use Rattle.abt_defs.specs.Network as machine
 use Rattle.abt_defs.specs.Network.{run, start, deliver, ready, is_empty, refutes, sent_to}
 use Rattle.abt_defs.specs.Runs as runs
 use Rattle.abt_defs.specs.Events.{Act, choice_acts}
+use Rattle.law_runs.specs.Stops.{list_number}
 use Rattle.ngd_log.specs.StepText.{IsInRange}
 use Rattle.dcsp_rule.specs.declared.aim.Aim.TheVariants.{Satisfy}
 use Rattle.dcsp_rule.specs.Problems.{Contents, csp_of}
@@ -109,9 +110,10 @@ cargo_in AddLink = runs.Link
 abbrev pub delivery_of : Delivery → runs.Delivery
 delivery_of d = record { sender = d.from; receiver = d.to; cargo = cargo_in d.cargo }
 
--- the network stands where the choice leads from this network; sender, receiver, cargo and step are those of that delivery
+-- the network stands where the choice leads from this network; number, sender, receiver, cargo and step are those of that delivery
 pub record Delivers (p : Contents) (new : NetworkState) (net : machine.Network) (choice : ℕ) (d : Delivery) : Type 0 where
   pub stands : StandsAt new (deliver (csp_of p) choice net)
+  pub number : d.number ≡ list_number (csp_of p) choice net
   pub told : runs.delivery (csp_of p) choice net ≡ delivery_of d ∷ []
   pub steps : (deliver (csp_of p) choice net).steps ≡ net.steps ++ option_to_list d.step
   pub refuted : (deliver (csp_of p) choice net).refuted ≡ refutes d.step

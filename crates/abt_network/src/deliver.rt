@@ -98,7 +98,8 @@ impl<'p> NetworkBody<'p> {
     {
         self.problem.denotes_csp();
         let count = self.links.ready_count();
-        let carried = self.links.take_ready(choice % count);
+        let number = choice % count;
+        let carried = self.links.take_ready(number);
         let (from, to) = (carried.from, carried.to);
         let cargo = cargo_of(&carried.message);
         let next = self.steps + 1;
@@ -107,6 +108,7 @@ impl<'p> NetworkBody<'p> {
         post(&mut self.links, to, &mut self.out, &mut self.sent)?;
         let step = step_of(turn);
         Ok(Delivery {
+            number,
             from,
             to,
             cargo,

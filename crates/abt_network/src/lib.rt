@@ -51,6 +51,8 @@ pub enum Cargo {
 /// One delivery.
 #[derive(Debug, Drop)]
 pub struct Delivery {
+    /// The number of the list among those that were ready, counted from 0.
+    pub number: u32,
     /// The sender, counted from 0.
     pub from: u32,
     /// The receiver, counted from 0.

@@ -13,8 +13,8 @@ use Rattle.dcsp_rule.specs.declared.aim.Aim.TheVariants.{Satisfy, Least, Greates
 use Rattle.dcsp_rule.specs.Problems.{Contents, csp_of}
 use Rattle.dcsp_rule.specs.Aims.{aimed_at, is_better, narrowed_at, narrowed}
 use Rattle.dcsp_problem.proofs.Narrowed.{narrowed_is}
-use Rattle.abt_optimum.specs.declared.round.Ended.{Ended}
-use Rattle.abt_optimum.specs.declared.round.Ended.TheVariants.{Solved, Refuted, Capped}
+use Rattle.abt_defs.specs.declared.end.End.{End}
+use Rattle.abt_defs.specs.declared.end.End.TheVariants.{Solved, Refuted, Spent, Capped}
 use Rattle.abt_optimum.specs.declared.round.Known.{Known}
 use Rattle.abt_optimum.specs.declared.round.Round.{Round}
 use Rattle.abt_optimum.specs.Halves.{candidates, next_value}
@@ -113,7 +113,7 @@ module _ (halves : Bool) (p : Contents) (rising : halves ≡ true → IsRising (
         let some = left_some halves p.aim var at (aim_values p) rising best limit beyond in
         record { found = refl; less = omega (arith, is, few, some); half = λ known is_so. omega (arith, is, few, some) }
 
-    step : (best limit better : Option ℤ) (end : Ended) → better ≡ better_than p halves (record { best = best; limit = limit }) → MayEnd (round_problem p better) limit end → ends_search p.aim best better end ≡ false
+    step : (best limit better : Option ℤ) (end : End ℤ) → better ≡ better_than p halves (record { best = best; limit = limit }) → MayEnd (round_problem p better) limit end → ends_search p.aim best better end ≡ false
         → Leaves (record { best = best; limit = limit }) (known_after (record { best = best; limit = limit }) better end)
     step None limit better (Solved value) e may still = solved_first limit value (subst (λ (o : Option ℤ). MayEnd (round_problem p o) limit (Solved value)) e may)
     step None limit better Refuted e may still = absurd (cc)
@@ -121,6 +121,7 @@ module _ (halves : Bool) (p : Contents) (rising : halves ≡ true → IsRising (
     step (Some best) limit better Refuted e may still =
         let beyond : is_beyond p.aim (Some best) (Some (next_value halves p.aim (aim_values p) best limit)) ≡ true = subst (λ (o : Option ℤ). is_beyond p.aim (Some best) o ≡ true) e (not_or _ _ still) in
         subst (λ (o : Option ℤ). Leaves (record { best = Some best; limit = limit }) (record { best = Some best; limit = o })) (sym e) (refuted_more best limit beyond)
+    step best limit better Spent e may still = cc
     step best limit better Capped e may still = cc
 
     -- the first k rounds, and those that may still come, are at most as many as all

@@ -7,8 +7,8 @@ use Rattle.dcsp_rule.specs.declared.aim.Aim.{Aim}
 use Rattle.dcsp_rule.specs.declared.aim.Aim.TheVariants.{Satisfy, Least, Greatest}
 use Rattle.dcsp_rule.specs.Problems.{Contents}
 use Rattle.dcsp_rule.specs.Aims.{aimed_at, is_better}
-use Rattle.abt_optimum.specs.declared.round.Ended.{Ended}
-use Rattle.abt_optimum.specs.declared.round.Ended.TheVariants.{Solved, Refuted, Capped}
+use Rattle.abt_defs.specs.declared.end.End.{End}
+use Rattle.abt_defs.specs.declared.end.End.TheVariants.{Solved, Refuted, Spent, Capped}
 use Rattle.abt_optimum.specs.declared.round.Known.{Known}
 use Rattle.abt_optimum.specs.declared.round.Round.{Round}
 use Rattle.abt_optimum.specs.Best.{assigned, aim_value, IsBest}
@@ -44,9 +44,10 @@ module _ (halves : Bool) (p : Contents) (rising : halves ≡ true → IsRising (
       from_best (inl same) past = subst (λ (x : ℤ). is_better p.aim x value ≡ true) same past
       from_best (inr better) past = better_through p.aim old best value better past
 
-  good_after : (known : Known) (better : Option ℤ) (end : Ended) → IsAsGood known.best → better ≡ better_than p halves known → MayEnd (round_problem p better) known.limit end → IsAsGood (known_after known better end).best
+  good_after : (known : Known) (better : Option ℤ) (end : End ℤ) → IsAsGood known.best → better ≡ better_than p halves known → MayEnd (round_problem p better) known.limit end → IsAsGood (known_after known better end).best
   good_after known better (Solved value) good e may = inr (solved_better known.best known.limit better value good e may)
   good_after known better Refuted good e may = good
+  good_after known better Spent good e may = good
   good_after known better Capped good e may = good
 
   -- after the round that found it the best value is at least as good

@@ -7,8 +7,8 @@ use Rattle.dcsp_rule.specs.declared.aim.Aim.{Aim}
 use Rattle.dcsp_rule.specs.Problems.{Contents}
 use Rattle.dcsp_rule.specs.Aims.{aimed_at}
 use Rattle.dcsp_defs.proofs.Lists.{get-last, get-more}
-use Rattle.abt_optimum.specs.declared.round.Ended.{Ended}
-use Rattle.abt_optimum.specs.declared.round.Ended.TheVariants.{Solved, Refuted, Capped}
+use Rattle.abt_defs.specs.declared.end.End.{End}
+use Rattle.abt_defs.specs.declared.end.End.TheVariants.{Solved, Refuted, Spent, Capped}
 use Rattle.abt_optimum.specs.declared.round.Known.{Known}
 use Rattle.abt_optimum.specs.declared.round.Round.{Round}
 use Rattle.abt_optimum.specs.Halves.{next_value}
@@ -50,9 +50,10 @@ some_aim aim round still = by round.end still where
   or_false true b e = cc
   or_false false b e = e
 
-  by : (end : Ended) → ends_search aim round.known.best round.better end ≡ false → is_none (aimed_at aim) ≡ false
+  by : (end : End ℤ) → ends_search aim round.known.best round.better end ≡ false → is_none (aimed_at aim) ≡ false
   by (Solved value) e = e
   by Refuted e = or_false _ _ e
+  by Spent e = cc
   by Capped e = cc
 
 pub not_or : (a b : Bool) → not a || b ≡ false → a ≡ true
@@ -88,12 +89,13 @@ none_last [] e = refl
 none_last (x ∷ xs) e = absurd (get_some (x ∷ xs) (length (x ∷ xs) - 1) (omega arith) e)
 
 -- where another round follows and no value was found, no round has ended
-open_at : (aim : Aim) (rounds : List Round) (known : Known) (better : Option ℤ) (end : Ended) → ends_search aim known.best better end ≡ false → (known_after known better end).best ≡ None → rounds ≡ []
+open_at : (aim : Aim) (rounds : List Round) (known : Known) (better : Option ℤ) (end : End ℤ) → ends_search aim known.best better end ≡ false → (known_after known better end).best ≡ None → rounds ≡ []
 open_at aim rounds known better (Solved value) still none = cc
 open_at aim rounds known better Refuted still none =
     let beyond = not_or (is_beyond aim known.best better) (is_none (aimed_at aim)) still in
     let clash : is_beyond aim None better ≡ true = subst (λ (o : Option ℤ). is_beyond aim o better ≡ true) none beyond in
     cc
+open_at aim rounds known better Spent still none = cc
 open_at aim rounds known better Capped still none = cc
 
 pub none_ended : (aim : Aim) (rounds : List Round) → is_done aim rounds ≡ false → best_value rounds ≡ None → rounds ≡ []

@@ -1,7 +1,7 @@
 -- What every search keeps, and what a whole one finds.
 use Rattle.std.proofs.Common.{◌≡◌, ◌∙◌, ℕ, ◌-◌, Bool, true, false, List, [], ◌∷◌, ◌++◌, length, take, refl, sym, ap, subst, inl, inr}
 use Rattle.dcsp_domain.specs.Sets.{IsRising}
-use Rattle.std.specs.Prelude.{ℤ, ◌↔◌, is_some, is_none, Option, Some, None, IsSomeAnd, IfSome, option_map}
+use Rattle.std.specs.Prelude.{ℤ, ◌↔◌, is_some, is_none, Option, Some, None, IsSomeAnd, IfSome, IsTrue, option_map}
 use Rattle.std.specs.Option.{option_map_or}
 use Rattle.std.proofs.lemmas.List.{length-set}
 use Rattle.dcsp_defs.specs.Csp.{IsSolution, HasNoSolution}
@@ -11,17 +11,15 @@ use Rattle.dcsp_rule.specs.declared.aim.Aim.TheVariants.{Satisfy, Least, Greates
 use Rattle.dcsp_rule.specs.Rules.{IsAimOf}
 use Rattle.dcsp_rule.specs.Problems.{Contents, csp_of}
 use Rattle.dcsp_rule.specs.Aims.{aimed_at, is_better, narrowed_at, narrowed}
-use Rattle.abt_optimum.specs.declared.round.Ended.TheVariants as ended
-use Rattle.abt_optimum.specs.declared.round.Ended.{Ended}
+use Rattle.abt_defs.specs.declared.end.End.{End}
+use Rattle.abt_defs.specs.declared.end.End.TheVariants.{Solved, Refuted, Spent, Capped}
 use Rattle.abt_optimum.specs.declared.round.Round.{Round}
-use Rattle.abt_optimum.specs.declared.round.RoundEnd.{RoundEnd}
-use Rattle.abt_optimum.specs.declared.round.RoundEnd.TheVariants.{Solved, Refuted, Capped}
 use Rattle.abt_optimum.specs.declared.best.BestEnd.{BestEnd}
 use Rattle.abt_optimum.specs.declared.best.BestEnd.TheVariants.{NoSolution}
 use Rattle.abt_optimum.specs.Best.{assigned, aim_value, Solves, HasNoBetter}
 use Rattle.abt_optimum.specs.declared.round.Known.{Known}
 use Rattle.abt_optimum.specs.Halves.{next_value}
-use Rattle.abt_optimum.specs.Rounds.{last_round, known_at_first, known_after, known_of, best_value, aim_values_at, aim_values, better_than, ends_search, is_last, is_done, round_problem, IsAimValue, IsAllowed, MayEnd, Follows}
+use Rattle.abt_optimum.specs.Rounds.{is_open, last_round, known_at_first, known_after, known_of, best_value, aim_values_at, aim_values, better_than, ends_search, is_last, is_done, round_problem, IsAimValue, IsAllowed, MayEnd, Follows}
 use Rattle.abt_optimum.specs.Searches.{SearchState, end_at, next_better, round_after, values_after, EndsRightly, IsSearch}
 use Rattle.abt_optimum.specs.Outcomes.{IsRefutedAt, BeginsRefuted, EndsCapped, IsOptimal, IsUnsolvable, IsBestEnd}
 use Rattle.abt_optimum.specs.Kept.{end_of}
@@ -63,7 +61,7 @@ allowed : (p : Contents) (limit : Option ℤ) (values : List ℤ) → IfSome lim
 allowed p None values none h = tt
 allowed p (Some limit) values none h = none (assigned values) h.solution
 
-may_end : (p : Contents) (better limit : Option ℤ) (end : RoundEnd) → IsAimOf (length p.domains) p.aim → IfSome limit (HasNoBetter p) → EndsRightly (round_problem p better) end → MayEnd (round_problem p better) limit (end_at p.aim end)
+may_end : (p : Contents) (better limit : Option ℤ) (end : End (List ℤ)) → IsAimOf (length p.domains) p.aim → IfSome limit (HasNoBetter p) → EndsRightly (round_problem p better) end → MayEnd (round_problem p better) limit (end_at p.aim end)
 may_end p better limit (Solved values) known none right =
     let q = round_problem p better in
     let value = aim_value p.aim (assigned values) in
@@ -71,6 +69,7 @@ may_end p better limit (Solved values) known none right =
     let there = solved_aim q p.aim values (subst (λ (n : ℕ). IsAimOf n p.aim) (sym (round_many p better)) known) right in
     (subst (λ (aim : Aim). IsAimValue q aim value) aim there, subst (λ (aim : Aim). IsAllowed aim limit value) aim (allowed p limit values none (solves_whole p better values known right)))
 may_end p better limit Refuted known none right = tt
+may_end p better limit Spent known none right = tt
 may_end p better limit Capped known none right = tt
 
 -- ---- no better values
@@ -92,23 +91,26 @@ none_better p values known none = by (aimed_at p.aim) refl where
 
 -- the search after one round more
 module _ (s : SearchState) (h : IsSearch s) (known : IsAimOf (length s.problem.domains) s.problem.aim) (still : is_done s.problem.aim s.rounds ≡ false) where
-  abbrev taken : RoundEnd → SearchState
+  abbrev taken : End (List ℤ) → SearchState
   taken end = record { problem = s.problem; halves = s.halves; rounds = s.rounds ++ round_after s end ∷ []; values = values_after s.values end }
 
-  solves_more : (end : RoundEnd) → EndsRightly (round_problem s.problem (next_better s)) end → IfSome (values_after s.values end) (Solves s.problem)
+  solves_more : (end : End (List ℤ)) → EndsRightly (round_problem s.problem (next_better s)) end → IfSome (values_after s.values end) (Solves s.problem)
   solves_more (Solved values) right = solves_whole s.problem (next_better s) values known right
   solves_more Refuted right = h.solves
+  solves_more Spent right = h.solves
   solves_more Capped right = h.solves
 
-  value_more : (end : RoundEnd) → option_map (λ values. aim_value s.problem.aim (assigned values)) (values_after s.values end) ≡ (known_after (known_of s.rounds) (next_better s) (end_at s.problem.aim end)).best
+  value_more : (end : End (List ℤ)) → option_map (λ values. aim_value s.problem.aim (assigned values)) (values_after s.values end) ≡ (known_after (known_of s.rounds) (next_better s) (end_at s.problem.aim end)).best
   value_more (Solved values) = refl
   value_more Refuted = h.value
+  value_more Spent = h.value
   value_more Capped = h.value
 
-  refuted_more : (end : RoundEnd) → EndsRightly (round_problem s.problem (next_better s)) end → (round : Round) → round_after s end ≡ round → round.end ≡ ended.Refuted → HasNoSolution (csp_of (round_problem s.problem round.better))
-  refuted_more (Solved values) right round e is = let clash : ended.Solved (aim_value s.problem.aim (assigned values)) ≡ ended.Refuted = ap (λ (r : Round). r.end) e ∙ is in cc
+  refuted_more : (end : End (List ℤ)) → EndsRightly (round_problem s.problem (next_better s)) end → (round : Round) → round_after s end ≡ round → round.end ≡ Refuted → HasNoSolution (csp_of (round_problem s.problem round.better))
+  refuted_more (Solved values) right round e is = let clash : Solved (aim_value s.problem.aim (assigned values)) ≡ Refuted = ap (λ (r : Round). r.end) e ∙ is in cc
   refuted_more Refuted right round e is = subst (λ (r : Round). HasNoSolution (csp_of (round_problem s.problem r.better))) e right
-  refuted_more Capped right round e is = let clash : ended.Capped ≡ ended.Refuted = ap (λ (r : Round). r.end) e ∙ is in cc
+  refuted_more Spent right round e is = let clash : true ≡ false = ap is_open (ap (λ (r : Round). r.end) e ∙ is) in cc
+  refuted_more Capped right round e is = let clash : true ≡ false = ap is_open (ap (λ (r : Round). r.end) e ∙ is) in cc
 
   -- where another round follows, and one has ended, the aim is at a variable
   some_variable : (bound : ℤ) → next_better s ≡ Some bound → is_none (aimed_at s.problem.aim) ≡ false
@@ -127,12 +129,13 @@ module _ (s : SearchState) (h : IsSearch s) (known : IsAimOf (length s.problem.d
     by None e = tt
     by (Some bound) e = (decides s.problem known (some_of (aimed_at s.problem.aim) (some_variable bound e)) bound).0 (subst (λ (o : Option ℤ). HasNoSolution (csp_of (round_problem s.problem o))) e none)
 
-  excluded_more : (end : RoundEnd) → EndsRightly (round_problem s.problem (next_better s)) end → IfSome (known_after (known_of s.rounds) (next_better s) (end_at s.problem.aim end)).limit (HasNoBetter s.problem)
+  excluded_more : (end : End (List ℤ)) → EndsRightly (round_problem s.problem (next_better s)) end → IfSome (known_after (known_of s.rounds) (next_better s) (end_at s.problem.aim end)).limit (HasNoBetter s.problem)
   excluded_more (Solved values) right = h.excluded
   excluded_more Refuted right = excluded_by right
+  excluded_more Spent right = h.excluded
   excluded_more Capped right = h.excluded
 
-  pub search_more : (end : RoundEnd) → EndsRightly (round_problem s.problem (next_better s)) end → IsSearch (taken end)
+  pub search_more : (end : End (List ℤ)) → EndsRightly (round_problem s.problem (next_better s)) end → IsSearch (taken end)
   search_more end right =
       let round = round_after s end in
       let last = last_more s.rounds round in
@@ -165,7 +168,7 @@ module _ (s : SearchState) (h : IsSearch s) (known : IsAimOf (length s.problem.d
 
   -- ---- a last round that was refuted
 
-  module _ (round : Round) (last : last_round s.rounds ≡ Some round) (refuted : round.end ≡ ended.Refuted) where
+  module _ (round : Round) (last : last_round s.rounds ≡ Some round) (refuted : round.end ≡ Refuted) where
     abbrev before : List Round
     before = take (length s.rounds - 1) s.rounds
 
@@ -185,10 +188,10 @@ module _ (s : SearchState) (h : IsSearch s) (known : IsAimOf (length s.problem.d
       where
         not_beyond : is_better s.problem.aim best (next_value s.halves s.problem.aim (aim_values s.problem) best (known_of before).limit) ≡ true → (var : ℕ) → aimed_at s.problem.aim ≡ Some var → ⊥
         not_beyond beyond var at =
-            let ends : ends_search s.problem.aim round.known.best round.better ended.Refuted ≡ true = subst (λ (x : Ended). ends_search s.problem.aim round.known.best round.better x ≡ true) refuted over in
-            let first : ends_search s.problem.aim (Some best) round.better ended.Refuted ≡ true = subst (λ (o : Option ℤ). ends_search s.problem.aim o round.better ended.Refuted ≡ true) (ap (λ (z : Known). z.best) follows.known ∙ is) ends in
+            let ends : ends_search s.problem.aim round.known.best round.better Refuted ≡ true = subst (λ (x : End ℤ). ends_search s.problem.aim round.known.best round.better x ≡ true) refuted over in
+            let first : ends_search s.problem.aim (Some best) round.better Refuted ≡ true = subst (λ (o : Option ℤ). ends_search s.problem.aim o round.better Refuted ≡ true) (ap (λ (z : Known). z.best) follows.known ∙ is) ends in
             let bound : round.better ≡ Some (next_value s.halves s.problem.aim (aim_values s.problem) best (known_of before).limit) = follows.better ∙ ap (option_map (λ b. next_value s.halves s.problem.aim (aim_values s.problem) b (known_of before).limit)) is in
-            let second : ends_search s.problem.aim (Some best) (Some (next_value s.halves s.problem.aim (aim_values s.problem) best (known_of before).limit)) ended.Refuted ≡ true = subst (λ (o : Option ℤ). ends_search s.problem.aim (Some best) o ended.Refuted ≡ true) bound first in
+            let second : ends_search s.problem.aim (Some best) (Some (next_value s.halves s.problem.aim (aim_values s.problem) best (known_of before).limit)) Refuted ≡ true = subst (λ (o : Option ℤ). ends_search s.problem.aim (Some best) o Refuted ≡ true) bound first in
             neither_ends _ _ beyond (ap is_none at) second
 
         itself : (o : Option ℕ) → aimed_at s.problem.aim ≡ o → next_value s.halves s.problem.aim (aim_values s.problem) best (known_of before).limit ≡ best
@@ -234,24 +237,26 @@ module _ (s : SearchState) (h : IsSearch s) (known : IsAimOf (length s.problem.d
     by None n = refl
     by (Some var) n = cc
 
-  capped_last : (round : Round) → last_round s.rounds ≡ Some round → round.end ≡ ended.Capped → EndsCapped s.rounds
-  capped_last round last e = subst (λ (o : Option Round). IsSomeAnd o (λ (round : Round). round.end ≡ ended.Capped)) (sym last) e
+  open_last : (round : Round) → last_round s.rounds ≡ Some round → IsTrue (is_open round.end) → EndsCapped s.rounds
+  open_last round last e = subst (λ (o : Option Round). IsSomeAnd o (λ (round : Round). IsTrue (is_open round.end))) (sym last) e
 
   module _ (round : Round) (last : last_round s.rounds ≡ Some round) (over : is_last s.problem.aim round ≡ true) (not_capped : EndsCapped s.rounds → ⊥) where
-    -- a last round that was not capped, with the values of the last solved one
-    settled_some : (end : Ended) (values : List ℤ) → round.end ≡ end → s.values ≡ Some values → IsOptimal s values
-    settled_some (ended.Solved value) values e is = optimal_solved values (no_variable (ap (ends_search s.problem.aim round.known.best round.better) (sym e) ∙ over)) is
-    settled_some ended.Refuted values e is = optimal_refuted round last e values over is
-    settled_some ended.Capped values e is = absurd (not_capped (capped_last round last e))
+    -- a last round that is not open, with the values of the last solved one
+    settled_some : (end : End ℤ) (values : List ℤ) → round.end ≡ end → s.values ≡ Some values → IsOptimal s values
+    settled_some (Solved value) values e is = optimal_solved values (no_variable (ap (ends_search s.problem.aim round.known.best round.better) (sym e) ∙ over)) is
+    settled_some Refuted values e is = optimal_refuted round last e values over is
+    settled_some Spent values e is = absurd (not_capped (open_last round last (ap is_open e)))
+    settled_some Capped values e is = absurd (not_capped (open_last round last (ap is_open e)))
 
     -- and without such values
-    settled_none : (end : Ended) → round.end ≡ end → s.values ≡ None → IsUnsolvable s
-    settled_none (ended.Solved value) e is =
+    settled_none : (end : End ℤ) → round.end ≡ end → s.values ≡ None → IsUnsolvable s
+    settled_none (Solved value) e is =
         let some : best_value s.rounds ≡ Some value = ap (λ (z : Known). z.best) (known_is s.rounds round last ∙ ap (known_after round.known round.better) e) in
         let clash : Some value ≡ None = sym some ∙ no_best is in
         cc
-    settled_none ended.Refuted e is = unsolvable round last e is
-    settled_none ended.Capped e is = absurd (not_capped (capped_last round last e))
+    settled_none Refuted e is = unsolvable round last e is
+    settled_none Spent e is = absurd (not_capped (open_last round last (ap is_open e)))
+    settled_none Capped e is = absurd (not_capped (open_last round last (ap is_open e)))
 
     settled : IsBestEnd s (end_of false s.values)
     settled = by s.values refl where
@@ -276,7 +281,7 @@ module _ (s : SearchState) (h : IsSearch s) (known : IsAimOf (length s.problem.d
     told_none : BeginsRefuted s.rounds → end_of capped s.values ≡ NoSolution
     told_none first =
         let one = only_refuted s.halves s.problem s.rounds h.rounds first in
-        by capped s.values cap.0 (h.value ∙ ap best_value one) (λ e. let clash : ended.Refuted ≡ ended.Capped = subst EndsCapped one e in cc) where
+        by capped s.values cap.0 (h.value ∙ ap best_value one) (λ e. let clash : false ≡ true = subst EndsCapped one e in cc) where
           by : (b : Bool) (o : Option (List ℤ)) → (b ≡ true → EndsCapped s.rounds) → option_map told o ≡ None → (EndsCapped s.rounds → ⊥) → end_of b o ≡ NoSolution
           by true o ends none not_capped = absurd (not_capped (ends refl))
           by false None ends none not_capped = refl

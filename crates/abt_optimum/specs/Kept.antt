@@ -5,8 +5,8 @@ use Rattle.dcsp_rule.specs.declared.aim.Aim.{Aim}
 use Rattle.dcsp_rule.specs.Rules.{IsAimOf}
 use Rattle.dcsp_rule.specs.Problems.{Contents}
 use Rattle.abt_optimum.specs.declared.round.Round.{Round}
-use Rattle.abt_optimum.specs.declared.round.RoundEnd.{RoundEnd}
-use Rattle.abt_optimum.specs.declared.round.RoundEnd.TheVariants.{Solved, Refuted, Capped}
+use Rattle.abt_defs.specs.declared.end.End.{End}
+use Rattle.abt_defs.specs.declared.end.End.TheVariants.{Solved, Refuted, Spent, Capped}
 use Rattle.abt_optimum.specs.declared.best.BestEnd.{BestEnd}
 use Rattle.abt_optimum.specs.declared.best.BestEnd.TheVariants.{Optimal, NoSolution, Open}
 use Rattle.abt_optimum.specs.Rounds.{aim_values, most_rounds}
@@ -24,12 +24,13 @@ pub record IsKept (capacity : ℕ) (s : SearchState) : Type 0 where
   pub room : most_rounds s.problem ≤ capacity
 
 -- the values of a solved round tell what is aimed at
-abbrev pub TellsAim : Aim → RoundEnd → Type 0
+abbrev pub TellsAim : Aim → End (List ℤ) → Type 0
 TellsAim aim (Solved values) = IsAimOf (length values) aim
 TellsAim aim Refuted = Unit {0}
+TellsAim aim Spent = Unit {0}
 TellsAim aim Capped = Unit {0}
 
--- the end that is told, where the last round was capped or not, and with the values of the last solved round
+-- the end that is told, where the last round is open or not, and with the values of the last solved round
 abbrev pub end_of : Bool → Option (List ℤ) → BestEnd
 end_of true values = Open values
 end_of false (Some values) = Optimal values

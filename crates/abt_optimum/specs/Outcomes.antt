@@ -1,32 +1,32 @@
 -- What a whole search finds.
-use Rattle.std.specs.Prelude.{◌≡◌, ℤ, List, [], ◌∷◌, Option, Some, None, IsSome, IsSomeAnd, IfSome, slice_get}
+use Rattle.std.specs.Prelude.{◌≡◌, ℤ, List, [], ◌∷◌, Option, Some, None, IsSome, IsSomeAnd, IsTrue, IfSome, slice_get}
 use Rattle.dcsp_defs.specs.Csp.{HasNoSolution}
 use Rattle.dcsp_rule.specs.Problems.{csp_of}
 use Rattle.dcsp_rule.specs.Aims.{aimed_at}
-use Rattle.abt_optimum.specs.declared.round.Ended.TheVariants as ended
+use Rattle.abt_defs.specs.declared.end.End.TheVariants.{Refuted}
 use Rattle.abt_optimum.specs.declared.round.Round.{Round}
 use Rattle.abt_optimum.specs.declared.best.BestEnd.{BestEnd}
 use Rattle.abt_optimum.specs.declared.best.BestEnd.TheVariants.{Optimal, NoSolution, Open}
 use Rattle.abt_optimum.specs.Best.{assigned, aim_value, Solves, IsBest}
-use Rattle.abt_optimum.specs.Rounds.{last_round, known_at_first}
+use Rattle.abt_optimum.specs.Rounds.{is_open, last_round, known_at_first}
 use Rattle.abt_optimum.specs.Searches.{SearchState}
 
 -- the first round, where it was refuted
 abbrev pub refuted_first : Round
-refuted_first = record { known = known_at_first; better = None; end = ended.Refuted }
+refuted_first = record { known = known_at_first; better = None; end = Refuted }
 
 -- the round was to better this value, and was refuted
 pub record IsRefutedAt (bound : ℤ) (round : Round) : Type 0 where
   pub better : round.better ≡ Some bound
-  pub end : round.end ≡ ended.Refuted
+  pub end : round.end ≡ Refuted
 
 -- the first round was refuted
 abbrev pub BeginsRefuted : List Round → Type 0
-BeginsRefuted rounds = IsSomeAnd (slice_get rounds 0) (λ (round : Round). round.end ≡ ended.Refuted)
+BeginsRefuted rounds = IsSomeAnd (slice_get rounds 0) (λ (round : Round). round.end ≡ Refuted)
 
--- the last round was capped
+-- the last round is open: it was spent or capped
 abbrev pub EndsCapped : List Round → Type 0
-EndsCapped rounds = IsSomeAnd (last_round rounds) (λ (round : Round). round.end ≡ ended.Capped)
+EndsCapped rounds = IsSomeAnd (last_round rounds) (λ (round : Round). IsTrue (is_open round.end))
 
 -- the values of the last solved round are best; and where the aim is at a variable, the last round was to better their value and was refuted
 pub record IsOptimal (s : SearchState) (values : List ℤ) : Type 0 where
@@ -39,7 +39,7 @@ pub record IsUnsolvable (s : SearchState) : Type 0 where
   pub rounds : s.rounds ≡ refuted_first ∷ []
   pub none : HasNoSolution (csp_of s.problem)
 
--- the last round was capped; if a round before it was solved, these are the values of the last such one, and a solution
+-- the last round is open; if a round before it was solved, these are the values of the last such one, and a solution
 pub record IsCapped (s : SearchState) (values : Option (List ℤ)) : Type 0 where
   pub capped : EndsCapped s.rounds
   pub kept : s.values ≡ values

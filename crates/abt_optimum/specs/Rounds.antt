@@ -9,8 +9,8 @@ use Rattle.dcsp_rule.specs.declared.aim.Aim.{Aim}
 use Rattle.dcsp_rule.specs.declared.aim.Aim.TheVariants.{Satisfy, Least, Greatest}
 use Rattle.dcsp_rule.specs.Problems.{Contents, csp_of}
 use Rattle.dcsp_rule.specs.Aims.{aimed_at, is_better, narrowed}
-use Rattle.abt_optimum.specs.declared.round.Ended.{Ended}
-use Rattle.abt_optimum.specs.declared.round.Ended.TheVariants.{Solved, Refuted, Capped}
+use Rattle.abt_defs.specs.declared.end.End.{End}
+use Rattle.abt_defs.specs.declared.end.End.TheVariants.{Solved, Refuted, Spent, Capped}
 use Rattle.abt_optimum.specs.declared.round.Known.{Known}
 use Rattle.abt_optimum.specs.declared.round.Round.{Round}
 use Rattle.abt_optimum.specs.Halves.{next_value}
@@ -19,6 +19,13 @@ use Rattle.abt_optimum.specs.Halves.{next_value}
 abbrev pub last_round : List Round → Option Round
 last_round rounds = slice_get rounds (length rounds - 1)
 
+-- whether a round that ended so was stopped before it was known whether its problem has a solution: it was spent or capped
+abbrev pub is_open : {V : Type 0} → End V → Bool
+is_open (Solved value) = false
+is_open Refuted = false
+is_open Spent = true
+is_open Capped = true
+
 -- ---- what is known
 
 -- before the first round: no value was found, and none is excluded
@@ -26,9 +33,10 @@ abbrev pub known_at_first : Known
 known_at_first = record { best = None; limit = None }
 
 -- after a round that was to better this value and ended so: a solved one found a better value, and where one was refuted all values better than its bound are excluded
-abbrev pub known_after : Known → Option ℤ → Ended → Known
+abbrev pub known_after : Known → Option ℤ → End ℤ → Known
 known_after known better (Solved value) = record known { best = Some value }
 known_after known better Refuted = record known { limit = better }
+known_after known better Spent = known
 known_after known better Capped = known
 
 -- after these rounds
@@ -59,10 +67,11 @@ is_beyond aim None better = false
 is_beyond aim (Some best) None = false
 is_beyond aim (Some best) (Some better) = is_better aim best better
 
--- whether a round that ended so is the last one: it was capped, or refuted and to better the best value found, or the aim is at no variable
-abbrev pub ends_search : Aim → Option ℤ → Option ℤ → Ended → Bool
+-- whether a round that ended so is the last one: it is open, or was refuted and to better the best value found, or the aim is at no variable
+abbrev pub ends_search : Aim → Option ℤ → Option ℤ → End ℤ → Bool
 ends_search aim best better (Solved value) = is_none (aimed_at aim)
 ends_search aim best better Refuted = not (is_beyond aim best better) || is_none (aimed_at aim)
+ends_search aim best better Spent = true
 ends_search aim best better Capped = true
 
 abbrev pub is_last : Aim → Round → Bool
@@ -94,9 +103,10 @@ IsAllowed aim None value = Unit {0}
 IsAllowed aim (Some limit) value = is_better aim limit value ≡ false
 
 -- a round of the problem may end so: where it is solved, with a value that what is aimed at may have and that is not excluded
-abbrev pub MayEnd : Contents → Option ℤ → Ended → Type 0
+abbrev pub MayEnd : Contents → Option ℤ → End ℤ → Type 0
 MayEnd p limit (Solved value) = IsAimValue p p.aim value × IsAllowed p.aim limit value
 MayEnd p limit Refuted = Unit {0}
+MayEnd p limit Spent = Unit {0}
 MayEnd p limit Capped = Unit {0}
 
 -- the round may come after these: they are not the whole search, it began with what they found and was to better the value that follows from that, and it ended as it may

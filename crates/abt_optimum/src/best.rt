@@ -9,7 +9,7 @@ pub enum BestEnd {
     Optimal(IntList),
     /// There is no solution.
     NoSolution,
-    /// The last round was capped. These values, if there are any, are the best solution that was found.
+    /// The last round was spent or capped. These values, if there are any, are the best solution that was found.
     Open(Option<IntList>),
 }
 

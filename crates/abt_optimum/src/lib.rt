@@ -2,7 +2,7 @@
 //!
 //! A search has rounds. The first is to solve the whole problem. After a round that was solved comes one on the
 //! problem narrowed to better values than some bound: those below it where the least is wanted, above it where the
-//! greatest is. The bound is the best value found, and a round that was refuted or capped is the last; so is the
+//! greatest is. The bound is the best value found, and a round that was refuted, spent or capped is the last; so is the
 //! first where the aim is at a constant. A last round that was refuted shows that no solution has a better value than
 //! the last one found.
 //!
@@ -26,9 +26,10 @@ mod halves;
 mod round;
 mod search;
 
+pub use abt_defs::End;
 pub use best::{Best, BestEnd};
 pub use dcsp_domain::{IntList, Memory};
-pub use round::{Ended, Known, Round, RoundEnd};
+pub use round::{Known, Round};
 pub use search::Search;
 
 /// The solutions of a narrowed problem are those of the whole one that have a better value at the aim. So the

@@ -1,31 +1,11 @@
-//! Rounds, how they end, and what is known between them.
+//! Rounds, and what is known between them.
 
 ghost use Rattle.std.specs.Prelude.{◌≡◌};
-ghost use Rattle.abt_optimum.specs.Rounds.{is_beyond, is_last, known_after, known_at_first};
+ghost use Rattle.abt_optimum.specs.Rounds.{is_beyond, is_last, is_open, known_after, known_at_first};
 ghost use Rattle.dcsp_rule.specs.Aims.{is_better};
 
-use dcsp_domain::IntList;
+use abt_defs::End;
 use dcsp_problem::Aim;
-
-/// How a round ended.
-#[derive(Debug, Drop)]
-pub enum RoundEnd {
-    /// These values, in the order of the variables, solve the round's problem.
-    Solved(IntList),
-    /// The round's problem has no solution.
-    Refuted,
-    /// The round was stopped before either was known.
-    Capped,
-}
-
-/// How a round ended, as a search remembers it.
-#[derive(Clone, Copy, Debug, PartialEq, Eq)]
-pub enum Ended {
-    /// It was solved, with this value at the aim.
-    Solved(i64),
-    Refuted,
-    Capped,
-}
 
 /// What is known of the values at the aim.
 #[derive(Clone, Copy, Debug, PartialEq, Eq)]
@@ -56,7 +36,8 @@ pub struct Round {
     pub known: Known,
     /// The value that it was to better; `None` for the first round.
     pub better: Option<i64>,
-    pub end: Ended,
+    /// How it ended, with the value at the aim where it was solved.
+    pub end: End<i64>,
 }
 
 impl Round {
@@ -66,15 +47,15 @@ impl Round {
     {
         let Known { best, limit } = self.known;
         match self.end {
-            Ended::Solved(value) => Known {
+            End::Solved(value) => Known {
                 best: Some(value),
                 limit,
             },
-            Ended::Refuted => Known {
+            End::Refuted => Known {
                 best,
                 limit: self.better,
             },
-            Ended::Capped => self.known,
+            End::Spent | End::Capped => self.known,
         }
     }
 
@@ -83,12 +64,22 @@ impl Round {
         ensures { result ≡ is_last aim self }
     {
         match self.end {
-            Ended::Solved(_) => aim.variable().is_none(),
-            Ended::Refuted => {
+            End::Solved(_) => aim.variable().is_none(),
+            End::Refuted => {
                 !is_beyond(aim, self.known.best, self.better) || aim.variable().is_none()
             }
-            Ended::Capped => true,
+            End::Spent | End::Capped => true,
         }
+    }
+}
+
+/// Whether a round that ended so is open: it was spent or capped.
+pub(crate) fn is_open(end: End<i64>) -> bool
+    ensures { result ≡ is_open end }
+{
+    match end {
+        End::Solved(_) | End::Refuted => false,
+        End::Spent | End::Capped => true,
     }
 }
 

@@ -11,7 +11,8 @@ ghost use Rattle.abt_optimum.specs.Kept.{end_of, TellsAim};
 
 use crate::best::{Best, BestEnd};
 use crate::halves::next_value;
-use crate::round::{Ended, Known, Round, RoundEnd};
+use crate::round::{Known, Round, is_open};
+use abt_defs::End;
 use dcsp_common::Memory;
 use dcsp_domain::IntList;
 use dcsp_problem::{Aim, Problem, Term};
@@ -84,8 +85,8 @@ impl<'p> Search<'p> {
     }
 
     /// Takes how the next round ended: the one on the whole problem, narrowed to what is better than `better()`
-    /// where that is given.
-    pub fn ended(&mut self, end: RoundEnd)
+    /// where that is given. The values that solve it are in the order of the variables.
+    pub fn ended(&mut self, end: End<IntList>)
         requires goes_on { is_done self.old.problem.aim self.old.rounds ≡ false }
         requires right { EndsRightly (round_problem self.old.problem (next_better self.old)) end }
         ensures problem { self.new.problem ≡ self.old.problem }
@@ -103,7 +104,7 @@ impl<'p> Search<'p> {
     ///
     /// `Optimal` has a solution, and no solution has a better value; where the aim is at a variable, the last round
     /// was to better its value and was refuted. `NoSolution` comes exactly where the first round was refuted, and
-    /// `Open` exactly where the last one was capped, with the values of the round before it, if any.
+    /// `Open` exactly where the last one was spent or capped, with the values of the round before it, if any.
     pub fn outcome(self) -> Best
         requires { is_done self.problem.aim self.rounds ≡ true }
         ensures end { IsBestEnd self.entry result.end }
@@ -186,33 +187,34 @@ fn value_of(term: Term, values: &[i64]) -> i64
 }
 
 /// Keeps the values of a round that was solved, and tells how it ended.
-fn keep(end: RoundEnd, aim: Aim, values: &mut Option<IntList>) -> Ended
+fn keep(end: End<IntList>, aim: Aim, values: &mut Option<IntList>) -> End<i64>
     requires { TellsAim aim end }
     ensures end { result ≡ end_at aim end }
     ensures values { values.new ≡ values_after values.old end }
 {
     match end {
-        RoundEnd::Solved(solution) => {
+        End::Solved(solution) => {
             let value = aim_value(aim, solution.items());
             *values = Some(solution);
-            Ended::Solved(value)
+            End::Solved(value)
         }
-        RoundEnd::Refuted => Ended::Refuted,
-        RoundEnd::Capped => Ended::Capped,
+        End::Refuted => End::Refuted,
+        End::Spent => End::Spent,
+        End::Capped => End::Capped,
     }
 }
 
-/// Whether the last of the rounds was capped.
+/// Whether the last of the rounds was spent or capped.
 fn ends_capped(rounds: &[Round]) -> bool
     ensures { IsTrue result ↔ EndsCapped rounds.now }
 {
     match rounds.last() {
-        Some(round) => round.end == Ended::Capped,
+        Some(round) => is_open(round.end),
         None => false,
     }
 }
 
-/// What is known when a search is over, whose last round was capped or not.
+/// What is known when a search is over, whose last round was spent or capped, or not.
 fn best_end(capped: bool, values: Option<IntList>) -> BestEnd
     ensures { result ≡ end_of capped values }
 {

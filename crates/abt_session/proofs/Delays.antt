@@ -13,9 +13,9 @@ use Rattle.abt_network.specs.declared.Standing.{Standing}
 use Rattle.abt_network.specs.declared.Standing.TheVariants as standing
 use Rattle.abt_network.specs.Standing.{NetworkState, StandsAt, CanDeliver, standing_in, standing_of}
 use Rattle.abt_session.specs.Running.{TakesPart}
-use Rattle.abt_session.specs.Starving.{end_at, starved_end, starving_choices, AreNear, IsStarved}
-use Rattle.abt_session.specs.declared.starved_run.StarvedEnd.{StarvedEnd}
-use Rattle.abt_session.specs.declared.starved_run.StarvedEnd.TheVariants as told
+use Rattle.abt_session.specs.Ends.{BareEnd, end_of}
+use Rattle.abt_session.specs.Starving.{end_at, end_by, starving_choices, AreNear, IsStarved}
+use Rattle.abt_defs.specs.declared.end.End.TheVariants as told
 use Rattle.abt_session.specs.declared.starved_run.Starved.{Starved}
 use Rattle.abt_session.proofs.Turns.{is_open, is_refuted, is_quiet}
 use Rattle.abt_session.proofs.Nearest.{choices_small, choices_few}
@@ -121,26 +121,32 @@ module _ (p : Csp) (a b most : ℕ) where
   capped o = one_end (starved p a b most).end (not_spent p a b most (start p))
       (λ e. not_both last.refuted (law.ends.refuted.0 e) o.alive) (λ e. not_both (is_empty (ready p last)) (law.ends.solved.0 e).1 o.in_transit)
 
-  end_is : (x y : Bool) → last.refuted ≡ x → is_empty (ready p last) ≡ y → (starved p a b most).end ≡ starved_end (cond x told.Refuted (cond y told.Solved told.Open))
+  end_is : (x y : Bool) → last.refuted ≡ x → is_empty (ready p last) ≡ y → (starved p a b most).end ≡ end_of (end_by x y)
   end_is true y s t = law.ends.refuted.1 s
   end_is false true s t = law.ends.solved.1 (s, t)
   end_is false false s t = capped (record { alive = s; in_transit = t })
 
-  open_is : (x y : Bool) → last.refuted ≡ x → is_empty (ready p last) ≡ y → cond x told.Refuted (cond y told.Solved told.Open) ≡ told.Open → IsOpen p last
+  open_is : (x y : Bool) → last.refuted ≡ x → is_empty (ready p last) ≡ y → end_by x y ≡ told.Capped → IsOpen p last
   open_is true y s t e = cc
   open_is false true s t e = cc
   open_is false false s t e = record { alive = s; in_transit = t }
 
-  is_told : (x y : Bool) → last.refuted ≡ x → is_empty (ready p last) ≡ y → IsOpen p last → cond x told.Refuted (cond y told.Solved told.Open) ≡ told.Open
+  is_told : (x y : Bool) → last.refuted ≡ x → is_empty (ready p last) ≡ y → IsOpen p last → end_by x y ≡ told.Capped
   is_told true y s t o = absurd (not_both last.refuted s o.alive)
   is_told false true s t o = absurd (not_both (is_empty (ready p last)) t o.in_transit)
   is_told false false s t o = refl
 
+  never_spent : (x y : Bool) → end_by x y ≡ told.Spent → ⊥
+  never_spent true y e = cc
+  never_spent false true e = cc
+  never_spent false false e = cc
+
   pub is_starved : (t : Starved) → t.end ≡ end_at p last → t.deliveries ≡ last.deliveries → Verdicts p most (starved p a b most) → IsStarved p a b most t
   is_starved t e d v = record {
-    end = end_is last.refuted (is_empty (ready p last)) refl refl ∙ ap starved_end (sym e);
+    end = end_is last.refuted (is_empty (ready p last)) refl refl ∙ ap (λ (x : BareEnd). end_of x) (sym e);
     deliveries = d;
     open_ = (λ o. let open_ = open_is last.refuted (is_empty (ready p last)) refl refl (sym e ∙ o) in (open_, d ∙ (law.ends.capped.0 (capped open_)).1), λ o. e ∙ is_told last.refuted (is_empty (ready p last)) refl refl o.0);
+    never_spent = λ o. never_spent last.refuted (is_empty (ready p last)) (sym e ∙ o);
     bound = (let b = v.bound in omega arith);
   }
 
@@ -197,7 +203,7 @@ module _ (a b most : ℕ) (first : NetworkState) (old : List ℕ) where
 
 -- what is told of the last network is told of the run
 pub told_of : (p q : Contents) (a b most : ℕ) (network : NetworkState) → q ≡ p → network.problem ≡ q → StandsAt network (starved (csp_of q) a b most).net
-    → (end : StarvedEnd) → ((net : Network) → StandsAt network net → end ≡ end_at (csp_of network.problem) net) → (deliveries : ℕ) → deliveries ≡ network.deliveries
+    → (end : BareEnd) → ((net : Network) → StandsAt network net → end ≡ end_at (csp_of network.problem) net) → (deliveries : ℕ) → deliveries ≡ network.deliveries
     → Verdicts (csp_of p) most (starved (csp_of p) a b most) → IsStarved (csp_of p) a b most (record { end = end; deliveries = deliveries })
 told_of p q a b most network e f stands end ends deliveries d verdicts =
     let here = subst (λ r. StandsAt network (starved (csp_of r) a b most).net) e stands in

@@ -49,6 +49,10 @@ memory_at_once s a = record { ended = record { start = []; rest = s; is_script =
 pub stopped_so : {T U : Type 0} {s : List Write} {a b : World} {e : Stop} (r : Result U Stop) → IsErr r × IsErrAnd r (λ y. y ≡ e) → Wrote {T = T} s a b (Err e) → Wrote s a b r
 stopped_so {T = T} {U = U} {s = s} {a = a} {b = b} {e = e} r is w = subst (λ t. Wrote t a b r) (append-nil s) (stop_wrote {T = T} {U = U} {s = s} {a = a} {b = b} {e = e} [] r is w)
 
+-- memory is wanted before anything was made, told by `?`
+pub memory_told : {T : Type 0} (s : List Write) (a : World) (r : Result T Stop) → IsErr r × IsErrAnd r (λ y. y ≡ Memory) → Wrote s a a r
+memory_told s a r is = stopped_so {T = Unit {0}} r is (memory_at_once s a)
+
 -- the number of a step that was made
 pub numbered : (step : Option Step) {number steps : ℕ} → number ≡ steps → number < 2 ^ 62 → IfSome step (λ s. 0 < steps) → IfSome step (λ s. IsStepNumber number)
 numbered None e few h = tt

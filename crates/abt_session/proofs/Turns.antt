@@ -19,10 +19,10 @@ use Rattle.abt_session.specs.declared.telling.Telling.{Telling}
 use Rattle.abt_session.specs.Sessions.{Session, run_of, network_after, choice_writes, deliveries_write}
 use Rattle.dcsp_rule.specs.Problems.{Contents, csp_of}
 use Rattle.abt_session.specs.Running.{kept, session_of, IsOnRun}
-use Rattle.abt_session.specs.Runners.{end_of, Finishes, Leaves, SameTask}
+use Rattle.abt_session.specs.Ends.{BareEnd, end_of}
+use Rattle.abt_session.specs.Runners.{Finishes, Leaves, SameTask}
 use Rattle.abt_session.specs.declared.runner.Runner.{Runner}
-use Rattle.abt_session.specs.declared.runner.Halt.{Halt}
-use Rattle.abt_session.specs.declared.runner.Halt.TheVariants as halt
+use Rattle.abt_defs.specs.declared.end.End.TheVariants as ends
 use Rattle.abt_session.proofs.Places.{answers_at, at_place, past_end}
 use Rattle.abt_session.proofs.Stopping.{ComesTo, after_next, not_fewer, one_more, stops_here, ends_here}
 use Rattle.abt_session.proofs.Writing.{left_from, is_made, first_left, none_left, all_left}
@@ -121,14 +121,14 @@ module _ (s : Session) where
     turn_stopped {T = T} e r b' wrote is = left_stopped {T = T} (left_from s (k + 1)) (left_from s k) r writes is h.left wrote
 
     -- what was left of the run then
-    pub cut_off : {T : Type 0} (e : Stop) (r : Result Halt Stop) (network' : NetworkState) (to_come' : ℕ → Option ℕ) (now' : List ℕ) (b' : World) → Wrote {T = T} (choice_writes s.order q s.log s.telling ((network_after s k).deliveries + 1) c (network_after s k)) b b' (Err e) → IsErr r × IsErrAnd r (λ y. y ≡ e)
+    pub cut_off : {T : Type 0} (e : Stop) (r : Result BareEnd Stop) (network' : NetworkState) (to_come' : ℕ → Option ℕ) (now' : List ℕ) (b' : World) → Wrote {T = T} (choice_writes s.order q s.log s.telling ((network_after s k).deliveries + 1) c (network_after s k)) b b' (Err e) → IsErr r × IsErrAnd r (λ y. y ≡ e)
         → Leaves s (deliveries_write s) keep taken now' answers to_come' network' a b' r
     cut_off {T = T} e r network' to_come' now' b' wrote is = record {
       wrote = turn_stopped {T = T} e r b' wrote is;
       finishes = no_result r is.0;
     }
       where
-        no_result : (r : Result Halt Stop) → IsErr r → IfOk r (Finishes s keep taken now' answers to_come' network')
+        no_result : (r : Result BareEnd Stop) → IsErr r → IfOk r (Finishes s keep taken now' answers to_come' network')
         no_result (Ok x) h = absurd (let no = h in cc)
         no_result (Err y) h = tt
 
@@ -142,9 +142,9 @@ module _ (s : Session) where
         h.takes ∙ ap (λ l. taken ++ kept keep l) (take_all k (run_of s).numbers long)
 
     -- the run has ended
-    pub finished : (halt : Halt) → (run_of s).end ≡ end_of halt → network.spent ≡ false → Leaves s (deliveries_write s) keep taken now answers to_come network a b (Ok halt)
-    finished halt end sound = record {
-      wrote = all_written halt;
+    pub finished : (told : BareEnd) → (run_of s).end ≡ end_of told → network.spent ≡ false → Leaves s (deliveries_write s) keep taken now answers to_come network a b (Ok told)
+    finished told end sound = record {
+      wrote = all_written told;
       finishes = record {
         end = end;
         stands = subst (StandsAt network) (ap (network_after s) last ∙ sym law.net) h.stands;
@@ -159,33 +159,33 @@ module _ (s : Session) where
     here last = law.net ∙ ap (network_after s) (sym last)
 
     -- it was refuted
-    pub halts_refuted : (q : Csp) → standing.Refuted ≡ standing_of q (network_after s k) → Leaves s (deliveries_write s) keep taken now answers to_come network a b (Ok halt.Refuted)
+    pub halts_refuted : (q : Csp) → standing.Refuted ≡ standing_of q (network_after s k) → Leaves s (deliveries_write s) keep taken now answers to_come network a b (Ok ends.Refuted)
     halts_refuted q st =
         let refuted = is_refuted q (network_after s k) st in
         let last = stops_here s k h.comes (λ o. let alive = o.alive in cc) in
-        finished keep k network taken now answers to_come a b h last halt.Refuted (law.ends.refuted.1 (ap (λ (n : Network). n.refuted) (here last) ∙ refuted)) sound
+        finished keep k network taken now answers to_come a b h last ends.Refuted (law.ends.refuted.1 (ap (λ (n : Network). n.refuted) (here last) ∙ refuted)) sound
 
     -- nothing is in transit
-    pub halts_solved : (q : Csp) → q ≡ s.problem → standing.Quiet ≡ standing_of q (network_after s k) → Leaves s (deliveries_write s) keep taken now answers to_come network a b (Ok halt.Solved)
+    pub halts_solved : (q : Csp) → q ≡ s.problem → standing.Quiet ≡ standing_of q (network_after s k) → Leaves s (deliveries_write s) keep taken now answers to_come network a b (Ok (ends.Solved tt))
     halts_solved q same st =
         let quiet = is_quiet q (network_after s k) st in
         let empty : is_empty (ready s.problem (network_after s k)) ≡ true = ap (λ p. is_empty (ready p (network_after s k))) (sym same) ∙ quiet.1 in
         let last = stops_here s k h.comes (λ o. let full = o.in_transit in cc) in
-        finished keep k network taken now answers to_come a b h last halt.Solved
+        finished keep k network taken now answers to_come a b h last (ends.Solved tt)
         (law.ends.solved.1 (ap (λ (n : Network). n.refuted) (here last) ∙ quiet.0, ap (λ (n : Network). is_empty (ready s.problem n)) (here last) ∙ empty)) sound
 
     -- the choices are used up
-    pub halts_spent : IsOpen s.problem (network_after s k) → k < s.most → length s.choices ≤ k → Leaves s (deliveries_write s) keep taken now answers to_come network a b (Ok halt.Spent)
+    pub halts_spent : IsOpen s.problem (network_after s k) → k < s.most → length s.choices ≤ k → Leaves s (deliveries_write s) keep taken now answers to_come network a b (Ok ends.Spent)
     halts_spent o room used =
         let last = ends_here s k h.comes (inr used) in
-        finished keep k network taken now answers to_come a b h last halt.Spent
+        finished keep k network taken now answers to_come a b h last ends.Spent
         (law.ends.spent.1 (subst (IsOpen s.problem) (sym (here last)) o, (omega arith, law.left ∙ drop_all (run_of s).net.deliveries s.choices (omega arith)))) sound
 
     -- the greatest number was delivered
-    pub halts_capped : IsOpen s.problem (network_after s k) → k ≡ s.most → Leaves s (deliveries_write s) keep taken now answers to_come network a b (Ok halt.Capped)
+    pub halts_capped : IsOpen s.problem (network_after s k) → k ≡ s.most → Leaves s (deliveries_write s) keep taken now answers to_come network a b (Ok ends.Capped)
     halts_capped o full =
         let last = ends_here s k h.comes (inl (omega arith)) in
-        finished keep k network taken now answers to_come a b h last halt.Capped
+        finished keep k network taken now answers to_come a b h last ends.Capped
         (law.ends.capped.1 (subst (IsOpen s.problem) (sym (here last)) o, omega arith)) sound
 
 -- what the loop keeps

@@ -13,7 +13,7 @@ use Rattle.abt_session.specs.declared.telling.Telling.{Telling}
 use Rattle.abt_session.specs.declared.session.RunTask.{RunTask}
 use Rattle.abt_session.specs.Running.{order_of, session_of, session_for}
 use Rattle.abt_session.specs.Runners.{Leaves, SameTask}
-use Rattle.abt_session.specs.declared.runner.Halt.{Halt}
+use Rattle.abt_session.specs.Ends.{BareEnd}
 use Rattle.abt_session.specs.declared.runner.Runner.{Runner}
 use Rattle.abt_session.proofs.Pieces.{stopped_so, wrote_as}
 
@@ -29,12 +29,12 @@ on_ok (Ok x) p = p
 on_ok (Err e) p = tt
 
 -- what failed has no result
-pub no_result : (P : Halt → Type 0) (r : Result Halt Stop) → IsErr r → IfOk r P
+pub no_result : (P : BareEnd → Type 0) (r : Result BareEnd Stop) → IsErr r → IfOk r P
 no_result P (Ok x) h = absurd (let no = h in cc)
 no_result P (Err y) h = tt
 
 -- the same session, the same is left
-left_as : {s t : Session} {keep keeps : Bool} {taken takes now : List ℕ} {answers to_come : ℕ → Option ℕ} {network : NetworkState} {a b : World} {r : Result Halt Stop} → s ≡ t → keep ≡ keeps → taken ≡ takes
+left_as : {s t : Session} {keep keeps : Bool} {taken takes now : List ℕ} {answers to_come : ℕ → Option ℕ} {network : NetworkState} {a b : World} {r : Result BareEnd Stop} → s ≡ t → keep ≡ keeps → taken ≡ takes
     → Leaves s (deliveries_write s) keep taken now answers to_come network a b r → Leaves t (deliveries_write t) keeps takes now answers to_come network a b r
 left_as {s} {t} {keep} {keeps} {taken} {takes} {now} {answers} {to_come} {network} {a} {b} {r} e f g h =
     let at_session = subst (λ (x : Session). Leaves x (deliveries_write x) keep taken now answers to_come network a b r) e h in
@@ -51,14 +51,14 @@ same_session answers {old} {mid} same =
     ∙ ap (λ (o : Option (List ℕ)). session_of o old.network.problem old.task.most answers old.task.log.now old.task.telling) same.order
 
 -- the same task, the same is left
-pub leaves_as : (answers : ℕ → Option ℕ) {old mid : Runner} {now : List ℕ} {to_come : ℕ → Option ℕ} {network : NetworkState} {a b : World} {r : Result Halt Stop} → SameTask old mid → mid.taken ≡ old.taken
+pub leaves_as : (answers : ℕ → Option ℕ) {old mid : Runner} {now : List ℕ} {to_come : ℕ → Option ℕ} {network : NetworkState} {a b : World} {r : Result BareEnd Stop} → SameTask old mid → mid.taken ≡ old.taken
     → Leaves (session_for mid.network.problem answers mid.task) (deliveries_write (session_for mid.network.problem answers mid.task)) mid.task.keep mid.taken now answers to_come network a b r
     → Leaves (session_for old.network.problem answers old.task) (deliveries_write (session_for old.network.problem answers old.task)) old.task.keep old.taken now answers to_come network a b r
 leaves_as answers {old} {mid} same taken h = left_as (same_session answers {old = old} {mid = mid} same) same.keep taken h
 
 module _ (s : Session) where
   -- it was stopped before its first delivery
-  pub begin_stopped : {T : Type 0} {e : Stop} (keep : Bool) (taken now : List ℕ) (answers : ℕ → Option ℕ) (network : NetworkState) (a b : World) → (r : Result Halt Stop) → IsErr r × IsErrAnd r (λ y. y ≡ e)
+  pub begin_stopped : {T : Type 0} {e : Stop} (keep : Bool) (taken now : List ℕ) (answers : ℕ → Option ℕ) (network : NetworkState) (a b : World) → (r : Result BareEnd Stop) → IsErr r × IsErrAnd r (λ y. y ≡ e)
       → Wrote {T = T} (begun_script s.order s.problem s.log) a b (Err e) → Leaves s (run_script s) keep taken now answers answers network a b r
   begin_stopped {T = T} keep taken now answers network a b r is w = record {
     wrote = then_stopped {T = T} (deliveries_write s ++ Append s.log (codes "end\n") ∷ []) is w;
@@ -66,17 +66,17 @@ module _ (s : Session) where
   }
 
   -- it was stopped among its deliveries
-  pub deliveries_stopped : {T : Type 0} {x : T} {e : Stop} {keep : Bool} {taken now : List ℕ} {answers to_come : ℕ → Option ℕ} {network : NetworkState} {a b c : World} (r : Result Halt Stop) → IsErr r × IsErrAnd r (λ y. y ≡ e)
+  pub deliveries_stopped : {T : Type 0} {x : T} {e : Stop} {keep : Bool} {taken now : List ℕ} {answers to_come : ℕ → Option ℕ} {network : NetworkState} {a b c : World} (r : Result BareEnd Stop) → IsErr r × IsErrAnd r (λ y. y ≡ e)
       → Wrote {T = T} (begun_script s.order s.problem s.log) a b (Ok x) → Leaves s (deliveries_write s) keep taken now answers to_come network b c (Err e) → Leaves s (run_script s) keep taken now answers to_come network a c r
   deliveries_stopped r is w h = record {
     wrote = then_rest w (then_stopped (Append s.log (codes "end\n") ∷ []) is h.wrote);
     finishes = no_result _ r is.0;
   }
 
-  module _ {T U : Type 0} {x : T} {halt : Halt} {keep : Bool} {taken now log : List ℕ} {answers to_come : ℕ → Option ℕ} {network : NetworkState} {a b c d : World} where
+  module _ {T U : Type 0} {x : T} {end : BareEnd} {keep : Bool} {taken now log : List ℕ} {answers to_come : ℕ → Option ℕ} {network : NetworkState} {a b c d : World} where
     -- its log's end was not written
-    pub tail_stopped : {e : Stop} (r : Result Halt Stop) → IsErr r × IsErrAnd r (λ y. y ≡ e) → Wrote {T = T} (begun_script s.order s.problem s.log) a b (Ok x)
-        → Leaves s (deliveries_write s) keep taken now answers to_come network b c (Ok halt) → log ≡ s.log → Wrote {T = U} (Append log (codes "end\n") ∷ []) c d (Err e)
+    pub tail_stopped : {e : Stop} (r : Result BareEnd Stop) → IsErr r × IsErrAnd r (λ y. y ≡ e) → Wrote {T = T} (begun_script s.order s.problem s.log) a b (Ok x)
+        → Leaves s (deliveries_write s) keep taken now answers to_come network b c (Ok end) → log ≡ s.log → Wrote {T = U} (Append log (codes "end\n") ∷ []) c d (Err e)
         → Leaves s (run_script s) keep taken now answers to_come network a d r
     tail_stopped r is w h same tail = record {
       wrote = then_rest w (then_rest h.wrote (wrote_as (ap (λ l. Append l (codes "end\n") ∷ []) same) (stopped_so {T = U} r is tail)));
@@ -84,15 +84,15 @@ module _ (s : Session) where
     }
 
     -- it was made whole
-    pub whole_run : {y : U} → Wrote {T = T} (begun_script s.order s.problem s.log) a b (Ok x) → Leaves s (deliveries_write s) keep taken now answers to_come network b c (Ok halt) → log ≡ s.log
-        → Wrote {T = U} (Append log (codes "end\n") ∷ []) c d (Ok y) → Leaves s (run_script s) keep taken now answers to_come network a d (Ok halt)
+    pub whole_run : {y : U} → Wrote {T = T} (begun_script s.order s.problem s.log) a b (Ok x) → Leaves s (deliveries_write s) keep taken now answers to_come network b c (Ok end) → log ≡ s.log
+        → Wrote {T = U} (Append log (codes "end\n") ∷ []) c d (Ok y) → Leaves s (run_script s) keep taken now answers to_come network a d (Ok end)
     whole_run w h same tail = record {
       wrote = then_rest w (then_rest h.wrote (wrote_as (ap (λ l. Append l (codes "end\n") ∷ []) same) (record { ended = tail.ended; handed = tail.handed })));
       finishes = h.finishes;
     }
 
 -- the problem that the network was made of
-pub leaves_at : {P Q : Contents} (answers : ℕ → Option ℕ) (task : RunTask) {keep : Bool} {taken now : List ℕ} {to_come : ℕ → Option ℕ} {network : NetworkState} {a b : World} {r : Result Halt Stop} → P ≡ Q
+pub leaves_at : {P Q : Contents} (answers : ℕ → Option ℕ) (task : RunTask) {keep : Bool} {taken now : List ℕ} {to_come : ℕ → Option ℕ} {network : NetworkState} {a b : World} {r : Result BareEnd Stop} → P ≡ Q
     → Leaves (session_for P answers task) (run_script (session_for P answers task)) keep taken now answers to_come network a b r
     → Leaves (session_for Q answers task) (run_script (session_for Q answers task)) keep taken now answers to_come network a b r
 leaves_at answers task {keep} {taken} {now} {to_come} {network} {a} {b} {r} e h =

@@ -1,5 +1,6 @@
 pub mod Traces
 pub mod Answers
+pub mod Ends
 pub mod Sessions
 pub mod Order
 pub mod Running

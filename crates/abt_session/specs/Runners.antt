@@ -3,31 +3,22 @@ use Rattle.std.specs.Prelude.{◌≡◌, ℕ, ◌+◌, Bool, false, List, ◌++�
 use Rattle.dcsp_script.specs.declared.stop.Stop.{Stop}
 use Rattle.dcsp_script.specs.Scripts.{Write, World}
 use Rattle.dcsp_script.specs.Ways.{Wrote}
-use Rattle.abt_defs.specs.Runs as runs
 use Rattle.abt_network.specs.Standing.{NetworkState, StandsAt}
 use Rattle.abt_session.specs.Sessions.{Session, run_of}
 use Rattle.abt_session.specs.Running.{kept, order_of}
-use Rattle.abt_session.specs.declared.runner.Halt.{Halt}
-use Rattle.abt_session.specs.declared.runner.Halt.TheVariants as halts
+use Rattle.abt_session.specs.Ends.{BareEnd, end_of}
 use Rattle.abt_session.specs.declared.runner.Runner.{Runner}
 
--- why the run stopped, as the definitions have it
-abbrev pub end_of : Halt → runs.End
-end_of halts.Refuted = runs.Refuted
-end_of halts.Solved = runs.Solved
-end_of halts.Spent = runs.Spent
-end_of halts.Capped = runs.Capped
-
 -- the run has stopped: the network stands at its end, its numbers were taken down, where that was asked for, and the answers to come are those behind its choices
-pub record Finishes (s : Session) (keep : Bool) (taken now : List ℕ) (answers to_come : ℕ → Option ℕ) (network : NetworkState) (halt : Halt) : Type 0 where
-  pub end : (run_of s).end ≡ end_of halt
+pub record Finishes (s : Session) (keep : Bool) (taken now : List ℕ) (answers to_come : ℕ → Option ℕ) (network : NetworkState) (told : BareEnd) : Type 0 where
+  pub end : (run_of s).end ≡ end_of told
   pub stands : StandsAt network (run_of s).net
   pub sound : network.spent ≡ false
   pub takes : now ≡ taken ++ kept keep (run_of s).numbers
   pub behind : (k : ℕ) → to_come k ≡ answers ((run_of s).net.deliveries + k)
 
 -- what a part of a run's work leaves: it writes this script
-pub record Leaves (s : Session) (script : List Write) (keep : Bool) (taken now : List ℕ) (answers to_come : ℕ → Option ℕ) (network : NetworkState) (old new : World) (result : Result Halt Stop) : Type 0 where
+pub record Leaves (s : Session) (script : List Write) (keep : Bool) (taken now : List ℕ) (answers to_come : ℕ → Option ℕ) (network : NetworkState) (old new : World) (result : Result BareEnd Stop) : Type 0 where
   pub wrote : Wrote script old new result
   pub finishes : IfOk result (Finishes s keep taken now answers to_come network)
 

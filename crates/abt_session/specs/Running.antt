@@ -13,8 +13,8 @@ use Rattle.abt_session.specs.declared.telling.Telling.{Telling}
 use Rattle.abt_session.specs.declared.session.RunTask.{RunTask}
 use Rattle.abt_session.specs.Ordering.{order_in}
 use Rattle.abt_session.specs.Sessions.{Session, run_of}
-use Rattle.abt_session.specs.declared.outcome.End.{End}
-use Rattle.abt_session.specs.declared.outcome.End.TheVariants.{Solved, Refuted, Spent, Capped}
+use Rattle.abt_defs.specs.declared.end.End.{End}
+use Rattle.abt_defs.specs.declared.end.End.TheVariants.{Solved, Refuted, Spent, Capped}
 use Rattle.abt_session.specs.declared.outcome.Outcome.{Outcome}
 
 -- the run of this problem, which is so under the order, if there is one, by these answers
@@ -64,7 +64,7 @@ abbrev pub values_of : Option (List ℕ) → Csp → Network → List ℤ
 values_of order p net = map (values_told order (values net)) (below (count p))
 
 -- an end as the definitions have it; where nothing is in transit it has the values of all variables
-abbrev pub IsEnd : Option (List ℕ) → Csp → Network → runs.End → End → Type 0
+abbrev pub IsEnd : Option (List ℕ) → Csp → Network → runs.End → End (List ℤ) → Type 0
 IsEnd order p net end (Solved list) = (end ≡ runs.Solved) × (list ≡ values_of order p net)
 IsEnd order p net end Refuted = end ≡ runs.Refuted
 IsEnd order p net end Spent = end ≡ runs.Spent

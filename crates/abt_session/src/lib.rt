@@ -22,13 +22,15 @@ mod telling;
 mod told;
 mod trace;
 
+pub use abt_defs::End;
+pub use dcsp_domain::IntList;
 pub use dcsp_script::Stop as SessionError;
 pub use laws::{lines_tell_deliveries, traces_tell_deliveries};
 pub use lines::{append_begun, append_made};
 pub use ordered::Ordered;
-pub use outcome::{End, Outcome};
+pub use outcome::Outcome;
 pub use session::{RunTask, run};
-pub use starved_run::{Starved, StarvedEnd, StarvingRun, starve};
+pub use starved_run::{Starved, StarvingRun, starve};
 pub use telling::Telling;
 pub use told::{begun_told, step_told};
 pub use trace::push_cargo;

@@ -35,10 +35,8 @@ pub fn append_step<F: Folder>(
     ensures created { (F.place folder.new).created ≡ (F.place folder.old).created }
 {
     line.clear();
-    match write_step(number, step, line) {
-        Ok(()) => append(folder, log, line),
-        Err(_) => Err(Stop::Memory),
-    }
+    write_step(number, step, line)?;
+    append(folder, log, line)
 }
 
 /// Appends the line of the step, if one was made.
@@ -120,10 +118,8 @@ fn put_trace<S: Sink>(
         return Ok(());
     }
     line.clear();
-    match push_line(line, number, delivery) {
-        Ok(()) => put(out, line),
-        Err(_) => Err(Stop::Memory),
-    }
+    push_line(line, number, delivery)?;
+    put(out, line)
 }
 
 /// Puts how far the run is, after a delivery that tells it.
@@ -141,8 +137,6 @@ fn put_progress<S: Sink>(
         return Ok(());
     }
     line.clear();
-    match push_progress(line, telling.round, deliveries, steps) {
-        Ok(()) => put(out, line),
-        Err(_) => Err(Stop::Memory),
-    }
+    push_progress(line, telling.round, deliveries, steps)?;
+    put(out, line)
 }

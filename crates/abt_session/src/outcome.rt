@@ -4,13 +4,13 @@ ghost use Rattle.std.specs.Prelude.{◌≡◌, ℕ, ◌<◌, ◌≤◌, length, 
 ghost use Rattle.abt_defs.specs.Network.{Network as TheNetwork};
 ghost use Rattle.dcsp_rule.specs.Problems.{csp_of};
 ghost use Rattle.abt_network.specs.Standing.{StandsAt};
-ghost use Rattle.abt_session.specs.Runners.{end_of};
+ghost use Rattle.abt_session.specs.Ends.{end_of};
 ghost use Rattle.dcsp_order.specs.Told.{place_told, Fits};
 ghost use Rattle.abt_session.specs.Ordering.{order_in};
 ghost use Rattle.abt_session.specs.Running.{values_of, IsOutcome};
 
 use crate::ordered::Ordered;
-use crate::runner::Halt;
+use abt_defs::End;
 use abt_network::Network;
 use abt_schedule::ChoiceList;
 use dcsp_common::Memory;
@@ -19,23 +19,11 @@ use dcsp_order::Order;
 use dcsp_script::Stop;
 use std::alloc::Global;
 
-/// How a run ends.
-#[derive(Debug, Drop)]
-pub enum End {
-    /// Nothing is in transit, and nothing was refuted: these are the values of all variables, in the order of their own numbers.
-    Solved(IntList),
-    /// A step with the empty nogood was made.
-    Refuted,
-    /// The choices are used up, and a message is in transit.
-    Spent,
-    /// The greatest number of deliveries was made, and a message is in transit.
-    Capped,
-}
-
 /// What a run gives.
 #[derive(Debug, Drop)]
 pub struct Outcome {
-    pub end: End,
+    /// How it ended; where it is solved, with the values of all variables, in the order of their own numbers.
+    pub end: End<IntList>,
     /// How many deliveries were made.
     pub deliveries: u64,
     /// How many steps were made, which is how many the log has.
@@ -77,23 +65,23 @@ pub fn outcome_of(
     alloc: Global,
     model: Ordered<'_>,
     network: &Network,
-    halt: Halt,
+    end: End<()>,
     numbers: ChoiceList,
 ) -> Result<Outcome, Stop>
     requires run { network.now.problem ≡ model.problem.now }
     requires fits { Fits (order_in model) model.problem.now }
-    ensures gives { (net : TheNetwork) → StandsAt network.now net → IfOk result (IsOutcome (order_in model.entry) (csp_of model.entry.problem.now) net (end_of halt)) }
+    ensures gives { (net : TheNetwork) → StandsAt network.now net → IfOk result (IsOutcome (order_in model.entry) (csp_of model.entry.problem.now) net (end_of end)) }
     ensures numbers { IfOk result (λ outcome. outcome.numbers ≡ numbers) }
     ensures only_memory { OnErr result (result ≡ Err Stop.Memory) }
 {
-    let end = match halt {
-        Halt::Solved => End::Solved(values_of(alloc, model, network)?),
-        Halt::Refuted => End::Refuted,
-        Halt::Spent => End::Spent,
-        Halt::Capped => End::Capped,
+    let told = match end {
+        End::Solved(()) => End::Solved(values_of(alloc, model, network)?),
+        End::Refuted => End::Refuted,
+        End::Spent => End::Spent,
+        End::Capped => End::Capped,
     };
     Ok(Outcome {
-        end,
+        end: told,
         deliveries: network.deliveries(),
         steps: network.steps(),
         numbers,

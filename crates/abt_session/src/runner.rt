@@ -17,21 +17,13 @@ ghost use Rattle.abt_session.specs.Running.{kept, order_of, session_for, IsOnRun
 use crate::lines::{Made, append_begun, append_made, put_delivery};
 use crate::session::RunTask;
 use crate::told::{begun_told, delivery_told};
+use abt_defs::End;
 use abt_network::{Delivery, Network, Standing};
 use abt_schedule::{ChoiceList, Choices};
 use dcsp_outside::{Folder, Sink};
 use dcsp_script::{Stop, append, create};
 use ngd_log::{HEAD, TAIL};
 use std::alloc::Global;
-
-/// Why a run stopped.
-#[derive(Clone, Copy, Debug, PartialEq, Eq)]
-pub enum Halt {
-    Refuted,
-    Solved,
-    Spent,
-    Capped,
-}
 
 /// A run on its way.
 #[derive(Drop)]
@@ -54,7 +46,7 @@ impl<'p, 'w> Runner<'p, 'w> {
         choices: &mut C,
         folder: &mut F,
         out: &mut S,
-    ) -> Result<Halt, Stop>
+    ) -> Result<End<()>, Stop>
         requires most { self.old.task.most ≤ 2 ^ 40 }
         requires sound { self.old.network.spent ≡ false }
         requires fresh { self.old.network.begun ≡ false }
@@ -65,9 +57,9 @@ impl<'p, 'w> Runner<'p, 'w> {
         ensures problem { self.new.network.problem ≡ self.old.network.problem }
     {
         self.begin(folder)?;
-        let halt = self.deliver_all(choices, folder, out)?;
+        let end = self.deliver_all(choices, folder, out)?;
         append(folder, self.task.log, TAIL)?;
-        Ok(halt)
+        Ok(end)
     }
 
     /// Begins the log, and starts the agents.
@@ -85,13 +77,9 @@ impl<'p, 'w> Runner<'p, 'w> {
     {
         create(folder, self.task.log)?;
         append(folder, self.task.log, HEAD)?;
-        let Ok(begun) = self.network.start() else {
-            return Err(Stop::Memory);
-        };
-        match begun_told(self.alloc, self.task.model.order, begun) {
-            Ok(told) => append_begun(folder, self.task.log, &told, &mut self.line),
-            Err(_) => Err(Stop::Memory),
-        }
+        let begun = self.network.start()?;
+        let told = begun_told(self.alloc, self.task.model.order, begun)?;
+        append_begun(folder, self.task.log, &told, &mut self.line)
     }
 
     /// Makes the deliveries of the run, until one of its four stops.
@@ -100,7 +88,7 @@ impl<'p, 'w> Runner<'p, 'w> {
         choices: &mut C,
         folder: &mut F,
         out: &mut S,
-    ) -> Result<Halt, Stop>
+    ) -> Result<End<()>, Stop>
         requires created { Contains (F.place folder.old).created self.old.task.log.now }
         requires most { self.old.task.most ≤ 2 ^ 40 }
         requires sound { self.old.network.spent ≡ false }
@@ -115,19 +103,19 @@ impl<'p, 'w> Runner<'p, 'w> {
     {
         for _made in 0..self.task.most {
             match self.network.state() {
-                Standing::Refuted => return Ok(Halt::Refuted),
-                Standing::Quiet => return Ok(Halt::Solved),
+                Standing::Refuted => return Ok(End::Refuted),
+                Standing::Quiet => return Ok(End::Solved(())),
                 Standing::Open => {}
             }
             let Some(choice) = choices.next() else {
-                return Ok(Halt::Spent);
+                return Ok(End::Spent);
             };
             self.deliver_one(choice, folder, out)?;
         }
         match self.network.state() {
-            Standing::Refuted => Ok(Halt::Refuted),
-            Standing::Quiet => Ok(Halt::Solved),
-            Standing::Open => Ok(Halt::Capped),
+            Standing::Refuted => Ok(End::Refuted),
+            Standing::Quiet => Ok(End::Solved(())),
+            Standing::Open => Ok(End::Capped),
         }
     }
 
@@ -155,10 +143,10 @@ impl<'p, 'w> Runner<'p, 'w> {
         ensures begun { OnOk result (self.new.network.begun ≡ true) }
         ensures created { (F.place folder.new).created ≡ (F.place folder.old).created }
     {
-        let number = choice % self.network.ready();
         let Ok(delivery) = self.network.deliver(choice) else {
             return Err(Stop::Memory);
         };
+        let number = delivery.number;
         let Ok(told) = delivery_told(self.alloc, self.task.model.order, delivery) else {
             return Err(Stop::Memory);
         };
@@ -205,9 +193,7 @@ impl<'p, 'w> Runner<'p, 'w> {
         if !self.task.keep {
             return Ok(());
         }
-        match self.taken.push(number) {
-            Ok(()) => Ok(()),
-            Err(_) => Err(Stop::Memory),
-        }
+        self.taken.push(number)?;
+        Ok(())
     }
 }

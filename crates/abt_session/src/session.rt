@@ -116,7 +116,7 @@ fn run_ordered<C: Choices, F: Folder, S: Sink>(
         line: Vec::new(alloc),
         alloc,
     };
-    let halt = runner.run(choices, folder, out)?;
+    let end = runner.run(choices, folder, out)?;
     let taken = mem::replace(&mut runner.taken, ChoiceList::new(alloc));
-    outcome_of(alloc, task.model, &runner.network, halt, taken)
+    outcome_of(alloc, task.model, &runner.network, end, taken)
 }

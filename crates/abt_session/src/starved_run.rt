@@ -10,27 +10,18 @@ ghost use Rattle.abt_network.specs.Standing.{CanDeliver, StandsAt};
 ghost use Rattle.abt_session.specs.Running.{TakesPart};
 ghost use Rattle.abt_session.specs.Starving.{choices_of, end_at, run_of, starving_choices, AreNear, IsStarved};
 
+use abt_defs::End;
 use abt_network::{Network, Standing};
 use abt_schedule::ChoiceList;
 use dcsp_common::Memory;
 use dcsp_problem::Problem;
 use std::alloc::Global;
 
-/// How a run that starves a link ends.
-#[derive(Clone, Copy, Debug, PartialEq, Eq)]
-pub enum StarvedEnd {
-    /// Nothing is in transit, and nothing was refuted: the values are a solution.
-    Solved,
-    /// A step with the empty nogood was made.
-    Refuted,
-    /// The greatest number of deliveries was made, and a message is in transit.
-    Open,
-}
-
 /// What a run that starves a link comes to.
 #[derive(Clone, Copy, Debug, PartialEq, Eq)]
 pub struct Starved {
-    pub end: StarvedEnd,
+    /// How it ended. Its choices are never used up.
+    pub end: End<()>,
     /// How many deliveries were made.
     pub deliveries: u64,
 }
@@ -141,13 +132,13 @@ fn first_other(network: &Network, from: u32, to: u32) -> u32
 }
 
 /// How a run has ended that leaves the network so.
-fn end_of(network: &Network) -> StarvedEnd
+fn end_of(network: &Network) -> End<()>
     requires { network.now.spent ≡ false }
     ensures { (net : TheNetwork) → StandsAt network.now net → result ≡ end_at (csp_of network.now.problem) net }
 {
     match network.state() {
-        Standing::Refuted => StarvedEnd::Refuted,
-        Standing::Quiet => StarvedEnd::Solved,
-        Standing::Open => StarvedEnd::Open,
+        Standing::Refuted => End::Refuted,
+        Standing::Quiet => End::Solved(()),
+        Standing::Open => End::Capped,
     }
 }

@@ -64,11 +64,13 @@ pub fn delivery_told(
     let Some(numbers) = order else {
         return Ok(delivery);
     };
+    let number = delivery.number;
     let from = numbers.number(delivery.from);
     let to = numbers.number(delivery.to);
     let cargo = delivery.cargo;
     let step = step_told(alloc, order, delivery.step)?;
     Ok(Delivery {
+        number,
         from,
         to,
         cargo,

@@ -1,14 +1,13 @@
 -- What a formula's run gave, and what is written of it.
 use Rattle.std.proofs.Common.{◌≡◌, ℕ, ◌≤◌, ◌^◌, List, [], ◌∷◌, ◌++◌, length, take, Result, Ok, Err, refl, sym, ap, subst, ◌∙◌, arith, None}
-use Rattle.std.specs.Prelude.{All, IfSome, IsErr, IsErrAnd}
+use Rattle.std.specs.Prelude.{ℤ, All, IfSome, IsErr, IsErrAnd}
 use Rattle.dcsp_defs.specs.Csp.{IsCsp}
 use Rattle.dcsp_defs.specs.declared.Step.{Step}
 use Rattle.dcsp_defs.specs.Derivation.{IsDerivation}
 use Rattle.dcsp_rule.specs.Problems.{Contents, csp_of}
 use Rattle.dcsp_problem.specs.WellFormed.{IsProblem}
 use Rattle.dcsp_script.specs.declared.stop.Stop.{Stop}
-use Rattle.dcsp_script.specs.declared.stop.Stop.TheVariants as stops
-use Rattle.dcsp_script.specs.Scripts.{Write, Put, World}
+use Rattle.dcsp_script.specs.Scripts.{Put, World}
 use Rattle.dcsp_script.specs.Ways.{Wrote}
 use Rattle.dcsp_script.proofs.Lines.{then_rest, then_stopped}
 use Rattle.ngd_log.specs.Logs.{AreWritable}
@@ -19,10 +18,10 @@ use Rattle.law_runs.proofs.Whole.{verdicts}
 use Rattle.law_runs.specs.Sizes.{Sizes}
 use Rattle.law_runs.proofs.SizeRuns.{sizes_hold}
 use Rattle.abt_session.specs.Running.{IsEnd, IsOutcome}
-use Rattle.abt_session.specs.declared.outcome.End.{End}
-use Rattle.abt_session.specs.declared.outcome.End.TheVariants.{Solved, Refuted, Spent, Capped}
+use Rattle.abt_defs.specs.declared.end.End.{End}
+use Rattle.abt_defs.specs.declared.end.End.TheVariants.{Solved, Refuted, Spent, Capped}
 use Rattle.abt_session.specs.declared.outcome.Outcome.{Outcome}
-use Rattle.abt_session.proofs.Pieces.{wrote_as, stopped_so, memory_at_once}
+use Rattle.abt_session.proofs.Pieces.{wrote_as, stopped_so}
 use Rattle.line_replay.specs.Endings.{final_values}
 use Rattle.line_replay.specs.Asked.{most_deliveries}
 use Rattle.line_replay.proofs.Telling.{as_ok}
@@ -33,7 +32,7 @@ use Rattle.line_cnf.proofs.Domains.{formula_binary}
 use Rattle.line_cnf.proofs.Steps.{all_binary, all_writable}
 
 module _ (p : Contents) (run : Run) where
-  end_text_is : (end : End) → IsEnd None (csp_of p) run.net run.end end → end_text end ≡ verdict_text (final_values None p run) run.end
+  end_text_is : (end : End (List ℤ)) → IsEnd None (csp_of p) run.net run.end end → end_text end ≡ verdict_text (final_values None p run) run.end
   end_text_is (Solved list) h = rw (h.0, h.1) refl
   end_text_is Refuted h = rw h refl
   end_text_is Spent h = rw h refl
@@ -46,7 +45,7 @@ module _ (p : Contents) (run : Run) where
       ∙ ap (λ n. verdict_text (final_values None p run) run.end ++ deliveries_text n) h.deliveries
 
   -- its steps are told where they are a refutation
-  pub refutation_is : (steps : List Step) (end : End) → IsEnd None (csp_of p) run.net run.end end → refutation end steps ≡ refutation_at run.end steps
+  pub refutation_is : (steps : List Step) (end : End (List ℤ)) → IsEnd None (csp_of p) run.net run.end end → refutation end steps ≡ refutation_at run.end steps
   refutation_is steps (Solved list) h = rw h.0 refl
   refutation_is steps Refuted h = rw h refl
   refutation_is steps Spent h = rw h refl
@@ -85,10 +84,6 @@ module _ (p : Contents) (seed : ℕ) (ok : IsCsp (csp_of p)) where
     steps_writable fine = let b = formula_binary formula.0 p formula.1 in all_writable p b.0 b.1 (cnf_run p seed).net.steps right_steps fine few_steps
 
 -- ---- the script
-
--- memory was wanted before anything was made
-pub nothing_made : {T : Type 0} (s : List Write) (a : World) (r : Result T Stop) → IsErr r × IsErrAnd r (λ y. y ≡ stops.Memory) → Wrote s a a r
-nothing_made s a r is = stopped_so {T = Unit {0}} r is (memory_at_once s a)
 
 module _ (p : Contents) (proof : List ℕ) (run : Run) (made : Made) (h : HasMade p run made) where
   first_is : proof_script proof made.refutation ≡ proof_script proof (refutation_at run.end run.net.steps)

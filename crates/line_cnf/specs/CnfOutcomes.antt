@@ -1,5 +1,5 @@
 -- What is written of what a formula's run gave.
-use Rattle.std.specs.Prelude.{◌≡◌, List, [], ◌++◌, ℕ, Option, Some, None, All}
+use Rattle.std.specs.Prelude.{◌≡◌, List, [], ◌++◌, ℕ, ℤ, Option, Some, None, All}
 use Rattle.std.specs.FinMap as map
 use Rattle.dcsp_outside.specs.Memory.{Files}
 use Rattle.dcsp_defs.specs.declared.Step.{Step}
@@ -7,9 +7,10 @@ use Rattle.dcsp_rule.specs.Problems.{Contents, csp_of}
 use Rattle.cnf_front.specs.Clauses.{IsBinary}
 use Rattle.ngd_log.specs.Logs.{log_text, AreWritable}
 use Rattle.abt_defs.specs.Runs as runs
+use Rattle.abt_session.specs.Ends.{end_of}
 use Rattle.abt_session.specs.Running.{IsOutcome}
-use Rattle.abt_session.specs.declared.outcome.End.{End}
-use Rattle.abt_session.specs.declared.outcome.End.TheVariants.{Solved, Refuted, Spent, Capped}
+use Rattle.abt_defs.specs.declared.end.End.{End}
+use Rattle.abt_defs.specs.declared.end.End.TheVariants.{Solved, Refuted, Spent, Capped}
 use Rattle.abt_session.specs.declared.outcome.Outcome.{Outcome}
 use Rattle.abt_input.specs.Inputs.{IsFormulaOf}
 use Rattle.line_cnf.specs.CnfRuns.{log_name, verdict_text, deliveries_text, refutation_at}
@@ -24,7 +25,7 @@ abbrev pub IsBinaryStep : Step → Type 0
 IsBinaryStep step = All IsBinary step.nogood
 
 -- the lines of an end
-abbrev pub end_text : End → List ℕ
+abbrev pub end_text : End (List ℤ) → List ℕ
 end_text (Solved list) = verdict_text list runs.Solved
 end_text Refuted = verdict_text [] runs.Refuted
 end_text Spent = verdict_text [] runs.Spent
@@ -35,11 +36,8 @@ abbrev pub outcome_text : Outcome → List ℕ
 outcome_text outcome = end_text outcome.end ++ deliveries_text outcome.deliveries
 
 -- the steps, where they are a refutation
-abbrev pub refutation : End → List Step → Option (List Step)
-refutation (Solved list) steps = None
-refutation Refuted steps = Some steps
-refutation Spent steps = None
-refutation Capped steps = None
+abbrev pub refutation : End (List ℤ) → List Step → Option (List Step)
+refutation end steps = refutation_at (end_of end) steps
 
 -- the files hold the log of some steps, under the name of a formula's log
 abbrev pub HoldsLog : Files → Type 0

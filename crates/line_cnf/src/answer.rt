@@ -10,14 +10,14 @@ ghost use Rattle.line_replay.specs.Outcomes.{outcome_status};
 ghost use Rattle.line_cnf.specs.CnfRuns.{deliveries_text, value_literal, value_literals};
 ghost use Rattle.line_cnf.specs.CnfOutcomes.{end_text, outcome_text};
 
-use abt_session::{End, Outcome};
+use abt_session::{End, IntList, Outcome};
 use dcsp_common::{push_number, push_signed};
 use dcsp_outside::Sink;
 use dcsp_script::{Status, Stop, put};
 use std::alloc::{AllocError, Global};
 
 /// The status of an end.
-pub fn status_of(end: &End) -> Status
+pub fn status_of(end: &End<IntList>) -> Status
     ensures { result ≡ outcome_status end.now }
 {
     match end {
@@ -34,10 +34,8 @@ pub fn tell<S: Sink>(alloc: Global, outcome: &Outcome, out: &mut S) -> Result<()
         (outside folder (S.stream out.old)) (outside folder (S.stream out.new)) result }
 {
     let mut text = Vec::new(alloc);
-    match push_outcome(outcome, &mut text) {
-        Ok(()) => put(out, &text),
-        Err(_) => Err(Stop::Memory),
-    }
+    push_outcome(outcome, &mut text)?;
+    put(out, &text)
 }
 
 fn push_outcome(outcome: &Outcome, into: &mut Vec<u8>) -> Result<(), AllocError>
@@ -50,7 +48,7 @@ fn push_outcome(outcome: &Outcome, into: &mut Vec<u8>) -> Result<(), AllocError>
 }
 
 /// The lines of an end.
-fn push_end(end: &End, into: &mut Vec<u8>) -> Result<(), AllocError>
+fn push_end(end: &End<IntList>, into: &mut Vec<u8>) -> Result<(), AllocError>
     ensures { OnOk result (into.new.items ≡ into.old.items ++ end_text end.now) }
 {
     match end {

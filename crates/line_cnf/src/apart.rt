@@ -9,7 +9,7 @@ ghost use Rattle.line_cnf.specs.CnfRuns.{log_name, cnf_asked, cnf_run};
 ghost use Rattle.line_cnf.specs.CnfOutcomes.{refutation, HasMade, HoldsLog, IsFormula};
 
 use abt_schedule::Seeded;
-use abt_session::{End, MOST_DELIVERIES, Ordered, Outcome, RunTask, Telling, run};
+use abt_session::{End, IntList, MOST_DELIVERIES, Ordered, Outcome, RunTask, Telling, run};
 use dcsp_outside::{SureFolder, SureSink};
 use dcsp_problem::Problem;
 use dcsp_script::Stop;
@@ -77,7 +77,7 @@ fn run_in(
 /// The steps of the log in this folder, where they are a refutation.
 fn refutation_in(
     alloc: Global,
-    end: &End,
+    end: &End<IntList>,
     apart: &SureFolder,
 ) -> Result<Option<Derivation>, AllocError>
     requires { HoldsLog apart.now.files }

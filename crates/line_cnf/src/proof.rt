@@ -68,8 +68,6 @@ fn append_clause<F: Folder>(
     ensures created { (F.place folder.new).created ≡ (F.place folder.old).created }
 {
     line.clear();
-    match write_clause(nogood, line) {
-        Ok(()) => append(folder, name, line),
-        Err(_) => Err(Stop::Memory),
-    }
+    write_clause(nogood, line)?;
+    append(folder, name, line)
 }

@@ -1,6 +1,6 @@
 -- What is told of three runs is what the drill says.
 use Rattle.std.proofs.Common.{◌≡◌, ℕ, false, List, ◌++◌, codes, decimal, Result, Ok, Err, refl, sym, ap, subst, ◌∙◌, None}
-use Rattle.std.specs.Prelude.{IsOk, IfOk}
+use Rattle.std.specs.Prelude.{ℤ, IsOk, IfOk}
 use Rattle.std.specs.declared.vec.Vec.{Vec}
 use Rattle.std.specs.declared.alloc.Global.{Global}
 use Rattle.std.specs.declared.alloc.AllocError.{AllocError as Memory}
@@ -13,8 +13,8 @@ use Rattle.ngd_check.specs.declared.Finding.{Finding}
 use Rattle.abt_schedule.specs.Answers.{word_at, generator_of}
 use Rattle.dcsp_gen.specs.Problems.{sparse_text, queens_text, pigeons_text}
 use Rattle.abt_session.specs.Running.{IsEnd, Gives}
-use Rattle.abt_session.specs.declared.outcome.End.{End}
-use Rattle.abt_session.specs.declared.outcome.End.TheVariants.{Solved, Refuted, Spent, Capped}
+use Rattle.abt_defs.specs.declared.end.End.{End}
+use Rattle.abt_defs.specs.declared.end.End.TheVariants.{Solved, Refuted, Spent, Capped}
 use Rattle.abt_session.specs.declared.outcome.Outcome.{Outcome}
 use Rattle.dcsp_script.specs.declared.status.Status.{Status}
 use Rattle.abt_input.specs.Inputs.{IsModelOf}
@@ -25,13 +25,13 @@ use Rattle.line_drill.specs.Outcomes.{outcome_word, outcome_text, is_open_end, t
 
 -- ---- one run
 
-word_is : (p : Csp) (net : Network) (ended : runs.End) (e : End) → IsEnd None p net ended e → outcome_word e ≡ end_word ended
+word_is : (p : Csp) (net : Network) (ended : runs.End) (e : End (List ℤ)) → IsEnd None p net ended e → outcome_word e ≡ end_word ended
 word_is p net ended (Solved list) h = ap end_word (sym h.0)
 word_is p net ended Refuted h = ap end_word (sym h)
 word_is p net ended Spent h = ap end_word (sym h)
 word_is p net ended Capped h = ap end_word (sym h)
 
-open_is : (p : Csp) (net : Network) (ended : runs.End) (e : End) → IsEnd None p net ended e → is_open_end e ≡ is_unfinished ended
+open_is : (p : Csp) (net : Network) (ended : runs.End) (e : End (List ℤ)) → IsEnd None p net ended e → is_open_end e ≡ is_unfinished ended
 open_is p net ended (Solved list) h = ap is_unfinished (sym h.0)
 open_is p net ended Refuted h = ap is_unfinished (sym h)
 open_is p net ended Spent h = ap is_unfinished (sym h)

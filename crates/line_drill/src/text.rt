@@ -3,12 +3,12 @@
 ghost use Rattle.std.specs.Prelude.{◌≡◌, ◌++◌, codes, OnOk};
 ghost use Rattle.line_drill.specs.Outcomes.{outcome_word, outcome_text};
 
-use abt_session::{End, Outcome};
+use abt_session::{End, IntList, Outcome};
 use dcsp_common::push_number;
 use std::alloc::AllocError;
 
 /// The word for an end.
-fn word(end: &End) -> &'static [u8]
+fn word(end: &End<IntList>) -> &'static [u8]
     ensures { result.now ≡ outcome_word end.now }
 {
     match end {

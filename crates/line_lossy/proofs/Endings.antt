@@ -16,7 +16,7 @@ use Rattle.law_runs.specs.Deliveries.{numbers}
 use Rattle.law_runs.specs.LossyEnds.{is_quiet, used, calm_words}
 use Rattle.abt_session.specs.Sessions.{begun_script, step_writes}
 use Rattle.abt_session.specs.Running.{kept, IsEnd, IsOutcome}
-use Rattle.abt_session.specs.declared.outcome.End.TheVariants as ends
+use Rattle.abt_defs.specs.declared.end.End.TheVariants as ends
 use Rattle.abt_session.specs.declared.outcome.Outcome.{Outcome}
 use Rattle.abt_session.proofs.Pieces.{wrote_as, stopped_so}
 use Rattle.line_replay.specs.Asked.{record_script}
@@ -29,7 +29,7 @@ use Rattle.dcsp_order.specs.Told.{ordered, IsOrderFor}
 use Rattle.line_lossy.specs.Asked.{Asked, most_calm, seeded_words, words_of, run_problem, run_words, run_world, run_numbers, run_steps, end_of, events_text, answer_text, log_script, asked_script}
 use Rattle.line_lossy.specs.Runners.{new_writes, numbers_after, order_of, HasMade, SameTask, IsEnded}
 use Rattle.line_lossy.specs.declared.runner.LossyRunner.{LossyRunner}
-use Rattle.line_lossy.specs.declared.ending.Ended.{Ended}
+use Rattle.line_lossy.specs.declared.ending.LossyOutcome.{LossyOutcome}
 use Rattle.line_lossy.proofs.Worlds.{all_new}
 use Rattle.line_lossy.proofs.Making.{is_refuted, is_at_rest, is_going_on}
 use Rattle.line_lossy.proofs.Turns.{more_told, steps_at, calm_left}
@@ -128,7 +128,7 @@ module _ (order : Option (List ℕ)) (p : Csp) (w : World) where
 abbrev as_run : Csp → World → Run
 as_run p w = record { end = end_of p w; net = w.network; left = []; numbers = []; trace = [] }
 
-module _ (asked : Asked) (ended : Ended) (h : IsEnded asked ended) where
+module _ (asked : Asked) (ended : LossyOutcome) (h : IsEnded asked ended) where
   abbrev its_run : Run
   its_run = as_run (run_problem asked) (run_world asked)
 

@@ -18,7 +18,7 @@ use Rattle.abt_session.specs.Ordering.{order_in}
 use Rattle.line_lossy.specs.declared.line.Losses.{Losses}
 use Rattle.line_lossy.specs.Asked.{Asked, lossy, end_of, run_problem, run_words, run_world}
 use Rattle.line_lossy.specs.declared.runner.LossyRunner.{LossyRunner}
-use Rattle.line_lossy.specs.declared.ending.Ended.{Ended}
+use Rattle.line_lossy.specs.declared.ending.LossyOutcome.{LossyOutcome}
 
 -- the numbers of all that these events of its problem hand up
 abbrev pub numbers_after : LossyState → List ℕ → List ℕ
@@ -75,7 +75,7 @@ pub record IsFresh (under : Option (List ℕ)) (p : Contents) (log_name : List �
   pub taken : r.taken ≡ []
 
 -- what the run gives: its end, with the values where it is solved, and its counts
-pub record IsEnded (asked : Asked) (ended : Ended) : Type 0 where
+pub record IsEnded (asked : Asked) (ended : LossyOutcome) : Type 0 where
   pub outcome : IsOutcome asked.order (run_problem asked) (run_world asked).network (end_of (run_problem asked) (run_world asked)) ended.outcome
   pub events : ended.events ≡ length (run_words asked)
 

@@ -26,9 +26,9 @@ use dcsp_script::{Stop, put};
 use line_replay::push_outcome;
 use std::alloc::{AllocError, Global};
 
-/// How a run over the medium ended.
+/// What a run over the medium gives.
 #[derive(Debug, Drop)]
-pub struct Ended {
+pub struct LossyOutcome {
     pub outcome: Outcome,
     /// How many events were made.
     pub events: u64,
@@ -104,7 +104,7 @@ fn place_in(order: Option<&Order>, number: u32) -> u32
 pub fn tell<S: Sink>(
     alloc: Global,
     problem: &Problem,
-    ended: &Ended,
+    ended: &LossyOutcome,
     out: &mut S,
 ) -> Result<(), Stop>
     requires { HasAllValues problem.now ended.now.outcome.end }
@@ -112,13 +112,11 @@ pub fn tell<S: Sink>(
         (outside folder (S.stream out.old)) (outside folder (S.stream out.new)) result }
 {
     let mut text = Vec::new(alloc);
-    match push_ended(problem, ended, &mut text) {
-        Ok(()) => put(out, &text),
-        Err(_) => Err(Stop::Memory),
-    }
+    push_ended(problem, ended, &mut text)?;
+    put(out, &text)
 }
 
-fn push_ended(problem: &Problem, ended: &Ended, into: &mut Vec<u8>) -> Result<(), AllocError>
+fn push_ended(problem: &Problem, ended: &LossyOutcome, into: &mut Vec<u8>) -> Result<(), AllocError>
     requires { HasAllValues problem.now ended.now.outcome.end }
     ensures { OnOk result (into.new.items ≡ into.old.items ++ (outcome_text problem.now ended.now.outcome ++ events_text ended.now.events)) }
 {

@@ -15,7 +15,7 @@ ghost use Rattle.line_lossy.specs.Asked.{asked_script, end_of, log_script, run_n
 ghost use Rattle.line_lossy.specs.Asking.{promise_of, HoldsItsRun};
 ghost use Rattle.line_lossy.specs.Runners.{asked_by, IsEnded, IsFresh};
 
-use crate::ending::{Ended, outcome_of, tell};
+use crate::ending::{LossyOutcome, outcome_of, tell};
 use crate::laws::lossy_runs_are_right;
 use crate::runner::LossyRunner;
 use abt_input::{CommandError, read_model, read_order_of};
@@ -100,7 +100,7 @@ fn run_recorded<F: Folder>(
     model: Ordered<'_>,
     line: Losses<'_>,
     folder: &mut F,
-) -> Result<Ended, Stop>
+) -> Result<LossyOutcome, Stop>
     requires { IsOrderedRightly model }
     ensures wrote { let asked = asked_by model.entry line.entry in (out : Stream) →
         Wrote (log_script asked.log (run_steps asked) ++ record_script asked.record_file (run_numbers asked))
@@ -135,7 +135,7 @@ fn run_fresh<F: Folder>(
     line: Losses<'_>,
     runner: &mut LossyRunner<'_, '_>,
     folder: &mut F,
-) -> Result<Ended, Stop>
+) -> Result<LossyOutcome, Stop>
     requires model { IsOrderedRightly model }
     requires fresh { IsFresh (order_in model) (ordered (order_in model) model.problem.now) line.log.now (is_some line.record_file) runner.old }
     ensures wrote { let asked = asked_by model.entry line.entry in (out : Stream) →
@@ -146,7 +146,7 @@ fn run_fresh<F: Folder>(
     runner.run(line.seed, line.events, MOST_CALM, folder)?;
     let outcome = outcome_of(alloc, model.problem, runner)?;
     write_record(alloc, folder, line.record_file, runner.taken.choices())?;
-    Ok(Ended {
+    Ok(LossyOutcome {
         outcome,
         events: runner.medium.events(),
     })

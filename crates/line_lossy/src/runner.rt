@@ -211,10 +211,8 @@ impl<'p, 'w> LossyRunner<'p, 'w> {
         if !self.keep {
             return Ok(());
         }
-        match self.taken.push(number) {
-            Ok(()) => Ok(()),
-            Err(_) => Err(Stop::Memory),
-        }
+        self.taken.push(number)?;
+        Ok(())
     }
 }
 

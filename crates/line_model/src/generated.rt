@@ -24,10 +24,8 @@ pub fn run_queens<S: Sink>(alloc: Global, n: u32, out: &mut S) -> Result<Status,
     ensures { (folder : Place) → CameIn (queens_promise n)
         (outside folder (S.stream out.old)) (outside folder (S.stream out.new)) (way_of result) }
 {
-    match queens(alloc, n) {
-        Ok(text) => print(out, &text),
-        Err(_) => Err(CommandError::Memory),
-    }
+    let text = queens(alloc, n)?;
+    print(out, &text)
 }
 
 /// Puts the colouring problem of `n` nodes, from 1 to 200, with `k` colours and the edges of `seed` on `out`.
@@ -43,10 +41,8 @@ pub fn run_colouring<S: Sink>(
     ensures { (folder : Place) → CameIn (colouring_promise n k seed)
         (outside folder (S.stream out.old)) (outside folder (S.stream out.new)) (way_of result) }
 {
-    match colouring(alloc, n, k, seed) {
-        Ok(text) => print(out, &text),
-        Err(_) => Err(CommandError::Memory),
-    }
+    let text = colouring(alloc, n, k, seed)?;
+    print(out, &text)
 }
 
 /// Puts the sparse colouring of `n` nodes, from 1 to 4,096, with the edges of `seed` on `out`.
@@ -61,10 +57,8 @@ pub fn run_sparse<S: Sink>(
     ensures { (folder : Place) → CameIn (sparse_promise n seed)
         (outside folder (S.stream out.old)) (outside folder (S.stream out.new)) (way_of result) }
 {
-    match sparse(alloc, n, seed) {
-        Ok(text) => print(out, &text),
-        Err(_) => Err(CommandError::Memory),
-    }
+    let text = sparse(alloc, n, seed)?;
+    print(out, &text)
 }
 
 /// Puts the problem of `n` pigeons, from 2 to 200, in one hole less on `out`.
@@ -74,10 +68,8 @@ pub fn run_pigeons<S: Sink>(alloc: Global, n: u32, out: &mut S) -> Result<Status
     ensures { (folder : Place) → CameIn (pigeons_promise n)
         (outside folder (S.stream out.old)) (outside folder (S.stream out.new)) (way_of result) }
 {
-    match pigeons(alloc, n) {
-        Ok(text) => print(out, &text),
-        Err(_) => Err(CommandError::Memory),
-    }
+    let text = pigeons(alloc, n)?;
+    print(out, &text)
 }
 
 /// Puts a random binary problem of these sizes, with the constraints of `seed`, on `out`.
@@ -92,10 +84,8 @@ pub fn run_binary<S: Sink>(
     ensures { (folder : Place) → CameIn (binary_promise sizes.variables sizes.values sizes.edges sizes.forbidden seed)
         (outside folder (S.stream out.old)) (outside folder (S.stream out.new)) (way_of result) }
 {
-    match binary(alloc, sizes, seed) {
-        Ok(text) => print(out, &text),
-        Err(_) => Err(CommandError::Memory),
-    }
+    let text = binary(alloc, sizes, seed)?;
+    print(out, &text)
 }
 
 /// Puts a random problem of meetings of these sizes, with the calendars and groups of `seed`, on `out`.
@@ -111,10 +101,8 @@ pub fn run_meetings<S: Sink>(
     ensures { (folder : Place) → CameIn (meetings_promise sizes.people sizes.meetings sizes.each sizes.hours sizes.busy seed)
         (outside folder (S.stream out.old)) (outside folder (S.stream out.new)) (way_of result) }
 {
-    match meetings(alloc, sizes, seed) {
-        Ok(text) => print(out, &text),
-        Err(_) => Err(CommandError::Memory),
-    }
+    let text = meetings(alloc, sizes, seed)?;
+    print(out, &text)
 }
 
 /// Puts a random problem of sensors of these sizes, with what they see by `seed`, on `out`.
@@ -129,8 +117,6 @@ pub fn run_sensors<S: Sink>(
     ensures { (folder : Place) → CameIn (sensors_promise sizes.side sizes.targets sizes.sees seed)
         (outside folder (S.stream out.old)) (outside folder (S.stream out.new)) (way_of result) }
 {
-    match sensors(alloc, sizes, seed) {
-        Ok(text) => print(out, &text),
-        Err(_) => Err(CommandError::Memory),
-    }
+    let text = sensors(alloc, sizes, seed)?;
+    print(out, &text)
 }

@@ -1,6 +1,6 @@
 -- What a run gave, and what is printed of it.
 use Rattle.std.proofs.Common.{◌≡◌, ℕ, zero, suc, ◌+◌, ◌-◌, ◌≤◌, List, [], ◌∷◌, ◌++◌, length, take, Option, Some, None, slice_get, Bor, Result, Ok, Err, refl, sym, ap, ◌∙◌, arith}
-use Rattle.std.specs.Prelude.{Bool, is_ok, is_some, option_copied, if◌then◌else◌, OnOk}
+use Rattle.std.specs.Prelude.{ℤ, Bool, is_ok, is_some, option_copied, if◌then◌else◌, OnOk}
 use Rattle.dcsp_rule.specs.Problems.{Contents, csp_of}
 use Rattle.dcsp_problem.specs.WellFormed.{IsProblem}
 use Rattle.dcsp_order.specs.Told.{ordered, IsOrderFor}
@@ -8,8 +8,8 @@ use Rattle.line_replay.proofs.UnderOrder.{final_count}
 use Rattle.abt_defs.specs.Runs.{Run}
 use Rattle.abt_session.specs.Answers.{answer_then, first_answers}
 use Rattle.abt_session.specs.Running.{kept, IsEnd, IsOutcome}
-use Rattle.abt_session.specs.declared.outcome.End.{End}
-use Rattle.abt_session.specs.declared.outcome.End.TheVariants.{Solved, Refuted, Spent, Capped}
+use Rattle.abt_defs.specs.declared.end.End.{End}
+use Rattle.abt_defs.specs.declared.end.End.TheVariants.{Solved, Refuted, Spent, Capped}
 use Rattle.abt_session.specs.declared.outcome.Outcome.{Outcome}
 use Rattle.line_replay.specs.Endings.{final_values, verdict_text, counts_text, ending_text, end_status}
 use Rattle.law_runs.proofs.Stopping.{stops}
@@ -18,7 +18,7 @@ use Rattle.line_replay.specs.Asked.{most_deliveries, listed_session, record_scri
 use Rattle.line_replay.specs.Outcomes.{end_text, outcome_text, outcome_status, HasAllValues}
 
 module _ (order : Option (List ℕ)) (p : Contents) (run : Run) where
-  end_text_is : (end : End) → IsEnd order (csp_of (ordered order p)) run.net run.end end → end_text p end ≡ verdict_text p (final_values order p run) run.end
+  end_text_is : (end : End (List ℤ)) → IsEnd order (csp_of (ordered order p)) run.net run.end end → end_text p end ≡ verdict_text p (final_values order p run) run.end
   end_text_is (Solved list) h = rw (h.0, h.1) refl
   end_text_is Refuted h = rw h refl
   end_text_is Spent h = rw h refl
@@ -32,14 +32,14 @@ module _ (order : Option (List ℕ)) (p : Contents) (run : Run) where
       ∙ ap (λ n. verdict_text p (final_values order p run) run.end ++ counts_text run.net.deliveries n) h.steps
 
   -- and has its status
-  pub status_is : (end : End) → IsEnd order (csp_of (ordered order p)) run.net run.end end → outcome_status end ≡ end_status run.end
+  pub status_is : (end : End (List ℤ)) → IsEnd order (csp_of (ordered order p)) run.net run.end end → outcome_status end ≡ end_status run.end
   status_is (Solved list) h = rw h.0 refl
   status_is Refuted h = rw h refl
   status_is Spent h = rw h refl
   status_is Capped h = rw h refl
 
   -- and where it is solved, it has a value for each variable
-  pub has_values : IsProblem p → IsOrderFor order p → (end : End) → IsEnd order (csp_of (ordered order p)) run.net run.end end → HasAllValues p end
+  pub has_values : IsProblem p → IsOrderFor order p → (end : End (List ℤ)) → IsEnd order (csp_of (ordered order p)) run.net run.end end → HasAllValues p end
   has_values ok good (Solved list) h = ap length h.1 ∙ final_count order p ok good run
   has_values ok good Refuted h = tt
   has_values ok good Spent h = tt

@@ -8,7 +8,7 @@ ghost use Rattle.line_replay.specs.Endings.{counts_text, unused_text};
 ghost use Rattle.line_replay.specs.Outcomes.{end_text, outcome_text, outcome_status, HasAllValues};
 
 use crate::solution::push_solution;
-use abt_session::{End, Outcome};
+use abt_session::{End, IntList, Outcome};
 use dcsp_common::push_number;
 use dcsp_outside::Sink;
 use dcsp_problem::Problem;
@@ -16,7 +16,7 @@ use dcsp_script::{Status, Stop, put};
 use std::alloc::{AllocError, Global};
 
 /// The status of an end.
-pub fn end_status(end: &End) -> Status
+pub fn end_status(end: &End<IntList>) -> Status
     ensures { result ≡ outcome_status end.now }
 {
     match end {
@@ -40,10 +40,8 @@ pub fn tell<S: Sink>(
         (outside folder (S.stream out.old)) (outside folder (S.stream out.new)) result }
 {
     let mut text = Vec::new(alloc);
-    match push_outcome(problem, outcome, unused, &mut text) {
-        Ok(()) => put(out, &text),
-        Err(_) => Err(Stop::Memory),
-    }
+    push_outcome(problem, outcome, unused, &mut text)?;
+    put(out, &text)
 }
 
 /// Pushes how the run ended: its solution or what stands in its place, how many deliveries and steps were made,
@@ -63,7 +61,7 @@ pub fn push_outcome(
 }
 
 /// The solution, or the line that stands in its place.
-fn push_end(problem: &Problem, end: &End, into: &mut Vec<u8>) -> Result<(), AllocError>
+fn push_end(problem: &Problem, end: &End<IntList>, into: &mut Vec<u8>) -> Result<(), AllocError>
     requires { HasAllValues problem.now end.now }
     ensures { OnOk result (into.new.items ≡ into.old.items ++ end_text problem.now end.now) }
 {

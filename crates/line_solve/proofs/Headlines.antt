@@ -1,6 +1,6 @@
 -- A search whose script was made in whole or in part: what it wrote, and in which order.
 use Rattle.std.proofs.Common.{◌≡◌, ◌≢◌, ℕ, zero, suc, ◌+◌, ◌-◌, ◌<◌, ◌≤◌, Bool, true, false, List, [], ◌∷◌, ◌++◌, length, Option, Some, None, refl, sym, ap, ◌∙◌, subst, append-nil, append_assoc, inl, inr, arith, length-append}
-use Rattle.std.specs.Prelude.{Contains, IfSome}
+use Rattle.std.specs.Prelude.{ℤ, Contains, IfSome}
 use Rattle.std.specs.Cmp.Lexicographic.{bytes_decides}
 use Rattle.dcsp_outside.specs.Outside.{IsPrefixOf}
 use Rattle.dcsp_outside.proofs.Changes.{Told-weaker}
@@ -20,8 +20,8 @@ use Rattle.line_replay.proofs.Scripts.{record_puts, record_leaves, record_holds}
 use Rattle.line_replay.specs.Solutions.{solution_text}
 use Rattle.line_replay.specs.Endings.{assigned}
 use Rattle.abt_optimum.specs.declared.round.Round.{Round}
-use Rattle.abt_optimum.specs.declared.round.RoundEnd.{RoundEnd}
-use Rattle.abt_optimum.specs.declared.round.RoundEnd.TheVariants.{Solved, Refuted, Capped}
+use Rattle.abt_defs.specs.declared.end.End.{End}
+use Rattle.abt_defs.specs.declared.end.End.TheVariants.{Solved, Refuted, Spent, Capped}
 use Rattle.abt_optimum.specs.Rounds.{most_rounds_at}
 use Rattle.abt_optimum.specs.Searches.{SearchState}
 use Rattle.dcsp_rule.specs.Problems.{Contents}
@@ -166,9 +166,10 @@ module _ (asked : AskedSearch) (own : OwnsRecord asked) where
   line_creates part false number h = none_creates part h
   line_creates part true number h = one_creates part (round_line number) h
 
-  found_creates : (part : List Write) (each : Bool) (p : Contents) (end : RoundEnd) → IsPartOf part (found_script each p end) → created_by part ≡ []
+  found_creates : (part : List Write) (each : Bool) (p : Contents) (end : End (List ℤ)) → IsPartOf part (found_script each p end) → created_by part ≡ []
   found_creates part true p (Solved values) h = one_creates part (solution_text p (assigned values)) h
   found_creates part true p Refuted h = none_creates part h
+  found_creates part true p Spent h = none_creates part h
   found_creates part true p Capped h = none_creates part h
   found_creates part false p end h = none_creates part h
 

@@ -5,9 +5,8 @@ use Rattle.dcsp_rule.specs.declared.aim.Aim.TheVariants.{Satisfy}
 use Rattle.dcsp_rule.specs.Problems.{Contents}
 use Rattle.dcsp_rule.specs.Aims.{is_better}
 use Rattle.line_replay.specs.Endings.{assigned}
-use Rattle.abt_optimum.specs.declared.round.Ended.TheVariants as ended
 use Rattle.abt_optimum.specs.declared.round.Round.{Round}
-use Rattle.abt_optimum.specs.declared.round.RoundEnd.TheVariants.{Solved}
+use Rattle.abt_defs.specs.declared.end.End.TheVariants.{Solved}
 use Rattle.abt_optimum.specs.Best.{aim_value, Solves, HasNoBetter}
 use Rattle.abt_optimum.specs.Rounds.{known_of, most_rounds}
 use Rattle.abt_optimum.specs.Searches.{SearchState, end_at, next_better, round_after, EndsRightly}
@@ -38,8 +37,8 @@ module _ (asked : AskedSearch) (ok : IsAskable asked) (aimed : asked.problem.aim
       ∙ ap (λ (i : ℕ). slice_get (search_after asked i).rounds n) (sym far) ∙ entry_at asked n (round_count asked - suc n) (omega arith)
 
   -- it was solved with the value at the aim of its values
-  entry_solved : (n : ℕ) (values : List ℤ) → next_end asked (search_after asked n) ≡ Solved values → (entry n).end ≡ ended.Solved (aim_value asked.problem.aim (assigned values))
-  entry_solved n values e = ap (end_at (search_after asked n).problem.aim) e ∙ ap (λ (p : Contents). ended.Solved (aim_value p.aim (assigned values))) (same_problem asked n)
+  entry_solved : (n : ℕ) (values : List ℤ) → next_end asked (search_after asked n) ≡ Solved values → (entry n).end ≡ Solved (aim_value asked.problem.aim (assigned values))
+  entry_solved n values e = ap (end_at (search_after asked n).problem.aim) e ∙ ap (λ (p : Contents). Solved (aim_value p.aim (assigned values))) (same_problem asked n)
 
   better_later : (m n : ℕ) (old new : List ℤ) → m < n → n < round_count asked → next_end asked (search_after asked m) ≡ Solved old → next_end asked (search_after asked n) ≡ Solved new
       → is_better asked.problem.aim (aim_value asked.problem.aim (assigned old)) (aim_value asked.problem.aim (assigned new)) ≡ true

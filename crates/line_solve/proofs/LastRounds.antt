@@ -1,6 +1,6 @@
 -- The last round of a search, and the one before it.
 use Rattle.std.proofs.Common.{◌≡◌, ◌⊎◌, ◌∙◌, ℕ, zero, suc, ◌+◌, ◌-◌, ◌<◌, ◌≤◌, Bool, true, false, List, [], ◌∷◌, ◌++◌, length, slice_get, Option, Some, None, refl, sym, ap, subst, inl, inr, arith}
-use Rattle.std.specs.Prelude.{◌↔◌, ℤ, nat_lt, option_map, IfSome, IsSome, IsSomeAnd}
+use Rattle.std.specs.Prelude.{◌↔◌, ℤ, nat_lt, option_map, IfSome, IsSome, IsSomeAnd, IsTrue}
 use Rattle.std.proofs.lemmas.Bool.Decides.{nat_tests}
 use Rattle.dcsp_defs.proofs.Lists.{get-last}
 use Rattle.std.specs.Option.{option_map_or}
@@ -9,19 +9,17 @@ use Rattle.dcsp_rule.specs.Problems.{Contents}
 use Rattle.abt_defs.specs.Runs as runs
 use Rattle.abt_defs.specs.Runs.{Run}
 use Rattle.line_replay.specs.Endings.{final_values}
-use Rattle.abt_optimum.specs.declared.round.Ended.{Ended}
-use Rattle.abt_optimum.specs.declared.round.Ended.TheVariants as ended
 use Rattle.abt_optimum.specs.declared.round.Round.{Round}
-use Rattle.abt_optimum.specs.declared.round.RoundEnd.{RoundEnd}
-use Rattle.abt_optimum.specs.declared.round.RoundEnd.TheVariants.{Solved, Refuted, Capped}
-use Rattle.abt_optimum.specs.Rounds.{last_round, known_at_first, known_of, better_than, is_beyond, is_last, most_rounds}
+use Rattle.abt_defs.specs.declared.end.End.{End}
+use Rattle.abt_defs.specs.declared.end.End.TheVariants.{Solved, Refuted, Spent, Capped}
+use Rattle.abt_optimum.specs.Rounds.{is_open, last_round, known_at_first, known_of, better_than, is_beyond, is_last, most_rounds}
 use Rattle.abt_optimum.specs.Searches.{SearchState, end_at, next_better, round_after, values_after}
 use Rattle.abt_optimum.specs.Outcomes.{EndsCapped}
 use Rattle.abt_optimum.proofs.Ranks.{better_itself}
 use Rattle.abt_optimum.proofs.RoundLists.{last_more, not_or}
 use Rattle.abt_session.specs.Sessions.{run_of}
 use Rattle.line_solve.specs.Searching.{AskedSearch, next_problem, next_session, end_as, next_end, with_round, search_after, whole_search, round_count, problem_after, run_after, first_run}
-use Rattle.line_solve.specs.BestAnswers.{is_capped, ends_capped}
+use Rattle.line_solve.specs.BestAnswers.{ends_capped}
 use Rattle.line_solve.proofs.Rounds.{is_over, starts, goes_on, same_halves, counted, many_before}
 use Rattle.line_solve.proofs.Headlines.{has_round}
 
@@ -40,7 +38,7 @@ lt-or-eq k n l = by (nat_lt k n) refl
 
 -- ---- how a run ended, by how its round did
 
-pub end_refuted : (aim : Aim) (order : Option (List ℕ)) (p : Contents) (run : Run) (end : runs.End) → end_at aim (end_as order p run end) ≡ ended.Refuted → end ≡ runs.Refuted
+pub end_refuted : (aim : Aim) (order : Option (List ℕ)) (p : Contents) (run : Run) (end : runs.End) → end_at aim (end_as order p run end) ≡ Refuted → end ≡ runs.Refuted
 end_refuted aim order p run runs.Solved e = absurd cc
 end_refuted aim order p run runs.Refuted e = refl
 end_refuted aim order p run runs.Capped e = absurd cc
@@ -64,16 +62,11 @@ end_solved s order p run runs.Refuted plain e =
 end_solved s order p run runs.Capped plain e = absurd cc
 end_solved s order p run runs.Spent plain e = absurd cc
 
--- ---- whether the last round was capped
+-- ---- whether the last round is open
 
-capped_at : (o : Option Round) → (option_map_or (λ (round : Round). is_capped round.end) o false ≡ true) ↔ IsSomeAnd o (λ (round : Round). round.end ≡ ended.Capped)
+capped_at : (o : Option Round) → (option_map_or (λ (round : Round). is_open round.end) o false ≡ true) ↔ IsSomeAnd o (λ (round : Round). IsTrue (is_open round.end))
 capped_at None = ((λ e. absurd cc), (λ h. absurd h))
-capped_at (Some round) = by round.end
-  where
-    by : (end : Ended) → (is_capped end ≡ true) ↔ (end ≡ ended.Capped)
-    by (ended.Solved value) = ((λ e. absurd cc), (λ e. absurd cc))
-    by ended.Refuted = ((λ e. absurd cc), (λ e. absurd cc))
-    by ended.Capped = ((λ e. refl), (λ e. refl))
+capped_at (Some round) = ((λ e. e), (λ e. e))
 
 pub capped_iff : (rounds : List Round) → (ends_capped rounds ≡ true) ↔ EndsCapped rounds
 capped_iff rounds = capped_at (last_round rounds)
@@ -107,8 +100,8 @@ module _ (asked : AskedSearch) where
   pub last_is : last_round (whole_search asked).rounds ≡ Some last_entry
   last_is = ap (λ (s : SearchState). last_round s.rounds) whole_is ∙ last_more (search_after asked before_last).rounds last_entry
 
-  pub last_capped : ends_capped (whole_search asked).rounds ≡ is_capped (end_at (search_after asked before_last).problem.aim (next_end asked (search_after asked before_last)))
-  last_capped = ap (λ (o : Option Round). option_map_or (λ (round : Round). is_capped round.end) o false) last_is
+  pub last_capped : ends_capped (whole_search asked).rounds ≡ is_open (end_at (search_after asked before_last).problem.aim (next_end asked (search_after asked before_last)))
+  last_capped = ap (λ (o : Option Round). option_map_or (λ (round : Round). is_open round.end) o false) last_is
 
   -- a round that another one follows is not the last
   pub not_last : (n : ℕ) → suc n < round_count asked → is_last (search_after asked n).problem.aim (round_after (search_after asked n) (next_end asked (search_after asked n))) ≡ false
@@ -124,7 +117,7 @@ module _ (asked : AskedSearch) where
   kept_after n plain l =
       let s = search_after asked n in
       let solved = end_solved s asked.order (problem_after asked n) (run_after asked n) (run_after asked n).end (same_halves asked n ∙ plain) (not_last n l) in
-      ap (λ (z : SearchState). z.values) (next_after n (omega arith)) ∙ ap (λ (x : RoundEnd). values_after s.values x) solved
+      ap (λ (z : SearchState). z.values) (next_after n (omega arith)) ∙ ap (λ (x : End (List ℤ)). values_after s.values x) solved
 
   -- ---- the last round that was solved
 
@@ -135,7 +128,7 @@ module _ (asked : AskedSearch) where
     pub solved : next_end asked (search_after asked number) ≡ Solved values
     pub later : (k : ℕ) (other : List ℤ) → number < k → k < n → next_end asked (search_after asked k) ≡ Solved other → ⊥
 
-  still_last : (n : ℕ) (values : List ℤ) (end : RoundEnd) → next_end asked (search_after asked n) ≡ end → ((other : List ℤ) → end ≡ Solved other → ⊥) → LastSolved n values → LastSolved (suc n) values
+  still_last : (n : ℕ) (values : List ℤ) (end : End (List ℤ)) → next_end asked (search_after asked n) ≡ end → ((other : List ℤ) → end ≡ Solved other → ⊥) → LastSolved n values → LastSolved (suc n) values
   still_last n values end e unsolved h = record {
     number = h.number;
     within = (let l = h.within in omega (arith, l));
@@ -146,11 +139,13 @@ module _ (asked : AskedSearch) where
     ];
   }
 
-  later_more : (n : ℕ) (old : Option (List ℤ)) (end : RoundEnd) → next_end asked (search_after asked n) ≡ end → IfSome old (LastSolved n) → IfSome (values_after old end) (LastSolved (suc n))
+  later_more : (n : ℕ) (old : Option (List ℤ)) (end : End (List ℤ)) → next_end asked (search_after asked n) ≡ end → IfSome old (LastSolved n) → IfSome (values_after old end) (LastSolved (suc n))
   later_more n old (Solved values) e h = record { number = n; within = omega arith; solved = e; later = λ k other l m f. absurd (omega arith) }
   later_more n None Refuted e h = tt
+  later_more n None Spent e h = tt
   later_more n None Capped e h = tt
   later_more n (Some values) Refuted e h = still_last n values Refuted e (λ other f. absurd (cc)) h
+  later_more n (Some values) Spent e h = still_last n values Spent e (λ other f. absurd (cc)) h
   later_more n (Some values) Capped e h = still_last n values Capped e (λ other f. absurd (cc)) h
 
   pub last_solved : (n : ℕ) → n ≤ round_count asked → IfSome (search_after asked n).values (LastSolved n)
@@ -161,14 +156,16 @@ module _ (asked : AskedSearch) where
       subst (λ (z : SearchState). IfSome z.values (LastSolved (suc n))) (sym (next_after n (omega arith))) more
 
   -- the first round, where another follows, was solved; and values stay
-  first_solved : (end : RoundEnd) → is_last asked.problem.aim (record { known = known_at_first; better = None; end = end_at asked.problem.aim end }) ≡ false → IsSome (values_after None end)
+  first_solved : (end : End (List ℤ)) → is_last asked.problem.aim (record { known = known_at_first; better = None; end = end_at asked.problem.aim end }) ≡ false → IsSome (values_after None end)
   first_solved (Solved values) e = refl
   first_solved Refuted e = absurd cc
+  first_solved Spent e = absurd cc
   first_solved Capped e = absurd cc
 
-  some_stay : (old : Option (List ℤ)) (end : RoundEnd) → IsSome old → IsSome (values_after old end)
+  some_stay : (old : Option (List ℤ)) (end : End (List ℤ)) → IsSome old → IsSome (values_after old end)
   some_stay old (Solved values) h = refl
   some_stay old Refuted h = h
+  some_stay old Spent h = h
   some_stay old Capped h = h
 
   pub some_values : (n : ℕ) → suc n < round_count asked → IsSome (search_after asked (suc n)).values

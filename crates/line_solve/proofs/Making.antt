@@ -16,15 +16,15 @@ use Rattle.law_runs.specs.Replay.{Verdicts}
 use Rattle.law_runs.proofs.Stopping.{stops}
 use Rattle.abt_session.specs.Sessions.{Session, run_of}
 use Rattle.abt_session.specs.Running.{kept, IsEnd, Gives}
-use Rattle.abt_session.specs.declared.outcome.End.{End}
-use Rattle.abt_session.specs.declared.outcome.End.TheVariants as ends
+use Rattle.abt_defs.specs.declared.end.End.{End}
+use Rattle.abt_defs.specs.declared.end.End.TheVariants as ends
 use Rattle.abt_session.specs.declared.outcome.Outcome.{Outcome}
 use Rattle.line_replay.specs.Asked.{most_deliveries, set_session}
 use Rattle.line_replay.specs.Settings.{Settings}
 use Rattle.abt_optimum.specs.Rounds.{round_problem}
 use Rattle.abt_optimum.specs.Searches.{SearchState, next_better, EndsRightly}
 use Rattle.abt_optimum.proofs.SearchLaws.{round_many}
-use Rattle.line_solve.specs.Searching.{AskedSearch, IsAskable, best_search, next_problem, next_session, end_as, next_end, told_end, with_round, search_after, problem_after, session_after, run_after, first_run, deliveries_in}
+use Rattle.line_solve.specs.Searching.{AskedSearch, IsAskable, best_search, next_problem, next_session, end_as, next_end, with_round, search_after, problem_after, session_after, run_after, first_run, deliveries_in}
 use Rattle.line_solve.specs.SearchScripts.{round_line, line_script}
 use Rattle.line_solve.specs.declared.runner.SearchRunner.{SearchRunner}
 use Rattle.line_solve.specs.Runners.{Tells, IsFresh, taken_after, steps_of_last, HasMade}
@@ -66,7 +66,7 @@ tells_as {s = s} {t = t} r f h = subst (λ (x : Session). IfOk r (Tells x)) f h
 -- ---- how a round ended
 
 -- the end that is told is that of the run
-pub told_is : (order : Option (List ℕ)) (p : Contents) (run : Run) (end : End) → IsEnd order (csp_of (ordered order p)) run.net run.end end → told_end end ≡ end_as order p run run.end
+pub told_is : (order : Option (List ℕ)) (p : Contents) (run : Run) (end : End (List ℤ)) → IsEnd order (csp_of (ordered order p)) run.net run.end end → end ≡ end_as order p run run.end
 told_is order p run (ends.Solved values) h = rw (h.0, h.1) refl
 told_is order p run ends.Refuted h = rw h refl
 told_is order p run ends.Spent h = rw h refl
@@ -74,7 +74,7 @@ told_is order p run ends.Capped h = rw h refl
 
 module _ (asked : AskedSearch) (ok : IsAskable asked) (n : ℕ) where
   -- and is right
-  pub told_right : (end : End) → IsEnd asked.order (session_after asked n).problem (run_after asked n).net (run_after asked n).end end → Verdicts (session_after asked n).problem asked.set.choices (run_after asked n) → EndsRightly (problem_after asked n) (told_end end)
+  pub told_right : (end : End (List ℤ)) → IsEnd asked.order (session_after asked n).problem (run_after asked n).net (run_after asked n).end end → Verdicts (session_after asked n).problem asked.set.choices (run_after asked n) → EndsRightly (problem_after asked n) end
   told_right end h law =
       let p = problem_after asked n in
       let right = ends_rightly asked.order p asked.set.choices (run_after asked n) (run_after asked n).end (is_problem_after asked ok n) (is_order_after asked ok n) refl law in
@@ -105,14 +105,14 @@ module _ (asked : AskedSearch) (n : ℕ) (r t : SearchRunner) (outcome : Outcome
   -- one round more
   pub made_more : Tells (next_session asked r.search) outcome
       → outcome.numbers ≡ kept (is_some asked.set.record_file && r.rounds == 0) (run_of (next_session asked r.search)).numbers
-      → t.search ≡ with_round r.search (told_end outcome.end) → t.rounds ≡ r.rounds + 1 → t.deliveries ≡ r.deliveries + outcome.deliveries → t.steps ≡ outcome.steps
+      → t.search ≡ with_round r.search outcome.end → t.rounds ≡ r.rounds + 1 → t.deliveries ≡ r.deliveries + outcome.deliveries → t.steps ≡ outcome.steps
       → t.taken ≡ cond (r.rounds == 0) outcome.numbers r.taken → HasMade asked (n + 1) t
   made_more tells numbers search rounds deliveries steps taken =
       let next : n + 1 ≡ suc n = omega arith in
       let s = made.search in
       let open_ : is_over (search_after asked n) ≡ false = subst (λ (z : SearchState). is_over z ≡ false) s still in
-      let end : told_end outcome.end ≡ next_end asked (search_after asked n) = told_is asked.order (next_problem asked r.search) (run_of (next_session asked r.search)) outcome.end tells.gives.end ∙ ap (next_end asked) s in
-      let is : t.search ≡ search_after asked (suc n) = search ∙ ap (λ (z : SearchState). with_round z (told_end outcome.end)) s ∙ ap (with_round (search_after asked n)) end ∙ sym (goes_on asked n open_) in
+      let end : outcome.end ≡ next_end asked (search_after asked n) = told_is asked.order (next_problem asked r.search) (run_of (next_session asked r.search)) outcome.end tells.gives.end ∙ ap (next_end asked) s in
+      let is : t.search ≡ search_after asked (suc n) = search ∙ ap (λ (z : SearchState). with_round z outcome.end) s ∙ ap (with_round (search_after asked n)) end ∙ sym (goes_on asked n open_) in
       let size : length t.search.rounds ≡ n + 1 = ap (λ (z : SearchState). length z.rounds) search ∙ length-append r.search.rounds (_ ∷ []) ∙ ap (λ (i : ℕ). i + 1) made.many in
       let keep = is_some asked.set.record_file in
       let mine = (run_of (next_session asked r.search)).numbers in
@@ -132,7 +132,7 @@ module _ (asked : AskedSearch) (n : ℕ) (r t : SearchRunner) (outcome : Outcome
 -- ---- the round that follows
 
 -- a round's problem has as many variables as the whole one
-values_of_end : (better : Option ℤ) (p : Contents) (end : End) → HasAllValues (round_problem p better) end → HasAllValues p end
+values_of_end : (better : Option ℤ) (p : Contents) (end : End (List ℤ)) → HasAllValues (round_problem p better) end → HasAllValues p end
 values_of_end better p (ends.Solved values) h = h ∙ round_many p better
 values_of_end better p ends.Refuted h = tt
 values_of_end better p ends.Spent h = tt
@@ -144,7 +144,7 @@ module _ (asked : AskedSearch) (n : ℕ) (r : SearchRunner) (made : HasMade aske
 
   -- how it ends, and the values that it was solved with
   module _ (outcome : Outcome) (tells : Tells (next_session asked r.search) outcome) where
-    pub end_next : told_end outcome.end ≡ next_end asked (search_after asked n)
+    pub end_next : outcome.end ≡ next_end asked (search_after asked n)
     end_next = told_is asked.order (next_problem asked r.search) (run_of (next_session asked r.search)) outcome.end tells.gives.end ∙ ap (next_end asked) made.search
 
     pub all_values : IsAskable asked → HasAllValues asked.problem outcome.end
@@ -169,17 +169,17 @@ module _ (asked : AskedSearch) (n : ℕ) (r : SearchRunner) (outcome : Outcome) 
       (omega arith, omega arith)
 
   -- and it ended rightly
-  pub right_next : IsAskable asked → Tells (next_session asked r.search) outcome → EndsRightly (round_problem r.search.problem (next_better r.search)) (told_end outcome.end)
+  pub right_next : IsAskable asked → Tells (next_session asked r.search) outcome → EndsRightly (round_problem r.search.problem (next_better r.search)) outcome.end
   right_next ok tells =
       let s = search_after asked n in
-      let at : EndsRightly (next_problem asked r.search) (told_end outcome.end) = right_at r.search made.search tells in
-      subst (λ (z : SearchState). EndsRightly (round_problem z.problem (next_better z)) (told_end outcome.end)) (sym made.search)
-      (subst (λ (p : Contents). EndsRightly (round_problem p (next_better s)) (told_end outcome.end)) (sym (same_problem asked n)) (subst (λ (z : SearchState). EndsRightly (next_problem asked z) (told_end outcome.end)) made.search at))
+      let at : EndsRightly (next_problem asked r.search) outcome.end = right_at r.search made.search tells in
+      subst (λ (z : SearchState). EndsRightly (round_problem z.problem (next_better z)) outcome.end) (sym made.search)
+      (subst (λ (p : Contents). EndsRightly (round_problem p (next_better s)) outcome.end) (sym (same_problem asked n)) (subst (λ (z : SearchState). EndsRightly (next_problem asked z) outcome.end) made.search at))
     where
-      right_at : (z : SearchState) → z ≡ search_after asked n → Tells (next_session asked z) outcome → EndsRightly (next_problem asked z) (told_end outcome.end)
+      right_at : (z : SearchState) → z ≡ search_after asked n → Tells (next_session asked z) outcome → EndsRightly (next_problem asked z) outcome.end
       right_at z e tells =
           let law = subst (λ (x : SearchState). Tells (next_session asked x) outcome) e tells in
-          subst (λ (x : SearchState). EndsRightly (next_problem asked x) (told_end outcome.end)) (sym e) (told_right asked ok n outcome.end law.gives.end law.right)
+          subst (λ (x : SearchState). EndsRightly (next_problem asked x) outcome.end) (sym e) (told_right asked ok n outcome.end law.gives.end law.right)
 
 -- no round was made yet
 pub made_none : (asked : AskedSearch) (r : SearchRunner) → IsFresh asked.problem asked.set.halves r → HasMade asked 0 r

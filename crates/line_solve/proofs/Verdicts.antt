@@ -14,20 +14,19 @@ use Rattle.dcsp_script.specs.declared.status.Status.TheVariants.{Good, No, Unfin
 use Rattle.line_replay.specs.Endings.{assigned, final_values, end_status}
 use Rattle.line_replay.proofs.Verdicts.{solve_unfinished}
 use Rattle.line_replay.proofs.UnderOrder.{refutation_told}
-use Rattle.abt_optimum.specs.declared.round.Ended.TheVariants as ended
 use Rattle.abt_optimum.specs.declared.round.Round.{Round}
-use Rattle.abt_optimum.specs.declared.round.RoundEnd.{RoundEnd}
-use Rattle.abt_optimum.specs.declared.round.RoundEnd.TheVariants.{Solved, Refuted, Capped}
+use Rattle.abt_defs.specs.declared.end.End.{End}
+use Rattle.abt_defs.specs.declared.end.End.TheVariants.{Solved, Refuted, Spent, Capped}
 use Rattle.abt_optimum.specs.declared.best.BestEnd.{BestEnd}
 use Rattle.abt_optimum.specs.declared.best.BestEnd.TheVariants.{Optimal, NoSolution, Open}
 use Rattle.abt_optimum.specs.Best.{aim_value, Solves, IsBest}
-use Rattle.abt_optimum.specs.Rounds.{last_round, round_problem, most_rounds}
+use Rattle.abt_optimum.specs.Rounds.{is_open, last_round, round_problem, most_rounds}
 use Rattle.abt_optimum.specs.Searches.{SearchState, end_at, next_better, values_after}
 use Rattle.abt_optimum.specs.Outcomes.{refuted_first, IsRefutedAt, IsBestEnd}
 use Rattle.abt_optimum.specs.Kept.{end_of}
 use Rattle.abt_optimum.proofs.SearchLaws.{end_is}
 use Rattle.line_solve.specs.Searching.{AskedSearch, IsAskable, end_as, next_end, with_round, search_after, whole_search, round_count, problem_after, run_after, first_run, last_run, last_steps}
-use Rattle.line_solve.specs.BestAnswers.{is_capped, ends_capped, found, best_status, search_status}
+use Rattle.line_solve.specs.BestAnswers.{ends_capped, found, best_status, search_status}
 use Rattle.line_solve.specs.BestHeadline.{PrintsBest, IsBestSearch, LogsRefutation, IsRefutedSearch, EndsOpen, IsLastSolved, PrintsLast, IsUnfinishedSearch, IsBoundedSearch}
 use Rattle.line_solve.proofs.Rounds.{is_over, starts, goes_on, stays, same_problem}
 use Rattle.line_solve.proofs.Headlines.{positive}
@@ -47,14 +46,14 @@ no_found (Optimal values) e = absurd cc
 no_found NoSolution e = refl
 no_found (Open values) e = absurd cc
 
--- the status is that of an unfinished search exactly where the last round was capped
+-- the status is that of an unfinished search exactly where the last round is open
 open_if : (capped : Bool) (values : Option (List ℤ)) → (best_status (end_of capped values) ≡ Unfinished) ↔ (capped ≡ true)
 open_if true values = ((λ e. refl), (λ e. refl))
 open_if false (Some values) = ((λ e. absurd cc), (λ e. absurd cc))
 open_if false None = ((λ e. absurd cc), (λ e. absurd cc))
 
--- a round is capped exactly where its run is unfinished
-capped_end : (aim : Aim) (order : Option (List ℕ)) (p : Contents) (run : Run) (end : runs.End) → (is_capped (end_at aim (end_as order p run end)) ≡ true) ↔ (end_status end ≡ Unfinished)
+-- a round is open exactly where its run is unfinished
+capped_end : (aim : Aim) (order : Option (List ℕ)) (p : Contents) (run : Run) (end : runs.End) → (is_open (end_at aim (end_as order p run end)) ≡ true) ↔ (end_status end ≡ Unfinished)
 capped_end aim order p run runs.Solved = ((λ e. absurd cc), (λ e. absurd cc))
 capped_end aim order p run runs.Refuted = ((λ e. absurd cc), (λ e. absurd cc))
 capped_end aim order p run runs.Capped = ((λ e. refl), (λ e. refl))
@@ -67,10 +66,11 @@ unfinished_end runs.Refuted e = absurd cc
 unfinished_end runs.Capped e = inl refl
 unfinished_end runs.Spent e = inr refl
 
--- of a capped round the values found so far are kept
-capped_keeps : (old : Option (List ℤ)) (aim : Aim) (end : RoundEnd) → is_capped (end_at aim end) ≡ true → values_after old end ≡ old
+-- of an open round the values found so far are kept
+capped_keeps : (old : Option (List ℤ)) (aim : Aim) (end : End (List ℤ)) → is_open (end_at aim end) ≡ true → values_after old end ≡ old
 capped_keeps old aim (Solved values) e = absurd cc
 capped_keeps old aim Refuted e = absurd cc
+capped_keeps old aim Spent e = refl
 capped_keeps old aim Capped e = refl
 
 module _ (asked : AskedSearch) (ok : IsAskable asked) (aimed : asked.problem.aim ≢ Satisfy) where
@@ -87,7 +87,7 @@ module _ (asked : AskedSearch) (ok : IsAskable asked) (aimed : asked.problem.aim
   -- ---- refuted rounds
 
   -- where the last round was refuted, the derivation that was logged refutes the problem of that round
-  refuted_last : (better : Option ℤ) → (last_entry asked).better ≡ better → (last_entry asked).end ≡ ended.Refuted → IsRefutation (csp_of (round_problem asked.problem better)) (last_steps asked)
+  refuted_last : (better : Option ℤ) → (last_entry asked).better ≡ better → (last_entry asked).end ≡ Refuted → IsRefutation (csp_of (round_problem asked.problem better)) (last_steps asked)
   refuted_last better to end =
       let s = search_after asked last in
       let refuted = end_refuted s.problem.aim asked.order (problem_after asked last) (run_after asked last) (run_after asked last).end end in
@@ -130,7 +130,7 @@ module _ (asked : AskedSearch) (ok : IsAskable asked) (aimed : asked.problem.aim
     refuted_at_first is =
         let s = search_after asked last in
         let same = only_entry (no_solution is) in
-        let end : end_at s.problem.aim (next_end asked s) ≡ ended.Refuted = ap (λ (r : Round). r.end) same in
+        let end : end_at s.problem.aim (next_end asked s) ≡ Refuted = ap (λ (r : Round). r.end) same in
         let refuted = end_refuted s.problem.aim asked.order (problem_after asked last) (run_after asked last) (run_after asked last).end end in
         sym (ap (λ (r : Run). r.end) (ap (run_after asked) (only_last is) ∙ first_is asked)) ∙ refuted
 
@@ -149,7 +149,7 @@ module _ (asked : AskedSearch) (ok : IsAskable asked) (aimed : asked.problem.aim
         let s : SearchState = record { problem = asked.problem; halves = asked.set.halves; rounds = []; values = None } in
         let open_ : is_over (search_after asked 0) ≡ false = ap is_over (starts asked) in
         let end : next_end asked s ≡ Refuted = ap (λ (x : runs.End). end_as asked.order asked.problem (first_run asked) x) e in
-        let one : search_after asked 1 ≡ with_round s Refuted = goes_on asked 0 open_ ∙ ap (λ (z : SearchState). with_round z (next_end asked z)) (starts asked) ∙ ap (λ (x : RoundEnd). with_round s x) end in
+        let one : search_after asked 1 ≡ with_round s Refuted = goes_on asked 0 open_ ∙ ap (λ (z : SearchState). with_round z (next_end asked z)) (starts asked) ∙ ap (λ (x : End (List ℤ)). with_round s x) end in
         let over : is_over (search_after asked 1) ≡ true = ap is_over one in
         let z : most_rounds asked.problem ≡ m + 1 = omega arith in
         ap (λ (n : ℕ). found (search_after asked n)) z ∙ ap found (stays asked 1 m over) ∙ ap found one
@@ -204,7 +204,7 @@ module _ (asked : AskedSearch) (ok : IsAskable asked) (aimed : asked.problem.aim
     unsolved_last values e solved =
         let s = search_after asked last in
         let capped = (capped_end s.problem.aim asked.order (problem_after asked last) (run_after asked last) (run_after asked last).end).1 e in
-        let clash : false ≡ true = sym (ap (λ (x : RoundEnd). is_capped (end_at s.problem.aim x)) solved) ∙ capped in
+        let clash : false ≡ true = sym (ap (λ (x : End (List ℤ)). is_open (end_at s.problem.aim x)) solved) ∙ capped in
         cc
 
     solved_at : end_status (run_after asked last).end ≡ Unfinished → (o : Option (List ℤ)) → IfSome o (LastSolved asked last) → IfSome o (IsLastSolved asked)

@@ -1,5 +1,6 @@
 -- What the rounds of a search write, one after the other.
 use Rattle.std.proofs.Common.{◌≡◌, ◌⊎◌, ℕ, zero, suc, ◌+◌, ◌<◌, Bool, true, false, if◌then◌else◌, List, [], ◌++◌, Option, Some, refl, sym, ap, ◌∙◌, subst, arith, inl, inr, append_assoc, append-nil}
+use Rattle.std.specs.Prelude.{ℤ}
 use Rattle.dcsp_script.specs.Scripts.{Write, file_after, put_by}
 use Rattle.dcsp_script.specs.Ways.{IsPartOf}
 use Rattle.dcsp_script.specs.Texts.{LeavesAlone}
@@ -8,8 +9,8 @@ use Rattle.dcsp_script.proofs.Parts.{part_splits, left_alone}
 use Rattle.ngd_log.specs.Logs.{log_text}
 use Rattle.dcsp_rule.specs.Problems.{Contents}
 use Rattle.line_replay.specs.Solutions.{solution_text}
-use Rattle.abt_optimum.specs.declared.round.RoundEnd.{RoundEnd}
-use Rattle.abt_optimum.specs.declared.round.RoundEnd.TheVariants.{Solved, Refuted, Capped}
+use Rattle.abt_defs.specs.declared.end.End.{End}
+use Rattle.abt_defs.specs.declared.end.End.TheVariants.{Solved, Refuted, Spent, Capped}
 use Rattle.line_replay.specs.Endings.{assigned}
 use Rattle.abt_session.specs.Sessions.{run_script}
 use Rattle.abt_session.specs.Order.{told_text}
@@ -30,15 +31,17 @@ line_leaves false number name = tt
 
 -- ---- the solution of a round
 
-found_puts : (each : Bool) (p : Contents) (end : RoundEnd) → put_by (found_script each p end) ≡ found_text each p end
+found_puts : (each : Bool) (p : Contents) (end : End (List ℤ)) → put_by (found_script each p end) ≡ found_text each p end
 found_puts true p (Solved values) = append-nil (solution_text p (assigned values))
 found_puts true p Refuted = refl
+found_puts true p Spent = refl
 found_puts true p Capped = refl
 found_puts false p end = refl
 
-pub found_leaves : (each : Bool) (p : Contents) (end : RoundEnd) (name : List ℕ) → LeavesAlone (found_script each p end) name
+pub found_leaves : (each : Bool) (p : Contents) (end : End (List ℤ)) (name : List ℕ) → LeavesAlone (found_script each p end) name
 found_leaves true p (Solved values) name = ((λ t. t), tt)
 found_leaves true p Refuted name = tt
+found_leaves true p Spent name = tt
 found_leaves true p Capped name = tt
 found_leaves false p end name = tt
 

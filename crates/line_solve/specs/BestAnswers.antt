@@ -1,30 +1,22 @@
 -- What is printed of a search that is over, and its status.
-use Rattle.std.specs.Prelude.{ℕ, ℤ, Bool, true, false, List, [], ◌++◌, if◌then◌else◌, length, codes, decimal, Some, None}
+use Rattle.std.specs.Prelude.{ℕ, ℤ, Bool, false, List, [], ◌++◌, if◌then◌else◌, length, codes, decimal, Some, None}
 use Rattle.std.specs.Option.{option_map_or}
 use Rattle.dcsp_rule.specs.Problems.{Contents}
 use Rattle.line_replay.specs.Solutions.{solution_text}
 use Rattle.dcsp_script.specs.declared.status.Status.{Status}
 use Rattle.dcsp_script.specs.declared.status.Status.TheVariants.{Good, No, Unfinished}
 use Rattle.line_replay.specs.Endings.{assigned, counts_text}
-use Rattle.abt_optimum.specs.declared.round.Ended.{Ended}
-use Rattle.abt_optimum.specs.declared.round.Ended.TheVariants as ended
 use Rattle.abt_optimum.specs.declared.round.Round.{Round}
 use Rattle.abt_optimum.specs.declared.best.BestEnd.{BestEnd}
 use Rattle.abt_optimum.specs.declared.best.BestEnd.TheVariants.{Optimal, NoSolution, Open}
-use Rattle.abt_optimum.specs.Rounds.{last_round}
+use Rattle.abt_optimum.specs.Rounds.{is_open, last_round}
 use Rattle.abt_optimum.specs.Searches.{SearchState}
 use Rattle.abt_optimum.specs.Kept.{end_of}
 use Rattle.line_solve.specs.Searching.{AskedSearch, whole_search, round_count, last_run, deliveries_in}
 
--- whether a round ended capped
-abbrev pub is_capped : Ended → Bool
-is_capped (ended.Solved value) = false
-is_capped ended.Refuted = false
-is_capped ended.Capped = true
-
--- whether the last of the rounds was capped
+-- whether the last of the rounds is open: it was spent or capped
 abbrev pub ends_capped : List Round → Bool
-ends_capped rounds = option_map_or (λ (round : Round). is_capped round.end) (last_round rounds) false
+ends_capped rounds = option_map_or (λ (round : Round). is_open round.end) (last_round rounds) false
 
 -- what a search that is over has found
 abbrev pub found : SearchState → BestEnd

@@ -21,7 +21,7 @@ use Rattle.dcsp_script.specs.declared.status.Status.{Status}
 use Rattle.dcsp_script.specs.declared.status.Status.TheVariants.{Good, No, Unfinished}
 use Rattle.line_replay.specs.Endings.{assigned, final_values}
 use Rattle.abt_optimum.specs.declared.best.BestEnd.TheVariants.{Optimal, Open}
-use Rattle.abt_optimum.specs.declared.round.RoundEnd.TheVariants.{Solved}
+use Rattle.abt_defs.specs.declared.end.End.TheVariants.{Solved}
 use Rattle.abt_optimum.specs.Best.{aim_value, Solves, HasNoBetter, IsBest}
 use Rattle.abt_optimum.specs.Rounds.{known_of, is_done, most_rounds, AreFewByHalves, AreRounds}
 use Rattle.line_solve.specs.Searching.{AskedSearch, IsAskable, next_end, search_after, whole_search, round_count, problem_after, session_after, run_after, steps_after, first_run, last_run, last_steps}

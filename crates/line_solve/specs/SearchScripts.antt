@@ -1,12 +1,12 @@
 -- What a search writes.
-use Rattle.std.specs.Prelude.{ℕ, zero, suc, ◌+◌, Bool, true, false, List, [], ◌∷◌, ◌++◌, codes, decimal, if◌then◌else◌}
+use Rattle.std.specs.Prelude.{ℕ, ℤ, zero, suc, ◌+◌, Bool, true, false, List, [], ◌∷◌, ◌++◌, codes, decimal, if◌then◌else◌}
 use Rattle.dcsp_script.specs.Scripts.{Write, Put}
 use Rattle.abt_session.specs.Sessions.{run_script}
 use Rattle.dcsp_script.specs.Promises.{Report, answered}
 use Rattle.dcsp_rule.specs.Problems.{Contents}
 use Rattle.line_replay.specs.Solutions.{solution_text}
-use Rattle.abt_optimum.specs.declared.round.RoundEnd.{RoundEnd}
-use Rattle.abt_optimum.specs.declared.round.RoundEnd.TheVariants.{Solved, Refuted, Capped}
+use Rattle.abt_defs.specs.declared.end.End.{End}
+use Rattle.abt_defs.specs.declared.end.End.TheVariants.{Solved, Refuted, Spent, Capped}
 use Rattle.line_replay.specs.Endings.{assigned}
 use Rattle.line_replay.specs.Asked.{record_script}
 use Rattle.line_solve.specs.Searching.{AskedSearch, next_end, search_after, round_count, session_after, first_run}
@@ -21,16 +21,18 @@ abbrev pub line_script : Bool → ℕ → List Write
 line_script trace number = if trace then Put (round_line number) ∷ [] else []
 
 -- the text of a round that ended so: its solution, where each one is asked for
-abbrev pub found_text : Bool → Contents → RoundEnd → List ℕ
+abbrev pub found_text : Bool → Contents → End (List ℤ) → List ℕ
 found_text true p (Solved values) = solution_text p (assigned values)
 found_text true p Refuted = []
+found_text true p Spent = []
 found_text true p Capped = []
 found_text false p end = []
 
 -- it is put
-abbrev pub found_script : Bool → Contents → RoundEnd → List Write
+abbrev pub found_script : Bool → Contents → End (List ℤ) → List Write
 found_script true p (Solved values) = Put (solution_text p (assigned values)) ∷ []
 found_script true p Refuted = []
+found_script true p Spent = []
 found_script true p Capped = []
 found_script false p end = []
 

@@ -1,5 +1,5 @@
 -- The searches that `solve` makes where a model has an aim: rounds, each of which is a run from the same seed.
-use Rattle.std.specs.Prelude.{ℕ, zero, suc, ◌+◌, ◌-◌, List, [], ◌∷◌, ◌++◌, length, Option, Some, None, if◌then◌else◌}
+use Rattle.std.specs.Prelude.{ℕ, ℤ, zero, suc, ◌+◌, ◌-◌, List, [], ◌∷◌, ◌++◌, length, Option, Some, None, if◌then◌else◌}
 use Rattle.dcsp_defs.specs.Words.{sum_below}
 use Rattle.dcsp_defs.specs.declared.Step.{Step}
 use Rattle.dcsp_rule.specs.Problems.{Contents}
@@ -7,14 +7,12 @@ use Rattle.dcsp_problem.specs.WellFormed.{IsProblem}
 use Rattle.dcsp_order.specs.Told.{steps_told, IsOrderFor}
 use Rattle.abt_defs.specs.Runs as runs
 use Rattle.abt_defs.specs.Runs.{Run}
-use Rattle.abt_session.specs.declared.outcome.End as outcomes
-use Rattle.abt_session.specs.declared.outcome.End.TheVariants as ends
 use Rattle.abt_session.specs.Sessions.{Session, run_of}
 use Rattle.line_replay.specs.Endings.{final_values}
 use Rattle.line_replay.specs.Asked.{set_session}
 use Rattle.line_replay.specs.Settings.{Settings}
-use Rattle.abt_optimum.specs.declared.round.RoundEnd.{RoundEnd}
-use Rattle.abt_optimum.specs.declared.round.RoundEnd.TheVariants.{Solved, Refuted, Capped}
+use Rattle.abt_defs.specs.declared.end.End.{End}
+use Rattle.abt_defs.specs.declared.end.End.TheVariants.{Solved, Refuted, Spent, Capped}
 use Rattle.abt_optimum.specs.Rounds.{is_done, round_problem, most_rounds}
 use Rattle.abt_optimum.specs.Searches.{SearchState, next_better, round_after, values_after}
 
@@ -48,26 +46,19 @@ next_problem asked s = round_problem asked.problem (next_better s)
 abbrev pub next_session : AskedSearch → SearchState → Session
 next_session asked s = set_session asked.order (next_problem asked s) asked.log asked.set (Some (length s.rounds + 1))
 
--- how a run of the problem ended, as a search takes it; the choices of a seed are never used up
-abbrev pub end_as : Option (List ℕ) → Contents → Run → runs.End → RoundEnd
+-- how a run of the problem ended, with the values where it is solved
+abbrev pub end_as : Option (List ℕ) → Contents → Run → runs.End → End (List ℤ)
 end_as order p run runs.Solved = Solved (final_values order p run)
 end_as order p run runs.Refuted = Refuted
 end_as order p run runs.Capped = Capped
-end_as order p run runs.Spent = Capped
+end_as order p run runs.Spent = Spent
 
 -- how that round ends
-abbrev pub next_end : AskedSearch → SearchState → RoundEnd
+abbrev pub next_end : AskedSearch → SearchState → End (List ℤ)
 next_end asked s = end_as asked.order (next_problem asked s) (run_of (next_session asked s)) (run_of (next_session asked s)).end
 
--- how a round ended, by what its run gave
-abbrev pub told_end : outcomes.End → RoundEnd
-told_end (ends.Solved values) = Solved values
-told_end ends.Refuted = Refuted
-told_end ends.Spent = Capped
-told_end ends.Capped = Capped
-
 -- a search after one more round, which ended so
-abbrev pub with_round : SearchState → RoundEnd → SearchState
+abbrev pub with_round : SearchState → End (List ℤ) → SearchState
 with_round s end = record s { rounds = s.rounds ++ round_after s end ∷ []; values = values_after s.values end }
 
 -- a search after the round that follows, if one does

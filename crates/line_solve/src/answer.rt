@@ -10,11 +10,10 @@ ghost use Rattle.line_solve.specs.BestAnswers as answers;
 ghost use Rattle.line_solve.specs.BestAnswers.{best_text, last_text, rounds_text};
 ghost use Rattle.line_solve.specs.SearchScripts.{line_script, found_script, round_line};
 ghost use Rattle.line_replay.specs.Outcomes.{HasAllValues};
-ghost use Rattle.line_solve.specs.Searching.{told_end};
 ghost use Rattle.line_solve.specs.Runners.{searched_text, HasBestValues};
 
 use abt_optimum::{Best, BestEnd};
-use abt_session::End;
+use abt_session::{End, IntList};
 use dcsp_common::push_number;
 use dcsp_outside::Sink;
 use dcsp_problem::Problem;
@@ -52,10 +51,8 @@ pub fn put_round<S: Sink>(alloc: Global, trace: bool, number: u64, out: &mut S) 
         return Ok(());
     }
     let mut text = Vec::new(alloc);
-    match push_round(number, &mut text) {
-        Ok(()) => put(out, &text),
-        Err(_) => Err(Stop::Memory),
-    }
+    push_round(number, &mut text)?;
+    put(out, &text)
 }
 
 fn push_round(number: u64, into: &mut Vec<u8>) -> Result<(), AllocError>
@@ -71,11 +68,11 @@ pub fn put_found<S: Sink>(
     alloc: Global,
     each: bool,
     problem: &Problem,
-    end: &End,
+    end: &End<IntList>,
     out: &mut S,
 ) -> Result<(), Stop>
     requires { HasAllValues problem.now end.now }
-    ensures { (folder : Place) → Wrote (found_script each problem.now (told_end end.now))
+    ensures { (folder : Place) → Wrote (found_script each problem.now end.now)
         (outside folder (S.stream out.old)) (outside folder (S.stream out.new)) result }
 {
     if !each {
@@ -99,10 +96,8 @@ fn put_solution<S: Sink>(
         (outside folder (S.stream out.old)) (outside folder (S.stream out.new)) result }
 {
     let mut text = Vec::new(alloc);
-    match push_values(problem, values, &mut text) {
-        Ok(()) => put(out, &text),
-        Err(_) => Err(Stop::Memory),
-    }
+    push_values(problem, values, &mut text)?;
+    put(out, &text)
 }
 
 /// Puts what was found, in one piece: a solution and whether it is best, or what stands in its place, and how many
@@ -119,10 +114,8 @@ pub fn tell<S: Sink>(
         (outside folder (S.stream out.old)) (outside folder (S.stream out.new)) result }
 {
     let mut text = Vec::new(alloc);
-    match push_searched(problem, searched, each, &mut text) {
-        Ok(()) => put(out, &text),
-        Err(_) => Err(Stop::Memory),
-    }
+    push_searched(problem, searched, each, &mut text)?;
+    put(out, &text)
 }
 
 fn push_searched(

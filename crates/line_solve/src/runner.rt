@@ -12,14 +12,14 @@ ghost use Rattle.abt_session.specs.Running.{kept, Gives};
 ghost use Rattle.abt_optimum.specs.Rounds.{is_done, round_problem};
 ghost use Rattle.abt_optimum.specs.Searches.{next_better, EndsRightly, IsSearch};
 ghost use Rattle.line_solve.specs.Asking.{round_of, search_of};
-ghost use Rattle.line_solve.specs.Searching.{next_session, round_count, told_end, with_round};
+ghost use Rattle.line_solve.specs.Searching.{next_session, round_count, with_round};
 ghost use Rattle.line_solve.specs.BestAnswers.{found};
 ghost use Rattle.line_solve.specs.SearchScripts.{line_script, round_script, rounds_script};
 
 use crate::answer::{Searched, put_found, put_round};
-use abt_optimum::{RoundEnd, Search};
+use abt_optimum::Search;
 use abt_schedule::{ChoiceList, Seeded};
-use abt_session::{End, Ordered, Outcome, RunTask, run};
+use abt_session::{Ordered, Outcome, RunTask, run};
 use dcsp_outside::{Folder, Sink};
 use dcsp_problem::{Aim, Problem};
 use dcsp_script::Stop;
@@ -194,9 +194,9 @@ impl<'p> SearchRunner<'p> {
     /// Counts a round that was made.
     fn count(&mut self, outcome: Outcome)
         requires goes_on { is_done self.old.search.problem.aim self.old.search.rounds ≡ false }
-        requires right { EndsRightly (round_problem self.old.search.problem (next_better self.old.search)) (told_end outcome.end) }
+        requires right { EndsRightly (round_problem self.old.search.problem (next_better self.old.search)) outcome.end }
         requires few { (self.old.rounds < 2 ^ 62) × (self.old.deliveries + outcome.deliveries < 2 ^ 62) }
-        ensures search { self.new.search ≡ with_round self.old.search (told_end outcome.end) }
+        ensures search { self.new.search ≡ with_round self.old.search outcome.end }
         ensures rounds { self.new.rounds ≡ self.old.rounds + 1 }
         ensures deliveries { self.new.deliveries ≡ self.old.deliveries + outcome.deliveries }
         ensures steps { self.new.steps ≡ outcome.steps }
@@ -214,7 +214,7 @@ impl<'p> SearchRunner<'p> {
         self.rounds += 1;
         self.deliveries += deliveries;
         self.steps = steps;
-        self.search.ended(round_end(end));
+        self.search.ended(end);
     }
 
     /// What the search found, and how much work it was.
@@ -230,16 +230,5 @@ impl<'p> SearchRunner<'p> {
             deliveries: self.deliveries,
             steps: self.steps,
         }
-    }
-}
-
-/// How a round ended that was made under the choices of a seed, which are never used up.
-fn round_end(end: End) -> RoundEnd
-    ensures { result ≡ told_end end }
-{
-    match end {
-        End::Solved(values) => RoundEnd::Solved(values),
-        End::Refuted => RoundEnd::Refuted,
-        End::Spent | End::Capped => RoundEnd::Capped,
     }
 }

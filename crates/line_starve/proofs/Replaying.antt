@@ -17,7 +17,8 @@ use Rattle.law_runs.specs.Replay.{Repeats}
 use Rattle.law_runs.proofs.Again.{replays}
 use Rattle.abt_schedule.specs.Schedules.{choice_line, schedule_lines, schedule_text, AreChoices}
 use Rattle.abt_session.specs.Answers.{first_answers}
-use Rattle.abt_session.specs.Starving.{starving_choices, starved_end, AreNear, IsStarved}
+use Rattle.abt_session.specs.Ends.{end_of}
+use Rattle.abt_session.specs.Starving.{starving_choices, AreNear, IsStarved}
 use Rattle.abt_session.specs.declared.starved_run.Starved.{Starved}
 use Rattle.abt_session.proofs.Pieces.{wrote_as}
 use Rattle.abt_input.specs.Inputs.{HasChoices}
@@ -84,18 +85,18 @@ module _ (p : Contents) (from to most : ℕ) where
   -- ---- what is written
 
   module _ (file : List ℕ) (told : Starved) (taken : List ℕ) (is : IsStarved (csp_of p) from to most told) (choices : taken ≡ starving_choices (csp_of p) from to most) where
-    parts_are : (Create file ∷ Append file (schedule_text taken) ∷ []) ++ Put (starved_line (starved_end told.end) told.deliveries) ∷ [] ≡ starve_script file (choices_of p from to most) (starving_run p from to most)
+    parts_are : (Create file ∷ Append file (schedule_text taken) ∷ []) ++ Put (starved_line (end_of told.end) told.deliveries) ∷ [] ≡ starve_script file (choices_of p from to most) (starving_run p from to most)
     unfolding choices_of starving_run
     parts_are =
         let run = starved (csp_of p) from to most in
-        ap (λ cs. Create file ∷ Append file (schedule_text cs) ∷ Put (starved_line (starved_end told.end) told.deliveries) ∷ []) choices
+        ap (λ cs. Create file ∷ Append file (schedule_text cs) ∷ Put (starved_line (end_of told.end) told.deliveries) ∷ []) choices
         ∙ ap (λ e. Create file ∷ Append file (schedule_text (starving_choices (csp_of p) from to most)) ∷ Put (starved_line e told.deliveries) ∷ []) (sym is.end)
         ∙ ap (λ d. Create file ∷ Append file (schedule_text (starving_choices (csp_of p) from to most)) ∷ Put (starved_line run.end d) ∷ []) is.deliveries
 
     -- the choices were not written
     pub choices_stopped : {T U : Type 0} {a b : World} {e : Stop} (r : Result U Stop) → IsErr r × IsErrAnd r (λ y. y ≡ e) → Wrote {T = T} (Create file ∷ Append file (schedule_text taken) ∷ []) a b (Err e) → Wrote (starve_script file (choices_of p from to most) (starving_run p from to most)) a b r
-    choices_stopped {T = T} r stop w = wrote_as parts_are (then_stopped {T = T} (Put (starved_line (starved_end told.end) told.deliveries) ∷ []) stop w)
+    choices_stopped {T = T} r stop w = wrote_as parts_are (then_stopped {T = T} (Put (starved_line (end_of told.end) told.deliveries) ∷ []) stop w)
 
     -- they were, and then the line came to be put
-    pub line_told : {T U : Type 0} {a b c : World} {x : T} {r : Result U Stop} → Wrote {T = T} (Create file ∷ Append file (schedule_text taken) ∷ []) a b (Ok x) → Wrote (Put (starved_line (starved_end told.end) told.deliveries) ∷ []) b c r → Wrote (starve_script file (choices_of p from to most) (starving_run p from to most)) a c r
+    pub line_told : {T U : Type 0} {a b c : World} {x : T} {r : Result U Stop} → Wrote {T = T} (Create file ∷ Append file (schedule_text taken) ∷ []) a b (Ok x) → Wrote (Put (starved_line (end_of told.end) told.deliveries) ∷ []) b c r → Wrote (starve_script file (choices_of p from to most) (starving_run p from to most)) a c r
     line_told w put = wrote_as parts_are (then_rest w put)

@@ -9,7 +9,7 @@ ghost use Rattle.dcsp_rule.specs.Problems.{csp_of};
 ghost use Rattle.dcsp_order.specs.Orders.{place_of};
 ghost use Rattle.dcsp_order.specs.Told.{place_told};
 ghost use Rattle.abt_defs.specs.Bound.{message_bound};
-ghost use Rattle.abt_session.specs.Starving.{starved_end};
+ghost use Rattle.abt_session.specs.Ends.{end_of};
 ghost use Rattle.dcsp_script.specs.Runs.{CameIn};
 ghost use Rattle.abt_input.specs.Inputs.{HasChoices};
 ghost use Rattle.abt_input.specs.Errors.{way_of};
@@ -19,7 +19,7 @@ ghost use Rattle.line_starve.specs.Starving.{HoldsStarved, IsReplayed, TellsStar
 
 use abt_input::{AnswerLine, CommandError, read_model, read_order_of};
 use abt_schedule::{ChoiceList, write_schedule};
-use abt_session::{Starved, StarvedEnd, StarvingRun, starve};
+use abt_session::{End, Starved, StarvingRun, starve};
 use dcsp_order::{Order, moved};
 use dcsp_outside::{Folder, Sink};
 use dcsp_script::{Status, Stop, append, create, put};
@@ -144,7 +144,7 @@ fn write_choices<F: Folder>(
 
 /// Puts the line that tells how the run ended on `out`, in one piece.
 fn tell<S: Sink>(told: Starved, out: &mut S) -> Result<(), Stop>
-    ensures { (folder : Place) → Wrote (Put (starved_line (starved_end told.end) told.deliveries) ∷ [])
+    ensures { (folder : Place) → Wrote (Put (starved_line (end_of told.end) told.deliveries) ∷ [])
         (outside folder (S.stream out.old)) (outside folder (S.stream out.new)) result }
 {
     let line = line_of(told);
@@ -153,7 +153,7 @@ fn tell<S: Sink>(told: Starved, out: &mut S) -> Result<(), Stop>
 
 /// The line that tells how the run ended, and how many deliveries it made.
 fn line_of(told: Starved) -> AnswerLine
-    ensures { result ≡ starved_line (starved_end told.end) told.deliveries }
+    ensures { result ≡ starved_line (end_of told.end) told.deliveries }
 {
     let mut digits = Buffer::new();
     AnswerLine::of(b"starved ")
@@ -164,13 +164,13 @@ fn line_of(told: Starved) -> AnswerLine
 }
 
 /// How a run ended, in a word.
-fn word_of(end: StarvedEnd) -> &'static [u8]
-    ensures word { result.now ≡ end_word (starved_end end) }
+fn word_of(end: End<()>) -> &'static [u8]
+    ensures word { result.now ≡ end_word (end_of end) }
     ensures short { length result.now ≤ 16 }
 {
     match end {
-        StarvedEnd::Solved => b"solved",
-        StarvedEnd::Refuted => b"refuted",
-        StarvedEnd::Open => b"open",
+        End::Solved(()) => b"solved",
+        End::Refuted => b"refuted",
+        End::Spent | End::Capped => b"open",
     }
 }

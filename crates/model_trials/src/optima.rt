@@ -4,7 +4,7 @@ ghost use Rattle.std.specs.Prelude.{◌≡◌, ℕ, ℤ, pos, [], ◌∷◌};
 ghost use Rattle.dcsp_rule.specs.Rules.{IsAimOf};
 
 use crate::problems::let_go;
-use abt_optimum::{Best, BestEnd, IntList, RoundEnd, Search};
+use abt_optimum::{Best, BestEnd, End, IntList, Search};
 use dcsp_problem::{Aim, Domain, Problem, ProblemBuilder, Term};
 use std::alloc::Global;
 use std::process::Abort;
@@ -22,11 +22,11 @@ fn problem(rt: &impl Abort, alloc: Global, aim: Aim) -> Problem
 }
 
 /// A round in which the variable had this value.
-fn solved(rt: &impl Abort, alloc: Global, value: i64) -> RoundEnd
-    ensures { result ≡ RoundEnd.Solved (value ∷ []) }
+fn solved(rt: &impl Abort, alloc: Global, value: i64) -> End<IntList>
+    ensures { result ≡ End.Solved (value ∷ []) }
 {
     let values = vec![in alloc; value].expect(rt, "memory");
-    RoundEnd::Solved(IntList::from_vec(values))
+    End::Solved(IntList::from_vec(values))
 }
 
 /// The value of the variable, if these are the best values.
@@ -53,7 +53,7 @@ fn finds_the_least(rt: HostRuntime) {
     assert!(rt; search.better() == Some(2));
     search.ended(solved(&rt, alloc, 1));
     assert!(rt; search.better() == Some(1));
-    search.ended(RoundEnd::Refuted);
+    search.ended(End::Refuted);
     assert!(rt; search.done());
     expect_best(&rt, search.outcome(), 3, 1);
     let_go(problem);
@@ -81,7 +81,7 @@ fn ends_where_a_round_is_capped(rt: HostRuntime) {
     let problem = problem(&rt, alloc, Aim::Greatest(Term::Var(0)));
     let mut search = Search::new(alloc, &problem, false).expect(&rt, "memory");
     assert!(rt; !search.done());
-    search.ended(RoundEnd::Capped);
+    search.ended(End::Capped);
     assert!(rt; search.done());
     expect_open(&rt, search.outcome());
     let_go(problem);

@@ -5,8 +5,7 @@ ghost use Rattle.std.specs.Prelude.{◌≤◌};
 use crate::given::{THIRD, apart, let_go, torn};
 use abt_schedule::{ChoiceList, Choices, Seeded, read_schedule};
 use abt_session::{
-    End, Ordered, Outcome, RunTask, SessionError, Starved, StarvedEnd, StarvingRun, Telling, run,
-    starve,
+    End, Ordered, Outcome, RunTask, SessionError, Starved, StarvingRun, Telling, run, starve,
 };
 use dcsp_outside::{MemoryFolder, MemorySink};
 use dcsp_problem::Problem;
@@ -153,7 +152,7 @@ fn starved(
 }
 
 /// The run ended so.
-fn expect_starved(rt: &impl Abort, told: &Starved, end: StarvedEnd, deliveries: u64) {
+fn expect_starved(rt: &impl Abort, told: &Starved, end: End<()>, deliveries: u64) {
     assert!(rt; told.end == end);
     assert_eq!(rt; told.deliveries, deliveries);
 }
@@ -164,11 +163,11 @@ fn a_starved_run(rt: HostRuntime) {
     let problem = apart(&rt, alloc, [0, 1, 0], [1, 1, 1], THIRD);
     let mut taken = ChoiceList::new(alloc);
     let told = starved(&rt, alloc, &problem, 10, &mut taken);
-    expect_starved(&rt, &told, StarvedEnd::Solved, 10);
+    expect_starved(&rt, &told, End::Solved(()), 10);
     let choices = [1u32, 0, 0, 0, 0, 0, 0, 1, 1, 0];
     assert!(rt; taken.choices() == choices.as_slice());
     let told = starved(&rt, alloc, &problem, 1, &mut taken);
-    expect_starved(&rt, &told, StarvedEnd::Open, 1);
+    expect_starved(&rt, &told, End::Capped, 1);
     let_go(problem);
 }
 

@@ -1,11 +1,12 @@
 use Rattle.std.proofs.Common.{◌∙◌, None}
 use Rattle.line_replay.proofs.Outcomes.{status_is}
 use Rattle.line_cnf.specs.CnfRuns.{cnf_run}
-use Rattle.line_cnf.proofs.CnfOutcomes.{made_binary, nothing_made, proof_stopped, answer_stopped, answer_put}
+use Rattle.abt_session.proofs.Pieces.{memory_told}
+use Rattle.line_cnf.proofs.CnfOutcomes.{made_binary, proof_stopped, answer_stopped, answer_put}
 use Rattle.line_cnf.proofs.cnf.run_formula.Goals as goal
 
 pub returns-in_err-made-clause-wrote : goal.returns-in_err-made-clause-wrote
-returns-in_err-made-clause-wrote g c = nothing_made _ _ _ c.from_residual.ensures
+returns-in_err-made-clause-wrote g c = memory_told _ _ _ c.from_residual.ensures
 
 pub write_proof-requires : goal.write_proof-requires
 write_proof-requires g c = made_binary c.args.problem.now (cnf_run c.args.problem.now c.args.line.seed) c.in_ok-made.made c.in_ok-made.ensures

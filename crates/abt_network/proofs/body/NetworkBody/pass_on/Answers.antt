@@ -1,4 +1,4 @@
-use Rattle.std.proofs.Common.{◌+◌, ◌∙◌, ◌++◌, map, length, ap, subst, arith}
+use Rattle.std.proofs.Common.{◌+◌, ◌∙◌, ◌%◌, ◌++◌, map, length, ap, refl, subst, arith}
 use Rattle.dcsp_defs.specs.Words.{In}
 use Rattle.abt_defs.specs.Steps.{Outcome, receive}
 use Rattle.dcsp_rule.specs.Problems.{csp_of}
@@ -59,8 +59,8 @@ returns-clause-passes c net st =
     let linked = c.requires.tidy.sized.linked in
     let receiver = c.take_ready-carried.ensures.receiver in
     passes p agents c.hand_over.new.agents.items c.args.self.now.links c.take_ready-carried.new.self c.post.new.links net next c.args.choice c.ready_count-count.result m c.hand_over.new.out o c.in_ok-turn.turn
-    (record { from = from; to = to; cargo = c.cargo_of-cargo.result; step = c.step_of-step.result })
-    st.parts (ap (λ k. k + 1) st.steps) linked c.ready_count-count.ensures c.take_ready-carried.ensures.pair (omega (arith, receiver, linked)) c.take_ready-carried.ensures.takes
+    (record { number = c.args.choice % c.ready_count-count.result; from = from; to = to; cargo = c.cargo_of-cargo.result; step = c.step_of-step.result })
+    st.parts (ap (λ k. k + 1) st.steps) linked c.ready_count-count.ensures c.take_ready-carried.ensures.pair (omega (arith, receiver, linked)) refl c.take_ready-carried.ensures.takes
     (same_outcome p agents next from to m c.requires.tidy.seated (omega (arith, receiver, linked))) c.in_ok-turn.ensures.does.agent
     (went_is c.args.self.now.out c.hand_over.new.out o.sent c.in_ok-turn.ensures.does.sent c.requires.tidy.none_out) c.in_ok-turn.ensures.does.turn_is
     c.cargo_of-cargo.ensures c.step_of-step.ensures c.in_ok-turn.ensures.others c.in_ok-post.ensures.lists
@@ -78,8 +78,8 @@ returns-clause-sends c net st =
     let linked = c.requires.tidy.sized.linked in
     let receiver = c.take_ready-carried.ensures.receiver in
     sends p agents c.hand_over.new.agents.items c.args.self.now.links c.take_ready-carried.new.self c.post.new.links net next c.args.choice c.ready_count-count.result m c.hand_over.new.out o c.in_ok-turn.turn
-    (record { from = from; to = to; cargo = c.cargo_of-cargo.result; step = c.step_of-step.result })
-    st.parts (ap (λ k. k + 1) st.steps) linked c.ready_count-count.ensures c.take_ready-carried.ensures.pair (omega (arith, receiver, linked)) c.take_ready-carried.ensures.takes
+    (record { number = c.args.choice % c.ready_count-count.result; from = from; to = to; cargo = c.cargo_of-cargo.result; step = c.step_of-step.result })
+    st.parts (ap (λ k. k + 1) st.steps) linked c.ready_count-count.ensures c.take_ready-carried.ensures.pair (omega (arith, receiver, linked)) refl c.take_ready-carried.ensures.takes
     (same_outcome p agents next from to m c.requires.tidy.seated (omega (arith, receiver, linked))) c.in_ok-turn.ensures.does.agent
     (went_is c.args.self.now.out c.hand_over.new.out o.sent c.in_ok-turn.ensures.does.sent c.requires.tidy.none_out) c.in_ok-turn.ensures.does.turn_is
     c.cargo_of-cargo.ensures c.step_of-step.ensures c.in_ok-turn.ensures.others c.in_ok-post.ensures.lists

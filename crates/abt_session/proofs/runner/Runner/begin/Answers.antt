@@ -3,7 +3,7 @@ use Rattle.dcsp_script.proofs.Lines.{first_wrote, first_stopped}
 use Rattle.dcsp_order.specs.Told.{steps_told}
 use Rattle.abt_session.specs.Running.{order_of}
 use Rattle.abt_session.specs.Sessions.{step_writes}
-use Rattle.abt_session.proofs.Pieces.{memory_at_once, wrote_as}
+use Rattle.abt_session.proofs.Pieces.{memory_told, wrote_as}
 use Rattle.abt_session.proofs.Whole.{created_here, created_still, on_ok}
 use Rattle.abt_session.proofs.runner.Runner.begin.Goals as goal
 
@@ -20,19 +20,19 @@ returns-in_err-append-clause-wrote g c = λ out.
 pub append_begun-requires-clause-created : goal.append_begun-requires-clause-created
 append_begun-requires-clause-created g c = created_still _ c.args.self.now.task.log.now c.in_ok-create.ensures.created c.in_ok-append.ensures.created
 
-pub returns-in-Ok-begun_told-clause-wrote : goal.returns-in-Ok-begun_told-clause-wrote
-returns-in-Ok-begun_told-clause-wrote g c = λ out.
-    let told = c.in-Ok-begun_told.ensures.told ∙ ap (steps_told (order_of c.args.self.now.task)) (sym c.in-Ok.ensures.starts.steps) in
+pub returns-in_err-begun-clause-wrote : goal.returns-in_err-begun-clause-wrote
+returns-in_err-begun-clause-wrote g c = λ out.
+    first_wrote (c.in_ok-create.ensures.wrote out) (first_wrote (c.in_ok-append.ensures.wrote out) (memory_told _ _ _ c.from_residual-in_err-begun.ensures))
+
+pub returns-in_err-told-clause-wrote : goal.returns-in_err-told-clause-wrote
+returns-in_err-told-clause-wrote g c = λ out.
+    first_wrote (c.in_ok-create.ensures.wrote out) (first_wrote (c.in_ok-append.ensures.wrote out) (memory_told _ _ _ c.from_residual-in_err-told.ensures))
+
+pub returns-clause-wrote : goal.returns-clause-wrote
+returns-clause-wrote g c = λ out.
+    let told = c.in_ok-told.ensures.told ∙ ap (steps_told (order_of c.args.self.now.task)) (sym c.in_ok-begun.ensures.starts.steps) in
     let steps = wrote_as (ap (step_writes c.args.self.now.task.log.now 1) told) (c.append_begun.ensures.wrote out) in
     first_wrote (c.in_ok-create.ensures.wrote out) (first_wrote (c.in_ok-append.ensures.wrote out) steps)
 
-pub returns-in-Ok-begun_told-clause-created : goal.returns-in-Ok-begun_told-clause-created
-returns-in-Ok-begun_told-clause-created g c = on_ok c.append_begun.result (rw c.append_begun.ensures.created (created_still _ c.args.self.now.task.log.now c.in_ok-create.ensures.created c.in_ok-append.ensures.created))
-
-pub returns-in-Err-clause-wrote : goal.returns-in-Err-clause-wrote
-returns-in-Err-clause-wrote g c = λ out.
-    first_wrote (c.in_ok-create.ensures.wrote out) (first_wrote (c.in_ok-append.ensures.wrote out) (memory_at_once _ _))
-
-pub returns-in_default-clause-wrote : goal.returns-in_default-clause-wrote
-returns-in_default-clause-wrote g c = λ out.
-    first_wrote (c.in_ok-create.ensures.wrote out) (first_wrote (c.in_ok-append.ensures.wrote out) (memory_at_once _ _))
+pub returns-clause-created : goal.returns-clause-created
+returns-clause-created g c = on_ok c.append_begun.result (rw c.append_begun.ensures.created (created_still _ c.args.self.now.task.log.now c.in_ok-create.ensures.created c.in_ok-append.ensures.created))
