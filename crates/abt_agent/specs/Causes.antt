@@ -1,16 +1,18 @@
 -- The first item that rules a value out, as the code finds it.
-use Rattle.std.specs.Prelude.{◌≡◌, ◌==◌, ℕ, ◌+◌, ◌<◌, length, ℤ, Bool, List, [], ◌∷◌, find, filter_map, map, Option, Some, None, is_some, not, slice_index_or, if◌then◌else◌}
+use Rattle.std.specs.Prelude.{◌≡◌, ◌==◌, ◌&&◌, ◌||◌, nat_lt, ℕ, ◌+◌, ◌<◌, length, ℤ, Bool, List, [], ◌∷◌, find, filter_map, map, Option, Some, None, is_some, not, slice_index_or, if◌then◌else◌}
 use Rattle.std.specs.List.{list_any}
 use Rattle.std.specs.Option.{option_or}
 use Rattle.dcsp_defs.specs.declared.Reason.{Reason}
 use Rattle.dcsp_defs.specs.Csp.{PartialAssignment, domain, is_violated, agrees, with_value}
 use Rattle.abt_defs.specs.Agents.{Stamped, View, is_among, values_in}
-use Rattle.abt_defs.specs.Reasons.{Item, constraint_item, record_item, pair_at}
+use Rattle.abt_defs.specs.Reasons.{Item, constraint_item, derived, record_item, pair_at}
 use Rattle.dcsp_rule.specs.Problems.{Contents, constraint_at, csp_of}
 use Rattle.abt_parts.specs.Views.{view_of}
 use Rattle.dcsp_problem.specs.Index.{owned_rules}
 use Rattle.abt_parts.specs.declared.recorded.Recorded.{Recorded}
-use Rattle.abt_parts.specs.Stores.{is_against, record_of}
+use Rattle.abt_parts.specs.Stores.{is_against, record_of, records_of}
+use Rattle.abt_reason.specs.Causes.{value_at}
+use Rattle.abt_reason.specs.Marks.{has_mark}
 use Rattle.abt_agent.specs.declared.knowledge.Knowledge.{Knowledge}
 use Rattle.abt_agent.specs.declared.search.Cause.{Cause}
 use Rattle.abt_agent.specs.declared.search.Cause.TheVariants.{OwnedRule, KeptNogood}
@@ -41,6 +43,18 @@ cause_for p i known kept v = first_cause p i kept (with_value i v known)
 -- what rules out each of the values
 abbrev pub causes_for : Contents → ℕ → PartialAssignment → List Recorded → List ℤ → List Cause
 causes_for p i known kept values = filter_map (cause_for p i known kept) values
+
+-- what the agent was told
+abbrev pub told_to : Knowledge → PartialAssignment
+told_to k = values_in (view_of k.view)
+
+-- the value at a place of the agent's domain
+abbrev pub own_value : Knowledge → ℕ → ℤ
+own_value k place = value_at k.problem.now k.me place
+
+-- what rules it out
+abbrev pub cause_at : Knowledge → ℕ → Option Cause
+cause_at k place = cause_for k.problem.now k.me (told_to k) k.store (own_value k place)
 
 -- what rules out each value of the agent's domain first
 abbrev pub all_causes : Knowledge → List Cause
@@ -79,6 +93,14 @@ NamesOther p kept count x other = (var : ℕ) → other ≡ Some var → (k : �
 -- an item at the places names k
 abbrev pub blames : Contents → List Recorded → List Cause → ℕ → Bool
 blames p kept all k = list_any (λ (x : Cause). blames_one p kept x k) all
+
+-- those that the reasons against all values of the agent name are marked too, where the marks have a place for them
+abbrev pub AreBlamed : Knowledge → List Bool → List Bool → Type 0
+AreBlamed k old new = (var : ℕ) → has_mark new var ≡ (has_mark old var || (nat_lt var (length old) && blames k.problem.now k.store (all_causes k) var))
+
+-- the pairs of the nogood that the reasons against all values of the agent make, with their stamps
+abbrev pub derived_by : Knowledge → List (ℕ × Stamped)
+derived_by k = derived (csp_of k.problem.now) k.me (view_of k.view) (records_of k.store)
 
 -- what the view has of k
 abbrev pub told_of : View → ℕ → Option (ℕ × Stamped)

@@ -43,11 +43,11 @@ pub struct Agent<'p> {
 impl<'p> Model for Agent<'p> {
     ghost use Rattle.std.specs.Prelude.{◌≡◌, false};
     ghost use Rattle.abt_agent.specs.States.{State};
-    ghost use Rattle.abt_agent.specs.Bodies.{IsGood};
+    ghost use Rattle.abt_agent.specs.Bodies.{shown, IsGood};
 
     ghost Value = { State };
 
-    ghost view = { λ a. record { problem = a.body.known.problem.now; me = a.body.known.me; value = a.body.value; stamp = a.body.stamp; waits = a.body.waits; view = a.body.known.view; store = a.body.known.store; tells = a.body.tells.items; linked = a.body.linked; spent = a.spent } };
+    ghost view = { λ a. shown a.body a.spent };
 
     ghost invariant = { λ a. a.spent ≡ false → IsGood a.body };
 }

@@ -73,5 +73,5 @@ fn first_tells(alloc: Global, problem: &Problem, me: u32) -> Result<Vec<u32>, Me
     ensures { IfOk result (λ tells. tells.items ≡ lower_owners (csp_of problem.now) me) }
 {
     let lower = problem.lower_owners(me);
-    Vec::from_slice(alloc, lower).map_err(|_| Memory)
+    Vec::from_slice(alloc, lower)
 }

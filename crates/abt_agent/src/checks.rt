@@ -1,18 +1,16 @@
 //! How much an agent looks at as it settles.
 
 ghost use Rattle.std.specs.Prelude.{◌≡◌, ◌<◌, ◌≤◌, ◌+◌, ℤ, Some, IfOk, filter, is_some, length, take};
-ghost use Rattle.dcsp_defs.specs.Words.{In, is_value};
+ghost use Rattle.dcsp_defs.specs.Words.{In};
 ghost use Rattle.dcsp_defs.specs.Csp.{domain, with_value};
-ghost use Rattle.dcsp_rule.specs.Problems.{constraint_at, csp_of};
+ghost use Rattle.dcsp_rule.specs.Problems.{csp_of};
 ghost use Rattle.dcsp_problem.specs.Index.{owned_rules};
-ghost use Rattle.abt_defs.specs.Agents.{values_in};
-ghost use Rattle.abt_defs.specs.Checks.{checks, constraint_checks, is_decided, nogood_checks};
-ghost use Rattle.abt_reason.specs.Causes.{value_at};
-ghost use Rattle.abt_parts.specs.Views.{view_of};
+ghost use Rattle.abt_defs.specs.Checks.{checks, constraint_checks, nogood_checks};
 ghost use Rattle.abt_parts.specs.Stores.{records_of};
 ghost use Rattle.abt_agent.specs.Bodies.{IsInStep};
 ghost use Rattle.abt_reason.specs.Checked.{as_checks, sum_of};
-ghost use Rattle.abt_agent.specs.Examined.{checks_but, AreLookedAt};
+ghost use Rattle.abt_agent.specs.Causes.{own_value, told_to};
+ghost use Rattle.abt_agent.specs.Examined.{is_decided_with, other_checks, AreLookedAt};
 
 use crate::knowledge::Knowledge;
 use abt_reason::Checks;
@@ -23,7 +21,7 @@ impl<'p> Knowledge<'p> {
     /// Whether each variable of the rule, but for the agent's own, has a value in the view.
     fn is_decided(&self, rule: u32) -> bool
         requires { rule < length self.now.problem.now.rules }
-        ensures { (v : ℤ) → result ≡ is_decided (with_value self.now.me v (values_in (view_of self.now.view))) (constraint_at self.now.problem.now rule) }
+        ensures { (v : ℤ) → result ≡ is_decided_with self.now v rule }
     {
         let scope = self.problem.scope(rule);
         for place in 0..scope.len() {
@@ -36,7 +34,7 @@ impl<'p> Knowledge<'p> {
 
     /// Whether the variable is the agent's own, or has a value in the view.
     fn has_value(&self, var: u32) -> bool
-        ensures { (v : ℤ) → result ≡ is_some (with_value self.now.me v (values_in (view_of self.now.view)) var) }
+        ensures { (v : ℤ) → result ≡ is_some (with_value self.now.me v (told_to self.now) var) }
     {
         var == self.me || self.view.value_of(var).is_some()
     }
@@ -45,7 +43,7 @@ impl<'p> Knowledge<'p> {
     fn decided_among(&self, end: usize) -> u64
         requires agent { self.now.me < length self.now.problem.now.domains }
         requires end { end ≤ length (owned_rules self.now.problem.now self.now.me) }
-        ensures { (v : ℤ) → result ≡ length (filter (λ rule. is_decided (with_value self.now.me v (values_in (view_of self.now.view))) (constraint_at self.now.problem.now rule)) (take end (owned_rules self.now.problem.now self.now.me))) }
+        ensures { (v : ℤ) → result ≡ length (filter (is_decided_with self.now v) (take end (owned_rules self.now.problem.now self.now.me))) }
     {
         let owned = self.problem.owned(self.me);
         let mut count = 0;
@@ -59,8 +57,8 @@ impl<'p> Knowledge<'p> {
     fn value_checks(&self, place: usize) -> Checks
         requires in_step { IsInStep self.now }
         requires place { place < length (domain (csp_of self.now.problem.now) self.now.me) }
-        ensures constraints { result.constraints ≡ constraint_checks (csp_of self.now.problem.now) self.now.me (values_in (view_of self.now.view)) (value_at self.now.problem.now self.now.me place) }
-        ensures nogoods { result.nogoods ≡ nogood_checks (csp_of self.now.problem.now) self.now.me (values_in (view_of self.now.view)) (records_of self.now.store) (value_at self.now.problem.now self.now.me place) }
+        ensures constraints { result.constraints ≡ constraint_checks (csp_of self.now.problem.now) self.now.me (told_to self.now) (own_value self.now place) }
+        ensures nogoods { result.nogoods ≡ nogood_checks (csp_of self.now.problem.now) self.now.me (told_to self.now) (records_of self.now.store) (own_value self.now place) }
     {
         let nogoods = match self.reasons.first(place) {
             Some(Reason::Earlier(_)) => 1,
@@ -79,7 +77,7 @@ impl<'p> Knowledge<'p> {
         requires in_step { IsInStep self.now }
         requires place { place < length (domain (csp_of self.now.problem.now) self.now.me) }
         ensures within { result ≤ length (owned_rules self.now.problem.now self.now.me) }
-        ensures looked_at { AreLookedAt self.now.problem.now self.now.me (with_value self.now.me (value_at self.now.problem.now self.now.me place) (values_in (view_of self.now.view))) result }
+        ensures looked_at { AreLookedAt self.now.problem.now self.now.me (with_value self.now.me (own_value self.now place) (told_to self.now)) result }
     {
         match self.reasons.first_rule(place) {
             Some(at) => at as usize + 1,
@@ -91,7 +89,7 @@ impl<'p> Knowledge<'p> {
     /// those so far.
     fn other_checks(&self, own: Option<i64>, so_far: Checks) -> Result<Checks, Memory>
         requires { IsInStep self.now }
-        ensures { IfOk result (λ sum. as_checks sum ≡ sum_of (as_checks so_far) (checks_but self.now.problem.now self.now.me (values_in (view_of self.now.view)) (records_of self.now.store) own (domain (csp_of self.now.problem.now) self.now.me))) }
+        ensures { IfOk result (λ sum. as_checks sum ≡ sum_of (as_checks so_far) (other_checks self.now own)) }
     {
         let domain = self.problem.domain(self.me);
         let mut sum = so_far;
@@ -111,7 +109,7 @@ impl<'p> Knowledge<'p> {
     pub fn checks(&self, own: Option<i64>) -> Result<Checks, Memory>
         requires in_step { IsInStep self.now }
         requires own { (v : ℤ) → own ≡ Some v → In v (domain (csp_of self.now.problem.now) self.now.me) }
-        ensures { IfOk result (λ sum. as_checks sum ≡ checks (csp_of self.now.problem.now) self.now.me (values_in (view_of self.now.view)) (records_of self.now.store) own) }
+        ensures { IfOk result (λ sum. as_checks sum ≡ checks (csp_of self.now.problem.now) self.now.me (told_to self.now) (records_of self.now.store) own) }
     {
         let none = Checks {
             constraints: 0,

@@ -1,8 +1,8 @@
 //! What an agent learns of higher agents, and which nogoods it keeps.
 
-ghost use Rattle.std.specs.Prelude.{◌≡◌, ◌<◌, ◌∷◌, [], ◌&&◌, IfOk, OnOk, false, length, nat_lt, not, true, if◌then◌else◌};
+ghost use Rattle.std.specs.Prelude.{◌≡◌, ◌<◌, ◌∷◌, [], ◌&&◌, IfOk, OnOk, false, length, nat_lt, true, if◌then◌else◌};
 ghost use Rattle.std.specs.Option.{ForSome};
-ghost use Rattle.dcsp_defs.specs.Pairs.{pair_of, value_at, IsRising as PairsRise};
+ghost use Rattle.dcsp_defs.specs.Pairs.{pair_of, IsRising as PairsRise};
 ghost use Rattle.dcsp_defs.specs.declared.nogood.Pair.{Pair as ThePair};
 ghost use Rattle.dcsp_defs.specs.Words.{In};
 ghost use Rattle.dcsp_defs.specs.Csp.{domain};
@@ -10,8 +10,8 @@ ghost use Rattle.dcsp_rule.specs.Problems.{csp_of};
 ghost use Rattle.abt_defs.specs.Steps as steps;
 ghost use Rattle.abt_parts.specs.Messages.{with_stamps};
 ghost use Rattle.abt_parts.specs.Views.{view_of, stamped_of};
-ghost use Rattle.abt_parts.specs.Stores.{is_ruled_out, lowest_value, record_of, records_of};
-ghost use Rattle.abt_agent.specs.Bodies.{agent_of, owner_of, AreProper, IsProper, IsSized};
+ghost use Rattle.abt_parts.specs.Stores.{is_ruled_out, lowest_value, record_of};
+ghost use Rattle.abt_agent.specs.Bodies.{agent_of, is_wanted, owner_of, AreProper, IsProper, IsSized};
 ghost use Rattle.abt_agent.specs.Outgoing.{AreStampsOf};
 
 use crate::body::AgentBody;
@@ -119,7 +119,7 @@ impl<'p> AgentBody<'p> {
         requires fits { fits ≡ steps.fits self.now.known.me nogood.now (agent_of self.now) }
         requires nogood { IsProper self.now.known.problem.now self.now.known.me nogood.now }
         requires kept { AreProper self.now.known.problem.now self.now.known.me self.now.known.store }
-        ensures wanted { result ≡ (steps.fits self.now.known.me nogood.now (agent_of self.now) && not (steps.is_refused self.now.known.me (records_of self.now.known.store) (value_at nogood.now self.now.known.me))) }
+        ensures wanted { result ≡ is_wanted self.now nogood.now }
         ensures free { result ≡ true → ForSome (lowest_value nogood.now) (λ value. is_ruled_out value self.now.known.store ≡ false) }
     {
         match nogood.lowest() {

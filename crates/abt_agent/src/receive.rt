@@ -4,19 +4,17 @@ ghost use Rattle.std.specs.Prelude.{◌≡◌, ◌<◌, ◌^◌, IfOk, OnOk, ℕ
 ghost use Rattle.dcsp_defs.specs.Pairs.{IsRising as PairsRise};
 ghost use Rattle.dcsp_defs.specs.declared.Step.{Step as TheStep};
 ghost use Rattle.dcsp_defs.specs.Words.{IsRising};
-ghost use Rattle.abt_defs.specs.Agents.{fresh, is_among, plain, Add_link, Announce, Refuse};
+ghost use Rattle.abt_defs.specs.Agents.{fresh, is_among, Add_link, Announce, Refuse};
 ghost use Rattle.abt_defs.specs.Steps as steps;
 ghost use Rattle.dcsp_rule.specs.Problems.{csp_of};
 ghost use Rattle.abt_parts.specs.Messages.{message_of, with_stamps};
 ghost use Rattle.abt_parts.specs.Views.{stamped_of};
-ghost use Rattle.abt_agent.specs.Bodies.{agent_of, owner_of, Does, DoesReceive, IsGood};
+ghost use Rattle.abt_agent.specs.Bodies.{agent_of, nogood_in, owner_of, requests_for, DoesReceive, DoesSettle, IsGood, IsRightAfter};
 ghost use Rattle.abt_defs.specs.Checks.{settles_on};
 ghost use Rattle.abt_agent.specs.Outgoing.{IsStamped, Posts};
 ghost use Rattle.abt_agent.specs.States.{IsFit, IsNogoodFor, IsToldBy};
 ghost use Rattle.abt_agent.specs.Turns.{IsFirstTurn};
-ghost use Rattle.law_agent.specs.Sources.{AreOfSteps};
-ghost use Rattle.abt_agent.specs.Rights.{BringsOfStep, IsRightTurn};
-ghost use Rattle.abt_parts.specs.Stores.{records_of};
+ghost use Rattle.abt_agent.specs.Rights.{IsRightTurn};
 
 use crate::Turn;
 use crate::ask::post;
@@ -30,7 +28,7 @@ impl<'p> AgentBody<'p> {
     pub fn first_settle(&mut self, out: &mut Outbox) -> Result<Turn, Memory>
         requires good { IsGood self.old }
         requires fresh { agent_of self.old ≡ fresh (csp_of self.old.known.problem.now) self.old.known.me }
-        ensures does { (number : ℕ) → IfOk result (λ turn. Does (steps.settle (csp_of self.old.known.problem.now) self.old.known.me number (agent_of self.old)) self.old self.new out.old out.new turn) }
+        ensures does { (number : ℕ) → IfOk result (DoesSettle number self.old self.new out.old out.new) }
         ensures owner { owner_of self.new.known ≡ owner_of self.old.known }
         ensures good { OnOk result (IsGood self.new) }
         ensures first { IfOk result IsFirstTurn }
@@ -55,7 +53,7 @@ impl<'p> AgentBody<'p> {
         ensures does { IfOk result (λ turn. DoesReceive number from (message_of message) self.old self.new out.old out.new turn) }
         ensures owner { owner_of self.new.known ≡ owner_of self.old.known }
         ensures good { OnOk result (IsGood self.new) }
-        ensures right { (made : List TheStep) → AreOfSteps made (records_of self.old.known.store) → BringsOfStep made message → IfOk result (IsRightTurn (csp_of self.old.known.problem.now) made) }
+        ensures right { IsRightAfter self.old message result }
     {
         law_agent::agents_step_right();
         self.known.problem.denotes_csp();
@@ -111,7 +109,7 @@ impl<'p> AgentBody<'p> {
         requires good { IsGood self.old }
         requires stamp { self.old.stamp < 2 ^ 62 }
         requires nogood { IsNogoodFor self.old.known.problem.now self.old.known.me recorded.nogood stamps.now }
-        ensures does { (from : ℕ) → IfOk result (λ turn. DoesReceive number from (Refuse recorded.step (with_stamps recorded.nogood stamps.now)) self.old self.new out.old out.new turn) }
+        ensures does { (from : ℕ) → IfOk result (DoesReceive number from (nogood_in recorded stamps.now) self.old self.new out.old out.new) }
         ensures owner { owner_of self.new.known ≡ owner_of self.old.known }
         ensures good { OnOk result (IsGood self.new) }
         ensures rising { OnOk result (PairsRise recorded.nogood) }
@@ -155,7 +153,7 @@ impl<'p> AgentBody<'p> {
         requires good { IsGood self.old }
         requires nogood { IsNogoodFor self.old.known.problem.now self.old.known.me recorded.nogood stamps.now }
         ensures agent { OnOk result (agent_of self.new ≡ steps.heed self.old.known.me recorded.step (with_stamps recorded.nogood stamps.now) (agent_of self.old)) }
-        ensures sent { OnOk result (Posts out.old out.new (steps.to_each Add_link (steps.unlinked self.old.known.me (plain (with_stamps recorded.nogood stamps.now)) (agent_of self.old)))) }
+        ensures sent { OnOk result (Posts out.old out.new (requests_for self.old recorded stamps.now)) }
         ensures owner { owner_of self.new.known ≡ owner_of self.old.known }
         ensures good { OnOk result (IsGood self.new) }
     {

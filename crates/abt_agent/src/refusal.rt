@@ -3,7 +3,7 @@
 ghost use Rattle.std.specs.Prelude.{◌≡◌, ◌<◌, ◌∷◌, ◌++◌, [], ◌&&◌, ◌||◌, ◌^◌, ◌+◌, ◌≤◌, ℕ, IfOk, IfSome, OnOk, filter, filter_map, length, nat_lt, option_to_list, vec_capacity, vec_len};
 ghost use Rattle.std.specs.Option.{ForSome};
 ghost use Rattle.dcsp_defs.specs.Words.{below};
-ghost use Rattle.abt_defs.specs.Reasons.{derived, pair_at, step_of};
+ghost use Rattle.abt_defs.specs.Reasons.{pair_at, step_of};
 ghost use Rattle.dcsp_rule.specs.Problems.{csp_of};
 ghost use Rattle.abt_parts.specs.Messages.{with_stamps};
 ghost use Rattle.abt_parts.specs.Stores.{records_of};
@@ -11,7 +11,7 @@ ghost use Rattle.abt_parts.specs.Views.{stamped_in, view_of};
 ghost use Rattle.abt_agent.specs.Bodies.{AreProper, IsInStep};
 ghost use Rattle.abt_agent.specs.Outgoing.{ArePositive, AreStampsOf, IsStampedView};
 ghost use Rattle.abt_reason.specs.Marks.{has_mark};
-ghost use Rattle.abt_agent.specs.Causes.{all_causes, blames, blames_one, reasons_at, item_at, told_of, IsCause, NamesOther};
+ghost use Rattle.abt_agent.specs.Causes.{all_causes, blames, blames_one, derived_by, reasons_at, item_at, told_of, AreBlamed, IsCause, NamesOther};
 
 use crate::knowledge::Knowledge;
 use crate::search::Cause;
@@ -38,7 +38,7 @@ impl<'p> Knowledge<'p> {
         requires in_step { IsInStep self.now }
         requires proper { AreProper self.now.problem.now self.now.me self.now.store }
         ensures step { IfOk result (λ refusal. refusal.step ≡ step_of (csp_of self.now.problem.now) self.now.me (view_of self.now.view) (records_of self.now.store)) }
-        ensures pairs { IfOk result (λ refusal. with_stamps refusal.step.nogood refusal.stamps ≡ derived (csp_of self.now.problem.now) self.now.me (view_of self.now.view) (records_of self.now.store)) }
+        ensures pairs { IfOk result (λ refusal. with_stamps refusal.step.nogood refusal.stamps ≡ derived_by self.now) }
         ensures stamped { IfOk result (λ refusal. AreStampsOf refusal.step.nogood refusal.stamps) }
     {
         make_blank(self.alloc, marks, self.me as usize)?;
@@ -60,7 +60,7 @@ impl<'p> Knowledge<'p> {
         requires size { length marks.old ≡ self.now.me }
         ensures reasons { IfOk result (λ reasons. reasons ≡ reasons_at self.now.problem.now self.now.store (all_causes self.now)) }
         ensures size { OnOk result (length marks.new ≡ length marks.old) }
-        ensures marks { OnOk result ((k : ℕ) → has_mark marks.new k ≡ (has_mark marks.old k || (nat_lt k (length marks.old) && blames self.now.problem.now self.now.store (all_causes self.now) k))) }
+        ensures marks { OnOk result (AreBlamed self.now marks.old marks.new) }
     {
         // Each rule that the agent owns is one of the problem's.
         let _rules = self.problem.owned(self.me);

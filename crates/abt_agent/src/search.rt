@@ -2,15 +2,13 @@
 
 ghost use Rattle.std.specs.Prelude.{◌≡◌, ◌<◌, ℕ, Some, is_some, length, not};
 ghost use Rattle.dcsp_defs.specs.Csp.{domain};
-ghost use Rattle.abt_defs.specs.Agents.{values_in};
 ghost use Rattle.dcsp_rule.specs.Problems.{csp_of};
-ghost use Rattle.abt_parts.specs.Views.{view_of};
 ghost use Rattle.abt_reason.specs.Cached.{owned_at, IsValueRunFrom};
 ghost use Rattle.abt_agent.specs.declared.search.Cause.TheVariants.{OwnedRule};
 ghost use Rattle.abt_reason.specs.Causes.{reason_for, value_at};
 ghost use Rattle.abt_parts.specs.Stores.{IsOncePerValue};
 ghost use Rattle.abt_agent.specs.Bodies.{AreProper, IsInStep};
-ghost use Rattle.abt_agent.specs.Causes.{first_against, least_free, cause_for};
+ghost use Rattle.abt_agent.specs.Causes.{cause_at, first_against, least_free, own_value, told_to};
 
 use crate::knowledge::Knowledge;
 use abt_reason::ValueRun;
@@ -35,7 +33,7 @@ impl<'p> Knowledge<'p> {
         requires place { place < length (domain (csp_of self.now.problem.now) self.now.me) }
         requires run { IsValueRunFrom self.now.reasons place run }
         requires within { place < run.end }
-        ensures cause { result ≡ cause_for self.now.problem.now self.now.me (values_in (view_of self.now.view)) self.now.store (value_at self.now.problem.now self.now.me place) }
+        ensures cause { result ≡ cause_at self.now place }
         ensures rule { (at : ℕ) → run.first ≡ Some at → result ≡ Some (OwnedRule (owned_at self.now.reasons at)) }
     {
         match self.reasons.first_in(place, run) {
@@ -49,7 +47,7 @@ impl<'p> Knowledge<'p> {
     pub fn reason_at(&self, place: usize) -> Option<Reason>
         requires in_step { IsInStep self.now }
         requires place { place < length (domain (csp_of self.now.problem.now) self.now.me) }
-        ensures { result ≡ reason_for self.now.problem.now self.now.me (values_in (view_of self.now.view)) self.now.store (value_at self.now.problem.now self.now.me place) }
+        ensures { result ≡ reason_for self.now.problem.now self.now.me (told_to self.now) self.now.store (own_value self.now place) }
     {
         self.reasons.first(place)
     }
@@ -79,7 +77,7 @@ impl<'p> Knowledge<'p> {
     pub fn is_free_at(&self, place: usize) -> bool
         requires in_step { IsInStep self.now }
         requires place { place < length (domain (csp_of self.now.problem.now) self.now.me) }
-        ensures { result ≡ not (is_some (cause_for self.now.problem.now self.now.me (values_in (view_of self.now.view)) self.now.store (value_at self.now.problem.now self.now.me place))) }
+        ensures { result ≡ not (is_some (cause_at self.now place)) }
     {
         self.reasons.first(place).is_none()
     }
@@ -87,7 +85,7 @@ impl<'p> Knowledge<'p> {
     /// The least value of the agent's domain that nothing rules out.
     pub fn least_free(&self) -> Option<i64>
         requires { IsInStep self.now }
-        ensures { result ≡ least_free self.now.problem.now self.now.me (values_in (view_of self.now.view)) self.now.store (domain (csp_of self.now.problem.now) self.now.me) }
+        ensures { result ≡ least_free self.now.problem.now self.now.me (told_to self.now) self.now.store (domain (csp_of self.now.problem.now) self.now.me) }
     {
         match self.reasons.first_free() {
             Some(place) => Some(self.value_at(place)),

@@ -1,12 +1,11 @@
 //! Settling: an agent keeps its value, takes one, or says why it has none.
 
-ghost use Rattle.std.specs.Prelude.{◌≡◌, ◌<◌, ◌^◌, IfOk, None, OnOk, length};
-ghost use Rattle.dcsp_defs.specs.Words.{In};
+ghost use Rattle.std.specs.Prelude.{◌≡◌, ◌<◌, ◌^◌, IfOk, None, OnOk};
 ghost use Rattle.abt_defs.specs.Agents.{Announce};
 ghost use Rattle.abt_defs.specs.Steps as steps;
 ghost use Rattle.dcsp_rule.specs.Problems.{csp_of};
 ghost use Rattle.abt_parts.specs.Views.{stamped_of};
-ghost use Rattle.abt_agent.specs.Bodies.{agent_of, owner_of, Does, IsGood, IsSized};
+ghost use Rattle.abt_agent.specs.Bodies.{agent_of, owner_of, Does, DoesRefuse, DoesSettle, IsGood, IsSized};
 ghost use Rattle.abt_agent.specs.Outgoing.{Posts};
 
 use crate::Turn;
@@ -80,7 +79,7 @@ impl<'p> AgentBody<'p> {
     /// Makes the step that says why no value is left, and sends its nogood to the lowest agent of it.
     fn give_up(&mut self, number: u64, out: &mut Outbox) -> Result<Turn, Memory>
         requires { IsGood self.old }
-        ensures does { IfOk result (λ turn. Does (steps.take_or_refuse (csp_of self.old.known.problem.now) self.old.known.me number (agent_of self.old) None) self.old self.new out.old out.new turn) }
+        ensures does { IfOk result (DoesRefuse number self.old self.new out.old out.new) }
         ensures owner { owner_of self.new.known ≡ owner_of self.old.known }
     {
         let spare = out.spare_stamps(self.known.alloc);
@@ -104,7 +103,7 @@ impl<'p> AgentBody<'p> {
     fn keep_or_change(&mut self, number: u64, out: &mut Outbox) -> Result<Turn, Memory>
         requires good { IsGood self.old }
         requires stamp { self.old.stamp < 2 ^ 62 }
-        ensures does { IfOk result (λ turn. Does (steps.settle (csp_of self.old.known.problem.now) self.old.known.me number (agent_of self.old)) self.old self.new out.old out.new turn) }
+        ensures does { IfOk result (DoesSettle number self.old self.new out.old out.new) }
         ensures owner { owner_of self.new.known ≡ owner_of self.old.known }
     {
         let is_free = self.is_own_free();
@@ -121,7 +120,7 @@ impl<'p> AgentBody<'p> {
     pub fn settle(&mut self, number: u64, out: &mut Outbox) -> Result<Turn, Memory>
         requires good { IsGood self.old }
         requires stamp { self.old.stamp < 2 ^ 62 }
-        ensures does { IfOk result (λ turn. Does (steps.settle (csp_of self.old.known.problem.now) self.old.known.me number (agent_of self.old)) self.old self.new out.old out.new turn) }
+        ensures does { IfOk result (DoesSettle number self.old self.new out.old out.new) }
         ensures owner { owner_of self.new.known ≡ owner_of self.old.known }
         ensures good { OnOk result (IsGood self.new) }
     {

@@ -2,13 +2,19 @@
 use Rattle.std.specs.Prelude.{◌≡◌, ◌≢◌, ℕ, ◌<◌, All, Bool, true, List, [], ◌∷◌, ◌++◌, length, slice_index_or, Option, Some}
 use Rattle.dcsp_domain.specs.Sets.{IsRising}
 use Rattle.dcsp_defs.specs.Csp.{PartialAssignment, domain}
+use Rattle.abt_defs.specs.Agents.{values_in}
 use Rattle.dcsp_rule.specs.Problems.{Contents, constraint_at, csp_of}
 use Rattle.dcsp_problem.specs.Index.{owned_rules}
 use Rattle.abt_parts.specs.declared.recorded.Recorded.{Recorded}
+use Rattle.abt_parts.specs.Views.{view_of}
 use Rattle.dcsp_row.specs.declared.marks.Marks.{Marks}
 use Rattle.dcsp_row.specs.Marks.{is_marked, is_row, FitsSize}
 use Rattle.dcsp_row.specs.Rows.{is_ruled_out, own_at}
+use Rattle.abt_reason.specs.declared.grid.RuledOut.{RuledOut}
 use Rattle.abt_reason.specs.declared.grid.ValueRun.{ValueRun}
+use Rattle.abt_reason.specs.declared.kept.KeptSteps.{KeptSteps}
+use Rattle.abt_reason.specs.declared.rules.FirstRules.{FirstRules}
+use Rattle.abt_reason.specs.declared.rules.Owner.{Owner}
 use Rattle.abt_reason.specs.Grids.{marks, rows_of, AreSized, HaveFirst, HaveRoom, IsGrid}
 use Rattle.abt_reason.specs.declared.named.Naming.{Naming}
 use Rattle.abt_reason.specs.Named.{only_other, others_of, ListsScopes, RisesByVariable}
@@ -41,6 +47,14 @@ pub record IsOwner (p : Contents) (agent : ℕ) (rules : List ℕ) (values : ℕ
   pub rules_are : rules ≡ owned_rules p agent
   pub rules_exist : All (λ rule. rule < length p.rules) rules
   pub values_are : values ≡ size_of p agent
+
+-- what the owner was told
+abbrev pub told_to : Owner → PartialAssignment
+told_to owner = values_in (view_of owner.view.now)
+
+-- the rows of what is ruled out, for the owner's values
+abbrev pub rows_for : Owner → RuledOut → List (List Bool)
+rows_for owner ruled_out = rows_of (size_of owner.problem.now owner.agent) ruled_out.rows.items
 
 -- the row of the owned rule at a place tells at which of the agent's values it is false
 abbrev pub IsRightAt : Contents → ℕ → PartialAssignment → List (List Bool) → ℕ → Type 0
@@ -114,6 +128,11 @@ pub record IsOtherIn (r : Cached) (run : ValueRun) (var : ℕ) : Type 0 where
 abbrev pub IsReasonAt : Cached → ℕ → Option Reason → Type 0
 IsReasonAt r place reason = (known : PartialAssignment) (items : List Recorded) → StandsFor r known items → reason ≡ reason_for r.problem r.agent known items (value_at r.problem r.agent place)
 
+-- it is the place, among the owned rules, of the first that is false at the value at a place, whatever is stood for
+abbrev pub IsFirstFalseAt : Cached → ℕ → Option ℕ → Type 0
+IsFirstFalseAt r place found = (known : PartialAssignment) (items : List Recorded) → StandsFor r known items
+    → IsFirst (is_false r.problem r.agent (known_at r.problem r.agent known place)) (rules_of r.problem r.agent) found
+
 -- it is the first place whose value nothing rules out
 abbrev pub IsFirstFree : Cached → Option ℕ → Type 0
 IsFirstFree r free = (known : PartialAssignment) (items : List Recorded) → StandsFor r known items → IsFirst (is_free_at r.problem r.agent known items) (size_of r.problem r.agent) free
@@ -144,6 +163,14 @@ pub record AreRuleLists (p : Contents) (agent : ℕ) (rows : List Marks) (counts
   pub rising : RisesByVariable namings
   pub has_room : IsRoom (size_of p agent) room
 
+-- these are such lists of the agent's
+abbrev pub AreListsOf : Contents → ℕ → FirstRules → Type 0
+AreListsOf p agent rules = AreRuleLists p agent rules.ruled_out.rows.items rules.ruled_out.counts.items rules.ruled_out.firsts.items rules.named.namings.items rules.room
+
+-- what is kept of rules and steps
+abbrev pub shown : Contents → ℕ → FirstRules → KeptSteps → Cached
+shown p agent rules kept = record { problem = p; agent = agent; rows = rows_of (size_of p agent) rules.ruled_out.rows.items; steps = kept.steps.items; count = kept.count; own = kept.own }
+
 -- what every cache is
 pub record IsCache (r : Cached) (owned : List ℕ) (others : List (Option ℕ)) (rows : List Marks) (counts : List ℕ) (firsts : List (Option ℕ)) (namings : List Naming) (room : Marks) : Type 0 where
   pub owner : IsOwner r.problem r.agent owned (size_of r.problem r.agent)
@@ -152,3 +179,8 @@ pub record IsCache (r : Cached) (owned : List ℕ) (others : List (Option ℕ)) 
   pub rows_are : r.rows ≡ rows_of (size_of r.problem r.agent) rows
   pub for_rules : AreRuleLists r.problem r.agent rows counts firsts namings room
   pub kept : HaveSteps (size_of r.problem r.agent) r.steps r.count
+
+-- what is kept of rules and steps is a cache
+abbrev pub IsCacheOf : Contents → ℕ → List ℕ → List (Option ℕ) → FirstRules → KeptSteps → Type 0
+IsCacheOf p agent owned others rules kept =
+    IsCache (shown p agent rules kept) owned others rules.ruled_out.rows.items rules.ruled_out.counts.items rules.ruled_out.firsts.items rules.named.namings.items rules.room

@@ -6,13 +6,13 @@
 //! Where there are many values for each rule, nothing is counted: what that takes would grow with the values, and
 //! the rules are gone over instead.
 
-ghost use Rattle.std.specs.Prelude.{◌≡◌, ◌≢◌, ◌<◌, ◌≤◌, ◌+◌, ◌^◌, ℕ, Bool, All, IfOk, IfSome, IsTrue, None, length, true, false, slice_index_or, ◌||◌, ◌==◌};
+ghost use Rattle.std.specs.Prelude.{◌≡◌, ◌≢◌, ◌<◌, ◌+◌, ◌^◌, ℕ, Bool, All, IfOk, IfSome, IsTrue, None, length, true, false, slice_index_or, ◌||◌, ◌==◌};
 ghost use Rattle.dcsp_rule.specs.Problems.{rule_at};
 ghost use Rattle.dcsp_row.specs.Easy.{has_span};
 ghost use Rattle.dcsp_row.specs.Spans.{is_within};
 ghost use Rattle.dcsp_row.specs.Marks.{has_room_for, is_marked, is_row, FitsSize};
 ghost use Rattle.abt_reason.specs.Firsts.{IsFirst};
-ghost use Rattle.abt_reason.specs.Grids.{marks_at, is_marked_at, mixed_rows, rows_of, row_of, with_row, few_row, is_only, AreCounted, AreMarksBehind, AreSized, CanReplace, CountsMark, CountsRow, HaveRoom, IsBelow, IsChange, IsGrid, IsReplaced, IsValueRun, LosesPlace, NoneIfUncounted, NoneUpTo};
+ghost use Rattle.abt_reason.specs.Grids.{marks_at, is_marked_at, mixed_rows, rows_of, row_of, with_row, few_row, is_only, AreCounted, AreMarksBehind, AreSized, CanReplace, CountsMark, CountsRow, HaveRoom, IsBelow, IsChange, IsFirstAfter, IsGrid, IsReplaced, IsValueRun, NoneIfUncounted, NoneUpTo};
 
 use dcsp_common::Memory;
 use dcsp_problem::Problem;
@@ -324,7 +324,7 @@ fn first_without(rows: &[Marks], cell: Cell, count: u32, first: Option<u32>) -> 
     requires place { cell.place < length rows.now }
     requires value { cell.value < cell.values }
     requires sized { AreSized cell.values rows.now }
-    ensures { (p q : ℕ → Bool) → LosesPlace cell.place p q → AreMarksBehind rows.now cell.value cell.place q → NoneIfUncounted count rows.now q → IsFirst p (length rows.now) first → IsFirst q (length rows.now) result }
+    ensures { IsFirstAfter rows.now cell count first result }
 {
     if first == Some(cell.place as u32) {
         next_marking(rows, cell, count)
@@ -422,7 +422,7 @@ fn no_firsts(alloc: Global, values: usize) -> Result<Vec<Option<u32>>, Memory>
     ensures size { IfOk result (λ firsts. length firsts.items ≡ values) }
     ensures none { IfOk result (λ firsts. (k : ℕ) → slice_index_or firsts.items k None ≡ None) }
 {
-    vec![in alloc; None; values].map_err(|_| Memory)
+    vec![in alloc; None; values]
 }
 
 /// No row, for each of so many values.
@@ -430,5 +430,5 @@ fn no_counts(alloc: Global, values: usize) -> Result<Vec<u32>, Memory>
     ensures size { IfOk result (λ counts. length counts.items ≡ values) }
     ensures none { IfOk result (λ counts. (k : ℕ) → slice_index_or counts.items k 0 ≡ 0) }
 {
-    vec![in alloc; 0; values].map_err(|_| Memory)
+    vec![in alloc; 0; values]
 }

@@ -7,10 +7,8 @@ ghost use Rattle.abt_defs.specs.Agents.{values_in};
 ghost use Rattle.dcsp_rule.specs.Problems.{csp_of, AreInDomains};
 ghost use Rattle.abt_parts.specs.declared.recorded.Recorded.{Recorded as TheRecorded};
 ghost use Rattle.abt_parts.specs.Views.{view_of};
-ghost use Rattle.abt_reason.specs.Causes.{is_false, known_at, reason_for, value_at};
-ghost use Rattle.abt_reason.specs.Firsts.{IsFirst};
 ghost use Rattle.abt_reason.specs.Grids.{IsValueRun};
-ghost use Rattle.abt_reason.specs.Cached.{rules_of, size_of, HasRoom, owned_at, IsFirstFree, IsFirstFreeBetween, IsOtherIn, IsReasonAt, IsValueRunFrom, StandsFor, StoodBefore, StoodWithoutLast};
+ghost use Rattle.abt_reason.specs.Cached.{rules_of, size_of, HasRoom, owned_at, IsFirstFalseAt, IsFirstFree, IsFirstFreeBetween, IsOtherIn, IsReasonAt, IsValueRunFrom, StandsFor, StoodBefore, StoodWithoutLast};
 
 use crate::grid::ValueRun;
 use crate::kept::KeptSteps;
@@ -39,14 +37,13 @@ pub struct Reasons<'p> {
 }
 
 impl<'p> Model for Reasons<'p> {
-    ghost use Rattle.abt_reason.specs.Cached.{size_of, Cached, IsCache};
-    ghost use Rattle.abt_reason.specs.Grids.{rows_of};
+    ghost use Rattle.abt_reason.specs.Cached.{shown, Cached, IsCacheOf};
 
     ghost Value = { Cached };
 
-    ghost view = { λ r. record { problem = r.problem.now; agent = r.agent; rows = rows_of (size_of r.problem.now r.agent) r.rules.ruled_out.rows.items; steps = r.kept.steps.items; count = r.kept.count; own = r.kept.own } };
+    ghost view = { λ r. shown r.problem.now r.agent r.rules r.kept };
 
-    ghost invariant = { λ r. IsCache (record { problem = r.problem.now; agent = r.agent; rows = rows_of (size_of r.problem.now r.agent) r.rules.ruled_out.rows.items; steps = r.kept.steps.items; count = r.kept.count; own = r.kept.own }) r.owned.now r.others.items r.rules.ruled_out.rows.items r.rules.ruled_out.counts.items r.rules.ruled_out.firsts.items r.rules.named.namings.items r.rules.room };
+    ghost invariant = { λ r. IsCacheOf r.problem.now r.agent r.owned.now r.others.items r.rules r.kept };
 }
 
 impl<'p> Reasons<'p> {
@@ -127,7 +124,7 @@ impl<'p> Reasons<'p> {
     /// ruled out.
     pub fn first(&self, place: usize) -> Option<Reason>
         requires { place < size_of self.now.problem self.now.agent }
-        ensures { (known : PartialAssignment) (items : List TheRecorded) → StandsFor self.now known items → result ≡ reason_for self.now.problem self.now.agent known items (value_at self.now.problem self.now.agent place) }
+        ensures { IsReasonAt self.now place result }
     {
         self.first_in(place, self.run(place))
     }
@@ -179,7 +176,7 @@ impl<'p> Reasons<'p> {
     /// the agent's domain; `None` exactly if none is.
     pub fn first_rule(&self, place: usize) -> Option<u32>
         requires { place < size_of self.now.problem self.now.agent }
-        ensures { (known : PartialAssignment) (items : List TheRecorded) → StandsFor self.now known items → IsFirst (is_false self.now.problem self.now.agent (known_at self.now.problem self.now.agent known place)) (rules_of self.now.problem self.now.agent) result }
+        ensures { IsFirstFalseAt self.now place result }
     {
         self.run(place).first
     }

@@ -1,12 +1,10 @@
 //! Which values the owned rules rule out, after the view has changed at one variable.
 
-ghost use Rattle.std.specs.Prelude.{◌≡◌, ◌<◌, ◌≤◌, All, IfOk, None, length};
-ghost use Rattle.abt_defs.specs.Agents.{values_in};
+ghost use Rattle.std.specs.Prelude.{◌<◌, All, IfOk, None, length};
 ghost use Rattle.dcsp_rule.specs.Problems.{csp_of, AreInDomains};
-ghost use Rattle.abt_parts.specs.Views.{view_of};
 ghost use Rattle.abt_reason.specs.declared.named.Naming.{Naming as TheNaming};
 ghost use Rattle.abt_reason.specs.Grids.{rows_of};
-ghost use Rattle.abt_reason.specs.Cached.{size_of, rules_of, AreRightAt, AreRows, AreRuleLists, HasMarksOf, IsOwner, IsRightAt, IsRoom, KeepsOthers, KeepsRows, RowsStoodBefore, StaysRight};
+ghost use Rattle.abt_reason.specs.Cached.{rows_for, rules_of, size_of, told_to, AreListsOf, AreRightAt, AreRows, HasMarksOf, IsOwner, IsRightAt, IsRoom, KeepsOthers, KeepsRows, RowsStoodBefore, StaysRight};
 
 use crate::grid::{OwnedRules, RuledOut};
 use crate::named::{NamedIn, Naming};
@@ -42,7 +40,7 @@ impl FirstRules {
     /// For an agent that was told nothing: a rule over its own variable alone may be false.
     pub fn new(alloc: Global, problem: &Problem, agent: u32) -> Result<FirstRules, Memory>
         requires { agent < length problem.now.domains }
-        ensures lists { IfOk result (λ rules. AreRuleLists problem.now agent rules.ruled_out.rows.items rules.ruled_out.counts.items rules.ruled_out.firsts.items rules.named.namings.items rules.room) }
+        ensures lists { IfOk result (λ rules. AreListsOf problem.now agent rules) }
         ensures kept { IfOk result (λ rules. KeepsRows problem.now agent (λ k. None) (rows_of (size_of problem.now agent) rules.ruled_out.rows.items)) }
     {
         let values = problem.domain(agent).len();
@@ -76,11 +74,11 @@ impl FirstRules {
     /// Takes in that the view has changed at one variable. It takes no memory.
     pub fn after_view(&mut self, owner: &Owner, var: u32)
         requires owner { IsOwner owner.now.problem.now owner.now.agent owner.now.rules.now owner.now.values }
-        requires lists { AreRuleLists owner.now.problem.now owner.now.agent self.old.ruled_out.rows.items self.old.ruled_out.counts.items self.old.ruled_out.firsts.items self.old.named.namings.items self.old.room }
-        requires domains { AreInDomains (csp_of owner.now.problem.now) (values_in (view_of owner.now.view.now)) }
-        requires stood { RowsStoodBefore owner.now.problem.now owner.now.agent var (values_in (view_of owner.now.view.now)) (rows_of (size_of owner.now.problem.now owner.now.agent) self.old.ruled_out.rows.items) }
-        ensures lists { AreRuleLists owner.now.problem.now owner.now.agent self.new.ruled_out.rows.items self.new.ruled_out.counts.items self.new.ruled_out.firsts.items self.new.named.namings.items self.new.room }
-        ensures kept { KeepsRows owner.now.problem.now owner.now.agent (values_in (view_of owner.now.view.now)) (rows_of (size_of owner.now.problem.now owner.now.agent) self.new.ruled_out.rows.items) }
+        requires lists { AreListsOf owner.now.problem.now owner.now.agent self.old }
+        requires domains { AreInDomains (csp_of owner.now.problem.now) (told_to owner.now) }
+        requires stood { RowsStoodBefore owner.now.problem.now owner.now.agent var (told_to owner.now) (rows_for owner.now self.old.ruled_out) }
+        ensures lists { AreListsOf owner.now.problem.now owner.now.agent self.new }
+        ensures kept { KeepsRows owner.now.problem.now owner.now.agent (told_to owner.now) (rows_for owner.now self.new.ruled_out) }
     {
         let namings = self.named.of(var);
         refresh_each(&mut self.ruled_out, &mut self.room, owner, namings);
@@ -90,12 +88,12 @@ impl FirstRules {
 /// Brings the row of each rule up to date.
 fn refresh_all(ruled_out: &mut RuledOut, room: &mut Marks, owner: &Owner)
     requires owner { IsOwner owner.now.problem.now owner.now.agent owner.now.rules.now owner.now.values }
-    requires domains { AreInDomains (csp_of owner.now.problem.now) (values_in (view_of owner.now.view.now)) }
+    requires domains { AreInDomains (csp_of owner.now.problem.now) (told_to owner.now) }
     requires room { IsRoom (size_of owner.now.problem.now owner.now.agent) room.old }
     requires rows { AreRows owner.now.problem.now owner.now.agent ruled_out.old.rows.items ruled_out.old.counts.items ruled_out.old.firsts.items }
     ensures room { IsRoom (size_of owner.now.problem.now owner.now.agent) room.new }
     ensures rows { AreRows owner.now.problem.now owner.now.agent ruled_out.new.rows.items ruled_out.new.counts.items ruled_out.new.firsts.items }
-    ensures right { KeepsRows owner.now.problem.now owner.now.agent (values_in (view_of owner.now.view.now)) (rows_of (size_of owner.now.problem.now owner.now.agent) ruled_out.new.rows.items) }
+    ensures right { KeepsRows owner.now.problem.now owner.now.agent (told_to owner.now) (rows_for owner.now ruled_out.new) }
 {
     for place in 0..owner.rules.len() {
         refresh(ruled_out, room, owner, place);
@@ -106,13 +104,13 @@ fn refresh_all(ruled_out: &mut RuledOut, room: &mut Marks, owner: &Owner)
 fn refresh_each(ruled_out: &mut RuledOut, room: &mut Marks, owner: &Owner, namings: &[Naming])
     requires within { All (λ (n : TheNaming). n.place < rules_of owner.now.problem.now owner.now.agent) namings.now }
     requires owner { IsOwner owner.now.problem.now owner.now.agent owner.now.rules.now owner.now.values }
-    requires domains { AreInDomains (csp_of owner.now.problem.now) (values_in (view_of owner.now.view.now)) }
+    requires domains { AreInDomains (csp_of owner.now.problem.now) (told_to owner.now) }
     requires room { IsRoom (size_of owner.now.problem.now owner.now.agent) room.old }
     requires rows { AreRows owner.now.problem.now owner.now.agent ruled_out.old.rows.items ruled_out.old.counts.items ruled_out.old.firsts.items }
     ensures room { IsRoom (size_of owner.now.problem.now owner.now.agent) room.new }
     ensures rows { AreRows owner.now.problem.now owner.now.agent ruled_out.new.rows.items ruled_out.new.counts.items ruled_out.new.firsts.items }
-    ensures kept { StaysRight owner.now.problem.now owner.now.agent (values_in (view_of owner.now.view.now)) ruled_out.old.rows.items ruled_out.new.rows.items }
-    ensures right { AreRightAt owner.now.problem.now owner.now.agent (values_in (view_of owner.now.view.now)) (rows_of (size_of owner.now.problem.now owner.now.agent) ruled_out.new.rows.items) namings.now }
+    ensures kept { StaysRight owner.now.problem.now owner.now.agent (told_to owner.now) ruled_out.old.rows.items ruled_out.new.rows.items }
+    ensures right { AreRightAt owner.now.problem.now owner.now.agent (told_to owner.now) (rows_for owner.now ruled_out.new) namings.now }
 {
     for naming in namings {
         refresh(ruled_out, room, owner, naming.place as usize);
@@ -123,12 +121,12 @@ fn refresh_each(ruled_out: &mut RuledOut, room: &mut Marks, owner: &Owner, namin
 fn refresh(ruled_out: &mut RuledOut, room: &mut Marks, owner: &Owner, place: usize)
     requires owner { IsOwner owner.now.problem.now owner.now.agent owner.now.rules.now owner.now.values }
     requires place { place < rules_of owner.now.problem.now owner.now.agent }
-    requires domains { AreInDomains (csp_of owner.now.problem.now) (values_in (view_of owner.now.view.now)) }
+    requires domains { AreInDomains (csp_of owner.now.problem.now) (told_to owner.now) }
     requires room { IsRoom (size_of owner.now.problem.now owner.now.agent) room.old }
     requires rows { AreRows owner.now.problem.now owner.now.agent ruled_out.old.rows.items ruled_out.old.counts.items ruled_out.old.firsts.items }
     ensures room { IsRoom (size_of owner.now.problem.now owner.now.agent) room.new }
     ensures rows { AreRows owner.now.problem.now owner.now.agent ruled_out.new.rows.items ruled_out.new.counts.items ruled_out.new.firsts.items }
-    ensures right { IsRightAt owner.now.problem.now owner.now.agent (values_in (view_of owner.now.view.now)) (rows_of (size_of owner.now.problem.now owner.now.agent) ruled_out.new.rows.items) place }
+    ensures right { IsRightAt owner.now.problem.now owner.now.agent (told_to owner.now) (rows_for owner.now ruled_out.new) place }
     ensures others { KeepsOthers (size_of owner.now.problem.now owner.now.agent) place ruled_out.old.rows.items ruled_out.new.rows.items }
 {
     let rule = owner.rules[place];
@@ -150,10 +148,10 @@ fn refresh(ruled_out: &mut RuledOut, room: &mut Marks, owner: &Owner, place: usi
 fn fill(owner: &Owner, rule: u32, room: &mut Marks)
     requires agent { owner.now.agent < length owner.now.problem.now.domains }
     requires rule { rule < length owner.now.problem.now.rules }
-    requires domains { AreInDomains (csp_of owner.now.problem.now) (values_in (view_of owner.now.view.now)) }
+    requires domains { AreInDomains (csp_of owner.now.problem.now) (told_to owner.now) }
     requires room { IsRoom (size_of owner.now.problem.now owner.now.agent) room.old }
     ensures room { IsRoom (size_of owner.now.problem.now owner.now.agent) room.new }
-    ensures marks { HasMarksOf owner.now.problem.now rule owner.now.agent (values_in (view_of owner.now.view.now)) room.new }
+    ensures marks { HasMarksOf owner.now.problem.now rule owner.now.agent (told_to owner.now) room.new }
 {
     if let Marks::Row(row) = room {
         let known = ViewValues { view: owner.view };

@@ -1,7 +1,11 @@
 -- Sums in which one variable is left open.
-use Rattle.std.specs.Prelude.{◌≡◌, ℕ, ◌+◌, ◌*◌, ◌≤◌, ℤ, pos, ◌+ℤ◌, ◌*ℤ◌, Bool, true, false, not, List, [], ◌∷◌, Option, Some, None, ◌&&◌, is_some, unsigned_abs, unwrap_or}
-use Rattle.dcsp_meaning.specs.Sums.{stands}
-use Rattle.dcsp_rule.specs.Rules.{is_told}
+use Rattle.std.specs.Prelude.{◌≡◌, ℕ, ◌+◌, ◌*◌, ◌≤◌, ℤ, pos, ◌+ℤ◌, ◌*ℤ◌, Bool, true, false, not, List, [], ◌∷◌, Option, Some, None, ◌&&◌, is_some, sum_by, unsigned_abs, unwrap_or}
+use Rattle.dcsp_defs.specs.Csp.{PartialAssignment, filled, with_value}
+use Rattle.dcsp_meaning.specs.Sums.{size_of, stands, sum_of}
+use Rattle.dcsp_rule.specs.declared.pair.BinaryRule.{BinaryRule}
+use Rattle.dcsp_rule.specs.declared.rule.Term.{Term}
+use Rattle.dcsp_rule.specs.Pairs.{pair_sum}
+use Rattle.dcsp_rule.specs.Rules.{is_told, weighted_values}
 use Rattle.dcsp_row.specs.declared.known.ValueOrOpen.{ValueOrOpen}
 use Rattle.dcsp_row.specs.declared.known.ValueOrOpen.TheVariants.{Open, Value}
 use Rattle.dcsp_row.specs.declared.line.LinearSum.{LinearSum}
@@ -53,9 +57,27 @@ abbrev pub open_coef : ℤ → Option ℤ → List ℤ
 open_coef coef None = coef ∷ []
 open_coef coef (Some value) = []
 
--- whether a sum with an open variable is false where that has this value: it stands so to the total, or is told not to
+-- the sum of each coefficient times its term, and the size of that, where the open variable has a value beside those that are known
+abbrev pub sum_with : ℕ → PartialAssignment → List ℤ → List Term → ℤ → ℤ
+sum_with var known coefs terms x = sum_of (weighted_values (filled (with_value var x known)) coefs terms)
+
+abbrev pub size_with : ℕ → PartialAssignment → List ℤ → List Term → ℤ → ℕ
+size_with var known coefs terms x = sum_by size_of (weighted_values (filled (with_value var x known)) coefs terms)
+
+-- whether both variables of a pair have a value, and the sum of its products under these values
+abbrev pub knows_both : BinaryRule → PartialAssignment → Bool
+knows_both pair values = is_some (values pair.first) && is_some (values pair.second)
+
+abbrev pub pair_sum_under : BinaryRule → PartialAssignment → ℤ
+pair_sum_under pair values = pair_sum pair (filled values pair.first) (filled values pair.second)
+
+-- whether a sum with an open variable is true where that has this value: it stands so to the total, or is told not to
+abbrev pub is_on : OpenSum → ℤ → Bool
+is_on opened value = is_told (told_at opened.told value) (stands opened.rel (line_at opened.line value) (unwrap_or opened.total value))
+
+-- whether it is false there
 abbrev pub is_off : OpenSum → ℤ → Bool
-is_off opened value = not (is_told (told_at opened.told value) (stands opened.rel (line_at opened.line value) (unwrap_or opened.total value)))
+is_off opened value = not (is_on opened value)
 
 -- whether there is one, and the open variable tells neither total nor truth
 abbrev pub is_line : Option OpenSum → Bool

@@ -1,5 +1,5 @@
 -- Rows of tables, where one variable is open.
-use Rattle.std.specs.Prelude.{◌≡◌, ◌⊎◌, ℕ, ℤ, Bool, true, false, not, List, map}
+use Rattle.std.specs.Prelude.{◌≡◌, ◌⊎◌, ◌<◌, ℕ, ℤ, Bool, true, false, not, List, length, map, slice_index_or, if◌then◌else◌}
 use Rattle.std.specs.Ordering.{int_eq}
 use Rattle.dcsp_meaning.specs.declared.kinds.ConstraintKind.{ConstraintKind}
 use Rattle.dcsp_meaning.specs.declared.kinds.ConstraintKind.TheVariants as kind
@@ -11,12 +11,21 @@ use Rattle.dcsp_rule.specs.declared.rule.Term.{Term}
 use Rattle.dcsp_rule.specs.Rules.{value_under}
 use Rattle.dcsp_row.specs.declared.tables.Fit.{Fit}
 use Rattle.dcsp_row.specs.declared.tables.Fit.TheVariants.{Always, At, Never}
+use Rattle.dcsp_row.specs.Rows.{own_at}
 
 -- whether it fits at this value of the open variable
 abbrev pub fits : Fit → ℤ → Bool
 fits Always value = true
 fits (At other) value = int_eq value other
 fits Never value = false
+
+-- whether two terms have equal values
+abbrev pub are_equal_under : PartialAssignment → Term → Term → Bool
+are_equal_under values x y = int_eq (value_under (filled values) x) (value_under (filled values) y)
+
+-- where it fits the values have this mark, and elsewhere the one that they had
+abbrev pub MarksFit : List ℤ → Fit → Bool → List Bool → List Bool → Type 0
+MarksFit domain fit mark old new = (place : ℕ) → place < length domain → slice_index_or new place false ≡ (if fits fit (own_at domain place) then mark else slice_index_or old place false)
 
 -- the values of terms, where the open variable has this one
 abbrev pub values_at : ℕ → PartialAssignment → List Term → ℤ → List ℤ

@@ -3,7 +3,7 @@
 //! What leads from a pair of variables to its span runs for each rule at each change of a view. It is inlined, as
 //! is what takes the span in, so that no span is copied through memory from call to call.
 
-ghost use Rattle.std.specs.Prelude.{◌≡◌, ◌<◌, ◌≤◌, ℤ, length, IfSome, IsTrue, is_some, not};
+ghost use Rattle.std.specs.Prelude.{◌≡◌, ◌<◌, ℤ, length, IfSome, IsTrue, is_some, not};
 ghost use Rattle.dcsp_defs.specs.Csp.{domain};
 ghost use Rattle.dcsp_rule.specs.Problems.{csp_of, rule_at, AreInDomains};
 ghost use Rattle.dcsp_meaning.specs.Sums.{widest};
@@ -24,7 +24,7 @@ use crate::line::{line_of, line_of_pair};
 use crate::row::Row;
 use crate::span::Span;
 use crate::sums::{OpenSum, fill_sum, missed_line, off_span, told_by};
-use crate::tables::fill_table;
+use crate::tables::{IntTable, fill_table};
 use dcsp_domain::Domain;
 use dcsp_problem::{BinaryRule, ConstraintKind, Lookup, Problem, RuleRef, Term};
 
@@ -142,7 +142,12 @@ fn fill_known<L: Lookup>(
         } => match told_table(kind, scalars, open_var) {
             None => false,
             Some(told) => {
-                fill_table(first, second, told, domain, open_var, row);
+                let rule = IntTable {
+                    row: first,
+                    table: second,
+                    told,
+                };
+                fill_table(rule, domain, open_var, row);
                 true
             }
         },

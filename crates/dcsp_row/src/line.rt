@@ -1,13 +1,12 @@
 //! Sums in which one variable is left open.
 
-ghost use Rattle.std.specs.Prelude.{◌≡◌, ◌+◌, ◌*◌, ◌<◌, ◌≤◌, ◌^◌, ◌+ℤ◌, ◌*ℤ◌, ◌++◌, ℕ, ℤ, IfSome, IsNone, is_some, ◌&&◌, length, option_to_list, unsigned_abs, sum_by};
-ghost use Rattle.dcsp_meaning.specs.Sums.{sum_of, size_of, widest};
-ghost use Rattle.dcsp_defs.specs.Csp.{filled, with_value};
-ghost use Rattle.dcsp_rule.specs.Rules.{weighted_values};
-ghost use Rattle.dcsp_rule.specs.Pairs.{pair_sum, IsSmall};
+ghost use Rattle.std.specs.Prelude.{◌≡◌, ◌+◌, ◌*◌, ◌<◌, ◌≤◌, ◌^◌, ◌+ℤ◌, ◌*ℤ◌, ◌++◌, ℤ, IfSome, IsNone, is_some, length, option_to_list, unsigned_abs};
+ghost use Rattle.dcsp_meaning.specs.Sums.{widest};
+ghost use Rattle.dcsp_defs.specs.Csp.{with_value};
+ghost use Rattle.dcsp_rule.specs.Pairs.{IsSmall};
 ghost use Rattle.dcsp_row.specs.Rows.{FitAtEach};
 ghost use Rattle.dcsp_row.specs.Easy.{own_coefs};
-ghost use Rattle.dcsp_row.specs.Lines.{line_at, line_size, open_coef, value_or_open_at, AddsTerm};
+ghost use Rattle.dcsp_row.specs.Lines.{knows_both, line_at, line_size, open_coef, pair_sum_under, size_with, sum_with, value_or_open_at, AddsTerm};
 
 use crate::known::{OpenVariable, ValueOrOpen, known_value, value_or_open};
 use dcsp_domain::Domain;
@@ -30,8 +29,8 @@ pub fn line_of<L: Lookup>(
 ) -> Option<LinearSum>
     requires shape { length coefs.now ≡ length terms.now }
     requires some { 0 < length domain.now }
-    requires narrow { FitAtEach (λ x. sum_by size_of (weighted_values (filled (with_value open_var.now.var x (L.values open_var.now.lookup.now))) coefs.now terms.now)) widest domain.now }
-    ensures sum { IfSome result (λ line. (x : ℤ) → line_at line x ≡ sum_of (weighted_values (filled (with_value open_var.now.var x (L.values open_var.now.lookup.now))) coefs.now terms.now)) }
+    requires narrow { FitAtEach (size_with open_var.now.var (L.values open_var.now.lookup.now) coefs.now terms.now) widest domain.now }
+    ensures sum { IfSome result (λ line. (x : ℤ) → line_at line x ≡ sum_with open_var.now.var (L.values open_var.now.lookup.now) coefs.now terms.now x) }
     ensures size { IfSome result (λ line. FitAtEach (line_size line) widest domain.now) }
     ensures own { IfSome result (λ line. option_to_list line.own ≡ own_coefs open_var.now.var coefs.now terms.now) }
     ensures many { IsNone result → 1 < length (own_coefs open_var.now.var coefs.now terms.now) }
@@ -87,8 +86,8 @@ pub fn line_of_pair<L: Lookup>(
     open_var: &OpenVariable<'_, L>,
 ) -> Option<LinearSum>
     requires { IsSmall pair }
-    ensures known { (x : ℤ) → let values = with_value open_var.now.var x (L.values open_var.now.lookup.now) in is_some result ≡ (is_some (values pair.first) && is_some (values pair.second)) }
-    ensures sum { IfSome result (λ line. (x : ℤ) → let values = filled (with_value open_var.now.var x (L.values open_var.now.lookup.now)) in line_at line x ≡ pair_sum pair (values pair.first) (values pair.second)) }
+    ensures known { (x : ℤ) → is_some result ≡ knows_both pair (with_value open_var.now.var x (L.values open_var.now.lookup.now)) }
+    ensures sum { IfSome result (λ line. (x : ℤ) → line_at line x ≡ pair_sum_under pair (with_value open_var.now.var x (L.values open_var.now.lookup.now))) }
     ensures base { IfSome result (λ line. unsigned_abs line.base ≤ widest) }
 {
     let Some(first) = value_or_open(pair.first, open_var) else {

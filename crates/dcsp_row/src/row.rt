@@ -145,7 +145,7 @@ fn no_bits(alloc: Global, count: usize) -> Result<Vec<u64>, Memory>
     ensures size { IfOk result (λ words. length words.items ≡ count) }
     ensures none { IfOk result (λ words. (block : ℕ) → slice_index_or words.items block 0 ≡ 0) }
 {
-    vec![in alloc; 0; count].map_err(|_| Memory)
+    vec![in alloc; 0; count]
 }
 
 /// The word of a block, which has no bit where there is none.

@@ -1,13 +1,13 @@
 //! Rows of sums.
 
-ghost use Rattle.std.specs.Prelude.{◌≡◌, ◌<◌, ◌≤◌, ◌^◌, ℤ, Some, IfSome, IsTrue, is_some, length, false, not, option_to_list, slice_index_or, unsigned_abs, unwrap_or};
+ghost use Rattle.std.specs.Prelude.{◌≡◌, ◌<◌, ◌≤◌, ◌^◌, ℤ, Some, IfSome, IsTrue, is_some, length, not, unsigned_abs, unwrap_or};
 ghost use Rattle.std.specs.Option.{option_map};
 ghost use Rattle.dcsp_meaning.specs.Sums.{stands, widest};
 ghost use Rattle.dcsp_defs.specs.Csp.{filled, with_value};
 ghost use Rattle.dcsp_rule.specs.Rules.{is_told, value_under};
 ghost use Rattle.dcsp_row.specs.Rows.{own_at, MarksWhere, FitAtEach};
 ghost use Rattle.dcsp_row.specs.Easy.{is_truth};
-ghost use Rattle.dcsp_row.specs.Lines.{is_known, is_line, is_off, line_at, line_size, told_at};
+ghost use Rattle.dcsp_row.specs.Lines.{is_known, is_line, is_off, is_on, line_at, line_size, told_at};
 ghost use Rattle.dcsp_row.specs.Spans.{SpansWhere};
 
 use crate::cut::{missed_after, missed_before, product_span};
@@ -104,7 +104,7 @@ pub fn fill_sum(opened: OpenSum, domain: &Domain, row: &mut Row)
 fn holds_at(opened: OpenSum, domain: &Domain, place: usize) -> bool
     requires place { place < length domain.now }
     requires narrow { line_size opened.line (own_at domain.now place) ≤ widest }
-    ensures { result ≡ is_told (told_at opened.told (own_at domain.now place)) (stands opened.rel (line_at opened.line (own_at domain.now place)) (unwrap_or opened.total (own_at domain.now place))) }
+    ensures { result ≡ is_on opened (own_at domain.now place) }
 {
     let value = domain.value(place);
     let sum = sum_at(opened.line, value);

@@ -1,11 +1,10 @@
 //! Tables of integers in which one variable is open: what each row of a table asks of it, in one pass over the rows.
 
-ghost use Rattle.std.specs.Prelude.{◌≡◌, ◌+◌, ◌<◌, ◌≤◌, ◌&&◌, ℕ, ℤ, false, length, slice_index_or, unwrap_or, if◌then◌else◌};
+ghost use Rattle.std.specs.Prelude.{◌≡◌, ◌+◌, ◌<◌, ◌≤◌, ◌&&◌, ℤ, length, unwrap_or};
 ghost use Rattle.std.specs.Ordering.{int_eq};
-ghost use Rattle.dcsp_defs.specs.Csp.{filled, with_value};
-ghost use Rattle.dcsp_rule.specs.Rules.{value_under};
-ghost use Rattle.dcsp_row.specs.Rows.{own_at, MarksWhere};
-ghost use Rattle.dcsp_row.specs.Tables.{fits, stands_open, is_off_table};
+ghost use Rattle.dcsp_defs.specs.Csp.{with_value};
+ghost use Rattle.dcsp_row.specs.Rows.{MarksWhere};
+ghost use Rattle.dcsp_row.specs.Tables.{are_equal_under, fits, is_off_table, stands_open, MarksFit};
 
 use crate::known::{OpenVariable, known_value};
 use crate::row::Row;
@@ -57,7 +56,7 @@ fn both(a: Fit, b: Fit) -> Fit
 
 /// Where two terms have equal values.
 fn terms_fit<L: Lookup>(x: Term, y: Term, open_var: &OpenVariable<'_, L>) -> Fit
-    ensures { (value : ℤ) → let values = filled (with_value open_var.now.var value (L.values open_var.now.lookup.now)) in fits result value ≡ int_eq (value_under values x) (value_under values y) }
+    ensures { (value : ℤ) → fits result value ≡ are_equal_under (with_value open_var.now.var value (L.values open_var.now.lookup.now)) x y }
 {
     fit_of(known_value(x, open_var), known_value(y, open_var))
 }
@@ -86,7 +85,7 @@ fn row_fits<L: Lookup>(
 fn put_where(marks: &mut Row, domain: &Domain, fit: Fit, mark: bool)
     requires { length marks.old ≡ length domain.now }
     ensures size { length marks.new ≡ length domain.now }
-    ensures marks { (place : ℕ) → place < length domain.now → slice_index_or marks.new place false ≡ (if fits fit (own_at domain.now place) then mark else slice_index_or marks.old place false) }
+    ensures marks { MarksFit domain.now fit mark marks.old marks.new }
 {
     let _places = domain.len();
     match fit {
@@ -100,22 +99,28 @@ fn put_where(marks: &mut Row, domain: &Domain, fit: Fit, mark: bool)
     }
 }
 
+/// A table of integers, whose rows are as long as `row`, and whether one of them is told to be `row`, or none.
+#[derive(Clone, Copy)]
+pub struct IntTable<'a> {
+    pub row: &'a [Term],
+    pub table: &'a [Term],
+    pub told: bool,
+}
+
 /// For each value of the open variable whether 'some row of the table is this row' is not as it is told.
 pub fn fill_table<L: Lookup>(
-    row: &[Term],
-    table: &[Term],
-    told: bool,
+    rule: IntTable<'_>,
     domain: &Domain,
     open_var: &OpenVariable<'_, L>,
     marks: &mut Row,
 )
-    requires some { 0 < length row.now }
+    requires some { 0 < length rule.row.now }
     requires size { length marks.old ≡ length domain.now }
-    ensures { MarksWhere (is_off_table open_var.now.var (L.values open_var.now.lookup.now) row.now table.now told) domain.now marks.new }
+    ensures { MarksWhere (is_off_table open_var.now.var (L.values open_var.now.lookup.now) rule.entry.row.now rule.entry.table.now rule.entry.told) domain.now marks.new }
 {
-    marks.mark_span(Span::whole(told));
-    for number in 0..table.len() / row.len() {
-        let fit = row_fits(row, table, number * row.len(), open_var);
-        put_where(marks, domain, fit, !told);
+    marks.mark_span(Span::whole(rule.told));
+    for number in 0..rule.table.len() / rule.row.len() {
+        let fit = row_fits(rule.row, rule.table, number * rule.row.len(), open_var);
+        put_where(marks, domain, fit, !rule.told);
     }
 }

@@ -12,5 +12,5 @@ invariant-loop-number g l = record {
   marks : (place : ℕ) → place < length l.domain →
       let known = g.L.Lookup.values l.open_var.lookup.now in
       let value = own_at l.domain place in
-      slice_index_or l.marks place false ≡ (if is_among_rows int_eq (values_at l.open_var.var known l.row value) (values_at l.open_var.var known l.table value) l.number then not l.told else l.told);
+      slice_index_or l.marks place false ≡ (if is_among_rows int_eq (values_at l.open_var.var known l.rule.row.now value) (values_at l.open_var.var known l.rule.table.now value) l.number then not l.rule.told else l.rule.told);
 }
