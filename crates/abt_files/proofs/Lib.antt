@@ -1,2 +1,3 @@
+pub mod Filling
 pub mod Places
 pub mod Texts

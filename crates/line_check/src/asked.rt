@@ -36,8 +36,5 @@ fn bounded(problem: Problem, better: Option<i64>) -> Result<Problem, CommandErro
     if problem.aim().variable().is_none() {
         return Err(CommandError::NoAim);
     }
-    match problem.narrowed(bound) {
-        Ok(narrowed) => Ok(narrowed),
-        Err(_) => Err(CommandError::Memory),
-    }
+    Ok(problem.narrowed(bound)?)
 }

@@ -47,10 +47,8 @@ fn check_piece<F: Folder>(
         Err(FolderError::Failed) => return Err(Stop::Fault),
         Err(FolderError::Memory) => return Err(Stop::Memory),
     };
-    match check.take_piece(&piece) {
-        Ok(()) => Ok(fetched),
-        Err(_) => Err(Stop::Memory),
-    }
+    check.take_piece(&piece)?;
+    Ok(fetched)
 }
 
 /// Checks the log under the name from its first byte on. `Part` comes exactly where it has more than

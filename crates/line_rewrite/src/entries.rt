@@ -110,10 +110,8 @@ fn take_numbers(endings: &Endings, place: usize, numbers: &mut Vec<u64>) -> Resu
         → IfOk result (λ count. count ≡ length ending) }
 {
     numbers.clear();
-    match endings.add_numbers(place, numbers) {
-        Ok(()) => Ok(numbers.len() as u64),
-        Err(_) => Err(AllocError),
-    }
+    endings.add_numbers(place, numbers)?;
+    Ok(numbers.len() as u64)
 }
 
 /// Appends the line of a deletion of the steps with these numbers, if there are any. It is made in `line`.
@@ -133,8 +131,6 @@ fn append_deletion<F: Folder>(
         return Ok(());
     }
     line.clear();
-    match write_deletion(numbers, line) {
-        Ok(()) => append(folder, name, line),
-        Err(_) => Err(Stop::Memory),
-    }
+    write_deletion(numbers, line)?;
+    append(folder, name, line)
 }

@@ -67,12 +67,8 @@ fn append_step<F: Folder>(
         (outside (F.place folder.old) out) (outside (F.place folder.new) out) result }
     ensures created { (F.place folder.new).created ≡ (F.place folder.old).created }
 {
-    let Ok(step) = steps.step(place) else {
-        return Err(Stop::Memory);
-    };
+    let step = steps.step(place)?;
     line.clear();
-    match write_step(place as u64 + 1, &step, line) {
-        Ok(()) => append(folder, name, line),
-        Err(_) => Err(Stop::Memory),
-    }
+    write_step(place as u64 + 1, &step, line)?;
+    append(folder, name, line)
 }

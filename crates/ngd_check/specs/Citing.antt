@@ -8,7 +8,7 @@ use Rattle.dcsp_defs.specs.declared.Reason.{Reason}
 use Rattle.dcsp_defs.specs.declared.Reason.TheVariants.{Rule, Earlier}
 use Rattle.dcsp_defs.specs.declared.Step.{Step}
 use Rattle.dcsp_defs.specs.Words.{In}
-use Rattle.dcsp_defs.specs.Csp.{Csp, Nogood, PartialAssignment, agrees, given_with, domain, count}
+use Rattle.dcsp_defs.specs.Csp.{Csp, Nogood, PartialAssignment, agrees, given_with, with_value, domain, count}
 use Rattle.dcsp_defs.specs.Derivation.{step_at, IsFalseRule, IsKnownPair, IsRightNowhere}
 
 -- the nogood at hand for each number, if there is one
@@ -27,6 +27,10 @@ IsReasonUnder p cited known (Earlier number) = AgreesWith cited known number
 -- why x has not the value v where the pairs hold
 abbrev pub IsReasonCiting : Csp → Cited → Nogood → ℕ → ℤ → Reason → Type 0
 IsReasonCiting p cited pairs x v = IsReasonUnder p cited (given_with x v pairs)
+
+-- each value of the variable x has a reason under these values, at its place
+abbrev pub AreReasonsUnder : Csp → Cited → ℕ → PartialAssignment → List Reason → Type 0
+AreReasonsUnder p cited x known reasons = AllZip (λ value. IsReasonUnder p cited (with_value x value known)) (domain p x) reasons
 
 -- a right step at the variable x: there is one reason for each value, at its place
 pub record IsRightAtCiting (p : Csp) (cited : Cited) (x : ℕ) (step : Step) : Type 0 where

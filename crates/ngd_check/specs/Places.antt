@@ -63,6 +63,10 @@ step_in p lists rests k = step_of p (slice_index_or lists k None) (slice_index_o
 abbrev pub steps_in : Csp → List (Option (List Placed)) → List Rest → List Step
 steps_in p lists rests = values_below (step_in p lists rests) (length rests)
 
+-- what is kept for this problem in lists, some of them marked as dropped, and rests
+abbrev pub kept_for : Contents → List (Option (List Placed)) → List Bool → List Rest → Bool → KeptFor
+kept_for problem lists dropped rests keeps = record { problem = problem; nogoods = nogoods_of (csp_of problem) lists dropped; keeps = keeps; steps = steps_in (csp_of problem) lists rests }
+
 -- what stands past the last step
 abbrev pub no_step : Step
 no_step = record { variable = None; nogood = []; reasons = [] }

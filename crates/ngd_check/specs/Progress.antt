@@ -1,5 +1,6 @@
 -- How far a checker is, and what it has taken.
-use Rattle.std.specs.Prelude.{◌≡◌, ◌↔◌, ◌≤◌, ℕ, zero, suc, ℤ, Bool, true, false, List, [], length, slice_index_or, Option, None, MatchOption}
+use Rattle.std.specs.Prelude.{◌≡◌, ◌↔◌, ◌≤◌, ℕ, zero, suc, ℤ, Bool, true, false, List, [], length, slice_index_or, Option, None, MatchOption, ◌==◌, if◌then◌else◌}
+use Rattle.std.specs.List.{list_any}
 use Rattle.dcsp_defs.specs.Csp.{Csp, IsCsp, Nogood}
 use Rattle.dcsp_defs.specs.Derivation.{EndsEmpty}
 use Rattle.dcsp_rule.specs.Problems.{Contents, csp_of}
@@ -8,6 +9,7 @@ use Rattle.dcsp_defs.specs.declared.Step.{Step}
 use Rattle.ngd_check.specs.declared.Finding.{Finding}
 use Rattle.ngd_check.specs.declared.Finding.TheVariants.{Verified, BadStep, BadDeletion, NotEmpty}
 use Rattle.ngd_check.specs.Citing.{Cited}
+use Rattle.ngd_check.specs.Places.{KeptFor}
 use Rattle.ngd_check.specs.Tables.{IsClear}
 use Rattle.ngd_check.specs.Entries.{steps_of, is_deleted, cited_after, AreRight}
 use Rattle.ngd_check.specs.Findings.{IsFirstWrongStep, IsFirstWrongDeletion, IsFindingOf}
@@ -20,6 +22,10 @@ pub record Progress : Type 0 where
   pub wrong : Option Finding
   pub keeps : Bool
   pub steps : List Step
+
+-- with what is kept for a problem, whether the last step's nogood is empty, and what is found of the first wrong entry
+abbrev pub progress_of : KeptFor → Bool → Option Finding → Progress
+progress_of kept ends_empty wrong = record { problem = kept.problem; kept = kept.nogoods; ends_empty = ends_empty; wrong = wrong; keeps = kept.keeps; steps = kept.steps }
 
 -- the problem is well formed, and has so many variables
 pub record IsOver (vars : ℕ) (problem : Contents) : Type 0 where
@@ -35,6 +41,10 @@ pub record IsAtRest (vars : ℕ) (problem : Contents) (present : List (Option �
 abbrev pub kept_at : List (Option Nogood) → Cited
 kept_at kept zero = None
 kept_at kept (suc k) = slice_index_or kept k None
+
+-- of the nogoods that were kept those with these numbers were dropped, and no other
+abbrev pub AreDropped : List ℕ → List (Option Nogood) → List (Option Nogood) → Type 0
+AreDropped numbers old new = (number : ℕ) → kept_at new number ≡ (if list_any (λ dropped. number == dropped) numbers then None else kept_at old number)
 
 -- no entry was wrong, what is kept is what numbers cite, and deletions have numbers of steps alone
 pub record HasTakenRight (p : Csp) (entries : List Entry) (kept : List (Option Nogood)) (ends_empty : Bool) : Type 0 where

@@ -45,11 +45,11 @@ pub struct Checker<'p> {
 }
 
 impl<'p> Model for Checker<'p> {
-    ghost use Rattle.ngd_check.specs.Progress.{Progress, IsAtRest};
+    ghost use Rattle.ngd_check.specs.Progress.{Progress, progress_of, IsAtRest};
 
     ghost Value = { Progress };
 
-    ghost view = { λ checker. record { problem = checker.kept.problem; kept = checker.kept.nogoods; ends_empty = checker.ends_empty; wrong = checker.wrong; keeps = checker.kept.keeps; steps = checker.kept.steps } };
+    ghost view = { λ checker. progress_of checker.kept checker.ends_empty checker.wrong };
 
     ghost invariant = { λ checker. IsAtRest checker.vars checker.kept.problem checker.present };
 }

@@ -7,7 +7,7 @@ ghost use Rattle.dcsp_rule.specs.Problems.{csp_of};
 ghost use Rattle.ngd_check.specs.Citing.{AgreesWith};
 ghost use Rattle.ngd_check.specs.Places.{ArePlaced, IsListOf, IsNumber, list_at};
 ghost use Rattle.ngd_store.specs.declared.arena.TheConstants.{NO_VAR};
-ghost use Rattle.ngd_check.specs.Progress.{kept_at};
+ghost use Rattle.ngd_check.specs.Progress.{kept_at, AreDropped};
 
 use crate::cites::Cites;
 use crate::given::Given;
@@ -34,11 +34,11 @@ pub struct Kept<'p> {
 
 impl<'p> Model for Kept<'p> {
     ghost use Rattle.dcsp_rule.specs.Problems.{csp_of};
-    ghost use Rattle.ngd_check.specs.Places.{KeptFor, nogoods_of, steps_in, AreStored};
+    ghost use Rattle.ngd_check.specs.Places.{KeptFor, kept_for, AreStored};
 
     ghost Value = { KeptFor };
 
-    ghost view = { λ kept. record { problem = kept.problem.now; nogoods = nogoods_of (csp_of kept.problem.now) kept.lists kept.dropped.items; keeps = kept.keeps; steps = steps_in (csp_of kept.problem.now) kept.lists kept.rests } };
+    ghost view = { λ kept. kept_for kept.problem.now kept.lists kept.dropped.items kept.rests kept.keeps };
 
     ghost invariant = { λ kept. AreStored (csp_of kept.problem.now) kept.lists kept.dropped.items kept.rests kept.keeps };
 }
@@ -134,7 +134,7 @@ impl<'p> Kept<'p> {
         ensures keeps { self.new.keeps ≡ self.old.keeps }
         ensures count { length self.new.nogoods ≡ length self.old.nogoods }
         ensures steps { self.new.steps ≡ self.old.steps }
-        ensures dropped { OnOk result ((number : ℕ) → kept_at self.new.nogoods number ≡ (if list_any (λ dropped. number == dropped) numbers.now then None else kept_at self.old.nogoods number)) }
+        ensures dropped { OnOk result (AreDropped numbers.now self.old.nogoods self.new.nogoods) }
         ensures err { OnErr result (self.new ≡ self.old) }
     {
         if self.keeps {

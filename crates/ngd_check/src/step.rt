@@ -1,15 +1,14 @@
 //! Whether a step is right, where reasons may cite the nogoods at hand.
 
 ghost use Rattle.std.specs.Prelude.{All, ◌≡◌, ◌<◌, ◌≤◌, ◌↔◌, ℕ, ℤ, length, IsTrue, IfOk, Some, slice_get};
-ghost use Rattle.std.specs.List.{AllZip};
 ghost use Rattle.dcsp_defs.specs.declared.nogood.Pair.{Pair};
 ghost use Rattle.dcsp_defs.specs.Pairs.{value_at};
 ghost use Rattle.dcsp_defs.specs.Words.{In};
-ghost use Rattle.dcsp_defs.specs.Csp.{domain, with_value};
+ghost use Rattle.dcsp_defs.specs.Csp.{with_value};
 ghost use Rattle.dcsp_defs.specs.Derivation.{IsKnownPair, IsFalseAlone, IsRightNowhere};
 ghost use Rattle.dcsp_rule.specs.Problems.{csp_of, AreInDomains};
 ghost use Rattle.ngd_check.specs.Tables.{IsClear};
-ghost use Rattle.ngd_check.specs.Citing.{IsReasonUnder, IsRightAtCiting, IsRightCiting};
+ghost use Rattle.ngd_check.specs.Citing.{IsReasonUnder, AreReasonsUnder, IsRightAtCiting, IsRightCiting};
 
 use crate::cites::Cites;
 use crate::given::{Given, Nothing, Searched};
@@ -126,7 +125,7 @@ fn are_reasons<C: Cites, L: Lookup>(
 ) -> bool
     requires variable { var < length problem.now.domains }
     requires known { AreInDomains (csp_of problem.now) (L.values known.now) }
-    ensures { IsTrue result ↔ AllZip (λ value. IsReasonUnder (csp_of problem.now) (C.cited nogoods.now) (with_value var value (L.values known.now))) (domain (csp_of problem.now) var) reasons.now }
+    ensures { IsTrue result ↔ AreReasonsUnder (csp_of problem.now) (C.cited nogoods.now) var (L.values known.now) reasons.now }
 {
     let values = problem.domain(var);
     if reasons.len() != values.len() {

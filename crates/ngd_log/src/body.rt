@@ -135,6 +135,7 @@ fn after_line(gathered: &mut Gathered, standing: Standing, line: &[u8]) -> After
 
 /// Takes the next entry, whose whole line a piece begins with, lends it, and gives what stands after its line; its line
 /// feed is not looked for beforehand. Nothing is taken, and nothing lent, where the piece begins with anything else.
+#[inline(always)]
 pub fn take_entry<'t>(body: &mut ReaderBody, piece: &'t [u8]) -> Option<&'t [u8]>
     requires sound { IsSound (kept body.old) }
     requires room { body.old.fed + length piece.now ≤ 2 ^ 63 }
@@ -242,10 +243,9 @@ fn append_line(body: &mut ReaderBody, line: &[u8], into: &mut Entries)
     ensures sound { IsSound (kept body.new) }
 {
     take_line(body, line);
-    let Err(_) = append_lent(body, into) else {
-        return;
-    };
-    body.standing = Standing::Refused(LogError::Memory);
+    if append_lent(body, into).is_err() {
+        body.standing = Standing::Refused(LogError::Memory);
+    }
 }
 
 /// Takes a piece. The entries of the lines that it completes are appended.

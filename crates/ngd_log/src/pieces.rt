@@ -75,7 +75,8 @@ impl LogReader {
     /// lends the entry of that line. It answers what is left, and `None` where the piece had no line feed.
     ///
     /// The text with this piece has at most 2^63 bytes. A bad line and what follows it lend nothing, and are told by
-    /// `finish`. After `Memory` each later call answers that, and so does `finish`.
+    /// `finish`. After `Memory` each later call answers that, and so does `finish`. Inlined: each line takes a call.
+    #[inline(always)]
     pub fn take_line<'t>(&mut self, piece: &'t [u8]) -> Result<Option<&'t [u8]>, Memory>
         requires { self.old.fed + length piece.now ≤ 2 ^ 63 }
         ensures line { IfOk result (λ rest. IfSome rest (λ others. TakesFront self.old self.new piece.now others.now)) }

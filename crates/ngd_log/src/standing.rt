@@ -1,5 +1,4 @@
 //! Versions of logs, and where a reader of a log stands.
-
 ghost use Rattle.std.specs.Prelude.{◌≡◌, OnOk, OnErr};
 ghost use Rattle.ngd_log.specs.Pieces.{refusal_of, fault_of, Tells};
 

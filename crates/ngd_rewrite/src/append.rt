@@ -58,14 +58,12 @@ fn copy_of(alloc: Global, step: &Step) -> Result<Step, Memory>
     ensures { IfOk result (λ copy. copy ≡ step.now) }
 {
     let nogood = step.nogood.copy(alloc)?;
-    match Vec::from_slice(alloc, step.reasons.items()) {
-        Ok(reasons) => Ok(Step {
-            variable: step.variable,
-            nogood,
-            reasons: ReasonList::from_vec(reasons),
-        }),
-        Err(_) => Err(Memory),
-    }
+    let reasons = Vec::from_slice(alloc, step.reasons.items())?;
+    Ok(Step {
+        variable: step.variable,
+        nogood,
+        reasons: ReasonList::from_vec(reasons),
+    })
 }
 
 /// Appends a deletion, if it has a number.

@@ -89,10 +89,7 @@ fn no_places(alloc: Global, count: usize) -> Result<Vec<usize>, Memory>
     ensures count { IfOk result (λ places. length places.items ≡ count) }
     ensures each { IfOk result (λ places. (i : ℕ) → i < count → slice_index_or places.items i 0 ≡ count) }
 {
-    let Ok(places) = vec![in alloc; count; count] else {
-        return Err(Memory);
-    };
-    Ok(places)
+    Ok(vec![in alloc; count; count]?)
 }
 
 /// Puts each step before the chain of those that end where it does, from the last step on.
@@ -143,8 +140,6 @@ fn add_chain(nexts: &[usize], first: usize, into: &mut Vec<u64>) -> Result<(), M
 fn add_number(into: &mut Vec<u64>, number: u64) -> Result<(), Memory>
     ensures { OnOk result (into.new.items ≡ into.old.items ++ number ∷ []) }
 {
-    let Ok(()) = into.push(number) else {
-        return Err(Memory);
-    };
+    into.push(number)?;
     Ok(())
 }

@@ -27,7 +27,9 @@ pub fn ends_of_log(alloc: Global, text: &[u8]) -> Result<Vec<u64>, LogError>
     }
 }
 
-/// Takes the steps of the text's lines, the good ones up to the first that is bad.
+/// Takes the steps of the text's lines, the good ones up to the first that is bad. It is kept apart, so that the loop has
+/// all registers.
+#[inline(never)]
 fn take_lines(reader: &mut LogReader, text: &[u8], ends: &mut Vec<u64>) -> Result<(), Memory>
     requires { HaveCome reader.old ends.old.items [] }
     ensures { OnOk result (HaveCome reader.new ends.new.items text.now) }

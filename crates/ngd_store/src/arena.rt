@@ -104,7 +104,7 @@ impl Arena {
         }
         self.rooms[number].kept = false;
         give_back(&mut self.cells, room.start as usize, room.len);
-        self.freed.give(room.start, room.len as usize);
+        self.freed.give(room.start, room.len);
     }
 }
 

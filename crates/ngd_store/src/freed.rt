@@ -27,8 +27,9 @@ impl Freed {
     }
 
     /// Remembers that so many cells from this one on may be used again, if there is memory for it.
-    pub fn give(&mut self, start: u32, count: usize) {
-        for _ in self.starts.len()..=count {
+    pub fn give(&mut self, start: u32, count: u16) {
+        let count = usize::from(count);
+        for _ in self.starts.len()..count + 1 {
             if self.starts.push(Vec::new(self.alloc)).is_err() {
                 return;
             }
