@@ -138,8 +138,26 @@ impl<'p> Driver<'p> {
         if stamp == 0 || step == 0 {
             return None;
         }
-        let message = refusal(self.alloc, self.problem, pair, stamp, own, step - 1)?;
+        let message = self.refusal(pair, stamp, own, step - 1)?;
         self.receive(AGENT + 1, message, step)
+    }
+
+    /// The nogood of two values.
+    fn refusal(&self, higher: Pair, stamp: u64, own: Pair, step: u64) -> Option<Message>
+        requires higher { In higher.value (domain (csp_of self.now.problem.now) higher.var) }
+        requires own { In own.value (domain (csp_of self.now.problem.now) own.var) }
+        requires agent { own.var ≡ 50 }
+        requires stamped { 0 < stamp }
+        ensures { IfSome result (IsFit self.now.problem.now 50 (step + 1) 51) }
+    {
+        let _variables = self.problem.vars();
+        let nogood = Nogood::from_pairs(self.alloc, &[higher, own]).ok()?;
+        let stamps = StampList::from_vec(vec![in self.alloc; stamp, 1].ok()?);
+        Some(Message::Refuse {
+            nogood,
+            stamps,
+            step,
+        })
     }
 }
 
@@ -150,29 +168,4 @@ fn steps_in(turn: &Turn) -> u64 {
         Turn::Empty(_) => 1,
         _ => 0,
     }
-}
-
-/// The nogood of two values.
-fn refusal(
-    alloc: Global,
-    problem: &Problem,
-    higher: Pair,
-    stamp: u64,
-    own: Pair,
-    step: u64,
-) -> Option<Message>
-    requires higher { In higher.value (domain (csp_of problem.now) higher.var) }
-    requires own { In own.value (domain (csp_of problem.now) own.var) }
-    requires agent { own.var ≡ 50 }
-    requires stamped { 0 < stamp }
-    ensures { IfSome result (IsFit problem.now 50 (step + 1) 51) }
-{
-    let _variables = problem.vars();
-    let nogood = Nogood::from_pairs(alloc, &[higher, own]).ok()?;
-    let stamps = StampList::from_vec(vec![in alloc; stamp, 1].ok()?);
-    Some(Message::Refuse {
-        nogood,
-        stamps,
-        step,
-    })
 }

@@ -4,7 +4,7 @@ use Rattle.std.specs.Prelude.{◌≢◌, Contains}
 use Rattle.std.proofs.lemmas.List.Elements.{Contains-append_left, Contains-push}
 use Rattle.dcsp_defs.specs.declared.Step.{Step}
 use Rattle.dcsp_rule.specs.Problems.{Contents}
-use Rattle.dcsp_problem.specs.declared.limits.Which.{Which}
+use Rattle.dcsp_common.specs.declared.limits.Which.{Which}
 use Rattle.dcsp_script.specs.Scripts.{World}
 use Rattle.rup_check.specs.ProofText.{clause_line}
 use Rattle.ngd_check.specs.declared.Finding.{Finding}

@@ -2,7 +2,7 @@
 use Rattle.std.specs.Prelude.{◌≡◌, ℕ, Bool, List, [], ◌∷◌, Some, None}
 use Rattle.dcsp_defs.specs.declared.Step.{Step}
 use Rattle.dcsp_rule.specs.Problems.{Contents}
-use Rattle.dcsp_problem.specs.declared.limits.Which.{Which}
+use Rattle.dcsp_common.specs.declared.limits.Which.{Which}
 use Rattle.ngd_check.specs.declared.Finding.{Finding}
 use Rattle.ngd_check.specs.declared.Finding.TheVariants.{Verified, BadStep, BadDeletion, NotEmpty}
 use Rattle.dcsp_script.specs.declared.status.Status.TheVariants.{Good}

@@ -4,3 +4,4 @@ pub mod Texts
 pub mod Limits
 pub mod ExportPromise
 pub mod Exporting
+pub mod Pairs

@@ -14,7 +14,7 @@ ghost use Rattle.line_export.specs.ExportPromise.{export_promise};
 ghost use Rattle.line_export.specs.Exporting.{HoldsExport};
 
 use crate::atoms::Atoms;
-use crate::clauses::ClauseSet;
+use crate::formula::Formula;
 use crate::limits::formula_within;
 use crate::write::{tell, write_cnf, write_proof};
 use abt_input::CommandError;
@@ -74,8 +74,12 @@ pub fn run_export<F: Folder, S: Sink>(
     let copy = copied(alloc, checked.steps)?;
     let atoms = Atoms::of(alloc, &problem)?;
     let clauses = formula_within(alloc, &atoms, copy.steps())?;
-    let formula = Formula { atoms, clauses };
-    write(alloc, folder, line, &formula, &copy, out)?;
+    let formula = Formula {
+        atoms,
+        steps: copy,
+        clauses,
+    };
+    write(alloc, folder, line, &formula, out)?;
     Ok(Status::Good)
 }
 
@@ -89,33 +93,26 @@ fn copied(alloc: Global, steps: KeptSteps<'_>) -> Result<Derivation, AllocError>
     }
 }
 
-/// The clauses that say that a problem has a solution, and the atoms that they are over.
-#[derive(Drop)]
-struct Formula<'p> {
-    atoms: Atoms<'p>,
-    clauses: ClauseSet,
-}
-
 /// Writes formula and proof under their names, and tells their sizes.
 fn write<F: Folder, S: Sink>(
     alloc: Global,
     folder: &mut F,
     line: ExportLine<'_>,
     formula: &Formula<'_>,
-    steps: &Derivation,
     out: &mut S,
 ) -> Result<(), Stop>
     requires atoms { AreAtoms formula.now.atoms }
-    requires steps { All (IsStepIn formula.now.atoms.problem.now) steps.now }
-    requires clauses { formula.now.clauses ≡ the_formula formula.now.atoms.problem.now steps.now }
-    ensures { Wrote (export_script line.entry.cnf.now line.entry.proof.now line.entry.atoms formula.now.atoms.problem.now steps.now)
+    requires steps { All (IsStepIn formula.now.atoms.problem.now) formula.now.steps }
+    requires clauses { formula.now.clauses ≡ the_formula formula.now.atoms.problem.now formula.now.steps }
+    ensures { Wrote (export_script line.entry.cnf.now line.entry.proof.now line.entry.atoms formula.now.atoms.problem.now formula.now.steps)
         (outside (F.place folder.old) (S.stream out.old))
         (outside (F.place folder.new) (S.stream out.new)) result }
 {
     let atoms = &formula.atoms;
-    let clauses = &formula.clauses;
-    write_cnf(alloc, folder, line.cnf, atoms, line.atoms, clauses)?;
+    let steps = &formula.steps;
+    write_cnf(alloc, folder, line.cnf, formula, line.atoms)?;
     write_proof(alloc, folder, line.proof, atoms, steps.steps())?;
     let variables = u64::from(atoms.count);
-    tell(alloc, variables, clauses.len() as u64, steps.len(), out)
+    let clauses = formula.clauses.len() as u64;
+    tell(alloc, variables, clauses, steps.len(), out)
 }

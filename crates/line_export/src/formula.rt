@@ -2,15 +2,31 @@
 
 ghost use Rattle.std.specs.Prelude.{◌≡◌, ◌<◌, ◌++◌, ◌∷◌, List, map, flat_map, length, All, Some, slice_get, IfOk, OnOk};
 ghost use Rattle.dcsp_defs.specs.declared.Step.{Step as A_step};
-ghost use Rattle.dcsp_defs.specs.Csp.{domain, filled, given_with};
+ghost use Rattle.dcsp_defs.specs.Csp.{filled};
 ghost use Rattle.dcsp_rule.specs.Problems.{csp_of, constraint_at};
 ghost use Rattle.line_export.specs.Atoms.{AreAtoms};
+ghost use Rattle.line_export.specs.Pairs.{given_by};
 ghost use Rattle.line_export.specs.Clauses.{value_clause, exclusion, nogood_clause, reason_clauses, clauses_at, step_clauses, with_clauses, value_clauses, formula, IsReasonIn, IsStepIn};
 
 use crate::atoms::Atoms;
 use crate::clauses::ClauseSet;
-use dcsp_defs::{Nogood, Pair, Reason, Step};
+use dcsp_defs::{Derivation, Nogood, Pair, Reason, Step};
 use std::alloc::{AllocError, Global};
+
+/// A derivation as a formula: its steps, the clauses that it says of the problem, and the atoms that they are over.
+#[derive(Drop)]
+pub struct Formula<'p> {
+    pub atoms: Atoms<'p>,
+    pub steps: Derivation,
+    pub clauses: ClauseSet,
+}
+
+/// The pairs of a nogood, and one pair more.
+#[derive(Clone, Copy)]
+struct WithPair<'n> {
+    nogood: &'n Nogood,
+    pair: Pair,
+}
 
 /// The formula of a derivation: for each variable that it has one of its values, and for each reason that is a rule,
 /// that the values under which the rule is false do not stand together.
@@ -86,66 +102,64 @@ fn add_reasons(
 {
     let domain = atoms.problem.domain(var);
     for (place, reason) in step.reasons.items().iter().enumerate() {
-        let with = Pair {
-            var,
-            value: domain.value(place),
+        let value = domain.value(place);
+        let given = WithPair {
+            nogood: &step.nogood,
+            pair: Pair { var, value },
         };
-        add_reason(alloc, atoms, &step.nogood, with, *reason, clauses)?;
+        add_reason(alloc, atoms, given, *reason, clauses)?;
     }
     Ok(())
 }
 
-/// Adds the clause of a reason, if it has one, where the nogood's pairs hold and this one.
+/// Adds the clause of a reason, if it has one, where these pairs hold.
 fn add_reason(
     alloc: Global,
     atoms: &Atoms<'_>,
-    nogood: &Nogood,
-    with: Pair,
+    given: WithPair<'_>,
     reason: Reason,
     clauses: &mut ClauseSet,
 ) -> Result<(), AllocError>
     requires atoms { AreAtoms atoms.now }
     requires reason { IsReasonIn atoms.now.problem.now reason }
-    ensures { OnOk result (clauses.new ≡ with_clauses clauses.old (reason_clauses atoms.now.problem.now (given_with with.var with.value nogood.now) reason)) }
+    ensures { OnOk result (clauses.new ≡ with_clauses clauses.old (reason_clauses atoms.now.problem.now (given_by given.entry) reason)) }
 {
     match reason {
         Reason::Rule(rule) => {
-            let clause = rule_clause(alloc, atoms, nogood, with, rule)?;
+            let clause = rule_clause(alloc, atoms, given, rule)?;
             clauses.add(clause)
         }
         Reason::Earlier(_) => Ok(()),
     }
 }
 
-/// The clause that says that the variables of the rule's scope have not all the values of the nogood's pairs and this
-/// one.
+/// The clause that says that the variables of the rule's scope have not all the values of these pairs.
 fn rule_clause(
     alloc: Global,
     atoms: &Atoms<'_>,
-    nogood: &Nogood,
-    with: Pair,
+    given: WithPair<'_>,
     rule: u32,
 ) -> Result<Vec<i32>, AllocError>
     requires atoms { AreAtoms atoms.now }
     requires rule { rule < length atoms.now.problem.now.rules }
-    ensures { IfOk result (λ clause. clause.items ≡ exclusion (csp_of atoms.now.problem.now) (given_with with.var with.value nogood.now) (constraint_at atoms.now.problem.now rule).scope) }
+    ensures { IfOk result (λ clause. clause.items ≡ exclusion (csp_of atoms.now.problem.now) (given_by given.entry) (constraint_at atoms.now.problem.now rule).scope) }
 {
     let mut clause = Vec::new(alloc);
     for var in atoms.problem.scope(rule) {
-        clause.push(atoms.lacks_value(pair_given(nogood, with, *var)))?;
+        clause.push(atoms.lacks_value(pair_given(given, *var)))?;
     }
     Ok(clause)
 }
 
-/// The variable with the value that the nogood's pairs and this one give it; with 0 where they give none.
-fn pair_given(nogood: &Nogood, with: Pair, var: u32) -> Pair
+/// The variable with the value that these pairs give it; with 0 where they give none.
+fn pair_given(given: WithPair<'_>, var: u32) -> Pair
     ensures var { result.var ≡ var }
-    ensures value { result.value ≡ filled (given_with with.var with.value nogood.now) var }
+    ensures value { result.value ≡ filled (given_by given.entry) var }
 {
-    if var == with.var {
-        return with;
+    if var == given.pair.var {
+        return given.pair;
     }
-    let value = nogood.value_of(var).unwrap_or(0);
+    let value = given.nogood.value_of(var).unwrap_or(0);
     Pair { var, value }
 }
 

@@ -1,7 +1,7 @@
 //! The limits of formulas.
 
 ghost use Rattle.std.specs.Prelude.{◌≡◌, ◌<◌, ◌≤◌, All, IfErr, OnOk};
-ghost use Rattle.dcsp_problem.specs.Limits.{most};
+ghost use Rattle.dcsp_common.specs.Limits.{most};
 ghost use Rattle.line_export.specs.Atoms.{AreAtoms};
 ghost use Rattle.line_export.specs.Clauses.{IsStepIn};
 ghost use Rattle.line_export.specs.Limits.{too_many, IsFormulaWithin};

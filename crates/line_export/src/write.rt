@@ -10,14 +10,14 @@ ghost use Rattle.dcsp_script.specs.Ways.{Wrote};
 ghost use Rattle.rup_check.specs.ProofText.{clause_line};
 ghost use Rattle.line_rewrite.specs.UpgradePromise.{appends, file_script};
 ghost use Rattle.line_export.specs.Atoms.{AreAtoms};
-ghost use Rattle.line_export.specs.Clauses.{nogood_clause, proof, IsStepIn};
+ghost use Rattle.line_export.specs.Clauses.{proof, IsStepIn};
 ghost use Rattle.line_export.specs.Texts.{atom_line, variable_lines, atom_lines, cnf_lines, counts_text};
 
 use crate::atoms::Atoms;
 use crate::clauses::ClauseSet;
-use crate::formula::nogood_clause;
+use crate::formula::{Formula, nogood_clause};
 use crate::lines::{atom_line, counts, header, push_clause};
-use dcsp_defs::{Nogood, Pair, Step};
+use dcsp_defs::{Pair, Step};
 use dcsp_outside::{Folder, Sink};
 use dcsp_script::{Stop, append, create, put};
 use std::alloc::Global;
@@ -28,17 +28,17 @@ pub fn write_cnf<F: Folder>(
     alloc: Global,
     folder: &mut F,
     name: &str,
-    atoms: &Atoms<'_>,
+    formula: &Formula<'_>,
     told: bool,
-    clauses: &ClauseSet,
 ) -> Result<(), Stop>
-    requires { AreAtoms atoms.now }
-    ensures { (out : Stream) → Wrote (file_script name.now (cnf_lines atoms.now.problem.now told clauses.now))
+    requires { AreAtoms formula.now.atoms }
+    ensures { (out : Stream) → Wrote (file_script name.now (cnf_lines formula.now.atoms.problem.now told formula.now.clauses))
         (outside (F.place folder.old) out) (outside (F.place folder.new) out) result }
 {
+    let clauses = &formula.clauses;
     create(folder, name)?;
-    append_atoms(alloc, folder, name, atoms, told)?;
-    let line = header(alloc, u64::from(atoms.count), clauses.len() as u64)?;
+    append_atoms(alloc, folder, name, &formula.atoms, told)?;
+    let line = header(alloc, u64::from(formula.atoms.count), clauses.len() as u64)?;
     append(folder, name, &line)?;
     append_clauses(alloc, folder, name, clauses)
 }
@@ -159,29 +159,10 @@ fn append_steps<F: Folder>(
 {
     let mut line = Vec::new(alloc);
     for step in steps {
-        append_nogood(alloc, folder, name, atoms, &step.nogood, &mut line)?;
+        let clause = nogood_clause(alloc, atoms, &step.nogood)?;
+        append_clause(folder, name, &clause, &mut line)?;
     }
     Ok(())
-}
-
-/// Appends the line of a nogood's clause. It is made in `line`.
-fn append_nogood<F: Folder>(
-    alloc: Global,
-    folder: &mut F,
-    name: &str,
-    atoms: &Atoms<'_>,
-    nogood: &Nogood,
-    line: &mut Vec<u8>,
-) -> Result<(), Stop>
-    requires created { Contains (F.place folder.old).created name.now }
-    requires atoms { AreAtoms atoms.now }
-    requires pairs { All (λ pair. pair.var < length atoms.now.problem.now.domains) nogood.now }
-    ensures wrote { (out : Stream) → Wrote (Append name.now (clause_line (nogood_clause (csp_of atoms.now.problem.now) nogood.now)) ∷ [])
-        (outside (F.place folder.old) out) (outside (F.place folder.new) out) result }
-    ensures created { (F.place folder.new).created ≡ (F.place folder.old).created }
-{
-    let clause = nogood_clause(alloc, atoms, nogood)?;
-    append_clause(folder, name, &clause, line)
 }
 
 /// Puts what tells how many atoms, clauses and steps there are on `out`, in one piece.

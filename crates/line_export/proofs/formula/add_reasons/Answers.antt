@@ -21,13 +21,13 @@ loop-place-preserved c =
     let ds = c.domain-domain.result.now in
     let rs = c.items-reason-items.result.now in
     let k = c.loop-place.place in
-    let v = c.value.result in
+    let v = c.value-value.result in
     let r = get_or rs k (Rule 0) in
     let in_range : SFits w64 v = search rules in
     let rest = clauses_at p pairs c.args.var (drop (k + 1) ds) (drop (k + 1) rs) in
     let taken = c.in_ok-add_reason.ensures ∙ ap (λ (w : ℤ). with_clauses c.loop-place.clauses (reason_clauses p (given_with c.args.var w pairs) r)) (to_z-of_z w64 v in_range) in
     ap (λ (cs : List Clause). with_clauses cs rest) taken ∙ sym (with_both c.loop-place.clauses (reason_clauses p (given_with c.args.var v pairs) r) rest)
-    ∙ ap (with_clauses c.loop-place.clauses) (sym (reasons_left p pairs c.args.var ds rs k v r (Rule 0) c.value.ensures c.loop-place-test.true refl)) ∙ c.loop-place.invariant
+    ∙ ap (with_clauses c.loop-place.clauses) (sym (reasons_left p pairs c.args.var ds rs k v r (Rule 0) c.value-value.ensures c.loop-place-test.true refl)) ∙ c.loop-place.invariant
 
 pub returns : goal.returns
 returns c =

@@ -17,19 +17,19 @@ append_atoms-requires-clause-created g c = created_here _ c.args.name.now c.in_o
 
 pub returns-in_err-append_atoms : goal.returns-in_err-append_atoms
 returns-in_err-append_atoms g c = λ out.
-    wrote_as (cnf_script c.args.name.now c.args.atoms.now.problem.now c.args.told c.args.clauses.now) (first_wrote (c.in_ok-create.ensures.wrote out) (then_stopped _ c.from_residual-in_err-append_atoms.ensures (c.in_err-append_atoms.ensures.wrote out)))
+    wrote_as (cnf_script c.args.name.now c.args.formula.now.atoms.problem.now c.args.told c.args.formula.now.clauses) (first_wrote (c.in_ok-create.ensures.wrote out) (then_stopped _ c.from_residual-in_err-append_atoms.ensures (c.in_err-append_atoms.ensures.wrote out)))
 
 pub returns-in_err-line : goal.returns-in_err-line
 returns-in_err-line g c = λ out.
-    wrote_as (cnf_script c.args.name.now c.args.atoms.now.problem.now c.args.told c.args.clauses.now) (first_wrote (c.in_ok-create.ensures.wrote out) (then_rest (c.in_ok-append_atoms.ensures.wrote out) (left_memory _ c.from_residual-in_err-line.ensures (left_all _ _))))
+    wrote_as (cnf_script c.args.name.now c.args.formula.now.atoms.problem.now c.args.told c.args.formula.now.clauses) (first_wrote (c.in_ok-create.ensures.wrote out) (then_rest (c.in_ok-append_atoms.ensures.wrote out) (left_memory _ c.from_residual-in_err-line.ensures (left_all _ _))))
 
 pub append-requires : goal.append-requires
 append-requires g c = subst (λ names. Contains names c.args.name.now) (sym c.in_ok-append_atoms.ensures.created) (created_here _ c.args.name.now c.in_ok-create.ensures.created)
 
 pub returns-in_err-append : goal.returns-in_err-append
 returns-in_err-append g c =
-    let line = c.deref.ensures.value ∙ c.in_ok-line.ensures ∙ ap (λ n. header_line n c.len.result) (c.from.ensures ∙ c.requires.count) ∙ ap (header_line (value_count c.args.atoms.now.problem.now)) c.len.ensures.len in
-    λ out. wrote_as (cnf_script c.args.name.now c.args.atoms.now.problem.now c.args.told c.args.clauses.now) (first_wrote (c.in_ok-create.ensures.wrote out) (then_rest (c.in_ok-append_atoms.ensures.wrote out)
+    let line = c.deref.ensures.value ∙ c.in_ok-line.ensures ∙ ap (λ n. header_line n c.len.result) (c.from.ensures ∙ c.requires.count) ∙ ap (header_line (value_count c.args.formula.now.atoms.problem.now)) c.len.ensures.len in
+    λ out. wrote_as (cnf_script c.args.name.now c.args.formula.now.atoms.problem.now c.args.told c.args.formula.now.clauses) (first_wrote (c.in_ok-create.ensures.wrote out) (then_rest (c.in_ok-append_atoms.ensures.wrote out)
     (first_stopped c.from_residual-in_err-append.ensures (wrote_as (ap (λ (b : List ℕ). Append c.args.name.now b ∷ []) line) (c.in_err-append.ensures.wrote out)))))
 
 pub append_clauses-requires : goal.append_clauses-requires
@@ -37,6 +37,6 @@ append_clauses-requires g c = record { created = subst (λ names. Contains names
 
 pub returns : goal.returns
 returns g c =
-    let line = c.deref.ensures.value ∙ c.in_ok-line.ensures ∙ ap (λ n. header_line n c.len.result) (c.from.ensures ∙ c.requires.count) ∙ ap (header_line (value_count c.args.atoms.now.problem.now)) c.len.ensures.len in
-    λ out. wrote_as (cnf_script c.args.name.now c.args.atoms.now.problem.now c.args.told c.args.clauses.now) (first_wrote (c.in_ok-create.ensures.wrote out) (then_rest (c.in_ok-append_atoms.ensures.wrote out)
+    let line = c.deref.ensures.value ∙ c.in_ok-line.ensures ∙ ap (λ n. header_line n c.len.result) (c.from.ensures ∙ c.requires.count) ∙ ap (header_line (value_count c.args.formula.now.atoms.problem.now)) c.len.ensures.len in
+    λ out. wrote_as (cnf_script c.args.name.now c.args.formula.now.atoms.problem.now c.args.told c.args.formula.now.clauses) (first_wrote (c.in_ok-create.ensures.wrote out) (then_rest (c.in_ok-append_atoms.ensures.wrote out)
     (first_wrote (wrote_as (ap (λ (b : List ℕ). Append c.args.name.now b ∷ []) line) (c.in_ok-append.ensures.wrote out)) (c.append_clauses.ensures.wrote out))))
