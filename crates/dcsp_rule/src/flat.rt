@@ -50,6 +50,9 @@ pub struct RuleLists<'l> {
     pub numbers: &'l [i64],
 }
 
+/// A list of more items is copied as a whole.
+const MOST_ONE_BY_ONE: usize = 8;
+
 /// Rules, each of which is lent.
 ///
 /// A table has less than 2^32 terms, and as many numbers; that it cannot take more is told as want of memory.
@@ -174,7 +177,7 @@ impl RuleTable {
     {
         let head = head_for(kind, self.terms.len(), self.numbers.len(), lists)?;
         add_terms(&mut self.terms, lists)?;
-        self.numbers.extend_from_slice(lists.numbers)?;
+        append(&mut self.numbers, lists.numbers)?;
         self.heads.push(head)?;
         Ok(())
     }
@@ -185,9 +188,26 @@ fn add_terms(terms: &mut Vec<Term>, lists: RuleLists<'_>) -> Result<(), Memory>
     ensures ok { OnOk result (terms.new.items ≡ terms.old.items ++ (lists.entry.first.now ++ (lists.entry.second.now ++ lists.entry.third.now))) }
     ensures err { OnErr result (Extends terms.old.items terms.new.items) }
 {
-    terms.extend_from_slice(lists.first)?;
-    terms.extend_from_slice(lists.second)?;
-    terms.extend_from_slice(lists.third)?;
+    append(terms, lists.first)?;
+    append(terms, lists.second)?;
+    append(terms, lists.third)?;
+    Ok(())
+}
+
+/// Adds items to a list. Most lists of rules are short, and take less one by one than a call that copies takes. After
+/// `Memory` the first of them may be added.
+#[inline(always)]
+fn append<T: Copy>(list: &mut Vec<T>, more: &[T]) -> Result<(), Memory>
+    ensures ok { OnOk result (list.new.items ≡ list.old.items ++ more.now) }
+    ensures err { OnErr result (Extends list.old.items list.new.items) }
+{
+    if more.len() > MOST_ONE_BY_ONE {
+        list.extend_from_slice(more)?;
+        return Ok(());
+    }
+    for item in more {
+        list.push(*item)?;
+    }
     Ok(())
 }
 

@@ -1,5 +1,5 @@
 -- Forms that are passed over, and constraints that are lent.
-use Rattle.std.proofs.Common.{◌≡◌, ℕ, ℤ, List, length, sym, ◌∙◌, refl, ap, subst, inl, inr, Option, Some, None, Err}
+use Rattle.std.proofs.Common.{◌≡◌, ℕ, ℤ, List, [], ◌∷◌, length, sym, ◌∙◌, refl, ap, subst, inl, inr, Option, Some, None, Err}
 use Rattle.std.specs.Borrow.{Bor}
 use Rattle.fzn_token.specs.declared.token.Token.{Token}
 use Rattle.fzn_token.specs.declared.token.Word.TheVariants as word
@@ -15,10 +15,10 @@ use Rattle.fzn_item.specs.declared.item.Item.TheVariants as item
 use Rattle.fzn_item.specs.declared.single.Stop.{Stop}
 use Rattle.fzn_item.specs.declared.single.Stop.TheVariants as stop
 use Rattle.fzn_item.specs.declared.lent.LentConstraint.{LentConstraint}
-use Rattle.fzn_item.specs.Productions.{Production, IsMark, IsInteger, IsListOf, Fails}
+use Rattle.fzn_item.specs.Productions.{Production, OneOf, IsMark, IsInteger, IsListOf, Fails}
 use Rattle.fzn_item.specs.Readers.{Reads, Passes}
 use Rattle.fzn_item.specs.Exprs.{AtomAfter, IsAtom, IsExpr}
-use Rattle.fzn_item.specs.Items.{IsConstraint, ItemAfter}
+use Rattle.fzn_item.specs.Items.{IsConstraint, ItemAfter, IsItem, IsNextUnread}
 use Rattle.fzn_item.specs.Lent.{IsThatConstraint, StandsFor, ReadsAs}
 use Rattle.fzn_item.proofs.ExprLaws.{one_expr_fails, arguments_unique}
 
@@ -73,3 +73,25 @@ kept_constraint R ts rest c arguments end lent read =
     let that = lent.2 in
     let same = arguments_unique c.arguments.tokens.now that.0 arguments that.1.rest end that.1.read read in
     subst (λ i. R ts i rest) (that.2 ∙ ap (item.Constraint c.at c.name_at c.name_to) same.0) lent.1
+
+-- a constraint behind its first word is an item
+pub constraint_is_item : (text : List ℕ) (ts : List Token) (first : Token) (inside : List Token) (i : Item) (rest : List Token) → OneOf (kind.Word word.Constraint) ts first inside → IsConstraint text first inside i rest → IsItem text ts i rest
+constraint_is_item text [] first inside i rest begins read = absurd begins
+constraint_is_item text (t ∷ ts) first inside i rest begins read =
+    let is : first.kind ≡ kind.Word word.Constraint = ap (λ (u : Token). u.kind) begins.1 ∙ begins.0 in
+    (first, inside, (begins.1, begins.2), subst (λ k. ItemAfter text k first inside i rest) (sym is) read)
+
+-- what is no constraint behind its first word is no item
+pub constraint_unread : (text : List ℕ) (ts : List Token) (first : Token) (inside : List Token) → OneOf (kind.Word word.Constraint) ts first inside → Fails (IsConstraint text first) inside → IsNextUnread text ts first.from
+constraint_unread text [] first inside begins fails = absurd begins
+constraint_unread text (t ∷ ts) first inside begins fails = record {
+  first = t;
+  rest = ts;
+  begins = refl;
+  fails = λ i rest item.
+      let is : first.kind ≡ kind.Word word.Constraint = ap (λ (u : Token). u.kind) begins.1 ∙ begins.0 in
+      let here = subst (λ u. ItemAfter text u.kind u item.1 i rest) (item.2.0 ∙ sym begins.1) item.3 in
+      let inside_here = subst (λ m. ItemAfter text first.kind first m i rest) (item.2.1 ∙ sym begins.2) here in
+      fails i rest (subst (λ k. ItemAfter text k first inside i rest) is inside_here);
+  place = ap (λ (u : Token). u.from) begins.1;
+}

@@ -3,7 +3,9 @@ use Rattle.std.specs.Prelude.{◌≡◌, ℕ, List, [], length, Option, Some, No
 use Rattle.std.specs.Borrow.{Bor}
 use Rattle.fzn_token.specs.declared.token.Token.{Token}
 use Rattle.fzn_token.specs.declared.token.Mark.TheVariants as mark
-use Rattle.fzn_item.specs.Productions.{Production, IsMark, IsListOf, Fails}
+use Rattle.fzn_token.specs.declared.token.Word.TheVariants as word
+use Rattle.fzn_token.specs.declared.token.TokenKind.TheVariants as kind
+use Rattle.fzn_item.specs.Productions.{Production, OneOf, IsMark, IsListOf, Fails}
 use Rattle.fzn_item.specs.Exprs.{IsAtom, IsExpr}
 use Rattle.fzn_item.specs.Items.{IsItem, GivesNext}
 use Rattle.fzn_item.specs.declared.item.Expr.{Expr}
@@ -54,6 +56,12 @@ abbrev pub GivesLent : List ℕ → List Token → Result (Option (LentItem × B
 GivesLent text ts (Ok (Some x)) = (i : Item) × IsItem text ts i x.1.now × StandsFor x.0 i
 GivesLent text ts (Ok None) = ts ≡ []
 GivesLent text ts (Err e) = GivesNext text ts (Err e)
+
+-- the constraint that these tokens begin with, lent; none where their first word is another; or the place of an item that is not read
+abbrev pub GivesConstraint : List ℕ → List Token → Result (Option LentConstraint) ModelError → Type 0
+GivesConstraint text ts (Ok (Some c)) = (i : Item) × (rest : List Token) × IsItem text ts i rest × IsThatConstraint c i
+GivesConstraint text ts (Ok None) = Fails (OneOf (kind.Word word.Constraint)) ts
+GivesConstraint text ts (Err e) = GivesNext text ts (Err e)
 
 -- the tokens begin with this expression: with the atom, or with the bracket of a list
 abbrev pub IsLentExpr : List Token → LentExpr → Type 0

@@ -1,5 +1,5 @@
 //! Atoms.
-ghost use Rattle.std.specs.Prelude.{◌≤◌, length, IfOk, IfSome};
+ghost use Rattle.std.specs.Prelude.{◌≢◌, ◌≤◌, length, IfOk, IfSome};
 ghost use Rattle.fzn_item.specs.Readers.{Reads, Passes};
 ghost use Rattle.fzn_item.specs.Exprs.{AtomAfter};
 
@@ -47,9 +47,27 @@ impl Form for i64 {
     }
 }
 
-/// An atom whose first token this is.
+/// An atom whose first token this is. Most are names, which are read without a call.
 #[inline(always)]
 fn atom_after(alloc: Global, first: Token, tokens: &[Token]) -> Result<(Atom, &[Token]), Stop>
+    ensures reads { Reads (AtomAfter first.kind first) tokens.now result }
+    ensures shorter { IfOk result (λ x. length x.1.now ≤ length tokens.now) }
+{
+    match first.kind {
+        TokenKind::Name => Ok((
+            Atom::Name {
+                at: first.from,
+                to: first.to,
+            },
+            tokens,
+        )),
+        _ => other_after(alloc, first, tokens),
+    }
+}
+
+/// An atom whose first token this is, which is no name.
+fn other_after(alloc: Global, first: Token, tokens: &[Token]) -> Result<(Atom, &[Token]), Stop>
+    requires other { first.kind ≢ TokenKind.Name }
     ensures reads { Reads (AtomAfter first.kind first) tokens.now result }
     ensures shorter { IfOk result (λ x. length x.1.now ≤ length tokens.now) }
 {
@@ -65,7 +83,6 @@ fn atom_after(alloc: Global, first: Token, tokens: &[Token]) -> Result<(Atom, &[
             None => Ok((Atom::Whole { at, value: low }, tokens)),
         },
         TokenKind::Float => Ok((Atom::Float { at }, tokens)),
-        TokenKind::Name => Ok((Atom::Name { at, to: first.to }, tokens)),
         TokenKind::Mark(mark) => match mark {
             Mark::OpenBrace => {
                 let (values, rest) = list_of::<i64>(alloc, tokens, Mark::CloseBrace)?;

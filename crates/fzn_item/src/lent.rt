@@ -6,7 +6,7 @@ ghost use Rattle.fzn_item.specs.Productions.{IsMark, Fails};
 ghost use Rattle.fzn_item.specs.Readers.{Begins};
 ghost use Rattle.fzn_item.specs.Exprs.{IsAtom, IsExpr};
 ghost use Rattle.fzn_item.specs.Items.{IsConstraint, ItemAfter};
-ghost use Rattle.fzn_item.specs.Lent.{ReadsAs, IsThatConstraint, StandsFor, GivesLent, IsLentExpr};
+ghost use Rattle.fzn_item.specs.Lent.{ReadsAs, IsThatConstraint, StandsFor, GivesLent, GivesConstraint, IsLentExpr};
 
 use crate::item::{Atom, Expr, Item};
 use crate::lists::{Form, skip_list};
@@ -69,6 +69,26 @@ pub fn next_lent<'t>(
     };
     match lent_item(alloc, text, *first, rest) {
         Ok((item, rest)) => Ok(Some((item, rest))),
+        Err(Stop::Unread) => Err(ModelError::Refused(Refusal::Syntax { at: first.from })),
+        Err(Stop::Memory) => Err(ModelError::Memory),
+    }
+}
+
+/// The constraint that these tokens begin with; `None` where their first word is another.
+///
+/// `Syntax` comes as from `next_lent`. Where most items are constraints, it spares each of them to be one of all items.
+pub fn next_constraint<'t>(
+    alloc: Global,
+    text: &[u8],
+    tokens: &'t [Token],
+) -> Result<Option<LentConstraint<'t>>, ModelError>
+    ensures { GivesConstraint text.now tokens.now result }
+{
+    let Some((first, rest)) = one_of(tokens, TokenKind::Word(Word::Constraint)) else {
+        return Ok(None);
+    };
+    match lent_constraint(alloc, text, first, rest) {
+        Ok((constraint, _)) => Ok(Some(constraint)),
         Err(Stop::Unread) => Err(ModelError::Refused(Refusal::Syntax { at: first.from })),
         Err(Stop::Memory) => Err(ModelError::Memory),
     }

@@ -20,6 +20,7 @@ pub use dcsp_common::Memory;
 pub use dcsp_domain::{IntList, RangeList};
 pub use item::{Atom, AtomList, Base, Expr, ExprList, Goal, Item, ItemList, Marked};
 pub use lent::{
-    LentArguments, LentConstraint, LentExpr, LentItem, after_mark, next_atom, next_expr, next_lent,
+    LentArguments, LentConstraint, LentExpr, LentItem, after_mark, next_atom, next_constraint,
+    next_expr, next_lent,
 };
 pub use reading::{items, items_end_at_semicolons, items_stay_read, next_item, one_answer};

@@ -24,8 +24,25 @@ pub(crate) enum Called {
     Other,
 }
 
-/// Any number of annotations, each after a `::`, and what the first of them that is a mark says.
+/// Any number of annotations, each after a `::`, and what the first of them that is a mark says. Mostly there is none,
+/// which is seen without a call.
+#[inline(always)]
 pub(crate) fn annotations<'t>(
+    alloc: Global,
+    text: &[u8],
+    tokens: &'t [Token],
+) -> Result<(Marked, &'t [Token]), Stop>
+    ensures reads { Reads (AreAnnotations text.now) tokens.now result }
+    ensures shorter { IfOk result (λ x. length x.1.now ≤ length tokens.now) }
+{
+    match one_of(tokens, TokenKind::Mark(Mark::ColonColon)) {
+        Some(_) => some_annotations(alloc, text, tokens),
+        None => Ok((Marked::Nothing, tokens)),
+    }
+}
+
+/// The same, of which there may be many.
+fn some_annotations<'t>(
     alloc: Global,
     text: &[u8],
     tokens: &'t [Token],

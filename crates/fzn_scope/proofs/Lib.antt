@@ -1,4 +1,5 @@
 mod NameTable
+mod SameNames
 mod Steps
 pub mod KnownLaws
 pub mod ShapeLaws

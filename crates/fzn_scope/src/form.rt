@@ -34,18 +34,6 @@ pub enum Form {
     },
 }
 
-/// The names of sums: how each stands to its total, whether its terms are Booleans, and whether it is reified.
-const SUMS: [(&[u8], Rel, bool, bool); 8] = [
-    (b"int_lin_eq", Rel::Equal, false, false),
-    (b"int_lin_eq_reif", Rel::Equal, false, true),
-    (b"int_lin_ne", Rel::Differ, false, false),
-    (b"int_lin_ne_reif", Rel::Differ, false, true),
-    (b"int_lin_le", Rel::AtMost, false, false),
-    (b"int_lin_le_reif", Rel::AtMost, false, true),
-    (b"bool_lin_eq", Rel::Equal, true, false),
-    (b"bool_lin_le", Rel::AtMost, true, false),
-];
-
 const WHOLE: Place = Place::Scalar { boolean: false };
 
 const TRUTH: Place = Place::Scalar { boolean: true };
@@ -120,16 +108,28 @@ impl Form {
 fn sum_named(name: &[u8]) -> Option<Form>
     ensures { result ≡ form_among name.now sums }
 {
-    for (named, rel, boolean, reified) in SUMS.as_slice() {
-        if name == *named {
-            return Some(Form::Sum {
-                rel: *rel,
-                boolean: *boolean,
-                reified: *reified,
-            });
-        }
+    match name {
+        b"int_lin_eq" => Some(sum(Rel::Equal, false, false)),
+        b"int_lin_eq_reif" => Some(sum(Rel::Equal, false, true)),
+        b"int_lin_ne" => Some(sum(Rel::Differ, false, false)),
+        b"int_lin_ne_reif" => Some(sum(Rel::Differ, false, true)),
+        b"int_lin_le" => Some(sum(Rel::AtMost, false, false)),
+        b"int_lin_le_reif" => Some(sum(Rel::AtMost, false, true)),
+        b"bool_lin_eq" => Some(sum(Rel::Equal, true, false)),
+        b"bool_lin_le" => Some(sum(Rel::AtMost, true, false)),
+        _ => None,
     }
-    None
+}
+
+/// A sum: how it stands to its total, whether its terms are Booleans, and whether it is reified.
+fn sum(rel: Rel, boolean: bool, reified: bool) -> Form
+    ensures { result ≡ Form.Sum rel boolean reified }
+{
+    Form::Sum {
+        rel,
+        boolean,
+        reified,
+    }
 }
 
 fn sum_places(boolean: bool, reified: bool) -> &'static [Place]

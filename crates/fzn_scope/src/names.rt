@@ -1,7 +1,8 @@
 //! The names that were declared, and what each stands for.
 
-ghost use Rattle.std.specs.Prelude.{◌≡◌, [], ◌∷◌, ◌++◌, None, Some, IfSome, OnOk, OnErr, option_copied};
-ghost use Rattle.fzn_scope.specs.Names.{declared_as, bytes_at};
+ghost use Rattle.std.specs.Prelude.{◌≡◌, ◌≤◌, ◌+◌, [], ◌∷◌, ◌++◌, take, drop, length, None, Some, IfSome, IsTrue, OnOk, OnErr, option_copied};
+ghost use Rattle.std.specs.Int.{from_le_bytes, w64};
+ghost use Rattle.fzn_scope.specs.Names.{declared_as, bytes_at, AreEightSame};
 
 use dcsp_common::Memory;
 use dcsp_problem::{Members, Term, TermList};
@@ -84,10 +85,15 @@ impl<'t> Names<'t> {
     {
         let place = *self.guesses.get(slot_of(name))?;
         let (known, declared) = self.table.get_index(place as usize)?;
-        if *known == name { Some(declared) } else { None }
+        if is_same(known, name) {
+            Some(declared)
+        } else {
+            None
+        }
     }
 
     /// What the name stands for, by the table.
+    #[inline(never)]
     fn looked_up(&self, name: &[u8]) -> Option<&Declared>
         ensures { option_copied result ≡ declared_as self.now name.now }
     {
@@ -125,6 +131,49 @@ impl<'t> Names<'t> {
     {
         self.table.insert(name, declared)?;
         Ok(())
+    }
+}
+
+/// Whether two names are found to be the same. Most names have 8 to 24 bytes, and are compared eight bytes at a time.
+#[inline(always)]
+fn is_same(known: &[u8], name: &[u8]) -> bool
+    ensures { IsTrue result → known.now ≡ name.now }
+{
+    let len = name.len();
+    if known.len() != len {
+        return false;
+    }
+    if len < 8 || len > 24 {
+        return known == name;
+    }
+    if !are_eight_same(known, name, 0) {
+        return false;
+    }
+    if len > 16 && !are_eight_same(known, name, 8) {
+        return false;
+    }
+    are_eight_same(known, name, len - 8)
+}
+
+/// Whether eight bytes from a place on are the same in two names.
+#[inline(always)]
+fn are_eight_same(known: &[u8], name: &[u8], at: usize) -> bool
+    requires known { at + 8 ≤ length known.now }
+    requires name { at + 8 ≤ length name.now }
+    ensures { IsTrue result → AreEightSame known.now name.now at }
+{
+    eight_at(known, at) == eight_at(name, at)
+}
+
+/// Eight bytes from a place on, as a number.
+#[inline(always)]
+fn eight_at(name: &[u8], at: usize) -> u64
+    requires { at + 8 ≤ length name.now }
+    ensures { result ≡ from_le_bytes w64 (take 8 (drop at name.now)) }
+{
+    match name[at..].first_chunk::<8>() {
+        Some(bytes) => u64::from_le_bytes(*bytes),
+        None => unreachable!(),
     }
 }
 

@@ -16,5 +16,6 @@ pub mod LongestMarks
 pub mod ByteClasses
 pub mod SoFar
 pub mod Joining
+pub mod Kept
 pub mod OneKind
 pub mod OneAnswer

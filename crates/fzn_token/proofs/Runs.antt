@@ -16,3 +16,7 @@ run_more {j = j} run below passes = record {
   within = omega arith;
   each = λ k from below_next. ⊎_elim (λ before. run.each k from before) (λ not_before. let same : j ≡ k = omega arith in rw same at passes) (cases_lt k j);
 }
+
+-- a run is one byte longer, up to a place that is the next
+pub run_on : {p : ℕ → Bool} {text : List ℕ} {i j k : ℕ} → IsRun p text i j → j < length text → p (slice_index text j) ≡ true → k ≡ j + 1 → IsRun p text i k
+run_on run below passes is = rw is (run_more run below passes)

@@ -1,5 +1,5 @@
 -- What readers of tokens answer.
-use Rattle.std.specs.Prelude.{◌≡◌, ◌≤◌, ◌⊎◌, ◌-◌, ℕ, ℤ, ◌<◌, List, [], ◌∷◌, ◌++◌, length, Option, Some, None, Result, Ok, Err, FitsSigned}
+use Rattle.std.specs.Prelude.{◌≡◌, ◌≤◌, ◌↔◌, ◌⊎◌, ◌-◌, ℕ, ℤ, ◌<◌, Bool, IsTrue, List, [], ◌∷◌, ◌++◌, length, Option, Some, None, Result, Ok, Err, FitsSigned}
 use Rattle.std.specs.Int.{w64}
 use Rattle.fzn_token.specs.Gaps.{IsGap}
 use Rattle.fzn_token.specs.Tokens.{IsLongest, NothingBegins, IsToken, AreTokensTo, AreTokens}
@@ -96,6 +96,18 @@ abbrev pub TakesOne : TokenReader → TokenReader → Result (Option Token) Mode
 TakesOne old new (Ok (Some t)) = ReadsOn old (t ∷ []) new × (left new < left old)
 TakesOne old new (Ok None) = (new ≡ old) × IsAtEnd new
 TakesOne old new (Err e) = Refuses old e
+
+-- from the one reader to the other this token is read, and put behind the tokens before
+pub record IsKept (old : TokenReader) (before after : List Token) (behind : TokenReader) (t : Token) : Type 0 where
+  pub added : after ≡ before ++ t ∷ []
+  pub read : ReadsOn old (t ∷ []) behind
+  pub fewer : left behind < left old
+
+-- the next token is kept, and the truth tells whether it is a `;`
+pub record KeepsOne (old : TokenReader) (before after : List Token) (behind : TokenReader) (ended : Bool) : Type 0 where
+  pub token : Token
+  pub kept : IsKept old before after behind token
+  pub ends : IsTrue ended ↔ (token.kind ≡ kind.Mark mark.Semicolon)
 
 -- these tokens are read, or the text is refused
 abbrev pub TakesPiece : TokenReader → TokenReader → List Token → Result (Unit {0}) ModelError → Type 0

@@ -4,13 +4,13 @@ ghost use Rattle.std.specs.Prelude.{◌<◌, ◌≤◌, length};
 ghost use Rattle.fzn_token.specs.Reading.{told, Answers, HasOneAnswer, Reads};
 
 use crate::class::{Class, class_of};
-use crate::mark::twin_token;
+use crate::mark::{mark_token, twin_token};
 use crate::name::name_token;
 use crate::number::number_token;
 use crate::quoted::text_token;
 use crate::reader::TokenReader;
 use crate::refusal::{BadToken, ModelError};
-use crate::token::{Token, TokenKind, TokenList};
+use crate::token::{Token, TokenList};
 use std::alloc::Global;
 
 /// The tokens of a text of at most 16,777,216 bytes.
@@ -44,12 +44,8 @@ pub(crate) fn token_at(text: &[u8], at: usize) -> Result<Token, BadToken>
     ensures { Reads text.now at (told result) }
 {
     match class_of(text[at]) {
-        Class::Mark(mark) => Ok(Token {
-            kind: TokenKind::Mark(mark),
-            from: at as u32,
-            to: (at + 1) as u32,
-        }),
-        Class::Letter => name_token(text, at),
+        Class::Mark(mark) => Ok(mark_token(text, at, mark)),
+        Class::Letter => Ok(name_token(text, at)),
         Class::Digit | Class::Minus => number_token(text, at),
         Class::Twin => twin_token(text, at),
         Class::Quote => text_token(text, at),

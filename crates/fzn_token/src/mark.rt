@@ -1,6 +1,6 @@
 //! Punctuation marks of one or two bytes.
 
-ghost use Rattle.std.specs.Prelude.{◌≡◌, ◌<◌, ◌≤◌, ◌+◌, ◌↔◌, ◌⊎◌, length, slice_index, IsTrue};
+ghost use Rattle.std.specs.Prelude.{◌≡◌, ◌<◌, ◌≤◌, ◌+◌, ◌↔◌, ◌⊎◌, length, slice_index, IsTrue, Ok};
 ghost use Rattle.fzn_token.specs.Classes.{class_of};
 ghost use Rattle.fzn_token.specs.Lookup.{mark_in};
 ghost use Rattle.fzn_token.specs.Words.{mark_text};
@@ -9,6 +9,22 @@ ghost use Rattle.fzn_token.specs.Reading.{told, Reads};
 use crate::class::Class;
 use crate::refusal::BadToken;
 use crate::token::{Mark, Token, TokenKind};
+
+/// The mark of one byte that stands here.
+#[inline(always)]
+pub(crate) fn mark_token(text: &[u8], at: usize, mark: Mark) -> Token
+    requires small { length text.now ≤ 16777216 }
+    requires within { at < length text.now }
+    requires one { class_of (slice_index text.now at) ≡ Class.Mark mark }
+    ensures reads { Reads text.now at (Ok result) }
+    ensures kind { result.kind ≡ TokenKind.Mark mark }
+{
+    Token {
+        kind: TokenKind::Mark(mark),
+        from: at as u32,
+        to: (at + 1) as u32,
+    }
+}
 
 /// The mark that begins with the `:` or `.` here.
 pub(crate) fn twin_token(text: &[u8], at: usize) -> Result<Token, BadToken>

@@ -3,7 +3,7 @@ use Rattle.fzn_token.specs.declared.token.Mark.TheVariants as mark
 use Rattle.fzn_item.specs.Productions.{IsInteger, IsListOf}
 use Rattle.fzn_item.specs.Exprs.{AtomAfter}
 use Rattle.fzn_item.proofs.ExprLaws.{passes_on, listed_fails}
-use Rattle.fzn_item.proofs.atom.atom_after.Goals as goal
+use Rattle.fzn_item.proofs.atom.other_after.Goals as goal
 
 pub returns-in_err-values-in-OpenBrace-clause-reads : goal.returns-in_err-values-in-OpenBrace-clause-reads
 returns-in_err-values-in-OpenBrace-clause-reads c =
