@@ -77,7 +77,7 @@ pub fn read_model<F: Folder>(
     ensures { HasRead a_model name.now (F.place folder.old) (F.place folder.new) result }
 {
     match read_file(alloc, folder, name, MOST_MODEL) {
-        Ok(text) => match problem_of(alloc, &text) {
+        Ok(text) => match problem_of(alloc, text) {
             Ok(problem) => Ok(problem),
             Err(error) => Err(model_error(error)),
         },
@@ -177,7 +177,7 @@ pub fn read_formula<F: Folder>(
     ensures clauses { IfOk result (λ problem. All IsClauseRule problem.rules) }
 {
     match read_file(alloc, folder, name, MOST_CNF) {
-        Ok(text) => match cnf_of(alloc, &text) {
+        Ok(text) => match cnf_of(alloc, text) {
             Ok(problem) => Ok(problem),
             Err(error) => Err(cnf_error(error)),
         },

@@ -73,8 +73,8 @@ fn time_appends(rt: HostRuntime, lines: u32) -> anyhow::Result<()> {
 }
 
 /// Runs all agents of the text's problem.
-fn time_network(rt: HostRuntime, text: &[u8]) -> anyhow::Result<()>
-    requires { length text.now ≤ 16777216 }
+fn time_network(rt: HostRuntime, text: Vec<u8>) -> anyhow::Result<()>
+    requires { length text.items ≤ 16777216 }
 {
     let Ok(problem) = problem_of(rt.alloc(), text) else {
         println!(rt; "no problem")?;
@@ -137,7 +137,7 @@ fn time_file(rt: HostRuntime, part: &str, name: &str) -> anyhow::Result<()> {
         return Ok(());
     }
     match part {
-        "network" => time_network(rt, &text),
+        "network" => time_network(rt, text),
         "tokens" => time_tokens(rt, &text),
         _ => time_items(rt, &text),
     }

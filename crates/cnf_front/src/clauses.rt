@@ -21,17 +21,21 @@ use std::alloc::Global;
 /// is incomplete; `Limit` exactly where a limit would be passed: `Variables` at the header's number, and `Elements`,
 /// `Rules`, `Terms`, tried in this order, at the word that ends the clause, or at the text's end. The first of them in
 /// the text decides. A word `%` ends the text. A text has at most 16,777,216 bytes.
-pub fn cnf_of(alloc: Global, text: &[u8]) -> Result<Problem, CnfError>
-    requires { length text.now ≤ 16777216 }
-    ensures exact { Gives (λ problem. problem) result (problem_of text.now) }
+///
+/// The text is let go before the index of the problem is made, so the two never stand in memory together.
+pub fn cnf_of(alloc: Global, text: Vec<u8>) -> Result<Problem, CnfError>
+    requires { length text.items ≤ 16777216 }
+    ensures exact { Gives (λ problem. problem) result (problem_of text.items) }
     ensures clauses { IfOk result (λ problem. All IsClauseRule problem.rules) }
 {
-    read_problem(alloc, text)
+    let built = builder_of(alloc, &text)?;
+    drop(text);
+    Ok(built.finish()?)
 }
 
-/// Reads the header and the clauses, and builds the problem.
+/// Reads the header and the clauses, and builds the problem up to its index.
 #[tactic(auto, unfolding(crate::specs::Formulas::problem_of))]
-fn read_problem(alloc: Global, text: &[u8]) -> Result<Problem, CnfError>
+fn builder_of(alloc: Global, text: &[u8]) -> Result<ProblemBuilder, CnfError>
     requires { length text.now ≤ 16777216 }
     ensures { Gives (λ problem. problem) result (problem_of text.now) }
 {
@@ -44,10 +48,7 @@ fn read_problem(alloc: Global, text: &[u8]) -> Result<Problem, CnfError>
     let mut builder = ProblemBuilder::new(alloc);
     add_variables(alloc, &mut builder, variables)?;
     read_clauses(alloc, &mut builder, variables, rest)?;
-    match builder.finish() {
-        Ok(problem) => Ok(problem),
-        Err(_) => Err(CnfError::Memory),
-    }
+    Ok(builder)
 }
 
 /// Reads the clauses up to the text's end.
@@ -185,8 +186,6 @@ fn add_term(terms: &mut Vec<Term>, term: Term) -> Result<(), CnfError>
     ensures added { OnOk result (terms.new.items ≡ terms.old.items ++ term ∷ []) }
     ensures refusal { IfErr result (λ e. e ≡ CnfError.Memory) }
 {
-    match terms.push(term) {
-        Ok(()) => Ok(()),
-        Err(_) => Err(CnfError::Memory),
-    }
+    terms.push(term)?;
+    Ok(())
 }

@@ -91,8 +91,6 @@ fn number_of(term: Term, variables: u32) -> i32
 fn add_literal(clause: &mut Vec<i32>, literal: i32) -> Result<(), Memory>
     ensures { OnOk result (clause.new.items ≡ clause.old.items ++ literal ∷ []) }
 {
-    match clause.push(literal) {
-        Ok(()) => Ok(()),
-        Err(_) => Err(Memory),
-    }
+    clause.push(literal)?;
+    Ok(())
 }

@@ -5,6 +5,7 @@ ghost use Rattle.cnf_front.specs.Formulas.{is_p, is_cnf, is_number, is_end, all_
 
 use crate::words::{Rest, next_word};
 use dcsp_problem::Which;
+use std::alloc::{AllocError, AllocFailed};
 
 /// Why a text gives no problem.
 #[derive(Clone, Copy, Debug, PartialEq, Eq)]
@@ -14,6 +15,28 @@ pub enum CnfError {
     /// There would be `count` of these, which is more than their greatest number.
     Limit { which: Which, count: u128, at: u32 },
     Memory,
+}
+
+impl From<AllocError> for CnfError {
+    ghost use Rattle.std.specs.Prelude.{◌≡◌};
+    ghost use Rattle.cnf_front.specs.declared.header.CnfError.TheVariants.{Memory};
+
+    ghost from_gives = { λ _ e. e ≡ Memory };
+
+    fn from(_: AllocError) -> CnfError {
+        CnfError::Memory
+    }
+}
+
+impl<T: Drop> From<AllocFailed<T>> for CnfError {
+    ghost use Rattle.std.specs.Prelude.{◌≡◌};
+    ghost use Rattle.cnf_front.specs.declared.header.CnfError.TheVariants.{Memory};
+
+    ghost from_gives = { λ _ e. e ≡ Memory };
+
+    fn from(_: AllocFailed<T>) -> CnfError {
+        CnfError::Memory
+    }
 }
 
 /// A word of the header that is not the number of variables.

@@ -18,13 +18,8 @@ pub fn write_clause(nogood: &Nogood, into: &mut Vec<u8>) -> Result<(), Memory>
 {
     // The line is made apart, so that a refusal in its middle leaves nothing of it.
     let alloc = *into.allocator();
-    let Ok(line) = line_of(alloc, nogood.pairs()) else {
-        return Err(Memory);
-    };
-    match into.extend_from_slice(&line) {
-        Ok(()) => Ok(()),
-        Err(_) => Err(Memory),
-    }
+    let line = line_of(alloc, nogood.pairs())?;
+    into.extend_from_slice(&line)
 }
 
 /// The line of the clause.

@@ -115,9 +115,7 @@ pub fn owned_lists(
     requires inside { All (λ scope. All (λ v. v < variables) scope) scopes.now }
     ensures { IfOk result (λ owned. owned.items ≡ map (owned_among scopes.now) (below variables)) }
 {
-    let Ok(mut owned) = empty_lists(alloc, variables) else {
-        return Err(Memory);
-    };
+    let mut owned = empty_lists(alloc, variables)?;
     for rule in 0..scopes.len() {
         let owner = scopes.list(rule).last().copied();
         push_owned(&mut owned, owner, rule as u32)?;
@@ -144,8 +142,7 @@ fn push_owned(owned: &mut Vec<NumberList>, owner: Option<u32>, rule: u32) -> Res
     let Some(owner) = owner else {
         return Ok(());
     };
-    let list = &mut owned[owner as usize];
-    match list.push(rule) {
+    match owned[owner as usize].push(rule) {
         Ok(()) => Ok(()),
         Err(_) => Err(Memory),
     }

@@ -19,9 +19,7 @@ pub fn lower_table(
     requires { All (λ scope. All (λ v. v < variables) scope) scopes.now }
     ensures { IfOk result (λ table. table ≡ map (lower_among scopes.now variables) (below variables)) }
 {
-    let Ok(mut owners) = empty_lists(alloc, variables) else {
-        return Err(Memory);
-    };
+    let mut owners = empty_lists(alloc, variables)?;
     for rule in 0..scopes.len() {
         push_scope(&mut owners, scopes.list(rule))?;
     }
@@ -58,8 +56,7 @@ fn push_owner(owners: &mut Vec<NumberList>, var: u32, owner: u32) -> Result<(), 
     if var >= owner {
         return Ok(());
     }
-    let list = &mut owners[var as usize];
-    match list.push(owner) {
+    match owners[var as usize].push(owner) {
         Ok(()) => Ok(()),
         Err(_) => Err(Memory),
     }

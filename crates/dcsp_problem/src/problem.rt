@@ -109,14 +109,12 @@ impl Problem {
         requires { IsIndexed (record { domains = domains.items; rules = shared.rules; outputs = shared.outputs.items; aim = aim }) shared.tables.scopes shared.tables.forms.items shared.tables.owned shared.tables.lower }
         ensures { IfOk result (λ problem. problem ≡ record { domains = domains.items; rules = shared.rules; outputs = shared.outputs.items; aim = aim }) }
     {
-        match Rc::new(alloc, shared) {
-            Ok(shared) => Ok(Problem {
-                domains,
-                aim,
-                shared,
-            }),
-            Err(_) => Err(Memory),
-        }
+        let shared = Rc::new(alloc, shared)?;
+        Ok(Problem {
+            domains,
+            aim,
+            shared,
+        })
     }
 
     /// The number of variables.
@@ -219,9 +217,7 @@ impl Problem {
     {
         let var = self.aim.variable().unwrap();
         let domains = narrowed_domains(&self.domains, self.aim, var, better)?;
-        let Ok(shared) = self.shared.clone() else {
-            return Err(Memory);
-        };
+        let shared = self.shared.clone()?;
         Ok(Problem {
             domains,
             aim: self.aim,
@@ -341,14 +337,10 @@ fn narrowed_domains(
 fn copied_domains(domains: &Vec<Domain>) -> Result<Vec<Domain>, Memory>
     ensures { IfOk result (λ copies. copies.items ≡ domains.now.items) }
 {
-    let Ok(mut copies) = Vec::with_capacity(*domains.allocator(), domains.len()) else {
-        return Err(Memory);
-    };
+    let mut copies = Vec::with_capacity(*domains.allocator(), domains.len())?;
     for domain in domains {
         let copy = domain.copied()?;
-        let Ok(()) = copies.push(copy) else {
-            return Err(Memory);
-        };
+        copies.push(copy)?;
     }
     Ok(copies)
 }

@@ -36,13 +36,9 @@ impl NumberTable {
         ensures { IfOk result (λ table. (n : ℕ) → All (λ list. All (λ x. x < n) list) lists.now → table ≡ map (set_below n) lists.now) }
     {
         let mut numbers = Vec::new(alloc);
-        let Ok(mut places) = vec![in alloc; 0] else {
-            return Err(Memory);
-        };
+        let mut places = vec![in alloc; 0]?;
         for list in lists {
-            let Ok(set) = rising_set(alloc, list.items()) else {
-                return Err(Memory);
-            };
+            let set = rising_set(alloc, list.items())?;
             push_list(&mut numbers, &mut places, &set)?;
         }
         Ok(NumberTable { numbers, places })
@@ -53,9 +49,7 @@ impl NumberTable {
         ensures { IfOk result (λ table. table ≡ lists.now) }
     {
         let mut numbers = Vec::new(alloc);
-        let Ok(mut places) = vec![in alloc; 0] else {
-            return Err(Memory);
-        };
+        let mut places = vec![in alloc; 0]?;
         for list in lists {
             push_list(&mut numbers, &mut places, list.items())?;
         }
@@ -110,11 +104,7 @@ fn push_list(numbers: &mut Vec<u32>, places: &mut Vec<usize>, list: &[u32]) -> R
     ensures list { OnOk result (pieces numbers.new.items places.new.items ≡ pieces numbers.old.items places.old.items ++ list.now ∷ []) }
     ensures cuts { OnOk result (AreCuts numbers.new.items places.new.items) }
 {
-    let Ok(()) = numbers.extend_from_slice(list) else {
-        return Err(Memory);
-    };
-    match places.push(numbers.len()) {
-        Ok(()) => Ok(()),
-        Err(_) => Err(Memory),
-    }
+    numbers.extend_from_slice(list)?;
+    places.push(numbers.len())?;
+    Ok(())
 }

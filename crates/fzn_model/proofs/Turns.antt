@@ -192,3 +192,8 @@ pub finished_as : (text : List ℕ) (given : Result SoFar Refusal) (result : Res
 finished_as text given (Ok problem) all is = answered text given (Ok problem) all is
 finished_as text given (Err (errors.Refused refusal)) all is = answered text given (Err refusal) all is
 finished_as text given (Err errors.Memory) all is = tt
+
+-- the problem of what the text built is the text's
+pub finished_after : (text lent : List ℕ) (built problem : Contents) → lent ≡ text → problem ≡ built → AnswersOrLacks lent (Ok built) → AnswersOrLacks text (Ok problem)
+finished_after text lent built problem same is answers =
+    subst (λ of. AnswersOrLacks of (Ok problem)) same (subst (λ found. AnswersOrLacks lent (Ok found)) (sym is) answers)

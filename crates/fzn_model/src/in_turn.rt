@@ -10,15 +10,27 @@ ghost use Rattle.fzn_model.specs.Reading.{gave, then_item, problem_given, IsSoun
 
 use crate::resolver::Resolver;
 use dcsp_common::Memory;
-use dcsp_problem::Problem;
-use fzn_item::{LentItem, next_lent};
+use dcsp_problem::{Problem, ProblemBuilder};
+use fzn_item::{LentItem, next_constraint, next_lent};
 use fzn_token::{ModelError, Refusal, TokenReader};
 use std::alloc::Global;
 
 /// The problem of a text of at most 16,777,216 bytes, or its first refusal.
 ///
+/// The text is let go before the index of the problem is made, so the two never stand in memory together.
+pub fn problem_of(alloc: Global, text: Vec<u8>) -> Result<Problem, ModelError>
+    requires { length text.items ≤ longest_text }
+    ensures { AnswersOrLacks text.items result }
+{
+    let built = builder_of(alloc, &text)?;
+    drop(text);
+    Ok(built.finish()?)
+}
+
+/// What the items of the text build, or its first refusal.
+///
 /// The tokens up to the next `;` are read into one buffer, and their item is resolved and let go before the next.
-pub fn problem_of(alloc: Global, text: &[u8]) -> Result<Problem, ModelError>
+fn builder_of(alloc: Global, text: &[u8]) -> Result<ProblemBuilder, ModelError>
     requires { length text.now ≤ longest_text }
     ensures { AnswersOrLacks text.now result }
 {
@@ -68,19 +80,24 @@ impl<'t> Taken<'t> {
         let mut piece = Vec::new(alloc);
         'items: loop {
             reader.next_piece(&mut piece)?;
-            match next_lent(alloc, text, &piece) {
-                Ok(Some((lent, _behind))) => {
-                    let done = self.take(text, &lent);
-                    drop(lent);
-                    done?;
-                }
-                Ok(None) => return Ok(()),
+            match next_constraint(alloc, text, &piece) {
+                Ok(Some(constraint)) => self.take(text, &LentItem::Constraint(constraint))?,
+                Ok(None) => match next_lent(alloc, text, &piece) {
+                    Ok(Some((lent, _behind))) => {
+                        let done = self.take(text, &lent);
+                        drop(lent);
+                        done?;
+                    }
+                    Ok(None) => return Ok(()),
+                    Err(error) => return Err(unread(reader, error)),
+                },
                 Err(error) => return Err(unread(reader, error)),
             }
         }
     }
 
-    /// One item more, which changes nothing after a refusal.
+    /// One item more, which changes nothing after a refusal. It is inlined where the item is known to be a constraint.
+    #[inline(always)]
     fn take(&mut self, text: &'t [u8], lent: &LentItem<'_>) -> Result<(), Memory>
         requires stands { IsSomeItem lent.now }
         requires sound { IsSoundGiven (gave self.old) }
@@ -102,8 +119,8 @@ impl<'t> Taken<'t> {
         }
     }
 
-    /// The problem of the items.
-    fn finish(self) -> Result<Problem, ModelError>
+    /// What the items build.
+    fn finish(self) -> Result<ProblemBuilder, ModelError>
         ensures { Gives result (problem_given (gave self.entry)) }
     {
         match self.refused {

@@ -15,7 +15,7 @@ use crate::building::{add_rule, add_variable};
 use crate::declaration::{Declaration, domain_of, is_boolean, right_side, source_of, value_of};
 use crate::goal::aim_of;
 use crate::output::{add_array_output, add_variable_output, check_shape};
-use dcsp_problem::{Problem, ProblemBuilder, Term, Which};
+use dcsp_problem::{ProblemBuilder, Term, Which};
 use fzn_item::{Goal, Item, LentArguments, LentItem};
 use fzn_scope::{ArgumentLists, Context, Declared, Names, bytes_at};
 use fzn_token::{ModelError, Refusal};
@@ -267,6 +267,7 @@ impl<'t> Resolver<'t> {
     }
 
     /// The next item.
+    #[inline(always)]
     pub(crate) fn take(&mut self, text: &'t [u8], lent: &LentItem<'_>) -> Result<(), ModelError>
         requires stands { IsSomeItem lent.now }
         requires sound { IsSound (so_far self.old) }
@@ -327,13 +328,13 @@ impl<'t> Resolver<'t> {
         }
     }
 
-    /// The problem, if there was a solve item.
-    pub(crate) fn finish(self) -> Result<Problem, ModelError>
+    /// What was built, if there was a solve item.
+    pub(crate) fn finish(self) -> Result<ProblemBuilder, ModelError>
         ensures { Gives result (finished (so_far self.entry)) }
     {
         if !self.solved {
             return Err(ModelError::Refused(Refusal::NoSolve));
         }
-        Ok(self.builder.finish()?)
+        Ok(self.builder)
     }
 }

@@ -18,7 +18,7 @@ fn read(alloc: Global, text: &[u8]) -> Result<Problem, CnfError>
     if text.len() > 1000 {
         return Err(CnfError::Memory);
     }
-    cnf_of(alloc, text)
+    cnf_of(alloc, Vec::from_slice(alloc, text)?)
 }
 
 /// The clauses of the problem of formula.

@@ -6,12 +6,15 @@ use itoa::Buffer;
 use std::alloc::Global;
 use std::process::Abort;
 
-/// Why a text of less than 16 MiB has no problem.
+/// The answer for a text of at most 16 MiB.
+fn answer(rt: &impl Abort, alloc: Global, text: &[u8]) -> Result<Problem, ModelError> {
+    assert!(rt; text.len() <= 16_777_216);
+    problem_of(alloc, Vec::from_slice(alloc, text)?)
+}
+
+/// Why a text of at most 16 MiB has no problem.
 fn refusal(rt: &impl Abort, alloc: Global, text: &[u8]) -> Option<ModelError> {
-    if text.len() > 16_777_216 {
-        panic!(rt; "a long text");
-    }
-    problem_of(alloc, text).err()
+    answer(rt, alloc, text).err()
 }
 
 /// The text has no problem, for this reason.
@@ -374,8 +377,7 @@ solve :: int_search([x,y],input_order,indomain_min,complete) satisfy;
 
 /// The problem of a text that is not refused.
 fn problem_in(rt: &impl Abort, alloc: Global, text: &[u8]) -> Problem {
-    assert!(rt; text.len() <= 16_777_216);
-    match problem_of(alloc, text) {
+    match answer(rt, alloc, text) {
         Ok(problem) => problem,
         Err(error) => panic!(rt; "{error:?}"),
     }

@@ -13,4 +13,4 @@ invariant_of-result c =
     let at : aimed_at p.aim ≡ Some c.unwrap-var.result = sym c.variable.ensures ∙ c.unwrap-var.ensures in
     let known = aimed_below (length p.domains) p.aim c.unwrap-var.result c.self.invariant.problem.aim at in
     let made = is_indexed_narrowed p _ c.unwrap-var.result c.in_ok-domains.domains.items _ _ _ _ known c.in_ok-domains.ensures c.self.invariant in
-    subst (λ (z : SharedPart). IsIndexed (record { domains = c.in_ok-domains.domains.items; rules = z.rules; outputs = z.outputs.items; aim = c.self.inside.aim }) z.tables.scopes z.tables.forms.items z.tables.owned z.tables.lower) (sym c.in-Ok.ensures.cases) made
+    subst (λ (z : SharedPart). IsIndexed (record { domains = c.in_ok-domains.domains.items; rules = z.rules; outputs = z.outputs.items; aim = c.self.inside.aim }) z.tables.scopes z.tables.forms.items z.tables.owned z.tables.lower) (sym c.in_ok-shared.ensures.cases) made

@@ -14,7 +14,7 @@ loop-list-preserved c = record {
       let list = c.list-item.result in
       let within : i < length lists = omega arith in
       let mine = subst (λ (z : List ℕ). All (λ x. x < n) z) (sym c.list-item.is) (all i list within) in
-      let set = c.deref.ensures.value ∙ c.in-Ok-rising_set.ensures n (subst (λ (z : List ℕ). All (λ x. x < n) z) (sym c.items.ensures) mine) ∙ ap (λ (z : List ℕ). set_below n z) (c.items.ensures ∙ c.list-item.is) in
+      let set = c.deref.ensures.value ∙ c.in_ok-set.ensures n (subst (λ (z : List ℕ). All (λ x. x < n) z) (sym c.items.ensures) mine) ∙ ap (λ (z : List ℕ). set_below n z) (c.items.ensures ∙ c.list-item.is) in
       c.in_ok-push_list.ensures.list
       ∙ ap (λ (z : List (List ℕ)). z ++ c.deref.result.now ∷ []) (c.loop-list.invariant.made n all)
       ∙ ap (λ (z : List ℕ). map (set_below n) (take i lists) ++ z ∷ []) set
