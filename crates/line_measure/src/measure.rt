@@ -102,9 +102,7 @@ fn push_run(
 {
     let run = measure_run(alloc, problem, choices, MOST_DELIVERIES, true)?;
     let numbers = numbers_of(&run)?;
-    let Ok(()) = push_head(&numbers, into) else {
-        return Err(Memory);
-    };
+    push_head(&numbers, into)?;
     push_each(order, problem, &run, into)?;
     Ok(numbers.end)
 }
@@ -123,16 +121,9 @@ fn push_each(
     ensures { (done : List Act) (net : TheNetwork) → AreRows (csp_of problem.now) done run.now.measures.rows → AreLearned done run.now.learned → StandsAt run.now.network net
         → OnOk result (into.new.items ≡ into.old.items ++ each_text (option_copied order.entry) (csp_of problem.now) done net) }
 {
-    let Ok(()) = push_agents(order, problem, run, into) else {
-        return Err(Memory);
-    };
-    let Ok(()) = push_learned(order, problem, &run.learned, into) else {
-        return Err(Memory);
-    };
-    match into.extend_from_slice(b"end\n") {
-        Ok(()) => Ok(()),
-        Err(_) => Err(Memory),
-    }
+    push_agents(order, problem, run, into)?;
+    push_learned(order, problem, &run.learned, into)?;
+    into.extend_from_slice(b"end\n")
 }
 
 /// The status of a run that ended so: unfinished where a message is in transit.

@@ -12,7 +12,6 @@ use abt_input::{AnswerLine, CommandError, read_model};
 use dcsp_order::{Order, OrderRule};
 use dcsp_outside::{Folder, Sink};
 use dcsp_script::{Status, Stop, append, create, put};
-use itoa::Buffer;
 use std::alloc::Global;
 
 /// The words of `order`.
@@ -71,12 +70,10 @@ fn write_told<F: Folder, S: Sink>(
 fn order_line(rule: OrderRule, variables: u64) -> AnswerLine
     ensures { result ≡ order_line rule variables }
 {
-    let mut digits = Buffer::new();
-    AnswerLine::of(b"order ")
+    let before = AnswerLine::of(b"order ")
         .with(word_of(rule))
-        .with(b" variables ")
-        .with(digits.format(variables).as_bytes())
-        .with(b"\n")
+        .with(b" variables ");
+    AnswerLine::numbered(before.bytes(), variables)
 }
 
 /// The rule in a word.

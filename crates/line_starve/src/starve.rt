@@ -23,7 +23,6 @@ use abt_session::{End, Starved, StarvingRun, starve};
 use dcsp_order::{Order, moved};
 use dcsp_outside::{Folder, Sink};
 use dcsp_script::{Status, Stop, append, create, put};
-use itoa::Buffer;
 use std::alloc::Global;
 
 /// The most deliveries of a run that starves a link.
@@ -155,12 +154,10 @@ fn tell<S: Sink>(told: Starved, out: &mut S) -> Result<(), Stop>
 fn line_of(told: Starved) -> AnswerLine
     ensures { result ≡ starved_line (end_of told.end) told.deliveries }
 {
-    let mut digits = Buffer::new();
-    AnswerLine::of(b"starved ")
+    let before = AnswerLine::of(b"starved ")
         .with(word_of(told.end))
-        .with(b" deliveries ")
-        .with(digits.format(told.deliveries).as_bytes())
-        .with(b"\n")
+        .with(b" deliveries ");
+    AnswerLine::numbered(before.bytes(), told.deliveries)
 }
 
 /// How a run ended, in a word.

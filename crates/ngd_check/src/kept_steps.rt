@@ -6,9 +6,9 @@ ghost use Rattle.ngd_check.specs.Places.{IsPlaced, AreLists, pairs_of, placed_in
 
 use crate::places::pair_at;
 use dcsp_common::Memory;
-use dcsp_defs::{Derivation, Nogood, Pair, Reason, ReasonList, Step};
+use dcsp_defs::{Derivation, Nogood, Pair, ReasonList, Step};
 use dcsp_problem::Problem;
-use ngd_store::{Arena, Placed, Rests};
+use ngd_store::{Arena, Placed, Reasons, Rests};
 use std::alloc::Global;
 use std::marker::Model;
 
@@ -70,12 +70,12 @@ impl<'p> KeptSteps<'p> {
         self.rests.variable(place)
     }
 
-    /// Adds the reasons of the step at a place, in order.
-    pub fn add_reasons(&self, place: usize, into: &mut Vec<Reason>) -> Result<(), Memory>
+    /// The reasons of the step at a place, in order.
+    pub fn reasons(&self, place: usize) -> Reasons<'_>
         requires { place < length self.now }
-        ensures { OnOk result (into.new.items ≡ into.old.items ++ (slice_index_or self.now place no_step).reasons) }
+        ensures { result ≡ (slice_index_or self.now place no_step).reasons }
     {
-        self.rests.add_reasons(place, into)
+        self.rests.reasons(place)
     }
 
     /// The nogood of the step at a place.
@@ -97,8 +97,9 @@ impl<'p> KeptSteps<'p> {
         ensures { IfOk result (λ step. step ≡ slice_index_or self.now place no_step) }
     {
         let nogood = self.nogood(alloc, place)?;
-        let mut reasons = Vec::new(alloc);
-        self.add_reasons(place, &mut reasons)?;
+        let listed = self.reasons(place).list(alloc)?;
+        // That list has room for more reasons than there are.
+        let reasons = Vec::from_slice(alloc, &listed)?;
         Ok(Step {
             variable: self.variable(place),
             nogood,

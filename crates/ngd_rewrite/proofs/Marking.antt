@@ -9,7 +9,7 @@ use Rattle.ngd_check.proofs.Once.{compared}
 use Rattle.ngd_rewrite.specs.Needed.{cites, IsNeeded, is_last, is_cited_by}
 use Rattle.ngd_rewrite.specs.Marks.{is_marked, CiteBack}
 
-or_later : (a b c : Bool) → ((a || b) || c) ≡ (a || (b || c))
+pub or_later : (a b c : Bool) → ((a || b) || c) ≡ (a || (b || c))
 or_later true b c = refl
 or_later false b c = refl
 

@@ -8,6 +8,7 @@ ghost use Rattle.ngd_rewrite.specs.Marks.{is_marked, IsNumber, CiteBack};
 use dcsp_common::Memory;
 use ngd_check::KeptSteps;
 use ngd_log::Reason;
+use ngd_store::Reasons;
 use std::alloc::Global;
 
 /// A mark for each step, whether the last step needs it.
@@ -21,51 +22,36 @@ pub fn needed_steps(alloc: Global, steps: &KeptSteps<'_>) -> Result<Vec<bool>, M
         return Err(Memory);
     };
     mark(&mut needed, steps.len() as u64);
-    mark_needed(alloc, &mut needed, steps)?;
+    mark_needed(&mut needed, steps);
     Ok(needed)
 }
 
 /// Marks what marked steps cite, from the last step on.
-fn mark_needed(alloc: Global, needed: &mut [bool], steps: &KeptSteps<'_>) -> Result<(), Memory>
+fn mark_needed(needed: &mut [bool], steps: &KeptSteps<'_>)
     requires as_many { length needed.old ≡ length steps.now }
     requires back { CiteBack steps.now }
     requires last { (number : ℕ) → (is_marked needed.old number ≡ true) ↔ (number ≡ length steps.now) }
     ensures as_many { length needed.new ≡ length needed.old }
-    ensures exact { OnOk result ((number : ℕ) → (is_marked needed.new number ≡ true) ↔ IsNeeded steps.now number) }
+    ensures exact { (number : ℕ) → (is_marked needed.new number ≡ true) ↔ IsNeeded steps.now number }
 {
-    let mut reasons = Vec::new(alloc);
     let mut left = steps.len();
     while left > 0 {
         left -= 1;
         if needed[left] {
-            read_reasons(steps, left, &mut reasons)?;
-            mark_cited(needed, &reasons);
+            mark_cited(needed, steps.reasons(left));
         }
     }
-    Ok(())
-}
-
-/// Reads the reasons of the step at a place into the list, in place of what it has.
-pub fn read_reasons(
-    steps: &KeptSteps<'_>,
-    place: usize,
-    into: &mut Vec<Reason>,
-) -> Result<(), Memory>
-    requires { place < length steps.now }
-    ensures { OnOk result (into.new.items ≡ (slice_index_or steps.now place no_step).reasons) }
-{
-    into.clear();
-    steps.add_reasons(place, into)
 }
 
 /// Marks the steps that the reasons cite.
-fn mark_cited(needed: &mut [bool], reasons: &[Reason])
-    requires { (number : ℕ) → cites reasons.now number ≡ true → IsNumber (length needed.old) number }
+fn mark_cited(needed: &mut [bool], reasons: Reasons<'_>)
+    requires { (number : ℕ) → cites reasons number ≡ true → IsNumber (length needed.old) number }
     ensures as_many { length needed.new ≡ length needed.old }
-    ensures marked { (number : ℕ) → is_marked needed.new number ≡ (is_marked needed.old number || cites reasons.now number) }
+    ensures marked { (number : ℕ) → is_marked needed.new number ≡ (is_marked needed.old number || cites reasons.entry number) }
 {
-    for reason in reasons {
-        mark_reason(needed, *reason);
+    let mut left = reasons;
+    while let Some(reason) = left.take_first() {
+        mark_reason(needed, reason);
     }
 }
 

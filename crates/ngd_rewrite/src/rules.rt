@@ -1,6 +1,6 @@
 //! The rules that steps cite.
 
-ghost use Rattle.std.specs.Prelude.{◌≡◌, ◌↔◌, ◌||◌, ◌==◌, ◌<◌, ◌≤◌, ◌^◌, ℕ, true, filter, length, IfOk};
+ghost use Rattle.std.specs.Prelude.{◌≡◌, ◌↔◌, ◌||◌, ◌==◌, ◌<◌, ◌≤◌, ◌^◌, ℕ, true, false, filter, length, IfOk};
 ghost use Rattle.dcsp_defs.specs.Words.{In, IsRising, below};
 ghost use Rattle.ngd_rewrite.specs.Needed.{names_rule, cites_rule, is_cited};
 ghost use Rattle.ngd_rewrite.specs.Marks.{has_mark};
@@ -9,6 +9,7 @@ use crate::cores::RuleNumbers;
 use crate::trim::Trimmed;
 use dcsp_common::Memory;
 use ngd_log::Reason;
+use ngd_store::Reasons;
 use std::alloc::Global;
 
 /// The rules, of so many, that the steps cite, strictly rising.
@@ -21,25 +22,44 @@ pub fn cited_rules(
     ensures rising { IfOk result (λ cited. IsRising cited) }
     ensures exact { IfOk result (λ cited. (rule : ℕ) → In rule cited ↔ (is_cited steps.now rule ≡ true)) }
 {
-    let Ok(mut cited) = vec![in alloc; false; rules as usize] else {
-        return Err(Memory);
-    };
-    let mut reasons = Vec::new(alloc);
-    for place in 0..steps.len() {
-        steps.read_old_reasons(place, &mut reasons)?;
-        mark_cited(&mut cited, &reasons);
-    }
+    let cited = cited_marks(alloc, rules, steps)?;
     marked_places(alloc, &cited)
 }
 
-/// Marks the rules that the reasons cite.
-fn mark_cited(cited: &mut [bool], reasons: &[Reason])
-    requires { (rule : ℕ) → cites_rule reasons.now rule ≡ true → rule < length cited.old }
-    ensures as_many { length cited.new ≡ length cited.old }
-    ensures marked { (rule : ℕ) → has_mark cited.new rule ≡ (has_mark cited.old rule || cites_rule reasons.now rule) }
+/// A mark for each rule, of so many, whether the steps cite it.
+fn cited_marks(alloc: Global, rules: u32, steps: &Trimmed<'_, '_>) -> Result<Vec<bool>, Memory>
+    requires { (rule : ℕ) → is_cited steps.now rule ≡ true → rule < rules }
+    ensures as_many { IfOk result (λ cited. length cited.items ≡ rules) }
+    ensures marked { IfOk result (λ cited. (rule : ℕ) → has_mark cited.items rule ≡ is_cited steps.now rule) }
 {
-    for reason in reasons {
-        mark_reason(cited, *reason);
+    let Ok(mut cited) = vec![in alloc; false; rules as usize] else {
+        return Err(Memory);
+    };
+    mark_all(&mut cited, steps);
+    Ok(cited)
+}
+
+/// Marks the rules that the steps cite, where none is marked.
+fn mark_all(cited: &mut [bool], steps: &Trimmed<'_, '_>)
+    requires some { (rule : ℕ) → is_cited steps.now rule ≡ true → rule < length cited.old }
+    requires none { (rule : ℕ) → has_mark cited.old rule ≡ false }
+    ensures as_many { length cited.new ≡ length cited.old }
+    ensures marked { (rule : ℕ) → has_mark cited.new rule ≡ is_cited steps.now rule }
+{
+    for place in 0..steps.len() {
+        mark_cited(cited, steps.old_reasons(place));
+    }
+}
+
+/// Marks the rules that the reasons cite.
+fn mark_cited(cited: &mut [bool], reasons: Reasons<'_>)
+    requires { (rule : ℕ) → cites_rule reasons rule ≡ true → rule < length cited.old }
+    ensures as_many { length cited.new ≡ length cited.old }
+    ensures marked { (rule : ℕ) → has_mark cited.new rule ≡ (has_mark cited.old rule || cites_rule reasons.entry rule) }
+{
+    let mut left = reasons;
+    while let Some(reason) = left.take_first() {
+        mark_reason(cited, reason);
     }
 }
 

@@ -5,11 +5,11 @@ ghost use Rattle.ngd_check.specs.Places.{no_step};
 ghost use Rattle.ngd_rewrite.specs.Needed.{chosen, count_to, renumbered, renumbered_reason, cites_rule};
 ghost use Rattle.ngd_rewrite.specs.Marks.{is_marked, number_in, CiteBack};
 
-use crate::needed::read_reasons;
 use crate::rules::marked_places;
 use dcsp_common::{ItemList, Memory};
 use ngd_check::KeptSteps;
 use ngd_log::{Reason, ReasonList, Step};
+use ngd_store::Reasons;
 use std::alloc::Global;
 use std::marker::Model;
 
@@ -79,17 +79,12 @@ impl<'s, 'p> Trimmed<'s, 'p> {
         renumbered_step(self.alloc, self.steps, place, &self.numbers)
     }
 
-    /// Reads the reasons of the step at a place into the list, in place of what it has. The steps among them have
-    /// their old numbers.
-    pub(crate) fn read_old_reasons(
-        &self,
-        place: usize,
-        into: &mut Vec<Reason>,
-    ) -> Result<(), Memory>
+    /// The reasons of the step at a place, in order, where the steps among them have their old numbers.
+    pub(crate) fn old_reasons(&self, place: usize) -> Reasons<'s>
         requires { place < length self.now }
-        ensures { OnOk result ((rule : ℕ) → cites_rule into.new.items rule ≡ cites_rule (slice_index_or self.now place no_step).reasons rule) }
+        ensures { (rule : ℕ) → cites_rule result rule ≡ cites_rule (slice_index_or self.now place no_step).reasons rule }
     {
-        read_reasons(self.steps, self.places.items()[place] as usize, into)
+        self.steps.reasons(self.places.items()[place] as usize)
     }
 }
 
@@ -142,8 +137,7 @@ fn renumbered_step(
 {
     let variable = steps.variable(place);
     let nogood = steps.nogood(alloc, place)?;
-    let mut reasons = Vec::new(alloc);
-    steps.add_reasons(place, &mut reasons)?;
+    let mut reasons = steps.reasons(place).list(alloc)?;
     renumber(&mut reasons, numbers);
     Ok(Step {
         variable,

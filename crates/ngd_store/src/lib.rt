@@ -3,8 +3,10 @@
 
 mod arena;
 mod freed;
+mod reasons;
 mod rests;
 
 pub use arena::{Arena, NO_VAR, Placed};
 pub use dcsp_common::Memory;
+pub use reasons::Reasons;
 pub use rests::{A_STEP, FAR_RULE, Rests};

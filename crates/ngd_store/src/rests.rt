@@ -1,10 +1,11 @@
 //! What steps have beside their nogoods, in one list of words.
 
-ghost use Rattle.std.specs.Prelude.{◌≡◌, ◌++◌, ◌∷◌, [], ◌<◌, ◌≤◌, ◌*◌, ◌+◌, ◌^◌, ℕ, None, List, OnOk, OnErr, IfSome, IfOk, IsNone, length, take, slice_index_or};
+ghost use Rattle.std.specs.Prelude.{◌≡◌, ◌++◌, ◌∷◌, [], ◌<◌, ◌≤◌, ◌*◌, ◌+◌, ◌^◌, ℕ, None, List, OnOk, OnErr, IfOk, length, take, slice_index_or};
 ghost use Rattle.dcsp_defs.specs.declared.Reason.{Reason as A_reason};
-ghost use Rattle.ngd_store.specs.Rests.{Rest, no_rest, reasons_in, variable_in, AreEnds, HasAdded, HasAddedRest, IsFar, rest_in, start_at, part};
+ghost use Rattle.ngd_store.specs.Rests.{Rest, no_rest, variable_in, AreEnds, HasAdded, HasAddedRest, IsFar, rest_in, start_at, part};
 
 use crate::arena::NO_VAR;
+use crate::reasons::Reasons;
 use dcsp_common::Memory;
 use dcsp_defs::Reason;
 use std::alloc::Global;
@@ -89,14 +90,14 @@ impl Rests {
         }
     }
 
-    /// Adds the reasons of the step at this place.
-    pub fn add_reasons(&self, place: usize, into: &mut Vec<Reason>) -> Result<(), Memory>
+    /// The reasons of the step at this place, in order.
+    pub fn reasons(&self, place: usize) -> Reasons<'_>
         requires { place < length self.now }
-        ensures { OnOk result (into.new.items ≡ into.old.items ++ (slice_index_or self.now place no_rest).reasons) }
+        ensures { result ≡ (slice_index_or self.now place no_rest).reasons }
     {
         match self.words_at(place) {
-            [] => Ok(()),
-            [_, words @ ..] => add_reasons(words, into),
+            [] => Reasons::of(&[]),
+            [_, words @ ..] => Reasons::of(words),
         }
     }
 
@@ -156,7 +157,7 @@ fn put_rest(words: &mut Vec<u16>, variable: Option<u32>, reasons: &[Reason]) -> 
     ensures kept { take (length words.old.items) words.new.items ≡ words.old.items }
 {
     let word = word_of(variable)?;
-    put(words, &[word])?;
+    put_word(words, word)?;
     put_reasons(words, reasons)
 }
 
@@ -167,15 +168,10 @@ fn word_of(variable: Option<u32>) -> Result<u16, Memory>
     let Some(var) = variable else {
         return Ok(NO_VAR);
     };
-    match u16::try_from(var) {
-        Ok(word) => {
-            if word == NO_VAR {
-                Err(Memory)
-            } else {
-                Ok(word)
-            }
-        }
-        Err(_) => Err(Memory),
+    if var < u32::from(NO_VAR) {
+        Ok(var as u16)
+    } else {
+        Err(Memory)
     }
 }
 
@@ -198,15 +194,18 @@ fn put_reason(words: &mut Vec<u16>, reason: Reason) -> Result<(), Memory>
     match reason {
         Reason::Rule(rule) => {
             if rule < u32::from(FAR_RULE) {
-                put(words, &[rule as u16])
+                put_word(words, rule as u16)
             } else {
                 put_far(words, FAR_RULE, rule)
             }
         }
-        Reason::Earlier(number) => match u32::try_from(number) {
-            Ok(number) => put_far(words, A_STEP, number),
-            Err(_) => Err(Memory),
-        },
+        Reason::Earlier(number) => {
+            if number <= u64::from(u32::MAX) {
+                put_far(words, A_STEP, number as u32)
+            } else {
+                Err(Memory)
+            }
+        }
     }
 }
 
@@ -220,52 +219,19 @@ fn put_far(words: &mut Vec<u16>, mark: u16, number: u32) -> Result<(), Memory>
     put(words, &[mark, high, low])
 }
 
+/// Adds this word. A refusal changes nothing.
+fn put_word(words: &mut Vec<u16>, word: u16) -> Result<(), Memory>
+    ensures ok { OnOk result (words.new.items ≡ words.old.items ++ word ∷ []) }
+    ensures err { OnErr result (words.new.items ≡ words.old.items) }
+{
+    words.push(word)?;
+    Ok(())
+}
+
 /// Adds these words. A refusal changes nothing.
 fn put(words: &mut Vec<u16>, more: &[u16]) -> Result<(), Memory>
     ensures ok { OnOk result (words.new.items ≡ words.old.items ++ more.now) }
     ensures err { OnErr result (words.new.items ≡ words.old.items) }
 {
     words.extend_from_slice(more)
-}
-
-/// Adds the reasons that the words stand for.
-fn add_reasons(words: &[u16], into: &mut Vec<Reason>) -> Result<(), Memory>
-    ensures { OnOk result (into.new.items ≡ into.old.items ++ reasons_in words.now) }
-{
-    let mut rest = words;
-    while let Some((reason, others)) = reason_at(rest) {
-        add(into, reason)?;
-        rest = others;
-    }
-    Ok(())
-}
-
-fn add(into: &mut Vec<Reason>, reason: Reason) -> Result<(), Memory>
-    ensures { OnOk result (into.new.items ≡ into.old.items ++ reason ∷ []) }
-{
-    into.push(reason)?;
-    Ok(())
-}
-
-/// The reason that the words in front stand for, and the words after these.
-fn reason_at(words: &[u16]) -> Option<(Reason, &[u16])>
-    ensures read { IfSome result (λ x. reasons_in words.now ≡ x.0 ∷ reasons_in x.1.now) }
-    ensures shorter { IfSome result (λ x. length x.1.now < length words.now) }
-    ensures none { IsNone result → reasons_in words.now ≡ [] }
-{
-    match words {
-        [A_STEP, high, low, rest @ ..] => {
-            Some((Reason::Earlier(u64::from(number_of(*high, *low))), rest))
-        }
-        [FAR_RULE, high, low, rest @ ..] => Some((Reason::Rule(number_of(*high, *low)), rest)),
-        [word, rest @ ..] => Some((Reason::Rule(u32::from(*word)), rest)),
-        [] => None,
-    }
-}
-
-/// The number that two words stand for.
-fn number_of(high: u16, low: u16) -> u32
-    ensures { result ≡ high * 65536 + low }
-{
-    u32::from(high) * 65536 + u32::from(low)
 }

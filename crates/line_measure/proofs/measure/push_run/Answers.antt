@@ -20,7 +20,7 @@ returns-clause-text c =
     let h : IsMeasuredRun p most_deliveries choices true _ = c.in_ok-run.ensures in
     let numbers : _ ≡ numbers_of q choices = c.in_ok-numbers.ensures p choices true h in
     let each = c.in_ok-push_each.ensures done (run_under q choices).net h.after.measured.counted.rows (h.after.learned h.listens_is) h.stands in
-    piece_more old (head_text (numbers_of q choices)) (each_text (option_copied c.args.order) q done (run_under q choices).net) _ _ (c.in-Ok.ensures ∙ ap (λ (n : Numbers). old ++ head_text n) numbers) each
+    piece_more old (head_text (numbers_of q choices)) (each_text (option_copied c.args.order) q done (run_under q choices).net) _ _ (c.in_ok-push_head.ensures ∙ ap (λ (n : Numbers). old ++ head_text n) numbers) each
 
 pub returns-clause-end : goal.returns-clause-end
 returns-clause-end c =

@@ -1,16 +1,27 @@
-use Rattle.std.proofs.Common.{◌≡◌, Some, slice_get, arith}
-use Rattle.std.specs.Prelude.{slice_index_or}
-use Rattle.std.proofs.lemmas.Option.{slice_get-get_or}
-use Rattle.dcsp_defs.specs.declared.Reason.TheVariants.{Rule}
-use Rattle.ngd_rewrite.specs.Needed.{names_step}
-use Rattle.ngd_rewrite.proofs.Marking.{any_at}
+use Rattle.std.proofs.Common.{◌≡◌, ◌||◌, List, true, sym, ap, ◌∙◌, subst, arith}
+use Rattle.dcsp_defs.specs.declared.Reason.{Reason}
+use Rattle.dcsp_defs.proofs.Lists.{or_left, or_right}
+use Rattle.ngd_rewrite.specs.Needed.{names_step, cites}
+use Rattle.ngd_rewrite.specs.Marks.{is_marked}
+use Rattle.ngd_rewrite.proofs.Marking.{or_later}
 use Rattle.ngd_rewrite.proofs.needed.mark_cited.Goals as goal
 
 pub mark_reason-requires : goal.mark_reason-requires
 mark_reason-requires c number t =
-    let reasons = c.args.reasons.now in
-    let place = c.loop-reason.reason-index in
-    let reason = slice_index_or reasons place (Rule 0) in
-    let there : slice_get reasons place ≡ Some reason = slice_get-get_or reasons place (Rule 0) (omega arith) in
-    let n = c.requires number (any_at (λ r. names_step r number) reasons place reason there t) in
+    let reason = c.in-Some.reason in
+    let rest = c.take_first.new.self in
+    let n = c.loop-reason.invariant.there number (subst (λ (rs : List Reason). cites rs number ≡ true) (sym c.in-Some.ensures.first) (or_left (names_step reason number) (cites rest number) t)) in
     record { from_one = n.from_one; within = omega (arith, n.within, c.loop-reason.invariant.as_many) }
+
+pub loop-reason-preserved : goal.loop-reason-preserved
+loop-reason-preserved c =
+    let reason = c.in-Some.reason in
+    let rest = c.take_first.new.self in
+    record {
+      as_many = c.mark_reason.ensures.as_many ∙ c.loop-reason.invariant.as_many;
+      there = λ number t. c.loop-reason.invariant.there number (subst (λ (rs : List Reason). cites rs number ≡ true) (sym c.in-Some.ensures.first) (or_right (names_step reason number) (cites rest number) t));
+      marked = λ number.
+          ap (λ b. b || cites rest number) (c.mark_reason.ensures.marked number)
+          ∙ (or_later (is_marked c.loop-reason.needed number) (names_step reason number) (cites rest number)
+          ∙ (ap (λ (rs : List Reason). is_marked c.loop-reason.needed number || cites rs number) (sym c.in-Some.ensures.first) ∙ c.loop-reason.invariant.marked number));
+    }

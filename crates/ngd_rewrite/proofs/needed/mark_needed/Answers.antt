@@ -22,7 +22,7 @@ mark_cited-requires c number t =
     let place = c.loop-left.left - 1 in
     let step = get_or c.args.steps.now place no_step in
     let there : slice_get c.args.steps.now place ≡ Some step = slice_get-get_or c.args.steps.now place no_step (omega (arith, c.loop-left.invariant.left)) in
-    let reasons = c.deref.ensures.value ∙ c.in_ok-read_reasons.ensures in
+    let reasons = c.reasons.ensures in
     let n = c.requires.back place step there number (subst (λ (rs : List Reason). cites rs number ≡ true) reasons t) in
     record { from_one = n.from_one; within = omega (arith, n.within, c.loop-left.invariant.as_many, c.loop-left.invariant.left, c.requires.as_many) }
 
@@ -36,7 +36,7 @@ loop-left-preserved-then-needed-left c =
     let here : is_marked c.loop-left.needed left ≡ true = mark_at c.loop-left.needed left true some c.if-needed-left.true in
     let m = is_marked c.loop-left.needed in
     let new = is_marked c.mark_cited.new.needed in
-    let reasons = c.deref.ensures.value ∙ c.in_ok-read_reasons.ensures in
+    let reasons = c.reasons.ensures in
     let eq : (n : ℕ) → new n ≡ (m n || cites step.reasons n) = λ n. c.mark_cited.ensures.marked n ∙ ap (λ (rs : List Reason). m n || cites rs n) reasons in
     record {
       left = omega (arith, c.loop-left.invariant.left);
