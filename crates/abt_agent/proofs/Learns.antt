@@ -2,7 +2,7 @@
 use Rattle.std.proofs.Common.{◌≡◌, ℕ, ◌<◌, List, length, sym, ap, subst, ◌∙◌}
 use Rattle.dcsp_defs.specs.declared.nogood.Pair.{Pair}
 use Rattle.dcsp_defs.specs.Words.{In}
-use Rattle.abt_defs.specs.Agents.{Agent, is_among, Record, StampedNogood, plain, Add_link}
+use Rattle.abt_defs.specs.Agents.{Agent, Record, StampedNogood, plain, Add_link}
 use Rattle.abt_defs.specs.Steps as steps
 use Rattle.law_agent.specs.OneAgent.{Proper, Sound}
 use Rattle.law_agent.specs.Staying.{OnlyLearns}
@@ -11,11 +11,8 @@ use Rattle.abt_parts.specs.declared.message.Sent.{Sent}
 use Rattle.abt_parts.specs.Messages.{with_stamps}
 use Rattle.abt_agent.specs.declared.knowledge.Knowledge.{Knowledge}
 use Rattle.abt_agent.specs.declared.body.AgentBody.{AgentBody}
-use Rattle.abt_agent.specs.Bodies.{agent_of, owner_of, IsInStep, IsSized}
+use Rattle.abt_agent.specs.Bodies.{owner_of, IsInStep, IsSized}
 use Rattle.abt_agent.specs.Outgoing.{Posts}
-use Rattle.abt_parts.specs.Views.{view_of}
-use Rattle.abt_parts.specs.Stores.{records_of}
-use Rattle.abt_reason.specs.Marks.{has_mark}
 use Rattle.abt_agent.proofs.Lists.{plain-with_stamps}
 
 -- the nogoods that are left after asking and learning are proper
@@ -37,12 +34,6 @@ pub asked_for : (me : ℕ) (nogood ps : List Pair) (stamps : List ℕ) (a : Agen
     → Posts out went (steps.to_each Add_link (steps.unlinked me (plain (with_stamps nogood stamps)) a))
 asked_for me nogood ps stamps a out went p e =
     subst (λ z. Posts out went (steps.to_each Add_link (steps.unlinked me z a))) (p ∙ sym (plain-with_stamps nogood stamps)) e
-
--- the agent has got a place in the view, and was told nothing
-pub placed_is : (b : AgentBody) (known : Knowledge) → view_of known.view ≡ view_of b.known.view → known.store ≡ b.known.store → agent_of (record b { known = known }) ≡ agent_of b
-placed_is b known view store =
-    let kept = ap records_of store in
-    λ x. record { value = b.value; stamp = b.stamp; waits = b.waits; view = view x; recorded = kept x; tells = λ k. is_among k b.tells.items; linked = has_mark b.linked }
 
 -- what is known has changed, of the same agent
 pub sized_still : (b : AgentBody) (known : Knowledge) → IsSized b → owner_of known ≡ owner_of b.known → IsInStep known → IsSized (record b { known = known })

@@ -1,5 +1,5 @@
 -- The reasons are kept up with view and store.
-use Rattle.std.proofs.Common.{◌≡◌, ◌≢◌, ℕ, ◌<◌, cond, List, Some, length, refl, sym, ap, subst, ◌∙◌, inl, inr}
+use Rattle.std.proofs.Common.{◌≡◌, ◌≢◌, ℕ, ◌<◌, Bool, cond, List, Option, Some, length, refl, sym, ap, subst, ◌∙◌, inl, inr}
 use Rattle.std.specs.Prelude.{filter}
 use Rattle.std.proofs.lemmas.Bool.{cases_eq, ne_eqb, eq-eqb}
 use Rattle.std.proofs.lemmas.Bool.Decides.{eqb_tells}
@@ -7,8 +7,11 @@ use Rattle.std.proofs.Math.Path.{fun_ext}
 use Rattle.dcsp_defs.specs.Words.{In, update}
 use Rattle.dcsp_defs.specs.Csp.{Csp, PartialAssignment, domain}
 use Rattle.abt_defs.specs.Agents.{Stamped, View, values_in, value_in}
+use Rattle.abt_defs.specs.Steps.{is_newer}
 use Rattle.dcsp_rule.specs.Problems.{AreInDomains}
 use Rattle.abt_parts.specs.declared.recorded.Recorded.{Recorded}
+use Rattle.abt_parts.specs.declared.view.StampedValue.{StampedValue}
+use Rattle.abt_parts.specs.Views.{stamped_in, told_at, view_of, Slots}
 use Rattle.abt_parts.specs.Stores.{fits}
 use Rattle.abt_reason.specs.Cached.{Cached, StandsFor, StoodBefore}
 use Rattle.abt_reason.proofs.AfterLaws.{all_left}
@@ -64,3 +67,8 @@ module _ (old new : View) (from : ℕ) (s : Stamped) (e : new ≡ update old fro
   stands_still r before items stood left was size =
       let same : items ≡ before = left ∙ all_left (fits from s.value) before (sym (ap length left) ∙ size) in
       subst (λ (known : PartialAssignment). StandsFor r known items) (same_values was) (subst (λ (xs : List Recorded). StandsFor r (values_in old) xs) (sym same) stood)
+
+-- the view after something was told, where it is known whether that is newer
+pub heard : (slots : Slots) (from stamp : ℕ) (before : Option StampedValue) (newer : Bool) (x y z : View) → before ≡ told_at slots from → newer ≡ is_newer (stamped_in before) stamp
+    → z ≡ cond (is_newer (view_of slots from) stamp) x y → z ≡ cond newer x y
+heard slots from stamp before newer x y z was is e = e ∙ ap (λ b. cond b x y) (sym (is ∙ ap (λ o. is_newer (stamped_in o) stamp) was))

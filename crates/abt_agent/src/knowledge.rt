@@ -5,9 +5,9 @@ ghost use Rattle.std.specs.Option.{ForSome};
 ghost use Rattle.dcsp_defs.specs.Words.{In, update};
 ghost use Rattle.dcsp_defs.specs.Csp.{domain};
 ghost use Rattle.dcsp_rule.specs.Problems.{csp_of};
-ghost use Rattle.abt_defs.specs.Agents.{values_in};
+ghost use Rattle.abt_defs.specs.Agents.{value_in};
 ghost use Rattle.abt_defs.specs.Steps as steps;
-ghost use Rattle.abt_parts.specs.Views.{has_place, view_of, stamped_of};
+ghost use Rattle.abt_parts.specs.Views.{stamped_in, stamped_of, view_of};
 ghost use Rattle.abt_parts.specs.Stores.{is_ruled_out, lowest_value, records_of};
 ghost use Rattle.abt_agent.specs.Bodies.{owner_of, IsInStep};
 
@@ -51,56 +51,32 @@ impl<'p> Knowledge<'p> {
         })
     }
 
-    /// Gives a higher agent a place in the view, if it has none. What is known stays.
-    #[inline(always)]
-    pub fn make_place(&mut self, from: u32) -> Result<(), Memory>
-        requires in_step { IsInStep self.old }
-        requires higher { from < self.old.me }
-        ensures place { OnOk result (has_place self.new.view from ≡ true) }
-        ensures view { view_of self.new.view ≡ view_of self.old.view }
-        ensures store { self.new.store ≡ self.old.store }
-        ensures owner { owner_of self.new ≡ owner_of self.old }
-        ensures in_step { IsInStep self.new }
-    {
-        self.view.make_place(from)
-    }
-
     /// Takes in a value that is newer than what the view has, and forgets what disagrees with it. True
     /// exactly if it is newer.
-    pub fn learn(&mut self, from: u32, told: StampedValue) -> bool
+    pub fn learn(&mut self, from: u32, told: StampedValue) -> Result<bool, Memory>
         requires in_step { IsInStep self.old }
-        requires place { has_place self.old.view from ≡ true }
         requires higher { from < self.old.me }
         requires value { In told.value (domain (csp_of self.old.problem.now) from) }
         requires stamped { 0 < told.stamp }
-        ensures news { result ≡ steps.is_newer (view_of self.old.view from) told.stamp }
-        ensures view { view_of self.new.view ≡ (if result then update (view_of self.old.view) from (Some (stamped_of told)) else view_of self.old.view) }
-        ensures store { records_of self.new.store ≡ (if result then steps.forget from told.value (records_of self.old.store) else records_of self.old.store) }
+        ensures news { IfOk result (λ news. news ≡ steps.is_newer (view_of self.old.view from) told.stamp) }
+        ensures view { IfOk result (λ news. view_of self.new.view ≡ (if news then update (view_of self.old.view) from (Some (stamped_of told)) else view_of self.old.view)) }
+        ensures store { IfOk result (λ news. records_of self.new.store ≡ (if news then steps.forget from told.value (records_of self.old.store) else records_of self.old.store)) }
         ensures owner { owner_of self.new ≡ owner_of self.old }
-        ensures in_step { IsInStep self.new }
+        ensures in_step { OnOk result (IsInStep self.new) }
     {
-        let was_known = self.knows(from, told.value);
-        if !self.view.learn(from, told.value, told.stamp) {
-            return false;
+        let before = self.view.tell(from, told)?;
+        if !is_news(before, told.stamp) {
+            return Ok(false);
         }
+        let was_known = has_value(before, told.value);
         let kept = self.store.len();
         self.store.forget(from, told.value);
         // A newer stamp alone changes no reason.
         if was_known && self.store.len() == kept {
-            return true;
+            return Ok(true);
         }
         self.reasons.after_view(from, &self.view, &self.store);
-        true
-    }
-
-    /// Whether the view has this value of the agent.
-    fn knows(&self, from: u32, value: i64) -> bool
-        ensures { result ≡ true → values_in (view_of self.now.view) from ≡ Some value }
-    {
-        match self.view.value_of(from) {
-            Some(known) => known == value,
-            None => false,
-        }
+        Ok(true)
     }
 
     /// Keeps a nogood, as the first for its value of the agent.
@@ -121,5 +97,27 @@ impl<'p> Knowledge<'p> {
             }
             Err(_) => Err(Memory),
         }
+    }
+}
+
+/// Whether a stamp is newer than what was told before, if something was.
+#[inline(always)]
+fn is_news(before: Option<StampedValue>, stamp: u64) -> bool
+    ensures { result ≡ steps.is_newer (stamped_in before) stamp }
+{
+    match before {
+        Some(known) => known.stamp < stamp,
+        None => true,
+    }
+}
+
+/// Whether what was told before is this value.
+#[inline(always)]
+fn has_value(before: Option<StampedValue>, value: i64) -> bool
+    ensures { result ≡ true → value_in (stamped_in before) ≡ Some value }
+{
+    match before {
+        Some(known) => known.value == value,
+        None => false,
     }
 }

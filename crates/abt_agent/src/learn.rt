@@ -1,6 +1,6 @@
 //! What an agent learns of higher agents, and which nogoods it keeps.
 
-ghost use Rattle.std.specs.Prelude.{◌≡◌, ◌<◌, ◌∷◌, [], ◌&&◌, IfOk, OnOk, false, length, nat_lt, true, if◌then◌else◌};
+ghost use Rattle.std.specs.Prelude.{◌≡◌, ◌<◌, ◌∷◌, [], ◌&&◌, IfOk, IfSome, OnOk, false, is_some, length, nat_lt, not, true, if◌then◌else◌};
 ghost use Rattle.std.specs.Option.{ForSome};
 ghost use Rattle.dcsp_defs.specs.Pairs.{pair_of, IsRising as PairsRise};
 ghost use Rattle.dcsp_defs.specs.declared.nogood.Pair.{Pair as ThePair};
@@ -19,6 +19,15 @@ use abt_parts::{Recorded, StampedValue};
 use dcsp_common::Memory;
 use dcsp_defs::{Nogood, Pair};
 
+/// What is told by a nogood.
+#[derive(Clone, Copy)]
+pub struct Learned {
+    /// Whether each pair of a higher agent is as the view has it.
+    pub fits: bool,
+    /// Whether something was newer than the view.
+    pub is_news: bool,
+}
+
 impl<'p> AgentBody<'p> {
     /// Takes in a value that is newer than what the view has, and forgets what disagrees with it. True
     /// exactly if it is newer.
@@ -32,8 +41,8 @@ impl<'p> AgentBody<'p> {
         ensures owner { owner_of self.new.known ≡ owner_of self.old.known }
         ensures sized { OnOk result (IsSized self.new) }
     {
-        self.known.make_place(from)?;
-        Ok(self.known.learn(from, told))
+        let is_news = self.known.learn(from, told)?;
+        Ok(is_news)
     }
 
     /// Takes in what is told of an agent, if that is higher. True exactly if the view then has this value, or
@@ -61,9 +70,36 @@ impl<'p> AgentBody<'p> {
         Ok(is_news)
     }
 
+    /// Takes in what is told of higher agents, in order. Mostly nothing is newer than the view.
+    pub fn learn_all(&mut self, pairs: &[Pair], stamps: &[u64]) -> Result<Learned, Memory>
+        requires sized { IsSized self.old }
+        requires rising { PairsRise pairs.now }
+        requires stamped { AreStampsOf pairs.now stamps.now }
+        requires values { (pair : ThePair) → In pair pairs.now → In pair.value (domain (csp_of self.old.known.problem.now) pair.var) }
+        ensures news { IfOk result (λ learned. learned.is_news ≡ steps.is_news self.old.known.me (with_stamps pairs.now stamps.now) (agent_of self.old)) }
+        ensures fits { IfOk result (λ learned. learned.fits ≡ steps.fits self.old.known.me pairs.now (agent_of self.new)) }
+        ensures agent { OnOk result (agent_of self.new ≡ steps.learn_all self.old.known.me (with_stamps pairs.now stamps.now) (agent_of self.old)) }
+        ensures owner { owner_of self.new.known ≡ owner_of self.old.known }
+        ensures sized { OnOk result (IsSized self.new) }
+    {
+        match self.fits_known(pairs, stamps) {
+            Some(fits) => Ok(Learned {
+                fits,
+                is_news: false,
+            }),
+            None => {
+                let fits = self.learn_each(pairs, stamps)?;
+                Ok(Learned {
+                    fits,
+                    is_news: true,
+                })
+            }
+        }
+    }
+
     /// Takes in what is told of higher agents, in order. True exactly if each pair of a higher agent is then
     /// as the view has it.
-    pub fn learn_all(&mut self, pairs: &[Pair], stamps: &[u64]) -> Result<bool, Memory>
+    fn learn_each(&mut self, pairs: &[Pair], stamps: &[u64]) -> Result<bool, Memory>
         requires sized { IsSized self.old }
         requires rising { PairsRise pairs.now }
         requires stamped { AreStampsOf pairs.now stamps.now }
@@ -87,18 +123,42 @@ impl<'p> AgentBody<'p> {
         Ok(fits)
     }
 
-    /// Whether the stamp is that of a higher agent, and newer than the view.
+    /// Whether the view has the pair, if its agent is higher; `None` if what is told of that is newer than the view.
     #[inline(always)]
-    fn is_news_of(&self, var: u32, stamp: u64) -> bool
-        ensures { result ≡ (nat_lt var self.now.known.me && steps.is_newer (view_of self.now.known.view var) stamp) }
+    fn fits_one(&self, pair: Pair, stamp: u64) -> Option<bool>
+        ensures news { is_some result ≡ not (nat_lt pair.var self.now.known.me && steps.is_newer (view_of self.now.known.view pair.var) stamp) }
+        ensures fits { IfSome result (λ fits. fits ≡ steps.fits self.now.known.me (pair ∷ []) (agent_of self.now)) }
     {
-        if var >= self.known.me {
-            return false;
+        if pair.var >= self.known.me {
+            return Some(true);
         }
-        match self.known.view.stamp_of(var) {
-            None => true,
-            Some(known) => known < stamp,
+        match self.known.view.stamped_value(pair.var) {
+            None => None,
+            Some(known) => {
+                if known.stamp < stamp {
+                    None
+                } else {
+                    Some(known.value == pair.value)
+                }
+            }
         }
+    }
+
+    /// Whether the view has each pair of a higher agent; `None` if something that is told of one is newer than the
+    /// view.
+    fn fits_known(&self, pairs: &[Pair], stamps: &[u64]) -> Option<bool>
+        requires { length stamps.now ≡ length pairs.now }
+        ensures news { is_some result ≡ not (steps.is_news self.now.known.me (with_stamps pairs.now stamps.now) (agent_of self.now)) }
+        ensures fits { IfSome result (λ fits. fits ≡ steps.fits self.now.known.me pairs.now (agent_of self.now)) }
+    {
+        let mut fits = true;
+        for place in 0..pairs.len() {
+            match self.fits_one(pairs[place], stamps[place]) {
+                None => return None,
+                Some(is_so) => fits = fits && is_so,
+            }
+        }
+        Some(fits)
     }
 
     /// Whether something that is told of a higher agent is newer than the view.
@@ -106,12 +166,7 @@ impl<'p> AgentBody<'p> {
         requires { length stamps.now ≡ length pairs.now }
         ensures { result ≡ steps.is_news self.now.known.me (with_stamps pairs.now stamps.now) (agent_of self.now) }
     {
-        for place in 0..pairs.len() {
-            if self.is_news_of(pairs[place].var, stamps[place]) {
-                return true;
-            }
-        }
-        false
+        self.fits_known(pairs, stamps).is_none()
     }
 
     /// Whether the nogood is to be kept, where it is known whether it fits the view.

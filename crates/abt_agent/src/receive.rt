@@ -115,9 +115,9 @@ impl<'p> AgentBody<'p> {
         ensures rising { OnOk result (PairsRise recorded.nogood) }
     {
         law_agent::agents_only_learn();
-        let idle = self.is_idle(recorded.nogood.pairs(), stamps);
-        self.heed(recorded, stamps, out)?;
-        if idle {
+        let waited = self.waits;
+        let is_news = self.heed(recorded, stamps, out)?;
+        if goes_on_waiting(waited, is_news) {
             return Ok(Turn::Quiet);
         }
         self.settle(number, out)
@@ -145,13 +145,15 @@ impl<'p> AgentBody<'p> {
         requires { length stamps.now ≡ length pairs.now }
         ensures { result ≡ (self.now.waits && not (steps.is_news self.now.known.me (with_stamps pairs.now stamps.now) (agent_of self.now))) }
     {
-        self.waits && !self.is_news(pairs, stamps)
+        goes_on_waiting(self.waits, self.is_news(pairs, stamps))
     }
 
-    /// Takes in a nogood: asks for links, learns its values, and keeps it or drops it.
-    fn heed(&mut self, recorded: Recorded, stamps: &[u64], out: &mut Outbox) -> Result<(), Memory>
+    /// Takes in a nogood: asks for links, learns its values, and keeps it or drops it. True exactly if something that it
+    /// tells is newer than the view.
+    fn heed(&mut self, recorded: Recorded, stamps: &[u64], out: &mut Outbox) -> Result<bool, Memory>
         requires good { IsGood self.old }
         requires nogood { IsNogoodFor self.old.known.problem.now self.old.known.me recorded.nogood stamps.now }
+        ensures news { IfOk result (λ news. news ≡ steps.is_news self.old.known.me (with_stamps recorded.nogood stamps.now) (agent_of self.old)) }
         ensures agent { OnOk result (agent_of self.new ≡ steps.heed self.old.known.me recorded.step (with_stamps recorded.nogood stamps.now) (agent_of self.old)) }
         ensures sent { OnOk result (Posts out.old out.new (requests_for self.old recorded stamps.now)) }
         ensures owner { owner_of self.new.known ≡ owner_of self.old.known }
@@ -160,9 +162,9 @@ impl<'p> AgentBody<'p> {
         law_agent::agents_only_learn();
         law_agent::agents_stay_sound();
         self.ask(recorded.nogood.pairs(), out)?;
-        let fits = self.learn_all(recorded.nogood.pairs(), stamps)?;
-        self.keep(recorded, fits)?;
-        Ok(())
+        let learned = self.learn_all(recorded.nogood.pairs(), stamps)?;
+        self.keep(recorded, learned.fits)?;
+        Ok(learned.is_news)
     }
 
     /// What a link request does.
@@ -205,6 +207,13 @@ impl<'p> AgentBody<'p> {
             None => Ok(()),
         }
     }
+}
+
+/// Whether an agent that waited or not goes on waiting, when something is told that is news or not.
+fn goes_on_waiting(waited: bool, is_news: bool) -> bool
+    ensures { result ≡ (waited && not is_news) }
+{
+    waited && !is_news
 }
 
 /// Adds the agent in its place, if it is not there.

@@ -10,7 +10,9 @@ ghost use Rattle.abt_parts.specs.Stores.{records_of};
 ghost use Rattle.abt_parts.specs.Views.{stamped_in, view_of};
 ghost use Rattle.abt_agent.specs.Bodies.{AreProper, IsInStep};
 ghost use Rattle.abt_agent.specs.Outgoing.{ArePositive, AreStampsOf, IsStampedView};
+ghost use Rattle.abt_reason.specs.Cached.{AreFirstsOf};
 ghost use Rattle.abt_reason.specs.Marks.{has_mark};
+ghost use Rattle.dcsp_defs.specs.Csp.{domain};
 ghost use Rattle.abt_agent.specs.Causes.{all_causes, blames, blames_one, derived_by, reasons_at, item_at, told_of, AreBlamed, IsCause, NamesOther};
 
 use crate::knowledge::Knowledge;
@@ -62,10 +64,59 @@ impl<'p> Knowledge<'p> {
         ensures size { OnOk result (length marks.new ≡ length marks.old) }
         ensures marks { OnOk result (AreBlamed self.now marks.old marks.new) }
     {
-        // Each rule that the agent owns is one of the problem's.
-        let _rules = self.problem.owned(self.me);
         let values = self.problem.domain(self.me).len();
         let mut reasons = Vec::with_capacity(self.alloc, values)?;
+        let firsts = self.reasons.firsts();
+        if firsts.len() == values {
+            self.blame_counted(firsts, &mut reasons, marks);
+        } else {
+            self.blame_runs(&mut reasons, marks);
+        }
+        Ok(ReasonList::from_vec(reasons))
+    }
+
+    /// The same, value by value, where for each the first rule against it is kept. There is room for the reasons.
+    #[inline(always)]
+    fn blame_counted(&self, firsts: &[Option<u32>], reasons: &mut Vec<Reason>, marks: &mut Row)
+        requires in_step { IsInStep self.now }
+        requires proper { AreProper self.now.problem.now self.now.me self.now.store }
+        requires size { length marks.old ≡ self.now.me }
+        requires firsts { AreFirstsOf self.now.reasons firsts.now }
+        requires each { length firsts.now ≡ length (domain (csp_of self.now.problem.now) self.now.me) }
+        requires empty { reasons.old.items ≡ [] }
+        requires none { vec_len reasons.old ≡ 0 }
+        requires room { length (domain (csp_of self.now.problem.now) self.now.me) ≤ vec_capacity reasons.old }
+        ensures reasons { reasons.new.items ≡ reasons_at self.now.problem.now self.now.store (all_causes self.now) }
+        ensures size { length marks.new ≡ length marks.old }
+        ensures marks { AreBlamed self.now marks.old marks.new }
+    {
+        // Each rule that the agent owns is one of the problem's.
+        let _rules = self.problem.owned(self.me);
+        for place in 0..firsts.len() {
+            let run = ValueRun {
+                first: firsts[place],
+                end: place + 1,
+            };
+            let other = self.reasons.other_in(place, run);
+            self.blame_one(reasons, marks, self.cause_in(place, run), other);
+        }
+    }
+
+    /// The same, where the rules are gone over: once for values that stand one after another and have the same first
+    /// rule against them.
+    fn blame_runs(&self, reasons: &mut Vec<Reason>, marks: &mut Row)
+        requires in_step { IsInStep self.now }
+        requires proper { AreProper self.now.problem.now self.now.me self.now.store }
+        requires size { length marks.old ≡ self.now.me }
+        requires empty { reasons.old.items ≡ [] }
+        requires none { vec_len reasons.old ≡ 0 }
+        requires room { length (domain (csp_of self.now.problem.now) self.now.me) ≤ vec_capacity reasons.old }
+        ensures reasons { reasons.new.items ≡ reasons_at self.now.problem.now self.now.store (all_causes self.now) }
+        ensures size { length marks.new ≡ length marks.old }
+        ensures marks { AreBlamed self.now marks.old marks.new }
+    {
+        let _rules = self.problem.owned(self.me);
+        let values = self.problem.domain(self.me).len();
         let mut run = ValueRun {
             first: None,
             end: 0,
@@ -73,9 +124,8 @@ impl<'p> Knowledge<'p> {
         for place in 0..values {
             run = self.reasons.run_from(place, run);
             let other = self.reasons.other_in(place, run);
-            self.blame_one(&mut reasons, marks, self.cause_in(place, run), other);
+            self.blame_one(reasons, marks, self.cause_in(place, run), other);
         }
-        Ok(ReasonList::from_vec(reasons))
     }
 
     /// Adds what a step cites for the cause, if there is one, and marks the higher agents that it names: the

@@ -7,8 +7,8 @@ use dcsp_common::{Entry, Memory, item_of, put};
 use std::alloc::Global;
 use std::marker::Model;
 
-/// How many of the first agents are near: as soon as one of them is a receiver, each one before it gets a
-/// slot, so that theirs stand at their own numbers and are found without a search.
+/// How many of the first agents are near: as soon as one of them is a receiver, and the list has a slot for every fourth
+/// agent before it, each of these gets one, so that theirs stand at their own numbers and are found without a search.
 const NEAR: u32 = 128;
 
 /// The receivers of one sender's pairs, each with the number of its pair.
@@ -46,12 +46,13 @@ impl Receivers {
         item_of(&self.list, to)?
     }
 
-    /// Adds a receiver. A near one gets the slots before its own too. A refusal changes nothing that is found.
+    /// Adds a receiver. Where it is near, and slots are not few, the agents before it get theirs too. A refusal changes
+    /// nothing that is found.
     pub(crate) fn add(&mut self, to: u32, number: u32) -> Result<(), Memory>
         ensures ok { OnOk result ((i : ℕ) → number_in self.new i ≡ (if i == to then Some number else number_in self.old i)) }
         ensures err { OnErr result ((i : ℕ) → number_in self.new i ≡ number_in self.old i) }
     {
-        if to < NEAR {
+        if to < NEAR && to as usize / 4 <= self.list.len() {
             self.make_slots(to)?;
         }
         self.put(to, Some(number))

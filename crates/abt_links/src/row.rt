@@ -65,7 +65,7 @@ impl Row {
         let mut left = rest;
         for (place, word) in self.words.iter().enumerate() {
             let word = *word;
-            let here = word.count_ones();
+            let here = set_bits(word);
             if left < here {
                 return place as u32 * 64 + nth_bit(word, left);
             }
@@ -117,6 +117,17 @@ fn without_bit(word: u64, bit: u32) -> u64
     ensures others { (i : ℕ) → i < 64 → i ≢ bit → bit_at result i ≡ bit_at word i }
 {
     word & !(1 << bit)
+}
+
+/// How many bits of the word are set. In a row of many words most have none, and these are not counted.
+#[inline(always)]
+fn set_bits(word: u64) -> u32
+    ensures { result ≡ count_ones word }
+{
+    if word == 0 {
+        return 0;
+    }
+    word.count_ones()
 }
 
 /// The bit that has so many set bits below it.

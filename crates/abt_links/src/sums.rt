@@ -8,9 +8,9 @@ use std::marker::Model;
 
 /// A list of counts.
 ///
-/// The sum of each block of 8 counts, or of 64 where there are more than 64 counts, is kept beside them, so
+/// The sum of each block of 8 counts, or of 32 where there are more than 64 counts, is kept beside them, so
 /// a running sum is found by a walk over the blocks and then over one block: at most 16 looks at 64 counts,
-/// and 128 at 4,096.
+/// and 160 at 4,096.
 #[derive(Drop)]
 pub(crate) struct Sums {
     /// How many counts a block has.
@@ -118,7 +118,7 @@ fn width_for(size: usize) -> usize
     ensures some { 0 < result }
     ensures few { result ≤ 64 }
 {
-    if size <= 64 { 8 } else { 64 }
+    if size <= 64 { 8 } else { 32 }
 }
 
 /// The place where the running sum from `start` on passes `number`, and by how much the sum before it

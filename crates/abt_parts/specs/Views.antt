@@ -1,5 +1,5 @@
 -- What the slots of a view stand for.
-use Rattle.std.specs.Prelude.{ℕ, Bool, List, Option, Some, None, is_some, map, slice_index_or, replicate, unwrap_or}
+use Rattle.std.specs.Prelude.{ℕ, Bool, nat_lt, if◌then◌else◌, List, Option, Some, None, is_some, map, slice_index_or, replicate, unwrap_or}
 use Rattle.std.specs.List.{range_with_len}
 use Rattle.abt_defs.specs.Agents.{Stamped, View}
 use Rattle.dcsp_common.specs.declared.entries.Entry.{Entry}
@@ -43,6 +43,11 @@ placeless agents = replicate agents None
 abbrev pub stamp_in : Option Stamped → Option ℕ
 stamp_in None = None
 stamp_in (Some s) = Some s.stamp
+
+-- what is newer: what was told before, if there was something, or what is told
+abbrev pub newest : Option StampedValue → StampedValue → StampedValue
+newest None told = told
+newest (Some known) told = if nat_lt known.stamp told.stamp then told else known
 
 -- the places of so many agents, as they stand among these
 abbrev pub slots_of : ℕ → List (Entry (Option StampedValue)) → Slots

@@ -4,11 +4,11 @@
 //! asynchronous backtracking (Yokoo, Durfee, Ishida and Kuwabara, IEEE TKDE 10(5), 1998), with a
 //! stamp beside each value.
 
-ghost use Rattle.std.specs.Prelude.{◌≡◌, ◌<◌, ℕ, Some, None, IfOk, OnErr, OnOk, length, set, true, if◌then◌else◌};
+ghost use Rattle.std.specs.Prelude.{◌≡◌, ◌<◌, ℕ, Some, None, IfOk, OnErr, OnOk, length, set, slice_index_or, false, true, if◌then◌else◌};
 ghost use Rattle.dcsp_defs.specs.Words.{update};
 ghost use Rattle.abt_defs.specs.Agents.{values_in};
 ghost use Rattle.abt_defs.specs.Steps.{is_newer};
-ghost use Rattle.abt_parts.specs.Views.{blank, has_place, placeless, stamp_in, told_at, view_of};
+ghost use Rattle.abt_parts.specs.Views.{blank, has_place, newest, placeless, stamp_in, stamped_of, told_at, view_of};
 
 use dcsp_common::{Entry, Memory, item_of, place_of, put};
 use std::alloc::Global;
@@ -21,8 +21,8 @@ pub struct StampedValue {
     pub stamp: u64,
 }
 
-/// How many of the first agents are near: as soon as one of them gets a place, each one before it gets one too, so
-/// that theirs stand at their own numbers and are found without a search.
+/// How many of the first agents are near: as soon as one of them gets a place, and every fourth of those before it could
+/// have one, each of these gets one too, so that theirs stand at their own numbers and are found without a search.
 const NEAR: u32 = 128;
 
 /// For each higher agent the value and the stamp last told, if there was one. What is told of an agent is learned
@@ -81,11 +81,17 @@ impl View {
         if self.has_place(var) {
             return Ok(());
         }
-        if var < NEAR {
+        if self.is_near(var) {
             self.make_places_before(var)?;
         }
         self.make_one_place(var)?;
         Ok(())
+    }
+
+    /// Whether an agent is near, and places are not few before it.
+    #[inline(always)]
+    fn is_near(&self, var: u32) -> bool {
+        var < NEAR && var as usize / 4 <= self.places.len()
     }
 
     /// Whether an agent has a place.
@@ -120,6 +126,41 @@ impl View {
         }
         put(&mut self.places, var, None)?;
         Ok(())
+    }
+
+    /// Takes what a higher agent tells, unless it told that or something newer before, and gives what it told before.
+    /// The agent has a place from then on.
+    #[inline(always)]
+    pub fn tell(&mut self, var: u32, told: StampedValue) -> Result<Option<StampedValue>, Memory>
+        requires { var < length self.old }
+        ensures before { IfOk result (λ before. before ≡ told_at self.old var) }
+        ensures view { OnOk result (view_of self.new ≡ (if is_newer (view_of self.old var) told.stamp then update (view_of self.old) var (Some (stamped_of told)) else view_of self.old)) }
+        ensures err { OnErr result (view_of self.new ≡ view_of self.old) }
+        ensures slots { length self.new ≡ length self.old }
+    {
+        match self.swap_told(var, told) {
+            Some(before) => Ok(before),
+            None => {
+                self.make_place(var)?;
+                self.put_told(var, told);
+                Ok(None)
+            }
+        }
+    }
+
+    /// Puts into an agent's place what it tells, if that is newer, and gives what was there; `None` if it has no place.
+    #[inline(always)]
+    fn swap_told(&mut self, var: u32, told: StampedValue) -> Option<Option<StampedValue>>
+        ensures slot { result ≡ slice_index_or self.old var None }
+        ensures kept { has_place self.old var ≡ false → self.new ≡ self.old }
+        ensures swapped { has_place self.old var ≡ true → self.new ≡ set self.old var (Some (Some (newest (told_at self.old var) told))) }
+    {
+        let Ok(place) = place_of(&self.places, var) else {
+            return None;
+        };
+        let before = self.places[place].item;
+        self.places[place].item = Some(newest(before, told));
+        Some(before)
     }
 
     /// Takes a value and its stamp for a higher agent, which has a place, and is true, exactly if there is no stamp
@@ -177,5 +218,22 @@ impl View {
         ensures { result ≡ told_at self.now var }
     {
         item_of(&self.places, var)?
+    }
+}
+
+/// What is newer: what was told before, if there was something, or what is told.
+#[inline(always)]
+fn newest(before: Option<StampedValue>, told: StampedValue) -> StampedValue
+    ensures { result ≡ newest before told }
+{
+    match before {
+        Some(known) => {
+            if known.stamp < told.stamp {
+                told
+            } else {
+                known
+            }
+        }
+        None => told,
     }
 }

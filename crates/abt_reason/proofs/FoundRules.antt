@@ -1,7 +1,7 @@
 -- The first of the owned rules that is false for a value, and the first value that nothing rules out.
-use Rattle.std.proofs.Common.{◌≡◌, ◌<◌, ◌≤◌, ◌∙◌, ap, sym, subst, length, get_or, arith, Some, None, Option, ℕ, List, Bool, false, refl, not, is_some, inl, inr}
+use Rattle.std.proofs.Common.{◌≡◌, ◌<◌, ◌≤◌, ◌+◌, ◌∙◌, true, ap, sym, subst, length, get_or, arith, Some, None, Option, ℕ, List, Bool, false, refl, not, is_some, inl, inr}
 use Rattle.std.specs.Option.{option_map, IfSome}
-use Rattle.std.proofs.lemmas.List.{get_or-map}
+use Rattle.std.proofs.lemmas.List.{get_or-map, get_or_past, length-map}
 use Rattle.dcsp_rule.specs.Problems.{constraint_at}
 use Rattle.abt_reason.specs.declared.grid.ValueRun.{ValueRun}
 use Rattle.abt_reason.specs.Named.{only_other, others_of}
@@ -13,11 +13,16 @@ use Rattle.abt_parts.specs.declared.recorded.Recorded.{Recorded}
 use Rattle.abt_reason.specs.Firsts.{IsFirst, IsFirstBetween}
 use Rattle.abt_reason.specs.declared.named.Naming.{Naming}
 use Rattle.dcsp_row.specs.declared.marks.Marks.{Marks}
-use Rattle.abt_reason.specs.Grids.{marks, rows_of, HaveFirst, IsValueRun}
+use Rattle.abt_reason.specs.Grids.{marks, rows_of, HaveFirst, IsGrid, IsValueRun}
 use Rattle.abt_reason.proofs.FirstLaws.{between_alike, first_alike}
 use Rattle.abt_reason.specs.Causes.{is_false, is_free_at, known_at, value_at}
 use Rattle.abt_reason.specs.Cached.{Cached, StandsFor, IsCache, IsOtherIn, IsOwner, other_at, rules_of, size_of}
 use Rattle.abt_reason.proofs.CauseLaws.{reason_rule, reason_step}
+
+-- the option has a rule's place
+record IsSomeRule (o : Option ℕ) : Type 0 where
+  at : ℕ
+  is : o ≡ Some at
 
 -- the run of the rows is one of the owned rules
 pub run_found : (r : Cached) (owned : List ℕ) (others : List (Option ℕ)) (rows : List Marks) (counts : List ℕ) (firsts : List (Option ℕ)) (namings : List Naming) (room : Marks) (values place : ℕ) (first : Option ℕ) (end : ℕ) → IsCache r owned others rows counts firsts namings room → values ≡ size_of r.problem r.agent
@@ -90,3 +95,46 @@ module _ (r : Cached) (known : PartialAssignment) (items : List Recorded) (stand
   pub none_yet : ((k : ℕ) → k < place → is_free_at r.problem r.agent known items k ≡ false) → IsFirstBetween (is_free_at r.problem r.agent known items) place end None
       → (k : ℕ) → k < end → is_free_at r.problem r.agent known items k ≡ false
   none_yet before found = λ k l. elim (cases_lt k place) [ inl earlier ↦ before k earlier | inr later ↦ found k later l ]
+
+-- a value that is counted is a run of its own
+counted_run : (values : ℕ) (rows : List Marks) (counts : List ℕ) (firsts : List (Option ℕ)) (k : ℕ) → IsGrid (rows_of values rows) values counts firsts → k < length firsts
+    → IsValueRun (rows_of values rows) (length rows) values k (get_or firsts k None) (k + 1)
+counted_run values rows counts firsts k grid within =
+    let counted : k < length counts = omega (arith, within, grid.first_each) in
+    let below : k < values = elim grid.counted [
+      | inl all ↦ omega (arith, counted, all)
+      | inr none ↦ absurd (omega (arith, counted, none))
+    ] in
+    record {
+      later = omega arith;
+      most = omega (arith, below);
+      same = λ j from until.
+          let is : k ≡ j = omega (arith, from, until) in
+          subst (λ n. IsFirst (marks (rows_of values rows) n) (length rows) (get_or firsts k None)) is
+          (subst (λ n. IsFirst (marks (rows_of values rows) k) n (get_or firsts k None)) (length-map rows _) (grid.right_first k counted));
+    }
+
+-- so it is among the owned rules
+pub firsts_found : (r : Cached) (owned : List ℕ) (others : List (Option ℕ)) (rows : List Marks) (counts : List ℕ) (firsts : List (Option ℕ)) (namings : List Naming) (room : Marks) → IsCache r owned others rows counts firsts namings room
+    → (k : ℕ) → k < length firsts → IsValueRun r.rows (rules_of r.problem r.agent) (size_of r.problem r.agent) k (get_or firsts k None) (k + 1)
+firsts_found r owned others rows counts firsts namings room inv k within =
+    let size = size_of r.problem r.agent in
+    run_found r owned others rows counts firsts namings room size k (get_or firsts k None) (k + 1) inv refl (counted_run size rows counts firsts k inv.for_rules.are_rows.grid within)
+
+has_first : (firsts : List (Option ℕ)) (k : ℕ) → is_some (get_or firsts k None) ≡ true → k < length firsts
+has_first firsts k has = elim (cases_lt k (length firsts)) [
+  | inl low ↦ low
+  | inr past ↦ absurd (let none = sym has ∙ ap is_some (get_or_past firsts k None past) in cc)
+]
+
+some_rule : (o : Option ℕ) → is_some o ≡ true → IsSomeRule o
+some_rule None has = absurd cc
+some_rule (Some at) has = record { at = at; is = refl }
+
+-- none of the values for which a first rule is kept is free
+pub passed_free : (r : Cached) (owned : List ℕ) (others : List (Option ℕ)) (rows : List Marks) (counts : List ℕ) (firsts : List (Option ℕ)) (namings : List Naming) (room : Marks) → IsCache r owned others rows counts firsts namings room
+    → (k : ℕ) → is_some (get_or firsts k None) ≡ true → (known : PartialAssignment) (items : List Recorded) → StandsFor r known items → is_free_at r.problem r.agent known items k ≡ false
+passed_free r owned others rows counts firsts namings room inv k has known items stands =
+    let run = firsts_found r owned others rows counts firsts namings room inv k (has_first firsts k has) in
+    let rule = some_rule (get_or firsts k None) has in
+    none_free r known items stands k (get_or firsts k None) (k + 1) run rule.at rule.is k (omega arith) (omega arith)

@@ -1,5 +1,5 @@
 -- What is kept for each value of an agent's domain, and what it stands for.
-use Rattle.std.specs.Prelude.{◌≡◌, ◌≢◌, ℕ, ◌<◌, All, Bool, true, List, [], ◌∷◌, ◌++◌, length, slice_index_or, Option, Some}
+use Rattle.std.specs.Prelude.{◌≡◌, ◌≢◌, ◌+◌, ℕ, ◌<◌, ◌≤◌, All, Bool, true, false, List, [], ◌∷◌, ◌++◌, length, slice_index_or, Option, None, Some}
 use Rattle.dcsp_domain.specs.Sets.{IsRising}
 use Rattle.dcsp_defs.specs.Csp.{PartialAssignment, domain}
 use Rattle.abt_defs.specs.Agents.{values_in}
@@ -110,6 +110,10 @@ pub record StoodWithoutLast (r : Cached) (known : PartialAssignment) (items : Li
 abbrev pub IsValueRunFrom : Cached → ℕ → ValueRun → Type 0
 IsValueRunFrom r place run = HaveFirst r.rows (rules_of r.problem r.agent) place run.first run.end
 
+-- each value for which there is a first rule is a run of its own
+abbrev pub AreFirstsOf : Cached → List (Option ℕ) → Type 0
+AreFirstsOf r firsts = (place : ℕ) → place < length firsts → IsValueRunFrom r place (record { first = slice_index_or firsts place None; end = place + 1 })
+
 -- the owned rule at a place
 abbrev pub owned_at : Cached → ℕ → ℕ
 owned_at r at = slice_index_or (owned_rules r.problem r.agent) at 0
@@ -140,6 +144,10 @@ IsFirstFree r free = (known : PartialAssignment) (items : List Recorded) → Sta
 -- it is the first such place from one on that stands before an end
 abbrev pub IsFirstFreeBetween : Cached → ℕ → ℕ → Option ℕ → Type 0
 IsFirstFreeBetween r from end free = (known : PartialAssignment) (items : List Recorded) → StandsFor r known items → IsFirstBetween (is_free_at r.problem r.agent known items) from end free
+
+-- the value at no place from one on that stands before an end is free
+abbrev pub NoneFreeBetween : Cached → ℕ → ℕ → Type 0
+NoneFreeBetween r from end = (known : PartialAssignment) (items : List Recorded) → StandsFor r known items → (k : ℕ) → from ≤ k → k < end → is_free_at r.problem r.agent known items k ≡ false
 
 -- there is room for a step for each value
 abbrev pub HasRoom : Cached → Type 0

@@ -6,7 +6,7 @@
 //! Where there are many values for each rule, nothing is counted: what that takes would grow with the values, and
 //! the rules are gone over instead.
 
-ghost use Rattle.std.specs.Prelude.{◌≡◌, ◌≢◌, ◌<◌, ◌+◌, ◌^◌, ℕ, Bool, All, IfOk, IfSome, IsTrue, None, length, true, false, slice_index_or, ◌||◌, ◌==◌};
+ghost use Rattle.std.specs.Prelude.{◌≡◌, ◌≢◌, ◌<◌, ◌≤◌, ◌+◌, ◌^◌, ℕ, Bool, All, IfOk, IfSome, IsTrue, None, is_some, length, true, false, slice_index_or, ◌||◌, ◌==◌};
 ghost use Rattle.dcsp_rule.specs.Problems.{rule_at};
 ghost use Rattle.dcsp_row.specs.Easy.{has_span};
 ghost use Rattle.dcsp_row.specs.Spans.{is_within};
@@ -111,6 +111,21 @@ impl RuledOut {
             };
         }
         run_over(&self.rows, values, value)
+    }
+
+    /// The first value from this one on that no rule rules out, as far as counts tell; they tell nothing where none are
+    /// kept.
+    #[inline(always)]
+    pub fn pass_ruled_out(&self, from: usize) -> usize
+        ensures later { from ≤ result }
+        ensures passed { (k : ℕ) → from ≤ k → k < result → is_some (slice_index_or self.now.firsts.items k None) ≡ true }
+    {
+        let firsts = self.firsts.as_slice();
+        let mut value = from;
+        while let Some(Some(_)) = firsts.get(value) {
+            value += 1;
+        }
+        value
     }
 
     /// Puts a span in place of what the rule ruled out. Most rules rule out one value, and then another:

@@ -1,6 +1,6 @@
 //! The first reason for each value, kept while the view and the store change.
 
-ghost use Rattle.std.specs.Prelude.{◌≡◌, ◌<◌, ℕ, List, None, Some, [], IfOk, IfSome, OnOk, length};
+ghost use Rattle.std.specs.Prelude.{◌≡◌, ◌<◌, ◌≤◌, ℕ, List, None, Some, [], IfOk, IfSome, OnOk, length};
 ghost use Rattle.dcsp_defs.specs.declared.Reason.TheVariants.{Rule};
 ghost use Rattle.dcsp_defs.specs.Csp.{PartialAssignment};
 ghost use Rattle.abt_defs.specs.Agents.{values_in};
@@ -8,7 +8,7 @@ ghost use Rattle.dcsp_rule.specs.Problems.{csp_of, AreInDomains};
 ghost use Rattle.abt_parts.specs.declared.recorded.Recorded.{Recorded as TheRecorded};
 ghost use Rattle.abt_parts.specs.Views.{view_of};
 ghost use Rattle.abt_reason.specs.Grids.{IsValueRun};
-ghost use Rattle.abt_reason.specs.Cached.{rules_of, size_of, HasRoom, owned_at, IsFirstFalseAt, IsFirstFree, IsFirstFreeBetween, IsOtherIn, IsReasonAt, IsValueRunFrom, StandsFor, StoodBefore, StoodWithoutLast};
+ghost use Rattle.abt_reason.specs.Cached.{rules_of, size_of, AreFirstsOf, HasRoom, owned_at, IsFirstFalseAt, IsFirstFree, IsFirstFreeBetween, IsOtherIn, IsReasonAt, IsValueRunFrom, NoneFreeBetween, StandsFor, StoodBefore, StoodWithoutLast};
 
 use crate::grid::ValueRun;
 use crate::kept::KeptSteps;
@@ -181,20 +181,38 @@ impl<'p> Reasons<'p> {
         self.run(place).first
     }
 
+    /// For each value of the agent's domain the place, among the rules that the agent owns, of the first that rules it
+    /// out; for no value where none are kept.
+    #[inline(always)]
+    pub fn firsts(&self) -> &[Option<u32>]
+        ensures { AreFirstsOf self.now result.now }
+    {
+        &self.rules.ruled_out.firsts
+    }
+
     /// The place of the first value of the agent's domain that is not ruled out.
     pub fn first_free(&self) -> Option<usize>
         ensures { IsFirstFree self.now result }
     {
         let size = self.problem.domain(self.agent).len();
-        let mut place = 0;
+        let mut place = self.pass_ruled_out(0);
         while place < size {
             let run = self.run(place);
             if let Some(free) = self.free_in(place, run) {
                 return Some(free);
             }
-            place = run.end;
+            place = self.pass_ruled_out(run.end);
         }
         None
+    }
+
+    /// Passes values that are ruled out, from the one at a place on.
+    #[inline(always)]
+    fn pass_ruled_out(&self, place: usize) -> usize
+        ensures later { place ≤ result }
+        ensures passed { NoneFreeBetween self.now place result }
+    {
+        self.rules.ruled_out.pass_ruled_out(place)
     }
 
     /// The place of the first value of a run, which begins here, that is not ruled out.

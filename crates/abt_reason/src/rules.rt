@@ -118,6 +118,7 @@ fn refresh_each(ruled_out: &mut RuledOut, room: &mut Marks, owner: &Owner, namin
 }
 
 /// Brings the row of one rule up to date.
+#[inline(always)]
 fn refresh(ruled_out: &mut RuledOut, room: &mut Marks, owner: &Owner, place: usize)
     requires owner { IsOwner owner.now.problem.now owner.now.agent owner.now.rules.now owner.now.values }
     requires place { place < rules_of owner.now.problem.now owner.now.agent }
@@ -145,6 +146,7 @@ fn refresh(ruled_out: &mut RuledOut, room: &mut Marks, owner: &Owner, place: usi
 }
 
 /// Marks as bits the values that the rule rules out.
+#[inline(never)]
 fn fill(owner: &Owner, rule: u32, room: &mut Marks)
     requires agent { owner.now.agent < length owner.now.problem.now.domains }
     requires rule { rule < length owner.now.problem.now.rules }

@@ -162,6 +162,7 @@ fn count_without_gap(domain: &Domain, bound: i128) -> Option<usize>
 }
 
 /// How many of these values have a product with the factor below the bound, by binary search.
+#[inline(never)]
 fn count_by_halves(domain: &Domain, factor: u64, bound: i128) -> usize
     requires { 0 < factor }
     ensures { (k : ℕ) → k < length domain.now → int_lt (pos factor *ℤ own_at domain.now k) bound ≡ nat_lt k result }

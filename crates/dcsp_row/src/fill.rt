@@ -30,6 +30,7 @@ use dcsp_problem::{BinaryRule, ConstraintKind, Lookup, Problem, RuleRef, Term};
 
 /// The values of the open variable at which the rule is violated under these and the others', as a span of
 /// its domain; `None` only where the rule is not one that always has a span.
+#[inline(always)]
 pub fn span_of<L: Lookup>(
     problem: &Problem,
     rule: u32,
@@ -72,6 +73,7 @@ fn span_of_pair<L: Lookup>(
 }
 
 /// The values at which the rule is false, if it is a sum with the variable in one of its terms at most.
+#[inline(never)]
 fn span_of_sum<L: Lookup>(
     rule: RuleRef<'_>,
     domain: &Domain,

@@ -1,4 +1,4 @@
-use Rattle.std.proofs.Common.{◌≡◌, ◌<◌, ◌+◌, ap, sym, ◌∙◌, ◌++◌, ◌||◌, ◌&&◌, nat_lt, length, get_or, take, option_to_list, arith}
+use Rattle.std.proofs.Common.{◌≡◌, ◌<◌, ◌+◌, ap, sym, ◌∙◌, ◌++◌, ◌||◌, ◌&&◌, nat_lt, length, get_or, take, option_to_list, arith, None}
 use Rattle.std.specs.Prelude.{pos}
 use Rattle.std.proofs.lemmas.List.{map-append}
 use Rattle.std.proofs.lemmas.List.Folds.{list_any-append}
@@ -13,7 +13,7 @@ use Rattle.abt_agent.specs.Causes.{blames, blames_one, causes_for, reasons_at, i
 use Rattle.abt_agent.proofs.Blamed.{marks_join}
 use Rattle.abt_agent.proofs.Others.{names_other}
 use Rattle.abt_agent.proofs.Causes.{causes_more, found_valid}
-use Rattle.abt_agent.proofs.knowledge.Knowledge.blame.Goals as goal
+use Rattle.abt_agent.proofs.knowledge.Knowledge.blame_counted.Goals as goal
 
 pub blame_one-requires-clause-cause : goal.blame_one-requires-clause-cause
 blame_one-requires-clause-cause c =
@@ -24,7 +24,7 @@ blame_one-requires-clause-cause c =
 pub blame_one-requires-clause-other : goal.blame_one-requires-clause-other
 blame_one-requires-clause-other c =
     let k = c.args.self.now in
-    names_other k.problem.now k.me k.store k.reasons c.run_from-run.result c.cause_in.result c.other_in-other.result (length c.loop-place.marks) c.requires.in_step.problem c.requires.in_step.agent
+    names_other k.problem.now k.me k.store k.reasons (record { first = get_or c.args.firsts.now c.loop-place.place None; end = c.loop-place.place + 1 }) c.cause_in.result c.other_in-other.result (length c.loop-place.marks) c.requires.in_step.problem c.requires.in_step.agent
     (c.loop-place.invariant.size ∙ c.requires.size) c.other_in-other.ensures c.cause_in.ensures.rule
 
 pub loop-place-preserved : goal.loop-place-preserved
@@ -36,7 +36,7 @@ loop-place-preserved c =
     let store = c.args.self.now.store in
     let k = c.loop-place.place in
     let old = c.args.marks.now in
-    let within : k < length values = omega (arith, ap length c.domain.ensures, c.len-values.ensures.len, c.loop-place-test.true) in
+    let within : k < length values = omega (arith, c.requires.each, c.loop-place-test.true) in
     let x = get_or values k (pos 0) in
     let before = causes_for p me known store (take k values) in
     let here = option_to_list c.cause_in.result in
@@ -51,7 +51,6 @@ loop-place-preserved c =
           ∙ ap (reasons_at p store) (sym more);
       len = omega (arith, c.blame_one.ensures.len, c.loop-place.invariant.len);
       room = omega (arith, c.blame_one.ensures.capacity, c.loop-place.invariant.room);
-      run = λ j from below. c.run_from-run.ensures.run j (omega (arith, from)) below;
       size = size;
       marks = λ v. c.blame_one.ensures.marks v
           ∙ ap (λ n. has_mark c.loop-place.marks v || (nat_lt v n && blames p store here v)) c.loop-place.invariant.size

@@ -2,7 +2,7 @@ use Rattle.std.proofs.Common.{◌≡◌, drop, take}
 use Rattle.abt_defs.specs.Steps as steps
 use Rattle.abt_parts.specs.Messages.{with_stamps}
 use Rattle.abt_agent.specs.Bodies.{agent_of, owner_of, IsSized}
-use Rattle.abt_agent.proofs.body.AgentBody.learn_all.Given as goal
+use Rattle.abt_agent.proofs.body.AgentBody.learn_each.Given as goal
 
 abbrev pub invariant-loop-place : goal.invariant-loop-place
 invariant-loop-place l = record {
