@@ -1,15 +1,12 @@
 -- The later owners over each variable, as the code collects them.
 use Rattle.std.proofs.Common.{◌≡◌, ℕ, zero, suc, ◌+◌, ◌<◌, ◌≤◌, Bool, true, false, ◌&&◌, ◌||◌, List, [], ◌∷◌, ◌++◌, map, filter, length, get_or, set, take, refl, sym, ap, ◌∙◌, arith, inl, inr, subst}
-use Rattle.std.specs.Prelude.{All, IfSome, IsPermutation, ◌==◌, nat_lt, Option, Some, None}
+use Rattle.std.specs.Prelude.{All, IfSome, ◌==◌, ◌↔◌, nat_lt, Option, Some, None}
 use Rattle.std.specs.List.{list_any}
-use Rattle.std.specs.List.Retain.{IsFiltered, DiffersFromLast}
-use Rattle.std.specs.List.Sorted.{IsSorted}
-use Rattle.std.specs.Ordering.{nat_cmp}
 use Rattle.std.proofs.lemmas.Bool.Decides.{Decides-eqb, nat_tests, eqb_tells}
 use Rattle.std.proofs.lemmas.List.{map-append, take_more, take_all, get_or-set_same, get_or-set_other, length-set, get_or_default}
 use Rattle.std.proofs.lemmas.List.Folds.{list_any-append}
 use Rattle.std.proofs.lemmas.List.Elements.{All-contains}
-use Rattle.dcsp_defs.specs.Words.{In, below, is_number}
+use Rattle.dcsp_defs.specs.Words.{In, IsRising, below, is_number}
 use Rattle.dcsp_defs.proofs.Lists.{In-filter, below-In, list_any-In, In-list_any, and_left}
 use Rattle.dcsp_rule.specs.declared.rule.Rule.{Rule}
 use Rattle.dcsp_rule.specs.Rules.{scope_of}
@@ -18,7 +15,7 @@ use Rattle.dcsp_problem.specs.Owners.{last_of}
 use Rattle.dcsp_problem.specs.Lower.{is_among, set_below, joins, lower_owners, ends_after, lower_among, Adds}
 use Rattle.dcsp_problem.proofs.OwnerLists.{map_below, get_or-map_below}
 use Rattle.dcsp_problem.proofs.Reading.{last_inside}
-use Rattle.dcsp_problem.proofs.RisingNumbers.{In-get_or, In-filter_below, rising-filter_below, same_members, rising-sorted_set, In-sorted_set, In-from_sorted_set, Contains-In}
+use Rattle.dcsp_problem.proofs.RisingNumbers.{In-get_or, In-filter_below, rising-filter_below, same_members, Contains-In}
 
 -- ---- sets
 
@@ -31,14 +28,13 @@ from_among x xs h =
     subst (λ (z : ℕ). In z xs) (sym ((Decides-eqb x found.0).0 found.2)) found.1
 
 -- sorted numbers without repeats are the set
-pub set_is : (n : ℕ) (numbers sorted left : List ℕ) → All (λ x. x < n) numbers → IsPermutation numbers sorted → IsSorted nat_cmp sorted → IsFiltered (DiffersFromLast ◌==◌) [] sorted left → left ≡ set_below n numbers
-set_is n numbers sorted left inside moved up kept =
-    same_members left (set_below n numbers)
-    (rising-sorted_set numbers sorted left up kept)
+pub set_is : (n : ℕ) (numbers left : List ℕ) → All (λ x. x < n) numbers → IsRising left → ((v : ℕ) → In v left ↔ In v numbers) → left ≡ set_below n numbers
+set_is n numbers left inside up same =
+    same_members left (set_below n numbers) up
     (rising-filter_below (λ x. is_among x numbers) n)
-    (λ v i. let there = In-from_sorted_set numbers sorted left moved kept v i in
+    (λ v i. let there = (same v).0 i in
     In-filter (λ x. is_among x numbers) v (below n) (below-In n v (All-contains (λ x. x < n) numbers v inside (Contains-In numbers v there))) (among v numbers there))
-    (λ v i. In-sorted_set numbers sorted left moved kept v (from_among v numbers (In-filter_below (λ x. is_among x numbers) n v i).1))
+    (λ v i. (same v).1 (from_among v numbers (In-filter_below (λ x. is_among x numbers) n v i).1))
 
 -- ---- what is added
 

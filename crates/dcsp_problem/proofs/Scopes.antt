@@ -1,18 +1,15 @@
 -- Scopes: which variables they have, and how the code makes them.
-use Rattle.std.proofs.Common.{◌≡◌, ℕ, ◌<◌, true, List, [], refl, subst}
-use Rattle.std.specs.Prelude.{IsPermutation, ◌==◌, Some}
-use Rattle.std.specs.List.Retain.{IsFiltered, DiffersFromLast}
-use Rattle.std.specs.List.Sorted.{IsSorted}
-use Rattle.std.specs.Ordering.{nat_cmp}
+use Rattle.std.proofs.Common.{◌≡◌, ℕ, ◌<◌, true, List, refl, subst}
+use Rattle.std.specs.Prelude.{◌==◌, ◌↔◌, Some}
 use Rattle.std.proofs.lemmas.Bool.Decides.{Decides-eqb}
 use Rattle.std.proofs.lemmas.List.Elements.{All-contains}
-use Rattle.dcsp_defs.specs.Words.{In, below}
+use Rattle.dcsp_defs.specs.Words.{In, IsRising, below}
 use Rattle.dcsp_defs.proofs.Lists.{In-filter, In-filter_map, below-In, list_any-In, In-list_any}
 use Rattle.dcsp_rule.specs.declared.rule.Term.{Term}
 use Rattle.dcsp_rule.specs.declared.rule.Term.TheVariants.{Const, Var}
 use Rattle.dcsp_rule.specs.declared.rule.Rule.{Rule}
 use Rattle.dcsp_rule.specs.Rules.{variable_of, terms_of, variables_of, mentions, scope_of, IsTermOf, IsRuleOf}
-use Rattle.dcsp_problem.proofs.RisingNumbers.{In-filter_below, rising-filter_below, same_members, rising-sorted_set, In-sorted_set, In-from_sorted_set, Contains-In}
+use Rattle.dcsp_problem.proofs.RisingNumbers.{In-filter_below, rising-filter_below, same_members, Contains-In}
 
 -- a rule mentions the variables among its terms
 mentioned : (rule : Rule) (v : ℕ) → In v (variables_of rule) → mentions rule v ≡ true
@@ -40,11 +37,9 @@ In-scope n rule r v i = In-filter (mentions rule) v (below n) (below-In n v (var
 pub In-from_scope : (n : ℕ) (rule : Rule) (v : ℕ) → In v (scope_of n rule) → In v (variables_of rule)
 In-from_scope n rule v i = from_mentioned rule v (In-filter_below (mentions rule) n v i).1
 
--- the sorted variables without repeats are the scope
-pub scope_is_set : (n : ℕ) (rule : Rule) (sorted left : List ℕ) → IsRuleOf n rule → IsPermutation (variables_of rule) sorted → IsSorted nat_cmp sorted → IsFiltered (DiffersFromLast ◌==◌) [] sorted left → left ≡ scope_of n rule
-scope_is_set n rule sorted left r moved up kept =
-    same_members left (scope_of n rule)
-    (rising-sorted_set (variables_of rule) sorted left up kept)
-    (rising-filter_below (mentions rule) n)
-    (λ v i. In-scope n rule r v (In-from_sorted_set (variables_of rule) sorted left moved kept v i))
-    (λ v i. In-sorted_set (variables_of rule) sorted left moved kept v (In-from_scope n rule v i))
+-- the rising list of the variables among the terms is the scope
+pub scope_is_rising : (n : ℕ) (rule : Rule) (left : List ℕ) → IsRuleOf n rule → IsRising left → ((v : ℕ) → In v left ↔ In v (variables_of rule)) → left ≡ scope_of n rule
+scope_is_rising n rule left r up same =
+    same_members left (scope_of n rule) up (rising-filter_below (mentions rule) n)
+    (λ v i. In-scope n rule r v ((same v).0 i))
+    (λ v i. (same v).1 (In-from_scope n rule v i))

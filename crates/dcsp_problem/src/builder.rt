@@ -96,6 +96,7 @@ impl ProblemBuilder {
     }
 
     /// The same of a rule whose lists are another's: they are copied into the problem's.
+    #[inline(always)]
     pub fn add_lent(&mut self, rule: RuleRef<'_>) -> Result<u32, BuildError>
         requires known { All (IsTermOf (length self.old.domains)) (terms_of (lent_rule rule)) }
         requires shape { IsTrue (has_shape (lent_rule rule)) }

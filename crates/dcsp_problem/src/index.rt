@@ -1,9 +1,9 @@
 //! The scope of a rule, and the rules that each variable owns.
 
-ghost use Rattle.std.specs.Prelude.{◌≡◌, ◌≤◌, ◌<◌, ◌^◌, ◌++◌, ◌∷◌, ℕ, List, [], map, length, All, OnOk, IfOk, IfSome, vec_len};
+ghost use Rattle.std.specs.Prelude.{◌≡◌, ◌≤◌, ◌<◌, ◌↔◌, ◌^◌, ◌++◌, ◌∷◌, ℕ, List, [], map, length, All, OnOk, IfOk, IfSome, vec_len};
 ghost use Rattle.std.specs.List.{filter_map};
 ghost use Rattle.std.specs.Option.{option_to_list};
-ghost use Rattle.dcsp_defs.specs.Words.{below};
+ghost use Rattle.dcsp_defs.specs.Words.{below, In, IsRising};
 ghost use Rattle.dcsp_rule.specs.Lent.{lent_rule};
 ghost use Rattle.dcsp_rule.specs.Rules.{IsRuleOf, scope_of, variable_of, variables_of};
 ghost use Rattle.dcsp_problem.specs.Owners.{owned_among, with_owned};
@@ -19,9 +19,28 @@ pub fn put_scope(scope: &mut Vec<u32>, rule: RuleRef<'_>) -> Result<(), Memory>
 {
     scope.clear();
     push_rule(scope, rule)?;
-    scope.sort_unstable();
-    scope.dedup();
+    make_set(scope);
     Ok(())
+}
+
+/// Leaves the numbers rising and without repeats. Many lists are of two numbers, which are not sorted by a call.
+#[inline(always)]
+pub fn make_set(numbers: &mut Vec<u32>)
+    ensures rising { IsRising numbers.new.items }
+    ensures same { (number : ℕ) → In number numbers.new.items ↔ In number numbers.old.items }
+{
+    if numbers.len() != 2 {
+        numbers.sort_unstable();
+        numbers.dedup();
+        return;
+    }
+    let (first, second) = (numbers[0], numbers[1]);
+    if first == second {
+        numbers.truncate(1);
+    } else if second < first {
+        numbers[0] = second;
+        numbers[1] = first;
+    }
 }
 
 /// Puts the variables among the rule's terms into an empty list, as they stand there.
@@ -115,7 +134,7 @@ pub fn owned_lists(
     requires inside { All (λ scope. All (λ v. v < variables) scope) scopes.now }
     ensures { IfOk result (λ owned. owned.items ≡ map (owned_among scopes.now) (below variables)) }
 {
-    let mut owned = empty_lists(alloc, variables)?;
+    let mut owned = empty_lists(alloc, variables, room_for(scopes.len(), variables))?;
     for rule in 0..scopes.len() {
         let owner = scopes.list(rule).last().copied();
         push_owned(&mut owned, owner, rule as u32)?;
@@ -123,13 +142,22 @@ pub fn owned_lists(
     Ok(owned)
 }
 
-/// So many empty lists.
-pub fn empty_lists(alloc: Global, count: usize) -> Result<Vec<NumberList>, AllocError>
+/// The room that each of some lists gets for numbers, so that few of them grow: twice what all have on average.
+pub fn room_for(numbers: usize, lists: usize) -> usize {
+    if lists == 0 {
+        0
+    } else {
+        (numbers / lists).saturating_mul(2)
+    }
+}
+
+/// So many empty lists, each with room for so many numbers.
+pub fn empty_lists(alloc: Global, count: usize, room: usize) -> Result<Vec<NumberList>, AllocError>
     ensures { IfOk result (λ lists. lists.items ≡ map (owned_among []) (below count)) }
 {
     let mut lists = Vec::with_capacity(alloc, count)?;
     for _place in 0..count {
-        lists.push(NumberList::new(alloc))?;
+        lists.push(NumberList::from_vec(Vec::with_capacity(alloc, room)?))?;
     }
     Ok(lists)
 }

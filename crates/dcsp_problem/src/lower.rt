@@ -4,7 +4,7 @@ ghost use Rattle.std.specs.Prelude.{◌≡◌, ◌<◌, ◌&&◌, ◌==◌, ℕ,
 ghost use Rattle.dcsp_defs.specs.Words.{below};
 ghost use Rattle.dcsp_problem.specs.Lower.{is_among, ends_after, lower_among, Adds};
 
-use crate::index::empty_lists;
+use crate::index::{empty_lists, room_for};
 use crate::table::NumberTable;
 use dcsp_common::Memory;
 use dcsp_rule::NumberList;
@@ -19,7 +19,7 @@ pub fn lower_table(
     requires { All (λ scope. All (λ v. v < variables) scope) scopes.now }
     ensures { IfOk result (λ table. table ≡ map (lower_among scopes.now variables) (below variables)) }
 {
-    let mut owners = empty_lists(alloc, variables)?;
+    let mut owners = empty_lists(alloc, variables, room_for(scopes.len(), variables))?;
     for rule in 0..scopes.len() {
         push_scope(&mut owners, scopes.list(rule))?;
     }

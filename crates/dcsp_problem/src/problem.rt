@@ -84,6 +84,7 @@ impl Problem {
         let forms = forms_of(alloc, &rules)?;
         let owners = owned_lists(alloc, &scopes, domains.len())?;
         let owned = NumberTable::of_lists(alloc, &owners)?;
+        drop(owners);
         let lower = lower_table(alloc, &scopes, domains.len())?;
         let tables = Tables {
             scopes,

@@ -5,7 +5,7 @@ ghost use Rattle.dcsp_rule.specs.Rules.{IsRuleOf, scope_of};
 ghost use Rattle.dcsp_problem.specs.Lower.{set_below};
 ghost use Rattle.dcsp_problem.specs.Pieces.{pieces, AreCuts};
 
-use crate::index::put_scope;
+use crate::index::{make_set, put_scope};
 use dcsp_common::Memory;
 use dcsp_rule::{NumberList, RuleTable};
 use std::alloc::{AllocError, Global};
@@ -88,13 +88,30 @@ impl NumberTable {
     }
 }
 
+/// A list of more numbers is copied as a whole.
+const MOST_ONE_BY_ONE: usize = 4;
+
+/// Adds numbers to a list. Most scopes are short, and take less one by one than a call that copies takes.
+#[inline(always)]
+fn append(numbers: &mut Vec<u32>, more: &[u32]) -> Result<(), Memory>
+    ensures { OnOk result (numbers.new.items ≡ numbers.old.items ++ more.now) }
+{
+    if more.len() > MOST_ONE_BY_ONE {
+        numbers.extend_from_slice(more)?;
+        return Ok(());
+    }
+    for number in more {
+        numbers.push(*number)?;
+    }
+    Ok(())
+}
+
 /// The numbers, rising and without repeats.
 fn rising_set(alloc: Global, numbers: &[u32]) -> Result<Vec<u32>, AllocError>
     ensures { IfOk result (λ set. (n : ℕ) → All (λ x. x < n) numbers.now → set.items ≡ set_below n numbers.now) }
 {
     let mut set = Vec::from_slice(alloc, numbers)?;
-    set.sort_unstable();
-    set.dedup();
+    make_set(&mut set);
     Ok(set)
 }
 
@@ -104,7 +121,7 @@ fn push_list(numbers: &mut Vec<u32>, places: &mut Vec<usize>, list: &[u32]) -> R
     ensures list { OnOk result (pieces numbers.new.items places.new.items ≡ pieces numbers.old.items places.old.items ++ list.now ∷ []) }
     ensures cuts { OnOk result (AreCuts numbers.new.items places.new.items) }
 {
-    numbers.extend_from_slice(list)?;
+    append(numbers, list)?;
     places.push(numbers.len())?;
     Ok(())
 }

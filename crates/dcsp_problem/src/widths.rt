@@ -13,6 +13,7 @@ use dcsp_meaning::{WIDEST, plus_greatest};
 use dcsp_rule::{RuleRef, Term};
 
 /// Refuses a rule whose sum is too wide over these domains.
+#[inline(always)]
 pub fn within_width(domains: &[Domain], rule: RuleRef<'_>) -> Result<(), BuildError>
     requires known { All (IsTermOf (length domains.now)) (terms_of (lent_rule rule)) }
     requires shape { IsTrue (has_shape (lent_rule rule)) }

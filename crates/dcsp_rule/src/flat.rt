@@ -1,6 +1,6 @@
 //! Rules whose terms stand one after another in one list, and their numbers in another.
 
-ghost use Rattle.std.specs.Prelude.{◌≡◌, ◌<◌, ◌+◌, ◌++◌, ◌∷◌, [], length, pos, Some, IfOk, OnOk, OnErr, slice_get, slice_index_or};
+ghost use Rattle.std.specs.Prelude.{◌≡◌, ◌<◌, ◌+◌, ◌^◌, ◌++◌, ◌∷◌, [], length, pos, Some, IfOk, OnOk, OnErr, slice_get, slice_index_or};
 ghost use Rattle.dcsp_rule.specs.Lent.{lent_rule};
 ghost use Rattle.dcsp_rule.specs.Flat.{head_of, rule_of_lists, Extends};
 
@@ -49,6 +49,9 @@ pub struct RuleLists<'l> {
     pub third: &'l [Term],
     pub numbers: &'l [i64],
 }
+
+/// A table has no more terms, and no more numbers.
+const MOST_PLACES: usize = u32::MAX as usize;
 
 /// A list of more items is copied as a whole.
 const MOST_ONE_BY_ONE: usize = 8;
@@ -110,6 +113,7 @@ impl RuleTable {
     }
 
     /// Adds a rule, with lists that are copied.
+    #[inline(always)]
     pub fn push(&mut self, rule: RuleRef<'_>) -> Result<(), Memory>
         ensures ok { OnOk result (self.new ≡ self.old ++ lent_rule rule.entry ∷ []) }
         ensures err { OnErr result (self.new ≡ self.old) }
@@ -171,6 +175,7 @@ impl RuleTable {
     }
 
     /// Adds the rule that these lists make.
+    #[inline(always)]
     fn push_lists(&mut self, kind: HeadKind, lists: RuleLists<'_>) -> Result<(), Memory>
         ensures ok { OnOk result (self.new ≡ self.old ++ rule_of_lists kind lists.entry.first.now lists.entry.second.now lists.entry.third.now lists.entry.numbers.now ∷ []) }
         ensures err { OnErr result (self.new ≡ self.old) }
@@ -184,6 +189,7 @@ impl RuleTable {
 }
 
 /// Adds the terms of the lists, one list after another. After `Memory` the first of them may be added.
+#[inline(always)]
 fn add_terms(terms: &mut Vec<Term>, lists: RuleLists<'_>) -> Result<(), Memory>
     ensures ok { OnOk result (terms.new.items ≡ terms.old.items ++ (lists.entry.first.now ++ (lists.entry.second.now ++ lists.entry.third.now))) }
     ensures err { OnErr result (Extends terms.old.items terms.new.items) }
@@ -212,42 +218,33 @@ fn append<T: Copy>(list: &mut Vec<T>, more: &[T]) -> Result<(), Memory>
 }
 
 /// The head of a rule with these lists, which come after so many terms and numbers.
+#[inline(always)]
 fn head_for(
     kind: HeadKind,
     terms: usize,
     numbers: usize,
     lists: RuleLists<'_>,
 ) -> Result<RuleHead, Memory>
+    requires terms { terms < 2 ^ 59 }
+    requires numbers { numbers < 2 ^ 60 }
     ensures { IfOk result (λ head. head ≡ head_of kind terms numbers (length lists.entry.first.now) (length lists.entry.second.now) (length lists.entry.third.now) (length lists.entry.numbers.now)) }
 {
-    let first = place_after(0, terms)?;
-    let second = place_after(first, lists.first.len())?;
-    let third = place_after(second, lists.second.len())?;
-    let end = place_after(third, lists.third.len())?;
-    let numbers = place_after(0, numbers)?;
-    let numbers_end = place_after(numbers, lists.numbers.len())?;
+    let second = terms + lists.first.len();
+    let third = second + lists.second.len();
+    let end = third + lists.third.len();
+    let numbers_end = numbers + lists.numbers.len();
+    if end > MOST_PLACES || numbers_end > MOST_PLACES {
+        return Err(Memory);
+    }
     Ok(RuleHead {
         kind,
-        first,
-        second,
-        third,
-        end,
-        numbers,
-        numbers_end,
+        first: terms as u32,
+        second: second as u32,
+        third: third as u32,
+        end: end as u32,
+        numbers: numbers as u32,
+        numbers_end: numbers_end as u32,
     })
-}
-
-/// The place after so many more.
-fn place_after(place: u32, count: usize) -> Result<u32, Memory>
-    ensures { IfOk result (λ after. after ≡ place + count) }
-{
-    let Ok(count) = u32::try_from(count) else {
-        return Err(Memory);
-    };
-    match place.checked_add(count) {
-        Some(after) => Ok(after),
-        None => Err(Memory),
-    }
 }
 
 /// The rule that these lists make.

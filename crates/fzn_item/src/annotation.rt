@@ -140,10 +140,8 @@ fn number(tokens: &[Token]) -> Option<&[Token]>
     ensures reads { Skips IsNumber tokens.now result }
     ensures shorter { IfSome result (λ x. length x.now < length tokens.now) }
 {
-    match tokens.split_first() {
-        Some((first, rest)) => number_after(first.kind, rest),
-        None => None,
-    }
+    let (first, rest) = tokens.split_first()?;
+    number_after(first.kind, rest)
 }
 
 /// An integer or a float, where the first token is of this kind.

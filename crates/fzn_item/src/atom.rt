@@ -35,10 +35,7 @@ impl Form for i64 {
     ghost form = { IsInteger };
 
     fn read(_alloc: Global, tokens: &[Token]) -> Result<(i64, &[Token]), Stop> {
-        match integer(tokens) {
-            Some((value, rest)) => Ok((value, rest)),
-            None => Err(Stop::Unread),
-        }
+        integer(tokens).ok_or(Stop::Unread)
     }
 
     fn skip(tokens: &[Token]) -> Option<&[Token]> {

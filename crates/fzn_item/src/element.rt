@@ -43,13 +43,8 @@ pub(crate) fn element_after(
         TokenKind::Word(word) => match word {
             Word::Var => {
                 let (base, rest) = base(alloc, tokens)?;
-                Ok((
-                    Element {
-                        variable: true,
-                        base,
-                    },
-                    rest,
-                ))
+                let variable = true;
+                Ok((Element { variable, base }, rest))
             }
             Word::Bool => Ok((parameter(Base::Bool), tokens)),
             Word::Int => Ok((parameter(Base::Int), tokens)),

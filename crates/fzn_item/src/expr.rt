@@ -19,13 +19,8 @@ impl Form for Expr {
         match one_of(tokens, TokenKind::Mark(Mark::OpenBracket)) {
             Some((bracket, rest)) => {
                 let (atoms, rest) = list_of::<Atom>(alloc, rest, Mark::CloseBracket)?;
-                Ok((
-                    Expr::List {
-                        at: bracket.from,
-                        atoms,
-                    },
-                    rest,
-                ))
+                let at = bracket.from;
+                Ok((Expr::List { at, atoms }, rest))
             }
             None => {
                 let (one, rest) = Atom::read(alloc, tokens)?;

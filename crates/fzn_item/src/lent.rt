@@ -113,6 +113,7 @@ fn lent_item<'t>(
 }
 
 /// A constraint, after its first word.
+#[inline(always)]
 pub(crate) fn lent_constraint<'t>(
     alloc: Global,
     text: &[u8],
@@ -135,14 +136,12 @@ pub(crate) fn lent_constraint<'t>(
     let Some((_, rest)) = one_of(rest, TokenKind::Mark(Mark::Semicolon)) else {
         return Err(Stop::Unread);
     };
+    let tokens = inside;
     let constraint = LentConstraint {
         at: first.from,
         name_at: name.from,
         name_to: name.to,
-        arguments: LentArguments {
-            tokens: inside,
-            count,
-        },
+        arguments: LentArguments { tokens, count },
     };
     Ok((constraint, rest))
 }
@@ -154,10 +153,10 @@ pub fn next_expr(alloc: Global, tokens: &[Token]) -> Result<LentExpr<'_>, Memory
     ensures { IfOk result (IsLentExpr tokens.now) }
 {
     match one_of(tokens, TokenKind::Mark(Mark::OpenBracket)) {
-        Some((bracket, inside)) => Ok(LentExpr::List {
-            at: bracket.from,
-            inside,
-        }),
+        Some((bracket, inside)) => {
+            let at = bracket.from;
+            Ok(LentExpr::List { at, inside })
+        }
         None => {
             let (atom, behind) = next_atom(alloc, tokens)?;
             Ok(LentExpr::One { atom, behind })

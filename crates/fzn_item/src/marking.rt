@@ -166,10 +166,7 @@ impl Form for (i64, i64) {
     ghost form = { IsRange };
 
     fn read(_alloc: Global, tokens: &[Token]) -> Result<((i64, i64), &[Token]), Stop> {
-        match range(tokens) {
-            Some((value, rest)) => Ok((value, rest)),
-            None => Err(Stop::Unread),
-        }
+        range(tokens).ok_or(Stop::Unread)
     }
 
     fn skip(tokens: &[Token]) -> Option<&[Token]> {
@@ -185,14 +182,8 @@ pub(crate) fn range(tokens: &[Token]) -> Option<((i64, i64), &[Token])>
     ensures high { IfSome result (λ x. FitsSigned w64 x.0.1) }
     ensures shorter { IfSome result (λ x. length x.1.now < length tokens.now) }
 {
-    let Some((low, rest)) = integer(tokens) else {
-        return None;
-    };
-    let Some((_, rest)) = one_of(rest, TokenKind::Mark(Mark::DotDot)) else {
-        return None;
-    };
-    let Some((high, rest)) = integer(rest) else {
-        return None;
-    };
+    let (low, rest) = integer(tokens)?;
+    let (_, rest) = one_of(rest, TokenKind::Mark(Mark::DotDot))?;
+    let (high, rest) = integer(rest)?;
     Some(((low, high), rest))
 }

@@ -100,11 +100,9 @@ pub(crate) fn item_after<'t>(
                 Some(rest) => Ok((Item::Predicate { at: first.from }, rest)),
                 None => Err(Stop::Unread),
             },
-            Word::Var => declaration(alloc, text, first, tokens),
-            Word::Bool => declaration(alloc, text, first, tokens),
-            Word::Int => declaration(alloc, text, first, tokens),
-            Word::Float => declaration(alloc, text, first, tokens),
-            Word::Set => declaration(alloc, text, first, tokens),
+            Word::Var | Word::Bool | Word::Int | Word::Float | Word::Set => {
+                declaration(alloc, text, first, tokens)
+            }
             Word::Array => array(alloc, text, first, tokens),
             Word::Constraint => constraint(alloc, text, first, tokens),
             Word::Solve => solve(alloc, text, first, tokens),
@@ -164,13 +162,8 @@ fn solve<'t>(
 {
     let (_, rest) = annotations(alloc, text, tokens)?;
     let (goal, rest) = read_goal(alloc, rest)?;
-    Ok((
-        Item::Solve {
-            at: first.from,
-            goal,
-        },
-        rest,
-    ))
+    let at = first.from;
+    Ok((Item::Solve { at, goal }, rest))
 }
 
 /// A goal, and the `;` that ends its item.

@@ -45,11 +45,9 @@ pub(crate) fn integer(tokens: &[Token]) -> Option<(i64, &[Token])>
     ensures fits { IfSome result (λ x. FitsSigned w64 x.0) }
     ensures shorter { IfSome result (λ x. length x.1.now + 1 ≡ length tokens.now) }
 {
-    match tokens.split_first() {
-        Some((first, rest)) => match first.kind {
-            TokenKind::Whole(value) => Some((value, rest)),
-            _ => None,
-        },
-        None => None,
+    let (first, rest) = tokens.split_first()?;
+    match first.kind {
+        TokenKind::Whole(value) => Some((value, rest)),
+        _ => None,
     }
 }

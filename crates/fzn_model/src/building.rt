@@ -43,6 +43,7 @@ pub(crate) fn add_variable(
 }
 
 /// Adds a rule, whose lists are copied.
+#[inline(always)]
 pub(crate) fn add_rule(
     builder: &mut ProblemBuilder,
     at: u32,

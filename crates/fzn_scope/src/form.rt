@@ -1,6 +1,6 @@
 //! How constraints are called, and what their arguments are.
 
-ghost use Rattle.std.specs.Prelude.{◌≡◌, [], ◌∷◌};
+ghost use Rattle.std.specs.Prelude.{◌≡◌, [], ◌∷◌, IfSome, Some};
 ghost use Rattle.fzn_scope.specs.Forms.{form_among, sums, form_named, whole, coefficients, others, plain_places, reified_places, places_of};
 ghost use Rattle.dcsp_meaning.specs.Table.{plain_of, is_reified};
 
@@ -78,7 +78,10 @@ impl Form {
     pub fn from_name(name: &[u8]) -> Option<Form>
         ensures { result ≡ form_named name.now }
     {
-        // Sums come first: they are few, most constraints of many models are sums, and no kind has such a name.
+        // Names that most constraints have come first, and sums, whose names no kind has.
+        if let Some(form) = often_named(name) {
+            return Some(form);
+        }
         if let Some(sum) = sum_named(name) {
             return Some(sum);
         }
@@ -101,6 +104,21 @@ impl Form {
                 ..
             } => sum_places(boolean, reified),
         }
+    }
+}
+
+/// The form of a name that many constraints have, if it is one: it is found without a walk through all names.
+fn often_named(name: &[u8]) -> Option<Form>
+    ensures { IfSome result (λ form. form_named name.now ≡ Some form) }
+{
+    match name {
+        b"int_eq" => Some(Form::Plain(ConstraintKind::IntEq)),
+        b"int_ne" => Some(Form::Plain(ConstraintKind::IntNe)),
+        b"int_le" => Some(Form::Plain(ConstraintKind::IntLe)),
+        b"int_lt" => Some(Form::Plain(ConstraintKind::IntLt)),
+        b"int_plus" => Some(Form::Plain(ConstraintKind::IntPlus)),
+        b"bool_clause" => Some(Form::Plain(ConstraintKind::BoolClause)),
+        _ => None,
     }
 }
 

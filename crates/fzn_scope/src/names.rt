@@ -69,6 +69,7 @@ impl<'t> Names<'t> {
     }
 
     /// What the name stands for; `None` where it was not declared.
+    #[inline(always)]
     pub fn get(&self, name: &[u8]) -> Option<&Declared>
         ensures { option_copied result ≡ declared_as self.now name.now }
     {

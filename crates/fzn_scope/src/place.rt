@@ -138,6 +138,7 @@ fn put_set_named(set: &mut SetList, at: u32, declared: Option<&Declared>) -> Res
 
 impl<'c, 't> Context<'c, 't> {
     /// What the name between these places stands for; `None` where it was not declared.
+    #[inline(always)]
     fn named(self, from: u32, to: u32) -> Option<&'c Declared>
         ensures { option_copied result ≡ declared_as self.entry.names.now (bytes_at self.entry.text.now from to) }
     {
@@ -187,6 +188,7 @@ impl<'c, 't> Context<'c, 't> {
     }
 
     /// Puts the terms of an array in place of those in a list, where the atom is the array's name.
+    #[inline(always)]
     pub(crate) fn put_array(
         self,
         terms: &mut Vec<Term>,
@@ -251,6 +253,7 @@ impl<'c, 't> Context<'c, 't> {
     }
 
     /// Puts the set of an atom in place of another: a range, a listed set as it is written, or a set's name.
+    #[inline(always)]
     pub(crate) fn put_set(self, set: &mut SetList, atom: &Atom) -> Result<(), ModelError>
         ensures { Leaves (members_in set.new) result (set_of self.entry.text.now self.entry.names.now (expr.One atom.now)) }
     {

@@ -10,7 +10,11 @@ use Rattle.fzn_token.specs.Lookup.{mark_in}
 use Rattle.fzn_token.specs.Words.{mark_text}
 use Rattle.fzn_token.specs.Classes as byte
 use Rattle.fzn_token.proofs.Classes.{other, class_of, mark_byte}
-use Rattle.fzn_token.specs.Tokens.{IsLongest, NothingBegins}
+use Rattle.fzn_token.proofs.GapLaws.{gap_none, gap_whole}
+use Rattle.fzn_token.specs.Gaps.{IsGap}
+use Rattle.fzn_token.specs.declared.token.Mark.TheVariants as mark
+use Rattle.fzn_token.specs.Tokens.{Spells, IsToken, IsLongest, NothingBegins}
+use Rattle.fzn_token.specs.declared.token.Token.{Token}
 use Rattle.fzn_token.specs.declared.token.TokenKind.TheVariants as kind
 use Rattle.fzn_token.proofs.LongestMarks.{choose, mark_here, within, IsWithin, mark_missing}
 
@@ -116,6 +120,27 @@ module _ (b : ℕ) where
       (λ no_minus. cond_both (b == 34) _ _ (Told b) (eqb-true b 34)
       (λ no_quote. rest (mark_byte b no_letter no_digit (eqb-false b 45 no_minus) (eqb-false b 34 no_quote)) (byte.rest_class b) refl)))))
 
+-- a digit or a `-`
+pub number_byte : (b : ℕ) (class : Class) → class ≡ byte.class_of b → (class ≡ c.Digit) ⊎ (class ≡ c.Minus) → (is_digit_in 10 b ≡ true) ⊎ (b ≡ 45)
+number_byte b class is either = ⊎_elim (λ digit. inl (told b c.Digit (sym digit ∙ is))) (λ minus. inr (told b c.Minus (sym minus ∙ is))) either
+
+-- neither is the class of a `;`
+pub digit_other : (class : Class) → (class ≡ c.Digit) ⊎ (class ≡ c.Minus) → class ≡ c.Mark mark.Semicolon → ⊥
+digit_other class either is = ⊎_elim (λ digit. cc) (λ minus. cc) either
+
+pub twin_other : (class : Class) → (class ≡ c.Twin) ⊎ ((class ≡ c.Quote) ⊎ (class ≡ c.Other)) → class ≡ c.Mark mark.Semicolon → ⊥
+twin_other class either is = ⊎_elim (λ twin. cc) (λ more. ⊎_elim (λ quote. cc) (λ last. cc) more) either
+
+-- a blank or a `%`
+pub gap_byte : (b : ℕ) (class : Class) → class ≡ byte.class_of b → (class ≡ c.Blank) ⊎ (class ≡ c.Percent) → (is_blank b ≡ true) ⊎ (b ≡ 37)
+gap_byte b class is either = ⊎_elim (λ blank. inl (told b c.Blank (sym blank ∙ is)).1) (λ percent. inr (told b c.Percent (sym percent ∙ is)).1) either
+
+-- a token that begins with another byte is no `;`
+pub no_semicolon : (text : List ℕ) (t : Token) (class : Class) → IsToken text t → class ≡ byte.class_of (slice_index text t.from) → (class ≡ c.Mark mark.Semicolon → ⊥) → t.kind ≡ kind.Mark mark.Semicolon → ⊥
+no_semicolon text t class token class_is differs is =
+    let here = subst (λ k. Spells k text t.from t.to) is token.longest.spelled in
+    differs (class_is ∙ ap byte.class_of here.1)
+
 module _ (text : List ℕ) (i : ℕ) where
   -- a mark of one byte is the longest token
   pub one_longest : (mark : Mark) → i < length text → IsOne (slice_index text i) mark → IsLongest (kind.Mark mark) text i (i + 1)
@@ -128,3 +153,26 @@ module _ (text : List ℕ) (i : ℕ) where
   -- where no token begins with the byte, none begins
   pub none_begins : IsNone (slice_index text i) → NothingBegins text i
   none_begins none = mark_missing text i none.last true (λ _. refl) (none.none true)
+
+-- no gap stands where a token begins
+pub token_stands : (text : List ℕ) (t : Token) → t.from < length text → IsToken text t → IsGap text t.from t.from
+token_stands text t below token =
+    let b = slice_index text t.from in
+    let no_token : IsNone b → ⊥ = λ none. none_begins text t.from none t.kind t.to token.longest.spelled in
+    gap_whole (gap_none (omega arith)) (λ _. not_skipped b (byte.class_of b) refl
+    (λ blank. no_token (told b c.Blank (sym blank)).0)
+    (λ percent. no_token (told b c.Percent (sym percent)).0))
+
+-- nor where a byte of another class than those of gaps does
+other_stands : (text : List ℕ) (i : ℕ) (class : Class) → i < length text → class ≡ byte.class_of (slice_index text i) → (class ≡ c.Blank → ⊥) → (class ≡ c.Percent → ⊥) → IsGap text i i
+other_stands text i class below is no_blank no_percent = gap_whole (gap_none (omega arith)) (λ _. not_skipped (slice_index text i) class is no_blank no_percent)
+
+pub digit_stands : (text : List ℕ) (i : ℕ) (class : Class) → i < length text → class ≡ byte.class_of (slice_index text i) → (class ≡ c.Digit) ⊎ (class ≡ c.Minus) → IsGap text i i
+digit_stands text i class below is either = other_stands text i class below is
+    (λ blank. ⊎_elim (λ digit. cc) (λ minus. cc) either)
+    (λ percent. ⊎_elim (λ digit. cc) (λ minus. cc) either)
+
+pub twin_stands : (text : List ℕ) (i : ℕ) (class : Class) → i < length text → class ≡ byte.class_of (slice_index text i) → (class ≡ c.Twin) ⊎ ((class ≡ c.Quote) ⊎ (class ≡ c.Other)) → IsGap text i i
+twin_stands text i class below is either = other_stands text i class below is
+    (λ blank. ⊎_elim (λ twin. cc) (λ more. ⊎_elim (λ quote. cc) (λ last. cc) more) either)
+    (λ percent. ⊎_elim (λ twin. cc) (λ more. ⊎_elim (λ quote. cc) (λ last. cc) more) either)

@@ -1,5 +1,5 @@
 -- Gaps between tokens.
-use Rattle.std.proofs.Common.{◌≡◌, ℕ, ◌+◌, ◌<◌, ◌≤◌, true, false, List, length, ⊎_elim, arith, sym, ◌∙◌, inl, inr}
+use Rattle.std.proofs.Common.{◌≡◌, ℕ, ◌+◌, ◌<◌, ◌≤◌, true, false, List, length, ◌⊎◌, ⊎_elim, arith, sym, ◌∙◌, inl, inr}
 use Rattle.std.specs.Prelude.{slice_index}
 use Rattle.std.proofs.lemmas.Bool.{cases_lt, false≢true}
 use Rattle.fzn_token.specs.Bytes.{is_blank}
@@ -74,3 +74,28 @@ same_gap {text} {i} {j} {k} a b = ⊎_elim
     (λ not_more. omega arith)
     (cases_lt k j))
     (cases_lt j k)
+
+-- where a gap ends there is none
+pub gap_stays : {text : List ℕ} {i j : ℕ} → IsGap text i j → IsGap text j j
+gap_stays {text} {i} {j} gap = record {
+  ordered = omega arith;
+  within = gap.within;
+  skipped = λ k from before. (let no : ⊥ = omega arith in absurd no);
+  stops = λ below skipped. gap.stops below (⊎_elim
+      (λ blank. inl blank)
+      (λ comment. inr (record { start = comment.start; from_gap = omega (arith, gap.ordered, comment.from_gap); before = comment.before; percent = comment.percent; same_line = comment.same_line }))
+      skipped);
+}
+
+-- at the text's end there is no gap
+pub no_gap_at_end : {text : List ℕ} {i : ℕ} → i ≤ length text → length text ≤ i → IsGap text i i
+no_gap_at_end within past = gap_whole (gap_none within) (λ below. absurd (omega arith))
+
+-- a gap goes on where it begins with a blank or a `%`
+pub gap_moves : {text : List ℕ} {i j : ℕ} → IsGap text i j → i < length text → (is_blank (slice_index text i) ≡ true) ⊎ (slice_index text i ≡ 37) → i < j
+gap_moves {text} {i} {j} gap below begins = ⊎_elim (λ moves. moves)
+    (λ stays. let same : j ≡ i = omega (arith, gap.ordered) in absurd ((gap_stays gap).stops (omega arith) (rw same (⊎_elim
+    (λ blank. inl blank)
+    (λ percent. inr (record { start = i; from_gap = omega arith; before = omega arith; percent = percent; same_line = λ m from to feed. (let at : m ≡ i = omega arith in let ten : slice_index text i ≡ 10 = rw at at feed in omega arith) }))
+    begins))))
+    (cases_lt i j)

@@ -1,9 +1,10 @@
 -- The longest token where a name begins.
-use Rattle.std.proofs.Common.{◌≡◌, ℕ, ◌<◌, ◌≤◌, true, List, length, ⊎_elim, arith, sym, ◌∙◌, ap, Some, None}
+use Rattle.std.proofs.Common.{◌≡◌, ℕ, ◌+◌, ◌<◌, ◌≤◌, true, false, List, length, ⊎_elim, arith, sym, ◌∙◌, ap, Some, None}
 use Rattle.std.specs.Prelude.{slice_index, slice_range}
 use Rattle.std.proofs.lemmas.Bool.{cases_lt, false≢true}
 use Rattle.std.proofs.lemmas.Bool.Decides.{nat_tests}
 use Rattle.fzn_token.specs.declared.token.Word.{Word}
+use Rattle.fzn_token.specs.declared.token.Word.TheVariants as w
 use Rattle.fzn_token.specs.declared.token.TokenKind.{TokenKind}
 use Rattle.fzn_token.specs.declared.token.TokenKind.TheVariants as kind
 use Rattle.fzn_token.specs.Bytes.{IsWholeRun, is_name_byte, is_letter}
@@ -45,3 +46,10 @@ module _ (text : List ℕ) (i j : ℕ) (whole : IsWholeRun is_name_byte text i j
     spelled = (record { first = first; some = some; run = whole.run }, λ keyword. word_missing text i j (omega arith) none keyword.0 keyword.1);
     longest = name_at_most;
   }
+
+-- `constraint` that no byte of a name follows is the longest token
+pub constraint_longest : (text : List ℕ) (i : ℕ) → i + 10 < length text → is_name_byte (slice_index text (i + 10)) ≡ false → word_in (slice_range text i (i + 10)) ≡ Some w.Constraint → IsLongest (kind.Word w.Constraint) text i (i + 10)
+constraint_longest text i below stop found =
+    let here = range_here (word_text w.Constraint) text i (i + 10) (omega arith) (omega arith) (word_found _ w.Constraint found) in
+    let run = here_run is_name_byte (word_text w.Constraint) text i (i + 10) (omega arith) (word_is_name w.Constraint) here in
+    word_longest text i (i + 10) (record { run = run; stops = λ _. stop }) (ap is_letter here.1) here.0 w.Constraint found

@@ -1,5 +1,5 @@
 -- What readers of tokens answer.
-use Rattle.std.specs.Prelude.{◌≡◌, ◌≤◌, ◌↔◌, ◌⊎◌, ◌-◌, ℕ, ℤ, ◌<◌, Bool, IsTrue, List, [], ◌∷◌, ◌++◌, length, Option, Some, None, Result, Ok, Err, FitsSigned}
+use Rattle.std.specs.Prelude.{◌≡◌, ◌≤◌, ◌⊎◌, ◌-◌, ℕ, ℤ, ◌<◌, List, [], ◌∷◌, ◌++◌, length, Option, Some, None, Result, Ok, Err, FitsSigned}
 use Rattle.std.specs.Int.{w64}
 use Rattle.fzn_token.specs.Gaps.{IsGap}
 use Rattle.fzn_token.specs.Tokens.{IsLongest, NothingBegins, IsToken, AreTokensTo, AreTokens}
@@ -103,12 +103,6 @@ pub record IsKept (old : TokenReader) (before after : List Token) (behind : Toke
   pub read : ReadsOn old (t ∷ []) behind
   pub fewer : left behind < left old
 
--- the next token is kept, and the truth tells whether it is a `;`
-pub record KeepsOne (old : TokenReader) (before after : List Token) (behind : TokenReader) (ended : Bool) : Type 0 where
-  pub token : Token
-  pub kept : IsKept old before after behind token
-  pub ends : IsTrue ended ↔ (token.kind ≡ kind.Mark mark.Semicolon)
-
 -- these tokens are read, or the text is refused
 abbrev pub TakesPiece : TokenReader → TokenReader → List Token → Result (Unit {0}) ModelError → Type 0
 TakesPiece old new us (Ok u) = ReadsOn old us new
@@ -128,6 +122,17 @@ IsPiece (t ∷ ts) = ((t.kind ≡ kind.Mark mark.Semicolon) × (ts ≡ [])) ⊎ 
 abbrev pub IsOpen : List Token → Type 0
 IsOpen [] = Unit {0}
 IsOpen (t ∷ ts) = (t.kind ≡ kind.Mark mark.Semicolon → ⊥) × IsOpen ts
+
+-- these tokens are read from the one reader to the other, and none is a `;`
+pub record IsOpenTo (old : TokenReader) (us : List Token) (now : TokenReader) : Type 0 where
+  pub read : ReadsOn old us now
+  pub no_semicolon : IsOpen us
+  pub no_more : left now ≤ left old
+  pub fewer : (us ≡ [] → ⊥) → left now < left old
+
+-- these tokens are read from the one reader up to a place, and none is a `;`. A reader behind the gap there has read them
+abbrev pub IsOpenAt : TokenReader → List Token → ℕ → Type 0
+IsOpenAt old us at = (now : TokenReader) → now.text.now ≡ old.text.now → IsGap old.text.now at now.at → IsOpenTo old us now
 
 -- what was read ends with the first `;`, or has none and ends with the text
 abbrev pub EndsPiece : TokenReader → List Token → Type 0

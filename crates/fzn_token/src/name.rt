@@ -1,6 +1,6 @@
 //! Names and keywords.
 
-ghost use Rattle.std.specs.Prelude.{◌≡◌, ◌<◌, ◌≤◌, length, slice_index, true, Ok};
+ghost use Rattle.std.specs.Prelude.{◌≡◌, ◌<◌, ◌≤◌, length, slice_index, true, Ok, IfSome};
 ghost use Rattle.fzn_token.specs.Bytes.{is_letter, is_name_byte, IsWholeRun};
 ghost use Rattle.fzn_token.specs.declared.token.Mark.{Mark};
 ghost use Rattle.fzn_token.specs.Lookup.{word_in};
@@ -8,6 +8,9 @@ ghost use Rattle.fzn_token.specs.Reading.{Reads};
 
 use crate::bytes::is_name_byte;
 use crate::token::{Token, TokenKind, Word};
+
+/// `constraint` has so many bytes.
+const CONSTRAINT_LEN: usize = 10;
 
 /// The name or keyword that begins with the letter here.
 #[inline(always)]
@@ -34,28 +37,48 @@ pub(crate) fn name_token(text: &[u8], at: usize) -> Token
     }
 }
 
+/// The keyword `constraint`, where it is the token that begins here.
+#[inline(always)]
+pub(crate) fn constraint_token(text: &[u8], at: usize) -> Option<Token>
+    requires { length text.now ≤ 16777216 }
+    ensures reads { IfSome result (λ token. (at < length text.now) × Reads text.now at (Ok token)) }
+    ensures no_mark { IfSome result (λ token. (mark : Mark) → token.kind ≡ TokenKind.Mark mark → ⊥) }
+{
+    if text.len() <= at || text.len() - at <= CONSTRAINT_LEN {
+        return None;
+    }
+    let end = at + CONSTRAINT_LEN;
+    if is_name_byte(text[end]) {
+        return None;
+    }
+    match word_in(&text[at..end]) {
+        Some(Word::Constraint) => Some(Token {
+            kind: TokenKind::Word(Word::Constraint),
+            from: at as u32,
+            to: end as u32,
+        }),
+        _ => None,
+    }
+}
+
 /// Where the letters, digits and `_` end that begin here.
 ///
-/// Four bytes are looked at in one turn, and the text's end is asked for once for the four.
+/// Eight bytes are looked at in one turn, and the text's end is asked for once for the eight.
+#[inline(always)]
 fn name_end(text: &[u8], from: usize) -> usize
     requires { from ≤ length text.now }
     ensures { IsWholeRun is_name_byte text.now from result }
 {
     let mut at = from;
-    'fours: while text.len() - at >= 4 {
-        if !is_name_byte(text[at]) {
-            return at;
+    'eights: while text.len() - at >= 8 {
+        let mut past = 0;
+        'each: while past < 8 {
+            if !is_name_byte(text[at + past]) {
+                return at + past;
+            }
+            past += 1;
         }
-        if !is_name_byte(text[at + 1]) {
-            return at + 1;
-        }
-        if !is_name_byte(text[at + 2]) {
-            return at + 2;
-        }
-        if !is_name_byte(text[at + 3]) {
-            return at + 3;
-        }
-        at += 4;
+        at += 8;
     }
     'ones: while at < text.len() && is_name_byte(text[at]) {
         at += 1;

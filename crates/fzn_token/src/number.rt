@@ -14,6 +14,7 @@ use crate::refusal::BadToken;
 use crate::token::{Token, TokenKind};
 
 /// The number that begins with the digit or `-` here.
+#[inline(always)]
 pub(crate) fn number_token(text: &[u8], at: usize) -> Result<Token, BadToken>
     requires small { length text.now ≤ 16777216 }
     requires within { at < length text.now }
@@ -55,6 +56,7 @@ struct Sign {
 }
 
 /// The number with this sign, whose decimal digits are these.
+#[inline(never)]
 fn unsigned_token(text: &[u8], sign: Sign, digits: (usize, usize)) -> Result<Token, BadToken>
     requires small { length text.now ≤ 16777216 }
     requires within { sign.at < length text.now }

@@ -1,13 +1,15 @@
 //! The tokens of a text, one after another or up to one `;` at a time.
 
-ghost use Rattle.std.specs.Prelude.{◌≢◌, ◌<◌, ◌≤◌, length, [], IfErr, IfOk, Ok, OnOk};
-ghost use Rattle.fzn_token.specs.Reading.{told, IsBehind, IsKept, KeepsOne, Reads, Refuses, TakesOne, TakesPiece, TakesRest, EndsPiece, left};
+ghost use Rattle.std.specs.Prelude.{◌≡◌, ◌≢◌, ◌<◌, ◌≤◌, ◌++◌, ◌∷◌, length, [], IfOk, Ok, OnOk};
+ghost use Rattle.fzn_token.specs.Gaps.{IsGap};
+ghost use Rattle.fzn_token.specs.Reading.{told, IsBehind, IsOpenAt, Reads, TakesOne, TakesPiece, TakesRest, EndsPiece, left};
 
 use crate::class::{Class, class_of};
 use crate::gap::gap_end;
 use crate::lexer::token_at;
 use crate::mark::mark_token;
-use crate::name::name_token;
+use crate::name::{constraint_token, name_token};
+use crate::number::number_token;
 use crate::reader::TokenReader;
 use crate::refusal::{BadToken, ModelError};
 use crate::token::{Mark, Token, TokenKind};
@@ -19,10 +21,7 @@ impl<'t> TokenReader<'t> {
         requires { length text.now ≤ 16777216 }
         ensures { IsBehind text.now result [] }
     {
-        TokenReader {
-            text,
-            at: gap_end(text, 0),
-        }
+        TokenReader::behind(text, 0)
     }
 
     /// The next token; `None` at the text's end.
@@ -49,62 +48,67 @@ impl<'t> TokenReader<'t> {
         ensures ends { OnOk result (EndsPiece self.new tokens.new.items) }
         ensures fewer { OnOk result (tokens.new.items ≢ [] → left self.new < left self.old) }
     {
-        tokens.clear();
-        let mut reader = *self;
-        'tokens: while reader.at < reader.text.len() {
-            // Marks and names, which most tokens are, are written where they are found, and no token is handed over.
-            match class_of(reader.text[reader.at]) {
+        let text = self.text;
+        let mut at = self.begun(tokens)?;
+        'tokens: while at < text.len() {
+            // Each token is written where it is found: none is handed over.
+            match class_of(text[at]) {
                 Class::Mark(mark) => {
-                    let token = mark_token(reader.text, reader.at, mark);
-                    reader = reader.kept(token, tokens)?;
+                    let token = mark_token(text, at, mark);
+                    at = kept(text, at, token, tokens)?;
                     if mark == Mark::Semicolon {
-                        *self = reader;
+                        *self = TokenReader::behind(text, at);
                         return Ok(());
                     }
                 }
                 Class::Letter => {
-                    let token = name_token(reader.text, reader.at);
-                    reader = reader.kept(token, tokens)?;
+                    let token = name_token(text, at);
+                    at = kept(text, at, token, tokens)?;
                 }
-                _ => {
-                    let (behind, ended) = reader.other_kept(tokens)?;
-                    reader = behind;
-                    if ended {
-                        *self = reader;
-                        return Ok(());
-                    }
+                Class::Digit | Class::Minus => {
+                    let token = number_token(text, at)?;
+                    at = kept(text, at, token, tokens)?;
+                }
+                Class::Blank | Class::Percent => at = gap_end(text, at),
+                Class::Twin | Class::Quote | Class::Other => {
+                    let token = token_at(text, at)?;
+                    at = kept(text, at, token, tokens)?;
                 }
             }
         }
-        *self = reader;
+        *self = TokenReader::behind(text, at);
         Ok(())
     }
 
-    /// Adds the token that stands next, whatever it is, and tells whether it is a `;`.
-    #[inline(never)]
-    fn other_kept(self, tokens: &mut Vec<Token>) -> Result<(TokenReader<'t>, bool), ModelError>
-        requires within { self.at < length self.text.now }
-        ensures kept { IfOk result (λ x. KeepsOne self.entry tokens.old.items tokens.new.items x.0 x.1) }
-        ensures refused { IfErr result (λ e. Refuses self.entry e) }
+    /// Begins the next piece, in place of the one before, and gives the place behind what it has. Most begin with
+    /// `constraint`, which is not looked up among the keywords.
+    #[inline(always)]
+    fn begun(&self, tokens: &mut Vec<Token>) -> Result<usize, Memory>
+        ensures opens { IfOk result (λ at. IsOpenAt self.now tokens.new.items at) }
+        ensures within { IfOk result (λ at. at ≤ length self.now.text.now) }
     {
-        let token = token_at(self.text, self.at)?;
-        let behind = self.kept(token, tokens)?;
-        Ok((behind, token.kind == TokenKind::Mark(Mark::Semicolon)))
+        tokens.clear();
+        match constraint_token(self.text, self.at) {
+            Some(token) => {
+                let to = kept(self.text, self.at, token, tokens)?;
+                Ok(to)
+            }
+            None => Ok(self.at),
+        }
     }
 
-    /// Adds the token that stands next, and gives the reader behind it.
+    /// The reader behind the gap here.
     #[inline(always)]
-    fn kept(self, token: Token, tokens: &mut Vec<Token>) -> Result<TokenReader<'t>, Memory>
-        requires within { self.at < length self.text.now }
-        requires reads { Reads self.text.now self.at (Ok token) }
-        ensures { IfOk result (λ behind. IsKept self.entry tokens.old.items tokens.new.items behind token) }
+    fn behind(text: &'t [u8], at: usize) -> TokenReader<'t>
+        requires small { length text.now ≤ 16777216 }
+        requires within { at ≤ length text.now }
+        ensures text { result.text.now ≡ text.now }
+        ensures gap { IsGap text.now at result.at }
     {
-        tokens.push(token)?;
-        let at = gap_end(self.text, token.to as usize);
-        Ok(TokenReader {
-            text: self.text,
-            at,
-        })
+        TokenReader {
+            text,
+            at: gap_end(text, at),
+        }
     }
 
     /// Reads the tokens that are left and keeps none, to see that the text is not refused for one of them.
@@ -114,4 +118,18 @@ impl<'t> TokenReader<'t> {
         while let Some(_token) = self.next_token()? {}
         Ok(())
     }
+}
+
+/// Adds the token that stands here, and gives the place behind it.
+#[inline(always)]
+fn kept(text: &[u8], at: usize, token: Token, tokens: &mut Vec<Token>) -> Result<usize, Memory>
+    requires within { at < length text.now }
+    requires reads { Reads text.now at (Ok token) }
+    ensures added { OnOk result (tokens.new.items ≡ tokens.old.items ++ token ∷ []) }
+    ensures to { IfOk result (λ to. to ≡ token.to) }
+    ensures further { IfOk result (λ to. at < to) }
+    ensures within { IfOk result (λ to. to ≤ length text.now) }
+{
+    tokens.push(token)?;
+    Ok(token.to as usize)
 }

@@ -10,6 +10,7 @@ const MOST_BEFORE: u64 = u64::MAX / 10 - 1;
 
 /// Where the decimal digits end that begin here, and their value; nothing where there is no digit, where there are
 /// many, or where a `.` or a letter behind them may go on with the number.
+#[inline(always)]
 pub(crate) fn plain_digits(text: &[u8], from: usize) -> Option<(usize, u64)>
     requires { from ≤ length text.now }
     ensures { MatchOption result ⊤ (λ found. IsPlain text.now from found.0 found.1) }

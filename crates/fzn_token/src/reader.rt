@@ -9,4 +9,5 @@ pub struct TokenReader<'t> {
     /// The first place that is not read, which is in no gap.
     pub(crate) at: usize,
     ghost small: { length text.now ≤ 16777216 },
+    ghost within: { at ≤ length text.now },
 }
