@@ -1,9 +1,6 @@
 -- A list whose end is read into: what stands in front, and what the reader gave.
-use Rattle.std.proofs.Common.{◌≡◌, ℕ, ◌+◌, ◌-◌, ◌<◌, ◌≤◌, List, [], ◌++◌, IfSome, arith, length, take, drop, sym, ap, ◌∙◌, le_refl, drop_at, length-take-le, length-append, length-drop, append-nil, take_all}
-use Rattle.std.specs.Prelude.{Option, None, Some}
-use Rattle.std.proofs.Math.Seq.{take-append_seam}
+use Rattle.std.proofs.Common.{◌≡◌, ℕ, ◌+◌, ◌-◌, ◌≤◌, List, ◌++◌, arith, length, take, drop, ap, ◌∙◌, le_refl, drop_at, length-take-le, length-drop, take_all}
 use Rattle.std.proofs.lemmas.Slice.{take-put_mid_below}
-use Rattle.std.specs.Io.KnownBytes.{Consumes, IsAtEnd}
 use borrow.Rule.Slice.PartMut.{put_mid, post_of}
 use lib.Seq.{take-add, take-append-le}
 
@@ -32,28 +29,3 @@ pub length_of_room : (s : ℕ) (xs : List ℕ) → length (take (length xs - s) 
 length_of_room s xs =
     let rest : length (drop s xs) ≡ length xs - s = length-drop s xs in
     length-take-le (length xs - s) (drop s xs) (omega arith)
-
-ended : (x bs old new : List ℕ) (most : ℕ) → x ≡ bs → length bs < most → new ≡ old ++ bs → (length x < 0 + most) × (new ≡ old ++ drop 0 x)
-ended x bs old new most same few e =
-    let long : length x ≡ length bs = ap length same in
-    (omega arith, e ∙ ap (λ l. old ++ l) (sym same))
-
--- a reader that came to its end gave a last piece
-pub last_piece : (a b : Option (List ℕ)) (bs old new : List ℕ) (most : ℕ) → Consumes a b bs → IsAtEnd b → length bs < most → new ≡ old ++ bs
-    → IfSome a (λ xs. (length xs < 0 + most) × (new ≡ old ++ drop 0 xs))
-last_piece None b bs old new most p q few e = tt
-last_piece (Some x) None bs old new most p q few e = absurd p
-last_piece (Some x) (Some y) bs old new most p q few e = ended x bs old new most (p ∙ ap (λ l. bs ++ l) q ∙ append-nil bs) few e
-
-full : (x y bs old new : List ℕ) (most : ℕ) → x ≡ bs ++ y → length bs ≡ most → new ≡ old ++ bs → (0 + most ≤ length x) × (new ≡ old ++ take most (drop 0 x))
-full x y bs old new most p len e =
-    let long : length x ≡ length bs + length y = ap length p ∙ length-append bs y in
-    let front : take most x ≡ bs = ap (λ n. take n x) (sym len) ∙ ap (take (length bs)) p ∙ take-append_seam bs y in
-    (omega arith, e ∙ ap (λ l. old ++ l) (sym front))
-
--- a reader that gave as many bytes as were wanted gave a whole piece
-pub whole_piece : (a b : Option (List ℕ)) (bs old new : List ℕ) (most : ℕ) → Consumes a b bs → length bs ≡ most → new ≡ old ++ bs
-    → IfSome a (λ xs. (0 + most ≤ length xs) × (new ≡ old ++ take most (drop 0 xs)))
-whole_piece None b bs old new most p len e = tt
-whole_piece (Some x) None bs old new most p len e = absurd p
-whole_piece (Some x) (Some y) bs old new most p len e = full x y bs old new most p len e
