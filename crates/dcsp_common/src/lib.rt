@@ -1,11 +1,12 @@
 //! What every crate shares: lists that contracts see as lists, want of memory, items by number, numbers in decimal
-//! digits, and how large a problem may be.
+//! digits, bits of words, and how large a problem may be.
 #![tactic(auto)]
 
 mod entries;
 mod limits;
 mod list;
 mod number;
+pub mod word;
 
 pub use entries::{Entry, item_of, place_of, put, put_reserved};
 pub use limits::Which;
