@@ -1,22 +1,24 @@
 -- Who is asked for a link.
-use Rattle.std.proofs.Common.{◌≡◌, ℕ, ◌+◌, ◌<◌, ◌≤◌, Bool, true, false, cond, not, ◌&&◌, ◌||◌, ◌==◌, List, [], ◌∷◌, ◌++◌, filter, take, get_or, length, nat_lt, refl, sym, ap, ◌∙◌, arith, inl, inr}
+use Rattle.std.proofs.Common.{◌≡◌, ℕ, ◌+◌, ◌<◌, Bool, true, false, cond, not, ◌&&◌, ◌||◌, ◌==◌, List, [], ◌∷◌, ◌++◌, filter, take, get_or, length, nat_lt, refl, sym, ap, ◌∙◌, arith}
 use Rattle.std.specs.List.{list_any}
 use Rattle.std.proofs.Math.Bool.{and_comm}
-use Rattle.std.proofs.lemmas.Bool.{and_from, and_parts, and_right, both_ways, cases_lt, false_from_ne_true, lt-ltb, ltb-true}
+use Rattle.std.proofs.lemmas.Bool.{and_from, and_parts, both_ways, lt-ltb, ltb-true}
 use Rattle.std.proofs.lemmas.List.{map-append, take_more}
 use Rattle.std.proofs.lemmas.List.Elements.{filter-append}
 use Rattle.dcsp_defs.specs.declared.nogood.Pair.{Pair}
 use Rattle.dcsp_defs.specs.Pairs.{IsRising as PairsRise}
 use Rattle.dcsp_defs.specs.Words.{In, below}
 use Rattle.dcsp_defs.specs.Csp.{names}
-use Rattle.abt_defs.specs.Agents.{is_among, Add_link}
+use Rattle.abt_defs.specs.Agents.{is_among, AddLink}
 use Rattle.abt_defs.specs.Steps.{is_named, to_each}
-use Rattle.abt_agent.specs.Asks.{is_unlinked, unlinked_names, AreLinkedBefore}
-use Rattle.abt_reason.specs.Marks.{has_mark}
+use Rattle.abt_marks.specs.Links.{is_unlinked}
+use Rattle.abt_agent.specs.Asks.{unlinked_names}
+use Rattle.abt_marks.specs.Marks.{has_mark}
 use Rattle.abt_agent.proofs.Causes.{any-map}
 use Rattle.abt_agent.proofs.Proper.{names_rise}
-use Rattle.abt_agent.proofs.Members.{list_any-In, among_In, among-filter, In-filtered}
-use Rattle.abt_agent.proofs.Rising.{filter_is, part_rises}
+use Rattle.abt_parts.proofs.Members.{list_any-In, among_In, among-filter, In-filtered}
+use Rattle.abt_parts.proofs.Insertion.{part_rises}
+use Rattle.abt_agent.proofs.Rising.{filter_is}
 
 -- those that the pairs name are the agents that the definitions ask
 pub asked_is : (linked : List Bool) (me : ℕ) (pairs : List Pair) → length linked ≡ me → PairsRise pairs
@@ -38,23 +40,23 @@ asked_is linked me pairs size up =
         ∙ ap (λ b. is_unlinked linked v && b) (sym (any-map (λ x. v == x) (λ (y : Pair). y.var) pairs))
         ∙ sym (among-filter (is_unlinked linked) v (names pairs))
 
-one_asked : (linked : List Bool) (y : Pair) → to_each Add_link (unlinked_names linked (y ∷ [])) ≡ cond (is_unlinked linked y.var) ((y.var, Add_link) ∷ []) []
+one_asked : (linked : List Bool) (y : Pair) → to_each AddLink (unlinked_names linked (y ∷ [])) ≡ cond (is_unlinked linked y.var) ((y.var, AddLink) ∷ []) []
 one_asked linked y = by_test (is_unlinked linked y.var)
   where
-    by_test : (b : Bool) → to_each Add_link (cond b (y.var ∷ []) []) ≡ cond b ((y.var, Add_link) ∷ []) []
+    by_test : (b : Bool) → to_each AddLink (cond b (y.var ∷ []) []) ≡ cond b ((y.var, AddLink) ∷ []) []
     by_test true = refl
     by_test false = refl
 
 -- one pair more
 pub asked_more : (linked : List Bool) (pairs : List Pair) (k : ℕ) (d : Pair) → k < length pairs
-    → to_each Add_link (unlinked_names linked (take (k + 1) pairs)) ≡ to_each Add_link (unlinked_names linked (take k pairs)) ++ cond (is_unlinked linked (get_or pairs k d).var) (((get_or pairs k d).var, Add_link) ∷ []) []
+    → to_each AddLink (unlinked_names linked (take (k + 1) pairs)) ≡ to_each AddLink (unlinked_names linked (take k pairs)) ++ cond (is_unlinked linked (get_or pairs k d).var) (((get_or pairs k d).var, AddLink) ∷ []) []
 asked_more linked pairs k d within =
     let y = get_or pairs k d in
-    ap (λ z. to_each Add_link (unlinked_names linked z)) (take_more pairs k d within)
-    ∙ ap (λ z. to_each Add_link (filter (is_unlinked linked) z)) (map-append (λ (z : Pair). z.var) (take k pairs) (y ∷ []))
-    ∙ ap (to_each Add_link) (filter-append (is_unlinked linked) (names (take k pairs)) (names (y ∷ [])))
-    ∙ map-append (λ (j : ℕ). (j, Add_link)) (unlinked_names linked (take k pairs)) (unlinked_names linked (y ∷ []))
-    ∙ ap (λ z. to_each Add_link (unlinked_names linked (take k pairs)) ++ z) (one_asked linked y)
+    ap (λ z. to_each AddLink (unlinked_names linked z)) (take_more pairs k d within)
+    ∙ ap (λ z. to_each AddLink (filter (is_unlinked linked) z)) (map-append (λ (z : Pair). z.var) (take k pairs) (y ∷ []))
+    ∙ ap (to_each AddLink) (filter-append (is_unlinked linked) (names (take k pairs)) (names (y ∷ [])))
+    ∙ map-append (λ (j : ℕ). (j, AddLink)) (unlinked_names linked (take k pairs)) (unlinked_names linked (y ∷ []))
+    ∙ ap (λ z. to_each AddLink (unlinked_names linked (take k pairs)) ++ z) (one_asked linked y)
 
 -- where none that the pairs name is unlinked, none is asked
 pub none_asked : (linked : List Bool) (ks : List ℕ) → list_any (is_unlinked linked) ks ≡ false → filter (is_unlinked linked) ks ≡ []
@@ -79,18 +81,3 @@ none_marked linked me pairs size none k = by_tests (has_mark linked k) (nat_lt k
     by_tests false false named h = refl
     by_tests false true false h = refl
     by_tests false true true h = absurd (h refl refl refl)
-
--- where each agent with a place is marked, none is unlinked
-pub none_unlinked : (linked : List Bool) (end : ℕ) → AreLinkedBefore end linked → length linked ≤ end → (ks : List ℕ) → list_any (is_unlinked linked) ks ≡ false
-none_unlinked linked end all size [] = refl
-none_unlinked linked end all size (k ∷ ks) = ap (λ b. b || list_any (is_unlinked linked) ks) (elim (cases_lt k (length linked)) [
-  | inl within ↦ ap (λ b. nat_lt k (length linked) && not b) (all.marked k (omega (arith, size, within))) ∙ and_right (nat_lt k (length linked)) false refl
-  | inr past ↦ ap (λ b. b && not (has_mark linked k)) (false_from_ne_true (nat_lt k (length linked)) (λ e. let low = ltb-true k (length linked) e in omega (arith, low, past)))
-]) ∙ none_unlinked linked end all size ks
-
--- marks that are added leave the marked ones
-pub still_linked : (end : ℕ) (old new : List Bool) (more : ℕ → Bool) → length new ≡ length old → ((k : ℕ) → has_mark new k ≡ (has_mark old k || more k)) → AreLinkedBefore end old → AreLinkedBefore end new
-still_linked end old new more size marks all = record {
-  within = let fits = all.within in omega (arith, size, fits);
-  marked = λ k l. marks k ∙ ap (λ b. b || more k) (all.marked k l);
-}

@@ -5,8 +5,8 @@ use Rattle.std.proofs.lemmas.Bool.Decides.{nat_tests}
 use Rattle.std.proofs.lemmas.List.{append-nil}
 use Rattle.std.proofs.lemmas.List.Elements.{filter-append, filter_map-append}
 use Rattle.dcsp_defs.specs.Words.{below}
-use Rattle.abt_reason.specs.Marks.{has_mark}
-use Rattle.abt_agent.proofs.Lists.{one}
+use Rattle.abt_marks.specs.Marks.{has_mark}
+use Rattle.abt_parts.proofs.Lists.{one}
 
 -- two tests that agree on the numbers below one
 pub filter_below : (p q : ℕ → Bool) (n : ℕ) → ((k : ℕ) → k < n → p k ≡ q k) → filter p (below n) ≡ filter q (below n)

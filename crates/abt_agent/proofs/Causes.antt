@@ -33,7 +33,7 @@ use Rattle.abt_reason.proofs.FirstLaws.{first_alike}
 use Rattle.abt_agent.specs.declared.search.Cause.{Cause}
 use Rattle.abt_agent.specs.declared.search.Cause.TheVariants.{OwnedRule, KeptNogood}
 use Rattle.abt_agent.specs.Causes.{first_rule, first_kept, cause_for, causes_for, least_free, item_at, no_record, IsCause, blames_one, blames, told_of}
-use Rattle.abt_agent.proofs.Lists.{one, plain-with_stamps, map_below, mapped_filter}
+use Rattle.abt_parts.proofs.Lists.{one, plain-with_stamps, map_below, mapped_filter}
 
 -- ---- one item after another
 

@@ -15,7 +15,7 @@ use Rattle.abt_defs.specs.Checks as counts
 use Rattle.abt_defs.specs.Checks.{up_to, is_decided, checked, constraint_checks, nogood_checks, no_checks, checks_of_values}
 use Rattle.abt_reason.specs.Firsts.{IsFirst}
 use Rattle.abt_reason.specs.Causes.{is_false, known_at, value_at}
-use Rattle.abt_reason.specs.Checked.{sum_of}
+use Rattle.abt_parts.specs.Checked.{sum_of}
 use Rattle.abt_agent.specs.Examined.{checks_but, AreLookedAt}
 use Rattle.abt_agent.proofs.Causes.{owned_are}
 

@@ -2,8 +2,6 @@
 use Rattle.std.proofs.Common.{◌≡◌, ◌≢◌, ◌==◌, ℕ, zero, suc, ◌+◌, ◌<◌, Bool, true, false, cond, not, ◌&&◌, ◌||◌, List, [], ◌∷◌, length, take, drop, get_or, Some, ℤ, nat_lt, int_eq, inl, inr, refl, sym, ap, subst, ◌∙◌, arith}
 use Rattle.std.proofs.Math.Bool.{and-true}
 use Rattle.std.proofs.lemmas.Bool.{ne_eqb}
-use Rattle.std.proofs.lemmas.List.{take_more}
-use Rattle.std.proofs.lemmas.List.Folds.{list_all-append}
 use Rattle.std.proofs.lemmas.Bool.Decides.{eqb_tells, Decides-ltb, Decides-int_eq}
 use Rattle.dcsp_defs.specs.declared.nogood.Pair.{Pair}
 use Rattle.dcsp_defs.specs.Pairs.{no_pair, pair_of, IsRising as PairsRise}
@@ -12,8 +10,8 @@ use Rattle.dcsp_defs.specs.Csp.{names}
 use Rattle.abt_defs.specs.Agents.{Agent, Stamped, StampedNogood, known, value_in}
 use Rattle.abt_defs.specs.Steps.{is_newer, is_news, forget, learn, learn_all, fits}
 use Rattle.abt_parts.specs.Messages.{with_stamps}
-use Rattle.abt_agent.proofs.Lists.{stamps_step}
-use Rattle.abt_agent.proofs.Members.{In-get_or, In-map}
+use Rattle.abt_parts.proofs.Lists.{stamps_step}
+use Rattle.abt_parts.proofs.Members.{In-get_or, In-map}
 use Rattle.abt_agent.proofs.Proper.{names_rise}
 
 -- what a variable is told leaves the view at the others
@@ -88,12 +86,6 @@ learn_next me place pairs stamps v a b l many value learnt =
     let rest = with_stamps (drop (place + 1) pairs) (drop (place + 1) stamps) in
     ap (learn_all me rest) (learnt ∙ ap (λ (z : ℤ). cond (nat_lt x.var me) (learn x.var (record { value = z; stamp = s }) a) a) value)
     ∙ ap (λ z. learn_all me z a) (sym (stamps_step pairs stamps place no_pair l many))
-
--- one pair more of a nogood, of which nothing is learned
-pub fits_one_more : (me place : ℕ) (pairs : List Pair) (a : Agent) → place < length pairs
-    → fits me (take (place + 1) pairs) a ≡ (fits me (take place pairs) a && fits me (get_or pairs place no_pair ∷ []) a)
-fits_one_more me place pairs a within =
-    ap (λ z. fits me z a) (take_more pairs place no_pair within) ∙ list_all-append (λ (y : Pair). not (nat_lt y.var me) || is_value (known a y.var) y.value) (take place pairs) (get_or pairs place no_pair ∷ [])
 
 no_news : (me k : ℕ) (s : Stamped) (rest : StampedNogood) (a : Agent) → (is_news me rest a ≡ false → learn_all me rest a ≡ a) → is_news me ((k, s) ∷ rest) a ≡ false → learn_all me ((k, s) ∷ rest) a ≡ a
 no_news me k s rest a later = by (nat_lt k me) (is_newer (a.view k) s.stamp)

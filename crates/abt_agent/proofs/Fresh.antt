@@ -24,10 +24,10 @@ use Rattle.abt_agent.specs.declared.Turn.{Turn}
 use Rattle.abt_agent.specs.declared.Turn.TheVariants.{Quiet, Announced, Derived, Empty}
 use Rattle.abt_agent.specs.Turns.{IsTurn, IsFirstTurn}
 use Rattle.abt_agent.specs.Bodies.{agent_of, owner_of, IsGood, IsInStep}
-use Rattle.abt_reason.specs.Marks.{names_any}
+use Rattle.abt_marks.specs.Marks.{names_any}
 use Rattle.abt_agent.proofs.Causes.{any-map, owned_are}
-use Rattle.abt_agent.proofs.Members.{among-below, among-filter, In-filtered}
-use Rattle.abt_agent.proofs.Rising.{rising-filter_below}
+use Rattle.abt_parts.proofs.Members.{among-below, among-filter, In-filtered}
+use Rattle.abt_parts.proofs.Insertion.{rising-filter_below}
 
 -- ---- which agents share
 

@@ -10,8 +10,8 @@ use Rattle.abt_defs.specs.Agents.{View, Stamped, plain}
 use Rattle.abt_defs.specs.Reasons.{pair_at}
 use Rattle.abt_parts.specs.Messages.{with_stamps}
 use Rattle.abt_agent.specs.Causes.{told_of}
-use Rattle.abt_agent.proofs.Lists.{plain-with_stamps}
-use Rattle.abt_agent.proofs.Rising.{rising-filter_below}
+use Rattle.abt_parts.proofs.Lists.{plain-with_stamps}
+use Rattle.abt_parts.proofs.Insertion.{rising-filter_below}
 
 -- pairs of some of these agents, which rise
 record RiseAmong (pairs : List Pair) (agents : List ℕ) : Type 0 where

@@ -11,8 +11,8 @@ use Rattle.dcsp_defs.specs.Csp.{Csp}
 use Rattle.dcsp_rule.specs.Problems.{csp_of}
 use Rattle.abt_parts.specs.declared.message.Sent.{Sent}
 use Rattle.abt_parts.specs.Messages.{with_stamps}
-use Rattle.abt_agent.specs.Outgoing.{Posts}
-use Rattle.abt_agent.proofs.Posting.{posts_none}
+use Rattle.abt_parts.specs.Outgoing.{Posts}
+use Rattle.abt_parts.proofs.Posting.{posts_none}
 use Rattle.abt_parts.specs.Views.{view_of}
 use Rattle.abt_parts.specs.Stores.{records_of}
 use Rattle.abt_agent.specs.declared.body.AgentBody.{AgentBody}

@@ -2,7 +2,7 @@
 use Rattle.std.proofs.Common.{◌≡◌, ℕ, ◌<◌, List, length, sym, ap, subst, ◌∙◌}
 use Rattle.dcsp_defs.specs.declared.nogood.Pair.{Pair}
 use Rattle.dcsp_defs.specs.Words.{In}
-use Rattle.abt_defs.specs.Agents.{Agent, Record, StampedNogood, plain, Add_link}
+use Rattle.abt_defs.specs.Agents.{Agent, Record, StampedNogood, plain, AddLink}
 use Rattle.abt_defs.specs.Steps as steps
 use Rattle.law_agent.specs.OneAgent.{Proper, Sound}
 use Rattle.law_agent.specs.Staying.{OnlyLearns}
@@ -12,8 +12,8 @@ use Rattle.abt_parts.specs.Messages.{with_stamps}
 use Rattle.abt_agent.specs.declared.knowledge.Knowledge.{Knowledge}
 use Rattle.abt_agent.specs.declared.body.AgentBody.{AgentBody}
 use Rattle.abt_agent.specs.Bodies.{owner_of, IsInStep, IsSized}
-use Rattle.abt_agent.specs.Outgoing.{Posts}
-use Rattle.abt_agent.proofs.Lists.{plain-with_stamps}
+use Rattle.abt_parts.specs.Outgoing.{Posts}
+use Rattle.abt_parts.proofs.Lists.{plain-with_stamps}
 
 -- the nogoods that are left after asking and learning are proper
 pub left_proper : ((i : ℕ) (a : Agent) → OnlyLearns i a) → (p : Contents) (me : ℕ) (pairs : List Pair) (ys : StampedNogood) (a c : Agent) → Sound (csp_of p) me a → c ≡ steps.learn_all me ys (steps.ask me pairs a)
@@ -30,10 +30,10 @@ heeded me step nogood ps qs stamps a b c d p q asked learnt kept =
     kept ∙ ap (λ z. steps.keep me (record { step = step; pairs = z }) c) n ∙ ap (steps.keep me (record { step = step; pairs = plain (with_stamps nogood stamps) })) (c' ∙ ap (steps.learn_all me (with_stamps nogood stamps)) b')
 
 pub asked_for : (me : ℕ) (nogood ps : List Pair) (stamps : List ℕ) (a : Agent) (out went : List Sent) → ps ≡ nogood
-    → Posts out went (steps.to_each Add_link (steps.unlinked me ps a))
-    → Posts out went (steps.to_each Add_link (steps.unlinked me (plain (with_stamps nogood stamps)) a))
+    → Posts out went (steps.to_each AddLink (steps.unlinked me ps a))
+    → Posts out went (steps.to_each AddLink (steps.unlinked me (plain (with_stamps nogood stamps)) a))
 asked_for me nogood ps stamps a out went p e =
-    subst (λ z. Posts out went (steps.to_each Add_link (steps.unlinked me z a))) (p ∙ sym (plain-with_stamps nogood stamps)) e
+    subst (λ z. Posts out went (steps.to_each AddLink (steps.unlinked me z a))) (p ∙ sym (plain-with_stamps nogood stamps)) e
 
 -- what is known has changed, of the same agent
 pub sized_still : (b : AgentBody) (known : Knowledge) → IsSized b → owner_of known ≡ owner_of b.known → IsInStep known → IsSized (record b { known = known })

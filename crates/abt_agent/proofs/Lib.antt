@@ -1,7 +1,4 @@
-pub mod Lists
-pub mod Members
 pub mod Rising
-pub mod Posting
 pub mod Causes
 mod Blamed
 mod Others

@@ -14,7 +14,7 @@ use Rattle.abt_parts.specs.declared.recorded.Recorded.{Recorded}
 use Rattle.abt_parts.specs.Stores.{record_of, records_of, lowest_value, is_ruled_out}
 use Rattle.abt_reason.specs.Kept.{IsOwn}
 use Rattle.abt_agent.specs.States.{IsNogoodFor}
-use Rattle.abt_agent.proofs.Members.{In-map}
+use Rattle.abt_parts.proofs.Members.{In-map}
 
 -- the pair at the lowest place
 abbrev pub lowest_var : List Pair → Option ℕ

@@ -5,7 +5,7 @@ use Rattle.std.specs.declared.alloc.AllocError.{AllocError as Memory}
 use Rattle.dcsp_defs.specs.declared.nogood.Pair.{Pair}
 use Rattle.dcsp_defs.specs.Words.{In, update}
 use Rattle.dcsp_defs.specs.Csp.{Csp, domain}
-use Rattle.abt_defs.specs.Agents.{Agent, Message, Refuse, Stamped, plain, Add_link}
+use Rattle.abt_defs.specs.Agents.{Agent, Message, Refuse, Stamped, plain, AddLink}
 use Rattle.abt_defs.specs.Steps as steps
 use Rattle.abt_defs.specs.Steps.{Outcome}
 use Rattle.law_agent.specs.OneAgent.{Proper, Sound}
@@ -13,15 +13,15 @@ use Rattle.law_agent.specs.Staying.{AgentsStaySound, StaysSound, OnlyLearns}
 use Rattle.dcsp_rule.specs.Problems.{Contents, csp_of}
 use Rattle.abt_parts.specs.declared.message.Sent.{Sent}
 use Rattle.abt_parts.specs.Messages.{with_stamps}
-use Rattle.abt_agent.specs.Outgoing.{Posts}
-use Rattle.abt_agent.proofs.Posting.{posts_then}
+use Rattle.abt_parts.specs.Outgoing.{Posts}
+use Rattle.abt_parts.proofs.Posting.{posts_then}
 use Rattle.abt_agent.specs.declared.knowledge.Knowledge.{Knowledge}
 use Rattle.abt_agent.specs.declared.body.AgentBody.{AgentBody}
 use Rattle.abt_agent.specs.declared.Turn.{Turn}
 use Rattle.abt_agent.specs.declared.Turn.TheVariants.{Quiet, Announced, Derived, Empty}
 use Rattle.abt_agent.specs.Turns.{IsTurn}
 use Rattle.abt_agent.specs.Bodies.{agent_of, owner_of, IsSized, IsGood, Does, DoesReceive}
-use Rattle.abt_agent.proofs.Lists.{plain-with_stamps}
+use Rattle.abt_parts.proofs.Lists.{plain-with_stamps}
 
 pub ok_then : {X E : Type 0} (r : Result X E) {P Q : X → Type 0} → ((x : X) → P x → Q x) → IfOk r P → IfOk r Q
 ok_then (Ok x) f h = f x h
@@ -67,7 +67,7 @@ good_settled law number before after out went (Ok turn) h e d =
 good_settled law number before after out went (Err f) h e d = tt
 
 pub good_linked : ((p : Csp) → AgentsStaySound p) → (number from : ℕ) (before after : AgentBody) (out went : List Sent) (r : Result Turn Memory) → IsGood before → from < length before.known.problem.now.domains → owner_of after.known ≡ owner_of before.known
-    → IfOk r (λ turn. DoesReceive number from Add_link before after out went turn) → OnOk r (IsGood after)
+    → IfOk r (λ turn. DoesReceive number from AddLink before after out went turn) → OnOk r (IsGood after)
 good_linked law number from before after out went (Ok turn) h l e d =
     still_good before after (record (agent_of before) { tells = update (agent_of before).tells from true }) e d.sized d.agent ((stays before h law).linked from l)
 good_linked law number from before after out went (Err f) h l e d = tt
@@ -104,7 +104,7 @@ stays_idle before after b out went sent e f m sized = record {
 
 module _ (learns : (i : ℕ) (a : Agent) → OnlyLearns i a) (number from step : ℕ) (nogood ps : List Pair) (stamps : List ℕ) (before mid : AgentBody) (out first : List Sent)
     (p : ps ≡ nogood) (heeds : agent_of mid ≡ steps.heed before.known.me step (with_stamps nogood stamps) (agent_of before))
-    (asks : Posts out first (steps.to_each Add_link (steps.unlinked before.known.me (plain (with_stamps nogood stamps)) (agent_of before)))) where
+    (asks : Posts out first (steps.to_each AddLink (steps.unlinked before.known.me (plain (with_stamps nogood stamps)) (agent_of before)))) where
   abbrev csp : Csp
   csp = csp_of before.known.problem.now
 
@@ -118,7 +118,7 @@ module _ (learns : (i : ℕ) (a : Agent) → OnlyLearns i a) (number from step :
   heeded = steps.heed me step (with_stamps nogood stamps) a
 
   abbrev requests : List (ℕ × Message)
-  requests = steps.to_each Add_link (steps.unlinked me (plain (with_stamps nogood stamps)) a)
+  requests = steps.to_each AddLink (steps.unlinked me (plain (with_stamps nogood stamps)) a)
 
   -- what a nogood does, by whether the agent goes on waiting
   idle_is : (idle : Bool) → idle ≡ (a.waits && not (steps.is_news me (with_stamps ps stamps) a))

@@ -4,7 +4,7 @@ use Rattle.dcsp_defs.specs.declared.nogood.Pair.{Pair}
 use Rattle.dcsp_defs.specs.Words.{In}
 use Rattle.dcsp_defs.specs.Csp.{Csp, domain}
 use Rattle.dcsp_defs.specs.declared.Step.{Step}
-use Rattle.abt_defs.specs.Agents.{Agent, Stamped, Announce, Refuse}
+use Rattle.abt_defs.specs.Agents.{Agent, Stamped, Tell, Refuse}
 use Rattle.abt_defs.specs.Steps.{Outcome, settle, receive}
 use Rattle.law_agent.specs.OneAgent.{Proper}
 use Rattle.law_agent.specs.OneAgentSteps.{IsRightIfMade, MakesRightSteps}
@@ -14,7 +14,7 @@ use Rattle.abt_agent.specs.declared.Turn.TheVariants.{Quiet, Announced, Derived,
 use Rattle.abt_agent.specs.Turns.{IsTurn}
 use Rattle.law_agent.specs.Sources.{IsOfStep}
 use Rattle.abt_agent.specs.Rights.{IsRightTurn}
-use Rattle.abt_agent.proofs.Lists.{plain-with_stamps}
+use Rattle.abt_parts.proofs.Lists.{plain-with_stamps}
 
 -- ---- turns
 
@@ -28,8 +28,8 @@ module _ (p : Csp) (made : List Step) (i : ℕ) (a : Agent) (h : MakesRightSteps
   pub settle_right : IsTurn a (settle p i number a) turn → IsRightTurn p made turn
   settle_right t = turn_right p made a (settle p i number a) turn t (h.settled number)
 
-  pub told_right : (k : ℕ) (s : Stamped) → k < i → In s.value (domain p k) → IsTurn a (receive p i number a k (Announce s)) turn → IsRightTurn p made turn
-  told_right k s higher there t = turn_right p made a (receive p i number a k (Announce s)) turn t (h.told number k s higher there)
+  pub told_right : (k : ℕ) (s : Stamped) → k < i → In s.value (domain p k) → IsTurn a (receive p i number a k (Tell s)) turn → IsRightTurn p made turn
+  told_right k s higher there t = turn_right p made a (receive p i number a k (Tell s)) turn t (h.told number k s higher there)
 
   pub refused_right : (k step : ℕ) (nogood : List Pair) (stamps : List ℕ) → Proper p i nogood → IsOfStep made step nogood
       → IsTurn a (receive p i number a k (Refuse step (with_stamps nogood stamps))) turn → IsRightTurn p made turn

@@ -15,7 +15,7 @@ use Rattle.abt_parts.specs.Views.{stamped_in, told_at, view_of, Slots}
 use Rattle.abt_parts.specs.Stores.{fits}
 use Rattle.abt_reason.specs.Cached.{Cached, StandsFor, StoodBefore}
 use Rattle.abt_reason.proofs.AfterLaws.{all_left}
-use Rattle.abt_agent.specs.Outgoing.{IsStampedView}
+use Rattle.abt_parts.specs.Outgoing.{IsStampedView}
 
 module _ (old new : View) (from : ℕ) (s : Stamped) (e : new ≡ update old from (Some s)) where
   at : (k : ℕ) → new k ≡ update old from (Some s) k

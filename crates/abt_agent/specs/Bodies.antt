@@ -4,7 +4,7 @@ use Rattle.dcsp_defs.specs.declared.nogood.Pair.{Pair}
 use Rattle.dcsp_defs.specs.Words.{In, IsRising}
 use Rattle.dcsp_defs.specs.Pairs.{value_at}
 use Rattle.dcsp_defs.specs.declared.Step.{Step}
-use Rattle.abt_defs.specs.Agents.{Agent, Message, Record, Add_link, Refuse, is_among, plain, values_in}
+use Rattle.abt_defs.specs.Agents.{Agent, Message, Record, AddLink, Refuse, is_among, plain, values_in}
 use Rattle.abt_defs.specs.Steps.{Outcome, fits, is_refused, receive, settle, take_or_refuse, to_each, unlinked}
 use Rattle.law_agent.specs.OneAgent.{Proper, Sound}
 use Rattle.law_agent.specs.Sources.{AreOfSteps}
@@ -22,8 +22,8 @@ use Rattle.abt_agent.specs.declared.Turn.{Turn}
 use Rattle.abt_agent.specs.Rights.{BringsOfStep, IsRightTurn}
 use Rattle.abt_agent.specs.States.{State}
 use Rattle.abt_agent.specs.Turns.{IsTurn}
-use Rattle.abt_agent.specs.Outgoing.{IsStampedView, Posts}
-use Rattle.abt_reason.specs.Marks.{has_mark}
+use Rattle.abt_parts.specs.Outgoing.{IsStampedView, Posts}
+use Rattle.abt_marks.specs.Marks.{has_mark}
 
 -- which agent of which problem it is
 abbrev pub owner_of : Knowledge → Contents × ℕ
@@ -66,7 +66,7 @@ nogood_in recorded stamps = Refuse recorded.step (with_stamps recorded.nogood st
 
 -- the link requests that it leads to
 abbrev pub requests_for : AgentBody → Recorded → List ℕ → List (ℕ × Message)
-requests_for b recorded stamps = to_each Add_link (unlinked b.known.me (plain (with_stamps recorded.nogood stamps)) (agent_of b))
+requests_for b recorded stamps = to_each AddLink (unlinked b.known.me (plain (with_stamps recorded.nogood stamps)) (agent_of b))
 
 -- the view has a slot for each higher agent, its values are of the domains and have stamps, and the reasons are those of view and store
 pub record IsInStep (k : Knowledge) : Type 0 where

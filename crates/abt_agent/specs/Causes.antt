@@ -12,7 +12,7 @@ use Rattle.dcsp_problem.specs.Index.{owned_rules}
 use Rattle.abt_parts.specs.declared.recorded.Recorded.{Recorded}
 use Rattle.abt_parts.specs.Stores.{is_against, record_of, records_of}
 use Rattle.abt_reason.specs.Causes.{value_at}
-use Rattle.abt_reason.specs.Marks.{has_mark}
+use Rattle.abt_marks.specs.Marks.{has_mark}
 use Rattle.abt_agent.specs.declared.knowledge.Knowledge.{Knowledge}
 use Rattle.abt_agent.specs.declared.search.Cause.{Cause}
 use Rattle.abt_agent.specs.declared.search.Cause.TheVariants.{OwnedRule, KeptNogood}

@@ -1,5 +1,4 @@
 pub mod Turns
-pub mod Outgoing
 pub mod States
 pub mod Bodies
 pub mod Causes

@@ -15,9 +15,9 @@ use Rattle.abt_parts.specs.Views.{view_of, Slots}
 use Rattle.abt_parts.specs.declared.recorded.Recorded.{Recorded}
 use Rattle.abt_parts.specs.Stores.{records_of}
 use Rattle.abt_agent.specs.declared.Turn.{Turn}
-use Rattle.abt_reason.specs.Marks.{has_mark}
+use Rattle.abt_marks.specs.Marks.{has_mark}
 use Rattle.abt_agent.specs.Turns.{IsTurn}
-use Rattle.abt_agent.specs.Outgoing.{AreStampsOf, Posts}
+use Rattle.abt_parts.specs.Outgoing.{AreStampsOf, Posts}
 
 -- what the code's agent has
 pub record State : Type 0 where

@@ -15,15 +15,14 @@ ghost use Rattle.abt_parts.specs.Stores.{records_of};
 ghost use Rattle.abt_parts.specs.Messages.{message_of};
 ghost use Rattle.abt_defs.specs.Agents.{known};
 ghost use Rattle.abt_defs.specs.Checks.{checks, settles_on};
-ghost use Rattle.abt_reason.specs.Checked.{as_checks};
-ghost use Rattle.abt_agent.specs.Outgoing.{IsStamped};
+ghost use Rattle.abt_parts.specs.Checked.{as_checks};
+ghost use Rattle.abt_parts.specs.Outgoing.{IsStamped};
 ghost use Rattle.abt_parts.specs.Views.{stamped_in};
 ghost use Rattle.abt_reason.specs.Causes.{reason_for, value_at};
 
 use crate::Turn;
 use crate::body::AgentBody;
-use abt_parts::{Message, Outbox, Recorded, StampedValue};
-use abt_reason::Checks;
+use abt_parts::{Checks, Message, Outbox, Recorded, StampedValue};
 use dcsp_common::Memory;
 use dcsp_defs::Reason;
 use dcsp_problem::Problem;

@@ -2,31 +2,22 @@
 
 ghost use Rattle.std.specs.Prelude.{◌≡◌, ◌∷◌, [], OnOk, if◌then◌else◌};
 ghost use Rattle.dcsp_defs.specs.Pairs.{IsRising};
-ghost use Rattle.abt_defs.specs.Agents.{Add_link};
+ghost use Rattle.abt_defs.specs.Agents.{AddLink};
 ghost use Rattle.abt_defs.specs.Steps as steps;
-ghost use Rattle.abt_parts.specs.Messages.{message_of};
 ghost use Rattle.abt_agent.specs.Bodies.{agent_of, owner_of, IsSized};
-ghost use Rattle.abt_agent.specs.Outgoing.{IsStamped, Posts};
-ghost use Rattle.abt_agent.specs.Asks.{unlinked_names, is_unlinked};
+ghost use Rattle.abt_parts.specs.Outgoing.{Posts};
+ghost use Rattle.abt_marks.specs.Links.{is_unlinked};
+ghost use Rattle.abt_agent.specs.Asks.{unlinked_names};
 
 use crate::body::AgentBody;
-use crate::link_table::LinkTable;
-use abt_parts::{Message, Outbox, Sent};
+use abt_marks::LinkTable;
+use abt_parts::{Message, Outbox, post};
 use dcsp_common::Memory;
 use dcsp_defs::Pair;
 
-/// Sends the message.
-#[inline(always)]
-pub fn post(out: &mut Outbox, to: u32, message: Message) -> Result<(), Memory>
-    requires { IsStamped message }
-    ensures { OnOk result (Posts out.old out.new ((to, message_of message) ∷ [])) }
-{
-    out.push(Sent { to, message }).map_err(|_| Memory)
-}
-
 /// Asks the agent for a link, if it is unlinked.
 fn ask_one(linked: &LinkTable, to: u32, out: &mut Outbox) -> Result<(), Memory>
-    ensures { OnOk result (Posts out.old out.new (if is_unlinked linked.now to then (to, Add_link) ∷ [] else [])) }
+    ensures { OnOk result (Posts out.old out.new (if is_unlinked linked.now to then (to, AddLink) ∷ [] else [])) }
 {
     if !linked.is_unlinked(to) {
         return Ok(());
@@ -36,7 +27,7 @@ fn ask_one(linked: &LinkTable, to: u32, out: &mut Outbox) -> Result<(), Memory>
 
 /// Asks for a link each agent that the pairs name and that has none, rising.
 fn ask_each(linked: &LinkTable, pairs: &[Pair], out: &mut Outbox) -> Result<(), Memory>
-    ensures { OnOk result (Posts out.old out.new (steps.to_each Add_link (unlinked_names linked.now pairs.now))) }
+    ensures { OnOk result (Posts out.old out.new (steps.to_each AddLink (unlinked_names linked.now pairs.now))) }
 {
     for pair in pairs {
         ask_one(linked, pair.var, out)?;
@@ -50,7 +41,7 @@ impl<'p> AgentBody<'p> {
         requires sized { IsSized self.old }
         requires rising { IsRising pairs.now }
         ensures agent { OnOk result (agent_of self.new ≡ steps.ask self.old.known.me pairs.now (agent_of self.old)) }
-        ensures sent { OnOk result (Posts out.old out.new (steps.to_each Add_link (steps.unlinked self.old.known.me pairs.now (agent_of self.old)))) }
+        ensures sent { OnOk result (Posts out.old out.new (steps.to_each AddLink (steps.unlinked self.old.known.me pairs.now (agent_of self.old)))) }
         ensures owner { owner_of self.new.known ≡ owner_of self.old.known }
         ensures sized { OnOk result (IsSized self.new) }
     {

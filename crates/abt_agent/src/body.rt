@@ -8,8 +8,7 @@ ghost use Rattle.dcsp_rule.specs.Problems.{csp_of};
 ghost use Rattle.abt_agent.specs.Bodies.{agent_of, owner_of, IsGood};
 
 use crate::knowledge::Knowledge;
-use crate::link_table::LinkTable;
-use abt_reason::named_by;
+use abt_marks::{LinkTable, named_by};
 use dcsp_common::Memory;
 use dcsp_problem::Problem;
 use dcsp_row::Row;

@@ -8,12 +8,12 @@ ghost use Rattle.dcsp_problem.specs.Index.{owned_rules};
 ghost use Rattle.abt_defs.specs.Checks.{checks, constraint_checks, nogood_checks};
 ghost use Rattle.abt_parts.specs.Stores.{records_of};
 ghost use Rattle.abt_agent.specs.Bodies.{IsInStep};
-ghost use Rattle.abt_reason.specs.Checked.{as_checks, sum_of};
+ghost use Rattle.abt_parts.specs.Checked.{as_checks, sum_of};
 ghost use Rattle.abt_agent.specs.Causes.{own_value, told_to};
 ghost use Rattle.abt_agent.specs.Examined.{is_decided_with, other_checks, AreLookedAt};
 
 use crate::knowledge::Knowledge;
-use abt_reason::Checks;
+use abt_parts::Checks;
 use dcsp_common::Memory;
 use dcsp_defs::Reason;
 
@@ -23,20 +23,7 @@ impl<'p> Knowledge<'p> {
         requires { rule < length self.now.problem.now.rules }
         ensures { (v : ℤ) → result ≡ is_decided_with self.now v rule }
     {
-        let scope = self.problem.scope(rule);
-        for place in 0..scope.len() {
-            if !self.has_value(scope[place]) {
-                return false;
-            }
-        }
-        true
-    }
-
-    /// Whether the variable is the agent's own, or has a value in the view.
-    fn has_value(&self, var: u32) -> bool
-        ensures { (v : ℤ) → result ≡ is_some (with_value self.now.me v (told_to self.now) var) }
-    {
-        var == self.me || self.view.value_of(var).is_some()
+        self.view.knows_all(self.me, self.problem.scope(rule))
     }
 
     /// How many of so many first rules that the agent owns are decided.

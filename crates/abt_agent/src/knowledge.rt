@@ -11,7 +11,7 @@ ghost use Rattle.abt_parts.specs.Views.{stamped_in, stamped_of, view_of};
 ghost use Rattle.abt_parts.specs.Stores.{is_ruled_out, lowest_value, records_of};
 ghost use Rattle.abt_agent.specs.Bodies.{owner_of, IsInStep};
 
-use abt_parts::{Recorded, StampedValue, Store, View};
+use abt_parts::{Recorded, StampedValue, Store, View, has_value, is_news};
 use abt_reason::Reasons;
 use dcsp_common::Memory;
 use dcsp_problem::Problem;
@@ -97,27 +97,5 @@ impl<'p> Knowledge<'p> {
             }
             Err(_) => Err(Memory),
         }
-    }
-}
-
-/// Whether a stamp is newer than what was told before, if something was.
-#[inline(always)]
-fn is_news(before: Option<StampedValue>, stamp: u64) -> bool
-    ensures { result ≡ steps.is_newer (stamped_in before) stamp }
-{
-    match before {
-        Some(known) => known.stamp < stamp,
-        None => true,
-    }
-}
-
-/// Whether what was told before is this value.
-#[inline(always)]
-fn has_value(before: Option<StampedValue>, value: i64) -> bool
-    ensures { result ≡ true → value_in (stamped_in before) ≡ Some value }
-{
-    match before {
-        Some(known) => known.value == value,
-        None => false,
     }
 }

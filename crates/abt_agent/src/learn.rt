@@ -12,10 +12,10 @@ ghost use Rattle.abt_parts.specs.Messages.{with_stamps};
 ghost use Rattle.abt_parts.specs.Views.{view_of, stamped_of};
 ghost use Rattle.abt_parts.specs.Stores.{is_ruled_out, lowest_value, record_of};
 ghost use Rattle.abt_agent.specs.Bodies.{agent_of, is_wanted, owner_of, AreProper, IsProper, IsSized};
-ghost use Rattle.abt_agent.specs.Outgoing.{AreStampsOf};
+ghost use Rattle.abt_parts.specs.Outgoing.{AreStampsOf};
 
 use crate::body::AgentBody;
-use abt_parts::{Recorded, StampedValue};
+use abt_parts::{Outbox, Recorded, StampedValue};
 use dcsp_common::Memory;
 use dcsp_defs::{Nogood, Pair};
 
@@ -123,27 +123,6 @@ impl<'p> AgentBody<'p> {
         Ok(fits)
     }
 
-    /// Whether the view has the pair, if its agent is higher; `None` if what is told of that is newer than the view.
-    #[inline(always)]
-    fn fits_one(&self, pair: Pair, stamp: u64) -> Option<bool>
-        ensures news { is_some result ≡ not (nat_lt pair.var self.now.known.me && steps.is_newer (view_of self.now.known.view pair.var) stamp) }
-        ensures fits { IfSome result (λ fits. fits ≡ steps.fits self.now.known.me (pair ∷ []) (agent_of self.now)) }
-    {
-        if pair.var >= self.known.me {
-            return Some(true);
-        }
-        match self.known.view.stamped_value(pair.var) {
-            None => None,
-            Some(known) => {
-                if known.stamp < stamp {
-                    None
-                } else {
-                    Some(known.value == pair.value)
-                }
-            }
-        }
-    }
-
     /// Whether the view has each pair of a higher agent; `None` if something that is told of one is newer than the
     /// view.
     fn fits_known(&self, pairs: &[Pair], stamps: &[u64]) -> Option<bool>
@@ -151,9 +130,10 @@ impl<'p> AgentBody<'p> {
         ensures news { is_some result ≡ not (steps.is_news self.now.known.me (with_stamps pairs.now stamps.now) (agent_of self.now)) }
         ensures fits { IfSome result (λ fits. fits ≡ steps.fits self.now.known.me pairs.now (agent_of self.now)) }
     {
+        let view = &self.known.view;
         let mut fits = true;
         for place in 0..pairs.len() {
-            match self.fits_one(pairs[place], stamps[place]) {
+            match view.fits(self.known.me, pairs[place], stamps[place]) {
                 None => return None,
                 Some(is_so) => fits = fits && is_so,
             }
@@ -184,17 +164,19 @@ impl<'p> AgentBody<'p> {
     }
 
     /// Keeps the nogood, if it agrees with the view, as `fits` tells, and is the first for its value of the
-    /// agent.
-    pub fn keep(&mut self, recorded: Recorded, fits: bool) -> Result<(), Memory>
+    /// agent. The room of one that is not goes back to the outbox.
+    pub fn keep(&mut self, recorded: Recorded, fits: bool, out: &mut Outbox) -> Result<(), Memory>
         requires sized { IsSized self.old }
         requires fits { fits ≡ steps.fits self.old.known.me recorded.nogood (agent_of self.old) }
         requires nogood { IsProper self.old.known.problem.now self.old.known.me recorded.nogood }
         requires kept { AreProper self.old.known.problem.now self.old.known.me self.old.known.store }
+        ensures out { out.new ≡ out.old }
         ensures agent { OnOk result (agent_of self.new ≡ steps.keep self.old.known.me (record_of recorded) (agent_of self.old)) }
         ensures owner { owner_of self.new.known ≡ owner_of self.old.known }
         ensures sized { OnOk result (IsSized self.new) }
     {
         if !self.is_wanted(&recorded.nogood, fits) {
+            out.give_back_nogood(recorded.nogood);
             return Ok(());
         }
         self.known.keep(recorded)

@@ -13,13 +13,12 @@ mod body;
 mod checks;
 mod knowledge;
 mod learn;
-mod link_table;
 mod receive;
 mod refusal;
 mod search;
 mod settle;
 
-pub use abt_reason::Checks;
+pub use abt_parts::Checks;
 pub use agent::Agent;
 pub use dcsp_common::Memory;
 pub use ngd_log::Step;

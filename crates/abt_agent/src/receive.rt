@@ -4,24 +4,22 @@ ghost use Rattle.std.specs.Prelude.{◌≡◌, ◌<◌, ◌^◌, IfOk, OnOk, ℕ
 ghost use Rattle.dcsp_defs.specs.Pairs.{IsRising as PairsRise};
 ghost use Rattle.dcsp_defs.specs.declared.Step.{Step as TheStep};
 ghost use Rattle.dcsp_defs.specs.Words.{IsRising};
-ghost use Rattle.abt_defs.specs.Agents.{fresh, is_among, Add_link, Announce, Refuse};
+ghost use Rattle.abt_defs.specs.Agents.{fresh, is_among, AddLink, Tell, Refuse};
 ghost use Rattle.abt_defs.specs.Steps as steps;
 ghost use Rattle.dcsp_rule.specs.Problems.{csp_of};
 ghost use Rattle.abt_parts.specs.Messages.{message_of, with_stamps};
 ghost use Rattle.abt_parts.specs.Views.{stamped_of};
 ghost use Rattle.abt_agent.specs.Bodies.{agent_of, nogood_in, owner_of, requests_for, DoesReceive, DoesSettle, IsGood, IsRightAfter};
 ghost use Rattle.abt_defs.specs.Checks.{settles_on};
-ghost use Rattle.abt_agent.specs.Outgoing.{IsStamped, Posts};
+ghost use Rattle.abt_parts.specs.Outgoing.{IsStamped, Posts};
 ghost use Rattle.abt_agent.specs.States.{IsFit, IsNogoodFor, IsToldBy};
 ghost use Rattle.abt_agent.specs.Turns.{IsFirstTurn};
 ghost use Rattle.abt_agent.specs.Rights.{IsRightTurn};
 
 use crate::Turn;
-use crate::ask::post;
 use crate::body::AgentBody;
-use abt_parts::{Message, Outbox, Recorded, StampedValue};
+use abt_parts::{Message, Outbox, Recorded, StampedValue, add_rising, post};
 use dcsp_common::Memory;
-use dcsp_defs::Pair;
 
 impl<'p> AgentBody<'p> {
     /// Settles before anything is told, where no step's number matters.
@@ -86,7 +84,7 @@ impl<'p> AgentBody<'p> {
         requires good { IsGood self.old }
         requires stamp { self.old.stamp < 2 ^ 62 }
         requires fit { IsToldBy self.old.known.problem.now self.old.known.me from told.value told.stamp }
-        ensures does { IfOk result (λ turn. DoesReceive number from (Announce (stamped_of told)) self.old self.new out.old out.new turn) }
+        ensures does { IfOk result (λ turn. DoesReceive number from (Tell (stamped_of told)) self.old self.new out.old out.new turn) }
         ensures owner { owner_of self.new.known ≡ owner_of self.old.known }
         ensures good { OnOk result (IsGood self.new) }
     {
@@ -134,18 +132,10 @@ impl<'p> AgentBody<'p> {
                 None => true,
             },
             Message::Refuse { nogood, stamps, .. } => {
-                !self.is_idle(nogood.pairs(), stamps.items())
+                !goes_on_waiting(self.waits, self.is_news(nogood.pairs(), stamps.items()))
             }
             Message::AddLink => false,
         }
-    }
-
-    /// Whether the agent goes on waiting when it is told this.
-    fn is_idle(&self, pairs: &[Pair], stamps: &[u64]) -> bool
-        requires { length stamps.now ≡ length pairs.now }
-        ensures { result ≡ (self.now.waits && not (steps.is_news self.now.known.me (with_stamps pairs.now stamps.now) (agent_of self.now))) }
-    {
-        goes_on_waiting(self.waits, self.is_news(pairs, stamps))
     }
 
     /// Takes in a nogood: asks for links, learns its values, and keeps it or drops it. True exactly if something that it
@@ -163,29 +153,19 @@ impl<'p> AgentBody<'p> {
         law_agent::agents_stay_sound();
         self.ask(recorded.nogood.pairs(), out)?;
         let learned = self.learn_all(recorded.nogood.pairs(), stamps)?;
-        self.keep(recorded, learned.fits)?;
+        self.keep(recorded, learned.fits, out)?;
         Ok(learned.is_news)
     }
 
-    /// What a link request does.
+    /// What a link request does: it tells the agent's value, and counts the sender among those that are told.
     fn receive_link(&mut self, from: u32, out: &mut Outbox) -> Result<Turn, Memory>
         requires good { IsGood self.old }
         requires exists { from < length self.old.known.problem.now.domains }
-        ensures does { (number : ℕ) → IfOk result (λ turn. DoesReceive number from Add_link self.old self.new out.old out.new turn) }
+        ensures does { (number : ℕ) → IfOk result (λ turn. DoesReceive number from AddLink self.old self.new out.old out.new turn) }
         ensures owner { owner_of self.new.known ≡ owner_of self.old.known }
         ensures good { OnOk result (IsGood self.new) }
     {
         law_agent::agents_stay_sound();
-        self.answer_link(from, out)
-    }
-
-    /// Tells the agent's value, and counts the sender among those that are told.
-    fn answer_link(&mut self, from: u32, out: &mut Outbox) -> Result<Turn, Memory>
-        requires good { IsGood self.old }
-        requires exists { from < length self.old.known.problem.now.domains }
-        ensures does { IfOk result (λ turn. DoesReceive 0 from Add_link self.old self.new out.old out.new turn) }
-        ensures owner { owner_of self.new.known ≡ owner_of self.old.known }
-    {
         self.tell_own(from, out)?;
         add_rising(&mut self.tells, from)?;
         Ok(Turn::Quiet)
@@ -214,42 +194,4 @@ fn goes_on_waiting(waited: bool, is_news: bool) -> bool
     ensures { result ≡ (waited && not is_news) }
 {
     waited && !is_news
-}
-
-/// Adds the agent in its place, if it is not there.
-fn add_rising(agents: &mut Vec<u32>, agent: u32) -> Result<(), Memory>
-    requires { IsRising agents.old.items }
-    ensures rising { OnOk result (IsRising agents.new.items) }
-    ensures among { OnOk result ((k : ℕ) → is_among k agents.new.items ≡ (is_among k agents.old.items || (k == agent))) }
-{
-    if is_listed(agents, agent) {
-        return Ok(());
-    }
-    let place = place_of(agents, agent);
-    match agents.insert(place, agent) {
-        Ok(()) => Ok(()),
-        Err(_) => Err(Memory),
-    }
-}
-
-/// Whether the agent is one of these.
-fn is_listed(agents: &[u32], agent: u32) -> bool
-    ensures { result ≡ is_among agent agents.now }
-{
-    agents.contains(&agent)
-}
-
-/// How many of the agents, which rise, are below this one.
-fn place_of(agents: &[u32], agent: u32) -> usize
-    requires { IsRising agents.now }
-    ensures within { result ≤ length agents.now }
-    ensures before { (k : ℕ) → k < result → slice_index_or agents.now k 0 < agent }
-    ensures after { (k : ℕ) → result ≤ k → k < length agents.now → agent ≤ slice_index_or agents.now k 0 }
-{
-    for place in 0..agents.len() {
-        if agent <= agents[place] {
-            return place;
-        }
-    }
-    agents.len()
 }

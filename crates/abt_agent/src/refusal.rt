@@ -9,16 +9,17 @@ ghost use Rattle.abt_parts.specs.Messages.{with_stamps};
 ghost use Rattle.abt_parts.specs.Stores.{records_of};
 ghost use Rattle.abt_parts.specs.Views.{stamped_in, view_of};
 ghost use Rattle.abt_agent.specs.Bodies.{AreProper, IsInStep};
-ghost use Rattle.abt_agent.specs.Outgoing.{ArePositive, AreStampsOf, IsStampedView};
+ghost use Rattle.abt_parts.specs.Outgoing.{ArePositive, AreStampsOf, IsStampedView};
 ghost use Rattle.abt_reason.specs.Cached.{AreFirstsOf};
-ghost use Rattle.abt_reason.specs.Marks.{has_mark};
+ghost use Rattle.abt_marks.specs.Marks.{has_mark};
 ghost use Rattle.dcsp_defs.specs.Csp.{domain};
 ghost use Rattle.abt_agent.specs.Causes.{all_causes, blames, blames_one, derived_by, reasons_at, item_at, told_of, AreBlamed, IsCause, NamesOther};
 
 use crate::knowledge::Knowledge;
 use crate::search::Cause;
-use abt_parts::{StampList, StampedValue};
-use abt_reason::{ValueRun, make_blank, mark, mark_pairs, mark_variables};
+use abt_marks::{make_blank, mark, mark_pairs, mark_variables};
+use abt_parts::{StampList, StampedValue, StepRoom, add_told};
+use abt_reason::ValueRun;
 use dcsp_common::Memory;
 use dcsp_defs::{Nogood, Pair, Reason, ReasonList};
 use dcsp_row::Row;
@@ -34,9 +35,11 @@ pub struct StampedStep {
 
 impl<'p> Knowledge<'p> {
     /// The step at the agent's variable that the reasons against all its values make. The row is room for
-    /// marks, whatever it has, and `spare` for stamps.
-    pub fn refuse(&self, marks: &mut Row, spare: Vec<u64>) -> Result<StampedStep, Memory>
-        requires spare { spare.items ≡ [] }
+    /// marks, whatever it has, and `room` for the step.
+    pub fn refuse(&self, marks: &mut Row, room: StepRoom) -> Result<StampedStep, Memory>
+        requires pairs { room.pairs.items ≡ [] }
+        requires stamps { room.stamps.items ≡ [] }
+        requires reasons { room.reasons.items ≡ [] }
         requires in_step { IsInStep self.now }
         requires proper { AreProper self.now.problem.now self.now.me self.now.store }
         ensures step { IfOk result (λ refusal. refusal.step ≡ step_of (csp_of self.now.problem.now) self.now.me (view_of self.now.view) (records_of self.now.store)) }
@@ -44,8 +47,13 @@ impl<'p> Knowledge<'p> {
         ensures stamped { IfOk result (λ refusal. AreStampsOf refusal.step.nogood refusal.stamps) }
     {
         make_blank(self.alloc, marks, self.me as usize)?;
-        let reasons = self.blame(marks)?;
-        let (nogood, stamps) = self.gather(marks, reasons.len(), spare)?;
+        let StepRoom {
+            pairs,
+            stamps,
+            reasons,
+        } = room;
+        let reasons = self.blame(marks, reasons)?;
+        let (nogood, stamps) = self.gather(marks, reasons.len(), pairs, stamps)?;
         let step = Step {
             variable: Some(self.me),
             nogood,
@@ -56,7 +64,8 @@ impl<'p> Knowledge<'p> {
 
     /// What a step cites against the agent's values, in order. The higher agents that this names are
     /// marked.
-    fn blame(&self, marks: &mut Row) -> Result<ReasonList, Memory>
+    fn blame(&self, marks: &mut Row, mut reasons: Vec<Reason>) -> Result<ReasonList, Memory>
+        requires empty { reasons.items ≡ [] }
         requires in_step { IsInStep self.now }
         requires proper { AreProper self.now.problem.now self.now.me self.now.store }
         requires size { length marks.old ≡ self.now.me }
@@ -65,7 +74,7 @@ impl<'p> Knowledge<'p> {
         ensures marks { OnOk result (AreBlamed self.now marks.old marks.new) }
     {
         let values = self.problem.domain(self.me).len();
-        let mut reasons = Vec::with_capacity(self.alloc, values)?;
+        reasons.reserve(values)?;
         let firsts = self.reasons.firsts();
         if firsts.len() == values {
             self.blame_counted(firsts, &mut reasons, marks);
@@ -177,15 +186,17 @@ impl<'p> Knowledge<'p> {
         &self,
         marks: &Row,
         many: usize,
+        mut pairs: Vec<Pair>,
         mut stamps: Vec<u64>,
     ) -> Result<(Nogood, StampList), Memory>
+        requires none { pairs.items ≡ [] }
         requires empty { stamps.items ≡ [] }
         requires few { length marks.now < 2 ^ 32 }
         requires stamps { IsStampedView (view_of self.now.view) }
         ensures told { IfOk result (λ basis. with_stamps basis.0 basis.1 ≡ filter_map (told_of (view_of self.now.view)) (filter (has_mark marks.now) (below (length marks.now)))) }
         ensures stamped { IfOk result (λ basis. AreStampsOf basis.0 basis.1) }
     {
-        let mut pairs = Vec::with_capacity(self.alloc, marks.len().min(many))?;
+        pairs.reserve(marks.len().min(many))?;
         let mut from = 0;
         while let Some(agent) = marks.next_marked(from) {
             let var = agent as u32;
@@ -217,46 +228,4 @@ impl<'p> Knowledge<'p> {
             Cause::KeptNogood(place) => Reason::Earlier(self.store.items()[place].step),
         }
     }
-}
-
-/// Adds the variable with what is told of it, if there is something.
-#[inline(always)]
-fn add_told(
-    pairs: &mut Vec<Pair>,
-    stamps: &mut Vec<u64>,
-    var: u32,
-    told: Option<StampedValue>,
-) -> Result<(), Memory>
-    requires size { length stamps.old.items ≡ length pairs.old.items }
-    requires positive { ArePositive stamps.old.items }
-    requires stamped { ForSome told (λ told. 0 < told.stamp) }
-    ensures told { OnOk result (with_stamps pairs.new.items stamps.new.items ≡ with_stamps pairs.old.items stamps.old.items ++ option_to_list (pair_at var (stamped_in told))) }
-    ensures size { OnOk result (length stamps.new.items ≡ length pairs.new.items) }
-    ensures positive { OnOk result (ArePositive stamps.new.items) }
-{
-    match told {
-        Some(told) => {
-            let pair = Pair {
-                var,
-                value: told.value,
-            };
-            push(pairs, pair)?;
-            push(stamps, told.stamp)?;
-            Ok(())
-        }
-        None => Ok(()),
-    }
-}
-
-/// Adds an item at the end. Most find room that was made before, and take no call.
-#[inline(always)]
-fn push<T: Drop>(items: &mut Vec<T>, item: T) -> Result<(), Memory>
-    ensures { OnOk result (items.new.items ≡ items.old.items ++ item ∷ []) }
-{
-    if items.len() < items.capacity() {
-        items.push_reserved(item);
-        return Ok(());
-    }
-    items.push(item)?;
-    Ok(())
 }

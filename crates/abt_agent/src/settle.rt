@@ -1,34 +1,18 @@
 //! Settling: an agent keeps its value, takes one, or says why it has none.
 
 ghost use Rattle.std.specs.Prelude.{◌≡◌, ◌<◌, ◌^◌, IfOk, None, OnOk};
-ghost use Rattle.abt_defs.specs.Agents.{Announce};
+ghost use Rattle.abt_defs.specs.Agents.{Tell};
 ghost use Rattle.abt_defs.specs.Steps as steps;
 ghost use Rattle.dcsp_rule.specs.Problems.{csp_of};
 ghost use Rattle.abt_parts.specs.Views.{stamped_of};
 ghost use Rattle.abt_agent.specs.Bodies.{agent_of, owner_of, Does, DoesRefuse, DoesSettle, IsGood, IsSized};
-ghost use Rattle.abt_agent.specs.Outgoing.{Posts};
+ghost use Rattle.abt_parts.specs.Outgoing.{Posts};
 
 use crate::Turn;
-use crate::ask::post;
 use crate::body::AgentBody;
 use crate::refusal::StampedStep;
-use abt_parts::{Message, Outbox, StampedValue};
+use abt_parts::{Message, Outbox, StampedValue, post, tell_all};
 use dcsp_common::Memory;
-
-/// Tells the value to each of the agents, in order.
-fn tell_all(tells: &[u32], told: StampedValue, out: &mut Outbox) -> Result<(), Memory>
-    requires { 0 < told.stamp }
-    ensures { OnOk result (Posts out.old out.new (steps.to_each (Announce (stamped_of told)) tells.now)) }
-{
-    for to in tells {
-        let message = Message::Tell {
-            value: told.value,
-            stamp: told.stamp,
-        };
-        post(out, *to, message)?;
-    }
-    Ok(())
-}
 
 impl<'p> AgentBody<'p> {
     /// Whether there is a value, and it is not ruled out.
@@ -82,13 +66,13 @@ impl<'p> AgentBody<'p> {
         ensures does { IfOk result (DoesRefuse number self.old self.new out.old out.new) }
         ensures owner { owner_of self.new.known ≡ owner_of self.old.known }
     {
-        let spare = out.spare_stamps(self.known.alloc);
-        let StampedStep { step, stamps } = self.known.refuse(&mut self.room, spare)?;
+        let room = out.step_room(self.known.alloc);
+        let StampedStep { step, stamps } = self.known.refuse(&mut self.room, room)?;
         match step.nogood.lowest() {
             None => Ok(Turn::Empty(step)),
             Some(lowest) => {
                 let message = Message::Refuse {
-                    nogood: step.nogood.copy(self.known.alloc)?,
+                    nogood: out.copy_nogood(self.known.alloc, &step.nogood)?,
                     stamps,
                     step: number,
                 };

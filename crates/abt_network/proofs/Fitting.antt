@@ -5,7 +5,7 @@ use Rattle.dcsp_defs.specs.Words.{In}
 use Rattle.dcsp_defs.specs.Csp.{IsCsp}
 use Rattle.dcsp_defs.specs.declared.Step.{Step}
 use Rattle.dcsp_defs.specs.Derivation.{step_at}
-use Rattle.abt_defs.specs.Agents.{Agent, Message, Announce, Refuse, Add_link}
+use Rattle.abt_defs.specs.Agents.{Agent, Message, Tell, Refuse, AddLink}
 use Rattle.abt_defs.specs.Steps.{receive}
 use Rattle.abt_defs.specs.Network.{Network, run, start}
 use Rattle.law_agent.proofs.Runs.{runs, started}
@@ -15,11 +15,11 @@ use Rattle.law_runs.proofs.Takes.{all_deliverable}
 use Rattle.law_runs.proofs.Joins.{reaches}
 use Rattle.dcsp_rule.specs.Problems.{Contents, csp_of}
 use Rattle.abt_parts.specs.declared.message.Message.{Message as TheMessage}
-use Rattle.abt_parts.specs.declared.message.Message.TheVariants.{Tell, Refuse as Refused, AddLink}
+use Rattle.abt_parts.specs.declared.message.Message.TheVariants as code
 use Rattle.abt_parts.specs.Messages.{message_of, with_stamps}
-use Rattle.abt_agent.specs.Outgoing.{IsStamped}
+use Rattle.abt_parts.specs.Outgoing.{IsStamped}
 use Rattle.abt_agent.specs.States.{State, stands_for, IsFit}
-use Rattle.abt_agent.proofs.Lists.{plain-with_stamps}
+use Rattle.abt_parts.proofs.Lists.{plain-with_stamps}
 use Rattle.abt_links.specs.Transit.{Transit}
 use Rattle.abt_network.specs.Standing.{state_at, Stands}
 use Rattle.abt_network.specs.Bodies.{AreStamped, IsSeated, ExpectsAll}
@@ -36,10 +36,10 @@ made steps zero s h = cc
 made steps (suc k) s h = let l = within steps k s h in omega arith
 
 fit : (p : Contents) (net : Network) (from to : ℕ) (m : TheMessage) → Deliverable (csp_of p) net → IsStamped m → In (message_of m) (net.links from to) → IsFit p to (length net.steps + 1) from m
-fit p net from to (Tell value stamp) d s u =
-    let t = d.messages from to (Announce (record { value = value; stamp = stamp })) u in
+fit p net from to (code.Tell value stamp) d s u =
+    let t = d.messages from to (Tell (record { value = value; stamp = stamp })) u in
     record { higher = t.higher; value_in = t.value_in; stamped = t.stamped }
-fit p net from to (Refused nogood stamps step) d s u =
+fit p net from to (code.Refuse nogood stamps step) d s u =
     let r = d.messages from to (Refuse step (with_stamps nogood stamps)) u in
     let same = plain-with_stamps nogood stamps in (
       record {
@@ -49,7 +49,7 @@ fit p net from to (Refused nogood stamps step) d s u =
       },
       made net.steps step r.of_step.0 r.of_step.1,
     )
-fit p net from to AddLink d s u = let a = d.messages from to Add_link u in (a.lower, a.exists)
+fit p net from to code.AddLink d s u = let a = d.messages from to AddLink u in (a.lower, a.exists)
 
 pub expects : (p : Contents) (agents : List State) (t : Transit) (steps : ℕ) (choices : List ℕ) → IsCsp (csp_of p)
     → (run (csp_of p) choices (start (csp_of p))).refuted ≡ false → (run (csp_of p) choices (start (csp_of p))).deliveries ≤ 2 ^ 48

@@ -9,7 +9,7 @@ use Rattle.abt_defs.specs.Network.{sent_to}
 use Rattle.abt_parts.specs.Messages.{message_of, messages_of, sent_of, told_sent}
 use Rattle.abt_parts.specs.declared.message.Message.{Message}
 use Rattle.abt_parts.specs.declared.message.Sent.{Sent}
-use Rattle.abt_agent.specs.Outgoing.{IsStamped}
+use Rattle.abt_parts.specs.Outgoing.{IsStamped}
 use Rattle.abt_links.specs.Transit.{Transit, link_of, Posts}
 use Rattle.abt_parts.specs.declared.message.SentTo.{SentTo}
 use Rattle.abt_network.specs.Standing.{messages_on}

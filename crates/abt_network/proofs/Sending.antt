@@ -7,7 +7,7 @@ use Rattle.abt_defs.specs.Agents as machine
 use Rattle.dcsp_rule.specs.Problems.{Contents}
 use Rattle.abt_parts.specs.declared.message.Sent.{Sent}
 use Rattle.abt_parts.specs.Messages.{messages_of, sent_of}
-use Rattle.abt_agent.specs.Outgoing.{IsStamped, Posts}
+use Rattle.abt_parts.specs.Outgoing.{IsStamped, Posts}
 use Rattle.abt_agent.specs.States.{State, IsFresh}
 use Rattle.abt_network.specs.Standing.{state_at}
 use Rattle.abt_network.specs.Bodies.{IsSeated}

@@ -7,7 +7,7 @@ use Rattle.abt_defs.specs.Network.{Network as TheNetwork, empty_network}
 use Rattle.dcsp_rule.specs.Problems.{Contents, csp_of}
 use Rattle.abt_parts.specs.declared.message.Message.{Message}
 use Rattle.abt_parts.specs.Messages.{message_of}
-use Rattle.abt_agent.specs.Outgoing.{IsStamped}
+use Rattle.abt_parts.specs.Outgoing.{IsStamped}
 use Rattle.abt_agent.specs.States.{State, stands_for, CanReceive, IsFresh}
 use Rattle.abt_links.specs.Transit.{Transit, link_of}
 use Rattle.abt_network.specs.declared.body.NetworkBody.{NetworkBody}

@@ -102,9 +102,9 @@ pub record Starts (p : Contents) (new : NetworkState) (told : Begun) : Type 0 wh
 
 -- what is told of a message
 abbrev pub cargo_in : Cargo → runs.Cargo
-cargo_in (Tell value) = runs.Value value
-cargo_in (Refuse step) = runs.Step_number step
-cargo_in AddLink = runs.Link
+cargo_in (Tell value) = runs.Tell value
+cargo_in (Refuse step) = runs.Refuse step
+cargo_in AddLink = runs.AddLink
 
 -- what is told of a delivery, but for its step
 abbrev pub delivery_of : Delivery → runs.Delivery

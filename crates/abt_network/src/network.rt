@@ -6,7 +6,7 @@ ghost use Rattle.abt_defs.specs.Network.{Network as TheNetwork, empty_network, r
 ghost use Rattle.law_agent.specs.Stores.{IsBoundedStore};
 ghost use Rattle.dcsp_rule.specs.Problems.{csp_of};
 ghost use Rattle.abt_parts.specs.Messages.{message_of};
-ghost use Rattle.abt_agent.specs.Outgoing.{IsStamped};
+ghost use Rattle.abt_parts.specs.Outgoing.{IsStamped};
 ghost use Rattle.abt_agent.specs.States.{stands_for};
 ghost use Rattle.abt_links.specs.Transit.{link_of, ready_pairs};
 ghost use Rattle.abt_network.specs.Standing.{reached, standing_in, standing_of, state_at, CanDeliver, Delivers, IsAfter, IsSeat, LeadsOn, StandsAt, Starts, TellsSent};
@@ -17,6 +17,7 @@ use abt_agent::Agent;
 use abt_parts::{Message, SentTo};
 use dcsp_common::Memory;
 use dcsp_problem::Problem;
+use ngd_log::Step;
 use std::alloc::Global;
 use std::marker::Model;
 
@@ -103,6 +104,13 @@ impl<'p> Network<'p> {
                 Err(memory)
             }
         }
+    }
+
+    /// Lets a step go, whose room later steps may take.
+    pub fn give_back(&mut self, step: Step)
+        ensures { self.new ≡ self.old }
+    {
+        self.body.out.give_back_step(step.nogood, step.reasons);
     }
 
     /// How it stands. Where a run leads to it and nothing is in transit or refuted, no agent waits, and the

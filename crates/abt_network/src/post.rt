@@ -4,7 +4,7 @@ ghost use Rattle.std.specs.Prelude.{◌≡◌, ◌<◌, ◌++◌, ℕ, List, [],
 ghost use Rattle.abt_defs.specs.Network.{sent_to};
 ghost use Rattle.abt_parts.specs.Messages.{message_of, messages_of, told_sent};
 ghost use Rattle.abt_parts.specs.declared.message.Sent.{Sent as TheSent};
-ghost use Rattle.abt_agent.specs.Outgoing.{IsStamped};
+ghost use Rattle.abt_parts.specs.Outgoing.{IsStamped};
 ghost use Rattle.abt_network.specs.Standing.{messages_on, messages_with, messages_after};
 ghost use Rattle.abt_network.specs.Bodies.{AreStamped};
 

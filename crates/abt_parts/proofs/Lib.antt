@@ -6,3 +6,7 @@ pub mod NamingLaws
 pub mod PlaceLaws
 pub mod PlacedLaws
 pub mod TakenLaws
+pub mod Lists
+pub mod Members
+pub mod Posting
+pub mod Insertion

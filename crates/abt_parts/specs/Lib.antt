@@ -3,3 +3,5 @@ pub mod Views
 pub mod Stores
 pub mod Places
 pub mod Index
+pub mod Outgoing
+pub mod Checked

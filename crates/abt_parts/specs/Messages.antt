@@ -18,9 +18,9 @@ with_stamps (pair ∷ pairs) (stamp ∷ stamps) = (pair.var, record { value = pa
 
 -- the message of the definitions
 abbrev pub message_of : Message → agents.Message
-message_of (Tell value stamp) = agents.Announce (record { value = value; stamp = stamp })
+message_of (Tell value stamp) = agents.Tell (record { value = value; stamp = stamp })
 message_of (Refuse nogood stamps step) = agents.Refuse step (with_stamps nogood stamps)
-message_of AddLink = agents.Add_link
+message_of AddLink = agents.AddLink
 
 -- the message of the definitions, with its receiver
 abbrev pub sent_of : Sent → ℕ × agents.Message
@@ -32,9 +32,9 @@ messages_of sent = map sent_of sent
 
 -- the kind of a message
 abbrev pub kind_of : agents.Message → MessageKind
-kind_of (agents.Announce told) = kinds.Tell
+kind_of (agents.Tell told) = kinds.Tell
 kind_of (agents.Refuse step pairs) = kinds.Refuse
-kind_of agents.Add_link = kinds.AddLink
+kind_of agents.AddLink = kinds.AddLink
 
 -- what is told of a message that was sent
 abbrev pub told_sent : ℕ × agents.Message → SentTo

@@ -6,16 +6,26 @@
 //! names, and forgets those that disagree with what it learns of agents above.
 #![tactic(auto)]
 
+mod checks;
+mod listed;
 mod message;
 mod naming;
 mod place_list;
 mod recorded;
+mod sending;
+mod spare;
 mod store;
 mod taken;
+mod told;
 mod view;
 
+pub use checks::Checks;
 pub use dcsp_common::Memory;
+pub use listed::add_rising;
 pub use message::{Message, MessageKind, Outbox, Sent, SentTo, StampList};
 pub use recorded::Recorded;
+pub use sending::{post, tell_all};
+pub use spare::StepRoom;
 pub use store::Store;
+pub use told::{add_told, has_value, is_news};
 pub use view::{StampedValue, View};

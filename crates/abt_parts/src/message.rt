@@ -4,11 +4,12 @@
 //! TKDE 10(5), 1998), with stamps on their values. `specs/` says which message of the definitions
 //! each of them is.
 
-ghost use Rattle.std.specs.Prelude.{◌≡◌, ◌↔◌, ◌+◌, [], ◌∷◌, ◌++◌, drop, length, slice_get, IfErr, IsTrue, OnErr, OnOk};
+ghost use Rattle.std.specs.Prelude.{◌≡◌, ◌↔◌, ◌+◌, [], ◌∷◌, ◌++◌, drop, length, slice_get, IfErr, IfOk, IsTrue, OnErr, OnOk};
 ghost use Rattle.abt_parts.specs.Messages.{kind_of, message_of, sent_of, told_sent};
 
+use crate::spare::{Spare, StepRoom, empty_list, let_go};
 use dcsp_common::{ItemList, Memory};
-use dcsp_defs::Nogood;
+use dcsp_defs::{Nogood, ReasonList};
 use std::alloc::Global;
 use std::collections::VecDeque;
 use std::marker::Model;
@@ -92,8 +93,7 @@ impl Sent {
 #[derive(Debug, Drop)]
 pub struct Outbox {
     waiting: VecDeque<Sent>,
-    /// Lists of stamps that were let go, for their room.
-    spare: Vec<StampList>,
+    spare: Spare,
 }
 
 impl Model for Outbox {
@@ -112,7 +112,7 @@ impl Outbox {
     {
         Outbox {
             waiting: VecDeque::new(alloc),
-            spare: Vec::new(alloc),
+            spare: Spare::new(alloc),
         }
     }
 
@@ -142,27 +142,47 @@ impl Outbox {
         self.waiting.pop_front()
     }
 
-    /// Lets a list of stamps go, whose room `spare_stamps` may give again.
+    /// Lets a list of stamps go, whose room may be given again.
     pub fn give_back(&mut self, stamps: StampList)
         ensures { self.new ≡ self.old }
     {
-        // Where it finds no place it is dropped.
-        let _kept = self.spare.push(stamps);
+        let_go(&mut self.spare.stamps, stamps.into_vec());
     }
 
-    /// An empty list for stamps, with the room of one that was let go, if there is one.
-    pub fn spare_stamps(&mut self, alloc: Global) -> Vec<u64>
-        ensures empty { result.items ≡ [] }
+    /// Lets a nogood go, whose room may be given again.
+    pub fn give_back_nogood(&mut self, nogood: Nogood)
+        ensures { self.new ≡ self.old }
+    {
+        let_go(&mut self.spare.pairs, nogood.into_pairs());
+    }
+
+    /// Lets the nogood and the reasons of a step go, whose room may be given again.
+    pub fn give_back_step(&mut self, nogood: Nogood, reasons: ReasonList)
+        ensures { self.new ≡ self.old }
+    {
+        let_go(&mut self.spare.pairs, nogood.into_pairs());
+        let_go(&mut self.spare.reasons, reasons.into_vec());
+    }
+
+    /// Empty lists for a step, with the room of those that were let go, where there are some.
+    pub fn step_room(&mut self, alloc: Global) -> StepRoom
+        ensures pairs { result.pairs.items ≡ [] }
+        ensures stamps { result.stamps.items ≡ [] }
+        ensures reasons { result.reasons.items ≡ [] }
         ensures messages { self.new ≡ self.old }
     {
-        match self.spare.pop() {
-            Some(stamps) => {
-                let mut room = stamps.into_vec();
-                room.clear();
-                room
-            }
-            None => Vec::new(alloc),
-        }
+        self.spare.step_room(alloc)
+    }
+
+    /// An equal nogood, in the room of one that was let go, if there is one.
+    pub fn copy_nogood(&mut self, alloc: Global, nogood: &Nogood) -> Result<Nogood, Memory>
+        ensures copy { IfOk result (λ copy. copy ≡ nogood.now) }
+        ensures messages { self.new ≡ self.old }
+    {
+        let mut pairs = empty_list(&mut self.spare.pairs, alloc);
+        pairs.extend_from_slice(nogood.pairs())?;
+        // They rise, as those of the nogood do.
+        Ok(Nogood::of_rising(pairs))
     }
 
     /// The number of messages.

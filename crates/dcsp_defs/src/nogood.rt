@@ -91,6 +91,13 @@ impl Nogood {
         Nogood { pairs }
     }
 
+    /// Its pairs as a vector, which takes no memory.
+    pub fn into_pairs(self) -> Vec<Pair>
+        ensures { result.items ≡ self }
+    {
+        self.pairs
+    }
+
     /// An equal nogood.
     pub fn copy(&self, alloc: Global) -> Result<Nogood, Memory>
         ensures { IfOk result (λ nogood. nogood ≡ self.now) }

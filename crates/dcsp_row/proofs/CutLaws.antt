@@ -195,6 +195,10 @@ module _ (rel : Rel) (line : LinearSum) (total rest coef : ℤ) (cut : Cut) (fac
       h y ∙ ap (λ r. not (stands rel r y)) is ∙ ap not (taken_once rel line.base y total)
       ∙ sym (ap (λ z. not (stands rel (line.base +ℤ z) total)) (own_product line.own x ∙ ap (λ c. c *ℤ x) (own ∙ times) ∙ turned_product factor x))
 
+-- a sum in which the coefficient is told
+pub told_coef : (rel : Rel) (line : LinearSum) (total coef : ℤ) → unwrap_or line.own (pos 0) ≡ coef → (x : ℤ) → not (stands rel (line.base +ℤ (coef *ℤ x)) total) ≡ not (stands rel (line_at line x) total)
+told_coef rel line total coef own x = sym (ap (λ z. not (stands rel (line.base +ℤ z) total)) (own_product line.own x ∙ ap (λ c. c *ℤ x) own))
+
 -- a sum without it
 pub none_off : (rel : Rel) (line : LinearSum) (total : ℤ) → unwrap_or line.own (pos 0) ≡ pos 0 → (x : ℤ) → stands rel line.base total ≡ stands rel (line_at line x) total
 none_off rel line total own x =

@@ -3,14 +3,13 @@
 //! What leads from a pair of variables to its span runs for each rule at each change of a view. It is inlined, as
 //! is what takes the span in, so that no span is copied through memory from call to call.
 
-ghost use Rattle.std.specs.Prelude.{◌≡◌, ◌<◌, ℤ, length, IfSome, IsTrue, is_some, not};
-ghost use Rattle.dcsp_defs.specs.Csp.{domain};
+ghost use Rattle.std.specs.Prelude.{◌≡◌, ◌≢◌, ◌<◌, ℤ, length, IfSome, IsTrue, is_some, not};
 ghost use Rattle.dcsp_rule.specs.Problems.{csp_of, rule_at, AreInDomains};
 ghost use Rattle.dcsp_meaning.specs.Sums.{widest};
-ghost use Rattle.dcsp_defs.specs.Csp.{filled, with_value};
+ghost use Rattle.dcsp_defs.specs.Csp.{domain, filled, with_value};
 ghost use Rattle.dcsp_rule.specs.Lent.{lent_rule};
 ghost use Rattle.dcsp_rule.specs.Rules.{has_shape};
-ghost use Rattle.dcsp_rule.specs.Pairs.{is_missed, IsSmall};
+ghost use Rattle.dcsp_rule.specs.Pairs.{compares_variable, is_missed, IsSmall};
 ghost use Rattle.dcsp_rule.specs.Widths.{rule_sizes};
 ghost use Rattle.dcsp_row.specs.Easy.{has_span, is_plain};
 ghost use Rattle.dcsp_row.specs.Tables.{values_at, IsIntTable, TellsTable};
@@ -20,12 +19,13 @@ ghost use Rattle.dcsp_row.specs.Spans.{SpansWhere};
 
 use crate::general::try_each;
 use crate::known::{OpenVariable, known_value, knows_others};
-use crate::line::{line_of, line_of_pair};
+use crate::line::{LinearSum, line_of, line_of_pair};
 use crate::row::Row;
 use crate::span::Span;
 use crate::sums::{OpenSum, fill_sum, missed_line, off_span, told_by};
 use crate::tables::{IntTable, fill_table};
 use dcsp_domain::Domain;
+use dcsp_meaning::product;
 use dcsp_problem::{BinaryRule, ConstraintKind, Lookup, Problem, RuleRef, Term};
 
 /// The values of the open variable at which the rule is violated under these and the others', as a span of
@@ -46,14 +46,30 @@ pub fn span_of<L: Lookup>(
     if let Some(pair) = problem.pair(rule) {
         return Some(span_of_pair(pair, problem.domain(open_var.var), open_var));
     }
+    span_of_other(problem, rule, open_var.var, open_var.lookup)
+}
+
+/// The same of a rule that is no pair. It takes the open variable by value, so that it stands in no memory where a rule
+/// is a pair.
+#[inline(never)]
+fn span_of_other<L: Lookup>(problem: &Problem, rule: u32, var: u32, lookup: &L) -> Option<Span>
+    requires rule { rule < length problem.now.rules }
+    requires var { var < length problem.now.domains }
+    requires known { AreInDomains (csp_of problem.now) (L.values lookup.now) }
+    requires compares { IsTrue (not (compares_variable (rule_at problem.now rule))) }
+    ensures span { IfSome result (SpansWhere (is_ruled_out problem.now rule var (L.values lookup.now)) (domain (csp_of problem.now) var)) }
+    ensures some { IsTrue (has_span var (rule_at problem.now rule)) → IsTrue (is_some result) }
+{
+    let _variables = problem.vars();
+    let open_var = OpenVariable { var, lookup };
     let scope = problem.scope(rule);
-    if !knows_others(scope, open_var) {
+    if !knows_others(scope, &open_var) {
         return Some(Span::whole(false));
     }
     if scope.is_empty() {
-        return Some(Span::whole(problem.violated_within(rule, open_var.lookup)));
+        return Some(Span::whole(problem.violated_within(rule, lookup)));
     }
-    span_of_sum(problem.rule(rule), problem.domain(open_var.var), open_var)
+    span_of_sum(problem.rule(rule), problem.domain(var), &open_var)
 }
 
 /// The values at which both of the pair's variables are known, and it is false.
@@ -66,10 +82,35 @@ fn span_of_pair<L: Lookup>(
     requires { IsSmall pair }
     ensures { SpansWhere (λ x. is_missed pair (with_value open_var.now.var x (L.values open_var.now.lookup.now))) domain.now result }
 {
+    if pair.second == open_var.var && pair.first != open_var.var {
+        return span_of_second(pair, domain, open_var);
+    }
     match line_of_pair(pair, open_var) {
         Some(line) => missed_line(pair.rel, line, pair.total, domain),
         None => Span::whole(false),
     }
+}
+
+/// The same where the second variable alone is the open one, as in most rules of agents.
+#[inline(always)]
+fn span_of_second<L: Lookup>(
+    pair: BinaryRule,
+    domain: &Domain,
+    open_var: &OpenVariable<'_, L>,
+) -> Span
+    requires small { IsSmall pair }
+    requires second { pair.second ≡ open_var.now.var }
+    requires first { pair.first ≢ open_var.now.var }
+    ensures { SpansWhere (λ x. is_missed pair (with_value open_var.now.var x (L.values open_var.now.lookup.now))) domain.now result }
+{
+    let Some(value) = open_var.lookup.value_of(pair.first) else {
+        return Span::whole(false);
+    };
+    let line = LinearSum {
+        base: product(pair.first_coef, value),
+        own: Some(pair.second_coef),
+    };
+    missed_line(pair.rel, line, pair.total, domain)
 }
 
 /// The values at which the rule is false, if it is a sum with the variable in one of its terms at most.
@@ -168,13 +209,10 @@ fn told_table<L: Lookup>(
 {
     match kind {
         ConstraintKind::FznTableInt => Some(true),
-        ConstraintKind::FznTableIntReif => match scalars.last() {
-            None => None,
-            Some(truth) => match known_value(*truth, open_var) {
-                None => None,
-                Some(value) => Some(value == 1),
-            },
-        },
+        ConstraintKind::FznTableIntReif => {
+            let truth = scalars.last()?;
+            Some(known_value(*truth, open_var)? == 1)
+        }
         _ => None,
     }
 }
@@ -196,13 +234,11 @@ fn fill_linear<L: Lookup>(
     if domain.is_empty() {
         return false;
     }
-    match open_sum(rule, domain, open_var) {
-        None => false,
-        Some(opened) => {
-            fill_sum(opened, domain, row);
-            true
-        }
-    }
+    let Some(opened) = open_sum(rule, domain, open_var) else {
+        return false;
+    };
+    fill_sum(opened, domain, row);
+    true
 }
 
 /// The sum with the variable open, if the rule is one with the variable in one of its terms at most.

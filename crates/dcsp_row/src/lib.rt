@@ -14,7 +14,6 @@ mod row;
 mod span;
 mod sums;
 mod tables;
-mod word;
 
 pub use easy::has_span;
 pub use fill::{fill_row, span_of};

@@ -6,7 +6,7 @@ ghost use Rattle.dcsp_row.specs.Marks.{has_room_for, is_marked, is_row, FitsSize
 
 use crate::row::Row;
 use crate::span::Span;
-use crate::word::{BLOCK, first_bit, next_bit, within};
+use dcsp_common::word::{BLOCK, first_bit, next_bit, within};
 
 /// Which places are marked: those of a span, or those of a row.
 #[derive(Drop)]

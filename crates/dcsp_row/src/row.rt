@@ -6,8 +6,8 @@ ghost use Rattle.dcsp_row.specs.Bits.{has_bit};
 ghost use Rattle.dcsp_row.specs.Spans.{is_within};
 
 use crate::span::Span;
-use crate::word::{BLOCK, first_bit, next_bit, with_bit, within};
 use dcsp_common::Memory;
+use dcsp_common::word::{BLOCK, first_bit, next_bit, with_bit, within};
 use std::alloc::Global;
 use std::marker::Model;
 

@@ -4,7 +4,7 @@ ghost use Rattle.std.specs.Prelude.{◌≡◌, ◌≢◌, ◌<◌, ◌≤◌, �
 ghost use Rattle.std.specs.Int.{bit_at};
 ghost use Rattle.dcsp_row.specs.Spans.{is_between, is_within};
 
-use crate::word::low_word;
+use dcsp_common::word::low_word;
 
 /// The places from one on that stand before another, or all others.
 #[derive(Clone, Copy, Debug, PartialEq, Eq)]

@@ -1,6 +1,6 @@
 //! Rows of sums.
 
-ghost use Rattle.std.specs.Prelude.{◌≡◌, ◌<◌, ◌≤◌, ◌^◌, ℤ, Some, IfSome, IsTrue, is_some, length, not, unsigned_abs, unwrap_or};
+ghost use Rattle.std.specs.Prelude.{◌≡◌, ◌+ℤ◌, ◌*ℤ◌, ◌<◌, ◌≤◌, ◌^◌, ℤ, Some, IfSome, IsTrue, is_some, length, not, unsigned_abs, unwrap_or};
 ghost use Rattle.std.specs.Option.{option_map};
 ghost use Rattle.dcsp_meaning.specs.Sums.{stands, widest};
 ghost use Rattle.dcsp_defs.specs.Csp.{filled, with_value};
@@ -78,13 +78,43 @@ pub fn missed_line(rel: Rel, line: LinearSum, total: i128, domain: &Domain) -> S
     ensures { SpansWhere (λ x. not (stands rel (line_at line x) total)) domain.now result }
 {
     let coef = line.own.unwrap_or(0);
+    match rel {
+        Rel::Differ => missed_apart(line.base, coef, total, domain),
+        _ => missed_with(rel, line.base, coef, total, domain),
+    }
+}
+
+/// The same where the sum has to differ from the total. Most coefficients are 1 or -1: the rest is then compiled for these.
+#[inline(always)]
+fn missed_apart(base: i128, coef: i64, total: i128, domain: &Domain) -> Span
+    requires base { unsigned_abs base ≤ widest }
+    requires total { unsigned_abs total ≤ 2 ^ 65 }
+    ensures { SpansWhere (λ x. not (stands Rel.Differ (base +ℤ (coef *ℤ x)) total)) domain.now result }
+{
+    if coef == 1 {
+        return missed_with(Rel::Differ, base, 1, total, domain);
+    }
+    if coef == -1 {
+        return missed_with(Rel::Differ, base, -1, total, domain);
+    }
+    missed_with(Rel::Differ, base, coef, total, domain)
+}
+
+/// The places of those of these values whose product with the coefficient, added to the base, does not stand so to the
+/// total.
+#[inline(always)]
+fn missed_with(rel: Rel, base: i128, coef: i64, total: i128, domain: &Domain) -> Span
+    requires base { unsigned_abs base ≤ widest }
+    requires total { unsigned_abs total ≤ 2 ^ 65 }
+    ensures { SpansWhere (λ x. not (stands rel (base +ℤ (coef *ℤ x)) total)) domain.now result }
+{
     let factor = coef.unsigned_abs();
     if coef > 0 {
-        product_span(missed_before(rel, total - line.base), factor, domain)
+        product_span(missed_before(rel, total - base), factor, domain)
     } else if coef < 0 {
-        product_span(missed_after(rel, line.base - total), factor, domain)
+        product_span(missed_after(rel, base - total), factor, domain)
     } else {
-        Span::whole(!rel.holds(line.base, total))
+        Span::whole(!rel.holds(base, total))
     }
 }
 

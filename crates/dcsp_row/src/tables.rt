@@ -27,15 +27,10 @@ pub enum Fit {
 fn fit_of(x: Option<i64>, y: Option<i64>) -> Fit
     ensures { (value : ℤ) → fits result value ≡ int_eq (unwrap_or x value) (unwrap_or y value) }
 {
-    match x {
-        None => match y {
-            None => Fit::Always,
-            Some(y) => Fit::At(y),
-        },
-        Some(x) => match y {
-            None => Fit::At(x),
-            Some(y) => { if x == y { Fit::Always } else { Fit::Never } }
-        },
+    match (x, y) {
+        (None, None) => Fit::Always,
+        (None, Some(value)) | (Some(value), None) => Fit::At(value),
+        (Some(x), Some(y)) => { if x == y { Fit::Always } else { Fit::Never } }
     }
 }
 
@@ -43,14 +38,10 @@ fn fit_of(x: Option<i64>, y: Option<i64>) -> Fit
 fn both(a: Fit, b: Fit) -> Fit
     ensures { (value : ℤ) → fits result value ≡ (fits a value && fits b value) }
 {
-    match a {
-        Fit::Always => b,
-        Fit::Never => Fit::Never,
-        Fit::At(x) => match b {
-            Fit::Always => a,
-            Fit::Never => Fit::Never,
-            Fit::At(y) => { if x == y { a } else { Fit::Never } }
-        },
+    match (a, b) {
+        (Fit::Always, fit) | (fit, Fit::Always) => fit,
+        (Fit::Never, _) | (_, Fit::Never) => Fit::Never,
+        (Fit::At(x), Fit::At(y)) => { if x == y { a } else { Fit::Never } }
     }
 }
 

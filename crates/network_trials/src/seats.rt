@@ -6,7 +6,7 @@ ghost use Rattle.dcsp_defs.specs.declared.nogood.Pair.{Pair as ThePair};
 ghost use Rattle.dcsp_defs.specs.Words.{In};
 ghost use Rattle.dcsp_defs.specs.Csp.{domain};
 ghost use Rattle.dcsp_rule.specs.Problems.{csp_of};
-ghost use Rattle.abt_agent.specs.Outgoing.{ArePositive};
+ghost use Rattle.abt_parts.specs.Outgoing.{ArePositive};
 ghost use Rattle.abt_agent.specs.States.{IsFit, IsNogoodFor, IsToldBy};
 
 use abt_agent::{Agent, Turn};

@@ -5,7 +5,7 @@ use Rattle.dcsp_defs.specs.Words.{below}
 use Rattle.dcsp_rule.specs.Problems.{csp_of}
 use Rattle.dcsp_problem.specs.Index.{owned_rules}
 use Rattle.abt_defs.specs.Agents.{shares}
-use Rattle.abt_reason.specs.Marks.{names_any}
+use Rattle.abt_marks.specs.Marks.{names_any}
 use Rattle.abt_agent.proofs.Fresh.{shares_is}
 use Rattle.abt_agent.proofs.body.first_linked.Goals as goal
 

@@ -1,40 +1,22 @@
-use Rattle.std.proofs.Common.{◌≡◌, ◌∙◌, ap, sym, refl, not, pos, neg_ℤ, ◌-ℤ◌, arith, rules, SFits}
+use Rattle.std.proofs.Common.{◌≡◌, ◌∙◌, ap, sym, not, ◌+ℤ◌, ◌*ℤ◌, rules, w64, SFits}
 use Rattle.std.specs.Int.{w128}
-use Rattle.std.proofs.lemmas.Int.{ints, to_z-of_z}
+use Rattle.std.proofs.lemmas.Int.{to_z-of_z}
+use Rattle.dcsp_meaning.specs.Sums.{stands}
 use Rattle.dcsp_row.specs.Rows.{own_at}
-use Rattle.dcsp_row.proofs.CutLaws.{added_off, taken_off, none_off}
+use Rattle.dcsp_row.proofs.CutLaws.{told_coef}
 use Rattle.dcsp_row.proofs.sums.missed_line.Goals as goal
 
-pub returns-then-coef-gt0 : goal.returns-then-coef-gt0
-returns-then-coef-gt0 c = λ k l.
-    let base = c.args.line.base in
-    let total = c.args.total in
-    let coef = c.unwrap_or-coef.result in
-    let factor = c.unsigned_abs-factor.result in
-    let total_fits : SFits w128 total = search rules in
-    let base_fits : SFits w128 base = search rules in
-    let fits : SFits w128 (total -ℤ base) = search rules in
-    let times : coef ≡ pos factor = omega (arith, ints, c.unsigned_abs-factor.ensures.value, c.if-coef-gt0.true) in
-    c.product_span.ensures k l ∙ added_off c.args.rel c.args.line total (total -ℤ base) coef c.missed_before.result factor
-    (sym c.unwrap_or-coef.ensures) times refl (simp to_z-of_z at c.missed_before.ensures.cut) (own_at c.args.domain.now k)
-
-pub returns-then-coef-lt0 : goal.returns-then-coef-lt0
-returns-then-coef-lt0 c = λ k l.
-    let base = c.args.line.base in
-    let total = c.args.total in
-    let coef = c.unwrap_or-coef.result in
-    let factor = c.unsigned_abs-factor.result in
-    let total_fits : SFits w128 total = search rules in
-    let base_fits : SFits w128 base = search rules in
-    let fits : SFits w128 (base -ℤ total) = search rules in
-    let times : coef ≡ neg_ℤ (pos factor) = omega (arith, ints, c.unsigned_abs-factor.ensures.value, c.if-coef-lt0.true) in
-    c.product_span-then-coef-lt0.ensures k l ∙ taken_off c.args.rel c.args.line total (base -ℤ total) coef c.missed_after.result factor
-    (sym c.unwrap_or-coef.ensures) times refl (simp to_z-of_z at c.missed_after.ensures.cut) (own_at c.args.domain.now k)
-
-pub returns-else-coef-lt0 : goal.returns-else-coef-lt0
-returns-else-coef-lt0 c = λ k l.
-    let zero : c.unwrap_or-coef.result ≡ pos 0 = omega (arith, ints, c.if-coef-gt0.false, c.if-coef-lt0.false) in
-    let total_fits : SFits w128 c.args.total = search rules in
+pub returns-in-Differ : goal.returns-in-Differ
+returns-in-Differ c = λ k l.
     let base_fits : SFits w128 c.args.line.base = search rules in
-    let told = simp to_z-of_z at c.holds.ensures in
-    c.whole.ensures k ∙ ap not (told ∙ none_off c.args.rel c.args.line c.args.total (sym c.unwrap_or-coef.ensures ∙ zero) (own_at c.args.domain.now k))
+    let total_fits : SFits w128 c.args.total = search rules in
+    let coef_fits : SFits w64 c.unwrap_or-coef.result = search rules in
+    (simp to_z-of_z at c.missed_apart.ensures) k l ∙ ap (λ r. not (stands r (c.args.line.base +ℤ (c.unwrap_or-coef.result *ℤ own_at c.args.domain.now k)) c.args.total)) (sym c.in-Differ.is)
+    ∙ told_coef c.args.rel c.args.line c.args.total c.unwrap_or-coef.result (sym c.unwrap_or-coef.ensures) (own_at c.args.domain.now k)
+
+pub returns-in_default : goal.returns-in_default
+returns-in_default c = λ k l.
+    let base_fits : SFits w128 c.args.line.base = search rules in
+    let total_fits : SFits w128 c.args.total = search rules in
+    let coef_fits : SFits w64 c.unwrap_or-coef.result = search rules in
+    (simp to_z-of_z at c.missed_with.ensures) k l ∙ told_coef c.args.rel c.args.line c.args.total c.unwrap_or-coef.result (sym c.unwrap_or-coef.ensures) (own_at c.args.domain.now k)

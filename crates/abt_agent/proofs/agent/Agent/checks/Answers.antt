@@ -4,8 +4,8 @@ use Rattle.dcsp_rule.specs.Problems.{csp_of}
 use Rattle.abt_defs.specs.Agents.{known}
 use Rattle.abt_defs.specs.Checks.{checks}
 use Rattle.abt_agent.specs.States.{State, stands_for}
-use Rattle.abt_reason.specs.Checked.{as_checks}
-use Rattle.abt_reason.specs.declared.checks.Checks.{Checks}
+use Rattle.abt_parts.specs.Checked.{as_checks}
+use Rattle.abt_parts.specs.declared.checks.Checks.{Checks}
 use Rattle.abt_agent.proofs.agent.Agent.checks.Goals as goal
 
 pub returns : goal.returns

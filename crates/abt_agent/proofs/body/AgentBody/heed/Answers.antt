@@ -1,10 +1,12 @@
-use Rattle.std.proofs.Common.{ℕ, sym, subst, ap, ◌∙◌}
+use Rattle.std.proofs.Common.{List, ℕ, sym, subst, ap, ◌∙◌}
 use Rattle.dcsp_defs.specs.Pairs.{IsRising as PairsRise}
 use Rattle.dcsp_rule.specs.Problems.{Contents}
 use Rattle.abt_defs.specs.Steps as steps
 use Rattle.abt_parts.specs.Messages.{with_stamps}
 use Rattle.abt_parts.specs.Stores.{record_of}
-use Rattle.abt_agent.specs.Bodies.{agent_of, AreProper, IsProper}
+use Rattle.abt_parts.specs.declared.message.Sent.{Sent}
+use Rattle.abt_parts.specs.Outgoing.{Posts}
+use Rattle.abt_agent.specs.Bodies.{agent_of, requests_for, AreProper, IsProper}
 use Rattle.abt_agent.proofs.Learns.{left_proper, heeded, asked_for}
 use Rattle.abt_agent.proofs.Proper.{proper_nogood}
 use Rattle.abt_agent.proofs.Receives.{good_heeded}
@@ -42,7 +44,8 @@ returns-clause-agent c =
 
 pub returns-clause-sent : goal.returns-clause-sent
 returns-clause-sent c =
-    asked_for c.args.self.now.known.me c.args.recorded.nogood c.pairs.result.now c.args.stamps.now (agent_of c.args.self.now) c.args.out.now c.ask.new.out c.pairs.ensures.pairs c.in_ok-ask.ensures.sent
+    subst (λ (went : List Sent). Posts c.args.out.now went (requests_for c.args.self.now c.args.recorded c.args.stamps.now)) (sym c.keep.ensures.out)
+    (asked_for c.args.self.now.known.me c.args.recorded.nogood c.pairs.result.now c.args.stamps.now (agent_of c.args.self.now) c.args.out.now c.ask.new.out c.pairs.ensures.pairs c.in_ok-ask.ensures.sent)
 
 pub returns-clause-good : goal.returns-clause-good
 returns-clause-good c =

@@ -8,7 +8,7 @@ use Rattle.dcsp_defs.specs.Csp.{domain}
 use Rattle.dcsp_rule.specs.Problems.{csp_of}
 use Rattle.abt_reason.specs.Causes.{value_at}
 use Rattle.abt_agent.proofs.Causes.{own_is}
-use Rattle.abt_agent.proofs.Members.{list_any-In}
+use Rattle.abt_parts.proofs.Members.{list_any-In}
 use Rattle.abt_agent.proofs.body.AgentBody.is_own_free.Goals as goal
 
 pub returns-in-Some-place_of : goal.returns-in-Some-place_of

@@ -8,7 +8,7 @@ use Rattle.abt_defs.specs.Steps as steps
 use Rattle.abt_parts.specs.Messages.{with_stamps}
 use Rattle.abt_agent.specs.Bodies.{agent_of}
 use Rattle.abt_agent.proofs.Fits.{fits_next, learn_next}
-use Rattle.abt_agent.proofs.Members.{In-get_or}
+use Rattle.abt_parts.proofs.Members.{In-get_or}
 use Rattle.abt_agent.proofs.body.AgentBody.learn_each.Goals as goal
 use Rattle.abt_agent.proofs.body.AgentBody.learn_each.Goals.{then-is_so, else-is_so}
 

@@ -29,7 +29,7 @@ returns-in-Tell-clause-right c made rooted brings =
     let a = agent_of c.args.self.now in
     let fit = subst (λ (m : Message). IsFit p c.args.self.now.known.me c.args.number c.args.from m) c.in-Tell.is c.requires.fit in
     let in_range : SFits w64 c.in-Tell.value = search rules in
-    let does = subst (λ (z : ℤ). IfOk c.receive_tell.result (λ (turn : Turn). Does (steps.receive (csp_of p) c.args.self.now.known.me c.args.number a c.args.from (agents.Announce (record { value = z; stamp = c.in-Tell.stamp }))) c.args.self.now c.receive_tell.new.self c.args.out.now c.receive_tell.new.out turn))
+    let does = subst (λ (z : ℤ). IfOk c.receive_tell.result (λ (turn : Turn). Does (steps.receive (csp_of p) c.args.self.now.known.me c.args.number a c.args.from (agents.Tell (record { value = z; stamp = c.in-Tell.stamp }))) c.args.self.now c.receive_tell.new.self c.args.out.now c.receive_tell.new.out turn))
     (to_z-of_z w64 c.in-Tell.value in_range) c.receive_tell.ensures.does in
     ok_then c.receive_tell.result
     (λ turn d. told_right (csp_of p) made c.args.self.now.known.me a (c.agents_step_right.ensures (csp_of p) c.denotes_csp.ensures.csp c.args.self.now.known.me c.requires.good.sized.in_step.me_exists made a c.requires.good.sound rooted) c.args.number turn
@@ -53,5 +53,5 @@ returns-in-AddLink-clause-right c made rooted brings =
     let a = agent_of c.args.self.now in
     ok_then c.receive_link.result
     (λ turn d. linked_right (csp_of p) made c.args.self.now.known.me a (c.agents_step_right.ensures (csp_of p) c.denotes_csp.ensures.csp c.args.self.now.known.me c.requires.good.sized.in_step.me_exists made a c.requires.good.sound rooted) c.args.number turn
-    c.args.from (steps.receive (csp_of p) c.args.self.now.known.me c.args.number a c.args.from agents.Add_link) refl d.turn_is)
+    c.args.from (steps.receive (csp_of p) c.args.self.now.known.me c.args.number a c.args.from agents.AddLink) refl d.turn_is)
     (c.receive_link.ensures.does c.args.number)

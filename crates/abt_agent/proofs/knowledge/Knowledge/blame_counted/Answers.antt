@@ -8,7 +8,7 @@ use Rattle.abt_defs.specs.Agents.{values_in}
 use Rattle.dcsp_rule.specs.Problems.{csp_of}
 use Rattle.abt_parts.specs.Views.{view_of}
 use Rattle.abt_reason.specs.Causes.{value_at}
-use Rattle.abt_reason.specs.Marks.{has_mark}
+use Rattle.abt_marks.specs.Marks.{has_mark}
 use Rattle.abt_agent.specs.Causes.{blames, blames_one, causes_for, reasons_at, item_at}
 use Rattle.abt_agent.proofs.Blamed.{marks_join}
 use Rattle.abt_agent.proofs.Others.{names_other}

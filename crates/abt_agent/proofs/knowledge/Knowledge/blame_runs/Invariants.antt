@@ -4,7 +4,7 @@ use Rattle.abt_defs.specs.Agents.{values_in}
 use Rattle.dcsp_rule.specs.Problems.{csp_of}
 use Rattle.abt_parts.specs.Views.{view_of}
 use Rattle.abt_reason.specs.Cached.{IsValueRunFrom}
-use Rattle.abt_reason.specs.Marks.{has_mark}
+use Rattle.abt_marks.specs.Marks.{has_mark}
 use Rattle.abt_agent.specs.Causes.{blames, causes_for, reasons_at}
 use Rattle.abt_agent.proofs.knowledge.Knowledge.blame_runs.Given as goal
 

@@ -2,7 +2,7 @@ use Rattle.std.proofs.Common.{◌∙◌, ap, length, List, ℕ, arith}
 use Rattle.dcsp_defs.specs.declared.nogood.Pair.{Pair}
 use Rattle.abt_parts.specs.Messages.{with_stamps}
 use Rattle.abt_parts.specs.Views.{view_of}
-use Rattle.abt_reason.specs.Marks.{has_mark}
+use Rattle.abt_marks.specs.Marks.{has_mark}
 use Rattle.abt_agent.specs.Causes.{told_of}
 use Rattle.abt_agent.proofs.Blamed.{told_next, told_end}
 use Rattle.abt_agent.proofs.Gathered.{told_rises}

@@ -3,8 +3,8 @@ use Rattle.std.specs.Prelude.{filter_map}
 use Rattle.dcsp_defs.specs.Words.{below}
 use Rattle.abt_parts.specs.Messages.{with_stamps}
 use Rattle.abt_parts.specs.Views.{view_of}
-use Rattle.abt_agent.specs.Outgoing.{ArePositive}
-use Rattle.abt_reason.specs.Marks.{has_mark}
+use Rattle.abt_parts.specs.Outgoing.{ArePositive}
+use Rattle.abt_marks.specs.Marks.{has_mark}
 use Rattle.abt_agent.specs.Causes.{told_of}
 use Rattle.abt_agent.proofs.knowledge.Knowledge.gather.Given as goal
 

@@ -1,22 +1,8 @@
-use Rattle.std.proofs.Common.{◌≡◌, ◌∙◌, ℕ, Bool, true, ◌&&◌, get_or, is_some, ap, sym, rules}
+use Rattle.std.proofs.Common.{ap, is_some, ◌∙◌, ℕ}
 use Rattle.std.specs.List.{list_all}
-use Rattle.std.proofs.lemmas.List.{take_all}
-use Rattle.std.proofs.lemmas.List.Folds.{list_all_more}
 use Rattle.dcsp_defs.specs.Csp.{with_value}
-use Rattle.abt_defs.specs.Agents.{values_in}
-use Rattle.abt_parts.specs.Views.{view_of}
+use Rattle.abt_agent.specs.Causes.{told_to}
 use Rattle.abt_agent.proofs.knowledge.Knowledge.is_decided.Goals as goal
 
-both : (a b : Bool) → a ≡ true → b ≡ true → (a && b) ≡ true
-both a b e f = ap (λ x. x && b) e ∙ f
-
-pub loop-place-preserved : goal.loop-place-preserved
-loop-place-preserved c = λ v.
-    let q = λ (k : ℕ). is_some (with_value c.args.self.now.me v (values_in (view_of c.args.self.now.view)) k) in
-    let here : q (get_or c.scope-scope.result.now c.loop-place.place 0) ≡ true = search rules in
-    list_all_more q c.scope-scope.result.now c.loop-place.place 0 c.loop-place-test.true ∙ both _ _ (c.loop-place.invariant v) here
-
 pub returns : goal.returns
-returns c = λ v.
-    let q = λ (k : ℕ). is_some (with_value c.args.self.now.me v (values_in (view_of c.args.self.now.view)) k) in
-    sym (c.loop-place.invariant v) ∙ ap (list_all q) (take_all c.loop-place.place c.scope-scope.result.now c.loop-place-test.false ∙ c.scope-scope.ensures.scope)
+returns c = λ v. c.knows_all.ensures v ∙ ap (list_all (λ (k : ℕ). is_some (with_value c.args.self.now.me v (told_to c.args.self.now) k))) c.scope.ensures.scope

@@ -5,7 +5,7 @@ use Rattle.abt_reason.specs.Cached.{StandsFor}
 use Rattle.dcsp_rule.specs.Problems.{Contents, csp_of, AreInDomains}
 use Rattle.abt_parts.specs.Views.{stamped_in, view_of}
 use Rattle.abt_parts.specs.Stores.{fits}
-use Rattle.abt_agent.specs.Outgoing.{IsStampedView}
+use Rattle.abt_parts.specs.Outgoing.{IsStampedView}
 use Rattle.abt_agent.proofs.Tracks.{heard, new_domains, new_stamps, stands_still, stood_before}
 use Rattle.abt_agent.proofs.knowledge.Knowledge.learn.Goals as goal
 

@@ -1,7 +1,7 @@
 use Rattle.std.proofs.Common.{◌≡◌, ◌<◌, ap, sym, subst, ◌∙◌, ◌&&◌, ◌||◌, nat_lt, length, get_or, ℕ}
 use Rattle.abt_defs.specs.Steps.{is_named}
 use Rattle.abt_agent.specs.declared.search.Cause.{Cause}
-use Rattle.abt_reason.specs.Marks.{has_mark}
+use Rattle.abt_marks.specs.Marks.{has_mark}
 use Rattle.abt_agent.specs.Causes.{blames_one, IsCause}
 use Rattle.abt_agent.proofs.Causes.{named_at}
 use Rattle.abt_agent.proofs.Others.{below_alike}

@@ -13,7 +13,7 @@ use Rattle.abt_parts.specs.Views.{view_of}
 use Rattle.abt_parts.specs.Stores.{records_of}
 use Rattle.abt_reason.specs.Causes.{value_at}
 use Rattle.abt_agent.specs.Causes.{cause_for}
-use Rattle.abt_reason.specs.Checked.{as_checks, sum_of}
+use Rattle.abt_parts.specs.Checked.{as_checks, sum_of}
 use Rattle.abt_agent.specs.Examined.{checks_but}
 use Rattle.abt_agent.proofs.Causes.{flip, ruled_is}
 use Rattle.abt_agent.proofs.Examining.{same_checks, checks_at, own_value, last_other, one_other, sum_none, sum_assoc}

@@ -4,7 +4,7 @@ use Rattle.dcsp_rule.specs.Problems.{csp_of}
 use Rattle.abt_defs.specs.Agents.{values_in}
 use Rattle.abt_parts.specs.Views.{view_of}
 use Rattle.abt_parts.specs.Stores.{records_of}
-use Rattle.abt_reason.specs.Checked.{as_checks, sum_of}
+use Rattle.abt_parts.specs.Checked.{as_checks, sum_of}
 use Rattle.abt_agent.specs.Examined.{checks_but}
 use Rattle.abt_agent.proofs.knowledge.Knowledge.other_checks.Given as goal
 

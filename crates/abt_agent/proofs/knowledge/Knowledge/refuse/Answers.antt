@@ -1,7 +1,7 @@
 use Rattle.std.proofs.Common.{◌≡◌, ◌&&◌, ◌||◌, nat_lt, ℕ, ap, ◌∙◌, length}
 use Rattle.std.specs.Prelude.{filter_map}
 use Rattle.abt_parts.specs.Views.{view_of}
-use Rattle.abt_reason.specs.Marks.{has_mark}
+use Rattle.abt_marks.specs.Marks.{has_mark}
 use Rattle.abt_agent.specs.Causes.{all_causes, blames, told_of}
 use Rattle.abt_agent.proofs.Blamed.{marked_below}
 use Rattle.abt_agent.proofs.Causes.{derived_is, step_is}

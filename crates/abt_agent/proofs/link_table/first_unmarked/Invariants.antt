@@ -1,5 +1,0 @@
-use Rattle.abt_agent.specs.Asks.{AreLinkedBefore}
-use Rattle.abt_agent.proofs.link_table.first_unmarked.Given as goal
-
-abbrev pub invariant-loop-agent : goal.invariant-loop-agent
-invariant-loop-agent l = AreLinkedBefore l.agent l.marks

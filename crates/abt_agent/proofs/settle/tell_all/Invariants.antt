@@ -1,9 +1,0 @@
-use Rattle.std.proofs.Common.{take}
-use Rattle.abt_defs.specs.Agents.{Announce}
-use Rattle.abt_defs.specs.Steps as steps
-use Rattle.abt_parts.specs.Views.{stamped_of}
-use Rattle.abt_agent.specs.Outgoing.{Posts}
-use Rattle.abt_agent.proofs.settle.tell_all.Given as goal
-
-abbrev pub invariant-loop-to : goal.invariant-loop-to
-invariant-loop-to l = Posts l.initial.out l.out (steps.to_each (Announce (stamped_of l.told)) (take l.to-index l.tells))
