@@ -44,10 +44,7 @@ impl AnswerLine {
         requires { length before.now ≤ 64 }
         ensures { result ≡ before.now ++ decimal number ++ codes "\n" }
     {
-        let mut digits = Buffer::new();
-        AnswerLine::of(before)
-            .with(digits.format(number).as_bytes())
-            .with(b"\n")
+        AnswerLine::of(before).with_number(number).with(b"\n")
     }
 
     /// All bytes of the line.
@@ -64,6 +61,15 @@ impl AnswerLine {
     {
         self.add(bytes);
         self
+    }
+
+    /// The line with this number behind it, in decimal digits: 20 at most.
+    pub fn with_number(self, number: u64) -> AnswerLine
+        requires { length self ≤ 76 }
+        ensures number { result ≡ self ++ decimal number }
+        ensures digits { length result ≤ length self + 20 }
+    {
+        self.with(Buffer::new().format(number).as_bytes())
     }
 
     /// Adds bytes at the end.

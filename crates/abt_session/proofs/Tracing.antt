@@ -9,7 +9,7 @@ use Rattle.dcsp_common.proofs.Chosen.{some_is}
 use Rattle.dcsp_common.proofs.Decimals.{number_again}
 use Rattle.ngd_log.specs.Reading.{integer_at}
 use Rattle.ngd_log.proofs.Fields.{integer_again}
-use Rattle.abt_defs.specs.Runs.{Cargo, Value, Step_number, Link, Delivery}
+use Rattle.abt_defs.specs.Runs.{Cargo, Tell, Refuse, AddLink, Delivery}
 use Rattle.abt_session.specs.Traces.{cargo_text, trace_line}
 use Rattle.abt_session.specs.Tracing.{CargoFits, DeliveryFits, LinesTellDeliveries, trace_text, TracesTellDeliveries}
 
@@ -41,25 +41,25 @@ apart : (a b c : ℕ) (xs ys : List ℕ) → a ≢ b → c ∷ a ∷ xs ≡ c �
 apart a b c xs ys differ e = differ (ap (λ l. slice_index_or l 1 0) e)
 
 cargo_once : (c d : Cargo) (x y : List ℕ) → CargoFits c → CargoFits d → cargo_text c ++ (10 ∷ x) ≡ cargo_text d ++ (10 ∷ y) → (c ≡ d) × (x ≡ y)
-cargo_once (Value v) (Value w) x y f g e =
+cargo_once (Tell v) (Tell w) x y f g e =
     let h = integer_once v w (10 ∷ x) (10 ∷ y) f g refl refl (append_cancel_left (codes " ok ") (signed_decimal v ++ (10 ∷ x)) (signed_decimal w ++ (10 ∷ y)) e) in
-    (ap Value h.0, append_cancel_left (10 ∷ []) x y h.1)
-cargo_once (Value v) (Step_number n) x y f g e = absurd (apart 111 110 32 _ _ (omega arith) e)
-cargo_once (Value v) Link x y f g e = absurd (apart 111 108 32 _ _ (omega arith) e)
-cargo_once (Step_number m) (Value w) x y f g e = absurd (apart 110 111 32 _ _ (omega arith) e)
-cargo_once (Step_number m) (Step_number n) x y f g e =
+    (ap Tell h.0, append_cancel_left (10 ∷ []) x y h.1)
+cargo_once (Tell v) (Refuse n) x y f g e = absurd (apart 111 110 32 _ _ (omega arith) e)
+cargo_once (Tell v) AddLink x y f g e = absurd (apart 111 108 32 _ _ (omega arith) e)
+cargo_once (Refuse m) (Tell w) x y f g e = absurd (apart 110 111 32 _ _ (omega arith) e)
+cargo_once (Refuse m) (Refuse n) x y f g e =
     let h = number_once m n (10 ∷ x) (10 ∷ y) f g refl refl (append_cancel_left (codes " nogood ") (decimal m ++ (10 ∷ x)) (decimal n ++ (10 ∷ y)) e) in
-    (ap Step_number h.0, append_cancel_left (10 ∷ []) x y h.1)
-cargo_once (Step_number m) Link x y f g e = absurd (apart 110 108 32 _ _ (omega arith) e)
-cargo_once Link (Value w) x y f g e = absurd (apart 108 111 32 _ _ (omega arith) e)
-cargo_once Link (Step_number n) x y f g e = absurd (apart 108 110 32 _ _ (omega arith) e)
-cargo_once Link Link x y f g e = (refl, append_cancel_left (codes " link\n") x y e)
+    (ap Refuse h.0, append_cancel_left (10 ∷ []) x y h.1)
+cargo_once (Refuse m) AddLink x y f g e = absurd (apart 110 108 32 _ _ (omega arith) e)
+cargo_once AddLink (Tell w) x y f g e = absurd (apart 108 111 32 _ _ (omega arith) e)
+cargo_once AddLink (Refuse n) x y f g e = absurd (apart 108 110 32 _ _ (omega arith) e)
+cargo_once AddLink AddLink x y f g e = (refl, append_cancel_left (codes " link\n") x y e)
 
 -- behind a number comes no digit
 no_digit : (c : Cargo) (x : List ℕ) → begins_with_digit (cargo_text c ++ x) ≡ false
-no_digit (Value v) x = refl
-no_digit (Step_number n) x = refl
-no_digit Link x = refl
+no_digit (Tell v) x = refl
+no_digit (Refuse n) x = refl
+no_digit AddLink x = refl
 
 -- ---- a line
 

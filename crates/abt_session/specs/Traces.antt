@@ -1,7 +1,7 @@
 -- What tells of a delivery: its line in the trace, and every so often how far the run is.
 use Rattle.std.specs.Prelude.{ℕ, ◌+◌, ◌%◌, ◌&&◌, ◌==◌, Bool, List, [], ◌∷◌, ◌++◌, Option, Some, None, codes, decimal, if◌then◌else◌}
 use Rattle.std.specs.Fmt.{signed_decimal}
-use Rattle.abt_defs.specs.Runs.{Delivery, Cargo, Value, Step_number, Link}
+use Rattle.abt_defs.specs.Runs.{Delivery, Cargo, Tell, Refuse, AddLink}
 use Rattle.dcsp_order.specs.Orders.{number_at}
 use Rattle.abt_session.specs.declared.telling.Telling.{Telling}
 
@@ -12,9 +12,9 @@ delivery_told (Some order) d = record d { sender = number_at order d.sender; rec
 
 -- what a message carries
 abbrev pub cargo_text : Cargo → List ℕ
-cargo_text (Value value) = codes " ok " ++ signed_decimal value
-cargo_text (Step_number step) = codes " nogood " ++ decimal step
-cargo_text Link = codes " link"
+cargo_text (Tell value) = codes " ok " ++ signed_decimal value
+cargo_text (Refuse step) = codes " nogood " ++ decimal step
+cargo_text AddLink = codes " link"
 
 -- the line of the delivery with this number, as `% 3 v2>v1 nogood 1`; agents count from 1
 abbrev pub trace_line : ℕ → Delivery → List ℕ

@@ -3,14 +3,14 @@ use Rattle.std.specs.Prelude.{◌≡◌, ◌≢◌, ◌↔◌, ℕ, ◌+◌, ◌
 use Rattle.std.specs.Int.{w64}
 use Rattle.std.specs.List.{AllByRecursion}
 use Rattle.std.specs.Str.{byte}
-use Rattle.abt_defs.specs.Runs.{Delivery, Cargo, Value, Step_number, Link}
+use Rattle.abt_defs.specs.Runs.{Delivery, Cargo, Tell, Refuse, AddLink}
 use Rattle.abt_session.specs.Traces.{trace_line}
 
 -- what a message carries has 64 bits
 abbrev pub CargoFits : Cargo → Type 0
-CargoFits (Value value) = FitsSigned w64 value
-CargoFits (Step_number step) = step < 2 ^ 64
-CargoFits Link = Unit {0}
+CargoFits (Tell value) = FitsSigned w64 value
+CargoFits (Refuse step) = step < 2 ^ 64
+CargoFits AddLink = Unit {0}
 
 -- what a delivery's line tells has 64 bits
 pub record DeliveryFits (d : Delivery) : Type 0 where

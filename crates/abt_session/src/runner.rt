@@ -11,7 +11,7 @@ ghost use Rattle.dcsp_script.specs.Scripts.{outside};
 ghost use Rattle.dcsp_script.specs.Ways.{Wrote};
 ghost use Rattle.ngd_log.specs.StepText.{IsInRange};
 ghost use Rattle.abt_network.specs.Standing.{delivery_of, CanDeliver, StandsAt};
-ghost use Rattle.abt_session.specs.Sessions.{begun_script, choice_writes, deliveries_write, run_script, step_writes, telling_writes};
+ghost use Rattle.abt_session.specs.Sessions.{begun_script, choice_writes, deliveries_write, step_writes, telling_writes};
 ghost use Rattle.abt_session.specs.Running.{kept, order_of, session_for, IsOnRun};
 
 use crate::lines::{Made, append_begun, append_made, put_delivery};
@@ -22,7 +22,7 @@ use abt_network::{Delivery, Network, Standing};
 use abt_schedule::{ChoiceList, Choices};
 use dcsp_outside::{Folder, Sink};
 use dcsp_script::{Stop, append, create};
-use ngd_log::{HEAD, TAIL};
+use ngd_log::{HEAD, Step};
 use std::alloc::Global;
 
 /// A run on its way.
@@ -40,30 +40,8 @@ pub struct Runner<'p, 'w> {
 impl<'p, 'w> Runner<'p, 'w> {
     ghost use Rattle.abt_session.specs.Runners.{Leaves, SameTask};
 
-    /// Makes the whole run, and its log.
-    pub fn run<C: Choices, F: Folder, S: Sink>(
-        &mut self,
-        choices: &mut C,
-        folder: &mut F,
-        out: &mut S,
-    ) -> Result<End<()>, Stop>
-        requires most { self.old.task.most ≤ 2 ^ 40 }
-        requires sound { self.old.network.spent ≡ false }
-        requires fresh { self.old.network.begun ≡ false }
-        requires problem { IsProblem self.old.network.problem × IsCsp (csp_of self.old.network.problem) }
-        ensures leaves { let s = session_for self.old.network.problem (C.answers choices.old) self.old.task in Leaves s (run_script s) self.old.task.keep
-            self.old.taken self.new.taken (C.answers choices.old) (C.answers choices.new) self.new.network
-            (outside (F.place folder.old) (S.stream out.old)) (outside (F.place folder.new) (S.stream out.new)) result }
-        ensures problem { self.new.network.problem ≡ self.old.network.problem }
-    {
-        self.begin(folder)?;
-        let end = self.deliver_all(choices, folder, out)?;
-        append(folder, self.task.log, TAIL)?;
-        Ok(end)
-    }
-
     /// Begins the log, and starts the agents.
-    fn begin<F: Folder>(&mut self, folder: &mut F) -> Result<(), Stop>
+    pub fn begin<F: Folder>(&mut self, folder: &mut F) -> Result<(), Stop>
         requires sound { self.old.network.spent ≡ false }
         requires fresh { self.old.network.begun ≡ false }
         ensures wrote { (out : Stream) → Wrote (begun_script (order_of self.old.task) (csp_of self.old.network.problem) self.old.task.log.now)
@@ -151,7 +129,7 @@ impl<'p, 'w> Runner<'p, 'w> {
             return Err(Stop::Memory);
         };
         self.write_made(&told, folder, out)?;
-        self.take_down(number)
+        self.take_down(number, told.step)
     }
 
     /// Writes what the last delivery writes, of which this is told.
@@ -183,13 +161,16 @@ impl<'p, 'w> Runner<'p, 'w> {
         put_delivery(out, self.task.telling, made, &mut self.line)
     }
 
-    /// Takes the number of a list down, where that is asked for.
-    fn take_down(&mut self, number: u32) -> Result<(), Stop>
+    /// Takes the number of a list down, where that is asked for, and lets the step go that was written.
+    fn take_down(&mut self, number: u32, step: Option<Step>) -> Result<(), Stop>
         ensures ok { OnOk result (self.new.taken ≡ self.old.taken ++ kept self.old.task.keep (number ∷ [])) }
         ensures only_memory { OnErr result (result ≡ Err Stop.Memory) }
         ensures same { SameTask self.old self.new }
         ensures network { self.new.network ≡ self.old.network }
     {
+        if let Some(step) = step {
+            self.network.give_back(step);
+        }
         if !self.task.keep {
             return Ok(());
         }

@@ -19,7 +19,8 @@ use abt_network::Network;
 use abt_schedule::{ChoiceList, Choices};
 use dcsp_order::moved;
 use dcsp_outside::{Folder, Sink};
-use dcsp_script::Stop;
+use dcsp_script::{Stop, append};
+use ngd_log::TAIL;
 use std::alloc::Global;
 use std::mem;
 
@@ -87,7 +88,7 @@ pub fn run<C: Choices, F: Folder, S: Sink>(
     run_ordered(alloc, RunTask { model, ..task }, choices, folder, out)
 }
 
-/// Runs the agents of a problem that is under its order already.
+/// Runs the agents of a problem that is under its order already, from the creation of the log to its last line.
 fn run_ordered<C: Choices, F: Folder, S: Sink>(
     alloc: Global,
     task: RunTask<'_>,
@@ -116,7 +117,9 @@ fn run_ordered<C: Choices, F: Folder, S: Sink>(
         line: Vec::new(alloc),
         alloc,
     };
-    let end = runner.run(choices, folder, out)?;
+    runner.begin(folder)?;
+    let end = runner.deliver_all(choices, folder, out)?;
+    append(folder, task.log, TAIL)?;
     let taken = mem::replace(&mut runner.taken, ChoiceList::new(alloc));
     outcome_of(alloc, task.model, &runner.network, end, taken)
 }

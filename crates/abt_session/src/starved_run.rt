@@ -114,7 +114,10 @@ fn deliver_other(
     ensures problem { network.new.problem ≡ network.old.problem }
 {
     let number = first_other(network, from, to);
-    let _delivery = network.deliver(number)?;
+    let delivery = network.deliver(number)?;
+    if let Some(step) = delivery.step {
+        network.give_back(step);
+    }
     taken.push(number)
 }
 
