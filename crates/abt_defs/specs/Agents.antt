@@ -34,11 +34,11 @@ abbrev pub lowest : ℕ × Stamped → StampedNogood → ℕ
 lowest first [] = first.0
 lowest first (next ∷ rest) = lowest next rest
 
--- `Announce` is an ok? message, `Refuse` a nogood with its step's number, `Add_link` a link request
+-- `Tell` is an ok? message, `Refuse` a nogood with its step's number, `AddLink` a link request
 pub data Message : Type 0 where
-  Announce : (told : Stamped) → Message
+  Tell : (told : Stamped) → Message
   Refuse : (step : ℕ) → (pairs : StampedNogood) → Message
-  Add_link : Message
+  AddLink : Message
 
 -- ---- states
 

@@ -6,7 +6,7 @@ use Rattle.dcsp_defs.specs.declared.Reason.{Reason}
 use Rattle.dcsp_defs.specs.declared.Reason.TheVariants.{Rule, Earlier}
 use Rattle.dcsp_defs.specs.Words.{is_value}
 use Rattle.dcsp_defs.specs.Csp.{Csp, Constraint, PartialAssignment, with_value, is_violated, domain, owned}
-use Rattle.abt_defs.specs.Agents.{Agent, Message, Announce, Refuse, Add_link, Record, known}
+use Rattle.abt_defs.specs.Agents.{Agent, Message, Tell, Refuse, AddLink, Record, known}
 use Rattle.abt_defs.specs.Reasons.{Item, cause, ruled_out}
 use Rattle.abt_defs.specs.Steps.{is_newer, is_news}
 use Rattle.abt_defs.specs.Events.{Act}
@@ -73,9 +73,9 @@ checks p i known recorded own = checks_of_values p i known recorded (candidates 
 
 -- whether agent i settles when it receives a message from k: a newer value makes it, a nogood does unless it goes on waiting, a link request does not
 abbrev pub settles_on : ℕ → Agent → ℕ → Message → Bool
-settles_on i a k (Announce s) = is_newer (a.view k) s.stamp
+settles_on i a k (Tell s) = is_newer (a.view k) s.stamp
 settles_on i a k (Refuse step pairs) = not (a.waits && not (is_news i pairs a))
-settles_on i a k Add_link = false
+settles_on i a k AddLink = false
 
 -- whether an agent settles; in the start it does
 abbrev pub is_settling : ℕ → Agent → Option (ℕ × Message) → Bool

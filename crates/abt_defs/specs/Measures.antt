@@ -6,7 +6,7 @@ use Rattle.dcsp_defs.specs.declared.nogood.Pair.{Pair}
 use Rattle.dcsp_defs.specs.Words.{sum_below}
 use Rattle.dcsp_defs.specs.Pairs.{pair_of}
 use Rattle.dcsp_defs.specs.Csp.{Csp, count}
-use Rattle.abt_defs.specs.Agents.{Message, Announce, Refuse, Add_link, plain}
+use Rattle.abt_defs.specs.Agents.{Message, Tell, Refuse, AddLink, plain}
 use Rattle.abt_defs.specs.Network.{Network, deliver}
 use Rattle.abt_defs.specs.Events.{Act}
 use Rattle.abt_defs.specs.Checks.{Checks, checks_of}
@@ -14,19 +14,19 @@ use Rattle.abt_defs.specs.Checks.{Checks, checks_of}
 -- ---- messages by kind
 
 abbrev pub is_ok : Message → Bool
-is_ok (Announce s) = true
+is_ok (Tell s) = true
 is_ok (Refuse step pairs) = false
-is_ok Add_link = false
+is_ok AddLink = false
 
 abbrev pub is_nogood : Message → Bool
-is_nogood (Announce s) = false
+is_nogood (Tell s) = false
 is_nogood (Refuse step pairs) = true
-is_nogood Add_link = false
+is_nogood AddLink = false
 
 abbrev pub is_link : Message → Bool
-is_link (Announce s) = false
+is_link (Tell s) = false
 is_link (Refuse step pairs) = false
-is_link Add_link = true
+is_link AddLink = true
 
 -- how many are ok? messages, nogoods and link requests
 pub record Kinds : Type 0 where
@@ -111,9 +111,9 @@ most_recorded p (c ∷ cs) net = if net.refuted then recorded_in p net else max 
 
 -- the values that a message from k tells
 abbrev pub told_by : ℕ → Message → List Pair
-told_by k (Announce s) = pair_of k s.value ∷ []
+told_by k (Tell s) = pair_of k s.value ∷ []
 told_by k (Refuse step pairs) = plain pairs
-told_by k Add_link = []
+told_by k AddLink = []
 
 -- the values that what came tells
 abbrev pub told_in : Option (ℕ × Message) → List Pair

@@ -1,20 +1,21 @@
 -- Whole runs, with their stops.
 use Rattle.std.specs.Prelude.{ℕ, zero, suc, ◌-◌, ◌%◌, ℤ, not, ◌&&◌, List, [], ◌∷◌, ◌++◌, length, slice_get, position, if◌then◌else◌, Option, Some, None, is_some, unwrap_or, ◌==◌}
 use Rattle.dcsp_defs.specs.Csp.{Csp}
-use Rattle.abt_defs.specs.Agents.{Message, Announce, Refuse, Add_link}
+use Rattle.abt_defs.specs.Agents as agents
+use Rattle.abt_defs.specs.Agents.{Message}
 use Rattle.abt_defs.specs.Network.{Network, ready, deliver, start, is_empty}
 
 -- what a trace shows of a message: a value, a step's number, or a link request
 pub data Cargo : Type 0 where
-  Value : (value : ℤ) → Cargo
-  Step_number : (step : ℕ) → Cargo
-  Link : Cargo
+  Tell : (value : ℤ) → Cargo
+  Refuse : (step : ℕ) → Cargo
+  AddLink : Cargo
 
 -- what a message carries, as a trace has it
 abbrev pub cargo_of : Message → Cargo
-cargo_of (Announce s) = Value s.value
-cargo_of (Refuse step pairs) = Step_number step
-cargo_of Add_link = Link
+cargo_of (agents.Tell s) = Tell s.value
+cargo_of (agents.Refuse step pairs) = Refuse step
+cargo_of agents.AddLink = AddLink
 
 -- one delivery
 pub record Delivery : Type 0 where

@@ -7,7 +7,7 @@ use Rattle.dcsp_defs.specs.Pairs.{value_at}
 use Rattle.dcsp_defs.specs.declared.Step.{Step}
 use Rattle.dcsp_defs.specs.Words.{below, update, is_value}
 use Rattle.dcsp_defs.specs.Csp.{Csp, Nogood, domain, count}
-use Rattle.abt_defs.specs.Agents.{Stamped, StampedNogood, plain, lowest, Message, Announce, Refuse, Add_link, Record, Agent, known}
+use Rattle.abt_defs.specs.Agents.{Stamped, StampedNogood, plain, lowest, Message, Tell, Refuse, AddLink, Record, Agent, known}
 use Rattle.abt_defs.specs.Reasons.{ruled_out, derived, step_of}
 
 -- the new state, what is sent, each message with its receiver, and the step that is made
@@ -30,7 +30,7 @@ to_each m receivers = map (λ k. (k, m)) receivers
 abbrev pub take_value : Csp → Agent → ℤ → Outcome
 take_value p a v = record {
   agent = record a { value = Some v; stamp = a.stamp + 1; waits = false };
-  sent = to_each (Announce (record { value = v; stamp = a.stamp + 1 })) (filter a.tells (below (count p)));
+  sent = to_each (Tell (record { value = v; stamp = a.stamp + 1 })) (filter a.tells (below (count p)));
   step = None;
 }
 
@@ -117,12 +117,12 @@ first_sent sent o = record { agent = o.agent; sent = sent ++ o.sent; step = o.st
 -- the agent's value, if it has one, for k
 abbrev pub own_value : ℕ → Agent → Option ℤ → List (ℕ × Message)
 own_value k a None = []
-own_value k a (Some v) = (k, Announce (record { value = v; stamp = a.stamp })) ∷ []
+own_value k a (Some v) = (k, Tell (record { value = v; stamp = a.stamp })) ∷ []
 
 -- agent i receives a message from k, where number is that of the next step
 abbrev pub receive : Csp → ℕ → ℕ → Agent → ℕ → Message → Outcome
-receive p i number a k (Announce s) = if is_newer (a.view k) s.stamp then settle p i number (learn k s a) else stay a
+receive p i number a k (Tell s) = if is_newer (a.view k) s.stamp then settle p i number (learn k s a) else stay a
 receive p i number a k (Refuse step pairs) =
     let b = heed i step pairs a in
-    first_sent (to_each Add_link (unlinked i (plain pairs) a)) (if a.waits && not (is_news i pairs a) then stay b else settle p i number b)
-receive p i number a k Add_link = record { agent = record a { tells = update a.tells k true }; sent = own_value k a a.value; step = None }
+    first_sent (to_each AddLink (unlinked i (plain pairs) a)) (if a.waits && not (is_news i pairs a) then stay b else settle p i number b)
+receive p i number a k AddLink = record { agent = record a { tells = update a.tells k true }; sent = own_value k a a.value; step = None }

@@ -1,6 +1,8 @@
 -- Rows of bits: one bit for each ordered pair, and what must hold of the counts beside them.
 use Rattle.std.specs.Prelude.{◌≡◌, ◌<◌, ◌≤◌, ◌*◌, false, length, slice_index, ℕ, zero, suc, ◌+◌, cond, Bool, ◌/◌, ◌%◌, ◌==◌, List, [], map, filter, slice_index_or}
 use Rattle.std.specs.Int.{bit_at}
+use Rattle.dcsp_common.specs.Limits.{most}
+use Rattle.dcsp_common.specs.declared.limits.Which.TheVariants.{Variables}
 use Rattle.dcsp_defs.specs.Words.{below}
 use Rattle.abt_defs.specs.Network.{pairs}
 use Rattle.abt_links.specs.PairTables.{PairTable}
@@ -34,7 +36,7 @@ row_at marks k = slice_index_or marks.rows k []
 -- the counts are those of the rows
 pub record IsCounted (marks : Marks) (sums : List ℕ) : Type 0 where
   pub long : length marks.rows ≡ marks.agents
-  pub small : marks.agents ≤ 4096
+  pub small : marks.agents ≤ most Variables
   pub sums_long : length sums ≡ marks.agents
   pub room : (k : ℕ) → k < marks.agents → marks.agents ≤ 64 * length (row_at marks k)
   pub short : (k : ℕ) → k < marks.agents → length (row_at marks k) ≤ 64

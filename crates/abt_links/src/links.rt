@@ -1,6 +1,8 @@
 //! The messages in transit.
 
 ghost use Rattle.std.specs.Prelude.{◌≡◌, ◌≢◌, ◌+◌, ◌<◌, ◌≤◌, [], IfErr, IfOk, OnErr, OnOk, Some, position, option_copied, slice_get, length};
+ghost use Rattle.dcsp_common.specs.Limits.{most};
+ghost use Rattle.dcsp_common.specs.declared.limits.Which.TheVariants.{Variables};
 ghost use Rattle.abt_links.specs.Transit.{is_pair, link_of, IsOpen, Opens, Sends, Posts, Keeps, Takes, ready_pairs, message_count};
 
 use crate::open_pairs::OpenPairs;
@@ -49,7 +51,7 @@ impl Model for Links {
 impl Links {
     /// The links of this many agents. No pair is open.
     pub fn new(alloc: Global, agents: u32) -> Result<Links, Memory>
-        requires { agents ≤ 4096 }
+        requires { agents ≤ most Variables }
         ensures agents { IfOk result (λ l. l.agents ≡ agents) }
         ensures none { IfOk result (λ l. l.opened ≡ []) }
         ensures empty { IfOk result (λ l. l.lists ≡ []) }

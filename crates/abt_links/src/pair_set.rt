@@ -1,6 +1,8 @@
 //! An ordered set of pairs of agents.
 
 ghost use Rattle.std.specs.Prelude.{◌≡◌, ◌<◌, ◌≤◌, ℕ, ◌==◌, ◌&&◌, length, IfOk, IsTrue, Some, slice_get, false, if◌then◌else◌};
+ghost use Rattle.dcsp_common.specs.Limits.{most};
+ghost use Rattle.dcsp_common.specs.declared.limits.Which.TheVariants.{Variables};
 ghost use Rattle.abt_links.specs.PairTables.{has_pair, members};
 
 use crate::row::Row;
@@ -36,7 +38,7 @@ impl Model for PairSet {
 impl PairSet {
     /// No pair of this many agents.
     pub fn new(alloc: Global, agents: u32) -> Result<PairSet, Memory>
-        requires { agents ≤ 4096 }
+        requires { agents ≤ most Variables }
         ensures agents { IfOk result (λ set. set.agents ≡ agents) }
         ensures none { IfOk result (λ set. (k i : ℕ) → has_pair set k i ≡ false) }
     {

@@ -2,6 +2,8 @@
 
 ghost use Rattle.std.specs.Prelude.{◌≡◌, ◌≢◌, ◌<◌, ◌≤◌, ◌*◌, ℕ, count_ones, ◌==◌, length, true, false, if◌then◌else◌, IfOk};
 ghost use Rattle.std.specs.Int.{bit_at};
+ghost use Rattle.dcsp_common.specs.Limits.{most};
+ghost use Rattle.dcsp_common.specs.declared.limits.Which.TheVariants.{Variables};
 ghost use Rattle.abt_links.specs.Marks.{is_set, rank};
 
 use dcsp_common::Memory;
@@ -25,7 +27,7 @@ impl Model for Row {
 impl Row {
     /// No number, with room for all below `bound`.
     pub(crate) fn new(alloc: Global, bound: u32) -> Result<Row, Memory>
-        requires { bound ≤ 4096 }
+        requires { bound ≤ most Variables }
         ensures room { IfOk result (λ r. bound ≤ 64 * length r) }
         ensures short { IfOk result (λ r. length r ≤ 64) }
         ensures none { IfOk result (λ r. (i : ℕ) → is_set r i ≡ false) }

@@ -1,6 +1,8 @@
 //! Counts whose running sums are found fast.
 
 ghost use Rattle.std.specs.Prelude.{◌≡◌, ◌+◌, ◌-◌, ◌<◌, ◌≤◌, ◌^◌, length, IfOk, replicate, slice_set, slice_index, sum, take, drop};
+ghost use Rattle.dcsp_common.specs.Limits.{most};
+ghost use Rattle.dcsp_common.specs.declared.limits.Which.TheVariants.{Variables};
 
 use dcsp_common::Memory;
 use std::alloc::Global;
@@ -34,7 +36,7 @@ impl Model for Sums {
 impl Sums {
     /// So many counts, all 0.
     pub(crate) fn new(alloc: Global, size: u32) -> Result<Sums, Memory>
-        requires { size ≤ 4096 }
+        requires { size ≤ most Variables }
         ensures { IfOk result (λ s. s ≡ replicate size 0) }
     {
         let size = size as usize;
@@ -124,7 +126,7 @@ fn width_for(size: usize) -> usize
 /// The place where the running sum from `start` on passes `number`, and by how much the sum before it
 /// falls short.
 fn find_from(counts: &[u32], start: usize, number: u32) -> (u32, u32)
-    requires few { length counts.now ≤ 4096 }
+    requires few { length counts.now ≤ most Variables }
     requires some { number < sum (drop start counts.now) }
     ensures exists { result.0 < length counts.now }
     ensures before { sum (take result.0 counts.now) + result.1 ≡ sum (take start counts.now) + number }

@@ -7,7 +7,7 @@ use Rattle.std.proofs.lemmas.List.{map-append, get_or-set_same, get_or-set_other
 use Rattle.std.proofs.lemmas.List.Elements.{filter-append}
 use Rattle.std.proofs.lemmas.List.Sums.{sum_by-append}
 use Rattle.dcsp_defs.specs.Csp.{Csp}
-use Rattle.abt_defs.specs.Agents.{Message, Announce, Refuse, Add_link}
+use Rattle.abt_defs.specs.Agents.{Message, Tell, Refuse, AddLink}
 use Rattle.abt_defs.specs.Events.{Act}
 use Rattle.abt_defs.specs.Checks.{checks_of}
 use Rattle.abt_defs.specs.Clocks as clocks
@@ -17,8 +17,8 @@ use Rattle.abt_defs.specs.Measures.{acts_by, greatest_by, is_link, is_nogood, is
 use Rattle.abt_parts.specs.declared.message.SentTo.{SentTo}
 use Rattle.abt_parts.specs.Messages.{kind_of, told_sent}
 use Rattle.law_runs.proofs.ActsGoing.{ticks-more, greatest-more}
-use Rattle.abt_reason.specs.declared.checks.Checks.{Checks}
-use Rattle.abt_reason.specs.Checked.{as_checks}
+use Rattle.abt_parts.specs.declared.checks.Checks.{Checks}
+use Rattle.abt_parts.specs.Checked.{as_checks}
 use Rattle.abt_measure.specs.declared.row.Row.{Row}
 use Rattle.abt_measure.specs.declared.counts.Came.{Came}
 use Rattle.abt_measure.specs.Carrying.{receivers_of}
@@ -31,9 +31,9 @@ use Rattle.abt_measure.proofs.RowLaws.{same_kinds, kinds_none}
 -- ---- kinds
 
 pub one_kind : (m : Message) (ms : List Message) → kinds_of (m ∷ ms) ≡ more_kinds (kind_counts (kind_of m)) (kinds_of ms)
-one_kind (Announce s) ms = same_kinds _ _ (omega arith) (omega arith) (omega arith)
+one_kind (Tell s) ms = same_kinds _ _ (omega arith) (omega arith) (omega arith)
 one_kind (Refuse step pairs) ms = same_kinds _ _ (omega arith) (omega arith) (omega arith)
-one_kind Add_link ms = same_kinds _ _ (omega arith) (omega arith) (omega arith)
+one_kind AddLink ms = same_kinds _ _ (omega arith) (omega arith) (omega arith)
 
 pub kinds_told : (sent : List (ℕ × Message)) → kinds_sent (map told_sent sent) ≡ kinds_of (map (λ (x : ℕ × Message). x.1) sent)
 kinds_told [] = refl

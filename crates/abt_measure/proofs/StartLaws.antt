@@ -9,7 +9,7 @@ use Rattle.std.proofs.lemmas.List.Elements.{filter-append}
 use Rattle.dcsp_defs.specs.Words.{In, below, sum_below}
 use Rattle.dcsp_defs.specs.Csp.{Csp, IsCsp, count}
 use Rattle.dcsp_defs.proofs.Lists.{In-below, below-In, In-filter, In-split, In-list_any, filter-from, list_any-In}
-use Rattle.abt_defs.specs.Agents.{Agent, Message, Announce, Stamped, fresh, known}
+use Rattle.abt_defs.specs.Agents.{Agent, Message, Tell, Stamped, fresh, known}
 use Rattle.abt_defs.specs.Steps.{to_each}
 use Rattle.abt_defs.specs.Network.{Network, is_empty, pairs, ready, sent_to, start}
 use Rattle.abt_defs.specs.Events.{Act, acts, start_acts}
@@ -161,13 +161,13 @@ module _ (p : Csp) where
     pub told_is : (i : ℕ) → i < settled → map tell_to (receivers i) ≡ map told_sent (first_outcome p i).sent
     told_is i l =
         let t = h.tells i in
-        let m = Announce t.told in
+        let m = Tell t.told in
         let ks = filter t.tells (below (count p)) in
         let same : receivers i ≡ ks = filter-on (λ j. not (is_empty ((start p).links i j))) t.tells (below (count p)) (λ j u.
         ap (λ z. not (is_empty z)) (h.sent i j l ∙ ap (sent_to j) t.sent_is) ∙ reaches m j ks ∙ among t.tells (count p) j (In-below (count p) j u)) in
         ap (map tell_to) same ∙ each t.told ks ∙ ap (map told_sent) (sym t.sent_is)
       where
-        each : (s : Stamped) (ks : List ℕ) → map tell_to ks ≡ map told_sent (to_each (Announce s) ks)
+        each : (s : Stamped) (ks : List ℕ) → map tell_to ks ≡ map told_sent (to_each (Tell s) ks)
         each s [] = refl
         each s (k ∷ ks) = ap (λ l. tell_to k ∷ l) (each s ks)
 

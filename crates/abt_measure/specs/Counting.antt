@@ -10,8 +10,8 @@ use Rattle.abt_defs.specs.Measures.{row}
 use Rattle.abt_parts.specs.declared.message.SentTo.{SentTo}
 use Rattle.abt_parts.specs.declared.message.MessageKind.{MessageKind}
 use Rattle.abt_parts.specs.Messages.{kind_of, told_sent}
-use Rattle.abt_reason.specs.declared.checks.Checks.{Checks}
-use Rattle.abt_reason.specs.Checked.{as_checks}
+use Rattle.abt_parts.specs.declared.checks.Checks.{Checks}
+use Rattle.abt_parts.specs.Checked.{as_checks}
 use Rattle.abt_measure.specs.declared.row.Row.{Row}
 use Rattle.abt_measure.specs.declared.counts.Came.{Came}
 use Rattle.abt_measure.specs.declared.counts.Deed.{Deed}

@@ -9,7 +9,7 @@ ghost use Rattle.abt_defs.specs.Network.{Network as TheNetwork};
 ghost use Rattle.abt_defs.specs.Events.{Act};
 ghost use Rattle.abt_defs.specs.Checks.{no_checks};
 ghost use Rattle.abt_parts.specs.declared.message.SentTo.{SentTo as TheSentTo};
-ghost use Rattle.abt_reason.specs.Checked.{as_checks};
+ghost use Rattle.abt_parts.specs.Checked.{as_checks};
 ghost use Rattle.abt_links.specs.Transit.{link_of};
 ghost use Rattle.abt_network.specs.Standing.{reached, CanDeliver, StandsAt};
 ghost use Rattle.abt_measure.specs.Measuring.{CountsIn, CountsNext, IsComing, IsNext, IsOnRun, MeasuresIn};

@@ -2,7 +2,7 @@
 
 ghost use Rattle.std.specs.Prelude.{◌≡◌, OnOk};
 ghost use Rattle.abt_measure.specs.Rows.{as_kinds, as_row, came_kinds, kind_counts, kinds_sent, more_kinds, no_row, row_after};
-ghost use Rattle.abt_reason.specs.Checked.{as_checks};
+ghost use Rattle.abt_parts.specs.Checked.{as_checks};
 
 use crate::clock::{greater, plus};
 use abt_agent::Checks;

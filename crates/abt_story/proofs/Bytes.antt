@@ -11,7 +11,7 @@ use Rattle.dcsp_defs.specs.declared.Reason.TheVariants.{Rule, Earlier}
 use Rattle.ngd_log.specs.StepText.{reason_text}
 use Rattle.ngd_log.specs.Reading.{integer_at}
 use Rattle.ngd_log.proofs.Fields.{integer_again}
-use Rattle.abt_defs.specs.Runs.{Cargo, Value, Step_number, Link, Delivery}
+use Rattle.abt_defs.specs.Runs.{Cargo, Tell, Refuse, AddLink, Delivery}
 use Rattle.abt_session.specs.Tracing.{CargoFits, DeliveryFits}
 use Rattle.abt_session.specs.Traces.{cargo_text}
 use Rattle.abt_story.specs.Facts.{RuledOut, Fact, Receives, Knows, Forgets, Keeps, Declines, Out, Takes, Makes, Sends, Line}
@@ -90,9 +90,9 @@ in_who None = (refl, tt)
 in_who (Some i) = in_agent i
 
 in_cargo : (cargo : Cargo) → AllByRecursion IsNoFeed (cargo_text cargo)
-in_cargo (Value v) = (refl, (refl, (refl, (refl, in_signed v))))
-in_cargo (Step_number n) = (refl, (refl, (refl, (refl, (refl, (refl, (refl, (refl, in_decimal n))))))))
-in_cargo Link = (refl, (refl, (refl, (refl, (refl, tt)))))
+in_cargo (Tell v) = (refl, (refl, (refl, (refl, in_signed v))))
+in_cargo (Refuse n) = (refl, (refl, (refl, (refl, (refl, (refl, (refl, (refl, in_decimal n))))))))
+in_cargo AddLink = (refl, (refl, (refl, (refl, (refl, tt)))))
 
 in_reason : (r : Reason) → AllByRecursion IsNoFeed (reason_text r)
 in_reason (Rule n) = (refl, in_decimal (n + 1))
@@ -272,21 +272,21 @@ nogood_is_no_link : ◌≡◌ {A = ℕ} 110 108 → ⊥
 nogood_is_no_link e = absurd (let f = e in omega arith)
 
 cargo_is : (c d : Cargo) → CargoFits c → CargoFits d → cargo_text c ≡ cargo_text d → c ≡ d
-cargo_is (Value v) (Value w) f g e = ap Value (ap (λ (x : ℤ × List ℕ). x.0) (one (sym (integer_again v [] f refl) ∙ ap (λ l. integer_at (drop 4 l ++ [])) e ∙ integer_again w [] g refl)))
-cargo_is (Value v) (Step_number n) f g e = absurd (ok_is_no_nogood (first_byte (ap (drop 1) e)))
-cargo_is (Value v) Link f g e = absurd (ok_is_no_link (first_byte (ap (drop 1) e)))
-cargo_is (Step_number m) (Value v) f g e = absurd (ok_is_no_nogood (first_byte (ap (drop 1) (sym e))))
-cargo_is (Step_number m) (Step_number n) f g e = ap Step_number (decimal_injective m n f g (ap (drop 8) e))
-cargo_is (Step_number m) Link f g e = absurd (nogood_is_no_link (first_byte (ap (drop 1) e)))
-cargo_is Link (Value v) f g e = absurd (ok_is_no_link (first_byte (ap (drop 1) (sym e))))
-cargo_is Link (Step_number n) f g e = absurd (nogood_is_no_link (first_byte (ap (drop 1) (sym e))))
-cargo_is Link Link f g e = refl
+cargo_is (Tell v) (Tell w) f g e = ap Tell (ap (λ (x : ℤ × List ℕ). x.0) (one (sym (integer_again v [] f refl) ∙ ap (λ l. integer_at (drop 4 l ++ [])) e ∙ integer_again w [] g refl)))
+cargo_is (Tell v) (Refuse n) f g e = absurd (ok_is_no_nogood (first_byte (ap (drop 1) e)))
+cargo_is (Tell v) AddLink f g e = absurd (ok_is_no_link (first_byte (ap (drop 1) e)))
+cargo_is (Refuse m) (Tell v) f g e = absurd (ok_is_no_nogood (first_byte (ap (drop 1) (sym e))))
+cargo_is (Refuse m) (Refuse n) f g e = ap Refuse (decimal_injective m n f g (ap (drop 8) e))
+cargo_is (Refuse m) AddLink f g e = absurd (nogood_is_no_link (first_byte (ap (drop 1) e)))
+cargo_is AddLink (Tell v) f g e = absurd (ok_is_no_link (first_byte (ap (drop 1) (sym e))))
+cargo_is AddLink (Refuse n) f g e = absurd (nogood_is_no_link (first_byte (ap (drop 1) (sym e))))
+cargo_is AddLink AddLink f g e = refl
 
 -- behind a number comes no digit
 cargo_led : (c : Cargo) → (lead (cargo_text c ++ []) ≡ []) × (skip (cargo_text c ++ []) ≡ cargo_text c ++ [])
-cargo_led (Value v) = (refl, refl)
-cargo_led (Step_number n) = (refl, refl)
-cargo_led Link = (refl, refl)
+cargo_led (Tell v) = (refl, refl)
+cargo_led (Refuse n) = (refl, refl)
+cargo_led AddLink = (refl, refl)
 
 module _ (from to : ℕ) (cargo : Cargo) where
   abbrev one_said : List ℕ

@@ -3,12 +3,13 @@ use Rattle.std.proofs.Common.{◌≡◌, ◌∙◌, ℕ, ℤ, ◌+◌, true, fal
 use Rattle.std.proofs.lemmas.List.{map-append}
 use Rattle.dcsp_defs.specs.declared.Step.{Step}
 use Rattle.dcsp_defs.specs.Csp.{Csp}
-use Rattle.abt_defs.specs.Agents.{Agent, Announce, Refuse, Add_link, Message, StampedNogood, plain}
+use Rattle.abt_defs.specs.Agents.{Agent, Tell, Refuse, AddLink, Message, StampedNogood, plain}
 use Rattle.abt_defs.specs.Reasons.{derived, step_of}
 use Rattle.abt_defs.specs.Steps.{Outcome, choice, first_sent, heed, is_free, is_newer, is_news, learn, own_value, receive, refuse, settle, stay, take_or_refuse, to_each, unlinked}
 use Rattle.abt_parts.specs.declared.message.SentTo.{SentTo}
 use Rattle.abt_parts.specs.Messages.{told_sent}
-use Rattle.abt_defs.specs.Runs.{Link, Value, cargo_of}
+use Rattle.abt_defs.specs.Runs as runs
+use Rattle.abt_defs.specs.Runs.{cargo_of}
 use Rattle.abt_story.specs.Facts.{Sends}
 use Rattle.abt_story.specs.Telling.{sends}
 use Rattle.abt_story.specs.Looking.{cargo_by, sent_facts}
@@ -22,13 +23,13 @@ numbered number (Some s) = Some number
 abbrev pub Carries : List (ℕ × Message) → Option ℤ → Option ℕ → Type 0
 Carries sent value made = sent_facts (map told_sent sent) value made ≡ sends sent
 
-told_each : (v : ℤ) (stamp : ℕ) (ks : List ℕ) (made : Option ℕ) → Carries (to_each (Announce (record { value = v; stamp = stamp })) ks) (Some v) made
+told_each : (v : ℤ) (stamp : ℕ) (ks : List ℕ) (made : Option ℕ) → Carries (to_each (Tell (record { value = v; stamp = stamp })) ks) (Some v) made
 told_each v stamp [] made = refl
-told_each v stamp (k ∷ ks) made = ap (λ l. Sends k (Value v) ∷ l) (told_each v stamp ks made)
+told_each v stamp (k ∷ ks) made = ap (λ l. Sends k (runs.Tell v) ∷ l) (told_each v stamp ks made)
 
-asked_each : (ks : List ℕ) (value : Option ℤ) (made : Option ℕ) → Carries (to_each Add_link ks) value made
+asked_each : (ks : List ℕ) (value : Option ℤ) (made : Option ℕ) → Carries (to_each AddLink ks) value made
 asked_each [] value made = refl
-asked_each (k ∷ ks) value made = ap (λ l. Sends k Link ∷ l) (asked_each ks value made)
+asked_each (k ∷ ks) value made = ap (λ l. Sends k runs.AddLink ∷ l) (asked_each ks value made)
 
 both : (xs ys : List (ℕ × Message)) (value : Option ℤ) (made : Option ℕ) → Carries xs value made → Carries ys value made → Carries (xs ++ ys) value made
 both [] ys value made h g = g
@@ -52,21 +53,21 @@ settle_carries p i number a =
     by_choice None = refused (derived p i a.view a.recorded)
 
 pub receive_carries : (p : Csp) (i number : ℕ) (a : Agent) (k : ℕ) (m : Message) → let o : Outcome = receive p i number a k m in Carries o.sent o.agent.value (numbered number o.step)
-receive_carries p i number a k (Announce s) =
+receive_carries p i number a k (Tell s) =
     elim (is_newer (a.view k) s.stamp) as (λ b. let o : Outcome = cond b (settle p i number (learn k s a)) (stay a) in Carries o.sent o.agent.value (numbered number o.step)) [
       | true ↦ settle_carries p i number (learn k s a)
       | false ↦ refl
     ]
 receive_carries p i number a k (Refuse step pairs) =
     let b = heed i step pairs a in
-    let links = to_each Add_link (unlinked i (plain pairs) a) in
+    let links = to_each AddLink (unlinked i (plain pairs) a) in
     elim (a.waits && not (is_news i pairs a)) as (λ t. let o : Outcome = first_sent links (cond t (stay b) (settle p i number b)) in Carries o.sent o.agent.value (numbered number o.step)) [
       | true ↦ both links [] b.value None (asked_each (unlinked i (plain pairs) a) b.value None) refl
       | false ↦
           let o : Outcome = settle p i number b in
           both links o.sent o.agent.value (numbered number o.step) (asked_each (unlinked i (plain pairs) a) o.agent.value (numbered number o.step)) (settle_carries p i number b)
     ]
-receive_carries p i number a k Add_link = by_value a.value
+receive_carries p i number a k AddLink = by_value a.value
   where
     by_value : (v : Option ℤ) → Carries (own_value k a v) v None
     by_value None = refl

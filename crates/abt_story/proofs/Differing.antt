@@ -6,7 +6,7 @@ use Rattle.std.specs.Str.{byte}
 use Rattle.std.proofs.lemmas.List.{length-map, take_all}
 use Rattle.dcsp_defs.specs.Words.{In}
 use Rattle.dcsp_defs.specs.Csp.{Csp, IsCsp, count}
-use Rattle.abt_defs.specs.Agents.{Announce, Refuse, Add_link, Message}
+use Rattle.abt_defs.specs.Agents.{Tell, Refuse, AddLink, Message}
 use Rattle.abt_defs.specs.Runs.{Delivery, cargo_of, delivery_at, head_on, whole}
 use Rattle.law_runs.specs.Deliverable.{AreTwoAgents, IsDeliverable}
 use Rattle.law_runs.specs.Stops.{after, Stops}
@@ -70,14 +70,14 @@ module _ (p : Csp) (ok : IsCsp p) (names : HasNames p) (most : ℕ) (small : mos
           let counted = law.counted k (omega arith) in omega arith
 
       by_message : (m : Message) → s.message ≡ m → CargoFits (cargo_of m)
-      by_message (Announce told) e = let telling = subst (IsDeliverable p (after p choices k).steps s.sender s.receiver) e deliverable in names.values s.sender told.value two.sender telling.value_in
+      by_message (Tell told) e = let telling = subst (IsDeliverable p (after p choices k).steps s.sender s.receiver) e deliverable in names.values s.sender told.value two.sender telling.value_in
       by_message (Refuse step pairs) e =
           let in_list : In step (steps_in ((after p choices k).links s.sender s.receiver)) = subst (λ ms. In step (steps_in ms)) (sym (s.head ∙ ap (λ m. m ∷ s.rest) e)) (inl refl) in
           let made = (once_holds p (take k choices)).made s.sender s.receiver step in_list in
           let law : Stops p most choices (whole p most choices) = stops p most choices in
           let capped = law.at_most in
           let few = steps in omega arith
-      by_message Add_link e = tt
+      by_message AddLink e = tt
 
   -- the delivery with number k
   record Place (k : ℕ) (d : Delivery) : Type 0 where

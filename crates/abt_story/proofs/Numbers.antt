@@ -11,7 +11,7 @@ use Rattle.dcsp_defs.proofs.Lists.{In-filter, In-map, below-In, list_any-In}
 use Rattle.abt_defs.specs.Agents.{is_among}
 use Rattle.abt_defs.specs.Network.{Network}
 use Rattle.dcsp_defs.specs.declared.Reason.{Reason}
-use Rattle.abt_defs.specs.Runs.{Cargo, Delivery, Value, Step_number, Link}
+use Rattle.abt_defs.specs.Runs.{Cargo, Delivery, Tell, Refuse, AddLink}
 use Rattle.dcsp_order.specs.Orders.{number_at, place_of, IsOrder}
 use Rattle.dcsp_order.specs.Told.{number_told}
 use Rattle.dcsp_order.proofs.Places.{item_in, place_there_again}
@@ -52,9 +52,9 @@ drops_stay (Some order) (step ∷ before) after = elim (is_among step after) as 
 pub answers_stay : (order : Option (List ℕ)) (came : Option (ℕ × Cargo)) (after : List ℕ) → facts_told order (answers came after) ≡ answers came after
 answers_stay None came after = refl
 answers_stay (Some order) None after = refl
-answers_stay (Some order) (Some (k, Value value)) after = refl
-answers_stay (Some order) (Some (k, Step_number step)) after = elim (is_among step after) as (λ b. map (fact_told (Some order)) (cond b (Keeps step) (Declines step) ∷ []) ≡ cond b (Keeps step) (Declines step) ∷ []) [ true ↦ refl | false ↦ refl ]
-answers_stay (Some order) (Some (k, Link)) after = refl
+answers_stay (Some order) (Some (k, Tell value)) after = refl
+answers_stay (Some order) (Some (k, Refuse step)) after = elim (is_among step after) as (λ b. map (fact_told (Some order)) (cond b (Keeps step) (Declines step) ∷ []) ≡ cond b (Keeps step) (Declines step) ∷ []) [ true ↦ refl | false ↦ refl ]
+answers_stay (Some order) (Some (k, AddLink)) after = refl
 
 pub ruled_stay : (order : Option (List ℕ)) (values : List ℤ) (before after : ℤ → Option Reason) → facts_told order (rules_out values before after) ≡ rules_out values before after
 ruled_stay None values before after = refl

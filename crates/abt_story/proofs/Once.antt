@@ -6,7 +6,7 @@ use Rattle.dcsp_defs.specs.declared.Step.{Step}
 use Rattle.dcsp_defs.specs.Words.{In, below}
 use Rattle.dcsp_defs.specs.Csp.{Csp, count}
 use Rattle.dcsp_defs.proofs.Lists.{In-split}
-use Rattle.abt_defs.specs.Agents.{Agent, Announce, Refuse, Add_link, Message, Record, StampedNogood, lowest, plain}
+use Rattle.abt_defs.specs.Agents.{Agent, Tell, Refuse, AddLink, Message, Record, StampedNogood, lowest, plain}
 use Rattle.abt_defs.specs.Reasons.{derived, step_of}
 use Rattle.abt_defs.specs.Steps.{Outcome, choice, first_sent, heed, is_free, is_newer, is_news, learn, own_value, receive, refuse, settle, stay, take_or_refuse, to_each, unlinked}
 use Rattle.abt_defs.specs.Network.{Network, acted, deliver, deliver_at, deliver_head, left, next_number, ready, run, sent_to, start}
@@ -19,15 +19,15 @@ use Rattle.abt_story.proofs.Records.{HasNew, receive_records}
 
 abbrev pub steps_in : List Message → List ℕ
 steps_in [] = []
-steps_in (Announce told ∷ ms) = steps_in ms
+steps_in (Tell told ∷ ms) = steps_in ms
 steps_in (Refuse step pairs ∷ ms) = step ∷ steps_in ms
-steps_in (Add_link ∷ ms) = steps_in ms
+steps_in (AddLink ∷ ms) = steps_in ms
 
 steps_append : (ms ns : List Message) → steps_in (ms ++ ns) ≡ steps_in ms ++ steps_in ns
 steps_append [] ns = refl
-steps_append (Announce told ∷ ms) ns = steps_append ms ns
+steps_append (Tell told ∷ ms) ns = steps_append ms ns
 steps_append (Refuse step pairs ∷ ms) ns = ap (λ l. step ∷ l) (steps_append ms ns)
-steps_append (Add_link ∷ ms) ns = steps_append ms ns
+steps_append (AddLink ∷ ms) ns = steps_append ms ns
 
 -- no step twice
 abbrev pub Apart : List ℕ → Type 0
@@ -68,7 +68,7 @@ settle_sends p i number a j = elim (not a.waits && is_free p i a a.value) as (λ
     ]
 
     by_choice : (o : Option ℤ) → Sends_one number (take_or_refuse p i number a o) j
-    by_choice (Some v) = inl (none_to (Announce (record { value = v; stamp = a.stamp + 1 })) refl j (filter a.tells (below (count p))))
+    by_choice (Some v) = inl (none_to (Tell (record { value = v; stamp = a.stamp + 1 })) refl j (filter a.tells (below (count p))))
     by_choice None = refused (step_of p i a.view a.recorded) (derived p i a.view a.recorded)
 
 sent_append : (j : ℕ) (xs ys : List (ℕ × Message)) → sent_to j (xs ++ ys) ≡ sent_to j xs ++ sent_to j ys
@@ -79,23 +79,23 @@ sent_append j (x ∷ xs) ys = elim (x.0 == j) as (λ b. cond b (x.1 ∷ sent_to 
 ]
 
 -- requests before it change nothing
-asked_first : (number : ℕ) (ks : List ℕ) (o : Outcome) (j : ℕ) → Sends_one number o j → Sends_one number (first_sent (to_each Add_link ks) o) j
+asked_first : (number : ℕ) (ks : List ℕ) (o : Outcome) (j : ℕ) → Sends_one number o j → Sends_one number (first_sent (to_each AddLink ks) o) j
 asked_first number ks o j h =
-    let same : steps_in (sent_to j (to_each Add_link ks ++ o.sent)) ≡ steps_in (sent_to j o.sent)
-    = ap steps_in (sent_append j (to_each Add_link ks) o.sent) ∙ steps_append (sent_to j (to_each Add_link ks)) (sent_to j o.sent) ∙ ap (λ l. l ++ steps_in (sent_to j o.sent)) (none_to Add_link refl j ks) in
+    let same : steps_in (sent_to j (to_each AddLink ks ++ o.sent)) ≡ steps_in (sent_to j o.sent)
+    = ap steps_in (sent_append j (to_each AddLink ks) o.sent) ∙ steps_append (sent_to j (to_each AddLink ks)) (sent_to j o.sent) ∙ ap (λ l. l ++ steps_in (sent_to j o.sent)) (none_to AddLink refl j ks) in
     elim h [ inl e ↦ inl (same ∙ e) | inr e ↦ inr (same ∙ e.0, e.1, e.2) ]
 
 receive_sends : (p : Csp) (i number : ℕ) (a : Agent) (k : ℕ) (m : Message) (j : ℕ) → Sends_one number (receive p i number a k m) j
-receive_sends p i number a k (Announce s) j = elim (is_newer (a.view k) s.stamp) as (λ t. Sends_one number (cond t (settle p i number (learn k s a)) (stay a)) j) [ true ↦ settle_sends p i number (learn k s a) j | false ↦ inl refl ]
+receive_sends p i number a k (Tell s) j = elim (is_newer (a.view k) s.stamp) as (λ t. Sends_one number (cond t (settle p i number (learn k s a)) (stay a)) j) [ true ↦ settle_sends p i number (learn k s a) j | false ↦ inl refl ]
 receive_sends p i number a k (Refuse step pairs) j =
     let b = heed i step pairs a in
     asked_first number (unlinked i (plain pairs) a) (cond (a.waits && not (is_news i pairs a)) (stay b) (settle p i number b)) j
     (elim (a.waits && not (is_news i pairs a)) as (λ t. Sends_one number (cond t (stay b) (settle p i number b)) j) [ true ↦ inl refl | false ↦ settle_sends p i number b j ])
-receive_sends p i number a k Add_link j = inl (by_value a.value)
+receive_sends p i number a k AddLink j = inl (by_value a.value)
   where
     by_value : (o : Option ℤ) → steps_in (sent_to j (own_value k a o)) ≡ []
     by_value None = refl
-    by_value (Some v) = elim (k == j) as (λ b. steps_in (cond b (Announce (record { value = v; stamp = a.stamp }) ∷ []) []) ≡ []) [ true ↦ refl | false ↦ refl ]
+    by_value (Some v) = elim (k == j) as (λ b. steps_in (cond b (Tell (record { value = v; stamp = a.stamp }) ∷ []) []) ≡ []) [ true ↦ refl | false ↦ refl ]
 
 -- ---- a network
 
@@ -138,9 +138,9 @@ module _ (p : Csp) (net : Network) (k i : ℕ) (m : Message) (rest : List Messag
   rest_in n u = subst (In n) (sym (ap steps_in head)) (by_message m u)
     where
       by_message : (x : Message) → In n (steps_in rest) → In n (steps_in (x ∷ rest))
-      by_message (Announce told) u = u
+      by_message (Tell told) u = u
       by_message (Refuse step pairs) u = inr u
-      by_message Add_link u = u
+      by_message AddLink u = u
 
   mid_in : (l j n : ℕ) → In n (mid l j) → In n (steps_in (net.links l j))
   mid_in l j n u = elim (mid_is l j) [
@@ -159,31 +159,31 @@ module _ (p : Csp) (net : Network) (k i : ℕ) (m : Message) (rest : List Messag
   ]
     where
       by_message : (x : Message) → Apart (steps_in (x ∷ rest)) → Apart (steps_in rest)
-      by_message (Announce told) u = u
+      by_message (Tell told) u = u
       by_message (Refuse step pairs) u = u.1
-      by_message Add_link u = u
+      by_message AddLink u = u
 
   -- what came is no more in transit
   came_is_gone : (l n : ℕ) → HasNew m n → In n (mid l i) → ⊥
   came_is_gone l n new u = by_message m refl new
     where
       by_message : (x : Message) → m ≡ x → HasNew x n → ⊥
-      by_message (Announce told) e g = g
+      by_message (Tell told) e g = g
       by_message (Refuse step pairs) e g =
           let there : steps_in (net.links k i) ≡ step ∷ steps_in rest = ap steps_in head ∙ ap (λ y. steps_in (y ∷ rest)) e in
           let in_own : In n (steps_in (net.links k i)) = subst (In n) (sym there) (inl g) in
           let same : l ≡ k = h.one_sender l k i n (mid_in l i n u) in_own in
           let again : In n (steps_in rest) = subst (In n) mid_own (subst (λ x. In n (mid x i)) same u) in
           (subst Apart there (h.apart k i)).0 (subst (λ x. In x (steps_in rest)) g again)
-      by_message Add_link e g = g
+      by_message AddLink e g = g
 
   came_was_made : (n : ℕ) → HasNew m n → n ≤ length net.steps
   came_was_made n new = by_message m refl new
     where
       by_message : (x : Message) → m ≡ x → HasNew x n → n ≤ length net.steps
-      by_message (Announce told) e g = absurd g
+      by_message (Tell told) e g = absurd g
       by_message (Refuse step pairs) e g = h.made k i n (subst (In n) (sym (ap steps_in head ∙ ap (λ y. steps_in (y ∷ rest)) e)) (inl g))
-      by_message Add_link e g = absurd g
+      by_message AddLink e g = absurd g
 
   -- what agents have recorded then
   records : (j n : ℕ) → In n (steps_of (next.agents j)) → In n (steps_of (net.agents j)) ⊎ ((j ≡ i) × HasNew m n)
@@ -273,7 +273,7 @@ once_start p = record {
 
     all_empty : (k j : ℕ) → steps_in ((start p).links k j) ≡ []
     all_empty k j = elim (lt_or_ge k (settled_in (count p) (start p).steps)) [
-      | inl l ↦ ap steps_in (h.sent k j l) ∙ ap (λ s. steps_in (sent_to j s)) ((h.tells k).sent_is) ∙ none_to (Announce (h.tells k).told) refl j (filter (h.tells k).tells (below (count p)))
+      | inl l ↦ ap steps_in (h.sent k j l) ∙ ap (λ s. steps_in (sent_to j s)) ((h.tells k).sent_is) ∙ none_to (Tell (h.tells k).told) refl j (filter (h.tells k).tells (below (count p)))
       | inr l ↦ ap steps_in (h.others k j l)
     ]
 

@@ -4,7 +4,7 @@ use Rattle.dcsp_defs.specs.declared.Step.{Step}
 use Rattle.dcsp_defs.specs.Words.{In, update}
 use Rattle.std.proofs.lemmas.Bool.Decides.{eqb_tells, nat_tests}
 use Rattle.dcsp_defs.specs.Csp.{Csp}
-use Rattle.abt_defs.specs.Agents.{Agent, Announce, Refuse, Add_link, Message, Record, Stamped, StampedNogood, plain}
+use Rattle.abt_defs.specs.Agents.{Agent, Tell, Refuse, AddLink, Message, Record, Stamped, StampedNogood, plain}
 use Rattle.abt_defs.specs.Reasons.{derived, step_of}
 use Rattle.abt_defs.specs.Steps.{Outcome, ask, choice, first_sent, forget, heed, is_free, is_newer, is_news, keep, learn, learn_all, receive, refuse, settle, stay, take_or_refuse, to_each, unlinked, fits, is_refused}
 use Rattle.dcsp_defs.specs.Pairs.{value_at}
@@ -81,16 +81,16 @@ same_heeded i step pairs a =
 
 -- an agent that receives a message stays as it is, takes a value, or makes a step
 pub receive_moves : (p : Csp) (i number : ℕ) (a : Agent) (k : ℕ) (m : Message) → Moves a (receive p i number a k m)
-receive_moves p i number a k (Announce s) = elim (is_newer (a.view k) s.stamp) as (λ t. Moves a (cond t (settle p i number (learn k s a)) (stay a))) [
+receive_moves p i number a k (Tell s) = elim (is_newer (a.view k) s.stamp) as (λ t. Moves a (cond t (settle p i number (learn k s a)) (stay a))) [
   | true ↦ moved a (learn k s a) (settle p i number (learn k s a)) [] (same_learn k s a a (same_all a)) (settle_moves p i number (learn k s a))
   | false ↦ inl (record { same = same_all a; step = refl })
 ]
 receive_moves p i number a k (Refuse step pairs) =
     let b = heed i step pairs a in
     let same = same_heeded i step pairs a in
-    moved a b (cond (a.waits && not (is_news i pairs a)) (stay b) (settle p i number b)) (to_each Add_link (unlinked i (plain pairs) a)) same
+    moved a b (cond (a.waits && not (is_news i pairs a)) (stay b) (settle p i number b)) (to_each AddLink (unlinked i (plain pairs) a)) same
     (elim (a.waits && not (is_news i pairs a)) as (λ t. Moves b (cond t (stay b) (settle p i number b))) [ true ↦ inl (record { same = same_all b; step = refl }) | false ↦ settle_moves p i number b ])
-receive_moves p i number a k Add_link = inl (record { same = record { value = refl; stamp = refl; waits = refl }; step = refl })
+receive_moves p i number a k AddLink = inl (record { same = record { value = refl; stamp = refl; waits = refl }; step = refl })
 
 -- ---- the view
 
@@ -149,7 +149,7 @@ kept_view i x b = elim (fits i x.pairs b && not (is_refused i b.recorded (value_
 
 -- what enters the view is newer, and of an agent that the message names
 pub receive_enters : (p : Csp) (i number : ℕ) (a : Agent) (k : ℕ) (m : Message) (j : ℕ) → Enters (In j (named_by None k m)) (a.view j) ((receive p i number a k m).agent.view j)
-receive_enters p i number a k (Announce s) j = by_test (is_newer (a.view k) s.stamp) refl
+receive_enters p i number a k (Tell s) j = by_test (is_newer (a.view k) s.stamp) refl
   where
     by_test : (t : Bool) → is_newer (a.view k) s.stamp ≡ t → Enters ((j ≡ k) ⊎ ⊥) (a.view j) ((cond t (settle p i number (learn k s a)) (stay a)).agent.view j)
     by_test true e = rw (settle_view p i number (learn k s a)) (weaken _ _ (a.view j) _ inl (learn_enters k s a j))
@@ -162,4 +162,4 @@ receive_enters p i number a k (Refuse step pairs) j =
       | true ↦ all
       | false ↦ rw (settle_view p i number b) all
     ]
-receive_enters p i number a k Add_link j = inl refl
+receive_enters p i number a k AddLink j = inl refl

@@ -9,7 +9,7 @@ use Rattle.dcsp_defs.specs.Words.{In, update}
 use Rattle.dcsp_defs.specs.Csp.{Csp, Nogood, domain}
 use Rattle.dcsp_defs.specs.Pairs.{value_at}
 use Rattle.dcsp_defs.proofs.Lists.{In-filter, In-left, In-list_any, In-map, In-right, In-split, filter-from, list_any-In}
-use Rattle.abt_defs.specs.Agents.{Agent, Announce, Refuse, Add_link, Message, Record, Stamped, StampedNogood, is_among, plain}
+use Rattle.abt_defs.specs.Agents.{Agent, Tell, Refuse, AddLink, Message, Record, Stamped, StampedNogood, is_among, plain}
 use Rattle.abt_defs.specs.Events.{Act, act_of}
 use Rattle.abt_defs.specs.Reasons.{derived, step_of}
 use Rattle.abt_defs.specs.Steps.{Outcome, ask, choice, fits, forget, heed, is_free, is_newer, is_news, is_refused, learn, learn_all, receive, refuse, settle, stay, take_or_refuse}
@@ -107,9 +107,9 @@ settle_keeps p i number a = elim (not a.waits && is_free p i a a.value) as (λ b
 
 -- what a message can add
 abbrev pub Added : Message → List Record → Type 0
-Added (Announce told) more = more ≡ []
+Added (Tell told) more = more ≡ []
 Added (Refuse step pairs) more = (more ≡ []) ⊎ (more ≡ record { step = step; pairs = plain pairs } ∷ [])
-Added Add_link more = more ≡ []
+Added AddLink more = more ≡ []
 
 -- some are dropped, and what came may be added
 pub record Changes (m : Message) (before after : List Record) : Type 0 where
@@ -119,7 +119,7 @@ pub record Changes (m : Message) (before after : List Record) : Type 0 where
   pub added : Added m more
 
 pub receive_changes : (p : Csp) (i number : ℕ) (a : Agent) (k : ℕ) (m : Message) → Changes m a.recorded (receive p i number a k m).agent.recorded
-receive_changes p i number a k (Announce s) = elim (is_newer (a.view k) s.stamp) as (λ t. Changes (Announce s) a.recorded (cond t (settle p i number (learn k s a)) (stay a)).agent.recorded) [
+receive_changes p i number a k (Tell s) = elim (is_newer (a.view k) s.stamp) as (λ t. Changes (Tell s) a.recorded (cond t (settle p i number (learn k s a)) (stay a)).agent.recorded) [
   | true ↦
       let l = learn_sieves k s a in
       record { passes = l.0; more = []; is = settle_keeps p i number (learn k s a) ∙ l.1 ∙ sym (append-nil _); added = refl }
@@ -138,19 +138,19 @@ receive_changes p i number a k (Refuse step pairs) =
       | true ↦ heeded
       | false ↦ subst (Changes (Refuse step pairs) a.recorded) (sym (settle_keeps p i number b)) heeded
     ]
-receive_changes p i number a k Add_link = record { passes = λ pairs. true; more = []; is = sym (append-nil _ ∙ filter_all a.recorded); added = refl }
+receive_changes p i number a k AddLink = record { passes = λ pairs. true; more = []; is = sym (append-nil _ ∙ filter_all a.recorded); added = refl }
 
 -- the nogood that came is of this step
 abbrev pub HasNew : Message → ℕ → Type 0
-HasNew (Announce told) n = ⊥
+HasNew (Tell told) n = ⊥
 HasNew (Refuse step pairs) n = n ≡ step
-HasNew Add_link n = ⊥
+HasNew AddLink n = ⊥
 
 of_added : (m : Message) (more : List Record) (r : Record) → Added m more → In r more → HasNew m r.step
-of_added (Announce told) more r e u = absurd (subst (In r) e u)
+of_added (Tell told) more r e u = absurd (subst (In r) e u)
 of_added (Refuse step pairs) more r (inl e) u = absurd (subst (In r) e u)
 of_added (Refuse step pairs) more r (inr e) u = elim (subst (In r) e u) [ inl f ↦ ap (λ (x : Record). x.step) f | inr w ↦ absurd w ]
-of_added Add_link more r e u = absurd (subst (In r) e u)
+of_added AddLink more r e u = absurd (subst (In r) e u)
 
 -- what is recorded then was before, or came
 pub receive_records : (p : Csp) (i number : ℕ) (a : Agent) (k : ℕ) (m : Message) (n : ℕ) → In n (steps_of (receive p i number a k m).agent) → In n (steps_of a) ⊎ HasNew m n
@@ -242,7 +242,7 @@ module _ (m : Message) (before after : List Record) (c : Changes m before after)
   answered k xs = by_message m refl c.added
     where
       by_message : (x : Message) → m ≡ x → Added x c.more → fold recorded_after xs (answers (came_with (Some (k, x))) (steps after)) ≡ xs ++ steps c.more
-      by_message (Announce told) e g = sym (ap (λ l. xs ++ steps l) g ∙ append-nil xs)
+      by_message (Tell told) e g = sym (ap (λ l. xs ++ steps l) g ∙ append-nil xs)
       by_message (Refuse step pairs) e (inl g) =
           let old : In step (steps after) → In step (steps before) = λ u. old_step step (subst (In step) (after_is ∙ ap (λ l. steps rest ++ steps l) g ∙ append-nil (steps rest)) u) in
           let no : is_among step (steps after) ≡ false = not_among step (steps after) (λ u. clear.new step (subst (λ y. HasNew y step) (sym e) refl) (old u)) in
@@ -250,7 +250,7 @@ module _ (m : Message) (before after : List Record) (c : Changes m before after)
       by_message (Refuse step pairs) e (inr g) =
           let yes : is_among step (steps after) ≡ true = among step (steps after) (subst (In step) (sym (after_is ∙ ap (λ l. steps rest ++ steps l) g)) (In-right step (steps rest) (step ∷ []) (inl refl))) in
           ap (λ (b : Bool). recorded_after (cond b (Keeps step) (Declines step)) xs) yes ∙ sym (ap (λ l. xs ++ steps l) g)
-      by_message Add_link e g = sym (ap (λ l. xs ++ steps l) g ∙ append-nil xs)
+      by_message AddLink e g = sym (ap (λ l. xs ++ steps l) g ∙ append-nil xs)
 
   both_told : (k : ℕ) → fold recorded_after (fold recorded_after (steps before) (drops (steps before) (steps after))) (answers (came_with (Some (k, m))) (steps after)) ≡ steps after
   both_told k = ap (λ xs. fold recorded_after xs (answers (came_with (Some (k, m))) (steps after))) dropped ∙ answered k (steps rest) ∙ sym after_is

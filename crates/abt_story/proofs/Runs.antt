@@ -12,7 +12,7 @@ use Rattle.dcsp_defs.specs.Pairs.{pair_of}
 use Rattle.dcsp_defs.proofs.Lists.{In-map}
 use Rattle.dcsp_order.proofs.Mapped.{from_map}
 use Rattle.dcsp_defs.specs.Csp.{Csp, IsCsp, count, domain}
-use Rattle.abt_defs.specs.Agents.{Agent, Announce, Refuse, Add_link, Message, Record, Stamped, View, fresh, known}
+use Rattle.abt_defs.specs.Agents.{Agent, Tell, Refuse, AddLink, Message, Record, Stamped, View, fresh, known}
 use Rattle.abt_defs.specs.Events.{Act}
 use Rattle.abt_defs.specs.Steps.{Outcome}
 use Rattle.abt_defs.specs.Network.{Network, acted, deliver, deliver_at, deliver_head, left, ready, refutes, run, sent_to, start}
@@ -339,9 +339,9 @@ next_clear p ok c cs alive s = record {
     one_step e = cc
 
     came : (m : Message) (n : ℕ) → HasNew m n → In n (steps_in (m ∷ s.rest))
-    came (Announce told) n h = absurd h
+    came (Tell told) n h = absurd h
     came (Refuse step pairs) n h = inl h
-    came Add_link n h = absurd h
+    came AddLink n h = absurd h
 
 -- an agent that the message names is one of the problem, and so it is named where all go by their numbers
 value_low : (p : Csp) (i : ℕ) (v : ℤ) → In v (domain p i) → i < count p
@@ -352,8 +352,8 @@ next_named : (order : Option (List ℕ)) (p : Csp) → IsCsp p → IsOrderOn ord
 next_named order p ok in_order c cs alive s = by_message s.message refl
   where
     by_message : (m : Message) → s.message ≡ m → (q : ℕ) → In q (named_by None s.sender m) → In q (named_by order s.sender m)
-    by_message (Announce told) e q h = h
-    by_message Add_link e q h = h
+    by_message (Tell told) e q h = h
+    by_message AddLink e q h = h
     by_message (Refuse step pairs) e q h =
         let there : In s.message ((run p cs (start p)).links s.sender s.receiver) = subst (In s.message) (sym s.head) (inl refl) in
         let can : IsDeliverable p (run p cs (start p)).steps s.sender s.receiver (Refuse step pairs) =

@@ -5,7 +5,7 @@ use Rattle.dcsp_defs.specs.declared.Reason.{Reason}
 use Rattle.dcsp_defs.specs.Csp.{Csp, domain}
 use Rattle.abt_defs.specs.Agents.{Agent, Message, Stamped, is_among}
 use Rattle.abt_defs.specs.Events.{Act}
-use Rattle.abt_defs.specs.Runs.{Cargo, Value, Step_number, Link, cargo_of}
+use Rattle.abt_defs.specs.Runs.{Cargo, Tell, Refuse, AddLink, cargo_of}
 use Rattle.abt_story.specs.Facts.{RuledOut, Fact, Receives, Knows, Forgets, Keeps, Declines, Out, Takes, Makes, Sends}
 use Rattle.abt_story.specs.Telling.{answers, came_with, drops, enters, facts, is_later, learns, makes, named_in, reason, reason_before, receives, ruled_out, rules_out, same_reasons, sends, stamp_in, steps_of, takes, takes_value}
 use Rattle.abt_story.specs.Retelling.{fold}
@@ -53,9 +53,9 @@ module _ {X : Type 0} (change : Fact → X → X) where
 
   pub pass_answers : SkipsSteps Keeps → SkipsSteps Declines → (o : Option (ℕ × Cargo)) (after : List ℕ) (x : X) → fold change x (answers o after) ≡ x
   pass_answers h g None after x = refl
-  pass_answers h g (Some (k, Value value)) after x = refl
-  pass_answers h g (Some (k, Step_number step)) after x = elim (is_among step after) as (λ b. change (cond b (Keeps step) (Declines step)) x ≡ x) [ true ↦ h step x | false ↦ g step x ]
-  pass_answers h g (Some (k, Link)) after x = refl
+  pass_answers h g (Some (k, Tell value)) after x = refl
+  pass_answers h g (Some (k, Refuse step)) after x = elim (is_among step after) as (λ b. change (cond b (Keeps step) (Declines step)) x ≡ x) [ true ↦ h step x | false ↦ g step x ]
+  pass_answers h g (Some (k, AddLink)) after x = refl
 
   pub pass_rules_out : SkipsOut → (values : List ℤ) (before after : ℤ → Option Reason) (x : X) → fold change x (rules_out values before after) ≡ x
   pass_rules_out h values before after x = elim (list_any (λ v. not (same_reasons (before v) (after v))) values) as (λ b. fold change x (cond b (Out (ruled_out values after) ∷ []) []) ≡ x) [

@@ -7,7 +7,7 @@ use Rattle.std.proofs.lemmas.Grind.{flat_map-append}
 use Rattle.dcsp_defs.specs.Words.{below}
 use Rattle.dcsp_defs.specs.Csp.{Csp, count, domain}
 use Rattle.dcsp_problem.specs.Lower.{joins, lower_owners}
-use Rattle.abt_defs.specs.Agents.{Announce, Record, Stamped, StampedNogood, fresh, is_among, known, shares}
+use Rattle.abt_defs.specs.Agents.{Tell, Record, Stamped, StampedNogood, fresh, is_among, known, shares}
 use Rattle.abt_defs.specs.Events.{Act, start_acts}
 use Rattle.abt_defs.specs.Network.{start}
 use Rattle.abt_defs.specs.Reasons.{Item, blamed, causes, derived, ruled_out, step_of}
@@ -53,7 +53,7 @@ module _ (p : Csp) (sound : (i : ℕ) → Sound p i (fresh p i)) (i : ℕ) where
           by_test true e l = absurd (let s = (sound j).higher i e in omega arith)
           by_test false e l = e
 
-  each_told : (s : Stamped) (ks : List ℕ) → map told_sent (to_each (Announce s) ks) ≡ map tell_to ks
+  each_told : (s : Stamped) (ks : List ℕ) → map told_sent (to_each (Tell s) ks) ≡ map tell_to ks
   each_told s [] = refl
   each_told s (k ∷ ks) = ap (λ l. tell_to k ∷ l) (each_told s ks)
 

@@ -76,9 +76,9 @@ reason_in s v = reason_for s.problem s.me (known (stands_for s)) s.store v
 
 -- the cargo of a message of this kind, from an agent that has this value then and has made this step, if it made one
 abbrev pub cargo_by : MessageKind → Option ℤ → Option ℕ → runs.Cargo
-cargo_by kinds.Tell value made = runs.Value (unwrap_or value (pos 0))
-cargo_by kinds.Refuse value made = runs.Step_number (unwrap_or made 0)
-cargo_by kinds.AddLink value made = runs.Link
+cargo_by kinds.Tell value made = runs.Tell (unwrap_or value (pos 0))
+cargo_by kinds.Refuse value made = runs.Refuse (unwrap_or made 0)
+cargo_by kinds.AddLink value made = runs.AddLink
 
 abbrev pub sent_facts : List SentTo → Option ℤ → Option ℕ → List Fact
 sent_facts sent value made = map (λ (x : SentTo). Sends x.to (cargo_by x.kind value made)) sent

@@ -9,11 +9,12 @@ use Rattle.dcsp_defs.specs.declared.Reason.TheVariants.{Rule, Earlier}
 use Rattle.dcsp_defs.specs.declared.Step.{Step}
 use Rattle.dcsp_defs.specs.Csp.{Csp, domain}
 use Rattle.dcsp_order.specs.Orders.{place_of}
-use Rattle.abt_defs.specs.Agents.{Agent, Announce, Refuse, Add_link, Message, Record, Stamped, is_among, known}
+use Rattle.abt_defs.specs.Agents.{Agent, Tell, Refuse, AddLink, Message, Record, Stamped, is_among, known}
 use Rattle.abt_defs.specs.Reasons.{Item, cause}
 use Rattle.abt_defs.specs.Network.{Network, deliver, start}
 use Rattle.abt_defs.specs.Events.{Act, choice_acts, start_acts}
-use Rattle.abt_defs.specs.Runs.{Cargo, Value, Step_number, Link, cargo_of}
+use Rattle.abt_defs.specs.Runs as runs
+use Rattle.abt_defs.specs.Runs.{Cargo, cargo_of}
 use Rattle.law_runs.specs.Stops.{after}
 use Rattle.abt_story.specs.Facts.{RuledOut, Fact, Receives, Knows, Forgets, Keeps, Declines, Out, Takes, Makes, Sends, Line}
 use Rattle.abt_story.specs.Numbers.{lines_told}
@@ -27,9 +28,9 @@ by_numbers (Some order) agents = filter (λ k. is_among k agents) (map (place_of
 
 -- the agents that a message from k names: those of a nogood, whose pairs rise, by their own numbers
 abbrev pub named_by : Option (List ℕ) → ℕ → Message → List ℕ
-named_by order k (Announce s) = k ∷ []
+named_by order k (Tell s) = k ∷ []
 named_by order k (Refuse step pairs) = by_numbers order (map (λ (y : ℕ × Stamped). y.0) pairs)
-named_by order k Add_link = []
+named_by order k AddLink = []
 
 -- those that what came names
 abbrev pub named_in : Option (List ℕ) → Option (ℕ × Message) → List ℕ
@@ -78,9 +79,9 @@ drops before after = flat_map (λ step. if is_among step after then [] else Forg
 -- whether the nogood that came is among these
 abbrev pub answers : Option (ℕ × Cargo) → List ℕ → List Fact
 answers None after = []
-answers (Some (k, Value value)) after = []
-answers (Some (k, Step_number step)) after = (if is_among step after then Keeps step else Declines step) ∷ []
-answers (Some (k, Link)) after = []
+answers (Some (k, runs.Tell value)) after = []
+answers (Some (k, runs.Refuse step)) after = (if is_among step after then Keeps step else Declines step) ∷ []
+answers (Some (k, runs.AddLink)) after = []
 
 -- ---- and of the values that are ruled out
 

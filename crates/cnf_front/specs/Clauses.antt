@@ -1,5 +1,7 @@
 -- Nogoods and rules as clauses. The variable with number x, counted from 0, is the literal x + 1.
 use Rattle.std.specs.Prelude.{◌≡◌, ◌⊎◌, ℕ, ◌+◌, ◌<◌, suc, zero, ℤ, pos, negsuc, List, [], ◌++◌, map, take, All}
+use Rattle.dcsp_common.specs.Limits.{most}
+use Rattle.dcsp_common.specs.declared.limits.Which.TheVariants.{Variables}
 use Rattle.dcsp_defs.specs.declared.nogood.Pair.{Pair}
 use Rattle.dcsp_meaning.specs.declared.kinds.ConstraintKind.TheVariants.{BoolClause}
 use Rattle.dcsp_rule.specs.declared.rule.Term.{Term}
@@ -19,7 +21,7 @@ clause_of nogood = map (λ (y : Pair). literal_against y.var y.value) nogood
 
 -- a pair of a variable below 4,096 and 0 or 1
 pub record IsBinary (y : Pair) : Type 0 where
-  pub variable : y.var < 4096
+  pub variable : y.var < most Variables
   pub value : (y.value ≡ pos 0) ⊎ (y.value ≡ pos 1)
 
 -- the literal that a term is

@@ -1,5 +1,7 @@
 //! The clauses of a DIMACS text.
 ghost use Rattle.std.specs.Prelude.{◌≡◌, ℕ, ◌+◌, ◌<◌, ◌≤◌, ◌^◌, ◌∷◌, ◌++◌, List, [], length, OnOk, OnErr, IfOk, IfErr, IfSome, unsigned_abs, Err, All, pos, replicate, take};
+ghost use Rattle.dcsp_common.specs.Limits.{most};
+ghost use Rattle.dcsp_common.specs.declared.limits.Which.TheVariants.{Variables};
 ghost use Rattle.dcsp_rule.specs.Rules.{IsTermOf};
 ghost use Rattle.dcsp_rule.specs.declared.aim.Aim.TheVariants.{Satisfy};
 ghost use Rattle.cnf_front.specs.Clauses.{IsClauseRule};
@@ -60,7 +62,7 @@ fn read_clauses(
 ) -> Result<(), CnfError>
     requires place { from.at + length from.bytes.now < 2 ^ 32 }
     requires domains { length builder.old.domains ≡ variables }
-    requires few { variables ≤ 4096 }
+    requires few { variables ≤ most Variables }
     ensures { Gives (λ _. builder.new) result (clauses_from variables builder.old no_literals (words from.entry.stand from.entry.at from.entry.bytes.now)) }
 {
     let mut clause = Open {

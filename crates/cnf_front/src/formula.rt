@@ -1,5 +1,7 @@
 //! A problem's rules as clauses.
 ghost use Rattle.std.specs.Prelude.{◌≡◌, ℕ, ℤ, ◌+◌, ◌≤◌, ◌<◌, ◌^◌, List, [], ◌∷◌, ◌++◌, map, length, OnOk, OnErr, All, neg_ℤ};
+ghost use Rattle.dcsp_common.specs.Limits.{most};
+ghost use Rattle.dcsp_common.specs.declared.limits.Which.TheVariants.{Variables};
 ghost use Rattle.rup_check.specs.Literals.{IsLiteral};
 ghost use Rattle.cnf_front.specs.Clauses.{literal_of, negation_of, rule_clause, IsVariable, IsClauseRule, AddsSome};
 ghost use Rattle.dcsp_rule.specs.Rules.{IsTermOf, IsRuleOf};
@@ -34,7 +36,7 @@ pub fn formula_of(alloc: Global, problem: &Problem, into: &mut ClauseList) -> Re
 fn read_rule(rule: RuleRef<'_>, variables: u32, clause: &mut Vec<i32>) -> Result<(), Memory>
     requires form { IsClauseRule (lent_rule rule) }
     requires known { IsRuleOf variables (lent_rule rule) }
-    requires few { variables ≤ 4096 }
+    requires few { variables ≤ most Variables }
     requires empty { clause.old.items ≡ [] }
     ensures clause { OnOk result (clause.new.items ≡ rule_clause (lent_rule rule.entry)) }
     ensures literals { OnOk result (All IsLiteral clause.new.items) }
@@ -51,7 +53,7 @@ fn read_rule(rule: RuleRef<'_>, variables: u32, clause: &mut Vec<i32>) -> Result
 /// Appends the literals that the terms are.
 fn add_variables(clause: &mut Vec<i32>, terms: &[Term], variables: u32) -> Result<(), Memory>
     requires known { All (IsTermOf variables) terms.now }
-    requires few { variables ≤ 4096 }
+    requires few { variables ≤ most Variables }
     ensures { OnOk result (clause.new.items ≡ clause.old.items ++ map literal_of terms.now) }
 {
     for term in terms {
@@ -64,7 +66,7 @@ fn add_variables(clause: &mut Vec<i32>, terms: &[Term], variables: u32) -> Resul
 /// Appends the negations of the literals that the terms are.
 fn add_negations(clause: &mut Vec<i32>, terms: &[Term], variables: u32) -> Result<(), Memory>
     requires known { All (IsTermOf variables) terms.now }
-    requires few { variables ≤ 4096 }
+    requires few { variables ≤ most Variables }
     ensures { OnOk result (clause.new.items ≡ clause.old.items ++ map negation_of terms.now) }
 {
     for term in terms {
@@ -77,7 +79,7 @@ fn add_negations(clause: &mut Vec<i32>, terms: &[Term], variables: u32) -> Resul
 /// The number of a variable, counted from 1; 0 for a constant.
 fn number_of(term: Term, variables: u32) -> i32
     requires known { IsTermOf variables term }
-    requires few { variables ≤ 4096 }
+    requires few { variables ≤ most Variables }
     ensures number { result ≡ literal_of term }
     ensures negation { neg_ℤ result ≡ negation_of term }
 {

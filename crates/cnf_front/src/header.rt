@@ -1,5 +1,7 @@
 //! The header of a DIMACS text.
 ghost use Rattle.std.specs.Prelude.{◌≡◌, ℕ, ◌+◌, ◌<◌, ◌≤◌, ◌^◌, List, [], length, IfSome, OnOk, IfOk, neg_ℤ, unsigned_abs};
+ghost use Rattle.dcsp_common.specs.Limits.{most};
+ghost use Rattle.dcsp_common.specs.declared.limits.Which.TheVariants.{Variables};
 ghost use Rattle.cnf_front.specs.Dimacs.{words};
 ghost use Rattle.cnf_front.specs.Formulas.{is_p, is_cnf, is_number, is_end, all_digits, digits_of, number_of, literal_in, negated, plain, passes, expect, variables_at, header, Gives};
 
@@ -78,14 +80,14 @@ fn read_variables(from: Rest) -> Result<(u32, Rest), CnfError>
     requires { from.at + length from.bytes.now < 2 ^ 32 }
     ensures given { Gives (λ x. (x.0, words x.1.stand x.1.at x.1.bytes.now)) result (variables_at (words from.entry.stand from.entry.at from.entry.bytes.now)) }
     ensures end { IfOk result (λ x. x.1.at + length x.1.bytes.now ≡ from.entry.at + length from.entry.bytes.now) }
-    ensures few { IfOk result (λ x. x.0 ≤ 4096) }
+    ensures few { IfOk result (λ x. x.0 ≤ most Variables) }
 {
     let (word, rest) = next_word(from);
     let at = word.at as u32;
     let Some(number) = number_of(word.bytes) else {
         return Err(CnfError::Syntax { at });
     };
-    if number > 4096 {
+    if number > Which::Variables.most() as u64 {
         return Err(CnfError::Limit {
             which: Which::Variables,
             count: u128::from(number),
@@ -101,7 +103,7 @@ pub(crate) fn read_header(from: Rest) -> Result<(u32, Rest), CnfError>
     requires { from.at + length from.bytes.now < 2 ^ 32 }
     ensures given { Gives (λ x. (x.0, words x.1.stand x.1.at x.1.bytes.now)) result (header (words from.entry.stand from.entry.at from.entry.bytes.now)) }
     ensures end { IfOk result (λ x. x.1.at + length x.1.bytes.now ≡ from.entry.at + length from.entry.bytes.now) }
-    ensures few { IfOk result (λ x. x.0 ≤ 4096) }
+    ensures few { IfOk result (λ x. x.0 ≤ most Variables) }
 {
     let rest = expect(Mark::P, from)?;
     let rest = expect(Mark::Cnf, rest)?;
@@ -195,7 +197,7 @@ fn number_of(word: &[u8]) -> Option<u64>
 /// The literal over so many variables, or 0, that a word writes.
 #[tactic(auto, unfolding(crate::specs::Formulas::literal_in, crate::specs::Formulas::negated, crate::specs::Formulas::plain))]
 pub(crate) fn literal_in(variables: u32, word: &[u8]) -> Option<i32>
-    requires { variables ≤ 4096 }
+    requires { variables ≤ most Variables }
     ensures literal { result ≡ literal_in variables word.now }
     ensures within { IfSome result (λ z. unsigned_abs z ≤ variables) }
 {

@@ -1,6 +1,8 @@
 //! The generated problems.
 ghost use Rattle.std.specs.Prelude.{◌≡◌, ℕ, ◌+◌, ◌-◌, ◌<◌, ◌≤◌, ◌++◌, ◌∷◌, [], flat_map, map, string_bytes, codes, IfOk, OnOk};
 ghost use Rattle.std.specs.List.{range_with_len};
+ghost use Rattle.dcsp_common.specs.Limits.{most};
+ghost use Rattle.dcsp_common.specs.declared.limits.Which.TheVariants.{Variables};
 ghost use Rattle.abt_schedule.specs.Answers.{generator_of, word_at};
 ghost use Rattle.dcsp_gen.specs.Words.{TakesWords};
 ghost use Rattle.dcsp_gen.specs.Problems.{pairs_of, pairs, queen_lines, queens_text, edge_line, colouring_text, thrice, neighbour_line, sparse_text, apart_line, pigeons_text};
@@ -106,7 +108,7 @@ fn push_edge(text: &mut String, word: u32, first: u32, second: u32) -> Result<()
 /// node has at most three earlier neighbours, and there is a solution.
 pub fn sparse(alloc: Global, n: u32, seed: u64) -> Result<Vec<u8>, Memory>
     requires least { 1 ≤ n }
-    requires most { n ≤ 4096 }
+    requires most { n ≤ most Variables }
     ensures { IfOk result (λ text. text.items ≡ sparse_text n (word_at (generator_of seed))) }
 {
     let mut words = Pcg32::seed_from_u64(seed);
@@ -116,7 +118,7 @@ pub fn sparse(alloc: Global, n: u32, seed: u64) -> Result<Vec<u8>, Memory>
 
 fn sparse_lines(alloc: Global, n: u32, words: &mut Pcg32) -> Result<String, AllocError>
     requires least { 1 ≤ n }
-    requires most { n ≤ 4096 }
+    requires most { n ≤ most Variables }
     ensures { IfOk result (λ text. string_bytes text ≡ sparse_text n (word_at words.old)) }
 {
     let mut text = String::new(alloc);

@@ -2,6 +2,8 @@
 
 ghost use Rattle.std.specs.Prelude.{◌≡◌, ◌+◌, ◌*◌, ◌<◌, ◌≤◌, ◌^◌, ℕ, Bool, true, false, cond, not, ◌&&◌, ◌==◌, length, IfOk, slice_index, vec_len, Some, None};
 ghost use Rattle.std.specs.List.{count_by};
+ghost use Rattle.dcsp_common.specs.Limits.{most};
+ghost use Rattle.dcsp_common.specs.declared.limits.Which.TheVariants.{Variables};
 ghost use Rattle.dcsp_defs.specs.Words.{below};
 ghost use Rattle.dcsp_rule.specs.Problems.{csp_of};
 ghost use Rattle.dcsp_order.specs.ByRule.{degree, IsOrderBy, OneOrderByRule};
@@ -74,7 +76,7 @@ fn weight_of(problem: &Problem, rule: OrderRule, shared: &[bool], var: u32) -> u
 /// How many of so many variables share a scope with this one, which is not counted.
 fn neighbours_of(shared: &[bool], var: u32, vars: u32) -> u32
     requires var { var < vars }
-    requires few { vars ≤ 4096 }
+    requires few { vars ≤ most Variables }
     requires as_many { length shared.now ≡ vars * vars }
     ensures { result ≡ count_by (λ k. not (var == k) && flag_at shared.now (var * vars + k)) (below vars) }
 {
@@ -127,7 +129,7 @@ fn placed_in_turn(
 
 /// Of the variables that are left, the one that goes before all others.
 fn next_of(left: &[bool], linked: &[u32], weights: &[u32]) -> Option<u32>
-    requires few { length left.now ≤ 4096 }
+    requires few { length left.now ≤ most Variables }
     requires linked { length linked.now ≡ length left.now }
     requires weights { length weights.now ≡ length left.now }
     ensures { IsNext left.now linked.now weights.now (length left.now) result }
@@ -180,9 +182,9 @@ fn is_greater(linked: &[u32], weights: &[u32], var: u32, other: u32) -> bool
 /// Counts one link more for each neighbour of the variable, where the rule asks for links.
 fn count_links(rule: OrderRule, linked: &mut Vec<u32>, shared: &[bool], number: u32)
     requires number { number < vec_len linked.old }
-    requires few { vec_len linked.old ≤ 4096 }
+    requires few { vec_len linked.old ≤ most Variables }
     requires as_many { length shared.now ≡ vec_len linked.old * vec_len linked.old }
-    requires small { (k : ℕ) → k < vec_len linked.old → slice_index linked.old.items k < 4096 }
+    requires small { (k : ℕ) → k < vec_len linked.old → slice_index linked.old.items k < most Variables }
     ensures { GainsLinks rule number shared.now linked.old.items linked.new.items }
 {
     match rule {
@@ -194,9 +196,9 @@ fn count_links(rule: OrderRule, linked: &mut Vec<u32>, shared: &[bool], number: 
 /// Counts one link more for each neighbour of the variable.
 fn add_links(linked: &mut Vec<u32>, shared: &[bool], number: u32)
     requires number { number < vec_len linked.old }
-    requires few { vec_len linked.old ≤ 4096 }
+    requires few { vec_len linked.old ≤ most Variables }
     requires as_many { length shared.now ≡ vec_len linked.old * vec_len linked.old }
-    requires small { (k : ℕ) → k < vec_len linked.old → slice_index linked.old.items k < 4096 }
+    requires small { (k : ℕ) → k < vec_len linked.old → slice_index linked.old.items k < most Variables }
     ensures { GainsLinks OrderRule.Links number shared.now linked.old.items linked.new.items }
 {
     let vars = linked.len();

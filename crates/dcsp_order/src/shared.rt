@@ -1,6 +1,8 @@
 //! Which variables stand together in a scope.
 
 ghost use Rattle.std.specs.Prelude.{◌≡◌, ◌+◌, ◌*◌, ◌<◌, ◌≤◌, All, IfOk, vec_len};
+ghost use Rattle.dcsp_common.specs.Limits.{most};
+ghost use Rattle.dcsp_common.specs.declared.limits.Which.TheVariants.{Variables};
 ghost use Rattle.dcsp_rule.specs.Problems.{csp_of};
 ghost use Rattle.dcsp_order.specs.Shared.{is_in_row, is_in_rows, AreShared, Sets};
 
@@ -23,7 +25,7 @@ pub(crate) fn shared_scopes(alloc: Global, problem: &Problem) -> Result<Vec<bool
 
 /// Sets the flags of each two of these variables.
 fn set_rows(flags: &mut Vec<bool>, width: usize, scope: &[u32])
-    requires few { width ≤ 4096 }
+    requires few { width ≤ most Variables }
     requires inside { All (λ k. k < width) scope.now }
     requires as_many { vec_len flags.old ≡ width * width }
     ensures { Sets (is_in_rows width scope.now scope.now) flags.old.items flags.new.items }

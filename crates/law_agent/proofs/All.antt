@@ -6,7 +6,7 @@ use Rattle.dcsp_defs.specs.Pairs.{pair_of}
 use Rattle.dcsp_defs.specs.Words.{In, below}
 use Rattle.dcsp_defs.specs.Csp.{Csp, Constraint, IsCsp, count}
 use Rattle.dcsp_defs.proofs.Lists.{In-below, get-In, filter-from}
-use Rattle.abt_defs.specs.Agents.{Message, Announce, Refuse, Add_link, Stamped, StampedNogood, lowest, value_in}
+use Rattle.abt_defs.specs.Agents.{Message, Tell, Refuse, AddLink, Stamped, StampedNogood, lowest, value_in}
 use Rattle.abt_defs.specs.Steps.{settle, receive}
 use Rattle.abt_defs.specs.Network.{Network, acted, left, next_number, deliver_head, deliver_at, deliver, ready, run, start, start_by, empty_network, settle_below, is_false, pairs}
 use Rattle.law_agent.proofs.Nogoods.{value_at-In}
@@ -87,9 +87,9 @@ both_start p ok (Some x) f = cc
 
 requests-asks : (ms : List Message) → requests ms ≡ asks ms
 requests-asks [] = refl
-requests-asks (Announce s ∷ ms) = requests-asks ms
+requests-asks (Tell s ∷ ms) = requests-asks ms
 requests-asks (Refuse step pairs ∷ ms) = requests-asks ms
-requests-asks (Add_link ∷ ms) = ap suc (requests-asks ms)
+requests-asks (AddLink ∷ ms) = ap suc (requests-asks ms)
 
 module _ (p : Csp) (net : Network) (h : Kept p (count p) net) (a : Also net) where
   witness_of : (i : ℕ) → (net.agents i).waits ≡ true → Witness net i

@@ -4,7 +4,7 @@ use Rattle.std.proofs.Common.{◌≡◌, ℕ, suc, ◌+◌, ◌<◌, ◌≤◌, 
 use Rattle.dcsp_defs.specs.Words.{In}
 use Rattle.dcsp_defs.specs.Csp.{Csp, domain, count}
 use Rattle.dcsp_defs.specs.Pairs.{value_at}
-use Rattle.abt_defs.specs.Agents.{Agent, Message, Announce, Refuse, Add_link, Record, Stamped, StampedNogood, plain, lowest, known}
+use Rattle.abt_defs.specs.Agents.{Agent, Message, Tell, Refuse, AddLink, Record, Stamped, StampedNogood, plain, lowest, known}
 use Rattle.abt_defs.specs.Reasons.{ruled_out}
 use Rattle.abt_defs.specs.Network.{Network}
 pub use Rattle.law_agent.specs.OneAgent.{Proper, Distinct, Agreeing, Sound}
@@ -12,9 +12,9 @@ pub use Rattle.law_agent.specs.OneAgent.{Proper, Distinct, Agreeing, Sound}
 -- how many link requests
 abbrev pub asks : List Message → ℕ
 asks [] = 0
-asks (Announce s ∷ ms) = asks ms
+asks (Tell s ∷ ms) = asks ms
 asks (Refuse step pairs ∷ ms) = asks ms
-asks (Add_link ∷ ms) = suc (asks ms)
+asks (AddLink ∷ ms) = suc (asks ms)
 
 abbrev pub bit : Bool → ℕ
 bit true = 1
@@ -32,15 +32,15 @@ pub record Dated (a : Agent) (s : Stamped) : Type 0 where
 
 -- what may be on the list from k to j
 abbrev pub Fine : Csp → ℕ → ℕ → Message → Type 0
-Fine p k j (Announce s) = (k < count p) × In s.value (domain p k)
+Fine p k j (Tell s) = (k < count p) × In s.value (domain p k)
 Fine p k j (Refuse step pairs) = Proper p j (plain pairs)
-Fine p k j Add_link = k < count p
+Fine p k j AddLink = k < count p
 
 -- each value in the message is one that its agent has or had
 abbrev pub IsDated : Network → ℕ → Message → Type 0
-IsDated net k (Announce s) = Dated (net.agents k) s
+IsDated net k (Tell s) = Dated (net.agents k) s
 IsDated net k (Refuse step pairs) = (y : ℕ × Stamped) → In y pairs → Dated (net.agents y.0) y.1
-IsDated net k Add_link = Unit {0}
+IsDated net k AddLink = Unit {0}
 
 -- the agent has a value that is not ruled out
 pub record Chosen (p : Csp) (i : ℕ) (a : Agent) : Type 0 where
@@ -66,9 +66,9 @@ pub record Backed (net : Network) (i : ℕ) : Type 0 where
 -- the agents below s have started
 pub record Kept (p : Csp) (s : ℕ) (net : Network) : Type 0 where
   pub present : (k i : ℕ) (v : ℤ) → (net.agents k).tells i ≡ true → (net.agents k).value ≡ Some v
-      → ((net.agents i).view k ≡ Some (record { value = v; stamp = (net.agents k).stamp })) ⊎ In (Announce (record { value = v; stamp = (net.agents k).stamp })) (net.links k i)
+      → ((net.agents i).view k ≡ Some (record { value = v; stamp = (net.agents k).stamp })) ⊎ In (Tell (record { value = v; stamp = (net.agents k).stamp })) (net.links k i)
   pub asked : (i k : ℕ) → asks (net.links i k) + bit ((net.agents k).tells i) ≡ bit ((net.agents i).linked k)
-  pub tells_first : (k i : ℕ) (s : Stamped) → In (Announce s) (net.links k i) → (net.agents k).tells i ≡ true
+  pub tells_first : (k i : ℕ) (s : Stamped) → In (Tell s) (net.links k i) → (net.agents k).tells i ≡ true
   pub seen : (i k : ℕ) (s : Stamped) → (net.agents i).view k ≡ Some s → (net.agents i).linked k ≡ true
   pub fine : (k j : ℕ) (m : Message) → In m (net.links k j) → Fine p k j m
   pub dated_views : (i k : ℕ) (s : Stamped) → (net.agents i).view k ≡ Some s → Dated (net.agents k) s
@@ -104,16 +104,16 @@ pub record Sends (i : ℕ) (b : Agent) (went : ℕ → List Message) : Type 0 wh
   pub goes : In (Refuse step (first ∷ rest)) (went (lowest first rest))
 
 pub record Acts (p : Csp) (i : ℕ) (a b : Agent) (came went : ℕ → List Message) : Type 0 where
-  pub view_from : (k : ℕ) (s : Stamped) → b.view k ≡ Some s → (a.view k ≡ Some s) ⊎ (In (Announce s) (came k) ⊎ Brought b came k s)
+  pub view_from : (k : ℕ) (s : Stamped) → b.view k ≡ Some s → (a.view k ≡ Some s) ⊎ (In (Tell s) (came k) ⊎ Brought b came k s)
   pub view_up : (k : ℕ) (s : Stamped) → a.view k ≡ Some s → AtLeast (b.view k) s.stamp
-  pub hears : (k : ℕ) (s : Stamped) → In (Announce s) (came k) → AtLeast (b.view k) s.stamp
+  pub hears : (k : ℕ) (s : Stamped) → In (Tell s) (came k) → AtLeast (b.view k) s.stamp
   pub heeds : (k step : ℕ) (pairs : StampedNogood) → In (Refuse step pairs) (came k) → Heeds i b pairs
   pub linked : (k : ℕ) → bit (b.linked k) ≡ asks (went k) + bit (a.linked k)
   pub tells : (j : ℕ) → bit (b.tells j) ≡ asks (came j) + bit (a.tells j)
   pub ages : ((b.stamp ≡ a.stamp) × (b.value ≡ a.value)) ⊎ (a.stamp < b.stamp)
   pub told : (j : ℕ) (v : ℤ) → b.tells j ≡ true → b.value ≡ Some v
-      → ((a.tells j ≡ true) × (a.value ≡ Some v) × (b.stamp ≡ a.stamp)) ⊎ In (Announce (record { value = v; stamp = b.stamp })) (went j)
-  pub announced : (j : ℕ) (s : Stamped) → In (Announce s) (went j) → (b.tells j ≡ true) × (b.value ≡ Some s.value) × (s.stamp ≡ b.stamp)
+      → ((a.tells j ≡ true) × (a.value ≡ Some v) × (b.stamp ≡ a.stamp)) ⊎ In (Tell (record { value = v; stamp = b.stamp })) (went j)
+  pub announced : (j : ℕ) (s : Stamped) → In (Tell s) (went j) → (b.tells j ≡ true) × (b.value ≡ Some s.value) × (s.stamp ≡ b.stamp)
   pub sees : (j step : ℕ) (pairs : StampedNogood) → In (Refuse step pairs) (went j) → (y : ℕ × Stamped) → In y pairs → b.view y.0 ≡ Some y.1
   pub fine : (j : ℕ) (m : Message) → In m (went j) → Fine p i j m
   pub why : b.waits ≡ true → ((a.waits ≡ true) × ((k : ℕ) → b.view k ≡ a.view k)) ⊎ Sends i b went

@@ -2,7 +2,7 @@
 use Rattle.std.proofs.Common.{◌≡◌, ℕ, true, ◌⊎◌, inl, inr, List, [], ◌∷◌, ◌++◌, Option, Some, ℤ, refl, sym, ap, ◌∙◌, subst}
 use Rattle.dcsp_defs.specs.Words.{In}
 use Rattle.dcsp_defs.specs.Csp.{Csp}
-use Rattle.abt_defs.specs.Agents.{Agent, Message, Announce, Refuse, Add_link, Stamped}
+use Rattle.abt_defs.specs.Agents.{Agent, Message, Tell, Refuse, AddLink, Stamped}
 use Rattle.abt_defs.specs.Network.{Network}
 use Rattle.law_agent.proofs.Facts.{AtLeast, Kept}
 use Rattle.law_agent.proofs.Moves.{Moves, up_to_date, stamped-same}
@@ -10,22 +10,22 @@ use Rattle.law_agent.specs.Invariants.{last_told}
 
 last-append : (xs ys : List Message) (o : Option Stamped) → last_told (xs ++ ys) o ≡ last_told ys (last_told xs o)
 last-append [] ys o = refl
-last-append (Announce s ∷ xs) ys o = last-append xs ys (Some s)
+last-append (Tell s ∷ xs) ys o = last-append xs ys (Some s)
 last-append (Refuse step pairs ∷ xs) ys o = last-append xs ys o
-last-append (Add_link ∷ xs) ys o = last-append xs ys o
+last-append (AddLink ∷ xs) ys o = last-append xs ys o
 
 -- a list has an announcement that is its last, or none
 abbrev Last : List Message → Type 0
-Last ms = ((s : Stamped) × In (Announce s) ms × ((o : Option Stamped) → last_told ms o ≡ Some s)) ⊎ (((s : Stamped) → In (Announce s) ms → ⊥) × ((o : Option Stamped) → last_told ms o ≡ o))
+Last ms = ((s : Stamped) × In (Tell s) ms × ((o : Option Stamped) → last_told ms o ≡ Some s)) ⊎ (((s : Stamped) → In (Tell s) ms → ⊥) × ((o : Option Stamped) → last_told ms o ≡ o))
 
 last : (ms : List Message) → Last ms
 last [] = inr (λ s u. u, λ o. refl)
-last (Announce s ∷ ms) = elim (last ms) [ inl r ↦ inl (r.0, inr r.1, λ o. r.2 (Some s)) | inr n ↦ inl (s, inl refl, λ o. n.1 (Some s)) ]
+last (Tell s ∷ ms) = elim (last ms) [ inl r ↦ inl (r.0, inr r.1, λ o. r.2 (Some s)) | inr n ↦ inl (s, inl refl, λ o. n.1 (Some s)) ]
 last (Refuse step pairs ∷ ms) = elim (last ms) [ inl r ↦ inl (r.0, inr r.1, r.2) | inr n ↦ inr (λ s u. elim u [ inl e ↦ cc | inr v ↦ n.0 s v ], n.1) ]
-last (Add_link ∷ ms) = elim (last ms) [ inl r ↦ inl (r.0, inr r.1, r.2) | inr n ↦ inr (λ s u. elim u [ inl e ↦ cc | inr v ↦ n.0 s v ], n.1) ]
+last (AddLink ∷ ms) = elim (last ms) [ inl r ↦ inl (r.0, inr r.1, r.2) | inr n ↦ inr (λ s u. elim u [ inl e ↦ cc | inr v ↦ n.0 s v ], n.1) ]
 
 -- where each announcement is of s
-all_of : (s : Stamped) (ms : List Message) → ((t : Stamped) → In (Announce t) ms → t ≡ s) → (o : Option Stamped) → In (Announce s) ms ⊎ (o ≡ Some s) → last_told ms o ≡ Some s
+all_of : (s : Stamped) (ms : List Message) → ((t : Stamped) → In (Tell t) ms → t ≡ s) → (o : Option Stamped) → In (Tell s) ms ⊎ (o ≡ Some s) → last_told ms o ≡ Some s
 all_of s ms same o h = elim (last ms) [
   | inl r ↦ r.2 o ∙ ap Some (same r.0 r.1)
   | inr n ↦ elim h [ inl u ↦ absurd (n.0 s u) | inr e ↦ n.1 o ∙ e ]
@@ -49,7 +49,7 @@ lasts_after p s r net new h m old k i v t e =
       | inl o ↦ all_of (stamped (new.agents k) v) (m.went k i) same (last_told (m.mid k i) ((new.agents i).view k)) (inr (middle o.0 o.1 o.2))
     ]))
   where
-    same : (x : Stamped) → In (Announce x) (m.went k i) → x ≡ (stamped (new.agents k) v)
+    same : (x : Stamped) → In (Tell x) (m.went k i) → x ≡ (stamped (new.agents k) v)
     same x u =
         let a = (m.acts k).announced i x u in
         let f : Some x.value ≡ Some v = sym a.1 ∙ e in

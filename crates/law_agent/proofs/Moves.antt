@@ -6,7 +6,7 @@ use native.Mathlib.Decide.{dec_lt}
 use Rattle.dcsp_defs.specs.Words.{In, is_value}
 use Rattle.dcsp_defs.specs.Csp.{Csp, with_value}
 use Rattle.dcsp_defs.specs.Pairs.{value_at, pair_of}
-use Rattle.abt_defs.specs.Agents.{Agent, Message, Announce, Refuse, Add_link, Record, Stamped, StampedNogood, plain, lowest, known, value_in}
+use Rattle.abt_defs.specs.Agents.{Agent, Message, Tell, Refuse, AddLink, Record, Stamped, StampedNogood, plain, lowest, known, value_in}
 use Rattle.abt_defs.specs.Reasons.{Item, items, record_item, ruled_out}
 use Rattle.abt_defs.specs.Network.{Network}
 use Rattle.dcsp_defs.proofs.Lists.{In-left, In-right, In-split, In-map, In-list_all, find-some}
@@ -15,9 +15,9 @@ use Rattle.law_agent.proofs.Facts.{asks, bit, AtLeast, Dated, Fine, IsDated, Sou
 
 pub asks-append : (xs ys : List Message) → asks (xs ++ ys) ≡ asks xs + asks ys
 asks-append [] ys = omega arith
-asks-append (Announce s ∷ xs) ys = asks-append xs ys
+asks-append (Tell s ∷ xs) ys = asks-append xs ys
 asks-append (Refuse step pairs ∷ xs) ys = asks-append xs ys
-asks-append (Add_link ∷ xs) ys = let h = asks-append xs ys in omega arith
+asks-append (AddLink ∷ xs) ys = let h = asks-append xs ys in omega arith
 
 pub bit_up : (x y : Bool) (n : ℕ) → bit y ≡ n + bit x → x ≡ true → y ≡ true
 bit_up x true n e f = refl
@@ -81,7 +81,7 @@ module _ (p : Csp) (s r : ℕ) (net new : Network) (h : Kept p s net) (m : Moves
   dated_views_after i k t e = older k t (elim ((m.acts i).view_from k t e) [
     | inl u ↦ h.dated_views i k t u
     | inr u ↦ elim u [
-      | inl v ↦ h.dated k i (Announce t) (in_came k i (Announce t) v)
+      | inl v ↦ h.dated k i (Tell t) (in_came k i (Tell t) v)
       | inr v ↦ h.dated v.sender i (Refuse v.step v.pairs) (in_came v.sender i _ v.there) (k, t) v.named
     ]
   ])
@@ -96,7 +96,7 @@ module _ (p : Csp) (s r : ℕ) (net new : Network) (h : Kept p s net) (m : Moves
       a.1 ∙ ap Some (stamped-same a.0 v (new.agents k).stamp w f)
 
   present_after : (k i : ℕ) (v : ℤ) → (new.agents k).tells i ≡ true → (new.agents k).value ≡ Some v
-      → ((new.agents i).view k ≡ Some (record { value = v; stamp = (new.agents k).stamp })) ⊎ In (Announce (record { value = v; stamp = (new.agents k).stamp })) (new.links k i)
+      → ((new.agents i).view k ≡ Some (record { value = v; stamp = (new.agents k).stamp })) ⊎ In (Tell (record { value = v; stamp = (new.agents k).stamp })) (new.links k i)
   present_after k i v t e = elim ((m.acts k).told i v t e) [
     | inr u ↦ inr (went_in k i _ u)
     | inl o ↦ at o.2 (elim (h.present k i v o.0 o.1) [
@@ -108,10 +108,10 @@ module _ (p : Csp) (s r : ℕ) (net new : Network) (h : Kept p s net) (m : Moves
     ])
   ]
     where
-      at : (new.agents k).stamp ≡ (net.agents k).stamp → AtLeast ((new.agents i).view k) (net.agents k).stamp ⊎ In (Announce (record { value = v; stamp = (net.agents k).stamp })) (new.links k i)
-          → ((new.agents i).view k ≡ Some (record { value = v; stamp = (new.agents k).stamp })) ⊎ In (Announce (record { value = v; stamp = (new.agents k).stamp })) (new.links k i)
+      at : (new.agents k).stamp ≡ (net.agents k).stamp → AtLeast ((new.agents i).view k) (net.agents k).stamp ⊎ In (Tell (record { value = v; stamp = (net.agents k).stamp })) (new.links k i)
+          → ((new.agents i).view k ≡ Some (record { value = v; stamp = (new.agents k).stamp })) ⊎ In (Tell (record { value = v; stamp = (new.agents k).stamp })) (new.links k i)
       at f (inl a) = inl (up_to_date i k v e (subst (AtLeast ((new.agents i).view k)) (sym f) a))
-      at f (inr u) = inr (subst (λ (n : ℕ). In (Announce (record { value = v; stamp = n })) (new.links k i)) (sym f) u)
+      at f (inr u) = inr (subst (λ (n : ℕ). In (Tell (record { value = v; stamp = n })) (new.links k i)) (sym f) u)
 
   asked_after : (i k : ℕ) → asks (new.links i k) + bit ((new.agents k).tells i) ≡ bit ((new.agents i).linked k)
   asked_after i k =
@@ -126,8 +126,8 @@ module _ (p : Csp) (s r : ℕ) (net new : Network) (h : Kept p s net) (m : Moves
   linked_before : (k i : ℕ) → (net.agents k).tells i ≡ true → (net.agents i).linked k ≡ true
   linked_before k i t = bit_up _ _ (asks (net.links i k)) (sym (h.asked i k)) t
 
-  tells_first_after : (k i : ℕ) (t : Stamped) → In (Announce t) (new.links k i) → (new.agents k).tells i ≡ true
-  tells_first_after k i t u = elim (In-split (Announce t) (m.mid k i) (m.went k i) (subst (In (Announce t)) (m.after k i) u)) [
+  tells_first_after : (k i : ℕ) (t : Stamped) → In (Tell t) (new.links k i) → (new.agents k).tells i ≡ true
+  tells_first_after k i t u = elim (In-split (Tell t) (m.mid k i) (m.went k i) (subst (In (Tell t)) (m.after k i) u)) [
     | inl v ↦ tells_up k i (h.tells_first k i t (in_mid k i _ v))
     | inr v ↦ ((m.acts k).announced i t v).0
   ]
@@ -154,18 +154,18 @@ module _ (p : Csp) (s r : ℕ) (net new : Network) (h : Kept p s net) (m : Moves
   ]
     where
       still : (x : Message) → IsDated net k x → IsDated new k x
-      still (Announce t) d = older k t d
+      still (Tell t) d = older k t d
       still (Refuse step pairs) d = λ y w. older y.0 y.1 (d y w)
-      still Add_link d = tt
+      still AddLink d = tt
 
       sent : (x : Message) → In x (m.went k j) → IsDated new k x
-      sent (Announce t) v =
+      sent (Tell t) v =
           let a = (m.acts k).announced j t v in
           let q = (m.sound k).stamped t.value a.1 in
           let f = a.2 in
           record { positive = omega arith; most = omega arith; same = λ g. a.1 }
       sent (Refuse step pairs) v = λ y w. dated_views_after k y.0 y.1 ((m.acts k).sees j step pairs v y w)
-      sent Add_link v = tt
+      sent AddLink v = tt
 
   -- either an agent that the nogood names has taken a value since, or all its values are present
   passed_or_present : (pairs : StampedNogood) → ((y : ℕ × Stamped) → In y pairs → Dated (new.agents y.0) y.1) → Passed new pairs ⊎ ((y : ℕ × Stamped) → In y pairs → y.1.stamp ≡ (new.agents y.0).stamp)

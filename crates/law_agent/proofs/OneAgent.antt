@@ -2,7 +2,7 @@
 use Rattle.std.proofs.Common.{◌≡◌, ℕ, ◌+◌, true, false, cond, not, ◌&&◌, List, [], ◌∷◌, length, Option, Some, None, ℤ, refl, subst, arith}
 use Rattle.dcsp_defs.specs.Csp.{Csp}
 use Rattle.dcsp_defs.specs.declared.Step.{Step}
-use Rattle.abt_defs.specs.Agents.{Agent, Stamped, StampedNogood, Announce, Refuse}
+use Rattle.abt_defs.specs.Agents.{Agent, Stamped, StampedNogood, Tell, Refuse}
 use Rattle.abt_defs.specs.Reasons.{derived, step_of}
 use Rattle.abt_defs.specs.Steps.{is_newer, is_news, is_free, choice, refuse, take_or_refuse, settle, learn, heed, stay, receive}
 use Rattle.law_agent.specs.Sources.{AreOfSteps}
@@ -25,7 +25,7 @@ settle_same p i n m a = elim (not a.waits && is_free p i a a.value) as (λ b. (c
   | false ↦ taken_same p i n m a (choice p i a)
 ]
 
-told_same : (p : Csp) (i n m k : ℕ) (a : Agent) (s : Stamped) → (receive p i n a k (Announce s)).step ≡ (receive p i m a k (Announce s)).step
+told_same : (p : Csp) (i n m k : ℕ) (a : Agent) (s : Stamped) → (receive p i n a k (Tell s)).step ≡ (receive p i m a k (Tell s)).step
 told_same p i n m k a s = elim (is_newer (a.view k) s.stamp) as (λ b. (cond b (settle p i n (learn k s a)) (stay a)).step ≡ (cond b (settle p i m (learn k s a)) (stay a)).step) [
   | true ↦ settle_same p i n m (learn k s a)
   | false ↦ refl
@@ -48,7 +48,7 @@ agents_step_right p ok i l steps a h r = record {
       subst (IsRightIfMade p steps) (settle_same p i (length steps + 1) number a) (settled p ok steps i l a h (rooted steps a r)).right;
   told = λ number k s higher there.
       subst (IsRightIfMade p steps) (told_same p i (length steps + 1) number k a s)
-      (received p ok steps i l a k (Announce s) h (rooted steps a r) ((omega arith), there) higher tt).right;
+      (received p ok steps i l a k (Tell s) h (rooted steps a r) ((omega arith), there) higher tt).right;
   refused = λ number k step pairs proper of_step.
       subst (IsRightIfMade p steps) (refused_same p i (length steps + 1) number k a step pairs)
       (received p ok steps i l a k (Refuse step pairs) h (rooted steps a r) proper tt

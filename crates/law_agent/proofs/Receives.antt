@@ -5,7 +5,7 @@ use Rattle.std.proofs.Common.{◌≡◌, ℕ, ◌+◌, ◌<◌, Bool, true, fals
 use Rattle.std.proofs.lemmas.Bool.Decides.{nat_tests, eqb_tells, Decides-ltb}
 use Rattle.dcsp_defs.specs.Words.{In, update}
 use Rattle.dcsp_defs.specs.Csp.{Csp, domain, count}
-use Rattle.abt_defs.specs.Agents.{Agent, Message, Announce, Refuse, Add_link, Record, Stamped, StampedNogood, View, plain, value_in}
+use Rattle.abt_defs.specs.Agents.{Agent, Message, Tell, Refuse, AddLink, Record, Stamped, StampedNogood, View, plain, value_in}
 use Rattle.abt_defs.specs.Steps.{Outcome, to_each, settle, stay, is_newer, learn, learn_all, is_news, is_named, unlinked, ask, heed, first_sent, own_value, receive}
 use Rattle.abt_defs.specs.Network.{sent_to, refutes}
 use Rattle.dcsp_defs.proofs.Lists.{In-right, In-split, or_cases, or_right, or_left, and_left, and_right, and_both, list_any-In}
@@ -28,13 +28,13 @@ only k m j = cond (j == k) (m ∷ []) []
 
 -- the first part, before settling: the message is taken in
 pub record Takes (p : Csp) (i : ℕ) (a b : Agent) (came first : ℕ → List Message) : Type 0 where
-  pub view_from : (k : ℕ) (s : Stamped) → b.view k ≡ Some s → (a.view k ≡ Some s) ⊎ (In (Announce s) (came k) ⊎ Brought b came k s)
+  pub view_from : (k : ℕ) (s : Stamped) → b.view k ≡ Some s → (a.view k ≡ Some s) ⊎ (In (Tell s) (came k) ⊎ Brought b came k s)
   pub view_up : (k : ℕ) (s : Stamped) → a.view k ≡ Some s → AtLeast (b.view k) s.stamp
-  pub hears : (k : ℕ) (s : Stamped) → In (Announce s) (came k) → AtLeast (b.view k) s.stamp
+  pub hears : (k : ℕ) (s : Stamped) → In (Tell s) (came k) → AtLeast (b.view k) s.stamp
   pub heeds : (k step : ℕ) (pairs : StampedNogood) → In (Refuse step pairs) (came k) → Heeds i b pairs
   pub linked : (k : ℕ) → bit (b.linked k) ≡ asks (first k) + bit (a.linked k)
   pub no_asks : (j : ℕ) → asks (came j) ≡ 0
-  pub only_asks : (j : ℕ) (m : Message) → In m (first j) → m ≡ Add_link
+  pub only_asks : (j : ℕ) (m : Message) → In m (first j) → m ≡ AddLink
   pub value : b.value ≡ a.value
   pub stamp : b.stamp ≡ a.stamp
   pub waits : b.waits ≡ a.waits
@@ -78,7 +78,7 @@ module _ (p : Csp) (i : ℕ) (in_range : i < count p) (a b c : Agent) (came firs
       | inr u ↦ inr (In-right _ (first j) (second j) u)
     ];
     announced = λ j x u. elim (In-split _ (first j) (second j) u) [
-      | inl v ↦ let q = t.only_asks j (Announce x) v in cc
+      | inl v ↦ let q = t.only_asks j (Tell x) v in cc
       | inr v ↦ let q = s.announced j x v in (ap (λ (f : ℕ → Bool). f j) s.tells ∙ q.0, q.1, q.2)
     ];
     sees = λ j step pairs u y v. elim (In-split _ (first j) (second j) u) [
@@ -112,7 +112,7 @@ one_more p i k a h l = record {
 
 module _ (p : Csp) (i : ℕ) (a : Agent) (h : Sound p i a) (in_range : i < count p) (k : ℕ) where
   -- a value that comes
-  pub announced : (s : Stamped) → k < i → (k < count p) × In s.value (domain p k) → Takes p i a (learn k s a) (only k (Announce s)) (λ j. [])
+  pub announced : (s : Stamped) → k < i → (k < count p) × In s.value (domain p k) → Takes p i a (learn k s a) (only k (Tell s)) (λ j. [])
   announced s l d =
       let q = learns_one i k s a l in
       record {
@@ -121,11 +121,11 @@ module _ (p : Csp) (i : ℕ) (a : Agent) (h : Sound p i a) (in_range : i < count
           | inr u ↦ inr (inl (here j t u.1))
         ];
         view_up = q.view_up;
-        hears = λ j t u. let same : Announce t ≡ Announce s = In-cond (j == k) _ _ u in let same2 : s ≡ t = cc in
+        hears = λ j t u. let same : Tell t ≡ Tell s = In-cond (j == k) _ _ u in let same2 : s ≡ t = cc in
             subst (λ (z : Stamped). AtLeast ((learn k s a).view j) z.stamp) same2 (subst (λ (z : ℕ). AtLeast ((learn k s a).view z) s.stamp) (is_k j (In-cond-true (j == k) _ _ u)) (q.covers (k, s) (inl refl) l));
-        heeds = λ j step pairs u. let same : Refuse step pairs ≡ Announce s = In-cond (j == k) _ _ u in cc;
+        heeds = λ j step pairs u. let same : Refuse step pairs ≡ Tell s = In-cond (j == k) _ _ u in cc;
         linked = λ j. let e : bit ((learn k s a).linked j) ≡ bit (a.linked j) = ap (λ (f : ℕ → Bool). bit (f j)) q.linked in omega arith;
-        no_asks = λ j. elim (j == k) as (λ b. asks (cond b (Announce s ∷ []) []) ≡ 0) [ true ↦ refl | false ↦ refl ];
+        no_asks = λ j. elim (j == k) as (λ b. asks (cond b (Tell s ∷ []) []) ≡ 0) [ true ↦ refl | false ↦ refl ];
         only_asks = λ j m u. absurd u;
         value = q.value;
         stamp = q.stamp;
@@ -150,23 +150,23 @@ module _ (p : Csp) (i : ℕ) (a : Agent) (h : Sound p i a) (in_range : i < count
       is_k : (j : ℕ) → (j == k) ≡ true → k ≡ j
       is_k j e = grind (arith, nat_tests)
 
-      here : (j : ℕ) (t : Stamped) → In {X = ℕ × Stamped} (j, t) ((k, s) ∷ []) → In (Announce t) (only k (Announce s) j)
+      here : (j : ℕ) (t : Stamped) → In {X = ℕ × Stamped} (j, t) ((k, s) ∷ []) → In (Tell t) (only k (Tell s) j)
       here j t (inr w) = absurd w
       here j t (inl e) = elim (eqb_tells j k) [
-        | inl u ↦ rw u.0 (inl (ap (λ (z : ℕ × Stamped). Announce z.1) e))
+        | inl u ↦ rw u.0 (inl (ap (λ (z : ℕ × Stamped). Tell z.1) e))
         | inr u ↦ absurd (u.1 (ap (λ (z : ℕ × Stamped). z.0) e))
       ]
 
   -- a value that is old
-  pub stale : (s : Stamped) → is_newer (a.view k) s.stamp ≡ false → Takes p i a a (only k (Announce s)) (λ j. [])
+  pub stale : (s : Stamped) → is_newer (a.view k) s.stamp ≡ false → Takes p i a a (only k (Tell s)) (λ j. [])
   stale s n = record {
     view_from = λ j t e. inl e;
     view_up = λ j t e. (t, e, omega arith);
-    hears = λ j t u. let same : Announce t ≡ Announce s = In-cond (j == k) _ _ u in let same2 : s ≡ t = cc in
+    hears = λ j t u. let same : Tell t ≡ Tell s = In-cond (j == k) _ _ u in let same2 : s ≡ t = cc in
         subst (λ (z : Stamped). AtLeast (a.view j) z.stamp) same2 (subst (λ (z : ℕ). AtLeast (a.view z) s.stamp) (is_k j (In-cond-true (j == k) _ _ u)) (not_newer (a.view k) s.stamp n));
-    heeds = λ j step pairs u. let same : Refuse step pairs ≡ Announce s = In-cond (j == k) _ _ u in cc;
+    heeds = λ j step pairs u. let same : Refuse step pairs ≡ Tell s = In-cond (j == k) _ _ u in cc;
     linked = λ j. omega arith;
-    no_asks = λ j. elim (j == k) as (λ b. asks (cond b (Announce s ∷ []) []) ≡ 0) [ true ↦ refl | false ↦ refl ];
+    no_asks = λ j. elim (j == k) as (λ b. asks (cond b (Tell s ∷ []) []) ≡ 0) [ true ↦ refl | false ↦ refl ];
     only_asks = λ j m u. absurd u;
     value = refl;
     stamp = refl;
@@ -195,7 +195,7 @@ module _ (p : Csp) (i : ℕ) (a : Agent) (h : Sound p i a) (in_range : i < count
         same : (n : ℕ) → (n == n) ≡ true
         same n = grind (arith, nat_tests)
 
-    pub heeded : Takes p i a (heed i step pairs a) (only k (Refuse step pairs)) (λ j. sent_to j (to_each Add_link (unlinked i (plain pairs) a)))
+    pub heeded : Takes p i a (heed i step pairs a) (only k (Refuse step pairs)) (λ j. sent_to j (to_each AddLink (unlinked i (plain pairs) a)))
     unfolding asker learner kept
     heeded =
         let f = learns_all i pairs asker in
@@ -216,7 +216,7 @@ module _ (p : Csp) (i : ℕ) (a : Agent) (h : Sound p i a) (in_range : i < count
             }))
           ];
           view_up = λ j s e. subst (λ (o : Option Stamped). AtLeast o s.stamp) (sym (view_at j)) (f.view_up j s e);
-          hears = λ j s u. let same : Announce s ≡ Refuse step pairs = In-cond (j == k) _ _ u in cc;
+          hears = λ j s u. let same : Tell s ≡ Refuse step pairs = In-cond (j == k) _ _ u in cc;
           heeds = λ j st pr u.
               let same : Refuse st pr ≡ Refuse step pairs = In-cond (j == k) _ _ u in
               let same2 : pairs ≡ pr = cc in
@@ -224,9 +224,9 @@ module _ (p : Csp) (i : ℕ) (a : Agent) (h : Sound p i a) (in_range : i < count
                 covers = λ y u l. subst (λ (o : Option Stamped). AtLeast o y.1.stamp) (sym (view_at y.0)) (f.covers y u l);
                 kept = λ s v e. g.has (λ y u l. ap value_in (sym (view_at y.var)) ∙ s y u l) v e;
               });
-          linked = λ j. rw (sent_to-each Add_link (λ z. is_named z (plain pairs) && not (a.linked z)) j i) (ap bit (linked_at j) ∙ three (a.linked j) (nat_lt j i) (is_named j (plain pairs)));
+          linked = λ j. rw (sent_to-each AddLink (λ z. is_named z (plain pairs) && not (a.linked z)) j i) (ap bit (linked_at j) ∙ three (a.linked j) (nat_lt j i) (is_named j (plain pairs)));
           no_asks = λ j. elim (j == k) as (λ b. asks (cond b (Refuse step pairs ∷ []) []) ≡ 0) [ true ↦ refl | false ↦ refl ];
-          only_asks = λ j m. rw (sent_to-each Add_link (λ z. is_named z (plain pairs) && not (a.linked z)) j i) (λ u. In-cond (nat_lt j i && (is_named j (plain pairs) && not (a.linked j))) m Add_link u);
+          only_asks = λ j m. rw (sent_to-each AddLink (λ z. is_named z (plain pairs) && not (a.linked z)) j i) (λ u. In-cond (nat_lt j i && (is_named j (plain pairs) && not (a.linked j))) m AddLink u);
           value = g.value ∙ f.value;
           stamp = g.stamp ∙ f.stamp;
           waits = g.waits ∙ f.waits;
@@ -253,7 +253,7 @@ module _ (p : Csp) (i : ℕ) (a : Agent) (h : Sound p i a) (in_range : i < count
         here : In (Refuse step pairs) (only k (Refuse step pairs) k)
         here = elim (eqb_tells k k) [ inl t ↦ rw t.0 (inl refl) | inr t ↦ absurd (t.1 refl) ]
 
-        three : (x y z : Bool) → bit (x || (y && z)) ≡ asks (cond (y && (z && not x)) (Add_link ∷ []) []) + bit x
+        three : (x y z : Bool) → bit (x || (y && z)) ≡ asks (cond (y && (z && not x)) (AddLink ∷ []) []) + bit x
         three true true true = omega arith
         three true true false = omega arith
         three true false z = omega arith
@@ -270,13 +270,13 @@ module _ (p : Csp) (i : ℕ) (a : Agent) (h : Sound p i a) (in_range : i < count
         ap (λ (z : View). z j) g.view ∙ ap (λ (z : Agent). z.view j) (f.silent n)
 
   -- a link request that comes
-  asked : k < count p → a.tells k ≡ false → (a.waits ≡ false → Chosen p i a) → Done p i a (record a { tells = update a.tells k true }) (only k Add_link) (λ j. sent_to j (own_value k a a.value))
+  asked : k < count p → a.tells k ≡ false → (a.waits ≡ false → Chosen p i a) → Done p i a (record a { tells = update a.tells k true }) (only k AddLink) (λ j. sent_to j (own_value k a a.value))
   asked r f c = record {
     acts = record {
       view_from = λ j s e. inl e;
       view_up = λ j s e. (s, e, omega arith);
-      hears = λ j s u. let same : Announce s ≡ Add_link = In-cond (j == k) _ _ u in cc;
-      heeds = λ j step pairs u. let same : Refuse step pairs ≡ Add_link = In-cond (j == k) _ _ u in cc;
+      hears = λ j s u. let same : Tell s ≡ AddLink = In-cond (j == k) _ _ u in cc;
+      heeds = λ j step pairs u. let same : Refuse step pairs ≡ AddLink = In-cond (j == k) _ _ u in cc;
       linked = λ j. none (no_asks j a.value);
       tells = λ j. elim (eqb_tells j k) [
         | inl t ↦ let fj : a.tells j ≡ false = ap a.tells t.1 ∙ f in rw (t.0, fj) (omega arith)
@@ -312,15 +312,15 @@ module _ (p : Csp) (i : ℕ) (a : Agent) (h : Sound p i a) (in_range : i < count
 
       no_asks : (j : ℕ) (o : Option ℤ) → asks (sent_to j (own_value k a o)) ≡ 0
       no_asks j None = refl
-      no_asks j (Some v) = elim (k == j) as (λ b. asks (cond b (Announce (record { value = v; stamp = a.stamp }) ∷ []) []) ≡ 0) [ true ↦ refl | false ↦ refl ]
+      no_asks j (Some v) = elim (k == j) as (λ b. asks (cond b (Tell (record { value = v; stamp = a.stamp }) ∷ []) []) ≡ 0) [ true ↦ refl | false ↦ refl ]
 
-      own : (j : ℕ) (v : ℤ) → k ≡ j → In (Announce (record { value = v; stamp = a.stamp })) (sent_to j (own_value k a (Some v)))
+      own : (j : ℕ) (v : ℤ) → k ≡ j → In (Tell (record { value = v; stamp = a.stamp })) (sent_to j (own_value k a (Some v)))
       own j v e = elim (eqb_tells k j) [ inl t ↦ rw t.0 (inl refl) | inr t ↦ absurd (t.1 e) ]
 
-      by_value : (o : Option ℤ) → a.value ≡ o → (j : ℕ) (s : Stamped) → In (Announce s) (sent_to j (own_value k a o)) → (update a.tells k true j ≡ true) × (o ≡ Some s.value) × (s.stamp ≡ a.stamp)
+      by_value : (o : Option ℤ) → a.value ≡ o → (j : ℕ) (s : Stamped) → In (Tell s) (sent_to j (own_value k a o)) → (update a.tells k true j ≡ true) × (o ≡ Some s.value) × (s.stamp ≡ a.stamp)
       by_value None e j s u = absurd u
       by_value (Some v) e j s u =
-          let same : Announce s ≡ Announce (record { value = v; stamp = a.stamp }) = In-cond (k == j) _ _ u in
+          let same : Tell s ≡ Tell (record { value = v; stamp = a.stamp }) = In-cond (k == j) _ _ u in
           let same2 : s ≡ record { value = v; stamp = a.stamp } = cc in
           (tells_it j (In-cond-true (k == j) _ _ u), ap (λ (z : Stamped). Some z.value) (sym same2), ap (λ (z : Stamped). z.stamp) same2)
         where
@@ -329,7 +329,7 @@ module _ (p : Csp) (i : ℕ) (a : Agent) (h : Sound p i a) (in_range : i < count
 
       not_refused : (o : Option ℤ) (j step : ℕ) (pairs : StampedNogood) → In (Refuse step pairs) (sent_to j (own_value k a o)) → (y : ℕ × Stamped) → In y pairs → a.view y.0 ≡ Some y.1
       not_refused None j step pairs u = absurd u
-      not_refused (Some v) j step pairs u = let same : Refuse step pairs ≡ Announce (record { value = v; stamp = a.stamp }) = In-cond (k == j) _ _ u in cc
+      not_refused (Some v) j step pairs u = let same : Refuse step pairs ≡ Tell (record { value = v; stamp = a.stamp }) = In-cond (k == j) _ _ u in cc
 
       all_fine : (o : Option ℤ) → a.value ≡ o → (j : ℕ) (m : Message) → In m (sent_to j (own_value k a o)) → Fine p i j m
       all_fine None e j m u = absurd u
@@ -337,22 +337,22 @@ module _ (p : Csp) (i : ℕ) (a : Agent) (h : Sound p i a) (in_range : i < count
 
   -- What is known of a message before it comes.
   abbrev pub IsExpected : Message → Type 0
-  IsExpected (Announce s) = k < i
+  IsExpected (Tell s) = k < i
   IsExpected (Refuse step pairs) = Unit {0}
-  IsExpected Add_link = a.tells k ≡ false
+  IsExpected AddLink = a.tells k ≡ false
 
   pub received_sound : (number : ℕ) (m : Message) → Fine p k i m → IsExpected m → Sound p i (receive p i number a k m).agent
-  received_sound number (Announce s) f n = (elim (is_newer (a.view k) s.stamp) as (λ b. Sound p i (cond b (settle p i number (learn k s a)) (stay a)).agent) [
+  received_sound number (Tell s) f n = (elim (is_newer (a.view k) s.stamp) as (λ b. Sound p i (cond b (settle p i number (learn k s a)) (stay a)).agent) [
     | true ↦ (settles p i in_range (learn k s a) (announced s n f).sound number).sound
     | false ↦ h
   ])
   received_sound number (Refuse step pairs) f n =
       let b = heed i step pairs a in
-      elim (a.waits && not (is_news i pairs a)) as (λ c. Sound p i (first_sent (to_each Add_link (unlinked i (plain pairs) a)) (cond c (stay b) (settle p i number b))).agent) [
+      elim (a.waits && not (is_news i pairs a)) as (λ c. Sound p i (first_sent (to_each AddLink (unlinked i (plain pairs) a)) (cond c (stay b) (settle p i number b))).agent) [
         | true ↦ (heeded step pairs f).sound
         | false ↦ (settles p i in_range b (heeded step pairs f).sound number).sound
       ]
-  received_sound number Add_link f n = one_more p i k a h f
+  received_sound number AddLink f n = one_more p i k a h f
 
   settles_after : (number : ℕ) (b : Agent) (came first : ℕ → List Message) → Takes p i a b came first → refutes (settle p i number b).step ≡ false → Done p i a (settle p i number b).agent came (λ j. first j ++ sent_to j (settle p i number b).sent)
   settles_after number b came first t r =
@@ -365,21 +365,21 @@ module _ (p : Csp) (i : ℕ) (a : Agent) (h : Sound p i a) (in_range : i < count
 
   pub receives : (number : ℕ) (m : Message) → Fine p k i m → IsExpected m → (a.waits ≡ false → Chosen p i a) → refutes (receive p i number a k m).step ≡ false
       → Done p i a (receive p i number a k m).agent (only k m) (λ j. sent_to j (receive p i number a k m).sent)
-  receives number (Announce s) f n c r =
-      (elim (is_newer (a.view k) s.stamp) as (λ b. is_newer (a.view k) s.stamp ≡ b → let o : Outcome = cond b (settle p i number (learn k s a)) (stay a) in refutes o.step ≡ false → Done p i a o.agent (only k (Announce s)) (λ j. sent_to j o.sent)) [
-        | true ↦ λ e r. settles_after number (learn k s a) (only k (Announce s)) (λ j. []) (announced s n f) r
-        | false ↦ λ e r. stays_after a (only k (Announce s)) (λ j. []) (stale s e) (λ j. refl) c
+  receives number (Tell s) f n c r =
+      (elim (is_newer (a.view k) s.stamp) as (λ b. is_newer (a.view k) s.stamp ≡ b → let o : Outcome = cond b (settle p i number (learn k s a)) (stay a) in refutes o.step ≡ false → Done p i a o.agent (only k (Tell s)) (λ j. sent_to j o.sent)) [
+        | true ↦ λ e r. settles_after number (learn k s a) (only k (Tell s)) (λ j. []) (announced s n f) r
+        | false ↦ λ e r. stays_after a (only k (Tell s)) (λ j. []) (stale s e) (λ j. refl) c
       ]) refl r
   receives number (Refuse step pairs) f n c r =
       let b = heed i step pairs a in
-      (elim (a.waits && not (is_news i pairs a)) as (λ w. (a.waits && not (is_news i pairs a)) ≡ w → let o : Outcome = first_sent (to_each Add_link (unlinked i (plain pairs) a)) (cond w (stay b) (settle p i number b)) in refutes o.step ≡ false → Done p i a o.agent (only k (Refuse step pairs)) (λ j. sent_to j o.sent)) [
-        | true ↦ λ e r. subst (λ (went : ℕ → List Message). Done p i a b (only k (Refuse step pairs)) went) (λ t j. sym (sent_to-append j (to_each Add_link (unlinked i (plain pairs) a)) []) t)
+      (elim (a.waits && not (is_news i pairs a)) as (λ w. (a.waits && not (is_news i pairs a)) ≡ w → let o : Outcome = first_sent (to_each AddLink (unlinked i (plain pairs) a)) (cond w (stay b) (settle p i number b)) in refutes o.step ≡ false → Done p i a o.agent (only k (Refuse step pairs)) (λ j. sent_to j o.sent)) [
+        | true ↦ λ e r. subst (λ (went : ℕ → List Message). Done p i a b (only k (Refuse step pairs)) went) (λ t j. sym (sent_to-append j (to_each AddLink (unlinked i (plain pairs) a)) []) t)
             (stays_after b (only k (Refuse step pairs)) _ (heeded step pairs f) (unchanged step pairs f (not_true _ (and_right a.waits _ e))) (λ x. let t : true ≡ false = sym ((heeded step pairs f).waits ∙ and_left _ _ e) ∙ x in cc))
-        | false ↦ λ e r. subst (λ (went : ℕ → List Message). Done p i a (settle p i number b).agent (only k (Refuse step pairs)) went) (λ t j. sym (sent_to-append j (to_each Add_link (unlinked i (plain pairs) a)) (settle p i number b).sent) t)
+        | false ↦ λ e r. subst (λ (went : ℕ → List Message). Done p i a (settle p i number b).agent (only k (Refuse step pairs)) went) (λ t j. sym (sent_to-append j (to_each AddLink (unlinked i (plain pairs) a)) (settle p i number b).sent) t)
             (settles_after number b (only k (Refuse step pairs)) _ (heeded step pairs f) r)
       ]) refl r
     where
       not_true : (b : Bool) → not b ≡ true → b ≡ false
       not_true true h = cc
       not_true false h = refl
-  receives number Add_link f n c r = asked f n c
+  receives number AddLink f n c r = asked f n c

@@ -4,7 +4,7 @@ use Rattle.std.specs.List.{list_any, enumerate_from}
 use Rattle.std.proofs.lemmas.Bool.Decides.{nat_tests, eqb_tells}
 use Rattle.dcsp_defs.specs.Words.{In, below}
 use Rattle.dcsp_defs.specs.Csp.{Csp, Constraint, count, IsCsp}
-use Rattle.abt_defs.specs.Agents.{Agent, Message, Announce, Refuse, Add_link, shares}
+use Rattle.abt_defs.specs.Agents.{Agent, Message, Tell, Refuse, AddLink, shares}
 use Rattle.abt_defs.specs.Steps.{Outcome, settle, receive}
 use Rattle.dcsp_defs.specs.Csp.{owns}
 use Rattle.abt_defs.specs.Network.{Network, sent_to, refutes, acted, left, next_number, deliver_head, deliver_at, deliver, ready, run, start, empty_network, settle_below, is_false, start_by, pairs}
@@ -73,11 +73,11 @@ module _ (p : Csp) (s r i : ℕ) (net : Network) (h : Kept p s net) (links : ℕ
 -- ---- a delivery
 
 pub expected : (p : Csp) (s : ℕ) (net : Network) (k i : ℕ) (m : Message) (rest : List Message) (hs : Sound p i (net.agents i)) (l : i < count p) → Kept p s net → net.links k i ≡ m ∷ rest → IsExpected p i (net.agents i) hs l k m
-expected p s net k i (Announce t) rest hs l h e =
-    let t : (net.agents k).tells i ≡ true = h.tells_first k i t (subst (In (Announce t)) (sym e) (inl refl)) in
+expected p s net k i (Tell t) rest hs l h e =
+    let t : (net.agents k).tells i ≡ true = h.tells_first k i t (subst (In (Tell t)) (sym e) (inl refl)) in
     (h.sound i).higher k (bit_up _ _ (asks (net.links i k)) (sym (h.asked i k)) t)
 expected p s net k i (Refuse step pairs) rest hs l h e = tt
-expected p s net k i Add_link rest hs l h e =
+expected p s net k i AddLink rest hs l h e =
     let q = h.asked k i in let n : asks (net.links k i) ≡ suc (asks rest) = ap asks e in
     none ((net.agents i).tells k) ((net.agents k).linked i) (asks rest) (let z : suc (asks rest) + bit ((net.agents i).tells k) ≡ bit ((net.agents k).linked i) = omega arith in z)
   where

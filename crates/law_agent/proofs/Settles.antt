@@ -7,7 +7,7 @@ use Rattle.std.specs.List.{list_any}
 use Rattle.dcsp_defs.specs.Derivation.{IsKnownPair}
 use Rattle.dcsp_defs.specs.Words.{In, IsRising, below}
 use Rattle.dcsp_defs.specs.Csp.{Csp, names, domain, count}
-use Rattle.abt_defs.specs.Agents.{Agent, Message, Announce, Refuse, Stamped, StampedNogood, plain, lowest, known}
+use Rattle.abt_defs.specs.Agents.{Agent, Message, Tell, Refuse, Stamped, StampedNogood, plain, lowest, known}
 use Rattle.abt_defs.specs.Reasons.{Item, ruled_out, causes, blamed, pair_at, derived, step_of}
 use Rattle.abt_defs.specs.Steps.{Outcome, stay, take_value, is_free, choice, refuse, take_or_refuse, settle}
 use Rattle.abt_defs.specs.Network.{sent_to, refutes, is_empty}
@@ -51,8 +51,8 @@ pub record Settles (p : Csp) (i : ℕ) (a b : Agent) (went : ℕ → List Messag
   pub linked : b.linked ≡ a.linked
   pub tells : b.tells ≡ a.tells
   pub ages : ((b.stamp ≡ a.stamp) × (b.value ≡ a.value)) ⊎ (a.stamp < b.stamp)
-  pub told : (j : ℕ) (v : ℤ) → a.tells j ≡ true → b.value ≡ Some v → ((a.value ≡ Some v) × (b.stamp ≡ a.stamp)) ⊎ In (Announce (record { value = v; stamp = b.stamp })) (went j)
-  pub announced : (j : ℕ) (s : Stamped) → In (Announce s) (went j) → (a.tells j ≡ true) × (b.value ≡ Some s.value) × (s.stamp ≡ b.stamp)
+  pub told : (j : ℕ) (v : ℤ) → a.tells j ≡ true → b.value ≡ Some v → ((a.value ≡ Some v) × (b.stamp ≡ a.stamp)) ⊎ In (Tell (record { value = v; stamp = b.stamp })) (went j)
+  pub announced : (j : ℕ) (s : Stamped) → In (Tell s) (went j) → (a.tells j ≡ true) × (b.value ≡ Some s.value) × (s.stamp ≡ b.stamp)
   pub sees : (j step : ℕ) (pairs : StampedNogood) → In (Refuse step pairs) (went j) → (y : ℕ × Stamped) → In y pairs → a.view y.0 ≡ Some y.1
   pub fine : (j : ℕ) (m : Message) → In m (went j) → Fine p i j m
   pub no_asks : (j : ℕ) → asks (went j) ≡ 0
@@ -109,16 +109,16 @@ module _ (p : Csp) (i : ℕ) (in_range : i < count p) (a : Agent) (h : Sound p i
       linked = refl;
       tells = refl;
       ages = inr (omega arith);
-      told = λ j w t f. let same : v ≡ w = some-same v w f in rw (sent_to-each (Announce new_value) a.tells j (count p)) (inr (subst (λ (w : ℤ). In (Announce (record { value = w; stamp = a.stamp + 1 })) (cond (nat_lt j (count p) && a.tells j) (Announce new_value ∷ []) [])) same (reaches j t)));
-      announced = λ j s. rw (sent_to-each (Announce new_value) a.tells j (count p)) (λ u.
-          let t : a.tells j ≡ true = and_right (nat_lt j (count p)) (a.tells j) (In-cond-true (nat_lt j (count p) && a.tells j) (Announce s) (Announce new_value) u) in
-          let q : Announce s ≡ Announce new_value = In-cond (nat_lt j (count p) && a.tells j) (Announce s) (Announce new_value) u in
+      told = λ j w t f. let same : v ≡ w = some-same v w f in rw (sent_to-each (Tell new_value) a.tells j (count p)) (inr (subst (λ (w : ℤ). In (Tell (record { value = w; stamp = a.stamp + 1 })) (cond (nat_lt j (count p) && a.tells j) (Tell new_value ∷ []) [])) same (reaches j t)));
+      announced = λ j s. rw (sent_to-each (Tell new_value) a.tells j (count p)) (λ u.
+          let t : a.tells j ≡ true = and_right (nat_lt j (count p)) (a.tells j) (In-cond-true (nat_lt j (count p) && a.tells j) (Tell s) (Tell new_value) u) in
+          let q : Tell s ≡ Tell new_value = In-cond (nat_lt j (count p) && a.tells j) (Tell s) (Tell new_value) u in
           let q2 : s ≡ new_value = cc in
           (t, ap (λ (z : Stamped). Some z.value) (sym q2), ap (λ (z : Stamped). z.stamp) q2));
-      sees = λ j step pairs. rw (sent_to-each (Announce new_value) a.tells j (count p)) (λ u.
-          let q : Refuse step pairs ≡ Announce new_value = In-cond (nat_lt j (count p) && a.tells j) (Refuse step pairs) (Announce new_value) u in cc);
-      fine = λ j m. rw (sent_to-each (Announce new_value) a.tells j (count p)) (λ u. subst (Fine p i j) (sym (In-cond (nat_lt j (count p) && a.tells j) m (Announce new_value) u)) (in_range, (choice_free p i a h v e).0));
-      no_asks = λ j. rw (sent_to-each (Announce new_value) a.tells j (count p)) (elim (nat_lt j (count p) && a.tells j) as (λ b. asks (cond b (Announce new_value ∷ []) []) ≡ 0) [ true ↦ refl | false ↦ refl ]);
+      sees = λ j step pairs. rw (sent_to-each (Tell new_value) a.tells j (count p)) (λ u.
+          let q : Refuse step pairs ≡ Tell new_value = In-cond (nat_lt j (count p) && a.tells j) (Refuse step pairs) (Tell new_value) u in cc);
+      fine = λ j m. rw (sent_to-each (Tell new_value) a.tells j (count p)) (λ u. subst (Fine p i j) (sym (In-cond (nat_lt j (count p) && a.tells j) m (Tell new_value) u)) (in_range, (choice_free p i a h v e).0));
+      no_asks = λ j. rw (sent_to-each (Tell new_value) a.tells j (count p)) (elim (nat_lt j (count p) && a.tells j) as (λ b. asks (cond b (Tell new_value ∷ []) []) ≡ 0) [ true ↦ refl | false ↦ refl ]);
       wakes = λ w. inr (omega arith);
       sound = record {
         in_domain = λ w f. let same : v ≡ w = some-same v w f in subst (λ (w : ℤ). In w (domain p i)) same (choice_free p i a h v e).0;
@@ -133,7 +133,7 @@ module _ (p : Csp) (i : ℕ) (in_range : i < count p) (a : Agent) (h : Sound p i
       };
     }
       where
-        reaches : (j : ℕ) → a.tells j ≡ true → In (Announce (record { value = v; stamp = a.stamp + 1 })) (cond (nat_lt j (count p) && a.tells j) (Announce (record { value = v; stamp = a.stamp + 1 }) ∷ []) [])
+        reaches : (j : ℕ) → a.tells j ≡ true → In (Tell (record { value = v; stamp = a.stamp + 1 })) (cond (nat_lt j (count p) && a.tells j) (Tell (record { value = v; stamp = a.stamp + 1 }) ∷ []) [])
         reaches j t = let l : nat_lt j (count p) ≡ true = (Decides-ltb j (count p)).1 (h.lower j t) in rw (l, t) (inl refl)
 
     rests_free : Rests p i (take_value p a v).agent (λ j. sent_to j (take_value p a v).sent)
@@ -162,7 +162,7 @@ module _ (p : Csp) (i : ℕ) (in_range : i < count p) (a : Agent) (h : Sound p i
       tells = refl;
       ages = inl (refl, refl);
       told = λ j w t f. inl (f, refl);
-      announced = λ j s u. let q : Announce s ≡ Refuse number (first ∷ rest) = In-cond (lowest first rest == j) _ _ u in cc;
+      announced = λ j s u. let q : Tell s ≡ Refuse number (first ∷ rest) = In-cond (lowest first rest == j) _ _ u in cc;
       sees = λ j step pairs u y v.
           let q : Refuse step pairs ≡ Refuse number (first ∷ rest) = In-cond (lowest first rest == j) _ _ u in
           let q2 : pairs ≡ first ∷ rest = cc in

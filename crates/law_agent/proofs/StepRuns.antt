@@ -7,7 +7,7 @@ use Rattle.dcsp_defs.specs.Words.{In, below}
 use Rattle.dcsp_defs.specs.Csp.{Csp, Constraint, Nogood, domain, count, IsCsp}
 use Rattle.dcsp_defs.specs.declared.Step.{Step}
 use Rattle.dcsp_defs.specs.Derivation.{step_at, IsDerivation}
-use Rattle.abt_defs.specs.Agents.{Agent, Message, Announce, Refuse, Add_link, Record, StampedNogood, plain, lowest, known}
+use Rattle.abt_defs.specs.Agents.{Agent, Message, Tell, Refuse, AddLink, Record, StampedNogood, plain, lowest, known}
 use Rattle.abt_defs.specs.Reasons.{ruled_out, derived, step_of}
 use Rattle.abt_defs.specs.Steps.{Outcome, stay, to_each, is_free, choice, refuse, take_or_refuse, settle, is_newer, learn, learn_all, is_news, is_named, unlinked, ask, heed, first_sent, own_value, receive}
 use Rattle.abt_defs.specs.Network.{Network, sent_to, acted, left, next_number, deliver_head, deliver_at, deliver, ready, run, start, start_by, empty_network, settle_below, is_empty, is_false, pairs}
@@ -28,9 +28,9 @@ Rooted steps a = (x : Record) → In x a.recorded → Source steps x.step x.pair
 
 -- and the one in a message
 abbrev pub IsRooted : List Step → Message → Type 0
-IsRooted steps (Announce s) = Unit {0}
+IsRooted steps (Tell s) = Unit {0}
 IsRooted steps (Refuse number pairs) = Source steps number (plain pairs)
-IsRooted steps Add_link = Unit {0}
+IsRooted steps AddLink = Unit {0}
 
 pub record AllRooted (p : Csp) (net : Network) : Type 0 where
   pub agents : (i : ℕ) → Rooted net.steps (net.agents i)
@@ -49,9 +49,9 @@ Rooted-more : (steps more : List Step) (a : Agent) → Rooted steps a → Rooted
 Rooted-more steps more a h = λ x u. Source-more steps more x.step x.pairs (h x u)
 
 IsRooted-more : (steps more : List Step) (m : Message) → IsRooted steps m → IsRooted (steps ++ more) m
-IsRooted-more steps more (Announce s) h = tt
+IsRooted-more steps more (Tell s) h = tt
 IsRooted-more steps more (Refuse number pairs) h = Source-more steps more number (plain pairs) h
-IsRooted-more steps more Add_link h = tt
+IsRooted-more steps more AddLink h = tt
 
 -- ---- one agent
 
@@ -101,18 +101,18 @@ module _ (p : Csp) (ok : IsCsp p) (steps : List Step) (i : ℕ) (l : i < count p
       taken None e = of_step (derived p i a.view a.recorded) refl e
       taken (Some v) e = record {
         agent = λ x u. Source-more steps [] x.step x.pairs (r x u);
-        sent = λ j m. rw (sent_to-each (Announce (record { value = v; stamp = a.stamp + 1 })) a.tells j (count p)) (λ u. subst (IsRooted (steps ++ [])) (sym (In-cond (nat_lt j (count p) && a.tells j) m (Announce (record { value = v; stamp = a.stamp + 1 })) u)) tt);
+        sent = λ j m. rw (sent_to-each (Tell (record { value = v; stamp = a.stamp + 1 })) a.tells j (count p)) (λ u. subst (IsRooted (steps ++ [])) (sym (In-cond (nat_lt j (count p) && a.tells j) m (Tell (record { value = v; stamp = a.stamp + 1 })) u)) tt);
         right = tt;
       }
 
   pub received : (a : Agent) (k : ℕ) (m : Message) → (h : Sound p i a) → Rooted steps a → Fine p k i m → IsExpected p i a h l k m → IsRooted steps m → Grown p steps (receive p i (length steps + 1) a k m)
-  received a k (Announce s) h r f n g =
+  received a k (Tell s) h r f n g =
       elim (is_newer (a.view k) s.stamp) as (λ b. Grown p steps (cond b (settle p i (length steps + 1) (learn k s a)) (stay a))) [
         | true ↦ settled (learn k s a) (announced p i a h l k s n f).sound (λ x u. r x ((learns_one i k s a n).recorded x u))
         | false ↦ stays a r
       ]
   received a k (Refuse number pairs) h r f n g =
-      elim (a.waits && not (is_news i pairs a)) as (λ b. Grown p steps (first_sent (to_each Add_link (unlinked i (plain pairs) a)) (cond b (stay (heed i number pairs a)) (settle p i (length steps + 1) (heed i number pairs a))))) [
+      elim (a.waits && not (is_news i pairs a)) as (λ b. Grown p steps (first_sent (to_each AddLink (unlinked i (plain pairs) a)) (cond b (stay (heed i number pairs a)) (settle p i (length steps + 1) (heed i number pairs a))))) [
         | true ↦ asks_first (stay (heed i number pairs a)) (stays (heed i number pairs a) rooted)
         | false ↦ asks_first (settle p i (length steps + 1) (heed i number pairs a)) (settled (heed i number pairs a) (heeded p i a h l k number pairs f).sound rooted)
       ]
@@ -123,16 +123,16 @@ module _ (p : Csp) (ok : IsCsp p) (steps : List Step) (i : ℕ) (l : i < count p
         | inr e ↦ subst (λ (z : Record). Source steps z.step z.pairs) (sym e) g
       ]
 
-      asks_first : (o : Outcome) → Grown p steps o → Grown p steps (first_sent (to_each Add_link (unlinked i (plain pairs) a)) o)
+      asks_first : (o : Outcome) → Grown p steps o → Grown p steps (first_sent (to_each AddLink (unlinked i (plain pairs) a)) o)
       asks_first o x = record {
         agent = x.agent;
-        sent = λ j m u. elim (In-split m (sent_to j (to_each Add_link (unlinked i (plain pairs) a))) (sent_to j o.sent) (subst (In m) (sent_to-append j (to_each Add_link (unlinked i (plain pairs) a)) o.sent) u)) [
-          | inl v ↦ subst (IsRooted (steps ++ option_to_list o.step)) (sym (In-cond _ m Add_link (rw (sent_to-each Add_link (λ k. is_named k (plain pairs) && not (a.linked k)) j i) at v))) tt
+        sent = λ j m u. elim (In-split m (sent_to j (to_each AddLink (unlinked i (plain pairs) a))) (sent_to j o.sent) (subst (In m) (sent_to-append j (to_each AddLink (unlinked i (plain pairs) a)) o.sent) u)) [
+          | inl v ↦ subst (IsRooted (steps ++ option_to_list o.step)) (sym (In-cond _ m AddLink (rw (sent_to-each AddLink (λ k. is_named k (plain pairs) && not (a.linked k)) j i) at v))) tt
           | inr v ↦ x.sent j m v
         ];
         right = x.right;
       }
-  received a k Add_link h r f n g = record {
+  received a k AddLink h r f n g = record {
     agent = λ x u. Source-more steps [] x.step x.pairs (r x u);
     sent = λ j m u. told (a.value) j m u;
     right = tt;
@@ -140,7 +140,7 @@ module _ (p : Csp) (ok : IsCsp p) (steps : List Step) (i : ℕ) (l : i < count p
     where
       told : (o : Option ℤ) → (j : ℕ) (m : Message) → In m (sent_to j (own_value k a o)) → IsRooted (steps ++ []) m
       told None j m u = absurd u
-      told (Some v) j m u = subst (IsRooted (steps ++ [])) (sym (In-cond (k == j) m (Announce (record { value = v; stamp = a.stamp })) u)) tt
+      told (Some v) j m u = subst (IsRooted (steps ++ [])) (sym (In-cond (k == j) m (Tell (record { value = v; stamp = a.stamp })) u)) tt
 
 -- ---- the network
 

@@ -4,7 +4,7 @@ use Rattle.std.proofs.lemmas.Bool.Decides.{nat_tests}
 use Rattle.dcsp_defs.specs.Words.{In}
 use Rattle.dcsp_defs.specs.Csp.{Csp}
 use Rattle.dcsp_defs.proofs.Lists.{In-split}
-use Rattle.abt_defs.specs.Agents.{Announce, Refuse, Stamped}
+use Rattle.abt_defs.specs.Agents.{Tell, Refuse, Stamped}
 use Rattle.abt_defs.specs.Network.{Network}
 use Rattle.law_agent.proofs.Facts.{Kept}
 use Rattle.law_agent.proofs.Moves.{Moves, in_came, in_mid}
@@ -18,7 +18,7 @@ pub record Known (net : Network) : Type 0 where
 -- what is held is not later than the present
 pub held_dated : (p : Csp) (r : ℕ) (net : Network) → Kept p r net → (k : ℕ) (s : Stamped) → Held net k s → (0 < s.stamp) × (s.stamp ≤ (net.agents k).stamp)
 held_dated p r net h k s (In_view i e) = let d = h.dated_views i k s e in (d.positive, d.most)
-held_dated p r net h k s (On_list i u) = let d = h.dated k i (Announce s) u in (d.positive, d.most)
+held_dated p r net h k s (On_list i u) = let d = h.dated k i (Tell s) u in (d.positive, d.most)
 held_dated p r net h k s (In_nogood i j step pairs u v) = let d = h.dated i j (Refuse step pairs) u (k, s) v in (d.positive, d.most)
 held_dated p r net h k s (Own e f) = let q = (h.sound k).stamped s.value e in (omega arith, omega arith)
 
@@ -43,14 +43,14 @@ module _ (p : Csp) (s r : ℕ) (net new : Network) (h : Kept p s net) (m : Moves
   in_view i k t e = elim ((m.acts i).view_from k t e) [
     | inl u ↦ before k t (In_view i u)
     | inr u ↦ elim u [
-      | inl v ↦ before k t (On_list i (in_came p s r net new h m k i (Announce t) v))
+      | inl v ↦ before k t (On_list i (in_came p s r net new h m k i (Tell t) v))
       | inr v ↦ before k t (In_nogood v.sender i v.step v.pairs (in_came p s r net new h m v.sender i _ v.there) v.named)
     ]
   ]
 
   held_after : (k : ℕ) (t : Stamped) → Held new k t → next k t.stamp ≡ t.value
   held_after k t (In_view i e) = in_view i k t e
-  held_after k t (On_list i u) = elim (In-split (Announce t) (m.mid k i) (m.went k i) (subst (In (Announce t)) (m.after k i) u)) [
+  held_after k t (On_list i u) = elim (In-split (Tell t) (m.mid k i) (m.went k i) (subst (In (Tell t)) (m.after k i) u)) [
     | inl v ↦ before k t (On_list i (in_mid p s r net new h m k i _ v))
     | inr v ↦ let a = (m.acts k).announced i t v in own k t a.1 a.2
   ]

@@ -4,28 +4,28 @@ use Rattle.std.specs.Prelude.{◌≡◌, ℕ, suc, ◌<◌, ◌≤◌, true, fal
 use Rattle.dcsp_defs.specs.Words.{In}
 use Rattle.dcsp_defs.specs.Csp.{Csp, IsCsp, domain, count}
 use Rattle.dcsp_defs.specs.Pairs.{value_at}
-use Rattle.abt_defs.specs.Agents.{Message, Announce, Refuse, Add_link, Record, Stamped, StampedNogood, lowest, known}
+use Rattle.abt_defs.specs.Agents.{Message, Tell, Refuse, AddLink, Record, Stamped, StampedNogood, lowest, known}
 use Rattle.abt_defs.specs.Reasons.{ruled_out}
 use Rattle.abt_defs.specs.Network.{Network, run, start}
 
 -- the last announcement of the list, or else what is known
 abbrev pub last_told : List Message → Option Stamped → Option Stamped
 last_told [] known = known
-last_told (Announce s ∷ ms) known = last_told ms (Some s)
+last_told (Tell s ∷ ms) known = last_told ms (Some s)
 last_told (Refuse step pairs ∷ ms) known = last_told ms known
-last_told (Add_link ∷ ms) known = last_told ms known
+last_told (AddLink ∷ ms) known = last_told ms known
 
 -- how many link requests
 abbrev pub requests : List Message → ℕ
 requests [] = 0
-requests (Announce s ∷ ms) = requests ms
+requests (Tell s ∷ ms) = requests ms
 requests (Refuse step pairs ∷ ms) = requests ms
-requests (Add_link ∷ ms) = suc (requests ms)
+requests (AddLink ∷ ms) = suc (requests ms)
 
 -- where a stamped value of agent k may stand: in a view, on its way, in a nogood on its way, or with k itself
 pub data Held (net : Network) (k : ℕ) (s : Stamped) : Type 0 where
   In_view : (i : ℕ) → (net.agents i).view k ≡ Some s → Held net k s
-  On_list : (i : ℕ) → In (Announce s) (net.links k i) → Held net k s
+  On_list : (i : ℕ) → In (Tell s) (net.links k i) → Held net k s
   In_nogood : (i j step : ℕ) (pairs : StampedNogood) → In (Refuse step pairs) (net.links i j) → In (k, s) pairs → Held net k s
   Own : (net.agents k).value ≡ Some s.value → s.stamp ≡ (net.agents k).stamp → Held net k s
 
@@ -55,7 +55,7 @@ pub record Invariants (p : Csp) (net : Network) : Type 0 where
   pub tells_linked : (k i : ℕ) → (net.agents k).tells i ≡ true → (net.agents i).linked k ≡ true
   pub view_linked : (i k : ℕ) (s : Stamped) → (net.agents i).view k ≡ Some s → (net.agents i).linked k ≡ true
   pub record_linked : (i : ℕ) (x : Record) → In x (net.agents i).recorded → (y : Pair) → In y x.pairs → (y.var ≡ i) ⊎ ((net.agents i).linked y.var ≡ true)
-  pub announce_told : (k i : ℕ) (s : Stamped) → In (Announce s) (net.links k i) → (net.agents k).tells i ≡ true
+  pub announce_told : (k i : ℕ) (s : Stamped) → In (Tell s) (net.links k i) → (net.agents k).tells i ≡ true
   pub linked_higher : (i k : ℕ) → (net.agents i).linked k ≡ true → k < i
   -- waiting agents
   pub witness : (i : ℕ) → (net.agents i).waits ≡ true → Witness net i

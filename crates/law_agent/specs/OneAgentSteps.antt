@@ -4,7 +4,7 @@ use Rattle.dcsp_defs.specs.Words.{In}
 use Rattle.dcsp_defs.specs.Csp.{Csp, IsCsp, domain, count}
 use Rattle.dcsp_defs.specs.declared.Step.{Step}
 use Rattle.dcsp_defs.specs.Derivation.{IsRight}
-use Rattle.abt_defs.specs.Agents.{Agent, Announce, Refuse, Stamped, StampedNogood, plain}
+use Rattle.abt_defs.specs.Agents.{Agent, Tell, Refuse, Stamped, StampedNogood, plain}
 use Rattle.abt_defs.specs.Steps.{settle, receive}
 use Rattle.law_agent.specs.OneAgent.{Proper, Sound}
 use Rattle.law_agent.specs.Sources.{IsOfStep, AreOfSteps}
@@ -18,7 +18,7 @@ pub record MakesRightSteps (p : Csp) (i : ℕ) (steps : List Step) (a : Agent) :
   -- it settles
   pub settled : (number : ℕ) → IsRightIfMade p steps (settle p i number a).step
   -- it is told a value by a higher agent
-  pub told : (number k : ℕ) (s : Stamped) → k < i → In s.value (domain p k) → IsRightIfMade p steps (receive p i number a k (Announce s)).step
+  pub told : (number k : ℕ) (s : Stamped) → k < i → In s.value (domain p k) → IsRightIfMade p steps (receive p i number a k (Tell s)).step
   -- it is sent a nogood, which is that of the step that it names
   pub refused : (number k step : ℕ) (pairs : StampedNogood) → Proper p i (plain pairs) → IsOfStep steps step (plain pairs)
       → IsRightIfMade p steps (receive p i number a k (Refuse step pairs)).step

@@ -4,7 +4,7 @@ use Rattle.std.proofs.lemmas.Bool.Decides.{eqb_tells, Decides-int_eq}
 use Rattle.std.specs.Ordering.{int_eq}
 use Rattle.dcsp_defs.specs.Words.{In, sum_below, is_value}
 use Rattle.dcsp_defs.specs.Csp.{Csp, domain, count}
-use Rattle.abt_defs.specs.Agents.{Agent, Message, Announce, Refuse, Stamped, StampedNogood, plain, lowest, known}
+use Rattle.abt_defs.specs.Agents.{Agent, Message, Tell, Refuse, Stamped, StampedNogood, plain, lowest, known}
 use Rattle.abt_defs.specs.Reasons.{ruled_out, derived, step_of}
 use Rattle.abt_defs.specs.Steps.{Outcome, stay, is_free, choice, take_value, refuse, take_or_refuse, settle}
 use Rattle.abt_defs.specs.Network.{sent_to, refutes, is_empty}
@@ -63,9 +63,9 @@ module _ (p : Csp) (i number : ℕ) (a : Agent) (h : Sound p i a) where
     stamp = refl;
     view = refl;
     tells = refl;
-    tells_more = λ j. rw (sent_to-each (Announce (record { value = v; stamp = a.stamp + 1 })) a.tells j (count p)) (elim (nat_lt j (count p) && a.tells j) as (λ c. announces_in (cond c (Announce (record { value = v; stamp = a.stamp + 1 }) ∷ []) []) ≤ 1) [ true ↦ omega arith | false ↦ omega arith ]);
-    tells_none = λ j f. rw (sent_to-each (Announce (record { value = v; stamp = a.stamp + 1 })) a.tells j (count p), f) (elim (nat_lt j (count p)) as (λ c. announces_in (cond (c && false) (Announce (record { value = v; stamp = a.stamp + 1 }) ∷ []) []) ≡ 0) [ true ↦ refl | false ↦ refl ]);
-    refusals = inl (sum-zero (λ j. nogoods_in (sent_to j (take_value p a v).sent)) (count p) (λ j l. rw (sent_to-each (Announce (record { value = v; stamp = a.stamp + 1 })) a.tells j (count p)) (elim (nat_lt j (count p) && a.tells j) as (λ c. nogoods_in (cond c (Announce (record { value = v; stamp = a.stamp + 1 }) ∷ []) []) ≡ 0) [ true ↦ refl | false ↦ refl ])));
+    tells_more = λ j. rw (sent_to-each (Tell (record { value = v; stamp = a.stamp + 1 })) a.tells j (count p)) (elim (nat_lt j (count p) && a.tells j) as (λ c. announces_in (cond c (Tell (record { value = v; stamp = a.stamp + 1 }) ∷ []) []) ≤ 1) [ true ↦ omega arith | false ↦ omega arith ]);
+    tells_none = λ j f. rw (sent_to-each (Tell (record { value = v; stamp = a.stamp + 1 })) a.tells j (count p), f) (elim (nat_lt j (count p)) as (λ c. announces_in (cond (c && false) (Tell (record { value = v; stamp = a.stamp + 1 }) ∷ []) []) ≡ 0) [ true ↦ refl | false ↦ refl ]);
+    refusals = inl (sum-zero (λ j. nogoods_in (sent_to j (take_value p a v).sent)) (count p) (λ j l. rw (sent_to-each (Tell (record { value = v; stamp = a.stamp + 1 })) a.tells j (count p)) (elim (nat_lt j (count p) && a.tells j) as (λ c. nogoods_in (cond c (Tell (record { value = v; stamp = a.stamp + 1 }) ∷ []) []) ≡ 0) [ true ↦ refl | false ↦ refl ])));
     marks = λ w. more (k w);
     marks_one = how_many-one (λ w. ruled_out p i (known a) a.recorded w || int_eq v w) v (domain p i) f.0 (or_right (ruled_out p i (known a) a.recorded v) _ (same_value v));
   }

@@ -4,7 +4,7 @@ use Rattle.std.proofs.lemmas.Bool.Decides.{eqb_tells}
 use Rattle.std.specs.List.{enumerate_from}
 use Rattle.dcsp_defs.specs.Words.{In, below, sum_below}
 use Rattle.dcsp_defs.specs.Csp.{Csp, Constraint, count, IsCsp}
-use Rattle.abt_defs.specs.Agents.{Agent, Message, Announce, Refuse, Add_link, View, fresh}
+use Rattle.abt_defs.specs.Agents.{Agent, Message, Tell, Refuse, AddLink, View, fresh}
 use Rattle.abt_defs.specs.Steps.{Outcome, settle, receive}
 use Rattle.abt_defs.specs.Network.{Network, sent_to, acted, left, next_number, deliver_head, deliver_at, deliver, ready, run, start, empty_network, settle_below, is_false, start_by, pairs}
 use Rattle.abt_defs.specs.Bound.{message_bound}
@@ -39,9 +39,9 @@ module _ (p : Csp) (s r i : ℕ) (net : Network) (h : Kept p s net) (links : ℕ
   counted_moved = counted_after p r net _ (moved p s r i net h links d o came before done others in_range) counted h.sound costs_at counts
 
 positive : (net : Network) (k : ℕ) (m : Message) → IsDated net k m → IsPositive m
-positive net k (Announce s) d = d.positive
+positive net k (Tell s) d = d.positive
 positive net k (Refuse step pairs) d = λ y u. (d y u).positive
-positive net k Add_link d = tt
+positive net k AddLink d = tt
 
 -- one message is taken
 one_taken : (n k i : ℕ) (m : Message) → k < n → i < n → sum_below (λ x. sum_below (λ j. length (cond (j == i) (only k m x) [])) n) n ≡ 1

@@ -2,7 +2,7 @@
 use Rattle.std.proofs.Common.{◌≡◌, ℕ, zero, suc, ◌+◌, ◌-◌, ◌*◌, ◌≤◌, Bool, true, false, ◌||◌, ◌⊎◌, inl, inr, List, [], ◌∷◌, ◌++◌, length, Option, Some, None, ℤ, refl, sym, ap, ◌∙◌, arith, length-append}
 use Rattle.dcsp_defs.specs.Words.{sum_below, is_value}
 use Rattle.dcsp_defs.specs.Csp.{Csp, domain, count}
-use Rattle.abt_defs.specs.Agents.{Agent, Message, Announce, Refuse, Add_link, Stamped, shares, known}
+use Rattle.abt_defs.specs.Agents.{Agent, Message, Tell, Refuse, AddLink, Stamped, shares, known}
 use Rattle.abt_defs.specs.Reasons.{ruled_out}
 use Rattle.abt_defs.specs.Network.{Network}
 use Rattle.law_agent.proofs.Facts.{asks, bit, Sound}
@@ -11,33 +11,33 @@ use Rattle.law_runs.proofs.Sums.{how_many, how_many-all, sum-add, sum-same}
 
 abbrev pub announces_in : List Message → ℕ
 announces_in [] = 0
-announces_in (Announce s ∷ ms) = suc (announces_in ms)
+announces_in (Tell s ∷ ms) = suc (announces_in ms)
 announces_in (Refuse step pairs ∷ ms) = announces_in ms
-announces_in (Add_link ∷ ms) = announces_in ms
+announces_in (AddLink ∷ ms) = announces_in ms
 
 abbrev pub nogoods_in : List Message → ℕ
 nogoods_in [] = 0
-nogoods_in (Announce s ∷ ms) = nogoods_in ms
+nogoods_in (Tell s ∷ ms) = nogoods_in ms
 nogoods_in (Refuse step pairs ∷ ms) = suc (nogoods_in ms)
-nogoods_in (Add_link ∷ ms) = nogoods_in ms
+nogoods_in (AddLink ∷ ms) = nogoods_in ms
 
 pub announces-append : (xs ys : List Message) → announces_in (xs ++ ys) ≡ announces_in xs + announces_in ys
 announces-append [] ys = omega arith
-announces-append (Announce s ∷ xs) ys = let h = announces-append xs ys in omega arith
+announces-append (Tell s ∷ xs) ys = let h = announces-append xs ys in omega arith
 announces-append (Refuse step pairs ∷ xs) ys = announces-append xs ys
-announces-append (Add_link ∷ xs) ys = announces-append xs ys
+announces-append (AddLink ∷ xs) ys = announces-append xs ys
 
 pub nogoods-append : (xs ys : List Message) → nogoods_in (xs ++ ys) ≡ nogoods_in xs + nogoods_in ys
 nogoods-append [] ys = omega arith
-nogoods-append (Announce s ∷ xs) ys = nogoods-append xs ys
+nogoods-append (Tell s ∷ xs) ys = nogoods-append xs ys
 nogoods-append (Refuse step pairs ∷ xs) ys = let h = nogoods-append xs ys in omega arith
-nogoods-append (Add_link ∷ xs) ys = nogoods-append xs ys
+nogoods-append (AddLink ∷ xs) ys = nogoods-append xs ys
 
 kinds : (ms : List Message) → length ms ≡ announces_in ms + nogoods_in ms + asks ms
 kinds [] = omega arith
-kinds (Announce s ∷ ms) = let h = kinds ms in omega arith
+kinds (Tell s ∷ ms) = let h = kinds ms in omega arith
 kinds (Refuse step pairs ∷ ms) = let h = kinds ms in omega arith
-kinds (Add_link ∷ ms) = let h = kinds ms in omega arith
+kinds (AddLink ∷ ms) = let h = kinds ms in omega arith
 
 -- the values of the domain that are ruled out, or are the agent's own
 abbrev pub marked : Csp → ℕ → Agent → ℕ

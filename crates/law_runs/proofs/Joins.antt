@@ -5,7 +5,7 @@ use Rattle.std.proofs.lemmas.Bool.Decides.{eqb_tells}
 use Rattle.dcsp_defs.specs.Words.{In, below}
 use Rattle.dcsp_defs.specs.Csp.{Csp, IsCsp, Constraint, count}
 use Rattle.dcsp_defs.proofs.Lists.{In-split, In-below, get-In, filter-from}
-use Rattle.abt_defs.specs.Agents.{Message, Announce, Refuse, Add_link}
+use Rattle.abt_defs.specs.Agents.{Message, Tell, Refuse, AddLink}
 use Rattle.abt_defs.specs.Steps.{Outcome, settle, receive}
 use Rattle.abt_defs.specs.Network.{Network, sent_to, acted, left, next_number, deliver_head, deliver_at, deliver, ready, run, start, start_by, empty_network, settle_below, is_false, pairs}
 use Rattle.law_agent.proofs.Facts.{asks, bit, Kept}
@@ -26,7 +26,7 @@ module _ (p : Csp) (s : ℕ) (net : Network) (h : Kept p s net) where
   tells_lower i j t = (h.sound j).higher i (bit_up _ _ (asks (net.links j i)) (sym (h.asked j i)) t)
 
   -- a link request comes from a lower agent
-  pub asks_higher : (k i : ℕ) (rest : List Message) → net.links k i ≡ Add_link ∷ rest → i < k
+  pub asks_higher : (k i : ℕ) (rest : List Message) → net.links k i ≡ AddLink ∷ rest → i < k
   asks_higher k i rest e =
       let q = h.asked k i in
       let n : asks (net.links k i) ≡ suc (asks rest) = ap asks e in
@@ -66,14 +66,14 @@ join_left p net k i m rest h e y j z = elim (eqb_tells y k) [
 
 -- to whom the receiver sends
 pub reaches : (p : Csp) (net : Network) (k i : ℕ) (m : Message) (rest : List Message) → i < count p → Kept p (count p) net → net.links k i ≡ m ∷ rest → Reaches p i (receive p i (next_number net) (net.agents i) k m).sent
-reaches p net k i (Announce s) rest l h e =
-    let higher = expected p (count p) net k i (Announce s) rest (h.sound i) l h e in
-    announce_reaches p i l (next_number net) k (net.agents i) s (announced p i (net.agents i) (h.sound i) l k s higher (h.fine k i (Announce s) (subst (In (Announce s)) (sym e) (inl refl)))).tells (tells_lower p (count p) net h i)
+reaches p net k i (Tell s) rest l h e =
+    let higher = expected p (count p) net k i (Tell s) rest (h.sound i) l h e in
+    announce_reaches p i l (next_number net) k (net.agents i) s (announced p i (net.agents i) (h.sound i) l k s higher (h.fine k i (Tell s) (subst (In (Tell s)) (sym e) (inl refl)))).tells (tells_lower p (count p) net h i)
 reaches p net k i (Refuse step pairs) rest l h e =
     refuse_reaches p i l (next_number net) k step (net.agents i) pairs (heeded p i (net.agents i) (h.sound i) l k step pairs (h.fine k i (Refuse step pairs) (subst (In (Refuse step pairs)) (sym e) (inl refl)))).tells (tells_lower p (count p) net h i)
-reaches p net k i Add_link rest l h e =
+reaches p net k i AddLink rest l h e =
     let lower = asks_higher p (count p) net h k i rest e in
-    link_reaches p i l (next_number net) k (net.agents i) (h.fine k i Add_link (subst (In Add_link) (sym e) (inl refl))) (λ same. omega arith)
+    link_reaches p i l (next_number net) k (net.agents i) (h.fine k i AddLink (subst (In AddLink) (sym e) (inl refl))) (λ same. omega arith)
 
 -- what holds of each network that a run reaches
 record Joined (p : Csp) (net : Network) : Type 0 where

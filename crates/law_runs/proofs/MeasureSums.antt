@@ -9,7 +9,7 @@ use native.Mathlib.Decide.{dec_lt}
 use Rattle.dcsp_defs.specs.Words.{In, update, below, sum_below}
 use Rattle.dcsp_defs.specs.Csp.{Csp, Constraint, count}
 use Rattle.dcsp_defs.proofs.Lists.{In-split, In-below, get-In, filter-from}
-use Rattle.abt_defs.specs.Agents.{Message, Announce, Refuse, Add_link}
+use Rattle.abt_defs.specs.Agents.{Message, Tell, Refuse, AddLink}
 use Rattle.abt_defs.specs.Network.{Network, empty_network, settle_below, next_number, deliver, ready, run, start, is_empty, is_false, pairs}
 use Rattle.abt_defs.specs.Steps.{settle}
 use Rattle.abt_defs.specs.Events.{Act, act_of, acts, acts_at, head_acts, choice_acts, later_acts, settlings_below, start_acts, start_acts_by}
@@ -341,9 +341,9 @@ by_agents f (x ∷ xs) n h =
 
 kinds_long : (ms : List Message) → length (filter is_ok ms) + length (filter is_nogood ms) + length (filter is_link ms) ≡ length ms
 kinds_long [] = refl
-kinds_long (Announce s ∷ ms) = let h = kinds_long ms in omega arith
+kinds_long (Tell s ∷ ms) = let h = kinds_long ms in omega arith
 kinds_long (Refuse step pairs ∷ ms) = let h = kinds_long ms in omega arith
-kinds_long (Add_link ∷ ms) = let h = kinds_long ms in omega arith
+kinds_long (AddLink ∷ ms) = let h = kinds_long ms in omega arith
 
 -- what an agent works by itself
 own_is : (p : Csp) (w : Weights) (i : ℕ) (list : List Act) → own i (map (event_of p w) list) ≡ sum_by (λ (a : Act). (event_of p w a).work) (acts_by i list)

@@ -4,7 +4,7 @@ use Rattle.std.proofs.lemmas.Bool.Decides.{eqb_tells, Decides-ltb}
 use Rattle.dcsp_defs.specs.Words.{In, update, sum_below, is_value}
 use Rattle.dcsp_defs.specs.Csp.{Csp, domain, count, with_value}
 use Rattle.dcsp_defs.specs.Pairs.{value_at}
-use Rattle.abt_defs.specs.Agents.{Agent, Message, Announce, Refuse, Add_link, Record, Stamped, StampedNogood, View, plain, known}
+use Rattle.abt_defs.specs.Agents.{Agent, Message, Tell, Refuse, AddLink, Record, Stamped, StampedNogood, View, plain, known}
 use Rattle.abt_defs.specs.Reasons.{Item, items, record_item, cause, ruled_out}
 use Rattle.abt_defs.specs.Steps.{Outcome, to_each, settle, stay, is_newer, learn, learn_all, is_news, unlinked, ask, fits, is_refused, keep, heed, first_sent, own_value, receive}
 use Rattle.abt_defs.specs.Network.{sent_to, refutes}
@@ -44,11 +44,11 @@ module _ (i : ℕ) (a b : Agent) (up : (k : ℕ) (s : Stamped) → a.view k ≡ 
 
 -- ---- nothing but links
 
-no_announces : (ms : List Message) → ((m : Message) → In m ms → m ≡ Add_link) → (announces_in ms ≡ 0) × (nogoods_in ms ≡ 0)
+no_announces : (ms : List Message) → ((m : Message) → In m ms → m ≡ AddLink) → (announces_in ms ≡ 0) × (nogoods_in ms ≡ 0)
 no_announces [] h = (refl, refl)
-no_announces (Announce s ∷ ms) h = let e = h (Announce s) (inl refl) in cc
+no_announces (Tell s ∷ ms) h = let e = h (Tell s) (inl refl) in cc
 no_announces (Refuse step pairs ∷ ms) h = let e = h (Refuse step pairs) (inl refl) in cc
-no_announces (Add_link ∷ ms) h = no_announces ms (λ m u. h m (inr u))
+no_announces (AddLink ∷ ms) h = no_announces ms (λ m u. h m (inr u))
 
 -- ---- a nogood that is recorded rules no fewer values out
 
@@ -151,9 +151,9 @@ idle_costs p i a = record {
 
 -- each stamp in the message is above 0
 abbrev pub IsPositive : Message → Type 0
-IsPositive (Announce s) = 0 < s.stamp
+IsPositive (Tell s) = 0 < s.stamp
 IsPositive (Refuse step pairs) = (y : ℕ × Stamped) → In y pairs → 0 < y.1.stamp
-IsPositive Add_link = Unit {0}
+IsPositive AddLink = Unit {0}
 
 module _ (p : Csp) (i : ℕ) (a : Agent) (h : Sound p i a) (in_range : i < count p) (k : ℕ) where
   asked_costs : a.tells k ≡ false → Costs p i a (record a { tells = update a.tells k true }) (λ j. sent_to j (own_value k a a.value))
@@ -168,7 +168,7 @@ module _ (p : Csp) (i : ℕ) (a : Agent) (h : Sound p i a) (in_range : i < count
       | inl t ↦ let x : true ≡ false = rw t.0 at g in cc
       | inr t ↦ let ne : (k == j) ≡ false = apart j k t.1 in elim a.value as (λ o. announces_in (sent_to j (own_value k a o)) ≡ 0) [ None ↦ refl | Some v ↦ rw ne refl ]
     ];
-    refusals = inl (sum-zero (λ j. nogoods_in (sent_to j (own_value k a a.value))) (count p) (λ j l. elim a.value as (λ o. nogoods_in (sent_to j (own_value k a o)) ≡ 0) [ None ↦ refl | Some v ↦ elim (k == j) as (λ c. nogoods_in (cond c (Announce (record { value = v; stamp = a.stamp }) ∷ []) []) ≡ 0) [ true ↦ refl | false ↦ refl ] ]));
+    refusals = inl (sum-zero (λ j. nogoods_in (sent_to j (own_value k a a.value))) (count p) (λ j l. elim a.value as (λ o. nogoods_in (sent_to j (own_value k a o)) ≡ 0) [ None ↦ refl | Some v ↦ elim (k == j) as (λ c. nogoods_in (cond c (Tell (record { value = v; stamp = a.stamp }) ∷ []) []) ≡ 0) [ true ↦ refl | false ↦ refl ] ]));
     rests = λ g e. g;
     marks = λ g. let e : marked p i a ≡ marked p i (record a { tells = update a.tells k true }) = refl in omega arith;
     marks_one = omega arith;
@@ -185,27 +185,27 @@ module _ (p : Csp) (i : ℕ) (a : Agent) (h : Sound p i a) (in_range : i < count
       ]
 
   pub receive_costs : (number : ℕ) (m : Message) → Fine p k i m → IsExpected p i a h in_range k m → IsPositive m → refutes (receive p i number a k m).step ≡ false → Costs p i a (receive p i number a k m).agent (λ j. sent_to j (receive p i number a k m).sent)
-  receive_costs number (Announce s) f n q r =
+  receive_costs number (Tell s) f n q r =
       (elim (is_newer (a.view k) s.stamp) as (λ b. is_newer (a.view k) s.stamp ≡ b → let o : Outcome = cond b (settle p i number (learn k s a)) (stay a) in refutes o.step ≡ false → Costs p i a o.agent (λ j. sent_to j o.sent)) [
         | true ↦ λ e r.
             let t = announced p i a h in_range k s n f in
-            then_settles p i a (learn k s a) (only k (Announce s)) (λ j. []) t true (λ g. cc)
+            then_settles p i a (learn k s a) (only k (Tell s)) (λ j. []) t true (λ g. cc)
             (stamps_rise i a (learn k s a) t.view_up k s.stamp n q e (t.hears k s here))
             (λ g. cc) (λ g. cc) (settle p i number (learn k s a)).agent (λ j. sent_to j (settle p i number (learn k s a)).sent)
             (settle_costs p i number (learn k s a) t.sound r)
         | false ↦ λ e r. idle_costs p i a
       ]) refl r
     where
-      here : In (Announce s) (only k (Announce s) k)
+      here : In (Tell s) (only k (Tell s) k)
       here = elim (eqb_tells k k) [ inl t ↦ rw t.0 (inl refl) | inr t ↦ absurd (t.1 refl) ]
   receive_costs number (Refuse step pairs) f n q r =
       let b = heed i step pairs a in
       let t = heeded p i a h in_range k step pairs f in
-      (elim (a.waits && not (is_news i pairs a)) as (λ w. (a.waits && not (is_news i pairs a)) ≡ w → let o : Outcome = first_sent (to_each Add_link (unlinked i (plain pairs) a)) (cond w (stay b) (settle p i number b)) in refutes o.step ≡ false → Costs p i a o.agent (λ j. sent_to j o.sent)) [
-        | true ↦ λ e r. subst (λ (went : ℕ → List Message). Costs p i a b went) (λ t j. sym (sent_to-append j (to_each Add_link (unlinked i (plain pairs) a)) []) t)
+      (elim (a.waits && not (is_news i pairs a)) as (λ w. (a.waits && not (is_news i pairs a)) ≡ w → let o : Outcome = first_sent (to_each AddLink (unlinked i (plain pairs) a)) (cond w (stay b) (settle p i number b)) in refutes o.step ≡ false → Costs p i a o.agent (λ j. sent_to j o.sent)) [
+        | true ↦ λ e r. subst (λ (went : ℕ → List Message). Costs p i a b went) (λ t j. sym (sent_to-append j (to_each AddLink (unlinked i (plain pairs) a)) []) t)
             (let none = not_true _ (and_right a.waits _ e) in
             then_stays p i a b (only k (Refuse step pairs)) _ t (is_news i pairs a) (same) (risen (is_news i pairs a) refl) (marks_heeded p i step pairs a) none)
-        | false ↦ λ e r. subst (λ (went : ℕ → List Message). Costs p i a (settle p i number b).agent went) (λ t j. sym (sent_to-append j (to_each Add_link (unlinked i (plain pairs) a)) (settle p i number b).sent) t)
+        | false ↦ λ e r. subst (λ (went : ℕ → List Message). Costs p i a (settle p i number b).agent went) (λ t j. sym (sent_to-append j (to_each AddLink (unlinked i (plain pairs) a)) (settle p i number b).sent) t)
             (then_settles p i a b (only k (Refuse step pairs)) _ t (is_news i pairs a) same (risen (is_news i pairs a) refl) (marks_heeded p i step pairs a) (awake a.waits (is_news i pairs a) e)
             (settle p i number b).agent (λ j. sent_to j (settle p i number b).sent) (settle_costs p i number b t.sound r))
       ]) refl r
@@ -231,4 +231,4 @@ module _ (p : Csp) (i : ℕ) (a : Agent) (h : Sound p i a) (in_range : i < count
           let t = heeded p i a h in_range k step pairs f in
           let l = (Decides-ltb y.0.0 i).0 (and_left (nat_lt y.0.0 i) _ y.2) in
           stamps_rise i a (heed i step pairs a) t.view_up y.0.0 y.0.1.stamp l (q y.0 y.1) (and_right (nat_lt y.0.0 i) _ y.2) ((t.heeds k step pairs here).covers y.0 y.1 l)
-  receive_costs number Add_link f n q r = asked_costs n
+  receive_costs number AddLink f n q r = asked_costs n

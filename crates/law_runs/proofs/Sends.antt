@@ -7,7 +7,7 @@ use Rattle.dcsp_defs.specs.declared.Step.{Step}
 use Rattle.dcsp_defs.proofs.Lists.{In-split, In-below, filter-from}
 use Rattle.law_agent.proofs.Nogoods.{In-map-from}
 use Rattle.law_agent.proofs.Settles.{derived_higher}
-use Rattle.abt_defs.specs.Agents.{Agent, Message, Announce, Refuse, Add_link, Stamped, StampedNogood, lowest, plain}
+use Rattle.abt_defs.specs.Agents.{Agent, Message, Tell, Refuse, AddLink, Stamped, StampedNogood, lowest, plain}
 use Rattle.abt_defs.specs.Reasons.{derived, step_of}
 use Rattle.abt_defs.specs.Steps.{Outcome, stay, settle, take_or_refuse, refuse, choice, is_free, receive, to_each, unlinked, own_value, is_newer, learn, heed, is_news, is_named}
 use Rattle.abt_defs.specs.Network.{sent_to}
@@ -70,7 +70,7 @@ module _ (p : Csp) (i : ℕ) (l : i < count p) where
       low first (next ∷ rest) g = low next rest (λ y u. g y (inr u))
 
   taken : (number : ℕ) (a : Agent) (o : Option ℤ) → TellsLower i a → Reaches p i (take_or_refuse p i number a o).sent
-  taken number a (Some v) h = each (count p) (Announce (record { value = v; stamp = a.stamp + 1 })) a.tells (λ j w t. (w, λ e. let d = h j t in omega arith))
+  taken number a (Some v) h = each (count p) (Tell (record { value = v; stamp = a.stamp + 1 })) a.tells (λ j w t. (w, λ e. let d = h j t in omega arith))
   taken number a None h = to_lowest number a (step_of p i a.view a.recorded) (derived p i a.view a.recorded) (derived_higher p i a)
 
   pub settle_reaches : (number : ℕ) (a : Agent) → TellsLower i a → Reaches p i (settle p i number a).sent
@@ -78,10 +78,10 @@ module _ (p : Csp) (i : ℕ) (l : i < count p) where
 
   told : (k : ℕ) (a : Agent) (o : Option ℤ) → k < count p → k ≢ i → Reaches p i (own_value k a o)
   told k a None h ne = none
-  told k a (Some v) h ne = one k (Announce (record { value = v; stamp = a.stamp })) h ne
+  told k a (Some v) h ne = one k (Tell (record { value = v; stamp = a.stamp })) h ne
 
   -- to whom, when a value comes
-  pub announce_reaches : (number k : ℕ) (a : Agent) (s : Stamped) → (learn k s a).tells ≡ a.tells → TellsLower i a → Reaches p i (receive p i number a k (Announce s)).sent
+  pub announce_reaches : (number k : ℕ) (a : Agent) (s : Stamped) → (learn k s a).tells ≡ a.tells → TellsLower i a → Reaches p i (receive p i number a k (Tell s)).sent
   announce_reaches number k a s same h =
       either (is_newer (a.view k) s.stamp) (settle p i number (learn k s a)) (stay a)
       (settle_reaches number (learn k s a) (λ j t. h j (subst (λ (f : ℕ → Bool). f j ≡ true) same t))) none
@@ -89,11 +89,11 @@ module _ (p : Csp) (i : ℕ) (l : i < count p) where
   -- when a nogood comes
   pub refuse_reaches : (number k step : ℕ) (a : Agent) (pairs : StampedNogood) → (heed i step pairs a).tells ≡ a.tells → TellsLower i a → Reaches p i (receive p i number a k (Refuse step pairs)).sent
   refuse_reaches number k step a pairs same h =
-      both (to_each Add_link (unlinked i (plain pairs) a)) (cond (a.waits && not (is_news i pairs a)) (stay (heed i step pairs a)) (settle p i number (heed i step pairs a))).sent
-      (each i Add_link (λ j. is_named j (plain pairs) && not (a.linked j)) (λ j w t. (omega arith, λ e. omega arith)))
+      both (to_each AddLink (unlinked i (plain pairs) a)) (cond (a.waits && not (is_news i pairs a)) (stay (heed i step pairs a)) (settle p i number (heed i step pairs a))).sent
+      (each i AddLink (λ j. is_named j (plain pairs) && not (a.linked j)) (λ j w t. (omega arith, λ e. omega arith)))
       (either (a.waits && not (is_news i pairs a)) (stay (heed i step pairs a)) (settle p i number (heed i step pairs a)) none
       (settle_reaches number (heed i step pairs a) (λ j t. h j (subst (λ (f : ℕ → Bool). f j ≡ true) same t))))
 
   -- when a link request comes
-  pub link_reaches : (number k : ℕ) (a : Agent) → k < count p → k ≢ i → Reaches p i (receive p i number a k Add_link).sent
+  pub link_reaches : (number k : ℕ) (a : Agent) → k < count p → k ≢ i → Reaches p i (receive p i number a k AddLink).sent
   link_reaches number k a h ne = told k a a.value h ne

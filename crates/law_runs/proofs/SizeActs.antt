@@ -2,7 +2,7 @@
 use Rattle.std.proofs.Common.{◌≡◌, ℕ, ◌+◌, ◌≤◌, Bool, true, false, cond, not, ◌&&◌, inl, [], ◌∷◌, Option, Some, None, ℤ, refl, sym, ◌∙◌, subst, arith}
 use Rattle.dcsp_defs.specs.Words.{In, update}
 use Rattle.dcsp_defs.specs.Csp.{Csp}
-use Rattle.abt_defs.specs.Agents.{Agent, Message, Announce, Refuse, Add_link, StampedNogood, plain, fresh}
+use Rattle.abt_defs.specs.Agents.{Agent, Message, Tell, Refuse, AddLink, StampedNogood, plain, fresh}
 use Rattle.abt_defs.specs.Reasons.{derived, step_of}
 use Rattle.abt_defs.specs.Steps.{Outcome, stay, to_each, is_free, choice, refuse, take_or_refuse, settle, is_newer, forget, learn, learn_all, is_news, unlinked, ask, heed, first_sent, receive}
 use Rattle.abt_defs.specs.Network.{refutes, is_empty}
@@ -36,7 +36,7 @@ same_modest : (a b c : Agent) → b.value ≡ a.value → b.stamp ≡ a.stamp �
 same_modest a b c v s m = record { stamp = let x = m.stamp in omega arith; value = λ h. m.value (h.0, v ∙ h.1) }
 
 pub receive_modest : (p : Csp) (i number : ℕ) (a : Agent) (k : ℕ) (m : Message) → Modest a (receive p i number a k m).agent
-receive_modest p i number a k (Announce s) = elim (is_newer (a.view k) s.stamp) as (λ b. Modest a (cond b (settle p i number (learn k s a)) (stay a)).agent) [
+receive_modest p i number a k (Tell s) = elim (is_newer (a.view k) s.stamp) as (λ b. Modest a (cond b (settle p i number (learn k s a)) (stay a)).agent) [
   | true ↦ same_modest a (learn k s a) _ (learned (is_newer (a.view k) s.stamp)).0 (learned (is_newer (a.view k) s.stamp)).1 (settle_modest p i number (learn k s a))
   | false ↦ record { stamp = omega arith; value = λ h. h }
 ]
@@ -48,11 +48,11 @@ receive_modest p i number a k (Refuse step pairs) =
     let b = heed i step pairs a in
     let f = learns_all i pairs (ask i (plain pairs) a) in
     let g = keeps i (record { step = step; pairs = plain pairs }) (learn_all i pairs (ask i (plain pairs) a)) in
-    elim (a.waits && not (is_news i pairs a)) as (λ c. Modest a (first_sent (to_each Add_link (unlinked i (plain pairs) a)) (cond c (stay b) (settle p i number b))).agent) [
+    elim (a.waits && not (is_news i pairs a)) as (λ c. Modest a (first_sent (to_each AddLink (unlinked i (plain pairs) a)) (cond c (stay b) (settle p i number b))).agent) [
       | true ↦ same_modest a b b (g.value ∙ f.value) (g.stamp ∙ f.stamp) (record { stamp = omega arith; value = λ h. h })
       | false ↦ same_modest a b _ (g.value ∙ f.value) (g.stamp ∙ f.stamp) (settle_modest p i number b)
     ]
-receive_modest p i number a k Add_link = record { stamp = omega arith; value = λ h. h }
+receive_modest p i number a k AddLink = record { stamp = omega arith; value = λ h. h }
 
 -- an agent that knows nothing takes a value or refutes
 pub record Begins (o : Outcome) : Type 0 where

@@ -7,7 +7,7 @@ use Rattle.std.proofs.lemmas.List.{map-append}
 use Rattle.dcsp_defs.specs.Words.{below}
 use Rattle.dcsp_defs.specs.Csp.{Csp, Constraint, count, domain}
 use Rattle.dcsp_defs.specs.declared.Step.{Step}
-use Rattle.abt_defs.specs.Agents.{Announce, Record, Stamped, StampedNogood, fresh, is_among, known, plain}
+use Rattle.abt_defs.specs.Agents.{Tell, Record, Stamped, StampedNogood, fresh, is_among, known, plain}
 use Rattle.abt_defs.specs.Reasons.{Item, blamed, causes, derived, ruled_out, step_of}
 use Rattle.abt_defs.specs.Steps.{Outcome, refuse, settle, take_or_refuse, to_each}
 use Rattle.abt_defs.specs.Network.{Network, acted, empty_network, is_empty, is_false, next_number, refutes, sent_to, settle_below, start, start_by}
@@ -47,7 +47,7 @@ first p i = by_choice (find (λ v. not (ruled_out p i (known (fresh p i)) [] v))
     refused : (d : StampedNogood) → d ≡ [] → First p i (refuse 1 (fresh p i) (step_of p i (λ k. None) []) d)
     refused [] e = record {
       recorded = refl;
-      tells = record { told = record { value = pos 0; stamp = 0 }; tells = λ k. false; sent_is = ap (to_each (Announce (record { value = pos 0; stamp = 0 }))) (sym (none_passes (below (count p)))) };
+      tells = record { told = record { value = pos 0; stamp = 0 }; tells = λ k. false; sent_is = ap (to_each (Tell (record { value = pos 0; stamp = 0 }))) (sym (none_passes (below (count p)))) };
       step = inr (record { step = step_of p i (λ k. None) []; made = refl; mine = refl; empty = ap plain (derived_none p i [] (below i)) });
     }
     refused (x ∷ xs) e = absurd (let h = e in cc)

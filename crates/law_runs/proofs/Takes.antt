@@ -6,7 +6,7 @@ use Rattle.dcsp_defs.specs.declared.nogood.Pair.{Pair}
 use Rattle.dcsp_defs.specs.Pairs.{pair_of}
 use Rattle.dcsp_defs.specs.Words.{In, IsRising}
 use Rattle.dcsp_defs.specs.Csp.{Csp, Nogood, names, count}
-use Rattle.abt_defs.specs.Agents.{Message, Announce, Refuse, Add_link, plain}
+use Rattle.abt_defs.specs.Agents.{Message, Tell, Refuse, AddLink, plain}
 use Rattle.abt_defs.specs.Network.{Network, run, start}
 use Rattle.law_agent.specs.OneAgent.{Proper}
 use Rattle.law_agent.proofs.Nogoods.{value_at-In}
@@ -38,13 +38,13 @@ lowest_is p i pairs h = last_is pairs i (pair_of i h.own) h.rising (value_at-In 
 -- ---- messages
 
 -- a list with a link request
-asked_by : (ms : List Message) → In Add_link ms → 0 < asks ms
+asked_by : (ms : List Message) → In AddLink ms → 0 < asks ms
 asked_by [] h = absurd h
-asked_by (Announce s ∷ ms) (inl e) = cc
-asked_by (Announce s ∷ ms) (inr h) = asked_by ms h
+asked_by (Tell s ∷ ms) (inl e) = cc
+asked_by (Tell s ∷ ms) (inr h) = asked_by ms h
 asked_by (Refuse step pairs ∷ ms) (inl e) = cc
 asked_by (Refuse step pairs ∷ ms) (inr h) = asked_by ms h
-asked_by (Add_link ∷ ms) h = omega arith
+asked_by (AddLink ∷ ms) h = omega arith
 
 bit_of : (x : ℕ) (b : Bool) (n : ℕ) → n + x ≡ bit b → 0 < n → b ≡ true
 bit_of x true n e h = refl
@@ -52,10 +52,10 @@ bit_of x false n e h = absurd (omega arith)
 
 module _ (p : Csp) (net : Network) (h : Kept p (count p) net) (r : AllRooted p net) where
   message : (from to : ℕ) (m : Message) → In m (net.links from to) → IsDeliverable p net.steps from to m
-  message from to (Announce s) u = record {
+  message from to (Tell s) u = record {
     higher = tells_lower p (count p) net h from to (h.tells_first from to s u);
-    value_in = (h.fine from to (Announce s) u).1;
-    stamped = (h.dated from to (Announce s) u).positive;
+    value_in = (h.fine from to (Tell s) u).1;
+    stamped = (h.dated from to (Tell s) u).positive;
   }
   message from to (Refuse number pairs) u =
       let proper = h.fine from to (Refuse number pairs) u in
@@ -66,9 +66,9 @@ module _ (p : Csp) (net : Network) (h : Kept p (count p) net) (r : AllRooted p n
         stamped = λ y v. (h.dated from to (Refuse number pairs) u y v).positive;
         of_step = (source.step, source.there, source.same);
       }
-  message from to Add_link u = record {
+  message from to AddLink u = record {
     lower = (h.sound from).higher to (bit_of (bit ((net.agents to).tells from)) ((net.agents from).linked to) (asks (net.links from to)) (h.asked from to) (asked_by (net.links from to) u));
-    exists = h.fine from to Add_link u;
+    exists = h.fine from to AddLink u;
   }
 
   takes : Sizes p net → net.refuted ≡ false → Deliverable p net

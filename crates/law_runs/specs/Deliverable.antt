@@ -5,7 +5,7 @@ use Rattle.dcsp_defs.specs.declared.nogood.Pair.{Pair}
 use Rattle.dcsp_defs.specs.Words.{In}
 use Rattle.dcsp_defs.specs.Csp.{Csp, IsCsp, Nogood, domain, count}
 use Rattle.dcsp_defs.specs.declared.Step.{Step}
-use Rattle.abt_defs.specs.Agents.{Message, Announce, Refuse, Add_link, Stamped, StampedNogood, plain}
+use Rattle.abt_defs.specs.Agents.{Message, Tell, Refuse, AddLink, Stamped, StampedNogood, plain}
 use Rattle.abt_defs.specs.Network.{Network, run, start}
 use Rattle.law_agent.specs.Sources.{IsOfStep, AreOfSteps}
 
@@ -33,9 +33,9 @@ pub record IsAsking (p : Csp) (from to : ℕ) : Type 0 where
 
 -- a message that agent to can take from agent from, after these steps
 abbrev pub IsDeliverable : Csp → List Step → ℕ → ℕ → Message → Type 0
-IsDeliverable p steps from to (Announce s) = IsTelling p from to s
+IsDeliverable p steps from to (Tell s) = IsTelling p from to s
 IsDeliverable p steps from to (Refuse number pairs) = IsRefusing p steps to number pairs
-IsDeliverable p steps from to Add_link = IsAsking p from to
+IsDeliverable p steps from to AddLink = IsAsking p from to
 
 -- each message in transit can be taken, each stamp that is kept is above 0, and each recorded nogood is that of the step that it names
 pub record Deliverable (p : Csp) (net : Network) : Type 0 where

@@ -5,7 +5,7 @@ use Rattle.dcsp_defs.specs.Words.{below}
 use Rattle.dcsp_defs.specs.Csp.{Csp, Constraint, Nogood}
 use Rattle.dcsp_defs.specs.declared.Reason.{Reason}
 use Rattle.dcsp_defs.specs.declared.Step.{Step}
-use Rattle.abt_defs.specs.Agents.{Agent, Announce, fresh}
+use Rattle.abt_defs.specs.Agents.{Agent, Tell, fresh}
 use Rattle.abt_defs.specs.Steps.{Outcome, settle, receive}
 use Rattle.abt_defs.specs.Network.{values}
 use Rattle.abt_defs.specs.Runs.{End, Cargo, Delivery, Run, whole}
@@ -94,4 +94,4 @@ two_recorded = record (fresh alone 0) { recorded = record { step = 4; pairs = pa
 
 -- an agent that is told a value, and sends a nogood with its stamp
 abbrev pub told_once : Outcome
-told_once = receive clash 1 1 (settle clash 1 1 (fresh clash 1)).agent 0 (Announce (record { value = pos 0; stamp = 1 }))
+told_once = receive clash 1 1 (settle clash 1 1 (fresh clash 1)).agent 0 (Tell (record { value = pos 0; stamp = 1 }))

@@ -2,11 +2,11 @@
 use Rattle.std.specs.Prelude.{◌≡◌, None, true, false, [], ◌∷◌, Some, pos, map}
 use Rattle.dcsp_defs.specs.Words.{below}
 use Rattle.dcsp_defs.specs.declared.Reason.TheVariants.{Rule, Earlier}
-use Rattle.abt_defs.specs.Agents.{Refuse}
+use Rattle.abt_defs.specs.Agents as agents
 use Rattle.abt_defs.specs.Reasons.{Item, causes}
 use Rattle.abt_defs.specs.Steps.{is_refused, is_newer}
 use Rattle.abt_defs.specs.Network.{values, start}
-use Rattle.abt_defs.specs.Runs.{Refuted, Solved, Capped, Spent, Value, Step_number, Link, whole, starved_choices}
+use Rattle.abt_defs.specs.Runs.{Refuted, Solved, Capped, Spent, Tell, Refuse, AddLink, whole, starved_choices}
 use Rattle.abt_defs.specs.Bound.{message_bound}
 use Rattle.dcsp_defs.specs.Pairs.{pair_of}
 use Rattle.abt_defs.specs.Agents.{known}
@@ -16,7 +16,7 @@ use Rattle.law_runs.specs.Models.{shown, steps_of, step, from, clash, asked, nin
 pub record RefutedPair : Type 0 where
   pub run : shown clash (5 ∷ 6 ∷ 7 ∷ 8 ∷ 9 ∷ []) ≡ (Refuted, 4, pos 1 ∷ pos 0 ∷ [], 9 ∷ [])
   pub steps : steps_of clash (5 ∷ 6 ∷ 7 ∷ 8 ∷ []) ≡ step 1 (pair_of 0 (pos 0) ∷ []) (Rule 0 ∷ Rule 1 ∷ []) ∷ step 1 (pair_of 0 (pos 1) ∷ []) (Rule 1 ∷ Rule 0 ∷ []) ∷ step 0 [] (Earlier 1 ∷ Earlier 2 ∷ []) ∷ []
-  pub trace : (whole clash 100 (5 ∷ 6 ∷ 7 ∷ 8 ∷ [])).trace ≡ from 0 1 (Value (pos 0)) ∷ from 1 0 (Step_number 1) ∷ from 0 1 (Value (pos 1)) ∷ from 1 0 (Step_number 2) ∷ []
+  pub trace : (whole clash 100 (5 ∷ 6 ∷ 7 ∷ 8 ∷ [])).trace ≡ from 0 1 (Tell (pos 0)) ∷ from 1 0 (Refuse 1) ∷ from 0 1 (Tell (pos 1)) ∷ from 1 0 (Refuse 2) ∷ []
   pub bound : message_bound clash ≡ 4
   pub capped : (whole clash 3 (0 ∷ 0 ∷ 0 ∷ 0 ∷ [])).end ≡ Capped
   pub spent : shown clash (0 ∷ 0 ∷ 0 ∷ []) ≡ (Spent, 3, pos 1 ∷ pos 0 ∷ [], [])
@@ -26,8 +26,8 @@ pub record LinkAskedFor : Type 0 where
   pub run : shown asked nine ≡ (Solved, 9, pos 1 ∷ pos 1 ∷ pos 0 ∷ [], [])
   pub steps : steps_of asked nine ≡ step 2 (pair_of 0 (pos 0) ∷ pair_of 1 (pos 1) ∷ []) (Rule 0 ∷ Rule 1 ∷ []) ∷ step 1 (pair_of 0 (pos 0) ∷ []) (Earlier 1 ∷ []) ∷ []
   pub trace : (whole asked 100 nine).trace
-      ≡ from 0 2 (Value (pos 0)) ∷ from 1 2 (Value (pos 1)) ∷ from 2 1 (Step_number 1) ∷ from 1 0 Link ∷ from 0 1 (Value (pos 0))
-      ∷ from 1 0 (Step_number 2) ∷ from 0 1 (Value (pos 1)) ∷ from 0 2 (Value (pos 1)) ∷ from 1 2 (Value (pos 1)) ∷ []
+      ≡ from 0 2 (Tell (pos 0)) ∷ from 1 2 (Tell (pos 1)) ∷ from 2 1 (Refuse 1) ∷ from 1 0 AddLink ∷ from 0 1 (Tell (pos 0))
+      ∷ from 1 0 (Refuse 2) ∷ from 0 1 (Tell (pos 1)) ∷ from 0 2 (Tell (pos 1)) ∷ from 1 2 (Tell (pos 1)) ∷ []
   pub bound : message_bound asked ≡ 15
 
 -- two rules over one variable, each link in turn
@@ -36,7 +36,7 @@ pub record InOrder : Type 0 where
   pub steps : steps_of starved (0 ∷ 0 ∷ 0 ∷ 0 ∷ 0 ∷ 0 ∷ 0 ∷ []) ≡ step 2 (pair_of 0 (pos 0) ∷ []) (Rule 0 ∷ []) ∷ step 2 (pair_of 0 (pos 0) ∷ []) (Rule 0 ∷ []) ∷ step 2 (pair_of 1 (pos 0) ∷ []) (Rule 1 ∷ []) ∷ []
   -- a second nogood for one value is dropped
   pub store : ((whole starved 5 (0 ∷ 0 ∷ 0 ∷ 0 ∷ 0 ∷ [])).net.agents 0).recorded ≡ record { step = 1; pairs = pair_of 0 (pos 0) ∷ [] } ∷ []
-  pub fifth : (whole starved 5 (0 ∷ 0 ∷ 0 ∷ 0 ∷ 0 ∷ [])).trace ≡ from 0 2 (Value (pos 0)) ∷ from 1 2 (Value (pos 0)) ∷ from 2 0 (Step_number 1) ∷ from 0 2 (Value (pos 1)) ∷ from 2 0 (Step_number 2) ∷ []
+  pub fifth : (whole starved 5 (0 ∷ 0 ∷ 0 ∷ 0 ∷ 0 ∷ [])).trace ≡ from 0 2 (Tell (pos 0)) ∷ from 1 2 (Tell (pos 0)) ∷ from 2 0 (Refuse 1) ∷ from 0 2 (Tell (pos 1)) ∷ from 2 0 (Refuse 2) ∷ []
 
 -- the same with the link from the first variable to the third starved
 pub record StarvedLink : Type 0 where
@@ -73,7 +73,7 @@ pub record OneAgentsReasons : Type 0 where
 
 -- an agent that is told a value, and sends a nogood with its stamp
 pub record ToldOnce : Type 0 where
-  pub sent : told_once.sent ≡ (0, Refuse 1 ((0, record { value = pos 0; stamp = 1 }) ∷ [])) ∷ []
+  pub sent : told_once.sent ≡ (0, agents.Refuse 1 ((0, record { value = pos 0; stamp = 1 }) ∷ [])) ∷ []
   pub step : told_once.step ≡ Some (step 1 (pair_of 0 (pos 0) ∷ []) (Rule 0 ∷ Rule 1 ∷ []))
 
 -- what is news to a view

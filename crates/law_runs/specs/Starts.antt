@@ -3,7 +3,7 @@ use Rattle.std.specs.Prelude.{◌≡◌, ◌<◌, ◌≤◌, ℕ, ◌+◌, Bool,
 use Rattle.dcsp_defs.specs.Words.{below}
 use Rattle.dcsp_defs.specs.Csp.{Csp, count}
 use Rattle.dcsp_defs.specs.declared.Step.{Step}
-use Rattle.abt_defs.specs.Agents.{Announce, Message, Stamped, fresh}
+use Rattle.abt_defs.specs.Agents.{Tell, Message, Stamped, fresh}
 use Rattle.abt_defs.specs.Steps.{Outcome, settle, to_each}
 use Rattle.abt_defs.specs.Network.{sent_to, start}
 use Rattle.abt_defs.specs.Events.{Act, act_of, start_acts}
@@ -30,7 +30,7 @@ settled_in n (s ∷ steps) = settled_with s.variable
 pub record TellsFirst (n : ℕ) (sent : List (ℕ × Message)) : Type 0 where
   pub told : Stamped
   pub tells : ℕ → Bool
-  pub sent_is : sent ≡ to_each (Announce told) (filter tells (below n))
+  pub sent_is : sent ≡ to_each (Tell told) (filter tells (below n))
 
 -- so many first agents settle in the start, each as if it were the first
 pub record StartsWith (p : Csp) (settled : ℕ) : Type 0 where

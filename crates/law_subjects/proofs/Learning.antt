@@ -10,7 +10,7 @@ use Rattle.dcsp_defs.specs.Words.{In, below}
 use Rattle.dcsp_defs.specs.Csp.{Csp, IsCsp, count, domain}
 use Rattle.dcsp_defs.specs.Derivation.{IsKnownPair}
 use Rattle.dcsp_defs.proofs.Lists.{filter-from, list_any-In, and_both, and_left, and_right, In-split}
-use Rattle.abt_defs.specs.Agents.{Message, Announce, Refuse, Add_link}
+use Rattle.abt_defs.specs.Agents.{Message, Tell, Refuse, AddLink}
 use Rattle.abt_defs.specs.Network.{Network, deliver, ready, run, start}
 use Rattle.abt_defs.specs.Events.{Act, acts, acts_at, choice_acts, head_acts, later_acts, start_acts}
 use Rattle.abt_defs.specs.Measures.{acts_by, told, told_by, told_in, is_pair, once, learned_pairs, learned}
@@ -138,10 +138,10 @@ module _ (p : Csp) where
   AllTell xs = (a : Act) → In a xs → TellsKnown a
 
   tells_fine : (k j : ℕ) (m : Message) → Fine p k j m → (y : Pair) → In y (told_by k m) → IsKnownPair p y
-  tells_fine k j (Announce s) fine y (inl same) = subst (IsKnownPair p) (sym same) (record { variable = fine.0; value = fine.1 })
-  tells_fine k j (Announce s) fine y (inr none) = absurd none
+  tells_fine k j (Tell s) fine y (inl same) = subst (IsKnownPair p) (sym same) (record { variable = fine.0; value = fine.1 })
+  tells_fine k j (Tell s) fine y (inr none) = absurd none
   tells_fine k j (Refuse step pairs) fine y i = fine.in_domains y i
-  tells_fine k j Add_link fine y i = absurd i
+  tells_fine k j AddLink fine y i = absurd i
 
   tells_start : AllTell (start_acts p)
   tells_start a i =

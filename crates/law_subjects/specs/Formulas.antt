@@ -10,6 +10,8 @@ use Rattle.dcsp_rule.specs.declared.rule.Members.TheVariants.{Listed}
 use Rattle.dcsp_rule.specs.declared.rule.Rule.{Rule}
 use Rattle.dcsp_rule.specs.declared.rule.Rule.TheVariants.{Plain}
 use Rattle.dcsp_common.specs.declared.limits.Which.{Which}
+use Rattle.dcsp_common.specs.Limits.{most}
+use Rattle.dcsp_common.specs.declared.limits.Which.TheVariants.{Variables}
 use Rattle.cnf_front.specs.declared.header.CnfError.TheVariants.{Syntax, Limit}
 use Rattle.cnf_front.specs.declared.words.Stand.TheVariants.{Start}
 use Rattle.cnf_front.specs.Dimacs.{TextWord, word_at, is_blank, words}
@@ -112,7 +114,7 @@ pub record IsFormula (ws : List TextWord) (variables : ℕ) (clauses : List (Lis
   pub is_cnf : cnf.bytes ≡ codes "cnf"
   pub is_count : number_of count.bytes ≡ Some variables
   pub is_number : is_number clause_count.bytes ≡ true
-  pub within : variables ≤ 4096
+  pub within : variables ≤ most Variables
   pub says : Says variables rest clauses
 
 -- A text that has a problem says clauses behind its header, and the problem has a variable with the values 0 and 1 for each that the header counts, and the rules of these clauses.

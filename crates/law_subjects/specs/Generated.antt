@@ -1,5 +1,7 @@
 -- Generated texts have problems: those that their lines say.
 use Rattle.std.specs.Prelude.{◌≡◌, ℕ, ◌≤◌, true, List, Ok, codes, length}
+use Rattle.dcsp_common.specs.Limits.{most}
+use Rattle.dcsp_common.specs.declared.limits.Which.TheVariants.{Variables}
 use Rattle.dcsp_gen.specs.Binary.{binary_text, sizes_fit}
 use Rattle.dcsp_gen.specs.Problems.{queens_text, colouring_text, sparse_text, pigeons_text}
 use Rattle.dcsp_rule.specs.Problems.{Contents}
@@ -26,7 +28,7 @@ pub record BinarySizesFit (n d edges forbidden : ℕ) : Type 0 where
 pub record GeneratedLinesResolve : Type 0 where
   pub queens_do : (n : ℕ) → 1 ≤ n → n ≤ 200 → Resolve (codes "q") (queens n)
   pub colouring_does : (n k : ℕ) (words : ℕ → ℕ) → 1 ≤ n → n ≤ 200 → 1 ≤ k → k ≤ 16 → Resolve (codes "c") (colouring n k words)
-  pub sparse_does : (n : ℕ) (words : ℕ → ℕ) → 1 ≤ n → n ≤ 4096 → Resolve (codes "c") (sparse n words)
+  pub sparse_does : (n : ℕ) (words : ℕ → ℕ) → 1 ≤ n → n ≤ most Variables → Resolve (codes "c") (sparse n words)
   pub pigeons_do : (n : ℕ) → 2 ≤ n → n ≤ 200 → Resolve (codes "p") (pigeons n)
   pub binary_does : (n d edges forbidden : ℕ) (words : ℕ → ℕ) → BinarySizesFit n d edges forbidden → Resolve (codes "x") (binary n d edges forbidden words)
 
@@ -40,7 +42,7 @@ ColouringHasProblem = (n k : ℕ) (words : ℕ → ℕ) → 1 ≤ n → n ≤ 20
 
 -- So has that of a sparse graph of n nodes.
 abbrev pub SparseHasProblem : Type 0
-SparseHasProblem = (n : ℕ) (words : ℕ → ℕ) → 1 ≤ n → n ≤ 4096 → Answers (sparse_text n words) (Ok (problem_of (codes "c") (sparse n words)))
+SparseHasProblem = (n : ℕ) (words : ℕ → ℕ) → 1 ≤ n → n ≤ most Variables → Answers (sparse_text n words) (Ok (problem_of (codes "c") (sparse n words)))
 
 -- So has that of n pigeons.
 abbrev pub PigeonsHaveProblem : Type 0
@@ -55,7 +57,7 @@ BinaryHasProblem = (n d edges forbidden : ℕ) (words : ℕ → ℕ) → BinaryS
 pub record AreShort : Type 0 where
   pub queens_are : (n : ℕ) → 1 ≤ n → n ≤ 200 → length (queens_text n) ≤ longest_text
   pub colouring_is : (n k : ℕ) (words : ℕ → ℕ) → 1 ≤ n → n ≤ 200 → 1 ≤ k → k ≤ 16 → length (colouring_text n k words) ≤ longest_text
-  pub sparse_is : (n : ℕ) (words : ℕ → ℕ) → 1 ≤ n → n ≤ 4096 → length (sparse_text n words) ≤ longest_text
+  pub sparse_is : (n : ℕ) (words : ℕ → ℕ) → 1 ≤ n → n ≤ most Variables → length (sparse_text n words) ≤ longest_text
   pub pigeons_are : (n : ℕ) → 2 ≤ n → n ≤ 200 → length (pigeons_text n) ≤ longest_text
   pub binary_is : (n d edges forbidden : ℕ) (words : ℕ → ℕ) → BinarySizesFit n d edges forbidden → length (binary_text n d edges forbidden words) ≤ longest_text
 

@@ -1,5 +1,7 @@
 -- What the solutions of generated problems are: placements of queens and proper colourings. Columns, nodes and pigeons are numbered from 1.
 use Rattle.std.specs.Prelude.{◌≡◌, ◌↔◌, ◌⊎◌, ℕ, suc, ◌-◌, ◌%◌, ◌==◌, ◌<◌, ◌≤◌, ℤ, pos, neg_ℤ, ◌-ℤ◌, ◌≤ℤ◌, List, [], ◌∷◌, codes, if◌then◌else◌}
+use Rattle.dcsp_common.specs.Limits.{most}
+use Rattle.dcsp_common.specs.declared.limits.Which.TheVariants.{Variables}
 use Rattle.dcsp_gen.specs.Problems.{pairs}
 use Rattle.dcsp_defs.specs.Words.{In}
 use Rattle.dcsp_defs.specs.Csp.{Assignment, IsSolution, HasNoSolution}
@@ -55,7 +57,7 @@ PigeonsDoNotFit = (n : ℕ) → 2 ≤ n → n ≤ 200 → HasNoSolution (csp_of 
 
 -- A sparse graph has a colouring, whatever the words: each node has three earlier neighbours at the most, and there are four colours.
 abbrev pub SparseGraphsAreColoured : Type 0
-SparseGraphsAreColoured = (n : ℕ) (words : ℕ → ℕ) → 1 ≤ n → n ≤ 4096
+SparseGraphsAreColoured = (n : ℕ) (words : ℕ → ℕ) → 1 ≤ n → n ≤ most Variables
     → (values : Assignment) × IsSolution (csp_of (problem_of (codes "c") (sparse n words))) values
 
 -- Six queens can be placed.

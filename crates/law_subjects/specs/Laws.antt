@@ -1,6 +1,8 @@
 -- The lines of generated problems are items, and generated problems are lines.
 use Rattle.std.specs.Prelude.{◌≡◌, ◌≤◌, ◌^◌, ℕ, List, [], ◌∷◌, flat_map, codes, Ok}
 use Rattle.std.specs.List.{AllByRecursion}
+use Rattle.dcsp_common.specs.Limits.{most}
+use Rattle.dcsp_common.specs.declared.limits.Which.TheVariants.{Variables}
 use Rattle.fzn_token.specs.declared.token.Token.{Token}
 use Rattle.fzn_token.specs.Reading as lexing
 use Rattle.fzn_item.specs.declared.item.Item.{Item}
@@ -63,6 +65,6 @@ pub record TextsAreLines : Type 0 where
 pub record NumbersAreSmall : Type 0 where
   pub queens_are : (n : ℕ) → 1 ≤ n → n ≤ 200 → AllByRecursion HasSmallNumbers (queens n)
   pub colouring_is : (n k : ℕ) (words : ℕ → ℕ) → 1 ≤ n → n ≤ 200 → 1 ≤ k → k ≤ 16 → AllByRecursion HasSmallNumbers (colouring n k words)
-  pub sparse_is : (n : ℕ) (words : ℕ → ℕ) → 1 ≤ n → n ≤ 4096 → AllByRecursion HasSmallNumbers (sparse n words)
+  pub sparse_is : (n : ℕ) (words : ℕ → ℕ) → 1 ≤ n → n ≤ most Variables → AllByRecursion HasSmallNumbers (sparse n words)
   pub pigeons_are : (n : ℕ) → 2 ≤ n → n ≤ 200 → AllByRecursion HasSmallNumbers (pigeons n)
   pub binary_is : (n d edges forbidden : ℕ) (words : ℕ → ℕ) → 1 ≤ n → n ≤ 200 → 1 ≤ d → d ≤ 100 → AllByRecursion HasSmallNumbers (binary n d edges forbidden words)

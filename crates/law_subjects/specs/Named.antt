@@ -2,6 +2,8 @@
 use Rattle.std.specs.Prelude.{◌≡◌, ℕ, suc, ◌≤◌, ◌^◌, ℤ, pos, false, true, List, [], ◌∷◌, ◌++◌, map, flat_map, length, sum_by, None, Ok, codes, if◌then◌else◌}
 use Rattle.std.specs.List.{concat, list_all, AllByRecursion}
 use Rattle.std.specs.Str.{bytes_eq}
+use Rattle.dcsp_common.specs.Limits.{most}
+use Rattle.dcsp_common.specs.declared.limits.Which.TheVariants.{Variables}
 use Rattle.dcsp_defs.specs.Words.{In}
 use Rattle.dcsp_domain.specs.Sets.{set_of}
 use Rattle.dcsp_gen.specs.Binary.{entries}
@@ -224,7 +226,7 @@ IsConstraintOn names Finish = ⊥
 pub record AreNamedWithin (choices : List Choice) (constraints : List NamedLine) : Type 0 where
   pub apart : AreApart (names_of choices)
   pub constrained : AllByRecursion (IsConstraintOn (names_of choices)) constraints
-  pub variables : length choices ≤ 4096
+  pub variables : length choices ≤ most Variables
   pub values : AllByRecursion (λ (choice : Choice). length choice.0 ≤ 65536) choices
   pub all_values : sum_by (λ (choice : Choice). length choice.0) choices ≤ 1048576
   pub rules : length constraints ≤ 262144

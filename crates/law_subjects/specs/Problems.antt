@@ -1,6 +1,8 @@
 -- The problem of the lines of a generated problem: what each line adds to it.
 use Rattle.std.specs.Prelude.{◌≡◌, ℕ, suc, ◌-◌, ◌*◌, ◌^◌, ◌≤◌, ◌<◌, ◌⊎◌, ℤ, pos, neg_ℤ, false, List, [], ◌∷◌, ◌++◌, length, map, flat_map, sum_by, None, Ok}
 use Rattle.std.specs.List.{range_with_len, AllByRecursion}
+use Rattle.dcsp_common.specs.Limits.{most}
+use Rattle.dcsp_common.specs.declared.limits.Which.TheVariants.{Variables}
 use Rattle.dcsp_domain.specs.Ranges.{numbers_between}
 use Rattle.dcsp_meaning.specs.declared.kinds.ConstraintKind.TheVariants.{IntNe, FznTableInt}
 use Rattle.dcsp_meaning.specs.declared.linear.Rel.TheVariants as rel
@@ -101,7 +103,7 @@ all_lines low high count printed constraints = variables low high count ++ (prin
 pub record AreWithin (low high count : ℕ) (printed constraints : List ModelLine) : Type 0 where
   pub array : (printed ≡ []) ⊎ (printed ≡ Print count ∷ [])
   pub constrained : AllByRecursion (IsConstraint count) constraints
-  pub variables : count ≤ 4096
+  pub variables : count ≤ most Variables
   pub greatest : high ≤ 65536
   pub values : width low high ≤ 65536
   pub all_values : count * width low high ≤ 1048576

@@ -6,6 +6,7 @@ use Rattle.rup_check.specs.Assignments.{flipped, Has}
 use Rattle.rup_check.specs.Watches.{IsCoveredBySome}
 use Rattle.rup_check.specs.declared.propagation.Found.{Found}
 use Rattle.rup_check.specs.declared.propagation.Found.TheVariants as found
+use Rattle.rup_check.specs.Stored.{IsPlace}
 
 -- whether the clause has the property
 abbrev pub is_good : Found → Bool
@@ -17,7 +18,7 @@ is_good found.Covered = true
 pub record HasFalseAt (formula : List (List ℕ)) (marks : List Bool) : Type 0 where
   pub number : ℕ
   pub in_range : number < length formula
-  pub small : All (λ x. x ≤ 8191) (slice_index_or formula number [])
+  pub small : All IsPlace (slice_index_or formula number [])
   pub is_false : IsFalsified flipped (Has marks) (slice_index_or formula number [])
 
 -- what is found where propagation came to a conflict or not, and only the start is marked again

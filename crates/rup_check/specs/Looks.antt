@@ -2,6 +2,7 @@
 use Rattle.std.specs.Prelude.{◌≢◌, ◌<◌, ◌≤◌, ℕ, length, slice_index_or, List, ◌⊎◌, Bool, true, false}
 use Rattle.std.specs.List.{Contains}
 use Rattle.rup_check.specs.Assignments.{flipped, Has}
+use Rattle.rup_check.specs.Stored.{IsPlace}
 
 -- each other literal of the clause is false
 abbrev pub OthersFalse : List Bool → List ℕ → ℕ → Type 0
@@ -28,7 +29,7 @@ IsQuiet marks clause = ((x : ℕ) × Contains clause x × Has marks x) ⊎ ((x :
 
 -- a literal of the clause that is neither true nor false, beside which each other is false
 pub record IsUnit (marks : List Bool) (clause : List ℕ) (x : ℕ) : Type 0 where
-  pub small : x ≤ 8191
+  pub small : IsPlace x
   pub here : IsOpen marks clause x
   pub absent : Has marks x → ⊥
   pub others : OthersFalse marks clause x

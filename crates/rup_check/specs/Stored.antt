@@ -11,9 +11,17 @@ abbrev pub place_of : ℤ → ℕ
 place_of (pos n) = 4095 + n
 place_of (negsuc n) = 4095 - n
 
+-- so many places there are, two for each variable
+abbrev pub places : ℕ
+places = 8192
+
+-- this is a place
+abbrev pub IsPlace : ℕ → Type 0
+IsPlace x = x ≤ 8191
+
 -- each clause has places alone
 abbrev pub ArePlaces : List (List ℕ) → Type 0
-ArePlaces clauses = (clause : List ℕ) (x : ℕ) → Contains clauses clause → Contains clause x → x ≤ 8191
+ArePlaces clauses = (clause : List ℕ) (x : ℕ) → Contains clauses clause → Contains clause x → IsPlace x
 
 -- clauses of places, no more than a list of clauses may have
 pub record AreStored (clauses : List (List ℕ)) : Type 0 where

@@ -12,14 +12,15 @@ use Rattle.rup_check.specs.declared.turns.Turn.{Turn}
 use Rattle.rup_check.specs.declared.turns.Turn.TheVariants as turn
 use Rattle.rup_check.specs.declared.turns.Look.{Look}
 use Rattle.rup_check.specs.declared.turns.Look.TheVariants as look
+use Rattle.rup_check.specs.Stored.{IsPlace, places}
 
 -- the pair are two literals of the clause
 pub record IsPairOf (clause : List ℕ) (pair : WatchedPair) : Type 0 where
   pub first : Contains clause pair.first
   pub second : Contains clause pair.second
   pub apart : pair.first ≢ pair.second
-  pub first_small : pair.first ≤ 8191
-  pub second_small : pair.second ≤ 8191
+  pub first_small : IsPlace pair.first
+  pub second_small : IsPlace pair.second
 
 -- the clause is in the list of the literal, or in the list of q, which was taken out
 abbrev pub IsListed : List (List ℕ) → List ℕ → ℕ → ℕ → ℕ → Type 0
@@ -79,7 +80,7 @@ IsOther pair q other = ((pair.first ≡ q) × (other ≡ pair.second)) ⊎ ((pai
 abbrev pub IsTurn : List Bool → List ℕ → WatchedPair → ℕ → Turn → Type 0
 IsTurn marks clause pair q turn.Drop = (pair.first ≢ q) × (pair.second ≢ q)
 IsTurn marks clause pair q turn.Stay = (other : ℕ) × IsOther pair q other × Has marks other
-IsTurn marks clause pair q (turn.Move other to at) = IsOther pair q other × IsOpen marks clause to × (to ≢ other) × (to ≤ 8191)
+IsTurn marks clause pair q (turn.Move other to at) = IsOther pair q other × IsOpen marks clause to × (to ≢ other) × IsPlace to
 IsTurn marks clause pair q (turn.Force other) = IsOther pair q other × IsUnit marks clause other
 IsTurn marks clause pair q turn.Conflict = IsFalsified flipped (Has marks) clause
 
@@ -95,7 +96,7 @@ pub record IsEntry (formula : List (List ℕ)) (pairs : List WatchedPair) (numbe
 -- every clause is tended or needs no watch, while the list of q is looked at
 pub record IsWatch (formula : List (List ℕ)) (pairs : List WatchedPair) (lists : List (List ℕ)) (units base : List ℕ) (held pending : List ℕ) (q : ℕ) (marks : List Bool) (done : List ℕ) : Type 0 where
   pub counted : length pairs ≡ length formula
-  pub sized : length lists ≡ 8192
+  pub sized : length lists ≡ places
   pub entries : (x k : ℕ) → Contains (slice_index_or lists x []) k → IsEntry formula pairs k
   pub left : (k : ℕ) → Contains held k → IsEntry formula pairs k
   pub done_marked : (y : ℕ) → Contains done y → Has marks y
@@ -131,7 +132,7 @@ pub record IsKept (lists : List (List ℕ)) (base : List ℕ) (marks : List Bool
 -- every clause is kept or needs no watch, where the lists of the negations of what is done were looked at
 pub record IsState (formula : List (List ℕ)) (pairs : List WatchedPair) (lists : List (List ℕ)) (units base : List ℕ) (marks : List Bool) (done : List ℕ) : Type 0 where
   pub counted : length pairs ≡ length formula
-  pub sized : length lists ≡ 8192
+  pub sized : length lists ≡ places
   pub entries : (x k : ℕ) → Contains (slice_index_or lists x []) k → IsEntry formula pairs k
   pub done_marked : (y : ℕ) → Contains done y → Has marks y
   pub base_marked : (y : ℕ) → Contains base y → Has marks y

@@ -6,8 +6,9 @@ ghost use Rattle.rup_check.specs.Assignments.{flipped, Has, IsAssignment};
 ghost use Rattle.rup_check.specs.Sets.{IsBeginning, IsPut};
 ghost use Rattle.rup_check.specs.Looks.{IsOpen, IsOtherOpen, IsClosedBetween, OthersFalse, SaysTrue};
 ghost use Rattle.rup_check.specs.Watches.{IsClean, Extends};
+ghost use Rattle.rup_check.specs.Stored.{IsPlace, places};
 
-use crate::places::flipped;
+use crate::places::{LAST_PLACE, flipped};
 use dcsp_common::Memory;
 use std::alloc::Global;
 
@@ -27,7 +28,7 @@ impl Assignment {
         ensures assigned { IfOk result (λ a. IsAssignment a.marks.items a.trail.items) }
         ensures empty { IfOk result (λ a. a.trail.items ≡ []) }
     {
-        let marks = vec![in alloc; false; 8192]?;
+        let marks = vec![in alloc; false; LAST_PLACE as usize + 1]?;
         Ok(Assignment {
             marks,
             trail: Vec::new(alloc),
@@ -52,7 +53,7 @@ impl Assignment {
 
     /// Adds a literal that is not in the set.
     pub(crate) fn add(&mut self, literal: u16) -> Result<(), Memory>
-        requires small { literal ≤ 8191 }
+        requires small { IsPlace literal }
         requires assigned { IsAssignment self.old.marks.items self.old.trail.items }
         requires absent { Has self.old.marks.items literal → ⊥ }
         ensures marks { OnOk result (self.new.marks.items ≡ slice_set self.old.marks.items literal true) }
@@ -66,7 +67,7 @@ impl Assignment {
 
     /// Adds a literal if it is not in the set.
     pub(crate) fn put(&mut self, literal: u16) -> Result<(), Memory>
-        requires small { literal ≤ 8191 }
+        requires small { IsPlace literal }
         requires assigned { IsAssignment self.old.marks.items self.old.trail.items }
         ensures put { OnOk result (IsPut self.old.marks.items self.new.marks.items literal) }
         ensures trail { OnOk result (Extends self.old.trail.items self.new.trail.items) }
@@ -82,8 +83,8 @@ impl Assignment {
 /// Whether a literal of the clause is true.
 #[tactic(auto, using(crate::proofs::MarkLaws::none_from_index))]
 pub(crate) fn has_true(marks: &[bool], clause: &[u16]) -> bool
-    requires size { length marks.now ≡ 8192 }
-    requires small { All (λ x. x ≤ 8191) clause.now }
+    requires size { length marks.now ≡ places }
+    requires small { All IsPlace clause.now }
     ensures { SaysTrue marks.now clause.now result }
 {
     for literal in clause {
@@ -97,8 +98,8 @@ pub(crate) fn has_true(marks: &[bool], clause: &[u16]) -> bool
 /// The first literal of the clause that is not false.
 #[tactic(auto, using(crate::proofs::MarkLaws::falsified_from_index))]
 pub(crate) fn first_open(marks: &[bool], clause: &[u16]) -> Option<u16>
-    requires size { length marks.now ≡ 8192 }
-    requires small { All (λ x. x ≤ 8191) clause.now }
+    requires size { length marks.now ≡ places }
+    requires small { All IsPlace clause.now }
     ensures { MatchOption result (IsFalsified flipped (Has marks.now) clause.now) (IsOpen marks.now clause.now) }
 {
     for literal in clause {
@@ -112,8 +113,8 @@ pub(crate) fn first_open(marks: &[bool], clause: &[u16]) -> Option<u16>
 /// The first literal of the clause that is not false, and is not this one.
 #[tactic(auto, using(crate::proofs::MarkLaws::others_from_index))]
 pub(crate) fn other_open(marks: &[bool], clause: &[u16], but: u16) -> Option<u16>
-    requires size { length marks.now ≡ 8192 }
-    requires small { All (λ x. x ≤ 8191) clause.now }
+    requires size { length marks.now ≡ places }
+    requires small { All IsPlace clause.now }
     ensures cases { MatchOption result (OthersFalse marks.now clause.now but) (IsOpen marks.now clause.now) }
     ensures other { IfSome result (λ x. x ≢ but) }
 {
@@ -127,8 +128,8 @@ pub(crate) fn other_open(marks: &[bool], clause: &[u16], but: u16) -> Option<u16
 
 /// The last place from `low` on and below `high` whose literal is not false, and is not this one.
 fn last_open(marks: &[bool], clause: &[u16], but: u16, low: usize, high: usize) -> Option<usize>
-    requires size { length marks.now ≡ 8192 }
-    requires small { All (λ x. x ≤ 8191) clause.now }
+    requires size { length marks.now ≡ places }
+    requires small { All IsPlace clause.now }
     requires order { low ≤ high }
     requires within { high ≤ length clause.now }
     ensures { MatchOption result (IsClosedBetween marks.now clause.now but low high) (IsOtherOpen marks.now clause.now but) }
@@ -149,8 +150,8 @@ fn last_open(marks: &[bool], clause: &[u16], but: u16, low: usize, high: usize) 
 /// false since then is not looked at again.
 #[tactic(auto, using(crate::proofs::MarkLaws::others_from_parts))]
 pub(crate) fn open_before(marks: &[bool], clause: &[u16], but: u16, from: usize) -> Option<usize>
-    requires size { length marks.now ≡ 8192 }
-    requires small { All (λ x. x ≤ 8191) clause.now }
+    requires size { length marks.now ≡ places }
+    requires small { All IsPlace clause.now }
     ensures { MatchOption result (OthersFalse marks.now clause.now but) (IsOtherOpen marks.now clause.now but) }
 {
     let middle = from.min(clause.len());
@@ -164,7 +165,7 @@ pub(crate) fn open_before(marks: &[bool], clause: &[u16], but: u16, from: usize)
 pub(crate) fn begin(clause: &[u16], assignment: &mut Assignment) -> Result<bool, Memory>
     requires assigned { IsAssignment assignment.old.marks.items assignment.old.trail.items }
     requires clean { IsClean assignment.old.marks.items }
-    requires small { All (λ x. x ≤ 8191) clause.now }
+    requires small { All IsPlace clause.now }
     ensures assigned { OnOk result (IsAssignment assignment.new.marks.items assignment.new.trail.items) }
     ensures trail { OnOk result (Extends assignment.old.trail.items assignment.new.trail.items) }
     ensures begun { IfOk result (IsBeginning assignment.old.marks.items clause.now assignment.new.marks.items) }

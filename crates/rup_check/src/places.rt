@@ -4,7 +4,7 @@ ghost use Rattle.rup_check.specs.Kept.{all_of, clauses_of};
 ghost use Rattle.std.specs.Prelude.{◌≡◌, ◌<◌, ◌≤◌, ◌+◌, ◌-◌, ◌^◌, ℕ, List, [], ◌∷◌, ◌++◌, length, OnOk, OnErr, slice_index_or, map};
 ghost use Rattle.std.specs.List.{All};
 ghost use Rattle.rup_check.specs.Literals.{IsLiteral};
-ghost use Rattle.rup_check.specs.Stored.{place_of};
+ghost use Rattle.rup_check.specs.Stored.{place_of, IsPlace, places};
 ghost use Rattle.rup_check.specs.Watches.{Extends};
 ghost use Rattle.rup_check.specs.Assignments.{flipped};
 ghost use Rattle.rup_check.specs.Parts.{parts, part_start, AreEnds};
@@ -13,12 +13,18 @@ use dcsp_common::Memory;
 use std::alloc::Global;
 use std::marker::Model;
 
+/// The greatest number of a variable.
+const VARIABLES: u16 = 4_096;
+
+/// The last place of a literal: each variable has two.
+pub(crate) const LAST_PLACE: u16 = 8_191;
+
 /// The negation of a literal.
 pub(crate) fn flipped(literal: u16) -> u16
-    requires { literal ≤ 8191 }
+    requires { IsPlace literal }
     ensures { result ≡ flipped literal }
 {
-    8191 - literal
+    LAST_PLACE - literal
 }
 
 /// Clauses, each a list of literals.
@@ -63,7 +69,7 @@ impl PlaceList {
     pub fn clause(&self, number: usize) -> &[u16]
         requires { number < length self.now }
         ensures value { result.now ≡ slice_index_or self.now number [] }
-        ensures small { All (λ x. x ≤ 8191) result.now }
+        ensures small { All IsPlace result.now }
     {
         part(&self.ends, &self.literals, number)
     }
@@ -88,9 +94,9 @@ fn place_of(number: i32) -> u16
 {
     let variable = number.unsigned_abs() as u16;
     if number > 0 {
-        4095 + variable
+        VARIABLES - 1 + variable
     } else {
-        4096 - variable
+        VARIABLES - variable
     }
 }
 
@@ -142,7 +148,7 @@ fn part<'a>(ends: &[usize], literals: &'a [u16], number: usize) -> &'a [u16]
     requires ends { AreEnds ends.now literals.now }
     requires in_range { number < length ends.now }
     ensures value { result.now ≡ slice_index_or (parts 0 ends.now literals.now) number [] }
-    ensures small { All (λ x. x ≤ 8191) result.now }
+    ensures small { All IsPlace result.now }
 {
     let start = part_start(ends, number);
     let end = ends[number];
@@ -163,7 +169,7 @@ impl<'a> Known<'a> {
     pub(crate) fn any(&self, number: usize) -> &'a [u16]
         requires { number < length (all_of self.now) }
         ensures value { result.now ≡ slice_index_or (all_of self.now) number [] }
-        ensures small { All (λ x. x ≤ 8191) result.now }
+        ensures small { All IsPlace result.now }
     {
         let first = self.formula.len();
         if number < first {
@@ -178,7 +184,7 @@ impl<'a> Known<'a> {
     pub(crate) fn clause(&self, number: usize) -> &'a [u16]
         requires { number < length (clauses_of self.now) }
         ensures value { result.now ≡ slice_index_or (clauses_of self.now) number [] }
-        ensures small { All (λ x. x ≤ 8191) result.now }
+        ensures small { All IsPlace result.now }
     {
         self.any(number)
     }

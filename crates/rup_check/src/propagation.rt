@@ -7,6 +7,7 @@ ghost use Rattle.rup_check.specs.Looks.{IsUnit};
 ghost use Rattle.rup_check.specs.Found.{is_good, HasFalseAt, IsFoundAt, IsFound};
 ghost use Rattle.rup_check.specs.Sets.{KeepsSound, Grows};
 ghost use Rattle.rup_check.specs.Watches.{IsClean, Extends};
+ghost use Rattle.rup_check.specs.Stored.{IsPlace, places};
 
 use crate::assignment::{Assignment, begin, first_open, undo};
 use crate::places::{Known, flipped};
@@ -73,7 +74,7 @@ impl Found {
 /// Whether the clause that was found false last is false by what is in the set.
 fn is_still_false(known: &Known, watches: &Watches, assignment: &Assignment) -> bool
     requires counted { length watches.now.pairs.items ≡ length (clauses_of known.now) }
-    requires size { length assignment.now.marks.items ≡ 8192 }
+    requires size { length assignment.now.marks.items ≡ places }
     ensures { result ≡ true → HasFalseAt (clauses_of known.now) assignment.now.marks.items }
 {
     let last = watches.last;
@@ -120,7 +121,7 @@ fn has_conflict(
     watches: &mut Watches,
     assignment: &mut Assignment,
 ) -> Result<Found, Memory>
-    requires small { All (λ x. x ≤ 8191) clause.now }
+    requires small { All IsPlace clause.now }
     requires rests { Rests (clauses_of known.now) watches.old assignment.old }
     ensures found { IfOk result (IsFound (clauses_of known.now) assignment.new.trail.items clause.now) }
     ensures rests { OnOk result (Rests (clauses_of known.now) watches.new assignment.new) }
@@ -147,7 +148,7 @@ pub(crate) fn has_property(
     watches: &mut Watches,
     assignment: &mut Assignment,
 ) -> Result<Found, Memory>
-    requires small { All (λ x. x ≤ 8191) clause.now }
+    requires small { All IsPlace clause.now }
     requires ready { IsReady (clauses_of known.now) watches.old assignment.old }
     ensures found { IfOk result (IsFound (clauses_of known.now) assignment.new.trail.items clause.now) }
     ensures ready { OnOk result (IsReady (clauses_of known.now) watches.new assignment.new) }

@@ -5,6 +5,7 @@ ghost use Rattle.std.specs.List.{All};
 ghost use Rattle.rup_check.specs.Assignments.{flipped, Has, IsAssignment};
 ghost use Rattle.rup_check.specs.Sets.{KeepsSound, Grows};
 ghost use Rattle.rup_check.specs.Watches.{IsTurn, IsOther, IsPairOf, IsEntry, IsClean, Extends};
+ghost use Rattle.rup_check.specs.Stored.{IsPlace, places};
 
 use crate::assignment::{Assignment, open_before};
 use crate::places::{Known, flipped};
@@ -42,8 +43,8 @@ pub enum Look {
 /// The other literal of a pair that watches this one. Which of the two it is, no jump tells: none could be foretold.
 #[inline(always)]
 fn other_of(pair: WatchedPair, literal: u16) -> Option<u16>
-    requires first { pair.first ≤ 8191 }
-    requires second { pair.second ≤ 8191 }
+    requires first { IsPlace pair.first }
+    requires second { IsPlace pair.second }
     ensures { MatchOption result ((pair.first ≢ literal) × (pair.second ≢ literal)) (IsOther pair literal) }
 {
     let other = if pair.first == literal {
@@ -67,7 +68,7 @@ fn turn_of(
     assignment: &Assignment,
 ) -> Turn
     requires in_range { number < length (clauses_of known.now) }
-    requires size { length assignment.now.marks.items ≡ 8192 }
+    requires size { length assignment.now.marks.items ≡ places }
     requires pair { IsPairOf (slice_index_or (clauses_of known.now) number []) pair }
     ensures { IsTurn assignment.now.marks.items (slice_index_or (clauses_of known.now) number []) pair literal result }
 {
@@ -121,8 +122,8 @@ fn take_turn(
 ) -> Result<Look, Memory>
     requires entry { IsEntry (clauses_of known.now) watches.old.pairs.items number }
     requires counted { length watches.old.pairs.items ≡ length (clauses_of known.now) }
-    requires sized { length watches.old.lists.items ≡ 8192 }
-    requires small { literal ≤ 8191 }
+    requires sized { length watches.old.lists.items ≡ places }
+    requires small { IsPlace literal }
     requires assigned { IsAssignment assignment.old.marks.items assignment.old.trail.items }
     requires clean { IsClean assignment.old.marks.items }
     requires false_ { Has assignment.old.marks.items (flipped literal) }
@@ -168,7 +169,7 @@ pub(crate) fn visit(
     assignment: &mut Assignment,
 ) -> Result<bool, Memory>
     requires state { AreWatched (clauses_of known.now) watches.old assignment.old.marks.items [] }
-    requires small { literal ≤ 8191 }
+    requires small { IsPlace literal }
     requires assigned { IsAssignment assignment.old.marks.items assignment.old.trail.items }
     requires clean { IsClean assignment.old.marks.items }
     requires false_ { Has assignment.old.marks.items (flipped literal) }

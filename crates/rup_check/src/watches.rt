@@ -2,8 +2,10 @@
 ghost use Rattle.std.specs.Prelude.{◌≡◌, ◌<◌, ◌≤◌, [], ◌∷◌, ◌++◌, length, OnOk, IfOk, slice_set, replicate, slice_index_or, false};
 ghost use Rattle.std.specs.List.{All};
 ghost use Rattle.rup_check.specs.Watches.{IsKind, AreListed, no_pair};
+ghost use Rattle.rup_check.specs.Stored.{IsPlace, places};
 
 use crate::assignment::{Assignment, first_open, has_true, other_open};
+use crate::places::LAST_PLACE;
 use dcsp_common::{ItemList, Memory};
 use std::alloc::Global;
 
@@ -51,7 +53,7 @@ impl Watches {
     /// The watches of no clause.
     pub(crate) fn new(alloc: Global) -> Result<Watches, Memory>
         ensures pairs { IfOk result (λ w. w.pairs.items ≡ []) }
-        ensures lists { IfOk result (λ w. w.lists.items ≡ replicate 8192 []) }
+        ensures lists { IfOk result (λ w. w.lists.items ≡ replicate places []) }
         ensures refuted { IfOk result (λ w. w.refuted ≡ false) }
     {
         let lists = empty_lists(alloc)?;
@@ -88,9 +90,9 @@ impl Watches {
 
     /// Adds a clause that watches two literals.
     pub(crate) fn add_pair(&mut self, pair: WatchedPair) -> Result<(), Memory>
-        requires sized { length self.old.lists.items ≡ 8192 }
-        requires first { pair.first ≤ 8191 }
-        requires second { pair.second ≤ 8191 }
+        requires sized { length self.old.lists.items ≡ places }
+        requires first { IsPlace pair.first }
+        requires second { IsPlace pair.second }
         ensures pairs { OnOk result (self.new.pairs.items ≡ self.old.pairs.items ++ pair ∷ []) }
         ensures lists { OnOk result (AreListed self.old.lists.items self.new.lists.items pair (length self.old.pairs.items)) }
         ensures refuted { self.new.refuted ≡ self.old.refuted }
@@ -108,8 +110,8 @@ impl Watches {
 /// What the assignment makes of a clause.
 #[tactic(auto, using(crate::proofs::GrowLaws::unit_kind, crate::proofs::GrowLaws::long_kind))]
 pub(crate) fn kind_of(assignment: &Assignment, clause: &[u16]) -> ClauseState
-    requires size { length assignment.now.marks.items ≡ 8192 }
-    requires small { All (λ x. x ≤ 8191) clause.now }
+    requires size { length assignment.now.marks.items ≡ places }
+    requires small { All IsPlace clause.now }
     ensures { IsKind assignment.now.marks.items clause.now result }
 {
     let marks = &assignment.marks;
@@ -145,10 +147,10 @@ pub(crate) fn push_to(
 
 /// Empty lists.
 fn empty_lists(alloc: Global) -> Result<Vec<ItemList<u32>>, Memory>
-    ensures { IfOk result (λ lists. lists.items ≡ replicate 8192 []) }
+    ensures { IfOk result (λ lists. lists.items ≡ replicate places []) }
 {
     let mut lists = Vec::new(alloc);
-    for _place in 0..8192u16 {
+    for _place in 0..LAST_PLACE + 1 {
         lists.push(ItemList::new(alloc))?;
     }
     Ok(lists)

@@ -1,7 +1,7 @@
 use Rattle.std.proofs.Common.{◌≡◌, ◌∙◌, List, Option, get_or, set, ap}
 use Rattle.std.proofs.lemmas.List.{get_or_default}
 use Rattle.abt_parts.specs.declared.message.MessageKind.{MessageKind}
-use Rattle.abt_reason.specs.Checked.{as_checks}
+use Rattle.abt_parts.specs.Checked.{as_checks}
 use Rattle.abt_measure.specs.declared.row.Row.{Row}
 use Rattle.abt_measure.specs.Rows.{as_row, came_kinds, kinds_sent, row_after, blank_row}
 use Rattle.abt_measure.specs.Counting.{row_at}

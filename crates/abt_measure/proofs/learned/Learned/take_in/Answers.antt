@@ -3,7 +3,7 @@ use Rattle.std.specs.Prelude.{OnOk}
 use Rattle.dcsp_defs.specs.declared.nogood.Pair.{Pair}
 use Rattle.abt_parts.specs.declared.message.Message.{Message}
 use Rattle.abt_parts.specs.Messages.{message_of}
-use Rattle.abt_agent.proofs.Lists.{plain-with_stamps}
+use Rattle.abt_parts.proofs.Lists.{plain-with_stamps}
 use Rattle.abt_measure.specs.Learning.{others, others_told, Learns}
 use Rattle.abt_measure.proofs.learned.Learned.take_in.Goals as goal
 
