@@ -195,12 +195,13 @@ before-parts w counts blocks total place blocked inside =
 
 -- ---- as the code has it
 
-module _ (w : ℕ) (counts blocks : List ℕ) (total p x z : ℕ) (blocked : IsBlocked w counts blocks total) (inside : p < length counts) (read : x ≡ get_or counts p x) (read_block : z ≡ get_or blocks (p / w) z) where
+-- b is the block of place p
+module _ (w : ℕ) (counts blocks : List ℕ) (total p x b z : ℕ) (blocked : IsBlocked w counts blocks total) (inside : p < length counts) (read : x ≡ get_or counts p x) (own : b ≡ p / w) (read_block : z ≡ get_or blocks b z) where
   count_is : x ≡ get_or counts p 0
   count_is = get_or_read counts p x inside read 0
 
   block_is : z ≡ get_or blocks (p / w) 0
-  block_is = get_or_read blocks (p / w) z (has_block w counts blocks total p blocked inside) read_block 0
+  block_is = get_or_read blocks (p / w) z (has_block w counts blocks total p blocked inside) (subst (λ k. z ≡ get_or blocks k z) own read_block) 0
 
   pub fits_block : x ≤ z
   fits_block = omega (arith, count_is, block_is, count_fits w counts blocks total p blocked inside)
@@ -208,11 +209,15 @@ module _ (w : ℕ) (counts blocks : List ℕ) (total p x z : ℕ) (blocked : IsB
   pub fits_total : z ≤ total
   fits_total = omega (arith, block_is, block_fits w counts blocks total p blocked inside)
 
-  pub one-more : IsBlocked w (set counts p (x + 1)) (set blocks (p / w) (z + 1)) (total + 1)
-  one-more = set-blocked w counts blocks total (total + 1) p (x + 1) (z + 1) blocked inside (omega (arith, count_is, block_is)) (omega (arith, count_is))
+  pub one-more : IsBlocked w (set counts p (x + 1)) (set blocks b (z + 1)) (total + 1)
+  one-more =
+      subst (λ k. IsBlocked w (set counts p (x + 1)) (set blocks k (z + 1)) (total + 1)) (sym own)
+      (set-blocked w counts blocks total (total + 1) p (x + 1) (z + 1) blocked inside (omega (arith, count_is, block_is)) (omega (arith, count_is)))
 
-  pub one-less : 0 < x → IsBlocked w (set counts p (x - 1)) (set blocks (p / w) (z - 1)) (total - 1)
-  one-less some = set-blocked w counts blocks total (total - 1) p (x - 1) (z - 1) blocked inside (omega (arith, count_is, block_is, fits_block)) (omega (arith, count_is, fits_block, fits_total))
+  pub one-less : 0 < x → IsBlocked w (set counts p (x - 1)) (set blocks b (z - 1)) (total - 1)
+  one-less some =
+      subst (λ k. IsBlocked w (set counts p (x - 1)) (set blocks k (z - 1)) (total - 1)) (sym own)
+      (set-blocked w counts blocks total (total - 1) p (x - 1) (z - 1) blocked inside (omega (arith, count_is, block_is, fits_block)) (omega (arith, count_is, fits_block, fits_total)))
 
 pub is_some : (counts : List ℕ) (p x : ℕ) → p < length counts → x ≡ get_or counts p x → 0 < get_or counts p 0 → 0 < x
 is_some counts p x inside read some = omega (arith, get_or_read counts p x inside read 0)

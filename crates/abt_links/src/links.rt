@@ -66,6 +66,7 @@ impl Links {
     }
 
     /// Opens the pair, if it is not open. A refusal changes nothing. As many messages are in transit as before.
+    #[inline(never)]
     pub fn open_pair(&mut self, from: u32, to: u32) -> Result<(), Memory>
         requires sender { from < self.old.agents }
         requires receiver { to < self.old.agents }
@@ -135,10 +136,11 @@ impl Links {
         ensures handed_back { IfErr result (λ refused. refused.0 ≡ message) }
         ensures err { OnErr result (self.new ≡ self.old) }
     {
+        let was_empty = self.queues.is_empty(list);
         if let Err(refused) = self.queues.push(list, message) {
             return Err(refused);
         }
-        self.ready.set(from, to, true);
+        self.ready.enter(from, to, was_empty);
         Ok(())
     }
 
@@ -193,6 +195,7 @@ impl Links {
     }
 
     /// Takes the first message of the ready list with this number, so that one less is in transit.
+    #[inline(always)]
     pub fn take_ready(&mut self, number: u32) -> Carried
         requires { number < length (ready_pairs self.old) }
         ensures pair { slice_get (ready_pairs self.old) number ≡ Some (result.from, result.to) }
@@ -205,7 +208,7 @@ impl Links {
         let place = self.opened.place_of(from, to);
         let message = self.queues.pop(place);
         let is_last = self.queues.is_empty(place);
-        self.ready.set(from, to, !is_last);
+        self.ready.leave(from, to, is_last);
         Carried { from, to, message }
     }
 }

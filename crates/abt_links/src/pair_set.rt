@@ -1,6 +1,6 @@
 //! An ordered set of pairs of agents.
 
-ghost use Rattle.std.specs.Prelude.{◌≡◌, ◌<◌, ◌≤◌, ℕ, ◌==◌, ◌&&◌, length, IfOk, IsTrue, Some, slice_get, false, if◌then◌else◌};
+ghost use Rattle.std.specs.Prelude.{◌≡◌, ◌<◌, ◌≤◌, ℕ, ◌==◌, ◌&&◌, length, IfOk, IsTrue, Some, slice_get, true, false, not, if◌then◌else◌};
 ghost use Rattle.dcsp_common.specs.Limits.{most};
 ghost use Rattle.dcsp_common.specs.declared.limits.Which.TheVariants.{Variables};
 ghost use Rattle.abt_links.specs.PairTables.{has_pair, members};
@@ -79,6 +79,34 @@ impl PairSet {
         self.sums.lower(from);
     }
 
+    /// Puts the pair in, where its list was empty before: else it is in already.
+    #[inline(always)]
+    pub(crate) fn enter(&mut self, from: u32, to: u32, was_empty: bool)
+        requires sender { from < self.old.agents }
+        requires receiver { to < self.old.agents }
+        requires is_in { was_empty ≡ false → has_pair self.old from to ≡ true }
+        ensures agents { self.new.agents ≡ self.old.agents }
+        ensures pairs { (k i : ℕ) → has_pair self.new k i ≡ (if k == from && i == to then true else has_pair self.old k i) }
+    {
+        if was_empty {
+            self.set(from, to, true);
+        }
+    }
+
+    /// Takes the pair out, where its list is empty now: else it stays in.
+    #[inline(always)]
+    pub(crate) fn leave(&mut self, from: u32, to: u32, is_empty: bool)
+        requires sender { from < self.old.agents }
+        requires receiver { to < self.old.agents }
+        requires is_in { has_pair self.old from to ≡ true }
+        ensures agents { self.new.agents ≡ self.old.agents }
+        ensures pairs { (k i : ℕ) → has_pair self.new k i ≡ (if k == from && i == to then not is_empty else has_pair self.old k i) }
+    {
+        if is_empty {
+            self.set(from, to, false);
+        }
+    }
+
     /// How many pairs are in.
     pub fn count(&self) -> u32
         ensures { result ≡ length (members self.now) }
@@ -87,6 +115,7 @@ impl PairSet {
     }
 
     /// Pair number `number` in their order, counted from 0.
+    #[inline(always)]
     pub fn nth(&self, number: u32) -> (u32, u32)
         requires { number < length (members self.now) }
         ensures { slice_get (members self.now) number ≡ Some result }

@@ -3,7 +3,7 @@
 ghost use Rattle.std.specs.Prelude.{◌≡◌, ◌≢◌, ◌<◌, [], ◌∷◌, ◌++◌, ◌-◌, length, take, IfErr, IfOk, OnErr, OnOk, sum_by, option_copied, slice_get, slice_index_or, slice_set, IsTrue, ◌↔◌, List};
 ghost use Rattle.abt_parts.specs.declared.message.Message.{Message as TheMessage};
 ghost use Rattle.slab.specs.Slab.{ContainsKey, HasRoomFor};
-ghost use Rattle.abt_links.specs.Chains.{IsLinked, IsAdded, IsTaken};
+ghost use Rattle.abt_links.specs.Chains.{Follows, IsLinked, IsAdded, IsTaken};
 
 use abt_parts::Message;
 use dcsp_common::Memory;
@@ -94,16 +94,17 @@ impl Queues {
         ensures err { OnErr result (self.new ≡ self.old) }
     {
         let ends = self.ends[place];
-        match add(&mut self.cells, ends, message) {
-            Ok(more) => {
-                self.ends[place] = more;
-                Ok(())
-            }
-            Err(refused) => Err(refused),
-        }
+        // Room is made first, so that the message goes straight into its cell.
+        let Ok(more) = room_for(&mut self.cells, ends) else {
+            return Err((message, Memory));
+        };
+        add(&mut self.cells, ends, more, message);
+        self.ends[place] = more;
+        Ok(())
     }
 
     /// Takes the first message of a list that has one. It takes no memory.
+    #[inline(always)]
     pub(crate) fn pop(&mut self, place: usize) -> Message
         requires { slice_index_or self.old place [] ≢ [] }
         ensures first { slice_index_or self.old place [] ≡ result ∷ slice_index_or self.new place [] }
@@ -154,8 +155,7 @@ impl Queues {
     }
 }
 
-/// Makes room for one cell more. A full store grows by half, so that less stands idle than if it
-/// doubled.
+/// Makes room for one cell more.
 fn make_room(cells: &mut Slab<Cell>) -> Result<(), Memory>
     ensures room { OnOk result (HasRoomFor cells.new 1) }
     ensures slots { cells.new.slots ≡ cells.old.slots }
@@ -164,41 +164,55 @@ fn make_room(cells: &mut Slab<Cell>) -> Result<(), Memory>
     if cells.len() < cells.capacity() {
         return Ok(());
     }
+    grow(cells)
+}
+
+/// Makes a full store larger by half, so that less stands idle than if it doubled. That is rare, so it
+/// stands aside from where messages are stored.
+#[inline(never)]
+fn grow(cells: &mut Slab<Cell>) -> Result<(), Memory>
+    ensures room { OnOk result (HasRoomFor cells.new 1) }
+    ensures slots { cells.new.slots ≡ cells.old.slots }
+    ensures vacant_key { cells.new.vacant_key ≡ cells.old.vacant_key }
+{
     cells.reserve_exact(cells.len() / 2 + 1)?;
     Ok(())
 }
 
-/// Stores a message behind the last one of a list. A refusal hands it back.
+/// Makes room for a message behind the last one of a list, and tells what the list is with it.
 #[inline(always)]
-fn add(cells: &mut Slab<Cell>, ends: Ends, message: Message) -> Result<Ends, (Message, Memory)>
-    requires { 0 < ends.count → ContainsKey cells.old ends.last }
-    ensures ok { IfOk result (λ new. IsAdded cells.old.slots cells.new.slots ends new message) }
-    ensures handed_back { IfErr result (λ refused. refused.0 ≡ message) }
-    ensures err { OnErr result (cells.new.slots ≡ cells.old.slots) }
+fn room_for(cells: &mut Slab<Cell>, ends: Ends) -> Result<Ends, Memory>
+    ensures ok { IfOk result (λ new. Follows ends new cells.old.vacant_key) }
+    ensures room { OnOk result (HasRoomFor cells.new 1) }
+    ensures slots { cells.new.slots ≡ cells.old.slots }
+    ensures vacant_key { cells.new.vacant_key ≡ cells.old.vacant_key }
 {
-    let Ok(key) = u32::try_from(cells.vacant_key()) else {
-        return Err((message, Memory));
-    };
-    let Some(count) = ends.count.checked_add(1) else {
-        return Err((message, Memory));
-    };
-    if make_room(cells).is_err() {
-        return Err((message, Memory));
+    let key = cells.vacant_key();
+    if key > u32::MAX as usize || ends.count == u32::MAX {
+        return Err(Memory);
     }
-    cells.insert_reserved(Cell { message, next: 0 });
-    let alone = Ends {
-        first: key,
-        last: key,
-        count,
-    };
-    if ends.count == 0 {
-        return Ok(alone);
-    }
-    link(cells, ends.last, key);
+    let key = key as u32;
+    make_room(cells)?;
+    let first = if ends.count == 0 { key } else { ends.first };
     Ok(Ends {
-        first: ends.first,
-        ..alone
+        first,
+        last: key,
+        count: ends.count + 1,
     })
+}
+
+/// Stores a message behind the last one of a list, for which room was made.
+#[inline(always)]
+fn add(cells: &mut Slab<Cell>, ends: Ends, more: Ends, message: Message)
+    requires live { 0 < ends.count → ContainsKey cells.old ends.last }
+    requires room { HasRoomFor cells.old 1 }
+    requires more { Follows ends more cells.old.vacant_key }
+    ensures { IsAdded cells.old.slots cells.new.slots ends more message }
+{
+    cells.insert_reserved(Cell { message, next: 0 });
+    if ends.count > 0 {
+        link(cells, ends.last, more.last);
+    }
 }
 
 /// Names the cell that comes after the one at a key.

@@ -64,16 +64,18 @@ impl Row {
         ensures set { is_set self.now result ≡ true }
         ensures before { rank (is_set self.now) result ≡ rest }
     {
+        let last = self.words.len() - 1;
         let mut left = rest;
-        for (place, word) in self.words.iter().enumerate() {
-            let word = *word;
+        for place in 0..last {
+            let word = self.words[place];
             let here = set_bits(word);
             if left < here {
                 return place as u32 * 64 + nth_bit(word, left);
             }
             left -= here;
         }
-        unreachable!()
+        // What is in no word before is in the last one, whose bits are not counted.
+        last as u32 * 64 + nth_bit(self.words[last], left)
     }
 
     /// How many numbers before this one are in.
@@ -132,24 +134,19 @@ fn set_bits(word: u64) -> u32
     word.count_ones()
 }
 
-/// The bit that has so many set bits below it.
+/// The bit that has so many set bits below it: the lowest one, once these are cleared.
 fn nth_bit(word: u64, rest: u32) -> u32
     requires { rest < count_ones word }
     ensures inside { result < 64 }
     ensures set { bit_at word result ≡ 1 }
     ensures before { rank (λ i. bit_at word i == 1) result ≡ rest }
 {
-    let mut left = rest;
-    let mut from = 0;
-    while from < 64 {
-        let bit = from + (word >> from).trailing_zeros();
-        if left == 0 {
-            return bit;
-        }
-        left -= 1;
-        from = bit + 1;
+    let mut bits = word;
+    for _cleared in 0..rest {
+        // All bits below the lowest set one are clear, so one less clears it and sets these.
+        bits &= bits - 1;
     }
-    unreachable!()
+    bits.trailing_zeros()
 }
 
 /// How many bits below this one are set.

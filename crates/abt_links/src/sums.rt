@@ -1,6 +1,6 @@
 //! Counts whose running sums are found fast.
 
-ghost use Rattle.std.specs.Prelude.{◌≡◌, ◌+◌, ◌-◌, ◌<◌, ◌≤◌, ◌^◌, length, IfOk, replicate, slice_set, slice_index, sum, take, drop};
+ghost use Rattle.std.specs.Prelude.{◌≡◌, ◌+◌, ◌-◌, ◌/◌, ◌<◌, ◌≤◌, ◌^◌, length, IfOk, replicate, slice_set, slice_index, sum, take, drop};
 ghost use Rattle.dcsp_common.specs.Limits.{most};
 ghost use Rattle.dcsp_common.specs.declared.limits.Which.TheVariants.{Variables};
 
@@ -59,7 +59,7 @@ impl Sums {
     {
         let place = place as usize;
         self.counts[place] += 1;
-        self.blocks[place / self.width] += 1;
+        self.blocks[block_of(place, self.width)] += 1;
         self.total += 1;
     }
 
@@ -71,7 +71,7 @@ impl Sums {
     {
         let place = place as usize;
         self.counts[place] -= 1;
-        self.blocks[place / self.width] -= 1;
+        self.blocks[block_of(place, self.width)] -= 1;
         self.total -= 1;
     }
 
@@ -112,6 +112,15 @@ impl Sums {
         }
         unreachable!()
     }
+}
+
+/// The block of a place. A division by a number that stands here is a shift, so the usual width has a case of its own.
+#[inline(always)]
+fn block_of(place: usize, width: usize) -> usize
+    requires { 0 < width }
+    ensures { result ≡ place / width }
+{
+    if width == 8 { place / 8 } else { place / width }
 }
 
 /// How many counts a block has, where there are so many counts. Where there are few, a walk over one wide

@@ -20,6 +20,7 @@ use dcsp_common::Memory;
 use ngd_log::Step;
 
 /// Hands the message to its receiver.
+#[inline(always)]
 fn hand_over(
     agents: &mut Vec<Agent>,
     carried: Carried,
@@ -38,6 +39,7 @@ fn hand_over(
 }
 
 /// What is told of a message.
+#[inline(always)]
 fn cargo_of(message: &Message) -> Cargo
     ensures { cargo_in result ≡ cargo_of (message_of message.now) }
 {
@@ -49,6 +51,7 @@ fn cargo_of(message: &Message) -> Cargo
 }
 
 /// The step that a turn made, if it made one.
+#[inline(always)]
 pub fn step_of(turn: Turn) -> Option<Step>
     ensures { result ≡ step_in turn }
 {
@@ -59,6 +62,7 @@ pub fn step_of(turn: Turn) -> Option<Step>
 }
 
 /// How many steps were made.
+#[inline(always)]
 fn count_of(step: &Option<Step>) -> u64
     ensures count { result ≡ steps_made step.now }
     ensures few { result ≤ 1 }
@@ -70,6 +74,7 @@ fn count_of(step: &Option<Step>) -> u64
 }
 
 /// Whether there is a step, and its nogood is empty.
+#[inline(always)]
 fn refutes(step: &Option<Step>) -> bool
     ensures { result ≡ refutes step.now }
 {
@@ -81,6 +86,7 @@ fn refutes(step: &Option<Step>) -> bool
 
 impl<'p> NetworkBody<'p> {
     /// Hands the first message of a list to its receiver, and sends what that puts out.
+    #[inline(always)]
     fn pass_on(&mut self, choice: u32) -> Result<Delivery, Memory>
         requires tidy { IsTidy self.old }
         requires some { 0 < length (ready_pairs self.old.links) }
@@ -118,6 +124,7 @@ impl<'p> NetworkBody<'p> {
 
     /// Delivers the first message of the list number `choice` of those that are ready, after as many
     /// rounds as it takes.
+    #[inline(always)]
     pub fn deliver(&mut self, choice: u32) -> Result<Delivery, Memory>
         requires kept { IsKept self.old }
         requires can { CanDeliver (shown self.old false) }

@@ -13,6 +13,7 @@ use abt_parts::{Outbox, Sent, SentTo};
 use dcsp_common::Memory;
 
 /// Sends one message.
+#[inline(always)]
 fn post_one(links: &mut Links, from: u32, sent: Sent) -> Result<(), Memory>
     requires sender { from < links.old.agents }
     requires receiver { sent.to < links.old.agents }

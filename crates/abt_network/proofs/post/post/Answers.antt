@@ -1,4 +1,4 @@
-use Rattle.std.proofs.Common.{◌++◌, ◌∷◌, [], ap, sym, ◌∙◌}
+use Rattle.std.proofs.Common.{◌++◌, ◌∷◌, [], ap, ◌∙◌}
 use Rattle.abt_network.proofs.Posting.{post_step, first_stamped}
 use Rattle.abt_network.proofs.post.post.Goals as goal
 

@@ -11,7 +11,7 @@ at : (agents : ℕ) (opened : List (ℕ × ℕ)) (lists : List (List Message)) (
 at agents opened lists t from to list shown is = subst (λ (t : Transit). position (is_pair from to) t.opened ≡ Some list) (sym shown) is
 
 pub invariant_of-self-2 : goal.invariant_of-self-2
-invariant_of-self-2 c = sent-whole (record { agents = c.self.inside.agents; opened = c.self.inside.opened; lists = c.self.inside.queues }) c.push.new.self c.self.inside.ready c.set.new.self c.args.list c.args.from c.args.to c.args.message c.self.invariant (at c.self.inside.agents c.self.inside.opened c.self.inside.queues c.args.self.now c.args.from c.args.to c.args.list c.self.view_is c.requires) c.in_default.ensures.ok c.set.ensures.agents c.set.ensures.pairs
+invariant_of-self-2 c = sent-whole (record { agents = c.self.inside.agents; opened = c.self.inside.opened; lists = c.self.inside.queues }) c.push.new.self c.self.inside.ready c.enter.new.self c.args.list c.args.from c.args.to c.args.message c.self.invariant (at c.self.inside.agents c.self.inside.opened c.self.inside.queues c.args.self.now c.args.from c.args.to c.args.list c.self.view_is c.requires) c.in_default.ensures.ok c.enter.ensures.agents c.enter.ensures.pairs
 
 pub returns-clause-ok : goal.returns-clause-ok
 returns-clause-ok c = subst (λ (t : Transit). Sends t (record { agents = c.self.inside.agents; opened = c.self.inside.opened; lists = c.push.new.self }) c.args.from c.args.to c.args.message) c.self.view_is

@@ -11,7 +11,7 @@ pub pop-message-requires : goal.pop-message-requires
 pop-message-requires c = ready_some (record { agents = c.self.inside.agents; opened = c.self.inside.opened; lists = c.self.inside.queues }) c.self.inside.ready c.args.number c.place_of-place.result c.nth-from.result c.self.invariant c.nth-from.ensures c.place_of-place.ensures
 
 pub invariant_of-self : goal.invariant_of-self
-invariant_of-self c = taken-whole (record { agents = c.self.inside.agents; opened = c.self.inside.opened; lists = c.self.inside.queues }) c.pop-message.new.self c.self.inside.ready c.set.new.self c.place_of-place.result c.nth-from.result.0 c.nth-from.result.1 c.is_empty-is_last.result c.self.invariant c.place_of-place.ensures c.pop-message.ensures.others c.is_empty-is_last.ensures c.set.ensures.agents c.set.ensures.pairs
+invariant_of-self c = taken-whole (record { agents = c.self.inside.agents; opened = c.self.inside.opened; lists = c.self.inside.queues }) c.pop-message.new.self c.self.inside.ready c.leave.new.self c.place_of-place.result c.nth-from.result.0 c.nth-from.result.1 c.is_empty-is_last.result c.self.invariant c.place_of-place.ensures c.pop-message.ensures.others c.is_empty-is_last.ensures c.leave.ensures.agents c.leave.ensures.pairs
 
 pub returns-clause-pair : goal.returns-clause-pair
 returns-clause-pair c = subst (λ (t : Transit). slice_get (ready_pairs t) c.args.number ≡ Some c.nth-from.result) c.self.view_is

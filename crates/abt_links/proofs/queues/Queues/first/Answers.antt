@@ -1,6 +1,5 @@
-use Rattle.std.proofs.Common.{Some, None, ap, subst, sym, ◌∙◌, IsSome}
+use Rattle.std.proofs.Common.{ap, subst, sym, ◌∙◌, IsSome}
 use Rattle.std.specs.Option.{option_copied}
-use Rattle.abt_links.specs.Chains.{cell_at}
 use Rattle.abt_links.proofs.Takes.{found_first, first_is_live}
 use Rattle.abt_links.proofs.queues.Queues.first.Goals as goal
 
