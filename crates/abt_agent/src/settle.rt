@@ -83,23 +83,6 @@ impl<'p> AgentBody<'p> {
         }
     }
 
-    /// Keeps the value, takes one, or gives up. A step that it makes has this number.
-    fn keep_or_change(&mut self, number: u64, out: &mut Outbox) -> Result<Turn, Memory>
-        requires good { IsGood self.old }
-        requires stamp { self.old.stamp < 2 ^ 62 }
-        ensures does { IfOk result (DoesSettle number self.old self.new out.old out.new) }
-        ensures owner { owner_of self.new.known ≡ owner_of self.old.known }
-    {
-        let is_free = self.is_own_free();
-        if !self.waits && is_free {
-            return Ok(Turn::Quiet);
-        }
-        match self.choice(is_free) {
-            Some(value) => self.take_value(value, out),
-            None => self.give_up(number, out),
-        }
-    }
-
     /// Settles: the agent keeps its value, takes one, or makes a step with this number.
     pub fn settle(&mut self, number: u64, out: &mut Outbox) -> Result<Turn, Memory>
         requires good { IsGood self.old }
@@ -109,6 +92,13 @@ impl<'p> AgentBody<'p> {
         ensures good { OnOk result (IsGood self.new) }
     {
         law_agent::agents_stay_sound();
-        self.keep_or_change(number, out)
+        let is_free = self.is_own_free();
+        if !self.waits && is_free {
+            return Ok(Turn::Quiet);
+        }
+        match self.choice(is_free) {
+            Some(value) => self.take_value(value, out),
+            None => self.give_up(number, out),
+        }
     }
 }
