@@ -2,6 +2,7 @@ pub mod Lines
 pub mod Runs
 pub mod Searches
 pub mod Meanings
+pub mod Concluding
 pub mod Checks
 pub mod Losses
 pub mod Puts

@@ -8,7 +8,7 @@ mod command;
 mod plain;
 mod request;
 
-pub use command::{lines_are_lawful, run_command, run_program};
+pub use command::{lines_are_lawful, run_command};
 pub use dcsp_script::Status;
 pub use plain::VERSION;
 pub use request::{Request, words_of};

@@ -1,14 +1,14 @@
 //! What the words ask for, and how it is run.
 
-ghost use Rattle.std.specs.Prelude.{◌≡◌, ◌≤◌, ℕ, List, false, map, option_copied, string_bytes, IfSome, IsNone};
+ghost use Rattle.std.specs.Prelude.{◌≡◌, ◌≤◌, ℕ, List, false, option_copied, IfSome, IsNone};
 ghost use Rattle.dcsp_outside.specs.Outside.{Place};
-ghost use Rattle.dcsp_script.specs.Scripts.{outside};
+ghost use Rattle.dcsp_script.specs.Outsides.{world};
 ghost use Rattle.dcsp_script.specs.Runs.{CameIn};
 ghost use Rattle.abt_input.specs.Errors.{way_of};
 ghost use Rattle.abt_words.specs.declared.rows.LineName.TheVariants as names;
 ghost use Rattle.abt_words.specs.Rows.{the_rows};
 ghost use Rattle.abt_words.specs.Saying.{IsSaidBy};
-ghost use Rattle.abt_words.specs.Values.{said_in};
+ghost use Rattle.abt_words.specs.Values.{said_in, texts};
 ghost use Rattle.line_model.specs.OrderPromise.{rule_named};
 ghost use Rattle.line_replay.specs.Settings.{settings_of};
 ghost use Rattle.abt_command.specs.Lines.{CameMeans, IsLine, IsNoLine, IsSomeLine, line_by, line_named, line_of, number_at, order_at, promise_of, settings_at, value_of, IsRequest};
@@ -20,7 +20,7 @@ use abt_words::{LineName, Said, said_of};
 use dcsp_gen::{BinarySizes, MeetingSizes, SensorSizes};
 use dcsp_order::OrderRule;
 use dcsp_outside::{Folder, Sink};
-use dcsp_script::Status;
+use dcsp_script::{Outside, Status};
 use line_check::{Check, run_check};
 use line_cnf::{Cnf, run_cnf, run_rup};
 use line_drill::run_drill;
@@ -109,43 +109,41 @@ impl Request<'_> {
     pub fn run<F: Folder, S: Sink>(
         self,
         alloc: Global,
-        folder: &mut F,
-        out: &mut S,
+        outside: &mut Outside<F, S>,
     ) -> Result<Status, CommandError>
         requires { IsSomeLine (line_of self) }
         ensures came { CameIn (promise_of (line_of self.entry))
-            (outside (F.place folder.old) (S.stream out.old))
-            (outside (F.place folder.new) (S.stream out.new)) (way_of result) }
+            (world F.place S.stream outside.old) (world F.place S.stream outside.new) (way_of result) }
         ensures means { CameMeans (value_of (line_of self.entry)).meaning
-            (outside (F.place folder.old) (S.stream out.old)) (outside (F.place folder.new) (S.stream out.new)) result }
+            (world F.place S.stream outside.old) (world F.place S.stream outside.new) result }
     {
         match self {
-            Request::Help => print_help(alloc, out),
-            Request::Version => print(out, VERSION),
-            Request::Usage => print_usage(alloc, out),
-            Request::Check(line) => run_check(alloc, folder, line, out),
-            Request::Replay(line) => run_replay(alloc, folder, line, out),
-            Request::Solve(line) => run_solve(alloc, folder, line, out),
-            Request::Measure(line) => run_measure(alloc, folder, line, out),
-            Request::Survey(line) => run_survey(alloc, folder, line, out),
-            Request::Story(line) => run_story(alloc, folder, line, out),
-            Request::Bound(line) => run_bound(alloc, folder, line, out),
-            Request::Order(line) => run_order(alloc, folder, line, out),
-            Request::GenQueens { n } => run_queens(alloc, n, out),
-            Request::GenColouring { n, k, seed } => run_colouring(alloc, n, k, seed, out),
-            Request::GenSparse { n, seed } => run_sparse(alloc, n, seed, out),
-            Request::GenBinary { sizes, seed } => run_binary(alloc, sizes, seed, out),
-            Request::GenMeetings { sizes, seed } => run_meetings(alloc, sizes, seed, out),
-            Request::GenSensors { sizes, seed } => run_sensors(alloc, sizes, seed, out),
-            Request::GenPigeons { n } => run_pigeons(alloc, n, out),
-            Request::Drill { seed } => run_drill(alloc, seed, out),
-            Request::Upgrade { log, new } => run_upgrade(alloc, folder, log, new, out),
-            Request::Core(line) => run_core(alloc, folder, line, out),
-            Request::Export(line) => run_export(alloc, folder, line, out),
-            Request::Starve(line) => run_starve(alloc, folder, line, out),
-            Request::Lossy(line) => run_lossy(alloc, folder, line, out),
-            Request::Rup { cnf, proof } => run_rup(alloc, folder, cnf, proof, out),
-            Request::Cnf(line) => run_cnf(alloc, folder, line, out),
+            Self::Help => print_help(alloc, &mut outside.out),
+            Self::Version => print(&mut outside.out, VERSION),
+            Self::Usage => print_usage(alloc, &mut outside.out),
+            Self::Check(line) => run_check(alloc, outside, line),
+            Self::Replay(line) => run_replay(alloc, outside, line),
+            Self::Solve(line) => run_solve(alloc, outside, line),
+            Self::Measure(line) => run_measure(alloc, outside, line),
+            Self::Survey(line) => run_survey(alloc, outside, line),
+            Self::Story(line) => run_story(alloc, outside, line),
+            Self::Bound(line) => run_bound(alloc, outside, line),
+            Self::Order(line) => run_order(alloc, outside, line),
+            Self::GenQueens { n } => run_queens(alloc, n, &mut outside.out),
+            Self::GenColouring { n, k, seed } => run_colouring(alloc, n, k, seed, &mut outside.out),
+            Self::GenSparse { n, seed } => run_sparse(alloc, n, seed, &mut outside.out),
+            Self::GenBinary { sizes, seed } => run_binary(alloc, sizes, seed, &mut outside.out),
+            Self::GenMeetings { sizes, seed } => run_meetings(alloc, sizes, seed, &mut outside.out),
+            Self::GenSensors { sizes, seed } => run_sensors(alloc, sizes, seed, &mut outside.out),
+            Self::GenPigeons { n } => run_pigeons(alloc, n, &mut outside.out),
+            Self::Drill { seed } => run_drill(alloc, seed, &mut outside.out),
+            Self::Upgrade { log, new } => run_upgrade(alloc, outside, log, new),
+            Self::Core(line) => run_core(alloc, outside, line),
+            Self::Export(line) => run_export(alloc, outside, line),
+            Self::Starve(line) => run_starve(alloc, outside, line),
+            Self::Lossy(line) => run_lossy(alloc, outside, line),
+            Self::Rup { cnf, proof } => run_rup(alloc, outside, cnf, proof),
+            Self::Cnf(line) => run_cnf(alloc, outside, line),
         }
     }
 }
@@ -153,8 +151,8 @@ impl Request<'_> {
 /// The request that the words are, after the program's own name. `None` comes exactly where the words are no
 /// line of the program, which the rows of `abt_words` list.
 pub fn words_of(words: &[String]) -> Option<Request<'_>>
-    ensures some { IfSome result (λ request. IsLine (map string_bytes words.now) (line_of request)) }
-    ensures none { IsNone result → IsNoLine (map string_bytes words.now) }
+    ensures some { IfSome result (λ request. IsLine (texts words.now) (line_of request)) }
+    ensures none { IsNone result → IsNoLine (texts words.now) }
 {
     let said = said_of(words)?;
     request_of(&said)

@@ -1,5 +1,5 @@
 -- How the program ends.
-use Rattle.std.specs.Prelude.{◌≡◌, ◌⊎◌, ℕ, List, [], Result, Ok, Err, map, string_bytes}
+use Rattle.std.specs.Prelude.{◌≡◌, ◌⊎◌, ℕ, List, [], Result, Ok, Err}
 use Rattle.std.specs.declared.vec.Vec.{Vec}
 use Rattle.std.specs.declared.string.String.{String}
 use Rattle.std.specs.declared.alloc.Global.{Global}
@@ -12,6 +12,7 @@ use Rattle.dcsp_script.specs.declared.status.Status.{Status}
 use Rattle.dcsp_script.specs.declared.status.Status.TheVariants.{Memory}
 use Rattle.dcsp_script.specs.Statuses.{code_of, stop_text}
 use Rattle.dcsp_script.specs.Promises.{IsSaid}
+use Rattle.abt_words.specs.Values.{texts}
 use Rattle.abt_command.specs.LinePromises.{HasRun}
 
 -- there was no memory for the words: the number says so, nothing was written, and it was told
@@ -22,7 +23,7 @@ pub record EndsLacking (old new : World) (err now : Stream) (code : ℕ) : Type 
 
 -- a run of these words ended with the status that has this number; or there was no memory for them
 abbrev pub EndsRun : Result (Vec (String Global) Global) Lack → World → World → Stream → Stream → ℕ → Type 0
-EndsRun (Ok words) old new err now code = (status : Status) × (code ≡ code_of status) × HasRun (map string_bytes words.items) old new err now status
+EndsRun (Ok words) old new err now code = (status : Status) × (code ≡ code_of status) × HasRun (texts words.items) old new err now status
 EndsRun (Err lack) old new err now code = EndsLacking old new err now code
 
 -- nothing was created or handed over yet

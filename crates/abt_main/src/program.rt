@@ -1,13 +1,13 @@
 //! What the program does, up to the number that it ends with.
 
-ghost use Rattle.dcsp_script.specs.Scripts.{outside};
+ghost use Rattle.dcsp_script.specs.Outsides.{world};
 ghost use Rattle.abt_main.specs.Ending.{EndsRun, EndsWith};
 
-use abt_command::{Status, run_program};
+use abt_command::{Status, run_command};
 use abt_files::{OpenFiles, RealFolder, RealSink, Stream};
 use dcsp_common::Memory;
 use dcsp_outside::{Folder, Sink};
-use dcsp_script::say;
+use dcsp_script::{Outside, say};
 use std::alloc::Global;
 use std::cell::RefCell;
 use std::env;
@@ -31,12 +31,13 @@ pub fn run(rt: HostRuntime) -> u8
     let errors = Stream::Error(rt.stderr());
     let words = words_given(alloc, &rt);
     let open = RefCell::new(OpenFiles::new(alloc, rt));
-    let mut out = RealSink::new(output, &open);
+    let folder = RealFolder::new(alloc, &open);
+    let out = RealSink::new(output, &open);
     let mut err = RealSink::new(errors, &open);
-    let mut folder = RealFolder::new(alloc, &open);
-    let code = run_given(alloc, words, &mut folder, &mut out, &mut err);
+    let mut outside = Outside { folder, out };
+    let code = run_given(alloc, words, &mut outside, &mut err);
     // An answer lets nothing wait; so only a command that was refused, and has told it, has more to write.
-    let _ = out.write_waiting();
+    let _ = outside.out.write_waiting();
     code
 }
 
@@ -46,15 +47,14 @@ pub fn run(rt: HostRuntime) -> u8
 pub fn run_given<F: Folder, S: Sink>(
     alloc: Global,
     words: Result<Vec<String>, Memory>,
-    folder: &mut F,
-    out: &mut S,
+    outside: &mut Outside<F, S>,
     err: &mut S,
 ) -> u8
-    ensures { EndsRun words (outside (F.place folder.old) (S.stream out.old)) (outside (F.place folder.new) (S.stream out.new))
+    ensures { EndsRun words (world F.place S.stream outside.old) (world F.place S.stream outside.new)
         (S.stream err.old) (S.stream err.new) result }
 {
     match words {
-        Ok(words) => run_program(alloc, &words, folder, out, err),
+        Ok(words) => run_command(alloc, &words, outside, err).code(),
         Err(_) => {
             say(err, b"abt: memory\n");
             Status::Memory.code()

@@ -15,7 +15,8 @@ use Rattle.abt_session.specs.Running.{order_of, session_of, session_for}
 use Rattle.abt_session.specs.Runners.{Leaves, SameTask}
 use Rattle.abt_session.specs.Ends.{BareEnd}
 use Rattle.abt_session.specs.declared.runner.Runner.{Runner}
-use Rattle.abt_session.proofs.Pieces.{stopped_so, wrote_as}
+use Rattle.dcsp_script.proofs.StepLines.{stopped_so}
+use Rattle.abt_session.proofs.Pieces.{wrote_as}
 
 -- a name was created, and is so still
 pub created_here : (before : List (List ℕ)) {now : List (List ℕ)} (name : List ℕ) → now ≡ before ++ name ∷ [] → Contains now name

@@ -16,28 +16,7 @@ use crate::trace::push_line;
 use abt_network::{Begun, Delivery};
 use dcsp_defs::Step;
 use dcsp_outside::{Folder, Sink};
-use dcsp_script::{Stop, append, put};
-use ngd_log::write_step;
-
-/// Appends the line of the step with this number. The line is made in `line`.
-pub fn append_step<F: Folder>(
-    folder: &mut F,
-    log: &str,
-    number: u64,
-    step: &Step,
-    line: &mut Vec<u8>,
-) -> Result<(), Stop>
-    requires created { Contains (F.place folder.old).created log.now }
-    requires number { IsStepNumber number }
-    requires in_range { IsInRange step.now }
-    ensures wrote { (out : Stream) → Wrote (Append log.now (step_line number step.now) ∷ [])
-        (outside (F.place folder.old) out) (outside (F.place folder.new) out) result }
-    ensures created { (F.place folder.new).created ≡ (F.place folder.old).created }
-{
-    line.clear();
-    write_step(number, step, line)?;
-    append(folder, log, line)
-}
+use dcsp_script::{Stop, append_step, put};
 
 /// Appends the line of the step, if one was made.
 pub fn append_made<F: Folder>(

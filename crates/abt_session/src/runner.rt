@@ -7,6 +7,7 @@ ghost use Rattle.law_runs.specs.Stops.{list_number};
 ghost use Rattle.dcsp_outside.specs.Outside.{Place, Stream};
 ghost use Rattle.dcsp_rule.specs.Problems.{csp_of};
 ghost use Rattle.dcsp_problem.specs.WellFormed.{IsProblem};
+ghost use Rattle.dcsp_script.specs.Outsides.{world};
 ghost use Rattle.dcsp_script.specs.Scripts.{outside};
 ghost use Rattle.dcsp_script.specs.Ways.{Wrote};
 ghost use Rattle.ngd_log.specs.StepText.{IsInRange};
@@ -21,7 +22,7 @@ use abt_defs::End;
 use abt_network::{Delivery, Network, Standing};
 use abt_schedule::{ChoiceList, Choices};
 use dcsp_outside::{Folder, Sink};
-use dcsp_script::{Stop, append, create};
+use dcsp_script::{Outside, Stop, append, create};
 use ngd_log::{HEAD, Step};
 use std::alloc::Global;
 
@@ -64,10 +65,9 @@ impl<'p, 'w> Runner<'p, 'w> {
     pub fn deliver_all<C: Choices, F: Folder, S: Sink>(
         &mut self,
         choices: &mut C,
-        folder: &mut F,
-        out: &mut S,
+        outside: &mut Outside<F, S>,
     ) -> Result<End<()>, Stop>
-        requires created { Contains (F.place folder.old).created self.old.task.log.now }
+        requires created { Contains (F.place outside.old.folder).created self.old.task.log.now }
         requires most { self.old.task.most ≤ 2 ^ 40 }
         requires sound { self.old.network.spent ≡ false }
         requires begun { self.old.network.begun ≡ true }
@@ -75,9 +75,9 @@ impl<'p, 'w> Runner<'p, 'w> {
         requires starts { StandsAt self.old.network (start (csp_of self.old.network.problem)) }
         ensures leaves { let s = session_for self.old.network.problem (C.answers choices.old) self.old.task in Leaves s (deliveries_write s) self.old.task.keep
             self.old.taken self.new.taken (C.answers choices.old) (C.answers choices.new) self.new.network
-            (outside (F.place folder.old) (S.stream out.old)) (outside (F.place folder.new) (S.stream out.new)) result }
+            (world F.place S.stream outside.old) (world F.place S.stream outside.new) result }
         ensures same { SameTask self.old self.new }
-        ensures created { (F.place folder.new).created ≡ (F.place folder.old).created }
+        ensures created { (F.place outside.new.folder).created ≡ (F.place outside.old.folder).created }
     {
         for _made in 0..self.task.most {
             match self.network.state() {
@@ -88,7 +88,7 @@ impl<'p, 'w> Runner<'p, 'w> {
             let Some(choice) = choices.next() else {
                 return Ok(End::Spent);
             };
-            self.deliver_one(choice, folder, out)?;
+            self.deliver_one(choice, outside)?;
         }
         match self.network.state() {
             Standing::Refuted => Ok(End::Refuted),
@@ -101,17 +101,16 @@ impl<'p, 'w> Runner<'p, 'w> {
     fn deliver_one<F: Folder, S: Sink>(
         &mut self,
         choice: u32,
-        folder: &mut F,
-        out: &mut S,
+        outside: &mut Outside<F, S>,
     ) -> Result<(), Stop>
-        requires created { Contains (F.place folder.old).created self.old.task.log.now }
+        requires created { Contains (F.place outside.old.folder).created self.old.task.log.now }
         requires sound { self.old.network.spent ≡ false }
         requires can { CanDeliver self.old.network }
         requires problem { IsProblem self.old.network.problem × IsCsp (csp_of self.old.network.problem) }
         requires on_run { IsOnRun self.old.network }
         ensures wrote { (net : TheNetwork) → StandsAt self.old.network net
             → Wrote (choice_writes (order_of self.old.task) (csp_of self.old.network.problem) self.old.task.log.now self.old.task.telling (net.deliveries + 1) choice net)
-            (outside (F.place folder.old) (S.stream out.old)) (outside (F.place folder.new) (S.stream out.new)) result }
+            (world F.place S.stream outside.old) (world F.place S.stream outside.new) result }
         ensures stands { (net : TheNetwork) → StandsAt self.old.network net
             → OnOk result (StandsAt self.new.network (deliver (csp_of self.old.network.problem) choice net)) }
         ensures takes { (net : TheNetwork) → StandsAt self.old.network net
@@ -119,7 +118,7 @@ impl<'p, 'w> Runner<'p, 'w> {
         ensures same { SameTask self.old self.new }
         ensures sound { OnOk result (self.new.network.spent ≡ false) }
         ensures begun { OnOk result (self.new.network.begun ≡ true) }
-        ensures created { (F.place folder.new).created ≡ (F.place folder.old).created }
+        ensures created { (F.place outside.new.folder).created ≡ (F.place outside.old.folder).created }
     {
         let Ok(delivery) = self.network.deliver(choice) else {
             return Err(Stop::Memory);
@@ -128,7 +127,7 @@ impl<'p, 'w> Runner<'p, 'w> {
         let Ok(told) = delivery_told(self.alloc, self.task.model.order, delivery) else {
             return Err(Stop::Memory);
         };
-        self.write_made(&told, folder, out)?;
+        self.write_made(&told, outside)?;
         self.take_down(number, told.step)
     }
 
@@ -136,29 +135,34 @@ impl<'p, 'w> Runner<'p, 'w> {
     fn write_made<F: Folder, S: Sink>(
         &mut self,
         delivery: &Delivery,
-        folder: &mut F,
-        out: &mut S,
+        outside: &mut Outside<F, S>,
     ) -> Result<(), Stop>
-        requires created { Contains (F.place folder.old).created self.old.task.log.now }
+        requires created { Contains (F.place outside.old.folder).created self.old.task.log.now }
         requires sound { self.old.network.spent ≡ false }
         requires number { IfSome delivery.now.step (λ s. 0 < self.old.network.steps) }
         requires in_range { IfSome delivery.now.step IsInRange }
         ensures wrote { Wrote (step_writes self.old.task.log.now self.old.network.steps (option_to_list delivery.now.step)
             ++ telling_writes self.old.task.telling self.old.network.deliveries self.old.network.steps (delivery_of delivery.now ∷ []))
-            (outside (F.place folder.old) (S.stream out.old)) (outside (F.place folder.new) (S.stream out.new)) result }
+            (world F.place S.stream outside.old) (world F.place S.stream outside.new) result }
         ensures same { SameTask self.old self.new }
         ensures network { self.new.network ≡ self.old.network }
         ensures taken { self.new.taken ≡ self.old.taken }
-        ensures created { (F.place folder.new).created ≡ (F.place folder.old).created }
+        ensures created { (F.place outside.new.folder).created ≡ (F.place outside.old.folder).created }
     {
         let steps = self.network.steps();
-        append_made(folder, self.task.log, steps, &delivery.step, &mut self.line)?;
+        append_made(
+            &mut outside.folder,
+            self.task.log,
+            steps,
+            &delivery.step,
+            &mut self.line,
+        )?;
         let made = Made {
             number: self.network.deliveries(),
             steps,
             delivery,
         };
-        put_delivery(out, self.task.telling, made, &mut self.line)
+        put_delivery(&mut outside.out, self.task.telling, made, &mut self.line)
     }
 
     /// Takes the number of a list down, where that is asked for, and lets the step go that was written.

@@ -5,7 +5,7 @@ ghost use Rattle.law_runs.specs.Replay.{Verdicts};
 ghost use Rattle.law_runs.specs.Stops.{Stops};
 ghost use Rattle.dcsp_outside.specs.Outside.{Place, Stream};
 ghost use Rattle.dcsp_order.specs.Told.{Fits};
-ghost use Rattle.dcsp_script.specs.Scripts.{outside};
+ghost use Rattle.dcsp_script.specs.Outsides.{world};
 ghost use Rattle.dcsp_script.specs.Ways.{Wrote};
 ghost use Rattle.abt_session.specs.Order.{WritesInOrder};
 ghost use Rattle.abt_session.specs.Sessions.{run_of, run_script};
@@ -19,7 +19,7 @@ use abt_network::Network;
 use abt_schedule::{ChoiceList, Choices};
 use dcsp_order::moved;
 use dcsp_outside::{Folder, Sink};
-use dcsp_script::{Stop, append};
+use dcsp_script::{Outside, Stop, append};
 use ngd_log::TAIL;
 use std::alloc::Global;
 use std::mem;
@@ -55,15 +55,14 @@ pub fn run<C: Choices, F: Folder, S: Sink>(
     alloc: Global,
     task: RunTask<'_>,
     choices: &mut C,
-    folder: &mut F,
-    out: &mut S,
+    outside: &mut Outside<F, S>,
 ) -> Result<Outcome, Stop>
     requires most { task.most ≤ 2 ^ 40 }
     requires fits { Fits (order_of task) task.model.problem.now }
     ensures wrote { Wrote (run_script (session_by (C.answers choices.old) task.entry))
-        (outside (F.place folder.old) (S.stream out.old)) (outside (F.place folder.new) (S.stream out.new)) result }
+        (world F.place S.stream outside.old) (world F.place S.stream outside.new) result }
     ensures in_order { WritesInOrder (session_by (C.answers choices.old) task.entry)
-        (outside (F.place folder.old) (S.stream out.old)) (outside (F.place folder.new) (S.stream out.new)) }
+        (world F.place S.stream outside.old) (world F.place S.stream outside.new) }
     ensures gives { IfOk result (Gives (session_by (C.answers choices.old) task.entry)) }
     ensures numbers { let s = session_by (C.answers choices.old) task.entry in
         IfOk result (λ outcome. outcome.numbers ≡ kept task.entry.keep (run_of s).numbers) }
@@ -85,7 +84,7 @@ pub fn run<C: Choices, F: Folder, S: Sink>(
         problem: ordered,
         order: task.model.order,
     };
-    run_ordered(alloc, RunTask { model, ..task }, choices, folder, out)
+    run_ordered(alloc, RunTask { model, ..task }, choices, outside)
 }
 
 /// Runs the agents of a problem that is under its order already, from the creation of the log to its last line.
@@ -93,13 +92,12 @@ fn run_ordered<C: Choices, F: Folder, S: Sink>(
     alloc: Global,
     task: RunTask<'_>,
     choices: &mut C,
-    folder: &mut F,
-    out: &mut S,
+    outside: &mut Outside<F, S>,
 ) -> Result<Outcome, Stop>
     requires most { task.most ≤ 2 ^ 40 }
     requires fits { Fits (order_of task) task.model.problem.now }
     ensures wrote { Wrote (run_script (session_for task.entry.model.problem.now (C.answers choices.old) task.entry))
-        (outside (F.place folder.old) (S.stream out.old)) (outside (F.place folder.new) (S.stream out.new)) result }
+        (world F.place S.stream outside.old) (world F.place S.stream outside.new) result }
     ensures gives { IfOk result (Gives (session_for task.entry.model.problem.now (C.answers choices.old) task.entry)) }
     ensures numbers { let s = session_for task.entry.model.problem.now (C.answers choices.old) task.entry in
         IfOk result (λ outcome. outcome.numbers ≡ kept task.entry.keep (run_of s).numbers) }
@@ -117,9 +115,9 @@ fn run_ordered<C: Choices, F: Folder, S: Sink>(
         line: Vec::new(alloc),
         alloc,
     };
-    runner.begin(folder)?;
-    let end = runner.deliver_all(choices, folder, out)?;
-    append(folder, task.log, TAIL)?;
+    runner.begin(&mut outside.folder)?;
+    let end = runner.deliver_all(choices, outside)?;
+    append(&mut outside.folder, task.log, TAIL)?;
     let taken = mem::replace(&mut runner.taken, ChoiceList::new(alloc));
     outcome_of(alloc, task.model, &runner.network, end, taken)
 }

@@ -1,7 +1,8 @@
 //! What a trial is given, and what came of it.
 
-use abt_command::run_program;
+use abt_command::run_command;
 use dcsp_outside::{Folder, MemoryFolder, MemorySink};
+use dcsp_script::Outside;
 use std::alloc::Global;
 use std::process::Abort;
 
@@ -120,11 +121,10 @@ impl Left {
 pub fn ended<F: Folder>(
     alloc: Global,
     words: &[String],
-    folder: &mut F,
-    out: &mut MemorySink,
+    outside: &mut Outside<F, MemorySink>,
     err: &mut MemorySink,
 ) -> u8 {
-    run_program(alloc, words, folder, out, err)
+    run_command(alloc, words, outside, err).code()
 }
 
 /// Runs the program over these.
@@ -132,24 +132,25 @@ pub fn run_words<F: Folder>(
     rt: &impl Abort,
     alloc: Global,
     words: &[&str],
-    folder: &mut F,
-    out: &mut MemorySink,
+    outside: &mut Outside<F, MemorySink>,
     err: &mut MemorySink,
 ) -> u8 {
     let words = words_of(rt, alloc, words);
-    ended(alloc, &words, folder, out, err)
+    ended(alloc, &words, outside, err)
 }
 
 /// Runs the program over the folder and these streams.
 pub fn run_with(
     rt: &impl Abort,
     alloc: Global,
-    mut folder: MemoryFolder,
-    mut out: MemorySink,
+    folder: MemoryFolder,
+    out: MemorySink,
     mut err: MemorySink,
     words: &[&str],
 ) -> Left {
-    let code = run_words(rt, alloc, words, &mut folder, &mut out, &mut err);
+    let mut outside = Outside { folder, out };
+    let code = run_words(rt, alloc, words, &mut outside, &mut err);
+    let Outside { folder, out } = outside;
     Left {
         code,
         folder,

@@ -2,6 +2,7 @@
 
 use crate::given::run_words;
 use dcsp_outside::{Fetched, Folder, FolderError, MemorySink, Piece};
+use dcsp_script::Outside;
 use std::alloc::Global;
 use std::process::Abort;
 
@@ -71,13 +72,15 @@ fn expect_put(rt: &impl Abort, sink: MemorySink, bytes: &[u8]) {
 
 /// The line makes one call of the folder, which wants memory, and says so.
 fn expect_wanting(rt: &impl Abort, alloc: Global, line: &[&str]) {
-    let mut folder = WantingFolder { calls: 0 };
-    let mut out = MemorySink::new(alloc);
+    let mut outside = Outside {
+        folder: WantingFolder { calls: 0 },
+        out: MemorySink::new(alloc),
+    };
     let mut err = MemorySink::new(alloc);
-    let code = run_words(rt, alloc, line, &mut folder, &mut out, &mut err);
+    let code = run_words(rt, alloc, line, &mut outside, &mut err);
     assert_eq!(rt; code, 7);
-    assert_eq!(rt; folder.calls, 1);
-    expect_put(rt, out, b"");
+    assert_eq!(rt; outside.folder.calls, 1);
+    expect_put(rt, outside.out, b"");
     expect_put(rt, err, b"abt: memory\n");
 }
 

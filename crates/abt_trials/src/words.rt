@@ -2,6 +2,7 @@
 
 use crate::given::run_words;
 use dcsp_outside::{Folder, MemoryFolder, MemorySink};
+use dcsp_script::Outside;
 use std::alloc::Global;
 use std::process::Abort;
 
@@ -299,10 +300,12 @@ const NO_OTHER_LINES: [&[&str]; 68] = [
 
 /// How the words end over a folder that holds nothing.
 fn ended(rt: &impl Abort, alloc: Global, words: &[&str]) -> u8 {
-    let mut folder = MemoryFolder::new(alloc);
-    let mut out = MemorySink::new(alloc);
+    let mut outside = Outside {
+        folder: MemoryFolder::new(alloc),
+        out: MemorySink::new(alloc),
+    };
     let mut err = MemorySink::new(alloc);
-    run_words(rt, alloc, words, &mut folder, &mut out, &mut err)
+    run_words(rt, alloc, words, &mut outside, &mut err)
 }
 
 #[test]

@@ -1,5 +1,7 @@
 -- The values of the code, as these.
-use Rattle.std.specs.Prelude.{◌≡◌, ◌≤◌, nat_le, Bool, true, ◌&&◌, ℕ, suc, List, [], ◌∷◌, ◌++◌, length, map, flat_map, take, set}
+use Rattle.std.specs.Prelude.{◌≡◌, ◌≤◌, nat_le, Bool, true, ◌&&◌, ℕ, suc, List, [], ◌∷◌, ◌++◌, length, map, flat_map, take, set, string_bytes}
+use Rattle.std.specs.declared.string.String.{String}
+use Rattle.std.specs.declared.alloc.Global.{Global}
 use Rattle.abt_words.specs.Rows.{Place, Row, row_in}
 use Rattle.abt_words.specs.declared.said.Said.{Said}
 use Rattle.abt_words.specs.declared.said.Values.{Values}
@@ -8,6 +10,10 @@ use Rattle.abt_words.specs.declared.value.Value.{Value}
 use Rattle.abt_words.specs.declared.value.Value.TheVariants as values
 use Rattle.abt_words.specs.Saying as saying
 use Rattle.abt_words.specs.Saying.{Fill, value_words, Absent, Given, Name, Number, Signed, Word}
+
+-- the bytes of each text
+abbrev pub texts : List (String Global) → List (List ℕ)
+texts strings = map string_bytes strings
 
 abbrev pub value_in : Value → saying.Value
 value_in values.Absent = Absent

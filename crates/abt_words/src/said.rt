@@ -1,10 +1,10 @@
 //! What words say, of the rows of a table.
 
-ghost use Rattle.std.specs.Prelude.{◌≡◌, ◌↔◌, ℕ, ◌+◌, ◌<◌, ◌≤◌, List, [], ◌++◌, map, flat_map, length, replicate, option_map, string_bytes, IfSome, IsNone, IsTrue};
+ghost use Rattle.std.specs.Prelude.{◌≡◌, ◌↔◌, ℕ, ◌+◌, ◌<◌, ◌≤◌, List, [], ◌++◌, map, flat_map, length, replicate, option_map, IfSome, IsNone, IsTrue};
 ghost use Rattle.abt_words.specs.Rows.{place_in, option_in, row_in, the_rows};
 ghost use Rattle.abt_words.specs.Saying as saying;
 ghost use Rattle.abt_words.specs.Saying.{Absent, Fill, FitsOption, Gives, IsSaidBy, Says, differs_from, has_name, is_new_name, names_differ, place_of, setting_at, value_at, value_words};
-ghost use Rattle.abt_words.specs.Values.{Fills, value_in, values_in, said_in, have_room, HasRoom};
+ghost use Rattle.abt_words.specs.Values.{Fills, texts, value_in, values_in, said_in, have_room, HasRoom};
 
 use crate::row::{LineOption, Place, Row};
 use crate::rows::{other_rows, run_rows};
@@ -69,8 +69,8 @@ impl<'w> Said<'w> {
 
 /// The words behind the keyword, where it stands first.
 fn behind_keyword<'w>(keyword: &[&str], words: &'w [String]) -> Option<&'w [String]>
-    ensures some { IfSome result (λ rest. map string_bytes words.now ≡ map (λ text. text.now) keyword.now ++ map string_bytes rest.now) }
-    ensures none { IsNone result → (rest : List (List ℕ)) → map string_bytes words.now ≡ map (λ text. text.now) keyword.now ++ rest → ⊥ }
+    ensures some { IfSome result (λ rest. texts words.now ≡ map (λ text. text.now) keyword.now ++ texts rest.now) }
+    ensures none { IsNone result → (rest : List (List ℕ)) → texts words.now ≡ map (λ text. text.now) keyword.now ++ rest → ⊥ }
 {
     let [first, more @ ..] = keyword else {
         return Some(words);
@@ -93,10 +93,10 @@ fn values_of<'w>(
     before: Values<'w>,
 ) -> Option<(Values<'w>, &'w [String])>
     requires { at + length places.now ≤ MOST }
-    ensures some { IfSome result (λ filled. Fills (map place_in places.now) (map string_bytes words.now)
-        (map string_bytes filled.1.now) (values_in before.entry) at (values_in filled.0)) }
+    ensures some { IfSome result (λ filled. Fills (map place_in places.now) (texts words.now)
+        (texts filled.1.now) (values_in before.entry) at (values_in filled.0)) }
     ensures none { IsNone result → (values : List saying.Value) (rest : List (List ℕ)) → Fill (map place_in places.now) values
-        → map string_bytes words.now ≡ flat_map value_words values ++ rest → ⊥ }
+        → texts words.now ≡ flat_map value_words values ++ rest → ⊥ }
 {
     let [place, more @ ..] = places else {
         return Some((before, words));
@@ -127,11 +127,11 @@ fn place_of(options: &[LineOption], word: &str) -> Option<usize>
 
 /// The value that the words begin with, for an option that takes this, and the words behind it.
 fn option_value<'w>(taken: Option<Place>, words: &'w [String]) -> Option<(Value<'w>, &'w [String])>
-    ensures some { IfSome result (λ found. map string_bytes words.now ≡ value_words (value_in found.0) ++ map string_bytes found.1.now) }
+    ensures some { IfSome result (λ found. texts words.now ≡ value_words (value_in found.0) ++ texts found.1.now) }
     ensures fits { IfSome result (λ found. FitsOption (option_map place_in taken.entry) (value_in found.0)) }
     ensures shorter { IfSome result (λ found. length found.1.now ≤ length words.now) }
     ensures none { IsNone result → (value : saying.Value) (rest : List (List ℕ)) → FitsOption (option_map place_in taken.entry) value
-        → map string_bytes words.now ≡ value_words value ++ rest → ⊥ }
+        → texts words.now ≡ value_words value ++ rest → ⊥ }
 {
     let Some(place) = taken else {
         return Some((Value::Given, words));
@@ -151,9 +151,9 @@ fn settings_of<'w>(
     before: Values<'w>,
 ) -> Option<Values<'w>>
     requires { length options.now ≤ MOST }
-    ensures some { IfSome result (λ after. Gives (map option_in options.now) (map string_bytes words.now)
+    ensures some { IfSome result (λ after. Gives (map option_in options.now) (texts words.now)
         (values_in before.entry) (values_in after)) }
-    ensures none { IsNone result → (after : List saying.Value) → Gives (map option_in options.now) (map string_bytes words.now)
+    ensures none { IsNone result → (after : List saying.Value) → Gives (map option_in options.now) (texts words.now)
         (values_in before.entry) after → ⊥ }
 {
     let [word, others @ ..] = words else {
@@ -227,8 +227,8 @@ fn names_differ(values: &[Value<'_>], more: &[Value<'_>]) -> bool
 fn row_said<'w>(row: Row, words: &'w [String]) -> Option<Said<'w>>
     requires { HasRoom (row_in row) }
     ensures row { IfSome result (λ said. (said_in said).row ≡ row_in row.entry) }
-    ensures some { IfSome result (λ said. Says (row_in row.entry) (map string_bytes words.now) (said_in said).values (said_in said).settings) }
-    ensures none { IsNone result → (values settings : List saying.Value) → Says (row_in row.entry) (map string_bytes words.now) values settings → ⊥ }
+    ensures some { IfSome result (λ said. Says (row_in row.entry) (texts words.now) (said_in said).values (said_in said).settings) }
+    ensures none { IsNone result → (values settings : List saying.Value) → Says (row_in row.entry) (texts words.now) values settings → ⊥ }
 {
     let rest = behind_keyword(row.keyword, words)?;
     let (values, options) = values_of(row.places, rest, 0, Values::none())?;
@@ -249,8 +249,8 @@ fn row_said<'w>(row: Row, words: &'w [String]) -> Option<Said<'w>>
 /// What the words say, of these rows. `None` comes exactly where they say nothing.
 pub fn said_by<'w>(rows: &[Row], words: &'w [String]) -> Option<Said<'w>>
     requires { IsTrue (have_room (map row_in rows.now)) }
-    ensures some { IfSome result (λ said. IsSaidBy (map row_in rows.now) (map string_bytes words.now) (said_in said)) }
-    ensures none { IsNone result → (said : saying.Said) → IsSaidBy (map row_in rows.now) (map string_bytes words.now) said → ⊥ }
+    ensures some { IfSome result (λ said. IsSaidBy (map row_in rows.now) (texts words.now) (said_in said)) }
+    ensures none { IsNone result → (said : saying.Said) → IsSaidBy (map row_in rows.now) (texts words.now) said → ⊥ }
 {
     for row in rows {
         if let Some(said) = row_said(*row, words) {
@@ -262,8 +262,8 @@ pub fn said_by<'w>(rows: &[Row], words: &'w [String]) -> Option<Said<'w>>
 
 /// What the words say, of the rows of the program. `None` comes exactly where they say nothing.
 pub fn said_of(words: &[String]) -> Option<Said<'_>>
-    ensures some { IfSome result (λ said. IsSaidBy the_rows (map string_bytes words.now) (said_in said)) }
-    ensures none { IsNone result → (said : saying.Said) → IsSaidBy the_rows (map string_bytes words.now) said → ⊥ }
+    ensures some { IfSome result (λ said. IsSaidBy the_rows (texts words.now) (said_in said)) }
+    ensures none { IsNone result → (said : saying.Said) → IsSaidBy the_rows (texts words.now) said → ⊥ }
 {
     match said_by(run_rows(), words) {
         Some(said) => Some(said),

@@ -9,3 +9,4 @@ pub mod Coming
 pub mod Following
 pub mod Fetched
 pub mod Steps
+pub mod StepLines

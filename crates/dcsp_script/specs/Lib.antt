@@ -1,4 +1,5 @@
 pub mod Scripts
+pub mod Outsides
 pub mod Ways
 pub mod Left
 pub mod Texts

@@ -9,12 +9,16 @@
 
 mod err;
 mod order;
+mod outside;
 mod status;
+mod step;
 mod stop;
 mod writes;
 
 pub use err::say;
 pub use order::parts_in_order;
+pub use outside::Outside;
 pub use status::Status;
+pub use step::append_step;
 pub use stop::Stop;
 pub use writes::{append, create, put};

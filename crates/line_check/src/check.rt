@@ -2,6 +2,7 @@
 
 ghost use Rattle.std.specs.Prelude.{◌≡◌, ◌↔◌, true, [], ◌∷◌, Ok};
 ghost use Rattle.dcsp_outside.specs.Outside.{Place};
+ghost use Rattle.dcsp_script.specs.Outsides.{world};
 ghost use Rattle.dcsp_script.specs.Scripts.{Put, outside};
 ghost use Rattle.dcsp_script.specs.Ways.{Wrote};
 ghost use Rattle.dcsp_script.specs.Runs.{CameIn};
@@ -14,7 +15,7 @@ use crate::asked::take_problem;
 use crate::pieces::check_log;
 use abt_input::{AnswerLine, CommandError};
 use dcsp_outside::{Folder, Sink};
-use dcsp_script::{Status, Stop, put};
+use dcsp_script::{Outside, Status, Stop, put};
 use ngd_check::Finding;
 use std::alloc::Global;
 
@@ -76,17 +77,15 @@ pub fn tell<S: Sink>(finding: Finding, out: &mut S) -> Result<(), Stop>
 /// Checks the log against the problem that is taken of the model, and puts the finding's line on `out`.
 pub fn run_check<F: Folder, S: Sink>(
     alloc: Global,
-    folder: &mut F,
+    outside: &mut Outside<F, S>,
     line: Check<'_>,
-    out: &mut S,
 ) -> Result<Status, CommandError>
     ensures came { CameIn (check_promise (taking_of line.entry.better) line.entry.model.now line.entry.log.now)
-        (outside (F.place folder.old) (S.stream out.old))
-        (outside (F.place folder.new) (S.stream out.new)) (way_of result) }
-    ensures verified { result ≡ Ok Status.Good → IsRefutedBy (taking_of line.entry.better) (F.place folder.old).held line.entry.model.now }
+        (world F.place S.stream outside.old) (world F.place S.stream outside.new) (way_of result) }
+    ensures verified { result ≡ Ok Status.Good → IsRefutedBy (taking_of line.entry.better) (F.place outside.old.folder).held line.entry.model.now }
 {
-    let problem = take_problem(alloc, folder, line.model, line.better)?;
-    let finding = check_log(alloc, folder, &problem, line.log)?;
-    tell(finding, out)?;
+    let problem = take_problem(alloc, &mut outside.folder, line.model, line.better)?;
+    let finding = check_log(alloc, &mut outside.folder, &problem, line.log)?;
+    tell(finding, &mut outside.out)?;
     Ok(finding_status(finding))
 }

@@ -1,5 +1,5 @@
 -- What a run of `cnf` means.
-use Rattle.std.proofs.Common.{◌≡◌, ℕ, zero, suc, ◌+◌, ◌^◌, ◌<◌, Bool, true, false, not, cond, List, length, map, Option, Some, None, refl, sym, ap, subst, ◌∙◌, arith}
+use Rattle.std.proofs.Common.{[], ◌≡◌, ℕ, zero, suc, ◌+◌, ◌^◌, ◌<◌, Bool, true, false, not, cond, List, length, map, Option, Some, None, refl, sym, ap, subst, ◌∙◌, arith}
 use Rattle.std.specs.Prelude.{ℤ, pos, negsuc, neg_ℤ, All, Contains}
 use Rattle.std.proofs.lemmas.List.Elements.{All-contains}
 use Rattle.dcsp_meaning.specs.Words.{is_one}
@@ -35,7 +35,7 @@ use Rattle.line_replay.proofs.Verdicts as verdicts
 use Rattle.line_replay.proofs.Verdicts.{solve_unfinished}
 use Rattle.line_cnf.specs.Satisfying.{clauses_of, step_clause, truths}
 use Rattle.line_cnf.specs.RupPromise.{rup_report, RupReport}
-use Rattle.line_cnf.specs.CnfRuns.{log_name, cnf_asked, cnf_run, value_literal, value_literals}
+use Rattle.line_cnf.specs.CnfRuns.{cnf_asked, cnf_run, value_literal, value_literals}
 use Rattle.line_cnf.specs.CnfHeadline.{printed_literals, written_clauses, written_text, IsSatisfiedBy, IsCnfRun, HoldsCnfRun}
 use Rattle.line_cnf.proofs.Satisfying.{variable_true, negation_true, formula_rules, solutions_satisfy, is_refuted}
 use Rattle.line_cnf.proofs.Domains.{formula_binary}
@@ -112,7 +112,7 @@ module _ (text : List ℕ) (p : Contents) (seed : ℕ) (formula : IsFormulaOf te
 
   pub is_cnf_run : IsCnfRun text p seed status
   is_cnf_run =
-      let u = solve_unfinished None p log_name (seed_alone seed) status status_is in
+      let u = solve_unfinished None p [] (seed_alone seed) status status_is in
       record {
         satisfied = satisfied;
         accepted = is_accepted;

@@ -4,10 +4,12 @@ pub mod Lawful
 pub mod Domains
 pub mod Steps
 pub mod Accepting
+pub mod ClauseRows
+pub mod ClauseLoop
+pub mod RowLines
 pub mod CnfOutcomes
 pub mod CnfLawful
 pub mod Printed
-pub mod Written
 pub mod CnfTexts
 pub mod CnfFiles
 pub mod CnfHeadlines

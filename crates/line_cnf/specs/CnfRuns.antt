@@ -11,13 +11,9 @@ use Rattle.line_replay.specs.Asked.{Asked, asked_run, seed_alone, solve}
 use Rattle.line_replay.specs.Endings.{final_values}
 use Rattle.line_cnf.specs.Satisfying.{step_clause}
 
--- the name of the run's log, in a folder of its own
-abbrev pub log_name : List ℕ
-log_name = codes "cnf"
-
--- the run under the choices of the seed, without a record or a trace
+-- the run under the choices of the seed, without a record or a trace, and of which no log is written
 abbrev pub cnf_asked : Contents → ℕ → Asked
-cnf_asked p seed = solve None p log_name (seed_alone seed)
+cnf_asked p seed = solve None p [] (seed_alone seed)
 
 abbrev pub cnf_run : Contents → ℕ → Run
 cnf_run p seed = asked_run (cnf_asked p seed)

@@ -2,7 +2,7 @@
 
 ghost use Rattle.std.specs.Prelude.{◌≡◌, IfOk};
 ghost use Rattle.dcsp_outside.specs.Outside.{Place, Stream};
-ghost use Rattle.dcsp_script.specs.Scripts.{outside};
+ghost use Rattle.dcsp_script.specs.Outsides.{world};
 ghost use Rattle.dcsp_script.specs.Ways.{Wrote};
 ghost use Rattle.dcsp_script.specs.Runs.{CameIn};
 ghost use Rattle.abt_input.specs.Errors.{way_of};
@@ -18,7 +18,7 @@ use crate::proof::write_proof;
 use abt_input::{CommandError, read_formula};
 use dcsp_outside::{Folder, Sink};
 use dcsp_problem::Problem;
-use dcsp_script::{Status, Stop};
+use dcsp_script::{Outside, Status, Stop};
 use std::alloc::Global;
 
 /// The words of `cnf`.
@@ -36,20 +36,18 @@ pub struct Cnf<'w> {
 /// satisfied. Where it cannot, a proof is written first.
 pub fn run_cnf<F: Folder, S: Sink>(
     alloc: Global,
-    folder: &mut F,
+    outside: &mut Outside<F, S>,
     line: Cnf<'_>,
-    out: &mut S,
 ) -> Result<Status, CommandError>
     ensures came { CameIn (cnf_promise line.entry.cnf.now line.entry.proof.now line.entry.seed)
-        (outside (F.place folder.old) (S.stream out.old))
-        (outside (F.place folder.new) (S.stream out.new)) (way_of result) }
+        (world F.place S.stream outside.old) (world F.place S.stream outside.new) (way_of result) }
     ensures writes { IfOk result (λ status. HoldsProof line.entry.cnf.now line.entry.proof.now line.entry.seed status
-        (F.place folder.old).held (F.place folder.new).held) }
-    ensures means { IfOk result (HoldsCnfRun (F.place folder.old).held line.entry.cnf.now line.entry.seed) }
+        (F.place outside.old.folder).held (F.place outside.new.folder).held) }
+    ensures means { IfOk result (HoldsCnfRun (F.place outside.old.folder).held line.entry.cnf.now line.entry.seed) }
 {
-    let problem = read_formula(alloc, folder, line.cnf)?;
+    let problem = read_formula(alloc, &mut outside.folder, line.cnf)?;
     problem.denotes_csp();
-    let status = run_formula(alloc, &problem, line, folder, out)?;
+    let status = run_formula(alloc, &problem, line, outside)?;
     Ok(status)
 }
 
@@ -58,17 +56,16 @@ fn run_formula<F: Folder, S: Sink>(
     alloc: Global,
     problem: &Problem,
     line: Cnf<'_>,
-    folder: &mut F,
-    out: &mut S,
+    outside: &mut Outside<F, S>,
 ) -> Result<Status, Stop>
     requires { IsFormula problem.now }
     ensures wrote { Wrote (cnf_script problem.now line.entry.proof.now (cnf_run problem.now line.entry.seed))
-        (outside (F.place folder.old) (S.stream out.old)) (outside (F.place folder.new) (S.stream out.new)) result }
+        (world F.place S.stream outside.old) (world F.place S.stream outside.new) result }
     ensures status { IfOk result (λ status. status ≡ endings.end_status (cnf_run problem.now line.entry.seed).end) }
 {
     problem.denotes_csp();
     let made = run_apart(alloc, problem, line.seed)?;
-    write_proof(alloc, folder, line.proof, &made.refutation)?;
-    tell(alloc, &made.outcome, out)?;
+    write_proof(alloc, &mut outside.folder, line.proof, &made.refutation)?;
+    tell(alloc, &made.outcome, &mut outside.out)?;
     Ok(status_of(&made.outcome.end))
 }

@@ -5,6 +5,8 @@
 
 mod answer;
 mod apart;
+mod clause_row;
+mod clause_run;
 mod cnf;
 mod laws;
 mod proof;

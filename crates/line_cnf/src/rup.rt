@@ -2,6 +2,7 @@
 
 ghost use Rattle.std.specs.Prelude.{◌≡◌, [], ◌∷◌, All, IfOk, neg_ℤ};
 ghost use Rattle.dcsp_outside.specs.Outside.{Place};
+ghost use Rattle.dcsp_script.specs.Outsides.{world};
 ghost use Rattle.dcsp_script.specs.Scripts.{Put, outside};
 ghost use Rattle.dcsp_script.specs.Ways.{Wrote};
 ghost use Rattle.rup_check.specs.Literals.{IsUnsatisfiable};
@@ -18,7 +19,7 @@ use abt_input::{AnswerLine, CommandError, read_formula, read_proof};
 use cnf_front::formula_of;
 use dcsp_outside::{Folder, Sink};
 use dcsp_problem::Problem;
-use dcsp_script::{Status, Stop, put};
+use dcsp_script::{Outside, Status, Stop, put};
 use rup_check::{ClauseList, Rup, check_rup};
 use std::alloc::{AllocError, Global};
 
@@ -29,21 +30,19 @@ use std::alloc::{AllocError, Global};
 /// assignment satisfies the formula.
 pub fn run_rup<F: Folder, S: Sink>(
     alloc: Global,
-    folder: &mut F,
+    outside: &mut Outside<F, S>,
     cnf: &str,
     proof: &str,
-    out: &mut S,
 ) -> Result<Status, CommandError>
     ensures came { CameIn (rup_promise cnf.now proof.now)
-        (outside (F.place folder.old) (S.stream out.old))
-        (outside (F.place folder.new) (S.stream out.new)) (way_of result) }
-    ensures exact { IfOk result (TellsExactly (F.place folder.old).held cnf.now proof.now) }
-    ensures refutes { IfOk result (λ status. status ≡ Good → HoldsRefuted (F.place folder.old).held cnf.now) }
+        (world F.place S.stream outside.old) (world F.place S.stream outside.new) (way_of result) }
+    ensures exact { IfOk result (TellsExactly (F.place outside.old.folder).held cnf.now proof.now) }
+    ensures refutes { IfOk result (λ status. status ≡ Good → HoldsRefuted (F.place outside.old.folder).held cnf.now) }
 {
-    let problem = read_formula(alloc, folder, cnf)?;
-    let clauses = read_proof(alloc, folder, proof)?;
+    let problem = read_formula(alloc, &mut outside.folder, cnf)?;
+    let clauses = read_proof(alloc, &mut outside.folder, proof)?;
     let answer = check(alloc, &problem, &clauses)?;
-    tell(answer, out)?;
+    tell(answer, &mut outside.out)?;
     Ok(rup_status(answer))
 }
 

@@ -5,6 +5,9 @@ use Rattle.std.specs.declared.vec.Vec.{Vec}
 use Rattle.std.specs.declared.alloc.Global.{Global}
 use Rattle.std.specs.declared.alloc.AllocError.{AllocError as Memory}
 use Rattle.dcsp_gen.specs.Problems.{sparse_text, queens_text, pigeons_text}
+use Rattle.fzn_token.specs.declared.refusal.Refusal.{Refusal}
+use Rattle.fzn_model.specs.Models.{Answers}
+use Rattle.fzn_model.proofs.Once.{once}
 use Rattle.law_subjects.specs.Lines.{queens, sparse, pigeons}
 use Rattle.law_subjects.specs.Problems.{problem_of}
 use Rattle.law_subjects.proofs.Lengths.{are_short}
@@ -25,3 +28,7 @@ its_sparse words = record { short = are_short.sparse_is 500 words (omega arith) 
 pub has_problem : (text : List ℕ) (r : Result (Vec ℕ Global) Memory) → HasProblem text → IfOk r (λ bytes. bytes.items ≡ text) → IfOk r (λ bytes. HasProblem bytes.items)
 has_problem text (Ok bytes) has same = subst HasProblem (sym same) has
 has_problem text (Err e) has same = tt
+
+-- a text that has a problem is not refused
+pub not_refused : {text : List ℕ} {refusal : Refusal} → HasProblem text → Answers text (Err refusal) → ⊥
+not_refused {text} {refusal} has refused = let e = once text (Ok has.0) (Err refusal) has.1.reads refused in cc

@@ -9,13 +9,14 @@ ghost use Rattle.line_check.specs.Checks.{IsFoundFor};
 ghost use Rattle.line_replay.specs.Asked.{seeded_session};
 ghost use Rattle.line_drill.specs.Drills.{log_name, run_from, HasFinding, HasProblem};
 
-use abt_input::{CommandError, read_model};
+use abt_input::CommandError;
 use abt_schedule::Seeded;
 use abt_session::{MOST_DELIVERIES, Ordered, Outcome, RunTask, Telling, run};
 use dcsp_common::Memory;
 use dcsp_outside::{SureFolder, SureSink};
 use dcsp_problem::Problem;
-use dcsp_script::Stop;
+use dcsp_script::{Outside, Stop};
+use fzn_model::{ModelError, problem_of};
 use line_check::check_log;
 use ngd_check::Finding;
 use std::alloc::{AllocError, Global};
@@ -25,7 +26,7 @@ use std::alloc::{AllocError, Global};
 pub struct Trial {
     pub problem: Problem,
     pub outcome: Outcome,
-    /// Where the log of the run is.
+    /// Where the log of the run is, alone.
     pub folder: SureFolder,
 }
 
@@ -44,20 +45,21 @@ pub fn try_text(
     let Ok(text) = text else {
         return Err(AllocError);
     };
-    let mut folder = SureFolder::new(alloc);
-    let Ok(()) = folder.place("model", &text) else {
-        return Err(AllocError);
-    };
-    let problem = match read_model(alloc, &mut folder, "model") {
+    let problem = match problem_of(alloc, text) {
         Ok(problem) => problem,
-        // the text has a problem, and a sure folder never fails
-        Err(error) => return Err(lacked(error)),
+        Err(ModelError::Memory) => return Err(AllocError),
+        // the text has a problem
+        Err(ModelError::Refused(_)) => unreachable!(),
     };
-    let outcome = run_problem(alloc, &problem, seed, &mut folder)?;
+    let mut outside = Outside {
+        folder: SureFolder::new(alloc),
+        out: SureSink::new(alloc),
+    };
+    let outcome = run_problem(alloc, &problem, seed, &mut outside)?;
     Ok(Trial {
         problem,
         outcome,
-        folder,
+        folder: outside.folder,
     })
 }
 
@@ -71,18 +73,17 @@ fn lacked(error: CommandError) -> AllocError
     }
 }
 
-/// Runs the problem, with its log in the folder.
+/// Runs the problem, with its log in the folder of this outside.
 fn run_problem(
     alloc: Global,
     problem: &Problem,
     seed: u64,
-    folder: &mut SureFolder,
+    outside: &mut Outside<SureFolder, SureSink>,
 ) -> Result<Outcome, AllocError>
     ensures gives { IfOk result (Gives (seeded_session None problem.now seed log_name false)) }
-    ensures log { OnOk result (map.get folder.new.files log_name ≡ Some (log_text (run_from problem.now seed).net.steps)) }
+    ensures log { OnOk result (map.get outside.new.folder.files log_name ≡ Some (log_text (run_from problem.now seed).net.steps)) }
 {
     let mut choices = Seeded::new(seed);
-    let mut out = SureSink::new(alloc);
     let model = Ordered {
         problem,
         order: None,
@@ -94,7 +95,7 @@ fn run_problem(
         telling: Telling::nothing(),
         keep: false,
     };
-    match run(alloc, task, &mut choices, folder, &mut out) {
+    match run(alloc, task, &mut choices, outside) {
         Ok(outcome) => Ok(outcome),
         Err(Stop::Memory) => Err(AllocError),
         // neither a sure folder nor a sure sink fails

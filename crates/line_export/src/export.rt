@@ -1,7 +1,7 @@
 //! The line `export MODEL LOG CNF PROOF [--atoms] [--better N]`.
 
 ghost use Rattle.std.specs.Prelude.{◌≡◌, ◌≢◌, All, IfOk, Ok};
-ghost use Rattle.dcsp_script.specs.Scripts.{outside};
+ghost use Rattle.dcsp_script.specs.Outsides.{world};
 ghost use Rattle.dcsp_script.specs.Ways.{Wrote};
 ghost use Rattle.dcsp_script.specs.Runs.{CameIn};
 ghost use Rattle.abt_input.specs.Errors.{way_of};
@@ -20,7 +20,7 @@ use crate::write::{tell, write_cnf, write_proof};
 use abt_input::CommandError;
 use dcsp_defs::Derivation;
 use dcsp_outside::{Folder, Sink};
-use dcsp_script::{Status, Stop};
+use dcsp_script::{Outside, Status, Stop};
 use line_check::{check_and_keep, is_verified, take_problem, tell as tell_finding};
 use ngd_check::KeptSteps;
 use std::alloc::{AllocError, Global};
@@ -49,26 +49,22 @@ pub struct ExportLine<'w> {
 /// limit; else an error is a fault or want of memory.
 pub fn run_export<F: Folder, S: Sink>(
     alloc: Global,
-    folder: &mut F,
+    outside: &mut Outside<F, S>,
     line: ExportLine<'_>,
-    out: &mut S,
 ) -> Result<Status, CommandError>
     ensures came { CameIn (export_promise (taking_of line.entry.better) line.entry.model.now line.entry.log.now line.entry.cnf.now line.entry.proof.now line.entry.atoms)
-        (outside (F.place folder.old) (S.stream out.old))
-        (outside (F.place folder.new) (S.stream out.new)) (way_of result) }
+        (world F.place S.stream outside.old) (world F.place S.stream outside.new) (way_of result) }
     ensures exports { result ≡ Ok Status.Good → line.entry.cnf.now ≢ line.entry.proof.now
         → HoldsExport (taking_of line.entry.better) line.entry.model.now line.entry.log.now line.entry.cnf.now line.entry.proof.now line.entry.atoms
-        (outside (F.place folder.old) (S.stream out.old))
-        (outside (F.place folder.new) (S.stream out.new)) }
+        (world F.place S.stream outside.old) (world F.place S.stream outside.new) }
     ensures rejects { result ≡ Ok Status.No
-        → CreatesNothing (outside (F.place folder.old) (S.stream out.old))
-        (outside (F.place folder.new) (S.stream out.new)) }
+        → CreatesNothing (world F.place S.stream outside.old) (world F.place S.stream outside.new) }
 {
-    let problem = take_problem(alloc, folder, line.model, line.better)?;
+    let problem = take_problem(alloc, &mut outside.folder, line.model, line.better)?;
     problem.denotes_csp();
-    let checked = check_and_keep(alloc, folder, &problem, line.log)?;
+    let checked = check_and_keep(alloc, &mut outside.folder, &problem, line.log)?;
     if !is_verified(checked.finding) {
-        tell_finding(checked.finding, out)?;
+        tell_finding(checked.finding, &mut outside.out)?;
         return Ok(Status::No);
     }
     let copy = copied(alloc, checked.steps)?;
@@ -79,7 +75,7 @@ pub fn run_export<F: Folder, S: Sink>(
         steps: copy,
         clauses,
     };
-    write(alloc, folder, line, &formula, out)?;
+    write(alloc, outside, line, &formula)?;
     Ok(Status::Good)
 }
 
@@ -96,23 +92,21 @@ fn copied(alloc: Global, steps: KeptSteps<'_>) -> Result<Derivation, AllocError>
 /// Writes formula and proof under their names, and tells their sizes.
 fn write<F: Folder, S: Sink>(
     alloc: Global,
-    folder: &mut F,
+    outside: &mut Outside<F, S>,
     line: ExportLine<'_>,
     formula: &Formula<'_>,
-    out: &mut S,
 ) -> Result<(), Stop>
     requires atoms { AreAtoms formula.now.atoms }
     requires steps { All (IsStepIn formula.now.atoms.problem.now) formula.now.steps }
     requires clauses { formula.now.clauses ≡ the_formula formula.now.atoms.problem.now formula.now.steps }
     ensures { Wrote (export_script line.entry.cnf.now line.entry.proof.now line.entry.atoms formula.now.atoms.problem.now formula.now.steps)
-        (outside (F.place folder.old) (S.stream out.old))
-        (outside (F.place folder.new) (S.stream out.new)) result }
+        (world F.place S.stream outside.old) (world F.place S.stream outside.new) result }
 {
     let atoms = &formula.atoms;
     let steps = &formula.steps;
-    write_cnf(alloc, folder, line.cnf, formula, line.atoms)?;
-    write_proof(alloc, folder, line.proof, atoms, steps.steps())?;
+    write_cnf(alloc, &mut outside.folder, line.cnf, formula, line.atoms)?;
+    write_proof(alloc, &mut outside.folder, line.proof, atoms, steps.steps())?;
     let variables = u64::from(atoms.count);
     let clauses = formula.clauses.len() as u64;
-    tell(alloc, variables, clauses, steps.len(), out)
+    tell(alloc, variables, clauses, steps.len(), &mut outside.out)
 }

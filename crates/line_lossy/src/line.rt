@@ -3,6 +3,7 @@
 ghost use Rattle.std.specs.Prelude.{◌≡◌, ◌++◌, IfOk, is_some};
 ghost use Rattle.dcsp_outside.specs.Outside.{Place, Stream};
 ghost use Rattle.dcsp_order.specs.Told.{ordered};
+ghost use Rattle.dcsp_script.specs.Outsides.{world};
 ghost use Rattle.dcsp_script.specs.Scripts.{outside};
 ghost use Rattle.dcsp_script.specs.Ways.{Wrote};
 ghost use Rattle.dcsp_script.specs.Runs.{CameIn};
@@ -24,7 +25,7 @@ use abt_schedule::ChoiceList;
 use abt_session::Ordered;
 use dcsp_order::moved;
 use dcsp_outside::{Folder, Sink};
-use dcsp_script::{Status, Stop};
+use dcsp_script::{Outside, Status, Stop};
 use line_replay::{end_status, write_record};
 use ngd_check::problems_are_small;
 use std::alloc::Global;
@@ -53,26 +54,24 @@ pub struct Losses<'w> {
 /// packets, under the events of the seed and then calm ones, until a verdict stands.
 pub fn run_lossy<F: Folder, S: Sink>(
     alloc: Global,
-    folder: &mut F,
+    outside: &mut Outside<F, S>,
     line: Losses<'_>,
-    out: &mut S,
 ) -> Result<Status, CommandError>
     ensures came { CameIn (promise_of line.entry)
-        (outside (F.place folder.old) (S.stream out.old))
-        (outside (F.place folder.new) (S.stream out.new)) (way_of result) }
-    ensures sound { IfOk result (λ status. HoldsProblem (F.place folder.old).held line.entry.model.now) }
-    ensures run { IfOk result (HoldsItsRun (F.place folder.old).held line.entry) }
+        (world F.place S.stream outside.old) (world F.place S.stream outside.new) (way_of result) }
+    ensures sound { IfOk result (λ status. HoldsProblem (F.place outside.old.folder).held line.entry.model.now) }
+    ensures run { IfOk result (HoldsItsRun (F.place outside.old.folder).held line.entry) }
 {
-    let problem = read_model(alloc, folder, line.model)?;
+    let problem = read_model(alloc, &mut outside.folder, line.model)?;
     problem.denotes_csp();
     problems_are_small(&problem);
     lossy_runs_are_right();
-    let order = read_order_of(alloc, folder, line.order_file, &problem)?;
+    let order = read_order_of(alloc, &mut outside.folder, line.order_file, &problem)?;
     let model = Ordered {
         problem: &problem,
         order: order.as_ref(),
     };
-    let status = run_problem(alloc, model, line, folder, out)?;
+    let status = run_problem(alloc, model, line, outside)?;
     Ok(status)
 }
 
@@ -81,16 +80,15 @@ fn run_problem<F: Folder, S: Sink>(
     alloc: Global,
     model: Ordered<'_>,
     line: Losses<'_>,
-    folder: &mut F,
-    out: &mut S,
+    outside: &mut Outside<F, S>,
 ) -> Result<Status, Stop>
     requires { IsOrderedRightly model }
     ensures wrote { Wrote (asked_script (asked_by model.entry line.entry))
-        (outside (F.place folder.old) (S.stream out.old)) (outside (F.place folder.new) (S.stream out.new)) result }
+        (world F.place S.stream outside.old) (world F.place S.stream outside.new) result }
     ensures status { let asked = asked_by model.entry line.entry in IfOk result (λ status. status ≡ endings.end_status (end_of (run_problem asked) (run_world asked))) }
 {
-    let ended = run_recorded(alloc, model, line, folder)?;
-    tell(alloc, model.problem, &ended, out)?;
+    let ended = run_recorded(alloc, model, line, &mut outside.folder)?;
+    tell(alloc, model.problem, &ended, &mut outside.out)?;
     Ok(end_status(&ended.outcome.end))
 }
 

@@ -2,6 +2,7 @@
 
 ghost use Rattle.std.specs.Prelude.{◌≡◌, ◌++◌, List, IfOk, OnOk, length, option_copied};
 ghost use Rattle.dcsp_outside.specs.Outside.{Place, Stream};
+ghost use Rattle.dcsp_script.specs.Outsides.{world};
 ghost use Rattle.dcsp_script.specs.Scripts.{outside};
 ghost use Rattle.dcsp_script.specs.Ways.{Wrote};
 ghost use Rattle.dcsp_rule.specs.Problems.{csp_of};
@@ -29,7 +30,7 @@ use dcsp_common::Memory;
 use dcsp_order::{Order, moved};
 use dcsp_outside::{Folder, Sink};
 use dcsp_problem::Problem;
-use dcsp_script::{Status, Stop, put};
+use dcsp_script::{Outside, Status, Stop, put};
 use std::alloc::Global;
 
 /// The words of `measure`.
@@ -47,23 +48,21 @@ pub struct Measure<'w> {
 /// measures.
 pub fn run_measure<F: Folder, S: Sink>(
     alloc: Global,
-    folder: &mut F,
+    outside: &mut Outside<F, S>,
     line: Measure<'_>,
-    out: &mut S,
 ) -> Result<Status, CommandError>
     ensures { CameIn (measure_promise line.entry.model.now line.entry.schedule.now (option_copied line.entry.order_file))
-        (outside (F.place folder.old) (S.stream out.old))
-        (outside (F.place folder.new) (S.stream out.new)) (way_of result) }
+        (world F.place S.stream outside.old) (world F.place S.stream outside.new) (way_of result) }
 {
-    let problem = read_model(alloc, folder, line.model)?;
-    let read = read_order_of(alloc, folder, line.order_file, &problem)?;
+    let problem = read_model(alloc, &mut outside.folder, line.model)?;
+    let read = read_order_of(alloc, &mut outside.folder, line.order_file, &problem)?;
     let order = read.as_ref();
-    let choices = read_choices(alloc, folder, line.schedule)?;
+    let choices = read_choices(alloc, &mut outside.folder, line.schedule)?;
     let Ok(moved) = moved(alloc, order, &problem) else {
         return Err(CommandError::Memory);
     };
     let run = moved.as_ref().unwrap_or(&problem);
-    let status = tell_measures(alloc, order, run, choices, out)?;
+    let status = tell_measures(alloc, order, run, choices, &mut outside.out)?;
     Ok(status)
 }
 

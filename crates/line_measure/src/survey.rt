@@ -2,6 +2,7 @@
 
 ghost use Rattle.std.specs.Prelude.{◌≡◌, ◌+◌, ◌≤◌, ◌^◌, ◌∷◌, [], IfOk, option_copied};
 ghost use Rattle.dcsp_outside.specs.Outside.{Place};
+ghost use Rattle.dcsp_script.specs.Outsides.{world};
 ghost use Rattle.dcsp_script.specs.Scripts.{outside};
 ghost use Rattle.dcsp_script.specs.Ways.{Wrote};
 ghost use Rattle.dcsp_rule.specs.Problems.{csp_of};
@@ -23,7 +24,7 @@ use dcsp_common::Memory;
 use dcsp_order::moved;
 use dcsp_outside::{Folder, Sink};
 use dcsp_problem::Problem;
-use dcsp_script::{Status, Stop, put};
+use dcsp_script::{Outside, Status, Stop, put};
 use std::alloc::Global;
 
 /// The words of `survey`.
@@ -47,22 +48,20 @@ const HEAD: &[u8] =
 /// its own, behind the names of the columns.
 pub fn run_survey<F: Folder, S: Sink>(
     alloc: Global,
-    folder: &mut F,
+    outside: &mut Outside<F, S>,
     line: Survey<'_>,
-    out: &mut S,
 ) -> Result<Status, CommandError>
     requires { line.from + line.count ≤ 2 ^ 64 }
     ensures { CameIn (survey_promise line.entry.model.now line.entry.from line.entry.count (option_copied line.entry.order_file))
-        (outside (F.place folder.old) (S.stream out.old))
-        (outside (F.place folder.new) (S.stream out.new)) (way_of result) }
+        (world F.place S.stream outside.old) (world F.place S.stream outside.new) (way_of result) }
 {
-    let problem = read_model(alloc, folder, line.model)?;
-    let read = read_order_of(alloc, folder, line.order_file, &problem)?;
+    let problem = read_model(alloc, &mut outside.folder, line.model)?;
+    let read = read_order_of(alloc, &mut outside.folder, line.order_file, &problem)?;
     let Ok(moved) = moved(alloc, read.as_ref(), &problem) else {
         return Err(CommandError::Memory);
     };
     let run = moved.as_ref().unwrap_or(&problem);
-    let end = tell_survey(alloc, run, line, out)?;
+    let end = tell_survey(alloc, run, line, &mut outside.out)?;
     Ok(status_of(end))
 }
 

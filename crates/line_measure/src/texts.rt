@@ -26,7 +26,7 @@ pub fn push_number(before: &[u8], number: u64, into: &mut Vec<u8>) -> Result<(),
     ensures { OnOk result (into.new.items ≡ into.old.items ++ numbered before.now number) }
 {
     into.extend_from_slice(before)?;
-    into.extend_from_slice(Buffer::new().format(number).as_bytes())
+    dcsp_common::push_number(into, number)
 }
 
 /// Pushes the numbers of the three kinds, each behind a blank.

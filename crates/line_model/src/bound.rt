@@ -3,6 +3,7 @@
 ghost use Rattle.std.specs.Prelude.{◌≡◌, [], ◌∷◌, IfOk, option_copied};
 ghost use Rattle.dcsp_outside.specs.Outside.{Place};
 ghost use Rattle.dcsp_rule.specs.Problems.{csp_of};
+ghost use Rattle.dcsp_script.specs.Outsides.{world};
 ghost use Rattle.dcsp_script.specs.Scripts.{Put, outside};
 ghost use Rattle.dcsp_script.specs.Ways.{Wrote};
 ghost use Rattle.dcsp_script.specs.Runs.{CameIn};
@@ -17,7 +18,7 @@ use dcsp_common::Memory;
 use dcsp_order::{Order, moved};
 use dcsp_outside::{Folder, Sink};
 use dcsp_problem::Problem;
-use dcsp_script::{Status, Stop, put};
+use dcsp_script::{Outside, Status, Stop, put};
 use itoa::Buffer;
 use std::alloc::Global;
 
@@ -71,19 +72,17 @@ fn bound_under(
 /// Puts the line that tells the message bound of the model on `out`, under the order where one is named.
 pub fn run_bound<F: Folder, S: Sink>(
     alloc: Global,
-    folder: &mut F,
+    outside: &mut Outside<F, S>,
     line: Bound<'_>,
-    out: &mut S,
 ) -> Result<Status, CommandError>
     ensures { CameIn (bound_promise line.entry.model.now (option_copied line.entry.order_file))
-        (outside (F.place folder.old) (S.stream out.old))
-        (outside (F.place folder.new) (S.stream out.new)) (way_of result) }
+        (world F.place S.stream outside.old) (world F.place S.stream outside.new) (way_of result) }
 {
-    let problem = read_model(alloc, folder, line.model)?;
-    let order = read_order_of(alloc, folder, line.order_file, &problem)?;
+    let problem = read_model(alloc, &mut outside.folder, line.model)?;
+    let order = read_order_of(alloc, &mut outside.folder, line.order_file, &problem)?;
     let Ok(bound) = bound_under(alloc, order.as_ref(), &problem) else {
         return Err(CommandError::Memory);
     };
-    tell(bound, out)?;
+    tell(bound, &mut outside.out)?;
     Ok(Status::Good)
 }

@@ -1,7 +1,8 @@
 //! Writing an order of a model's variables.
 
 ghost use Rattle.std.specs.Prelude.{◌≡◌, ◌≤◌, [], ◌∷◌, length, OnOk};
-ghost use Rattle.dcsp_script.specs.Scripts.{Create, Append, Put, outside};
+ghost use Rattle.dcsp_script.specs.Outsides.{world};
+ghost use Rattle.dcsp_script.specs.Scripts.{Create, Append, Put};
 ghost use Rattle.dcsp_script.specs.Ways.{Wrote};
 ghost use Rattle.dcsp_script.specs.Runs.{CameIn};
 ghost use Rattle.abt_input.specs.Errors.{way_of};
@@ -11,7 +12,7 @@ ghost use Rattle.line_model.specs.OrderPromise.{order_line, order_promise, rule_
 use abt_input::{AnswerLine, CommandError, read_model};
 use dcsp_order::{Order, OrderRule};
 use dcsp_outside::{Folder, Sink};
-use dcsp_script::{Status, Stop, append, create, put};
+use dcsp_script::{Outside, Status, Stop, append, create, put};
 use std::alloc::Global;
 
 /// The words of `order`.
@@ -28,17 +29,15 @@ pub struct OrderLine<'w> {
 /// Writes the order of the model's variables by the rule, and tells the rule and how many variables there are.
 pub fn run_order<F: Folder, S: Sink>(
     alloc: Global,
-    folder: &mut F,
+    outside: &mut Outside<F, S>,
     line: OrderLine<'_>,
-    out: &mut S,
 ) -> Result<Status, CommandError>
     ensures came { CameIn (order_promise line.entry.model.now line.entry.rule line.entry.file.now)
-        (outside (F.place folder.old) (S.stream out.old))
-        (outside (F.place folder.new) (S.stream out.new)) (way_of result) }
+        (world F.place S.stream outside.old) (world F.place S.stream outside.new) (way_of result) }
     ensures writes { OnOk result (HoldsOrder line.entry.model.now line.entry.rule line.entry.file.now
-        (F.place folder.old).held (F.place folder.new).held) }
+        (F.place outside.old.folder).held (F.place outside.new.folder).held) }
 {
-    let problem = read_model(alloc, folder, line.model)?;
+    let problem = read_model(alloc, &mut outside.folder, line.model)?;
     let Ok(order) = Order::by_rule(alloc, &problem, line.rule) else {
         return Err(CommandError::Memory);
     };
@@ -46,24 +45,23 @@ pub fn run_order<F: Folder, S: Sink>(
         return Err(CommandError::Memory);
     };
     let told = order_line(line.rule, order.numbers().len() as u64);
-    write_told(folder, line.file, &text, told.bytes(), out)?;
+    write_told(outside, line.file, &text, told.bytes())?;
     Ok(Status::Good)
 }
 
 /// Writes the text under the name, and then puts what is told of it.
 fn write_told<F: Folder, S: Sink>(
-    folder: &mut F,
+    outside: &mut Outside<F, S>,
     name: &str,
     text: &[u8],
     told: &[u8],
-    out: &mut S,
 ) -> Result<(), Stop>
     ensures { Wrote (Create name.now ∷ Append name.now text.now ∷ Put told.now ∷ [])
-        (outside (F.place folder.old) (S.stream out.old)) (outside (F.place folder.new) (S.stream out.new)) result }
+        (world F.place S.stream outside.old) (world F.place S.stream outside.new) result }
 {
-    create(folder, name)?;
-    append(folder, name, text)?;
-    put(out, told)
+    create(&mut outside.folder, name)?;
+    append(&mut outside.folder, name, text)?;
+    put(&mut outside.out, told)
 }
 
 /// The line that tells the rule and how many variables there are.

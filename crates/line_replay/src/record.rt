@@ -2,6 +2,7 @@
 
 ghost use Rattle.std.specs.Prelude.{◌≡◌, ◌≤◌, ◌+◌, ◌^◌, ◌++◌, ℕ, IfOk, OnOk, option_copied};
 ghost use Rattle.dcsp_outside.specs.Outside.{Place, Stream};
+ghost use Rattle.dcsp_script.specs.Outsides.{world};
 ghost use Rattle.dcsp_script.specs.Scripts.{outside};
 ghost use Rattle.dcsp_script.specs.Ways.{Wrote};
 ghost use Rattle.abt_session.specs.Sessions.{run_of, run_script};
@@ -14,7 +15,7 @@ ghost use Rattle.line_replay.specs.Tasks.{task_session};
 use abt_schedule::{Choices, write_schedule};
 use abt_session::{Ordered, Outcome, RunTask, Telling, run};
 use dcsp_outside::{Folder, Sink};
-use dcsp_script::{Stop, append, create};
+use dcsp_script::{Outside, Stop, append, create};
 use std::alloc::Global;
 
 /// A run, and what it writes beside its answer.
@@ -37,14 +38,13 @@ pub fn run_recorded<C: Choices, F: Folder, S: Sink>(
     alloc: Global,
     task: Task<'_>,
     choices: &mut C,
-    folder: &mut F,
-    out: &mut S,
+    outside: &mut Outside<F, S>,
 ) -> Result<Outcome, Stop>
     requires most { task.most ≤ 2 ^ 40 }
     requires fits { Fits (order_in task.model) task.model.problem.now }
     ensures wrote { let s = task_session (C.answers choices.old) task.entry in
         Wrote (run_script s ++ record_script (option_copied task.entry.record_file) (run_of s).numbers)
-        (outside (F.place folder.old) (S.stream out.old)) (outside (F.place folder.new) (S.stream out.new)) result }
+        (world F.place S.stream outside.old) (world F.place S.stream outside.new) result }
     ensures gives { IfOk result (Gives (task_session (C.answers choices.old) task.entry)) }
     ensures answers { let s = task_session (C.answers choices.old) task.entry in
         OnOk result ((k : ℕ) → C.answers choices.new k ≡ C.answers choices.old ((run_of s).net.deliveries + k)) }
@@ -56,8 +56,13 @@ pub fn run_recorded<C: Choices, F: Folder, S: Sink>(
         telling: task.telling,
         keep: task.record_file.is_some(),
     };
-    let outcome = run(alloc, asked, choices, folder, out)?;
-    write_record(alloc, folder, task.record_file, outcome.numbers.choices())?;
+    let outcome = run(alloc, asked, choices, outside)?;
+    write_record(
+        alloc,
+        &mut outside.folder,
+        task.record_file,
+        outcome.numbers.choices(),
+    )?;
     Ok(outcome)
 }
 

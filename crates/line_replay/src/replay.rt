@@ -2,7 +2,7 @@
 
 ghost use Rattle.std.specs.Prelude.{◌≡◌, IfOk, option_copied};
 ghost use Rattle.dcsp_outside.specs.Outside.{Place, Stream};
-ghost use Rattle.dcsp_script.specs.Scripts.{outside};
+ghost use Rattle.dcsp_script.specs.Outsides.{world};
 ghost use Rattle.dcsp_script.specs.Ways.{Wrote};
 ghost use Rattle.dcsp_script.specs.Runs.{CameIn};
 ghost use Rattle.abt_input.specs.Errors.{way_of};
@@ -19,7 +19,7 @@ use abt_input::{CommandError, read_choices, read_model, read_order_of};
 use abt_schedule::Listed;
 use abt_session::{MOST_DELIVERIES, Ordered, Telling};
 use dcsp_outside::{Folder, Sink};
-use dcsp_script::{Status, Stop};
+use dcsp_script::{Outside, Status, Stop};
 use ngd_check::problems_are_small;
 use std::alloc::Global;
 
@@ -41,25 +41,23 @@ pub struct Replay<'w> {
 /// Runs the model under the choices of the schedule, which is read after it and after the order.
 pub fn run_replay<F: Folder, S: Sink>(
     alloc: Global,
-    folder: &mut F,
+    outside: &mut Outside<F, S>,
     line: Replay<'_>,
-    out: &mut S,
 ) -> Result<Status, CommandError>
     ensures came { CameIn (replay_promise line.entry.model.now line.entry.schedule.now line.entry.log.now line.entry.trace (option_copied line.entry.order_file))
-        (outside (F.place folder.old) (S.stream out.old))
-        (outside (F.place folder.new) (S.stream out.new)) (way_of result) }
-    ensures sound { IfOk result (λ status. HoldsProblem (F.place folder.old).held line.entry.model.now) }
+        (world F.place S.stream outside.old) (world F.place S.stream outside.new) (way_of result) }
+    ensures sound { IfOk result (λ status. HoldsProblem (F.place outside.old.folder).held line.entry.model.now) }
 {
-    let problem = read_model(alloc, folder, line.model)?;
+    let problem = read_model(alloc, &mut outside.folder, line.model)?;
     problem.denotes_csp();
     problems_are_small(&problem);
-    let order = read_order_of(alloc, folder, line.order_file, &problem)?;
-    let choices = read_choices(alloc, folder, line.schedule)?;
+    let order = read_order_of(alloc, &mut outside.folder, line.order_file, &problem)?;
+    let choices = read_choices(alloc, &mut outside.folder, line.schedule)?;
     let model = Ordered {
         problem: &problem,
         order: order.as_ref(),
     };
-    let status = run_choices(alloc, Chosen { model, choices }, line, folder, out)?;
+    let status = run_choices(alloc, Chosen { model, choices }, line, outside)?;
     Ok(status)
 }
 
@@ -75,12 +73,11 @@ fn run_choices<'w, F: Folder, S: Sink>(
     alloc: Global,
     read: Chosen<'w>,
     line: Replay<'w>,
-    folder: &mut F,
-    out: &mut S,
+    outside: &mut Outside<F, S>,
 ) -> Result<Status, Stop>
     requires { IsOrderedRightly read.model }
     ensures wrote { Wrote (asked_script (replay_of read.entry line.entry))
-        (outside (F.place folder.old) (S.stream out.old)) (outside (F.place folder.new) (S.stream out.new)) result }
+        (world F.place S.stream outside.old) (world F.place S.stream outside.new) result }
     ensures status { IfOk result (λ status. status ≡ endings.end_status (asked_run (replay_of read.entry line.entry)).end) }
 {
     let Chosen { model, choices } = read;
@@ -92,7 +89,13 @@ fn run_choices<'w, F: Folder, S: Sink>(
         telling: Telling::traced(line.trace),
     };
     let mut choices = choices;
-    let outcome = run_recorded(alloc, task, &mut choices, folder, out)?;
-    tell(alloc, model.problem, &outcome, Some(choices.left()), out)?;
+    let outcome = run_recorded(alloc, task, &mut choices, outside)?;
+    tell(
+        alloc,
+        model.problem,
+        &outcome,
+        Some(choices.left()),
+        &mut outside.out,
+    )?;
     Ok(end_status(&outcome.end))
 }

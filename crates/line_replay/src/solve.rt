@@ -2,7 +2,7 @@
 
 ghost use Rattle.std.specs.Prelude.{◌≡◌, ◌≤◌, ◌^◌, IfOk};
 ghost use Rattle.dcsp_outside.specs.Outside.{Place, Stream};
-ghost use Rattle.dcsp_script.specs.Scripts.{outside};
+ghost use Rattle.dcsp_script.specs.Outsides.{world};
 ghost use Rattle.dcsp_script.specs.Ways.{Wrote};
 ghost use Rattle.line_replay.specs.Endings as endings;
 ghost use Rattle.line_replay.specs.Settings.{settings_of, telling_of};
@@ -15,7 +15,7 @@ use crate::record::{Task, run_recorded};
 use abt_schedule::Seeded;
 use abt_session::{Ordered, Telling};
 use dcsp_outside::{Folder, Sink};
-use dcsp_script::{Status, Stop};
+use dcsp_script::{Outside, Status, Stop};
 use std::alloc::Global;
 
 /// The words of `solve`.
@@ -68,13 +68,12 @@ pub fn run_seed<'w, F: Folder, S: Sink>(
     alloc: Global,
     model: Ordered<'w>,
     line: Solve<'w>,
-    folder: &mut F,
-    out: &mut S,
+    outside: &mut Outside<F, S>,
 ) -> Result<Status, Stop>
     requires few { line.options.choices ≤ 2 ^ 40 }
     requires model { IsOrderedRightly model }
     ensures wrote { Wrote (asked_script (solve_of model.entry line.entry))
-        (outside (F.place folder.old) (S.stream out.old)) (outside (F.place folder.new) (S.stream out.new)) result }
+        (world F.place S.stream outside.old) (world F.place S.stream outside.new) result }
     ensures status { IfOk result (λ status. status ≡ endings.end_status (asked_run (solve_of model.entry line.entry)).end) }
 {
     let task = Task {
@@ -85,7 +84,7 @@ pub fn run_seed<'w, F: Folder, S: Sink>(
         telling: line.options.telling(None),
     };
     let mut choices = Seeded::new(line.options.seed);
-    let outcome = run_recorded(alloc, task, &mut choices, folder, out)?;
-    tell(alloc, model.problem, &outcome, None, out)?;
+    let outcome = run_recorded(alloc, task, &mut choices, outside)?;
+    tell(alloc, model.problem, &outcome, None, &mut outside.out)?;
     Ok(end_status(&outcome.end))
 }

@@ -10,8 +10,8 @@ ghost use Rattle.ngd_log.specs.Logs.{log_lines, step_lines, AreWritable};
 ghost use Rattle.line_rewrite.specs.UpgradePromise.{appends, file_script};
 
 use dcsp_outside::Folder;
-use dcsp_script::{Stop, append, create};
-use ngd_log::{HEAD, TAIL, write_step};
+use dcsp_script::{Stop, append, append_step, create};
+use ngd_log::{HEAD, TAIL};
 use ngd_rewrite::Trimmed;
 use std::alloc::Global;
 
@@ -47,13 +47,13 @@ fn append_steps<F: Folder>(
 {
     let mut line = Vec::new(alloc);
     for place in 0..steps.len() {
-        append_step(folder, name, steps, place, &mut line)?;
+        append_at(folder, name, steps, place, &mut line)?;
     }
     Ok(())
 }
 
 /// Appends the line of the step at this place. It is made in `line`.
-fn append_step<F: Folder>(
+fn append_at<F: Folder>(
     folder: &mut F,
     name: &str,
     steps: &Trimmed<'_, '_>,
@@ -68,7 +68,5 @@ fn append_step<F: Folder>(
     ensures created { (F.place folder.new).created ≡ (F.place folder.old).created }
 {
     let step = steps.step(place)?;
-    line.clear();
-    write_step(place as u64 + 1, &step, line)?;
-    append(folder, name, line)
+    append_step(folder, name, place as u64 + 1, &step, line)
 }

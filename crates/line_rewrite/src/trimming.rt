@@ -2,6 +2,7 @@
 
 ghost use Rattle.std.specs.Prelude.{◌≡◌, ◌∷◌, ◌++◌, [], length, flat_map, IfOk, OnOk, Ok};
 ghost use Rattle.dcsp_outside.specs.Outside.{Place};
+ghost use Rattle.dcsp_script.specs.Outsides.{world};
 ghost use Rattle.dcsp_script.specs.Scripts.{Put, outside};
 ghost use Rattle.dcsp_script.specs.Ways.{Wrote};
 ghost use Rattle.ngd_log.specs.Logs.{AreWritable};
@@ -17,7 +18,7 @@ use abt_input::CommandError;
 use dcsp_common::push_number;
 use dcsp_outside::{Folder, Sink};
 use dcsp_problem::Problem;
-use dcsp_script::{Status, Stop, put};
+use dcsp_script::{Outside, Status, Stop, put};
 use line_check::{check_and_keep, finding_line, is_verified, take_problem};
 use ngd_check::{Finding, KeptSteps};
 use ngd_rewrite::{Core, core_of};
@@ -50,25 +51,21 @@ struct Refuted<'r, 'p> {
 /// has it; else an error is a fault or want of memory.
 pub fn run_core<F: Folder, S: Sink>(
     alloc: Global,
-    folder: &mut F,
+    outside: &mut Outside<F, S>,
     line: CoreLine<'_>,
-    out: &mut S,
 ) -> Result<Status, CommandError>
     ensures came { CameIn (core_promise (taking_of line.entry.better) line.entry.model.now line.entry.log.now line.entry.trimmed.now)
-        (outside (F.place folder.old) (S.stream out.old))
-        (outside (F.place folder.new) (S.stream out.new)) (way_of result) }
+        (world F.place S.stream outside.old) (world F.place S.stream outside.new) (way_of result) }
     ensures trims { result ≡ Ok Status.Good
         → HoldsCore (taking_of line.entry.better) line.entry.model.now line.entry.log.now line.entry.trimmed.now
-        (outside (F.place folder.old) (S.stream out.old))
-        (outside (F.place folder.new) (S.stream out.new)) }
+        (world F.place S.stream outside.old) (world F.place S.stream outside.new) }
     ensures rejects { result ≡ Ok Status.No
-        → CreatesNothing (outside (F.place folder.old) (S.stream out.old))
-        (outside (F.place folder.new) (S.stream out.new)) }
+        → CreatesNothing (world F.place S.stream outside.old) (world F.place S.stream outside.new) }
 {
-    let problem = take_problem(alloc, folder, line.model, line.better)?;
-    let checked = check_and_keep(alloc, folder, &problem, line.log)?;
+    let problem = take_problem(alloc, &mut outside.folder, line.model, line.better)?;
+    let checked = check_and_keep(alloc, &mut outside.folder, &problem, line.log)?;
     if !is_verified(checked.finding) {
-        reject(checked.finding, out)?;
+        reject(checked.finding, &mut outside.out)?;
         return Ok(Status::No);
     }
     let Ok(core) = core_of(alloc, &problem, &checked.steps) else {
@@ -79,7 +76,7 @@ pub fn run_core<F: Folder, S: Sink>(
         steps: &checked.steps,
         core: &core,
     };
-    write_core(alloc, folder, line.trimmed, refuted, out)?;
+    write_core(alloc, outside, line.trimmed, refuted)?;
     Ok(Status::Good)
 }
 
@@ -95,19 +92,23 @@ fn reject<S: Sink>(finding: Finding, out: &mut S) -> Result<(), Stop>
 /// Writes the trimmed steps under the name, and tells the core.
 fn write_core<F: Folder, S: Sink>(
     alloc: Global,
-    folder: &mut F,
+    outside: &mut Outside<F, S>,
     trimmed: &str,
     refuted: Refuted<'_, '_>,
-    out: &mut S,
 ) -> Result<(), Stop>
     requires { AreWritable refuted.core.now.steps }
     ensures { Wrote (core_script trimmed.now refuted.entry.problem.now refuted.entry.steps.now refuted.entry.core.now)
-        (outside (F.place folder.old) (S.stream out.old))
-        (outside (F.place folder.new) (S.stream out.new)) result }
+        (world F.place S.stream outside.old) (world F.place S.stream outside.new) result }
 {
-    write_steps(alloc, folder, trimmed, &refuted.core.steps)?;
+    write_steps(alloc, &mut outside.folder, trimmed, &refuted.core.steps)?;
     let rules = refuted.problem.rules() as u64;
-    tell(alloc, refuted.core, rules, refuted.steps.len() as u64, out)
+    tell(
+        alloc,
+        refuted.core,
+        rules,
+        refuted.steps.len() as u64,
+        &mut outside.out,
+    )
 }
 
 /// Puts what tells of the core on `out`, in one piece.

@@ -2,6 +2,7 @@
 
 ghost use Rattle.std.specs.Prelude.{◌≡◌, ◌∷◌, [], OnOk};
 ghost use Rattle.dcsp_outside.specs.Outside.{Place};
+ghost use Rattle.dcsp_script.specs.Outsides.{world};
 ghost use Rattle.dcsp_script.specs.Scripts.{Put, outside};
 ghost use Rattle.dcsp_script.specs.Ways.{Wrote};
 ghost use Rattle.dcsp_script.specs.Runs.{CameIn};
@@ -14,8 +15,7 @@ use crate::entries::write_upgraded;
 use crate::old_log::{OldLog, read_old_log};
 use abt_input::{AnswerLine, CommandError};
 use dcsp_outside::{Folder, Sink};
-use dcsp_script::{Status, Stop, put};
-use itoa::Buffer;
+use dcsp_script::{Outside, Status, Stop, put};
 use std::alloc::Global;
 
 /// Writes the log, which is of version 1, under the new name as one of version 2: its steps in order, and after each
@@ -23,36 +23,32 @@ use std::alloc::Global;
 /// many of them are deleted.
 pub fn run_upgrade<F: Folder, S: Sink>(
     alloc: Global,
-    folder: &mut F,
+    outside: &mut Outside<F, S>,
     log: &str,
     new: &str,
-    out: &mut S,
 ) -> Result<Status, CommandError>
     ensures came { CameIn (upgrade_promise log.now new.now)
-        (outside (F.place folder.old) (S.stream out.old))
-        (outside (F.place folder.new) (S.stream out.new)) (way_of result) }
-    ensures writes { OnOk result (HoldsUpgrade log.now new.now (F.place folder.old).held (F.place folder.new).held) }
+        (world F.place S.stream outside.old) (world F.place S.stream outside.new) (way_of result) }
+    ensures writes { OnOk result (HoldsUpgrade log.now new.now (F.place outside.old.folder).held (F.place outside.new.folder).held) }
 {
-    let old = read_old_log(alloc, folder, log)?;
-    upgrade(alloc, folder, &old, new, out)?;
+    let old = read_old_log(alloc, &mut outside.folder, log)?;
+    upgrade(alloc, outside, &old, new)?;
     Ok(Status::Good)
 }
 
 /// Writes the log's steps with their deletions under the name, and tells their counts.
 fn upgrade<F: Folder, S: Sink>(
     alloc: Global,
-    folder: &mut F,
+    outside: &mut Outside<F, S>,
     log: &OldLog,
     new: &str,
-    out: &mut S,
 ) -> Result<(), Stop>
     requires { IsOldLog log.now }
     ensures { Wrote (upgrade_script new.now (steps_of log.now))
-        (outside (F.place folder.old) (S.stream out.old))
-        (outside (F.place folder.new) (S.stream out.new)) result }
+        (world F.place S.stream outside.old) (world F.place S.stream outside.new) result }
 {
-    let deleted = write_upgraded(alloc, folder, new, log)?;
-    tell(log.endings.len() as u64, deleted, out)
+    let deleted = write_upgraded(alloc, &mut outside.folder, new, log)?;
+    tell(log.endings.len() as u64, deleted, &mut outside.out)
 }
 
 /// Puts the line that tells the counts on `out`, in one piece.
@@ -68,11 +64,9 @@ fn tell<S: Sink>(steps: u64, deleted: u64, out: &mut S) -> Result<(), Stop>
 fn counts_line(steps: u64, deleted: u64) -> AnswerLine
     ensures { result ≡ counts_text steps deleted }
 {
-    let mut count = Buffer::new();
-    let mut gone = Buffer::new();
     AnswerLine::of(b"upgraded steps ")
-        .with(count.format(steps).as_bytes())
+        .with_number(steps)
         .with(b" deleted ")
-        .with(gone.format(deleted).as_bytes())
+        .with_number(deleted)
         .with(b"\n")
 }

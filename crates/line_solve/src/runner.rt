@@ -4,7 +4,7 @@ ghost use Rattle.std.specs.Prelude.{◌≡◌, ◌≢◌, ◌<◌, ◌≤◌, �
 ghost use Rattle.dcsp_outside.specs.Outside.{Place, Stream};
 ghost use Rattle.dcsp_order.specs.Told.{Fits};
 ghost use Rattle.abt_session.specs.Ordering.{order_in, IsOrderedRightly};
-ghost use Rattle.dcsp_script.specs.Scripts.{outside};
+ghost use Rattle.dcsp_script.specs.Outsides.{world};
 ghost use Rattle.dcsp_script.specs.Ways.{Wrote};
 ghost use Rattle.law_runs.specs.Replay.{Verdicts};
 ghost use Rattle.abt_session.specs.Sessions.{run_of, run_script};
@@ -22,7 +22,7 @@ use abt_schedule::{ChoiceList, Seeded};
 use abt_session::{Ordered, Outcome, RunTask, run};
 use dcsp_outside::{Folder, Sink};
 use dcsp_problem::{Aim, Problem};
-use dcsp_script::Stop;
+use dcsp_script::{Outside, Stop};
 use line_replay::Solve;
 use std::alloc::Global;
 
@@ -68,20 +68,19 @@ impl<'p> SearchRunner<'p> {
         &mut self,
         model: Ordered<'w>,
         line: Solve<'w>,
-        folder: &mut F,
-        out: &mut S,
+        outside: &mut Outside<F, S>,
     ) -> Result<(), Stop>
         requires fresh { IsFresh model.problem.now line.options.halves self.old }
         requires few { line.options.choices ≤ 2 ^ 40 }
         requires model { IsOrderedRightly model }
         ensures wrote { let asked = search_of model.entry line.entry in
             Wrote (rounds_script asked (round_count asked))
-            (outside (F.place folder.old) (S.stream out.old)) (outside (F.place folder.new) (S.stream out.new)) result }
+            (world F.place S.stream outside.old) (world F.place S.stream outside.new) result }
         ensures made { let asked = search_of model.entry line.entry in
             OnOk result (HasMade asked (round_count asked) self.new) }
     {
         while !self.search.done() {
-            self.make_round(model, line, folder, out)?;
+            self.make_round(model, line, outside)?;
         }
         Ok(())
     }
@@ -92,8 +91,7 @@ impl<'p> SearchRunner<'p> {
         &mut self,
         model: Ordered<'w>,
         line: Solve<'w>,
-        folder: &mut F,
-        out: &mut S,
+        outside: &mut Outside<F, S>,
     ) -> Result<(), Stop>
         requires made { let asked = search_of model line in
             HasMade asked self.old.rounds self.old }
@@ -103,18 +101,23 @@ impl<'p> SearchRunner<'p> {
         requires model { IsOrderedRightly model }
         ensures wrote { let asked = search_of model.entry line.entry in
             Wrote (round_script asked self.old.rounds)
-            (outside (F.place folder.old) (S.stream out.old)) (outside (F.place folder.new) (S.stream out.new)) result }
+            (world F.place S.stream outside.old) (world F.place S.stream outside.new) result }
         ensures made { let asked = search_of model.entry line.entry in
             OnOk result (HasMade asked (self.old.rounds + 1) self.new) }
     {
-        put_round(self.alloc, line.options.trace, self.rounds + 1, out)?;
-        let outcome = self.run_next(model, line, folder, out)?;
+        put_round(
+            self.alloc,
+            line.options.trace,
+            self.rounds + 1,
+            &mut outside.out,
+        )?;
+        let outcome = self.run_next(model, line, outside)?;
         put_found(
             self.alloc,
             line.options.each,
             model.problem,
             &outcome.end,
-            out,
+            &mut outside.out,
         )?;
         self.count(outcome);
         Ok(())
@@ -125,8 +128,7 @@ impl<'p> SearchRunner<'p> {
         &self,
         model: Ordered<'w>,
         line: Solve<'w>,
-        folder: &mut F,
-        out: &mut S,
+        outside: &mut Outside<F, S>,
     ) -> Result<Outcome, Stop>
         requires goes_on { is_done self.now.search.problem.aim self.now.search.rounds ≡ false }
         requires few { self.now.rounds < 2 ^ 20 }
@@ -135,14 +137,14 @@ impl<'p> SearchRunner<'p> {
         requires model { IsOrderedRightly model }
         requires choices { line.options.choices ≤ 2 ^ 40 }
         ensures wrote { let s = next_session (search_of model.entry line.entry) self.now.search in
-            Wrote (run_script s) (outside (F.place folder.old) (S.stream out.old)) (outside (F.place folder.new) (S.stream out.new)) result }
+            Wrote (run_script s) (world F.place S.stream outside.old) (world F.place S.stream outside.new) result }
         ensures tells { let asked = search_of model.entry line.entry in
             IfOk result (Tells (next_session asked self.now.search)) }
         ensures numbers { let asked = search_of model.entry line.entry in
             IfOk result (λ outcome. outcome.numbers ≡ kept (is_some asked.set.record_file && self.now.rounds == 0) (run_of (next_session asked self.now.search)).numbers) }
     {
         match self.search.better() {
-            None => self.run_on(model, line, folder, out),
+            None => self.run_on(model, line, outside),
             Some(better) => {
                 let Ok(narrowed) = model.problem.narrowed(better) else {
                     return Err(Stop::Memory);
@@ -151,7 +153,7 @@ impl<'p> SearchRunner<'p> {
                     problem: &narrowed,
                     order: model.order,
                 };
-                self.run_on(next, line, folder, out)
+                self.run_on(next, line, outside)
             }
         }
     }
@@ -161,14 +163,13 @@ impl<'p> SearchRunner<'p> {
         &self,
         model: Ordered<'w>,
         line: Solve<'w>,
-        folder: &mut F,
-        out: &mut S,
+        outside: &mut Outside<F, S>,
     ) -> Result<Outcome, Stop>
         requires choices { line.options.choices ≤ 2 ^ 40 }
         requires few { self.now.rounds < 2 ^ 20 }
         requires fits { Fits (order_in model) model.problem.now }
         ensures wrote { Wrote (run_script (round_of model.entry line.entry (self.now.rounds + 1)))
-            (outside (F.place folder.old) (S.stream out.old)) (outside (F.place folder.new) (S.stream out.new)) result }
+            (world F.place S.stream outside.old) (world F.place S.stream outside.new) result }
         ensures tells { IfOk result (Tells (round_of model.entry line.entry (self.now.rounds + 1))) }
         ensures numbers { let s = round_of model.entry line.entry (self.now.rounds + 1) in
             IfOk result (λ outcome. outcome.numbers ≡ kept (is_some line.entry.options.record_file && self.now.rounds == 0) (run_of s).numbers) }
@@ -181,7 +182,7 @@ impl<'p> SearchRunner<'p> {
             telling: line.options.telling(Some(self.rounds + 1)),
             keep: self.keeps(line.options.record_file),
         };
-        run(self.alloc, task, &mut choices, folder, out)
+        run(self.alloc, task, &mut choices, outside)
     }
 
     /// Whether the numbers of the round that follows are taken down: of the first alone, where a record is asked for.

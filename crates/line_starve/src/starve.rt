@@ -2,6 +2,7 @@
 
 ghost use Rattle.std.specs.Prelude.{◌≡◌, ◌≤◌, ◌∷◌, [], length, IfOk, OnOk, None, option_copied};
 ghost use Rattle.dcsp_outside.specs.Outside.{Place, Stream};
+ghost use Rattle.dcsp_script.specs.Outsides.{world};
 ghost use Rattle.dcsp_script.specs.Scripts.{Create, Append, Put, outside};
 ghost use Rattle.dcsp_script.specs.Ways.{Wrote};
 ghost use Rattle.abt_schedule.specs.Schedules.{schedule_text};
@@ -22,7 +23,7 @@ use abt_schedule::{ChoiceList, write_schedule};
 use abt_session::{End, Starved, StarvingRun, starve};
 use dcsp_order::{Order, moved};
 use dcsp_outside::{Folder, Sink};
-use dcsp_script::{Status, Stop, append, create, put};
+use dcsp_script::{Outside, Status, Stop, append, create, put};
 use std::alloc::Global;
 
 /// The most deliveries of a run that starves a link.
@@ -47,22 +48,20 @@ pub struct Starve<'w> {
 /// starved, writes the choices of the run as a schedule, and tells how the run ended and how many deliveries it made.
 pub fn run_starve<F: Folder, S: Sink>(
     alloc: Global,
-    folder: &mut F,
+    outside: &mut Outside<F, S>,
     line: Starve<'_>,
-    out: &mut S,
 ) -> Result<Status, CommandError>
     requires from { 1 ≤ line.from }
     requires to { 1 ≤ line.to }
     ensures came { CameIn (starve_promise line.entry.model.now line.entry.from line.entry.to line.entry.file.now (option_copied line.entry.order_file))
-        (outside (F.place folder.old) (S.stream out.old))
-        (outside (F.place folder.new) (S.stream out.new)) (way_of result) }
+        (world F.place S.stream outside.old) (world F.place S.stream outside.new) (way_of result) }
     ensures writes { OnOk result (HoldsStarved line.entry.model.now line.entry.from line.entry.to line.entry.file.now (option_copied line.entry.order_file)
-        (F.place folder.old).held (F.place folder.new).held) }
+        (F.place outside.old.folder).held (F.place outside.new.folder).held) }
     ensures tells { OnOk result (TellsStarved line.entry.model.now line.entry.from line.entry.to (option_copied line.entry.order_file)
-        (F.place folder.old).held (S.stream out.old).written (S.stream out.new).written) }
+        (F.place outside.old.folder).held (S.stream outside.old.out).written (S.stream outside.new.out).written) }
 {
-    let problem = read_model(alloc, folder, line.model)?;
-    let read = read_order_of(alloc, folder, line.order_file, &problem)?;
+    let problem = read_model(alloc, &mut outside.folder, line.model)?;
+    let read = read_order_of(alloc, &mut outside.folder, line.order_file, &problem)?;
     let order = read.as_ref();
     let Ok(moved) = moved(alloc, order, &problem) else {
         return Err(CommandError::Memory);
@@ -73,7 +72,7 @@ pub fn run_starve<F: Folder, S: Sink>(
         to: place_of(order, line.to - 1),
         most: MOST_STARVED,
     };
-    run_starved(alloc, run, folder, line.file, out)?;
+    run_starved(alloc, run, outside, line.file)?;
     Ok(Status::Good)
 }
 
@@ -104,13 +103,12 @@ fn place_under(order: &Order, number: u32) -> u32
 fn run_starved<F: Folder, S: Sink>(
     alloc: Global,
     run: StarvingRun<'_>,
-    folder: &mut F,
+    outside: &mut Outside<F, S>,
     file: &str,
-    out: &mut S,
 ) -> Result<(), Stop>
     requires most { run.most ≤ most_starved }
     ensures wrote { Wrote (starve_script file.now (its_choices run.entry) (run_of run.entry))
-        (outside (F.place folder.old) (S.stream out.old)) (outside (F.place folder.new) (S.stream out.new)) result }
+        (world F.place S.stream outside.old) (world F.place S.stream outside.new) result }
     ensures schedule { OnOk result (HasChoices (schedule_text (its_choices run.entry)) (its_choices run.entry)) }
     ensures replayed { OnOk result (IsReplayed None run.entry.problem.now run.entry.from run.entry.to run.entry.most) }
     ensures bound { OnOk result ((run_of run.entry).net.deliveries ≤ message_bound (csp_of run.entry.problem.now)) }
@@ -119,8 +117,8 @@ fn run_starved<F: Folder, S: Sink>(
     let Ok(told) = starve(alloc, run, &mut taken) else {
         return Err(Stop::Memory);
     };
-    write_choices(alloc, folder, file, taken.choices())?;
-    tell(told, out)
+    write_choices(alloc, &mut outside.folder, file, taken.choices())?;
+    tell(told, &mut outside.out)
 }
 
 /// Writes the schedule of the choices under the name.

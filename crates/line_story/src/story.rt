@@ -2,7 +2,7 @@
 
 ghost use Rattle.std.specs.Prelude.{◌≡◌, IfOk, OnOk, option_copied};
 ghost use Rattle.dcsp_outside.specs.Outside.{Place, Stream};
-ghost use Rattle.dcsp_script.specs.Scripts.{outside};
+ghost use Rattle.dcsp_script.specs.Outsides.{world};
 ghost use Rattle.dcsp_script.specs.Ways.{Wrote};
 ghost use Rattle.dcsp_defs.specs.Csp.{IsCsp};
 ghost use Rattle.dcsp_rule.specs.Problems.{csp_of};
@@ -21,7 +21,7 @@ use abt_session::{MOST_DELIVERIES, Ordered};
 use dcsp_order::{Order, moved};
 use dcsp_outside::{Folder, Sink};
 use dcsp_problem::Problem;
-use dcsp_script::{Status, Stop};
+use dcsp_script::{Outside, Status, Stop};
 use ngd_check::problems_are_small;
 use std::alloc::Global;
 
@@ -42,26 +42,24 @@ pub struct Story<'w> {
 /// happens in each event as the event is made, and tells how the run ended and how many deliveries it made.
 pub fn run_story<F: Folder, S: Sink>(
     alloc: Global,
-    folder: &mut F,
+    outside: &mut Outside<F, S>,
     line: Story<'_>,
-    out: &mut S,
 ) -> Result<Status, CommandError>
     ensures came { CameIn (story_promise line.entry.model.now (option_copied line.entry.order_file) line.entry.schedule.now line.entry.file.now)
-        (outside (F.place folder.old) (S.stream out.old))
-        (outside (F.place folder.new) (S.stream out.new)) (way_of result) }
+        (world F.place S.stream outside.old) (world F.place S.stream outside.new) (way_of result) }
     ensures writes { OnOk result (HoldsStory line.entry.model.now (option_copied line.entry.order_file) line.entry.schedule.now line.entry.file.now
-        (F.place folder.old).held (F.place folder.new).held) }
+        (F.place outside.old.folder).held (F.place outside.new.folder).held) }
 {
-    let problem = read_model(alloc, folder, line.model)?;
-    let order = read_order_of(alloc, folder, line.order_file, &problem)?;
-    let choices = read_choices(alloc, folder, line.schedule)?;
+    let problem = read_model(alloc, &mut outside.folder, line.model)?;
+    let order = read_order_of(alloc, &mut outside.folder, line.order_file, &problem)?;
+    let choices = read_choices(alloc, &mut outside.folder, line.schedule)?;
     let order = order.as_ref();
     let task = Task {
         problem: &problem,
         order,
         file: line.file,
     };
-    let status = write_story(alloc, task, choices, folder, out)?;
+    let status = write_story(alloc, task, choices, outside)?;
     Ok(status)
 }
 
@@ -81,12 +79,11 @@ fn write_story<F: Folder, S: Sink>(
     alloc: Global,
     task: Task<'_, '_, '_>,
     choices: Listed,
-    folder: &mut F,
-    out: &mut S,
+    outside: &mut Outside<F, S>,
 ) -> Result<Status, Stop>
     requires { Fits (option_copied task.order) task.problem.now }
     ensures wrote { let order = option_copied task.entry.order in Wrote (story_script order (ordered order task.entry.problem.now) choices task.entry.file.now)
-        (outside (F.place folder.old) (S.stream out.old)) (outside (F.place folder.new) (S.stream out.new)) result }
+        (world F.place S.stream outside.old) (world F.place S.stream outside.new) result }
     ensures status { IfOk result (λ status. status ≡ status_at (told_end (csp_of (ordered (option_copied task.entry.order) task.entry.problem.now)) choices)) }
     ensures csp { IfOk result (λ status. IsCsp (csp_of (ordered (option_copied task.entry.order) task.entry.problem.now))) }
     ensures small { IfOk result (λ status. IsSmall (csp_of (ordered (option_copied task.entry.order) task.entry.problem.now))) }
@@ -112,9 +109,9 @@ fn write_story<F: Folder, S: Sink>(
         file: task.file,
         text: Vec::new(alloc),
     };
-    teller.begin(folder)?;
-    teller.deliver_all(&mut choices, MOST_DELIVERIES, folder)?;
-    teller.end(folder)?;
-    teller.answer(out)?;
+    teller.begin(&mut outside.folder)?;
+    teller.deliver_all(&mut choices, MOST_DELIVERIES, &mut outside.folder)?;
+    teller.end(&mut outside.folder)?;
+    teller.answer(&mut outside.out)?;
     Ok(teller.status())
 }

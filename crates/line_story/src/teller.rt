@@ -20,7 +20,6 @@ use abt_session::Ordered;
 use abt_story::{tell_delivery, tell_start};
 use dcsp_outside::{Folder, Sink};
 use dcsp_script::{Status, Stop, append, create, put};
-use itoa::Buffer;
 use std::alloc::Global;
 
 /// A run that is told as it is made.
@@ -160,11 +159,10 @@ fn end_line(end: Standing) -> AnswerLine
 fn story_line(end: Standing, deliveries: u64) -> AnswerLine
     ensures { result ≡ story_line end deliveries }
 {
-    let mut digits = Buffer::new();
     AnswerLine::of(b"story ")
         .with(end_word(end))
         .with(b" deliveries ")
-        .with(digits.format(deliveries).as_bytes())
+        .with_number(deliveries)
         .with(b"\n")
 }
 

@@ -7,6 +7,7 @@ use dcsp_outside::{MemoryFolder, MemorySink};
 use dcsp_problem::{
     ConstraintKind, Domain, IntList, Members, Problem, ProblemBuilder, Rule, Term, TermList,
 };
+use dcsp_script::Outside;
 use ngd_log::{Derivation, read_log};
 use std::alloc::Global;
 use std::process::Abort;
@@ -76,37 +77,38 @@ pub fn smallest(rt: &impl Abort, alloc: Global) -> Problem
     builder.finish().expect(rt, "memory")
 }
 
-/// A folder and a stream.
+/// A folder and a stream in memory, which a trial looks at afterwards.
 #[derive(Drop)]
-pub struct Outside {
-    pub folder: MemoryFolder,
-    pub out: MemorySink,
+pub struct Looked {
+    pub at: Outside<MemoryFolder, MemorySink>,
 }
 
-impl Outside {
+impl Looked {
     /// A folder with this file, and a stream. Calls of either with these numbers fail.
     pub fn with_file(
         rt: &impl Abort,
         alloc: Global,
         (name, bytes): (&str, &[u8]),
         (folder_call, out_call): (u64, u64),
-    ) -> Outside {
+    ) -> Looked {
         let mut folder = MemoryFolder::new(alloc);
         folder.place(name, bytes).expect(rt, "memory");
         folder.fail_at(folder_call).expect(rt, "memory");
         let mut out = MemorySink::new(alloc);
         out.fail_at(out_call).expect(rt, "memory");
-        Outside { folder, out }
+        Looked {
+            at: Outside { folder, out },
+        }
     }
 
     /// The file has these bytes, if it is there.
     pub fn expect_file(&self, rt: &impl Abort, name: &str, bytes: Option<&[u8]>) {
-        assert_eq!(rt; self.folder.file(name), bytes);
+        assert_eq!(rt; self.at.folder.file(name), bytes);
     }
 
     /// This was put.
     pub fn expect_told(&self, rt: &impl Abort, bytes: &[u8]) {
-        assert_eq!(rt; self.out.bytes(), bytes);
+        assert_eq!(rt; self.at.out.bytes(), bytes);
     }
 
     /// Lets both go.

@@ -1,9 +1,9 @@
 //! Upgrades and cores, over a folder in memory.
 
-use crate::given::Outside;
+use crate::given::Looked;
 use abt_input::CommandError;
 use dcsp_outside::{MemoryFolder, MemorySink};
-use dcsp_script::Status;
+use dcsp_script::{Outside, Status};
 use line_rewrite::{CoreLine, run_core, run_upgrade};
 use std::alloc::Global;
 use std::process::Abort;
@@ -98,18 +98,17 @@ const CASES: [Case; 8] = [
 /// What comes of upgrading a log.
 fn upgraded(
     alloc: Global,
-    folder: &mut MemoryFolder,
-    out: &mut MemorySink,
+    outside: &mut Outside<MemoryFolder, MemorySink>,
 ) -> Result<Status, CommandError> {
-    run_upgrade(alloc, folder, "old.ngd", "new.ngd", out)
+    run_upgrade(alloc, outside, "old.ngd", "new.ngd")
 }
 
 impl Case {
     /// The upgrade comes to this.
     fn expect(&self, rt: &impl Abort, alloc: Global) {
         let failing = (self.folder, self.out);
-        let mut outside = Outside::with_file(rt, alloc, ("old.ngd", self.log), failing);
-        let came = upgraded(alloc, &mut outside.folder, &mut outside.out);
+        let mut outside = Looked::with_file(rt, alloc, ("old.ngd", self.log), failing);
+        let came = upgraded(alloc, &mut outside.at);
         assert!(rt; came == self.came);
         outside.expect_file(rt, "new.ngd", self.new);
         outside.expect_told(rt, self.told);
@@ -140,8 +139,7 @@ const LEAST_MODEL: &[u8] =
 fn trimmed(
     alloc: Global,
     better: Option<i64>,
-    folder: &mut MemoryFolder,
-    out: &mut MemorySink,
+    outside: &mut Outside<MemoryFolder, MemorySink>,
 ) -> Result<Status, CommandError> {
     let line = CoreLine {
         model: "a.fzn",
@@ -149,7 +147,7 @@ fn trimmed(
         trimmed: "new.ngd",
         better,
     };
-    run_core(alloc, folder, line, out)
+    run_core(alloc, outside, line)
 }
 
 /// Trimming a log of the model comes to this, with this new log and this on `out`.
@@ -161,9 +159,9 @@ fn expect_trimmed(
     new: Option<&[u8]>,
     told: &[u8],
 ) {
-    let mut outside = Outside::with_file(rt, alloc, ("a.fzn", model), (0, 0));
-    outside.folder.place("old.ngd", log).expect(rt, "memory");
-    let came = trimmed(alloc, better, &mut outside.folder, &mut outside.out);
+    let mut outside = Looked::with_file(rt, alloc, ("a.fzn", model), (0, 0));
+    outside.at.folder.place("old.ngd", log).expect(rt, "memory");
+    let came = trimmed(alloc, better, &mut outside.at);
     assert!(rt; came == expected);
     outside.expect_file(rt, "new.ngd", new);
     outside.expect_told(rt, told);

@@ -1,10 +1,10 @@
 //! Bounds and generated models, over a folder in memory.
 
-use crate::given::Outside;
+use crate::given::Looked;
 use abt_input::CommandError;
 use dcsp_gen::{pigeons, queens};
 use dcsp_outside::{MemoryFolder, MemorySink};
-use dcsp_script::Status;
+use dcsp_script::{Outside, Status};
 use line_model::{Bound, run_bound, run_colouring, run_queens};
 use std::alloc::Global;
 use std::process::Abort;
@@ -69,14 +69,13 @@ const CASES: [Case; 5] = [
 /// What comes of telling a bound.
 fn bound(
     alloc: Global,
-    folder: &mut MemoryFolder,
-    out: &mut MemorySink,
+    outside: &mut Outside<MemoryFolder, MemorySink>,
 ) -> Result<Status, CommandError> {
     let line = Bound {
         model: "m.fzn",
         order_file: None,
     };
-    run_bound(alloc, folder, line, out)
+    run_bound(alloc, outside, line)
 }
 
 /// Telling the bound of this model comes to this, where these calls of the folder and of `out` fail.
@@ -88,8 +87,8 @@ fn expect_bound(
     came: Result<Status, CommandError>,
     told: &[u8],
 ) {
-    let mut outside = Outside::with_file(rt, alloc, ("m.fzn", model), failing);
-    assert!(rt; bound(alloc, &mut outside.folder, &mut outside.out) == came);
+    let mut outside = Looked::with_file(rt, alloc, ("m.fzn", model), failing);
+    assert!(rt; bound(alloc, &mut outside.at) == came);
     outside.expect_told(rt, told);
     outside.end();
 }

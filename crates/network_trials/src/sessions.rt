@@ -9,23 +9,25 @@ use abt_session::{
 };
 use dcsp_outside::{MemoryFolder, MemorySink};
 use dcsp_problem::Problem;
+use dcsp_script::Outside;
 use std::alloc::Global;
 use std::process::Abort;
 
-/// What a run is given and leaves: the folder with its log, and what it tells.
+/// What a run is given and leaves, which a trial looks at: the folder with its log, and what it tells.
 #[derive(Drop)]
-struct Outside {
-    folder: MemoryFolder,
-    out: MemorySink,
+struct Looked {
+    at: Outside<MemoryFolder, MemorySink>,
 }
 
-impl Outside {
+impl Looked {
     /// A folder with a log from before. Calls of the folder and of `out` with these numbers fail, where they
     /// are not 0.
-    fn new(rt: &impl Abort, alloc: Global, folder: u64, out: u64) -> Outside {
-        Outside {
-            folder: folder_before(rt, alloc, folder),
-            out: sink_failing_at(rt, alloc, out),
+    fn new(rt: &impl Abort, alloc: Global, folder: u64, out: u64) -> Looked {
+        Looked {
+            at: Outside {
+                folder: folder_before(rt, alloc, folder),
+                out: sink_failing_at(rt, alloc, out),
+            },
         }
     }
 
@@ -64,14 +66,14 @@ impl Outside {
             telling: Telling::traced(trace),
             keep: true,
         };
-        run(alloc, task, choices, &mut self.folder, &mut self.out)
+        run(alloc, task, choices, &mut self.at)
     }
 
     /// Lets these go.
     fn end(self) {}
 
     fn expect_log(&self, rt: &impl Abort, log: &[u8]) {
-        assert!(rt; self.folder.file("log").unwrap_or(&[]) == log);
+        assert!(rt; self.at.folder.file("log").unwrap_or(&[]) == log);
     }
 }
 
@@ -110,12 +112,12 @@ fn expect_capped(rt: &impl Abort, outcome: Outcome, deliveries: u64, steps: u64)
 fn a_refuted_run(rt: HostRuntime) {
     let alloc = rt.alloc();
     let problem = torn(&rt, alloc);
-    let mut outside = Outside::new(&rt, alloc, 0, 0);
+    let mut outside = Looked::new(&rt, alloc, 0, 0);
     let ended = outside.run(&rt, alloc, &problem, Seeded::new(1), 4, false);
     expect_refuted(&rt, ended.expect(&rt, "no write fails"), 4, 3);
     let log = b"ngd 1\n1 v2 [v1=0] <- c1 c2\n2 v2 [v1=1] <- c2 c1\n3 v1 [] <- n1 n2\nend\n";
     outside.expect_log(&rt, log);
-    assert!(rt; outside.out.bytes().is_empty());
+    assert!(rt; outside.at.out.bytes().is_empty());
     outside.end();
     let_go(problem);
 }
@@ -124,7 +126,7 @@ fn a_refuted_run(rt: HostRuntime) {
 fn a_capped_run(rt: HostRuntime) {
     let alloc = rt.alloc();
     let problem = torn(&rt, alloc);
-    let mut outside = Outside::new(&rt, alloc, 0, 0);
+    let mut outside = Looked::new(&rt, alloc, 0, 0);
     let ended = outside.run(&rt, alloc, &problem, Seeded::new(1), 3, false);
     expect_capped(&rt, ended.expect(&rt, "no write fails"), 3, 2);
     let log = b"ngd 1\n1 v2 [v1=0] <- c1 c2\n2 v2 [v1=1] <- c2 c1\nend\n";
@@ -264,14 +266,14 @@ impl Case {
     }
 
     /// What the run leaves is what the case says.
-    fn expect_left(&self, rt: &impl Abort, outside: &Outside) {
+    fn expect_left(&self, rt: &impl Abort, outside: &Looked) {
         outside.expect_log(rt, self.log);
-        assert!(rt; outside.out.bytes() == TRACE.get(..self.told).expect(rt, "a part"));
+        assert!(rt; outside.at.out.bytes() == TRACE.get(..self.told).expect(rt, "a part"));
     }
 
     /// The run does what the case says.
     fn expect(&self, rt: &impl Abort, alloc: Global, problem: &Problem) {
-        let mut outside = Outside::new(rt, alloc, self.folder, self.out);
+        let mut outside = Looked::new(rt, alloc, self.folder, self.out);
         let choices = read_schedule(alloc, NAUGHTS).expect(rt, "a schedule");
         let ended = outside.run(rt, alloc, problem, choices, self.most, true);
         self.expect_end(rt, ended);

@@ -1,64 +1,59 @@
 //! A log that is written bit by bit, over a folder in memory.
 
 ghost use Rattle.std.specs.Prelude.{[], ◌∷◌, ◌++◌, codes, flat_map, Contains};
-ghost use Rattle.dcsp_script.specs.Scripts.{Create, Append, Put, outside};
+ghost use Rattle.dcsp_script.specs.Outsides.{world};
+ghost use Rattle.dcsp_script.specs.Scripts.{Create, Append, Put};
 ghost use Rattle.dcsp_script.specs.Ways.{Wrote};
 
 use dcsp_outside::{Folder, MemoryFolder, MemorySink, Sink};
-use dcsp_script::{Stop, append, create, put};
+use dcsp_script::{Outside, Stop, append, create, put};
 use std::alloc::Global;
 use std::process::Abort;
 
 /// Adds the note to the log, and then puts it on `out`.
 fn write_note<F: Folder, S: Sink>(
-    folder: &mut F,
-    out: &mut S,
+    outside: &mut Outside<F, S>,
     log: &str,
     note: &[u8],
 ) -> Result<(), Stop>
-    requires { Contains (F.place folder.old).created log.now }
+    requires { Contains (F.place outside.old.folder).created log.now }
     ensures { Wrote (Append log.now note.now ∷ Put note.now ∷ [])
-        (outside (F.place folder.old) (S.stream out.old))
-        (outside (F.place folder.new) (S.stream out.new)) result }
+        (world F.place S.stream outside.old) (world F.place S.stream outside.new) result }
 {
-    append(folder, log, note)?;
-    put(out, note)
+    append(&mut outside.folder, log, note)?;
+    put(&mut outside.out, note)
 }
 
 /// Writes each note, and then the log's end.
 fn write_notes<F: Folder, S: Sink>(
-    folder: &mut F,
-    out: &mut S,
+    outside: &mut Outside<F, S>,
     log: &str,
     notes: &[Vec<u8>],
 ) -> Result<(), Stop>
-    requires { Contains (F.place folder.old).created log.now }
+    requires { Contains (F.place outside.old.folder).created log.now }
     ensures { Wrote (flat_map (λ note. Append log.now note.items ∷ Put note.items ∷ []) notes.now
         ++ Append log.now (codes "end\n") ∷ [])
-        (outside (F.place folder.old) (S.stream out.old))
-        (outside (F.place folder.new) (S.stream out.new)) result }
+        (world F.place S.stream outside.old) (world F.place S.stream outside.new) result }
 {
     for note in notes {
-        write_note(folder, out, log, note)?;
+        write_note(outside, log, note)?;
     }
-    append(folder, log, b"end\n")
+    append(&mut outside.folder, log, b"end\n")
 }
 
 /// Creates the log, writes the notes, and answers.
 fn write_log<F: Folder, S: Sink>(
-    folder: &mut F,
-    out: &mut S,
+    outside: &mut Outside<F, S>,
     log: &str,
     notes: &[Vec<u8>],
 ) -> Result<(), Stop>
     ensures { Wrote (Create log.now ∷ ((flat_map (λ note. Append log.now note.items ∷ Put note.items ∷ []) notes.now
         ++ Append log.now (codes "end\n") ∷ []) ++ Put (codes "done\n") ∷ []))
-        (outside (F.place folder.old) (S.stream out.old))
-        (outside (F.place folder.new) (S.stream out.new)) result }
+        (world F.place S.stream outside.old) (world F.place S.stream outside.new) result }
 {
-    create(folder, log)?;
-    write_notes(folder, out, log, notes)?;
-    put(out, b"done\n")
+    create(&mut outside.folder, log)?;
+    write_notes(outside, log, notes)?;
+    put(&mut outside.out, b"done\n")
 }
 
 /// Which calls of the folder and of `out` fail, and what is left.
@@ -79,25 +74,29 @@ fn folder_failing(rt: &impl Abort, alloc: Global, call: u64) -> MemoryFolder {
     folder
 }
 
+/// A folder with a log from before, and a stream.
+type Memory = Outside<MemoryFolder, MemorySink>;
+
 /// What comes of writing the log.
-fn written(folder: &mut MemoryFolder, out: &mut MemorySink, notes: &[Vec<u8>]) -> Result<(), Stop> {
-    write_log(folder, out, "log", notes)
+fn written(outside: &mut Memory, notes: &[Vec<u8>]) -> Result<(), Stop> {
+    write_log(outside, "log", notes)
 }
 
 impl Case {
     /// The log is written as the case says.
     fn expect(&self, rt: &impl Abort, alloc: Global, notes: &[Vec<u8>]) {
-        let mut folder = folder_failing(rt, alloc, self.folder);
+        let folder = folder_failing(rt, alloc, self.folder);
         let mut out = MemorySink::new(alloc);
         out.fail_at(self.out).expect(rt, "memory");
-        assert!(rt; written(&mut folder, &mut out, notes) == self.came);
-        self.expect_left(rt, folder, out);
+        let mut outside = Outside { folder, out };
+        assert!(rt; written(&mut outside, notes) == self.came);
+        self.expect_left(rt, outside);
     }
 
     /// The log and `out` are as the case says.
-    fn expect_left(&self, rt: &impl Abort, folder: MemoryFolder, out: MemorySink) {
-        assert_eq!(rt; folder.file("log").unwrap_or(&[]), self.log);
-        assert_eq!(rt; out.bytes(), self.told);
+    fn expect_left(&self, rt: &impl Abort, outside: Memory) {
+        assert_eq!(rt; outside.folder.file("log").unwrap_or(&[]), self.log);
+        assert_eq!(rt; outside.out.bytes(), self.told);
     }
 }
 

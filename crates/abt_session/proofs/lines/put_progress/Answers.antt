@@ -1,6 +1,7 @@
 use Rattle.std.proofs.Common.{◌∙◌, sym}
 use Rattle.abt_session.specs.Traces.{progress_line, tells_progress}
-use Rattle.abt_session.proofs.Pieces.{line_put, memory_told, put_where}
+use Rattle.dcsp_script.proofs.StepLines.{memory_told}
+use Rattle.abt_session.proofs.Pieces.{line_put, put_where}
 use Rattle.abt_session.proofs.lines.put_progress.Goals as goal
 
 pub returns-in_err-push_progress : goal.returns-in_err-push_progress

@@ -1,6 +1,7 @@
 use Rattle.abt_network.specs.Standing.{delivery_of}
 use Rattle.abt_session.specs.Traces.{trace_line}
-use Rattle.abt_session.proofs.Pieces.{is_asked, line_put, memory_told, put_where}
+use Rattle.dcsp_script.proofs.StepLines.{memory_told}
+use Rattle.abt_session.proofs.Pieces.{is_asked, line_put, put_where}
 use Rattle.abt_session.proofs.lines.put_trace.Goals as goal
 
 pub returns-in_err-push_line : goal.returns-in_err-push_line

@@ -34,4 +34,4 @@ returns-clause-came g c =
 pub returns-clause-verified : goal.returns-clause-verified
 returns-clause-verified g c = λ e.
     let finding = good_verified c.in_ok-finding.finding (sym c.finding_status.ensures ∙ (let f = e in cc)) in
-    refuted (taking_of c.args.line.better) (settled c.args.line.better).one (g.F.Folder.place c.args.folder.now).held c.args.line.model.now c.in_ok-problem.problem (read_held c.in_ok-problem.ensures) (c.in_ok-finding.ensures.sound (ap Ok finding))
+    refuted (taking_of c.args.line.better) (settled c.args.line.better).one (g.F.Folder.place c.args.outside.now.folder).held c.args.line.model.now c.in_ok-problem.problem (read_held c.in_ok-problem.ensures) (c.in_ok-finding.ensures.sound (ap Ok finding))

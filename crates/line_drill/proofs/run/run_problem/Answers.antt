@@ -8,4 +8,4 @@ use Rattle.line_drill.proofs.run.run_problem.Goals as goal
 pub returns-in-Ok-clause-log : goal.returns-in-Ok-clause-log
 returns-in-Ok-clause-log c =
     let s = seeded_session None c.args.problem.now c.args.seed log_name false in
-    (rw c.nothing.ensures at (rw c.new-choices.ensures at c.in-Ok.ensures.wrote)).ended.after.files log_name ∙ log_whole s (map.get c.args.folder.now.files log_name)
+    (rw c.nothing.ensures at (rw c.new-choices.ensures at c.in-Ok.ensures.wrote)).ended.after.files log_name ∙ log_whole s (map.get c.args.outside.now.folder.files log_name)

@@ -130,7 +130,7 @@ returns-clause-exports g c = λ good unlike.
     let k = c.in_ok-checked.ensures in
     let log = read_held k in
     let refutes = found_refutes p log.0 checked log.2 verified in
-    let before = g.F.Folder.place c.args.folder.now in
+    let before = g.F.Folder.place c.args.outside.now.folder in
     let mid = g.F.Folder.place c.take_problem.new.folder in
     let after = g.F.Folder.place c.check_and_keep.new.folder in
     told_export l.better l.model.now l.log.now l.cnf.now l.proof.now l.atoms before.held mid.held p checked _ _ verified m.held (read_held m) log

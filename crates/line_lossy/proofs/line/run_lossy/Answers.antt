@@ -49,12 +49,12 @@ returns-clause-came g c =
     kept plan sound (came_read c.in_ok-problem.ensures (came_ordered next _ under (came_answer_with _ c.in_ok-status.ensures.status c.in_ok-status.ensures.wrote)))
 
 pub returns-clause-sound : goal.returns-clause-sound
-returns-clause-sound g c = holds_problem (g.F.Folder.place c.args.folder.now).held c.args.line.model.now c.in_ok-problem.problem (read_held c.in_ok-problem.ensures) c.denotes_csp.ensures.csp c.problems_are_small.ensures
+returns-clause-sound g c = holds_problem (g.F.Folder.place c.args.outside.now.folder).held c.args.line.model.now c.in_ok-problem.problem (read_held c.in_ok-problem.ensures) c.denotes_csp.ensures.csp c.problems_are_small.ensures
 
 pub returns-clause-run : goal.returns-clause-run
 returns-clause-run g c =
     let l = c.args.line in
     let p = c.in_ok-problem.problem in
     let under = order_is c.as_ref.ensures.value c.in_ok-order.ensures.read in
-    holds_run (g.F.Folder.place c.args.folder.now).held l.model.now (option_copied l.order_file) l.events l.seed l.log.now _ p (option_copied c.as_ref.result) (read_held c.in_ok-problem.ensures) (order_as _ p _ c.in_ok-problem.ensures.held (held_order under)) c.denotes_csp.ensures.problem
+    holds_run (g.F.Folder.place c.args.outside.now.folder).held l.model.now (option_copied l.order_file) l.events l.seed l.log.now _ p (option_copied c.as_ref.result) (read_held c.in_ok-problem.ensures) (order_as _ p _ c.in_ok-problem.ensures.held (held_order under)) c.denotes_csp.ensures.problem
     c.lossy_runs_are_right.ensures c.in_ok-status.status c.in_ok-status.ensures.status

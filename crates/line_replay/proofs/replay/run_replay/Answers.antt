@@ -45,4 +45,4 @@ returns-clause-came g c =
     (came_read c.in_ok-choices.ensures (came_answer_with _ (rw same at c.in_ok-status.ensures.status) (rw same at c.in_ok-status.ensures.wrote)))))
 
 pub returns-clause-sound : goal.returns-clause-sound
-returns-clause-sound g c = holds_problem (g.F.Folder.place c.args.folder.now).held c.args.line.model.now c.in_ok-problem.problem (read_held c.in_ok-problem.ensures) c.denotes_csp.ensures.csp c.problems_are_small.ensures
+returns-clause-sound g c = holds_problem (g.F.Folder.place c.args.outside.now.folder).held c.args.line.model.now c.in_ok-problem.problem (read_held c.in_ok-problem.ensures) c.denotes_csp.ensures.csp c.problems_are_small.ensures

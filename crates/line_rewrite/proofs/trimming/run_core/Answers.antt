@@ -73,7 +73,7 @@ returns-clause-trims g c = λ good.
     let m = c.in_ok-problem.ensures in
     let k = c.in_ok-checked.ensures in
     let is = c.in-Ok.ensures in
-    let before = g.F.Folder.place c.args.folder.now in
+    let before = g.F.Folder.place c.args.outside.now.folder in
     let mid = g.F.Folder.place c.take_problem.new.folder in
     holds_core c.args.line.better c.args.line.model.now c.args.line.log.now c.args.line.trimmed.now before (g.F.Folder.place c.check_and_keep.new.folder) _ (k.held ∙ m.held) c.in_ok-problem.problem c.in_ok-checked.checked c.in-Ok.core _ _ (c.is_verified.ensures.0 c.if-not-is_verified.false)
     (found_in c.args.line.better before.held mid.held c.args.line.model.now c.args.line.log.now c.in_ok-problem.problem c.in_ok-checked.checked m.held (read_held m) (read_held k))

@@ -60,7 +60,7 @@ returns-in_default g c =
     let same : option_copied c.as_ref.result ≡ c.in_ok-order.order = search rules in
     let l = c.args.line in
     let e = c.in_ok-problem.ensures in
-    let held = (g.F.Folder.place c.args.folder.now).held in
+    let held = (g.F.Folder.place c.args.outside.now.folder).held in
     record {
       came = kept (solve_plan l.log.now (settings_of l.options)) (solve_sound l.model.now l.log.now (settings_of l.options))
           (came_read e (came_ordered (plan_for c.in_ok-problem.problem.aim c.in_ok-problem.problem l.log.now (settings_of l.options)) [] c.in_ok-order.ensures.read (keeps_search c.in_ok-problem.problem l.log.now (settings_of l.options) c.in_ok-order.order _ (λ s. c.in_default.not-Satisfy (c.aim.ensures.aim ∙ s)) (came_answer_with _ (rw same at c.in_ok-status.ensures.status) (rw same at c.in_ok-status.ensures.wrote)))));
@@ -90,10 +90,10 @@ returns-clause-came g c =
     (came_read c.in_ok-problem.ensures (came_ordered (plan_for c.in_ok-problem.problem.aim c.in_ok-problem.problem l.log.now (settings_of l.options)) [] c.in_ok-order.ensures.read (keeps_run c.in_ok-problem.problem l.log.now (settings_of l.options) c.in_ok-order.order _ (sym c.aim.ensures.aim ∙ c.in-Satisfy.is) (came_answer_with _ (rw same at c.in_ok-status-2.ensures.status) (rw same at c.in_ok-status-2.ensures.wrote)))))
 
 pub returns-clause-sound : goal.returns-clause-sound
-returns-clause-sound g c = holds_problem (g.F.Folder.place c.args.folder.now).held c.args.line.model.now c.in_ok-problem.problem (read_held c.in_ok-problem.ensures) c.denotes_csp.ensures.csp c.problems_are_small.ensures
+returns-clause-sound g c = holds_problem (g.F.Folder.place c.args.outside.now.folder).held c.args.line.model.now c.in_ok-problem.problem (read_held c.in_ok-problem.ensures) c.denotes_csp.ensures.csp c.problems_are_small.ensures
 
 pub returns-clause-whole : goal.returns-clause-whole
-returns-clause-whole g c = holds_whole (g.F.Folder.place c.args.folder.now).held c.args.line.model.now c.in_ok-problem.problem (read_held c.in_ok-problem.ensures) c.denotes_csp.ensures.problem
+returns-clause-whole g c = holds_whole (g.F.Folder.place c.args.outside.now.folder).held c.args.line.model.now c.in_ok-problem.problem (read_held c.in_ok-problem.ensures) c.denotes_csp.ensures.problem
 
 pub returns-clause-records : goal.returns-clause-records
 returns-clause-records g c =

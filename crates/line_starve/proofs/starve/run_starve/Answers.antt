@@ -79,5 +79,5 @@ returns-clause-tells g c =
     let run = moved ∙ ap (λ (x : Option (List ℕ)). ordered x p) c.as_ref-order.ensures.value in
     let from = c.place_of.ensures ∙ ap (λ (x : Option (List ℕ)). agent_of x l.from) c.as_ref-order.ensures.value in
     let to = c.place_of-2.ensures ∙ ap (λ (x : Option (List ℕ)). agent_of x l.to) c.as_ref-order.ensures.value in
-    tells_starved l.model.now l.from l.to l.file.now (option_copied l.order_file) p order (g.F.Folder.place c.args.folder.now).held (g.F.Folder.place c.read_order_of.new.folder) (g.S.Sink.stream c.args.out.now) _ _
+    tells_starved l.model.now l.from l.to l.file.now (option_copied l.order_file) p order (g.F.Folder.place c.args.outside.now.folder).held (g.F.Folder.place c.read_order_of.new.folder) (g.S.Sink.stream c.args.outside.now.out) _ _
     (read_held e) (order_in (option_copied l.order_file) order p e.held (order_held c.in_ok-read.ensures.read)) (starved_as _ _ _ _ _ _ run from to l.file.now w.wrote)

@@ -24,7 +24,7 @@ returns-in_err-begin-clause-wrote g c =
     let choices = c.args.choices in
     let file = c.args.task.file.now in
     let run : c.unwrap_or-run.result.now ≡ ordered (option_copied c.args.task.order) c.args.task.problem.now = search rules in
-    begin_stopped order p choices file _ c.from_residual.ensures (wrote_as (begin_as file order run) (c.in_err-begin.ensures.wrote (g.S.Sink.stream c.args.out.now)))
+    begin_stopped order p choices file _ c.from_residual.ensures (wrote_as (begin_as file order run) (c.in_err-begin.ensures.wrote (g.S.Sink.stream c.args.outside.now.out)))
 
 pub deliver_all-requires-clause-starts : goal.deliver_all-requires-clause-starts
 deliver_all-requires-clause-starts g c =
@@ -44,7 +44,7 @@ returns-in_err-deliver_all-clause-wrote g c =
     let file = c.args.task.file.now in
     let run : c.unwrap_or-run.result.now ≡ ordered (option_copied c.args.task.order) c.args.task.problem.now = search rules in
     let b = c.in_ok-begin.ensures in
-    let out = g.S.Sink.stream c.args.out.now in
+    let out = g.S.Sink.stream c.args.outside.now.out in
     let begun = wrote_as (begin_as file order run) (b.wrote out) in
     deliveries_stopped order p choices file begun _ c.from_residual-in_err-deliver_all.ensures
     (wrote_as (deliveries_as most_told (listed choices) b.same.file b.same.order (b.same.problem ∙ run)) (c.in_err-deliver_all.ensures.wrote out))
@@ -63,7 +63,7 @@ returns-in_err-end-clause-wrote g c =
     let file = c.args.task.file.now in
     let run : c.unwrap_or-run.result.now ≡ ordered (option_copied c.args.task.order) c.args.task.problem.now = search rules in
     let b = c.in_ok-begin.ensures in
-    let out = g.S.Sink.stream c.args.out.now in
+    let out = g.S.Sink.stream c.args.outside.now.out in
     let begun = wrote_as (begin_as file order run) (b.wrote out) in
     let d = c.in_ok-deliver_all.ensures in
     let net = (told_run (csp_of p) choices).net in
@@ -80,7 +80,7 @@ returns-in_err-answer-clause-wrote g c =
     let file = c.args.task.file.now in
     let run : c.unwrap_or-run.result.now ≡ ordered (option_copied c.args.task.order) c.args.task.problem.now = search rules in
     let b = c.in_ok-begin.ensures in
-    let out = g.S.Sink.stream c.args.out.now in
+    let out = g.S.Sink.stream c.args.outside.now.out in
     let begun = wrote_as (begin_as file order run) (b.wrote out) in
     let d = c.in_ok-deliver_all.ensures in
     let net = (told_run (csp_of p) choices).net in
@@ -98,7 +98,7 @@ returns-clause-wrote g c =
     let file = c.args.task.file.now in
     let run : c.unwrap_or-run.result.now ≡ ordered (option_copied c.args.task.order) c.args.task.problem.now = search rules in
     let b = c.in_ok-begin.ensures in
-    let out = g.S.Sink.stream c.args.out.now in
+    let out = g.S.Sink.stream c.args.outside.now.out in
     let begun = wrote_as (begin_as file order run) (b.wrote out) in
     let d = c.in_ok-deliver_all.ensures in
     let net = (told_run (csp_of p) choices).net in

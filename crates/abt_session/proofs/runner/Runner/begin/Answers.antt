@@ -3,7 +3,8 @@ use Rattle.dcsp_script.proofs.Lines.{first_wrote, first_stopped}
 use Rattle.dcsp_order.specs.Told.{steps_told}
 use Rattle.abt_session.specs.Running.{order_of}
 use Rattle.abt_session.specs.Sessions.{step_writes}
-use Rattle.abt_session.proofs.Pieces.{memory_told, wrote_as}
+use Rattle.dcsp_script.proofs.StepLines.{memory_told}
+use Rattle.abt_session.proofs.Pieces.{wrote_as}
 use Rattle.abt_session.proofs.Whole.{created_here, created_still, on_ok}
 use Rattle.abt_session.proofs.runner.Runner.begin.Goals as goal
 

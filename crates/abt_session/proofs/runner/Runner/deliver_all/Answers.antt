@@ -1,7 +1,7 @@
 use Rattle.std.proofs.Common.{◌+◌, ◌≡◌, ◌∷◌, [], sym, ap, ◌∙◌, refl, arith}
 use Rattle.law_runs.specs.Stops.{list_number}
 use Rattle.dcsp_rule.specs.Problems.{csp_of}
-use Rattle.dcsp_script.specs.Scripts.{outside}
+use Rattle.dcsp_script.specs.Outsides.{world}
 use Rattle.abt_session.specs.Sessions.{network_after}
 use Rattle.abt_session.specs.Running.{order_of, session_for}
 use Rattle.abt_session.proofs.Pieces.{wrote_as}
@@ -14,7 +14,7 @@ loop-made-init g c =
     let answers = g.C.Choices.answers c.args.choices.now in
     let s = session_for old.network.problem answers old.task in
     record {
-      turns = first_turn s old.task.keep old.network old.taken answers (outside (g.F.Folder.place c.args.folder.now) (g.S.Sink.stream c.args.out.now)) c.requires.starts;
+      turns = first_turn s old.task.keep old.network old.taken answers (world g.F.Folder.place g.S.Sink.stream c.args.outside.now) c.requires.starts;
       same = record { problem = refl; most = refl; log = refl; telling = refl; keep = refl; order = refl };
       sound = c.requires.sound;
       begun = c.requires.begun;

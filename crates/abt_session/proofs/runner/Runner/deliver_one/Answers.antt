@@ -3,7 +3,8 @@ use Rattle.std.proofs.lemmas.Result.{IfOk-at_ok}
 use Rattle.dcsp_rule.specs.Problems.{csp_of}
 use Rattle.abt_network.specs.Standing.{reached, delivery_of}
 use Rattle.abt_session.specs.Running.{order_of}
-use Rattle.abt_session.proofs.Pieces.{memory_at_once, stopped_so, made_then_memory, made_counts, wrote_as}
+use Rattle.dcsp_script.proofs.StepLines.{memory_at_once, stopped_so}
+use Rattle.abt_session.proofs.Pieces.{made_then_memory, made_counts, wrote_as}
 use Rattle.abt_session.proofs.Writing.{told_where, writes_by_number}
 use Rattle.abt_session.proofs.runner.Runner.deliver_one.Goals as goal
 

@@ -1,5 +1,5 @@
 use Rattle.std.proofs.Common.{◌∙◌, sym, arith}
-use Rattle.dcsp_script.specs.Scripts.{outside}
+use Rattle.dcsp_script.specs.Outsides.{world}
 use Rattle.abt_session.specs.Ordering.{order_in}
 use Rattle.line_replay.specs.Settings.{settings_of}
 use Rattle.line_solve.specs.Searching.{best_search}
@@ -9,7 +9,7 @@ use Rattle.line_solve.proofs.runner.SearchRunner.run.Goals as goal
 pub loop-self-init : goal.loop-self-init
 loop-self-init g c =
     let line = c.args.line in
-    first_turn (best_search (order_in c.args.model) c.args.model.problem.now line.log.now (settings_of line.options)) c.args.self.now (outside (g.F.Folder.place c.args.folder.now) (g.S.Sink.stream c.args.out.now)) c.requires.fresh
+    first_turn (best_search (order_in c.args.model) c.args.model.problem.now line.log.now (settings_of line.options)) c.args.self.now (world g.F.Folder.place g.S.Sink.stream c.args.outside.now) c.requires.fresh
 
 pub make_round-requires-clause-made : goal.make_round-requires-clause-made
 make_round-requires-clause-made g c = c.loop-self.invariant.made
