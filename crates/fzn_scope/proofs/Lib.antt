@@ -1,5 +1,6 @@
 mod NameTable
 mod SameNames
+mod VariableLaws
 mod Steps
 pub mod KnownLaws
 pub mod ShapeLaws

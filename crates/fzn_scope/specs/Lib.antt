@@ -6,3 +6,4 @@ pub mod Arguments
 pub mod Rules
 pub mod Known
 pub mod Lent
+pub mod Variables

@@ -5,11 +5,13 @@
 #![tactic(auto)]
 
 mod arguments;
+mod bytes;
 mod form;
 mod lent;
 mod lists;
 mod names;
 mod place;
+mod variables;
 
 pub use form::{Form, Place};
 pub use lists::ArgumentLists;

@@ -1,9 +1,12 @@
 //! The names that were declared, and what each stands for.
 
-ghost use Rattle.std.specs.Prelude.{◌≡◌, ◌≤◌, ◌+◌, [], ◌∷◌, ◌++◌, take, drop, length, None, Some, IfSome, IsTrue, OnOk, OnErr, option_copied};
-ghost use Rattle.std.specs.Int.{from_le_bytes, w64};
+ghost use Rattle.std.specs.Prelude.{◌≡◌, ◌≤◌, ◌+◌, [], ◌∷◌, ◌++◌, length, None, Some, IfSome, IsTrue, OnOk, OnErr, option_copied};
+ghost use Rattle.fzn_scope.specs.declared.names.Declared.TheVariants as one_of;
+ghost use Rattle.dcsp_rule.specs.declared.rule.Term.TheVariants as term;
 ghost use Rattle.fzn_scope.specs.Names.{declared_as, bytes_at, AreEightSame};
 
+use crate::bytes::{eight_at, spread};
+use crate::variables::Variables;
 use dcsp_common::Memory;
 use dcsp_problem::{Members, Term, TermList};
 use indexmap::IndexMap;
@@ -33,9 +36,6 @@ const SLOT_BITS: u32 = 13;
 
 const SLOTS: usize = 1 << SLOT_BITS;
 
-/// 2^64 over the golden ratio: a product with it has all bytes of a number in its upper bits.
-const SPREAD: u64 = 0x9e37_79b9_7f4a_7c15;
-
 /// Names that are slices of the text, in the order in which they were declared.
 ///
 /// Most look-ups are of names that stand where it is guessed, and cost one comparison of bytes. The table decides the
@@ -46,6 +46,8 @@ pub struct Names<'t> {
     /// By slots, the place in the table of the name of that slot which was declared last. There are none before the
     /// first name.
     guesses: Vec<u32>,
+    /// Variables that are found without a look at the text.
+    variables: Variables,
 }
 
 impl<'t> Model for Names<'t> {
@@ -55,6 +57,11 @@ impl<'t> Model for Names<'t> {
     ghost Value = { List (List ℕ × Declared) };
 
     ghost view = { λ names. map (λ entry. (entry.0.now, entry.1)) names.table.entries };
+
+    ghost use Rattle.std.specs.Prelude.{All};
+    ghost use Rattle.fzn_scope.specs.Variables.{StandsFor};
+
+    ghost invariant = { λ names. All (StandsFor (map (λ entry. (entry.0.now, entry.1)) names.table.entries)) names.variables.known.items };
 }
 
 impl<'t> Names<'t> {
@@ -65,6 +72,7 @@ impl<'t> Names<'t> {
         Names {
             table: IndexMap::new(alloc),
             guesses: Vec::new(alloc),
+            variables: Variables::new(alloc),
         }
     }
 
@@ -77,6 +85,14 @@ impl<'t> Names<'t> {
             Some(declared) => Some(declared),
             None => self.looked_up(name),
         }
+    }
+
+    /// Whether a variable of this name is Boolean, and its term, where it is found without a look at the text.
+    #[inline(always)]
+    pub fn variable(&self, name: &[u8]) -> Option<(bool, Term)>
+        ensures { IfSome result (λ found. declared_as self.now name.now ≡ Some (one_of.One found.0 found.1)) }
+    {
+        self.variables.find(name)
     }
 
     /// What the name stands for, where it is guessed.
@@ -115,13 +131,7 @@ impl<'t> Names<'t> {
     fn guess_next(&mut self, name: &[u8]) -> Result<(), Memory>
         ensures { self.new ≡ self.old }
     {
-        if self.guesses.is_empty() {
-            self.guesses.resize(SLOTS, 0)?;
-        }
-        if let Some(guess) = self.guesses.get_mut(slot_of(name)) {
-            *guess = u32::try_from(self.table.len()).unwrap_or(u32::MAX);
-        }
-        Ok(())
+        set_guess(&mut self.guesses, slot_of(name), self.table.len())
     }
 
     /// Adds a name to the table.
@@ -130,9 +140,41 @@ impl<'t> Names<'t> {
         ensures ok { OnOk result (self.new ≡ self.old ++ (name.now, declared) ∷ []) }
         ensures err { OnErr result (self.new ≡ self.old) }
     {
+        let variable = variable_in(&declared);
+        self.variables.reserve()?;
         self.table.insert(name, declared)?;
+        self.variables.add(name, variable);
         Ok(())
     }
+}
+
+/// Whether a variable is Boolean, and its number, where a name stands for one.
+fn variable_in(declared: &Declared) -> Option<(bool, u32)>
+    ensures { IfSome result (λ v. declared.now ≡ one_of.One v.0 (term.Var v.1)) }
+{
+    match declared {
+        Declared::One {
+            boolean,
+            term: Term::Var(variable),
+        } => Some((*boolean, *variable)),
+        Declared::One {
+            term: Term::Const(_),
+            ..
+        } => None,
+        Declared::Set(_) => None,
+        Declared::Many { .. } => None,
+    }
+}
+
+/// Guesses that the names of a slot stand at this place of the table.
+fn set_guess(guesses: &mut Vec<u32>, slot: usize, place: usize) -> Result<(), Memory> {
+    if guesses.is_empty() {
+        guesses.resize(SLOTS, 0)?;
+    }
+    if let Some(guess) = guesses.get_mut(slot) {
+        *guess = u32::try_from(place).unwrap_or(u32::MAX);
+    }
+    Ok(())
 }
 
 /// Whether two names are found to be the same. Most names have 8 to 24 bytes, and are compared eight bytes at a time.
@@ -166,18 +208,6 @@ fn are_eight_same(known: &[u8], name: &[u8], at: usize) -> bool
     eight_at(known, at) == eight_at(name, at)
 }
 
-/// Eight bytes from a place on, as a number.
-#[inline(always)]
-fn eight_at(name: &[u8], at: usize) -> u64
-    requires { at + 8 ≤ length name.now }
-    ensures { result ≡ from_le_bytes w64 (take 8 (drop at name.now)) }
-{
-    match name[at..].first_chunk::<8>() {
-        Some(bytes) => u64::from_le_bytes(*bytes),
-        None => unreachable!(),
-    }
-}
-
 /// The slot of a name, by its last eight bytes: names that are numbered differ there.
 #[inline(always)]
 fn slot_of(name: &[u8]) -> usize {
@@ -185,7 +215,7 @@ fn slot_of(name: &[u8]) -> usize {
         Some(bytes) => u64::from_le_bytes(*bytes),
         None => number_of(name),
     };
-    (last.wrapping_mul(SPREAD) >> (64 - SLOT_BITS)) as usize
+    (spread(last) >> (64 - SLOT_BITS)) as usize
 }
 
 /// The number that a few bytes are.

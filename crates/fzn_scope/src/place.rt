@@ -145,6 +145,18 @@ impl<'c, 't> Context<'c, 't> {
         self.names.get(bytes_at(self.text, from, to))
     }
 
+    /// The term of the name between these places.
+    #[inline(always)]
+    fn term_of_name(self, wanted: Wanted, at: u32, to: u32) -> Result<Term, Refusal>
+        ensures { result ≡ term_named wanted at (declared_as self.entry.names.now (bytes_at self.entry.text.now at to)) }
+    {
+        let name = bytes_at(self.text, at, to);
+        match self.names.variable(name) {
+            Some((boolean, term)) => wanted_term(wanted, at, boolean, term),
+            None => term_named(wanted, at, self.names.get(name)),
+        }
+    }
+
     /// The term of an atom: a constant, or what a name stands for.
     ///
     /// `Undeclared` comes for a name that was not declared, and `IllTyped` for anything else that is not wanted,
@@ -156,7 +168,7 @@ impl<'c, 't> Context<'c, 't> {
         match atom {
             Atom::Truth { at, value } => wanted_term(wanted, *at, true, truth_term(*value)),
             Atom::Whole { at, value } => wanted_term(wanted, *at, false, Term::Const(*value)),
-            Atom::Name { at, to } => term_named(wanted, *at, self.named(*at, *to)),
+            Atom::Name { at, to } => self.term_of_name(wanted, *at, *to),
             Atom::Float { at } | Atom::Range { at, .. } | Atom::Listed { at, .. } => {
                 Err(Refusal::IllTyped { at: *at })
             }
