@@ -3,3 +3,4 @@ pub mod Counts
 pub mod Once
 pub mod Sound
 pub mod Turns
+mod Ranges

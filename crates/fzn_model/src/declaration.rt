@@ -9,12 +9,10 @@ ghost use Rattle.fzn_model.specs.Building.{with_rule};
 ghost use Rattle.fzn_model.specs.Declarations.{is_boolean, right_side, constant, value_of, domain_of, source_of, equality, with_source};
 
 use crate::building::add_rule;
-use dcsp_domain::{Domain, DomainError, IntList};
 use dcsp_problem::{ConstraintKind, MembersRef, ProblemBuilder, RuleRef, Term, Which};
 use fzn_item::{Base, Expr, Marked};
 use fzn_scope::{Context, Declared, Wanted};
 use fzn_token::{ModelError, Refusal};
-use std::alloc::Global;
 
 /// What a declaration says of its name.
 #[derive(Clone, Copy)]
@@ -77,52 +75,6 @@ pub(crate) fn value_of(
         Base::Int | Base::Range { .. } | Base::Listed(_) => { Ok(constant(context, false, expr)?) }
         Base::Float => Err(ModelError::Refused(Refusal::Unsupported { at })),
         Base::Set => Ok(Declared::Set(context.set_of(expr)?)),
-    }
-}
-
-/// A variable's domain.
-pub(crate) fn domain_of(alloc: Global, at: u32, base: &Base) -> Result<Domain, ModelError>
-    ensures { Gives result (domain_of at base.now) }
-{
-    match base {
-        Base::Bool => domain_between(alloc, at, 0, 1),
-        Base::Int => Err(ModelError::Refused(Refusal::Unbounded { at })),
-        Base::Float | Base::Set => Err(ModelError::Refused(Refusal::Unsupported { at })),
-        Base::Range { low, high } => domain_between(alloc, at, *low, *high),
-        Base::Listed(values) => listed_domain(alloc, at, values),
-    }
-}
-
-/// The domain of a range.
-fn domain_between(alloc: Global, at: u32, low: i64, high: i64) -> Result<Domain, ModelError>
-    ensures { Gives result (domain_of at (base.Range low high)) }
-{
-    match Domain::range(alloc, low, high) {
-        Ok(domain) => Ok(domain),
-        Err(DomainError::Large { size }) => Err(ModelError::Refused(large(at, size))),
-        Err(DomainError::Memory) => Err(ModelError::Memory),
-    }
-}
-
-/// The domain of a listed set.
-fn listed_domain(alloc: Global, at: u32, values: &IntList) -> Result<Domain, ModelError>
-    ensures { Gives result (domain_of at (base.Listed values.now)) }
-{
-    match Domain::listed(alloc, values.items()) {
-        Ok(domain) => Ok(domain),
-        Err(DomainError::Large { size }) => Err(ModelError::Refused(large(at, size))),
-        Err(DomainError::Memory) => Err(ModelError::Memory),
-    }
-}
-
-/// A domain would have so many values.
-fn large(at: u32, count: u128) -> Refusal
-    ensures { result ≡ Refusal.Limit Which.DomainSize count at }
-{
-    Refusal::Limit {
-        which: Which::DomainSize,
-        count,
-        at,
     }
 }
 

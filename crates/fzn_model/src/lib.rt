@@ -9,6 +9,7 @@
 mod array;
 mod building;
 mod declaration;
+mod domains;
 mod goal;
 mod in_turn;
 mod laws;

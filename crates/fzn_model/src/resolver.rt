@@ -12,7 +12,8 @@ ghost use Rattle.fzn_model.specs.Reading.{so_far, IsSound, HasRoom, parameter_by
 
 use crate::array::{add_members, check_element, elements, within};
 use crate::building::{add_rule, add_variable};
-use crate::declaration::{Declaration, domain_of, is_boolean, right_side, source_of, value_of};
+use crate::declaration::{Declaration, is_boolean, right_side, source_of, value_of};
+use crate::domains::Domains;
 use crate::goal::aim_of;
 use crate::output::{add_array_output, add_variable_output, check_shape};
 use dcsp_problem::{ProblemBuilder, Term, Which};
@@ -28,6 +29,7 @@ pub(crate) struct Resolver<'t> {
     names: Names<'t>,
     /// What the arguments of a constraint are read into.
     lists: ArgumentLists,
+    domains: Domains,
     builder: ProblemBuilder,
     /// Whether there was a constraint.
     constrained: bool,
@@ -53,6 +55,7 @@ impl<'t> Resolver<'t> {
             alloc,
             names: Names::new(alloc),
             lists: ArgumentLists::new(alloc),
+            domains: Domains::new(alloc),
             builder: ProblemBuilder::new(alloc),
             constrained: false,
             solved: false,
@@ -110,7 +113,7 @@ impl<'t> Resolver<'t> {
         ensures sound { OnOk result (IsSound (so_far self.new)) }
         ensures outputs { OnOk result (length self.new.builder.outputs ≤ length self.old.builder.outputs + 1) }
     {
-        let domain = domain_of(self.alloc, declaration.at, declaration.base)?;
+        let domain = self.domains.domain_of(declaration.at, declaration.base)?;
         let boolean = is_boolean(declaration.base);
         let context = Context {
             alloc: self.alloc,
