@@ -10,3 +10,4 @@ pub mod Lists
 pub mod Members
 pub mod Posting
 pub mod Insertion
+pub mod ValueLaws

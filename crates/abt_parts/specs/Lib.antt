@@ -5,3 +5,4 @@ pub mod Places
 pub mod Index
 pub mod Outgoing
 pub mod Checked
+pub mod Values

@@ -17,6 +17,7 @@ mod spare;
 mod store;
 mod taken;
 mod told;
+mod value_places;
 mod view;
 
 pub use checks::Checks;

@@ -10,10 +10,10 @@ use crate::naming::{make_room, name_from, name_item, unname_from};
 use crate::place_list::PlaceList;
 use crate::recorded::Recorded;
 use crate::taken::{is_fitting, place_values, release_values, take_value};
+use crate::value_places::ValuePlaces;
 use dcsp_common::Memory;
 use dcsp_defs::{Nogood, Pair};
 use std::alloc::Global;
-use std::collections::HashMap;
 use std::marker::Model;
 
 /// The nogoods that one agent keeps, in order of arrival, at most one for each value of a lowest pair.
@@ -22,23 +22,22 @@ pub struct Store {
     alloc: Global,
     items: Vec<Recorded>,
     /// The places of the items, by the values of their lowest pairs.
-    places: HashMap<i64, usize>,
+    places: ValuePlaces,
     /// For each variable the places of the items that name it.
     lists: Vec<PlaceList>,
 }
 
 impl Model for Store {
     ghost use Rattle.std.specs.Prelude.{List};
-    ghost use Rattle.std.specs.HashMap.{get};
-    ghost use Rattle.std.specs.Ordering.{int_eq};
     ghost use Rattle.abt_parts.specs.declared.recorded.Recorded.{Recorded};
     ghost use Rattle.abt_parts.specs.Index.{IsIndexed};
+    ghost use Rattle.abt_parts.specs.Values.{place_for};
 
     ghost Value = { List Recorded };
 
     ghost view = { λ store. store.items.items };
 
-    ghost invariant = { λ store. IsIndexed store.items.items (get int_eq store.places) store.lists.items };
+    ghost invariant = { λ store. IsIndexed store.items.items (place_for store.places) store.lists.items };
 }
 
 impl Store {
@@ -49,7 +48,7 @@ impl Store {
         Store {
             alloc,
             items: Vec::new(alloc),
-            places: HashMap::new(alloc),
+            places: ValuePlaces::new(alloc),
             lists: Vec::new(alloc),
         }
     }
@@ -86,7 +85,7 @@ impl Store {
     pub fn against(&self, value: i64) -> Option<usize>
         ensures { result ≡ place_against value self.now }
     {
-        self.places.get(&value).copied()
+        self.places.get(value)
     }
 
     /// Takes out exactly the items that have a pair of the variable with another value. The others

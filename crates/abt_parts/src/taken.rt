@@ -1,51 +1,39 @@
 //! Against which value each item stands: the places of the items, by the values of their lowest pairs.
 
 ghost use Rattle.std.specs.Prelude.{◌≡◌, ◌≤◌, ℤ, ◌&&◌, ◌||◌, ◌==◌, not, true, length, OnOk, OnErr, Some, filter, is_some, if◌then◌else◌, take};
-ghost use Rattle.std.specs.HashMap.{get, IsUnchanged};
 ghost use Rattle.std.specs.List.{list_all};
 ghost use Rattle.std.specs.Ordering.{int_eq};
 ghost use Rattle.dcsp_defs.specs.declared.nogood.Pair.{Pair as ThePair};
 ghost use Rattle.dcsp_defs.specs.Words.{is_value};
 ghost use Rattle.abt_parts.specs.Stores.{fits, is_ruled_out, lowest_value, place_against, IsOncePerValue};
 ghost use Rattle.abt_parts.specs.Index.{ArePlaced, AreTaken};
+ghost use Rattle.abt_parts.specs.Values.{place_for};
 
 use crate::recorded::Recorded;
+use crate::value_places::ValuePlaces;
 use dcsp_common::Memory;
 use dcsp_defs::{Nogood, Pair};
-use std::collections::HashMap;
 
 /// Adds the place of an item, by the value of its nogood's lowest pair, if there is one.
-pub fn take_value(
-    places: &mut HashMap<i64, usize>,
-    nogood: &Nogood,
-    place: usize,
-) -> Result<(), Memory>
-    ensures ok { OnOk result ((value : ℤ) → get int_eq places.new value ≡ (if is_value (lowest_value nogood.now) value then Some place else get int_eq places.old value)) }
-    ensures err { OnErr result (IsUnchanged places.old places.new) }
+pub fn take_value(places: &mut ValuePlaces, nogood: &Nogood, place: usize) -> Result<(), Memory>
+    ensures ok { OnOk result ((value : ℤ) → place_for places.new value ≡ (if is_value (lowest_value nogood.now) value then Some place else place_for places.old value)) }
+    ensures err { OnErr result (places.new ≡ places.old) }
 {
     let Some(pair) = nogood.lowest() else {
         return Ok(());
     };
-    match places.insert(pair.value, place) {
-        Ok(_) => Ok(()),
-        Err(_) => Err(Memory),
-    }
+    places.insert(pair.value, place)
 }
 
 /// Takes out the values of the items that give the pair's variable another value, none of which stands
 /// before the first. The places stay as they were.
-pub fn release_values(
-    places: &mut HashMap<i64, usize>,
-    items: &[Recorded],
-    first: usize,
-    known: Pair,
-)
+pub fn release_values(places: &mut ValuePlaces, items: &[Recorded], first: usize, known: Pair)
     requires once { IsOncePerValue items.now }
     requires within { first ≤ length items.now }
     requires before { list_all (fits known.var known.value) (take first items.now) ≡ true }
-    requires taken { AreTaken items.now (get int_eq places.old) }
-    ensures taken { AreTaken (filter (fits known.var known.value) items.now) (get int_eq places.new) }
-    ensures kept { (value : ℤ) → is_some (get int_eq places.new value) ≡ true → get int_eq places.new value ≡ get int_eq places.old value }
+    requires taken { AreTaken items.now (place_for places.old) }
+    ensures taken { AreTaken (filter (fits known.var known.value) items.now) (place_for places.new) }
+    ensures kept { (value : ℤ) → is_some (place_for places.new value) ≡ true → place_for places.new value ≡ place_for places.old value }
 {
     for place in first..items.len() {
         let nogood = &items[place].nogood;
@@ -56,23 +44,23 @@ pub fn release_values(
 }
 
 /// Takes out the value of the nogood's lowest pair, if there is one.
-fn release_value(places: &mut HashMap<i64, usize>, nogood: &Nogood)
-    ensures kept { (value : ℤ) → is_some (get int_eq places.new value) ≡ true → get int_eq places.new value ≡ get int_eq places.old value }
-    ensures taken { (value : ℤ) → is_some (get int_eq places.new value) ≡ (is_some (get int_eq places.old value) && not (is_value (lowest_value nogood.now) value)) }
+fn release_value(places: &mut ValuePlaces, nogood: &Nogood)
+    ensures kept { (value : ℤ) → is_some (place_for places.new value) ≡ true → place_for places.new value ≡ place_for places.old value }
+    ensures taken { (value : ℤ) → is_some (place_for places.new value) ≡ (is_some (place_for places.old value) && not (is_value (lowest_value nogood.now) value)) }
 {
     if let Some(pair) = nogood.lowest() {
-        places.remove(&pair.value);
+        places.remove(pair.value);
     }
 }
 
 /// Puts in the places of the items, whose values are there: from the first one on, where those before are
 /// in. It takes no memory.
-pub fn place_values(places: &mut HashMap<i64, usize>, items: &[Recorded], first: usize)
+pub fn place_values(places: &mut ValuePlaces, items: &[Recorded], first: usize)
     requires once { IsOncePerValue items.now }
     requires within { first ≤ length items.now }
-    requires taken { AreTaken items.now (get int_eq places.old) }
-    requires before { (value : ℤ) → is_ruled_out value (take first items.now) ≡ true → get int_eq places.old value ≡ place_against value (take first items.now) }
-    ensures { ArePlaced items.now (get int_eq places.new) }
+    requires taken { AreTaken items.now (place_for places.old) }
+    requires before { (value : ℤ) → is_ruled_out value (take first items.now) ≡ true → place_for places.old value ≡ place_against value (take first items.now) }
+    ensures { ArePlaced items.now (place_for places.new) }
 {
     for place in first..items.len() {
         place_value(places, &items[place].nogood, place);
@@ -80,14 +68,11 @@ pub fn place_values(places: &mut HashMap<i64, usize>, items: &[Recorded], first:
 }
 
 /// Puts in the place of an item, if the value of its nogood's lowest pair is there.
-fn place_value(places: &mut HashMap<i64, usize>, nogood: &Nogood, place: usize)
-    ensures { (value : ℤ) → get int_eq places.new value ≡ (if is_value (lowest_value nogood.now) value && is_some (get int_eq places.old value) then Some place else get int_eq places.old value) }
+fn place_value(places: &mut ValuePlaces, nogood: &Nogood, place: usize)
+    ensures { (value : ℤ) → place_for places.new value ≡ (if is_value (lowest_value nogood.now) value && is_some (place_for places.old value) then Some place else place_for places.old value) }
 {
-    let Some(pair) = nogood.lowest() else {
-        return;
-    };
-    if let Some(kept) = places.get_mut(&pair.value) {
-        *kept = place;
+    if let Some(pair) = nogood.lowest() {
+        places.set(pair.value, place);
     }
 }
 

@@ -1,9 +1,9 @@
-use Rattle.std.proofs.Common.{◌≡◌, ◌++◌, ap, sym, ◌∙◌, not, ◌&&◌, ℕ, ℤ, refl, get_or, take, drop}
+use Rattle.std.proofs.Common.{◌≡◌, ◌++◌, ap, sym, ◌∙◌, not, ◌&&◌, ℤ, refl, get_or, take, drop, List}
 use Rattle.std.specs.Prelude.{is_some}
-use Rattle.std.specs.HashMap.{HashMap, get}
-use Rattle.std.specs.Ordering.{int_eq}
 use Rattle.std.proofs.lemmas.List.{take-append-drop, get_or_default}
+use Rattle.abt_parts.specs.declared.value_places.ValuePlace.{ValuePlace}
 use Rattle.abt_parts.specs.Stores.{fits, is_against, is_ruled_out}
+use Rattle.abt_parts.specs.Values.{place_for}
 use Rattle.abt_parts.proofs.Counts.{filter_all}
 use Rattle.abt_parts.proofs.TakenLaws.{stays, leaves}
 use Rattle.abt_parts.proofs.taken.release_values.Goals as goal
@@ -28,7 +28,7 @@ loop-place-preserved c =
     let test = fits c.args.known.var c.args.known.value in
     elim c.if-not-is_fitting.branch [
       | then-not-is_fitting w ↦
-          let read : (v : ℤ) → get int_eq c.if-not-is_fitting.places v ≡ get int_eq w.release_value.new.places v = λ v. ap (λ (z : HashMap ℤ ℕ _). get int_eq z v) w.places-is in record {
+          let read : (v : ℤ) → place_for c.if-not-is_fitting.places v ≡ place_for w.release_value.new.places v = λ v. ap (λ (z : List ValuePlace). place_for z v) w.places-is in record {
             taken = λ v.
                 ap is_some (read v)
                 ∙ w.release_value.ensures.taken v
@@ -39,7 +39,7 @@ loop-place-preserved c =
                 read v ∙ same ∙ c.loop-place.invariant.kept v (sym (ap is_some same) ∙ sym (ap is_some (read v)) ∙ there);
           }
       | else-not-is_fitting w ↦
-          let read : (v : ℤ) → get int_eq c.if-not-is_fitting.places v ≡ get int_eq c.loop-place.places v = λ v. ap (λ (z : HashMap ℤ ℕ _). get int_eq z v) w.places-is in record {
+          let read : (v : ℤ) → place_for c.if-not-is_fitting.places v ≡ place_for c.loop-place.places v = λ v. ap (λ (z : List ValuePlace). place_for z v) w.places-is in record {
             taken = λ v.
                 ap is_some (read v)
                 ∙ c.loop-place.invariant.taken v

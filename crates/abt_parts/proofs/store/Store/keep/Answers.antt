@@ -1,13 +1,12 @@
-use Rattle.std.proofs.Common.{◌≡◌, ◌∙◌, ◌++◌, ◌∷◌, [], ap, sym, refl, true, false, length, List, Result, Ok, Err, subst, arith, ℕ, ℤ, Some, cond}
-use Rattle.std.specs.HashMap.{get}
-use Rattle.std.specs.Map.{lookup}
-use Rattle.std.specs.Ordering.{int_eq}
+use Rattle.std.proofs.Common.{◌≡◌, ◌∙◌, ◌++◌, ◌∷◌, [], ap, sym, refl, true, false, length, List, Result, Ok, Err, subst, arith, ℕ, Some, cond}
 use Rattle.std.specs.Prelude.{OnErr, OnOk, is_err}
 use Rattle.std.specs.Option.{ForSome}
 use Rattle.abt_defs.specs.Steps.{is_named}
+use Rattle.abt_parts.specs.declared.value_places.ValuePlace.{ValuePlace}
 use Rattle.abt_parts.specs.declared.recorded.Recorded.{Recorded}
 use Rattle.abt_parts.specs.Stores.{lowest_value, is_against, is_ruled_out}
 use Rattle.abt_parts.specs.Index.{list_of}
+use Rattle.abt_parts.specs.Values.{place_for}
 use Rattle.abt_parts.proofs.PlaceLaws.{with_place}
 use Rattle.abt_parts.proofs.IndexLaws.{same_index, more_index}
 use Rattle.abt_parts.proofs.store.Store.keep.Goals as goal
@@ -26,7 +25,7 @@ invariant_of-self-then-is_err-2 c = same_index _ _ _ _ _ _ c.self.invariant c.re
 pub invariant_of-self-then-is_err-3 : goal.invariant_of-self-then-is_err-3
 invariant_of-self-then-is_err-3 c =
     let kept = on_err c.take_value.result (sym c.is_err-else-is_err-2.ensures.value ∙ c.if-is_err-3.true) c.take_value.ensures.err in
-    same_index _ _ _ _ _ _ c.self.invariant c.reserve.ensures.items (λ v. ap (λ (es : List (ℤ × ℕ)). lookup (int_eq v) es) kept) c.make_room.ensures.places
+    same_index _ _ _ _ _ _ c.self.invariant c.reserve.ensures.items (λ v. ap (λ (z : List ValuePlace). place_for z v) kept) c.make_room.ensures.places
 
 pub invariant_of-self-2 : goal.invariant_of-self-2
 invariant_of-self-2 c =
@@ -36,10 +35,10 @@ invariant_of-self-2 c =
     let kept = ap length c.reserve.ensures.items in
     let size : c.len.result ≡ length items = omega arith in
     let place : c.len-2.result ≡ length items = omega arith in
-    more_index items c.push_reserved.new.self.items x (get int_eq c.self.inside.places) (get int_eq c.take_value.new.places) c.self.inside.lists.items c.name_item.new.lists.items c.self.invariant
+    more_index items c.push_reserved.new.self.items x (place_for c.self.inside.places) (place_for c.take_value.new.places) c.self.inside.lists.items c.name_item.new.lists.items c.self.invariant
     (c.push_reserved.ensures.items ∙ ap (λ (z : List Recorded). z ++ x ∷ []) c.reserve.ensures.items)
     (subst (λ (z : List Recorded). ForSome (lowest_value c.args.nogood) (λ v. is_ruled_out v z ≡ false)) (sym c.self.view_is) c.requires)
-    (λ v. takes v ∙ ap (λ (k : ℕ). cond (is_against v x) (Some k) (get int_eq c.self.inside.places v)) size)
+    (λ v. takes v ∙ ap (λ (k : ℕ). cond (is_against v x) (Some k) (place_for c.self.inside.places v)) size)
     (λ var.
     c.name_item.ensures.places var
     ∙ ap (λ b. with_place b c.len-2.result (list_of c.make_room.new.lists.items var).items) (ap (is_named var) c.pairs-pairs.ensures.pairs)
