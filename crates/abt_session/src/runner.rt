@@ -17,7 +17,7 @@ ghost use Rattle.abt_session.specs.Running.{kept, order_of, session_for, IsOnRun
 
 use crate::lines::{Made, append_begun, append_made, put_delivery};
 use crate::session::RunTask;
-use crate::told::{begun_told, delivery_told};
+use crate::told::{begun_told, tell_delivery};
 use abt_defs::End;
 use abt_network::{Delivery, Network, Standing};
 use abt_schedule::{ChoiceList, Choices};
@@ -120,15 +120,15 @@ impl<'p, 'w> Runner<'p, 'w> {
         ensures begun { OnOk result (self.new.network.begun ≡ true) }
         ensures created { (F.place outside.new.folder).created ≡ (F.place outside.old.folder).created }
     {
-        let Ok(delivery) = self.network.deliver(choice) else {
+        let Ok(mut delivery) = self.network.deliver(choice) else {
             return Err(Stop::Memory);
         };
         let number = delivery.number;
-        let Ok(told) = delivery_told(self.alloc, self.task.model.order, delivery) else {
+        let Ok(()) = tell_delivery(self.alloc, self.task.model.order, &mut delivery) else {
             return Err(Stop::Memory);
         };
-        self.write_made(&told, outside)?;
-        self.take_down(number, told.step)
+        self.write_made(&delivery, outside)?;
+        self.take_down(number, delivery.step)
     }
 
     /// Writes what the last delivery writes, of which this is told.

@@ -1,6 +1,6 @@
 //! What the agents of a run under an order tell, in the model's own numbers. Without an order it is told as it is.
 
-ghost use Rattle.std.specs.Prelude.{◌≡◌, IfOk, IfSome, option_copied, option_to_list};
+ghost use Rattle.std.specs.Prelude.{◌≡◌, IfOk, IfSome, OnOk, Some, option_copied, option_to_list};
 ghost use Rattle.std.specs.List.{AllByRecursion};
 ghost use Rattle.ngd_log.specs.StepText.{IsInRange};
 ghost use Rattle.dcsp_order.specs.Told.{steps_told};
@@ -12,6 +12,7 @@ use dcsp_common::Memory;
 use dcsp_defs::Step;
 use dcsp_order::Order;
 use std::alloc::Global;
+use std::mem;
 
 /// The step that was made, if one was.
 pub fn step_told(
@@ -51,29 +52,32 @@ pub fn begun_told(alloc: Global, order: Option<&Order>, begun: Begun) -> Result<
     }
 }
 
-/// A delivery: who sent it and who received it, and the step that it made, if it made one.
-pub fn delivery_told(
+/// Tells a delivery by the model's own numbers: who sent it and who received it, and the step that it made, if it made one.
+#[inline(always)]
+pub fn tell_delivery(
     alloc: Global,
     order: Option<&Order>,
-    delivery: Delivery,
-) -> Result<Delivery, Memory>
-    ensures told { IfOk result (λ told. delivery_of told ≡ delivery_told (option_copied order.entry) (delivery_of delivery)) }
-    ensures step { IfOk result (λ told. option_to_list told.step ≡ steps_told (option_copied order.entry) (option_to_list delivery.step)) }
-    ensures in_range { IfSome delivery.step IsInRange → IfOk result (λ told. IfSome told.step IsInRange) }
+    delivery: &mut Delivery,
+) -> Result<(), Memory>
+    ensures told { OnOk result (delivery_of delivery.new ≡ delivery_told (option_copied order.entry) (delivery_of delivery.old)) }
+    ensures step { OnOk result (option_to_list delivery.new.step ≡ steps_told (option_copied order.entry) (option_to_list delivery.old.step)) }
+    ensures in_range { IfSome delivery.old.step IsInRange → OnOk result (IfSome delivery.new.step IsInRange) }
 {
-    let Some(numbers) = order else {
-        return Ok(delivery);
-    };
-    let number = delivery.number;
-    let from = numbers.number(delivery.from);
-    let to = numbers.number(delivery.to);
-    let cargo = delivery.cargo;
-    let step = step_told(alloc, order, delivery.step)?;
-    Ok(Delivery {
-        number,
-        from,
-        to,
-        cargo,
-        step,
-    })
+    match order {
+        None => Ok(()),
+        Some(order) => tell_under(alloc, order, delivery),
+    }
+}
+
+/// The same, where there is an order.
+fn tell_under(alloc: Global, order: &Order, delivery: &mut Delivery) -> Result<(), Memory>
+    ensures told { OnOk result (delivery_of delivery.new ≡ delivery_told (Some order.now) (delivery_of delivery.old)) }
+    ensures step { OnOk result (option_to_list delivery.new.step ≡ steps_told (Some order.now) (option_to_list delivery.old.step)) }
+    ensures in_range { IfSome delivery.old.step IsInRange → OnOk result (IfSome delivery.new.step IsInRange) }
+{
+    let step = mem::replace(&mut delivery.step, None);
+    delivery.step = step_told(alloc, Some(order), step)?;
+    delivery.from = order.number(delivery.from);
+    delivery.to = order.number(delivery.to);
+    Ok(())
 }
