@@ -59,8 +59,8 @@ impl Domains {
         }
     }
 
-    #[tactic(auto, using(crate::proofs::Ranges::domain_anywhere))]
     /// The domain of a range: that of the last one where it is the same.
+    #[tactic(auto, using(crate::proofs::Ranges::domain_anywhere))]
     fn between(&mut self, at: u32, low: i64, high: i64) -> Result<Domain, ModelError>
         ensures { Gives result (domain_of at (base.Range low high)) }
     {

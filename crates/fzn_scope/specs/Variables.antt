@@ -19,7 +19,7 @@ number_at name at = from_le_bytes w64 (take 8 (drop at name))
 abbrev pub HasKey : List ℕ → Type 0
 HasKey name = (8 ≤ length name) × (length name ≤ 24)
 
--- its first, its middle and its last eight bytes, which overlap where it has fewer than 24
+-- its first, its second and its last eight bytes, which may overlap; of a name of at most 16 the first stand for the second
 abbrev pub key_of : List ℕ → Key
 key_of name = record { first = number_at name 0; middle = number_at name (if nat_lt 16 (length name) then 8 else 0); last = number_at name (length name - 8) }
 

@@ -89,7 +89,7 @@ impl<'t> Names<'t> {
 
     /// Whether a variable of this name is Boolean, and its term, where it is found without a look at the text.
     #[inline(always)]
-    pub fn variable(&self, name: &[u8]) -> Option<(bool, Term)>
+    pub(crate) fn variable(&self, name: &[u8]) -> Option<(bool, Term)>
         ensures { IfSome result (λ found. declared_as self.now name.now ≡ Some (one_of.One found.0 found.1)) }
     {
         self.variables.find(name)

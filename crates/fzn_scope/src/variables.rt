@@ -18,7 +18,8 @@ const SLOT_BITS: u32 = 14;
 
 const SLOTS: usize = 1 << SLOT_BITS;
 
-/// The bytes of a name that has 8 to 24 of them: three parts of eight bytes, which overlap where it has fewer.
+/// The bytes of a name that has 8 to 24 of them: its first, its second and its last eight, which may overlap. Where it has
+/// at most 16, the first stand for the second.
 #[derive(Clone, Copy, PartialEq, Eq)]
 pub(crate) struct Key {
     first: u64,
