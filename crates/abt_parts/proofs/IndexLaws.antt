@@ -9,11 +9,11 @@ use Rattle.std.proofs.lemmas.Bool.Decides.{Decides-int_eq}
 use Rattle.dcsp_defs.specs.Words.{is_value}
 use Rattle.abt_parts.specs.declared.recorded.Recorded.{Recorded}
 use Rattle.abt_parts.specs.Stores.{lowest_value, is_against, is_ruled_out, place_against, IsOncePerValue, places_naming}
-use Rattle.abt_parts.specs.Places.{Places}
+use Rattle.abt_parts.specs.Places.{Places, without_last}
 use Rattle.abt_parts.specs.Index.{list_of, HaveRoomFrom, IsIndexed}
 use Rattle.abt_parts.proofs.Counts.{count_by-cons, count_by-append, count_by-filter, filter_all, none_passed}
-use Rattle.abt_parts.proofs.PlaceLaws.{names, with_place, places_push, length-places}
-use Rattle.abt_parts.proofs.PlacedLaws.{place_pushed}
+use Rattle.abt_parts.proofs.PlaceLaws.{names, with_place, places_push, length-places, unpushed}
+use Rattle.abt_parts.proofs.PlacedLaws.{none_is, place_pushed, place_unpushed, some_place}
 
 -- the same items and places
 pub same_index : (items now : List Recorded) (places placed : ℤ → Option ℕ) (lists named : List Places) → IsIndexed items places lists
@@ -59,6 +59,31 @@ more_index items now x places placed lists named index e free takes adds = recor
       adds var ∙ ap (with_place (names var x) (length items)) (index.named var)
       ∙ sym (ap (λ z. places_naming z var) e ∙ places_push items x var (length items) refl);
 }
+
+-- one item less, without its value and its places
+pub less_index : (items now : List Recorded) (x : Recorded) (places placed : ℤ → Option ℕ) (lists named : List Places) → IsIndexed items places lists
+    → items ≡ now ++ x ∷ []
+    → ((v : ℤ) → placed v ≡ cond (is_against v x) None (places v))
+    → ((var : ℕ) → (list_of named var).items ≡ cond (names var x) (without_last (list_of lists var).items) (list_of lists var).items)
+    → IsIndexed now placed named
+less_index items now x places placed lists named index e takes drops =
+    let all : IsIndexed (now ++ x ∷ []) places lists = subst (λ z. IsIndexed z places lists) e index in
+    record {
+      once = λ v. omega (arith, all.once v, count_by-append (is_against v) now (x ∷ []));
+      placed = λ v. takes v ∙ ap (cond (is_against v x) None) (all.placed v) ∙ place_unpushed (is_against v) now x (all.once v);
+      named = λ var.
+          drops var
+          ∙ ap (λ (l : List ℕ). cond (names var x) (without_last l) l) (all.named var ∙ places_push now x var (length now) refl)
+          ∙ unpushed (names var x) (length now) (places_naming now var);
+    }
+
+-- a value that no item's lowest pair has is put in and taken out again
+pub back_again : (items : List Recorded) (x : Recorded) (places : ℤ → Option ℕ) (k : ℕ) → ((v : ℤ) → places v ≡ place_against v items) → ForSome (lowest_value x.nogood) (λ v. is_ruled_out v items ≡ false)
+    → (v : ℤ) → cond (is_against v x) None (cond (is_against v x) (Some k) (places v)) ≡ places v
+back_again items x places k placed free v = by_test (is_against v x) refl where
+  by_test : (b : Bool) → is_against v x ≡ b → cond b None (cond b (Some k) (places v)) ≡ places v
+  by_test true t = sym (placed v ∙ none_is (place_against v items) (some_place (is_against v) 0 items ∙ against_alone items x v free t))
+  by_test false f = refl
 
 -- some of the items
 pub fewer_once : (items : List Recorded) (q : Recorded → Bool) → IsOncePerValue items → IsOncePerValue (filter q items)

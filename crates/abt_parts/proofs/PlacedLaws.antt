@@ -5,7 +5,7 @@ use Rattle.std.specs.List.{count_by, list_any, position_from}
 use Rattle.std.proofs.lemmas.List.{take_more, take-append-drop}
 use Rattle.std.proofs.lemmas.List.Folds.{list_any_at, list_any-append}
 use Rattle.std.proofs.lemmas.List.Sums.{sum_by_more_le}
-use Rattle.abt_parts.proofs.Counts.{none_counted}
+use Rattle.abt_parts.proofs.Counts.{count_by-append, count_by-cons, none_counted}
 
 pub some_place : {X : Type 0} (p : X → Bool) (i : ℕ) (xs : List X) → is_some (position_from p i xs) ≡ list_any p xs
 some_place p i [] = refl
@@ -36,6 +36,20 @@ place_pushed p xs x n e alone = by_test (p x) refl where
   by_test : (b : Bool) → p x ≡ b → cond b (Some n) (position_from p 0 xs) ≡ position_from p 0 (xs ++ x ∷ [])
   by_test true t = let size : n ≡ 0 + length xs = omega (arith, e) in ap (λ (k : ℕ). Some k) size ∙ sym (passes_last p 0 xs x (alone t) t)
   by_test false f = sym (fails_last p 0 xs x f)
+
+pub none_is : (o : Option ℕ) → is_some o ≡ false → o ≡ None
+none_is None e = refl
+none_is (Some k) e = absurd cc
+
+-- one element less, which passed alone if it did
+pub place_unpushed : {X : Type 0} (p : X → Bool) (xs : List X) (x : X) → count_by p (xs ++ x ∷ []) ≤ 1 → cond (p x) None (position_from p 0 (xs ++ x ∷ [])) ≡ position_from p 0 xs
+place_unpushed p xs x once = by_test (p x) refl where
+  by_test : (b : Bool) → p x ≡ b → cond b None (position_from p 0 (xs ++ x ∷ [])) ≡ position_from p 0 xs
+  by_test true t =
+      let one : ◌≡◌ {A = ℕ} (cond (p x) 1 0) 1 = ap (λ b. cond b 1 0) t in
+      let none = none_counted p xs (omega (arith, once, count_by-append p xs (x ∷ []), count_by-cons p x [], one)) in
+      sym (none_is (position_from p 0 xs) (some_place p 0 xs ∙ none))
+  by_test false f = fails_last p 0 xs x f
 
 module _ {X : Type 0} (p : X → Bool) (xs : List X) (k : ℕ) (x : X) (within : k < length xs) (is : x ≡ get_or xs k x) where
   -- where at most one element passes, none before one that passes does
@@ -69,10 +83,6 @@ pub same_some : (b : Bool) (kept : Option ℕ) (k : ℕ) → is_some (cond (b &&
 same_some true None k = refl
 same_some true (Some j) k = refl
 same_some false kept k = refl
-
-none_is : (o : Option ℕ) → is_some o ≡ false → o ≡ None
-none_is None e = refl
-none_is (Some k) e = absurd cc
 
 -- some place is kept exactly if some element passes, and is the right one then
 pub placed_all : {X : Type 0} (p : X → Bool) (xs : List X) (kept : Option ℕ) → is_some kept ≡ list_any p xs → (list_any p xs ≡ true → kept ≡ position_from p 0 xs) → kept ≡ position_from p 0 xs

@@ -1,7 +1,7 @@
 -- Steps of the values of the items' lowest pairs.
-use Rattle.std.proofs.Common.{◌≡◌, ℕ, ◌+◌, ◌<◌, ◌≤◌, Bool, true, false, cond, not, ◌&&◌, ◌||◌, List, [], ◌∷◌, ◌++◌, length, take, drop, get_or, filter, refl, sym, ap, ◌∙◌, arith, append_assoc}
+use Rattle.std.proofs.Common.{◌≡◌, ℕ, ◌+◌, ◌-◌, ◌<◌, ◌≤◌, Bool, true, false, cond, not, ◌&&◌, ◌||◌, List, [], ◌∷◌, ◌++◌, length, take, drop, get_or, filter, refl, sym, ap, ◌∙◌, arith, append_assoc}
 use Rattle.std.specs.List.{count_by, list_any}
-use Rattle.std.proofs.lemmas.List.{take_more, append-nil}
+use Rattle.std.proofs.lemmas.List.{take_more, take_all, append-nil, get_or_default}
 use Rattle.std.proofs.lemmas.List.Elements.{filter-append}
 use Rattle.std.proofs.lemmas.List.Folds.{list_any-append}
 use Rattle.abt_parts.proofs.Counts.{count_by-cons, count_by-append, count_by-filter_take, none_counted, split_at}
@@ -48,3 +48,15 @@ module _ {X : Type 0} (q : X → Bool) (xs : List X) (k : ℕ) (x : X) (within :
       ap (λ z. list_any p z && not (p x)) before
       ∙ without_one p (filter q (take k xs)) (drop (k + 1) xs) x (omega (arith, fewer, ap (count_by p) before, once))
       ∙ ap (list_any p) after
+
+-- the last element is left out where it does not pass
+pub last_leaves : {X : Type 0} (q : X → Bool) (xs : List X) → 0 < length xs → ((x : X) → q (get_or xs (length xs - 1) x) ≡ false) → filter q (take (length xs - 1) xs) ≡ filter q xs
+last_leaves q [] some unfit = absurd (omega arith)
+last_leaves {X} q (y ∷ ys) some unfit =
+    let xs = y ∷ ys in
+    let k = length xs - 1 in
+    let x = get_or xs k y in
+    let within : k < length xs = omega (arith, some) in
+    let size : length xs ≤ k + 1 = omega arith in
+    let all : filter q (take (k + 1) xs) ≡ filter q (take k xs) ++ cond (q x) (x ∷ []) [] = filtered q xs k x within (get_or_default xs k y x within) in
+    sym (ap (filter q) (sym (take_all (k + 1) xs size)) ∙ all ∙ ap (λ b. filter q (take k xs) ++ cond b (x ∷ []) []) (unfit y) ∙ append-nil (filter q (take k xs)))

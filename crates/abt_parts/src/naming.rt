@@ -1,10 +1,10 @@
 //! For each variable the places of the items that name it.
 
-ghost use Rattle.std.specs.Prelude.{◌≡◌, ℕ, ◌<◌, ◌≤◌, ◌++◌, [], ◌∷◌, length, true, OnOk, if◌then◌else◌, take, vec_len};
+ghost use Rattle.std.specs.Prelude.{◌≡◌, ℕ, ◌<◌, ◌≤◌, ◌++◌, [], ◌∷◌, length, true, OnErr, OnOk, if◌then◌else◌, take, vec_len};
 ghost use Rattle.dcsp_defs.specs.Pairs.{var_at, IsRising};
 ghost use Rattle.abt_defs.specs.Steps.{is_named};
 ghost use Rattle.abt_parts.specs.Places.{without_last};
-ghost use Rattle.abt_parts.specs.Index.{list_of, HasRoom, HaveRoom, HaveRoomFrom, AreNamed};
+ghost use Rattle.abt_parts.specs.Index.{list_of, HaveRoom, HaveRoomFrom, AreNamed};
 
 use crate::place_list::PlaceList;
 use crate::recorded::Recorded;
@@ -12,31 +12,33 @@ use dcsp_common::Memory;
 use dcsp_defs::Pair;
 use std::alloc::Global;
 
-/// Makes room for one place more in the list of each variable that the pairs name. The places stay.
-pub fn make_room(alloc: Global, lists: &mut Vec<PlaceList>, pairs: &[Pair]) -> Result<(), Memory>
-    ensures places { (var : ℕ) → (list_of lists.new.items var).items ≡ (list_of lists.old.items var).items }
-    ensures room { OnOk result (HaveRoom lists.new.items pairs.now) }
+/// Adds the place of an item to the list of each variable that its pairs name. A refusal changes no list.
+pub fn add_name(
+    alloc: Global,
+    lists: &mut Vec<PlaceList>,
+    pairs: &[Pair],
+    place: u64,
+) -> Result<(), Memory>
+    requires { IsRising pairs.now }
+    ensures ok { OnOk result ((var : ℕ) → (list_of lists.new.items var).items ≡ (if is_named var pairs.now then (list_of lists.old.items var).items ++ place ∷ [] else (list_of lists.old.items var).items)) }
+    ensures err { OnErr result ((var : ℕ) → (list_of lists.new.items var).items ≡ (list_of lists.old.items var).items) }
 {
-    for pair in pairs {
-        make_room_at(alloc, lists, pair.var)?;
+    let Some(last) = pairs.last() else {
+        return Ok(());
+    };
+    add_lists(alloc, lists, last.var as usize + 1)?;
+    for at in 0..pairs.len() {
+        if lists[pairs[at].var as usize].push(place).is_err() {
+            unname_item(lists, &pairs[..at]);
+            return Err(Memory);
+        }
     }
     Ok(())
-}
-
-/// Makes room for one place more in the list of a variable. The places stay.
-fn make_room_at(alloc: Global, lists: &mut Vec<PlaceList>, var: u32) -> Result<(), Memory>
-    ensures places { (v : ℕ) → (list_of lists.new.items v).items ≡ (list_of lists.old.items v).items }
-    ensures kept { (v : ℕ) → HasRoom lists.old.items v → HasRoom lists.new.items v }
-    ensures room { OnOk result (HasRoom lists.new.items var) }
-{
-    add_lists(alloc, lists, var as usize + 1)?;
-    lists[var as usize].reserve_one()
 }
 
 /// Adds empty lists until there are so many.
 fn add_lists(alloc: Global, lists: &mut Vec<PlaceList>, count: usize) -> Result<(), Memory>
     ensures places { (v : ℕ) → (list_of lists.new.items v).items ≡ (list_of lists.old.items v).items }
-    ensures kept { (v : ℕ) → HasRoom lists.old.items v → HasRoom lists.new.items v }
     ensures count { OnOk result (count ≤ vec_len lists.new) }
 {
     while lists.len() < count {
@@ -55,7 +57,7 @@ pub fn name_item(lists: &mut Vec<PlaceList>, pairs: &[Pair], place: u64)
     ensures capacity { (var : ℕ) → (list_of lists.new.items var).capacity ≡ (list_of lists.old.items var).capacity }
 {
     for pair in pairs {
-        lists[pair.var as usize].push(place);
+        lists[pair.var as usize].push_reserved(place);
     }
 }
 
@@ -74,7 +76,7 @@ pub fn unname_from(lists: &mut Vec<PlaceList>, items: &[Recorded], first: usize)
 }
 
 /// Takes the last place out of the list of each variable that the pairs name.
-fn unname_item(lists: &mut Vec<PlaceList>, pairs: &[Pair])
+pub fn unname_item(lists: &mut Vec<PlaceList>, pairs: &[Pair])
     requires rising { IsRising pairs.now }
     requires there { (k : ℕ) → k < length pairs.now → var_at pairs.now k < length lists.old.items }
     ensures places { (var : ℕ) → (list_of lists.new.items var).items ≡ (if is_named var pairs.now then without_last (list_of lists.old.items var).items else (list_of lists.old.items var).items) }

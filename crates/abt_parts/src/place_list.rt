@@ -1,6 +1,6 @@
 //! Places of items, in a list that can be given room before it grows.
 
-ghost use Rattle.std.specs.Prelude.{◌≡◌, ◌<◌, ◌≤◌, [], ◌∷◌, ◌++◌, length, OnOk, vec_capacity};
+ghost use Rattle.std.specs.Prelude.{◌≡◌, ◌<◌, ◌≤◌, [], ◌∷◌, ◌++◌, length, is_ok, if◌then◌else◌, vec_capacity};
 ghost use Rattle.abt_parts.specs.Places.{without_last};
 
 use dcsp_common::Memory;
@@ -32,25 +32,23 @@ impl PlaceList {
         }
     }
 
-    /// Makes room for one place more. The places stay.
-    pub fn reserve_one(&mut self) -> Result<(), Memory>
-        ensures items { self.new.items ≡ self.old.items }
-        ensures capacity { self.old.capacity ≤ self.new.capacity }
-        ensures room { OnOk result (length self.new.items < self.new.capacity) }
-    {
-        match self.places.reserve(1) {
-            Ok(()) => Ok(()),
-            Err(_) => Err(Memory),
-        }
-    }
-
     /// Adds a place at the end, for which there is room.
-    pub fn push(&mut self, place: u64)
+    pub fn push_reserved(&mut self, place: u64)
         requires { length self.old.items < self.old.capacity }
         ensures items { self.new.items ≡ self.old.items ++ place ∷ [] }
         ensures capacity { self.new.capacity ≡ self.old.capacity }
     {
         self.places.push_reserved(place);
+    }
+
+    /// Adds a place at the end. A refusal changes nothing.
+    pub fn push(&mut self, place: u64) -> Result<(), Memory>
+        ensures { self.new.items ≡ (if is_ok result then self.old.items ++ place ∷ [] else self.old.items) }
+    {
+        match self.places.push(place) {
+            Ok(()) => Ok(()),
+            Err(_) => Err(Memory),
+        }
     }
 
     /// Takes out the last place, if there is one, and leaves the room that it had.

@@ -1,15 +1,15 @@
 //! The nogoods that one agent keeps.
 
-ghost use Rattle.std.specs.Prelude.{◌≡◌, ◌≤◌, [], ◌∷◌, ◌++◌, false, true, filter, length, take, IfErr, IfSome, IsNone, OnErr, OnOk};
+ghost use Rattle.std.specs.Prelude.{◌≡◌, ◌<◌, ◌≤◌, ◌-◌, [], ◌∷◌, ◌++◌, false, true, filter, length, take, slice_index_or, IfErr, IfSome, IsNone, IsTrue, OnErr, OnOk};
 ghost use Rattle.std.specs.List.{list_all};
 ghost use Rattle.std.specs.Option.{ForSome};
 ghost use Rattle.abt_defs.specs.Steps.{forget};
 ghost use Rattle.abt_parts.specs.Stores.{fits, is_ruled_out, lowest_value, place_against, places_naming, records_of, IsOncePerValue};
 
-use crate::naming::{make_room, name_from, name_item, unname_from};
+use crate::naming::{add_name, name_from, unname_from, unname_item};
 use crate::place_list::PlaceList;
 use crate::recorded::Recorded;
-use crate::taken::{is_fitting, place_values, release_values, take_value};
+use crate::taken::{is_fitting, place_values, release_value, release_values, take_value};
 use crate::value_places::ValuePlaces;
 use dcsp_common::Memory;
 use dcsp_defs::{Nogood, Pair};
@@ -61,14 +61,14 @@ impl Store {
         ensures handed_back { IfErr result (λ refused. refused.0 ≡ nogood) }
         ensures err { OnErr result (self.new ≡ self.old) }
     {
-        let pairs = nogood.pairs();
-        if make_room(self.alloc, &mut self.lists, pairs).is_err()
-            || self.items.reserve(1).is_err()
-            || take_value(&mut self.places, &nogood, self.items.len()).is_err()
-        {
+        let place = self.items.len();
+        if self.items.reserve(1).is_err() || take_value(&mut self.places, &nogood, place).is_err() {
             return Err((nogood, Memory));
         }
-        name_item(&mut self.lists, pairs, self.items.len() as u64);
+        if add_name(self.alloc, &mut self.lists, nogood.pairs(), place as u64).is_err() {
+            release_value(&mut self.places, &nogood);
+            return Err((nogood, Memory));
+        }
         self.items.push_reserved(Recorded { nogood, step });
         Ok(())
     }
@@ -94,15 +94,61 @@ impl Store {
         ensures items { self.new ≡ filter (fits var value) self.old }
         ensures records { records_of self.new ≡ forget var value (records_of self.old) }
     {
-        let known = Pair { var, value };
-        let Some(first) = self.first_unfit(known) else {
+        if self.naming(var).is_empty() {
             return;
-        };
+        }
+        self.forget_named(Pair { var, value });
+    }
+
+    /// The same for a variable that some item names. Mostly the items that go are the last ones: they are taken
+    /// out one by one, and none of the others moves.
+    fn forget_named(&mut self, known: Pair)
+        ensures { self.new ≡ filter (fits known.var known.value) self.old }
+    {
+        while self.ends_unfit(known) {
+            self.drop_last();
+        }
+        if let Some(first) = self.first_unfit(known) {
+            self.forget_from(first, known);
+        }
+    }
+
+    /// Takes out the items that give the pair's variable another value, none of which stands before the first.
+    #[inline(never)]
+    fn forget_from(&mut self, first: usize, known: Pair)
+        requires within { first ≤ length self.old }
+        requires before { list_all (fits known.var known.value) (take first self.old) ≡ true }
+        ensures { self.new ≡ filter (fits known.var known.value) self.old }
+    {
         unname_from(&mut self.lists, &self.items, first);
         release_values(&mut self.places, &self.items, first, known);
         self.items.retain(|item| is_fitting(&item.nogood, known));
         place_values(&mut self.places, &self.items, first);
         name_from(&mut self.lists, &self.items, first);
+    }
+
+    /// Whether the last item gives the pair's variable another value.
+    fn ends_unfit(&self, known: Pair) -> bool
+        ensures some { IsTrue result → 0 < length self.now }
+        ensures unfit { IsTrue result → (item : Recorded) → fits known.var known.value (slice_index_or self.now (length self.now - 1) item) ≡ false }
+    {
+        match self.naming(known.var).last() {
+            Some(place) => {
+                *place as usize + 1 == self.items.len()
+                    && !is_fitting(&self.items[*place as usize].nogood, known)
+            }
+            None => false,
+        }
+    }
+
+    /// Takes out the last item, if there is one.
+    fn drop_last(&mut self)
+        ensures { self.new ≡ take (length self.old - 1) self.old }
+    {
+        if let Some(item) = self.items.pop() {
+            unname_item(&mut self.lists, item.nogood.pairs());
+            release_value(&mut self.places, &item.nogood);
+        }
     }
 
     /// The place of the first item that gives the pair's variable another value.

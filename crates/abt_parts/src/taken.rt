@@ -1,6 +1,6 @@
 //! Against which value each item stands: the places of the items, by the values of their lowest pairs.
 
-ghost use Rattle.std.specs.Prelude.{◌≡◌, ◌≤◌, ℤ, ◌&&◌, ◌||◌, ◌==◌, not, true, length, OnOk, OnErr, Some, filter, is_some, if◌then◌else◌, take};
+ghost use Rattle.std.specs.Prelude.{◌≡◌, ◌≤◌, ℤ, ◌&&◌, ◌||◌, ◌==◌, not, true, length, None, OnOk, OnErr, Some, filter, is_some, if◌then◌else◌, take};
 ghost use Rattle.std.specs.List.{list_all};
 ghost use Rattle.std.specs.Ordering.{int_eq};
 ghost use Rattle.dcsp_defs.specs.declared.nogood.Pair.{Pair as ThePair};
@@ -44,7 +44,8 @@ pub fn release_values(places: &mut ValuePlaces, items: &[Recorded], first: usize
 }
 
 /// Takes out the value of the nogood's lowest pair, if there is one.
-fn release_value(places: &mut ValuePlaces, nogood: &Nogood)
+pub fn release_value(places: &mut ValuePlaces, nogood: &Nogood)
+    ensures places { (value : ℤ) → place_for places.new value ≡ (if is_value (lowest_value nogood.now) value then None else place_for places.old value) }
     ensures kept { (value : ℤ) → is_some (place_for places.new value) ≡ true → place_for places.new value ≡ place_for places.old value }
     ensures taken { (value : ℤ) → is_some (place_for places.new value) ≡ (is_some (place_for places.old value) && not (is_value (lowest_value nogood.now) value)) }
 {

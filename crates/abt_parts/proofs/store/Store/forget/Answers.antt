@@ -1,148 +1,27 @@
-use Rattle.std.proofs.Common.{◌≡◌, ◌≤◌, take, ◌∙◌, ap, sym, rules, arith, filter, length, ℤ, subst, List, w64, SFits, to_z, of_z}
-use Rattle.std.specs.Prelude.{is_some}
-use Rattle.std.specs.List.{list_all}
-use Rattle.std.proofs.lemmas.Fn.{filter_same}
+use Rattle.std.proofs.Common.{◌≡◌, filter, length, ap, sym, ◌∙◌, rules, arith, ℤ, w64, SFits, to_z, of_z}
+use Rattle.std.proofs.lemmas.Bool.{eqb-true}
 use Rattle.std.proofs.lemmas.Int.{to_z-of_z}
-use Rattle.abt_parts.specs.declared.recorded.Recorded.{Recorded}
-use Rattle.abt_parts.specs.Stores.{fits, is_against, is_ruled_out, place_against, records_of, places_naming, IsOncePerValue}
+use Rattle.abt_parts.specs.Stores.{fits, records_of, places_naming}
 use Rattle.abt_parts.proofs.Counts.{filter_all}
-use Rattle.abt_parts.proofs.Fitting.{records-filter}
-use Rattle.abt_parts.proofs.IndexLaws.{fewer_once, kept_first, kept_within, kept_room}
-use Rattle.abt_parts.specs.Index.{HaveRoomFrom}
-use Rattle.abt_parts.proofs.PlacedLaws.{some_place, some_before, place_before}
+use Rattle.abt_parts.proofs.Fitting.{fits_unnamed, records-filter}
+use Rattle.abt_parts.proofs.PlaceLaws.{all_at_places}
 use Rattle.abt_parts.proofs.store.Store.forget.Goals as goal
 
-pub returns-in_default-clause-items : goal.returns-in_default-clause-items
-returns-in_default-clause-items c =
-    let in_range : SFits w64 c.args.value = search rules in
-    let same : to_z w64 (of_z w64 c.args.value) ≡ c.args.value = simp to_z-of_z in
-    let all = ap (λ (v : ℤ). list_all (fits c.args.var v) c.args.self.now) (sym same) ∙ c.first_unfit.ensures.none (ap is_some c.in_default.is) in
-    sym (filter_all (fits c.args.var c.args.value) c.args.self.now all)
+pub returns-then-is_empty-clause-items : goal.returns-then-is_empty-clause-items
+returns-then-is_empty-clause-items c =
+    let items = c.args.self.now in
+    let var = c.args.var in
+    let value = c.args.value in
+    let empty = eqb-true (length c.naming.result.now) 0 (sym c.is_empty.ensures ∙ c.if-is_empty.true) in
+    let none : length (places_naming items var) ≡ 0 = ap length (sym c.naming.ensures) ∙ empty in
+    sym (filter_all (fits var value) items (all_at_places (fits var value) items var (λ x unnamed. fits_unnamed x.nogood var value unnamed) (λ j below d. absurd (omega (arith, below, none)))))
 
-pub returns-in_default-clause-records : goal.returns-in_default-clause-records
-returns-in_default-clause-records c = ap records_of (returns-in_default-clause-items c) ∙ records-filter c.args.var c.args.value c.args.self.now
-
-pub release_values-requires-clause-once : goal.release_values-requires-clause-once
-release_values-requires-clause-once c = subst IsOncePerValue (sym c.deref-2.ensures.value) c.self.invariant.once
-
-pub release_values-requires-clause-taken : goal.release_values-requires-clause-taken
-release_values-requires-clause-taken c = λ v.
-    ap is_some (c.self.invariant.placed v) ∙ some_place (is_against v) 0 c.self.inside.items.items ∙ ap (is_ruled_out v) (sym c.deref-2.ensures.value)
-
-pub release_values-requires-clause-within : goal.release_values-requires-clause-within
-release_values-requires-clause-within c = omega (arith, c.in-Some.ensures.within, ap length c.self.view_is, ap length c.deref-2.ensures.value)
-
-pub release_values-requires-clause-before : goal.release_values-requires-clause-before
-release_values-requires-clause-before c =
-    let test = fits c.args.var (to_z w64 (of_z w64 c.args.value)) in
-    ap (λ (z : List Recorded). list_all test (take c.in-Some.first z)) (c.deref-2.ensures.value ∙ c.self.view_is) ∙ c.in-Some.ensures.before
-
-pub place_values-requires-clause-once : goal.place_values-requires-clause-once
-place_values-requires-clause-once c =
-    let items = c.self.inside.items.items in
-    let test = fits c.args.var c.args.value in
-    let kept : c.retain.new.self.items ≡ filter test items = filter_same _ _ _ (λ x b f' k. search rules) _ _ c.retain.ensures.filtered in
-    subst IsOncePerValue (sym (c.deref-3.ensures.value ∙ kept)) (fewer_once items test c.self.invariant.once)
-
-pub place_values-requires-clause-taken : goal.place_values-requires-clause-taken
-place_values-requires-clause-taken c = λ v.
-    let in_range : SFits w64 c.args.value = search rules in
-    let same : to_z w64 (of_z w64 c.args.value) ≡ c.args.value = simp to_z-of_z in
-    let items = c.self.inside.items.items in
-    let test = fits c.args.var c.args.value in
-    let kept : c.retain.new.self.items ≡ filter test items = filter_same _ _ _ (λ x b f' k. search rules) _ _ c.retain.ensures.filtered in
-    c.release_values.ensures.taken v
-    ∙ ap (λ (z : List Recorded). is_ruled_out v (filter (fits c.args.var (to_z w64 (of_z w64 c.args.value))) z)) c.deref-2.ensures.value
-    ∙ ap (λ (z : ℤ). is_ruled_out v (filter (fits c.args.var z) items)) same
-    ∙ ap (is_ruled_out v) (sym (c.deref-3.ensures.value ∙ kept))
-
-pub place_values-requires-clause-within : goal.place_values-requires-clause-within
-place_values-requires-clause-within c =
-    let in_range : SFits w64 c.args.value = search rules in
-    let same : to_z w64 (of_z w64 c.args.value) ≡ c.args.value = simp to_z-of_z in
-    let items = c.self.inside.items.items in
-    let test = fits c.args.var c.args.value in
-    let first = c.in-Some.first in
-    let kept : c.retain.new.self.items ≡ filter test items = filter_same _ _ _ (λ x b f' k. search rules) _ _ c.retain.ensures.filtered in
-    let left = c.deref-3.ensures.value ∙ kept in
-    let inside : first ≤ length items = omega (arith, c.in-Some.ensures.within, ap length c.self.view_is) in
-    let all = ap (λ (z : List Recorded). list_all test (take first z)) c.self.view_is ∙ ap (λ (v : ℤ). list_all (fits c.args.var v) (take first c.args.self.now)) (sym same) ∙ c.in-Some.ensures.before in
-    omega (arith, kept_within items test first inside all, ap length left)
-
-pub place_values-requires-clause-before : goal.place_values-requires-clause-before
-place_values-requires-clause-before c = λ v there.
-    let in_range : SFits w64 c.args.value = search rules in
-    let same : to_z w64 (of_z w64 c.args.value) ≡ c.args.value = simp to_z-of_z in
-    let items = c.self.inside.items.items in
-    let test = fits c.args.var c.args.value in
-    let first = c.in-Some.first in
-    let kept : c.retain.new.self.items ≡ filter test items = filter_same _ _ _ (λ x b f' k. search rules) _ _ c.retain.ensures.filtered in
-    let left = c.deref-3.ensures.value ∙ kept in
-    let inside : first ≤ length items = omega (arith, c.in-Some.ensures.within, ap length c.self.view_is) in
-    let all = ap (λ (z : List Recorded). list_all test (take first z)) c.self.view_is ∙ ap (λ (v : ℤ). list_all (fits c.args.var v) (take first c.args.self.now)) (sym same) ∙ c.in-Some.ensures.before in
-    let prefix = ap (take first) left ∙ kept_first items test first inside all in
-    let ruled = sym (ap (is_ruled_out v) prefix) ∙ there in
-    let some = place_values-requires-clause-taken c v ∙ some_before (is_against v) _ first there in
-    c.release_values.ensures.kept v some ∙ c.self.invariant.placed v ∙ place_before (is_against v) items first ruled ∙ sym (ap (place_against v) prefix)
-
-pub name_from-requires-clause-within : goal.name_from-requires-clause-within
-name_from-requires-clause-within c =
-    let in_range : SFits w64 c.args.value = search rules in
-    let same : to_z w64 (of_z w64 c.args.value) ≡ c.args.value = simp to_z-of_z in
-    let items = c.self.inside.items.items in
-    let test = fits c.args.var c.args.value in
-    let first = c.in-Some.first in
-    let kept : c.retain.new.self.items ≡ filter test items = filter_same _ _ _ (λ x b f' k. search rules) _ _ c.retain.ensures.filtered in
-    let left = c.deref-4.ensures.value ∙ kept in
-    let inside : first ≤ length items = omega (arith, c.in-Some.ensures.within, ap length c.self.view_is) in
-    let all = ap (λ (z : List Recorded). list_all test (take first z)) c.self.view_is ∙ ap (λ (v : ℤ). list_all (fits c.args.var v) (take first c.args.self.now)) (sym same) ∙ c.in-Some.ensures.before in
-    omega (arith, kept_within items test first inside all, ap length left)
-
-pub name_from-requires-clause-named : goal.name_from-requires-clause-named
-name_from-requires-clause-named c = λ var.
-    let in_range : SFits w64 c.args.value = search rules in
-    let same : to_z w64 (of_z w64 c.args.value) ≡ c.args.value = simp to_z-of_z in
-    let items = c.self.inside.items.items in
-    let test = fits c.args.var c.args.value in
-    let first = c.in-Some.first in
-    let kept : c.retain.new.self.items ≡ filter test items = filter_same _ _ _ (λ x b f' k. search rules) _ _ c.retain.ensures.filtered in
-    let left = c.deref-4.ensures.value ∙ kept in
-    let inside : first ≤ length items = omega (arith, c.in-Some.ensures.within, ap length c.self.view_is) in
-    let all = ap (λ (z : List Recorded). list_all test (take first z)) c.self.view_is ∙ ap (λ (v : ℤ). list_all (fits c.args.var v) (take first c.args.self.now)) (sym same) ∙ c.in-Some.ensures.before in
-    c.unname_from.ensures.named var
-    ∙ ap (λ (z : List Recorded). places_naming (take first z) var) c.deref.ensures.value
-    ∙ sym (ap (λ (z : List Recorded). places_naming z var) (ap (take first) left ∙ kept_first items test first inside all))
-
-pub name_from-requires-clause-room : goal.name_from-requires-clause-room
-name_from-requires-clause-room c =
-    let in_range : SFits w64 c.args.value = search rules in
-    let same : to_z w64 (of_z w64 c.args.value) ≡ c.args.value = simp to_z-of_z in
-    let items = c.self.inside.items.items in
-    let test = fits c.args.var c.args.value in
-    let first = c.in-Some.first in
-    let kept : c.retain.new.self.items ≡ filter test items = filter_same _ _ _ (λ x b f' k. search rules) _ _ c.retain.ensures.filtered in
-    let left = c.deref-4.ensures.value ∙ kept in
-    let inside : first ≤ length items = omega (arith, c.in-Some.ensures.within, ap length c.self.view_is) in
-    let all = ap (λ (z : List Recorded). list_all test (take first z)) c.self.view_is ∙ ap (λ (v : ℤ). list_all (fits c.args.var v) (take first c.args.self.now)) (sym same) ∙ c.in-Some.ensures.before in
-    let lists = c.unname_from.new.lists.items in
-    subst (λ (z : List Recorded). HaveRoomFrom first z lists) (sym left) (kept_room items test first inside all lists (subst (λ (z : List Recorded). HaveRoomFrom first z lists) c.deref.ensures.value c.unname_from.ensures.room))
-
-pub invariant_of-self : goal.invariant_of-self
-invariant_of-self c =
-    let items = c.self.inside.items.items in
-    let test = fits c.args.var c.args.value in
-    let kept : c.retain.new.self.items ≡ filter test items = filter_same _ _ _ (λ x b f' k. search rules) _ _ c.retain.ensures.filtered in
-    record {
-      once = subst IsOncePerValue (sym kept) (fewer_once items test c.self.invariant.once);
-      placed = λ v. c.place_values.ensures v ∙ ap (place_against v) c.deref-3.ensures.value;
-      named = λ var. c.name_from.ensures var ∙ ap (λ (z : List Recorded). places_naming z var) c.deref-4.ensures.value;
-    }
-
-pub returns-clause-items : goal.returns-clause-items
-returns-clause-items c =
-    let test = fits c.args.var c.args.value in
-    let kept : c.retain.new.self.items ≡ filter test c.self.inside.items.items = filter_same _ _ _ (λ x b f' k. search rules) _ _ c.retain.ensures.filtered in
-    kept ∙ ap (filter test) c.self.view_is
+pub returns-then-is_empty-clause-records : goal.returns-then-is_empty-clause-records
+returns-then-is_empty-clause-records c = ap records_of (returns-then-is_empty-clause-items c) ∙ records-filter c.args.var c.args.value c.args.self.now
 
 pub returns-clause-records : goal.returns-clause-records
-returns-clause-records c = ap records_of (returns-clause-items c) ∙ records-filter c.args.var c.args.value c.args.self.now
+returns-clause-records c =
+    let in_range : SFits w64 c.args.value = search rules in
+    let same : to_z w64 (of_z w64 c.args.value) ≡ c.args.value = simp to_z-of_z in
+    let kept = c.forget_named.ensures ∙ ap (λ (v : ℤ). filter (fits c.args.var v) c.args.self.now) same in
+    ap records_of kept ∙ records-filter c.args.var c.args.value c.args.self.now
