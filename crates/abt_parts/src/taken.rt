@@ -44,6 +44,7 @@ pub fn release_values(places: &mut ValuePlaces, items: &[Recorded], first: usize
 }
 
 /// Takes out the value of the nogood's lowest pair, if there is one.
+#[inline(always)]
 pub fn release_value(places: &mut ValuePlaces, nogood: &Nogood)
     ensures places { (value : ℤ) → place_for places.new value ≡ (if is_value (lowest_value nogood.now) value then None else place_for places.old value) }
     ensures kept { (value : ℤ) → is_some (place_for places.new value) ≡ true → place_for places.new value ≡ place_for places.old value }
