@@ -1,11 +1,12 @@
 -- Whether a nogood gives a variable another value, by a look-up.
-use Rattle.std.proofs.Common.{◌≡◌, ℕ, Bool, true, false, not, ◌&&◌, ◌||◌, ◌==◌, List, [], ◌∷◌, filter, Some, None, ℤ, refl, sym, ap, ◌∙◌, cond, inl, inr}
+use Rattle.std.proofs.Common.{◌≡◌, ℕ, ◌+◌, ◌<◌, ◌≤◌, arith, length, get_or, Bool, true, false, not, ◌&&◌, ◌||◌, ◌==◌, List, [], ◌∷◌, filter, Some, None, ℤ, refl, sym, ap, ◌∙◌, cond, inl, inr}
 use Rattle.std.specs.List.{list_all}
 use Rattle.std.specs.Ordering.{int_eq}
-use Rattle.std.proofs.lemmas.Bool.{cases_eq, ne_eqb, eq-eqb}
+use Rattle.std.proofs.lemmas.Bool.{cases_eq, cases_lt, ne_eqb, eq-eqb}
 use Rattle.dcsp_defs.specs.declared.nogood.Pair.{Pair}
-use Rattle.dcsp_defs.specs.Pairs.{IsRising, value_at}
+use Rattle.dcsp_defs.specs.Pairs.{no_pair, var_at, IsRising, value_at}
 use Rattle.dcsp_defs.proofs.Determined.{IsRising-tail, value_at-rest, value_at-same, value_at-other}
+use Rattle.dcsp_defs.proofs.Searched.{rises_between, value_at-absent, value_at-place}
 use Rattle.abt_defs.specs.Steps.{forget, is_named}
 use Rattle.abt_parts.specs.declared.recorded.Recorded.{Recorded}
 use Rattle.abt_parts.specs.Stores.{records_of, record_of, fits}
@@ -62,3 +63,25 @@ fits_unnamed (p ∷ ps) var value none = by_test (var == p.var) (is_named var ps
   by_test true b e f clash later = absurd cc
   by_test false true e f clash later = absurd cc
   by_test false false e f clash later = other_first p ps var value e ∙ later f
+
+-- where a pair names no greater variable than this one, and those behind it do, it alone can give it another value
+pub fits_here : (ps : List Pair) (var : ℕ) (value : ℤ) (at : ℕ) → IsRising ps → at < length ps → var_at ps at ≤ var → ((k : ℕ) → at + 1 ≤ k → k < length ps → var < var_at ps k)
+    → (not (var == var_at ps at) || int_eq (get_or ps at no_pair).value value) ≡ all_fit var value ps
+fits_here ps var value at up within below above = elim (cases_eq var (var_at ps at)) [
+  | inl e ↦
+      let found = value_at-place ps var at up (record { within = within; names = sym e }) in
+      ap (λ b. not b || int_eq (get_or ps at no_pair).value value) (eq-eqb var (var_at ps at) e) ∙ sym (fits_some ps var value (get_or ps at no_pair).value up found)
+  | inr ne ↦
+      ap (λ b. not b || int_eq (get_or ps at no_pair).value value) (ne_eqb var (var_at ps at) ne)
+      ∙ sym (fits_none ps var value (value_at-absent ps var (λ k inside same. elim (cases_lt k at) [
+        | inl before ↦ let rise = rises_between ps up k at before within in omega (arith, rise, below, same)
+        | inr after ↦ elim (cases_eq k at) [
+          | inl here ↦ ne (sym same ∙ ap (var_at ps) here)
+          | inr past ↦ let more = above k (omega (arith, after, past)) inside in omega (arith, more, same)
+        ]
+      ])))
+]
+
+-- where all pairs name greater variables, none gives it another value
+pub fits_above : (ps : List Pair) (var : ℕ) (value : ℤ) → ((k : ℕ) → k < length ps → var < var_at ps k) → all_fit var value ps ≡ true
+fits_above ps var value above = fits_none ps var value (value_at-absent ps var (λ k inside same. let more = above k inside in omega (arith, more, same)))

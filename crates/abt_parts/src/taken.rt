@@ -79,19 +79,25 @@ fn place_value(places: &mut ValuePlaces, nogood: &Nogood, place: usize)
 }
 
 /// Whether the nogood gives the pair's variable no other value.
+///
+/// It looks from the last pair on, since mostly there are few, and an agent hears most from those just above it.
 pub fn is_fitting(nogood: &Nogood, known: Pair) -> bool
     ensures { result ≡ list_all (λ (pair : ThePair). not (known.var == pair.var) || int_eq pair.value known.value) nogood.now }
 {
     let pairs = nogood.pairs();
-    match pairs.binary_search_by_key(&known.var, |pair| pair.var) {
-        Ok(place) => is_same(pairs[place], known),
-        Err(_) => true,
+    let mut at = pairs.len();
+    while at > 0 {
+        at -= 1;
+        if pairs[at].var <= known.var {
+            return agrees(pairs[at], known);
+        }
     }
+    true
 }
 
-/// Whether two pairs have one value.
-fn is_same(one: Pair, other: Pair) -> bool
-    ensures { result ≡ int_eq one.value other.value }
+/// Whether a pair gives another one's variable no other value.
+fn agrees(pair: Pair, known: Pair) -> bool
+    ensures { result ≡ (not (known.var == pair.var) || int_eq pair.value known.value) }
 {
-    one.value == other.value
+    pair.var != known.var || pair.value == known.value
 }
