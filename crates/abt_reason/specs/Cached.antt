@@ -21,7 +21,7 @@ use Rattle.abt_reason.specs.Named.{only_other, others_of, ListsScopes, RisesByVa
 use Rattle.dcsp_defs.specs.declared.Reason.{Reason}
 use Rattle.abt_reason.specs.Causes.{known_at, is_false, is_free_at, reason_for, value_at}
 use Rattle.abt_reason.specs.Firsts.{IsFirst, IsFirstBetween}
-use Rattle.abt_reason.specs.Kept.{AreLeft, HaveSteps, KeepsSteps}
+use Rattle.abt_reason.specs.Kept.{AreLeft, HaveSteps, IsFitting, KeepsSteps}
 
 -- for each owned rule the values that it rules out; for each value the step of the first item that agrees; the number
 -- of items; and whether each is known to be a nogood of the agent
@@ -105,6 +105,11 @@ pub record StoodWithoutLast (r : Cached) (known : PartialAssignment) (items : Li
   pub last : Recorded
   pub stood : StandsFor r known items_before
   pub added : items ≡ items_before ++ last ∷ []
+
+-- what is kept was right before the last item was added, which fits
+pub record StoodWithoutFitting (r : Cached) (known : PartialAssignment) (items : List Recorded) : Type 0 where
+  pub stood : StoodWithoutLast r known items
+  pub fitting : IsFitting r.agent known stood.last
 
 -- the values from the one at a place on that stand before the run's end have the run's rule as the first that rules them out
 abbrev pub IsValueRunFrom : Cached → ℕ → ValueRun → Type 0

@@ -8,7 +8,7 @@ ghost use Rattle.dcsp_rule.specs.Problems.{csp_of, AreInDomains};
 ghost use Rattle.abt_parts.specs.declared.recorded.Recorded.{Recorded as TheRecorded};
 ghost use Rattle.abt_parts.specs.Views.{view_of};
 ghost use Rattle.abt_reason.specs.Grids.{IsValueRun};
-ghost use Rattle.abt_reason.specs.Cached.{rules_of, size_of, AreFirstsOf, HasRoom, owned_at, IsFirstFalseAt, IsFirstFree, IsFirstFreeBetween, IsOtherIn, IsReasonAt, IsValueRunFrom, NoneFreeBetween, StandsFor, StoodBefore, StoodWithoutLast};
+ghost use Rattle.abt_reason.specs.Cached.{rules_of, size_of, AreFirstsOf, HasRoom, owned_at, IsFirstFalseAt, IsFirstFree, IsFirstFreeBetween, IsOtherIn, IsReasonAt, IsValueRunFrom, NoneFreeBetween, StandsFor, StoodBefore, StoodWithoutFitting, StoodWithoutLast};
 
 use crate::grid::ValueRun;
 use crate::kept::KeptSteps;
@@ -118,6 +118,19 @@ impl<'p> Reasons<'p> {
             known: &ViewValues { view },
         };
         self.kept.after_record(&seat, store);
+    }
+
+    /// The same, where the last item is the agent's and agrees with what is known where the agent has the value
+    /// of its lowest pair. Nothing known is looked at.
+    pub fn after_fitting_record(&mut self, store: &Store)
+        requires room { HasRoom self.old }
+        requires some { 0 < length store.now }
+        ensures problem { self.new.problem ≡ self.old.problem }
+        ensures agent { self.new.agent ≡ self.old.agent }
+        ensures stands { (known : PartialAssignment) → StoodWithoutFitting self.old known store.now → StandsFor self.new known store.now }
+    {
+        let domain = self.problem.domain(self.agent);
+        self.kept.after_fitting_record(domain, store);
     }
 
     /// The reason for the value at a place of the agent's domain; `None` exactly if the value is not
