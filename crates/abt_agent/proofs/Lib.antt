@@ -3,6 +3,7 @@ pub mod Causes
 mod Blamed
 mod Others
 pub mod Fits
+mod Fitting
 pub mod GivesUp
 pub mod Takes
 pub mod Learns

@@ -128,5 +128,8 @@ lowest_at i (x ∷ z ∷ zs) r low own e =
       | inr t ↦ lowest_at i (z ∷ zs) r.1 (λ y u. low y (inr u)) own (rw t.0 at e)
     ]
 
+pub own_lowest : (p : Csp) (i : ℕ) (pairs : List Pair) → Proper p i pairs → lowest_var pairs ≡ Some i
+own_lowest p i pairs h = lowest_at i pairs h.rising h.others h.own h.has
+
 pub proper_own : (p : Csp) (i : ℕ) (kept : List Recorded) → ((x : Record) → In x (records_of kept) → Proper p i x.pairs) → (x : Recorded) → In x kept → IsOwn i x
-proper_own p i kept h x u = let g = h (record_of x) (In-map record_of x kept u) in lowest_at i x.nogood g.rising g.others g.own g.has
+proper_own p i kept h x u = own_lowest p i x.nogood (h (record_of x) (In-map record_of x kept u))

@@ -5,10 +5,11 @@ ghost use Rattle.std.specs.Option.{ForSome};
 ghost use Rattle.dcsp_defs.specs.Words.{In, update};
 ghost use Rattle.dcsp_defs.specs.Csp.{domain};
 ghost use Rattle.dcsp_rule.specs.Problems.{csp_of};
-ghost use Rattle.abt_defs.specs.Agents.{value_in};
+ghost use Rattle.abt_defs.specs.Agents.{value_in, values_in};
 ghost use Rattle.abt_defs.specs.Steps as steps;
 ghost use Rattle.abt_parts.specs.Views.{stamped_in, stamped_of, view_of};
 ghost use Rattle.abt_parts.specs.Stores.{is_ruled_out, lowest_value, records_of};
+ghost use Rattle.abt_reason.specs.Kept.{IsFitting};
 ghost use Rattle.abt_agent.specs.Bodies.{owner_of, IsInStep};
 
 use abt_parts::{Recorded, StampedValue, Store, View, has_value, is_news};
@@ -79,9 +80,10 @@ impl<'p> Knowledge<'p> {
         Ok(true)
     }
 
-    /// Keeps a nogood, as the first for its value of the agent.
+    /// Keeps a nogood that fits the view, as the first for its value of the agent.
     pub fn keep(&mut self, recorded: Recorded) -> Result<(), Memory>
         requires in_step { IsInStep self.old }
+        requires fits { IsFitting self.old.me (values_in (view_of self.old.view)) recorded }
         requires first { ForSome (lowest_value recorded.nogood) (λ value. is_ruled_out value self.old.store ≡ false) }
         ensures store { OnOk result (self.new.store ≡ self.old.store ++ recorded ∷ []) }
         ensures view { OnOk result (self.new.view ≡ self.old.view) }
@@ -90,12 +92,10 @@ impl<'p> Knowledge<'p> {
     {
         let Recorded { nogood, step } = recorded;
         self.reasons.make_room(self.alloc)?;
-        match self.store.keep(nogood, step) {
-            Ok(()) => {
-                self.reasons.after_record(&self.view, &self.store);
-                Ok(())
-            }
-            Err(_) => Err(Memory),
-        }
+        let Ok(()) = self.store.keep(nogood, step) else {
+            return Err(Memory);
+        };
+        self.reasons.after_fitting_record(&self.store);
+        Ok(())
     }
 }
