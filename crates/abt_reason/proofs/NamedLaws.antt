@@ -1,5 +1,5 @@
 -- The variables of scopes, rule by rule, and in order of variables.
-use Rattle.std.proofs.Common.{◌≡◌, ℕ, suc, ◌^◌, ◌+◌, ◌-◌, ◌<◌, ◌≤◌, true, List, [], ◌∷◌, ◌++◌, length, get_or, map, drop, refl, sym, ap, subst, ◌∙◌, arith, below_more, inl, inr, All, Contains, IsPermutation}
+use Rattle.std.proofs.Common.{◌≡◌, ℕ, suc, ◌^◌, ◌+◌, ◌-◌, ◌<◌, ◌≤◌, true, List, [], ◌∷◌, ◌++◌, length, get_or, map, drop, refl, sym, ap, subst, ◌∙◌, arith, below_more, inl, inr, All, Contains, IsPermutation, ◌⊎◌}
 use Rattle.std.specs.List.{enumerate_from, slice_range}
 use Rattle.std.proofs.lemmas.Bool.{cases_eq, eqb-true, cases_lt}
 use Rattle.std.proofs.lemmas.List.{length-map, get_or-map, get_or-take, get_or-drop, length-take, length-drop, get_or_default}
@@ -13,7 +13,7 @@ use Rattle.dcsp_defs.specs.Csp.{Constraint, IsConstraint, owned, owns}
 use Rattle.abt_defs.specs.Agents.{is_among}
 use Rattle.dcsp_rule.specs.Problems.{Contents, csp_of, constraint_of, constraint_at}
 use Rattle.abt_reason.specs.declared.named.Naming.{Naming}
-use Rattle.abt_reason.specs.Named.{naming, ListsScopes}
+use Rattle.abt_reason.specs.Named.{naming, BeginsAt, ListsScopes}
 
 -- each variable of a scope is listed
 scope_listed : (place var : ℕ) (scope : List ℕ) → is_among var scope ≡ true → Contains (map (naming place) scope) (naming place var)
@@ -108,3 +108,15 @@ owned_few p agent problem =
     let size = length-enumerate_from 0 (csp_of p).constraints in
     let rules = length-map p.rules (constraint_of (length p.domains)) in
     omega (arith, mapped, kept, most, size, rules, few)
+
+-- the next variable begins no earlier
+pub in_order : (namings : List Naming) (var a b : ℕ) → BeginsAt namings var a → BeginsAt namings (var + 1) b → a ≤ b
+in_order namings var a b this next = by_order (cases_lt b a) where
+  by_order : (b < a) ⊎ (a ≤ b) → a ≤ b
+  by_order (inr l) = l
+  by_order (inl l) =
+      let d = naming 0 0 in
+      let inside : b < length namings = omega (arith, l, this.within) in
+      let low = this.before b d l in
+      let high = next.after b d (omega arith) inside in
+      absurd (omega (arith, low, high))

@@ -178,7 +178,7 @@ pub record AreRuleLists (p : Contents) (agent : ℕ) (rows : List Marks) (counts
 
 -- these are such lists of the agent's
 abbrev pub AreListsOf : Contents → ℕ → FirstRules → Type 0
-AreListsOf p agent rules = AreRuleLists p agent rules.ruled_out.rows.items rules.ruled_out.counts.items rules.ruled_out.firsts.items rules.named.namings.items rules.room
+AreListsOf p agent rules = AreRuleLists p agent rules.ruled_out.rows.items rules.ruled_out.counts.items rules.ruled_out.firsts.items rules.named rules.room
 
 -- what is kept of rules and steps
 abbrev pub shown : Contents → ℕ → FirstRules → KeptSteps → Cached
@@ -196,4 +196,4 @@ pub record IsCache (r : Cached) (owned : List ℕ) (others : List (Option ℕ)) 
 -- what is kept of rules and steps is a cache
 abbrev pub IsCacheOf : Contents → ℕ → List ℕ → List (Option ℕ) → FirstRules → KeptSteps → Type 0
 IsCacheOf p agent owned others rules kept =
-    IsCache (shown p agent rules kept) owned others rules.ruled_out.rows.items rules.ruled_out.counts.items rules.ruled_out.firsts.items rules.named.namings.items rules.room
+    IsCache (shown p agent rules kept) owned others rules.ruled_out.rows.items rules.ruled_out.counts.items rules.ruled_out.firsts.items rules.named rules.room

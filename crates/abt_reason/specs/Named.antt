@@ -1,5 +1,5 @@
 -- For each variable the places of the rules that name it.
-use Rattle.std.specs.Prelude.{◌≡◌, ◌==◌, ℕ, ◌<◌, true, List, [], ◌∷◌, All, Contains, Option, Some, None, map, slice_index_or, if◌then◌else◌}
+use Rattle.std.specs.Prelude.{◌≡◌, ◌==◌, ℕ, ◌<◌, ◌≤◌, true, List, [], ◌∷◌, length, All, Contains, Option, Some, None, map, slice_index_or, if◌then◌else◌}
 use Rattle.std.specs.List.Sorted.{IsNonDecreasingBy}
 use Rattle.dcsp_defs.specs.Csp.{IsConstraint}
 use Rattle.abt_defs.specs.Agents.{is_among}
@@ -30,3 +30,13 @@ others_of p agent rules = map (λ rule. only_other agent (constraint_at p rule).
 -- the variables do not fall
 abbrev pub RisesByVariable : List Naming → Type 0
 RisesByVariable namings = IsNonDecreasingBy (λ (n : Naming). n.var) namings
+
+-- the variable begins at this place of the list, or would
+pub record BeginsAt (namings : List Naming) (var start : ℕ) : Type 0 where
+  pub within : start ≤ length namings
+  pub before : (k : ℕ) (d : Naming) → k < start → (slice_index_or namings k d).var < var
+  pub after : (k : ℕ) (d : Naming) → start ≤ k → k < length namings → var ≤ (slice_index_or namings k d).var
+
+-- each of the first so many variables begins where it is told
+abbrev pub AreStarts : List Naming → List ℕ → Type 0
+AreStarts namings starts = (var : ℕ) → var < length starts → BeginsAt namings var (slice_index_or starts var 0)

@@ -1,11 +1,15 @@
 //! For each variable the places of the rules that name it.
 
 ghost use Rattle.std.specs.Prelude.{◌≡◌, ◌≤◌, ◌<◌, ◌^◌, ◌∷◌, [], ◌++◌, ℕ, All, Contains, IfOk, OnOk, IsPermutation, length, map, slice_index_or};
-ghost use Rattle.abt_reason.specs.Named.{naming, only_other, others_of, ListsScopes, RisesByVariable};
+ghost use Rattle.abt_reason.specs.Named.{naming, only_other, others_of, AreStarts, ListsScopes, RisesByVariable};
 
 use dcsp_common::Memory;
 use dcsp_problem::Problem;
 use std::alloc::Global;
+use std::marker::Model;
+
+/// It is kept where variables begin if there are no more than so many for each naming.
+const STARTS_BY_NAMING: usize = 4;
 
 /// A variable of the scope of a rule.
 #[derive(Clone, Copy)]
@@ -15,10 +19,31 @@ pub struct Naming {
     pub place: u32,
 }
 
+/// Where the namings of a variable stand in a list.
+#[derive(Clone, Copy)]
+struct Part {
+    start: usize,
+    end: usize,
+}
+
 /// The variables of the scopes of some rules, in one list that rises by variable.
 #[derive(Drop)]
 pub struct NamedIn {
-    pub namings: Vec<Naming>,
+    namings: Vec<Naming>,
+    /// Where each of the first variables begins in the list, or would; empty where many of them are not named.
+    starts: Vec<usize>,
+}
+
+impl Model for NamedIn {
+    ghost use Rattle.std.specs.Prelude.{List};
+    ghost use Rattle.abt_reason.specs.declared.named.Naming.{Naming};
+    ghost use Rattle.abt_reason.specs.Named.{AreStarts};
+
+    ghost Value = { List Naming };
+
+    ghost view = { λ named. named.namings.items };
+
+    ghost invariant = { λ named. AreStarts named.namings.items named.starts.items };
 }
 
 impl NamedIn {
@@ -26,23 +51,24 @@ impl NamedIn {
     pub fn new(alloc: Global, problem: &Problem, rules: &[u32]) -> Result<NamedIn, Memory>
         requires rules { All (λ rule. rule < length problem.now.rules) rules.now }
         requires few { length rules.now < 2 ^ 32 }
-        ensures lists { IfOk result (λ named. ListsScopes problem.now rules.now named.namings.items (length rules.now)) }
-        ensures rising { IfOk result (λ named. RisesByVariable named.namings.items) }
+        ensures lists { IfOk result (λ named. ListsScopes problem.now rules.now named (length rules.now)) }
+        ensures rising { IfOk result (λ named. RisesByVariable named) }
     {
         let namings = namings_of(alloc, problem, rules)?;
         let namings = by_variable(namings);
-        Ok(NamedIn { namings })
+        let starts = starts_of(alloc, &namings)?;
+        Ok(NamedIn { namings, starts })
     }
 
     /// The places of the rules that name the variable.
     pub fn of(&self, var: u32) -> &[Naming]
-        requires { RisesByVariable self.now.namings.items }
-        ensures part { All (Contains self.now.namings.items) result.now }
-        ensures complete { (place : ℕ) → Contains self.now.namings.items (naming place var) → Contains result.now (naming place var) }
+        requires { RisesByVariable self.now }
+        ensures part { All (Contains self.now) result.now }
+        ensures complete { (place : ℕ) → Contains self.now (naming place var) → Contains result.now (naming place var) }
     {
         let namings = self.namings.as_slice();
-        let start = start_of(namings, var);
-        &namings[start..end_of(namings, var, start)]
+        let part = part_of(namings, &self.starts, var);
+        &namings[part.start..part.end]
     }
 }
 
@@ -109,6 +135,64 @@ fn by_variable(mut namings: Vec<Naming>) -> Vec<Naming>
 {
     namings.sort_unstable_by_key(|naming| naming.var);
     namings
+}
+
+/// Where each variable up to the last that is named begins, or would; of none where there are many for each naming.
+fn starts_of(alloc: Global, namings: &[Naming]) -> Result<Vec<usize>, Memory>
+    requires { RisesByVariable namings.now }
+    ensures { IfOk result (λ starts. AreStarts namings.now starts.items) }
+{
+    let count = variables_with_start(namings);
+    let Ok(mut starts) = Vec::with_capacity(alloc, count) else {
+        return Err(Memory);
+    };
+    let mut start = 0;
+    for var in 0..count {
+        let Ok(()) = starts.push(start) else {
+            return Err(Memory);
+        };
+        start = end_of(namings, var as u32, start);
+    }
+    Ok(starts)
+}
+
+/// Of how many variables it is kept where they begin.
+fn variables_with_start(namings: &[Naming]) -> usize
+    ensures { result ≤ 2 ^ 32 }
+{
+    let Some(last) = namings.last() else {
+        return 0;
+    };
+    let count = last.var as usize + 1;
+    if count / STARTS_BY_NAMING <= namings.len() {
+        count
+    } else {
+        0
+    }
+}
+
+/// Where the variable stands in the list, which is looked up if it is kept.
+#[inline(always)]
+fn part_of(namings: &[Naming], starts: &[usize], var: u32) -> Part
+    requires rising { RisesByVariable namings.now }
+    requires starts { AreStarts namings.now starts.now }
+    ensures from { result.start ≤ result.end }
+    ensures within { result.end ≤ length namings.now }
+    ensures before { (k : ℕ) (d : Naming) → k < result.start → (slice_index_or namings.now k d).var < var }
+    ensures after { (k : ℕ) (d : Naming) → result.end ≤ k → k < length namings.now → var < (slice_index_or namings.now k d).var }
+{
+    let var_at = var as usize;
+    if var_at + 1 < starts.len() {
+        return Part {
+            start: starts[var_at],
+            end: starts[var_at + 1],
+        };
+    }
+    let start = start_of(namings, var);
+    Part {
+        start,
+        end: end_of(namings, var, start),
+    }
 }
 
 /// Where the variable begins, or would.

@@ -15,7 +15,7 @@ pub refresh_each-requires-clause-within : goal.refresh_each-requires-clause-with
 refresh_each-requires-clause-within c = λ k d inside.
     let found = c.of-namings.ensures.part k d inside in
     let listed = c.requires.lists.listed.within found.0 d found.1 in
-    let same = get_or_default c.args.self.now.named.namings.items found.0 d (get_or c.of-namings.result.now k d) found.1 ∙ found.2 in
+    let same = get_or_default c.args.self.now.named found.0 d (get_or c.of-namings.result.now k d) found.1 ∙ found.2 in
     subst (λ (n : Naming). n.place < rules_of c.args.owner.now.problem.now c.args.owner.now.agent) same listed
 
 pub returns-clause-kept : goal.returns-clause-kept
