@@ -11,6 +11,9 @@ use std::marker::Model;
 /// It is kept where variables begin if there are no more than so many for each naming.
 const STARTS_BY_NAMING: usize = 4;
 
+/// So few namings are gone over one by one.
+const FEW_NAMINGS: usize = 8;
+
 /// A variable of the scope of a rule.
 #[derive(Clone, Copy)]
 pub struct Naming {
@@ -188,11 +191,30 @@ fn part_of(namings: &[Naming], starts: &[usize], var: u32) -> Part
             end: starts[var_at + 1],
         };
     }
-    let start = start_of(namings, var);
+    let start = if namings.len() <= FEW_NAMINGS {
+        start_in_few(namings, var)
+    } else {
+        start_of(namings, var)
+    };
     Part {
         start,
         end: end_of(namings, var, start),
     }
+}
+
+/// Where the variable begins in a short list, or would: each naming is looked at.
+fn start_in_few(namings: &[Naming], var: u32) -> usize
+    requires { RisesByVariable namings.now }
+    ensures within { result ≤ length namings.now }
+    ensures before { (k : ℕ) (d : Naming) → k < result → (slice_index_or namings.now k d).var < var }
+    ensures after { (k : ℕ) (d : Naming) → result ≤ k → k < length namings.now → var ≤ (slice_index_or namings.now k d).var }
+{
+    for start in 0..namings.len() {
+        if namings[start].var >= var {
+            return start;
+        }
+    }
+    namings.len()
 }
 
 /// Where the variable begins, or would.
