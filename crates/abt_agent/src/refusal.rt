@@ -197,11 +197,10 @@ impl<'p> Knowledge<'p> {
         ensures stamped { IfOk result (λ basis. AreStampsOf basis.0 basis.1) }
     {
         pairs.reserve(marks.len().min(many))?;
-        let mut from = 0;
-        while let Some(agent) = marks.next_marked(from) {
+        let mut walk = marks.walk();
+        while let Some(agent) = marks.next_of(&mut walk) {
             let var = agent as u32;
             add_told(&mut pairs, &mut stamps, var, self.stamped_value(var))?;
-            from = agent + 1;
         }
         // The agents rise.
         Ok((Nogood::of_rising(pairs), StampList::from_vec(stamps)))

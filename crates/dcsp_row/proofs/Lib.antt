@@ -3,6 +3,7 @@ pub mod Domains
 pub mod RowLaws
 pub mod LineLaws
 pub mod WordLaws
+pub mod WalkLaws
 pub mod CutLaws
 mod FitLaws
 mod EasyLaws

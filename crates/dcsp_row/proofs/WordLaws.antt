@@ -1,11 +1,11 @@
 -- Words of blocks, and the places that their bits stand for.
-use Rattle.std.proofs.Common.{◌≡◌, ◌≢◌, ◌&&◌, ℕ, min, ◌+◌, ◌-◌, ◌*◌, ◌/◌, ◌%◌, ◌^◌, ◌<◌, ◌≤◌, ◌==◌, Bool, true, not, List, length, get_or, set, sym, ap, ◌∙◌, arith, inl, inr, w64, Option, Some, None, IfSome}
+use Rattle.std.proofs.Common.{◌≡◌, ◌≢◌, ◌&&◌, ℕ, min, ◌+◌, ◌-◌, ◌*◌, ◌/◌, ◌%◌, ◌^◌, ◌<◌, ◌≤◌, ◌==◌, Bool, not, List, length, get_or, set, sym, ap, ◌∙◌, arith, inl, inr, w64, Option, Some, None, IfSome}
 use Rattle.std.specs.Int.{bit_at, bit_not}
 use Rattle.std.specs.Int.RustNames.{bit_and}
 use Rattle.std.proofs.lemmas.Bool.{cases_eq}
 use Rattle.std.proofs.lemmas.Bool.Decides.{nat_tests}
 use Rattle.std.proofs.lemmas.List.{get_or-set_same, get_or-set_other}
-use Rattle.std.proofs.lemmas.Nat.Bits.{bit_at_and, bit_at-lt, bit_at-zero, bit_at_not}
+use Rattle.std.proofs.lemmas.Nat.Bits.{bit_at_and, bit_at-lt, bit_at_not}
 use Rattle.dcsp_row.specs.Bits.{has_bit}
 
 -- the bits of the other side
@@ -66,12 +66,3 @@ differs_there test other None at size mine theirs bit e f apart h = h
 differs_there test other (Some place) at size mine theirs bit e f apart h = λ same.
     let inside : at < size = omega (arith, h.0, h.1) in
     apart (same_ones (bit_at mine bit) (bit_at theirs bit) (bit_at-lt mine bit) (bit_at-lt theirs bit) (e inside ∙ sym (ap test h.0) ∙ same ∙ ap other h.0 ∙ sym (f inside)))
-
--- a mark at the place that was found, where its bit is not that of a word without bits
-pub set_there : (test : ℕ → Bool) (result : Option ℕ) (at size word bit : ℕ) → (at < size → (bit_at word bit == 1) ≡ test at) → bit_at word bit ≢ bit_at 0 bit
-    → IfSome result (λ place. (place ≡ at) × (place < size)) → IfSome result (λ place. test place ≡ true)
-set_there test None at size word bit e apart h = h
-set_there test (Some place) at size word bit e apart h =
-    let inside : at < size = omega (arith, h.0, h.1) in
-    let one : bit_at word bit ≡ 1 = omega (arith, bit_at-lt word bit, bit_at-zero bit, apart) in
-    ap test h.0 ∙ sym (e inside) ∙ ap (λ n. n == 1) one

@@ -6,3 +6,4 @@ pub mod Cuts
 pub mod Spans
 pub mod Easy
 pub mod Marks
+pub mod Walks

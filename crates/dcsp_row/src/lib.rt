@@ -14,6 +14,7 @@ mod row;
 mod span;
 mod sums;
 mod tables;
+mod walk;
 
 pub use easy::has_span;
 pub use fill::{fill_row, span_of};
@@ -21,3 +22,4 @@ pub use known::{OpenVariable, WithValue};
 pub use marks::Marks;
 pub use row::Row;
 pub use span::Span;
+pub use walk::Walk;

@@ -7,7 +7,7 @@ ghost use Rattle.dcsp_row.specs.Spans.{is_within};
 
 use crate::span::Span;
 use dcsp_common::Memory;
-use dcsp_common::word::{BLOCK, first_bit, next_bit, with_bit, within};
+use dcsp_common::word::{BLOCK, with_bit};
 use std::alloc::Global;
 use std::marker::Model;
 
@@ -62,35 +62,6 @@ impl Row {
     {
         let word = &mut self.words[place / BLOCK];
         *word = with_bit(*word, place % BLOCK, mark);
-    }
-
-    /// The first marked place from this one on, if there is one. This one is tried first: where most are marked,
-    /// no word has to be searched.
-    #[inline(always)]
-    pub fn next_marked(&self, from: usize) -> Option<usize>
-        ensures within { IfSome result (λ place. (from ≤ place) × (place < length self.now)) }
-        ensures before { (k : ℕ) → from ≤ k → k < unwrap_or result (length self.now) → slice_index_or self.now k false ≡ false }
-        ensures marked { IfSome result (λ place. slice_index_or self.now place false ≡ true) }
-    {
-        if from < self.len() && self.has(from) {
-            return Some(from);
-        }
-        self.search_marked(from)
-    }
-
-    /// The same, word by word.
-    fn search_marked(&self, from: usize) -> Option<usize>
-        ensures within { IfSome result (λ place. (from ≤ place) × (place < length self.now)) }
-        ensures before { (k : ℕ) → from ≤ k → k < unwrap_or result (length self.now) → slice_index_or self.now k false ≡ false }
-        ensures marked { IfSome result (λ place. slice_index_or self.now place false ≡ true) }
-    {
-        let size = self.len();
-        for block in from / BLOCK..size / BLOCK + 1 {
-            if let Some(bit) = next_bit(self.word(block), 0, first_bit(block, from)) {
-                return within(block, bit, size);
-            }
-        }
-        None
     }
 
     /// Marks exactly the places of the span.

@@ -191,6 +191,14 @@ fn expect_change(rt: &impl Abort, marks: &Marks, other: &Marks, from: usize, cha
     assert!(rt; marks.next_change(other, 130, from) == change);
 }
 
+/// A walk over a row that marks 64 and 129 finds these two.
+fn expect_walk(rt: &impl Abort, row: &Row) {
+    let mut walk = row.walk();
+    assert!(rt; row.next_of(&mut walk) == Some(64));
+    assert!(rt; row.next_of(&mut walk) == Some(129));
+    assert!(rt; row.next_of(&mut walk) == None);
+}
+
 /// Lets both go.
 fn end(_marks: Marks, _other: Marks) {}
 
@@ -199,7 +207,7 @@ fn changes_are_found(rt: HostRuntime) {
     let mut row = Row::new(rt.alloc(), 130).expect(&rt, "memory");
     row.put(64, true);
     row.put(129, true);
-    assert!(rt; row.next_marked(65) == Some(129));
+    expect_walk(&rt, &row);
     let marks = Marks::Row(row);
     let none = Marks::Span(Span::whole(false));
     expect_change(&rt, &marks, &none, 0, Some(64));

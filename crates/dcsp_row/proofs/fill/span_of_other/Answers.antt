@@ -3,7 +3,7 @@ use Rattle.std.specs.Prelude.{IfSome, IsTrue, pos}
 use Rattle.dcsp_defs.specs.Csp.{domain, filled, with_value}
 use Rattle.dcsp_rule.specs.declared.rule.Rule.{Rule}
 use Rattle.dcsp_rule.specs.Rules.{has_shape, mentions, no_rule, scope_of, IsRuleOf}
-use Rattle.dcsp_rule.specs.Pairs.{compares_variable, is_missed}
+use Rattle.dcsp_rule.specs.Pairs.{compares_variable}
 use Rattle.dcsp_rule.specs.Lent.{lent_rule}
 use Rattle.dcsp_rule.specs.Problems.{csp_of, constraint_at, rule_at}
 use Rattle.dcsp_meaning.specs.Sums.{widest}
@@ -12,8 +12,7 @@ use Rattle.dcsp_defs.specs.Words.{In}
 use Rattle.dcsp_problem.proofs.RisingNumbers.{In-filter_below, In-get_or}
 use Rattle.std.proofs.lemmas.Bool.{eqb-false}
 use Rattle.std.proofs.lemmas.List.Elements.{All-get_or}
-use Rattle.dcsp_problem.proofs.Narrow.{a_rule, narrow_of_known}
-use Rattle.dcsp_problem.proofs.PairLaws.{missed_is}
+use Rattle.dcsp_problem.proofs.Narrow.{narrow_of_known}
 use Rattle.dcsp_row.specs.Easy.{has_span, is_plain}
 use Rattle.dcsp_row.specs.Rows.{own_at, is_false, is_ruled_out}
 use Rattle.dcsp_row.specs.Spans.{SpansWhere}

@@ -1,4 +1,4 @@
-use Rattle.std.proofs.Common.{◌≡◌, ◌∙◌, ap, sym, not, ◌+ℤ◌, ◌*ℤ◌, rules, w64, SFits}
+use Rattle.std.proofs.Common.{◌∙◌, ap, sym, not, ◌+ℤ◌, ◌*ℤ◌, rules, w64, SFits}
 use Rattle.std.specs.Int.{w128}
 use Rattle.std.proofs.lemmas.Int.{to_z-of_z}
 use Rattle.dcsp_meaning.specs.Sums.{stands}

@@ -1,4 +1,4 @@
-use Rattle.std.proofs.Common.{◌≡◌, ◌∙◌, Some, ap, sym, refl, not, pos, neg_ℤ, ◌-ℤ◌, arith, rules, SFits}
+use Rattle.std.proofs.Common.{◌≡◌, ◌∙◌, Some, ap, refl, not, pos, neg_ℤ, ◌-ℤ◌, arith, rules, SFits}
 use Rattle.std.specs.Int.{w128}
 use Rattle.std.proofs.lemmas.Int.{ints, to_z-of_z}
 use Rattle.dcsp_row.specs.Rows.{own_at}
