@@ -11,6 +11,9 @@ use std::marker::Model;
 /// agent before it, each of these gets one, so that theirs stand at their own numbers and are found without a search.
 const NEAR: u32 = 128;
 
+/// How many of them are so whatever slots there are.
+const NEAREST: u32 = 16;
+
 /// The receivers of one sender's pairs, each with the number of its pair.
 #[derive(Drop)]
 pub(crate) struct Receivers {
@@ -52,10 +55,15 @@ impl Receivers {
         ensures ok { OnOk result ((i : ℕ) → number_in self.new i ≡ (if i == to then Some number else number_in self.old i)) }
         ensures err { OnErr result ((i : ℕ) → number_in self.new i ≡ number_in self.old i) }
     {
-        if to < NEAR && to as usize / 4 <= self.list.len() {
+        if self.is_near(to) {
             self.make_slots(to)?;
         }
         self.put(to, Some(number))
+    }
+
+    /// Whether an agent is near, and the nearest or with slots that are not few before it.
+    fn is_near(&self, to: u32) -> bool {
+        to < NEAREST || (to < NEAR && to as usize / 4 <= self.list.len())
     }
 
     /// Makes the slots of the agents before this one, where they are not there. Nothing that is found changes.
