@@ -60,17 +60,17 @@ good_heeded law step nogood stamps before after h e sized proper a =
     still_good before after (steps.heed before.known.me step (with_stamps nogood stamps) (agent_of before)) e sized a
     ((stays before h law).heeded step (with_stamps nogood stamps) (subst (Proper (csp_of before.known.problem.now) before.known.me) (sym (plain-with_stamps nogood stamps)) proper))
 
-pub good_settled : ((p : Csp) → AgentsStaySound p) → (number : ℕ) (before after : AgentBody) (out went : List Sent) (r : Result Turn Memory) → IsGood before → owner_of after.known ≡ owner_of before.known
-    → IfOk r (λ turn. Does (steps.settle (csp_of before.known.problem.now) before.known.me number (agent_of before)) before after out went turn) → OnOk r (IsGood after)
-good_settled law number before after out went (Ok turn) h e d =
+pub good_settled : {X : Type 0} (turn_of : X → Turn) → ((p : Csp) → AgentsStaySound p) → (number : ℕ) (before after : AgentBody) (out went : List Sent) (r : Result X Memory) → IsGood before → owner_of after.known ≡ owner_of before.known
+    → IfOk r (λ x. Does (steps.settle (csp_of before.known.problem.now) before.known.me number (agent_of before)) before after out went (turn_of x)) → OnOk r (IsGood after)
+good_settled turn_of law number before after out went (Ok x) h e d =
     still_good before after (steps.settle (csp_of before.known.problem.now) before.known.me number (agent_of before)).agent e d.sized d.agent ((stays before h law).settled number)
-good_settled law number before after out went (Err f) h e d = tt
+good_settled turn_of law number before after out went (Err f) h e d = tt
 
-pub good_linked : ((p : Csp) → AgentsStaySound p) → (number from : ℕ) (before after : AgentBody) (out went : List Sent) (r : Result Turn Memory) → IsGood before → from < length before.known.problem.now.domains → owner_of after.known ≡ owner_of before.known
-    → IfOk r (λ turn. DoesReceive number from AddLink before after out went turn) → OnOk r (IsGood after)
-good_linked law number from before after out went (Ok turn) h l e d =
+pub good_linked : {X : Type 0} (turn_of : X → Turn) → ((p : Csp) → AgentsStaySound p) → (number from : ℕ) (before after : AgentBody) (out went : List Sent) (r : Result X Memory) → IsGood before → from < length before.known.problem.now.domains → owner_of after.known ≡ owner_of before.known
+    → IfOk r (λ x. DoesReceive number from AddLink before after out went (turn_of x)) → OnOk r (IsGood after)
+good_linked turn_of law number from before after out went (Ok x) h l e d =
     still_good before after (record (agent_of before) { tells = update (agent_of before).tells from true }) e d.sized d.agent ((stays before h law).linked from l)
-good_linked law number from before after out went (Err f) h l e d = tt
+good_linked turn_of law number from before after out went (Err f) h l e d = tt
 
 -- ---- what follows
 

@@ -19,9 +19,10 @@ use Rattle.abt_parts.specs.Stores.{records_of}
 use Rattle.abt_agent.specs.declared.knowledge.Knowledge.{Knowledge}
 use Rattle.abt_agent.specs.declared.body.AgentBody.{AgentBody}
 use Rattle.abt_agent.specs.declared.Turn.{Turn}
+use Rattle.abt_agent.specs.declared.TurnKind.{TurnKind}
 use Rattle.abt_agent.specs.Rights.{BringsOfStep, IsRightTurn}
 use Rattle.abt_agent.specs.States.{State}
-use Rattle.abt_agent.specs.Turns.{IsTurn}
+use Rattle.abt_agent.specs.Turns.{turn_with, IsTurn}
 use Rattle.abt_parts.specs.Outgoing.{IsStampedView, Posts}
 use Rattle.abt_marks.specs.Marks.{has_mark}
 
@@ -121,5 +122,5 @@ abbrev pub DoesRefuse : ℕ → AgentBody → AgentBody → List Sent → List S
 DoesRefuse number before after out went turn = Does (take_or_refuse (csp_of before.known.problem.now) before.known.me number (agent_of before) None) before after out went turn
 
 -- a turn after this message is right after all steps from which what the agent keeps and what the message brings are
-abbrev pub IsRightAfter : {E : Type 0} → AgentBody → TheMessage → Result Turn E → Type 0
-IsRightAfter b message turn = (made : List Step) → AreOfSteps made (records_of b.known.store) → BringsOfStep made message → IfOk turn (IsRightTurn (csp_of b.known.problem.now) made)
+abbrev pub IsRightAfter : {E : Type 0} → AgentBody → TheMessage → Step → Result TurnKind E → Type 0
+IsRightAfter b message step kind = (made : List Step) → AreOfSteps made (records_of b.known.store) → BringsOfStep made message → IfOk kind (λ k. IsRightTurn (csp_of b.known.problem.now) made (turn_with k step))

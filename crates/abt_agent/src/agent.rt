@@ -8,7 +8,7 @@ ghost use Rattle.law_agent.specs.Stores.{IsBoundedStore};
 ghost use Rattle.law_agent.specs.Merges.{IsUnionOfReasons};
 ghost use Rattle.dcsp_rule.specs.Problems.{csp_of};
 ghost use Rattle.abt_agent.specs.States.{stands_for, CanReceive, IsFresh, Receives, Settles};
-ghost use Rattle.abt_agent.specs.Turns.{IsFirstTurn};
+ghost use Rattle.abt_agent.specs.Turns.{turn_with, IsFirstTurn};
 ghost use Rattle.law_agent.specs.Sources.{AreOfSteps};
 ghost use Rattle.abt_agent.specs.Rights.{BringsOfStep, IsRightTurn};
 ghost use Rattle.abt_parts.specs.Stores.{records_of};
@@ -20,12 +20,14 @@ ghost use Rattle.abt_parts.specs.Outgoing.{IsStamped};
 ghost use Rattle.abt_parts.specs.Views.{stamped_in};
 ghost use Rattle.abt_reason.specs.Causes.{reason_for, value_at};
 
-use crate::Turn;
 use crate::body::AgentBody;
+use crate::refusal::no_step;
+use crate::{Turn, TurnKind};
 use abt_parts::{Checks, Message, Outbox, Recorded, StampedValue};
 use dcsp_common::Memory;
 use dcsp_defs::Reason;
 use dcsp_problem::Problem;
+use ngd_log::Step;
 use std::alloc::Global;
 use std::marker::Model;
 
@@ -117,18 +119,54 @@ impl<'p> Agent<'p> {
         ensures spends { OnErr result (self.new.spent ≡ true) }
         ensures spent { self.old.spent ≡ true → IsErr result }
     {
+        let mut made = no_step(self.body.known.alloc);
+        let kind = self.receive_into(from, message, next_step, out, &mut made)?;
+        Ok(kind.with_step(made))
+    }
+
+    /// The same, where a step is made in place of one that is no longer needed, whose room it takes.
+    #[inline(always)]
+    pub fn receive_into(
+        &mut self,
+        from: u32,
+        message: Message,
+        next_step: u64,
+        out: &mut Outbox,
+        step: &mut Step,
+    ) -> Result<TurnKind, Memory>
+        requires { self.old.spent ≡ false → CanReceive self.old from next_step message }
+        ensures does { IfOk result (λ kind. Receives self.old self.new next_step from message out.old out.new (turn_with kind step.new)) }
+        ensures right { (made : List TheStep) → AreOfSteps made (records_of self.old.store) → BringsOfStep made message → IfOk result (λ kind. IsRightTurn (csp_of self.old.problem) made (turn_with kind step.new)) }
+        ensures bounded { OnOk result (IsBoundedStore (csp_of self.old.problem) self.old.me (stands_for self.new)) }
+        ensures merges { OnOk result (IsUnionOfReasons (csp_of self.old.problem) self.old.me (stands_for self.new)) }
+        ensures problem { self.new.problem ≡ self.old.problem }
+        ensures me { self.new.me ≡ self.old.me }
+        ensures spends { OnErr result (self.new.spent ≡ true) }
+        ensures spent { self.old.spent ≡ true → IsErr result }
+    {
         if self.spent {
             return Err(Memory);
         }
         law_agent::sound_stores();
         law_agent::sound_merges();
         self.body.known.problem.denotes_csp();
-        match self.body.receive(from, message, next_step, out) {
-            Ok(turn) => Ok(turn),
+        match self.body.receive(from, message, next_step, out, step) {
+            Ok(kind) => Ok(kind),
             Err(memory) => {
                 self.spent = true;
                 Err(memory)
             }
+        }
+    }
+
+    /// Gives the room of a nogood that it has forgotten to later ones, if there is some.
+    #[inline(always)]
+    pub fn give_back_room(&mut self, out: &mut Outbox)
+        ensures agent { self.new ≡ self.old }
+        ensures out { out.new ≡ out.old }
+    {
+        if let Some(pairs) = self.body.known.store.take_room() {
+            out.give_back_pairs(pairs);
         }
     }
 

@@ -7,6 +7,9 @@
 //! that agree with its view, at most one for each of its values.
 #![tactic(auto)]
 
+ghost use Rattle.std.specs.Prelude.{◌≡◌};
+ghost use Rattle.abt_agent.specs.Turns.{turn_with};
+
 mod agent;
 mod ask;
 mod body;
@@ -22,6 +25,7 @@ pub use abt_parts::Checks;
 pub use agent::Agent;
 pub use dcsp_common::Memory;
 pub use ngd_log::Step;
+pub use refusal::no_step;
 
 /// What an agent did.
 #[derive(Debug, Drop)]
@@ -34,4 +38,31 @@ pub enum Turn {
     Derived(Step),
     /// It has made this step, whose nogood is empty: the problem has no solution.
     Empty(Step),
+}
+
+/// What an agent did, where the step that it made, if it made one, stands elsewhere.
+#[derive(Clone, Copy, Debug, PartialEq, Eq)]
+pub enum TurnKind {
+    /// It has taken no value and made no step.
+    Quiet,
+    /// It has taken a value and told it.
+    Announced,
+    /// It has made a step, whose nogood is not empty, and sent the nogood.
+    Derived,
+    /// It has made a step, whose nogood is empty: the problem has no solution.
+    Empty,
+}
+
+impl TurnKind {
+    /// What the agent did, with the step that it made, if it made one.
+    pub fn with_step(self, step: Step) -> Turn
+        ensures { result ≡ turn_with self step }
+    {
+        match self {
+            TurnKind::Quiet => Turn::Quiet,
+            TurnKind::Announced => Turn::Announced,
+            TurnKind::Derived => Turn::Derived(step),
+            TurnKind::Empty => Turn::Empty(step),
+        }
+    }
 }

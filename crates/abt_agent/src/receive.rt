@@ -13,13 +13,15 @@ ghost use Rattle.abt_agent.specs.Bodies.{agent_of, nogood_in, owner_of, requests
 ghost use Rattle.abt_defs.specs.Checks.{settles_on};
 ghost use Rattle.abt_parts.specs.Outgoing.{IsStamped, Posts};
 ghost use Rattle.abt_agent.specs.States.{IsFit, IsNogoodFor, IsToldBy};
-ghost use Rattle.abt_agent.specs.Turns.{IsFirstTurn};
+ghost use Rattle.abt_agent.specs.Turns.{turn_with, IsFirstTurn};
 ghost use Rattle.abt_agent.specs.Rights.{IsRightTurn};
 
-use crate::Turn;
 use crate::body::AgentBody;
+use crate::refusal::no_step;
+use crate::{Turn, TurnKind};
 use abt_parts::{Message, Outbox, Recorded, StampedValue, add_rising, post};
 use dcsp_common::Memory;
+use ngd_log::Step;
 
 impl<'p> AgentBody<'p> {
     /// Settles before anything is told, where no step's number matters.
@@ -34,30 +36,33 @@ impl<'p> AgentBody<'p> {
     {
         law_agent::agents_step_right();
         self.known.problem.denotes_csp();
-        self.settle(0, out)
+        let mut made = no_step(self.known.alloc);
+        let kind = self.settle(0, out, &mut made)?;
+        Ok(kind.with_step(made))
     }
 
-    /// What a message does. A step that it leads to has this number.
+    /// What a message does. A step that it leads to has this number, and is made in place of one that is no longer needed.
     pub fn receive(
         &mut self,
         from: u32,
         message: Message,
         number: u64,
         out: &mut Outbox,
-    ) -> Result<Turn, Memory>
+        made: &mut Step,
+    ) -> Result<TurnKind, Memory>
         requires good { IsGood self.old }
         requires stamp { self.old.stamp < 2 ^ 62 }
         requires fit { IsFit self.old.known.problem.now self.old.known.me number from message }
-        ensures does { IfOk result (λ turn. DoesReceive number from (message_of message) self.old self.new out.old out.new turn) }
+        ensures does { IfOk result (λ kind. DoesReceive number from (message_of message) self.old self.new out.old out.new (turn_with kind made.new)) }
         ensures owner { owner_of self.new.known ≡ owner_of self.old.known }
         ensures good { OnOk result (IsGood self.new) }
-        ensures right { IsRightAfter self.old message result }
+        ensures right { IsRightAfter self.old message made.new result }
     {
         law_agent::agents_step_right();
         self.known.problem.denotes_csp();
         match message {
             Message::Tell { value, stamp } => {
-                self.receive_tell(from, StampedValue { value, stamp }, number, out)
+                self.receive_tell(from, StampedValue { value, stamp }, number, out, made)
             }
             Message::Refuse {
                 nogood,
@@ -65,7 +70,7 @@ impl<'p> AgentBody<'p> {
                 step,
             } => {
                 let recorded = Recorded { nogood, step };
-                let turn = self.receive_refuse(recorded, stamps.items(), number, out);
+                let turn = self.receive_refuse(recorded, stamps.items(), number, out, made);
                 out.give_back(stamps);
                 turn
             }
@@ -80,20 +85,21 @@ impl<'p> AgentBody<'p> {
         told: StampedValue,
         number: u64,
         out: &mut Outbox,
-    ) -> Result<Turn, Memory>
+        made: &mut Step,
+    ) -> Result<TurnKind, Memory>
         requires good { IsGood self.old }
         requires stamp { self.old.stamp < 2 ^ 62 }
         requires fit { IsToldBy self.old.known.problem.now self.old.known.me from told.value told.stamp }
-        ensures does { IfOk result (λ turn. DoesReceive number from (Tell (stamped_of told)) self.old self.new out.old out.new turn) }
+        ensures does { IfOk result (λ kind. DoesReceive number from (Tell (stamped_of told)) self.old self.new out.old out.new (turn_with kind made.new)) }
         ensures owner { owner_of self.new.known ≡ owner_of self.old.known }
         ensures good { OnOk result (IsGood self.new) }
     {
         law_agent::agents_stay_sound();
         let is_news = self.learn(from, told)?;
         if !is_news {
-            return Ok(Turn::Quiet);
+            return Ok(TurnKind::Quiet);
         }
-        self.settle(number, out)
+        self.settle(number, out, made)
     }
 
     /// What a nogood does.
@@ -103,11 +109,12 @@ impl<'p> AgentBody<'p> {
         stamps: &[u64],
         number: u64,
         out: &mut Outbox,
-    ) -> Result<Turn, Memory>
+        made: &mut Step,
+    ) -> Result<TurnKind, Memory>
         requires good { IsGood self.old }
         requires stamp { self.old.stamp < 2 ^ 62 }
         requires nogood { IsNogoodFor self.old.known.problem.now self.old.known.me recorded.nogood stamps.now }
-        ensures does { (from : ℕ) → IfOk result (DoesReceive number from (nogood_in recorded stamps.now) self.old self.new out.old out.new) }
+        ensures does { (from : ℕ) → IfOk result (λ kind. DoesReceive number from (nogood_in recorded stamps.now) self.old self.new out.old out.new (turn_with kind made.new)) }
         ensures owner { owner_of self.new.known ≡ owner_of self.old.known }
         ensures good { OnOk result (IsGood self.new) }
         ensures rising { OnOk result (PairsRise recorded.nogood) }
@@ -116,9 +123,9 @@ impl<'p> AgentBody<'p> {
         let waited = self.waits;
         let is_news = self.heed(recorded, stamps, out)?;
         if goes_on_waiting(waited, is_news) {
-            return Ok(Turn::Quiet);
+            return Ok(TurnKind::Quiet);
         }
-        self.settle(number, out)
+        self.settle(number, out, made)
     }
 
     /// Whether the agent settles when it receives this message from another agent.
@@ -158,17 +165,17 @@ impl<'p> AgentBody<'p> {
     }
 
     /// What a link request does: it tells the agent's value, and counts the sender among those that are told.
-    fn receive_link(&mut self, from: u32, out: &mut Outbox) -> Result<Turn, Memory>
+    fn receive_link(&mut self, from: u32, out: &mut Outbox) -> Result<TurnKind, Memory>
         requires good { IsGood self.old }
         requires exists { from < length self.old.known.problem.now.domains }
-        ensures does { (number : ℕ) → IfOk result (λ turn. DoesReceive number from AddLink self.old self.new out.old out.new turn) }
+        ensures does { (number : ℕ) (made : TheStep) → IfOk result (λ kind. DoesReceive number from AddLink self.old self.new out.old out.new (turn_with kind made)) }
         ensures owner { owner_of self.new.known ≡ owner_of self.old.known }
         ensures good { OnOk result (IsGood self.new) }
     {
         law_agent::agents_stay_sound();
         self.tell_own(from, out)?;
         add_rising(&mut self.tells, from)?;
-        Ok(Turn::Quiet)
+        Ok(TurnKind::Quiet)
     }
 
     /// Tells the agent's value, if there is one.

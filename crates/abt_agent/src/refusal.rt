@@ -18,48 +18,64 @@ ghost use Rattle.abt_agent.specs.Causes.{all_causes, blames, blames_one, derived
 use crate::knowledge::Knowledge;
 use crate::search::Cause;
 use abt_marks::{make_blank, mark, mark_pairs, mark_variables};
-use abt_parts::{StampList, StampedValue, StepRoom, add_told};
+use abt_parts::{StampList, StampedValue, add_told};
 use abt_reason::ValueRun;
 use dcsp_common::Memory;
 use dcsp_defs::{Nogood, Pair, Reason, ReasonList};
 use dcsp_row::Row;
 use ngd_log::Step;
 use std::alloc::Global;
+use std::mem;
 
-/// A step, and the stamps of its nogood.
-#[derive(Debug, Drop)]
-pub struct StampedStep {
-    pub step: Step,
-    pub stamps: StampList,
+/// A step without pairs and reasons, in whose place others are made. It takes no memory.
+pub fn no_step(alloc: Global) -> Step {
+    Step {
+        variable: None,
+        nogood: Nogood::of_rising(Vec::new(alloc)),
+        reasons: ReasonList::new(alloc),
+    }
+}
+
+/// Empty lists of pairs and reasons, with the room of a step's.
+fn lists_of(alloc: Global, step: &mut Step) -> (Vec<Pair>, Vec<Reason>)
+    ensures pairs { result.0.items ≡ [] }
+    ensures reasons { result.1.items ≡ [] }
+{
+    let old = mem::replace(step, no_step(alloc));
+    let mut pairs = old.nogood.into_pairs();
+    pairs.clear();
+    let mut reasons = old.reasons.into_vec();
+    reasons.clear();
+    (pairs, reasons)
 }
 
 impl<'p> Knowledge<'p> {
-    /// The step at the agent's variable that the reasons against all its values make. The row is room for
-    /// marks, whatever it has, and `room` for the step.
-    pub fn refuse(&self, marks: &mut Row, room: StepRoom) -> Result<StampedStep, Memory>
-        requires pairs { room.pairs.items ≡ [] }
-        requires stamps { room.stamps.items ≡ [] }
-        requires reasons { room.reasons.items ≡ [] }
+    /// Makes the step at the agent's variable that the reasons against all its values make, in place of one that is no
+    /// longer needed, and gives the stamps of its nogood. The row is room for marks, whatever it has, and `stamps` for
+    /// the stamps.
+    pub fn refuse(
+        &self,
+        marks: &mut Row,
+        stamps: Vec<u64>,
+        made: &mut Step,
+    ) -> Result<StampList, Memory>
+        requires stamps { stamps.items ≡ [] }
         requires in_step { IsInStep self.now }
         requires proper { AreProper self.now.problem.now self.now.me self.now.store }
-        ensures step { IfOk result (λ refusal. refusal.step ≡ step_of (csp_of self.now.problem.now) self.now.me (view_of self.now.view) (records_of self.now.store)) }
-        ensures pairs { IfOk result (λ refusal. with_stamps refusal.step.nogood refusal.stamps ≡ derived_by self.now) }
-        ensures stamped { IfOk result (λ refusal. AreStampsOf refusal.step.nogood refusal.stamps) }
+        ensures step { OnOk result (made.new ≡ step_of (csp_of self.now.problem.now) self.now.me (view_of self.now.view) (records_of self.now.store)) }
+        ensures pairs { IfOk result (λ stamps. with_stamps made.new.nogood stamps ≡ derived_by self.now) }
+        ensures stamped { IfOk result (λ stamps. AreStampsOf made.new.nogood stamps) }
     {
         make_blank(self.alloc, marks, self.me as usize)?;
-        let StepRoom {
-            pairs,
-            stamps,
-            reasons,
-        } = room;
+        let (pairs, reasons) = lists_of(self.alloc, made);
         let reasons = self.blame(marks, reasons)?;
         let (nogood, stamps) = self.gather(marks, reasons.len(), pairs, stamps)?;
-        let step = Step {
+        *made = Step {
             variable: Some(self.me),
             nogood,
             reasons,
         };
-        Ok(StampedStep { step, stamps })
+        Ok(stamps)
     }
 
     /// What a step cites against the agent's values, in order. The higher agents that this names are

@@ -7,12 +7,14 @@ ghost use Rattle.dcsp_rule.specs.Problems.{csp_of};
 ghost use Rattle.abt_parts.specs.Views.{stamped_of};
 ghost use Rattle.abt_agent.specs.Bodies.{agent_of, owner_of, Does, DoesRefuse, DoesSettle, IsGood, IsSized};
 ghost use Rattle.abt_parts.specs.Outgoing.{Posts};
+ghost use Rattle.dcsp_defs.specs.declared.Step.{Step as TheStep};
+ghost use Rattle.abt_agent.specs.Turns.{turn_with};
 
-use crate::Turn;
+use crate::TurnKind;
 use crate::body::AgentBody;
-use crate::refusal::StampedStep;
 use abt_parts::{Message, Outbox, StampedValue, post, tell_all};
 use dcsp_common::Memory;
+use ngd_log::Step;
 
 impl<'p> AgentBody<'p> {
     /// Whether there is a value, and it is not ruled out.
@@ -43,10 +45,10 @@ impl<'p> AgentBody<'p> {
     }
 
     /// Takes the value, with the next stamp, and tells it.
-    fn take_value(&mut self, value: i64, out: &mut Outbox) -> Result<Turn, Memory>
+    fn take_value(&mut self, value: i64, out: &mut Outbox) -> Result<TurnKind, Memory>
         requires sized { IsSized self.old }
         requires stamp { self.old.stamp < 2 ^ 62 }
-        ensures does { IfOk result (λ turn. Does (steps.take_value (csp_of self.old.known.problem.now) (agent_of self.old) value) self.old self.new out.old out.new turn) }
+        ensures does { (made : TheStep) → IfOk result (λ kind. Does (steps.take_value (csp_of self.old.known.problem.now) (agent_of self.old) value) self.old self.new out.old out.new (turn_with kind made)) }
         ensures owner { owner_of self.new.known ≡ owner_of self.old.known }
     {
         self.value = Some(value);
@@ -57,48 +59,60 @@ impl<'p> AgentBody<'p> {
             stamp: self.stamp,
         };
         tell_all(&self.tells, told, out)?;
-        Ok(Turn::Announced)
+        Ok(TurnKind::Announced)
     }
 
-    /// Makes the step that says why no value is left, and sends its nogood to the lowest agent of it.
-    fn give_up(&mut self, number: u64, out: &mut Outbox) -> Result<Turn, Memory>
+    /// Makes the step that says why no value is left, in place of one that is no longer needed, and sends its nogood to
+    /// the lowest agent of it.
+    fn give_up(
+        &mut self,
+        number: u64,
+        out: &mut Outbox,
+        made: &mut Step,
+    ) -> Result<TurnKind, Memory>
         requires { IsGood self.old }
-        ensures does { IfOk result (DoesRefuse number self.old self.new out.old out.new) }
+        ensures does { IfOk result (λ kind. DoesRefuse number self.old self.new out.old out.new (turn_with kind made.new)) }
         ensures owner { owner_of self.new.known ≡ owner_of self.old.known }
     {
-        let room = out.step_room(self.known.alloc);
-        let StampedStep { step, stamps } = self.known.refuse(&mut self.room, room)?;
-        match step.nogood.lowest() {
-            None => Ok(Turn::Empty(step)),
+        let room = out.stamp_room(self.known.alloc);
+        let stamps = self.known.refuse(&mut self.room, room, made)?;
+        match made.nogood.lowest() {
+            None => Ok(TurnKind::Empty),
             Some(lowest) => {
                 let message = Message::Refuse {
-                    nogood: out.copy_nogood(self.known.alloc, &step.nogood)?,
+                    nogood: out.copy_nogood(self.known.alloc, &made.nogood)?,
                     stamps,
                     step: number,
                 };
                 post(out, lowest.var, message)?;
                 self.waits = true;
-                Ok(Turn::Derived(step))
+                Ok(TurnKind::Derived)
             }
         }
     }
 
-    /// Settles: the agent keeps its value, takes one, or makes a step with this number.
-    pub fn settle(&mut self, number: u64, out: &mut Outbox) -> Result<Turn, Memory>
+    /// Settles: the agent keeps its value, takes one, or makes a step with this number, in place of one that is no longer
+    /// needed.
+    pub fn settle(
+        &mut self,
+        number: u64,
+        out: &mut Outbox,
+        made: &mut Step,
+    ) -> Result<TurnKind, Memory>
         requires good { IsGood self.old }
         requires stamp { self.old.stamp < 2 ^ 62 }
-        ensures does { IfOk result (DoesSettle number self.old self.new out.old out.new) }
+        ensures does { IfOk result (λ kind. DoesSettle number self.old self.new out.old out.new (turn_with kind made.new)) }
         ensures owner { owner_of self.new.known ≡ owner_of self.old.known }
         ensures good { OnOk result (IsGood self.new) }
     {
         law_agent::agents_stay_sound();
         let is_free = self.is_own_free();
         if !self.waits && is_free {
-            return Ok(Turn::Quiet);
+            return Ok(TurnKind::Quiet);
         }
         match self.choice(is_free) {
             Some(value) => self.take_value(value, out),
-            None => self.give_up(number, out),
+            None => self.give_up(number, out, made),
         }
     }
 }

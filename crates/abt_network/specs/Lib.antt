@@ -1,4 +1,5 @@
 pub mod Standing
 pub mod Bodies
 pub mod Passing
+pub mod Rooms
 pub mod Settling

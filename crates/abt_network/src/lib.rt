@@ -11,11 +11,13 @@ mod body;
 mod deliver;
 mod network;
 mod post;
+mod room;
 
 pub use abt_parts::{MessageKind, SentTo};
 pub use dcsp_common::Memory;
 pub use network::Network;
 pub use ngd_log::Step;
+pub use room::DeliveryRoom;
 
 /// How a start ends.
 #[derive(Debug, Drop)]

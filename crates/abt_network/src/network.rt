@@ -9,15 +9,15 @@ ghost use Rattle.abt_parts.specs.Messages.{message_of};
 ghost use Rattle.abt_parts.specs.Outgoing.{IsStamped};
 ghost use Rattle.abt_agent.specs.States.{stands_for};
 ghost use Rattle.abt_links.specs.Transit.{link_of, ready_pairs};
+ghost use Rattle.abt_network.specs.Rooms.{delivery_in};
 ghost use Rattle.abt_network.specs.Standing.{reached, standing_in, standing_of, state_at, CanDeliver, Delivers, IsAfter, IsSeat, LeadsOn, StandsAt, Starts, TellsSent};
 
 use crate::body::NetworkBody;
-use crate::{Begun, Delivery, Standing};
+use crate::{Begun, Delivery, DeliveryRoom, Standing};
 use abt_agent::Agent;
 use abt_parts::{Message, SentTo};
 use dcsp_common::Memory;
 use dcsp_problem::Problem;
-use ngd_log::Step;
 use std::alloc::Global;
 use std::marker::Model;
 
@@ -94,23 +94,33 @@ impl<'p> Network<'p> {
         ensures spends { OnErr result (self.new.spent ≡ true) }
         ensures spent { self.old.spent ≡ true → IsErr result }
     {
+        let mut room = DeliveryRoom::new(self.body.alloc);
+        self.deliver_into(choice, &mut room)?;
+        Ok(room.into_delivery())
+    }
+
+    /// The same, told in the place of an earlier delivery, whose step's room a step takes.
+    pub fn deliver_into(&mut self, choice: u32, room: &mut DeliveryRoom) -> Result<(), Memory>
+        requires { self.old.spent ≡ false → CanDeliver self.old }
+        ensures delivers { (net : TheNetwork) → StandsAt self.old net → OnOk result (Delivers self.old.problem self.new net choice (delivery_in room.new)) }
+        ensures sends { (net : TheNetwork) → StandsAt self.old net → OnOk result (TellsSent self.old.problem self.new.sent net choice) }
+        ensures leads { (choices : List ℕ) → IsAfter self.old choices → OnOk result (LeadsOn self.old self.new choices choice (delivery_in room.new)) }
+        ensures begun { OnOk result (self.new.begun ≡ true) }
+        ensures problem { self.new.problem ≡ self.old.problem }
+        ensures sound { OnOk result (self.new.spent ≡ false) }
+        ensures spends { OnErr result (self.new.spent ≡ true) }
+        ensures spent { self.old.spent ≡ true → IsErr result }
+    {
         if self.spent {
             return Err(Memory);
         }
-        match self.body.deliver(choice) {
-            Ok(delivery) => Ok(delivery),
+        match self.body.deliver(choice, room) {
+            Ok(()) => Ok(()),
             Err(memory) => {
                 self.spent = true;
                 Err(memory)
             }
         }
-    }
-
-    /// Lets a step go, whose room later steps may take.
-    pub fn give_back(&mut self, step: Step)
-        ensures { self.new ≡ self.old }
-    {
-        self.body.out.give_back_step(step.nogood, step.reasons);
     }
 
     /// How it stands. Where a run leads to it and nothing is in transit or refuted, no agent waits, and the

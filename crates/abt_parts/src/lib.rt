@@ -26,7 +26,6 @@ pub use listed::add_rising;
 pub use message::{Message, MessageKind, Outbox, Sent, SentTo, StampList};
 pub use recorded::Recorded;
 pub use sending::{post, tell_all};
-pub use spare::StepRoom;
 pub use store::Store;
 pub use told::{add_told, has_value, is_news};
 pub use view::{StampedValue, View};

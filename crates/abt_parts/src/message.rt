@@ -7,9 +7,9 @@
 ghost use Rattle.std.specs.Prelude.{◌≡◌, ◌↔◌, ◌+◌, [], ◌∷◌, ◌++◌, drop, length, slice_get, IfErr, IfOk, IsTrue, OnErr, OnOk};
 ghost use Rattle.abt_parts.specs.Messages.{kind_of, message_of, sent_of, told_sent};
 
-use crate::spare::{Spare, StepRoom, empty_list, let_go};
+use crate::spare::{Spare, empty_list, let_go};
 use dcsp_common::{ItemList, Memory};
-use dcsp_defs::{Nogood, ReasonList};
+use dcsp_defs::{Nogood, Pair};
 use std::alloc::Global;
 use std::collections::VecDeque;
 use std::marker::Model;
@@ -156,22 +156,20 @@ impl Outbox {
         let_go(&mut self.spare.pairs, nogood.into_pairs());
     }
 
-    /// Lets the nogood and the reasons of a step go, whose room may be given again.
-    pub fn give_back_step(&mut self, nogood: Nogood, reasons: ReasonList)
+    /// Lets a list of pairs go, whose room may be given again.
+    #[inline(always)]
+    pub fn give_back_pairs(&mut self, pairs: Vec<Pair>)
         ensures { self.new ≡ self.old }
     {
-        let_go(&mut self.spare.pairs, nogood.into_pairs());
-        let_go(&mut self.spare.reasons, reasons.into_vec());
+        let_go(&mut self.spare.pairs, pairs);
     }
 
-    /// Empty lists for a step, with the room of those that were let go, where there are some.
-    pub fn step_room(&mut self, alloc: Global) -> StepRoom
-        ensures pairs { result.pairs.items ≡ [] }
-        ensures stamps { result.stamps.items ≡ [] }
-        ensures reasons { result.reasons.items ≡ [] }
+    /// An empty list for stamps, with the room of one that was let go, if there is one.
+    pub fn stamp_room(&mut self, alloc: Global) -> Vec<u64>
+        ensures stamps { result.items ≡ [] }
         ensures messages { self.new ≡ self.old }
     {
-        self.spare.step_room(alloc)
+        empty_list(&mut self.spare.stamps, alloc)
     }
 
     /// An equal nogood, in the room of one that was let go, if there is one.

@@ -2,23 +2,14 @@
 
 ghost use Rattle.std.specs.Prelude.{◌≡◌, []};
 
-use dcsp_defs::{Pair, Reason};
+use dcsp_defs::Pair;
 use std::alloc::Global;
 
 /// Lists that were let go.
 #[derive(Debug, Drop)]
 pub struct Spare {
     pub pairs: Vec<Vec<Pair>>,
-    pub reasons: Vec<Vec<Reason>>,
     pub stamps: Vec<Vec<u64>>,
-}
-
-/// What a step is made in: lists of its pairs, of their stamps, and of its reasons.
-#[derive(Debug, Drop)]
-pub struct StepRoom {
-    pub pairs: Vec<Pair>,
-    pub stamps: Vec<u64>,
-    pub reasons: Vec<Reason>,
 }
 
 impl Spare {
@@ -26,21 +17,7 @@ impl Spare {
     pub fn new(alloc: Global) -> Spare {
         Spare {
             pairs: Vec::new(alloc),
-            reasons: Vec::new(alloc),
             stamps: Vec::new(alloc),
-        }
-    }
-
-    /// Empty lists for a step.
-    pub fn step_room(&mut self, alloc: Global) -> StepRoom
-        ensures pairs { result.pairs.items ≡ [] }
-        ensures stamps { result.stamps.items ≡ [] }
-        ensures reasons { result.reasons.items ≡ [] }
-    {
-        StepRoom {
-            pairs: empty_list(&mut self.pairs, alloc),
-            stamps: empty_list(&mut self.stamps, alloc),
-            reasons: empty_list(&mut self.reasons, alloc),
         }
     }
 }

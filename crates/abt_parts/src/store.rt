@@ -9,6 +9,7 @@ ghost use Rattle.abt_parts.specs.Stores.{fits, is_ruled_out, lowest_value, place
 use crate::naming::{add_name, name_from, unname_from, unname_item};
 use crate::place_list::PlaceList;
 use crate::recorded::Recorded;
+use crate::spare::let_go;
 use crate::taken::{is_fitting, place_values, release_value, release_values, take_value};
 use crate::value_places::ValuePlaces;
 use dcsp_common::Memory;
@@ -25,6 +26,8 @@ pub struct Store {
     places: ValuePlaces,
     /// For each variable the places of the items that name it.
     lists: Vec<PlaceList>,
+    /// The room of nogoods that were taken out.
+    spare: Vec<Vec<Pair>>,
 }
 
 impl Model for Store {
@@ -50,6 +53,7 @@ impl Store {
             items: Vec::new(alloc),
             places: ValuePlaces::new(alloc),
             lists: Vec::new(alloc),
+            spare: Vec::new(alloc),
         }
     }
 
@@ -148,7 +152,16 @@ impl Store {
         if let Some(item) = self.items.pop() {
             unname_item(&mut self.lists, item.nogood.pairs());
             release_value(&mut self.places, &item.nogood);
+            let_go(&mut self.spare, item.nogood.into_pairs());
         }
+    }
+
+    /// The room of a nogood that was taken out, if one is left.
+    #[inline(always)]
+    pub fn take_room(&mut self) -> Option<Vec<Pair>>
+        ensures { self.new ≡ self.old }
+    {
+        self.spare.pop()
     }
 
     /// The place of the first item that gives the pair's variable another value.

@@ -1,11 +1,12 @@
 //! What one delivery writes.
 
-ghost use Rattle.std.specs.Prelude.{◌≡◌, [], ◌∷◌, map, Contains, IfSome, option_to_list};
+ghost use Rattle.std.specs.Prelude.{◌≡◌, [], ◌∷◌, map, Contains, IfSome, option_to_list, option_copied};
 ghost use Rattle.std.specs.List.{AllByRecursion};
 ghost use Rattle.dcsp_outside.specs.Outside.{Place, Stream};
 ghost use Rattle.dcsp_script.specs.Scripts.{Append, Put, outside};
 ghost use Rattle.dcsp_script.specs.Ways.{Wrote};
 ghost use Rattle.ngd_log.specs.StepText.{step_line, IsInRange, IsStepNumber};
+ghost use Rattle.abt_network.specs.Rooms.{delivery_in};
 ghost use Rattle.abt_network.specs.Standing.{delivery_of, steps_of};
 ghost use Rattle.abt_session.specs.Traces.{progress_texts, trace_texts};
 ghost use Rattle.abt_session.specs.Sessions.{step_writes};
@@ -13,7 +14,7 @@ ghost use Rattle.abt_session.specs.Making.{made_writes};
 
 use crate::telling::{Telling, push_progress, tells_progress};
 use crate::trace::push_line;
-use abt_network::{Begun, Delivery};
+use abt_network::{Begun, DeliveryRoom};
 use dcsp_defs::Step;
 use dcsp_outside::{Folder, Sink};
 use dcsp_script::{Stop, append_step, put};
@@ -23,13 +24,13 @@ pub fn append_made<F: Folder>(
     folder: &mut F,
     log: &str,
     number: u64,
-    step: &Option<Step>,
+    step: Option<&Step>,
     line: &mut Vec<u8>,
 ) -> Result<(), Stop>
     requires created { Contains (F.place folder.old).created log.now }
-    requires number { IfSome step.now (λ s. IsStepNumber number) }
-    requires in_range { IfSome step.now IsInRange }
-    ensures wrote { (out : Stream) → Wrote (step_writes log.now number (option_to_list step.now))
+    requires number { IfSome (option_copied step) (λ s. IsStepNumber number) }
+    requires in_range { IfSome (option_copied step) IsInRange }
+    ensures wrote { (out : Stream) → Wrote (step_writes log.now number (option_to_list (option_copied step.entry)))
         (outside (F.place folder.old) out) (outside (F.place folder.new) out) result }
     ensures created { (F.place folder.new).created ≡ (F.place folder.old).created }
 {
@@ -65,7 +66,7 @@ pub struct Made<'d> {
     pub number: u64,
     /// How many steps the run has made with it.
     pub steps: u64,
-    pub delivery: &'d Delivery,
+    pub delivery: &'d DeliveryRoom,
 }
 
 /// Puts what tells of the delivery.
@@ -87,10 +88,10 @@ fn put_trace<S: Sink>(
     out: &mut S,
     telling: Telling,
     number: u64,
-    delivery: &Delivery,
+    delivery: &DeliveryRoom,
     line: &mut Vec<u8>,
 ) -> Result<(), Stop>
-    ensures { (folder : Place) → Wrote (map Put (trace_texts telling number (delivery_of delivery.now)))
+    ensures { (folder : Place) → Wrote (map Put (trace_texts telling number (delivery_of (delivery_in delivery.now))))
         (outside folder (S.stream out.old)) (outside folder (S.stream out.new)) result }
 {
     if !telling.trace {

@@ -12,6 +12,7 @@ ghost use Rattle.dcsp_script.specs.Scripts.{outside};
 ghost use Rattle.dcsp_script.specs.Ways.{Wrote};
 ghost use Rattle.ngd_log.specs.StepText.{IsInRange};
 ghost use Rattle.abt_network.specs.Standing.{delivery_of, CanDeliver, StandsAt};
+ghost use Rattle.abt_network.specs.Rooms.{delivery_in, made_in};
 ghost use Rattle.abt_session.specs.Sessions.{begun_script, choice_writes, deliveries_write, step_writes, telling_writes};
 ghost use Rattle.abt_session.specs.Running.{kept, order_of, session_for, IsOnRun};
 
@@ -19,11 +20,11 @@ use crate::lines::{Made, append_begun, append_made, put_delivery};
 use crate::session::RunTask;
 use crate::told::{begun_told, tell_delivery};
 use abt_defs::End;
-use abt_network::{Delivery, Network, Standing};
+use abt_network::{DeliveryRoom, Network, Standing};
 use abt_schedule::{ChoiceList, Choices};
 use dcsp_outside::{Folder, Sink};
 use dcsp_script::{Outside, Stop, append, create};
-use ngd_log::{HEAD, Step};
+use ngd_log::HEAD;
 use std::alloc::Global;
 
 /// A run on its way.
@@ -31,6 +32,8 @@ use std::alloc::Global;
 pub struct Runner<'p, 'w> {
     pub network: Network<'p>,
     pub task: RunTask<'w>,
+    /// The last delivery, in whose place the next one is told.
+    pub room: DeliveryRoom,
     /// The numbers of the lists that were delivered from, where they are kept.
     pub taken: ChoiceList,
     /// Where lines are made.
@@ -120,29 +123,25 @@ impl<'p, 'w> Runner<'p, 'w> {
         ensures begun { OnOk result (self.new.network.begun ≡ true) }
         ensures created { (F.place outside.new.folder).created ≡ (F.place outside.old.folder).created }
     {
-        let Ok(mut delivery) = self.network.deliver(choice) else {
+        let Ok(()) = self.network.deliver_into(choice, &mut self.room) else {
             return Err(Stop::Memory);
         };
-        let number = delivery.number;
-        let Ok(()) = tell_delivery(self.alloc, self.task.model.order, &mut delivery) else {
+        let number = self.room.number;
+        let Ok(()) = tell_delivery(self.alloc, self.task.model.order, &mut self.room) else {
             return Err(Stop::Memory);
         };
-        self.write_made(&delivery, outside)?;
-        self.take_down(number, delivery.step)
+        self.write_made(outside)?;
+        self.take_down(number)
     }
 
-    /// Writes what the last delivery writes, of which this is told.
-    fn write_made<F: Folder, S: Sink>(
-        &mut self,
-        delivery: &Delivery,
-        outside: &mut Outside<F, S>,
-    ) -> Result<(), Stop>
+    /// Writes what the last delivery writes.
+    fn write_made<F: Folder, S: Sink>(&mut self, outside: &mut Outside<F, S>) -> Result<(), Stop>
         requires created { Contains (F.place outside.old.folder).created self.old.task.log.now }
         requires sound { self.old.network.spent ≡ false }
-        requires number { IfSome delivery.now.step (λ s. 0 < self.old.network.steps) }
-        requires in_range { IfSome delivery.now.step IsInRange }
-        ensures wrote { Wrote (step_writes self.old.task.log.now self.old.network.steps (option_to_list delivery.now.step)
-            ++ telling_writes self.old.task.telling self.old.network.deliveries self.old.network.steps (delivery_of delivery.now ∷ []))
+        requires number { IfSome (made_in self.old.room) (λ s. 0 < self.old.network.steps) }
+        requires in_range { IfSome (made_in self.old.room) IsInRange }
+        ensures wrote { Wrote (step_writes self.old.task.log.now self.old.network.steps (option_to_list (made_in self.old.room))
+            ++ telling_writes self.old.task.telling self.old.network.deliveries self.old.network.steps (delivery_of (delivery_in self.old.room) ∷ []))
             (world F.place S.stream outside.old) (world F.place S.stream outside.new) result }
         ensures same { SameTask self.old self.new }
         ensures network { self.new.network ≡ self.old.network }
@@ -154,27 +153,24 @@ impl<'p, 'w> Runner<'p, 'w> {
             &mut outside.folder,
             self.task.log,
             steps,
-            &delivery.step,
+            self.room.made(),
             &mut self.line,
         )?;
         let made = Made {
             number: self.network.deliveries(),
             steps,
-            delivery,
+            delivery: &self.room,
         };
         put_delivery(&mut outside.out, self.task.telling, made, &mut self.line)
     }
 
-    /// Takes the number of a list down, where that is asked for, and lets the step go that was written.
-    fn take_down(&mut self, number: u32, step: Option<Step>) -> Result<(), Stop>
+    /// Takes the number of a list down, where that is asked for.
+    fn take_down(&mut self, number: u32) -> Result<(), Stop>
         ensures ok { OnOk result (self.new.taken ≡ self.old.taken ++ kept self.old.task.keep (number ∷ [])) }
         ensures only_memory { OnErr result (result ≡ Err Stop.Memory) }
         ensures same { SameTask self.old self.new }
         ensures network { self.new.network ≡ self.old.network }
     {
-        if let Some(step) = step {
-            self.network.give_back(step);
-        }
         if !self.task.keep {
             return Ok(());
         }

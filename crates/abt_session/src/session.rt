@@ -15,7 +15,7 @@ use crate::ordered::Ordered;
 use crate::outcome::{Outcome, outcome_of};
 use crate::runner::Runner;
 use crate::telling::Telling;
-use abt_network::Network;
+use abt_network::{DeliveryRoom, Network};
 use abt_schedule::{ChoiceList, Choices};
 use dcsp_order::moved;
 use dcsp_outside::{Folder, Sink};
@@ -111,6 +111,7 @@ fn run_ordered<C: Choices, F: Folder, S: Sink>(
     let mut runner = Runner {
         network,
         task,
+        room: DeliveryRoom::new(alloc),
         taken: ChoiceList::new(alloc),
         line: Vec::new(alloc),
         alloc,

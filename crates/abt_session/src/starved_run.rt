@@ -11,7 +11,7 @@ ghost use Rattle.abt_session.specs.Running.{TakesPart};
 ghost use Rattle.abt_session.specs.Starving.{choices_of, end_at, run_of, starving_choices, AreNear, IsStarved};
 
 use abt_defs::End;
-use abt_network::{Network, Standing};
+use abt_network::{DeliveryRoom, Network, Standing};
 use abt_schedule::ChoiceList;
 use dcsp_common::Memory;
 use dcsp_problem::Problem;
@@ -60,7 +60,8 @@ pub fn starve(
     run.problem.denotes_csp();
     let mut network = Network::new(alloc, run.problem)?;
     let _begun = network.start()?;
-    deliver_others(&mut network, run.from, run.to, run.most, taken)?;
+    let mut room = DeliveryRoom::new(alloc);
+    deliver_others(&mut network, &mut room, run.from, run.to, run.most, taken)?;
     Ok(Starved {
         end: end_of(&network),
         deliveries: network.deliveries(),
@@ -70,6 +71,7 @@ pub fn starve(
 /// Makes the deliveries of the run, until it ends or the greatest number was made.
 fn deliver_others(
     network: &mut Network,
+    room: &mut DeliveryRoom,
     from: u32,
     to: u32,
     most: u64,
@@ -90,7 +92,7 @@ fn deliver_others(
             Standing::Open => {}
             Standing::Refuted | Standing::Quiet => return Ok(()),
         }
-        deliver_other(network, from, to, taken)?;
+        deliver_other(network, room, from, to, taken)?;
     }
     Ok(())
 }
@@ -98,6 +100,7 @@ fn deliver_others(
 /// Makes one delivery, from the first ready list of another pair, if there is one.
 fn deliver_other(
     network: &mut Network,
+    room: &mut DeliveryRoom,
     from: u32,
     to: u32,
     taken: &mut ChoiceList,
@@ -114,10 +117,7 @@ fn deliver_other(
     ensures problem { network.new.problem ≡ network.old.problem }
 {
     let number = first_other(network, from, to);
-    let delivery = network.deliver(number)?;
-    if let Some(step) = delivery.step {
-        network.give_back(step);
-    }
+    network.deliver_into(number, room)?;
     taken.push(number)
 }
 

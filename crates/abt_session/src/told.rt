@@ -4,15 +4,15 @@ ghost use Rattle.std.specs.Prelude.{◌≡◌, IfOk, IfSome, OnOk, Some, option_
 ghost use Rattle.std.specs.List.{AllByRecursion};
 ghost use Rattle.ngd_log.specs.StepText.{IsInRange};
 ghost use Rattle.dcsp_order.specs.Told.{steps_told};
+ghost use Rattle.abt_network.specs.Rooms.{delivery_in, made_in};
 ghost use Rattle.abt_network.specs.Standing.{delivery_of, steps_of};
 ghost use Rattle.abt_session.specs.Traces.{delivery_told};
 
-use abt_network::{Begun, Delivery};
+use abt_network::{Begun, DeliveryRoom};
 use dcsp_common::Memory;
 use dcsp_defs::Step;
 use dcsp_order::Order;
 use std::alloc::Global;
-use std::mem;
 
 /// The step that was made, if one was.
 pub fn step_told(
@@ -57,11 +57,11 @@ pub fn begun_told(alloc: Global, order: Option<&Order>, begun: Begun) -> Result<
 pub fn tell_delivery(
     alloc: Global,
     order: Option<&Order>,
-    delivery: &mut Delivery,
+    delivery: &mut DeliveryRoom,
 ) -> Result<(), Memory>
-    ensures told { OnOk result (delivery_of delivery.new ≡ delivery_told (option_copied order.entry) (delivery_of delivery.old)) }
-    ensures step { OnOk result (option_to_list delivery.new.step ≡ steps_told (option_copied order.entry) (option_to_list delivery.old.step)) }
-    ensures in_range { IfSome delivery.old.step IsInRange → OnOk result (IfSome delivery.new.step IsInRange) }
+    ensures told { OnOk result (delivery_of (delivery_in delivery.new) ≡ delivery_told (option_copied order.entry) (delivery_of (delivery_in delivery.old))) }
+    ensures step { OnOk result (option_to_list (made_in delivery.new) ≡ steps_told (option_copied order.entry) (option_to_list (made_in delivery.old))) }
+    ensures in_range { IfSome (made_in delivery.old) IsInRange → OnOk result (IfSome (made_in delivery.new) IsInRange) }
 {
     match order {
         None => Ok(()),
@@ -70,13 +70,14 @@ pub fn tell_delivery(
 }
 
 /// The same, where there is an order.
-fn tell_under(alloc: Global, order: &Order, delivery: &mut Delivery) -> Result<(), Memory>
-    ensures told { OnOk result (delivery_of delivery.new ≡ delivery_told (Some order.now) (delivery_of delivery.old)) }
-    ensures step { OnOk result (option_to_list delivery.new.step ≡ steps_told (Some order.now) (option_to_list delivery.old.step)) }
-    ensures in_range { IfSome delivery.old.step IsInRange → OnOk result (IfSome delivery.new.step IsInRange) }
+fn tell_under(alloc: Global, order: &Order, delivery: &mut DeliveryRoom) -> Result<(), Memory>
+    ensures told { OnOk result (delivery_of (delivery_in delivery.new) ≡ delivery_told (Some order.now) (delivery_of (delivery_in delivery.old))) }
+    ensures step { OnOk result (option_to_list (made_in delivery.new) ≡ steps_told (Some order.now) (option_to_list (made_in delivery.old))) }
+    ensures in_range { IfSome (made_in delivery.old) IsInRange → OnOk result (IfSome (made_in delivery.new) IsInRange) }
 {
-    let step = mem::replace(&mut delivery.step, None);
-    delivery.step = step_told(alloc, Some(order), step)?;
+    if delivery.has_step {
+        delivery.step = order.step_told(alloc, &delivery.step)?;
+    }
     delivery.from = order.number(delivery.from);
     delivery.to = order.number(delivery.to);
     Ok(())

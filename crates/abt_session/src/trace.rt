@@ -1,16 +1,17 @@
 //! The lines of a trace.
 
 ghost use Rattle.std.specs.Prelude.{◌≡◌, ◌++◌, OnOk};
+ghost use Rattle.abt_network.specs.Rooms.{delivery_in};
 ghost use Rattle.abt_network.specs.Standing.{cargo_in, delivery_of};
 ghost use Rattle.abt_session.specs.Traces.{cargo_text, trace_line};
 
-use abt_network::{Cargo, Delivery};
+use abt_network::{Cargo, DeliveryRoom};
 use dcsp_common::{push_number, push_signed};
 use std::alloc::AllocError;
 
 /// Appends the line of the delivery with this number. A refusal may leave a part of it.
-pub fn push_line(line: &mut Vec<u8>, number: u64, delivery: &Delivery) -> Result<(), AllocError>
-    ensures { OnOk result (line.new.items ≡ line.old.items ++ trace_line number (delivery_of delivery.now)) }
+pub fn push_line(line: &mut Vec<u8>, number: u64, delivery: &DeliveryRoom) -> Result<(), AllocError>
+    ensures { OnOk result (line.new.items ≡ line.old.items ++ trace_line number (delivery_of (delivery_in delivery.now))) }
 {
     line.extend_from_slice(b"% ")?;
     push_number(line, number)?;

@@ -3,6 +3,7 @@
 ghost use Rattle.std.specs.Prelude.{◌≡◌, ◌≤◌, ◌^◌, ◌++◌, All, IfOk, IfSome, OnOk, option_to_list};
 ghost use Rattle.dcsp_rule.specs.Problems.{csp_of};
 ghost use Rattle.abt_defs.specs.Network.{Network as TheNetwork, deliver, start};
+ghost use Rattle.abt_network.specs.Rooms.{made_in};
 ghost use Rattle.abt_network.specs.Standing.{steps_of, CanDeliver};
 ghost use Rattle.abt_session.specs.Running.{IsOnRun};
 ghost use Rattle.line_cnf.specs.ClauseRows.{steps_row};
@@ -11,7 +12,7 @@ ghost use Rattle.line_cnf.specs.CnfOutcomes.{IsBinaryStep, IsFormula};
 
 use crate::clause_row::{ClauseRow, push_clause};
 use abt_defs::End;
-use abt_network::{Begun, Network, Standing, Step};
+use abt_network::{Begun, DeliveryRoom, Network, Standing};
 use abt_schedule::Choices;
 use dcsp_problem::Problem;
 use std::alloc::{AllocError, Global};
@@ -20,6 +21,8 @@ use std::alloc::{AllocError, Global};
 #[derive(Drop)]
 pub struct ClauseRun<'p> {
     pub network: Network<'p>,
+    /// The last delivery, in whose place the next one is told.
+    pub room: DeliveryRoom,
     /// The clauses of the steps that were made, in order.
     pub clauses: ClauseRow,
 }
@@ -31,8 +34,13 @@ pub fn started(alloc: Global, problem: &Problem) -> Result<ClauseRun<'_>, AllocE
 {
     let mut network = Network::new(alloc, problem)?;
     let begun = network.start()?;
+    let room = DeliveryRoom::new(alloc);
     let clauses = clauses_of(alloc, begun)?;
-    Ok(ClauseRun { network, clauses })
+    Ok(ClauseRun {
+        network,
+        room,
+        clauses,
+    })
 }
 
 /// The clauses of the steps that a start made: one, or none.
@@ -88,21 +96,19 @@ impl ClauseRun<'_> {
         ensures { (net : TheNetwork) → IsRunAt self.old.network.problem net self.old
             → OnOk result (IsRunAt self.old.network.problem (deliver (csp_of self.old.network.problem) choice net) self.new) }
     {
-        let delivery = self.network.deliver(choice)?;
-        self.keep(delivery.step)
+        self.network.deliver_into(choice, &mut self.room)?;
+        self.keep_made()
     }
 
-    /// Keeps the clause of a step, if there is one, and lets the step go.
-    fn keep(&mut self, step: Option<Step>) -> Result<(), AllocError>
-        requires { IfSome step IsBinaryStep }
-        ensures clauses { OnOk result (self.new.clauses ≡ self.old.clauses ++ steps_row (option_to_list step)) }
+    /// Keeps the clause of the step that the last delivery made, if it made one.
+    fn keep_made(&mut self) -> Result<(), AllocError>
+        requires { IfSome (made_in self.old.room) IsBinaryStep }
+        ensures clauses { OnOk result (self.new.clauses ≡ self.old.clauses ++ steps_row (option_to_list (made_in self.old.room))) }
         ensures network { self.new.network ≡ self.old.network }
     {
-        let Some(step) = step else {
-            return Ok(());
-        };
-        push_clause(&step.nogood, &mut self.clauses)?;
-        self.network.give_back(step);
-        Ok(())
+        match self.room.made() {
+            Some(step) => push_clause(&step.nogood, &mut self.clauses),
+            None => Ok(()),
+        }
     }
 }

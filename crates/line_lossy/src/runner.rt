@@ -178,7 +178,7 @@ impl<'p, 'w> LossyRunner<'p, 'w> {
         let Ok(told) = step_told(self.alloc, self.order, happened.step) else {
             return Err(Stop::Memory);
         };
-        append_made(folder, self.log, self.steps, &told, &mut self.line)?;
+        append_made(folder, self.log, self.steps, told.as_ref(), &mut self.line)?;
         self.take_down(happened.delivered)
     }
 

@@ -18,11 +18,11 @@ pub returns : goal.returns
 returns c =
     let p = c.in_ok-network.network.problem in
     let same = c.in_ok-network.ensures.problem in
-    let h : IsRunAt p (start (csp_of p)) (record { network = c.start.new.self; clauses = c.in_ok-clauses.clauses }) = record {
+    let h : IsRunAt p (start (csp_of p)) (record { network = c.start.new.self; room = c.new-room.result; clauses = c.in_ok-clauses.clauses }) = record {
       problem = c.in_ok-begun.ensures.problem;
       stands = c.in_ok-begun.ensures.starts.stands;
       sound = c.in_ok-begun.ensures.sound;
       begun = c.in_ok-begun.ensures.begun;
       clauses = c.in_ok-clauses.ensures ∙ ap steps_row (sym c.in_ok-begun.ensures.starts.steps);
     } in
-    subst (λ (q : Contents). IsRunAt q (start (csp_of q)) (record { network = c.start.new.self; clauses = c.in_ok-clauses.clauses })) same h
+    subst (λ (q : Contents). IsRunAt q (start (csp_of q)) (record { network = c.start.new.self; room = c.new-room.result; clauses = c.in_ok-clauses.clauses })) same h

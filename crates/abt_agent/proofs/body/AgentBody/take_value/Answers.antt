@@ -10,7 +10,7 @@ use Rattle.abt_agent.proofs.Takes.{takes}
 use Rattle.abt_agent.proofs.body.AgentBody.take_value.Goals as goal
 
 pub returns-clause-does : goal.returns-clause-does
-returns-clause-does c =
+returns-clause-does c made =
     let b = c.args.self.now in
     let fits : SFits w64 c.args.value = search rules in
     let same = to_z-of_z w64 c.args.value fits in

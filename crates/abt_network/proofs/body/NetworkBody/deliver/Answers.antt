@@ -3,6 +3,7 @@ use Rattle.dcsp_rule.specs.Problems.{Contents, csp_of}
 use Rattle.abt_defs.specs.Network.{run, start}
 use Rattle.abt_network.specs.Standing.{StandsAt, reached}
 use Rattle.abt_network.specs.Bodies.{shown}
+use Rattle.abt_network.specs.Rooms.{delivery_in}
 use Rattle.abt_network.proofs.Quiet.{is_open, few_steps}
 use Rattle.abt_network.proofs.Fitting.{expects}
 use Rattle.abt_network.proofs.Leading.{delivers_of, leads_of}
@@ -29,7 +30,7 @@ pub overflow_add-self-2 : goal.overflow_add-self-2
 overflow_add-self-2 c =
     let few = few_steps c.args.self.now c.denotes_csp.ensures.csp c.requires.kept in
     let most = c.requires.kept.few in
-    let same = c.in_ok-delivery.ensures.steps in
+    let same = c.in_ok-pass_on.ensures.steps in
     let one = c.count_of.ensures.few in
     omega (arith, few, most, same, one)
 
@@ -37,8 +38,8 @@ pub returns-clause-delivers : goal.returns-clause-delivers
 returns-clause-delivers c net st =
     let s = shown c.args.self.now false in
     let s' = shown (record c.pass_on.new.self { refuted = c.refutes-self.result; deliveries = c.pass_on.new.self.deliveries + 1; steps = c.pass_on.new.self.steps + c.count_of.result }) false in
-    let done = c.in_ok-delivery.ensures in
-    delivers_of s s' net c.args.choice c.in_ok-delivery.delivery st (done.passes net st) (record {
+    let done = c.in_ok-pass_on.ensures in
+    delivers_of s s' net c.args.choice (delivery_in c.pass_on.new.room) st (done.passes net st) (record {
       problem = done.problem;
       refuted = c.refutes-self.ensures;
       deliveries = ap (λ k. k + 1) done.deliveries;
@@ -52,13 +53,13 @@ returns-clause-leads c choices st =
     let open_ = is_open s c.requires.can.open_ in
     let few = few_steps c.args.self.now c.denotes_csp.ensures.csp c.requires.kept in
     let most = c.requires.kept.few in
-    leads_of s s' choices c.args.choice c.in_ok-delivery.delivery c.denotes_csp.ensures.csp c.denotes_csp.ensures.problem (omega (arith, few, most)) open_.0 open_.1 c.requires.kept.tidy.sized.linked st (returns-clause-delivers c (reached s choices) st)
+    leads_of s s' choices c.args.choice (delivery_in c.pass_on.new.room) c.denotes_csp.ensures.csp c.denotes_csp.ensures.problem (omega (arith, few, most)) open_.0 open_.1 c.requires.kept.tidy.sized.linked st (returns-clause-delivers c (reached s choices) st)
 
 pub returns-clause-kept : goal.returns-clause-kept
 returns-clause-kept c =
     let s = shown c.args.self.now false in
     let s' = shown (record c.pass_on.new.self { refuted = c.refutes-self.result; deliveries = c.pass_on.new.self.deliveries + 1; steps = c.pass_on.new.self.steps + c.count_of.result }) false in
-    let done = c.in_ok-delivery.ensures in
+    let done = c.in_ok-pass_on.ensures in
     let few = c.requires.can.few in
     let same = done.deliveries in
     let r = c.requires.kept.reached c.requires.can.begun in
@@ -78,7 +79,7 @@ returns-clause-kept c =
     }
 
 pub returns-clause-sized : goal.returns-clause-sized
-returns-clause-sized c = record { long = c.in_ok-delivery.ensures.sized.long; linked = c.in_ok-delivery.ensures.sized.linked }
+returns-clause-sized c = record { long = c.in_ok-pass_on.ensures.sized.long; linked = c.in_ok-pass_on.ensures.sized.linked }
 
 pub returns-clause-begun : goal.returns-clause-begun
-returns-clause-begun c = c.in_ok-delivery.ensures.begun ∙ c.requires.can.begun
+returns-clause-begun c = c.in_ok-pass_on.ensures.begun ∙ c.requires.can.begun

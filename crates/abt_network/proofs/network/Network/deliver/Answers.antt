@@ -1,23 +1,7 @@
-use Rattle.std.proofs.Common.{◌≡◌, false, sym, ap, subst, ◌∙◌}
-use Rattle.abt_network.specs.Standing.{NetworkState, StandsAt, Delivers, LeadsOn, TellsSent, reached}
-use Rattle.abt_network.specs.Bodies.{shown}
+use Rattle.std.proofs.Common.{subst, sym}
+use Rattle.abt_network.specs.Standing.{LeadsOn}
 use Rattle.abt_network.proofs.network.Network.deliver.Goals as goal
 
-pub returns-in-Ok-clause-delivers : goal.returns-in-Ok-clause-delivers
-returns-in-Ok-clause-delivers c net st =
-    let before : shown c.self.inside.body false ≡ c.args.self.now = ap (shown c.self.inside.body) (sym c.if-self.false) ∙ c.self.view_is in
-    let after : shown c.deliver.new.self false ≡ shown c.deliver.new.self c.self.inside.spent = ap (shown c.deliver.new.self) (sym c.if-self.false) in
-    subst (λ (z : NetworkState). Delivers c.args.self.now.problem z net c.args.choice c.in-Ok.delivery) after
-    (subst (λ (s : NetworkState). StandsAt s net → Delivers s.problem (shown c.deliver.new.self false) net c.args.choice c.in-Ok.delivery) before (c.in-Ok.ensures.delivers net) st)
-
-pub returns-in-Ok-clause-leads : goal.returns-in-Ok-clause-leads
-returns-in-Ok-clause-leads c choices st =
-    let before : shown c.self.inside.body false ≡ c.args.self.now = ap (shown c.self.inside.body) (sym c.if-self.false) ∙ c.self.view_is in
-    let after : shown c.deliver.new.self false ≡ shown c.deliver.new.self c.self.inside.spent = ap (shown c.deliver.new.self) (sym c.if-self.false) in
-    subst (λ (z : NetworkState). LeadsOn c.args.self.now z choices c.args.choice c.in-Ok.delivery) after
-    (subst (λ (s : NetworkState). StandsAt s (reached s choices) → LeadsOn s (shown c.deliver.new.self false) choices c.args.choice c.in-Ok.delivery) before (c.in-Ok.ensures.leads choices) st)
-
-pub returns-in-Ok-clause-sends : goal.returns-in-Ok-clause-sends
-returns-in-Ok-clause-sends c net st =
-    let before : shown c.self.inside.body false ≡ c.args.self.now = ap (shown c.self.inside.body) (sym c.if-self.false) ∙ c.self.view_is in
-    (subst (λ (s : NetworkState). StandsAt s net → TellsSent s.problem c.deliver.new.self.sent.items net c.args.choice) before (c.in-Ok.ensures.sends net) st)
+pub returns-clause-leads : goal.returns-clause-leads
+returns-clause-leads c choices st =
+    subst (λ d. LeadsOn c.args.self.now c.deliver_into.new.self choices c.args.choice d) (sym c.into_delivery.ensures) (c.in_ok-deliver_into.ensures.leads choices st)

@@ -1,4 +1,6 @@
-use Rattle.std.proofs.Common.{◌+◌, ◌++◌, ◌∷◌, [], List, ℕ, length, option_to_list, sym, ap, subst, ◌∙◌}
+use Rattle.std.proofs.Common.{◌+◌, ◌++◌, ◌∷◌, [], List, ℕ, Option, IfSome, length, option_to_list, rules, sym, ap, subst, ◌∙◌}
+use Rattle.dcsp_defs.specs.declared.Step.{Step}
+use Rattle.ngd_log.specs.StepText.{IsInRange, IsStepNumber}
 use Rattle.abt_lossy.specs.InWorld.{LossyState, reached, Happens}
 use Rattle.abt_session.specs.Sessions.{step_writes}
 use Rattle.abt_session.specs.Running.{kept}
@@ -8,13 +10,19 @@ use Rattle.line_lossy.specs.Runners.{order_of}
 use Rattle.line_lossy.proofs.Making.{told_writes, steps_after, made_more, where_ok}
 use Rattle.line_lossy.proofs.runner.LossyRunner.make_event.Goals as goal
 
+pub append_made-requires-clause-number : goal.append_made-requires-clause-number
+append_made-requires-clause-number g c = subst (λ (o : Option Step). IfSome o (λ s. IsStepNumber c.count_step.new.self.steps)) (sym c.as_ref.ensures.value) (search rules)
+
+pub append_made-requires-clause-in_range : goal.append_made-requires-clause-in_range
+append_made-requires-clause-in_range g c = subst (λ (o : Option Step). IfSome o IsInRange) (sym c.as_ref.ensures.value) (search rules)
+
 pub returns-in_err-append_made-clause-wrote : goal.returns-in_err-append_made-clause-wrote
 returns-in_err-append_made-clause-wrote g c = λ words out h.
     let old = c.args.self.now in
     let made = c.in-Ok.ensures.happens words h.after in
     let same = told_writes (order_of old) old.log.now (reached old.medium words).network.steps (reached old.medium (words ++ c.args.word ∷ [])).network.steps c.in-Ok.happened.step c.in-Ok-step_told.told c.count_step.new.self.steps old.steps (steps_after words c.args.word old.medium c.event.new.self c.in-Ok.happened made)
     (c.in-Ok-step_told.ensures.told ∙ ap (λ o. steps_told o (option_to_list c.in-Ok.happened.step)) c.count_step.ensures.same.order) h.steps c.count_step.ensures.steps in
-    wrote_as (ap (λ (l : List ℕ). step_writes l c.count_step.new.self.steps (option_to_list c.in-Ok-step_told.told)) c.count_step.ensures.same.log ∙ same) (stopped_so _ c.from_residual.ensures (c.in_err-append_made.ensures.wrote out))
+    wrote_as (ap (λ (o : Option Step). step_writes c.count_step.new.self.log.now c.count_step.new.self.steps (option_to_list o)) c.as_ref.ensures.value ∙ ap (λ (l : List ℕ). step_writes l c.count_step.new.self.steps (option_to_list c.in-Ok-step_told.told)) c.count_step.ensures.same.log ∙ same) (stopped_so _ c.from_residual.ensures (c.in_err-append_made.ensures.wrote out))
 
 pub returns-clause-wrote : goal.returns-clause-wrote
 returns-clause-wrote g c = λ words out h.
@@ -22,7 +30,7 @@ returns-clause-wrote g c = λ words out h.
     let made = c.in-Ok.ensures.happens words h.after in
     let same = told_writes (order_of old) old.log.now (reached old.medium words).network.steps (reached old.medium (words ++ c.args.word ∷ [])).network.steps c.in-Ok.happened.step c.in-Ok-step_told.told c.count_step.new.self.steps old.steps (steps_after words c.args.word old.medium c.event.new.self c.in-Ok.happened made)
     (c.in-Ok-step_told.ensures.told ∙ ap (λ o. steps_told o (option_to_list c.in-Ok.happened.step)) c.count_step.ensures.same.order) h.steps c.count_step.ensures.steps in
-    wrote_as (ap (λ (l : List ℕ). step_writes l c.count_step.new.self.steps (option_to_list c.in-Ok-step_told.told)) c.count_step.ensures.same.log ∙ same) (made_then_memory c.take_down.result c.take_down.ensures.only_memory (c.in_ok-append_made.ensures.wrote out))
+    wrote_as (ap (λ (o : Option Step). step_writes c.count_step.new.self.log.now c.count_step.new.self.steps (option_to_list o)) c.as_ref.ensures.value ∙ ap (λ (l : List ℕ). step_writes l c.count_step.new.self.steps (option_to_list c.in-Ok-step_told.told)) c.count_step.ensures.same.log ∙ same) (made_then_memory c.take_down.result c.take_down.ensures.only_memory (c.in_ok-append_made.ensures.wrote out))
 
 pub returns-clause-made : goal.returns-clause-made
 returns-clause-made g c = λ words h.
