@@ -1,10 +1,10 @@
 -- Running sums by blocks.
 use Rattle.std.proofs.Common.{◌≡◌, ◌≢◌, ℕ, zero, suc, ◌+◌, ◌-◌, ◌*◌, ◌/◌, ◌<◌, ◌≤◌, inl, inr, List, [], ◌∷◌, length, get_or, set, take, drop, sum, replicate, refl, sym, ◌∙◌, ap, subst, arith}
 use Rattle.std.proofs.lemmas.Bool.{cases_eq, cases_lt}
-use Rattle.std.proofs.lemmas.List.{length-set, take_all, take-set-le, take-take, drop-take, get_or-set_same, get_or-set_other, get_or-take, length-replicate, get_or_read, drop-replicate, get_or-replicate}
+use Rattle.std.proofs.lemmas.List.{length-set, take_all, take-set-le, take-take, drop-take, get_or-set_same, get_or-set_other, get_or-take, length-replicate, get_or_read, get_or_past, drop-replicate, get_or-replicate}
 use Rattle.std.proofs.lemmas.List.Sums.{sum_by-set, sum_by-take-drop, sum_by-take-le, sum_by_more}
 use Rattle.std.proofs.Math.Nat.{mul-add, mul-div-le, lt-mul-div-succ, mul-le-mul_left, lt_of_mul-lt-mul_left, le_of_mul-le-mul_left, div-le_of_le-mul}
-use Rattle.abt_links.specs.Blocks.{IsBlocked}
+use Rattle.abt_links.specs.Blocks.{IsBlocked, AreGroups, AreSummed}
 
 -- ---- one block on
 
@@ -153,6 +153,14 @@ no-blocked w size m small few wide narrow long = record {
   whole = sym (zeros size);
 }
 
+pub no-summed : (w size m g : ℕ) → size ≤ 4096 → m ≤ 4096 → g ≤ 4096 → 0 < w → w ≤ 64 → size ≤ w * m → (0 < g → m ≤ 16 * g) → AreSummed w (replicate size 0) (replicate m 0) (replicate g 0) 0
+no-summed w size m g small few fewer wide narrow long enough = record {
+  blocked = no-blocked w size m small few wide narrow long;
+  grouped = λ some.
+      subst (IsBlocked 16 (replicate m 0) (replicate g 0)) (sym (zeros m))
+      (no-blocked 16 m g few fewer (omega arith) (omega arith) (enough (omega (arith, some, length-replicate {A = ℕ} g 0))));
+}
+
 -- ---- a search
 
 -- so much of the rest
@@ -182,6 +190,14 @@ blocks_before w counts blocks total (suc b) blocked h =
     ∙ ap (λ n. sum (take (w * n) counts)) (sym more)
 
 -- the blocks before the place's own, and the counts of its own before it
+-- all blocks have all counts
+pub blocks_sum : (w : ℕ) (counts blocks : List ℕ) (total : ℕ) → IsBlocked w counts blocks total → sum blocks ≡ total
+blocks_sum w counts blocks total blocked =
+    ap sum (sym (take_all (length blocks) blocks (omega arith)))
+    ∙ blocks_before w counts blocks total (length blocks) blocked (omega arith)
+    ∙ ap sum (take_all (w * length blocks) counts blocked.long)
+    ∙ sym blocked.whole
+
 pub before-parts : (w : ℕ) (counts blocks : List ℕ) (total place : ℕ) → IsBlocked w counts blocks total → place ≤ length counts
     → sum (take (place / w) blocks) + sum (take (place - w * (place / w)) (drop (w * (place / w)) counts)) ≡ sum (take place counts)
 before-parts w counts blocks total place blocked inside =
@@ -209,15 +225,71 @@ module _ (w : ℕ) (counts blocks : List ℕ) (total p x b z : ℕ) (blocked : I
   pub fits_total : z ≤ total
   fits_total = omega (arith, block_is, block_fits w counts blocks total p blocked inside)
 
-  pub one-more : IsBlocked w (set counts p (x + 1)) (set blocks b (z + 1)) (total + 1)
-  one-more =
-      subst (λ k. IsBlocked w (set counts p (x + 1)) (set blocks k (z + 1)) (total + 1)) (sym own)
-      (set-blocked w counts blocks total (total + 1) p (x + 1) (z + 1) blocked inside (omega (arith, count_is, block_is)) (omega (arith, count_is)))
+-- ---- groups of blocks
 
-  pub one-less : 0 < x → IsBlocked w (set counts p (x - 1)) (set blocks b (z - 1)) (total - 1)
+-- a block's group
+group_inside : (groups blocks : List ℕ) (b : ℕ) → IsBlocked 16 blocks groups (sum blocks) → b < length blocks → get_or groups (b / 16) 0 ≤ sum blocks
+group_inside groups blocks b blocked inside = block_fits 16 blocks groups (sum blocks) b blocked inside
+
+pub few_in_group : (groups blocks : List ℕ) (b most : ℕ) → AreGroups groups blocks → b < length blocks → sum blocks < most → get_or groups (b / 16) 0 < most
+few_in_group groups blocks b most grouped inside less = elim (cases_lt 0 (length groups)) [
+  | inl some ↦ omega (arith, group_inside groups blocks b (grouped some) inside)
+  | inr none ↦ omega (arith, get_or_past groups (b / 16) 0 (omega (arith, none)))
+]
+
+pub some_in_group : (groups blocks : List ℕ) (b : ℕ) → AreGroups groups blocks → b < length blocks → 0 < get_or blocks b 0 → b / 16 < length groups → 0 < get_or groups (b / 16) 0
+some_in_group groups blocks b grouped inside some there =
+    omega (arith, count_fits 16 blocks groups (sum blocks) b (grouped (omega (arith, there))) inside)
+
+-- a block and its group change alike
+groups_set : (groups blocks : List ℕ) (b y z : ℕ) → AreGroups groups blocks → b < length blocks → (b / 16 < length groups → z + get_or blocks b 0 ≡ get_or groups (b / 16) 0 + y)
+    → AreGroups (set groups (b / 16) z) (set blocks b y)
+groups_set groups blocks b y z grouped inside alike some =
+    let had : 0 < length groups = omega (arith, some, length-set groups (b / 16) z) in
+    let blocked = grouped had in
+    let there : b / 16 < length groups = has_block 16 blocks groups (sum blocks) b blocked inside in
+    set-blocked 16 blocks groups (sum blocks) (sum (set blocks b y)) b y z blocked inside (alike there) (sum_by-set (λ x. x) blocks b y 0 inside)
+
+-- ---- one more, or one less, in each
+
+module _ (w : ℕ) (counts blocks groups : List ℕ) (total p x b z : ℕ) (summed : AreSummed w counts blocks groups total) (inside : p < length counts) (read : x ≡ get_or counts p x) (own : b ≡ p / w) (read_block : z ≡ get_or blocks b z) where
+  there : b < length blocks
+  there = subst (λ k. k < length blocks) (sym own) (has_block w counts blocks total p summed.blocked inside)
+
+  block_at : z ≡ get_or blocks b 0
+  block_at = get_or_read blocks b z there read_block 0
+
+  own_block_at : z ≡ get_or blocks (p / w) 0
+  own_block_at = subst (λ k. z ≡ get_or blocks k 0) own block_at
+
+  count_at : x ≡ get_or counts p 0
+  count_at = get_or_read counts p x inside read 0
+
+  pub one-more : AreSummed w (set counts p (x + 1)) (set blocks b (z + 1)) (set groups (b / 16) (get_or groups (b / 16) 0 + 1)) (total + 1)
+  one-more = record {
+    blocked = subst (λ k. IsBlocked w (set counts p (x + 1)) (set blocks k (z + 1)) (total + 1)) (sym own)
+        (set-blocked w counts blocks total (total + 1) p (x + 1) (z + 1) summed.blocked inside (omega (arith, count_at, own_block_at)) (omega (arith, count_at)));
+    grouped = groups_set groups blocks b (z + 1) (get_or groups (b / 16) 0 + 1) summed.grouped there (λ _. omega (arith, block_at));
+  }
+
+  pub one-less : 0 < x → AreSummed w (set counts p (x - 1)) (set blocks b (z - 1)) (set groups (b / 16) (get_or groups (b / 16) 0 - 1)) (total - 1)
   one-less some =
-      subst (λ k. IsBlocked w (set counts p (x - 1)) (set blocks k (z - 1)) (total - 1)) (sym own)
-      (set-blocked w counts blocks total (total - 1) p (x - 1) (z - 1) blocked inside (omega (arith, count_is, block_is, fits_block)) (omega (arith, count_is, fits_block, fits_total)))
+      let fits : x ≤ z = fits_block w counts blocks total p x b z summed.blocked inside read own read_block in
+      let holds : z ≤ total = fits_total w counts blocks total p x b z summed.blocked inside read own read_block in
+      let least : 0 < get_or blocks b 0 = omega (arith, block_at, fits, some) in
+      record {
+        blocked = subst (λ k. IsBlocked w (set counts p (x - 1)) (set blocks k (z - 1)) (total - 1)) (sym own)
+            (set-blocked w counts blocks total (total - 1) p (x - 1) (z - 1) summed.blocked inside (omega (arith, count_at, own_block_at, fits)) (omega (arith, count_at, fits, holds)));
+        grouped = groups_set groups blocks b (z - 1) (get_or groups (b / 16) 0 - 1) summed.grouped there (λ l. omega (arith, block_at, some_in_group groups blocks b summed.grouped there least l));
+      }
+
+  pub group_few : total < 4294967295 → get_or groups (b / 16) 0 < 4294967295
+  group_few few = few_in_group groups blocks b 4294967295 summed.grouped there (omega (arith, few, blocks_sum w counts blocks total summed.blocked))
+
+  pub group_some : 0 < x → b / 16 < length groups → 0 < get_or groups (b / 16) 0
+  group_some some l =
+      let fits : x ≤ z = fits_block w counts blocks total p x b z summed.blocked inside read own read_block in
+      some_in_group groups blocks b summed.grouped there (omega (arith, block_at, fits, some)) l
 
 pub is_some : (counts : List ℕ) (p x : ℕ) → p < length counts → x ≡ get_or counts p x → 0 < get_or counts p 0 → 0 < x
 is_some counts p x inside read some = omega (arith, get_or_read counts p x inside read 0)

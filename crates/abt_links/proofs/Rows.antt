@@ -8,9 +8,9 @@ use Rattle.std.specs.Int.Count.{ones}
 use Rattle.std.proofs.lemmas.Nat.{pow_below}
 use Rattle.std.proofs.lemmas.Nat.Bits.{bit_at-zero, bit_at-lt, bit_at_and, bit_at_ones}
 use Rattle.std.proofs.lemmas.Bool.{cases_eq, cases_lt, cases_Bool, eq-eqb, ne_eqb, both_ways}
-use Rattle.std.proofs.lemmas.List.{length-set, get_or-set_same, get_or-set_other, get_or_default, get_or_past, length-replicate, get_or-replicate, length_push, get_or_push, get_or_append_left}
+use Rattle.std.proofs.lemmas.List.{length-set, get_or-set_same, get_or-set_other, get_or_default, get_or_past, length-replicate, get_or-replicate, length_push, get_or_push, get_or_append_left, get_or_read}
 use Rattle.dcsp_defs.specs.Words.{sum_below}
-use Rattle.abt_links.specs.Marks.{Marks, is_set, marked, marked_pairs, rank, IsCounted, IsFresh, row_at}
+use Rattle.abt_links.specs.Marks.{Marks, is_set, marked, marked_pairs, rank, AreUsed, IsCounted, IsFresh, row_at}
 use Rattle.abt_links.proofs.Ranks.{rank_on, rank_off, rank_up, sum_is, count_pairs, bits_of, ones_rank, rank_word, sums_to, nth_pair}
 
 -- ---- bounds
@@ -234,4 +234,21 @@ fresh-counted agents rows small all = record {
   short = λ k less. (all.each k less).short;
   beyond = λ k i past. fresh_none agents rows all k i;
   counts = λ k less. get_or-replicate agents k 0 0 less ∙ sym (no_rank (marked (record { agents = agents; rows = rows }) k) agents (fresh_none agents rows all k));
+}
+
+-- ---- which words have numbers
+
+-- a word that stays with some number, in a row of which it is known
+pub kept-used : (words : List ℕ) (used place word old : ℕ) → AreUsed words used → place < length words → old ≡ get_or words place old → word ≤ old → word ≢ 0 → AreUsed (set words place word) used
+kept-used words used place word old are inside read less some = record {
+  short = omega (arith, length-set words place word, are.short);
+  none = λ several p within off.
+      let within' : p < length words = omega (arith, length-set words place word) in
+      let none : get_or words p 0 ≡ 0 = are.none (omega (arith, length-set words place word, several)) p within' off in
+      elim (cases_eq p place) [
+        | inl here ↦
+            let was : old ≡ 0 = get_or_read words place old inside read 0 ∙ ap (λ k. get_or words k 0) (sym here) ∙ none in
+            absurd (some (omega (arith, less, was)))
+        | inr other ↦ get_or-set_other words place p word 0 other ∙ none
+      ];
 }

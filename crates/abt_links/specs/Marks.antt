@@ -33,6 +33,11 @@ rank p (suc n) = rank p n + cond (p n) 1 0
 abbrev pub row_at : Marks → ℕ → List ℕ
 row_at marks k = slice_index_or marks.rows k []
 
+-- where there are several words, those whose bit is not set in `used` have no number
+pub record AreUsed (words : List ℕ) (used : ℕ) : Type 0 where
+  pub short : length words ≤ 64
+  pub none : 1 < length words → (p : ℕ) → p < length words → bit_at used p ≡ 0 → slice_index_or words p 0 ≡ 0
+
 -- the counts are those of the rows
 pub record IsCounted (marks : Marks) (sums : List ℕ) : Type 0 where
   pub long : length marks.rows ≡ marks.agents

@@ -14,9 +14,9 @@ use std::marker::Model;
 /// A set of ordered pairs of agents, ordered by sender and then by receiver.
 ///
 /// It keeps one bit for each pair that there could be, in words of 64, and how many pairs each sender
-/// has: 2 MiB of bits at 4,096 agents. Pair number `k`, and the number of a pair, are found by at most
-/// 128 looks at counts and 64 at words; at 64 agents by at most 16 looks at counts and one at a word. Only
-/// `new` takes memory.
+/// has: 2 MiB of bits at 4,096 agents. Pair number `k` is found by at most 48 looks at counts and one at each
+/// word of a sender that has a pair, the number of a pair by at most 272 and 64; at 64 agents either by at most
+/// 16 looks at counts and one at a word. Only `new` takes memory.
 #[derive(Drop)]
 pub struct PairSet {
     agents: u32,

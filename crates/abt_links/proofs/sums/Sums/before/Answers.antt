@@ -17,7 +17,7 @@ pub sum_of-requires : goal.sum_of-requires
 sum_of-requires c =
     omega (
       arith,
-      parts c.self.inside.width c.self.inside.counts.items c.self.inside.blocks.items c.self.inside.counts.items c.deref.result.now c.args.self.now c.self.inside.total c.args.place c.self.view_is c.deref.ensures.value refl c.self.invariant c.requires.exists,
+      parts c.self.inside.width c.self.inside.counts.items c.self.inside.blocks.items c.self.inside.counts.items c.deref.result.now c.args.self.now c.self.inside.total c.args.place c.self.view_is c.deref.ensures.value refl c.self.invariant.blocked c.requires.exists,
       sum_by-take-le (λ x. x) c.args.self.now c.args.place,
     )
 
@@ -25,7 +25,7 @@ pub sum_of-requires-2 : goal.sum_of-requires-2
 sum_of-requires-2 c =
     omega (
       arith,
-      parts c.self.inside.width c.self.inside.counts.items c.self.inside.blocks.items c.deref-2.result.now c.deref.result.now c.args.self.now c.self.inside.total c.args.place c.self.view_is c.deref.ensures.value c.deref-2.ensures.value c.self.invariant c.requires.exists,
+      parts c.self.inside.width c.self.inside.counts.items c.self.inside.blocks.items c.deref-2.result.now c.deref.result.now c.args.self.now c.self.inside.total c.args.place c.self.view_is c.deref.ensures.value c.deref-2.ensures.value c.self.invariant.blocked c.requires.exists,
       sum_by-take-le (λ x. x) c.args.self.now c.args.place,
     )
 
@@ -33,7 +33,7 @@ pub overflow_add-result : goal.overflow_add-result
 overflow_add-result c =
     omega (
       arith,
-      parts c.self.inside.width c.self.inside.counts.items c.self.inside.blocks.items c.deref-2.result.now c.deref.result.now c.args.self.now c.self.inside.total c.args.place c.self.view_is c.deref.ensures.value c.deref-2.ensures.value c.self.invariant c.requires.exists,
+      parts c.self.inside.width c.self.inside.counts.items c.self.inside.blocks.items c.deref-2.result.now c.deref.result.now c.args.self.now c.self.inside.total c.args.place c.self.view_is c.deref.ensures.value c.deref-2.ensures.value c.self.invariant.blocked c.requires.exists,
       sum_by-take-le (λ x. x) c.args.self.now c.args.place,
       c.sum_of.ensures,
       c.sum_of-2.ensures,
@@ -43,7 +43,7 @@ pub returns : goal.returns
 returns c =
     omega (
       arith,
-      parts c.self.inside.width c.self.inside.counts.items c.self.inside.blocks.items c.deref-2.result.now c.deref.result.now c.args.self.now c.self.inside.total c.args.place c.self.view_is c.deref.ensures.value c.deref-2.ensures.value c.self.invariant c.requires.exists,
+      parts c.self.inside.width c.self.inside.counts.items c.self.inside.blocks.items c.deref-2.result.now c.deref.result.now c.args.self.now c.self.inside.total c.args.place c.self.view_is c.deref.ensures.value c.deref-2.ensures.value c.self.invariant.blocked c.requires.exists,
       c.sum_of.ensures,
       c.sum_of-2.ensures,
     )
