@@ -1,5 +1,5 @@
 -- A piece that is written is the line that it was made of.
-use Rattle.std.proofs.Common.{◌≡◌, ℕ, List, [], ◌∷◌, ◌++◌, Result, Ok, Err, refl, ap, subst, ◌∙◌, append-nil}
+use Rattle.std.proofs.Common.{◌≡◌, ℕ, List, [], ◌∷◌, Result, Err, refl, subst, append-nil}
 use Rattle.std.specs.Prelude.{IsErr, IsErrAnd}
 use Rattle.dcsp_script.specs.declared.stop.Stop.{Stop}
 use Rattle.dcsp_script.specs.declared.stop.Stop.TheVariants.{Memory}
@@ -7,9 +7,8 @@ use Rattle.dcsp_script.specs.Scripts.{Write, Append, World}
 use Rattle.dcsp_script.specs.Ways.{Wrote}
 use Rattle.dcsp_script.proofs.Ways.{did_nothing, stop_wrote}
 
-pub line_appended : {T : Type 0} {a b : World} {r : Result T Stop} (log : List ℕ) {piece cleared : List ℕ} (made line : List ℕ) → piece ≡ made → made ≡ cleared ++ line → cleared ≡ []
-    → Wrote (Append log piece ∷ []) a b r → Wrote (Append log line ∷ []) a b r
-line_appended {a = a} {b = b} {r = r} log made line e f g h = subst (λ (t : List ℕ). Wrote (Append log t ∷ []) a b r) (e ∙ f ∙ ap (λ (t : List ℕ). t ++ line) g) h
+pub line_appended : {T : Type 0} {a b : World} {r : Result T Stop} (log : List ℕ) {piece line : List ℕ} → piece ≡ line → Wrote (Append log piece ∷ []) a b r → Wrote (Append log line ∷ []) a b r
+line_appended {a = a} {b = b} {r = r} log e w = subst (λ (t : List ℕ). Wrote (Append log t ∷ []) a b r) e w
 
 -- memory is wanted before anything was made
 pub memory_at_once : {T : Type 0} (s : List Write) (a : World) → Wrote {T = T} s a a (Err Memory)

@@ -9,9 +9,11 @@ ghost use Rattle.dcsp_script.specs.Ways.{Wrote};
 use crate::stop::Stop;
 use crate::writes::append;
 use dcsp_outside::Folder;
-use ngd_log::{Step, write_step};
+use ngd_log::{Step, write_step_at};
 
-/// Appends the line of the step with this number to the name, which was created before. The line is made in `line`.
+/// Appends the line of the step with this number to the name, which was created before. The line is made in `line`, over
+/// the last one.
+#[inline(never)]
 pub fn append_step<F: Folder>(
     folder: &mut F,
     name: &str,
@@ -26,7 +28,6 @@ pub fn append_step<F: Folder>(
         (outside (F.place folder.old) out) (outside (F.place folder.new) out) result }
     ensures created { (F.place folder.new).created ≡ (F.place folder.old).created }
 {
-    line.clear();
-    write_step(number, step, line)?;
-    append(folder, name, line)
+    let end = write_step_at(number, step, line, 0)?;
+    append(folder, name, &line[..end])
 }

@@ -31,4 +31,4 @@ pub use pieces::{
     LogReader, entries_or_bad_line, good_lines, one_answer, read_pieces, texts_differ,
 };
 pub use standing::Version;
-pub use writer::{HEAD, TAIL, write_step};
+pub use writer::{HEAD, TAIL, write_step, write_step_at};

@@ -1,8 +1,8 @@
 //! A step as a line of a log.
 //!
-//! The longest line that a step may have tells how much room is made for it, once. The line is written there place by
-//! place, and what is left of the room is cut off.
-ghost use Rattle.std.specs.Prelude.{◌≡◌, ℕ, ◌+◌, ◌*◌, ◌≤◌, [], ◌∷◌, ◌++◌, codes, decimal, length, take, FitsSigned, IfSome, OnOk, OnErr};
+//! The longest line that a step may have tells how long a room it needs, so that room is made at most once. The line is
+//! written there place by place.
+ghost use Rattle.std.specs.Prelude.{◌≡◌, ℕ, ◌+◌, ◌*◌, ◌≤◌, [], ◌∷◌, ◌++◌, codes, decimal, length, take, FitsSigned, IfOk, IfSome, OnOk, OnErr};
 ghost use Rattle.std.specs.Int.{w64};
 ghost use Rattle.std.specs.List.{AllByRecursion};
 ghost use Rattle.dcsp_defs.specs.Pairs.{IsRising};
@@ -40,14 +40,47 @@ pub fn write_step(number: u64, step: &Step, into: &mut Vec<u8>) -> Result<(), Me
     ensures err { OnErr result (into.new.items ≡ into.old.items) }
 {
     let start = into.len();
-    let Some(end) = end_of_room(start, step.nogood.pairs().len(), step.reasons.len()) else {
+    let end = write_step_at(number, step, into, start)?;
+    into.truncate(end);
+    Ok(())
+}
+
+/// Writes the line of a step with this number into `room` from place `at` on, over what stands there, and tells the place
+/// behind the line.
+///
+/// What stands before `at` stays. The room grows, by zeros, only where it is too short for the longest line that the
+/// step may have. The numbers are in range, as for [`write_step`]. The error is want of memory for a longer room, and
+/// leaves `room` as it was.
+pub fn write_step_at(
+    number: u64,
+    step: &Step,
+    room: &mut Vec<u8>,
+    at: usize,
+) -> Result<usize, Memory>
+    requires number { IsStepNumber number }
+    requires step { IsInRange step.now }
+    requires place { at ≤ length room.old.items }
+    ensures ok { IfOk result (λ end. take end room.new.items ≡ take at room.old.items ++ step_line number step.now) }
+    ensures place { IfOk result (λ end. end ≤ length room.new.items) }
+    ensures writable { OnOk result (IsWritable step.now) }
+    ensures err { OnErr result (room.new.items ≡ room.old.items) }
+{
+    let Some(end) = end_of_room(at, step.nogood.pairs().len(), step.reasons.len()) else {
         return Err(Memory);
     };
-    if into.resize(end, 0).is_err() {
-        return Err(Memory);
+    reach(room, end)?;
+    Ok(put_step(room, at, number, step))
+}
+
+/// Makes the room at least so long. What stands in it stays.
+fn reach(room: &mut Vec<u8>, end: usize) -> Result<(), Memory>
+    ensures long { OnOk result (end ≤ length room.new.items) }
+    ensures stays { OnOk result (take (length room.old.items) room.new.items ≡ room.old.items) }
+    ensures err { OnErr result (room.new.items ≡ room.old.items) }
+{
+    if room.len() < end {
+        room.resize(end, 0)?;
     }
-    let end = put_step(into, start, number, step);
-    into.truncate(end);
     Ok(())
 }
 
@@ -67,6 +100,7 @@ fn end_of_room(start: usize, pairs: usize, reasons: usize) -> Option<usize>
 #[inline(always)]
 fn put_step(room: &mut [u8], at: usize, number: u64, step: &Step) -> usize
     requires { at + 64 + 48 * length step.now.nogood + 24 * length step.now.reasons ≤ length room.old }
+    ensures place { result ≤ length room.new }
     ensures text { take result room.new ≡ take at room.old ++ step_line number step.now }
     ensures rising { IsRising step.now.nogood }
     ensures values { AllByRecursion (λ y. FitsSigned w64 y.value) step.now.nogood }
