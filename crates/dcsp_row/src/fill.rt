@@ -85,7 +85,18 @@ fn span_of_pair<L: Lookup>(
     if pair.second == open_var.var && pair.first != open_var.var {
         return span_of_second(pair, domain, open_var);
     }
-    match line_of_pair(pair, open_var) {
+    span_of_either(pair, domain, open_var.var, open_var.lookup)
+}
+
+/// The same whichever of them is the open one, or both, or neither. It takes the open variable by value, so that it
+/// stands in no memory where the second alone is the open one.
+#[inline(never)]
+fn span_of_either<L: Lookup>(pair: BinaryRule, domain: &Domain, var: u32, lookup: &L) -> Span
+    requires { IsSmall pair }
+    ensures { SpansWhere (λ x. is_missed pair (with_value var x (L.values lookup.now))) domain.now result }
+{
+    let open_var = OpenVariable { var, lookup };
+    match line_of_pair(pair, &open_var) {
         Some(line) => missed_line(pair.rel, line, pair.total, domain),
         None => Span::whole(false),
     }
