@@ -31,7 +31,31 @@ fn post_one(links: &mut Links, from: u32, sent: Sent) -> Result<(), Memory>
 }
 
 /// Sends all messages of the outbox, in order, and adds to `told` what is told of each.
+#[inline(always)]
 pub fn post(
+    links: &mut Links,
+    from: u32,
+    out: &mut Outbox,
+    told: &mut Vec<SentTo>,
+) -> Result<(), Memory>
+    requires sender { from < links.old.agents }
+    requires receivers { All (λ (sent : TheSent). sent.to < links.old.agents) out.old }
+    requires stamps { All (λ (sent : TheSent). IsStamped sent.message) out.old }
+    requires stamped { AreStamped links.old }
+    ensures agents { links.new.agents ≡ links.old.agents }
+    ensures lists { (k i : ℕ) → OnOk result (messages_on links.new k i ≡ messages_after links.old from (messages_of out.old) k i) }
+    ensures stamped { OnOk result (AreStamped links.new) }
+    ensures out { OnOk result (out.new ≡ []) }
+    ensures told { OnOk result (told.new.items ≡ told.old.items ++ map told_sent (messages_of out.old)) }
+{
+    if out.is_empty() {
+        return Ok(());
+    }
+    post_each(links, from, out, told)
+}
+
+/// The same, one message after the other.
+fn post_each(
     links: &mut Links,
     from: u32,
     out: &mut Outbox,

@@ -1,6 +1,6 @@
 use Rattle.std.proofs.Common.{◌++◌, ◌∷◌, [], ap, ◌∙◌}
 use Rattle.abt_network.proofs.Posting.{post_step, first_stamped}
-use Rattle.abt_network.proofs.post.post.Goals as goal
+use Rattle.abt_network.proofs.post.post_each.Goals as goal
 
 pub post_one-requires-clause-stamps : goal.post_one-requires-clause-stamps
 post_one-requires-clause-stamps c = first_stamped c.loop-sent.out c.in-Some.sent c.loop-sent.invariant.stamps c.in-Some.ensures.first
