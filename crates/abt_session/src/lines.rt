@@ -20,6 +20,7 @@ use dcsp_outside::{Folder, Sink};
 use dcsp_script::{Stop, append_step, put};
 
 /// Appends the line of the step, if one was made.
+#[inline(always)]
 pub fn append_made<F: Folder>(
     folder: &mut F,
     log: &str,
@@ -70,7 +71,24 @@ pub struct Made<'d> {
 }
 
 /// Puts what tells of the delivery.
+#[inline(always)]
 pub fn put_delivery<S: Sink>(
+    out: &mut S,
+    telling: Telling,
+    made: Made<'_>,
+    line: &mut Vec<u8>,
+) -> Result<(), Stop>
+    ensures { (folder : Place) → Wrote (made_writes telling made.entry)
+        (outside folder (S.stream out.old)) (outside folder (S.stream out.new)) result }
+{
+    if !telling.trace && !telling.progress {
+        return Ok(());
+    }
+    put_told(out, telling, made, line)
+}
+
+/// Puts the line of the delivery, where a trace is asked for, and then how far the run is, where that is told after it.
+fn put_told<S: Sink>(
     out: &mut S,
     telling: Telling,
     made: Made<'_>,

@@ -101,6 +101,7 @@ impl<'p, 'w> Runner<'p, 'w> {
     }
 
     /// Makes one delivery: the line of its step is appended, and then what tells of it is put.
+    #[inline(always)]
     fn deliver_one<F: Folder, S: Sink>(
         &mut self,
         choice: u32,
@@ -135,6 +136,7 @@ impl<'p, 'w> Runner<'p, 'w> {
     }
 
     /// Writes what the last delivery writes.
+    #[inline(always)]
     fn write_made<F: Folder, S: Sink>(&mut self, outside: &mut Outside<F, S>) -> Result<(), Stop>
         requires created { Contains (F.place outside.old.folder).created self.old.task.log.now }
         requires sound { self.old.network.spent ≡ false }

@@ -5,7 +5,7 @@ use Rattle.abt_network.specs.Rooms.{delivery_in}
 use Rattle.abt_network.specs.Standing.{delivery_of}
 use Rattle.abt_session.specs.Traces.{progress_texts}
 use Rattle.abt_session.proofs.Pieces.{both_put, wrote_as}
-use Rattle.abt_session.proofs.lines.put_delivery.Goals as goal
+use Rattle.abt_session.proofs.lines.put_told.Goals as goal
 
 pub returns-in_err-put_trace : goal.returns-in_err-put_trace
 returns-in_err-put_trace g c = λ folder.
