@@ -308,6 +308,7 @@ impl<D: Disk> OpenFiles<D, D::File> {
     }
 
     /// The place of a name that was created, or that room was made for.
+    #[inline(always)]
     fn place_of(&self, name: &str) -> Option<usize>
         ensures { IfSome result (IsNamed name.now self.now.files.items) }
     {
